@@ -1,4 +1,5 @@
 -- Square tables of marks on pairs of edges: a row for each edge, at the place of its number.
+-- Stated by: allowed_edges.
 use Rattle.std.specs.Prelude.{◌≡◌, ℕ, ◌+◌, ◌<◌, Bool, List, map, length}
 use Rattle.std.specs.Global.{Vec}
 use Rattle.counting.specs.Counts.{Within}

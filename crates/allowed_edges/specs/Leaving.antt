@@ -1,5 +1,6 @@
 -- Matchings off a set of vertices, and what a matching leaves when the edges with an end in the
 -- set are taken out of it.
+-- Stated by: allowed_edges.
 use Rattle.std.specs.Prelude.{◌≡◌, ℕ, ◌⊎◌, Bool, true, List, ◌||◌, ◌==◌}
 use Rattle.counting.specs.Counts.{Within}
 use Rattle.counting.specs.Lists.{mem}

@@ -1,5 +1,6 @@
 -- Tables of pairs: perfect matchings, among them for each two edges that lie together one with
 -- both.
+-- Stated by: allowed_edges, tight_cuts.
 use Rattle.std.specs.Prelude.{◌≡◌, ℕ, ◌≤◌, ◌<◌, ◌⊎◌, Bool, true, ◌&&◌, List, [], ◌∷◌, ◌++◌, map, All}
 use Rattle.std.specs.List.{list_any}
 use Rattle.counting.specs.Counts.{Within}

@@ -44,7 +44,8 @@ pub(crate) fn number_at(row: &[u32], i: usize) -> u32
     if i < row.len() { row[i] } else { 0 }
 }
 
-/// For each vertex the edge at it after exchanges in a perfect matching that holds `e` and `f`: each
+/// For each vertex the edge at it after exchanges in a perfect matching that holds `e` and `f`:
+/// each
 /// edge that is not marked is put in if two edges in place of two allow it, and both that go are
 /// marked and neither `e` nor `f`. Marked are first the edges that are known to lie together with
 /// `e`, then those with `f`; what goes then is marked for both.

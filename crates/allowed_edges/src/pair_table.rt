@@ -69,8 +69,8 @@ impl PairTable {
         })
     }
 
-    /// A perfect matching that holds `e` and `f`, from one, varied so that it holds pairs of `e` and `f` that
-    /// no listed one holds.
+    /// A perfect matching that holds `e` and `f`, from one, varied so that it holds pairs of `e`
+    /// and `f` that no listed one holds.
     pub(crate) fn varied(
         &self,
         alloc: Global,

@@ -1,5 +1,6 @@
 -- Cuts that barriers give (Lovász and Plummer, "Matching Theory", chapter 5; Edmonds, Lovász and
 -- Pulleyblank 1982).
+-- Stated by: barrier_kit, theorems.
 use Rattle.std.specs.Prelude.{◌≡◌, ◌≤◌, ℕ, false}
 use Rattle.counting.specs.Counts.{Within, count}
 use Rattle.counting.specs.Sets.{Set}

@@ -1,4 +1,5 @@
 -- The cuts that the classes of a covered graph give (Edmonds, Lovász and Pulleyblank 1982).
+-- Stated by: barrier_kit, quick_kinds, tight_cuts.
 use Rattle.std.specs.Prelude.{ℕ, List, flat_map}
 use Rattle.counting.specs.Lists.{mem}
 use Rattle.graph_core.specs.Graph.{Graph}

@@ -1,5 +1,6 @@
 -- What is answered on a tree of cuts that is to be a derivation of a graph: its leaves, counted, or
 -- its first refusal.
+-- Stated by: bench_reports. Rests on it: bench_outcomes, bench_top, theorems.
 use Rattle.std.specs.Prelude.{◌≡◌, ◌⊎◌, ℕ, List}
 use Rattle.std.specs.declared.option.Option.{Option}
 use Rattle.std.specs.declared.option.Option.TheVariants.{Some, None}

@@ -1,4 +1,5 @@
 -- The codes of the statuses.
+-- Stated by: bench_outcomes.
 use Rattle.std.specs.Prelude.{ℕ}
 use Rattle.bench_outcomes.specs.declared.status.Status.{Status}
 use Rattle.bench_outcomes.specs.declared.status.Status.TheVariants.{Done, Negative, Usage, ReadFault, BadInput, WriteFault, Memory}

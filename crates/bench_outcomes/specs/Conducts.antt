@@ -1,6 +1,7 @@
 -- How each task behaves, said once: whether it may be refused and if it is done, whether its
 -- text is chosen, and which lists of numbers its report may show. If a task succeeds
 -- (`Success`) and what is free in a report (`Fixed` of `bench_top`) are read off this.
+-- Stated by no contract. Rests on it: bench_outcomes, bench_top.
 use Rattle.std.specs.Prelude.{ℕ, List}
 use Rattle.graph_core.specs.Covered.{IsCovered}
 use Rattle.graph_core.specs.Graph.{Graph}

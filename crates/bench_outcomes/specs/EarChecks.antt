@@ -1,11 +1,12 @@
 -- What is answered on ear lists of a graph: of one that is given whether it is an ear list, and of
 -- one that is built its text.
+-- Stated by: bench_reports. Rests on it: bench_outcomes, bench_top, theorems.
 use Rattle.std.specs.Prelude.{◌≡◌, ◌⊎◌, ℕ, List, length, count_by, not, Bool, true, false, Option, Some, None}
 use Rattle.std.specs.List.{AllByRecursion}
 use Rattle.graph_core.specs.Covered.{IsCovered}
 use Rattle.graph_core.specs.Graph.{Graph, size, IsBipartite}
 use Rattle.ear_core.specs.EarLists.{PlainEars, PlainStep, one, two, IsEarList, IsSingle, IsUnrefinable, TakesSingles}
-use Rattle.ear_core.specs.EarTests.{Why, not_path, even_length, bad_ends, inner_on_stage, edge_used, stage_not_covered, ends_early}
+use Rattle.ear_core.specs.EarTests.{PlainWhy, not_path, even_length, bad_ends, inner_on_stage, edge_used, stage_not_covered, ends_early}
 use Rattle.ear_core.specs.Refusals.{IsRefused}
 use Rattle.ear_text.specs.Writing.{ears_text}
 use Rattle.report_text.specs.EarReports.{ears_report_text}
@@ -29,7 +30,7 @@ abbrev pub double_count : List PlainStep → ℕ
 double_count steps = count_by (λ step. not (is_single step)) steps
 
 -- the numbers of the reasons
-abbrev pub why_number : Why → ℕ
+abbrev pub why_number : PlainWhy → ℕ
 why_number not_path = 1
 why_number even_length = 2
 why_number bad_ends = 3
@@ -39,7 +40,7 @@ why_number (stage_not_covered e) = 6
 why_number (ends_early e) = 7
 
 -- the edge that a reason names, if it names one
-abbrev pub named_edge : Why → Option ℕ
+abbrev pub named_edge : PlainWhy → Option ℕ
 named_edge not_path = None
 named_edge even_length = None
 named_edge bad_ends = None
@@ -59,7 +60,7 @@ pub record AcceptedEars (g : Graph) (list : PlainEars) (status : Status) (output
 pub record RefusedEars (g : Graph) (list : PlainEars) (status : Status) (output : List ℕ) : Type 0 where
   pub covered : IsCovered g
   pub step : ℕ
-  pub why : Why
+  pub why : PlainWhy
   pub refused : IsRefused g list step why
   pub negative : status ≡ Negative
   pub text : output ≡ ear_judgement_text (line.Refused step (why_number why) (named_edge why))

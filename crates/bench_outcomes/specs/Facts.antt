@@ -1,4 +1,5 @@
 -- What the lines of a report claim of a graph.
+-- Stated by: bench_reports. Rests on it: bench_outcomes, bench_top, theorems.
 use Rattle.std.specs.Prelude.{◌≡◌, ◌↔◌, ℕ, IsTrue}
 use Rattle.std.specs.declared.option.Option.{Option}
 use Rattle.std.specs.declared.option.Option.TheVariants.{Some, None}
@@ -10,7 +11,7 @@ use Rattle.graph_core.specs.Graph.{Graph, size, IsBipartite}
 use Rattle.graph_core.specs.Components.{component_count}
 use Rattle.graph_core.specs.Matchings.{Allowed, IsMaximum, missed_count}
 use Rattle.graph_core.specs.GallaiEdmonds.{InD, InA, InC}
-use Rattle.graph_core.specs.Structure.{classes, cut_pair, unlike_pair}
+use Rattle.graph_core.specs.Structure.{classes, cut_pair, equivalent_pair}
 use Rattle.graph_core.specs.Verdicts.{IsVerdict}
 use Rattle.graph_core.specs.View.{pair_of}
 use Rattle.graph_core.specs.declared.verdict.Verdict.{Verdict}
@@ -33,7 +34,7 @@ pub record HasMaximum (g : Graph) (edges missed : ℕ) : Type 0 where
 -- if there is one
 pub record IsStructure (g : Graph) (structure : Structure) : Type 0 where
   pub partition : structure.classes ≡ classes g
-  pub unlike : option_map pair_of structure.unlike ≡ unlike_pair g
+  pub unlike : option_map pair_of structure.unlike ≡ equivalent_pair g
   pub separates : option_map pair_of structure.cutpair ≡ cut_pair g
   pub kind : IsKind g structure.kind
   pub cut : cut_of structure.kind ≡ first_shore (candidates g)

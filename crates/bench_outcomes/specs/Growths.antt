@@ -1,5 +1,6 @@
 -- What is answered on a graph that grows from a seed: its text, the leaves of its decompositions by
 -- the first and by the last candidates, counted, and how many of them are paired.
+-- Stated by: bench_reports. Rests on it: bench_outcomes, bench_top, theorems.
 use Rattle.std.specs.Prelude.{◌≡◌, ℕ, List, length}
 use Rattle.graph_core.specs.Graph.{Graph}
 use Rattle.graph_text.specs.Writing.{graph_text}

@@ -1,9 +1,10 @@
 -- Which status and which output the words and the files stand for. A named file that is not held
 -- fits no case.
+-- Stated by: bench_reports, bench_top, theorems. Rests on it: bench_outcomes, front_top.
 use Rattle.std.specs.Prelude.{◌≡◌, ℕ, ◌<◌, ◌⊎◌, List, length, take, Bool, true, false}
 use Rattle.std.specs.declared.option.Option.{Option}
 use Rattle.std.specs.declared.option.Option.TheVariants.{Some, None}
-use Rattle.outside.specs.Shelf.{Named}
+use Rattle.outside.specs.Shelf.{NamedFile}
 use Rattle.outside.specs.Sink.{appended}
 use Rattle.graph_core.specs.Graph.{Graph}
 use Rattle.line_text.specs.Format.{Stands}
@@ -123,12 +124,12 @@ LoadedGives (Bad file line kind) status output = (status ≡ BadInput) × (outpu
 LoadedGives (Absent file) status output = ⊥
 
 -- the same for the words, which may match no row
-abbrev pub CommandGives : List Named → Option Command → Status → List ℕ → Type 0
+abbrev pub CommandGives : List NamedFile → Option Command → Status → List ℕ → Type 0
 CommandGives files None status output = ⊥
 CommandGives files (Some command) status output = LoadedGives (loaded files command) status output
 
 -- the words and the files stand for this status and this output
-abbrev pub Outcome : List (List ℕ) → List Named → Status → List ℕ → Type 0
+abbrev pub Outcome : List (List ℕ) → List NamedFile → Status → List ℕ → Type 0
 Outcome words files status output = CommandGives files (command_of words) status output
 
 -- the output of some outcome of this status was appended to what the sink had

@@ -1,4 +1,5 @@
 -- Which commands may refuse what they are given, and which tasks: read off how they behave.
+-- Stated by: bench_reports, bench_top. Rests on it: bench_outcomes, front_top.
 use Rattle.std.specs.declared.option.Option.{Option}
 use Rattle.std.specs.declared.option.Option.TheVariants.{Some, None}
 use Rattle.std.specs.declared.result.Result.{Result}

@@ -1,6 +1,7 @@
 -- What is answered on a script of moves on a tree of cuts that is to be a derivation of a graph:
 -- the last tree if each tree on the way is a derivation, or the first move that fails, or why the
 -- tree itself is refused.
+-- Stated by: bench_reports. Rests on it: bench_outcomes, bench_top, theorems.
 use Rattle.std.specs.Prelude.{◌≡◌, ◌⊎◌, ℕ, List, length}
 use Rattle.graph_core.specs.Graph.{Graph}
 use Rattle.tree_core.specs.Derivations.{IsDerivation}

@@ -1,5 +1,6 @@
 -- What a report may show of which there may be many: a Berge set of a connected graph without a
 -- perfect matching, or a perfect matching that crosses a refused cut.
+-- Stated by no contract. Rests on it: bench_outcomes, bench_top.
 use Rattle.std.specs.Prelude.{◌⊎◌, ℕ, List}
 use Rattle.graph_core.specs.Covered.{IsReason, Unmatched}
 use Rattle.graph_core.specs.Graph.{Graph}

@@ -1,6 +1,7 @@
 -- What a task needs to be done and not refused: a matching covered graph, trees that are
 -- derivations of it, a list that is an ear list of it, moves that lead through derivations; or
 -- nothing.
+-- Stated by: bench_top. Rests on it: bench_outcomes, front_top.
 use Rattle.bench_outcomes.specs.Conducts.{Conduct, Writes, Tells, Needs, Chooses, conduct_of}
 use Rattle.bench_tasks.specs.Tasks.{Task}
 

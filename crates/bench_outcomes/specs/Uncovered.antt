@@ -1,4 +1,5 @@
 -- What the commands on matching covered graphs answer on a graph that is not one.
+-- Stated by: bench_reports. Rests on it: bench_outcomes, bench_top, theorems.
 use Rattle.std.specs.Prelude.{◌≡◌, ℕ, List}
 use Rattle.graph_core.specs.Covered.{IsCovered, IsReason}
 use Rattle.graph_core.specs.Graph.{Graph}

@@ -5,7 +5,7 @@ ghost use Rattle.decomposer.specs.Orders.{NamedPicks};
 ghost use Rattle.bench_outcomes.specs.Growths.{Grown, IsCounted};
 
 use bench_outcomes::{Report, Status};
-use bench_tasks::Growth;
+use bench_tasks::GrowNumbers;
 use decomposer::{NamedOrder, decompose_covered};
 use graph_facts::Covered;
 use graph_text::write_graph;
@@ -26,7 +26,7 @@ fn counted(alloc: Global, c: &Covered, order: NamedOrder) -> Result<(Tree, Tally
 
 /// The report on the graph that grows from a seed: its text, the leaves of its derivations by the
 /// first and by the last candidates, and how many leaves their comparison pairs.
-pub fn grow_report(alloc: Global, growth: Growth) -> Result<Report, Memory>
+pub fn grow_report(alloc: Global, growth: GrowNumbers) -> Result<Report, Memory>
     ensures { IfOk result
         (λ report. Grown growth.seed growth.pieces report.status report.bytes.items) }
 {

@@ -32,7 +32,7 @@ fn structure(alloc: Global, c: &Covered) -> Result<Structure, Memory>
     let pairs = FirstPairs::of(alloc, c)?;
     let cut = pairs.any_cut(alloc)?;
     let kind = kind_of(alloc, &pairs)?;
-    let unlike = ends_of(pairs.unlike());
+    let unlike = ends_of(pairs.equivalent());
     let cutpair = ends_of(cut);
     Ok(Structure {
         classes,

@@ -3,7 +3,7 @@
 -- next: nothing is known of the files but what the answers say.
 use Rattle.std.proofs.Common.{◌≡◌, ℕ, ◌+◌, ◌≤◌, List, [], ◌∷◌, ◌++◌, length, take, refl, ap, sym, subst, ◌∙◌, arith, length-append, Result, Ok, Err, IfErr, IsOkAnd, MatchResult}
 use Rattle.std.proofs.lemmas.List.{take_all}
-use Rattle.outside.specs.Shelf.{Answer, AnswersInTurn, Named, ReadsInTurn, file_named}
+use Rattle.outside.specs.Shelf.{Answer, AnswersInTurn, NamedFile, ReadsInTurn, file_named}
 use Rattle.bench_tasks.specs.Answered.{CountsAs, GathersAnswered, GaveFile, HoldGiven, LoadsAnswered, ReadsOnce, by_place, place_name}
 use Rattle.bench_tasks.specs.Commands.{Command}
 use Rattle.bench_tasks.specs.Files.{file_names}
@@ -49,7 +49,7 @@ module _ {S : Type 0} (reads : S → List ℕ → Answer → S → Type 0) where
       subst (λ (k : ℕ). (k ≤ length names) × ReadsInTurn reads (take k names) first last) counts (in_turn-names names answers first last in_turn)
 
   -- the reads of what was answered are those of all names, or of those up to the stop
-  reads-answered : {X A : Type 0} (names : List (List ℕ)) (view : X → A) (held : List Named → Loaded A) (result : Result X Stop) (first last : S) → LoadsAnswered reads names view held result first last → ReadsAs reads names result first last
+  reads-answered : {X A : Type 0} (names : List (List ℕ)) (view : X → A) (held : List NamedFile → Loaded A) (result : Result X Stop) (first last : S) → LoadsAnswered reads names view held result first last → ReadsAs reads names result first last
   reads-answered names view held (Ok x) first last made =
       let all = names-up_to names made.answers (length names) first last made.counts made.in_turn in
       subst (λ (ns : List (List ℕ)). ReadsInTurn reads ns first last) (take_all (length names) names (omega arith)) all.1
@@ -62,7 +62,7 @@ pub reads-gathered : {S : Type 0} (reads : S → List ℕ → Answer → S → T
 reads-gathered reads command result first last made = reads-answered reads (file_names command) task_of (λ files. loaded files (by_place command)) result first last made
 
 -- files that give some answers and one more
-hold-split : (files : List Named) (place : ℕ) (answers : List Answer) (answer : Answer) → HoldGiven files place (answers ++ answer ∷ []) →
+hold-split : (files : List NamedFile) (place : ℕ) (answers : List Answer) (answer : Answer) → HoldGiven files place (answers ++ answer ∷ []) →
     HoldGiven files place answers × GaveFile answer (file_named (place_name (place + length answers)) files)
 hold-split files place [] answer given =
     let same : place ≡ place + length {A = Answer} [] = omega arith in
@@ -85,7 +85,7 @@ counts-stopped X Z n m k Memory counts = tt
 
 -- the first file
 pub answered-first :
-    {S X A : Type 0} (reads : S → List ℕ → Answer → S → Type 0) (name : List ℕ) (view : X → A) (held : List Named → Loaded A) (result : Result X Stop) (first last : S) →
+    {S X A : Type 0} (reads : S → List ℕ → Answer → S → Type 0) (name : List ℕ) (view : X → A) (held : List NamedFile → Loaded A) (result : Result X Stop) (first last : S) →
     IfErr result (StopsAt 1) → ReadsOnce reads name 1 view held result first last → LoadsAnswered reads (name ∷ []) view held result first last
 answered-first {S} {X} reads name view held result first last stops once = record {
   answers = once.answer ∷ [];
@@ -98,9 +98,9 @@ answered-first {S} {X} reads name view held result first last stops once = recor
     go (Ok x) stops = refl
     go (Err stopped) stops = counts-at X 1 1 stopped stops
 
-module _ {S X Z A C : Type 0} (reads : S → List ℕ → Answer → S → Type 0) (names : List (List ℕ)) (view : X → A) (out : Z → C) (held : List Named → Loaded A) where
+module _ {S X Z A C : Type 0} (reads : S → List ℕ → Answer → S → Type 0) (names : List (List ℕ)) (view : X → A) (out : Z → C) (held : List NamedFile → Loaded A) where
   -- the first load stops
-  pub answered-stopped : (more : List (List ℕ)) (next : List Named → A → Loaded C) (stopped : Stop) (first last : S) → LoadsAnswered reads names view held (Err stopped) first last →
+  pub answered-stopped : (more : List (List ℕ)) (next : List NamedFile → A → Loaded C) (stopped : Stop) (first last : S) → LoadsAnswered reads names view held (Err stopped) first last →
       LoadsAnswered reads (names ++ more) out (λ files. and_then (held files) (next files)) (Err stopped) first last
   answered-stopped more next stopped first last made = record {
     answers = made.answers;
@@ -136,7 +136,7 @@ module _ {S X Z A C : Type 0} (reads : S → List ℕ → Answer → S → Type 
   answered-mapped make (Ok x) (Err stopped) first last is one = absurd is
   answered-mapped make (Err stopped) made first last is one = rw is (answered-made-stopped make stopped first last one)
 
-  module _ {Y B : Type 0} (second_view : Y → B) (further : List Named → A → Loaded B) (make : A → B → C) (x : X) (name : List ℕ) (first mid last : S) (one : LoadsAnswered reads names view held (Ok x) first mid) where
+  module _ {Y B : Type 0} (second_view : Y → B) (further : List NamedFile → A → Loaded B) (make : A → B → C) (x : X) (name : List ℕ) (first mid last : S) (one : LoadsAnswered reads names view held (Ok x) first mid) where
     -- the answers of both
     both-in_turn : (answer : Answer) → reads mid name answer last → AnswersInTurn reads (names ++ name ∷ []) (one.answers ++ answer ∷ []) first last
     both-in_turn answer read = in_turn-after reads names name one.answers answer first mid last one.in_turn one.counts read
@@ -145,7 +145,7 @@ module _ {S X Z A C : Type 0} (reads : S → List ℕ → Answer → S → Type 
     both-count answer = let size = length-append one.answers (answer ∷ []) in let all = one.counts in omega (arith, size, all)
 
     -- files that give them give the first file and the second
-    both-given : (files : List Named) (answer : Answer) → HoldGiven files 1 (one.answers ++ answer ∷ []) →
+    both-given : (files : List NamedFile) (answer : Answer) → HoldGiven files 1 (one.answers ++ answer ∷ []) →
         HoldGiven files 1 one.answers × GaveFile answer (file_named (place_name (length names + 1)) files)
     both-given files answer given =
         let parts = hold-split files 1 one.answers answer given in
@@ -154,7 +154,7 @@ module _ {S X Z A C : Type 0} (reads : S → List ℕ → Answer → S → Type 
         (parts.0, subst (λ (p : ℕ). GaveFile answer (file_named (place_name p) files)) same parts.1)
 
     -- what is made where the first is good
-    made-then : (files : List Named) → HoldGiven files 1 one.answers →
+    made-then : (files : List NamedFile) → HoldGiven files 1 one.answers →
         and_then (held files) (λ a. loaded_as (make a) (further files a)) ≡ loaded_as (make (view x)) (further files (view x))
     made-then files given = ap (λ (l : Loaded A). and_then l (λ a. loaded_as (make a) (further files a))) (one.loads files given)
 

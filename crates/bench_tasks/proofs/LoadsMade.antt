@@ -3,7 +3,7 @@
 -- two files.
 use Rattle.std.proofs.Common.{◌≡◌, ◌∙◌, ◌≤◌, ℕ, Bool, List, Option, Ok, Err, ap, sym, subst, arith}
 use Rattle.outside.specs.Faults.{Rose}
-use Rattle.outside.specs.Shelf.{Named}
+use Rattle.outside.specs.Shelf.{NamedFile}
 use Rattle.bench_tasks.specs.Loading.{Loaded, All, and_then, loaded_as}
 use Rattle.bench_tasks.specs.Loads.{Loads, StopsAs}
 use Rattle.bench_tasks.specs.Reads.{FailsAs, IsReadFault}
@@ -42,9 +42,9 @@ fails-made X Y steady Memory loaded make fails = tt
 rose-before : (before mid now : ℕ) → before ≤ mid → Rose mid now → Rose before now
 rose-before before mid now later rose = omega (arith, later, rose)
 
-module _ {S X Z A C : Type 0} (told : S → Option (List Named)) (steady : S → Bool) (faults : S → ℕ) (view : X → A) (out : Z → C) (held : List Named → Loaded A) where
+module _ {S X Z A C : Type 0} (told : S → Option (List NamedFile)) (steady : S → Bool) (faults : S → ℕ) (view : X → A) (out : Z → C) (held : List NamedFile → Loaded A) where
   -- the first load stops
-  pub loads-stopped : (next : List Named → A → Loaded C) (stopped : Stop) (before now : S) → Loads told steady faults view held (Err stopped) before now →
+  pub loads-stopped : (next : List NamedFile → A → Loaded C) (stopped : Stop) (before now : S) → Loads told steady faults view held (Err stopped) before now →
       Loads told steady faults out (λ files. and_then (held files) (next files)) (Err stopped) before now
   loads-stopped next stopped before now first = record {
     files = first.files;
@@ -55,9 +55,9 @@ module _ {S X Z A C : Type 0} (told : S → Option (List Named)) (steady : S →
     absent = λ files holds. fails-then X Z (steady before) stopped (held files) (next files) (first.absent files holds);
   }
 
-  module _ {Y B : Type 0} (second_view : Y → B) (further : List Named → A → Loaded B) (make : A → B → C) (x : X) (before mid now : S) (first : Loads told steady faults view held (Ok x) before mid) where
+  module _ {Y B : Type 0} (second_view : Y → B) (further : List NamedFile → A → Loaded B) (make : A → B → C) (x : X) (before mid now : S) (first : Loads told steady faults view held (Ok x) before mid) where
     -- what is made where the first is good
-    made-after : (files : List Named) → held files ≡ All (view x) →
+    made-after : (files : List NamedFile) → held files ≡ All (view x) →
         and_then (held files) (λ a. loaded_as (make a) (further files a)) ≡ loaded_as (make (view x)) (further files (view x))
     made-after files is = ap (λ (l : Loaded A). and_then l (λ a. loaded_as (make a) (further files a))) is
 

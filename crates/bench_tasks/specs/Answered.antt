@@ -1,12 +1,13 @@
 -- What the reads of a run answered, and which files they gave: each is named by its place among the
 -- files of the command, counted from 1, since one name may be asked for twice and answered with
 -- other bytes. So what is loaded of a shelf that tells no files is what these files hold.
+-- Stated by: bench_tasks. Rests on it: bench_top.
 use Rattle.std.specs.Prelude.{◌≡◌, ◌<◌, ℕ, ◌+◌, List, [], ◌∷◌, length}
 use Rattle.std.specs.declared.option.Option.{Option}
 use Rattle.std.specs.declared.option.Option.TheVariants.{Some}
 use Rattle.std.specs.declared.result.Result.{Result}
 use Rattle.std.specs.declared.result.Result.TheVariants.{Ok, Err}
-use Rattle.outside.specs.Shelf.{Answer, AnswersInTurn, Named, file_named}
+use Rattle.outside.specs.Shelf.{Answer, AnswersInTurn, NamedFile, file_named}
 use Rattle.outside.specs.declared.shelf.ShelfFault.TheVariants.{Failed, TooLong, Memory}
 use Rattle.bench_tasks.specs.Commands.{Command, OnGraph, OnSimpleGraph, OnTree, OnPicks, OnEars, OnMoves, OnTrees, OnNumbers}
 use Rattle.bench_tasks.specs.Files.{file_names}
@@ -44,7 +45,7 @@ GaveFile (Err TooLong) file = IsTooLong file
 GaveFile (Err Memory) file = Unit {0}
 
 -- the files at this place and the following ones may be those that reads which answered so gave
-abbrev pub HoldGiven : List Named → (place : ℕ) → List Answer → Type 0
+abbrev pub HoldGiven : List NamedFile → (place : ℕ) → List Answer → Type 0
 HoldGiven files place [] = Unit {0}
 HoldGiven files place (answer ∷ answers) = GaveFile answer (file_named (place_name place) files) × HoldGiven files (place + 1) answers
 
@@ -57,18 +58,18 @@ CountsAs names answers (Err stop.Memory) = Unit {0}
 
 -- one read, of that name, leads from the first shelf to the last, and what was loaded is what
 -- the file at this place holds, if it may be the one that the read gave
-pub record ReadsOnce {S X A : Type 0} (reads : S → List ℕ → Answer → S → Type 0) (name : List ℕ) (place : ℕ) (view : X → A) (held : List Named → Loaded A) (result : Result X Stop) (first last : S) : Type 0 where
+pub record ReadsOnce {S X A : Type 0} (reads : S → List ℕ → Answer → S → Type 0) (name : List ℕ) (place : ℕ) (view : X → A) (held : List NamedFile → Loaded A) (result : Result X Stop) (first last : S) : Type 0 where
   pub answer : Answer
   pub read : reads first name answer last
-  pub loads : (files : List Named) → GaveFile answer (file_named (place_name place) files) → LoadsAs view result (held files)
+  pub loads : (files : List NamedFile) → GaveFile answer (file_named (place_name place) files) → LoadsAs view result (held files)
 
 -- reads of the first of these names, up to a stop, lead from the first shelf to the last, and
 -- what was loaded is what all files hold that may be those that the reads gave
-pub record LoadsAnswered {S X A : Type 0} (reads : S → List ℕ → Answer → S → Type 0) (names : List (List ℕ)) (view : X → A) (held : List Named → Loaded A) (result : Result X Stop) (first last : S) : Type 0 where
+pub record LoadsAnswered {S X A : Type 0} (reads : S → List ℕ → Answer → S → Type 0) (names : List (List ℕ)) (view : X → A) (held : List NamedFile → Loaded A) (result : Result X Stop) (first last : S) : Type 0 where
   pub answers : List Answer
   pub in_turn : AnswersInTurn reads names answers first last
   pub counts : CountsAs (length names) (length answers) result
-  pub loads : (files : List Named) → HoldGiven files 1 answers → LoadsAs view result (held files)
+  pub loads : (files : List NamedFile) → HoldGiven files 1 answers → LoadsAs view result (held files)
 
 -- the same of the files of a command
 abbrev pub GathersAnswered : {S : Type 0} → (S → List ℕ → Answer → S → Type 0) → Command → Result code.the_data Stop → S → S → Type 0

@@ -1,11 +1,12 @@
 -- What the files that a command names hold: each is looked up and read in the order of the words,
 -- up to the first that is not held or is bad.
+-- Stated by: bench_tasks, bench_top, theorems. Rests on it: bench_outcomes, front_top.
 use Rattle.std.specs.Prelude.{ℕ, List, length, nat_lt, if◌then◌else◌}
 use Rattle.std.specs.declared.option.Option.{Option}
 use Rattle.std.specs.declared.option.Option.TheVariants.{Some, None}
 use Rattle.std.specs.declared.result.Result.{Result}
 use Rattle.std.specs.declared.result.Result.TheVariants.{Ok, Err}
-use Rattle.outside.specs.Shelf.{Named, file_named}
+use Rattle.outside.specs.Shelf.{NamedFile, file_named}
 use Rattle.line_text.specs.Reading.{reading_of}
 use Rattle.graph_core.specs.Graph.{Graph, size}
 use Rattle.text_faults.specs.Kinds.{kind_number}
@@ -64,48 +65,48 @@ and_then (Bad file line kind) next = Bad file line kind
 and_then (Absent file) next = Absent file
 
 -- the graph of the file of that name, in either version of the graph format; or in graph6
-abbrev pub graph_file : List Named → List ℕ → Loaded NamedGraph
+abbrev pub graph_file : List NamedFile → List ℕ → Loaded NamedGraph
 graph_file files name = file_read 1 (reading_of either_version) (file_named name files)
 
-abbrev pub graph6_file : List Named → List ℕ → Loaded Graph
+abbrev pub graph6_file : List NamedFile → List ℕ → Loaded Graph
 graph6_file files name = file_read 1 outcome_of (file_named name files)
 
 -- the list of picks of the file of that name, which is the second
-abbrev pub pick_file : List Named → List ℕ → Loaded (List ℕ)
+abbrev pub pick_file : List NamedFile → List ℕ → Loaded (List ℕ)
 pick_file files name = file_read 2 (reading_of pick_format) (file_named name files)
 
 -- the tree of the file of that name, which has this place among the named files, for a graph of
 -- that order
-abbrev pub tree_file : List Named → (place : ℕ) → List ℕ → (order : ℕ) → Loaded Shape
+abbrev pub tree_file : List NamedFile → (place : ℕ) → List ℕ → (order : ℕ) → Loaded Shape
 tree_file files place name order = file_read place (reading_of (tree_format order)) (file_named name files)
 
 -- the ear list of the file of that name, which is the second, for that graph
-abbrev pub ear_file : List Named → List ℕ → Graph → Loaded PlainEars
+abbrev pub ear_file : List NamedFile → List ℕ → Graph → Loaded PlainEars
 ear_file files name g = file_read 2 (reading_of (ear_format g.order (size g))) (file_named name files)
 
 -- the moves of the file of that name, which is the third, on trees for a graph of that order
-abbrev pub move_file : List Named → List ℕ → (order : ℕ) → Loaded (List PlainMove)
+abbrev pub move_file : List NamedFile → List ℕ → (order : ℕ) → Loaded (List PlainMove)
 move_file files name order = file_read 3 (reading_of (move_format order)) (file_named name files)
 
 -- a graph, and a tree for it
-abbrev pub tree_given : List Named → (graph tree : List ℕ) → Loaded (NamedGraph × Shape)
+abbrev pub tree_given : List NamedFile → (graph tree : List ℕ) → Loaded (NamedGraph × Shape)
 tree_given files graph tree = and_then (graph_file files graph) (λ named. loaded_as (λ t. (named, t)) (tree_file files 2 tree named.graph.order))
 
 -- a graph, and a list of picks
-abbrev pub picks_given : List Named → (graph picks : List ℕ) → Loaded (NamedGraph × List ℕ)
+abbrev pub picks_given : List NamedFile → (graph picks : List ℕ) → Loaded (NamedGraph × List ℕ)
 picks_given files graph picks = and_then (graph_file files graph) (λ named. loaded_as (λ list. (named, list)) (pick_file files picks))
 
 -- a graph, and a list of ears for it
-abbrev pub ears_given : List Named → (graph ears : List ℕ) → Loaded (NamedGraph × PlainEars)
+abbrev pub ears_given : List NamedFile → (graph ears : List ℕ) → Loaded (NamedGraph × PlainEars)
 ears_given files graph ears = and_then (graph_file files graph) (λ named. loaded_as (λ list. (named, list)) (ear_file files ears named.graph))
 
 -- a graph, a tree for it, and moves
-abbrev pub moves_given : List Named → (graph tree moves : List ℕ) → Loaded (NamedGraph × (Shape × List PlainMove))
+abbrev pub moves_given : List NamedFile → (graph tree moves : List ℕ) → Loaded (NamedGraph × (Shape × List PlainMove))
 moves_given files graph tree moves =
     and_then (tree_given files graph tree) (λ given. loaded_as (λ ms. (given.0, (given.1, ms))) (move_file files moves given.0.graph.order))
 
 -- a graph, and two trees for it
-abbrev pub trees_given : List Named → (graph first second : List ℕ) → Loaded (NamedGraph × (Shape × Shape))
+abbrev pub trees_given : List NamedFile → (graph first second : List ℕ) → Loaded (NamedGraph × (Shape × Shape))
 trees_given files graph first second =
     and_then (tree_given files graph first) (λ given. loaded_as (λ t. (given.0, (given.1, t))) (tree_file files 3 second given.0.graph.order))
 
@@ -126,7 +127,7 @@ abbrev pub on_trees : TreesVerb → NamedGraph × (Shape × Shape) → Task
 on_trees verb given = task.OnTrees verb given.0 given.1.0 given.1.1
 
 -- what the files of a command hold
-abbrev pub loaded : List Named → Command → Loaded Task
+abbrev pub loaded : List NamedFile → Command → Loaded Task
 loaded files (OnGraph verb graph) = loaded_as (task.OnGraph verb) (graph_file files graph)
 loaded files (OnSimpleGraph verb graph) = loaded_as (task.OnSimpleGraph verb) (graph6_file files graph)
 loaded files (OnTree verb graph tree) = loaded_as (on_tree verb) (tree_given files graph tree)

@@ -1,11 +1,12 @@
 -- What loading a file, or the files of a command, answers.
+-- Stated by: bench_tasks, bench_reports, bench_top. Rests on it: bench_outcomes.
 use Rattle.std.specs.Prelude.{◌≡◌, ◌≤◌, List, ℕ, Bool}
 use Rattle.std.specs.declared.option.Option.{Option}
 use Rattle.std.specs.declared.option.Option.TheVariants.{Some}
 use Rattle.std.specs.declared.result.Result.{Result}
 use Rattle.std.specs.declared.result.Result.TheVariants.{Ok, Err}
 use Rattle.outside.specs.Faults.{Rose}
-use Rattle.outside.specs.Shelf.{Named}
+use Rattle.outside.specs.Shelf.{NamedFile}
 use Rattle.graph_core.specs.Graph.{Graph}
 use Rattle.graph_text.specs.EitherVersion.{NamedGraph}
 use Rattle.graph_text.specs.SoFar.{named_graph}
@@ -79,10 +80,10 @@ LoadsAs view (Err stopped) loaded = StopsAs stopped loaded
 -- is steady stay as they were, the count of faults does not fall, and rose if a read failed;
 -- and if the files are known, the answer is what they hold, and over a steady shelf a
 -- read fails only at a file that is not held
-pub record Loads {S X A : Type 0} (told : S → Option (List Named)) (steady : S → Bool) (faults : S → ℕ) (view : X → A) (held : List Named → Loaded A) (result : Result X Stop) (before now : S) : Type 0 where
+pub record Loads {S X A : Type 0} (told : S → Option (List NamedFile)) (steady : S → Bool) (faults : S → ℕ) (view : X → A) (held : List NamedFile → Loaded A) (result : Result X Stop) (before now : S) : Type 0 where
   pub files : told now ≡ told before
   pub as_steady : steady now ≡ steady before
   pub later : faults before ≤ faults now
   pub failed : IsReadFault result → Rose (faults before) (faults now)
-  pub loads : (files : List Named) → told before ≡ Some files → LoadsAs view result (held files)
-  pub absent : (files : List Named) → told before ≡ Some files → FailsAs (steady before) result (held files)
+  pub loads : (files : List NamedFile) → told before ≡ Some files → LoadsAs view result (held files)
+  pub absent : (files : List NamedFile) → told before ≡ Some files → FailsAs (steady before) result (held files)

@@ -8,7 +8,7 @@ use crate::verbs::{
 
 /// What a graph grows from.
 #[derive(Clone, Copy)]
-pub struct Growth {
+pub struct GrowNumbers {
     /// The number from which the random words come.
     pub seed: u32,
     /// How many pieces the graph has.
@@ -65,6 +65,6 @@ pub enum Command<'a> {
     /// On numbers; it reads no file.
     OnNumbers {
         verb: NumbersVerb,
-        growth: Growth,
+        growth: GrowNumbers,
     },
 }

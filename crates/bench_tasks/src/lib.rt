@@ -22,7 +22,7 @@ mod tasks;
 mod verbs;
 mod words;
 
-pub use command::{Command, Growth};
+pub use command::{Command, GrowNumbers};
 pub use files::{CommandFile, FileKind, file_at};
 pub use gathering::gather;
 pub use stop::Stop;

@@ -212,7 +212,8 @@ pub fn load_moves<S: Shelf>(
     ensures loads { Loads S.files S.steady S.faults given_moves
         (λ files. moves_given files graph_file.now tree_file.now moves_file.now)
         result shelf.old shelf.new }
-    ensures answered { LoadsAnswered S.reads (graph_file.now ∷ tree_file.now ∷ moves_file.now ∷ []) given_moves
+    ensures answered { LoadsAnswered S.reads
+        (graph_file.now ∷ tree_file.now ∷ moves_file.now ∷ []) given_moves
         (λ files. moves_given files (place_name 1) (place_name 2) (place_name 3))
         result shelf.old shelf.new }
 {
@@ -236,7 +237,8 @@ pub fn load_trees<S: Shelf>(
     ensures loads { Loads S.files S.steady S.faults given_trees
         (λ files. trees_given files graph_file.now first_file.now second_file.now)
         result shelf.old shelf.new }
-    ensures answered { LoadsAnswered S.reads (graph_file.now ∷ first_file.now ∷ second_file.now ∷ []) given_trees
+    ensures answered { LoadsAnswered S.reads
+        (graph_file.now ∷ first_file.now ∷ second_file.now ∷ []) given_trees
         (λ files. trees_given files (place_name 1) (place_name 2) (place_name 3))
         result shelf.old shelf.new }
 {

@@ -8,7 +8,7 @@ ghost use Rattle.move_text.specs.MoveFormat.{most_moves};
 ghost use Rattle.ear_core.specs.EarLists.{FitsEars};
 ghost use Rattle.ear_core.specs.View.{ears_of};
 
-use crate::command::Growth;
+use crate::command::GrowNumbers;
 use crate::verbs::{
     EarsVerb, GraphVerb, MovesVerb, NumbersVerb, PicksVerb, SimpleGraphVerb, TreeVerb, TreesVerb,
 };
@@ -108,6 +108,6 @@ pub enum Task {
     /// On numbers.
     OnNumbers {
         verb: NumbersVerb,
-        growth: Growth,
+        growth: GrowNumbers,
     },
 }

@@ -4,7 +4,7 @@ ghost use Rattle.std.specs.Option.{option_map};
 ghost use Rattle.bench_tasks.specs.Commands.{OnGraph, OnTrees, command_of, graph_command, grow_command, pair_command, triple_command};
 ghost use Rattle.bench_tasks.specs.Asked.{asked};
 
-use crate::command::{Command, Growth};
+use crate::command::{Command, GrowNumbers};
 use crate::verbs::{
     EarsVerb, GraphVerb, MovesVerb, NumbersVerb, PicksVerb, SimpleGraphVerb, TreeVerb, TreesVerb,
 };
@@ -22,7 +22,7 @@ fn grow_command<'a>(seed: &str, pieces: &str) -> Option<Command<'a>>
     if (1..=MOST_PIECES).contains(&pieces) {
         Some(Command::OnNumbers {
             verb: NumbersVerb::Grow,
-            growth: Growth { seed, pieces },
+            growth: GrowNumbers { seed, pieces },
         })
     } else {
         None

@@ -13,7 +13,7 @@ use Rattle.tree_check.specs.Refusals.{IsRefused, Why, even, not_blocks, not_leaf
 use Rattle.tree_check.specs.Replays.{IsRefusedMoveAt}
 use Rattle.tree_check.specs.declared.replaying.Replayed.TheVariants.{Stuck}
 use Rattle.ear_core.specs.EarLists.{PlainEars}
-use Rattle.ear_core.specs.EarTests.{Why as EarWhy}
+use Rattle.ear_core.specs.EarTests.{PlainWhy as EarWhy}
 use Rattle.ear_core.proofs.Refusing.{refusal-one}
 use Rattle.report_text.specs.Judgements.{ear_judgement_text, judgement_text, numbered, refused_line}
 use Rattle.report_text.specs.Reports.{numbers_text}

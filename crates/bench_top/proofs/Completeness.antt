@@ -1,7 +1,7 @@
 -- Words and files decide the status: of good files by whether the task succeeds, and of a bad one
 -- it is BadInput.
 use Rattle.std.proofs.Common.{◌≡◌, ◌∙◌, ◌↔◌, ℕ, List, Option, Some, None, ◌⊎◌, inl, inr, refl, sym, subst}
-use Rattle.outside.specs.Shelf.{Named}
+use Rattle.outside.specs.Shelf.{NamedFile}
 use Rattle.bench_tasks.specs.Commands.{Command, command_of}
 use Rattle.bench_tasks.specs.Loading.{Loaded, All, Bad, Absent, loaded}
 use Rattle.bench_outcomes.specs.Outcome.{CommandGives, IsReported, LoadedGives, Outcome}
@@ -31,22 +31,22 @@ settles-once fact first second (inr refused) (inl done) = absurd (refused.1 done
 settles-once fact first second (inr refused) (inr again) = refused.0 ∙ sym again.0
 
 -- good files settle
-outcome-settles : (words : List (List ℕ)) (files : List Named) (command : Command) (task : Task) (status : Status) (output : List ℕ) →
+outcome-settles : (words : List (List ℕ)) (files : List NamedFile) (command : Command) (task : Task) (status : Status) (output : List ℕ) →
     command_of words ≡ Some command → loaded files command ≡ All task → Outcome words files status output → Settles (Succeeds task) status
 outcome-settles words files command task status output row held gives =
     settled task (subst (Holds KeepsGraph) held (loaded-graph files command)) status output
     (subst (λ (h : Loaded Task). LoadedGives h status output) held (subst (λ (o : Option Command). CommandGives files o status output) row gives))
 
-pub done-given : (files : List Named) (command : Command) (task : Task) (status : Status) (output : List ℕ) →
+pub done-given : (files : List NamedFile) (command : Command) (task : Task) (status : Status) (output : List ℕ) →
     loaded files command ≡ All task → LoadedGives (loaded files command) status output → (status ≡ Done) ↔ Succeeds task
 done-given files command task status output held gives =
     settles-done (Succeeds task) status (settled task (subst (Holds KeepsGraph) held (loaded-graph files command)) status output (subst (λ (h : Loaded Task). LoadedGives h status output) held gives))
 
-pub done-exactly : (words : List (List ℕ)) (files : List Named) (command : Command) (task : Task) (status : Status) (output : List ℕ) →
+pub done-exactly : (words : List (List ℕ)) (files : List NamedFile) (command : Command) (task : Task) (status : Status) (output : List ℕ) →
     command_of words ≡ Some command → loaded files command ≡ All task → Outcome words files status output → (status ≡ Done) ↔ Succeeds task
 done-exactly words files command task status output row held gives = settles-done (Succeeds task) status (outcome-settles words files command task status output row held gives)
 
-pub negative-exactly : (words : List (List ℕ)) (files : List Named) (command : Command) (task : Task) (status : Status) (output : List ℕ) →
+pub negative-exactly : (words : List (List ℕ)) (files : List NamedFile) (command : Command) (task : Task) (status : Status) (output : List ℕ) →
     command_of words ≡ Some command → loaded files command ≡ All task → Outcome words files status output → (status ≡ Negative) ↔ (Succeeds task → ⊥)
 negative-exactly words files command task status output row held gives = settles-negative (Succeeds task) status (outcome-settles words files command task status output row held gives)
 
@@ -56,11 +56,11 @@ held-once (All task) first second output other keeps gives again = settles-once 
 held-once (Bad file line kind) first second output other keeps gives again = gives.0 ∙ sym again.0
 held-once (Absent file) first second output other keeps gives again = absurd gives
 
-row-once : (files : List Named) (row : Option Command) (first second : Status) (output other : List ℕ) → CommandGives files row first output → CommandGives files row second other → first ≡ second
+row-once : (files : List NamedFile) (row : Option Command) (first second : Status) (output other : List ℕ) → CommandGives files row first output → CommandGives files row second other → first ≡ second
 row-once files None first second output other gives again = absurd gives
 row-once files (Some command) first second output other gives again = held-once (loaded files command) first second output other (loaded-graph files command) gives again
 
-pub status-once : (words : List (List ℕ)) (files : List Named) (first second : Status) (output other : List ℕ) → Outcome words files first output → Outcome words files second other → first ≡ second
+pub status-once : (words : List (List ℕ)) (files : List NamedFile) (first second : Status) (output other : List ℕ) → Outcome words files first output → Outcome words files second other → first ≡ second
 status-once words files first second output other gives again = row-once files (command_of words) first second output other gives again
 
 -- a run that ended otherwise is done, or memory ran out

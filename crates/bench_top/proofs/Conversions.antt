@@ -3,7 +3,7 @@
 -- same text.
 use Rattle.std.proofs.Common.{◌≡◌, ◌∙◌, ℕ, ◌≤◌, List, [], ◌∷◌, length, Some, refl, sym, subst}
 use Rattle.std.specs.Prelude.{codes}
-use Rattle.outside.specs.Shelf.{Named, file_named}
+use Rattle.outside.specs.Shelf.{NamedFile, file_named}
 use Rattle.line_text.specs.Reading.{reading_of}
 use Rattle.line_text.proofs.ExactlyOne.{Stands-reading_of}
 use Rattle.graph_text.specs.EitherVersion.{NamedGraph, either_version}
@@ -30,7 +30,7 @@ convert-again (All named) again_held output holds gives =
 convert-again (Bad file line kind) again_held output holds gives = let no = gives.0 in cc no
 convert-again (Absent file) again_held output holds gives = absurd gives
 
-pub convert-twice : (files others : List Named) (name other : List ℕ) (output : List ℕ) → LoadedGives (loaded_as (task.OnGraph Convert) (graph_file files name)) Done output → file_named other others ≡ Some output → length output ≤ most_bytes → LoadedGives (loaded_as (task.OnGraph Convert) (graph_file others other)) Done output
+pub convert-twice : (files others : List NamedFile) (name other : List ℕ) (output : List ℕ) → LoadedGives (loaded_as (task.OnGraph Convert) (graph_file files name)) Done output → file_named other others ≡ Some output → length output ≤ most_bytes → LoadedGives (loaded_as (task.OnGraph Convert) (graph_file others other)) Done output
 convert-twice files others name other output gives held within =
     convert-again (graph_file files name) (graph_file others other) output
     (λ named first. file_read-value 1 (reading_of either_version) (file_named other others) output (written_graph named) held within (Stands-reading_of either_version output (written_graph named) first.stands))
@@ -42,7 +42,7 @@ convert-one (All named) output other one two = two.text ∙ sym one.text
 convert-one (Bad file line kind) output other one two = let no = one.0 in cc no
 convert-one (Absent file) output other one two = absurd one
 
-pub convert-only : (files again : List Named) (name other : List ℕ) (output : List ℕ) (status : Status) (text : List ℕ) → Outcome (codes "convert" ∷ name ∷ []) files Done output → file_named other again ≡ Some output → length output ≤ most_bytes →
+pub convert-only : (files again : List NamedFile) (name other : List ℕ) (output : List ℕ) (status : Status) (text : List ℕ) → Outcome (codes "convert" ∷ name ∷ []) files Done output → file_named other again ≡ Some output → length output ≤ most_bytes →
     Outcome (codes "convert" ∷ other ∷ []) again status text → (status ≡ Done) × (text ≡ output)
 convert-only files again name other output status text gives held within told =
     let done = convert-twice files again name other output gives held within in

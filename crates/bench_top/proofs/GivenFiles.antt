@@ -6,7 +6,7 @@ use Rattle.std.proofs.lemmas.Bool.Decides.{nat_tests}
 use Rattle.std.specs.declared.option.Option.{Option}
 use Rattle.std.specs.declared.option.Option.TheVariants.{Some}
 use Rattle.std.specs.Str.{bytes_eq}
-use Rattle.outside.specs.Shelf.{Answer, Named, file_named}
+use Rattle.outside.specs.Shelf.{Answer, NamedFile, file_named}
 use Rattle.outside.specs.declared.shelf.ShelfFault.TheVariants.{Failed, TooLong, Memory}
 use Rattle.bench_tasks.specs.Answered.{GathersAnswered, GaveFile, HoldGiven, by_place, place_name}
 use Rattle.bench_tasks.specs.Commands.{Command}
@@ -24,7 +24,7 @@ next-name : (place next : ℕ) → place < next → bytes_eq (place_name place) 
 next-name place next before = grind (arith, nat_tests, before)
 
 -- a file before them changes nothing of what those hold that come after it
-holds-after : (place : ℕ) (bytes : List ℕ) (files : List Named) (next : ℕ) → place < next → (answers : List Answer) → HoldGiven files next answers → HoldGiven ((place_name place, bytes) ∷ files) next answers
+holds-after : (place : ℕ) (bytes : List ℕ) (files : List NamedFile) (next : ℕ) → place < next → (answers : List Answer) → HoldGiven files next answers → HoldGiven ((place_name place, bytes) ∷ files) next answers
 holds-after place bytes files next before [] held = tt
 holds-after place bytes files next before (answer ∷ answers) held =
     let same : file_named (place_name next) ((place_name place, bytes) ∷ files) ≡ file_named (place_name next) files =
@@ -32,7 +32,7 @@ holds-after place bytes files next before (answer ∷ answers) held =
     (subst (GaveFile answer) (sym same) held.0, holds-after place bytes files (next + 1) (omega (arith, before)) answers held.1)
 
 -- the first file is found
-first-named : (place : ℕ) (bytes : List ℕ) (files : List Named) → file_named (place_name place) ((place_name place, bytes) ∷ files) ≡ Some bytes
+first-named : (place : ℕ) (bytes : List ℕ) (files : List NamedFile) → file_named (place_name place) ((place_name place, bytes) ∷ files) ≡ Some bytes
 first-named place bytes files = ap (λ (b : Bool). cond b (Some bytes) (file_named (place_name place) files)) same
   where
     same : bytes_eq (place_name place) (place_name place) ≡ true
@@ -44,7 +44,7 @@ longer n = (replicate (n + 1) 0, let size = length-replicate {A = ℕ} (n + 1) 0
 
 -- files that were given, and what they hold
 pub record FilesGiven (place : ℕ) (answers : List Answer) : Type 0 where
-  pub files : List Named
+  pub files : List NamedFile
   pub given : AreGiven place answers files
   pub held : HoldGiven files place answers
 

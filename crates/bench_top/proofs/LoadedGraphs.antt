@@ -1,7 +1,7 @@
 -- What the files of a command hold keeps a graph: the graph that a file is read as is one. Each
 -- case of loading passes this on.
 use Rattle.std.proofs.Common.{ℕ, Bool, true, false, cond, nat_lt, List, length, Option, Some, None, Result, Ok, Err}
-use Rattle.outside.specs.Shelf.{Named, file_named}
+use Rattle.outside.specs.Shelf.{NamedFile, file_named}
 use Rattle.line_text.specs.Reading.{reading_of}
 use Rattle.graph6_text.specs.Reading.{outcome_of}
 use Rattle.ear_core.specs.EarLists.{PlainEars}
@@ -52,15 +52,15 @@ read-holds {A} P place reading (Some bytes) goes = at (nat_lt most_bytes (length
     at false (Err fault) is = tt
 
 -- the graph of a file
-pub graph-holds : (files : List Named) (name : List ℕ) → Holds HasGraph (graph_file files name)
+pub graph-holds : (files : List NamedFile) (name : List ℕ) → Holds HasGraph (graph_file files name)
 graph-holds files name = read-holds HasGraph 1 (reading_of either_version) (file_named name files) read-graph
 
 -- the same of a graph6 text
-graph6-holds : (files : List Named) (name : List ℕ) → Holds IsMultigraph (graph6_file files name)
+graph6-holds : (files : List NamedFile) (name : List ℕ) → Holds IsMultigraph (graph6_file files name)
 graph6-holds files name = read-holds IsMultigraph 1 outcome_of (file_named name files) read-simple_graph
 
 -- what is given beside a graph leaves it as it is
-beside-holds : {B C : Type 0} (files : List Named) (graph : List ℕ) (further : NamedGraph → Loaded B) (make : NamedGraph → B → C) (HasIts : C → Type 0) →
+beside-holds : {B C : Type 0} (files : List NamedFile) (graph : List ℕ) (further : NamedGraph → Loaded B) (make : NamedGraph → B → C) (HasIts : C → Type 0) →
     ((named : NamedGraph) (b : B) → HasGraph named → HasIts (make named b)) → Holds HasIts (and_then (graph_file files graph) (λ named. loaded_as (make named) (further named)))
 beside-holds files graph further make HasIts gives =
     then-holds HasGraph HasIts (graph_file files graph) (λ named. loaded_as (make named) (further named)) (graph-holds files graph)
@@ -69,12 +69,12 @@ beside-holds files graph further make HasIts gives =
 abbrev TreeHasGraph : NamedGraph × Shape → Type 0
 TreeHasGraph given = IsRead given.0.graph
 
-tree_given-holds : (files : List Named) (graph tree : List ℕ) → Holds TreeHasGraph (tree_given files graph tree)
+tree_given-holds : (files : List NamedFile) (graph tree : List ℕ) → Holds TreeHasGraph (tree_given files graph tree)
 tree_given-holds files graph tree =
     beside-holds files graph (λ named. tree_file files 2 tree named.graph.order) (λ named t. (named, t)) TreeHasGraph (λ named t is. is)
 
 -- the same of what is given beside a graph and a tree
-beside_tree-holds : {B C : Type 0} (files : List Named) (graph tree : List ℕ) (further : NamedGraph × Shape → Loaded B) (make : NamedGraph × Shape → B → C) (HasIts : C → Type 0) →
+beside_tree-holds : {B C : Type 0} (files : List NamedFile) (graph tree : List ℕ) (further : NamedGraph × Shape → Loaded B) (make : NamedGraph × Shape → B → C) (HasIts : C → Type 0) →
     ((given : NamedGraph × Shape) (b : B) → TreeHasGraph given → HasIts (make given b)) → Holds HasIts (and_then (tree_given files graph tree) (λ given. loaded_as (make given) (further given)))
 beside_tree-holds files graph tree further make HasIts gives =
     then-holds TreeHasGraph HasIts (tree_given files graph tree) (λ given. loaded_as (make given) (further given)) (tree_given-holds files graph tree)
@@ -85,7 +85,7 @@ read-keeps : (g : Graph) → IsRead g → IsMultigraph g
 read-keeps g is = record { ends = is.ends; no_loop = is.no_loop }
 
 -- what a command works on, by the files that it reads
-pub loaded-graph : (files : List Named) (command : Command) → Holds KeepsGraph (loaded files command)
+pub loaded-graph : (files : List NamedFile) (command : Command) → Holds KeepsGraph (loaded files command)
 loaded-graph files (OnGraph verb graph) =
     as-holds HasGraph KeepsGraph (task.OnGraph verb) (graph_file files graph) (λ named is. read-keeps named.graph is) (graph-holds files graph)
 loaded-graph files (OnSimpleGraph verb graph) = as-holds IsMultigraph KeepsGraph (task.OnSimpleGraph verb) (graph6_file files graph) (λ g is. is) (graph6-holds files graph)

@@ -1,7 +1,7 @@
 -- How many outputs does a done task have? One, if its text is not free; what an analysis or a
 -- refusal leaves free is one list of numbers.
 use Rattle.std.proofs.Common.{◌≡◌, ◌∙◌, ℕ, List, Option, Some, None, inl, inr, sym, subst}
-use Rattle.outside.specs.Shelf.{Named}
+use Rattle.outside.specs.Shelf.{NamedFile}
 use Rattle.bench_tasks.specs.Commands.{Command, command_of}
 use Rattle.bench_tasks.specs.Loading.{Loaded, All, Bad, Absent, loaded}
 use Rattle.bench_tasks.specs.Tasks.{Task}
@@ -15,26 +15,26 @@ use Rattle.bench_top.proofs.AlikeTexts.{alike-none}
 use Rattle.bench_top.proofs.LoadedGraphs.{Holds, loaded-graph}
 
 -- good files give what their task gives
-gives-task : (words : List (List ℕ)) (files : List Named) (command : Command) (t : Task) (status : Status) (output : List ℕ) →
+gives-task : (words : List (List ℕ)) (files : List NamedFile) (command : Command) (t : Task) (status : Status) (output : List ℕ) →
     command_of words ≡ Some command → loaded files command ≡ All t → Outcome words files status output → ResultOf t status output
 gives-task words files command t status output row held outcome =
     subst (λ (h : Loaded Task). LoadedGives h status output) held (subst (λ (c : Option Command). CommandGives files c status output) row outcome)
 
-keeps-task : (files : List Named) (command : Command) (t : Task) → loaded files command ≡ All t → KeepsGraph t
+keeps-task : (files : List NamedFile) (command : Command) (t : Task) → loaded files command ≡ All t → KeepsGraph t
 keeps-task files command t held = subst (Holds KeepsGraph) held (loaded-graph files command)
 
-pub output-once : (words : List (List ℕ)) (files : List Named) (command : Command) (t : Task) (output other : List ℕ) →
+pub output-once : (words : List (List ℕ)) (files : List NamedFile) (command : Command) (t : Task) (output other : List ℕ) →
     command_of words ≡ Some command → loaded files command ≡ All t → HasOneOutput t → Outcome words files Done output → Outcome words files Done other → output ≡ other
 output-once words files command t output other row held fixed one two =
     task-once t (keeps-task files command t held) fixed output other (gives-task words files command t Done output row held one) (gives-task words files command t Done other row held two)
 
-pub refusal-once : (words : List (List ℕ)) (files : List Named) (command : Command) (t : Task) (output other : List ℕ) →
+pub refusal-once : (words : List (List ℕ)) (files : List NamedFile) (command : Command) (t : Task) (output other : List ℕ) →
     command_of words ≡ Some command → loaded files command ≡ All t → ShowsNothingFree t → Outcome words files Negative output → Outcome words files Negative other → output ≡ other
 refusal-once words files command t output other row held nothing one two =
     alike-none (MayShow t) output other nothing
     (refused-alike t (keeps-task files command t held) output other (gives-task words files command t Negative output row held one) (gives-task words files command t Negative other row held two))
 
-pub outputs-alike : (words : List (List ℕ)) (files : List Named) (command : Command) (t : Task) (status : Status) (output other : List ℕ) →
+pub outputs-alike : (words : List (List ℕ)) (files : List NamedFile) (command : Command) (t : Task) (status : Status) (output other : List ℕ) →
     command_of words ≡ Some command → loaded files command ≡ All t → (HasChosenText t → status ≡ Negative) → Outcome words files status output → Outcome words files status other → DifferAtMostIn (MayShow t) output other
 outputs-alike words files command t status output other row held free one two =
     task-alike t (keeps-task files command t held) status free output other (gives-task words files command t status output row held one) (gives-task words files command t status other row held two)
@@ -45,9 +45,9 @@ held-bad (All t) output other keeps one two = elim (settled t keeps BadInput out
 held-bad (Bad file line kind) output other keeps one two = one.1 ∙ sym two.1
 held-bad (Absent file) output other keeps one two = absurd one
 
-row-bad : (files : List Named) (row : Option Command) (output other : List ℕ) → CommandGives files row BadInput output → CommandGives files row BadInput other → output ≡ other
+row-bad : (files : List NamedFile) (row : Option Command) (output other : List ℕ) → CommandGives files row BadInput output → CommandGives files row BadInput other → output ≡ other
 row-bad files None output other one two = absurd one
 row-bad files (Some command) output other one two = held-bad (loaded files command) output other (loaded-graph files command) one two
 
-pub bad-once : (words : List (List ℕ)) (files : List Named) (output other : List ℕ) → Outcome words files BadInput output → Outcome words files BadInput other → output ≡ other
+pub bad-once : (words : List (List ℕ)) (files : List NamedFile) (output other : List ℕ) → Outcome words files BadInput output → Outcome words files BadInput other → output ≡ other
 bad-once words files output other one two = row-bad files (command_of words) output other one two

@@ -2,7 +2,7 @@
 -- holds it is read as this script, and its replay on the first tree is done and reports the second.
 use Rattle.std.proofs.Common.{◌≡◌, ◌∙◌, ℕ, ◌≤◌, List, [], ◌∷◌, length, Option, Some, refl, sym, ap, ap₂, subst, inl, inr}
 use Rattle.std.specs.Prelude.{codes}
-use Rattle.outside.specs.Shelf.{Named, file_named}
+use Rattle.outside.specs.Shelf.{NamedFile, file_named}
 use Rattle.line_text.specs.Reading.{reading_of}
 use Rattle.line_text.proofs.ExactlyOne.{Stands-reading_of}
 use Rattle.graph_text.specs.EitherVersion.{NamedGraph, either_version}
@@ -33,10 +33,10 @@ tree_read graph tree =
     (λ named. loaded_as (λ t. (named, t)) (file_read 2 (reading_of (tree_format named.graph.order)) tree))
 
 -- other files that hold the same of both names
-tree_given-same : (files again : List Named) (graph tree : List ℕ) → file_named graph again ≡ file_named graph files → file_named tree again ≡ file_named tree files → tree_given again graph tree ≡ tree_given files graph tree
+tree_given-same : (files again : List NamedFile) (graph tree : List ℕ) → file_named graph again ≡ file_named graph files → file_named tree again ≡ file_named tree files → tree_given again graph tree ≡ tree_given files graph tree
 tree_given-same files again graph tree one two = ap₂ tree_read one two
 
-module _ (files again : List Named) (graph first second script output : List ℕ) (held : file_named script again ≡ Some output) (within : length output ≤ most_bytes) where
+module _ (files again : List NamedFile) (graph first second script output : List ℕ) (held : file_named script again ≡ Some output) (within : length output ≤ most_bytes) where
   -- a script that was reported
   replays : (named : NamedGraph) (s t : Shape) → tree_given again graph first ≡ All (named, s) → trees_given files graph first second ≡ All (named, (s, t)) → Scripted named.graph s t Done output → ReplaysScript files again graph first second script output
   replays named s t given both told = record {
@@ -97,7 +97,7 @@ module _ (files again : List Named) (graph first second script output : List ℕ
   first_read (Absent file) before now done = absurd done
 
 -- what was written is replayed
-pub script-replayed : (files again : List Named) (graph first second script output : List ℕ) → LoadedGives (loaded_as (on_trees Script) (trees_given files graph first second)) Done output →
+pub script-replayed : (files again : List NamedFile) (graph first second script output : List ℕ) → LoadedGives (loaded_as (on_trees Script) (trees_given files graph first second)) Done output →
     file_named graph again ≡ file_named graph files → file_named first again ≡ file_named first files → file_named script again ≡ Some output → length output ≤ most_bytes → ReplaysScript files again graph first second script output
 script-replayed files again graph first second script output done one two held within =
     first_read files again graph first second script output held within (tree_given files graph first) refl (tree_given-same files again graph first one two) done

@@ -4,7 +4,7 @@
 use Rattle.std.proofs.Common.{◌≡◌, ◌∙◌, ℕ, ◌≤◌, ◌<◌, ◌^◌, ◌&&◌, nat_le, Bool, true, false, cond, List, [], ◌∷◌, length, Option, Some, None, Result, Ok, Err, inl, inr, refl, sym, subst, ap, arith, option_map, nat_lt}
 use Rattle.std.specs.Prelude.{codes}
 use Rattle.std.proofs.lemmas.Bool.{and_parts, leb-true}
-use Rattle.outside.specs.Shelf.{Named, file_named}
+use Rattle.outside.specs.Shelf.{NamedFile, file_named}
 use Rattle.line_text.specs.Format.{Stands}
 use Rattle.line_text.specs.Numerals.{is_number, value_of}
 use Rattle.line_text.specs.Reading.{reading_of}
@@ -83,7 +83,7 @@ read-held {A} place reading (Some bytes) a is = (bytes, at (nat_lt most_bytes (l
     at false (Err fault) e = cc e
 
 -- a command that is done succeeds
-held-asks : (words : List (List ℕ)) (files : List Named) (command : Command) (held : Loaded Task) (output : List ℕ) → command_of words ≡ Some command → loaded files command ≡ held → Holds KeepsGraph held → LoadedGives held Done output → AsksDone words files
+held-asks : (words : List (List ℕ)) (files : List NamedFile) (command : Command) (held : Loaded Task) (output : List ℕ) → command_of words ≡ Some command → loaded files command ≡ held → Holds KeepsGraph held → LoadedGives held Done output → AsksDone words files
 held-asks words files command (All t) output row is keeps gives = record {
   command = command;
   row = row;
@@ -94,15 +94,15 @@ held-asks words files command (All t) output row is keeps gives = record {
 held-asks words files command (Bad file line kind) output row is keeps gives = let no = gives.0 in cc no
 held-asks words files command (Absent file) output row is keeps gives = absurd gives
 
-row-asks : (words : List (List ℕ)) (files : List Named) (row : Option Command) (output : List ℕ) → command_of words ≡ row → CommandGives files row Done output → AsksDone words files
+row-asks : (words : List (List ℕ)) (files : List NamedFile) (row : Option Command) (output : List ℕ) → command_of words ≡ row → CommandGives files row Done output → AsksDone words files
 row-asks words files None output is gives = absurd gives
 row-asks words files (Some command) output is gives = held-asks words files command (loaded files command) output is refl (loaded-graph files command) gives
 
-pub done-asks : (words : List (List ℕ)) (files : List Named) (output : List ℕ) → Outcome words files Done output → AsksDone words files
+pub done-asks : (words : List (List ℕ)) (files : List NamedFile) (output : List ℕ) → Outcome words files Done output → AsksDone words files
 done-asks words files output done = row-asks words files (command_of words) output refl done
 
 -- the graph that was read
-graph-read : (files : List Named) (graph : List ℕ) (named : NamedGraph) → graph_file files graph ≡ All named → IsRead named.graph
+graph-read : (files : List NamedFile) (graph : List ℕ) (named : NamedGraph) → graph_file files graph ≡ All named → IsRead named.graph
 graph-read files graph named is = subst (Holds HasGraph) is (graph-holds files graph)
 
 -- the parts of what was held
@@ -125,7 +125,7 @@ few-moves named moves read text is =
     let few = writable.few in
     omega arith
 
-module _ (files again : List Named) (graph : List ℕ) (same : file_named graph again ≡ file_named graph files) where
+module _ (files again : List NamedFile) (graph : List ℕ) (same : file_named graph again ≡ file_named graph files) where
   graph-again : (named : NamedGraph) → graph_file files graph ≡ All named → graph_file again graph ≡ All named
   graph-again named is = ap (file_read 1 (reading_of either_version)) same ∙ is
 
@@ -224,7 +224,7 @@ grown-few seed pieces output fits made =
     let so_many = made.paired.so_many in
     omega arith
 
-module _ (again : List Named) (name output : List ℕ) (held : file_named name again ≡ Some output) (within : length output ≤ most_bytes) where
+module _ (again : List NamedFile) (name output : List ℕ) (held : file_named name again ≡ Some output) (within : length output ≤ most_bytes) where
   grown-read : (seed pieces : ℕ) → FitsVersionOne (grown seed pieces) → Grown seed pieces Done output → graph_file again name ≡ All (grown_named seed pieces)
   grown-read seed pieces fits made =
       file_read-value 1 (reading_of either_version) (file_named name again) output (grown_named seed pieces) held within
@@ -253,7 +253,7 @@ module _ (again : List Named) (name output : List ℕ) (held : file_named name a
         },
       )
 
-  pub grown-served : (files : List Named) (seed pieces : List ℕ) → Outcome (codes "grow" ∷ seed ∷ pieces ∷ []) files Done output →
+  pub grown-served : (files : List NamedFile) (seed pieces : List ℕ) → Outcome (codes "grow" ∷ seed ∷ pieces ∷ []) files Done output →
       AsksDone (codes "ears" ∷ name ∷ []) again × AsksDone (codes "decompose" ∷ name ∷ codes "first" ∷ []) again
   grown-served files seed pieces gives = go (is_number seed && (is_number pieces && (nat_le 1 (value_of pieces) && nat_le (value_of pieces) most_pieces))) refl gives
     where

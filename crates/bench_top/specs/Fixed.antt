@@ -2,6 +2,7 @@
 -- list of `ears`, and the script of `script` and of `compare`, and with it the pairing. In every
 -- other report at most one list of numbers is free: the Berge set of a connected graph without a
 -- perfect matching, or the perfect matching that crosses a refused cut.
+-- Stated by: bench_top.
 use Rattle.std.specs.Prelude.{◌≡◌, ◌⊎◌, ◌++◌, ℕ, List}
 use Rattle.report_text.specs.Reports.{numbers_text}
 use Rattle.bench_outcomes.specs.Conducts.{Conduct, Writes, Tells, Needs, Chooses, conduct_of}

@@ -1,10 +1,11 @@
 -- What a run makes of a shelf that may tell nothing of its files: its reads gave some files, and
 -- what it writes is an output that these files give.
+-- Stated by: bench_top. Rests on it: front_top.
 use Rattle.std.specs.Prelude.{◌≡◌, ◌<◌, ℕ, ◌+◌, List, [], ◌∷◌, length}
 use Rattle.std.specs.declared.option.Option.{Option}
 use Rattle.std.specs.declared.result.Result.TheVariants.{Ok, Err}
 use Rattle.std.specs.Option.{option_map}
-use Rattle.outside.specs.Shelf.{Answer, AnswersInTurn, Named}
+use Rattle.outside.specs.Shelf.{Answer, AnswersInTurn, NamedFile}
 use Rattle.outside.specs.declared.shelf.ShelfFault.TheVariants.{Failed, TooLong, Memory}
 use Rattle.bench_tasks.specs.Answered.{by_place, place_name}
 use Rattle.bench_tasks.specs.Commands.{Command}
@@ -15,15 +16,15 @@ use Rattle.bench_outcomes.specs.declared.status.Status.{Status}
 use Rattle.bench_top.specs.Writes.{WritesAs}
 
 -- the first file is the one at this place, with these bytes, and of the others that holds
-pub record BeginsWith (place : ℕ) (bytes : List ℕ) (others : List Named → Type 0) (files : List Named) : Type 0 where
-  pub rest : List Named
+pub record BeginsWith (place : ℕ) (bytes : List ℕ) (others : List NamedFile → Type 0) (files : List NamedFile) : Type 0 where
+  pub rest : List NamedFile
   pub are : files ≡ (place_name place, bytes) ∷ rest
   pub others_hold : others rest
 
 -- the files are those that reads which answered so gave, from this place on, and no others: each
 -- is named by its place, and has the bytes that were given, or, where it was too long to be given,
 -- some that are too many
-abbrev pub AreGiven : (place : ℕ) → List Answer → List Named → Type 0
+abbrev pub AreGiven : (place : ℕ) → List Answer → List NamedFile → Type 0
 AreGiven place [] files = files ≡ []
 AreGiven place (Ok bytes ∷ answers) files = BeginsWith place bytes (AreGiven (place + 1) answers) files
 AreGiven place (Err Failed ∷ answers) files = AreGiven (place + 1) answers files
@@ -36,6 +37,6 @@ AreGiven place (Err Memory ∷ answers) files = AreGiven (place + 1) answers fil
 pub record GivenOutcome {S K : Type 0} (reads : S → List ℕ → Answer → S → Type 0) (written : K → Option (List ℕ)) (writes : K → List ℕ → ℕ → K → Type 0) (row : Option Command) (status : Status) (first last : S) (before now : K) : Type 0 where
   pub answers : List Answer
   pub in_turn : AnswersInTurn reads (names_in row) answers first last
-  pub files : List Named
+  pub files : List NamedFile
   pub given : AreGiven 1 answers files
   pub wrote : WritesAs written writes (CommandGives files (option_map by_place row)) status before now

@@ -1,7 +1,8 @@
 -- What one command makes of the output of another: with what was written it succeeds, and of a
 -- script `replay` makes the tree to which it leads.
+-- Stated by: bench_top.
 use Rattle.std.specs.Prelude.{◌≡◌, List, [], ◌∷◌, ℕ, Some, codes, length}
-use Rattle.outside.specs.Shelf.{Named}
+use Rattle.outside.specs.Shelf.{NamedFile}
 use Rattle.graph_text.specs.EitherVersion.{NamedGraph}
 use Rattle.tree_core.specs.Moves.{PlainMove}
 use Rattle.tree_core.specs.Shapes.{Shape, leaf_count}
@@ -18,7 +19,7 @@ use Rattle.bench_outcomes.specs.declared.status.Status.TheVariants.{Done}
 
 -- by these files the words ask for a task that succeeds; so `run` does it, if the outside does
 -- not fail and memory lasts
-pub record AsksDone (words : List (List ℕ)) (files : List Named) : Type 0 where
+pub record AsksDone (words : List (List ℕ)) (files : List NamedFile) : Type 0 where
   pub command : Command
   pub row : command_of words ≡ Some command
   pub task : Task
@@ -28,7 +29,7 @@ pub record AsksDone (words : List (List ℕ)) (files : List Named) : Type 0 wher
 -- the output gives a script from the first tree of the files to the second, and by the files
 -- again the replay of the file of this name on the same graph and first tree is done: it gives
 -- the second tree and the number of the script's moves, and nothing else
-pub record ReplaysScript (files again : List Named) (graph first second script output : List ℕ) : Type 0 where
+pub record ReplaysScript (files again : List NamedFile) (graph first second script output : List ℕ) : Type 0 where
   pub named : NamedGraph
   pub source : Shape
   pub target : Shape

@@ -1,15 +1,16 @@
 -- Which writes a run makes, and of which output.
+-- Stated by: bench_top. Rests on it: front_top.
 use Rattle.std.specs.Prelude.{◌≡◌, ℕ, List, take}
 use Rattle.std.specs.declared.option.Option.{Option}
 use Rattle.std.specs.declared.option.Option.TheVariants.{Some}
-use Rattle.outside.specs.Shelf.{Named}
+use Rattle.outside.specs.Shelf.{NamedFile}
 use Rattle.outside.specs.Sink.{IsCutOff, IsWritten, appended}
 use Rattle.bench_outcomes.specs.declared.status.Status.{Status}
 use Rattle.bench_outcomes.specs.declared.status.Status.TheVariants.{Done, Negative, Usage, ReadFault, BadInput, WriteFault, Memory}
 
 -- where the files are told, this is an output that they give with this status
-abbrev pub GivesTold : Option (List Named) → (List Named → Status → List ℕ → Type 0) → Status → List ℕ → Type 0
-GivesTold told gives status output = (files : List Named) → told ≡ Some files → gives files status output
+abbrev pub GivesTold : Option (List NamedFile) → (List NamedFile → Status → List ℕ → Type 0) → Status → List ℕ → Type 0
+GivesTold told gives status output = (files : List NamedFile) → told ≡ Some files → gives files status output
 
 -- an output of which this holds was written whole, and nothing else
 pub record WroteWhole {K : Type 0} (written : K → Option (List ℕ)) (writes : K → List ℕ → ℕ → K → Type 0) (gives : List ℕ → Type 0) (first last : K) : Type 0 where

@@ -5,7 +5,7 @@ use bench_tasks::Stop;
 
 /// How a run ended, for who has to say it in words.
 #[derive(Clone, Copy, Debug, PartialEq, Eq)]
-pub struct Ending {
+pub struct RunEnding {
     /// The status.
     pub status: Status,
     /// Why the files were not loaded. `None` if all were, and if the words match no command.

@@ -25,6 +25,6 @@ mod running;
 pub mod written_back;
 
 pub use bench_outcomes::Status;
-pub use ending::Ending;
+pub use ending::RunEnding;
 pub use in_memory::run_in_memory;
 pub use running::{run, run_ending};

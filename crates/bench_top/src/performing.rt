@@ -1,7 +1,7 @@
 //! A command from its files to its report.
 ghost use Rattle.std.specs.Prelude.{◌≡◌, ◌≢◌, ◌⊎◌, ◌↔◌, ℕ, List, IsTrue, IsErrOf, IsOk, IfOk, IfErr, Some};
 ghost use Rattle.outside.specs.Faults.{Rose};
-ghost use Rattle.outside.specs.Shelf.{Named, ReadsFirst, ReadsInTurn};
+ghost use Rattle.outside.specs.Shelf.{NamedFile, ReadsFirst, ReadsInTurn};
 ghost use Rattle.bench_top.specs.Calm.{HasRead};
 ghost use Rattle.bench_top.specs.Endings.{IsStopOf, ReportedBad, ReportsBad, StopsAfter, Unread, stop_in};
 ghost use Rattle.bench_top.specs.Given.{GivenOutcome};
@@ -14,7 +14,7 @@ ghost use Rattle.bench_tasks.specs.Reads.{IsRead, IsReadFault, names_until};
 ghost use Rattle.bench_outcomes.specs.Outcome.{LoadedGives, Appended, CutShort, IsReported, IsSettled};
 ghost use Rattle.bench_outcomes.specs.Refusing.{MayRefuse, GatheredMayRefuse};
 
-use crate::ending::Ending;
+use crate::ending::RunEnding;
 use bench_outcomes::{Report, Status};
 use bench_reports::judge;
 use bench_tasks::{Command, Stop, Task, gather};
@@ -68,7 +68,7 @@ pub fn perform<S: Shelf, K: Sink>(
     command: Command<'_>,
     shelf: &mut S,
     sink: &mut K,
-) -> Ending
+) -> RunEnding
     ensures usage { result.status ≢ Status.Usage }
     ensures negative { result.status ≡ Status.Negative → MayRefuse (Some (asked command.entry)) }
     ensures files { S.files shelf.new ≡ S.files shelf.old }
@@ -76,7 +76,7 @@ pub fn perform<S: Shelf, K: Sink>(
     ensures asks { ReadsFirst S.reads (file_names (asked command.entry)) shelf.old shelf.new }
     ensures asks_all { IsSettled result.status
         → ReadsInTurn S.reads (file_names (asked command.entry)) shelf.old shelf.new }
-    ensures asks_until { (files : List Named) → S.files shelf.old ≡ Some files
+    ensures asks_until { (files : List NamedFile) → S.files shelf.old ≡ Some files
         → HasRead (S.steady shelf.old) result.status
         → let names = names_until (loaded files (asked command.entry))
         (file_names (asked command.entry))
@@ -87,11 +87,11 @@ pub fn perform<S: Shelf, K: Sink>(
         Rose (K.faults sink.old) (K.faults sink.new) }
     ensures nothing { (result.status ≡ Status.ReadFault) ⊎ (result.status ≡ Status.Memory)
         → sink.new ≡ sink.old }
-    ensures outcome { (files : List Named) → S.files shelf.old ≡ Some files
+    ensures outcome { (files : List NamedFile) → S.files shelf.old ≡ Some files
         → IsReported result.status
         → Appended (LoadedGives (loaded files (asked command.entry))) result.status
         (K.written sink.old) (K.written sink.new) }
-    ensures cut { (files : List Named) → S.files shelf.old ≡ Some files
+    ensures cut { (files : List NamedFile) → S.files shelf.old ≡ Some files
         → result.status ≡ Status.WriteFault
         → CutShort (LoadedGives (loaded files (asked command.entry)))
         (K.written sink.old) (K.written sink.new) }
@@ -101,14 +101,14 @@ pub fn perform<S: Shelf, K: Sink>(
     ensures answered { GivenOutcome S.reads K.written K.writes (Some (asked command.entry))
         result.status shelf.old shelf.new sink.old sink.new }
     // Which file stopped it, and what was written of a bad one.
-    ensures stops { (files : List Named) → S.files shelf.old ≡ Some files →
+    ensures stops { (files : List NamedFile) → S.files shelf.old ≡ Some files →
         IsStopOf (S.steady shelf.old) result.stop (loaded files (asked command.entry)) }
     ensures stops_after { StopsAfter S.reads (file_names (asked command.entry)) result.stop
         shelf.old shelf.new }
     ensures reported { result.status ≡ Status.BadInput →
         ReportedBad result.stop (K.written sink.old) (K.written sink.new) }
     ensures unread { result.status ≡ Status.ReadFault → Unread result.stop }
-    ensures missing { (files : List Named) → S.files shelf.old ≡ Some files
+    ensures missing { (files : List NamedFile) → S.files shelf.old ≡ Some files
         → result.status ≡ Status.ReadFault → IsTrue (S.steady shelf.old)
         → (file : ℕ) × (loaded files (asked command.entry) ≡ Absent file) }
 {
@@ -116,15 +116,15 @@ pub fn perform<S: Shelf, K: Sink>(
     let stop = stop_of(&gathered);
     match report_on(alloc, gathered) {
         Ok(report) => match emit(sink, &report.bytes) {
-            Ok(()) => Ending {
+            Ok(()) => RunEnding {
                 status: report.status,
                 stop,
             },
-            Err(SinkFailed) => Ending {
+            Err(SinkFailed) => RunEnding {
                 status: Status::WriteFault,
                 stop,
             },
         },
-        Err(status) => Ending { status, stop },
+        Err(status) => RunEnding { status, stop },
     }
 }

@@ -1,7 +1,7 @@
 //! The top call, and the same with the file that stopped it.
 ghost use Rattle.std.specs.Prelude.{◌≡◌, ◌⊎◌, ◌↔◌, ℕ, List, map, string_bytes, IsTrue, Some, None};
 ghost use Rattle.outside.specs.Faults.{Rose};
-ghost use Rattle.outside.specs.Shelf.{Named, ReadsFirst, ReadsInTurn};
+ghost use Rattle.outside.specs.Shelf.{NamedFile, ReadsFirst, ReadsInTurn};
 ghost use Rattle.bench_tasks.specs.Commands.{Command, command_of};
 ghost use Rattle.bench_tasks.specs.Tasks.{Task};
 ghost use Rattle.bench_tasks.specs.Loading.{All, Bad, Absent, loaded};
@@ -15,7 +15,7 @@ ghost use Rattle.bench_top.specs.Endings.{IsStopOf, ReportedBad, StopsAfter, Unr
 ghost use Rattle.bench_top.specs.Given.{GivenOutcome};
 ghost use Rattle.bench_top.specs.Writes.{GivesTold, WritesAs};
 
-use crate::ending::Ending;
+use crate::ending::RunEnding;
 use crate::performing::perform;
 use bench_outcomes::Status;
 use bench_tasks::command_of;
@@ -32,7 +32,7 @@ pub fn run_ending<S: Shelf, K: Sink>(
     words: &[String],
     shelf: &mut S,
     sink: &mut K,
-) -> Ending
+) -> RunEnding
     // Usage comes exactly when the words match no command, and then nothing was read.
     ensures usage { result.status ≡ Status.Usage
         ↔ (command_of (map string_bytes words.now) ≡ None) }
@@ -58,7 +58,8 @@ pub fn run_ending<S: Shelf, K: Sink>(
     ensures asks_all { IsSettled result.status
         → ReadsInTurn S.reads (names_in (command_of (map string_bytes words.now))) shelf.old
         shelf.new }
-    ensures asks_until { (files : List Named) (command : Command) → S.files shelf.old ≡ Some files
+    ensures asks_until { (files : List NamedFile) (command : Command) →
+        S.files shelf.old ≡ Some files
         → command_of (map string_bytes words.now) ≡ Some command
         → HasRead (S.steady shelf.old) result.status
         → ReadsInTurn S.reads (names_until (loaded files command) (file_names command))
@@ -69,11 +70,11 @@ pub fn run_ending<S: Shelf, K: Sink>(
 
     // What was written is the output that the words and the files stand for, or a proper prefix
     // of it.
-    ensures outcome { (files : List Named) → S.files shelf.old ≡ Some files
+    ensures outcome { (files : List NamedFile) → S.files shelf.old ≡ Some files
         → IsReported result.status
         → Appended (Outcome (map string_bytes words.now) files) result.status
         (K.written sink.old) (K.written sink.new) }
-    ensures cut { (files : List Named) → S.files shelf.old ≡ Some files
+    ensures cut { (files : List NamedFile) → S.files shelf.old ≡ Some files
         → result.status ≡ Status.WriteFault
         → CutShort (Outcome (map string_bytes words.now) files) (K.written sink.old)
         (K.written sink.new) }
@@ -86,36 +87,37 @@ pub fn run_ending<S: Shelf, K: Sink>(
     // these files: of the report that the status and they stand for, or if a write failed of a
     // proper prefix of one.
     ensures answered { GivenOutcome S.reads K.written K.writes
-        (command_of (map string_bytes words.now)) result.status shelf.old shelf.new sink.old sink.new }
+        (command_of (map string_bytes words.now)) result.status shelf.old shelf.new
+        sink.old sink.new }
 
     // Over a steady shelf a read fails only where a named file is not held and all before it are
     // held and good.
-    ensures missing { (files : List Named) (command : Command) → S.files shelf.old ≡ Some files
+    ensures missing { (files : List NamedFile) (command : Command) → S.files shelf.old ≡ Some files
         → command_of (map string_bytes words.now) ≡ Some command
         → result.status ≡ Status.ReadFault → IsTrue (S.steady shelf.old)
         → (file : ℕ) × (loaded files command ≡ Absent file) }
 
     // What the files hold decides the status, where the outside does not fail and memory lasts.
-    ensures absent { (files : List Named) (command : Command) (file : ℕ) →
+    ensures absent { (files : List NamedFile) (command : Command) (file : ℕ) →
         S.files shelf.old ≡ Some files
         → command_of (map string_bytes words.now) ≡ Some command →
         loaded files command ≡ Absent file
         → (result.status ≡ Status.ReadFault) ⊎ (result.status ≡ Status.Memory) }
-    ensures bad { (files : List Named) (command : Command) (file line kind : ℕ) →
+    ensures bad { (files : List NamedFile) (command : Command) (file line kind : ℕ) →
         S.files shelf.old ≡ Some files
         → command_of (map string_bytes words.now) ≡ Some command →
         loaded files command ≡ Bad file line kind
         → IsCalm (S.steady shelf.old) (S.faults shelf.old) (S.faults shelf.new)
         (K.faults sink.old) (K.faults sink.new)
         → (result.status ≡ Status.BadInput) ⊎ (result.status ≡ Status.Memory) }
-    ensures good { (files : List Named) (command : Command) (task : Task) →
+    ensures good { (files : List NamedFile) (command : Command) (task : Task) →
         S.files shelf.old ≡ Some files
         → command_of (map string_bytes words.now) ≡ Some command → loaded files command ≡ All task
         → IsCalm (S.steady shelf.old) (S.faults shelf.old) (S.faults shelf.new)
         (K.faults sink.old) (K.faults sink.new)
         → IsSettled result.status ⊎ (result.status ≡ Status.Memory) }
     // It is done where the task succeeds.
-    ensures succeeds { (files : List Named) (command : Command) (task : Task) →
+    ensures succeeds { (files : List NamedFile) (command : Command) (task : Task) →
         S.files shelf.old ≡ Some files
         → command_of (map string_bytes words.now) ≡ Some command → loaded files command ≡ All task
         → Succeeds task
@@ -124,7 +126,7 @@ pub fn run_ending<S: Shelf, K: Sink>(
         → (result.status ≡ Status.Done) ⊎ (result.status ≡ Status.Memory) }
 
     // Which file stopped it, and what was written of a bad one.
-    ensures stops { (files : List Named) (command : Command) → S.files shelf.old ≡ Some files
+    ensures stops { (files : List NamedFile) (command : Command) → S.files shelf.old ≡ Some files
         → command_of (map string_bytes words.now) ≡ Some command
         → IsStopOf (S.steady shelf.old) result.stop (loaded files command) }
     ensures stops_after { StopsAfter S.reads (names_in (command_of (map string_bytes words.now)))
@@ -135,7 +137,7 @@ pub fn run_ending<S: Shelf, K: Sink>(
 {
     match command_of(words) {
         Some(command) => perform(alloc, command, shelf, sink),
-        None => Ending {
+        None => RunEnding {
             status: Status::Usage,
             stop: None,
         },
@@ -178,7 +180,8 @@ pub fn run<S: Shelf, K: Sink>(
     ensures asks_all { IsSettled result
         → ReadsInTurn S.reads (names_in (command_of (map string_bytes words.now))) shelf.old
         shelf.new }
-    ensures asks_until { (files : List Named) (command : Command) → S.files shelf.old ≡ Some files
+    ensures asks_until { (files : List NamedFile) (command : Command) →
+        S.files shelf.old ≡ Some files
         → command_of (map string_bytes words.now) ≡ Some command
         → HasRead (S.steady shelf.old) result
         → ReadsInTurn S.reads (names_until (loaded files command) (file_names command))
@@ -189,10 +192,11 @@ pub fn run<S: Shelf, K: Sink>(
 
     // What was written is the output that the words and the files stand for, or a proper prefix
     // of it.
-    ensures outcome { (files : List Named) → S.files shelf.old ≡ Some files → IsReported result
+    ensures outcome { (files : List NamedFile) → S.files shelf.old ≡ Some files → IsReported result
         → Appended (Outcome (map string_bytes words.now) files) result
         (K.written sink.old) (K.written sink.new) }
-    ensures cut { (files : List Named) → S.files shelf.old ≡ Some files → result ≡ Status.WriteFault
+    ensures cut { (files : List NamedFile) → S.files shelf.old ≡ Some files →
+        result ≡ Status.WriteFault
         → CutShort (Outcome (map string_bytes words.now) files) (K.written sink.old)
         (K.written sink.new) }
     // The writes are those of that output, each of what is left of it, up to the end or to one
@@ -208,32 +212,32 @@ pub fn run<S: Shelf, K: Sink>(
 
     // Over a steady shelf a read fails only where a named file is not held and all before it are
     // held and good.
-    ensures missing { (files : List Named) (command : Command) → S.files shelf.old ≡ Some files
+    ensures missing { (files : List NamedFile) (command : Command) → S.files shelf.old ≡ Some files
         → command_of (map string_bytes words.now) ≡ Some command
         → result ≡ Status.ReadFault → IsTrue (S.steady shelf.old)
         → (file : ℕ) × (loaded files command ≡ Absent file) }
 
     // What the files hold decides the status, where the outside does not fail and memory lasts.
-    ensures absent { (files : List Named) (command : Command) (file : ℕ) →
+    ensures absent { (files : List NamedFile) (command : Command) (file : ℕ) →
         S.files shelf.old ≡ Some files
         → command_of (map string_bytes words.now) ≡ Some command →
         loaded files command ≡ Absent file
         → (result ≡ Status.ReadFault) ⊎ (result ≡ Status.Memory) }
-    ensures bad { (files : List Named) (command : Command) (file line kind : ℕ) →
+    ensures bad { (files : List NamedFile) (command : Command) (file line kind : ℕ) →
         S.files shelf.old ≡ Some files
         → command_of (map string_bytes words.now) ≡ Some command →
         loaded files command ≡ Bad file line kind
         → IsCalm (S.steady shelf.old) (S.faults shelf.old) (S.faults shelf.new)
         (K.faults sink.old) (K.faults sink.new)
         → (result ≡ Status.BadInput) ⊎ (result ≡ Status.Memory) }
-    ensures good { (files : List Named) (command : Command) (task : Task) →
+    ensures good { (files : List NamedFile) (command : Command) (task : Task) →
         S.files shelf.old ≡ Some files
         → command_of (map string_bytes words.now) ≡ Some command → loaded files command ≡ All task
         → IsCalm (S.steady shelf.old) (S.faults shelf.old) (S.faults shelf.new)
         (K.faults sink.old) (K.faults sink.new)
         → IsSettled result ⊎ (result ≡ Status.Memory) }
     // It is done where the task succeeds.
-    ensures succeeds { (files : List Named) (command : Command) (task : Task) →
+    ensures succeeds { (files : List NamedFile) (command : Command) (task : Task) →
         S.files shelf.old ≡ Some files
         → command_of (map string_bytes words.now) ≡ Some command → loaded files command ≡ All task
         → Succeeds task

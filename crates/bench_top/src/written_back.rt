@@ -5,7 +5,7 @@
 //! command named. Then a further command on them asks for a task that succeeds (`AsksDone`), so
 //! that `run` answers Done wherever the outside does not fail and memory lasts.
 ghost use Rattle.std.specs.Prelude.{◌≡◌, ◌≤◌, ℕ, List, [], ◌∷◌, codes, length, Some};
-ghost use Rattle.outside.specs.Shelf.{Named, file_named};
+ghost use Rattle.outside.specs.Shelf.{NamedFile, file_named};
 ghost use Rattle.bench_tasks.specs.Loading.{most_bytes};
 ghost use Rattle.bench_outcomes.specs.Outcome.{Outcome};
 ghost use Rattle.bench_top.specs.RoundTrips.{AsksDone, ReplaysScript};
@@ -15,12 +15,12 @@ ghost use Rattle.bench_outcomes.specs.declared.status.Status.TheVariants.{Done};
 /// What `decompose` writes of a matching covered graph, by a named order or by picks, `check`
 /// accepts.
 pub fn checked_decomposition_law()
-    ensures order { (files again : List Named) (graph order tree output : List ℕ)
+    ensures order { (files again : List NamedFile) (graph order tree output : List ℕ)
         → Outcome (codes "decompose" ∷ graph ∷ order ∷ []) files Done output
         → file_named graph again ≡ file_named graph files
         → file_named tree again ≡ Some output → length output ≤ most_bytes
         → AsksDone (codes "check" ∷ graph ∷ tree ∷ []) again }
-    ensures picks { (files again : List Named) (graph picks tree output : List ℕ)
+    ensures picks { (files again : List NamedFile) (graph picks tree output : List ℕ)
         → Outcome (codes "decompose" ∷ graph ∷ codes "script" ∷ picks ∷ []) files Done output
         → file_named graph again ≡ file_named graph files
         → file_named tree again ≡ Some output → length output ≤ most_bytes
@@ -29,7 +29,7 @@ pub fn checked_decomposition_law()
 
 /// What `ears` writes of a matching covered graph, `checkears` accepts.
 pub fn checked_ears_law()
-    ensures { (files again : List Named) (graph ears output : List ℕ)
+    ensures { (files again : List NamedFile) (graph ears output : List ℕ)
         → Outcome (codes "ears" ∷ graph ∷ []) files Done output
         → file_named graph again ≡ file_named graph files
         → file_named ears again ≡ Some output → length output ≤ most_bytes
@@ -38,7 +38,7 @@ pub fn checked_ears_law()
 
 /// What `replay` writes if it is done, `check` accepts.
 pub fn checked_replay_law()
-    ensures { (files again : List Named) (graph tree moves last output : List ℕ)
+    ensures { (files again : List NamedFile) (graph tree moves last output : List ℕ)
         → Outcome (codes "replay" ∷ graph ∷ tree ∷ moves ∷ []) files Done output
         → file_named graph again ≡ file_named graph files
         → file_named last again ≡ Some output → length output ≤ most_bytes
@@ -47,11 +47,11 @@ pub fn checked_replay_law()
 
 /// What `grow` writes is read as a matching covered graph: `ears` and `decompose` are done with it.
 pub fn grown_graph_law()
-    ensures ears { (files again : List Named) (seed pieces name output : List ℕ)
+    ensures ears { (files again : List NamedFile) (seed pieces name output : List ℕ)
         → Outcome (codes "grow" ∷ seed ∷ pieces ∷ []) files Done output
         → file_named name again ≡ Some output → length output ≤ most_bytes
         → AsksDone (codes "ears" ∷ name ∷ []) again }
-    ensures decompose { (files again : List Named) (seed pieces name output : List ℕ)
+    ensures decompose { (files again : List NamedFile) (seed pieces name output : List ℕ)
         → Outcome (codes "grow" ∷ seed ∷ pieces ∷ []) files Done output
         → file_named name again ≡ Some output → length output ≤ most_bytes
         → AsksDone (codes "decompose" ∷ name ∷ codes "first" ∷ []) again }
@@ -60,11 +60,11 @@ pub fn grown_graph_law()
 /// What `convert` writes is canonical: if a file holds it and keeps the limit of bytes,
 /// `convert` of that file is done and gives the same text, and nothing else.
 pub fn convert_law()
-    ensures allows { (files again : List Named) (name other : List ℕ) (output : List ℕ)
+    ensures allows { (files again : List NamedFile) (name other : List ℕ) (output : List ℕ)
         → Outcome (codes "convert" ∷ name ∷ []) files Done output
         → file_named other again ≡ Some output → length output ≤ most_bytes
         → Outcome (codes "convert" ∷ other ∷ []) again Done output }
-    ensures tells { (files again : List Named) (name other : List ℕ) (output : List ℕ)
+    ensures tells { (files again : List NamedFile) (name other : List ℕ) (output : List ℕ)
         (status : Status) (text : List ℕ)
         → Outcome (codes "convert" ∷ name ∷ []) files Done output
         → file_named other again ≡ Some output → length output ≤ most_bytes
@@ -76,7 +76,7 @@ pub fn convert_law()
 /// within the limit of bytes, this output, `replay` of the three is done and gives the second
 /// tree, and nothing else.
 pub fn replayed_script_law()
-    ensures { (files again : List Named) (graph first second script : List ℕ) (output : List ℕ)
+    ensures { (files again : List NamedFile) (graph first second script : List ℕ) (output : List ℕ)
         → Outcome (codes "script" ∷ graph ∷ first ∷ second ∷ []) files Done output
         → file_named graph again ≡ file_named graph files →
         file_named first again ≡ file_named first files

@@ -11,16 +11,19 @@
 //! a cover of what is left.
 //!
 //! ```text
-//!      some vertex u is met by each                each vertex is missed by some heaviest matching;
-//!      heaviest matching: one less                 K is a component of the edges that have weight:
-//!      at the edges of u                           one less inside K
+//!   some vertex u is met by each         each vertex is missed by some heaviest matching;
+//!   heaviest matching: one less          K is a component of the edges that have weight:
+//!   at the edges of u                    one less inside K
 //!
-//!           u ===== .                                   .-----.
-//!           |\                                         / \   / \      K is odd: a matching that is best for the
-//!           | \                                       .   \ /   .     lowered weights, with most edges inside K,
-//!           .  .      y(u) rises by one                \   .   /      misses one vertex of K. So K joins the sets
-//!                                                       .-----.
+//!        u ===== .                            .-----.
+//!        |\                                  / \   / \
+//!        | \                                .   \ /   .
+//!        .  .   y(u) rises by one            \   .   /
+//!                                             .-----.
 //! ```
+//!
+//! K is odd: a matching that is best for the lowered weights, with most edges inside K, misses one
+//! vertex of K. So K joins the sets.
 //!
 //! Why that matching misses one vertex of K alone: were it to miss two, it would, by induction on
 //! a walk between them, miss two neighbours. A step of the walk exchanges it with a heaviest

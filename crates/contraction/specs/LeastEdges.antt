@@ -1,4 +1,5 @@
 -- The least remembered edges, by which matchings of the quotient are lifted.
+-- Stated by: contraction.
 use Rattle.std.specs.Prelude.{ℕ, slice_index}
 use Rattle.counting.specs.Lists.{item}
 use Rattle.contraction.specs.Contracted.{ContractedValue}

@@ -1,4 +1,5 @@
 -- Lists of pairs of vertices, and the pairs that edges join.
+-- Stated by: contraction. Rests on it: list_lines.
 use Rattle.std.specs.Prelude.{◌≡◌, ◌<◌, ℕ, List, length, filter, slice_index_or}
 use Rattle.counting.specs.Tests.{some}
 use Rattle.counting.specs.Lists.{rising_pairs}

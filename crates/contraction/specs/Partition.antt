@@ -1,5 +1,7 @@
 -- Partitions as contracts see them: the number of vertices and the blocks; and the unions of
 -- blocks among the sets.
+-- Stated by: contraction, tree_core.
+-- Rests on it: tree_check, uncross, report_text, list_lines, bench_outcomes and 2 more.
 use Rattle.std.specs.Prelude.{ℕ, ◌≤◌, List}
 use Rattle.counting.specs.Lists.{mem, IsRisingIn}
 use Rattle.graph_core.specs.Partitions.{IsPartition}

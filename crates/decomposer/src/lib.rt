@@ -6,8 +6,8 @@
 //! (`ByFunction`), or any type with an `impl Order`. The tree is a derivation of the graph
 //! (`IsDerivation` of `tree_core`) and exactly one that the order picks (`IsPicked` of
 //! `specs/Picked`), with cuts counted in preorder. `decompose_covered` takes a covered graph of
-//! which the facts are at hand (`Covered` of `graph_facts`), and `decompose_from_first` one of which
-//! the first cut is at hand too.
+//! which the facts are at hand (`Covered` of `graph_facts`), and `decompose_from_first` one of
+//! which the first cut is at hand too.
 //!
 //! Stands on `tight_cuts` for the candidates at a partition and on `tree_core` for trees. Source:
 //! Lovász, "Matching structure and the matching lattice" (1987); Lucchesi and Murty, "Perfect

@@ -12,7 +12,7 @@ use Rattle.graph_core.proofs.Decide.{has_perfect_found, has_perfect_says}
 use Rattle.graph_core.specs.Components.{component_count}
 use Rattle.graph_core.specs.Graph.{Graph}
 use Rattle.graph_core.specs.Matchings.{HasPerfect, has_perfect}
-use Rattle.graph_core.specs.Structure.{cut_pair, unlike_pair}
+use Rattle.graph_core.specs.Structure.{cut_pair, equivalent_pair}
 use Rattle.definition_laws.specs.Words.{IsFirstPair}
 
 -- each pair is before all later ones
@@ -89,10 +89,10 @@ first_pair n t k h =
       λ a b wa wb l before. f.2 a b (rows_hold n a b (rising_list n everything) ((mem-all n a).1 wa) wb (lt-ltb a b l)) before,
     )
 
--- the pair that `unlike_pair` finds
-pub unlike-first : (g : Graph) (k : ℕ × ℕ) → unlike_pair g ≡ Some k → IsFirstPair g.order (λ a b. HasPerfect g (pair_set a b) → ⊥) k
-unfolding unlike_pair
-unlike-first g k h =
+-- the pair that `equivalent_pair` finds
+pub equivalent-first : (g : Graph) (k : ℕ × ℕ) → equivalent_pair g ≡ Some k → IsFirstPair g.order (λ a b. HasPerfect g (pair_set a b) → ⊥) k
+unfolding equivalent_pair
+equivalent-first g k h =
     let f = first_pair g.order (λ a b. not (has_perfect g (pair_set a b))) k h in (
       f.0,
       λ p. both_ways (has_perfect g (pair_set k.0 k.1)) (not-true (has_perfect g (pair_set k.0 k.1)) f.1) (has_perfect_found g (pair_set k.0 k.1) p),

@@ -1,5 +1,6 @@
 -- The words of a textbook for what graph_core defines by degrees, counts and tests. The laws of
 -- this crate say that they agree. Any textbook (Lovász and Plummer, "Matching Theory").
+-- Stated by: definition_laws. Rests on it: bench_top.
 use Rattle.std.specs.Prelude.{◌≡◌, ◌≢◌, ◌<◌, ◌⊎◌, ◌↔◌, ℕ, true, false, List, [], length}
 use Rattle.counting.specs.Counts.{Within}
 use Rattle.counting.specs.Lists.{mem, ComesBefore, IsRisingIn}

@@ -11,7 +11,7 @@ ghost use Rattle.graph_core.specs.Components.{component_count};
 ghost use Rattle.graph_core.specs.Covered.{IsCovered, IsReason, Reason};
 ghost use Rattle.graph_core.specs.Graph.{Graph, IsGraph, IsMultigraph};
 ghost use Rattle.graph_core.specs.Matchings.{HasPerfect};
-ghost use Rattle.graph_core.specs.Structure.{Equivalent, classes, cut_pair, is_equivalent, unlike_pair};
+ghost use Rattle.graph_core.specs.Structure.{Equivalent, classes, cut_pair, is_equivalent, equivalent_pair};
 ghost use Rattle.definition_laws.specs.Words.{IsFirstPair, IsListOfClass, without_berge};
 
 /// Each graph is matching covered or has a reason, and a multigraph never both. Two reasons of a
@@ -38,12 +38,12 @@ pub fn canonical_partition_law()
         IsStrictlyIncreasing (map (λ (c : List ℕ). slice_index c 0) (classes g)) }
 {}
 
-/// The pairs that `unlike_pair` and `cut_pair` answer are the first in lexicographic order: the
+/// The pairs that `equivalent_pair` and `cut_pair` answer are the first in lexicographic order: the
 /// first a < b without which there is not a perfect matching, and the first without which at
 /// least two components are left. That they answer one exactly when there is one is
 /// `first_pairs_law` of `separation_kit`.
 pub fn first_pair_law()
-    ensures unlike { (g : Graph) (k : ℕ × ℕ) → unlike_pair g ≡ Some k →
+    ensures equivalent { (g : Graph) (k : ℕ × ℕ) → equivalent_pair g ≡ Some k →
         IsFirstPair g.order (λ a b. HasPerfect g (pair_set a b) → ⊥) k }
     ensures separates { (g : Graph) (k : ℕ × ℕ) → cut_pair g ≡ Some k →
         IsFirstPair g.order (λ a b. 2 ≤ component_count g (pair_set a b)) k }

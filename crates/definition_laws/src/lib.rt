@@ -11,7 +11,7 @@
 //! `InC`). Components: `adjacency_law` (`adjacent`), `component_law` (`is_least`,
 //! `component_count`, `components`). Partitions: `blocks_law` (`IsPartition`), `perfect_at_law`
 //! and `tight_at_law` (`IsPerfectAt`, `IsTightAt`). Covered graphs: `reason_law` (`IsCovered`,
-//! `IsReason`), `canonical_partition_law` (`classes`), `first_pair_law` (`unlike_pair`,
+//! `IsReason`), `canonical_partition_law` (`classes`), `first_pair_law` (`equivalent_pair`,
 //! `cut_pair`).
 //!
 //! Stands on `graph_core`, and for the Berge set of each graph and the classes of a covered graph

@@ -13,7 +13,7 @@ use Rattle.match_search.proofs.Marks.{no-marks}
 use Rattle.match_search.specs.Rows.{marks}
 use Rattle.allowed_edges.proofs.Marking.{marks-set}
 use Rattle.ear_core.specs.EarLists.{PlainStep, PlainEars, next_stage, IsEarList}
-use Rattle.ear_core.specs.EarTests.{Why, not_path}
+use Rattle.ear_core.specs.EarTests.{PlainWhy, not_path}
 use Rattle.ear_core.specs.Refusals.{step_fault, IsJudged, IsRefused}
 use Rattle.ear_core.specs.Stages.{IsStage}
 use Rattle.ear_core.specs.View.{refusal_of}
@@ -29,41 +29,41 @@ module _ (g : Graph) (f new : Set) (s : PlainStep) (passes : step_fault g f s �
   pub taken-adds : count (size g) f + 1 ≤ count (size g) new
   taken-adds = subst (λ (h : Set). count (size g) f + 1 ≤ count (size g) h) (sym (fun_ext same)) (step-adds g f s (step-none g f s passes))
 
-  behind : (k : ℕ) (steps : List PlainStep) (answer : Option (ℕ × Why)) → IsJudged g (next_stage f s) (k + 1) steps answer → IsJudged g f k (s ∷ steps) answer
+  behind : (k : ℕ) (steps : List PlainStep) (answer : Option (ℕ × PlainWhy)) → IsJudged g (next_stage f s) (k + 1) steps answer → IsJudged g f k (s ∷ steps) answer
   behind k steps None judged = (step-none g f s passes, stage, judged)
   behind k steps (Some refusal) judged = inr (passes, stage, judged)
 
-  pub judged-behind : (k : ℕ) (rest others : List PlainStep) → rest ≡ s ∷ others → (answer : Option (ℕ × Why)) → IsJudged g new (k + 1) others answer → IsJudged g f k rest answer
+  pub judged-behind : (k : ℕ) (rest others : List PlainStep) → rest ≡ s ∷ others → (answer : Option (ℕ × PlainWhy)) → IsJudged g new (k + 1) others answer → IsJudged g f k rest answer
   judged-behind k rest others begins answer judged =
       subst (λ (steps : List PlainStep). IsJudged g f k steps answer) (sym begins)
       (behind k others answer (subst (λ (h : Set). IsJudged g h (k + 1) others answer) (fun_ext same) judged))
 
-abbrev is_some : Option (ℕ × Why) → Bool
+abbrev is_some : Option (ℕ × PlainWhy) → Bool
 is_some None = false
 is_some (Some refusal) = true
 
-no-some : (refusal : ℕ × Why) → Some refusal ≡ None → ⊥
+no-some : (refusal : ℕ × PlainWhy) → Some refusal ≡ None → ⊥
 no-some refusal same = both_ways (is_some (Some refusal)) (ap is_some same) refl
 
-abbrev named : Option (ℕ × Why) → ℕ × Why
+abbrev named : Option (ℕ × PlainWhy) → ℕ × PlainWhy
 named None = (0, not_path)
 named (Some refusal) = refusal
 
 -- the answer is right both ways
 module _ (g : Graph) (is : IsMultigraph g) (f : Set) (list : PlainEars) (start : Within (size g) list.start) (same : (i : ℕ) → f i ≡ singleton list.start i) (steps : List PlainStep) (all : steps ≡ list.steps) where
-  of-list : (answer : Option (ℕ × Why)) → IsJudged g f 0 steps answer → IsJudged g (singleton list.start) 0 list.steps answer
+  of-list : (answer : Option (ℕ × PlainWhy)) → IsJudged g f 0 steps answer → IsJudged g (singleton list.start) 0 list.steps answer
   of-list answer judged =
       subst (λ (xs : List PlainStep). IsJudged g (singleton list.start) 0 xs answer) all (subst (λ (h : Set). IsJudged g h 0 steps answer) (fun_ext same) judged)
 
-  accepts : (answer : Option (ℕ × Why)) → IsJudged g (singleton list.start) 0 list.steps answer → (answer ≡ None) ↔ IsEarList g list
+  accepts : (answer : Option (ℕ × PlainWhy)) → IsJudged g (singleton list.start) 0 list.steps answer → (answer ≡ None) ↔ IsEarList g list
   accepts None judged = (λ e. record { start = start; first_stage = first-stage g is list.start start; steps = judged }, λ e. refl)
   accepts (Some refusal) judged = (λ e. absurd (no-some refusal e), λ ears. absurd (refusal-none g (singleton list.start) 0 list.steps refusal.0 refusal.1 judged ears.steps))
 
-  refuses : (answer : Option (ℕ × Why)) → IsJudged g (singleton list.start) 0 list.steps answer → (step : ℕ) (why : Why) → (answer ≡ Some (step, why)) ↔ IsRefused g list step why
+  refuses : (answer : Option (ℕ × PlainWhy)) → IsJudged g (singleton list.start) 0 list.steps answer → (step : ℕ) (why : PlainWhy) → (answer ≡ Some (step, why)) ↔ IsRefused g list step why
   refuses None judged step why = (λ e. absurd (no-some (step, why) (sym e)), λ refused. absurd (refusal-none g (singleton list.start) 0 list.steps step why refused judged))
   refuses (Some refusal) judged step why = (
-    λ e. subst (λ (r : ℕ × Why). IsRefused g list r.0 r.1) (ap named e) judged,
-    λ refused. let one = refusal-one g (singleton list.start) 0 list.steps refusal.0 step refusal.1 why judged refused in ap Some (ap₂ (λ (i : ℕ) (w : Why). (i, w)) one.0 one.1),
+    λ e. subst (λ (r : ℕ × PlainWhy). IsRefused g list r.0 r.1) (ap named e) judged,
+    λ refused. let one = refusal-one g (singleton list.start) 0 list.steps refusal.0 step refusal.1 why judged refused in ap Some (ap₂ (λ (i : ℕ) (w : PlainWhy). (i, w)) one.0 one.1),
   )
 
   module _ {Fault : Type 0} (result : Result EarJudgement Fault) (judged : IfOk result (λ judgement. IsJudged g f 0 steps (refusal_of judgement))) where
@@ -71,8 +71,8 @@ module _ (g : Graph) (is : IsMultigraph g) (f : Set) (list : PlainEars) (start :
     judged-accepted = IfOk-weaker result (λ judgement. IsJudged g f 0 steps (refusal_of judgement)) (λ judgement. (refusal_of judgement ≡ None) ↔ IsEarList g list)
         (λ judgement x. accepts (refusal_of judgement) (of-list (refusal_of judgement) x)) judged
 
-    pub judged-refused : IfOk result (λ judgement. (step : ℕ) (why : Why) → (refusal_of judgement ≡ Some (step, why)) ↔ IsRefused g list step why)
-    judged-refused = IfOk-weaker result (λ judgement. IsJudged g f 0 steps (refusal_of judgement)) (λ judgement. (step : ℕ) (why : Why) → (refusal_of judgement ≡ Some (step, why)) ↔ IsRefused g list step why)
+    pub judged-refused : IfOk result (λ judgement. (step : ℕ) (why : PlainWhy) → (refusal_of judgement ≡ Some (step, why)) ↔ IsRefused g list step why)
+    judged-refused = IfOk-weaker result (λ judgement. IsJudged g f 0 steps (refusal_of judgement)) (λ judgement. (step : ℕ) (why : PlainWhy) → (refusal_of judgement ≡ Some (step, why)) ↔ IsRefused g list step why)
         (λ judgement x. refuses (refusal_of judgement) (of-list (refusal_of judgement) x)) judged
 
 -- one edge is marked

@@ -1,5 +1,5 @@
--- From a matching to a single ear. If the matching leads out of the stage at two vertices alone, each
--- ear that it makes with the kept one has these for its ends, so it serves alone.
+-- From a matching to a single ear. If the matching leads out of the stage at two vertices alone,
+-- each ear that it makes with the kept one has these for its ends, so it serves alone.
 use Rattle.std.proofs.Common.{◌≡◌, ◌≢◌, ℕ, ◌+◌, ◌≤◌, Bool, true, false, cond, ◌==◌, ◌&&◌, ◌||◌, not, refl, sym, ap, ◌∙◌, arith, eq-eqb, eqb-true, ne_eqb, inl, inr, subst, List, [], ◌∷◌}
 use Rattle.std.proofs.lemmas.Bool.{both_ways, cases_eq, false_from_ne_true, or_cases, or_left, or_right, or_parts, true≢false, not-true}
 use Rattle.counting.proofs.Booleans.{same_tests}

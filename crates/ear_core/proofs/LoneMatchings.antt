@@ -1,6 +1,6 @@
--- From a single ear to a matching. If a stage with an ear is matching covered and the rest has a perfect
--- matching, then this one, the odd edges of the ear and a perfect matching of the stage without the two
--- ends are a perfect matching that leads out of the stage at the two ends alone.
+-- From a single ear to a matching. If a stage with an ear is matching covered and the rest has a
+-- perfect matching, then this one, the odd edges of the ear and a perfect matching of the stage
+-- without the two ends are a perfect matching that leads out of the stage at the two ends alone.
 use Rattle.std.proofs.Common.{◌≡◌, ◌≢◌, ℕ, ◌<◌, ◌≤◌, Bool, true, false, cond, ◌==◌, ◌&&◌, ◌||◌, not, refl, sym, ap, ◌∙◌, arith, eq-eqb, inl, inr, subst, List, [], ◌∷◌}
 use Rattle.std.proofs.Math.Path.{fun_ext}
 use Rattle.std.proofs.lemmas.Bool.{both_ways, cases_Bool, cases_order, false_from_ne_true, or_cases, or_from, or_left, or_right, true≢false}

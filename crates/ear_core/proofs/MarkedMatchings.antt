@@ -1,5 +1,6 @@
--- A perfect matching by marked edges, from one of the graph of these edges: it holds the edges whose rank
--- among the marked ones is an edge of that one. A perfect matching that holds them all has no other edge.
+-- A perfect matching by marked edges, from one of the graph of these edges: it holds the edges
+-- whose rank among the marked ones is an edge of that one. A perfect matching that holds them all
+-- has no other edge.
 use Rattle.std.proofs.Common.{◌≡◌, ℕ, suc, zero, ◌+◌, true, ◌==◌, ◌||◌, refl, sym, ap, ◌∙◌, arith, eq-eqb, ◌⊎◌, inl, inr, List, [], ◌∷◌, drop, map, Some, All, get_or}
 use Rattle.std.specs.Prelude.{slice_get}
 use Rattle.std.proofs.lemmas.Bool.{and_parts, or_left, or_right, true≢false}

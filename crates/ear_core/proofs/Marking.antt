@@ -9,7 +9,7 @@ use Rattle.graph_core.specs.Graph.{Graph}
 use Rattle.match_search.specs.Rows.{marks}
 use Rattle.allowed_edges.proofs.Marking.{marks-set}
 use Rattle.ear_core.specs.EarLists.{PlainEar, two}
-use Rattle.ear_core.specs.EarTests.{Why, not_path, even_length, bad_ends, inner_on_stage, edge_used, is_path, has_odd_length, has_good_ends, has_new_edges, ear_fault, inner_vertices, no_member}
+use Rattle.ear_core.specs.EarTests.{PlainWhy, not_path, even_length, bad_ends, inner_on_stage, edge_used, is_path, has_odd_length, has_good_ends, has_new_edges, ear_fault, inner_vertices, no_member}
 use Rattle.ear_core.specs.Refusals.{first_of, step_fault}
 use Rattle.ear_core.specs.Stages.{is_met}
 
@@ -29,7 +29,7 @@ fault-same g f xs ys ds v es same =
     (ap (λ (m : Set). no_member (λ w. is_met g f w || m w) (inner_vertices g v es)) (fun_ext same))
 
 -- a step of two ears, the first of which passes
-pub pair-fault : (g : Graph) (f : Set) (a b : PlainEar) (inner used : List ℕ) (fault : Option Why) → ear_fault g f [] [] a.begin a.edges ≡ None → ((w : ℕ) → mem inner w ≡ mem (inner_vertices g a.begin a.edges) w) → used ≡ a.edges → ear_fault g f inner used b.begin b.edges ≡ fault → step_fault g f (two a b) ≡ fault
+pub pair-fault : (g : Graph) (f : Set) (a b : PlainEar) (inner used : List ℕ) (fault : Option PlainWhy) → ear_fault g f [] [] a.begin a.edges ≡ None → ((w : ℕ) → mem inner w ≡ mem (inner_vertices g a.begin a.edges) w) → used ≡ a.edges → ear_fault g f inner used b.begin b.edges ≡ fault → step_fault g f (two a b) ≡ fault
 pair-fault g f a b inner used fault passes same is second =
     ap (λ x. first_of x (ear_fault g f (inner_vertices g a.begin a.edges) a.edges b.begin b.edges)) passes
     ∙ sym (fault-same g f inner (inner_vertices g a.begin a.edges) a.edges b.begin b.edges same) ∙ ap (λ ds. ear_fault g f inner ds b.begin b.edges) (sym is) ∙ second

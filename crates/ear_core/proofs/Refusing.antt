@@ -11,21 +11,21 @@ use Rattle.graph_core.specs.Graph.{Graph, size, IsGraph}
 use Rattle.ear_core.specs.Stages.{IsStage, AllowedBy, with_edges}
 use Rattle.ear_core.specs.NearlyStages.{IsNearlyStage, odds}
 use Rattle.ear_core.specs.EarLists.{PlainStep, one, two, next_stage, IsStep, AreSteps}
-use Rattle.ear_core.specs.EarTests.{Why, not_path, even_length, bad_ends, inner_on_stage, edge_used, stage_not_covered, ends_early, is_path, has_odd_length, has_good_ends, has_free_inner, has_new_edges, Passes, ear_fault, inner_vertices}
+use Rattle.ear_core.specs.EarTests.{PlainWhy, not_path, even_length, bad_ends, inner_on_stage, edge_used, stage_not_covered, ends_early, is_path, has_odd_length, has_good_ends, has_free_inner, has_new_edges, Passes, ear_fault, inner_vertices}
 use Rattle.ear_core.specs.Refusals.{first_of, step_fault, IsLeastUnallowed, IsStepRefused, IsFirstRefusal}
 use Rattle.ear_core.proofs.AddedEars.{grow}
 use Rattle.ear_core.proofs.NextStages.{nearly, met-within, second_ear}
 use Rattle.ear_core.proofs.EarTests.{first_passes, second_passes}
 
 -- the first test that fails
-abbrev which : Bool → Bool → Bool → Bool → Bool → Option Why
+abbrev which : Bool → Bool → Bool → Bool → Bool → Option PlainWhy
 which b1 b2 b3 b4 b5 = if b1 then (if b2 then (if b3 then (if b4 then (if b5 then None else Some edge_used) else Some inner_on_stage) else Some bad_ends) else Some even_length) else Some not_path
 
-abbrev is_none : Option Why → Bool
+abbrev is_none : Option PlainWhy → Bool
 is_none None = true
 is_none (Some why) = false
 
-some_none : (why : Why) → Some why ≡ None → ⊥
+some_none : (why : PlainWhy) → Some why ≡ None → ⊥
 some_none why same = both_ways (is_none (Some why)) refl (ap is_none same)
 
 passed : (b1 b2 b3 b4 b5 : Bool) → which b1 b2 b3 b4 b5 ≡ None → (b1 ≡ true) × (b2 ≡ true) × (b3 ≡ true) × (b4 ≡ true) × (b5 ≡ true)
@@ -46,11 +46,11 @@ none-passes g f xs ds v es p = go (is_path g v es) (has_odd_length es) (has_good
     go b1 b2 b3 b4 b5 h1 h2 h3 h4 h5 = rw (h1, h2, h3, h4, h5) refl
 
 -- of two faults
-both-none : (first other : Option Why) → first_of first other ≡ None → (first ≡ None) × (other ≡ None)
+both-none : (first other : Option PlainWhy) → first_of first other ≡ None → (first ≡ None) × (other ≡ None)
 both-none None other h = (refl, h)
 both-none (Some why) other h = absurd (some_none why h)
 
-none-both : (first other : Option Why) → first ≡ None → other ≡ None → first_of first other ≡ None
+none-both : (first other : Option PlainWhy) → first ≡ None → other ≡ None → first_of first other ≡ None
 none-both first other h k = rw (h, k) refl
 
 -- no test of a step fails exactly when it is a step
@@ -89,15 +89,15 @@ stage-fine g f e stage least = least.without (λ t. stage.allowed e least.within
 pub fine-stage : (g : Graph) (f o : Set) → IsNearlyStage g f o → ((e : ℕ) → Within (size g) e → f e ≡ true → AllowedBy g f e) → IsStage g f
 fine-stage g f o near fine = record { some_edge = near.some_edge; connected = near.connected; allowed = fine }
 
-some-one : (a b : Why) → Some a ≡ Some b → a ≡ b
+some-one : (a b : PlainWhy) → Some a ≡ Some b → a ≡ b
 some-one a b same = ap (λ o. from o a) same
   where
-    from : Option Why → Why → Why
+    from : Option PlainWhy → PlainWhy → PlainWhy
     from None d = d
     from (Some why) d = why
 
 -- the first refusal is one alone
-pub refusal-one : (g : Graph) (f : Set) (k : ℕ) (steps : List PlainStep) (i j : ℕ) (a b : Why) → IsFirstRefusal g f k steps i a → IsFirstRefusal g f k steps j b → (i ≡ j) × (a ≡ b)
+pub refusal-one : (g : Graph) (f : Set) (k : ℕ) (steps : List PlainStep) (i j : ℕ) (a b : PlainWhy) → IsFirstRefusal g f k steps i a → IsFirstRefusal g f k steps j b → (i ≡ j) × (a ≡ b)
 refusal-one g f k [] i j a b x y =
     let p = x.1 in let q = y.1 in
     (x.0 ∙ sym y.0, p.2 ∙ ap ends_early (least-one (size g) (λ d. f d ≡ true) p.0 q.0 p.1 q.1) ∙ sym q.2)
@@ -112,7 +112,7 @@ refusal-one g f k (s ∷ steps) i j a b x y = elim x [
   ]
 ]
   where
-    not-both : {why : Why} → IsStepRefused g f s why → step_fault g f s ≡ None → IsStage g (next_stage f s) → ⊥
+    not-both : {why : PlainWhy} → IsStepRefused g f s why → step_fault g f s ≡ None → IsStage g (next_stage f s) → ⊥
     not-both {why} r passes stage = elim r [
       | inl t ↦ some_none why (sym t ∙ passes)
       | inr t ↦ let u = t.1 in stage-fine g (next_stage f s) u.0 stage u.1
@@ -131,7 +131,7 @@ refusal-one g f k (s ∷ steps) i j a b x y = elim x [
     ]
 
 -- and steps with a refusal do not lead to all edges
-pub refusal-none : (g : Graph) (f : Set) (k : ℕ) (steps : List PlainStep) (i : ℕ) (a : Why) → IsFirstRefusal g f k steps i a → AreSteps g f steps → ⊥
+pub refusal-none : (g : Graph) (f : Set) (k : ℕ) (steps : List PlainStep) (i : ℕ) (a : PlainWhy) → IsFirstRefusal g f k steps i a → AreSteps g f steps → ⊥
 refusal-none g f k [] i a x all = let p = x.1 in let least = p.1 in least.without (all p.0 least.within)
 refusal-none g f k (s ∷ steps) i a x all = elim x [
   | inl p ↦ elim p.1 [

@@ -1,5 +1,6 @@
--- The rest of a graph off a stage. The even edges of an ear meet its inner vertices alone, so with a
--- perfect matching off the new stage they are one off the stage before; at the last stage nothing is left.
+-- The rest of a graph off a stage. The even edges of an ear meet its inner vertices alone, so with
+-- a perfect matching off the new stage they are one off the stage before; at the last stage nothing
+-- is left.
 use Rattle.std.proofs.Common.{◌≡◌, ℕ, true, false, ◌+◌, ◌==◌, not, refl, sym, ap, ◌∙◌, arith, eq-eqb, inl, inr, List, [], ◌∷◌}
 use Rattle.std.proofs.lemmas.Bool.{both_ways, cases_Bool, false_from_ne_true, true≢false}
 use Rattle.counting.specs.Counts.{Within, bit}

@@ -1,6 +1,7 @@
 -- Ears that two perfect matchings make. From a vertex of the stage that the one matching leads
 -- out of the stage its edges and those of the other are followed in turn, until a vertex of the
 -- stage comes again.
+-- Stated by: ear_core. Rests on it: theorems.
 use Rattle.std.specs.Prelude.{◌≡◌, ◌≢◌, ◌⊎◌, ◌≤◌, ℕ, true, false, List, [], ◌∷◌, ◌++◌, ◌==◌, ◌&&◌, ◌||◌, not, cond, length}
 use Rattle.counting.specs.Counts.{Within, is_odd}
 use Rattle.counting.specs.Lists.{IsIn, mem, times}

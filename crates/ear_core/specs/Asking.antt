@@ -1,4 +1,5 @@
 -- How the matching engine is asked whether ears serve, and what is found.
+-- Stated by: ear_core. Rests on it: theorems.
 use Rattle.std.specs.Prelude.{◌≡◌, ◌⊎◌, ℕ, List, [], ◌∷◌, not}
 use Rattle.counting.specs.Counts.{Within}
 use Rattle.counting.specs.Lists.{mem, IsIn}

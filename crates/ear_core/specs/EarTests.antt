@@ -1,5 +1,6 @@
 -- The five tests of an ear, in their order, and the first that it fails. They look at lists and
 -- at marks alone.
+-- Stated by: ear_core. Rests on it: bench_outcomes, bench_top, theorems.
 use Rattle.std.specs.Prelude.{◌≡◌, ℕ, Bool, true, false, List, [], ◌∷◌, ◌==◌, nat_le, ◌&&◌, ◌||◌, not, length, Option, Some, None, if◌then◌else◌}
 use Rattle.counting.specs.Counts.{is_odd}
 use Rattle.counting.specs.Sets.{Set}
@@ -9,14 +10,14 @@ use Rattle.ear_core.specs.Stages.{is_met}
 use Rattle.ear_core.specs.Ears.{other_end, trail, last_vertex}
 
 -- why a step is refused
-pub data Why : Type 0 where
-  not_path : Why
-  even_length : Why
-  bad_ends : Why
-  inner_on_stage : Why
-  edge_used : Why
-  stage_not_covered : (edge : ℕ) → Why
-  ends_early : (edge : ℕ) → Why
+pub data PlainWhy : Type 0 where
+  not_path : PlainWhy
+  even_length : PlainWhy
+  bad_ends : PlainWhy
+  inner_on_stage : PlainWhy
+  edge_used : PlainWhy
+  stage_not_covered : (edge : ℕ) → PlainWhy
+  ends_early : (edge : ℕ) → PlainWhy
 
 -- the edges follow one another from v
 abbrev pub follows : Graph → ℕ → List ℕ → Bool
@@ -79,6 +80,6 @@ pub record Passes (g : Graph) (f : Set) (xs ds : List ℕ) (v : ℕ) (es : List 
   pub new : has_new_edges f ds es ≡ true
 
 -- the first test that an ear fails
-abbrev pub ear_fault : Graph → Set → (xs ds : List ℕ) → ℕ → List ℕ → Option Why
+abbrev pub ear_fault : Graph → Set → (xs ds : List ℕ) → ℕ → List ℕ → Option PlainWhy
 ear_fault g f xs ds v es =
     if is_path g v es then (if has_odd_length es then (if has_good_ends g f v es then (if has_free_inner g f xs v es then (if has_new_edges f ds es then None else Some edge_used) else Some inner_on_stage) else Some bad_ends) else Some even_length) else Some not_path

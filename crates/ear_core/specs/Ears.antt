@@ -1,5 +1,6 @@
 -- Ears of a stage f: paths of odd length outside f between two vertices of f, no inner vertex of
 -- which f meets.
+-- Stated by: ear_core, theorems.
 use Rattle.std.specs.Prelude.{◌≡◌, ◌≢◌, ℕ, ◌≤◌, true, false, List, [], ◌∷◌, ◌==◌, ◌||◌, cond, length}
 use Rattle.counting.specs.Counts.{Within, is_odd}
 use Rattle.counting.specs.Sets.{Set}

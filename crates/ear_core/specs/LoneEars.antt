@@ -1,5 +1,6 @@
 -- Perfect matchings that lead out of a stage at two of its vertices alone. Together with a perfect
 -- matching that keeps the stage such a one makes a single ear, and all single ears are found so.
+-- Stated by: ear_core. Rests on it: theorems.
 use Rattle.std.specs.Prelude.{◌≡◌, ◌≢◌, ℕ, true, ◌&&◌, not, cond}
 use Rattle.counting.specs.Counts.{Within}
 use Rattle.counting.specs.Sets.{Set, none, pair_set}

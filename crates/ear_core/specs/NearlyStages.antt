@@ -1,5 +1,6 @@
 -- What is known of a stage to which ears were added, before its edges are asked one by one: at
 -- most every other edge of the ears is left to ask.
+-- Stated by no contract. Rests on it: ear_core, theorems.
 use Rattle.std.specs.Prelude.{◌≡◌, ℕ, true, false, List, [], ◌∷◌}
 use Rattle.counting.specs.Counts.{Within}
 use Rattle.counting.specs.Sets.{Set}

@@ -1,5 +1,6 @@
 -- The graph that the engine is asked about: the vertices of g with the edges of a stage alone,
 -- which get numbers of their own in the order of those in g.
+-- Stated by: ear_core. Rests on it: theorems.
 use Rattle.std.specs.Prelude.{◌≡◌, ◌<◌, ◌≤◌, ℕ, zero, suc, true, List, [], ◌∷◌, ◌++◌, ◌&&◌, ◌||◌, ◌==◌, cond, Option, Some, None}
 use Rattle.counting.specs.Counts.{count, Within}
 use Rattle.counting.specs.Sets.{Set}

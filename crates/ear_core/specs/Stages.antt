@@ -1,6 +1,7 @@
 -- Stages: the graph of a set F of edges of G has these edges and the vertices that they meet.
 -- Edges and vertices keep the numbers that they have in G (Lovász and Plummer, "Matching Theory",
 -- chapter 5).
+-- Stated by: ear_core, theorems.
 use Rattle.std.specs.Prelude.{◌≡◌, ℕ, Bool, true, false, List, ◌==◌, not, ◌&&◌, ◌||◌}
 use Rattle.counting.specs.Counts.{Within}
 use Rattle.counting.specs.Sets.{Set}

@@ -1,4 +1,5 @@
 -- What is answered of a step.
+-- Stated by: ear_core.
 use Rattle.std.specs.Prelude.{◌≡◌, ℕ, Option, Some, None}
 use Rattle.counting.specs.Sets.{Set}
 use Rattle.graph_core.specs.Graph.{Graph}

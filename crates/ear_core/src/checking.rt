@@ -6,7 +6,7 @@ ghost use Rattle.counting.specs.Tests.{IsLeastWithout};
 ghost use Rattle.graph_core.specs.Graph.{size};
 ghost use Rattle.match_search.specs.Rows.{marks};
 ghost use Rattle.ear_core.specs.EarLists.{FitsEars, FitsStep, IsEarList};
-ghost use Rattle.ear_core.specs.EarTests.{Why};
+ghost use Rattle.ear_core.specs.EarTests.{PlainWhy};
 ghost use Rattle.ear_core.specs.Refusals.{IsJudged, IsRefused};
 ghost use Rattle.ear_core.specs.Stages.{IsStage};
 ghost use Rattle.ear_core.specs.View.{ears_of, refusal_of, step_of};
@@ -27,7 +27,7 @@ pub fn check_ears(alloc: Global, g: &MultiGraph, list: &EarList) -> Result<EarJu
     ensures accepted { IfOk result
         (λ judgement. (refusal_of judgement ≡ None) ↔ IsEarList g.now (ears_of list.now)) }
     ensures refused { IfOk result
-        (λ judgement. (step : ℕ) (why : Why) → (refusal_of judgement ≡ Some (step, why)) ↔
+        (λ judgement. (step : ℕ) (why : PlainWhy) → (refusal_of judgement ≡ Some (step, why)) ↔
         IsRefused g.now (ears_of list.now) step why) }
 {
     g.keeps_limits();

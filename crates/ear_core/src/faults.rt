@@ -10,7 +10,7 @@ ghost use Rattle.ear_core.specs.View.{why_of};
 
 use crate::ears::Ear;
 use crate::judgement::EarWhy;
-use crate::paths::{Path, path_of};
+use crate::paths::{EarPath, path_of};
 use graph_core::MultiGraph;
 use vset_core::{MOST_VERTICES, VSet};
 
@@ -92,7 +92,7 @@ pub fn tested(
     inner: VSet,
     used: &[u32],
     ear: &Ear,
-) -> Result<Path, EarWhy>
+) -> Result<EarPath, EarWhy>
     requires long { length mark.now ≡ size g.now + 1 }
     requires begin { Within g.now.order ear.now.from }
     requires edges { All (Within (size g.now)) ear.now.edges }

@@ -10,7 +10,7 @@ ghost use Rattle.ear_core.specs.Stages.{IsStage, AllowedBy, is_met};
 ghost use Rattle.ear_core.specs.EarLists.{PlainEar, PlainEars, PlainStep, next_stage, one, IsEarList, IsStep, AreSteps};
 ghost use Rattle.ear_core.specs.Refusals.{step_fault, IsFirstRefusal};
 ghost use Rattle.ear_core.specs.Ears.{IsEar, IsEarPair};
-ghost use Rattle.ear_core.specs.EarTests.{Passes, Why, inner_vertices};
+ghost use Rattle.ear_core.specs.EarTests.{Passes, PlainWhy, inner_vertices};
 
 /// The five tests of an ear say that it is an ear of the stage; those of the second ear of a
 /// step, that the two are ears without a common inner vertex and without a common edge.
@@ -35,9 +35,10 @@ pub fn new_stage_law()
 /// Steps that lead from a stage to all edges have no refusal, and others have one first refusal
 /// at most.
 pub fn first_refusal_law()
-    ensures none { (g : Graph) (f : Set) (k : ℕ) (steps : List PlainStep) (number : ℕ) (why : Why)
+    ensures none { (g : Graph) (f : Set) (k : ℕ) (steps : List PlainStep) (number : ℕ)
+        (why : PlainWhy)
         → IsFirstRefusal g f k steps number why → AreSteps g f steps → ⊥ }
-    ensures one { (g : Graph) (f : Set) (k : ℕ) (steps : List PlainStep) (i j : ℕ) (a b : Why)
+    ensures one { (g : Graph) (f : Set) (k : ℕ) (steps : List PlainStep) (i j : ℕ) (a b : PlainWhy)
         → IsFirstRefusal g f k steps i a → IsFirstRefusal g f k steps j b → (i ≡ j) × (a ≡ b) }
 {}
 

@@ -12,7 +12,7 @@ use vset_core::VSet;
 
 /// A path, by its inner vertices and its last one.
 #[derive(Clone, Copy)]
-pub struct Path {
+pub struct EarPath {
     pub inner: VSet,
     pub last: u32,
 }
@@ -37,7 +37,7 @@ fn other_end(g: &MultiGraph, e: u32, v: u32) -> Option<u32>
 
 /// The path that an ear is, its last vertex perhaps equal to its first; `None` exactly when the ear
 /// is not a path.
-pub fn path_of(g: &MultiGraph, ear: &Ear) -> Option<Path>
+pub fn path_of(g: &MultiGraph, ear: &Ear) -> Option<EarPath>
     requires begin { Within g.now.order ear.now.from }
     requires edges { All (Within (size g.now)) ear.now.edges }
     ensures none { IfNone result (is_path g.now ear.now.from ear.now.edges ≡ false) }
@@ -57,7 +57,7 @@ pub fn path_of(g: &MultiGraph, ear: &Ear) -> Option<Path>
             return None;
         }
         if others.is_empty() {
-            return Some(Path { inner, last: next });
+            return Some(EarPath { inner, last: next });
         }
         if next == ear.from {
             return None;

@@ -18,7 +18,7 @@ use vset_core::VSet;
 
 /// An edge of a perfect matching at a vertex, and its other end.
 #[derive(Clone, Copy)]
-pub struct Mate {
+pub struct MatchedEnd {
     pub edge: u32,
     pub vertex: u32,
 }
@@ -44,7 +44,7 @@ fn edge_at(m: &Matching, v: u32) -> u32
 }
 
 // The edge of a perfect matching at `v`, and the mate of `v`.
-fn mate_of(g: &MultiGraph, m: &Matching, v: u32) -> Mate
+fn mate_of(g: &MultiGraph, m: &Matching, v: u32) -> MatchedEnd
     requires vertex { Within g.now.order v }
     requires perfect { IsPerfectRows g.now m.now }
     ensures edge { result.edge ≡ row_edge m.now.rows v }
@@ -55,7 +55,7 @@ fn mate_of(g: &MultiGraph, m: &Matching, v: u32) -> Mate
     g.keeps_limits();
     let edge = edge_at(m, v);
     let vertex = across(g, edge, v);
-    Mate { edge, vertex }
+    MatchedEnd { edge, vertex }
 }
 
 /// The end of edge `e` other than `v`; of an edge that is not at `v` its first end.

@@ -1,4 +1,5 @@
 -- A graph file and the graph6 text that is made of it.
+-- Stated by: encoder, list_top. Rests on it: list_front.
 use Rattle.std.specs.Prelude.{◌≡◌, ◌⊎◌, ℕ, ◌-◌, ◌<◌, ◌≤◌, List, [], ◌∷◌, ◌++◌, length, take, slice_index_or}
 use Rattle.line_text.specs.Format.{Stands, FirstFault}
 use Rattle.line_text.specs.Lines.{lines_of}

@@ -1,4 +1,5 @@
 -- How a file is read from a source, and what is written once it was read.
+-- Stated by: encoder, list_top. Rests on it: list_front.
 use Rattle.std.specs.Prelude.{◌≡◌, ◌⊎◌, ℕ, zero, suc, ◌<◌, ◌≤◌, List, [], ◌++◌, length, take}
 use Rattle.std.specs.declared.option.Option.{Option}
 use Rattle.std.specs.declared.option.Option.TheVariants.{Some, None}

@@ -1,4 +1,5 @@
 -- The simple graph beneath a graph: parallel edges are kept once. Any textbook.
+-- Stated by: encoder.
 use Rattle.std.specs.Prelude.{◌≡◌, ℕ, if◌then◌else◌}
 use Rattle.counting.specs.Sets.{none}
 use Rattle.graph_core.specs.Graph.{Graph, with_edge}

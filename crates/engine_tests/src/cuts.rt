@@ -63,7 +63,8 @@ fn crossing(alloc: Global, graph: &MultiGraph, set: VSet) -> Result<VSet, Fail> 
     Ok(edges)
 }
 
-// A graph, a set of an odd number of its vertices, and the matching that crosses its cut; no edges if the cut is tight.
+// A graph, a set of an odd number of its vertices, and the matching that crosses its cut; no edges
+// if the cut is tight.
 static WORKED: [(u32, &[(u32, u32)], u32, u32); 3] = [
     (8, &TRIANGLE_IN_K33, 0b111, 0),
     (6, &PRISM, 0b111, 0b111 << 6),
@@ -97,8 +98,8 @@ fn agrees(alloc: Global, graph: &MultiGraph, set: VSet) -> Result<Option<bool>, 
     }
 }
 
-// The number of the sets of the vertices 1 to 8 with an odd number of vertices of the graph; none if an answer is not that of the
-// plain program.
+// The number of the sets of the vertices 1 to 8 with an odd number of vertices of the graph; none
+// if an answer is not that of the plain program.
 fn odd_sets(alloc: Global, graph: &MultiGraph) -> Result<Option<u32>, Fail>
     requires { IsSmall graph.now }
 {
@@ -208,7 +209,8 @@ static LISTED: [Listed; 9] = [
     },
 ];
 
-// Whether the list has these shores of this origin, in their order, each with the number of its vertices and with that of the others.
+// Whether the list has these shores of this origin, in their order, each with the number of its
+// vertices and with that of the others.
 fn has_shores(list: &CandidateList, row: &Listed) -> bool {
     if list.len() != row.shores.len() {
         return false;

@@ -134,9 +134,9 @@ fn ends_of(pair: Option<Pair>) -> Ends {
 
 #[test]
 fn finds_the_first_pairs(rt: HostRuntime) -> Result<(), Fail> {
-    for (order, edges, unlike, cut) in &PAIRS {
+    for (order, edges, equivalent, cut) in &PAIRS {
         let graph = made(rt.alloc(), *order, edges)?;
-        assert!(rt; ends_of(not_bicritical(rt.alloc(), &graph)?) == *unlike);
+        assert!(rt; ends_of(not_bicritical(rt.alloc(), &graph)?) == *equivalent);
         assert!(rt; ends_of(cut_pair(rt.alloc(), &graph)?) == *cut);
     }
     Ok(())

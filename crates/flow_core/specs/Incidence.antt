@@ -1,4 +1,5 @@
 -- Which arcs have an end at which node.
+-- Stated by: flow_core.
 use Rattle.std.specs.Prelude.{◌≡◌, ℕ, suc, ◌<◌, ◌⊎◌, List, length, All, Contains}
 use Rattle.counting.specs.Lists.{row_of}
 use Rattle.flow_core.specs.Nets.{Arc, Net}

@@ -1,5 +1,6 @@
 -- Paths that go from level to level of a search, with the place in each node's row where they go
 -- on.
+-- Stated by: flow_core.
 use Rattle.std.specs.Prelude.{◌≡◌, ℕ, suc, ◌+◌, ◌-◌, ◌*◌, ◌<◌, List, length, slice_index, ℤ}
 use Rattle.counting.specs.Counts.{total}
 use Rattle.flow_core.specs.Nets.{Net}

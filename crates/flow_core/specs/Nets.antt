@@ -1,5 +1,6 @@
 -- Networks with undirected arcs, the value of a set of nodes, and least minimum cuts (Ford and
 -- Fulkerson, "Flows in Networks").
+-- Stated by: flow_core, tight_cuts.
 use Rattle.std.specs.Prelude.{◌≡◌, ℕ, ◌≤◌, ◌<◌, ◌^◌, ◌≢◌, Bool, true, false, List, [], ◌∷◌, ◌++◌, ◌&&◌, ◌||◌, not, cond, sum_by, All}
 use Rattle.counting.specs.Counts.{Within}
 use Rattle.counting.specs.Sets.{Set}

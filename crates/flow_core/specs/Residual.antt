@@ -1,5 +1,6 @@
 -- What a flow leaves on the arcs: how much more each can take, and the nodes that are reached
 -- over arcs with room.
+-- Stated by: flow_core.
 use Rattle.std.specs.Prelude.{◌≡◌, ℕ, ◌<◌, ◌⊎◌, true, List, [], ◌∷◌, ◌==◌, length, slice_index_or, ℤ, pos, ◌+ℤ◌, ◌-ℤ◌, ◌<ℤ◌, if◌then◌else◌}
 use Rattle.counting.specs.Sets.{Set}
 use Rattle.counting.specs.Lists.{mem, IsRisingIn}

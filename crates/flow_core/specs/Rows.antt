@@ -1,4 +1,5 @@
 -- How the code's rows are seen: as lists.
+-- Stated by: flow_core.
 use Rattle.std.specs.Prelude.{ℕ, List, map}
 use Rattle.std.specs.Global.{Vec}
 

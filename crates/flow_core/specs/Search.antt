@@ -1,5 +1,6 @@
 -- The tree of a search over arcs with room: the visits in the order in which the nodes were
 -- reached.
+-- Stated by: flow_core.
 use Rattle.std.specs.Prelude.{◌≡◌, ◌≢◌, ℕ, ◌-◌, ◌≤◌, ◌<◌, ◌^◌, true, false, List, length, slice_index_or, ℤ, pos, ◌≤ℤ◌}
 use Rattle.counting.specs.Counts.{Within, count}
 use Rattle.counting.specs.Lists.{mem}

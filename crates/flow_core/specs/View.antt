@@ -1,4 +1,5 @@
 -- How the code's net is seen: its nodes and its list of arcs, within the limits.
+-- Stated by: flow_core.
 use Rattle.std.specs.Prelude.{◌≡◌, ℕ, List, map}
 use Rattle.flow_core.specs.Nets.{Arc, Net, IsBounded, total_capacity}
 use Rattle.flow_core.specs.declared.arc.Arc.{Arc as StoredArc}

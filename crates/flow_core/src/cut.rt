@@ -10,7 +10,7 @@ use crate::flow::Flow;
 use crate::incidence::Incidence;
 use crate::layers::grow;
 use crate::net::Net;
-use crate::search::{Outcome, search};
+use crate::search::{SearchOutcome, search};
 use std::alloc::{AllocError as Memory, Global};
 use vset_core::VSet;
 
@@ -89,8 +89,8 @@ fn grow_above(
 {
     'growing: while flow.value <= above {
         match search(alloc, net, incidence, &flow.on, source, sink)? {
-            Outcome::Path(visits) => grow(alloc, net, incidence, flow, &visits, above)?,
-            Outcome::Closed(set) => return Ok(Some(set)),
+            SearchOutcome::Path(visits) => grow(alloc, net, incidence, flow, &visits, above)?,
+            SearchOutcome::Closed(set) => return Ok(Some(set)),
         }
     }
     Ok(None)

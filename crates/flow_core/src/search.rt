@@ -34,7 +34,7 @@ pub struct Reached {
 /// What a search answers: its visits, of which the last is at the sink, or all nodes that it has
 /// reached, the sink not among them.
 #[derive(Drop)]
-pub enum Outcome {
+pub enum SearchOutcome {
     Path(Vec<Visit>),
     Closed(VSet),
 }
@@ -130,7 +130,7 @@ pub fn search(
     amounts: &SignedList,
     source: u32,
     sink: u32,
-) -> Result<Outcome, Memory>
+) -> Result<SearchOutcome, Memory>
     requires bounded { IsBounded net.now }
     requires fits { Fits net.now.arcs amounts.now }
     requires incidence { IsIncidence net.now incidence.now }
@@ -142,10 +142,10 @@ pub fn search(
     let mut head = 0;
     'scanning: while head < reached.visits.len() {
         if scan(net, incidence, amounts, sink, head, &mut reached)? {
-            return Ok(Outcome::Path(reached.visits));
+            return Ok(SearchOutcome::Path(reached.visits));
         }
         head += 1;
     }
     reached.seen.rises();
-    Ok(Outcome::Closed(reached.seen))
+    Ok(SearchOutcome::Closed(reached.seen))
 }

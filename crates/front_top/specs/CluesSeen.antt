@@ -1,4 +1,5 @@
 -- How the code's clues are seen.
+-- Stated by: front_top.
 use Rattle.std.specs.Option.{option_map}
 use Rattle.front_top.specs.Words.{Known}
 use Rattle.front_top.specs.declared.speaking.Clues.{Clues}

@@ -1,4 +1,5 @@
 -- The files of a command, as the words for a person name them.
+-- Stated by: front_top.
 use Rattle.std.specs.Prelude.{ℕ, List}
 use Rattle.std.specs.declared.option.Option.{Option}
 use Rattle.std.specs.declared.option.Option.TheVariants.{Some, None}

@@ -1,4 +1,5 @@
 -- How the code's file of a command is seen.
+-- Stated by: front_top.
 use Rattle.front_top.specs.Files.{File}
 use Rattle.front_top.specs.declared.files.File.{File as Coded}
 

@@ -1,9 +1,10 @@
 -- What goes to the sinks of the front.
+-- Stated by: front_top.
 use Rattle.std.specs.Prelude.{◌≡◌, ◌⊎◌, ℕ, List, Bool}
 use Rattle.std.specs.declared.option.Option.{Option}
 use Rattle.std.specs.declared.result.Result.{Result}
 use Rattle.outside.specs.Faults.{Rose}
-use Rattle.outside.specs.declared.explain.Reason.{Reason}
+use Rattle.outside.specs.declared.explain.FailureReason.{FailureReason}
 use Rattle.outside.specs.Sink.{appended}
 use Rattle.outside.specs.declared.sink.SinkFailed.{SinkFailed}
 use Rattle.bench_tasks.specs.Commands.{Command}
@@ -24,7 +25,7 @@ pub record IsSaid {E : Type 0} (written : E → Option (List ℕ)) (faults : E �
 -- given what is kept of the file that was read last, why a read failed, and whether nobody reads
 -- the output any more
 pub record Speaks {E : Type 0} (written : E → Option (List ℕ)) (faults : E → ℕ) (command : Option Command) (ended : Status)
-    (kept : Option (List ℕ)) (reason : Option Reason) (is_abandoned : Bool) (sink_before sink_now : Option (List ℕ)) (before now : E) : Type 0 where
+    (kept : Option (List ℕ)) (reason : Option FailureReason) (is_abandoned : Bool) (sink_before sink_now : Option (List ℕ)) (before now : E) : Type 0 where
   pub stopped : Option Stop
   pub reported : ended ≡ BadInput → ReportedBad stopped sink_before sink_now
   pub unread : ended ≡ ReadFault → Unread stopped

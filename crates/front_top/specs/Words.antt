@@ -1,8 +1,9 @@
 -- What is said of each ending.
+-- Stated by: front_top.
 use Rattle.std.specs.Prelude.{ℕ, List, [], codes, Bool, if◌then◌else◌}
 use Rattle.std.specs.declared.option.Option.{Option}
 use Rattle.std.specs.declared.option.Option.TheVariants.{Some, None}
-use Rattle.outside.specs.declared.explain.Reason.{Reason}
+use Rattle.outside.specs.declared.explain.FailureReason.{FailureReason}
 use Rattle.bench_tasks.specs.Commands.{Command}
 use Rattle.bench_tasks.specs.declared.stop.Stop.{Stop}
 use Rattle.bench_tasks.specs.declared.stop.Stop.TheVariants as stop
@@ -21,7 +22,7 @@ program = codes "mcg"
 -- read failed, and that nobody reads the output any more
 pub record Known : Type 0 where
   pub kept : Option (List ℕ)
-  pub reason : Option Reason
+  pub reason : Option FailureReason
   pub is_abandoned : Bool
 
 -- the line with that number of the file that was read last, if it is kept
@@ -35,7 +36,7 @@ bad_words None line kind kept = []
 bad_words (Some file) line kind kept = bad_file_text program file.0 file.1 line kind (line_kept kept line)
 
 -- of a file that could not be read: which it is, and why
-abbrev pub unread_words : Option File → Option Reason → List ℕ
+abbrev pub unread_words : Option File → Option FailureReason → List ℕ
 unread_words None reason = []
 unread_words (Some file) reason = unread_text program file.0 reason
 

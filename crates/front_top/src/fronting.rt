@@ -9,7 +9,7 @@ ghost use Rattle.front_top.specs.Words.{words_of};
 
 use crate::answers::answer_of;
 use crate::speaking::{Clues, say_ending};
-use bench_top::{Ending, Status, run_ending};
+use bench_top::{RunEnding, Status, run_ending};
 use front_words::say_bytes;
 use outside::{Keeping, Outlet, Sink, SinkFailed};
 use std::alloc::Global;
@@ -29,7 +29,7 @@ fn say_unless_quiet<'a, E: Sink>(
     errors: &mut E,
     is_quiet: bool,
     words: &'a [String],
-    ending: Ending,
+    ending: RunEnding,
     clues: Clues<'a>,
 )
     ensures quiet { is_quiet ≡ true → errors.new ≡ errors.old }

@@ -11,9 +11,9 @@ ghost use Rattle.front_top.specs.Words.{bad_words, line_kept, stop_words, unread
 
 use crate::files::{File, file_at};
 use bench_tasks::{Command, Stop, command_of};
-use bench_top::{Ending, Status};
+use bench_top::{RunEnding, Status};
 use front_words::{BadFile, line_at, say_bad_file, say_bytes, say_unread, usage};
-use outside::{Reason, Sink, SinkFailed};
+use outside::{FailureReason, Sink, SinkFailed};
 
 // The name of the program.
 const PROGRAM: &str = "mcg";
@@ -24,7 +24,7 @@ pub struct Clues<'a> {
     /// The bytes of the file that was read last, if they are kept.
     pub kept: Option<&'a [u8]>,
     /// Why the last read failed, if it did.
-    pub reason: Option<Reason>,
+    pub reason: Option<FailureReason>,
     /// Nobody reads the output any more.
     pub is_abandoned: bool,
 }
@@ -77,7 +77,7 @@ fn say_bad<'a, E: Sink>(
 fn say_unread_file<E: Sink>(
     errors: &mut E,
     file: Option<File<'_>>,
-    reason: Option<Reason>,
+    reason: Option<FailureReason>,
 ) -> Result<(), SinkFailed>
     ensures { Says E.written E.faults (unread_words (option_map file_seen file.entry) reason) result
         errors.old errors.new }
@@ -125,7 +125,7 @@ fn say_stop<'a, E: Sink>(
 pub fn say_ending<'a, E: Sink>(
     errors: &mut E,
     words: &'a [String],
-    ending: Ending,
+    ending: RunEnding,
     clues: Clues<'a>,
 ) -> Result<(), SinkFailed>
     ensures { Says E.written E.faults

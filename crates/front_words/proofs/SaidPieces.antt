@@ -3,7 +3,7 @@
 use Rattle.std.proofs.Common.{◌≡◌, ℕ, ◌+◌, ◌<◌, List, ◌++◌, length, drop, get_or, ap, add-one}
 use Rattle.std.proofs.Math.Seq.{drop-cons}
 use Rattle.front_words.specs.Pieces.{piece_text, pieces_text}
-use Rattle.front_words.specs.declared.pieces.Piece.TheVariants.{the_data}
+use Rattle.front_words.specs.declared.pieces.MessagePiece.TheVariants.{the_data}
 
 pub piece-first : (pieces : List the_data) (i : ℕ) (d : the_data) → i < length pieces →
     pieces_text (drop i pieces) ≡ piece_text (get_or pieces i d) ++ pieces_text (drop (i + 1) pieces)

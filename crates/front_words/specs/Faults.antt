@@ -1,4 +1,5 @@
 -- What the kinds of faults are in words, with the headers and the limits of the formats.
+-- Stated by: front_words.
 use Rattle.std.specs.Prelude.{ℕ, ◌==◌, List, [], codes, if◌then◌else◌}
 use Rattle.front_words.specs.declared.faults.Role.{Role}
 use Rattle.front_words.specs.declared.faults.Role.TheVariants.{Graph, Graph6, Derivation, Picks, Ears, Moves}

@@ -1,4 +1,5 @@
 -- A line of a text by its number.
+-- Stated by: front_words. Rests on it: front_top.
 use Rattle.std.specs.Prelude.{ℕ, ◌-◌, List, slice_get}
 use Rattle.std.specs.declared.option.Option.{Option}
 use Rattle.line_text.specs.Lines.{lines_of}

@@ -1,10 +1,11 @@
 -- The messages on lists of graphs: each is a line that begins with the name of the program, or two
 -- such lines.
+-- Stated by: front_words. Rests on it: list_front.
 use Rattle.std.specs.Prelude.{ℕ, ◌==◌, ◌&&◌, List, ◌++◌, codes, length, nat_lt, if◌then◌else◌}
 use Rattle.std.specs.Fmt.{decimal}
 use Rattle.std.specs.declared.option.Option.{Option}
 use Rattle.std.specs.declared.option.Option.TheVariants.{None, Some}
-use Rattle.outside.specs.declared.explain.Reason.{Reason}
+use Rattle.outside.specs.declared.explain.FailureReason.{FailureReason}
 use Rattle.front_words.specs.Faults.{graph6_fault}
 use Rattle.front_words.specs.LinesAt.{line_at}
 use Rattle.front_words.specs.Messages.{line_shown, some_line, unread_text}
@@ -12,7 +13,7 @@ use Rattle.front_words.specs.Reasons.{reason_words}
 
 -- the list in the file of that name, or with none that of standard input, could not be read, for
 -- that reason
-abbrev pub unread_list_text : (program : List ℕ) → Option (List ℕ) → Option Reason → List ℕ
+abbrev pub unread_list_text : (program : List ℕ) → Option (List ℕ) → Option FailureReason → List ℕ
 unread_list_text program None reason = program ++ (codes ": cannot read standard input: " ++ (reason_words reason ++ codes "\n"))
 unread_list_text program (Some name) reason = unread_text program name reason
 

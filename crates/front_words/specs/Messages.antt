@@ -1,9 +1,10 @@
 -- The messages: each is a line that begins with the name of the program, or a few such lines.
+-- Stated by: front_words. Rests on it: front_top, list_front.
 use Rattle.std.specs.Prelude.{ℕ, ◌==◌, List, [], ◌∷◌, ◌++◌, codes, if◌then◌else◌}
 use Rattle.std.specs.Fmt.{decimal}
 use Rattle.std.specs.declared.option.Option.{Option}
 use Rattle.std.specs.declared.option.Option.TheVariants.{None, Some}
-use Rattle.outside.specs.declared.explain.Reason.{Reason}
+use Rattle.outside.specs.declared.explain.FailureReason.{FailureReason}
 use Rattle.front_words.specs.declared.faults.Role.{Role}
 use Rattle.front_words.specs.Faults.{fault_words, note_words}
 use Rattle.front_words.specs.Reasons.{reason_words}
@@ -14,7 +15,7 @@ abbrev pub told : (program words : List ℕ) → List ℕ
 told program words = program ++ (codes ": " ++ (words ++ codes "\n"))
 
 -- the file of that name could not be read, for that reason
-abbrev pub unread_text : (program name : List ℕ) → Option Reason → List ℕ
+abbrev pub unread_text : (program name : List ℕ) → Option FailureReason → List ℕ
 unread_text program name reason =
     program ++ (codes ": cannot read " ++ (shown 4096 name ++ (codes ": " ++ (reason_words reason ++ codes "\n"))))
 

@@ -1,8 +1,9 @@
 -- The text of a message.
+-- Stated by: front_words.
 use Rattle.std.specs.Prelude.{ℕ, List, [], ◌∷◌, ◌++◌}
 use Rattle.std.specs.Fmt.{decimal}
 use Rattle.front_words.specs.Showing.{shown}
-use Rattle.front_words.specs.declared.pieces.Piece.TheVariants.{the_data, Text, Number, Shown}
+use Rattle.front_words.specs.declared.pieces.MessagePiece.TheVariants.{the_data, Text, Number, Shown}
 
 -- the text of a piece
 abbrev pub piece_text : the_data → List ℕ

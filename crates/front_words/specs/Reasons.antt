@@ -1,12 +1,13 @@
 -- Why a file could not be read, in words.
+-- Stated by: front_words.
 use Rattle.std.specs.Prelude.{ℕ, List, codes}
 use Rattle.std.specs.declared.option.Option.{Option}
 use Rattle.std.specs.declared.option.Option.TheVariants.{None, Some}
-use Rattle.outside.specs.declared.explain.Reason.{Reason}
-use Rattle.outside.specs.declared.explain.Reason.TheVariants.{Absent, Dangling, Folder, NotInFolder, Forbidden, Other}
+use Rattle.outside.specs.declared.explain.FailureReason.{FailureReason}
+use Rattle.outside.specs.declared.explain.FailureReason.TheVariants.{Absent, Dangling, Folder, NotInFolder, Forbidden, Other}
 
 -- the words for a reason
-abbrev pub reason_words : Option Reason → List ℕ
+abbrev pub reason_words : Option FailureReason → List ℕ
 reason_words None = codes "a read of it failed"
 reason_words (Some Absent) = codes "there is no such file"
 reason_words (Some Dangling) = codes "it is a link to what is not there"

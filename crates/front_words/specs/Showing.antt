@@ -1,5 +1,6 @@
 -- How bytes of the outside are shown in a line: those that print as they are, and every other by
 -- an escape.
+-- Stated by: front_words.
 use Rattle.std.specs.Prelude.{ℕ, zero, suc, ◌+◌, ◌/◌, ◌%◌, ◌==◌, ◌||◌, List, [], ◌∷◌, ◌++◌, Bool, nat_lt, codes, if◌then◌else◌}
 
 -- a byte that controls a terminal

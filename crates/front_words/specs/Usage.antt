@@ -1,4 +1,5 @@
 -- The usage of each program, which is also said of words that match no command, and its version.
+-- Stated by: front_words. Rests on it: front_top, list_front.
 use Rattle.std.specs.Prelude.{ℕ, List}
 use Rattle.front_words.specs.declared.table.TheConstants.{LIST_USAGE, LIST_VERSION, USAGE, VERSION}
 

@@ -1,8 +1,8 @@
 //! The words that `mcg` and `mcg6` say to a person on standard error, and what `--help` and
 //! `--version` answer.
 //!
-//! A message is a list of pieces (`Piece`): a text, a number, or bytes of the outside, shown so
-//! that they can stand in a line. `say` writes one to a sink: whole, or if the sink fails a
+//! A message is a list of pieces (`MessagePiece`): a text, a number, or bytes of the outside, shown
+//! so that they can stand in a line. `say` writes one to a sink: whole, or if the sink fails a
 //! beginning of it (`Says`). Main definitions, in specs/: `usage_text` and `list_usage_text` of
 //! `Usage`, with the tables of commands; `fault_words` and `note_words` of `Faults`, what the
 //! kinds of faults in a file are, with the headers and the limits of the formats; `reason_words`
@@ -27,7 +27,7 @@ pub use faults::{Role, fault_words, note_words};
 pub use lines::line_at;
 pub use list_messages::{say_bad_line, say_unread_list};
 pub use messages::{BadFile, say_bad_file, say_unread};
-pub use pieces::{Piece, say};
+pub use pieces::{MessagePiece, say};
 pub use reasons::reason_words;
 pub use showing::say_bytes;
 pub use table::{list_usage, list_version, usage, version};

@@ -7,10 +7,10 @@ ghost use Rattle.front_words.specs.Saying.{Says};
 use crate::faults::{Role, fault_words};
 use crate::lines::line_at;
 use crate::messages::{MOST_OF_LINE, say_unread, some_line};
-use crate::pieces::Piece::{Number, Shown, Text};
+use crate::pieces::MessagePiece::{Number, Shown, Text};
 use crate::pieces::say;
 use crate::reasons::reason_words;
-use outside::{Reason, Sink, SinkFailed};
+use outside::{FailureReason, Sink, SinkFailed};
 
 // The most bytes of a line of a list.
 const MOST_LINE: usize = 65536;
@@ -21,7 +21,7 @@ pub fn say_unread_list<'a, K: Sink>(
     sink: &mut K,
     program: &'a str,
     name: Option<&'a str>,
-    reason: Option<Reason>,
+    reason: Option<FailureReason>,
 ) -> Result<(), SinkFailed>
     ensures { Says K.written K.faults
         (unread_list_text program.now (option_map (λ name. name.now) name.entry) reason) result
@@ -37,7 +37,7 @@ pub fn say_unread_list<'a, K: Sink>(
 fn say_unread_input<'a, K: Sink>(
     sink: &mut K,
     program: &'a str,
-    reason: Option<Reason>,
+    reason: Option<FailureReason>,
 ) -> Result<(), SinkFailed>
     ensures { Says K.written K.faults (unread_list_text program.now None reason) result sink.old
         sink.new }

@@ -5,10 +5,10 @@ ghost use Rattle.front_words.specs.Messages.{bad_file_text, outside_text, some_l
 ghost use Rattle.front_words.specs.Saying.{Says};
 
 use crate::faults::{Role, fault_words, note_words};
-use crate::pieces::Piece::{Number, Shown, Text};
+use crate::pieces::MessagePiece::{Number, Shown, Text};
 use crate::pieces::say;
 use crate::reasons::reason_words;
-use outside::{Reason, Sink, SinkFailed};
+use outside::{FailureReason, Sink, SinkFailed};
 
 // The most bytes of a name that are shown.
 const MOST_OF_NAME: u32 = 4096;
@@ -34,7 +34,7 @@ pub fn say_unread<'a, K: Sink>(
     sink: &mut K,
     program: &'a str,
     name: &'a str,
-    reason: Option<Reason>,
+    reason: Option<FailureReason>,
 ) -> Result<(), SinkFailed>
     ensures { Says K.written K.faults (unread_text program.now name.now reason) result sink.old
         sink.new }

@@ -9,7 +9,7 @@ use outside::{Sink, SinkFailed};
 
 /// A piece of a message.
 #[derive(Clone, Copy, Drop)]
-pub enum Piece<'a> {
+pub enum MessagePiece<'a> {
     /// This text.
     Text(&'a str),
     /// This number, in decimal.
@@ -20,21 +20,21 @@ pub enum Piece<'a> {
 }
 
 // Says one piece.
-fn say_piece<K: Sink>(sink: &mut K, piece: &Piece<'_>) -> Result<(), SinkFailed>
+fn say_piece<K: Sink>(sink: &mut K, piece: &MessagePiece<'_>) -> Result<(), SinkFailed>
     ensures { Says K.written K.faults (piece_text piece.now) result sink.old sink.new }
 {
     match piece {
-        Piece::Text(text) => say_bytes(sink, text.as_bytes()),
-        Piece::Number(number) => {
+        MessagePiece::Text(text) => say_bytes(sink, text.as_bytes()),
+        MessagePiece::Number(number) => {
             let mut buffer = Buffer::new();
             say_bytes(sink, buffer.format(*number).as_bytes())
         }
-        Piece::Shown(bytes, most) => say_shown(sink, bytes, *most),
+        MessagePiece::Shown(bytes, most) => say_shown(sink, bytes, *most),
     }
 }
 
 /// Says the pieces, one after another, up to the first that cannot be said whole. Takes no memory.
-pub fn say<K: Sink>(sink: &mut K, pieces: &[Piece<'_>]) -> Result<(), SinkFailed>
+pub fn say<K: Sink>(sink: &mut K, pieces: &[MessagePiece<'_>]) -> Result<(), SinkFailed>
     ensures { Says K.written K.faults (pieces_text pieces.now) result sink.old sink.new }
 {
     'saying: for piece in pieces {

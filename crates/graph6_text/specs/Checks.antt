@@ -1,4 +1,5 @@
 -- What the checks of a body answer, each for some rows of the table of faults.
+-- Stated by: graph6_text.
 use Rattle.std.specs.Prelude.{◌≡◌, ℕ, nat_lt, Bool, List, [], ◌∷◌, length, Some, None, Result, Ok, Err}
 use Rattle.text_faults.specs.declared.faults.FaultKind.TheVariants.{Limit}
 use Rattle.text_faults.specs.declared.faults.TextFault.{TextFault}

@@ -1,5 +1,7 @@
 -- Components of a graph G without a vertex set S: the sets of vertices that walks join. Any
 -- textbook; a component is counted at its least vertex.
+-- Stated by: graph_core, allowed_edges, graph_facts, barrier_kit, separation_kit and 4 more.
+-- Rests on it: grow_gen, match_core, brick_kit, two_ears, list_lines, bench_outcomes.
 use Rattle.std.specs.Prelude.{ℕ, List, ◌&&◌, not, nat_lt, map}
 use Rattle.counting.specs.Counts.{count, is_odd, Within}
 use Rattle.counting.specs.Sets.{Set, none}

@@ -1,5 +1,6 @@
 -- How a search goes through a graph G without a vertex set: the states between its steps. Only
 -- contracts of the search cite them; what it answers is said by Components and Sides.
+-- Stated by: graph_core.
 use Rattle.std.specs.Prelude.{◌≡◌, ℕ, ◌+◌, ◌≤◌, true, false, ◌&&◌, not, List, ◌++◌, map}
 use Rattle.counting.specs.Counts.{Within, count}
 use Rattle.counting.specs.Lists.{rising_list}

@@ -1,6 +1,8 @@
 -- Graphs, their edges and cuts. Any textbook; differs in that a graph is a list of pairs and that
 -- loops are allowed, so that a contracted graph is a graph again. Edges keep their numbers, and
 -- parallel edges are different edges.
+-- Stated by: graph_core, grow_gen, match_search, match_core, allowed_edges and 25 more.
+-- Rests on it: uncross, list_lines, bench_outcomes, bench_top.
 use Rattle.std.specs.Prelude.{◌≡◌, ◌≢◌, ℕ, ◌+◌, ◌-◌, Bool, true, List, [], ◌∷◌, ◌++◌, length, ◌==◌, ◌&&◌, ◌||◌, ◌⊎◌, not, slice_index_or}
 use Rattle.counting.specs.Counts.{count, Within}
 use Rattle.counting.specs.Sets.{Set}

@@ -1,5 +1,6 @@
 -- The search tree as the code keeps it: item v - 1 of the list is what it keeps of vertex v. A
 -- state of the search, like Growth.
+-- Stated by: graph_core.
 use Rattle.std.specs.Prelude.{◌≡◌, ℕ, ◌+◌, ◌-◌, ◌<◌, List, length, not, slice_index_or}
 use Rattle.counting.specs.Counts.{Within, is_odd}
 use Rattle.counting.specs.Sets.{Set}

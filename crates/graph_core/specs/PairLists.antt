@@ -1,5 +1,6 @@
 -- Lists of perfect matchings that show which pairs of edges lie together in one. No notion of the
 -- literature.
+-- Stated by: allowed_edges, tight_cuts.
 use Rattle.std.specs.Prelude.{◌≡◌, ℕ, ◌-◌, true, false, List, ◌&&◌, length, All, Any}
 use Rattle.counting.specs.Counts.{Within}
 use Rattle.counting.specs.Sets.{none}

@@ -2,6 +2,8 @@
 -- blocks, and for each edge of the quotient the edges of the graph that it stands for.
 -- Contraction as in Lovász 1987; differs in that parallel edges become one edge, which changes no
 -- tight cut.
+-- Stated by: graph_core, contraction, tight_cuts, tree_core, decomposer, tree_check and 4 more.
+-- Rests on it: move_laws.
 use Rattle.std.specs.Prelude.{ℕ, ◌==◌, ◌&&◌, not, Bool, List, length, filter, slice_index}
 use Rattle.counting.specs.Sets.{Set}
 use Rattle.counting.specs.Tests.{some}

@@ -1,4 +1,6 @@
 -- Shores at a partition: unions of blocks, tight at the partition (Lovász 1987).
+-- Stated by: graph_core, contraction, tight_cuts, tree_core, decomposer, move_laws and 3 more.
+-- Rests on it: theorems.
 use Rattle.std.specs.Prelude.{◌≡◌, ℕ, List, length}
 use Rattle.counting.specs.Counts.{count, Within}
 use Rattle.counting.specs.Sets.{Set}

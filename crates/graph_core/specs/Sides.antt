@@ -1,5 +1,7 @@
 -- The two sides of a bipartite graph. Any textbook; differs in that the left side is fixed: it
 -- holds the least vertex of each component.
+-- Stated by: graph_core, graph_facts, matching_digraph, quick_kinds, tight_cuts and 2 more.
+-- Rests on it: barrier_kit, separation_kit, ear_core.
 use Rattle.std.specs.Prelude.{◌≡◌, ◌≢◌, ℕ, true, List}
 use Rattle.counting.specs.Counts.{Within}
 use Rattle.counting.specs.Sets.{Set, none}

@@ -1,5 +1,7 @@
 -- The structure of a graph with perfect matchings: the canonical partition, barriers, bicritical
 -- graphs and cut pairs (Kotzig 1959, Lovász 1972; Lucchesi and Murty, "Perfect Matchings").
+-- Stated by: barrier_kit, separation_kit, brick_kit, quick_kinds, tight_cuts and 4 more.
+-- Rests on it: graph_core, leaf_kinds, two_ears, bench_outcomes, bench_reports.
 use Rattle.std.specs.Prelude.{◌≡◌, ◌≢◌, ℕ, ◌≤◌, ◌⊎◌, Bool, true, List, Option, ◌==◌, ◌&&◌, ◌||◌, not, nat_lt, nat_le, map, find, is_none}
 use Rattle.counting.specs.Counts.{count, Within}
 use Rattle.counting.specs.Sets.{Set, pair_set}
@@ -46,8 +48,8 @@ pub record IsCutPair (g : Graph) (a b : ℕ) : Type 0 where
   pub parts : 2 ≤ component_count g (pair_set a b)
 
 -- the first pair a < b in lexicographic order without which there is no perfect matching
-unfoldable pub unlike_pair : Graph → Option (ℕ × ℕ)
-unlike_pair g = find (λ k. not (has_perfect g (pair_set k.0 k.1))) (rising_pairs g.order)
+unfoldable pub equivalent_pair : Graph → Option (ℕ × ℕ)
+equivalent_pair g = find (λ k. not (has_perfect g (pair_set k.0 k.1))) (rising_pairs g.order)
 
 -- the first cut pair a < b in lexicographic order
 unfoldable pub cut_pair : Graph → Option (ℕ × ℕ)
@@ -55,4 +57,4 @@ cut_pair g = find (λ k. nat_le 2 (component_count g (pair_set k.0 k.1))) (risin
 
 -- no pair shows that g is not bicritical
 abbrev pub is_bicritical : Graph → Bool
-is_bicritical g = is_none (unlike_pair g)
+is_bicritical g = is_none (equivalent_pair g)

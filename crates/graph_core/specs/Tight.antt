@@ -1,4 +1,6 @@
 -- Tight cuts of a graph, and the graph with one vertex set made one vertex (Lovász 1987).
+-- Stated by: graph_core, allowed_edges, barrier_kit, matching_digraph, separation_kit and 9 more.
+-- Rests on it: tree_core, tree_check, list_lines.
 use Rattle.std.specs.Prelude.{◌≡◌, ◌≢◌, ℕ, ◌≤◌, Bool, true, false, ◌==◌, ◌&&◌, ◌||◌, not, nat_le, if◌then◌else◌}
 use Rattle.counting.specs.Counts.{count, is_odd, Within}
 use Rattle.counting.specs.Sets.{Set, none, complement}
@@ -31,8 +33,8 @@ abbrev pub is_nontrivial : ℕ → Set → Bool
 is_nontrivial n x = nat_le 3 (count n x) && nat_le 3 (count n (complement x))
 
 -- no tight shore of g is nontrivial; a covered graph of which this holds is a brick or a brace
-abbrev pub HasNoTightCut : Graph → Type 0
-HasNoTightCut g = (x : Set) → IsTight g x → IsNontrivial g.order x → ⊥
+abbrev pub HasOnlyTrivialTightCuts : Graph → Type 0
+HasOnlyTrivialTightCuts g = (x : Set) → IsTight g x → IsNontrivial g.order x → ⊥
 
 -- the shore of the cut of x that does not hold n
 abbrev pub canonical_shore : ℕ → Set → Set

@@ -1,5 +1,6 @@
 -- Search trees of a graph G without a vertex set S: each vertex is a root or hangs on its parent.
 -- Any textbook.
+-- Stated by: graph_core.
 use Rattle.std.specs.Prelude.{◌≡◌, ℕ, zero, suc, ◌+◌, ◌⊎◌, true, false, List, [], ◌∷◌, ◌++◌}
 use Rattle.counting.specs.Counts.{Within}
 use Rattle.counting.specs.Sets.{Set}

@@ -1,5 +1,6 @@
 -- What is known of a graph: what its components, its side, a maximum matching and its partners are.
 -- Each is said in the words of the definitions of graphs and matchings.
+-- Stated by: graph_facts.
 use Rattle.std.specs.Prelude.{◌≡◌, ℕ, true, List, Option, Some, None, IfSome, ◌↔◌}
 use Rattle.counting.specs.Counts.{Within}
 use Rattle.counting.specs.Lists.{mem, IsRisingIn}

@@ -1,5 +1,6 @@
 -- The lines that both versions of the graph format share: what has been read so far, and an edge
 -- between numbered vertices.
+-- Stated by: graph_text. Rests on it: bench_top, theorems.
 use Rattle.std.specs.Prelude.{ℕ, ◌==◌, ◌&&◌, ◌||◌, not, List, [], ◌∷◌, codes, Result, Ok, Err, if◌then◌else◌}
 use Rattle.line_text.specs.Format.{checked}
 use Rattle.line_text.specs.Words.{has_form, word_at}

@@ -1,4 +1,5 @@
 -- Version 1 of the graph format: a header `p mcg N M` and M lines `e A B`.
+-- Stated by: graph_text. Rests on it: list_lines, bench_top.
 use Rattle.std.specs.Prelude.{ℕ, ◌≤◌, ◌&&◌, ◌||◌, not, nat_lt, List, [], ◌∷◌, codes, Result}
 use Rattle.line_text.specs.Format.{Rules, checked}
 use Rattle.line_text.specs.Words.{has_form, word_at}

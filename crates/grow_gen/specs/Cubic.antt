@@ -1,4 +1,5 @@
 -- Cubic graphs. Any textbook.
+-- Stated by: grow_gen, theorems.
 use Rattle.std.specs.Prelude.{◌≡◌, ℕ}
 use Rattle.counting.specs.Counts.{Within}
 use Rattle.counting.specs.Sets.{everything}

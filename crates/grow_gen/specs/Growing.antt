@@ -1,4 +1,5 @@
 -- How the code's growing graph is seen.
+-- Stated by: grow_gen.
 use Rattle.graph_core.specs.View.{graph_of}
 use Rattle.grow_gen.specs.declared.growing.Growing.{Growing}
 use Rattle.grow_gen.specs.Growth.{Growth}

@@ -1,6 +1,7 @@
 -- Splicing (Lucchesi and Murty, "Perfect Matchings"): a vertex of one graph and a vertex of
 -- another are taken away, and the edges that ended there are joined in pairs. Here the second
 -- graph gives up its vertex 1.
+-- Stated by: grow_gen. Rests on it: bench_outcomes.
 use Rattle.std.specs.Prelude.{ℕ, ◌+◌, ◌-◌, Bool, List, [], ◌∷◌, ◌++◌, ◌==◌, ◌||◌, not, map, filter, slice_index, slice_index_or, if◌then◌else◌}
 use Rattle.graph_core.specs.Graph.{Graph}
 

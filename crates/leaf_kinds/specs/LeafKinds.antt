@@ -1,18 +1,20 @@
 -- The kind of a covered graph: brace, brick or composite (Lovász 1987; Lucchesi and Murty,
 -- "Perfect Matchings").
+-- Stated by: leaf_kinds, list_lines.
+-- Rests on it: bench_outcomes, bench_reports, bench_top, theorems.
 use Rattle.std.specs.Prelude.{ℕ, ◌≤◌, List, Option, Some, None}
 use Rattle.counting.specs.Lists.{mem}
 use Rattle.graph_core.specs.Graph.{Graph, IsBipartite}
 use Rattle.graph_core.specs.Structure.{IsBicritical, IsCutPair}
-use Rattle.graph_core.specs.Tight.{IsTight, IsNontrivial, HasNoTightCut}
+use Rattle.graph_core.specs.Tight.{IsTight, IsNontrivial, HasOnlyTrivialTightCuts}
 use Rattle.graph_core.specs.declared.verdict.Kind.{Kind}
 use Rattle.graph_core.specs.declared.verdict.Kind.TheVariants.{Brace, Brick, Composite}
 
 -- a brace is bipartite and a brick is not, and neither has a nontrivial tight cut; a composite
 -- graph is shown by the shore of one
 abbrev pub IsKind : Graph → Kind → Type 0
-IsKind g Brace = IsBipartite g × HasNoTightCut g
-IsKind g Brick = (¬ IsBipartite g) × HasNoTightCut g
+IsKind g Brace = IsBipartite g × HasOnlyTrivialTightCuts g
+IsKind g Brick = (¬ IsBipartite g) × HasOnlyTrivialTightCuts g
 IsKind g (Composite cut) = IsTight g (mem cut) × IsNontrivial g.order (mem cut)
 
 -- the shore that shows a composite graph
@@ -22,7 +24,7 @@ cut_of Brick = None
 cut_of (Composite cut) = Some cut
 
 -- at least four vertices, bicritical, and connected without any two vertices
-pub record IsSolid (g : Graph) : Type 0 where
+pub record IsThreeConnectedAndBicritical (g : Graph) : Type 0 where
   pub four : 4 ≤ g.order
   pub bicritical : IsBicritical g
   pub connected : (u v : ℕ) → ¬ IsCutPair g u v

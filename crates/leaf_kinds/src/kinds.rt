@@ -2,9 +2,9 @@
 ghost use Rattle.std.specs.Prelude.{◌≡◌, ◌↔◌, IfOk, None, Some};
 ghost use Rattle.counting.specs.Lists.{mem};
 ghost use Rattle.graph_core.specs.Covered.{IsCovered};
-ghost use Rattle.graph_core.specs.Tight.{HasNoTightCut, IsNontrivial, IsTight};
+ghost use Rattle.graph_core.specs.Tight.{HasOnlyTrivialTightCuts, IsNontrivial, IsTight};
 ghost use Rattle.tight_cuts.specs.Candidates.{candidates, first_shore};
-ghost use Rattle.leaf_kinds.specs.LeafKinds.{IsKind, IsSolid, cut_of};
+ghost use Rattle.leaf_kinds.specs.LeafKinds.{IsKind, IsThreeConnectedAndBicritical, cut_of};
 
 use graph_core::{Kind, MultiGraph};
 use graph_facts::Covered;
@@ -21,7 +21,7 @@ pub fn kind(alloc: Global, g: &MultiGraph) -> Result<Kind, Memory>
     requires { IsCovered g.now }
     ensures kind { IfOk result (IsKind g.now) }
     ensures cut { IfOk result (λ kind. cut_of kind ≡ first_shore (candidates g.now)) }
-    ensures brick { IfOk result (λ kind. kind ≡ Kind.Brick → IsSolid g.now) }
+    ensures brick { IfOk result (λ kind. kind ≡ Kind.Brick → IsThreeConnectedAndBicritical g.now) }
 {
     let covered = Covered::known(alloc, g)?;
     kind_of(alloc, &FirstPairs::of(alloc, &covered)?)
@@ -31,7 +31,8 @@ pub fn kind(alloc: Global, g: &MultiGraph) -> Result<Kind, Memory>
 pub fn kind_of(alloc: Global, pairs: &FirstPairs) -> Result<Kind, Memory>
     ensures kind { IfOk result (IsKind pairs.now) }
     ensures cut { IfOk result (λ kind. cut_of kind ≡ first_shore (candidates pairs.now)) }
-    ensures brick { IfOk result (λ kind. kind ≡ Kind.Brick → IsSolid pairs.now) }
+    ensures brick { IfOk result (λ kind. kind ≡ Kind.Brick →
+        IsThreeConnectedAndBicritical pairs.now) }
 {
     let cut = first_cut(alloc, pairs)?;
     Ok(kind_by_cut(pairs, cut))
@@ -42,10 +43,10 @@ fn kind_by_cut(pairs: &FirstPairs, cut: Option<VSet>) -> Kind
     requires first { cut ≡ first_shore (candidates pairs.now) }
     requires some { (s : _) → cut ≡ Some s →
         IsTight pairs.now (mem s) × IsNontrivial pairs.now.order (mem s) }
-    requires none { (cut ≡ None) ↔ HasNoTightCut pairs.now }
+    requires none { (cut ≡ None) ↔ HasOnlyTrivialTightCuts pairs.now }
     ensures kind { IsKind pairs.now result }
     ensures cut { cut_of result ≡ first_shore (candidates pairs.now) }
-    ensures brick { result ≡ Kind.Brick → IsSolid pairs.now }
+    ensures brick { result ≡ Kind.Brick → IsThreeConnectedAndBicritical pairs.now }
 {
     pairs.keeps_covered();
     brick_law();

@@ -2,10 +2,11 @@
 ghost use Rattle.graph_core.specs.Covered.{IsCovered};
 ghost use Rattle.graph_core.specs.Graph.{Graph, IsMultigraph};
 ghost use Rattle.graph_core.specs.declared.verdict.Kind.TheVariants.{Brick};
-ghost use Rattle.leaf_kinds.specs.LeafKinds.{IsKind, IsSolid};
+ghost use Rattle.leaf_kinds.specs.LeafKinds.{IsKind, IsThreeConnectedAndBicritical};
 
 /// A brick has at least four vertices, is bicritical and has no cut pair (Edmonds, Lovász and
 /// Pulleyblank 1982; Lovász 1987).
 pub fn brick_law()
-    ensures { (g : Graph) → IsMultigraph g → IsCovered g → IsKind g Brick → IsSolid g }
+    ensures { (g : Graph) → IsMultigraph g → IsCovered g → IsKind g Brick →
+        IsThreeConnectedAndBicritical g }
 {}

@@ -4,7 +4,7 @@
 //! braces, the others bricks (`IsKind`). `kind` answers which of the two a covered graph is, or
 //! shows a nontrivial tight cut of it by the shore that `tight_cuts::find_any` gives; `kind_of`
 //! takes a covered graph with its first pairs. Of each graph that they call a brick they say the
-//! three facts of `IsSolid`.
+//! three facts of `IsThreeConnectedAndBicritical`.
 //!
 //! Stands on `tight_cuts`, whose search is complete, and on `separation_kit` for the law of
 //! bricks. Source: Lovász, "Matching structure and the matching lattice" (1987); Lucchesi and

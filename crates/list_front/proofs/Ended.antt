@@ -9,16 +9,16 @@ use Rattle.list_reader.specs.declared.ending.Ending.{Ending}
 use Rattle.list_reader.specs.Endings.{Appended, TellsList}
 use Rattle.encoder.specs.Files.{Encodes}
 use Rattle.encoder.specs.Reads.{EncodesFile, ReadsFirst}
-use Rattle.list_top.specs.Commands.{Command, MatchNone, command_of, encode_of}
+use Rattle.list_top.specs.Commands.{ListCommand, MatchNone, command_of, encode_of}
 use Rattle.list_top.specs.Encodings.{EncodeOutcome, EncodesSome, ReadsFirstTo}
 use Rattle.list_top.specs.Listings.{TellsLineOf, IsBadLine, lacks_of}
-use Rattle.list_top.specs.Outcomes.{EndsWith, Outcome, Streams, StreamsTo, TellsSome}
-use Rattle.list_top.specs.declared.status.Status.{Status}
+use Rattle.list_top.specs.Outcomes.{EndsWith, ListOutcome, Streams, StreamsTo, TellsSome}
+use Rattle.list_top.specs.declared.status.ListStatus.{ListStatus}
 use Rattle.list_top.proofs.Ended.{appended_encoding, appended_outcome, encodes_some, tells_some}
 use Rattle.list_front.specs.Words.{status_in}
 
 -- where there is a command, there is an ending
-pub ended : (ending : Option Ending) (words : List (List ℕ)) (asked : Command) → (ending ≡ None ↔ MatchNone words) → command_of words ≡ Some asked →
+pub ended : (ending : Option Ending) (words : List (List ℕ)) (asked : ListCommand) → (ending ≡ None ↔ MatchNone words) → command_of words ≡ Some asked →
     ending ≡ None → ⊥
 ended ending words asked usage is none = none-some asked (sym (usage.0 none).0 ∙ is)
 
@@ -28,26 +28,26 @@ pub ended_file : (ending : Option Ending) (words : List (List ℕ)) (name : List
 ended_file ending words name usage is none = none-some name (sym (usage.0 none).1 ∙ is)
 
 pub ending_outcome :
-    (asked : Command) (bytes : List ℕ) (ending : Option Ending) (status : Status) (before now : Option (List ℕ)) → status ≡ status_in ending →
+    (asked : ListCommand) (bytes : List ℕ) (ending : Option Ending) (status : ListStatus) (before now : Option (List ℕ)) → status ≡ status_in ending →
     (ending ≡ None → ⊥) → ((last : Ending) → ending ≡ Some last → Appended (EndsWith asked.query bytes last) before now) →
-    Appended (Outcome asked.query bytes status) before now
+    Appended (ListOutcome asked.query bytes status) before now
 ending_outcome asked bytes None status before now is some gives = absurd (some refl)
 ending_outcome asked bytes (Some last) status before now is some gives =
-    subst (λ (s : Status). Appended (Outcome asked.query bytes s) before now) (sym is)
+    subst (λ (s : ListStatus). Appended (ListOutcome asked.query bytes s) before now) (sym is)
     (appended_outcome asked.query bytes last before now (gives last refl))
 
 pub ending_tells :
-    (asked : Command) (ending : Option Ending) (status : Status) (left before now : Option (List ℕ)) → status ≡ status_in ending →
+    (asked : ListCommand) (ending : Option Ending) (status : ListStatus) (left before now : Option (List ℕ)) → status ≡ status_in ending →
     (ending ≡ None → ⊥) →
     ((last : Ending) → ending ≡ Some last → TellsList (TellsLineOf asked.query) (IsBadLine asked.query) (lacks_of asked.query) last left before now) →
     TellsSome asked.query status left before now
 ending_tells asked None status left before now is some tells = absurd (some refl)
 ending_tells asked (Some last) status left before now is some tells =
-    subst (λ (s : Status). TellsSome asked.query s left before now) (sym is) (tells_some asked.query last left before now (tells last refl))
+    subst (λ (s : ListStatus). TellsSome asked.query s left before now) (sym is) (tells_some asked.query last left before now (tells last refl))
 
 pub ending_streams :
-    {S K : Type 0} (asked : Command) (reads : S → Option (List ℕ) → S → Type 0) (written : K → Option (List ℕ)) (writes : K → List ℕ → ℕ → K → Type 0)
-    (ending : Option Ending) (status : Status) (first : S) (before : K) (last : S) (now : K) → status ≡ status_in ending → (ending ≡ None → ⊥) →
+    {S K : Type 0} (asked : ListCommand) (reads : S → Option (List ℕ) → S → Type 0) (written : K → Option (List ℕ)) (writes : K → List ℕ → ℕ → K → Type 0)
+    (ending : Option Ending) (status : ListStatus) (first : S) (before : K) (last : S) (now : K) → status ≡ status_in ending → (ending ≡ None → ⊥) →
     ((e : Ending) → ending ≡ Some e → StreamsTo asked.query reads written writes e first before last now) →
     Streams asked.query reads written writes status first before last now
 ending_streams asked reads written writes None status first before last now is some streams = absurd (some refl)
@@ -55,23 +55,23 @@ ending_streams asked reads written writes (Some e) status first before last now 
     record { ending = e; of_status = is; stream = streams e refl }
 
 pub ending_encodes :
-    (file : List ℕ) (ending : Option Ending) (status : Status) (before now : Option (List ℕ)) → status ≡ status_in ending →
+    (file : List ℕ) (ending : Option Ending) (status : ListStatus) (before now : Option (List ℕ)) → status ≡ status_in ending →
     (ending ≡ None → ⊥) → ((last : Ending) → ending ≡ Some last → Appended (Encodes file last) before now) →
     Appended (EncodeOutcome file status) before now
 ending_encodes file None status before now is some gives = absurd (some refl)
 ending_encodes file (Some last) status before now is some gives =
-    subst (λ (s : Status). Appended (EncodeOutcome file s) before now) (sym is) (appended_encoding file last before now (gives last refl))
+    subst (λ (s : ListStatus). Appended (EncodeOutcome file s) before now) (sym is) (appended_encoding file last before now (gives last refl))
 
 pub ending_encodes_some :
-    (ending : Option Ending) (status : Status) (left before now : Option (List ℕ)) → status ≡ status_in ending →
+    (ending : Option Ending) (status : ListStatus) (left before now : Option (List ℕ)) → status ≡ status_in ending →
     (ending ≡ None → ⊥) → ((last : Ending) → ending ≡ Some last → EncodesFile last left before now) → EncodesSome status left before now
 ending_encodes_some None status left before now is some tells = absurd (some refl)
 ending_encodes_some (Some last) status left before now is some tells =
-    subst (λ (s : Status). EncodesSome s left before now) (sym is) (encodes_some last left before now (tells last refl))
+    subst (λ (s : ListStatus). EncodesSome s left before now) (sym is) (encodes_some last left before now (tells last refl))
 
 pub ending_reads_first :
     {S K : Type 0} (reads : S → Option (List ℕ) → S → Type 0) (written : K → Option (List ℕ)) (writes : K → List ℕ → ℕ → K → Type 0)
-    (ending : Option Ending) (status : Status) (first : S) (before : K) (last : S) (now : K) → status ≡ status_in ending → (ending ≡ None → ⊥) →
+    (ending : Option Ending) (status : ListStatus) (first : S) (before : K) (last : S) (now : K) → status ≡ status_in ending → (ending ≡ None → ⊥) →
     ((e : Ending) → ending ≡ Some e → ReadsFirst reads written writes e first before last now) →
     ReadsFirstTo reads written writes status first before last now
 ending_reads_first reads written writes None status first before last now is some order = absurd (some refl)

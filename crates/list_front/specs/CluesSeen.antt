@@ -1,10 +1,11 @@
 -- How the code's clues are seen.
+-- Stated by: list_front.
 use Rattle.std.specs.Option.{option_map}
 use Rattle.list_front.specs.Words.{Known}
-use Rattle.list_front.specs.declared.speaking.Clues.{Clues}
+use Rattle.list_front.specs.declared.speaking.ListClues.{ListClues}
 
 -- what is known, with the bytes of the names
-abbrev pub known_by : Clues → Known
+abbrev pub known_by : ListClues → Known
 known_by clues = record {
   name = option_map (λ name. name.now) clues.name;
   encoded = option_map (λ name. name.now) clues.encoded;

@@ -1,19 +1,20 @@
 -- What goes to the sinks of the front.
+-- Stated by: list_front.
 use Rattle.std.specs.Prelude.{◌≡◌, ◌⊎◌, ℕ, List, Bool}
 use Rattle.std.specs.declared.option.Option.{Option}
 use Rattle.std.specs.declared.option.Option.TheVariants.{Some}
 use Rattle.std.specs.declared.result.Result.{Result}
 use Rattle.outside.specs.Faults.{Rose}
-use Rattle.outside.specs.declared.explain.Reason.{Reason}
+use Rattle.outside.specs.declared.explain.FailureReason.{FailureReason}
 use Rattle.outside.specs.Sink.{appended}
 use Rattle.outside.specs.declared.sink.SinkFailed.{SinkFailed}
 use Rattle.list_reader.specs.declared.ending.Ending.{Ending}
 use Rattle.list_reader.specs.Endings.{TellsList}
 use Rattle.encoder.specs.Reads.{EncodesFile}
-use Rattle.list_top.specs.Commands.{Command, command_of, encode_of, file_named_by}
+use Rattle.list_top.specs.Commands.{ListCommand, command_of, encode_of, file_named_by}
 use Rattle.list_top.specs.Listings.{TellsLineOf, IsBadLine, lacks_of}
-use Rattle.list_top.specs.declared.status.Status.{Status}
-use Rattle.list_top.specs.declared.status.Status.TheVariants.{Done, WriteFault}
+use Rattle.list_top.specs.declared.status.ListStatus.{ListStatus}
+use Rattle.list_top.specs.declared.status.ListStatus.TheVariants.{Done, WriteFault}
 use Rattle.front_words.specs.Saying.{IsBegun, Says}
 use Rattle.list_front.specs.Words.{status_in, words_of}
 
@@ -27,11 +28,11 @@ pub record IsSaid {E : Type 0} (written : E → Option (List ℕ)) (faults : E �
 -- file gives; so a bad line that is named is the first. Given why the file cannot be read, whether
 -- nobody reads the output any more, what was left of the source, and what the sink had before and
 -- has now
-pub record Speaks {E : Type 0} (written : E → Option (List ℕ)) (faults : E → ℕ) (words : List (List ℕ)) (ended : Status)
-    (reason : Option Reason) (is_abandoned : Bool) (left sink_before sink_now : Option (List ℕ)) (before now : E) : Type 0 where
+pub record Speaks {E : Type 0} (written : E → Option (List ℕ)) (faults : E → ℕ) (words : List (List ℕ)) (ended : ListStatus)
+    (reason : Option FailureReason) (is_abandoned : Bool) (left sink_before sink_now : Option (List ℕ)) (before now : E) : Type 0 where
   pub ending : Option Ending
   pub of_status : ended ≡ status_in ending
-  pub tells : (asked : Command) (last : Ending) → command_of words ≡ Some asked → ending ≡ Some last
+  pub tells : (asked : ListCommand) (last : Ending) → command_of words ≡ Some asked → ending ≡ Some last
       → TellsList (TellsLineOf asked.query) (IsBadLine asked.query) (lacks_of asked.query) last left sink_before sink_now
   pub encodes : (name : List ℕ) (last : Ending) → encode_of words ≡ Some name → ending ≡ Some last
       → EncodesFile last left sink_before sink_now
@@ -40,7 +41,7 @@ pub record Speaks {E : Type 0} (written : E → Option (List ℕ)) (faults : E �
 
 -- a text was the whole answer: it was written whole and all is done, or a beginning of it if
 -- the sink failed
-pub record Answers {K : Type 0} (written : K → Option (List ℕ)) (faults : K → ℕ) (text : List ℕ) (ended : Status) (before now : K) : Type 0 where
+pub record Answers {K : Type 0} (written : K → Option (List ℕ)) (faults : K → ℕ) (text : List ℕ) (ended : ListStatus) (before now : K) : Type 0 where
   pub ends : (ended ≡ Done) ⊎ (ended ≡ WriteFault)
   pub whole : ended ≡ Done → written now ≡ appended (written before) text
   pub begun : IsBegun text (written before) (written now)

@@ -1,15 +1,16 @@
 -- What is said of each ending.
+-- Stated by: list_front.
 use Rattle.std.specs.Prelude.{ℕ, List, [], codes, Bool, if◌then◌else◌}
 use Rattle.std.specs.declared.option.Option.{Option}
 use Rattle.std.specs.declared.option.Option.TheVariants.{Some, None}
-use Rattle.outside.specs.declared.explain.Reason.{Reason}
+use Rattle.outside.specs.declared.explain.FailureReason.{FailureReason}
 use Rattle.text_faults.specs.Kinds.{kind_number}
 use Rattle.list_reader.specs.declared.ending.BadLine.{BadLine}
 use Rattle.list_reader.specs.declared.ending.Ending.{Ending}
 use Rattle.list_reader.specs.declared.ending.Ending.TheVariants.{Done, Bad, ReadFault, WriteFault, Memory}
 use Rattle.list_top.specs.Statuses.{status_of}
-use Rattle.list_top.specs.declared.status.Status.{Status}
-use Rattle.list_top.specs.declared.status.Status.TheVariants.{Usage}
+use Rattle.list_top.specs.declared.status.ListStatus.{ListStatus}
+use Rattle.list_top.specs.declared.status.ListStatus.TheVariants.{Usage}
 use Rattle.front_words.specs.declared.faults.Role.TheVariants.{Graph}
 use Rattle.front_words.specs.ListMessages.{bad_line_text, unread_list_text}
 use Rattle.front_words.specs.Messages.{bad_file_text, unread_text}
@@ -25,11 +26,11 @@ program = codes "mcg6"
 pub record Known : Type 0 where
   pub name : Option (List ℕ)
   pub encoded : Option (List ℕ)
-  pub reason : Option Reason
+  pub reason : Option FailureReason
   pub is_abandoned : Bool
 
 -- the status of a run that ended so; with no ending the words matched no row
-abbrev pub status_in : Option Ending → Status
+abbrev pub status_in : Option Ending → ListStatus
 status_in None = Usage
 status_in (Some ending) = status_of ending
 

@@ -9,20 +9,20 @@ ghost use Rattle.list_front.specs.Speaks.{Answers, IsSaid, Speaks};
 ghost use Rattle.list_front.specs.Words.{words_of};
 
 use crate::answers::answer_of;
-use crate::speaking::{Clues, say_ending, status_in};
+use crate::speaking::{ListClues, say_ending, status_in};
 use front_words::say_bytes;
 use list_reader::Ending;
-use list_top::{Status, encode_name, file_name, run_to_ending};
-use outside::{Outlet, Reason, Sink, SinkFailed, Source};
+use list_top::{ListStatus, encode_name, file_name, run_to_ending};
+use outside::{FailureReason, Outlet, Sink, SinkFailed, Source};
 use std::alloc::Global;
 
 // Writes the text as the whole answer.
-fn answer<K: Sink>(sink: &mut K, text: &str) -> Status
+fn answer<K: Sink>(sink: &mut K, text: &str) -> ListStatus
     ensures { Answers K.written K.faults text.now result sink.old sink.new }
 {
     match say_bytes(sink, text.as_bytes()) {
-        Ok(()) => Status::Done,
-        Err(SinkFailed) => Status::WriteFault,
+        Ok(()) => ListStatus::Done,
+        Err(SinkFailed) => ListStatus::WriteFault,
     }
 }
 
@@ -31,7 +31,7 @@ fn say_unless_quiet<'a, E: Sink>(
     errors: &mut E,
     is_quiet: bool,
     ending: &Option<Ending>,
-    clues: Clues<'a>,
+    clues: ListClues<'a>,
 )
     ensures quiet { is_quiet ≡ true → errors.new ≡ errors.old }
     ensures says { is_quiet ≡ false → IsSaid E.written E.faults
@@ -47,12 +47,12 @@ fn say_unless_quiet<'a, E: Sink>(
 fn speak<S: Source, K: Outlet, E: Sink>(
     alloc: Global,
     words: &[String],
-    reason: Option<Reason>,
+    reason: Option<FailureReason>,
     is_quiet: bool,
     source: &mut S,
     sink: &mut K,
     errors: &mut E,
-) -> Status
+) -> ListStatus
     ensures runs { IsListRun S.left S.faults S.reads K.written K.faults K.writes
         (map string_bytes words.now) result source.old source.new sink.old sink.new }
     ensures quiet { is_quiet ≡ true → errors.new ≡ errors.old }
@@ -62,7 +62,7 @@ fn speak<S: Source, K: Outlet, E: Sink>(
         errors.old errors.new }
 {
     let ending = run_to_ending(alloc, words, source, sink);
-    let clues = Clues {
+    let clues = ListClues {
         name: file_name(words),
         encoded: encode_name(words),
         reason,
@@ -81,12 +81,12 @@ fn speak<S: Source, K: Outlet, E: Sink>(
 pub fn run_list_front<S: Source, K: Outlet, E: Sink>(
     alloc: Global,
     words: &[String],
-    reason: Option<Reason>,
+    reason: Option<FailureReason>,
     is_quiet: bool,
     source: &mut S,
     sink: &mut K,
     errors: &mut E,
-) -> Status
+) -> ListStatus
     // Words that are answered at once: nothing is read, and nothing is said.
     ensures answers { (text : List ℕ) → answer_of (map string_bytes words.now) ≡ Some text →
         Answers K.written K.faults text result sink.old sink.new }

@@ -9,35 +9,35 @@ use front_words::{
     BadFile, Role, list_usage, say_bad_file, say_bad_line, say_bytes, say_unread, say_unread_list,
 };
 use list_reader::{BadLine, Ending};
-use list_top::{Status, status_of};
-use outside::{Reason, Sink, SinkFailed};
+use list_top::{ListStatus, status_of};
+use outside::{FailureReason, Sink, SinkFailed};
 
 // The name of the program.
 const PROGRAM: &str = "mcg6";
 
 /// What is known of the faults of a run.
 #[derive(Clone, Copy, Drop)]
-pub struct Clues<'a> {
+pub struct ListClues<'a> {
     /// The name of the file that is read, if it is not standard input.
     pub name: Option<&'a str>,
     /// The name of the graph file whose graph6 text is asked for, if it is.
     pub encoded: Option<&'a str>,
     /// Why the file cannot be read, where that is known.
-    pub reason: Option<Reason>,
+    pub reason: Option<FailureReason>,
     /// Nobody reads the output any more.
     pub is_abandoned: bool,
 }
 
 /// The status of a run that ended so; with no ending the words matched no row.
-pub fn status_in(ending: &Option<Ending>) -> Status
+pub fn status_in(ending: &Option<Ending>) -> ListStatus
     ensures status { result ≡ status_in ending.now }
-    ensures usage { result ≡ Status.Usage ↔ (ending.now ≡ None) }
-    ensures read_fault { result ≡ Status.ReadFault → ending.now ≡ Some Ending.ReadFault }
-    ensures write_fault { result ≡ Status.WriteFault → ending.now ≡ Some Ending.WriteFault }
+    ensures usage { result ≡ ListStatus.Usage ↔ (ending.now ≡ None) }
+    ensures read_fault { result ≡ ListStatus.ReadFault → ending.now ≡ Some Ending.ReadFault }
+    ensures write_fault { result ≡ ListStatus.WriteFault → ending.now ≡ Some Ending.WriteFault }
 {
     match ending {
         Some(ending) => status_of(ending),
-        None => Status::Usage,
+        None => ListStatus::Usage,
     }
 }
 
@@ -53,7 +53,7 @@ fn say_nothing<E: Sink>(_errors: &mut E) -> Result<(), SinkFailed>
 pub fn say_ending<'a, E: Sink>(
     errors: &mut E,
     ending: &Option<Ending>,
-    clues: Clues<'a>,
+    clues: ListClues<'a>,
 ) -> Result<(), SinkFailed>
     ensures { Says E.written E.faults (words_of ending.now (known_by clues.entry)) result
         errors.old errors.new }
@@ -68,7 +68,7 @@ pub fn say_ending<'a, E: Sink>(
 fn say_some_ending<'a, E: Sink>(
     errors: &mut E,
     ending: &Ending,
-    clues: Clues<'a>,
+    clues: ListClues<'a>,
 ) -> Result<(), SinkFailed>
     ensures { Says E.written E.faults
         (ending_words (option_map (λ name. name.now) clues.entry.encoded) ending.now
@@ -85,7 +85,7 @@ fn say_file_ending<'a, E: Sink>(
     errors: &mut E,
     name: &'a str,
     ending: &Ending,
-    clues: Clues<'a>,
+    clues: ListClues<'a>,
 ) -> Result<(), SinkFailed>
     ensures { Says E.written E.faults (file_words name.now ending.now (known_by clues.entry)) result
         errors.old errors.new }
@@ -124,7 +124,7 @@ fn say_nothing_written<E: Sink>(errors: &mut E) -> Result<(), SinkFailed>
 fn say_list_ending<'a, E: Sink>(
     errors: &mut E,
     ending: &Ending,
-    clues: Clues<'a>,
+    clues: ListClues<'a>,
 ) -> Result<(), SinkFailed>
     ensures { Says E.written E.faults (list_words ending.now (known_by clues.entry)) result
         errors.old errors.new }

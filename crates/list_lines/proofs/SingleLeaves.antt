@@ -7,7 +7,7 @@ use Rattle.graph_core.specs.Covered.{IsCovered}
 use Rattle.graph_core.specs.Graph.{Graph, IsMultigraph}
 use Rattle.graph_core.specs.Partitions.{singles}
 use Rattle.graph_core.specs.declared.verdict.Kind.TheVariants.{Brace, Brick}
-use Rattle.graph_core.specs.Tight.{HasNoTightCut}
+use Rattle.graph_core.specs.Tight.{HasOnlyTrivialTightCuts}
 use Rattle.leaf_kinds.specs.LeafKinds.{IsKind}
 use Rattle.tree_core.proofs.DerivationShores.{nontrivial-vertices}
 use Rattle.tree_core.specs.Derivations.{IsLeafAt}
@@ -19,7 +19,7 @@ use Rattle.tree_core.specs.declared.tallies.LeafKind.TheVariants as of_leaf
 use Rattle.list_lines.specs.Standings.{IsCounted}
 use Rattle.list_lines.proofs.QuotientSides.{bipartite_from_singles, singles_from_bipartite}
 
-uncut_leaf : (g : Graph) → IsMultigraph g → HasNoTightCut g → IsLeafAt g (singles g.order)
+uncut_leaf : (g : Graph) → IsMultigraph g → HasOnlyTrivialTightCuts g → IsLeafAt g (singles g.order)
 unfolding IsLeafAt
 uncut_leaf g is uncut x t some =
     uncut x (tight-singles g x is.ends t) (nontrivial-vertices g.order (singles g.order) (singles-partition g.order).partition x t.union some)
@@ -31,7 +31,7 @@ one_kind g p kind is = record {
   right = λ i w. let only : 1 ≡ i = omega arith in subst (λ (j : ℕ). IsLeafKind g (leaf_at (p ∷ []) j) (kind_at (kind ∷ []) j)) only is;
 }
 
-one_leaf : (g : Graph) (kind : LeafKind) → IsMultigraph g → IsCovered g → HasNoTightCut g → IsLeafKind g (singles g.order) kind → IsCounted g (tally_of (kind ∷ []))
+one_leaf : (g : Graph) (kind : LeafKind) → IsMultigraph g → IsCovered g → HasOnlyTrivialTightCuts g → IsLeafKind g (singles g.order) kind → IsCounted g (tally_of (kind ∷ []))
 one_leaf g kind is covered uncut of = record {
   tree = leaf;
   derivation = record { covered = covered; derives = uncut_leaf g is uncut };

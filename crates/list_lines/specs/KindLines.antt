@@ -1,6 +1,7 @@
 -- The line of `kinds`: the graph6 text of the graph, the numbers of its vertices and edges, and
 -- either `uncovered` and the word of the first reason, or `brick`, `brace` or `composite`, the
 -- numbers of bricks and of braces, and `bicritical yes` or `bicritical no`.
+-- Stated by: list_lines.
 use Rattle.std.specs.Prelude.{◌≡◌, ℕ, ◌++◌, List, [], Bool, true, false, codes}
 use Rattle.std.specs.Fmt.{decimal}
 use Rattle.graph_core.specs.Graph.{Graph, size}
@@ -10,11 +11,11 @@ use Rattle.list_lines.specs.declared.standing.Standing.{Standing}
 use Rattle.list_lines.specs.declared.standing.Standing.TheVariants.{Uncovered, Covered}
 use Rattle.list_lines.specs.declared.standing.Sort.{Sort}
 use Rattle.list_lines.specs.declared.standing.Sort.TheVariants.{Brick, Brace, Composite}
-use Rattle.list_lines.specs.declared.standing.Why.{Why}
-use Rattle.list_lines.specs.declared.standing.Why.TheVariants.{Order, Parts, Berge, Edge}
+use Rattle.list_lines.specs.declared.standing.ReasonKind.{ReasonKind}
+use Rattle.list_lines.specs.declared.standing.ReasonKind.TheVariants.{Order, Parts, Berge, Edge}
 
 -- the word of a reason, as the line of a verdict has it
-abbrev pub why_word : Why → List ℕ
+abbrev pub why_word : ReasonKind → List ℕ
 why_word Order = codes "order"
 why_word Parts = codes "parts"
 why_word Berge = codes "berge"

@@ -1,4 +1,5 @@
 -- The lines that `select` keeps: those whose graph has a property.
+-- Stated by: list_lines, theorems.
 use Rattle.std.specs.Prelude.{◌≡◌, ◌≢◌, ℕ, ◌≤◌, ◌⊎◌, List, [], Bool, true, false}
 use Rattle.counting.specs.Sets.{none}
 use Rattle.graph_core.specs.Covered.{IsCovered}

@@ -1,5 +1,6 @@
 -- How a graph stands among the matching covered graphs (Lovász 1987; Lucchesi and Murty, "Perfect
 -- Matchings").
+-- Stated by: list_lines, theorems.
 use Rattle.std.specs.Prelude.{◌≡◌, ◌↔◌, ℕ, Bool, IsTrue}
 use Rattle.graph_core.specs.Covered
 use Rattle.graph_core.specs.Covered.{IsCovered, IsReason}
@@ -17,8 +18,8 @@ use Rattle.list_lines.specs.declared.standing.Standing.{Standing}
 use Rattle.list_lines.specs.declared.standing.Standing.TheVariants.{Uncovered, Covered as IsSaid}
 use Rattle.list_lines.specs.declared.standing.Sort.{Sort}
 use Rattle.list_lines.specs.declared.standing.Sort.TheVariants as sort
-use Rattle.list_lines.specs.declared.standing.Why.{Why}
-use Rattle.list_lines.specs.declared.standing.Why.TheVariants.{Order, Parts, Berge, Edge}
+use Rattle.list_lines.specs.declared.standing.ReasonKind.{ReasonKind}
+use Rattle.list_lines.specs.declared.standing.ReasonKind.TheVariants.{Order, Parts, Berge, Edge}
 
 -- some derivation of the graph has so many leaves, and so many bricks and braces among them
 pub record IsCounted (g : Graph) (tally : Tally) : Type 0 where
@@ -45,7 +46,7 @@ pub record IsStructured (g : Graph) (sort : Sort) (bricks braces : ℕ) (bicriti
   pub critical : IsTrue bicritical ↔ IsBicritical g
 
 -- what is said of a reason why a graph is not covered
-abbrev pub why_of : Covered.Reason → Why
+abbrev pub why_of : Covered.Reason → ReasonKind
 why_of Covered.Small = Order
 why_of (Covered.Parted a b) = Parts
 why_of (Covered.Unmatched berge) = Berge

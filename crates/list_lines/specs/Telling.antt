@@ -1,4 +1,5 @@
 -- The answer to a line of a list of graphs.
+-- Stated by: list_lines. Rests on it: list_top.
 use Rattle.std.specs.Prelude.{◌≡◌, ℕ, ◌||◌, nat_lt, if◌then◌else◌, List, Ok, Err}
 use Rattle.graph_core.specs.Graph.{Graph, size}
 use Rattle.text_faults.specs.declared.faults.FaultKind.{FaultKind}
@@ -11,8 +12,8 @@ use Rattle.list_lines.specs.LeafLines.{AreLeafLines}
 use Rattle.list_lines.specs.Selecting.{IsSelected}
 use Rattle.list_lines.specs.declared.query.Query.{Query}
 use Rattle.list_lines.specs.declared.query.Query.TheVariants.{Kinds, Leaves, Graph as GraphFile, Select}
-use Rattle.list_lines.specs.declared.telling.Told.{Told}
-use Rattle.list_lines.specs.declared.telling.Told.TheVariants.{Output, Bad}
+use Rattle.list_lines.specs.declared.telling.QueryAnswer.{QueryAnswer}
+use Rattle.list_lines.specs.declared.telling.QueryAnswer.TheVariants.{Output, Bad}
 
 -- the canonical text of the graph's file: of version 1 within its limits of 64 vertices and 512
 -- edges, and else of version 2 with plain names
@@ -40,6 +41,6 @@ pub record HasFault (line : List ℕ) (kind : FaultKind) : Type 0 where
   pub fault : outcome_of line ≡ Err (at, kind)
 
 -- the answer for a line with this number is right
-abbrev pub IsAnswer : Query → ℕ → (line : List ℕ) → Told → Type 0
+abbrev pub IsAnswer : Query → ℕ → (line : List ℕ) → QueryAnswer → Type 0
 IsAnswer query number line (Output bytes) = TellsLine query number line bytes.items
 IsAnswer query number line (Bad kind) = HasFault line kind

@@ -4,7 +4,7 @@ ghost use Rattle.std.specs.Fmt.{decimal};
 ghost use Rattle.graph6_text.specs.Reading.{outcome_of};
 ghost use Rattle.list_lines.specs.KindLines.{IsKindLine, answer_word, sort_word, why_word, with_standing, with_word, words_behind};
 
-use crate::standing::{Sort, Standing, Why, standing_of};
+use crate::standing::{ReasonKind, Sort, Standing, standing_of};
 use graph_core::MultiGraph;
 use graph6_text::bare_text;
 use std::alloc::{AllocError as Memory, Global};
@@ -88,14 +88,14 @@ fn push_number(words: &mut String, number: u32) -> Result<(), Memory>
 }
 
 // The word of a reason.
-fn why_word(why: Why) -> &'static str
+fn why_word(why: ReasonKind) -> &'static str
     ensures { result.now ≡ why_word why }
 {
     match why {
-        Why::Order => "order",
-        Why::Parts => "parts",
-        Why::Berge => "berge",
-        Why::Edge => "edge",
+        ReasonKind::Order => "order",
+        ReasonKind::Parts => "parts",
+        ReasonKind::Berge => "berge",
+        ReasonKind::Edge => "edge",
     }
 }
 

@@ -21,5 +21,5 @@ mod standing;
 mod telling;
 
 pub use query::{Property, Query};
-pub use standing::{Sort, Standing, Why};
-pub use telling::{Told, tell};
+pub use standing::{ReasonKind, Sort, Standing};
+pub use telling::{QueryAnswer, tell};

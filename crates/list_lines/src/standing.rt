@@ -18,7 +18,7 @@ use vset_core::VSet;
 
 /// The kind of the first reason why a graph is not matching covered.
 #[derive(Clone, Copy, Debug, PartialEq, Eq)]
-pub enum Why {
+pub enum ReasonKind {
     /// There are fewer than two vertices.
     Order,
     /// The graph is not connected.
@@ -45,7 +45,7 @@ pub enum Sort {
 pub enum Standing {
     /// It is not, for a reason of this kind.
     Uncovered {
-        why: Why,
+        why: ReasonKind,
     },
     /// It is, of this kind, with so many bricks and braces among the leaves of a decomposition,
     /// and bicritical or not.
@@ -70,14 +70,14 @@ pub fn standing_of(alloc: Global, g: &MultiGraph) -> Result<Standing, Memory>
 }
 
 // The kind of a reason.
-fn why_of(reason: Reason) -> Why
+fn why_of(reason: Reason) -> ReasonKind
     ensures { result ≡ why_of (reason_of reason) }
 {
     match reason {
-        Reason::Small => Why::Order,
-        Reason::Parted { .. } => Why::Parts,
-        Reason::Unmatched { .. } => Why::Berge,
-        Reason::Unallowed { .. } => Why::Edge,
+        Reason::Small => ReasonKind::Order,
+        Reason::Parted { .. } => ReasonKind::Parts,
+        Reason::Unmatched { .. } => ReasonKind::Berge,
+        Reason::Unallowed { .. } => ReasonKind::Edge,
     }
 }
 

@@ -18,7 +18,7 @@ use text_faults::{FaultKind, TextFault};
 
 /// The answer to a line.
 #[derive(Drop)]
-pub enum Told {
+pub enum QueryAnswer {
     /// These bytes are written for it.
     Output { bytes: Vec<u8> },
     /// The line is bad: this is the kind of its fault.
@@ -28,12 +28,12 @@ pub enum Told {
 /// The answer to a line with this number, counted from 1: what the query asks of the graph that
 /// stands in the line, or the kind of the line's fault. The line may have a header before the
 /// graph6 text and a line end after it, as `read_graph6` has it.
-pub fn tell(alloc: Global, query: &Query, number: u64, line: &[u8]) -> Result<Told, Memory>
+pub fn tell(alloc: Global, query: &Query, number: u64, line: &[u8]) -> Result<QueryAnswer, Memory>
     ensures { IfOk result (IsAnswer query.now number line.now) }
 {
     match read_graph6(alloc, line) {
         Ok(g) => answer(alloc, query, number, line, &g),
-        Err(TextFault::At { kind, .. }) => Ok(Told::Bad { kind }),
+        Err(TextFault::At { kind, .. }) => Ok(QueryAnswer::Bad { kind }),
         Err(TextFault::Memory) => Err(Memory),
     }
 }
@@ -45,7 +45,7 @@ fn answer(
     number: u64,
     line: &[u8],
     g: &MultiGraph,
-) -> Result<Told, Memory>
+) -> Result<QueryAnswer, Memory>
     requires stands { outcome_of line.now ≡ Ok g.now }
     requires simple { IsSimple g.now }
     ensures { IfOk result (IsAnswer query.now number line.now) }
@@ -53,19 +53,19 @@ fn answer(
     match query {
         Query::Kinds => {
             let bytes = kind_line(alloc, g, line)?;
-            Ok(Told::Output { bytes })
+            Ok(QueryAnswer::Output { bytes })
         }
         Query::Leaves { order } => {
             let bytes = leaf_lines(alloc, g, *order, number)?;
-            Ok(Told::Output { bytes })
+            Ok(QueryAnswer::Output { bytes })
         }
         Query::Graph => {
             let bytes = file_text(alloc, g)?;
-            Ok(Told::Output { bytes })
+            Ok(QueryAnswer::Output { bytes })
         }
         Query::Select { property } => {
             let bytes = selected(alloc, g, *property, line)?;
-            Ok(Told::Output { bytes })
+            Ok(QueryAnswer::Output { bytes })
         }
     }
 }

@@ -7,8 +7,8 @@ use Rattle.text_faults.specs.declared.faults.FaultKind.{FaultKind}
 use Rattle.text_faults.specs.declared.faults.FaultKind.TheVariants.{Limit}
 use Rattle.list_reader.specs.declared.ending.BadLine.{BadLine}
 use Rattle.list_reader.specs.declared.ending.Ending.TheVariants.{Bad}
-use Rattle.list_reader.specs.declared.ending.Stop.{Stop}
-use Rattle.list_reader.specs.declared.ending.Stop.TheVariants as stop
+use Rattle.list_reader.specs.declared.ending.ListStop.{ListStop}
+use Rattle.list_reader.specs.declared.ending.ListStop.TheVariants as stop
 use Rattle.list_reader.specs.declared.place.Place.{Place}
 use Rattle.list_reader.specs.Headers.{is_header}
 use Rattle.list_reader.specs.Lines.{lines_of, HasNoFeed, IsFirstLine}
@@ -34,7 +34,7 @@ told_line tells n line bytes before now other short told more = record { more = 
 
 -- a line that is too long is bad
 pub names_long :
-    (bad : Place → List ℕ → FaultKind → Type 0) (n : Place) (line : List ℕ) (why : Stop) →
+    (bad : Place → List ℕ → FaultKind → Type 0) (n : Place) (line : List ℕ) (why : ListStop) →
     most_line < length line → IfBad (IsFound n.number Limit line) why → IfBad (NamesBad bad n line) why
 names_long bad n line stop.Memory long found = tt
 names_long bad n line (stop.Bad bad_line) long found = record {
@@ -45,7 +45,7 @@ names_long bad n line (stop.Bad bad_line) long found = record {
 
 -- a line in which the teller finds a fault is bad
 pub names_bad :
-    (bad : Place → List ℕ → FaultKind → Type 0) (n : Place) (line : List ℕ) (kind : FaultKind) (why : Stop) →
+    (bad : Place → List ℕ → FaultKind → Type 0) (n : Place) (line : List ℕ) (kind : FaultKind) (why : ListStop) →
     IsFalse (is_header n.number line) → length line ≤ most_line → bad n line kind → IfBad (IsFound n.number kind line) why →
     IfBad (NamesBad bad n line) why
 names_bad bad n line kind stop.Memory other short is found = tt
@@ -184,7 +184,7 @@ through_bad tells bad lacks n k text rest a b found so_far opens =
 -- answering stopped at the next line
 pub through_stopped :
     (tells : Place → List ℕ → List ℕ → Type 0) (bad : Place → List ℕ → FaultKind → Type 0) (lacks : ℕ → Option FaultKind) (n k : Place)
-    (text rest line behind a b c : List ℕ) (why : Stop) →
+    (text rest line behind a b c : List ℕ) (why : ListStop) →
     Added (ToldThrough tells n text rest k) a b → IsFirstLine rest line behind →
     IfBad (NamesBad bad k line) why → IfBad (λ found. c ≡ b) why →
     IfBad (λ found. Added (StopsWith tells bad lacks n text (Bad found)) a c) why
@@ -196,7 +196,7 @@ through_stopped tells bad lacks n k text rest line behind a b c (stop.Bad found)
 -- what is left of the text begins a line that is too long
 pub through_long :
     (tells : Place → List ℕ → List ℕ → Type 0) (bad : Place → List ℕ → FaultKind → Type 0) (lacks : ℕ → Option FaultKind) (n k : Place)
-    (text rest a b : List ℕ) (why : Stop) →
+    (text rest a b : List ℕ) (why : ListStop) →
     Added (ToldThrough tells n text rest k) a b → HasNoFeed rest → most_line < length rest →
     IfBad (IsFound k.number Limit rest) why → IfBad (λ found. Added (StopsWith tells bad lacks n text (Bad found)) a b) why
 through_long tells bad lacks n k text rest a b stop.Memory so_far none long is = tt
@@ -239,7 +239,7 @@ end_place n next held none some after = after ∙ ap (λ (ls : List (List ℕ)).
 -- what is held at the end is bad
 pub end_stopped :
     (tells : Place → List ℕ → List ℕ → Type 0) (bad : Place → List ℕ → FaultKind → Type 0) (lacks : ℕ → Option FaultKind) (n : Place)
-    (held before now : List ℕ) (why : Stop) →
+    (held before now : List ℕ) (why : ListStop) →
     HasNoFeed held → 0 < length held → IfBad (NamesBad bad n held) why → IfBad (λ found. now ≡ before) why →
     IfBad (λ found. Added (ToldToBad tells bad lacks n (lines_of held) found) before now) why
 end_stopped tells bad lacks n held before now stop.Memory none some named same = tt

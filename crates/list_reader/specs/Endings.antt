@@ -1,4 +1,5 @@
 -- What was written up to each ending.
+-- Stated by: list_reader, encoder, list_top. Rests on it: list_front.
 use Rattle.std.specs.Prelude.{◌≡◌, ℕ, ◌≤◌, List, ◌++◌, length, take}
 use Rattle.std.specs.declared.option.Option.{Option}
 use Rattle.std.specs.declared.option.Option.TheVariants.{Some, None}

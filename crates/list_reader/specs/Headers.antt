@@ -1,4 +1,5 @@
 -- The header of a list.
+-- Stated by: list_reader.
 use Rattle.std.specs.Prelude.{ℕ, ◌==◌, ◌&&◌, ◌||◌, Bool, List, codes}
 use Rattle.std.specs.Str.{bytes_eq}
 

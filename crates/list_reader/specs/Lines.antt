@@ -1,4 +1,5 @@
 -- The lines of a list.
+-- Stated by: list_reader. Rests on it: list_top.
 use Rattle.std.specs.Prelude.{◌≡◌, ℕ, ◌==◌, ◌<◌, ◌⊎◌, not, Bool, if◌then◌else◌, List, [], ◌∷◌, ◌++◌, length, IsTrue}
 use Rattle.std.specs.List.{list_all, onto_first}
 

@@ -1,4 +1,5 @@
 -- Where the lines of a list stand.
+-- Stated by: list_reader. Rests on it: list_top.
 use Rattle.std.specs.Prelude.{ℕ, ◌+◌, if◌then◌else◌, List, [], ◌∷◌}
 use Rattle.list_reader.specs.declared.place.Place.{Place}
 use Rattle.list_reader.specs.Headers.{is_header}

@@ -1,5 +1,6 @@
 -- How a list is answered while it is read: after each read, all lines that are whole in what was
 -- read are answered and written before the next read.
+-- Stated by: list_reader. Rests on it: list_top.
 use Rattle.std.specs.Prelude.{◌≡◌, ◌⊎◌, ℕ, zero, suc, List, [], ◌∷◌, ◌++◌}
 use Rattle.std.specs.declared.option.Option.{Option}
 use Rattle.std.specs.declared.option.Option.TheVariants.{Some, None}

@@ -1,17 +1,18 @@
 -- The answer to a line.
+-- Stated by: list_reader.
 use Rattle.std.specs.Prelude.{◌≡◌, ℕ, ◌<◌, ◌≤◌, ◌⊎◌, List, [], ◌++◌, length, IsTrue, IsFalse}
 use Rattle.text_faults.specs.declared.faults.FaultKind.{FaultKind}
 use Rattle.text_faults.specs.declared.faults.FaultKind.TheVariants.{Limit}
 use Rattle.list_reader.specs.declared.ending.BadLine.{BadLine}
-use Rattle.list_reader.specs.declared.ending.Stop.{Stop}
-use Rattle.list_reader.specs.declared.ending.Stop.TheVariants as stop
+use Rattle.list_reader.specs.declared.ending.ListStop.{ListStop}
+use Rattle.list_reader.specs.declared.ending.ListStop.TheVariants as stop
 use Rattle.list_reader.specs.declared.place.Place.{Place}
-use Rattle.list_reader.specs.declared.teller.Told.{Told}
-use Rattle.list_reader.specs.declared.teller.Told.TheVariants.{Output, Bad}
+use Rattle.list_reader.specs.declared.teller.LineAnswer.{LineAnswer}
+use Rattle.list_reader.specs.declared.teller.LineAnswer.TheVariants.{Output, Bad}
 use Rattle.list_reader.specs.Headers.{is_header}
 
 -- the answer is an output for the line, or the kind of a fault that it has
-abbrev pub IsToldAs : (tells : List ℕ → Type 0) → (bad : FaultKind → Type 0) → Told → Type 0
+abbrev pub IsToldAs : (tells : List ℕ → Type 0) → (bad : FaultKind → Type 0) → LineAnswer → Type 0
 IsToldAs tells bad (Output bytes) = tells bytes.items
 IsToldAs tells bad (Bad kind) = bad kind
 
@@ -49,6 +50,6 @@ pub record IsFound (number : ℕ) (kind : FaultKind) (text : List ℕ) (found : 
   pub kept : found.text.items ≡ text
 
 -- if a bad line is why the answers stop, this holds of what is found of it
-abbrev pub IfBad : (BadLine → Type 0) → Stop → Type 0
+abbrev pub IfBad : (BadLine → Type 0) → ListStop → Type 0
 IfBad holds (stop.Bad found) = holds found
 IfBad holds stop.Memory = Unit {0}

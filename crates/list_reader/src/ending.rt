@@ -33,7 +33,7 @@ pub enum Ending {
 
 /// Why the answers stop.
 #[derive(Drop)]
-pub enum Stop {
+pub enum ListStop {
     /// A line was bad.
     Bad { found: BadLine },
     /// Memory ran out.
@@ -42,14 +42,14 @@ pub enum Stop {
 
 // The stop at a line of this number and text that has a fault of this kind, or for lack of memory
 // to keep its text.
-pub fn stop_at(alloc: Global, number: u64, kind: FaultKind, text: &[u8]) -> Stop
+pub fn stop_at(alloc: Global, number: u64, kind: FaultKind, text: &[u8]) -> ListStop
     ensures { IfBad (IsFound number kind text.now) result }
 {
     match text.to_vec(alloc) {
         Ok(text) => {
             let found = BadLine { number, kind, text };
-            Stop::Bad { found }
+            ListStop::Bad { found }
         }
-        Err(_) => Stop::Memory,
+        Err(_) => ListStop::Memory,
     }
 }

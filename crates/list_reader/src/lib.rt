@@ -32,4 +32,4 @@ pub use ending::{BadLine, Ending};
 pub use laws::{one_ending_law, one_output_law};
 pub use place::Place;
 pub use reading::tell_all;
-pub use teller::{LineTeller, Told};
+pub use teller::{LineAnswer, LineTeller};

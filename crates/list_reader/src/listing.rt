@@ -7,7 +7,7 @@ ghost use Rattle.list_reader.specs.Places.{place_behind};
 ghost use Rattle.list_reader.specs.Told.{IfBad, most_line};
 ghost use Rattle.list_reader.specs.Endings.{Added, Gives, ToldThrough, StopsWith};
 
-use crate::ending::{Stop, stop_at};
+use crate::ending::{ListStop, stop_at};
 use crate::place::{Place, place_after};
 use crate::teller::LineTeller;
 use crate::telling::{MOST_LINE, tell_line, tell_lines};
@@ -31,7 +31,7 @@ fn tell_within_limit<'a, T: LineTeller>(
     first: Place,
     text: &'a [u8],
     output: &mut Vec<u8>,
-) -> Result<(Place, &'a [u8]), Stop>
+) -> Result<(Place, &'a [u8]), ListStop>
     ensures told { IfOk result
         (λ found. Added (ToldThrough (T.tells teller.now) first text.now found.1.now found.0)
         output.old.items output.new.items) }
@@ -55,7 +55,7 @@ pub fn add_piece<T: LineTeller>(
     listing: &mut Listing,
     piece: &[u8],
     output: &mut Vec<u8>,
-) -> Result<(), Stop>
+) -> Result<(), ListStop>
     ensures told { OnOk result (Added
         (ToldThrough (T.tells teller.now) listing.old.place (listing.old.held.items ++ piece.now)
         listing.new.held.items listing.new.place) output.old.items output.new.items) }
@@ -69,9 +69,9 @@ pub fn add_piece<T: LineTeller>(
     listing
         .held
         .extend_from_slice(piece)
-        .map_err(|_| Stop::Memory)?;
+        .map_err(|_| ListStop::Memory)?;
     let (place, rest) = tell_within_limit(alloc, teller, listing.place, &listing.held, output)?;
-    let held = rest.to_vec(alloc).map_err(|_| Stop::Memory)?;
+    let held = rest.to_vec(alloc).map_err(|_| ListStop::Memory)?;
     *listing = Listing { place, held };
     Ok(())
 }
@@ -84,7 +84,7 @@ fn add_last<T: LineTeller>(
     place: Place,
     held: &[u8],
     output: &mut Vec<u8>,
-) -> Result<Place, Stop>
+) -> Result<Place, ListStop>
     requires { HasNoFeed held.now }
     ensures told { IfOk result (λ _. Added (AllTold (T.tells teller.now) place (lines_of held.now))
         output.old.items output.new.items) }
@@ -110,7 +110,7 @@ pub fn add_end<T: LineTeller>(
     place: Place,
     held: &[u8],
     output: &mut Vec<u8>,
-) -> Result<(), Stop>
+) -> Result<(), ListStop>
     requires { HasNoFeed held.now }
     ensures told { OnOk result (Added
         (Gives (T.tells teller.now) (T.bad teller.now) (T.lacks teller.now)

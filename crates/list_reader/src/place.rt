@@ -2,9 +2,9 @@
 ghost use Rattle.std.specs.Prelude.{◌≡◌, ◌+◌, IfErr, IfOk};
 ghost use Rattle.list_reader.specs.Headers.{is_header, is_header_line};
 ghost use Rattle.list_reader.specs.Places.{first_place, place_after};
-ghost use Rattle.list_reader.specs.declared.ending.Stop.TheVariants.{Memory};
+ghost use Rattle.list_reader.specs.declared.ending.ListStop.TheVariants.{Memory};
 
-use crate::ending::Stop;
+use crate::ending::ListStop;
 
 /// Where a line stands in a list: its number, counted from 1, and how many lines stand before it
 /// that are not the header alone.
@@ -49,7 +49,7 @@ pub fn first_place() -> Place
 
 // The place after the line at this place, if its number can be counted.
 #[tactic(auto, unfolding(crate::specs::Places::place_after))]
-pub fn place_after(place: Place, line: &[u8]) -> Result<Place, Stop>
+pub fn place_after(place: Place, line: &[u8]) -> Result<Place, ListStop>
     ensures next { IfOk result (λ next. next ≡ place_after place line.now) }
     ensures memory { IfErr result (λ stop. stop ≡ Memory) }
 {
@@ -63,12 +63,12 @@ pub fn place_after(place: Place, line: &[u8]) -> Result<Place, Stop>
 }
 
 // The number after this one, if it can be counted.
-fn next_number(number: u64) -> Result<u64, Stop>
+fn next_number(number: u64) -> Result<u64, ListStop>
     ensures next { IfOk result (λ next. next ≡ number + 1) }
     ensures memory { IfErr result (λ stop. stop ≡ Memory) }
 {
     match number.checked_add(1) {
         Some(next) => Ok(next),
-        None => Err(Stop::Memory),
+        None => Err(ListStop::Memory),
     }
 }

@@ -7,7 +7,7 @@ ghost use Rattle.list_reader.specs.Told.{most_line};
 ghost use Rattle.list_reader.specs.Endings.{Appended, Gives, ToldThrough, StopsWith, TellsList, ReadsTold, Wrote, WroteUpTo};
 ghost use Rattle.list_reader.specs.Streams.{IsStream};
 
-use crate::ending::{Ending, Stop};
+use crate::ending::{Ending, ListStop};
 use crate::listing::{Listing, add_end, add_piece};
 use crate::place::first_place;
 use crate::teller::LineTeller;
@@ -44,11 +44,11 @@ fn take_piece<T: LineTeller, K: Sink>(
             Ok(()) => Ok(()),
             Err(_) => Err(Ending::WriteFault),
         },
-        Err(Stop::Bad { found }) => match emit(sink, &output) {
+        Err(ListStop::Bad { found }) => match emit(sink, &output) {
             Ok(()) => Err(Ending::Bad { found }),
             Err(_) => Err(Ending::WriteFault),
         },
-        Err(Stop::Memory) => Err(Ending::Memory),
+        Err(ListStop::Memory) => Err(Ending::Memory),
     }
 }
 
@@ -73,11 +73,11 @@ fn take_end<T: LineTeller, K: Sink>(
             Ok(()) => Ending::Done,
             Err(_) => Ending::WriteFault,
         },
-        Err(Stop::Bad { found }) => match emit(sink, &output) {
+        Err(ListStop::Bad { found }) => match emit(sink, &output) {
             Ok(()) => Ending::Bad { found },
             Err(_) => Ending::WriteFault,
         },
-        Err(Stop::Memory) => Ending::Memory,
+        Err(ListStop::Memory) => Ending::Memory,
     }
 }
 

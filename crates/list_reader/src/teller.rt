@@ -11,7 +11,7 @@ use text_faults::FaultKind;
 
 /// The answer to a line.
 #[derive(Drop)]
-pub enum Told {
+pub enum LineAnswer {
     /// These bytes are its output.
     Output { bytes: Vec<u8> },
     /// It is bad: a fault of this kind is its first.
@@ -30,7 +30,7 @@ pub trait LineTeller {
     ghost lacks: { Self → ℕ → Option FaultKind };
 
     /// The output of a line, or the kind of its first fault.
-    fn tell(&self, alloc: Global, place: Place, line: &[u8]) -> Result<Told, Memory>
+    fn tell(&self, alloc: Global, place: Place, line: &[u8]) -> Result<LineAnswer, Memory>
         ensures { IfOk result
             (IsToldAs (tells self.now place line.now) (bad self.now place line.now)) };
 

@@ -6,9 +6,9 @@ ghost use Rattle.list_reader.specs.Lines.{HasNoFeed};
 ghost use Rattle.list_reader.specs.Endings.{Added, ToldThrough, StopsWith};
 
 use crate::cutting::first_line;
-use crate::ending::{Stop, stop_at};
+use crate::ending::{ListStop, stop_at};
 use crate::place::{Place, is_header, place_after};
-use crate::teller::{LineTeller, Told};
+use crate::teller::{LineAnswer, LineTeller};
 use std::alloc::Global;
 use text_faults::FaultKind;
 
@@ -23,7 +23,7 @@ pub fn tell_line<T: LineTeller>(
     place: Place,
     line: &[u8],
     output: &mut Vec<u8>,
-) -> Result<(), Stop>
+) -> Result<(), ListStop>
     ensures told { OnOk result
         (Added (LineTold (T.tells teller.now) place line.now) output.old.items output.new.items) }
     ensures bad { IfErr result (IfBad (NamesBad (T.bad teller.now) place line.now)) }
@@ -35,9 +35,14 @@ pub fn tell_line<T: LineTeller>(
     if line.len() > MOST_LINE {
         return Err(stop_at(alloc, place.number, FaultKind::Limit, line));
     }
-    match teller.tell(alloc, place, line).map_err(|_| Stop::Memory)? {
-        Told::Bad { kind } => Err(stop_at(alloc, place.number, kind, line)),
-        Told::Output { bytes } => output.extend_from_slice(&bytes).map_err(|_| Stop::Memory),
+    match teller
+        .tell(alloc, place, line)
+        .map_err(|_| ListStop::Memory)?
+    {
+        LineAnswer::Bad { kind } => Err(stop_at(alloc, place.number, kind, line)),
+        LineAnswer::Output { bytes } => output
+            .extend_from_slice(&bytes)
+            .map_err(|_| ListStop::Memory),
     }
 }
 
@@ -49,7 +54,7 @@ pub fn tell_lines<'a, T: LineTeller>(
     first: Place,
     text: &'a [u8],
     output: &mut Vec<u8>,
-) -> Result<(Place, &'a [u8]), Stop>
+) -> Result<(Place, &'a [u8]), ListStop>
     ensures told { IfOk result
         (λ found. Added (ToldThrough (T.tells teller.now) first text.now found.1.now found.0)
         output.old.items output.new.items) }

@@ -3,7 +3,7 @@
 
 /// The lines of the graphs with one number of vertices, with the numbers of those that are
 /// covered, bricks and braces.
-pub struct Family {
+pub struct CubicFamily {
     pub lines: &'static [&'static str],
     pub covered: u32,
     pub bricks: u32,
@@ -11,32 +11,32 @@ pub struct Family {
 }
 
 /// The families, from four vertices to twelve.
-pub static FAMILIES: [Family; 5] = [
-    Family {
+pub static FAMILIES: [CubicFamily; 5] = [
+    CubicFamily {
         lines: &FOUR,
         covered: 1,
         bricks: 1,
         braces: 0,
     },
-    Family {
+    CubicFamily {
         lines: &SIX,
         covered: 2,
         bricks: 1,
         braces: 1,
     },
-    Family {
+    CubicFamily {
         lines: &EIGHT,
         covered: 5,
         bricks: 2,
         braces: 1,
     },
-    Family {
+    CubicFamily {
         lines: &TEN,
         covered: 18,
         bricks: 9,
         braces: 1,
     },
-    Family {
+    CubicFamily {
         lines: &TWELVE,
         covered: 81,
         bricks: 41,

@@ -1,7 +1,7 @@
 //! The answers to single lines.
 
 use decomposer::NamedOrder;
-use list_lines::{Property, Query, Told, tell};
+use list_lines::{Property, Query, QueryAnswer, tell};
 use std::alloc::{AllocError as Memory, Global};
 use std::test::Fail;
 use text_faults::FaultKind;
@@ -225,8 +225,8 @@ fn is_told(alloc: Global, row: &Row) -> Result<bool, Memory> {
         tell(alloc, &row.query, 7, row.line.as_bytes())?,
         &row.answer,
     ) {
-        (Told::Output { bytes }, Ok(wanted)) => Ok(bytes.as_slice() == wanted.as_bytes()),
-        (Told::Bad { kind }, Err(wanted)) => Ok(kind == *wanted),
+        (QueryAnswer::Output { bytes }, Ok(wanted)) => Ok(bytes.as_slice() == wanted.as_bytes()),
+        (QueryAnswer::Bad { kind }, Err(wanted)) => Ok(kind == *wanted),
         _ => Ok(false),
     }
 }

@@ -1,15 +1,15 @@
 //! How many cubic graphs are kept.
 
-use crate::cubic::{FAMILIES, Family};
-use list_lines::{Property, Query, Told, tell};
+use crate::cubic::{CubicFamily, FAMILIES};
+use list_lines::{Property, Query, QueryAnswer, tell};
 use std::alloc::{AllocError as Memory, Global};
 use std::test::Fail;
 
 // Whether the line is kept.
 fn is_kept(alloc: Global, line: &str, property: Property) -> Result<bool, Memory> {
     match tell(alloc, &Query::Select { property }, 1, line.as_bytes())? {
-        Told::Output { bytes } => Ok(bytes.as_slice() == line.as_bytes()),
-        Told::Bad { .. } => Ok(false),
+        QueryAnswer::Output { bytes } => Ok(bytes.as_slice() == line.as_bytes()),
+        QueryAnswer::Bad { .. } => Ok(false),
     }
 }
 
@@ -25,7 +25,7 @@ fn kept(alloc: Global, lines: &[&str], property: Property) -> Result<u32, Memory
 }
 
 // Whether so many of the graphs are covered, bricks and braces.
-fn agrees(alloc: Global, family: &Family) -> Result<bool, Memory> {
+fn agrees(alloc: Global, family: &CubicFamily) -> Result<bool, Memory> {
     let covered = kept(alloc, family.lines, Property::Covered)?;
     let bricks = kept(alloc, family.lines, Property::Brick)?;
     let braces = kept(alloc, family.lines, Property::Brace)?;

@@ -1,5 +1,5 @@
--- What a list or a graph file gives up to an ending is what it stands for with the status of that ending: one
--- case for each ending.
+-- What a list or a graph file gives up to an ending is what it stands for with the status of that
+-- ending: one case for each ending.
 use Rattle.std.proofs.Common.{ℕ, List}
 use Rattle.std.specs.declared.option.Option.{Option}
 use Rattle.list_lines.specs.declared.query.Query.{Query}
@@ -7,7 +7,7 @@ use Rattle.list_reader.specs.declared.ending.Ending.{Ending}
 use Rattle.list_reader.specs.declared.ending.Ending.TheVariants.{Done, Bad, ReadFault, WriteFault, Memory}
 use Rattle.list_reader.specs.Endings.{Appended, TellsList}
 use Rattle.list_top.specs.Listings.{TellsLineOf, IsBadLine, lacks_of}
-use Rattle.list_top.specs.Outcomes.{EndsWith, Outcome, TellsSome}
+use Rattle.list_top.specs.Outcomes.{EndsWith, ListOutcome, TellsSome}
 use Rattle.list_top.specs.Statuses.{status_of}
 use Rattle.encoder.specs.Files.{Encodes}
 use Rattle.encoder.specs.Reads.{EncodesFile}
@@ -15,7 +15,7 @@ use Rattle.list_top.specs.Encodings.{EncodeOutcome, EncodesSome}
 
 outcome_of_ending :
     (query : Query) (bytes : List ℕ) (ending : Ending) (output : List ℕ) → EndsWith query bytes ending output →
-    Outcome query bytes (status_of ending) output
+    ListOutcome query bytes (status_of ending) output
 outcome_of_ending query bytes Done output gives = gives
 outcome_of_ending query bytes (Bad found) output gives = record { found = found; told = gives }
 outcome_of_ending query bytes ReadFault output gives = gives
@@ -25,7 +25,7 @@ outcome_of_ending query bytes Memory output gives = gives
 -- what was appended up to an ending, by its status
 pub appended_outcome :
     (query : Query) (bytes : List ℕ) (ending : Ending) (before now : Option (List ℕ)) →
-    Appended (EndsWith query bytes ending) before now → Appended (Outcome query bytes (status_of ending)) before now
+    Appended (EndsWith query bytes ending) before now → Appended (ListOutcome query bytes (status_of ending)) before now
 appended_outcome query bytes ending before now appended = record {
   output = appended.output;
   right = outcome_of_ending query bytes ending appended.output appended.right;

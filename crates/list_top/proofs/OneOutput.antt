@@ -12,8 +12,8 @@ use Rattle.list_reader.specs.Places.{first_place}
 use Rattle.list_reader.specs.declared.ending.BadLine.{BadLine}
 use Rattle.list_reader.specs.declared.place.Place.{Place}
 use Rattle.list_top.specs.Listings.{IsBadLine, TellsLineOf, is_further, lacks_of}
-use Rattle.list_top.specs.Outcomes.{EndsWith, Outcome}
-use Rattle.list_top.specs.declared.status.Status.TheVariants.{BadInput, Done}
+use Rattle.list_top.specs.Outcomes.{EndsWith, ListOutcome}
+use Rattle.list_top.specs.declared.status.ListStatus.TheVariants.{BadInput, Done}
 
 pub one_output_each : (query : Query) → HasOneOutput (TellsLineOf query)
 one_output_each query place line a b one two = output_once query place.number line a b one.1 two.1
@@ -29,11 +29,11 @@ told_or_bad query place line output kind told (inl bad) = let no : true ≡ fals
 told_or_bad query place line output kind told (inr bad) = output_or_fault query place.number line output kind told.1 bad.1
 
 -- a list that is done has no bad line
-pub done_or_bad : (query : Query) (bytes a b : List ℕ) → Outcome query bytes Done a → Outcome query bytes BadInput b → ⊥
+pub done_or_bad : (query : Query) (bytes a b : List ℕ) → ListOutcome query bytes Done a → ListOutcome query bytes BadInput b → ⊥
 done_or_bad query bytes a b done bad =
     whole_not_bad (TellsLineOf query) (IsBadLine query) (told_or_bad query) (lacks_of query) first_place (lines_of bytes) bad.found a b done bad.told
 
-pub done_once : (query : Query) (bytes a b : List ℕ) → Outcome query bytes Done a → Outcome query bytes Done b → a ≡ b
+pub done_once : (query : Query) (bytes a b : List ℕ) → ListOutcome query bytes Done a → ListOutcome query bytes Done b → a ≡ b
 done_once query bytes a b one two = one_output (TellsLineOf query) first_place (lines_of bytes) a b (one_output_each query) one.told two.told
 
 -- the first bad line is one
@@ -45,5 +45,5 @@ pub stops_once :
 stops_once query bytes found other a b one two =
     stop_once (TellsLineOf query) (IsBadLine query) (told_or_bad query) (one_output_each query) (one_fault_each query) (lacks_of query) first_place (lines_of bytes) found other a b one two
 
-pub bad_once : (query : Query) (bytes a b : List ℕ) → Outcome query bytes BadInput a → Outcome query bytes BadInput b → a ≡ b
+pub bad_once : (query : Query) (bytes a b : List ℕ) → ListOutcome query bytes BadInput a → ListOutcome query bytes BadInput b → a ≡ b
 bad_once query bytes a b one two = (stops_once query bytes one.found two.found a b one.told two.told).0

@@ -7,7 +7,7 @@ use Rattle.std.specs.declared.option.Option.{Option}
 use Rattle.std.specs.declared.option.Option.TheVariants.{Some, None}
 use Rattle.std.specs.Prelude.{if◌then◌else◌}
 use Rattle.std.specs.Str.{bytes_eq}
-use Rattle.list_top.specs.Commands.{Command, command_of, encode_of, pair_command}
+use Rattle.list_top.specs.Commands.{ListCommand, command_of, encode_of, pair_command}
 
 pub no_command : (words : List (List ℕ)) (name : List ℕ) → encode_of words ≡ Some name → command_of words ≡ None
 no_command [] name is = absurd (none-some name is)
@@ -20,5 +20,5 @@ no_command (word ∷ file ∷ []) name is = go (bytes_eq word (codes "encode")) 
 no_command (word ∷ file ∷ third ∷ words) name is = absurd (none-some name is)
 
 -- so with a command they do not ask for that
-pub not_both : (words : List (List ℕ)) (name : List ℕ) (command : Command) → encode_of words ≡ Some name → command_of words ≡ Some command → ⊥
+pub not_both : (words : List (List ℕ)) (name : List ℕ) (command : ListCommand) → encode_of words ≡ Some name → command_of words ≡ Some command → ⊥
 not_both words name command asked is = none-some command (sym (no_command words name asked) ∙ is)

@@ -1,4 +1,5 @@
 -- What the words ask for: one case for each row of the table of words.
+-- Stated by: list_top. Rests on it: list_front.
 use Rattle.std.specs.Prelude.{◌≡◌, ℕ, List, [], ◌∷◌, drop, nat_eq, codes, if◌then◌else◌}
 use Rattle.std.specs.declared.option.Option.{Option}
 use Rattle.std.specs.declared.option.Option.TheVariants.{Some, None}
@@ -15,7 +16,7 @@ use Rattle.list_lines.specs.declared.query.Query.TheVariants.{Kinds, Leaves, Gra
 
 -- what is asked of each graph of a list, and the name of the file that holds the list, if it is
 -- not the standard input
-pub record Command : Type 0 where
+pub record ListCommand : Type 0 where
   pub query : Query
   pub file : Option (List ℕ)
 
@@ -65,20 +66,20 @@ pair_named word second =
     if bytes_eq word (codes "select") then select_named second else None
 
 -- a query of the list in a file
-abbrev pub command_with : Option Query → Option (List ℕ) → Option Command
+abbrev pub command_with : Option Query → Option (List ℕ) → Option ListCommand
 command_with None file = None
 command_with (Some query) file = Some (record { query = query; file = file })
 
 -- what two words ask for: where they ask for no query, the second is the name of the file
-abbrev pub pair_or_file : Option Query → List ℕ → List ℕ → Option Command
+abbrev pub pair_or_file : Option Query → List ℕ → List ℕ → Option ListCommand
 pair_or_file (Some query) word second = Some (record { query = query; file = None })
 pair_or_file None word second = command_with (query_named word) (Some second)
 
-abbrev pub pair_command : List ℕ → List ℕ → Option Command
+abbrev pub pair_command : List ℕ → List ℕ → Option ListCommand
 pair_command word second = pair_or_file (pair_named word second) word second
 
 -- the command that the words ask for; none where they match no row
-abbrev pub command_of : List (List ℕ) → Option Command
+abbrev pub command_of : List (List ℕ) → Option ListCommand
 command_of [] = None
 command_of (word ∷ []) = command_with (query_named word) None
 command_of (word ∷ second ∷ []) = pair_command word second
@@ -86,7 +87,7 @@ command_of (word ∷ second ∷ third ∷ []) = command_with (pair_named word se
 command_of (word ∷ second ∷ third ∷ fourth ∷ words) = None
 
 -- the name of the file of a command, if there is one
-abbrev pub file_of : Option Command → Option (List ℕ)
+abbrev pub file_of : Option ListCommand → Option (List ℕ)
 file_of None = None
 file_of (Some command) = command.file
 

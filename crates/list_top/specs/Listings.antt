@@ -1,4 +1,5 @@
 -- The answer to a line of a list.
+-- Stated by: list_top. Rests on it: list_front.
 use Rattle.std.specs.Prelude.{◌≡◌, ℕ, ◌==◌, ◌⊎◌, nat_lt, Bool, false, if◌then◌else◌, List, IsTrue, IsFalse}
 use Rattle.std.specs.declared.option.Option.{Option}
 use Rattle.std.specs.declared.option.Option.TheVariants.{Some, None}

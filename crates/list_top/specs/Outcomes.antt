@@ -1,4 +1,5 @@
 -- Which status and which output a list stands for.
+-- Stated by: list_top. Rests on it: list_front.
 use Rattle.std.specs.Prelude.{◌≡◌, ℕ, List}
 use Rattle.std.specs.declared.option.Option.{Option}
 use Rattle.list_lines.specs.declared.query.Query.{Query}
@@ -11,8 +12,8 @@ use Rattle.list_reader.specs.Places.{first_place}
 use Rattle.list_reader.specs.Streams.{IsStream}
 use Rattle.list_top.specs.Listings.{TellsLineOf, IsBadLine, lacks_of}
 use Rattle.list_top.specs.Statuses.{status_of}
-use Rattle.list_top.specs.declared.status.Status.{Status}
-use Rattle.list_top.specs.declared.status.Status.TheVariants.{Done, Usage, ReadFault, BadInput, WriteFault, Memory}
+use Rattle.list_top.specs.declared.status.ListStatus.{ListStatus}
+use Rattle.list_top.specs.declared.status.ListStatus.TheVariants.{Done, Usage, ReadFault, BadInput, WriteFault, Memory}
 
 -- what is written of a list of these bytes up to an ending: of each line what is asked of its
 -- graph, in order
@@ -25,20 +26,20 @@ pub record StopsAtBad (query : Query) (bytes output : List ℕ) : Type 0 where
   pub told : ToldToBad (TellsLineOf query) (IsBadLine query) (lacks_of query) first_place (lines_of bytes) found output
 
 -- what is written of a list of these bytes up to a status
-abbrev pub Outcome : Query → (bytes : List ℕ) → Status → (output : List ℕ) → Type 0
-Outcome query bytes Done output = WholeTold (TellsLineOf query) (lacks_of query) first_place (lines_of bytes) output
-Outcome query bytes Usage output = ⊥
-Outcome query bytes ReadFault output = BeginningTold (TellsLineOf query) first_place (lines_of bytes) output
-Outcome query bytes BadInput output = StopsAtBad query bytes output
-Outcome query bytes WriteFault output = CutShort (TellsLineOf query) first_place (lines_of bytes) output
-Outcome query bytes Memory output = BeginningTold (TellsLineOf query) first_place (lines_of bytes) output
+abbrev pub ListOutcome : Query → (bytes : List ℕ) → ListStatus → (output : List ℕ) → Type 0
+ListOutcome query bytes Done output = WholeTold (TellsLineOf query) (lacks_of query) first_place (lines_of bytes) output
+ListOutcome query bytes Usage output = ⊥
+ListOutcome query bytes ReadFault output = BeginningTold (TellsLineOf query) first_place (lines_of bytes) output
+ListOutcome query bytes BadInput output = StopsAtBad query bytes output
+ListOutcome query bytes WriteFault output = CutShort (TellsLineOf query) first_place (lines_of bytes) output
+ListOutcome query bytes Memory output = BeginningTold (TellsLineOf query) first_place (lines_of bytes) output
 
 -- what was written is an outcome of some list: of the bytes that were left of the source, if
 -- it makes them known
-pub record TellsSome (query : Query) (status : Status) (left before now : Option (List ℕ)) : Type 0 where
+pub record TellsSome (query : Query) (status : ListStatus) (left before now : Option (List ℕ)) : Type 0 where
   pub bytes : List ℕ
   pub is_left : IsLeft left bytes
-  pub outcome : Appended (Outcome query bytes status) before now
+  pub outcome : Appended (ListOutcome query bytes status) before now
 
 -- the list was answered while it was read, up to this ending
 abbrev pub StreamsTo :
@@ -48,7 +49,7 @@ StreamsTo query reads written writes ending source sink last_source last_sink =
     IsStream (TellsLineOf query) (IsBadLine query) (lacks_of query) reads written writes ending source sink last_source last_sink
 
 -- the list was answered while it was read, up to an ending with this status
-pub record Streams {S K : Type 0} (query : Query) (reads : S → Option (List ℕ) → S → Type 0) (written : K → Option (List ℕ)) (writes : K → List ℕ → ℕ → K → Type 0) (status : Status) (source : S) (sink : K) (last_source : S) (last_sink : K) : Type 0 where
+pub record Streams {S K : Type 0} (query : Query) (reads : S → Option (List ℕ) → S → Type 0) (written : K → Option (List ℕ)) (writes : K → List ℕ → ℕ → K → Type 0) (status : ListStatus) (source : S) (sink : K) (last_source : S) (last_sink : K) : Type 0 where
   pub ending : Ending
   pub of_status : status ≡ status_of ending
   pub stream : StreamsTo query reads written writes ending source sink last_source last_sink

@@ -1,12 +1,13 @@
 -- The statuses, their codes, and the endings of runs.
+-- Stated by: list_top. Rests on it: list_front.
 use Rattle.std.specs.Prelude.{ℕ}
 use Rattle.list_reader.specs.declared.ending.Ending.{Ending}
 use Rattle.list_reader.specs.declared.ending.Ending.TheVariants as ending
-use Rattle.list_top.specs.declared.status.Status.{Status}
-use Rattle.list_top.specs.declared.status.Status.TheVariants.{Done, Usage, ReadFault, BadInput, WriteFault, Memory}
+use Rattle.list_top.specs.declared.status.ListStatus.{ListStatus}
+use Rattle.list_top.specs.declared.status.ListStatus.TheVariants.{Done, Usage, ReadFault, BadInput, WriteFault, Memory}
 
 -- the code with which the program ends
-abbrev pub code_of : Status → ℕ
+abbrev pub code_of : ListStatus → ℕ
 code_of Done = 0
 code_of Usage = 2
 code_of ReadFault = 3
@@ -15,7 +16,7 @@ code_of WriteFault = 5
 code_of Memory = 6
 
 -- the status of a run that ended so
-abbrev pub status_of : Ending → Status
+abbrev pub status_of : Ending → ListStatus
 status_of ending.Done = Done
 status_of (ending.Bad found) = BadInput
 status_of ending.ReadFault = ReadFault

@@ -5,7 +5,7 @@ use list_lines::Query;
 /// What is asked of each graph of a list, and the name of the file that holds the list; with none
 /// it is the standard input.
 #[derive(Clone, Copy)]
-pub struct Command<'a> {
+pub struct ListCommand<'a> {
     pub query: Query,
     pub file: Option<&'a str>,
 }

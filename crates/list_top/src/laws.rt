@@ -5,8 +5,8 @@ ghost use Rattle.list_reader.specs.Lists.{HasOneFault, HasOneOutput, TellsApart}
 ghost use Rattle.list_reader.specs.declared.ending.BadLine.{BadLine};
 ghost use Rattle.list_reader.specs.declared.ending.Ending.TheVariants as ending;
 ghost use Rattle.list_top.specs.Listings.{IsBadLine, TellsLineOf};
-ghost use Rattle.list_top.specs.Outcomes.{EndsWith, Outcome};
-ghost use Rattle.list_top.specs.declared.status.Status.TheVariants.{BadInput, Done};
+ghost use Rattle.list_top.specs.Outcomes.{EndsWith, ListOutcome};
+ghost use Rattle.list_top.specs.declared.status.ListStatus.TheVariants.{BadInput, Done};
 
 /// Whatever is asked of the graphs of a list, each line has one output, or it is bad with one
 /// kind of a first fault, and no line is both.
@@ -21,11 +21,11 @@ pub fn one_line_law()
 /// line and the kind of its first fault. The other endings come of the outside.
 pub fn one_output_law()
     ensures status { (query : Query) (bytes a b : List ℕ)
-        → Outcome query bytes Done a → Outcome query bytes BadInput b → ⊥ }
+        → ListOutcome query bytes Done a → ListOutcome query bytes BadInput b → ⊥ }
     ensures done { (query : Query) (bytes a b : List ℕ)
-        → Outcome query bytes Done a → Outcome query bytes Done b → a ≡ b }
+        → ListOutcome query bytes Done a → ListOutcome query bytes Done b → a ≡ b }
     ensures bad { (query : Query) (bytes a b : List ℕ)
-        → Outcome query bytes BadInput a → Outcome query bytes BadInput b → a ≡ b }
+        → ListOutcome query bytes BadInput a → ListOutcome query bytes BadInput b → a ≡ b }
     ensures found { (query : Query) (bytes : List ℕ) (found other : BadLine) (a b : List ℕ)
         → EndsWith query bytes (ending.Bad found) a → EndsWith query bytes (ending.Bad other) b
         → (found.number ≡ other.number) × (found.kind ≡ other.kind) }

@@ -1,12 +1,12 @@
 //! The top call of the program `mcg6`: `run` does what the words ask for, for each graph of a
 //! list, or for a graph file.
 //!
-//! The words are a `Command`: what is asked of each graph (`Query` of `list_lines`), and the file
-//! that holds the list, if it is not the standard input; or they ask for the graph6 text of a
+//! The words are a `ListCommand`: what is asked of each graph (`Query` of `list_lines`), and the
+//! file that holds the list, if it is not the standard input; or they ask for the graph6 text of a
 //! graph file. The list is read by `tell_all` of `list_reader`, line by line, and the graph file
 //! by `encode` of `encoder`. Main definitions, in specs/: `command_of` and `encode_of` (what the
 //! words ask for), `TellsLineOf` and `IsBadLine` (what answers one line), `lacks_of` (what a list
-//! lacks: a file of one graph has one graph), and `Outcome` and `EncodeOutcome`, which tie the
+//! lacks: a file of one graph has one graph), and `ListOutcome` and `EncodeOutcome`, which tie the
 //! bytes of the list or of the file, the status and the output together. Main promises: the
 //! clauses of `run`; `run_to_ending` answers beside them what is found of the first bad line; one
 //! list has one status and one output, unless memory runs out or reading or writing fails
@@ -26,4 +26,4 @@ mod status;
 pub use laws::{one_line_law, one_output_law};
 pub use plan::{encode_name, file_name};
 pub use running::{run, run_to_ending};
-pub use status::{Status, status_of};
+pub use status::{ListStatus, status_of};

@@ -3,7 +3,7 @@ ghost use Rattle.std.specs.Prelude.{◌≡◌};
 ghost use Rattle.list_top.specs.Listings.{TellsLineOf, IsBadLine, is_further, lacks_of};
 
 use list_lines::{Query, tell};
-use list_reader::{LineTeller, Place, Told};
+use list_reader::{LineAnswer, LineTeller, Place};
 use std::alloc::{AllocError as Memory, Global};
 use text_faults::FaultKind;
 
@@ -30,14 +30,14 @@ impl LineTeller for Lister {
 
     ghost lacks = { λ lister graphs. lacks_of lister.query graphs };
 
-    fn tell(&self, alloc: Global, place: Place, line: &[u8]) -> Result<Told, Memory> {
+    fn tell(&self, alloc: Global, place: Place, line: &[u8]) -> Result<LineAnswer, Memory> {
         if is_further(&self.query, place) {
             let kind = FaultKind::Extra;
-            return Ok(Told::Bad { kind });
+            return Ok(LineAnswer::Bad { kind });
         }
         match tell(alloc, &self.query, place.number, line)? {
-            list_lines::Told::Output { bytes } => Ok(Told::Output { bytes }),
-            list_lines::Told::Bad { kind } => Ok(Told::Bad { kind }),
+            list_lines::QueryAnswer::Output { bytes } => Ok(LineAnswer::Output { bytes }),
+            list_lines::QueryAnswer::Bad { kind } => Ok(LineAnswer::Bad { kind }),
         }
     }
 

@@ -4,7 +4,7 @@ ghost use Rattle.std.specs.Option.{option_map};
 ghost use Rattle.list_top.specs.Commands.{command_of, encode_of, encode_pair, file_named_by, file_of, property_named, bricks_property, braces_property, counted_property, query_named, leaves_named, select_named, pair_named, pair_command, command_with};
 ghost use Rattle.list_top.specs.Asked.{asked, text_of};
 
-use crate::command::Command;
+use crate::command::ListCommand;
 use decomposer::NamedOrder;
 use line_text::number;
 use list_lines::{Property, Query};
@@ -109,28 +109,28 @@ fn pair_named(word: &str, second: &str) -> Option<Query>
 }
 
 // The command that the query and the name of a file make.
-fn with_file<'a>(query: Option<Query>, file: Option<&'a str>) -> Option<Command<'a>>
+fn with_file<'a>(query: Option<Query>, file: Option<&'a str>) -> Option<ListCommand<'a>>
     ensures { option_map asked result ≡ command_with query (text_of file.entry) }
 {
     match query {
-        Some(query) => Some(Command { query, file }),
+        Some(query) => Some(ListCommand { query, file }),
         None => None,
     }
 }
 
 // The command that the two words ask for: the second has more to say of the query, or is the name
 // of the file.
-fn pair_command<'a>(word: &str, second: &'a str) -> Option<Command<'a>>
+fn pair_command<'a>(word: &str, second: &'a str) -> Option<ListCommand<'a>>
     ensures { option_map asked result ≡ pair_command word.now second.now }
 {
     match pair_named(word, second) {
-        Some(query) => Some(Command { query, file: None }),
+        Some(query) => Some(ListCommand { query, file: None }),
         None => with_file(query_named(word), Some(second)),
     }
 }
 
 /// The command that the words ask for. Takes no memory.
-pub fn plan(words: &[String]) -> Option<Command<'_>>
+pub fn plan(words: &[String]) -> Option<ListCommand<'_>>
     ensures { option_map asked result ≡ command_of (map string_bytes words.now) }
 {
     match words {

@@ -6,14 +6,14 @@ ghost use Rattle.list_reader.specs.declared.ending.Ending.TheVariants as ending;
 ghost use Rattle.list_reader.specs.Endings.{Appended, ReadsTold, TellsList};
 ghost use Rattle.encoder.specs.Files.{Encodes};
 ghost use Rattle.encoder.specs.Reads.{EncodesFile, ReadsFirst};
-ghost use Rattle.list_top.specs.Commands.{Command, MatchNone, command_of, encode_of};
+ghost use Rattle.list_top.specs.Commands.{ListCommand, MatchNone, command_of, encode_of};
 ghost use Rattle.list_top.specs.Encodings.{EncodeOutcome, EncodesSome, ReadsFirstTo};
 ghost use Rattle.list_top.specs.Listings.{TellsLineOf, IsBadLine, lacks_of};
-ghost use Rattle.list_top.specs.Outcomes.{EndsWith, Outcome, Streams, StreamsTo, TellsSome};
+ghost use Rattle.list_top.specs.Outcomes.{EndsWith, ListOutcome, Streams, StreamsTo, TellsSome};
 
 use crate::lister::Lister;
 use crate::plan::{encode_name, plan};
-use crate::status::{Status, status_of};
+use crate::status::{ListStatus, status_of};
 use encoder::encode;
 use list_reader::{Ending, tell_all};
 use outside::{Sink, Source};
@@ -33,19 +33,19 @@ fn tell_list<S: Source, K: Sink>(
         Rose (S.faults source.old) (S.faults source.new) }
     ensures write_fault { result ≡ Some ending.WriteFault →
         Rose (K.faults sink.old) (K.faults sink.new) }
-    ensures outcome { (command : Command) (bytes : List ℕ) (ending : Ending)
+    ensures outcome { (command : ListCommand) (bytes : List ℕ) (ending : Ending)
         → command_of (map string_bytes words.now) ≡ Some command → S.left source.old ≡ Some bytes
         → result ≡ Some ending
         → Appended (EndsWith command.query bytes ending) (K.written sink.old) (K.written sink.new) }
-    ensures tells { (command : Command) (ending : Ending)
+    ensures tells { (command : ListCommand) (ending : Ending)
         → command_of (map string_bytes words.now) ≡ Some command → result ≡ Some ending
         → TellsList (TellsLineOf command.query) (IsBadLine command.query) (lacks_of command.query)
         ending (S.left source.old) (K.written sink.old) (K.written sink.new) }
-    ensures torn { (command : Command) → command_of (map string_bytes words.now) ≡ Some command
+    ensures torn { (command : ListCommand) → command_of (map string_bytes words.now) ≡ Some command
         → result ≡ Some ending.ReadFault
         → Appended (ReadsTold (TellsLineOf command.query) (S.left source.old) (S.left source.new))
         (K.written sink.old) (K.written sink.new) }
-    ensures streams { (command : Command) (ending : Ending)
+    ensures streams { (command : ListCommand) (ending : Ending)
         → command_of (map string_bytes words.now) ≡ Some command → result ≡ Some ending
         → StreamsTo command.query S.reads K.written K.writes ending source.old sink.old source.new
         sink.new }
@@ -80,23 +80,23 @@ pub fn run_to_ending<S: Source, K: Sink>(
         Rose (K.faults sink.old) (K.faults sink.new) }
     // What was written is what the words ask of the lines of the list up to this ending, in
     // whatever pieces it was read.
-    ensures outcome { (command : Command) (bytes : List ℕ) (ending : Ending)
+    ensures outcome { (command : ListCommand) (bytes : List ℕ) (ending : Ending)
         → command_of (map string_bytes words.now) ≡ Some command → S.left source.old ≡ Some bytes
         → result ≡ Some ending
         → Appended (EndsWith command.query bytes ending) (K.written sink.old) (K.written sink.new) }
     // If what is left of the source is not known, it is what they ask of the lines of some list.
-    ensures tells { (command : Command) (ending : Ending)
+    ensures tells { (command : ListCommand) (ending : Ending)
         → command_of (map string_bytes words.now) ≡ Some command → result ≡ Some ending
         → TellsList (TellsLineOf command.query) (IsBadLine command.query) (lacks_of command.query)
         ending (S.left source.old) (K.written sink.old) (K.written sink.new) }
     // Where the source fails, each whole line of what was read is answered and written.
-    ensures torn { (command : Command) → command_of (map string_bytes words.now) ≡ Some command
+    ensures torn { (command : ListCommand) → command_of (map string_bytes words.now) ≡ Some command
         → result ≡ Some ending.ReadFault
         → Appended (ReadsTold (TellsLineOf command.query) (S.left source.old) (S.left source.new))
         (K.written sink.old) (K.written sink.new) }
     // After each read, what is asked of the lines that are whole by then is written before the
     // next read.
-    ensures streams { (command : Command) (ending : Ending)
+    ensures streams { (command : ListCommand) (ending : Ending)
         → command_of (map string_bytes words.now) ≡ Some command → result ≡ Some ending
         → StreamsTo command.query S.reads K.written K.writes ending source.old sink.old source.new
         sink.new }
@@ -128,42 +128,44 @@ pub fn run_to_ending<S: Source, K: Sink>(
 /// written: `run_to_ending` answers what is found of it.
 ///
 /// The clauses say, for each status, its cause. `outcome` ties the words, the bytes of the list,
-/// the status and the output together: `Outcome` has one case for each status and cites the
+/// the status and the output together: `ListOutcome` has one case for each status and cites the
 /// definitions of `list_lines`. `encodes` does the same for a graph file, by those of `encoder`.
 pub fn run<S: Source, K: Sink>(
     alloc: Global,
     words: &[String],
     source: &mut S,
     sink: &mut K,
-) -> Status
+) -> ListStatus
     // Usage comes exactly when the words match no row, and then nothing was read or written.
-    ensures usage { result ≡ Status.Usage ↔ MatchNone (map string_bytes words.now) }
-    ensures unread { result ≡ Status.Usage → source.new ≡ source.old }
-    ensures nothing { result ≡ Status.Usage → sink.new ≡ sink.old }
+    ensures usage { result ≡ ListStatus.Usage ↔ MatchNone (map string_bytes words.now) }
+    ensures unread { result ≡ ListStatus.Usage → source.new ≡ source.old }
+    ensures nothing { result ≡ ListStatus.Usage → sink.new ≡ sink.old }
     // A fault of the outside comes only where its count rose in this call.
-    ensures read_fault { result ≡ Status.ReadFault →
+    ensures read_fault { result ≡ ListStatus.ReadFault →
         Rose (S.faults source.old) (S.faults source.new) }
-    ensures write_fault { result ≡ Status.WriteFault →
+    ensures write_fault { result ≡ ListStatus.WriteFault →
         Rose (K.faults sink.old) (K.faults sink.new) }
 
     // What was written is what the words ask of the lines of the list, in whatever pieces it was
     // read.
-    ensures outcome { (command : Command) (bytes : List ℕ)
+    ensures outcome { (command : ListCommand) (bytes : List ℕ)
         → command_of (map string_bytes words.now) ≡ Some command → S.left source.old ≡ Some bytes
-        → Appended (Outcome command.query bytes result) (K.written sink.old) (K.written sink.new) }
+        → Appended (ListOutcome command.query bytes result) (K.written sink.old)
+        (K.written sink.new) }
     // If what is left of the source is not known, it is what they ask of the lines of some list.
-    ensures tells { (command : Command) → command_of (map string_bytes words.now) ≡ Some command
+    ensures tells { (command : ListCommand) → command_of (map string_bytes words.now) ≡ Some command
         → TellsSome command.query result (S.left source.old) (K.written sink.old)
         (K.written sink.new) }
     // Where the source fails, each whole line of what was read is answered and written.
-    ensures torn { (command : Command) → command_of (map string_bytes words.now) ≡ Some command
-        → result ≡ Status.ReadFault
+    ensures torn { (command : ListCommand) → command_of (map string_bytes words.now) ≡ Some command
+        → result ≡ ListStatus.ReadFault
         → Appended (ReadsTold (TellsLineOf command.query) (S.left source.old) (S.left source.new))
         (K.written sink.old) (K.written sink.new) }
     // After each read, what is asked of the lines that are whole by then is written before the
     // next read; no write follows one that failed, and no read or write follows a read that
     // failed.
-    ensures streams { (command : Command) → command_of (map string_bytes words.now) ≡ Some command
+    ensures streams { (command : ListCommand) →
+        command_of (map string_bytes words.now) ≡ Some command
         → Streams command.query S.reads K.written K.writes result source.old sink.old source.new
         sink.new }
 
@@ -184,6 +186,6 @@ pub fn run<S: Source, K: Sink>(
 {
     match run_to_ending(alloc, words, source, sink) {
         Some(ending) => status_of(&ending),
-        None => Status::Usage,
+        None => ListStatus::Usage,
     }
 }

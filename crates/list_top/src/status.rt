@@ -6,7 +6,7 @@ use list_reader::Ending;
 
 /// How a run ended. The codes are those of `mcg`, which has one more, 1.
 #[derive(Clone, Copy, Debug, PartialEq, Eq)]
-pub enum Status {
+pub enum ListStatus {
     /// Each line was told, or the graph file encoded.
     Done = 0,
     /// The words match no command; nothing was read or written.
@@ -23,7 +23,7 @@ pub enum Status {
     Memory = 6,
 }
 
-impl Status {
+impl ListStatus {
     /// The code with which the program ends. Takes no memory.
     pub fn code(self) -> u8
         ensures { result ≡ code_of self }
@@ -33,17 +33,17 @@ impl Status {
 }
 
 /// The status of a run that ended so. Takes no memory.
-pub fn status_of(ending: &Ending) -> Status
+pub fn status_of(ending: &Ending) -> ListStatus
     ensures status { result ≡ status_of ending.now }
-    ensures usage { result ≢ Status.Usage }
-    ensures read_fault { result ≡ Status.ReadFault → ending.now ≡ Ending.ReadFault }
-    ensures write_fault { result ≡ Status.WriteFault → ending.now ≡ Ending.WriteFault }
+    ensures usage { result ≢ ListStatus.Usage }
+    ensures read_fault { result ≡ ListStatus.ReadFault → ending.now ≡ Ending.ReadFault }
+    ensures write_fault { result ≡ ListStatus.WriteFault → ending.now ≡ Ending.WriteFault }
 {
     match ending {
-        Ending::Done => Status::Done,
-        Ending::Bad { .. } => Status::BadInput,
-        Ending::ReadFault => Status::ReadFault,
-        Ending::WriteFault => Status::WriteFault,
-        Ending::Memory => Status::Memory,
+        Ending::Done => ListStatus::Done,
+        Ending::Bad { .. } => ListStatus::BadInput,
+        Ending::ReadFault => ListStatus::ReadFault,
+        Ending::WriteFault => ListStatus::WriteFault,
+        Ending::Memory => ListStatus::Memory,
     }
 }

@@ -1,4 +1,5 @@
 -- Mates as the search of the engine holds them.
+-- Stated by: match_core.
 use Rattle.std.specs.Prelude.{ℕ, List}
 use Rattle.counting.specs.Sets.{Set}
 use Rattle.graph_core.specs.Graph.{Graph}

@@ -1,5 +1,6 @@
 -- Partners: the vertices that can be missed together (Lovász and Plummer, "Matching Theory",
 -- chapter 5).
+-- Stated by: match_core, allowed_edges, graph_facts, separation_kit. Rests on it: barrier_kit.
 use Rattle.std.specs.Prelude.{◌≡◌, ℕ, Bool, true, false, List, ◌==◌, ◌&&◌, not, length}
 use Rattle.counting.specs.Counts.{Within}
 use Rattle.counting.specs.Sets.{Set, pair_set, union}

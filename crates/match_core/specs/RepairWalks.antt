@@ -1,4 +1,5 @@
 -- Where the walk of a repair begins.
+-- Stated by: match_core.
 use Rattle.std.specs.Prelude.{◌≡◌, ℕ, ◌+◌, List, length}
 use Rattle.counting.specs.Sets.{Set}
 use Rattle.graph_core.specs.Matchings.{IsMatching, IsPerfect, missed_count}

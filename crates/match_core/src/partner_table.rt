@@ -139,8 +139,8 @@ pub fn all_partners(alloc: Global, g: &MultiGraph) -> Result<PartnerTable, Memor
     partners(alloc, g, VSet::empty(), &found.matching)
 }
 
-// The partners of one vertex: the vertices that matchings without it can miss alone. What is changed
-// of the instance is put back.
+// The partners of one vertex: the vertices that matchings without it can miss alone. What is
+// changed of the instance is put back.
 fn partners_of(
     alloc: Global,
     g: &MultiGraph,

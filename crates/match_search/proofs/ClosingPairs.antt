@@ -1,4 +1,4 @@
--- Two closing ways by mates: where they do not meet, the exchanged pairs and the pair of their
+-- Two closing paths by mates: where they do not meet, the exchanged pairs and the pair of their
 -- last vertices are a matching with one edge more; where they meet, the mates without the blossom
 -- are those of the opened matching.
 use Rattle.std.proofs.Common.{◌≡◌, ◌≢◌, ℕ, suc, ◌+◌, ◌-◌, ◌*◌, ◌/◌, ◌≤◌, ◌<◌, Bool, true, false, cond, ◌==◌, refl, sym, ap, ◌∙◌, arith, ne_eqb, inl, inr, subst, length, List, ◌&&◌, not}
@@ -11,7 +11,7 @@ use Rattle.counting.specs.Lists.{mem}
 use Rattle.graph_core.proofs.Edits.{degree_put, ends_of_is}
 use Rattle.graph_core.specs.Graph.{Graph, HasEnds, degree, size}
 use Rattle.graph_core.specs.Matchings.{IsMatching}
-use Rattle.match_search.specs.Blossoms.{AreClosingWays, ExposesOnly, HoldsBlossom, IsAugmented, second_start}
+use Rattle.match_search.specs.Blossoms.{AreClosingPaths, ExposesOnly, HoldsBlossom, IsAugmented, second_start}
 use Rattle.match_search.specs.Forests.{IsAlternating, flipped}
 use Rattle.match_search.specs.Frames.{IsNearPerfect}
 use Rattle.match_search.specs.Mates.{HasMates, with_pair, flipped_mates, cleared_mates}
@@ -19,7 +19,7 @@ use Rattle.match_search.specs.OddCycles.{IsOddCycle, every_other, listed, picked
 use Rattle.match_search.specs.Rows.{numbers, part}
 use Rattle.match_search.specs.Steps.{IsOpened}
 use Rattle.match_search.specs.declared.blossom.Blossom.{Blossom}
-use Rattle.match_search.specs.declared.ways.Ways.{Ways}
+use Rattle.match_search.specs.declared.paths.Paths.{Paths}
 use Rattle.match_search.proofs.Alike.{cycle_alike}
 use Rattle.match_search.proofs.AlternatingPaths.{augmented, flipped_elsewhere, flipped_off}
 use Rattle.match_search.proofs.ClosingEdges.{around, cycle, edges_around, even_j, high, low, spot, stem_count, stem_free, stem_holds, stem_matching}
@@ -101,7 +101,7 @@ module _ (g : Graph) (r f m : Set) (n : ℕ) (c e : ℕ → ℕ) (is : IsOpened 
     ];
   }
 
-module _ (g : Graph) (r f : Set) (mate : List ℕ) (w : Ways) (are : AreClosingWays g r f mate w) where
+module _ (g : Graph) (r f : Set) (mate : List ℕ) (w : Paths) (are : AreClosingPaths g r f mate w) where
   abbrev pub k : ℕ
   k = w.first
 
@@ -126,7 +126,7 @@ module _ (g : Graph) (r f : Set) (mate : List ℕ) (w : Ways) (are : AreClosingW
   abbrev pub qq : IsAlternating g r f l Q b
   qq = are.second_path
 
-  -- the vertices of the ways have mates in the row of mates
+  -- the vertices of the paths have mates in the row of mates
   pub second_in : (j : ℕ) → j ≤ l + l → Q j < length mate
   second_in j lj = let v = qq.path.within j lj in let e = are.long in omega arith
 
@@ -244,11 +244,11 @@ module _ (g : Graph) (r f : Set) (mate : List ℕ) (w : Ways) (are : AreClosingW
       left = λ d. refl;
     }
 
-    pub blossom_holds : (ring : Blossom) → ring.ring.items ≡ cs → suc n ≡ length cs → ((v : ℕ) → mem ring.members v ≡ listed (length cs - 1) (numbers cs) v) → (new : List ℕ) →
-        ((u : ℕ) → numbers new u ≡ cleared_mates (flipped_mates (numbers mate) Q (j / 2)) (length cs - 1) (numbers cs) u) → HoldsBlossom g r f new ring
+    pub blossom_holds : (blossom : Blossom) → blossom.cycle.items ≡ cs → suc n ≡ length cs → ((v : ℕ) → mem blossom.members v ≡ listed (length cs - 1) (numbers cs) v) → (new : List ℕ) →
+        ((u : ℕ) → numbers new u ≡ cleared_mates (flipped_mates (numbers mate) Q (j / 2)) (length cs - 1) (numbers cs) u) → HoldsBlossom g r f new blossom
     unfolding is_opened
-    blossom_holds ring row long members new mates = record {
-      members = subst (λ (xs : List ℕ). (v : ℕ) → mem ring.members v ≡ listed (length xs - 1) (numbers xs) v) (sym row) members;
+    blossom_holds blossom row long members new mates = record {
+      members = subst (λ (xs : List ℕ). (v : ℕ) → mem blossom.members v ≡ listed (length xs - 1) (numbers xs) v) (sym row) members;
       m = opened_matching;
       edge = edge_round;
       opened = subst (λ (xs : List ℕ). IsOpened g r f opened_matching (length xs - 1) (numbers xs) edge_round) (sym row) (subst (λ (t : ℕ). IsOpened g r f opened_matching t (numbers cs) edge_round) size is_opened);
@@ -262,9 +262,9 @@ module _ (g : Graph) (r f : Set) (mate : List ℕ) (w : Ways) (are : AreClosingW
         sm : ℕ → ℕ
         sm = flipped_mates (numbers mate) Q (j / 2)
 
-    pub blossom_exposes : (ring : Blossom) → suc n ≡ length cs → ((v : ℕ) → mem ring.members v ≡ listed (length cs - 1) (numbers cs) v) → (new : List ℕ) →
-        ((u : ℕ) → numbers new u ≡ cleared_mates (flipped_mates (numbers mate) Q (j / 2)) (length cs - 1) (numbers cs) u) → ExposesOnly mate new ring
-    blossom_exposes ring long members new mates v z = elim (cases_Bool (listed (length cs - 1) (numbers cs) v)) [
+    pub blossom_exposes : (blossom : Blossom) → suc n ≡ length cs → ((v : ℕ) → mem blossom.members v ≡ listed (length cs - 1) (numbers cs) v) → (new : List ℕ) →
+        ((u : ℕ) → numbers new u ≡ cleared_mates (flipped_mates (numbers mate) Q (j / 2)) (length cs - 1) (numbers cs) u) → ExposesOnly mate new blossom
+    blossom_exposes blossom long members new mates v z = elim (cases_Bool (listed (length cs - 1) (numbers cs) v)) [
       | inl t ↦ inl (members v ∙ t)
       | inr t ↦ elim (flipped_exposes (numbers mate) Q (j / 2) (λ i b q. let w = qq.path.within i (let h = half_in in omega arith) in omega arith) v (sym (ap (λ b. cond b 0 (flipped_mates (numbers mate) Q (j / 2) v)) t) ∙ sym (mates v) ∙ z)) [
         | inl q ↦ absurd (both_ways (listed (length cs - 1) (numbers cs) v) t (ap (listed (length cs - 1) (numbers cs)) (q ∙ ap Q (sym half_is) ∙ base) ∙ subst (λ (k : ℕ). listed k (numbers cs) (numbers cs 1) ≡ true) size (cycle_holds g r n (numbers cs) edge_round blossom_cycle 1 (omega arith))))

@@ -137,8 +137,8 @@ instance_alike g r s h is a = record {
     members v w = a.members v (let e = is.members_each in omega arith)
 
 -- what a shrinking took is put back
-pub put_back : (s h t u : Instance) (ring : Set) (base : ℕ) (before : Unshrunk) → IsShrinking s ring base h → IsUnshrunk s base before → AreAlike h t → IsPutBack t base before u → AreAlike s u
-put_back s h t u ring base before shrink taken same put = record {
+pub put_back : (s h t u : Instance) (cycle : Set) (base : ℕ) (before : Unshrunk) → IsShrinking s cycle base h → IsUnshrunk s base before → AreAlike h t → IsPutBack t base before u → AreAlike s u
+put_back s h t u cycle base before shrink taken same put = record {
   rows_long = put.rows_long ∙ same.rows_long ∙ shrink.rows.one_each;
   members_long = put.members_long ∙ same.members_long ∙ shrink.members.one_each;
   rows = λ v w. elim (cases_eq base v) [

@@ -15,10 +15,10 @@ pub mod Instances
 pub mod ParentForests
 pub mod Reaching
 pub mod Branching
-pub mod WaysUp
+pub mod PathsUp
 pub mod ClosingPairs
-pub mod ClosedRings
-pub mod ForestWays
+pub mod ClosedCycles
+pub mod ForestPaths
 pub mod ShrunkInstances
 pub mod OpenedPairs
 pub mod BlossomMates

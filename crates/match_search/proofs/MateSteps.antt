@@ -8,7 +8,7 @@ use Rattle.counting.specs.Counts.{Within, bit, count}
 use Rattle.counting.specs.Sets.{Set, complement}
 use Rattle.counting.specs.Lists.{mem}
 use Rattle.graph_core.specs.Graph.{Graph}
-use Rattle.match_search.specs.AlternatingForests.{AreExposed, HoldsMatching, IsGrowth, MayBeExposed}
+use Rattle.match_search.specs.AlternatingForests.{AreExposed, HoldsMatching, IsGrownForest, MayBeExposed}
 use Rattle.match_search.specs.Blossoms.{ClosesForest, HoldsBlossom, IsCompleted, IsMateStep, MayOpen, blossom_length, removed_with, without_blossom}
 use Rattle.match_search.specs.Instances.{IsInstance}
 use Rattle.match_search.specs.OddCycles.{listed}
@@ -17,7 +17,7 @@ use Rattle.match_search.specs.Shrinkings.{AreAlike, IsShrinking}
 use Rattle.match_search.specs.Steps.{IsWidened}
 use Rattle.match_search.specs.declared.blossom.Blossom.{Blossom}
 use Rattle.match_search.specs.declared.growing.Adjacent.{Adjacent}
-use Rattle.match_search.specs.declared.growing.Growth.{Growth}
+use Rattle.match_search.specs.declared.growing.GrownForest.{GrownForest}
 use Rattle.match_search.specs.declared.instance.Instance.{Instance}
 use Rattle.match_search.specs.declared.answer.Answer.{Answer}
 use Rattle.match_search.specs.declared.answer.Answer.TheVariants.{Final}
@@ -27,11 +27,11 @@ use Rattle.match_search.proofs.Instances.{instance_alike, near_edge}
 use Rattle.match_search.proofs.ParentForests.{done_frame}
 use Rattle.match_search.proofs.ShrunkInstances.{shrunk_instance}
 
--- the base of a blossom, as the code reads it, is the first vertex of the ring, and a vertex of
+-- the base of a blossom, as the code reads it, is the first vertex of the cycle, and a vertex of
 -- the graph
-module _ (g : Graph) (r f : Set) (mate : List ℕ) (b : Blossom) (held : HoldsBlossom g r f mate b) (base : ℕ) (read : base ≡ get_or b.ring.items 1 base) where
-  pub base_read : base ≡ numbers b.ring.items 1
-  base_read = let three = held.opened.cycle.three in read ∙ get_or_default_zero b.ring.items 1 base (omega arith)
+module _ (g : Graph) (r f : Set) (mate : List ℕ) (b : Blossom) (held : HoldsBlossom g r f mate b) (base : ℕ) (read : base ≡ get_or b.cycle.items 1 base) where
+  pub base_read : base ≡ numbers b.cycle.items 1
+  base_read = let three = held.opened.cycle.three in read ∙ get_or_default_zero b.cycle.items 1 base (omega arith)
 
   pub base_within : Within g.order base
   base_within = let three = held.opened.cycle.three in let w = held.opened.cycle.within 1 (omega arith, omega arith) in let first = base_read in omega arith
@@ -50,12 +50,12 @@ pub roots_exposed : (left mate roots : List ℕ) → AreExposed left mate roots 
 roots_exposed left mate roots are v l z = are v ∙ and_from (mem left v) (numbers mate v == 0) l (eq-eqb (numbers mate v) 0 z)
 
 -- a vertex that is left after a shrinking and exposed is the base, or was exposed before
-pub candidates_below : (s h : Instance) (ring : List ℕ) (base : ℕ) → IsShrinking s (mem ring) base h → (candidates more before after : List ℕ) → MayBeExposed s.left before candidates
-    → ((v : ℕ) → numbers after v ≡ 0 → (mem ring v ≡ true) ⊎ (numbers before v ≡ 0)) → ((v : ℕ) → mem more v ≡ (mem candidates v || (base == v))) → MayBeExposed h.left after more
-candidates_below s h ring base shrink candidates more before after may exposes more_is v l z =
-    let a = and_parts (mem s.left v) (not (mem ring v && not (base == v))) (sym (shrink.left v) ∙ l) in
+pub candidates_below : (s h : Instance) (cycle : List ℕ) (base : ℕ) → IsShrinking s (mem cycle) base h → (candidates more before after : List ℕ) → MayBeExposed s.left before candidates
+    → ((v : ℕ) → numbers after v ≡ 0 → (mem cycle v ≡ true) ⊎ (numbers before v ≡ 0)) → ((v : ℕ) → mem more v ≡ (mem candidates v || (base == v))) → MayBeExposed h.left after more
+candidates_below s h cycle base shrink candidates more before after may exposes more_is v l z =
+    let a = and_parts (mem s.left v) (not (mem cycle v && not (base == v))) (sym (shrink.left v) ∙ l) in
     more_is v ∙ elim (exposes v z) [
-      | inl m ↦ or_right (mem candidates v) (base == v) (only_base (mem ring v) (base == v) m a.1)
+      | inl m ↦ or_right (mem candidates v) (base == v) (only_base (mem cycle v) (base == v) m a.1)
       | inr q ↦ or_left (mem candidates v) (base == v) (may v a.0 q)
     ]
   where
@@ -65,7 +65,7 @@ candidates_below s h ring base shrink candidates more before after may exposes m
     only_base false b p q = absurd (true≢false (sym p))
 
 module _ (g : Graph) (r f : Set) (s : Instance) (mate : List ℕ) (is : HoldsMatching g r f s mate) where
-  pub growth_closes : (t : Growth) (o : Adjacent) → IsGrowth g r f s mate t → t.closing ≡ Some o → ClosesForest g r f mate t.forest o
+  pub growth_closes : (t : GrownForest) (o : Adjacent) → IsGrownForest g r f s mate t → t.closing ≡ Some o → ClosesForest g r f mate t.forest o
   growth_closes t o growth q =
       let pair = growth.closing_pair o q in
       let at = growth.holds.forest.outer_in o.v pair.v_outer in
@@ -81,16 +81,16 @@ module _ (g : Graph) (r f : Set) (s : Instance) (mate : List ℕ) (is : HoldsMat
         edge = near_edge g r s is.instance_is o.v o.w at.0 at.1 pair.adjacent pair.w_left pair.different;
       }
 
-  pub growth_final : (t : Growth) → IsGrowth g r f s mate t → t.closing ≡ None → IsMateStep g r f mate (Final (record { outer = t.forest.outer; inner = t.forest.inner }))
+  pub growth_final : (t : GrownForest) → IsGrownForest g r f s mate t → t.closing ≡ None → IsMateStep g r f mate (Final (record { outer = t.forest.outer; inner = t.forest.inner }))
   growth_final t growth q = record {
     m = f;
     mates = is.mates;
     answer = (refl, done_frame g r f s mate is t.forest growth.holds (growth.done q), λ v. (λ o. (growth.holds.forest.outer_in v o).0, λ o. (growth.holds.forest.inner_in v o).0));
   }
 
-  module _ (mate2 : List ℕ) (long2 : length mate2 ≡ length mate) (b : Blossom) (held : HoldsBlossom g r f mate2 b) (base : ℕ) (base_is : base ≡ numbers b.ring.items 1) (h : Instance) (shrink : IsShrinking s (mem b.members) base h) where
+  module _ (mate2 : List ℕ) (long2 : length mate2 ≡ length mate) (b : Blossom) (held : HoldsBlossom g r f mate2 b) (base : ℕ) (base_is : base ≡ numbers b.cycle.items 1) (h : Instance) (shrink : IsShrinking s (mem b.members) base h) where
     abbrev c : ℕ → ℕ
-    c = numbers b.ring.items
+    c = numbers b.cycle.items
 
     abbrev n : ℕ
     n = blossom_length b

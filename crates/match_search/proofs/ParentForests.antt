@@ -128,7 +128,7 @@ module _ (g : Graph) (r f : Set) (s : Instance) (mate : List ℕ) (is : HoldsMat
         path_at : (u j : ℕ) → u ≢ z → path u j ≡ holds.v u j
         path_at u j n = ap (λ (b : Bool). (cond b along (holds.v u)) j) (ne_eqb u z n)
 
-        -- the way up from the new outer vertex
+        -- the path up from the new outer vertex
         up_new : (u : ℕ) → u ≡ z → GoesUp mate h path u x
         up_new u q = record {
           parent = ap (numbers h.parent.items) (ap (numbers mate) q ∙ branch_mate.1) ∙ grew.parent y ∙ with_here (numbers t.parent.items) y x y refl;

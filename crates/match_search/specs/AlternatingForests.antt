@@ -1,5 +1,6 @@
--- How the code keeps an alternating forest: an inner vertex names its parent, and the way goes on
+-- How the code keeps an alternating forest: an inner vertex names its parent, and the path goes on
 -- from there by mates.
+-- Stated by: match_search. Rests on it: match_core.
 use Rattle.std.specs.Prelude.{◌≢◌, ◌≡◌, ℕ, suc, ◌+◌, ◌≤◌, ◌==◌, ◌&&◌, ◌||◌, true, length, List, Some, None}
 use Rattle.counting.specs.Sets.{Set}
 use Rattle.counting.specs.Lists.{mem}
@@ -10,7 +11,7 @@ use Rattle.match_search.specs.Instances.{IsInstance, Touches}
 use Rattle.match_search.specs.Rows.{numbers}
 use Rattle.match_search.specs.declared.instance.Instance.{Instance}
 use Rattle.match_search.specs.declared.alternating.AlternatingForest.{AlternatingForest}
-use Rattle.match_search.specs.declared.growing.Growth.{Growth}
+use Rattle.match_search.specs.declared.growing.GrownForest.{GrownForest}
 use Rattle.match_search.specs.declared.growing.Adjacent.{Adjacent}
 
 -- the instance is g without r, and the mates are those of a matching f of it
@@ -32,7 +33,7 @@ pub record IsSized (n : ℕ) (t : AlternatingForest) : Type 0 where
   pub parents_long : length t.parent.items ≡ suc n
   pub pairs_long : length t.pairs.items ≡ suc n
 
--- the way up from u: its mate hangs on p, and the path of u is that of p and on by its mate
+-- the path up from u: its mate hangs on p, and the path of u is that of p and on by its mate
 pub record GoesUp (mate : List ℕ) (t : AlternatingForest) (v : ℕ → ℕ → ℕ) (u p : ℕ) : Type 0 where
   pub parent : numbers t.parent.items (numbers mate u) ≡ p
   pub outer : mem t.outer p ≡ true
@@ -72,7 +73,7 @@ pub record IsClosingPair (s : Instance) (t : AlternatingForest) (o : Adjacent) :
   pub adjacent : Touches s o.v o.w
 
 -- a forest that has an edge between two outer vertices, or that no edge leaves
-pub record IsGrowth (g : Graph) (r f : Set) (s : Instance) (mate : List ℕ) (t : Growth) : Type 0 where
+pub record IsGrownForest (g : Graph) (r f : Set) (s : Instance) (mate : List ℕ) (t : GrownForest) : Type 0 where
   pub holds : HoldsAlternating g r f mate t.forest
   pub done : t.closing ≡ None → (x : ℕ) → mem t.forest.outer x ≡ true → IsDone s t.forest x
   pub closing_pair : (o : Adjacent) → t.closing ≡ Some o → IsClosingPair s t.forest o

@@ -1,5 +1,6 @@
 -- What an edge between two outer vertices closes: a path that augments the matching, or a
 -- blossom, an odd cycle with as many edges of the matching as it may have.
+-- Stated by: match_search.
 use Rattle.std.specs.Prelude.{◌≡◌, ◌≢◌, ℕ, suc, ◌+◌, ◌-◌, ◌≤◌, ◌⊎◌, true, false, length, List, Option, Some, None}
 use Rattle.counting.specs.Counts.{Within, count, is_odd}
 use Rattle.counting.specs.Sets.{Set}
@@ -17,7 +18,7 @@ use Rattle.match_search.specs.declared.answer.Answer.{Answer}
 use Rattle.match_search.specs.declared.alternating.AlternatingForest.{AlternatingForest}
 use Rattle.match_search.specs.declared.growing.Adjacent.{Adjacent}
 use Rattle.match_search.specs.declared.instance.Instance.{Instance}
-use Rattle.match_search.specs.declared.ways.Ways.{Ways}
+use Rattle.match_search.specs.declared.paths.Paths.{Paths}
 use Rattle.match_search.specs.declared.blossom.Blossom.{Blossom}
 
 -- an edge of g joins two outer vertices of a forest for the matching f, which has these mates
@@ -32,13 +33,13 @@ pub record ClosesForest (g : Graph) (r f : Set) (mate : List ℕ) (t : Alternati
   pub different : o.v ≢ o.w
   pub edge : (d : ℕ) × Within (size g) d × HasEnds g d o.v o.w
 
--- the place at which the second way begins
-abbrev pub second_start : Ways → ℕ
+-- the place at which the second path begins
+abbrev pub second_start : Paths → ℕ
 second_start w = suc (w.first + w.first)
 
 -- the row holds two alternating paths for the matching f, which has these mates, with outer and
 -- inner vertices in turn; an edge outside f joins their last vertices
-pub record AreClosingWays (g : Graph) (r f : Set) (mate : List ℕ) (w : Ways) : Type 0 where
+pub record AreClosingPaths (g : Graph) (r f : Set) (mate : List ℕ) (w : Paths) : Type 0 where
   pub graph : IsGraph g
   pub few : g.order ≤ 128
   pub long : length mate ≡ suc g.order
@@ -59,15 +60,15 @@ pub record AreClosingWays (g : Graph) (r f : Set) (mate : List ℕ) (w : Ways) :
 
 -- the number of vertices of a blossom, which stand in its row from place 1 on
 abbrev pub blossom_length : Blossom → ℕ
-blossom_length b = length b.ring.items - 1
+blossom_length b = length b.cycle.items - 1
 
 -- the blossom is an odd cycle, and the mates are those of a matching m that misses it: m is f
 -- with the path to the base, the first vertex, exchanged, and without its edges in the cycle
 pub record HoldsBlossom (g : Graph) (r f : Set) (mate : List ℕ) (b : Blossom) : Type 0 where
-  pub members : (v : ℕ) → mem b.members v ≡ listed (blossom_length b) (numbers b.ring.items) v
+  pub members : (v : ℕ) → mem b.members v ≡ listed (blossom_length b) (numbers b.cycle.items) v
   pub m : Set
   pub edge : ℕ → ℕ
-  pub opened : IsOpened g r f m (blossom_length b) (numbers b.ring.items) edge
+  pub opened : IsOpened g r f m (blossom_length b) (numbers b.cycle.items) edge
   pub mates : HasMates g r m (numbers mate)
 
 -- each vertex without a mate is in the blossom, or it had none before
@@ -91,10 +92,10 @@ pub record IsMateStep (g : Graph) (r f : Set) (mate : List ℕ) (s : Answer) : T
 
 -- g with a blossom shrunk to its base, and what is removed then
 abbrev pub without_blossom : Graph → Blossom → Graph
-without_blossom g b = with_ends g (shrunk_ends g (listed (blossom_length b) (numbers b.ring.items)) (numbers b.ring.items 1))
+without_blossom g b = with_ends g (shrunk_ends g (listed (blossom_length b) (numbers b.cycle.items)) (numbers b.cycle.items 1))
 
 abbrev pub removed_with : Set → Blossom → Set
-removed_with r b = shrunk_removed r (listed (blossom_length b) (numbers b.ring.items)) (numbers b.ring.items 1)
+removed_with r b = shrunk_removed r (listed (blossom_length b) (numbers b.cycle.items)) (numbers b.cycle.items 1)
 
 -- the instance is g without r, the blossom was opened as m, and the mates are those of a matching
 -- n of g with it shrunk
@@ -102,7 +103,7 @@ pub record MayOpen (g : Graph) (r f m n : Set) (s : Instance) (mate : List ℕ) 
   pub instance_is : IsInstance g r s
   pub long : length mate ≡ suc g.order
   pub edge : ℕ → ℕ
-  pub opened : IsOpened g r f m (blossom_length b) (numbers b.ring.items) edge
+  pub opened : IsOpened g r f m (blossom_length b) (numbers b.cycle.items) edge
   pub mates : HasMates (without_blossom g b) (removed_with r b) n (numbers mate)
 
 -- the mates are those of a matching of g without r that has as many edges more than f as n has

@@ -1,5 +1,6 @@
 -- Alternating paths and forests (Edmonds 1965), by places: a path has an even number of edges,
 -- told in pairs.
+-- Stated by: match_core. Rests on it: match_search.
 use Rattle.std.specs.Prelude.{◌≡◌, ℕ, zero, suc, ◌+◌, ◌≤◌, ◌<◌, true, false, not}
 use Rattle.counting.specs.Counts.{Within, is_odd}
 use Rattle.counting.specs.Sets.{Set, put}

@@ -1,6 +1,7 @@
 -- Frames: why a matching of G - R is maximum, with the vertices that some maximum matching misses
 -- (Edmonds 1965; Lovász and Plummer, "Matching Theory", chapters 1 and 3), and the shrinking of a
 -- vertex set to one of its vertices.
+-- Stated by no contract. Rests on it: match_search, match_core, theorems.
 use Rattle.std.specs.Prelude.{◌≡◌, ℕ, ◌+◌, ◌*◌, ◌≤◌, true, false, List, ◌==◌, nat_lt, ◌&&◌, ◌||◌, not, length, map, cond}
 use Rattle.counting.specs.Counts.{Within, bit, count, is_odd}
 use Rattle.counting.specs.Sets.{Set, complement, union}

@@ -1,4 +1,5 @@
 -- A graph without its removed vertices, by rows of neighbours: what the search of the engine reads.
+-- Stated by: match_search. Rests on it: match_core.
 use Rattle.std.specs.Prelude.{◌≡◌, ◌≢◌, ◌↔◌, ℕ, ◌≤◌, ◌&&◌, false, true, not, nat_lt, nat_le, length, List}
 use Rattle.counting.specs.Counts.{Within}
 use Rattle.counting.specs.Sets.{Set}

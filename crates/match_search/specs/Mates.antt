@@ -1,5 +1,6 @@
 -- Matchings by mates: for each vertex the other end of its edge, 0 where it is exposed. Which of
 -- parallel edges joins two mates is not told.
+-- Stated by: match_search, match_core.
 use Rattle.std.specs.Prelude.{◌≡◌, ◌≢◌, ℕ, zero, suc, ◌+◌, ◌<◌, ◌⊎◌, ◌==◌, cond, true, false, List}
 use Rattle.counting.specs.Counts.{Within}
 use Rattle.counting.specs.Sets.{Set, none}

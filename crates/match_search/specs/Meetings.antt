@@ -1,4 +1,5 @@
 -- Where two parts of a row meet.
+-- Stated by: match_search.
 use Rattle.std.specs.Prelude.{◌≡◌, ◌≢◌, ℕ, ◌+◌, ◌<◌, List, slice_index}
 use Rattle.match_search.specs.declared.cycle.Meeting.{Meeting}
 

@@ -1,4 +1,5 @@
 -- What the last step of a search says of a matching by its mates.
+-- Stated by: match_search. Rests on it: match_core.
 use Rattle.std.specs.Prelude.{◌≡◌, ◌≢◌, ℕ, true, false, List}
 use Rattle.counting.specs.Counts.{Within, count}
 use Rattle.counting.specs.Sets.{Set}

@@ -1,4 +1,5 @@
 -- Odd cycles, by the places of their vertices and edges from 1 on.
+-- Stated by: match_search. Rests on it: match_core.
 use Rattle.std.specs.Prelude.{◌≡◌, ℕ, suc, ◌≤◌, Bool, true, false, ◌==◌, nat_lt, ◌&&◌, ◌||◌, not, cond}
 use Rattle.counting.specs.Counts.{Within, is_odd}
 use Rattle.counting.specs.Sets.{Set}

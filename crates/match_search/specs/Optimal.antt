@@ -1,4 +1,5 @@
 -- What the engine answers on a whole graph.
+-- Stated by: match_search, match_core.
 use Rattle.std.specs.Prelude.{◌≡◌, ◌+◌, length}
 use Rattle.counting.specs.Counts.{count}
 use Rattle.counting.specs.Sets.{Set}

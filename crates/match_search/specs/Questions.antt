@@ -1,4 +1,5 @@
 -- Perfect matchings that hold given edges.
+-- Stated by: match_core. Rests on it: match_search, allowed_edges, ear_core.
 use Rattle.std.specs.Prelude.{◌≡◌, ℕ, true, List}
 use Rattle.counting.specs.Counts.{Within, bit}
 use Rattle.counting.specs.Sets.{Set, none}

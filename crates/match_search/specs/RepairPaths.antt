@@ -1,4 +1,5 @@
 -- Repaired matchings: perfect ones that differ from a given matching by one path.
+-- Stated by: match_core.
 use Rattle.std.specs.Prelude.{◌≡◌, ℕ, suc, ◌+◌, ◌≤◌, ◌<◌, ◌≢◌, ◌↔◌, true, false, List, not, length}
 use Rattle.counting.specs.Counts.{Within, is_odd}
 use Rattle.counting.specs.Sets.{Set, put}

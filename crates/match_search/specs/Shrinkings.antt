@@ -1,4 +1,5 @@
 -- An instance with a blossom shrunk to its base.
+-- Stated by: match_search, match_core.
 use Rattle.std.specs.Prelude.{◌≡◌, ◌≢◌, ◌↔◌, ℕ, ◌&&◌, ◌||◌, ◌==◌, not, true, List, length}
 use Rattle.counting.specs.Counts.{Within}
 use Rattle.counting.specs.Sets.{Set}
@@ -16,12 +17,12 @@ pub record IsGathered (before : List (List ℕ)) (x : Set) (z : ℕ) (after : Li
   pub own : IsUnionOf before x (item after z)
   pub others : (v : ℕ) → Within (length before) v → z ≢ v → item after v ≡ item before v
 
--- h is s with the ring shrunk to the base, which has the neighbours and the members of the ring
-pub record IsShrinking (s : Instance) (ring : Set) (base : ℕ) (h : Instance) : Type 0 where
-  pub rows : IsGathered s.rows.items ring base h.rows.items
-  pub members : IsGathered s.members.items ring base h.members.items
-  pub blossoms : (v : ℕ) → mem h.blossoms v ≡ ((mem s.blossoms v && not (ring v)) || (base == v))
-  pub left : (v : ℕ) → mem h.left v ≡ (mem s.left v && not (ring v && not (base == v)))
+-- h is s with the cycle shrunk to the base, which has the neighbours and the members of the cycle
+pub record IsShrinking (s : Instance) (cycle : Set) (base : ℕ) (h : Instance) : Type 0 where
+  pub rows : IsGathered s.rows.items cycle base h.rows.items
+  pub members : IsGathered s.members.items cycle base h.members.items
+  pub blossoms : (v : ℕ) → mem h.blossoms v ≡ ((mem s.blossoms v && not (cycle v)) || (base == v))
+  pub left : (v : ℕ) → mem h.left v ≡ (mem s.left v && not (cycle v && not (base == v)))
 
 -- what a shrinking to the base takes from s
 pub record IsUnshrunk (s : Instance) (base : ℕ) (before : Unshrunk) : Type 0 where

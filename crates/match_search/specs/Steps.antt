@@ -1,5 +1,6 @@
 -- What a step of the matching engine answers: a matching with one edge more or a frame. An odd
 -- cycle is opened for its shrinking.
+-- Stated by: match_search.
 use Rattle.std.specs.Prelude.{◌≡◌, ℕ, ◌+◌, true}
 use Rattle.counting.specs.Counts.{count, Within}
 use Rattle.counting.specs.Sets.{Set, minus, union}

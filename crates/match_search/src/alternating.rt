@@ -14,7 +14,7 @@ use std::alloc::{AllocError as Memory, Global};
 use vset_core::{MOST_VERTICES, VSet};
 
 /// An alternating forest: its outer and its inner vertices, for each inner vertex its parent, and
-/// for each outer vertex the number of pairs of edges on its way to the root.
+/// for each outer vertex the number of pairs of edges on its path to the root.
 #[derive(Drop)]
 pub struct AlternatingForest {
     pub outer: VSet,

@@ -7,7 +7,7 @@
 //! that the matching is maximum: without them each outer vertex, a blossom or not, is in an odd
 //! component of its own.
 //!
-//! After a shrinking the forest is grown anew. That takes few steps: the pairs on the way to the
+//! After a shrinking the forest is grown anew. That takes few steps: the pairs on the path to the
 //! base were exchanged, so the base is exposed and a root, and the rest of the blossom is gone.
 ghost use Rattle.std.specs.Prelude.{◌≡◌, ◌<◌, length, IfOk, OnOk, Some};
 ghost use Rattle.counting.specs.Sets.{Set};
@@ -19,9 +19,9 @@ ghost use Rattle.match_search.specs.Shrinkings.{AreAlike};
 use crate::alternating::{AlternatingForest, exposed_in};
 use crate::answer::{Answer, FinalSets, widen};
 use crate::blossom::{Blossom, close, open};
-use crate::growing::{Adjacent, Growth, grow_forest};
+use crate::growing::{Adjacent, GrownForest, grow_forest};
 use crate::instance::Instance;
-use crate::ways::ways_to;
+use crate::paths::paths_to;
 use std::alloc::{AllocError as Memory, Global};
 use vset_core::VSet;
 
@@ -45,16 +45,16 @@ pub fn augment_once(
     ensures restored { OnOk result (AreAlike instance.old instance.new) }
 {
     let roots = exposed_in(candidates, instance.left, mate);
-    let Growth { forest, closing } = grow_forest(instance, unused, roots, mate);
+    let GrownForest { forest, closing } = grow_forest(instance, unused, roots, mate);
     match closing {
         None => Ok(Answer::Final(FinalSets {
             outer: forest.outer,
             inner: forest.inner,
         })),
-        Some(gap) => match close_gap(alloc, &forest, gap, mate)? {
+        Some(bridge) => match close_bridge(alloc, &forest, bridge, mate)? {
             None => Ok(Answer::Grown),
             Some(blossom) => {
-                let base = blossom.ring[1];
+                let base = blossom.cycle[1];
                 let before = instance.shrink(blossom.members, base);
                 let below = augment_once(alloc, instance, forest, roots.with(base), mate)?;
                 instance.unshrink(base, before);
@@ -65,19 +65,19 @@ pub fn augment_once(
     }
 }
 
-// Closes the ways of a forest to two of its outer vertices that an edge joins: the matching is
+// Closes the paths of a forest to two of its outer vertices that an edge joins: the matching is
 // augmented along them, or a blossom is answered and its vertices are exposed.
-fn close_gap(
+fn close_bridge(
     alloc: Global,
     forest: &AlternatingForest,
-    gap: Adjacent,
+    bridge: Adjacent,
     mate: &mut [u32],
 ) -> Result<Option<Blossom>, Memory>
-    requires { (g : Graph) × (r : Set) × (f : Set) × ClosesForest g r f mate.old forest.now gap }
+    requires { (g : Graph) × (r : Set) × (f : Set) × ClosesForest g r f mate.old forest.now bridge }
     ensures closed { IfOk result (λ b. (g : Graph) (r f : Set) →
-        ClosesForest g r f mate.old forest.now gap → IsClosed g r f mate.new b) }
+        ClosesForest g r f mate.old forest.now bridge → IsClosed g r f mate.new b) }
     ensures exposed { IfOk result (λ o. (b : _) → o ≡ Some b → ExposesOnly mate.old mate.new b) }
 {
-    let ways = ways_to(alloc, forest, mate, gap)?;
-    close(alloc, &ways, mate)
+    let paths = paths_to(alloc, forest, mate, bridge)?;
+    close(alloc, &paths, mate)
 }

@@ -1,4 +1,4 @@
-//! The odd cycle that an edge between two outer vertices makes of their ways, which meet.
+//! The odd cycle that an edge between two outer vertices makes of their paths, which meet.
 ghost use Rattle.std.specs.Prelude.{◌≡◌, ◌≢◌, ℕ, ◌+◌, ◌-◌, ◌<◌, ◌≤◌, length, slice_index, IfOk, Some, None};
 ghost use Rattle.counting.specs.Counts.{Within, is_odd};
 ghost use Rattle.counting.specs.Lists.{mem};

@@ -6,7 +6,7 @@ ghost use Rattle.std.specs.Prelude.{◌≡◌, ℕ, ◌+◌, ◌<◌, ◌≤◌,
 ghost use Rattle.counting.specs.Sets.{Set};
 ghost use Rattle.counting.specs.Lists.{mem};
 ghost use Rattle.graph_core.specs.Graph.{Graph};
-ghost use Rattle.match_search.specs.AlternatingForests.{AreExposed, HoldsMatching, IsGrowth, IsSized};
+ghost use Rattle.match_search.specs.AlternatingForests.{AreExposed, HoldsMatching, IsGrownForest, IsSized};
 ghost use Rattle.match_search.specs.Rows.{numbers};
 
 use crate::alternating::AlternatingForest;
@@ -23,7 +23,7 @@ pub struct Adjacent {
 /// What a search ends with: a forest, and two of its outer vertices that are adjacent, if there
 /// are such.
 #[derive(Drop)]
-pub struct Growth {
+pub struct GrownForest {
     pub forest: AlternatingForest,
     pub closing: Option<Adjacent>,
 }
@@ -35,13 +35,14 @@ pub fn grow_forest(
     unused: AlternatingForest,
     roots: VSet,
     mate: &[u32],
-) -> Growth
+) -> GrownForest
     requires holds { (g : Graph) × (r : Set) × (f : Set) ×
         HoldsMatching g r f instance.now mate.now }
     requires sized { IsSized (length instance.now.rows.items) unused }
     requires roots { AreExposed instance.now.left mate.now roots }
     ensures { (g : Graph) (r f : Set) →
-        HoldsMatching g r f instance.now mate.now → IsGrowth g r f instance.now mate.now result }
+        HoldsMatching g r f instance.now mate.now →
+        IsGrownForest g r f instance.now mate.now result }
 {
     let mut forest = unused.with_roots(roots);
     let mut open = forest.outer;
@@ -49,7 +50,7 @@ pub fn grow_forest(
         let near = instance.near(x).without(x);
         let reach = near.minus(forest.inner);
         if let Some(y) = reach.meet(forest.outer).first() {
-            return Growth {
+            return GrownForest {
                 forest,
                 closing: Some(Adjacent { v: x, w: y }),
             };
@@ -63,7 +64,7 @@ pub fn grow_forest(
             }
         }
     }
-    Growth {
+    GrownForest {
         forest,
         closing: None,
     }

@@ -115,15 +115,15 @@ fn write_row(rows: &mut [VSet], v: u32, row: VSet)
     rows[v as usize - 1] = row;
 }
 
-// Makes the row of the base the union of those of the ring, and answers what it was.
-fn gather(rows: &mut [VSet], ring: VSet, base: u32) -> VSet
-    requires vertices { (v : ℕ) → mem ring v ≡ true → Within (length rows.old) v }
+// Makes the row of the base the union of those of the cycle, and answers what it was.
+fn gather(rows: &mut [VSet], cycle: VSet, base: u32) -> VSet
+    requires vertices { (v : ℕ) → mem cycle v ≡ true → Within (length rows.old) v }
     requires base { Within (length rows.old) base }
-    ensures gathered { IsGathered rows.old (mem ring) base rows.new }
+    ensures gathered { IsGathered rows.old (mem cycle) base rows.new }
     ensures before { result ≡ item rows.old base }
 {
     let before = rows[base as usize - 1];
-    let all = union_of(rows, ring);
+    let all = union_of(rows, cycle);
     write_row(rows, base, all);
     before
 }
@@ -139,23 +139,23 @@ pub struct Unshrunk {
 }
 
 impl Instance {
-    /// Shrinks a ring of vertices to its base: the base has then the neighbours and the members
-    /// of the ring, and the other vertices of the ring are removed. Takes no memory, and answers
+    /// Shrinks a cycle of vertices to its base: the base has then the neighbours and the members
+    /// of the cycle, and the other vertices of the cycle are removed. Takes no memory, and answers
     /// what `unshrink` puts back.
-    pub fn shrink(&mut self, ring: VSet, base: u32) -> Unshrunk
+    pub fn shrink(&mut self, cycle: VSet, base: u32) -> Unshrunk
         requires few { length self.old.rows.items ≤ MOST_VERTICES }
         requires one_each { length self.old.members.items ≡ length self.old.rows.items }
-        requires vertices { (v : ℕ) → mem ring v ≡ true → Within (length self.old.rows.items) v }
+        requires vertices { (v : ℕ) → mem cycle v ≡ true → Within (length self.old.rows.items) v }
         requires base { Within (length self.old.rows.items) base }
-        ensures shrunk { IsShrinking self.old (mem ring) base self.new }
+        ensures shrunk { IsShrinking self.old (mem cycle) base self.new }
         ensures before { IsUnshrunk self.old base result }
     {
         let blossoms = self.blossoms;
         let left = self.left;
-        let row = gather(&mut self.rows, ring, base);
-        let members = gather(&mut self.members, ring, base);
-        self.blossoms = blossoms.minus(ring).with(base);
-        self.left = left.minus(ring.without(base));
+        let row = gather(&mut self.rows, cycle, base);
+        let members = gather(&mut self.members, cycle, base);
+        self.blossoms = blossoms.minus(cycle).with(base);
+        self.left = left.minus(cycle.without(base));
         Unshrunk {
             row,
             members,

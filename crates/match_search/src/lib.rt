@@ -25,8 +25,8 @@ mod instance;
 mod marked;
 mod mates;
 mod missable;
+mod paths;
 mod rows;
-mod ways;
 
 pub use answer::FinalSets;
 pub use best::{Best, best_from, find_best, is_addable};

@@ -33,29 +33,30 @@ pub fn join(mate: &mut [u32], v: u32, w: u32)
 
 /// Exchanges the pairs along a path, whose vertices are a part of a row: the first two become a
 /// pair, the next two, and so on, and the last vertex is exposed.
-pub fn flip(mate: &mut [u32], way: &[u32], from: usize, pairs: usize)
-    requires long { from + (pairs + pairs) < length way.now }
-    requires in_mates { (j : ℕ) → j ≤ pairs + pairs → numbers way.now (from + j) < length mate.old }
+pub fn flip(mate: &mut [u32], path: &[u32], from: usize, pairs: usize)
+    requires long { from + (pairs + pairs) < length path.now }
+    requires in_mates { (j : ℕ) → j ≤ pairs + pairs →
+        numbers path.now (from + j) < length mate.old }
     ensures { (u : ℕ) →
-        numbers mate.new u ≡ flipped_mates (numbers mate.old) (part way.now from) pairs u }
+        numbers mate.new u ≡ flipped_mates (numbers mate.old) (part path.now from) pairs u }
 {
     for i in 0..pairs {
-        join(mate, way[from + (i + i)], way[from + (i + i + 1)]);
-        expose(mate, way[from + (i + i + 2)]);
+        join(mate, path[from + (i + i)], path[from + (i + i + 1)]);
+        expose(mate, path[from + (i + i + 2)]);
     }
 }
 
 /// Exposes the vertices of a cycle, which stand in a row from place 1 on.
-pub fn clear(mate: &mut [u32], ring: &[u32])
-    requires some { 1 ≤ length ring.now }
-    requires in_mates { (i : ℕ) → Within (length ring.now - 1) i →
-        numbers ring.now i < length mate.old }
+pub fn clear(mate: &mut [u32], cycle: &[u32])
+    requires some { 1 ≤ length cycle.now }
+    requires in_mates { (i : ℕ) → Within (length cycle.now - 1) i →
+        numbers cycle.now i < length mate.old }
     ensures { (u : ℕ) →
-        numbers mate.new u ≡ cleared_mates (numbers mate.old) (length ring.now - 1)
-        (numbers ring.now) u }
+        numbers mate.new u ≡ cleared_mates (numbers mate.old) (length cycle.now - 1)
+        (numbers cycle.now) u }
 {
-    for i in 0..ring.len() - 1 {
-        expose(mate, ring[i + 1]);
+    for i in 0..cycle.len() - 1 {
+        expose(mate, cycle[i + 1]);
     }
 }
 
@@ -69,34 +70,38 @@ fn place_after(places: usize, place: usize) -> usize
 
 // Pairs the vertex at a place of a cycle with the next, if it is every other one on the way round
 // from the tip.
-fn pair_place(mate: &mut [u32], ring: &[u32], tip: usize, place: usize)
-    requires within { Within (length ring.now - 1) place }
-    requires few { length ring.now ≤ 2 ^ 32 }
-    requires in_mates { (i : ℕ) → Within (length ring.now - 1) i →
-        numbers ring.now i < length mate.old }
+fn pair_place(mate: &mut [u32], cycle: &[u32], tip: usize, place: usize)
+    requires within { Within (length cycle.now - 1) place }
+    requires few { length cycle.now ≤ 2 ^ 32 }
+    requires in_mates { (i : ℕ) → Within (length cycle.now - 1) i →
+        numbers cycle.now i < length mate.old }
     ensures { (u : ℕ) → numbers mate.new u ≡
         cond (every_other tip place)
-        (with_pair (numbers mate.old) (numbers ring.now place)
-        (numbers ring.now (next (length ring.now - 1) place)) u) (numbers mate.old u) }
+        (with_pair (numbers mate.old) (numbers cycle.now place)
+        (numbers cycle.now (next (length cycle.now - 1) place)) u) (numbers mate.old u) }
 {
     if is_every_other(tip, place) {
-        join(mate, ring[place], ring[place_after(ring.len() - 1, place)]);
+        join(
+            mate,
+            cycle[place],
+            cycle[place_after(cycle.len() - 1, place)],
+        );
     }
 }
 
 /// Pairs the vertices of a cycle of odd length round from one of them, which is left out: they
 /// stand in a row from place 1 on.
-pub fn pair_round(mate: &mut [u32], ring: &[u32], tip: usize)
-    requires some { 1 ≤ length ring.now }
-    requires few { length ring.now ≤ 2 ^ 32 }
-    requires in_mates { (i : ℕ) → Within (length ring.now - 1) i →
-        numbers ring.now i < length mate.old }
+pub fn pair_round(mate: &mut [u32], cycle: &[u32], tip: usize)
+    requires some { 1 ≤ length cycle.now }
+    requires few { length cycle.now ≤ 2 ^ 32 }
+    requires in_mates { (i : ℕ) → Within (length cycle.now - 1) i →
+        numbers cycle.now i < length mate.old }
     ensures { (u : ℕ) →
-        numbers mate.new u ≡ paired_round (numbers mate.old) (length ring.now - 1)
-        (numbers ring.now) tip (length ring.now - 1) u }
+        numbers mate.new u ≡ paired_round (numbers mate.old) (length cycle.now - 1)
+        (numbers cycle.now) tip (length cycle.now - 1) u }
 {
-    for i in 0..ring.len() - 1 {
-        pair_place(mate, ring, tip, i + 1);
+    for i in 0..cycle.len() - 1 {
+        pair_place(mate, cycle, tip, i + 1);
     }
 }
 

@@ -1,4 +1,5 @@
 -- The two ends of a row of a matching.
+-- Stated by: matching_digraph.
 use Rattle.std.specs.Prelude.{ℕ, Bool, ◌==◌, ◌&&◌, ◌||◌}
 use Rattle.match_core.specs.declared.matching.MatchRow.{MatchRow}
 

@@ -5,7 +5,7 @@ ghost use Rattle.counting.specs.Sets.{Set, complement, none};
 ghost use Rattle.graph_core.specs.Covered.{IsCovered};
 ghost use Rattle.graph_core.specs.Graph.{Graph, IsGraph};
 ghost use Rattle.graph_core.specs.Matchings.{IsPerfect};
-ghost use Rattle.graph_core.specs.Tight.{HasNoTightCut, IsTight};
+ghost use Rattle.graph_core.specs.Tight.{HasOnlyTrivialTightCuts, IsTight};
 ghost use Rattle.graph_core.specs.Walks.{Walk};
 ghost use Rattle.graph_core.specs.Sides.{IsSide};
 ghost use Rattle.matching_digraph.specs.Digraph.{NoArcLeaves, NoneParts, Spans, arc, are_mates, reached_past, step_past};
@@ -32,7 +32,7 @@ pub fn reached_law()
 /// reached past a from any one other vertex r, and all but a past b in the digraph of the other
 /// side: where the digraph without the edge ab of the matching, with the ends of each other edge
 /// of it as one node, is strongly connected.
-pub fn unparted_law()
+pub fn inseparable_law()
     ensures { (g : Graph) (x m : Set) (a b r : ℕ) →
         IsGraph g → IsCovered g → IsSide g x → IsPerfect g none m → x a ≡ true →
         are_mates g m a b ≡ true →
@@ -43,8 +43,8 @@ pub fn unparted_law()
 
 /// A bipartite covered graph has no nontrivial tight cut exactly when no nontrivial tight shore
 /// parts a vertex of the side from its mate in one perfect matching.
-pub fn parted_mates_law()
+pub fn separated_mates_law()
     ensures { (g : Graph) (x m : Set) → IsGraph g → IsCovered g → IsSide g x → IsPerfect g none m →
-        HasNoTightCut g
+        HasOnlyTrivialTightCuts g
         ↔ ((a b : ℕ) → x a ≡ true → are_mates g m a b ≡ true → NoneParts g a b) }
 {}

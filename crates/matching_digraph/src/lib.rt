@@ -6,8 +6,8 @@
 //! without its mate are exactly the vertex sets that no arc leaves but that of a
 //! (`tight_shores_law`). So the least of them with a vertex r is what walks reach from r past a
 //! (`Digraph::shore`), and none is nontrivial exactly when two floods, one in the digraph of each
-//! side, reach all (`Digraph::is_unparted`). A covered bipartite graph is a brace exactly when
-//! this holds at each edge of the matching (`parted_mates_law`).
+//! side, reach all (`Digraph::is_inseparable`). A covered bipartite graph is a brace exactly when
+//! this holds at each edge of the matching (`separated_mates_law`).
 //!
 //! A flood goes over rows of words, a `VSet` for each vertex, and takes no memory.
 //!

@@ -10,8 +10,8 @@
 #![tactic(auto)]
 
 use list_front::run_list_front;
-use list_top::{Status, file_name};
-use outside::{DirShelf, Explain, InSource, LineSink, OutSink, Reason, Shelf, Sink, emit};
+use list_top::{ListStatus, file_name};
+use outside::{DirShelf, Explain, FailureReason, InSource, LineSink, OutSink, Shelf, Sink, emit};
 use std::io::ErrorKind;
 use std::process::ExitCode;
 use std::rt::{Env, Files};
@@ -62,7 +62,7 @@ fn is_folder<R: Files>(rt: &R, name: &str) -> bool {
 
 // Why the file of that name cannot be read, as a shelf says it that tries to. Only of a file that
 // was not opened, or of a folder: of a pipe the shelf would take a byte.
-fn reason_unread<R: Files + AllocGlobal>(rt: &R, name: &str) -> Option<Reason> {
+fn reason_unread<R: Files + AllocGlobal>(rt: &R, name: &str) -> Option<FailureReason> {
     let mut shelf = DirShelf::new(rt);
     match shelf.read(rt.alloc(), name, 0) {
         Ok(_) => None,
@@ -77,7 +77,7 @@ fn run_file<R: Files + Print + AllocGlobal, E: Sink>(
     name: &str,
     quiet: bool,
     errors: &mut E,
-) -> Status {
+) -> ListStatus {
     let file = fs::open(rt, name).ok();
     let reason = if file.is_none() || is_folder(rt, name) {
         reason_unread(rt, name)

@@ -1,5 +1,6 @@
 -- The corners of two crossing shores x and z: what they share, which is meet_list, and what is
 -- outside both.
+-- Stated by: uncross. Rests on it: move_laws.
 use Rattle.std.specs.Prelude.{ℕ, List, if◌then◌else◌}
 use Rattle.counting.specs.Counts.{is_odd}
 use Rattle.counting.specs.Lists.{mem, rising_list}

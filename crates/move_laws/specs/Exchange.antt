@@ -1,4 +1,5 @@
 -- The exchange of two blocks between a tight shore and its complement.
+-- Stated by: move_laws.
 use Rattle.std.specs.Prelude.{◌≡◌, ℕ, true, false, List}
 use Rattle.counting.specs.Counts.{Within}
 use Rattle.counting.specs.Sets.{Set, union, minus, complement}

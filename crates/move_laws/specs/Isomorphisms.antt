@@ -1,5 +1,6 @@
 -- Two partitions of one graph with the same adjacency of blocks, by a map of vertices in each
 -- direction; the images of shores; and trees of cuts carried along.
+-- Stated by: move_laws.
 use Rattle.std.specs.Prelude.{◌≡◌, ℕ, ◌≢◌, Bool, List, not, cond, ◌⊎◌}
 use Rattle.counting.specs.Counts.{Within}
 use Rattle.counting.specs.Sets.{Set}

@@ -1,5 +1,6 @@
 -- One leaf under names of blocks: two partitions of one graph whose blocks correspond so that
 -- adjacency is kept (Lovász 1987, "up to multiplicities of edges").
+-- Stated by: move_laws. Rests on it: uncross, list_lines, theorems.
 use Rattle.std.specs.Prelude.{◌≡◌, ℕ, ◌==◌, List, length, map}
 use Rattle.counting.specs.Counts.{count, Within}
 use Rattle.counting.specs.Lists.{last_of, mem, rising_list}

@@ -1,4 +1,5 @@
 -- Proper scripts: scripts of proper moves through derivations at a partition.
+-- Stated by: uncross. Rests on it: move_laws, theorems.
 use Rattle.std.specs.Prelude.{◌≡◌, ℕ, List, [], ◌∷◌, Some}
 use Rattle.counting.specs.Lists.{IsRisingIn}
 use Rattle.graph_core.specs.Graph.{Graph}

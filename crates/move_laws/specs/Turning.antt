@@ -1,5 +1,6 @@
 -- How a shore is brought to the root of a tree of cuts, from its two trees in which corners were
 -- brought to the root before: partial functions on plain trees, with the moves that they make.
+-- Stated by: uncross. Rests on it: move_laws.
 use Rattle.std.specs.Prelude.{ℕ, List, [], ◌∷◌, ◌++◌, map, Option, Some, None, option_map, option_and_then, if◌then◌else◌}
 use Rattle.counting.specs.Lists.{is_subset}
 use Rattle.tree_core.specs.Moves.{PlainMove, below, rotate_at, rotate_result_at, switch_at, switch_result_at}

@@ -1,8 +1,9 @@
 -- A shelf of real files as its users see it.
+-- Stated by: outside.
 use Rattle.std.specs.Prelude.{◌≡◌, ℕ, length}
 use Rattle.std.specs.declared.option.Option.{Option}
 use Rattle.std.specs.declared.result.Result.TheVariants.{Ok, Err}
-use Rattle.outside.specs.declared.explain.Reason.{Reason}
+use Rattle.outside.specs.declared.explain.FailureReason.{FailureReason}
 use Rattle.outside.specs.Faults.{next_fault}
 use Rattle.outside.specs.Shelf.{Answer}
 use Rattle.outside.specs.declared.shelf.ShelfFault.TheVariants.{Failed, TooLong, Memory}
@@ -11,7 +12,7 @@ use Rattle.outside.specs.declared.shelf.ShelfFault.TheVariants.{Failed, TooLong,
 pub record OpenState : Type 0 where
   pub taken : ℕ
   pub faults : ℕ
-  pub reason : Option Reason
+  pub reason : Option FailureReason
 
 -- a read that gave this answer leads from the first state to the second: a fault is counted if
 -- it failed, and only then, and of a file that was given so many bytes were taken

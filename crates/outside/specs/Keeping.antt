@@ -1,11 +1,12 @@
 -- What a shelf that keeps what it read last has kept.
+-- Stated by: outside.
 use Rattle.std.specs.Prelude.{◌≡◌, ◌⊎◌, ℕ, List}
 use Rattle.std.specs.declared.option.Option.{Option}
 use Rattle.std.specs.declared.option.Option.TheVariants.{None, Some}
 use Rattle.std.specs.declared.result.Result.TheVariants.{Ok, Err}
 use Rattle.std.specs.Option.{option_map}
 use Rattle.std.specs.Global.{Vec}
-use Rattle.outside.specs.Shelf.{Answer, Named, TellsFile}
+use Rattle.outside.specs.Shelf.{Answer, NamedFile, TellsFile}
 use Rattle.outside.specs.declared.shelf.ShelfFault.TheVariants.{Memory}
 
 -- the bytes that are kept
@@ -14,7 +15,7 @@ bytes_kept kept = option_map (λ bytes. bytes.items) kept
 
 -- what is kept after a read of that name, if anything: where the files are told, the file of that
 -- name
-abbrev pub IsFileOf : Option (List Named) → List ℕ → Option (List ℕ) → Type 0
+abbrev pub IsFileOf : Option (List NamedFile) → List ℕ → Option (List ℕ) → Type 0
 IsFileOf files name None = Unit {0}
 IsFileOf files name (Some bytes) = TellsFile files name (Some bytes)
 
@@ -25,7 +26,7 @@ bytes_in (Err fault) = None
 
 -- a read of that name leads from the first shelf to the second, and leaves this kept, which are
 -- the bytes that are given on; memory may run out for their copy
-pub record KeepsRead {S : Type 0} (files : S → Option (List Named)) (reads : S → List ℕ → Answer → S → Type 0) (before : S) (name : List ℕ) (answer : Answer) (now : S) (kept : Option (List ℕ)) : Type 0 where
+pub record KeepsRead {S : Type 0} (files : S → Option (List NamedFile)) (reads : S → List ℕ → Answer → S → Type 0) (before : S) (name : List ℕ) (answer : Answer) (now : S) (kept : Option (List ℕ)) : Type 0 where
   pub given : Answer
   pub read : reads before name given now
   pub passed : (answer ≡ given) ⊎ (answer ≡ Err Memory)

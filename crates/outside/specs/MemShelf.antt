@@ -1,15 +1,16 @@
 -- A shelf in memory as its users see it.
+-- Stated by: outside, bench_top.
 use Rattle.std.specs.Prelude.{◌≡◌, ℕ, List, Contains, ◌⊎◌, length}
 use Rattle.std.specs.declared.option.Option.TheVariants.{None, Some}
 use Rattle.std.specs.declared.result.Result.TheVariants.{Ok, Err}
 use Rattle.outside.specs.Faults.{next_call}
-use Rattle.outside.specs.Shelf.{Answer, HoldsLonger, Named, file_named}
+use Rattle.outside.specs.Shelf.{Answer, HoldsLonger, NamedFile, file_named}
 use Rattle.outside.specs.declared.shelf.ShelfFault.TheVariants.{Failed, TooLong, Memory}
 
 -- the files; the read calls that are to fail, by their numbers; the counts of calls, of the bytes
 -- that the last read took, and of faults
 pub record ShelfState : Type 0 where
-  pub files : List Named
+  pub files : List NamedFile
   pub failing : List ℕ
   pub calls : ℕ
   pub taken : ℕ
@@ -20,7 +21,7 @@ abbrev pub FailsNext : ShelfState → List ℕ → Type 0
 FailsNext shelf name = Contains shelf.failing (next_call shelf.calls) ⊎ (file_named name shelf.files ≡ None)
 
 -- the bytes that a read of that name may take: those of its whole file, or none
-abbrev pub MayTake : List Named → List ℕ → ℕ → Type 0
+abbrev pub MayTake : List NamedFile → List ℕ → ℕ → Type 0
 MayTake files name taken = (taken ≡ 0) ⊎ ((bytes : List ℕ) × ((file_named name files ≡ Some bytes) × (length bytes ≡ taken)))
 
 -- a read of that name may give this answer: the bytes of the file, all of them; that it fails,

@@ -1,4 +1,5 @@
 -- A sink in memory as its users see it.
+-- Stated by: outside.
 use Rattle.std.specs.Prelude.{◌≡◌, ℕ, ◌-◌, List, ◌++◌, length, take, min}
 use Rattle.outside.specs.Faults.{MayCount, next_call}
 

@@ -1,4 +1,5 @@
 -- A stream of a runtime as its users see it.
+-- Stated by: outside.
 use Rattle.std.specs.Prelude.{ℕ, Bool}
 
 -- the count of faults, and whether the last write failed since nobody reads any more

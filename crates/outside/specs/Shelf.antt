@@ -1,4 +1,5 @@
 -- What a shelf tells of its files, and what reads of it answered.
+-- Stated by: outside, bench_tasks, bench_top, theorems. Rests on it: bench_outcomes, front_top.
 use Rattle.std.specs.Prelude.{◌≡◌, ℕ, ◌<◌, ◌≤◌, List, [], ◌∷◌, length, take, if◌then◌else◌}
 use Rattle.std.specs.Global.{Vec}
 use Rattle.std.specs.declared.option.Option.{Option}
@@ -9,16 +10,16 @@ use Rattle.std.specs.Str.{bytes_eq}
 use Rattle.outside.specs.declared.shelf.ShelfFault.{ShelfFault}
 
 -- a file: its name and its bytes
-abbrev pub Named : Type 0
-Named = List ℕ × List ℕ
+abbrev pub NamedFile : Type 0
+NamedFile = List ℕ × List ℕ
 
 -- the bytes of the first file of that name; none where the name is not held
-abbrev pub file_named : List ℕ → List Named → Option (List ℕ)
+abbrev pub file_named : List ℕ → List NamedFile → Option (List ℕ)
 file_named name [] = None
 file_named name (file ∷ files) = if bytes_eq file.0 name then Some file.1 else file_named name files
 
 -- the name is held, and its file has more bytes than the limit
-abbrev pub HoldsLonger : List Named → List ℕ → ℕ → Type 0
+abbrev pub HoldsLonger : List NamedFile → List ℕ → ℕ → Type 0
 HoldsLonger files name limit = (bytes : List ℕ) × (file_named name files ≡ Some bytes) × (limit < length bytes)
 
 -- what a read answered: the bytes of the file, or why it gave none
@@ -48,12 +49,12 @@ abbrev pub ReadsFirst : {S : Type 0} → (S → List ℕ → Answer → S → Ty
 ReadsFirst reads names first last = (count : ℕ) × ((count ≤ length names) × ReadsInTurn reads (take count names) first last)
 
 -- where the files are told, this is the file of that name, or none
-abbrev pub TellsFile : Option (List Named) → List ℕ → Option (List ℕ) → Type 0
+abbrev pub TellsFile : Option (List NamedFile) → List ℕ → Option (List ℕ) → Type 0
 TellsFile None name file = Unit {0}
 TellsFile (Some files) name file = file_named name files ≡ file
 
 -- where the files are told, the one of that name is longer than the limit; where not, more bytes
 -- than it were taken
-abbrev pub IsLonger : Option (List Named) → List ℕ → ℕ → ℕ → Type 0
+abbrev pub IsLonger : Option (List NamedFile) → List ℕ → ℕ → ℕ → Type 0
 IsLonger None name limit taken = limit < taken
 IsLonger (Some files) name limit taken = HoldsLonger files name limit

@@ -1,4 +1,5 @@
 -- What a source tells of the bytes that are left to read, and what a read gave.
+-- Stated by: outside. Rests on it: list_reader, encoder.
 use Rattle.std.specs.Prelude.{◌≡◌, ℕ, List, [], ◌++◌, take}
 use Rattle.std.specs.declared.result.Result.{Result}
 use Rattle.std.specs.declared.result.Result.TheVariants.{Ok, Err}

@@ -6,7 +6,7 @@ ghost use Rattle.outside.specs.DirShelf.{IsOpened};
 ghost use Rattle.outside.specs.Faults.{next_fault};
 
 use crate::retries::read_some;
-use crate::{Explain, Reason, Shelf, ShelfFault};
+use crate::{Explain, FailureReason, Shelf, ShelfFault};
 use std::alloc::Global;
 use std::fs;
 use std::io::ErrorKind;
@@ -26,7 +26,7 @@ pub struct DirShelf<'a, R: Files> {
     runtime: &'a R,
     taken: usize,
     faults: u64,
-    reason: Option<Reason>,
+    reason: Option<FailureReason>,
 }
 
 impl<'a, R: Files> Model for DirShelf<'a, R> {
@@ -56,20 +56,21 @@ impl<'a, R: Files> DirShelf<'a, R> {
 }
 
 // Why a call failed that opens or reads a file.
-fn reason_of(kind: ErrorKind) -> Reason {
+fn reason_of(kind: ErrorKind) -> FailureReason {
     match kind {
-        ErrorKind::NotFound => Reason::Absent,
-        ErrorKind::IsADirectory => Reason::Folder,
-        ErrorKind::NotADirectory => Reason::NotInFolder,
-        ErrorKind::PermissionDenied => Reason::Forbidden,
-        _ => Reason::Other,
+        ErrorKind::NotFound => FailureReason::Absent,
+        ErrorKind::IsADirectory => FailureReason::Folder,
+        ErrorKind::NotADirectory => FailureReason::NotInFolder,
+        ErrorKind::PermissionDenied => FailureReason::Forbidden,
+        _ => FailureReason::Other,
     }
 }
 
 // Why the file of that name was not opened: a link is there where it leads to nothing.
-fn reason_unopened<R: Files>(runtime: &R, name: &str, kind: ErrorKind) -> Reason {
+fn reason_unopened<R: Files>(runtime: &R, name: &str, kind: ErrorKind) -> FailureReason {
     match reason_of(kind) {
-        Reason::Absent if fs::symlink_metadata(runtime, name).is_ok() => Reason::Dangling,
+        FailureReason::Absent if fs::symlink_metadata(runtime, name).is_ok() =>
+            FailureReason::Dangling,
         reason => reason,
     }
 }
@@ -82,7 +83,7 @@ fn fill<R: Files>(
     name: &str,
     bytes: &mut Vec<u8>,
     limit: usize,
-    reason: &mut Option<Reason>,
+    reason: &mut Option<FailureReason>,
 ) -> Result<(), ShelfFault>
     requires begun { length bytes.now.items ≤ limit }
     requires bounded { limit < 2 ^ 64 - 1 }
@@ -162,7 +163,7 @@ impl<R: Files> Shelf for DirShelf<'_, R> {
 impl<R: Files> Explain for DirShelf<'_, R> {
     ghost reason = { λ shelf. shelf.reason };
 
-    fn reason(&self) -> Option<Reason> {
+    fn reason(&self) -> Option<FailureReason> {
         self.reason
     }
 }

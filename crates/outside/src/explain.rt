@@ -6,7 +6,7 @@ use crate::Shelf;
 
 /// Why a read of a shelf failed.
 #[derive(Clone, Copy, Debug, PartialEq, Eq)]
-pub enum Reason {
+pub enum FailureReason {
     /// No file has that name.
     Absent,
     /// A link has that name, and leads to nothing.
@@ -24,12 +24,12 @@ pub enum Reason {
 /// A shelf that can say why its last read failed. It is for words to a person: nothing is proved
 /// of the reason's truth.
 pub trait Explain: Shelf {
-    ghost use Rattle.outside.specs.declared.explain.Reason.{Reason};
+    ghost use Rattle.outside.specs.declared.explain.FailureReason.{FailureReason};
 
     /// Why the last read failed, where it did and the shelf knows.
-    ghost reason: { Self → Option Reason };
+    ghost reason: { Self → Option FailureReason };
 
     /// Why the last read failed, where it did and the shelf knows. Takes no memory.
-    fn reason(&self) -> Option<Reason>
+    fn reason(&self) -> Option<FailureReason>
         ensures { result ≡ reason self.now };
 }

@@ -6,7 +6,7 @@ ghost use Rattle.outside.specs.Faults.{Rose};
 ghost use Rattle.outside.specs.Keeping.{KeepsRead, bytes_kept};
 ghost use Rattle.outside.specs.Shelf.{IsLonger, TellsFile, answer_of};
 
-use crate::{Explain, Reason, Shelf, ShelfFault};
+use crate::{Explain, FailureReason, Shelf, ShelfFault};
 use std::alloc::Global;
 
 /// A shelf that keeps what it read last.
@@ -98,7 +98,7 @@ impl<S: Shelf + Drop> Shelf for KeepingShelf<S> {
 impl<S: Explain + Drop> Explain for KeepingShelf<S> {
     ghost reason = { λ shelf. S.reason shelf.shelf };
 
-    fn reason(&self) -> Option<Reason> {
+    fn reason(&self) -> Option<FailureReason> {
         self.shelf.reason()
     }
 }

@@ -45,7 +45,7 @@ mod source;
 pub use count_sink::CountSink;
 pub use dir_shelf::DirShelf;
 pub use emitting::emit;
-pub use explain::{Explain, Reason};
+pub use explain::{Explain, FailureReason};
 pub use in_source::InSource;
 pub use keeping_shelf::{Keeping, KeepingShelf};
 pub use line_sink::LineSink;

@@ -9,7 +9,7 @@ ghost use Rattle.outside.specs.MemShelf.{FailsNext, IsRead};
 ghost use Rattle.outside.specs.StoredFile.{named_files};
 
 use crate::planned::CallPlan;
-use crate::{Explain, Reason, Shelf, ShelfFault};
+use crate::{Explain, FailureReason, Shelf, ShelfFault};
 use std::alloc::{AllocError as Memory, Global};
 use std::marker::Model;
 
@@ -157,7 +157,7 @@ impl Shelf for MemShelf {
 impl Explain for MemShelf {
     ghost reason = { λ _. None };
 
-    fn reason(&self) -> Option<Reason> {
+    fn reason(&self) -> Option<FailureReason> {
         None
     }
 }

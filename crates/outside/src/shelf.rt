@@ -3,7 +3,7 @@ ghost use Rattle.std.specs.Prelude.{◌≡◌, ◌≤◌, ◌<◌, ◌-◌, ◌^
 ghost use Rattle.std.specs.declared.option.Option.{Option};
 ghost use Rattle.std.specs.declared.option.Option.TheVariants.{None, Some};
 ghost use Rattle.outside.specs.Faults.{Rose};
-ghost use Rattle.outside.specs.Shelf.{Answer, Named, TellsFile, IsLonger, answer_of};
+ghost use Rattle.outside.specs.Shelf.{Answer, NamedFile, TellsFile, IsLonger, answer_of};
 
 use std::alloc::Global;
 use std::error::Error;
@@ -39,7 +39,7 @@ impl Error for ShelfFault {}
 /// why a read gave none.
 pub trait Shelf {
     /// The files that are held, in order, where the shelf tells them.
-    ghost files: { Self → Option (List Named) };
+    ghost files: { Self → Option (List NamedFile) };
 
     /// How many bytes the last read took.
     ghost taken: { Self → ℕ };

@@ -1,4 +1,5 @@
 -- What is said of a text of which there is no decomposition.
+-- Stated by: own_order.
 use Rattle.std.specs.Prelude.{ℕ, List}
 use Rattle.graph_core.specs.Covered.{IsReason}
 use Rattle.graph_core.specs.Verdicts.{reason_of}

@@ -1,4 +1,5 @@
 -- The order of this crate: the first candidate whose cut has the most edges.
+-- Stated by: own_order.
 use Rattle.std.specs.Prelude.{◌≡◌, ℕ, ◌<◌, ◌≤◌, List, length, map, slice_get, Option, Some, None}
 use Rattle.counting.specs.Counts.{count}
 use Rattle.counting.specs.Lists.{mem}

@@ -1,4 +1,5 @@
 -- Shores with two odd sides.
+-- Stated by: plain_graph.
 use Rattle.std.specs.Prelude.{Bool, ◌&&◌}
 use Rattle.counting.specs.Counts.{count, is_odd}
 use Rattle.counting.specs.Sets.{Set, complement}

@@ -1,4 +1,5 @@
 -- The first pair of a list that no edge of a graph can be, and why.
+-- Stated by: plain_graph.
 use Rattle.std.specs.Prelude.{◌≢◌, ℕ, ◌<◌, ◌≤◌, List, length, slice_index_or}
 use Rattle.counting.specs.Counts.{Within}
 

@@ -1,4 +1,5 @@
 -- Odd components, at their least vertices.
+-- Stated by: plain_graph.
 use Rattle.std.specs.Prelude.{◌&&◌}
 use Rattle.counting.specs.Counts.{count, is_odd}
 use Rattle.counting.specs.Sets.{Set}

@@ -1,4 +1,5 @@
 -- The graphs that the plain program takes.
+-- Stated by: plain_graph, engine_tests.
 use Rattle.std.specs.Prelude.{◌≤◌}
 use Rattle.graph_core.specs.Graph.{Graph, size}
 

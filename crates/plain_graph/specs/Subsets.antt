@@ -1,4 +1,5 @@
 -- All sets of numbers 1 to n, and those of edges that are perfect matchings.
+-- Stated by: plain_graph.
 use Rattle.std.specs.Prelude.{ℕ, zero, suc, List, [], ◌∷◌, ◌++◌, filter, map}
 use Rattle.counting.specs.Lists.{mem}
 use Rattle.counting.specs.Sets.{Set}

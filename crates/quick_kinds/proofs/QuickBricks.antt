@@ -8,14 +8,14 @@ use Rattle.std.proofs.lemmas.List.Elements.{All-head}
 use Rattle.counting.specs.Sets.{Set}
 use Rattle.graph_core.specs.Covered.{IsCovered}
 use Rattle.graph_core.specs.Graph.{Graph, IsBipartite, IsMultigraph}
-use Rattle.graph_core.specs.Structure.{IsBicritical, IsCutPair, unlike_pair}
+use Rattle.graph_core.specs.Structure.{IsBicritical, IsCutPair, equivalent_pair}
 use Rattle.graph_core.specs.Tight.{IsNontrivial, IsTight}
 use Rattle.barrier_kit.specs.BarrierShores.{barrier_cuts}
 use Rattle.barrier_kit.proofs.CriticalPairs.{four_vertices, no_sides}
 use Rattle.barrier_kit.proofs.ShoreFacts.{bicritical_no_cuts, some_cut}
 use Rattle.brick_kit.proofs.Bricks.{brick_or_not}
 use Rattle.separation_kit.specs.SeparationShores.{separation_cuts}
-use Rattle.separation_kit.proofs.SeparationFacts.{cut_pair-none, no_pair_no_cuts, pair_some_cut, unlike-none}
+use Rattle.separation_kit.proofs.SeparationFacts.{cut_pair-none, no_pair_no_cuts, pair_some_cut, equivalent-none}
 
 -- the first of a list
 pub first-left : (xs ys : List (List ℕ)) (r : List ℕ) → slice_get xs 0 ≡ Some r → Some r ≡ slice_get (xs ++ ys) 0
@@ -37,11 +37,11 @@ empty-list [] h = refl
 empty-list (x ∷ xs) h = let e = eqb-true (length (x ∷ xs)) 0 h in absurd (omega arith)
 
 pub critical_or_not : (g : Graph) → (IsBicritical g) ⊎ (IsBicritical g → ⊥)
-critical_or_not g = go (unlike_pair g) refl
+critical_or_not g = go (equivalent_pair g) refl
   where
-    go : (o : Option (ℕ × ℕ)) → unlike_pair g ≡ o → (IsBicritical g) ⊎ (IsBicritical g → ⊥)
-    go None e = inl ((unlike-none g).0 e)
-    go (Some k) e = inr (λ bi. let z : None ≡ Some k = sym ((unlike-none g).1 bi) ∙ e in absurd cc)
+    go : (o : Option (ℕ × ℕ)) → equivalent_pair g ≡ o → (IsBicritical g) ⊎ (IsBicritical g → ⊥)
+    go None e = inl ((equivalent-none g).0 e)
+    go (Some k) e = inr (λ bi. let z : None ≡ Some k = sym ((equivalent-none g).1 bi) ∙ e in absurd cc)
 
 module _ (g : Graph) (is : IsMultigraph g) (cov : IsCovered g) (odd : IsBipartite g → ⊥) where
   pub no_cuts-bicritical : barrier_cuts g ≡ [] → IsBicritical g

@@ -1,5 +1,6 @@
 -- Perfect matchings without two vertices of each side of a bipartite graph, the test for braces
 -- (Lovász and Plummer, "Matching Theory").
+-- Stated by: quick_kinds, theorems.
 use Rattle.std.specs.Prelude.{◌≡◌, ◌≢◌, ℕ, true, false}
 use Rattle.counting.specs.Counts.{Within}
 use Rattle.counting.specs.Sets.{Set, pair_set, union}

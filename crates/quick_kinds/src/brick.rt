@@ -3,7 +3,7 @@ ghost use Rattle.std.specs.Prelude.{◌≡◌, ◌↔◌, ◌++◌, ℕ, None, I
 ghost use Rattle.graph_core.specs.Covered.{IsCovered};
 ghost use Rattle.graph_core.specs.Graph.{IsBipartite};
 ghost use Rattle.graph_core.specs.Structure.{IsBicritical, IsCutPair};
-ghost use Rattle.graph_core.specs.Tight.{HasNoTightCut};
+ghost use Rattle.graph_core.specs.Tight.{HasOnlyTrivialTightCuts};
 ghost use Rattle.barrier_kit.specs.BarrierShores.{barrier_cuts};
 ghost use Rattle.graph_core.specs.CanonicalCuts.{IsCanonicalCut};
 ghost use Rattle.separation_kit.specs.SeparationShores.{separation_cuts};
@@ -23,7 +23,7 @@ pub fn quick_brick(alloc: Global, g: &MultiGraph) -> Result<Option<VSet>, Memory
     requires odd { ¬ (IsBipartite g.now) }
     ensures none { IfOk result
         (λ found. (found ≡ None) ↔ (IsBicritical g.now × ((u v : ℕ) → ¬ (IsCutPair g.now u v)))) }
-    ensures brick { IfOk result (λ found. (found ≡ None) ↔ HasNoTightCut g.now) }
+    ensures brick { IfOk result (λ found. (found ≡ None) ↔ HasOnlyTrivialTightCuts g.now) }
     ensures first { IfOk result
         (λ found. found ≡ slice_get (barrier_cuts g.now ++ separation_cuts g.now) 0) }
     ensures cut { IfOk result (λ found. IfSome found (IsCanonicalCut g.now)) }

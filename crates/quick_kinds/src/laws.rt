@@ -3,7 +3,7 @@ ghost use Rattle.std.specs.Prelude.{◌↔◌};
 ghost use Rattle.counting.specs.Sets.{Set};
 ghost use Rattle.graph_core.specs.Covered.{IsCovered};
 ghost use Rattle.graph_core.specs.Graph.{Graph, IsGraph};
-ghost use Rattle.graph_core.specs.Tight.{HasNoTightCut};
+ghost use Rattle.graph_core.specs.Tight.{HasOnlyTrivialTightCuts};
 ghost use Rattle.graph_core.specs.Sides.{IsSide};
 ghost use Rattle.quick_kinds.specs.Braces.{AreFoursMatched};
 
@@ -11,6 +11,6 @@ ghost use Rattle.quick_kinds.specs.Braces.{AreFoursMatched};
 /// tight cut exactly when it has a perfect matching without any two vertices of each side (Lovász
 /// and Plummer, "Matching Theory").
 pub fn brace_law()
-    ensures { (g : Graph) (x : Set) → IsGraph g → IsCovered g → IsSide g x → HasNoTightCut g ↔
-        AreFoursMatched g x }
+    ensures { (g : Graph) (x : Set) → IsGraph g → IsCovered g → IsSide g x →
+        HasOnlyTrivialTightCuts g ↔ AreFoursMatched g x }
 {}

@@ -1,12 +1,12 @@
 //! The worked reports of `analyse`, `convert` and `analyse6`.
 use crate::graphs::{K4, K4_REPORT, NAMED_CYCLE, cycle};
-use crate::trial::{Row, answers, first_wrong, report};
+use crate::trial::{RunRow, answers, first_wrong, report};
 use bench_top::Status;
 use std::alloc::Global;
 use std::test::Fail;
 
 // Graphs that are not matching covered, and texts of the complete graph of four vertices.
-static REPORTS: [Row; 8] = [
+static REPORTS: [RunRow; 8] = [
     (&[K4], K4_REPORT),
     (
         &["p mcg 0 0\n"],
@@ -47,7 +47,7 @@ static REPORTS: [Row; 8] = [
 ];
 
 // Matching covered graphs.
-static COVERED: [Row; 6] = [
+static COVERED: [RunRow; 6] = [
     // the complete bipartite graph of three and three vertices with a triangle for one vertex
     (
         &[
@@ -176,7 +176,7 @@ fn conversions(rt: HostRuntime) -> Result<(), Fail> {
 }
 
 // Texts of graph6.
-static GRAPH6: [Row; 5] = [
+static GRAPH6: [RunRow; 5] = [
     (
         &["C~\n"],
         "graph 4 6\ncomponents 1\nbipartite no\nmatching 2\ndeficiency 0\nD\nA\nC 1 2 3 4\nallowed 1 2 3 4 5 6\ncovered yes\nclasses 4\nclass 1\nclass 2\nclass 3\nclass 4\nbicritical yes\ncutpair none\nkind brick\ngraph6 C~\n",

@@ -1,6 +1,6 @@
 //! Files beyond the limits of size, and which of several bad files is named.
 use crate::graphs::{HEXAGON, HEXAGON_TREE, OTHER_HEXAGON_TREE, TWO_EDGES};
-use crate::trial::{Row, answers, first_wrong, is_refused};
+use crate::trial::{RunRow, answers, first_wrong, is_refused};
 use bench_top::Status;
 use std::alloc::{AllocError as Memory, Global};
 use std::test::Fail;
@@ -85,7 +85,7 @@ fn the_first_bad_file(rt: HostRuntime) -> Result<(), Fail> {
 }
 
 // Two trees, of which the second is outside the format, or both are: then the first is named.
-static SECOND_TREES: [Row; 4] = [
+static SECOND_TREES: [RunRow; 4] = [
     (
         &[HEXAGON, HEXAGON_TREE, "t mcg 6\ncut 6 2\n"],
         "file 3 line 2 kind 9\n",

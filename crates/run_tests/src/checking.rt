@@ -2,7 +2,7 @@
 use crate::graphs::{
     CUBE, CUBE_EARS, HEXAGON, K4, PATH, PETERSEN, PRISM, TRIANGLE_IN_K33, TWO_EDGES,
 };
-use crate::trial::{Row, answers, first_wrong, report};
+use crate::trial::{RunRow, answers, first_wrong, report};
 use bench_top::Status;
 use std::alloc::Global;
 use std::test::Fail;
@@ -12,7 +12,7 @@ const CHECK: [&str; 3] = ["check", "g", "s"];
 const CHECK_EARS: [&str; 3] = ["checkears", "g", "s"];
 
 // Trees that are not derivation of the graph.
-static REFUSED_TREES: [Row; 7] = [
+static REFUSED_TREES: [RunRow; 7] = [
     (&[TWO_EDGES, "t mcg 4\nleaf\n"], "covered no parts 1 3\n"),
     (
         &[PRISM, "t mcg 6\ncut 1 2 3\nleaf\nleaf\n"],
@@ -71,7 +71,7 @@ fn decompositions_are_accepted(rt: HostRuntime) -> Result<(), Fail> {
 }
 
 // Ear lists of the graph.
-static ACCEPTED_EARS: [Row; 2] = [
+static ACCEPTED_EARS: [RunRow; 2] = [
     (&[CUBE, CUBE_EARS], "accepted steps 5 single 5 double 0\n"),
     (
         &[K4, "r mcg 4 6\nstart 1\near 2 4 6 3\near 1 2\nwith 2 5\n"],
@@ -80,7 +80,7 @@ static ACCEPTED_EARS: [Row; 2] = [
 ];
 
 // Lists that are not ear list of the graph.
-static REFUSED_EARS: [Row; 13] = [
+static REFUSED_EARS: [RunRow; 13] = [
     (
         &[TWO_EDGES, "r mcg 4 2\nstart 1\n"],
         "covered no parts 1 3\n",

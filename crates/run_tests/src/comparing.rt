@@ -4,7 +4,7 @@ use crate::graphs::{
     HEXAGON, HEXAGON_TREE, K4, OCTAGON, OTHER_HEXAGON_TREE, TRIANGLE_IN_K33, TWO_EDGES, TWO_K4,
     cycle,
 };
-use crate::trial::{Row, first_wrong, report};
+use crate::trial::{RunRow, first_wrong, report};
 use bench_top::Status;
 use std::alloc::Global;
 use std::test::Fail;
@@ -16,7 +16,7 @@ const SCRIPT: [&str; 4] = ["script", "g", "s", "t"];
 const REPLAY: [&str; 4] = ["replay", "g", "s", "t"];
 
 // Two derivations of the graph.
-static SAME_LEAVES: [Row; 4] = [
+static SAME_LEAVES: [RunRow; 4] = [
     // the roots cross
     (
         &[HEXAGON, HEXAGON_TREE, OTHER_HEXAGON_TREE],
@@ -48,7 +48,7 @@ static SAME_LEAVES: [Row; 4] = [
 ];
 
 // Two trees of the hexagon, of which one is not a derivation.
-static REFUSED: [Row; 2] = [
+static REFUSED: [RunRow; 2] = [
     (
         &[HEXAGON, HEXAGON_TREE, "t mcg 6\nleaf\n"],
         "tree 2 refused node 1 why 5 cut 2 3 4\n",
@@ -60,7 +60,7 @@ static REFUSED: [Row; 2] = [
 ];
 
 // Two trees of the hexagon, of which one is outside the format.
-static MALFORMED: [Row; 3] = [
+static MALFORMED: [RunRow; 3] = [
     (
         &[HEXAGON, "t mcg 6\ncut 3 2\nleaf\nleaf\n", HEXAGON_TREE],
         "file 2 line 2 kind 9\n",
@@ -76,7 +76,7 @@ static MALFORMED: [Row; 3] = [
 ];
 
 // A graph that is not matching covered.
-static NOT_COVERED: [Row; 1] = [(
+static NOT_COVERED: [RunRow; 1] = [(
     &[TWO_EDGES, "t mcg 4\nleaf\n", "t mcg 4\nleaf\n"],
     "covered no parts 1 3\n",
 )];

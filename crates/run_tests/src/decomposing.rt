@@ -1,6 +1,6 @@
 //! Worked decompositions, in named orders and in those of pick files, and their refusals.
 use crate::graphs::{HEXAGON, TRIANGLE_IN_K33, TWO_K4, cycle};
-use crate::trial::{Row, first_wrong, report};
+use crate::trial::{RunRow, first_wrong, report};
 use bench_top::Status;
 use std::alloc::Global;
 use std::test::Fail;
@@ -8,7 +8,7 @@ use std::test::Fail;
 static ORDERS: [&str; 3] = ["first", "last", "balanced"];
 
 // Whole reports in the order `first`.
-static WHOLE: [Row; 3] = [
+static WHOLE: [RunRow; 3] = [
     // parallel edges are remembered
     (
         &["p mcg 2 2\ne 1 2\ne 1 2\n"],
@@ -40,13 +40,13 @@ fn whole_reports(rt: HostRuntime) -> Result<(), Fail> {
 }
 
 // A graph that has one nontrivial tight cut.
-static ONE_CUT: [Row; 1] = [(
+static ONE_CUT: [RunRow; 1] = [(
     &[TRIANGLE_IN_K33],
     "t mcg 8\ncut 1 2 3\nleaf\nleaf\nc leaf 1 brick\nc block 1\nc block 2\nc block 3\nc block 4 5 6 7 8\nc edge 1 2 by 1\nc edge 1 3 by 2\nc edge 1 8 by 4\nc edge 2 3 by 3\nc edge 2 8 by 5\nc edge 3 8 by 6\nc leaf 2 brace\nc block 1 2 3\nc block 4\nc block 5\nc block 6\nc block 7\nc block 8\nc edge 3 4 by 4\nc edge 3 5 by 5\nc edge 3 6 by 6\nc edge 4 7 by 7\nc edge 4 8 by 10\nc edge 5 7 by 8\nc edge 5 8 by 11\nc edge 6 7 by 9\nc edge 6 8 by 12\nc leaves 2 bricks 1 braces 1\n",
 )];
 
 // Graphs that are not matching covered.
-static NOT_COVERED: [Row; 4] = [
+static NOT_COVERED: [RunRow; 4] = [
     (&["p mcg 0 0\n"], "covered no order\n"),
     (&["p mcg 4 2\ne 1 2\ne 3 4\n"], "covered no parts 1 3\n"),
     (

@@ -1,13 +1,13 @@
 //! Worked scripts of moves between derivations, made and replayed, and moves that fail.
 use crate::graphs::{HEXAGON, HEXAGON_TREE, OTHER_HEXAGON_TREE};
-use crate::trial::{Row, answers, first_wrong, report};
+use crate::trial::{RunRow, answers, first_wrong, report};
 use bench_top::Status;
 use std::test::Fail;
 
 const REPLAY: [&str; 4] = ["replay", "g", "s", "t"];
 
 // Moves that are made.
-static MADE: [Row; 2] = [
+static MADE: [RunRow; 2] = [
     (
         &[HEXAGON, HEXAGON_TREE, "m mcg 6\n"],
         "t mcg 6\ncut 1 2 3\nleaf\nleaf\nc moves 0\n",
@@ -19,7 +19,7 @@ static MADE: [Row; 2] = [
 ];
 
 // Moves that fail, and a tree that is not a derivation.
-static FAILED: [Row; 4] = [
+static FAILED: [RunRow; 4] = [
     (
         &[HEXAGON, HEXAGON_TREE, "m mcg 6\nrotate .\n"],
         "move 1 stuck\n",
@@ -39,7 +39,7 @@ static FAILED: [Row; 4] = [
 ];
 
 // Moves outside the format.
-static MALFORMED: [Row; 1] = [(
+static MALFORMED: [RunRow; 1] = [(
     &[HEXAGON, HEXAGON_TREE, "m mcg 6\nrotate x\n"],
     "file 3 line 2 kind 2\n",
 )];

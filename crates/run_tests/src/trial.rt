@@ -9,7 +9,7 @@ use std::test::Fail;
 const NAMES: [&str; 3] = ["g", "s", "t"];
 
 /// The files of a run, and the report that is expected.
-pub type Row = (&'static [&'static str], &'static str);
+pub type RunRow = (&'static [&'static str], &'static str);
 
 /// The words of a command.
 pub fn words_of(alloc: Global, words: &[&str]) -> Result<Vec<String>, Fail> {
@@ -100,7 +100,7 @@ pub fn first_wrong(
     alloc: Global,
     words: &[&str],
     status: Status,
-    rows: &[Row],
+    rows: &[RunRow],
 ) -> Result<Option<usize>, Fail> {
     for (place, (files, report)) in rows.iter().enumerate() {
         if !answers(alloc, words, files, status, report)? {

@@ -17,7 +17,7 @@ use Rattle.graph_core.proofs.Decide.{has_perfect_found}
 use Rattle.graph_core.specs.Components.{components, is_least}
 use Rattle.graph_core.specs.Graph.{Graph}
 use Rattle.graph_core.specs.Matchings.{has_perfect}
-use Rattle.graph_core.specs.Structure.{IsBicritical, is_bicritical, unlike_pair}
+use Rattle.graph_core.specs.Structure.{IsBicritical, is_bicritical, equivalent_pair}
 use Rattle.graph_core.specs.Walks.{joined}
 use Rattle.graph_core.specs.CanonicalCuts.{with_cut}
 use Rattle.barrier_kit.proofs.AllOf.{all_rising, pairs_rise, unfound_all}
@@ -82,7 +82,7 @@ module _ (g : Graph) (i : ℕ) (items : List Pair) (l : i < length items) where
 
 -- bicritical, as the test
 pub bicritical-true : (g : Graph) → IsBicritical g → is_bicritical g ≡ true
-unfolding unlike_pair
+unfolding equivalent_pair
 bicritical-true g bi = ap is_none (unfound_all (λ k. not (has_perfect g (pair_set k.0 k.1))) (rising_pairs g.order) (λ i d l.
     let w = pairs_rise g.order i d l in let less = w.2 in ap not (has_perfect_found g _ (bi _ _ w.0 w.1 (λ e. omega arith)))))
 

@@ -16,7 +16,7 @@ use Rattle.graph_core.specs.Components.{component_count, components, is_least}
 use Rattle.graph_core.specs.Covered.{IsCovered}
 use Rattle.graph_core.specs.Graph.{Graph, IsGraph}
 use Rattle.graph_core.specs.Matchings.{HasPerfect, has_perfect}
-use Rattle.graph_core.specs.Structure.{IsBicritical, IsCutPair, cut_pair, is_bicritical, unlike_pair}
+use Rattle.graph_core.specs.Structure.{IsBicritical, IsCutPair, cut_pair, is_bicritical, equivalent_pair}
 use Rattle.graph_core.specs.Tight.{IsTight, canonical_shore, is_nontrivial}
 use Rattle.graph_core.specs.Walks.{joined}
 use Rattle.graph_core.specs.CanonicalCuts.{IsCanonicalCut, cuts_of}
@@ -42,10 +42,10 @@ pair_holds n P all a b wa wb l =
     rising_all n (nat_lt a) (λ b. P (a, b)) (map_all P (pair_with a) (rising_list n (nat_lt a))
     (rising_all n everything (λ a. All P (map (pair_with a) (rising_list n (nat_lt a)))) (flat_all P (λ a. map (pair_with a) (rising_list n (nat_lt a))) (rising_list n everything) all) a wa refl)) b wb (lt-ltb a b l)
 
--- no pair is unlike exactly when the graph is bicritical
-pub unlike-none : (g : Graph) → (unlike_pair g ≡ None) ↔ IsBicritical g
-unfolding unlike_pair
-unlike-none g = (
+-- no two vertices are equivalent if and only if the graph is bicritical
+pub equivalent-none : (g : Graph) → (equivalent_pair g ≡ None) ↔ IsBicritical g
+unfolding equivalent_pair
+equivalent-none g = (
   (λ e a b wa wb d. elim (cases_lt a b) [
     | inl l ↦ matched e a b wa wb l
     | inr l ↦ let m = matched e b a wb wa (less a b l d) in has_perfect_says g (pair_set a b) (has_perfect-true g (pair_set b a) (pair_set a b) (turned b a) m)
@@ -109,7 +109,7 @@ all_pair_shores g P h = go (is_bicritical g) (nat_le 4 g.order) refl
     each bi ks w = all_flat P (shores_at_pair g) (filter (is_cut_pair g) ks) (all_passing (is_cut_pair g) (λ k. All P (shores_at_pair g k)) ks (λ i d l t. at_pair (get_or ks i d) bi (w i d l) t))
 
     go : (s t : Bool) → is_bicritical g ≡ s → All P (if s && t then flat_map (shores_at_pair g) (filter (is_cut_pair g) (rising_pairs g.order)) else [])
-    go true true e = each ((unlike-none g).0 (none_is (unlike_pair g) e)) (rising_pairs g.order) (pairs_rise g.order)
+    go true true e = each ((equivalent-none g).0 (none_is (equivalent_pair g) e)) (rising_pairs g.order) (pairs_rise g.order)
     go true false e = All-nil P
     go false t e = All-nil P
 

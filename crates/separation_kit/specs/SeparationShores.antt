@@ -1,5 +1,6 @@
 -- The cuts that the cut pairs of a bicritical covered graph give (Edmonds, Lovász and Pulleyblank
 -- 1982).
+-- Stated by: separation_kit, quick_kinds, tight_cuts.
 use Rattle.std.specs.Prelude.{ℕ, Bool, List, [], ◌&&◌, flat_map, map, filter, nat_le, if◌then◌else◌}
 use Rattle.counting.specs.Sets.{union, singleton, pair_set}
 use Rattle.counting.specs.Lists.{mem, rising_list, rising_pairs}

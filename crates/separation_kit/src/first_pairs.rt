@@ -4,11 +4,11 @@ ghost use Rattle.std.specs.Prelude.{◌≡◌, ◌↔◌, IsTrue, IfOk};
 ghost use Rattle.std.specs.Option.{option_map};
 ghost use Rattle.graph_core.specs.Covered.{IsCovered};
 ghost use Rattle.graph_core.specs.Graph.{IsBipartite};
-ghost use Rattle.graph_core.specs.Structure.{IsBicritical, cut_pair, unlike_pair};
+ghost use Rattle.graph_core.specs.Structure.{IsBicritical, cut_pair, equivalent_pair};
 ghost use Rattle.graph_core.specs.View.{IsWithinLimits};
 ghost use Rattle.separation_kit.specs.Pairs.{pair_of};
 
-use crate::critical::{cut_pair, unlike_pair};
+use crate::critical::{cut_pair, equivalent_pair};
 use crate::pair::Pair;
 use graph_facts::Covered;
 use std::alloc::{AllocError as Memory, Global};
@@ -19,7 +19,7 @@ use std::marker::Model;
 #[derive(Drop)]
 pub struct FirstPairs<'c, 'g> {
     covered: &'c Covered<'g>,
-    unlike: Option<Pair>,
+    equivalent: Option<Pair>,
     cut: Option<Pair>,
 }
 
@@ -27,14 +27,14 @@ impl<'c, 'g> Model for FirstPairs<'c, 'g> {
     ghost use Rattle.std.specs.Prelude.{◌≡◌};
     ghost use Rattle.std.specs.Option.{option_map};
     ghost use Rattle.graph_core.specs.Graph.{Graph};
-    ghost use Rattle.graph_core.specs.Structure.{IsBicritical, cut_pair, unlike_pair};
+    ghost use Rattle.graph_core.specs.Structure.{IsBicritical, cut_pair, equivalent_pair};
     ghost use Rattle.separation_kit.specs.Pairs.{pair_of};
 
     ghost Value = { Graph };
 
     ghost view = { λ p. p.covered.now };
 
-    ghost invariant = { λ p. (option_map pair_of p.unlike ≡ unlike_pair p.covered.now) × (IsBicritical p.covered.now → option_map pair_of p.cut ≡ cut_pair p.covered.now) };
+    ghost invariant = { λ p. (option_map pair_of p.equivalent ≡ equivalent_pair p.covered.now) × (IsBicritical p.covered.now → option_map pair_of p.cut ≡ cut_pair p.covered.now) };
 }
 
 impl<'c, 'g> FirstPairs<'c, 'g> {
@@ -42,11 +42,11 @@ impl<'c, 'g> FirstPairs<'c, 'g> {
     pub fn of(alloc: Global, covered: &'c Covered<'g>) -> Result<FirstPairs<'c, 'g>, Memory>
         ensures { IfOk result (λ pairs. pairs ≡ covered.now) }
     {
-        let unlike = unlike_pair(alloc, covered)?;
-        let cut = cut_where_bicritical(alloc, covered, unlike)?;
+        let equivalent = equivalent_pair(alloc, covered)?;
+        let cut = cut_where_bicritical(alloc, covered, equivalent)?;
         Ok(FirstPairs {
             covered,
-            unlike,
+            equivalent,
             cut,
         })
     }
@@ -82,17 +82,17 @@ impl<'c, 'g> FirstPairs<'c, 'g> {
 
     /// The first pair without which the graph has no perfect matching: none exactly when it is
     /// bicritical.
-    pub fn unlike(&self) -> Option<Pair>
-        ensures { option_map pair_of result ≡ unlike_pair self.now }
+    pub fn equivalent(&self) -> Option<Pair>
+        ensures { option_map pair_of result ≡ equivalent_pair self.now }
     {
-        self.unlike
+        self.equivalent
     }
 
     /// Whether the graph is bicritical.
     pub fn is_bicritical(&self) -> bool
         ensures { IsTrue result ↔ IsBicritical self.now }
     {
-        match self.unlike {
+        match self.equivalent {
             Some(_) => false,
             None => true,
         }
@@ -117,16 +117,16 @@ impl<'c, 'g> FirstPairs<'c, 'g> {
     }
 }
 
-// The first cut pair of a graph without an unlike pair.
+// The first cut pair of a graph without a pair of equivalent vertices.
 fn cut_where_bicritical(
     alloc: Global,
     c: &Covered,
-    unlike: Option<Pair>,
+    equivalent: Option<Pair>,
 ) -> Result<Option<Pair>, Memory>
-    requires { option_map pair_of unlike ≡ unlike_pair c.now }
+    requires { option_map pair_of equivalent ≡ equivalent_pair c.now }
     ensures { IfOk result (λ cut. IsBicritical c.now → option_map pair_of cut ≡ cut_pair c.now) }
 {
-    match unlike {
+    match equivalent {
         Some(_) => Ok(None),
         None => cut_pair(alloc, c.graph()),
     }

@@ -6,16 +6,16 @@ ghost use Rattle.counting.specs.Sets.{pair_set, singleton, union};
 ghost use Rattle.graph_core.specs.Covered.{IsCovered};
 ghost use Rattle.graph_core.specs.Graph.{Graph, IsBipartite, IsGraph, IsMultigraph};
 ghost use Rattle.graph_core.specs.Matchings.{HasPerfect};
-ghost use Rattle.graph_core.specs.Structure.{IsBicritical, IsCutPair, cut_pair, unlike_pair};
-ghost use Rattle.graph_core.specs.Tight.{HasNoTightCut, IsNontrivial, IsTight};
+ghost use Rattle.graph_core.specs.Structure.{IsBicritical, IsCutPair, cut_pair, equivalent_pair};
+ghost use Rattle.graph_core.specs.Tight.{HasOnlyTrivialTightCuts, IsNontrivial, IsTight};
 ghost use Rattle.graph_core.specs.Walks.{joined};
 ghost use Rattle.graph_core.specs.CanonicalCuts.{IsCanonicalCut};
 ghost use Rattle.separation_kit.specs.SeparationShores.{separation_cuts, separation_shores};
 
-/// There is no first pair exactly when there is none: a graph is bicritical where none is unlike,
-/// and no two vertices separate it where there is no cut pair.
+/// There is no first pair exactly when there is none: a graph is bicritical if no two vertices are
+/// equivalent, and no two vertices separate it where there is no cut pair.
 pub fn first_pairs_law()
-    ensures bicritical { (g : Graph) → (unlike_pair g ≡ None) ↔ IsBicritical g }
+    ensures bicritical { (g : Graph) → (equivalent_pair g ≡ None) ↔ IsBicritical g }
     ensures separated { (g : Graph) → (cut_pair g ≡ None) ↔ ((u v : ℕ) → ¬ (IsCutPair g u v)) }
 {}
 
@@ -54,7 +54,7 @@ pub fn separation_cuts_law()
 pub fn brick_law()
     ensures four { (g : Graph) → IsMultigraph g → IsCovered g → ¬ (IsBipartite g) → 4 ≤ g.order }
     ensures bicritical { (g : Graph) → IsMultigraph g → IsCovered g → ¬ (IsBipartite g) →
-        HasNoTightCut g → IsBicritical g }
+        HasOnlyTrivialTightCuts g → IsBicritical g }
     ensures connected { (g : Graph) → IsMultigraph g → IsCovered g → ¬ (IsBipartite g) →
-        HasNoTightCut g → (u v : ℕ) → ¬ (IsCutPair g u v) }
+        HasOnlyTrivialTightCuts g → (u v : ℕ) → ¬ (IsCutPair g u v) }
 {}

@@ -24,7 +24,7 @@ mod laws;
 mod pair;
 mod shores;
 
-pub use critical::{cut_pair, not_bicritical, parts_without, unlike_pair};
+pub use critical::{cut_pair, equivalent_pair, not_bicritical, parts_without};
 pub use first_pairs::FirstPairs;
 pub use laws::{brick_law, first_pairs_law, separation_cuts_law, separation_law};
 pub use pair::{Pair, all_pairs};

@@ -11,7 +11,7 @@ ghost use Rattle.separation_kit.specs.Pairs.{pair_of};
 ghost use Rattle.separation_kit.specs.SeparationShores.{separation_cuts, shores_at_pair};
 
 use crate::critical::{is_cut_pair, parts_without};
-use crate::dominators::suspects;
+use crate::dominators::dominator_candidates;
 use crate::first_pairs::FirstPairs;
 use crate::pair::{Pair, all_pairs};
 use graph_core::{MultiGraph, SetList, add_cut};
@@ -74,7 +74,7 @@ pub fn separation_cuts(alloc: Global, g: &MultiGraph) -> Result<SetList, Memory>
     ensures { IfOk result (λ cuts. cuts ≡ separation_cuts g.now) }
 {
     g.keeps_limits();
-    let sets = suspects(alloc, g)?;
+    let sets = dominator_candidates(alloc, g)?;
     let pairs = all_pairs(alloc, g.order())?;
     let mut cuts = SetList::new(alloc);
     for pair in &pairs {

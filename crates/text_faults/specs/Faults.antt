@@ -1,4 +1,5 @@
 -- What a fault that a reader answers says of the text.
+-- Stated by: graph6_text. Rests on it: text_faults.
 use Rattle.std.specs.Prelude.{◌≡◌, ℕ, Result, Err}
 use Rattle.text_faults.specs.declared.faults.FaultKind.{FaultKind}
 use Rattle.text_faults.specs.declared.faults.TextFault.{TextFault}

@@ -1,4 +1,5 @@
 -- The numbers of the kinds of faults in a text.
+-- Stated by: text_faults. Rests on it: bench_tasks, list_front.
 use Rattle.std.specs.Prelude.{ℕ}
 use Rattle.text_faults.specs.declared.faults.FaultKind.{FaultKind}
 use Rattle.text_faults.specs.declared.faults.FaultKind.TheVariants.{Header, Word, Number, Range, Loop, Limit, Missing, Extra, NotRising, HasGreatest, Unnamed, SameName, BadName, Padding, LongForm}

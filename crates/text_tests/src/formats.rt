@@ -26,7 +26,7 @@ pub enum Format {
 }
 
 /// A text, and how it is written again, or the line and the kind of its first fault.
-pub type Row = (&'static str, Result<&'static str, (u32, FaultKind)>);
+pub type TextRow = (&'static str, Result<&'static str, (u32, FaultKind)>);
 
 // A graph in version 1, which has at most 64 vertices and 512 edges.
 fn plain(alloc: Global, graph: &MultiGraph) -> Result<Vec<u8>, TextFault> {
@@ -126,7 +126,7 @@ pub fn has_answer(
 }
 
 /// The first text whose answer is not that of its row.
-pub fn first_wrong(alloc: Global, format: Format, rows: &[Row]) -> Option<&'static str> {
+pub fn first_wrong(alloc: Global, format: Format, rows: &[TextRow]) -> Option<&'static str> {
     for (text, answer) in rows {
         if !has_answer(alloc, format, text.as_bytes(), *answer) {
             return Some(*text);

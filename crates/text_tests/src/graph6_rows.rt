@@ -1,13 +1,13 @@
 //! Texts of graph6: known texts with their edges, and texts with each fault.
 
-use crate::formats::{Format, LongText, Row, has_answer, long_has_answer, long_text};
+use crate::formats::{Format, LongText, TextRow, has_answer, long_has_answer, long_text};
 use graph6_text::read_graph6;
 use std::alloc::Global;
 use std::test::Fail;
 use text_faults::FaultKind;
 
 /// Header and line end are set aside; then each fault of a text.
-pub const TEXTS: [Row; 21] = [
+pub const TEXTS: [TextRow; 21] = [
     ("?", Ok("?")),
     ("Bw", Ok("Bw")),
     (">>graph6<<Bw", Ok("Bw")),

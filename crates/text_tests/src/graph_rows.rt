@@ -1,12 +1,12 @@
 //! Texts of graphs in both versions, and the plain names.
 
-use crate::formats::Row;
+use crate::formats::TextRow;
 use graph_text::{Names, plain_names};
 use std::test::Fail;
 use text_faults::FaultKind;
 
 /// The graph format in version 1.
-pub const VERSION_ONE: [Row; 15] = [
+pub const VERSION_ONE: [TextRow; 15] = [
     ("p mcg 0 0", Ok("p mcg 0 0\n")),
     ("p mcg 2 2\ne 1 2\ne 1 2\n", Ok("p mcg 2 2\ne 1 2\ne 1 2\n")),
     (
@@ -31,7 +31,7 @@ pub const VERSION_ONE: [Row; 15] = [
 ];
 
 /// The graph format in both versions.
-pub const EITHER_VERSION: [Row; 11] = [
+pub const EITHER_VERSION: [TextRow; 11] = [
     (
         "p mcg2 4 4\nv a\nv b\nv c\nv d\ne a b\ne b c\ne c d\ne d a\n",
         Ok("p mcg2 4 4\nv a\nv b\nv c\nv d\ne a b\ne b c\ne c d\ne d a\n"),

@@ -1,6 +1,6 @@
 //! Texts of moves.
 
-use crate::formats::{LongText, Row};
+use crate::formats::{LongText, TextRow};
 use move_text::{read_moves, write_moves};
 use std::test::Fail;
 use text_faults::FaultKind;
@@ -8,10 +8,10 @@ use tree_core::{Move, Moves, Path, Side};
 use vset_core::VSet;
 
 /// Moves on trees over 1 to 2.
-pub const MOVES_OF_2: [Row; 1] = [("m mcg 2", Ok("m mcg 2\n"))];
+pub const MOVES_OF_2: [TextRow; 1] = [("m mcg 2", Ok("m mcg 2\n"))];
 
 /// Moves on trees over 1 to 6.
-pub const MOVES_OF_6: [Row; 27] = [
+pub const MOVES_OF_6: [TextRow; 27] = [
     ("m mcg 6\nswitch . 1 4", Ok("m mcg 6\nswitch . 1 4\n")),
     ("", Err((1, FaultKind::Header))),
     ("c\n\n", Err((3, FaultKind::Header))),
@@ -45,13 +45,13 @@ pub const MOVES_OF_6: [Row; 27] = [
 ];
 
 /// Moves on trees over 1 to 8.
-pub const MOVES_OF_8: [Row; 1] = [(
+pub const MOVES_OF_8: [TextRow; 1] = [(
     "c two moves\nm mcg 08\r\n\nrotate  mk\nc between\n switch\tkmk 01,2,3 8",
     Ok("m mcg 8\nrotate mk\nswitch kmk 1,2,3 8\n"),
 )];
 
 /// Moves on trees over 1 to 20.
-pub const MOVES_OF_20: [Row; 1] = [(
+pub const MOVES_OF_20: [TextRow; 1] = [(
     "m mcg 20\nrotate .\nrotate k\nswitch m 1,3,20 2,4,10\n",
     Ok("m mcg 20\nrotate .\nrotate k\nswitch m 1,3,20 2,4,10\n"),
 )];

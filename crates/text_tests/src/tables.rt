@@ -1,13 +1,13 @@
 //! The tables of all formats, walked by one test.
 
-use crate::formats::{Format, Row, first_wrong, long_has_answer};
+use crate::formats::{Format, TextRow, first_wrong, long_has_answer};
 use crate::graph6_rows::FULL;
 use crate::move_rows::LONG_MOVES;
 use crate::{ear_rows, graph_rows, graph6_rows, move_rows, tree_rows};
 use std::test::Fail;
 use text_faults::FaultKind;
 
-static TABLES: [(Format, &[Row]); 14] = [
+static TABLES: [(Format, &[TextRow]); 14] = [
     (Format::VersionOne, &graph_rows::VERSION_ONE),
     (Format::EitherVersion, &graph_rows::EITHER_VERSION),
     (Format::Graph6, &graph6_rows::TEXTS),

@@ -16,8 +16,8 @@ use Rattle.graph_core.specs.Covered.{IsCovered}
 use Rattle.graph_core.specs.GallaiEdmonds.{InA, InC, InD}
 use Rattle.graph_core.specs.Graph.{Graph, IsBipartite, IsMultigraph, size}
 use Rattle.graph_core.specs.Matchings.{Allowed, is_allowed, missed_count}
-use Rattle.graph_core.specs.Structure.{classes, cut_pair, unlike_pair}
-use Rattle.graph_core.specs.Tight.{HasNoTightCut}
+use Rattle.graph_core.specs.Structure.{classes, cut_pair, equivalent_pair}
+use Rattle.graph_core.specs.Tight.{HasOnlyTrivialTightCuts}
 use Rattle.graph_core.specs.View.{pair_of}
 use Rattle.graph_core.specs.declared.ends.Ends.{Ends}
 use Rattle.graph_core.specs.declared.verdict.Kind.{Kind}
@@ -53,14 +53,14 @@ told_pair None = (None, refl)
 told_pair (Some k) = (Some (record { a = k.0; b = k.1 }), refl)
 
 -- the kind by the candidates
-kind_of : (g : Graph) (list : List Candidate) → All (IsTightCandidate g) list → (list ≡ [] → HasNoTightCut g) → IsBipartite g ⊎ (¬ IsBipartite g) → (kind : Kind) × IsKind g kind × (cut_of kind ≡ first_shore list)
+kind_of : (g : Graph) (list : List Candidate) → All (IsTightCandidate g) list → (list ≡ [] → HasOnlyTrivialTightCuts g) → IsBipartite g ⊎ (¬ IsBipartite g) → (kind : Kind) × IsKind g kind × (cut_of kind ≡ first_shore list)
 kind_of g [] found uncut (inl even) = (Brace, (even, uncut refl), refl)
 kind_of g [] found uncut (inr odd) = (Brick, (odd, uncut refl), refl)
 kind_of g (c ∷ list) found uncut sides = let first : IsTightCandidate g c = found 0 c (omega arith) in (Composite c.shore, (first.tight, first.nontrivial), refl)
 
 structure_of : (g : Graph) → IsMultigraph g → IsCovered g → (s : Structure) × IsStructure g s
 structure_of g is cov =
-    let u = told_pair (unlike_pair g) in
+    let u = told_pair (equivalent_pair g) in
     let c = told_pair (cut_pair g) in
     let k = kind_of g (candidates g) (candidates_found g is.ends cov) (candidates_none g is.ends cov).0 (bipartite-or g is.ends) in
     (record { classes = classes g; unlike = u.0; cutpair = c.0; kind = k.0 }, record { partition = refl; unlike = u.1; separates = c.1; kind = k.1; cut = k.2 })

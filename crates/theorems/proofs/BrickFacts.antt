@@ -17,7 +17,7 @@ use Rattle.graph_core.proofs.Parity.{degrees}
 use Rattle.graph_core.specs.Covered.{IsCovered}
 use Rattle.graph_core.specs.Graph.{Graph, IsBipartite, IsMultigraph, edges_in_cut, first_end, second_end, size}
 use Rattle.graph_core.specs.Structure.{IsBicritical, IsCutPair}
-use Rattle.graph_core.specs.Tight.{HasNoTightCut}
+use Rattle.graph_core.specs.Tight.{HasOnlyTrivialTightCuts}
 use Rattle.matching_digraph.proofs.Balance.{equal_sides, no_inner, other_side}
 use Rattle.separation_kit.proofs.CutPairs.{brick_facts}
 use Rattle.theorems.proofs.AddedEdges.{allowed_from, degrees_outside}
@@ -64,16 +64,16 @@ module _ (g : Graph) (is : IsMultigraph g) (bi : IsBicritical g) where
       outside : (s t : Bool) → (t ≡ true → s ≡ true) → (not s && not t) ≡ not s
       outside s t h = grind arith
 
-pub brick_facts_of : (g : Graph) → IsMultigraph g → IsCovered g → (IsBipartite g → ⊥) → HasNoTightCut g → (4 ≤ g.order) × IsBicritical g × ((u v : ℕ) → IsCutPair g u v → ⊥)
+pub brick_facts_of : (g : Graph) → IsMultigraph g → IsCovered g → (IsBipartite g → ⊥) → HasOnlyTrivialTightCuts g → (4 ≤ g.order) × IsBicritical g × ((u v : ℕ) → IsCutPair g u v → ⊥)
 brick_facts_of g is cov odd none = let f = brick_facts g is.ends cov (no_sides g is.no_loop odd) none in (f.0, f.1, λ u v p. f.2 u v p.first p.second p)
 
-pub brick_from : (g : Graph) → IsMultigraph g → 4 ≤ g.order → IsBicritical g → ((u v : ℕ) → IsCutPair g u v → ⊥) → IsCovered g × (IsBipartite g → ⊥) × HasNoTightCut g
+pub brick_from : (g : Graph) → IsMultigraph g → 4 ≤ g.order → IsBicritical g → ((u v : ℕ) → IsCutPair g u v → ⊥) → IsCovered g × (IsBipartite g → ⊥) × HasOnlyTrivialTightCuts g
 brick_from g is four bi no_pair =
     let cov = covered g is bi ((pair_or_three g is.ends four).0 no_pair) in
     (cov, not_bipartite g is bi cov four, no_shore g is cov bi no_pair)
 
 -- a brick, by 3-connectedness
-pub three_brick : (g : Graph) → IsMultigraph g → (IsCovered g × (IsBipartite g → ⊥) × HasNoTightCut g) ↔ (IsThreeConnected g × IsBicritical g)
+pub three_brick : (g : Graph) → IsMultigraph g → (IsCovered g × (IsBipartite g → ⊥) × HasOnlyTrivialTightCuts g) ↔ (IsThreeConnected g × IsBicritical g)
 three_brick g is = (
   (λ h. let f = brick_facts_of g is h.0 h.1 h.2 in ((pair_or_three g is.ends f.0).0 f.2, f.1)),
   (λ h. let four = h.0.four in brick_from g is four h.1 ((pair_or_three g is.ends four).1 h.0)),

@@ -16,7 +16,7 @@ use Rattle.graph_core.specs.Quotients.{quotient}
 use Rattle.list_lines.proofs.QuotientSides.{bipartite_from_singles, singles_from_bipartite}
 use Rattle.list_lines.specs.Standings.{IsCounted}
 use Rattle.tree_core.specs.declared.tallies.Tally.{Tally}
-use Rattle.theorems.proofs.LeafKindLists.{HasSides, all-joined, all-parted, count-from_sides, kinds-in_order, sides-from_count, tally-exists, tally-sum}
+use Rattle.theorems.proofs.LeafKindLists.{HasSides, all-joined, all-separated, count-from_sides, kinds-in_order, sides-from_count, tally-exists, tally-sum}
 use Rattle.theorems.proofs.PartitionSides.{HasSideAt, bipartite-from_side, side-from_bipartite}
 use Rattle.theorems.proofs.PickedDerivations.{some-tree}
 use Rattle.theorems.proofs.QuotientCounts.{cut-counted, quotient-counts}
@@ -103,7 +103,7 @@ module _ (g : Graph) (is : IsGraph g) where
   two-from_leaves p leaf pp covered derives all = side-from_bipartite g is p pp.partition all.0
   two-from_leaves p (cut x k m) pp covered derives all =
       let cuts = derives.0 in
-      let parts = all-parted (HasSides g) (leaves_at g.order (kept_at g.order p x) k) (leaves_at g.order (merged_at g.order p x) m) all in
+      let parts = all-separated (HasSides g) (leaves_at g.order (kept_at g.order p x) k) (leaves_at g.order (merged_at g.order p x) m) all in
       sides-up g is p x pp cuts covered
       (two-from_leaves (kept_at g.order p x) k (kept-partition g p x is pp cuts) (kept-covers g p x is pp cuts covered) derives.1 parts.0)
       (two-from_leaves (merged_at g.order p x) m (merged-partition g p x is pp cuts) (merged-covers g p x is pp cuts covered) derives.2 parts.1)

@@ -13,7 +13,7 @@ use Rattle.counting.specs.Sets.{Set, meet, minus}
 use Rattle.graph_core.proofs.Walks.{parted}
 use Rattle.graph_core.specs.Components.{IsConnected}
 use Rattle.graph_core.specs.Graph.{Graph, IsMultigraph, edges_in_cut, first_end, in_cut, second_end, size}
-use Rattle.graph_core.specs.Tight.{CutIsTight, HasNoTightCut, IsNontrivial, IsTight}
+use Rattle.graph_core.specs.Tight.{CutIsTight, HasOnlyTrivialTightCuts, IsNontrivial, IsTight}
 use Rattle.grow_gen.specs.Cubic.{IsCubic}
 use Rattle.matching_digraph.proofs.Balance.{balance, leaves_left, leaves_right}
 use Rattle.theorems.proofs.CubicCuts.{tight_three}
@@ -136,7 +136,7 @@ no_bridge g a is cubic two joined x u v wu wv xu xv = two_from g x u v none_not 
     none_not : cut_size g x ≢ 0
     none_not z = (parted g u v is.ends wu wv).1 (x, xu, xv, λ e w. count_zero (size g) (in_cut g x) z e w) (joined u v wu wv)
 
-pub brace_or_three : (g : Graph) (a : Set) → IsMultigraph g → IsCubic g → IsSide g a → HasNoTightCut g ↔ ((x : Set) → IsNontrivial g.order x → cut_size g x ≢ 3)
+pub brace_or_three : (g : Graph) (a : Set) → IsMultigraph g → IsCubic g → IsSide g a → HasOnlyTrivialTightCuts g ↔ ((x : Set) → IsNontrivial g.order x → cut_size g x ≢ 3)
 brace_or_three g a is cubic two = (
   (λ brace x wide three. brace x (three_tight g is cubic a two x three) wide),
   (λ h x t wide. h x wide (tight_three g x is.ends cubic (λ y u v wu wv yu yv. two_from g y u v (no_gap g is cubic h (six_vertices g.order x wide) y u v wu wv yu yv) (not_one g is cubic a two y)) t)),

@@ -10,7 +10,7 @@ use Rattle.barrier_kit.proofs.ClassLaw.{perfect_or_not}
 use Rattle.graph_core.specs.Graph.{Graph, IsMultigraph, first_end, second_end, size}
 use Rattle.graph_core.specs.Matchings.{HasPerfect}
 use Rattle.ear_core.specs.EarLists.{AreSteps, IsEarList, PlainEars, PlainStep, next_stage}
-use Rattle.ear_core.specs.EarTests.{Why, ends_early, stage_not_covered}
+use Rattle.ear_core.specs.EarTests.{PlainWhy, ends_early, stage_not_covered}
 use Rattle.ear_core.specs.Refusals.{IsFirstRefusal, IsLeastUnallowed, IsRefused, step_fault}
 use Rattle.ear_core.specs.Stages.{AllowedBy, IsStage}
 use Rattle.ear_core.proofs.EngineGraphs.{edge_serves, served_listed}
@@ -52,17 +52,17 @@ module _ (g : Graph) (is : IsMultigraph g) where
   on_or_not f e = elim (cases_Bool (f e)) [ inl on ↦ inl on | inr off ↦ inr (λ on. both_ways (f e) off on) ]
 
   -- steps from a stage lead over stages to all edges, or have a first refusal
-  steps_or_refusal : (f : Set) (k : ℕ) (steps : List PlainStep) → IsStage g f → AreSteps g f steps ⊎ ((number : ℕ) × (why : Why) × IsFirstRefusal g f k steps number why)
+  steps_or_refusal : (f : Set) (k : ℕ) (steps : List PlainStep) → IsStage g f → AreSteps g f steps ⊎ ((number : ℕ) × (why : PlainWhy) × IsFirstRefusal g f k steps number why)
   steps_or_refusal f k [] stage = elim (all_or_least (size g) (λ e. f e ≡ true) (λ e w. on_or_not f e)) [
     | inl all ↦ inl all
     | inr least ↦ inr (k, ends_early least.0, (refl, (least.0, least.1, refl)))
   ]
   steps_or_refusal f k (s ∷ steps) stage = tested (step_fault g f s) refl (all_or_least (size g) (λ e. next_stage f s e ≡ true → AllowedBy g (next_stage f s) e) (allowed_or_not (next_stage f s))) (λ next. steps_or_refusal (next_stage f s) (k + 1) steps next)
     where
-      tested : (fault : Option Why) → step_fault g f s ≡ fault →
+      tested : (fault : Option PlainWhy) → step_fault g f s ≡ fault →
           ((e : ℕ) → Within (size g) e → next_stage f s e ≡ true → AllowedBy g (next_stage f s) e) ⊎ ((e : ℕ) × IsLeastUnallowed g (next_stage f s) e) →
-          (IsStage g (next_stage f s) → AreSteps g (next_stage f s) steps ⊎ ((number : ℕ) × (why : Why) × IsFirstRefusal g (next_stage f s) (k + 1) steps number why)) →
-          AreSteps g f (s ∷ steps) ⊎ ((number : ℕ) × (why : Why) × IsFirstRefusal g f k (s ∷ steps) number why)
+          (IsStage g (next_stage f s) → AreSteps g (next_stage f s) steps ⊎ ((number : ℕ) × (why : PlainWhy) × IsFirstRefusal g (next_stage f s) (k + 1) steps number why)) →
+          AreSteps g f (s ∷ steps) ⊎ ((number : ℕ) × (why : PlainWhy) × IsFirstRefusal g f k (s ∷ steps) number why)
       tested (Some why) fails allowed after = inr (k + 1, why, inl (refl, inl fails))
       tested None passes (inr least) after = inr (k + 1, stage_not_covered least.0, inl (refl, inr (passes, (least.0, least.1, refl))))
       tested None passes (inl allowed) after =
@@ -74,7 +74,7 @@ module _ (g : Graph) (is : IsMultigraph g) where
           ]
 
   -- a list whose first edge is one of the graph
-  pub ears_or_refusal : (list : PlainEars) → Within (size g) list.start → IsEarList g list ⊎ ((number : ℕ) × (why : Why) × IsRefused g list number why)
+  pub ears_or_refusal : (list : PlainEars) → Within (size g) list.start → IsEarList g list ⊎ ((number : ℕ) × (why : PlainWhy) × IsRefused g list number why)
   ears_or_refusal list start =
       let stage = first-stage g is list.start start in
       elim (steps_or_refusal (singleton list.start) 0 list.steps stage) [

@@ -13,7 +13,7 @@ use Rattle.graph_core.specs.Components.{IsConnected}
 use Rattle.graph_core.specs.Covered.{IsCovered}
 use Rattle.graph_core.specs.Graph.{Graph, IsMultigraph, first_end, second_end, size}
 use Rattle.graph_core.specs.Matchings.{HasPerfect}
-use Rattle.graph_core.specs.Tight.{HasNoTightCut}
+use Rattle.graph_core.specs.Tight.{HasOnlyTrivialTightCuts}
 use Rattle.theorems.proofs.CubicCuts.{perfect_size}
 use Rattle.theorems.specs.Braces.{IsTwoExtendable}
 use Rattle.theorems.proofs.TwoExtendable.{AreApart, extendable, not_extendable}
@@ -75,7 +75,7 @@ module _ (g : Graph) (is : IsMultigraph g) (six : 6 ≤ g.order) (joined : IsCon
     allowed = λ e w d. let f = beside_edge e w in let m = ext e f.0 w f.1 f.2 in (m.0, m.1, m.2);
   }
 
-pub brace_or_extendable : (g : Graph) (a : Set) → IsMultigraph g → IsSide g a → 6 ≤ g.order → (IsCovered g × HasNoTightCut g) ↔ (IsConnected g × HasPerfect g none × IsTwoExtendable g)
+pub brace_or_extendable : (g : Graph) (a : Set) → IsMultigraph g → IsSide g a → 6 ≤ g.order → (IsCovered g × HasOnlyTrivialTightCuts g) ↔ (IsConnected g × HasPerfect g none × IsTwoExtendable g)
 brace_or_extendable g a is two six = (
   (λ h. let c = h.0.connected in (c, covered_perfect g is.ends h.0, extendable g is h.0 a two h.1)),
   (λ h. let c = extendable_covered g is six h.0 h.1 h.2 in (c, not_extendable g is c a two h.2)),

@@ -151,6 +151,6 @@ pub all-joined : {A : Type 0} (P : A → Type 0) (xs ys : List A) → AllByRecur
 all-joined {A} P [] ys all more = more
 all-joined {A} P (x ∷ xs) ys all more = (all.0, all-joined P xs ys all.1 more)
 
-pub all-parted : {A : Type 0} (P : A → Type 0) (xs ys : List A) → AllByRecursion P (xs ++ ys) → AllByRecursion P xs × AllByRecursion P ys
-all-parted {A} P [] ys all = (tt, all)
-all-parted {A} P (x ∷ xs) ys all = let later = all-parted P xs ys all.1 in ((all.0, later.0), later.1)
+pub all-separated : {A : Type 0} (P : A → Type 0) (xs ys : List A) → AllByRecursion P (xs ++ ys) → AllByRecursion P xs × AllByRecursion P ys
+all-separated {A} P [] ys all = (tt, all)
+all-separated {A} P (x ∷ xs) ys all = let later = all-separated P xs ys all.1 in ((all.0, later.0), later.1)

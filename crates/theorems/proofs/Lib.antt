@@ -18,7 +18,7 @@ pub mod EarRefusals
 pub mod EarSteps
 pub mod LoneSteps
 pub mod ExtendableGraphs
-pub mod FirstParted
+pub mod FirstSeparated
 pub mod HetyeiEars
 pub mod HetyeiSides
 pub mod LaminarFamilies
@@ -34,7 +34,7 @@ pub mod Neighbourhoods
 pub mod NestedCuts
 pub mod NestedFamilies
 pub mod OutcomesExist
-pub mod Parted
+pub mod Separated
 pub mod PartitionSides
 pub mod PickedDerivations
 pub mod PlainDecompositions

@@ -60,7 +60,11 @@ module _ (g : Graph) (is : IsGraph g) (f : Set) where
   -- the rows of such a matching
   pub lone-rows : (m : Set) → LeadsAtTwo g f m → LeadsAtTwo g f (mem (edges_of (marked_matching g m)))
   lone-rows m x = (
-    x.0, x.1, x.2, x.3, x.4,
+    x.0,
+    x.1,
+    x.2,
+    x.3,
+    x.4,
     record {
       perfect = (perfect-rows g m x.5.perfect).perfect;
       part = λ e w t. x.5.part e w (rising_only (size g) m e (subst (λ xs. mem xs e ≡ true) (marked-edges g m) t)).1;

@@ -10,7 +10,7 @@ use Rattle.counting.proofs.Totals.{total_none}
 use Rattle.counting.specs.Counts.{Within, bit, count}
 use Rattle.counting.specs.Sets.{Set, complement, everything, singleton, union}
 use Rattle.graph_core.specs.Graph.{Graph, IsMultigraph, first_end, in_cut, inside, second_end, size}
-use Rattle.graph_core.specs.Tight.{HasNoTightCut, IsNontrivial}
+use Rattle.graph_core.specs.Tight.{HasOnlyTrivialTightCuts, IsNontrivial}
 use Rattle.grow_gen.specs.Cubic.{IsCubic}
 use Rattle.theorems.proofs.BrickFacts.{turned_cut}
 use Rattle.theorems.proofs.CubicCuts.{tight_three}
@@ -96,7 +96,7 @@ module _ (g : Graph) (is : IsMultigraph g) (cubic : IsCubic g) where
       some k c i h one = omega arith
 
   -- so no nontrivial cut is tight if each has four edges
-  pub wide_untight : ((x : Set) → IsNontrivial g.order x → 4 ≤ cut_size g x) → HasNoTightCut g
+  pub wide_untight : ((x : Set) → IsNontrivial g.order x → 4 ≤ cut_size g x) → HasOnlyTrivialTightCuts g
   wide_untight wide x t n =
       let w = wide x n in
       let three = tight_three g x is.ends cubic two t in absurd (omega arith)

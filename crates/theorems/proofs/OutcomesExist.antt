@@ -2,7 +2,7 @@
 -- that is missing. What a file is read as gives what the report asks of it: a graph file a graph
 -- within the limits, a tree file shores that are sets, an ear file an edge to begin with.
 use Rattle.std.proofs.Common.{◌≡◌, ◌⊎◌, ℕ, ◌≤◌, nat_lt, Bool, true, false, cond, List, length, Option, Some, None, Result, Ok, Err, refl, sym, ap, subst, inl, inr}
-use Rattle.outside.specs.Shelf.{Named, file_named}
+use Rattle.outside.specs.Shelf.{NamedFile, file_named}
 use Rattle.counting.specs.Counts.{Within}
 use Rattle.ear_core.specs.EarLists.{PlainEars}
 use Rattle.ear_text.proofs.EarsRead.{list-read}
@@ -77,7 +77,7 @@ then-of (All a) next b e = (a, refl, e)
 then-of (Bad file line fault) next b e = let no : ⊥ = cc e in absurd no
 then-of (Absent file) next b e = let no : ⊥ = cc e in absurd no
 
-module _ (files : List Named) where
+module _ (files : List NamedFile) where
   -- a graph
   graph-given : (name : List ℕ) (named : NamedGraph) → graph_file files name ≡ All named → IsGiven named
   graph-given name named e =
@@ -204,7 +204,7 @@ given-outcome (All given) tells = inr (tells given refl)
 given-outcome (Bad file line fault) tells = inr (BadInput, bad_input_text file line fault, (refl, refl))
 given-outcome (Absent file) tells = inl (file, refl)
 
-pub outcome-exists : (words : List (List ℕ)) (files : List Named) (command : Command) → command_of words ≡ Some command →
+pub outcome-exists : (words : List (List ℕ)) (files : List NamedFile) (command : Command) → command_of words ≡ Some command →
     ((file : ℕ) × (loaded files command ≡ Absent file)) ⊎ ((status : Status) × (output : List ℕ) × Outcome words files status output)
 outcome-exists words files command e = elim (given-outcome (loaded files command) (reported files command)) [
   | inl missing ↦ inl missing

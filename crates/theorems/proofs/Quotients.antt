@@ -19,7 +19,7 @@ use Rattle.graph_core.specs.Graph.{Graph, IsBipartite, IsGraph, first_end, in_cu
 use Rattle.graph_core.specs.Partitions.{AreBlocks, place}
 use Rattle.graph_core.specs.Quotients.{quotient}
 use Rattle.graph_core.specs.Shores.{IsUnion, blocks_in}
-use Rattle.graph_core.specs.Tight.{HasNoTightCut, IsNontrivial}
+use Rattle.graph_core.specs.Tight.{HasOnlyTrivialTightCuts, IsNontrivial}
 use Rattle.tree_core.proofs.CutsBelow.{covered-leaves}
 use Rattle.tree_core.proofs.DerivationLeaves.{partitions-leaves, uncut-leaves}
 use Rattle.tree_core.specs.Derivations.{IsDerivation, IsLeafAt}
@@ -28,7 +28,7 @@ use Rattle.tree_core.specs.Shapes.{Shape}
 use Rattle.theorems.specs.CutWords.{EndsInBrickOrBrace}
 
 module _ (g : Graph) (p : List (List ℕ)) (is : IsGraph g) (pp : AreBlocks g.order p) where
-  pub leaf-quotient : IsLeafAt g p → HasNoTightCut (quotient g p)
+  pub leaf-quotient : IsLeafAt g p → HasOnlyTrivialTightCuts (quotient g p)
   unfolding IsLeafAt
   leaf-quotient none x tight nontrivial =
       none y
@@ -44,7 +44,7 @@ module _ (g : Graph) (p : List (List ℕ)) (is : IsGraph g) (pp : AreBlocks g.or
       blocks : (i : ℕ) → Within (length p) i → x i ≡ blocks_in p y i
       blocks i w = sym (at_rep g.order p pp y union i w ∙ ap x (rep_place g.order p pp i w))
 
-  pub quotient-leaf : HasNoTightCut (quotient g p) → IsLeafAt g p
+  pub quotient-leaf : HasOnlyTrivialTightCuts (quotient g p) → IsLeafAt g p
   unfolding IsLeafAt
   quotient-leaf none x tight nontrivial =
       none (blocks_in p x) (tight_at_up g p is pp x tight) (subst (λ n. IsNontrivial n (blocks_in p x)) (sym (quotient-order g p)) nontrivial)

@@ -11,7 +11,7 @@ use Rattle.graph_core.specs.Covered.{IsCovered}
 use Rattle.graph_core.specs.Graph.{Graph, IsGraph}
 use Rattle.graph_core.specs.Matchings.{IsPerfect}
 use Rattle.graph_core.specs.Sides.{IsSide}
-use Rattle.graph_core.specs.Tight.{HasNoTightCut, IsNontrivial, IsTight}
+use Rattle.graph_core.specs.Tight.{HasOnlyTrivialTightCuts, IsNontrivial, IsTight}
 use Rattle.graph_core.specs.Walks.{Walk, adjacent}
 use Rattle.matching_digraph.proofs.ArcRows.{past-walks}
 use Rattle.matching_digraph.proofs.Shores.{second_member}
@@ -121,7 +121,7 @@ module _ (g : Graph) (is : IsGraph g) (cov : IsCovered g) (m : Set) (perfect : I
     pub mates_strong : NoneParts g a b ↔ IsStrongWithout g x m a b
     mates_strong = (strong, none_parts)
 
-  pub brace_strong : HasNoTightCut g ↔ ((a b : ℕ) → x a ≡ true → are_mates g m a b ≡ true → IsStrongWithout g x m a b)
+  pub brace_strong : HasOnlyTrivialTightCuts g ↔ ((a b : ℕ) → x a ≡ true → are_mates g m a b ≡ true → IsStrongWithout g x m a b)
   brace_strong = (
     (λ clear a b xa mates. strong a b mates xa (λ y t n ya yb. clear y t n)),
     (λ each y t n. none_at_all g is cov m perfect x two (λ a b wa wb xa mates. none_parts a b mates xa (each a b xa mates)) y t n),

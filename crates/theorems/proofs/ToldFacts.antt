@@ -3,7 +3,7 @@
 -- outcome computes to the record of its task.
 use Rattle.std.proofs.Common.{◌≡◌, ◌∙◌, ◌↔◌, ℕ, List, [], ◌∷◌, Option, Some, None, option_map, refl, sym, ap, subst, inl, inr}
 use Rattle.std.specs.Prelude.{codes}
-use Rattle.outside.specs.Shelf.{Named}
+use Rattle.outside.specs.Shelf.{NamedFile}
 use Rattle.brick_kit.proofs.Bricks.{brick_or_not}
 use Rattle.counting.specs.Lists.{mem}
 use Rattle.theorems.proofs.Quotients.{bricks-and_braces}
@@ -11,7 +11,7 @@ use Rattle.ear_text.specs.EarFormat.{ear_format}
 use Rattle.graph_core.specs.Covered.{IsCovered}
 use Rattle.graph_core.specs.Graph.{Graph, IsBipartite, IsMultigraph, size}
 use Rattle.graph_core.specs.Partitions.{singles}
-use Rattle.graph_core.specs.Tight.{HasNoTightCut, IsNontrivial, IsTight}
+use Rattle.graph_core.specs.Tight.{HasOnlyTrivialTightCuts, IsNontrivial, IsTight}
 use Rattle.graph_core.specs.declared.verdict.Kind.{Kind}
 use Rattle.graph_core.specs.declared.verdict.Kind.TheVariants.{Brace, Brick, Composite}
 use Rattle.graph_core.specs.declared.verdict.Verdict.{Verdict}
@@ -49,7 +49,7 @@ use Rattle.bench_top.proofs.TextsStand.{stands-ears}
 use Rattle.theorems.proofs.PlainDecompositions.{pairing-words, tree-words}
 use Rattle.theorems.specs.Outcomes.{TellsDecomposition, TellsEars, TellsKind, TellsPairing, TellsScript, TellsSets}
 
-graph-read : (files : List Named) (graph : List ℕ) (named : NamedGraph) → graph_file files graph ≡ All named → IsRead named.graph
+graph-read : (files : List NamedFile) (graph : List ℕ) (named : NamedGraph) → graph_file files graph ≡ All named → IsRead named.graph
 graph-read files graph named is = subst (Holds HasGraph) is (graph-holds files graph)
 
 -- what a command makes of what is held
@@ -61,10 +61,10 @@ never : (status : Status) → status ≡ Done → status ≡ Negative → ⊥
 never status done negative = let no : Done ≡ Negative = sym done ∙ negative in cc no
 
 -- `analyse`: the sets
-analysed : (files : List Named) (graph : List ℕ) (named : NamedGraph) (status : Status) (output : List ℕ) → graph_file files graph ≡ All named → Outcome (codes "analyse" ∷ graph ∷ []) files status output → Analysed named status output
+analysed : (files : List NamedFile) (graph : List ℕ) (named : NamedGraph) (status : Status) (output : List ℕ) → graph_file files graph ≡ All named → Outcome (codes "analyse" ∷ graph ∷ []) files status output → Analysed named status output
 analysed files graph named status output held gives = of_held (task.OnGraph Analyse) (graph_file files graph) named status output held gives
 
-pub told-sets : (files : List Named) (graph : List ℕ) (named : NamedGraph) (status : Status) (output : List ℕ) → graph_file files graph ≡ All named → Outcome (codes "analyse" ∷ graph ∷ []) files status output → (status ≡ Done) × TellsSets named output
+pub told-sets : (files : List NamedFile) (graph : List ℕ) (named : NamedGraph) (status : Status) (output : List ℕ) → graph_file files graph ≡ All named → Outcome (codes "analyse" ∷ graph ∷ []) files status output → (status ≡ Done) × TellsSets named output
 told-sets files graph named status output held gives =
     let r = analysed files graph named status output held gives in
     (r.done, record { lines = r.lines; d = r.right.d; a = r.right.a; c = r.right.c; text = r.text })
@@ -75,12 +75,12 @@ covered-structure g Covered None is cov right told = absurd told
 covered-structure g Covered (Some s) is cov right told = (s, refl, told)
 covered-structure g (NotCovered reason) structure is cov right told = absurd (reason-uncovered g (reason_of reason) is right cov)
 
-brace-kind : (g : Graph) (k : Kind) → IsKind g k → (k ≡ Brace) ↔ (IsBipartite g × HasNoTightCut g)
+brace-kind : (g : Graph) (k : Kind) → IsKind g k → (k ≡ Brace) ↔ (IsBipartite g × HasOnlyTrivialTightCuts g)
 brace-kind g Brace h = (λ e. h, λ q. refl)
 brace-kind g Brick h = (λ e. cc e, λ q. absurd (h.0 q.0))
 brace-kind g (Composite x) h = (λ e. cc e, λ q. absurd (q.1 _ h.0 h.1))
 
-brick-kind : (g : Graph) (k : Kind) → IsKind g k → (k ≡ Brick) ↔ ((¬ IsBipartite g) × HasNoTightCut g)
+brick-kind : (g : Graph) (k : Kind) → IsKind g k → (k ≡ Brick) ↔ ((¬ IsBipartite g) × HasOnlyTrivialTightCuts g)
 brick-kind g Brace h = (λ e. cc e, λ q. absurd (q.0 h.0))
 brick-kind g Brick h = (λ e. h, λ q. refl)
 brick-kind g (Composite x) h = (λ e. cc e, λ q. absurd (q.1 _ h.0 h.1))
@@ -88,7 +88,7 @@ brick-kind g (Composite x) h = (λ e. cc e, λ q. absurd (q.1 _ h.0 h.1))
 composite-kind : (g : Graph) (k : Kind) → IsKind g k → (x : List ℕ) → k ≡ Composite x → IsTight g (mem x) × IsNontrivial g.order (mem x)
 composite-kind g k h x e = subst (IsKind g) e h
 
-pub told-kind : (files : List Named) (graph : List ℕ) (named : NamedGraph) (status : Status) (output : List ℕ) → graph_file files graph ≡ All named → IsCovered named.graph → Outcome (codes "analyse" ∷ graph ∷ []) files status output → (status ≡ Done) × TellsKind named output
+pub told-kind : (files : List NamedFile) (graph : List ℕ) (named : NamedGraph) (status : Status) (output : List ℕ) → graph_file files graph ≡ All named → IsCovered named.graph → Outcome (codes "analyse" ∷ graph ∷ []) files status output → (status ≡ Done) × TellsKind named output
 told-kind files graph named status output held cov gives =
     let r = analysed files graph named status output held gives in
     let read = graph-read files graph named held in
@@ -125,15 +125,15 @@ decomposed picks named status output read cov (inl made) =
       },
     )
 
-in-order : (files : List Named) (graph : List ℕ) (named : NamedGraph) (status : Status) (output : List ℕ) → graph_file files graph ≡ All named → IsCovered named.graph → (order : Option NamedOrder) → CommandGives files (option_map (decompose_in graph) order) status output → (status ≡ Done) × TellsDecomposition named.graph output
+in-order : (files : List NamedFile) (graph : List ℕ) (named : NamedGraph) (status : Status) (output : List ℕ) → graph_file files graph ≡ All named → IsCovered named.graph → (order : Option NamedOrder) → CommandGives files (option_map (decompose_in graph) order) status output → (status ≡ Done) × TellsDecomposition named.graph output
 in-order files graph named status output held cov None gives = absurd gives
 in-order files graph named status output held cov (Some order) gives =
     decomposed _ named status output (graph-read files graph named held) cov (of_held (task.OnGraph (Decompose order)) (graph_file files graph) named status output held gives)
 
-pub told-decomposition : (files : List Named) (graph order : List ℕ) (named : NamedGraph) (status : Status) (output : List ℕ) → graph_file files graph ≡ All named → IsCovered named.graph → Outcome (codes "decompose" ∷ graph ∷ order ∷ []) files status output → (status ≡ Done) × TellsDecomposition named.graph output
+pub told-decomposition : (files : List NamedFile) (graph order : List ℕ) (named : NamedGraph) (status : Status) (output : List ℕ) → graph_file files graph ≡ All named → IsCovered named.graph → Outcome (codes "decompose" ∷ graph ∷ order ∷ []) files status output → (status ≡ Done) × TellsDecomposition named.graph output
 told-decomposition files graph order named status output held cov gives = in-order files graph named status output held cov (order_named order) gives
 
-pub told-picked : (files : List Named) (graph picks list : List ℕ) (named : NamedGraph) (status : Status) (output : List ℕ) → graph_file files graph ≡ All named → pick_file files picks ≡ All list → IsCovered named.graph → Outcome (codes "decompose" ∷ graph ∷ codes "script" ∷ picks ∷ []) files status output → (status ≡ Done) × TellsDecomposition named.graph output
+pub told-picked : (files : List NamedFile) (graph picks list : List ℕ) (named : NamedGraph) (status : Status) (output : List ℕ) → graph_file files graph ≡ All named → pick_file files picks ≡ All list → IsCovered named.graph → Outcome (codes "decompose" ∷ graph ∷ codes "script" ∷ picks ∷ []) files status output → (status ≡ Done) × TellsDecomposition named.graph output
 told-picked files graph picks list named status output held listed cov gives =
     decomposed _ named status output (graph-read files graph named held) cov
     (of_held (on_picks DecomposeBy) (picks_given files graph picks) (named, list) status output
@@ -152,7 +152,7 @@ scripted named s t status output done (inr (inl first)) = absurd (never status d
 scripted named s t status output done (inr (inr (inl second))) = absurd (never status done second.1.negative)
 scripted named s t status output done (inr (inr (inr not_covered))) = absurd (never status done not_covered.negative)
 
-pub told-pairing : (files : List Named) (graph first second : List ℕ) (named : NamedGraph) (s t : Shape) (status : Status) (output : List ℕ) → trees_given files graph first second ≡ All (named, (s, t)) → IsDerivation named.graph s → IsDerivation named.graph t → Outcome (codes "compare" ∷ graph ∷ first ∷ second ∷ []) files status output → (status ≡ Done) × TellsPairing named.graph s t output
+pub told-pairing : (files : List NamedFile) (graph first second : List ℕ) (named : NamedGraph) (s t : Shape) (status : Status) (output : List ℕ) → trees_given files graph first second ≡ All (named, (s, t)) → IsDerivation named.graph s → IsDerivation named.graph t → Outcome (codes "compare" ∷ graph ∷ first ∷ second ∷ []) files status output → (status ≡ Done) × TellsPairing named.graph s t output
 told-pairing files graph first second named s t status output held ds dt gives =
     let done = (done-given files (OnTrees Compare graph first second) (task.OnTrees Compare named s t) status output (ap (loaded_as (on_trees Compare)) held) gives).1 (ds, dt) in
     let r = compared named s t status output done (of_held (on_trees Compare) (trees_given files graph first second) (named, (s, t)) status output held gives) in (
@@ -166,7 +166,7 @@ told-pairing files graph first second named s t status output held ds dt gives =
       },
     )
 
-pub told-script : (files : List Named) (graph first second : List ℕ) (named : NamedGraph) (s t : Shape) (status : Status) (output : List ℕ) → trees_given files graph first second ≡ All (named, (s, t)) → IsDerivation named.graph s → IsDerivation named.graph t → Outcome (codes "script" ∷ graph ∷ first ∷ second ∷ []) files status output → (status ≡ Done) × TellsScript named.graph s t output
+pub told-script : (files : List NamedFile) (graph first second : List ℕ) (named : NamedGraph) (s t : Shape) (status : Status) (output : List ℕ) → trees_given files graph first second ≡ All (named, (s, t)) → IsDerivation named.graph s → IsDerivation named.graph t → Outcome (codes "script" ∷ graph ∷ first ∷ second ∷ []) files status output → (status ≡ Done) × TellsScript named.graph s t output
 told-script files graph first second named s t status output held ds dt gives =
     let done = (done-given files (OnTrees Script graph first second) (task.OnTrees Script named s t) status output (ap (loaded_as (on_trees Script)) held) gives).1 (ds, dt) in
     let r = scripted named s t status output done (of_held (on_trees Script) (trees_given files graph first second) (named, (s, t)) status output held gives) in
@@ -187,5 +187,5 @@ eared named status output read cov (inl made) = (
   },
 )
 
-pub told-ears : (files : List Named) (graph : List ℕ) (named : NamedGraph) (status : Status) (output : List ℕ) → graph_file files graph ≡ All named → IsCovered named.graph → Outcome (codes "ears" ∷ graph ∷ []) files status output → (status ≡ Done) × TellsEars named.graph output
+pub told-ears : (files : List NamedFile) (graph : List ℕ) (named : NamedGraph) (status : Status) (output : List ℕ) → graph_file files graph ≡ All named → IsCovered named.graph → Outcome (codes "ears" ∷ graph ∷ []) files status output → (status ≡ Done) × TellsEars named.graph output
 told-ears files graph named status output held cov gives = eared named status output (graph-read files graph named held) cov (of_held (task.OnGraph Ears) (graph_file files graph) named status output held gives)

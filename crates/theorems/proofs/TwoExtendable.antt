@@ -15,7 +15,7 @@ use Rattle.graph_core.proofs.Walks.{has_ends-back, has_ends-cases, has_ends-own}
 use Rattle.graph_core.specs.Covered.{IsCovered}
 use Rattle.graph_core.specs.Graph.{Graph, IsMultigraph, first_end, has_ends, in_cut, second_end, size}
 use Rattle.graph_core.specs.Matchings.{HasPerfect, IsEnd, Together}
-use Rattle.graph_core.specs.Tight.{HasNoTightCut, IsTight}
+use Rattle.graph_core.specs.Tight.{HasOnlyTrivialTightCuts, IsTight}
 use Rattle.matching_digraph.proofs.Balance.{equal_sides, other_side}
 use Rattle.matching_digraph.proofs.TightShores.{ends_within}
 use Rattle.quick_kinds.proofs.Braces.{braces}
@@ -141,7 +141,7 @@ module _ (g : Graph) (is : IsMultigraph g) (cov : IsCovered g) (a : Set) (two : 
           or_right (m.0 f || singleton e f) (f == f) (eq-eqb f f refl),
         )
 
-  pub extendable : HasNoTightCut g → IsTwoExtendable g
+  pub extendable : HasOnlyTrivialTightCuts g → IsTwoExtendable g
   extendable none_tight e f we wf apart = both ((braces g is.ends cov a two).0 none_tight) e f we wf apart
 
   -- a nontrivial tight cut has two edges without a common end
@@ -238,8 +238,8 @@ module _ (g : Graph) (is : IsMultigraph g) (cov : IsCovered g) (a : Set) (two : 
           ]
         ]
 
-  pub not_extendable : IsTwoExtendable g → HasNoTightCut g
+  pub not_extendable : IsTwoExtendable g → HasOnlyTrivialTightCuts g
   not_extendable ext x t wide = let z = leaning g is a two cov x t wide in none_leans z.0 z.1 ext
 
-  pub extendable_or_tight : HasNoTightCut g ↔ IsTwoExtendable g
+  pub extendable_or_tight : HasOnlyTrivialTightCuts g ↔ IsTwoExtendable g
   extendable_or_tight = (extendable, not_extendable)

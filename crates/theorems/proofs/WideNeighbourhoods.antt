@@ -16,7 +16,7 @@ use Rattle.graph_core.proofs.Contraction.{tight_from_cut}
 use Rattle.graph_core.proofs.Decide.{covered_perfect}
 use Rattle.graph_core.specs.Covered.{IsCovered}
 use Rattle.graph_core.specs.Graph.{Graph, IsMultigraph}
-use Rattle.graph_core.specs.Tight.{HasNoTightCut, IsTight}
+use Rattle.graph_core.specs.Tight.{HasOnlyTrivialTightCuts, IsTight}
 use Rattle.graph_core.specs.Walks.{adjacent}
 use Rattle.theorems.proofs.Neighbourhoods.{both_count, ends_cross, leaning, near_count, near_out, neighbour_edge, surplus}
 use Rattle.theorems.specs.Braces.{HasWideNeighbourhoods, neighbourhood}
@@ -28,7 +28,7 @@ module _ (g : Graph) (is : IsMultigraph g) (cov : IsCovered g) (a : Set) (two : 
       let c = count_split g.order a s in
       let d : count g.order (meet a s) ≡ count g.order s = count_congr g.order _ _ (λ v w. and_implied (a v) (s v) (sub v)) in omega arith
 
-  two_more : HasNoTightCut g → (s : Set) → ((v : ℕ) → s v ≡ true → a v ≡ true) → 1 ≤ count g.order s → count g.order s + 2 ≤ count g.order a → count g.order s + 2 ≤ count g.order (neighbourhood g s)
+  two_more : HasOnlyTrivialTightCuts g → (s : Set) → ((v : ℕ) → s v ≡ true → a v ≡ true) → 1 ≤ count g.order s → count g.order s + 2 ≤ count g.order a → count g.order s + 2 ≤ count g.order (neighbourhood g s)
   two_more none_tight s sub some small = elim (cases_lt (count g.order s + 1) (count g.order (neighbourhood g s))) [
     | inl l ↦ omega arith
     | inr l ↦
@@ -49,14 +49,14 @@ module _ (g : Graph) (is : IsMultigraph g) (cov : IsCovered g) (a : Set) (two : 
   ]
 
   -- what a set has past the last vertex plays no part
-  wide : HasNoTightCut g → HasWideNeighbourhoods g a
+  wide : HasOnlyTrivialTightCuts g → HasWideNeighbourhoods g a
   wide none_tight s sub some small =
       let same : (v : ℕ) → Within g.order v → meet a s v ≡ s v = λ v w. and_implied (a v) (s v) (sub v w) in
       let c : count g.order (meet a s) ≡ count g.order s = count_congr g.order _ _ same in
       let d : count g.order (neighbourhood g (meet a s)) ≡ count g.order (neighbourhood g s) = count_congr g.order _ _ (λ v w. some_congr g.order _ _ (λ u x. ap (λ k. k && adjacent g none u v) (same u x))) in
       let t = two_more none_tight (meet a s) (λ v h. (and_parts (a v) (s v) h).0) (omega arith) (omega arith) in omega arith
 
-  narrow : HasWideNeighbourhoods g a → HasNoTightCut g
+  narrow : HasWideNeighbourhoods g a → HasOnlyTrivialTightCuts g
   narrow wide x t nontrivial =
       let z = leaning g is a two cov x t nontrivial in
       let l = z.1 in
@@ -67,5 +67,5 @@ module _ (g : Graph) (is : IsMultigraph g) (cov : IsCovered g) (a : Set) (two : 
       and_from (z.0 v) (not (a v)) (l.closed e.0 v e.1 e.4 e.5 p.0 p.1) (sym (ends_cross g is a two e.0 v e.1 e.4 e.5) ∙ p.1)) in
       let many = wide (meet z.0 a) (λ v w h. (and_parts (z.0 v) (a v) h).1) l.some_in l.some_out in absurd (omega arith)
 
-  pub wide_or_tight : HasNoTightCut g ↔ HasWideNeighbourhoods g a
+  pub wide_or_tight : HasOnlyTrivialTightCuts g ↔ HasWideNeighbourhoods g a
   wide_or_tight = (wide, narrow)

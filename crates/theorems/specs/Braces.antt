@@ -1,5 +1,6 @@
 -- Neighbourhoods and 2-extendable graphs, and the digraph of a perfect matching (Plummer 1986;
 -- Lovász and Plummer, "Matching Theory").
+-- Stated by: theorems.
 use Rattle.std.specs.Prelude.{◌≡◌, ◌≢◌, ℕ, ◌+◌, ◌≤◌, Bool, ◌==◌, ◌&&◌, not, true, List}
 use Rattle.counting.specs.Counts.{Within, count}
 use Rattle.counting.specs.Sets.{Set, none}

@@ -1,5 +1,6 @@
 -- 3-connected graphs, and the two kinds of tight cuts (Edmonds, Lovász and Pulleyblank 1982). A
 -- barrier cut is given by the barrier, and a 2-separation cut by the cut pair.
+-- Stated by: theorems.
 use Rattle.std.specs.Prelude.{◌≡◌, ℕ, ◌≤◌, ◌⊎◌, false, not}
 use Rattle.counting.specs.Counts.{Within, count}
 use Rattle.counting.specs.Sets.{Set, pair_set, singleton, union}

@@ -1,4 +1,5 @@
 -- Cuts by their number of edges, and graphs without a bridge. Any textbook.
+-- Stated by: theorems.
 use Rattle.std.specs.Prelude.{◌≡◌, ℕ, ◌≤◌, true, false}
 use Rattle.counting.specs.Counts.{Within}
 use Rattle.counting.specs.Sets.{Set, everything}

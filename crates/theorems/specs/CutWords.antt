@@ -1,5 +1,6 @@
 -- Bricks and braces (Lovász 1987; Lucchesi and Murty, "Perfect Matchings"), and the pairs of
 -- vertices that tight sets separate.
+-- Stated by: theorems.
 use Rattle.std.specs.Prelude.{◌≢◌, ℕ, List, ◌⊎◌}
 use Rattle.counting.specs.Counts.{Within}
 use Rattle.counting.specs.Lists.{ComesBefore}
@@ -9,7 +10,7 @@ use Rattle.graph_core.specs.Graph.{Graph}
 use Rattle.graph_core.specs.Quotients.{quotient}
 use Rattle.graph_core.specs.declared.verdict.Kind.TheVariants as kind
 use Rattle.leaf_kinds.specs.LeafKinds.{IsKind}
-use Rattle.tight_cuts.specs.Pieces.{PartsTightly}
+use Rattle.tight_cuts.specs.Pieces.{SeparatesTightly}
 
 -- a brace: a bipartite matching covered graph without nontrivial tight cut
 abbrev pub IsBrace : Graph → Type 0
@@ -25,12 +26,12 @@ EndsInBrickOrBrace g p = IsBrick (quotient g p) ⊎ IsBrace (quotient g p)
 
 -- both vertices of the pair differ from a and b, and some tight set has a and the first of them
 -- and neither b nor the second
-abbrev pub IsParted : Graph → (a b : ℕ) → ℕ × ℕ → Type 0
-IsParted g a b k = ((k.0 ≢ a) × (k.0 ≢ b)) × ((k.1 ≢ a) × (k.1 ≢ b)) × ((z : Set) × PartsTightly g a b k z)
+abbrev pub IsSeparated : Graph → (a b : ℕ) → ℕ × ℕ → Type 0
+IsSeparated g a b k = ((k.0 ≢ a) × (k.0 ≢ b)) × ((k.1 ≢ a) × (k.1 ≢ b)) × ((z : Set) × SeparatesTightly g a b k z)
 
 -- k is the first such pair of vertices in lexicographic order
-pub record IsFirstParted (g : Graph) (a b : ℕ) (k : ℕ × ℕ) : Type 0 where
+pub record IsFirstSeparated (g : Graph) (a b : ℕ) (k : ℕ × ℕ) : Type 0 where
   pub first : Within g.order k.0
   pub second : Within g.order k.1
-  pub parted : IsParted g a b k
-  pub before : (l : ℕ × ℕ) → Within g.order l.0 → Within g.order l.1 → ComesBefore l k → IsParted g a b l → ⊥
+  pub separated : IsSeparated g a b k
+  pub before : (l : ℕ × ℕ) → Within g.order l.0 → Within g.order l.1 → ComesBefore l k → IsSeparated g a b l → ⊥

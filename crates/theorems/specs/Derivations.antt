@@ -2,6 +2,7 @@
 -- braces (Lovász 1987).
 -- Idea: a rule may do as it likes, as long as it picks a cut wherever there is one; and what some
 -- derivation counts, each one does.
+-- Stated by: theorems.
 use Rattle.std.specs.Prelude.{◌≡◌, ℕ, ◌+◌, ◌<◌, List, length}
 use Rattle.graph_core.specs.Graph.{Graph}
 use Rattle.tree_core.specs.Tallies.{IsTally}

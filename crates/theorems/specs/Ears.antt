@@ -1,5 +1,6 @@
 -- Ear decompositions: how many ears one has.
 -- Idea: a step adds one ear or two.
+-- Stated by: theorems.
 use Rattle.std.specs.Prelude.{ℕ, ◌+◌, List, [], ◌∷◌}
 use Rattle.ear_core.specs.EarLists.{PlainStep, one, two}
 

@@ -1,5 +1,6 @@
 -- The Gallai-Edmonds sets as sets, the components that they induce, and how a matching meets them
 -- (Gallai 1964; Edmonds 1965; Lovász and Plummer, "Matching Theory", section 3.2).
+-- Stated by: theorems.
 use Rattle.std.specs.Prelude.{◌≡◌, ◌↔◌, ℕ, ◌+◌, ◌*◌, ◌&&◌, true}
 use Rattle.counting.specs.Counts.{count, Within}
 use Rattle.counting.specs.Sets.{Set, complement, minus, singleton}

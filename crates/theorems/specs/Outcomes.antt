@@ -1,6 +1,7 @@
 -- What the outputs of the program say, in the words of a textbook: the Gallai-Edmonds sets, a
 -- tight cut decomposition, a pairing of the leaves of two decompositions, the kind of a graph, an
 -- ear decomposition, a script of moves.
+-- Stated by: theorems.
 use Rattle.std.specs.Prelude.{◌≡◌, ◌↔◌, ℕ, List, All, Some, false, length}
 use Rattle.std.specs.List.{AllByRecursion}
 use Rattle.std.specs.Option.{ForSome}
@@ -9,7 +10,7 @@ use Rattle.graph_core.specs.GallaiEdmonds.{InA, InC, InD}
 use Rattle.graph_core.specs.Graph.{Graph, IsBipartite, size}
 use Rattle.graph_core.specs.Partitions.{singles}
 use Rattle.graph_core.specs.Structure.{IsBicritical, IsCutPair}
-use Rattle.graph_core.specs.Tight.{HasNoTightCut, IsNontrivial, IsTight}
+use Rattle.graph_core.specs.Tight.{HasOnlyTrivialTightCuts, IsNontrivial, IsTight}
 use Rattle.graph_core.specs.View.{IsWithinLimits}
 use Rattle.graph_core.specs.declared.verdict.Kind.TheVariants.{Brace, Brick, Composite}
 use Rattle.graph_text.specs.EitherVersion.{NamedGraph}
@@ -68,8 +69,8 @@ pub record TellsKind (named : NamedGraph) (output : List ℕ) : Type 0 where
   pub lines : AnalysisLines
   pub structure : Structure
   pub told : lines.structure ≡ Some structure
-  pub brace : (structure.kind ≡ Brace) ↔ (IsBipartite named.graph × HasNoTightCut named.graph)
-  pub brick : (structure.kind ≡ Brick) ↔ ((¬ IsBipartite named.graph) × HasNoTightCut named.graph)
+  pub brace : (structure.kind ≡ Brace) ↔ (IsBipartite named.graph × HasOnlyTrivialTightCuts named.graph)
+  pub brick : (structure.kind ≡ Brick) ↔ ((¬ IsBipartite named.graph) × HasOnlyTrivialTightCuts named.graph)
   pub solid : (structure.kind ≡ Brick) ↔ ((¬ IsBipartite named.graph) × IsBicritical named.graph × ((u v : ℕ) → ¬ IsCutPair named.graph u v))
   pub composite : (x : List ℕ) → structure.kind ≡ Composite x → IsTight named.graph (mem x) × IsNontrivial named.graph.order (mem x)
   pub text : output ≡ with_given_names (analysis_text lines) named.names false

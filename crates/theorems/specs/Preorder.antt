@@ -1,4 +1,5 @@
 -- The nodes of a tree of cuts in preorder, by the paths that lead to them from the root.
+-- Stated by: theorems.
 use Rattle.std.specs.Prelude.{List, [], ◌∷◌}
 use Rattle.counting.specs.Lists.{IsIn}
 use Rattle.tree_core.specs.declared.path.Side.{Side}

@@ -1,6 +1,7 @@
 -- Families of tight cuts of which no two cross, trees of tight cuts, and pairings of their leaves
 -- (Lovász 1987; Lucchesi and Murty, "Perfect Matchings"). A cut is given by its canonical shore,
 -- the one without the greatest vertex.
+-- Stated by: theorems.
 use Rattle.std.specs.Prelude.{◌≡◌, ℕ, ◌≤◌, true, false, List, [], ◌∷◌, length}
 use Rattle.counting.specs.Counts.{Within}
 use Rattle.counting.specs.Lists.{IsIn, mem}

@@ -8,7 +8,7 @@ ghost use Rattle.graph_core.specs.Components.{IsConnected};
 ghost use Rattle.graph_core.specs.Covered.{IsCovered};
 ghost use Rattle.graph_core.specs.Graph.{Graph, IsGraph, IsMultigraph};
 ghost use Rattle.graph_core.specs.Matchings.{HasPerfect, IsPerfect};
-ghost use Rattle.graph_core.specs.Tight.{HasNoTightCut};
+ghost use Rattle.graph_core.specs.Tight.{HasOnlyTrivialTightCuts};
 ghost use Rattle.graph_core.specs.Sides.{IsSide};
 ghost use Rattle.matching_digraph.specs.Digraph.{NoneParts, are_mates};
 ghost use Rattle.quick_kinds.specs.Braces.{AreFoursMatched};
@@ -22,13 +22,13 @@ ghost use Rattle.theorems.specs.Braces.{HasWideNeighbourhoods, IsStrongWithout, 
 /// has a perfect matching and is 2-extendable (Lovász 1987; Plummer 1986).
 pub fn braces_law()
     ensures fours { (g : Graph) (a : Set) → IsGraph g → IsCovered g → IsSide g a →
-        HasNoTightCut g ↔ AreFoursMatched g a }
+        HasOnlyTrivialTightCuts g ↔ AreFoursMatched g a }
     ensures neighbourhoods { (g : Graph) (a : Set) → IsMultigraph g → IsCovered g → IsSide g a →
-        HasNoTightCut g ↔ HasWideNeighbourhoods g a }
+        HasOnlyTrivialTightCuts g ↔ HasWideNeighbourhoods g a }
     ensures two_edges { (g : Graph) (a : Set) → IsMultigraph g → IsCovered g → IsSide g a →
-        HasNoTightCut g ↔ IsTwoExtendable g }
+        HasOnlyTrivialTightCuts g ↔ IsTwoExtendable g }
     ensures connected { (g : Graph) (a : Set) → IsMultigraph g → IsSide g a → 6 ≤ g.order →
-        (IsCovered g × HasNoTightCut g) ↔
+        (IsCovered g × HasOnlyTrivialTightCuts g) ↔
         (IsConnected g × HasPerfect g none × IsTwoExtendable g) }
 {}
 
@@ -43,6 +43,6 @@ pub fn strong_digraph_law()
         NoneParts g a b ↔ IsStrongWithout g x m a b }
     ensures brace { (g : Graph) (x m : Set) →
         IsGraph g → IsCovered g → IsSide g x → IsPerfect g none m →
-        HasNoTightCut g ↔ ((a b : ℕ) → x a ≡ true → are_mates g m a b ≡ true →
+        HasOnlyTrivialTightCuts g ↔ ((a b : ℕ) → x a ≡ true → are_mates g m a b ≡ true →
         IsStrongWithout g x m a b) }
 {}

@@ -7,7 +7,7 @@ ghost use Rattle.counting.specs.Sets.{Set};
 ghost use Rattle.graph_core.specs.Covered.{IsCovered};
 ghost use Rattle.graph_core.specs.Graph.{Graph, IsBipartite, IsGraph, IsMultigraph};
 ghost use Rattle.graph_core.specs.Structure.{IsBarrier, IsBicritical, IsCutPair};
-ghost use Rattle.graph_core.specs.Tight.{HasNoTightCut, IsNontrivial, IsTight};
+ghost use Rattle.graph_core.specs.Tight.{HasOnlyTrivialTightCuts, IsNontrivial, IsTight};
 ghost use Rattle.barrier_kit.specs.BarrierCuts.{BarrierCut};
 ghost use Rattle.graph_core.specs.Sides.{IsSide};
 ghost use Rattle.theorems.specs.Bricks.{IsBarrierCutOf, IsThreeConnected, SeparationCut};
@@ -25,11 +25,11 @@ pub fn elp_law()
     ensures bipartite { (g : Graph) (a x : Set) → IsGraph g → IsCovered g → IsSide g a →
         IsTight g x → (s : Set) × IsBarrierCutOf g x s }
     ensures brick { (g : Graph) → IsMultigraph g →
-        (IsCovered g × (¬ (IsBipartite g)) × HasNoTightCut g) ↔
+        (IsCovered g × (¬ (IsBipartite g)) × HasOnlyTrivialTightCuts g) ↔
         ((4 ≤ g.order) × IsBicritical g × ((u v : ℕ) → ¬ (IsCutPair g u v))) }
     ensures connected { (g : Graph) → IsGraph g → 4 ≤ g.order →
         ((u v : ℕ) → ¬ (IsCutPair g u v)) ↔ IsThreeConnected g }
     ensures three_connected { (g : Graph) → IsMultigraph g →
-        (IsCovered g × (¬ (IsBipartite g)) × HasNoTightCut g) ↔
+        (IsCovered g × (¬ (IsBipartite g)) × HasOnlyTrivialTightCuts g) ↔
         (IsThreeConnected g × IsBicritical g) }
 {}

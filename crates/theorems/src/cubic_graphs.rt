@@ -7,7 +7,7 @@ ghost use Rattle.counting.specs.Sets.{Set};
 ghost use Rattle.graph_core.specs.Components.{IsConnected};
 ghost use Rattle.graph_core.specs.Covered.{IsCovered};
 ghost use Rattle.graph_core.specs.Graph.{Graph, IsMultigraph};
-ghost use Rattle.graph_core.specs.Tight.{HasNoTightCut, IsNontrivial, IsTight};
+ghost use Rattle.graph_core.specs.Tight.{HasOnlyTrivialTightCuts, IsNontrivial, IsTight};
 ghost use Rattle.grow_gen.specs.Cubic.{IsCubic};
 ghost use Rattle.graph_core.specs.Sides.{IsSide};
 ghost use Rattle.theorems.specs.CubicGraphs.{IsTwoEdgeConnected, cut_size};
@@ -26,9 +26,9 @@ pub fn cubic_law()
     ensures narrow { (g : Graph) (a x : Set) → IsMultigraph g → IsCubic g → IsSide g a →
         cut_size g x ≡ 3 → IsTight g x }
     ensures wide { (g : Graph) → IsMultigraph g → IsCubic g →
-        ((x : Set) → IsNontrivial g.order x → 4 ≤ cut_size g x) → HasNoTightCut g }
+        ((x : Set) → IsNontrivial g.order x → 4 ≤ cut_size g x) → HasOnlyTrivialTightCuts g }
     ensures sides { (g : Graph) (a : Set) → IsMultigraph g → IsCubic g → IsSide g a →
         IsConnected g → IsTwoEdgeConnected g }
     ensures brace { (g : Graph) (a : Set) → IsMultigraph g → IsCubic g → IsSide g a →
-        HasNoTightCut g ↔ ((x : Set) → IsNontrivial g.order x → cut_size g x ≢ 3) }
+        HasOnlyTrivialTightCuts g ↔ ((x : Set) → IsNontrivial g.order x → cut_size g x ≢ 3) }
 {}

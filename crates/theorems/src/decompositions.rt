@@ -4,7 +4,7 @@ ghost use Rattle.std.specs.Prelude.{ℕ, List, ◌↔◌, All};
 ghost use Rattle.graph_core.specs.Graph.{Graph, IsGraph};
 ghost use Rattle.graph_core.specs.Partitions.{AreBlocks};
 ghost use Rattle.graph_core.specs.Quotients.{quotient};
-ghost use Rattle.graph_core.specs.Tight.{HasNoTightCut};
+ghost use Rattle.graph_core.specs.Tight.{HasOnlyTrivialTightCuts};
 ghost use Rattle.tree_core.specs.Derivations.{IsDerivation, IsLeafAt, IsTightShore};
 ghost use Rattle.tree_core.specs.Leaves.{leaves};
 ghost use Rattle.tree_core.specs.Shapes.{Shape, shores};
@@ -13,7 +13,7 @@ ghost use Rattle.theorems.specs.CutWords.{EndsInBrickOrBrace};
 /// A partition is a leaf exactly when its quotient has no nontrivial tight cut.
 pub fn leaf_law()
     ensures { (g : Graph) (p : List (List ℕ)) → IsGraph g → AreBlocks g.order p →
-        (IsLeafAt g p ↔ HasNoTightCut (quotient g p)) }
+        (IsLeafAt g p ↔ HasOnlyTrivialTightCuts (quotient g p)) }
 {}
 
 /// A tight cut decomposition ends in bricks and braces (Lovász 1987): each shore of a derivation

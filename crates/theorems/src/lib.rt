@@ -37,7 +37,7 @@ mod trees;
 
 pub use braces::{braces_law, strong_digraph_law};
 pub use bricks::elp_law;
-pub use candidates::{first_parted_law, third_part_law};
+pub use candidates::{first_separated_law, third_part_law};
 pub use cubic_graphs::cubic_law;
 pub use cuts::laminar_law;
 pub use decompositions::{bricks_and_braces_law, leaf_law};

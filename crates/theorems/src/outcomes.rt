@@ -3,7 +3,7 @@
 //! Each law here is the contract of a function that does nothing.
 ghost use Rattle.std.specs.Prelude.{◌≡◌, ◌⊎◌, ℕ, List, [], ◌∷◌, Some, codes};
 ghost use Rattle.counting.specs.Counts.{Within};
-ghost use Rattle.outside.specs.Shelf.{Named};
+ghost use Rattle.outside.specs.Shelf.{NamedFile};
 ghost use Rattle.graph_core.specs.Covered.{IsCovered};
 ghost use Rattle.graph_core.specs.Graph.{Graph, IsMultigraph, size};
 ghost use Rattle.graph_text.specs.EitherVersion.{NamedGraph};
@@ -40,40 +40,40 @@ ghost use Rattle.theorems.specs.Outcomes.{IsGiven, TellsDecomposition, TellsEars
 /// Gallai 1964; Edmonds 1965; Lovász 1987; Edmonds, Lovász and Pulleyblank 1982; Lovász and
 /// Plummer, "Matching Theory".
 pub fn headline_law()
-    ensures sets { (files : List Named) (graph : List ℕ) (named : NamedGraph)
+    ensures sets { (files : List NamedFile) (graph : List ℕ) (named : NamedGraph)
         (status : Status) (output : List ℕ)
         → graph_file files graph ≡ All named
         → Outcome (codes "analyse" ∷ graph ∷ []) files status output
         → (status ≡ Done) × TellsSets named output }
-    ensures decompositions { (files : List Named) (graph order : List ℕ) (named : NamedGraph)
+    ensures decompositions { (files : List NamedFile) (graph order : List ℕ) (named : NamedGraph)
         (status : Status) (output : List ℕ)
         → graph_file files graph ≡ All named → IsCovered named.graph
         → Outcome (codes "decompose" ∷ graph ∷ order ∷ []) files status output
         → (status ≡ Done) × TellsDecomposition named.graph output }
-    ensures picks { (files : List Named) (graph picks list : List ℕ) (named : NamedGraph)
+    ensures picks { (files : List NamedFile) (graph picks list : List ℕ) (named : NamedGraph)
         (status : Status) (output : List ℕ)
         → graph_file files graph ≡ All named → pick_file files picks ≡ All list
         → IsCovered named.graph
         → Outcome (codes "decompose" ∷ graph ∷ codes "script" ∷ picks ∷ []) files status output
         → (status ≡ Done) × TellsDecomposition named.graph output }
-    ensures comparisons { (files : List Named) (graph first second : List ℕ)
+    ensures comparisons { (files : List NamedFile) (graph first second : List ℕ)
         (named : NamedGraph) (s t : Shape) (status : Status) (output : List ℕ)
         → trees_given files graph first second ≡ All (named, (s, t))
         → IsDerivation named.graph s → IsDerivation named.graph t
         → Outcome (codes "compare" ∷ graph ∷ first ∷ second ∷ []) files status output
         → (status ≡ Done) × TellsPairing named.graph s t output }
-    ensures scripts { (files : List Named) (graph first second : List ℕ)
+    ensures scripts { (files : List NamedFile) (graph first second : List ℕ)
         (named : NamedGraph) (s t : Shape) (status : Status) (output : List ℕ)
         → trees_given files graph first second ≡ All (named, (s, t))
         → IsDerivation named.graph s → IsDerivation named.graph t
         → Outcome (codes "script" ∷ graph ∷ first ∷ second ∷ []) files status output
         → (status ≡ Done) × TellsScript named.graph s t output }
-    ensures kinds { (files : List Named) (graph : List ℕ) (named : NamedGraph)
+    ensures kinds { (files : List NamedFile) (graph : List ℕ) (named : NamedGraph)
         (status : Status) (output : List ℕ)
         → graph_file files graph ≡ All named → IsCovered named.graph
         → Outcome (codes "analyse" ∷ graph ∷ []) files status output
         → (status ≡ Done) × TellsKind named output }
-    ensures ears { (files : List Named) (graph : List ℕ) (named : NamedGraph)
+    ensures ears { (files : List NamedFile) (graph : List ℕ) (named : NamedGraph)
         (status : Status) (output : List ℕ)
         → graph_file files graph ≡ All named → IsCovered named.graph
         → Outcome (codes "ears" ∷ graph ∷ []) files status output
@@ -107,12 +107,14 @@ pub fn report_exists_law()
         (status : Status) × (output : List ℕ) × ResultOf (OnTree Check named t) status output }
     ensures check_ears { (named : NamedGraph) (list : PlainEars) → IsMultigraph named.graph →
         Within (size named.graph) list.start →
-        (status : Status) × (output : List ℕ) × ResultOf (OnEars CheckEars named list) status output }
+        (status : Status) × (output : List ℕ) × ResultOf
+        (OnEars CheckEars named list) status output }
     ensures ears { (named : NamedGraph) → IsMultigraph named.graph →
         (status : Status) × (output : List ℕ) × ResultOf (OnGraph Ears named) status output }
     ensures replay { (named : NamedGraph) (t : Shape) (moves : List PlainMove) →
         IsMultigraph named.graph → HasShores named.graph.order t →
-        (status : Status) × (output : List ℕ) × ResultOf (OnMoves Replay named t moves) status output }
+        (status : Status) × (output : List ℕ) × ResultOf
+        (OnMoves Replay named t moves) status output }
     ensures compare { (named : NamedGraph) (s t : Shape) → IsMultigraph named.graph →
         HasShores named.graph.order s → HasShores named.graph.order t →
         (status : Status) × (output : List ℕ) × ResultOf (OnTrees Compare named s t) status output }
@@ -120,11 +122,12 @@ pub fn report_exists_law()
         HasShores named.graph.order s → HasShores named.graph.order t →
         (status : Status) × (output : List ℕ) × ResultOf (OnTrees Script named s t) status output }
     ensures grow { (seed pieces : ℕ) →
-        (status : Status) × (output : List ℕ) × ResultOf (OnNumbers Grow seed pieces) status output }
-    ensures task { (files : List Named) (command : Command) (task : Task) →
+        (status : Status) × (output : List ℕ) × ResultOf
+        (OnNumbers Grow seed pieces) status output }
+    ensures task { (files : List NamedFile) (command : Command) (task : Task) →
         loaded files command ≡ All task →
         (status : Status) × (output : List ℕ) × ResultOf task status output }
-    ensures outcome { (words : List (List ℕ)) (files : List Named) (command : Command) →
+    ensures outcome { (words : List (List ℕ)) (files : List NamedFile) (command : Command) →
         command_of words ≡ Some command →
         ((file : ℕ) × (loaded files command ≡ Absent file)) ⊎
         ((status : Status) × (output : List ℕ) × Outcome words files status output) }

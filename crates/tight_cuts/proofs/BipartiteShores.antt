@@ -19,10 +19,10 @@ use Rattle.tight_cuts.proofs.EdgeLoop.{ends_between}
 use Rattle.tight_cuts.specs.EdgeDigraphs.{IsDigraphAt}
 use Rattle.tight_cuts.proofs.EdgeShores.{greater_within, lesser_within}
 use Rattle.tight_cuts.proofs.FirstPairs.{no_first}
-use Rattle.tight_cuts.proofs.LeastShores.{common_from, common_in, parted_says, parts_nontrivial}
-use Rattle.tight_cuts.specs.Candidates.{common_shore, first_parted, greater_end, is_parted, lesser_end}
+use Rattle.tight_cuts.proofs.LeastShores.{common_from, common_in, separated_says, parts_nontrivial}
+use Rattle.tight_cuts.specs.Candidates.{common_shore, first_separated, greater_end, is_separated, lesser_end}
 use Rattle.tight_cuts.specs.EdgeSearch.{IsCommonShore, IsShoreOfEdge}
-use Rattle.tight_cuts.specs.Pieces.{PartsTightly}
+use Rattle.tight_cuts.specs.Pieces.{SeparatesTightly}
 
 module _ (g : Graph) (lim : IsWithinLimits g) (cov : IsCovered g) (e : ℕ) (we : Within (size g) e) where
   abbrev a : ℕ
@@ -49,13 +49,13 @@ module _ (g : Graph) (lim : IsWithinLimits g) (cov : IsCovered g) (e : ℕ) (we 
       wb : Within g.order (greater_end g e)
       wb = greater_within g lim cov e we
 
-      parts : PartsTightly g (lesser_end g e) (greater_end g e) (x, greater_end g e) (mem z)
+      parts : SeparatesTightly g (lesser_end g e) (greater_end g e) (x, greater_end g e) (mem z)
       parts = record { tight = least.tight; has_a = least.has_a; has_x = least.has_r; lacks_b = least.lacks_b; lacks_y = least.lacks_b }
 
   -- if no nontrivial tight shore has the lesser end and not the greater, no pair is separated
-  pub unparted_none : NoneParts g a b → first_parted g e ≡ None
-  unparted_none clear = no_first g.order (is_parted g a b) (λ x y wx wy. false_from_ne_true (is_parted g a b (x, y)) (λ t.
-      let p = parted_says g a b (x, y) t in
+  pub inseparable_none : NoneParts g a b → first_separated g e ≡ None
+  inseparable_none clear = no_first g.order (is_separated g a b) (λ x y wx wy. false_from_ne_true (is_separated g a b (x, y)) (λ t.
+      let p = separated_says g a b (x, y) t in
       let z = p.2.0 in
       let q = p.2.1 in
       clear z q.tight
@@ -65,7 +65,7 @@ module _ (g : Graph) (lim : IsWithinLimits g) (cov : IsCovered g) (e : ℕ) (we 
       q.has_a q.lacks_b))
 
 -- an answer of nothing is right if no pair is separated
-pub nothing_at : (g : Graph) (e : ℕ) → first_parted g e ≡ None → IsShoreOfEdge g e None
+pub nothing_at : (g : Graph) (e : ℕ) → first_separated g e ≡ None → IsShoreOfEdge g e None
 nothing_at g e h = record { some = λ s q. absurd cc; none = λ q. h }
 
 -- a digraph of g with that side and that matching is one at the edge

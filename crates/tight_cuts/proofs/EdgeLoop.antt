@@ -6,7 +6,7 @@ use Rattle.std.proofs.lemmas.List.Folds.{list_any-append}
 use Rattle.std.proofs.lemmas.List.Sums.{fold_push}
 use Rattle.std.specs.List.{AllPairs, list_any}
 use Rattle.std.specs.Prelude.{All, if◌then◌else◌, find, fold}
-use Rattle.tight_cuts.specs.Candidates.{ShoresDiffer, Flow, cuts, lesser_end, greater_end, first_parted}
+use Rattle.tight_cuts.specs.Candidates.{ShoresDiffer, Flow, cuts, lesser_end, greater_end, first_separated}
 use Rattle.counting.proofs.Members.{count_minus, count_member}
 use Rattle.counting.proofs.Tests.{some_true, some_none, some_congr}
 use Rattle.counting.specs.Counts.{Within}
@@ -18,11 +18,11 @@ use Rattle.graph_core.proofs.Walks.{has_ends-cases}
 use Rattle.graph_core.specs.Covered.{IsCovered}
 use Rattle.graph_core.specs.Graph.{Graph, size, first_end, second_end, IsGraph, in_cut, has_ends}
 use Rattle.graph_core.specs.Tight.{IsTight, IsNontrivial}
-use Rattle.tight_cuts.proofs.LeastShores.{parted_says, parted_found, common_parts, parts_nontrivial}
+use Rattle.tight_cuts.proofs.LeastShores.{separated_says, separated_found, common_parts, parts_nontrivial}
 use Rattle.tight_cuts.proofs.PairsOfEdges.{cut_between}
 use Rattle.tight_cuts.proofs.Shores.{with_found, with_apart, with_grows, with_covers}
-use Rattle.tight_cuts.specs.Candidates.{Candidate, is_parted, common_shore, with_pair, with_edge_cut, IsTightCandidate}
-use Rattle.tight_cuts.specs.Pieces.{PartsTightly}
+use Rattle.tight_cuts.specs.Candidates.{Candidate, is_separated, common_shore, with_pair, with_edge_cut, IsTightCandidate}
+use Rattle.tight_cuts.specs.Pieces.{SeparatesTightly}
 use Rattle.barrier_kit.proofs.CutFacts.{nontrivial-turned, tight-turned}
 
 -- the first element that passes
@@ -108,19 +108,19 @@ module _ (g : Graph) (is : IsGraph g) (cov : IsCovered g) (e : ℕ) (we : Within
   high_within = let w = is e we in let a = w.0 in let b = w.1 in elim (cases_lt (first_end g e) (second_end g e)) [ inl l ↦ omega arith | inr l ↦ omega arith ]
 
   -- what a separated pair gives
-  pub shore_parts : (k : ℕ × ℕ) → Within g.order k.0 → Within g.order k.1 → is_parted g (lesser_end g e) (greater_end g e) k ≡ true → PartsTightly g (lesser_end g e) (greater_end g e) k (common_shore g (lesser_end g e) (greater_end g e) k)
+  pub shore_parts : (k : ℕ × ℕ) → Within g.order k.0 → Within g.order k.1 → is_separated g (lesser_end g e) (greater_end g e) k ≡ true → SeparatesTightly g (lesser_end g e) (greater_end g e) k (common_shore g (lesser_end g e) (greater_end g e) k)
   shore_parts k wx wy h =
-      let q = parted_says g (lesser_end g e) (greater_end g e) k h in
+      let q = separated_says g (lesser_end g e) (greater_end g e) k h in
       let p = q.2.1 in
       let al = cov.allowed e we (λ l. let s : lesser_end g e ≡ greater_end g e = omega arith in true≢false (sym p.has_a ∙ ap q.2.0 s ∙ p.lacks_b)) in
       common_parts g is (lesser_end g e) (greater_end g e) k low_within high_within wx wy cov e we (ends_between g e) al q.2.0 p
 
   module _ (list : List Candidate) where
     edge_cases : ((list_any (cuts g e) list ≡ true) × (with_edge_cut g list e ≡ list))
-        ⊎ ((list_any (cuts g e) list ≡ false) × (with_edge_cut g list e ≡ with_pair g (lesser_end g e) (greater_end g e) list (first_parted g e)))
+        ⊎ ((list_any (cuts g e) list ≡ false) × (with_edge_cut g list e ≡ with_pair g (lesser_end g e) (greater_end g e) list (first_separated g e)))
     edge_cases = elim (cases_Bool (list_any (cuts g e) list)) [
-      | inl t ↦ inl (t, first (list_any (cuts g e) list) list (with_pair g (lesser_end g e) (greater_end g e) list (first_parted g e)) t)
-      | inr f ↦ inr (f, second (list_any (cuts g e) list) list (with_pair g (lesser_end g e) (greater_end g e) list (first_parted g e)) f)
+      | inl t ↦ inl (t, first (list_any (cuts g e) list) list (with_pair g (lesser_end g e) (greater_end g e) list (first_separated g e)) t)
+      | inr f ↦ inr (f, second (list_any (cuts g e) list) list (with_pair g (lesser_end g e) (greater_end g e) list (first_separated g e)) f)
     ]
       where
         first : (b : Bool) (c d : List Candidate) → b ≡ true → (if b then c else d) ≡ c
@@ -135,17 +135,17 @@ module _ (g : Graph) (is : IsGraph g) (cov : IsCovered g) (e : ℕ) (we : Within
     pub step_found : All (IsTightCandidate g) list → All (IsTightCandidate g) (with_edge_cut g list e)
     step_found h = elim edge_cases [
       | inl c ↦ subst (All (IsTightCandidate g)) (sym c.1) h
-      | inr c ↦ subst (All (IsTightCandidate g)) (sym c.1) (go (first_parted g e) refl)
+      | inr c ↦ subst (All (IsTightCandidate g)) (sym c.1) (go (first_separated g e) refl)
     ]
       where
-        go : (o : Option (ℕ × ℕ)) → first_parted g e ≡ o → All (IsTightCandidate g) (with_pair g (lesser_end g e) (greater_end g e) list o)
+        go : (o : Option (ℕ × ℕ)) → first_separated g e ≡ o → All (IsTightCandidate g) (with_pair g (lesser_end g e) (greater_end g e) list o)
         go None q = h
-        go (Some k) q = let f = first_pair g.order (is_parted g (lesser_end g e) (greater_end g e)) k q in with_found g Flow list (common_shore g (lesser_end g e) (greater_end g e) k) is (shore_parts k f.1 f.2 f.0).tight h
+        go (Some k) q = let f = first_pair g.order (is_separated g (lesser_end g e) (greater_end g e)) k q in with_found g Flow list (common_shore g (lesser_end g e) (greater_end g e) k) is (shore_parts k f.1 f.2 f.0).tight h
 
     pub step_grows : (p : Candidate → Bool) → list_any p list ≡ true → list_any p (with_edge_cut g list e) ≡ true
     step_grows p h = elim edge_cases [
       | inl c ↦ ap (list_any p) c.1 ∙ h
-      | inr c ↦ ap (list_any p) c.1 ∙ go (first_parted g e)
+      | inr c ↦ ap (list_any p) c.1 ∙ go (first_separated g e)
     ]
       where
         go : (o : Option (ℕ × ℕ)) → list_any p (with_pair g (lesser_end g e) (greater_end g e) list o) ≡ true
@@ -153,8 +153,8 @@ module _ (g : Graph) (is : IsGraph g) (cov : IsCovered g) (e : ℕ) (we : Within
         go (Some k) = with_grows p g.order Flow list (common_shore g (lesser_end g e) (greater_end g e) k) h
 
     cover_side : (x : Set) → IsTight g x → IsNontrivial g.order x → x (lesser_end g e) ≡ true → x (greater_end g e) ≡ false →
-        list_any (cuts g e) (with_pair g (lesser_end g e) (greater_end g e) list (first_parted g e)) ≡ true
-    cover_side x t nt xa xb = go (first_parted g e) refl
+        list_any (cuts g e) (with_pair g (lesser_end g e) (greater_end g e) list (first_separated g e)) ≡ true
+    cover_side x t nt xa xb = go (first_separated g e) refl
       where
         in_x : (v : ℕ) × Within g.order v × ((x v && not (lesser_end g e == v)) ≡ true)
         in_x = let i = count_minus g.order x (lesser_end g e) low_within xa in let j = nt.inside in count_member g.order (minus x (singleton (lesser_end g e))) (omega arith)
@@ -162,22 +162,22 @@ module _ (g : Graph) (is : IsGraph g) (cov : IsCovered g) (e : ℕ) (we : Within
         out_x : (v : ℕ) × Within g.order v × ((not (x v) && not (greater_end g e == v)) ≡ true)
         out_x = let i = count_minus g.order (complement x) (greater_end g e) high_within (ap not xb) in let j = nt.outside in count_member g.order (minus (complement x) (singleton (greater_end g e))) (omega arith)
 
-        parted : is_parted g (lesser_end g e) (greater_end g e) (in_x.0, out_x.0) ≡ true
-        parted =
+        separated : is_separated g (lesser_end g e) (greater_end g e) (in_x.0, out_x.0) ≡ true
+        separated =
             let p = and_parts (x in_x.0) (not (lesser_end g e == in_x.0)) in_x.2 in
             let q = and_parts (not (x out_x.0)) (not (greater_end g e == out_x.0)) out_x.2 in
             let r = not-true (x out_x.0) q.0 in
-            parted_found g (lesser_end g e) (greater_end g e) (in_x.0, out_x.0) x is low_within high_within in_x.1 out_x.1
+            separated_found g (lesser_end g e) (greater_end g e) (in_x.0, out_x.0) x is low_within high_within in_x.1 out_x.1
             (or_from (lesser_end g e == in_x.0) (greater_end g e == in_x.0) (not-true (lesser_end g e == in_x.0) p.1) (ne_eqb (greater_end g e) in_x.0 (λ s. both_ways (x (greater_end g e)) xb (ap x s ∙ p.0))))
             (or_from (lesser_end g e == out_x.0) (greater_end g e == out_x.0) (ne_eqb (lesser_end g e) out_x.0 (λ s. both_ways (x (lesser_end g e)) (ap x s ∙ r) xa)) (not-true (greater_end g e == out_x.0) q.1))
             (record { tight = t; has_a = xa; has_x = p.0; lacks_b = xb; lacks_y = r })
 
-        go : (o : Option (ℕ × ℕ)) → first_parted g e ≡ o → list_any (cuts g e) (with_pair g (lesser_end g e) (greater_end g e) list o) ≡ true
-        go None q = absurd (both_ways (is_parted g (lesser_end g e) (greater_end g e) (in_x.0, out_x.0)) (no_pair g.order (is_parted g (lesser_end g e) (greater_end g e)) q in_x.0 out_x.0 in_x.1 out_x.1) parted)
+        go : (o : Option (ℕ × ℕ)) → first_separated g e ≡ o → list_any (cuts g e) (with_pair g (lesser_end g e) (greater_end g e) list o) ≡ true
+        go None q = absurd (both_ways (is_separated g (lesser_end g e) (greater_end g e) (in_x.0, out_x.0)) (no_pair g.order (is_separated g (lesser_end g e) (greater_end g e)) q in_x.0 out_x.0 in_x.1 out_x.1) separated)
         go (Some k) q =
-            let f = first_pair g.order (is_parted g (lesser_end g e) (greater_end g e)) k q in
+            let f = first_pair g.order (is_separated g (lesser_end g e) (greater_end g e)) k q in
             let p = shore_parts k f.1 f.2 f.0 in
-            let s = parted_says g (lesser_end g e) (greater_end g e) k f.0 in
+            let s = separated_says g (lesser_end g e) (greater_end g e) k f.0 in
             with_covers g Flow list (common_shore g (lesser_end g e) (greater_end g e) k) e is we
             (parts_nontrivial g (lesser_end g e) (greater_end g e) k (common_shore g (lesser_end g e) (greater_end g e) k) low_within high_within f.1 f.2
             (λ d. both_ways (pair_set (lesser_end g e) (greater_end g e) k.0) s.0 (or_left (lesser_end g e == k.0) (greater_end g e == k.0) (eq-eqb (lesser_end g e) k.0 d)))
@@ -195,7 +195,7 @@ module _ (g : Graph) (is : IsGraph g) (cov : IsCovered g) (e : ℕ) (we : Within
     ]
 
 pub edge_apart : (g : Graph) (list : List Candidate) (e : ℕ) → AllPairs ShoresDiffer list → AllPairs ShoresDiffer (with_edge_cut g list e)
-edge_apart g list e h = go (list_any (cuts g e) list) (first_parted g e)
+edge_apart g list e h = go (list_any (cuts g e) list) (first_separated g e)
   where
     go : (b : Bool) (o : Option (ℕ × ℕ)) → AllPairs ShoresDiffer (if b then list else with_pair g (lesser_end g e) (greater_end g e) list o)
     go true o = h

@@ -11,67 +11,67 @@ use Rattle.graph_core.specs.View.{IsWithinLimits}
 use Rattle.tight_cuts.proofs.EdgeLoop.{first_pair, no_pair, ends_between}
 use Rattle.tight_cuts.proofs.EdgeShores.{lesser_within, greater_within, least_leads}
 use Rattle.tight_cuts.proofs.FirstPairs.{before_first, first_leads, no_first}
-use Rattle.tight_cuts.proofs.LeastShores.{parted_says}
-use Rattle.tight_cuts.specs.Candidates.{lesser_end, greater_end, is_parted, first_parted}
+use Rattle.tight_cuts.proofs.LeastShores.{separated_says}
+use Rattle.tight_cuts.specs.Candidates.{lesser_end, greater_end, is_separated, first_separated}
 use Rattle.tight_cuts.specs.EdgeSearch.{AreLeaders, IsShoreOfEdge, IsShoreOfPair, Leads, NoneBefore, at_place}
 
 module _ (g : Graph) (lim : IsWithinLimits g) (cov : IsCovered g) (e : ℕ) (we : Within (size g) e) (leaders : List ℕ) (ld : AreLeaders g e leaders) where
-  abbrev parted : ℕ × ℕ → Bool
-  parted k = is_parted g (lesser_end g e) (greater_end g e) k
+  abbrev separated : ℕ × ℕ → Bool
+  separated k = is_separated g (lesser_end g e) (greater_end g e) k
 
   -- both vertices of the first pair lead their pieces
-  both_lead : (k : ℕ × ℕ) → first_parted g e ≡ Some k → (parted k ≡ true) × Leads g e leaders k.0 × Leads g e leaders k.1
+  both_lead : (k : ℕ × ℕ) → first_separated g e ≡ Some k → (separated k ≡ true) × Leads g e leaders k.0 × Leads g e leaders k.1
   both_lead k q =
-      let f = first_pair g.order (is_parted g (lesser_end g e) (greater_end g e)) k q in
-      let p = parted_says g (lesser_end g e) (greater_end g e) k f.0 in
+      let f = first_pair g.order (is_separated g (lesser_end g e) (greater_end g e)) k q in
+      let p = separated_says g (lesser_end g e) (greater_end g e) k f.0 in
       let l = first_leads g ld.beside lim.multigraph.ends (lesser_end g e) (greater_end g e) e (lesser_within g lim cov e we) (greater_within g lim cov e we) we (ends_between g e) ld.is k q in
       (f.0, least_leads g lim cov e we leaders ld k.0 f.1 p.0 l.0, least_leads g lim cov e we leaders ld k.1 f.2 p.1 l.1)
 
   -- if no pair of different leaders is separated from a pair on, none is
   abbrev pub LeadersBefore : ℕ → ℕ → Type 0
-  LeadersBefore x y = (c d : ℕ) → Leads g e leaders c → Leads g e leaders d → (c < x) ⊎ ((c ≡ x) × (d < y)) → parted (c, d) ≡ false
+  LeadersBefore x y = (c d : ℕ) → Leads g e leaders c → Leads g e leaders d → (c < x) ⊎ ((c ≡ x) × (d < y)) → separated (c, d) ≡ false
 
   -- a pair is separated only between different vertices
-  unequal : (x : ℕ) → parted (x, x) ≡ false
-  unequal x = false_from_ne_true (parted (x, x)) (λ t. let p = parted_says g (lesser_end g e) (greater_end g e) (x, x) t in true≢false (sym p.2.1.has_x ∙ p.2.1.lacks_y))
+  unequal : (x : ℕ) → separated (x, x) ≡ false
+  unequal x = false_from_ne_true (separated (x, x)) (λ t. let p = separated_says g (lesser_end g e) (greater_end g e) (x, x) t in true≢false (sym p.2.1.has_x ∙ p.2.1.lacks_y))
 
   -- no leaders' pair before (x, y) is separated: then no pair before it is
   pub none_before : (x y : ℕ) → LeadersBefore x y → NoneBefore g e x y
-  none_before x y h c d wc wd b = go (first_parted g e) refl
+  none_before x y h c d wc wd b = go (first_separated g e) refl
     where
-      go : (o : Option (ℕ × ℕ)) → first_parted g e ≡ o → parted (c, d) ≡ false
-      go None q = no_pair g.order (is_parted g (lesser_end g e) (greater_end g e)) q c d wc wd
+      go : (o : Option (ℕ × ℕ)) → first_separated g e ≡ o → separated (c, d) ≡ false
+      go None q = no_pair g.order (is_separated g (lesser_end g e) (greater_end g e)) q c d wc wd
       go (Some k) q =
           let l = both_lead k q in
           elim (cases_lt c k.0) [
-            | inl s ↦ before_first g.order (is_parted g (lesser_end g e) (greater_end g e)) k q c d wc wd (inl s)
+            | inl s ↦ before_first g.order (is_separated g (lesser_end g e) (greater_end g e)) k q c d wc wd (inl s)
             | inr s ↦ elim (cases_eq c k.0) [
               | inl t ↦ elim (cases_lt d k.1) [
-                | inl u ↦ before_first g.order (is_parted g (lesser_end g e) (greater_end g e)) k q c d wc wd (inr (t, u))
-                | inr u ↦ absurd (both_ways (parted k) (h k.0 k.1 l.1 l.2 (elim b [ inl m ↦ inl (omega arith) | inr m ↦ let m0 = m.0 in let m1 = m.1 in inr (sym t ∙ m.0, omega arith) ])) l.0)
+                | inl u ↦ before_first g.order (is_separated g (lesser_end g e) (greater_end g e)) k q c d wc wd (inr (t, u))
+                | inr u ↦ absurd (both_ways (separated k) (h k.0 k.1 l.1 l.2 (elim b [ inl m ↦ inl (omega arith) | inr m ↦ let m0 = m.0 in let m1 = m.1 in inr (sym t ∙ m.0, omega arith) ])) l.0)
               ]
-              | inr t ↦ absurd (both_ways (parted k) (h k.0 k.1 l.1 l.2 (inl (elim b [ inl m ↦ omega arith | inr m ↦ let m0 = m.0 in omega arith ]))) l.0)
+              | inr t ↦ absurd (both_ways (separated k) (h k.0 k.1 l.1 l.2 (inl (elim b [ inl m ↦ omega arith | inr m ↦ let m0 = m.0 in omega arith ]))) l.0)
             ]
           ]
 
   -- the pair that is separated with none before it is the first
-  pub first_is : (x y : ℕ) → Within g.order x → Within g.order y → NoneBefore g e x y → parted (x, y) ≡ true → first_parted g e ≡ Some (x, y)
-  first_is x y wx wy h t = go (first_parted g e) refl
+  pub first_is : (x y : ℕ) → Within g.order x → Within g.order y → NoneBefore g e x y → separated (x, y) ≡ true → first_separated g e ≡ Some (x, y)
+  first_is x y wx wy h t = go (first_separated g e) refl
     where
-      go : (o : Option (ℕ × ℕ)) → first_parted g e ≡ o → o ≡ Some (x, y)
-      go None q = absurd (both_ways (parted (x, y)) (no_pair g.order (is_parted g (lesser_end g e) (greater_end g e)) q x y wx wy) t)
+      go : (o : Option (ℕ × ℕ)) → first_separated g e ≡ o → o ≡ Some (x, y)
+      go None q = absurd (both_ways (separated (x, y)) (no_pair g.order (is_separated g (lesser_end g e) (greater_end g e)) q x y wx wy) t)
       go (Some k) q =
-          let f = first_pair g.order (is_parted g (lesser_end g e) (greater_end g e)) k q in
+          let f = first_pair g.order (is_separated g (lesser_end g e) (greater_end g e)) k q in
           elim (cases_lt k.0 x) [
-            | inl s ↦ absurd (both_ways (parted k) (h k.0 k.1 f.1 f.2 (inl s)) f.0)
+            | inl s ↦ absurd (both_ways (separated k) (h k.0 k.1 f.1 f.2 (inl s)) f.0)
             | inr s ↦ elim (cases_lt x k.0) [
-              | inl u ↦ absurd (both_ways (parted (x, y)) (before_first g.order (is_parted g (lesser_end g e) (greater_end g e)) k q x y wx wy (inl u)) t)
+              | inl u ↦ absurd (both_ways (separated (x, y)) (before_first g.order (is_separated g (lesser_end g e) (greater_end g e)) k q x y wx wy (inl u)) t)
               | inr u ↦
                   let a : k.0 ≡ x = omega arith in
                   elim (cases_lt k.1 y) [
-                    | inl v ↦ absurd (both_ways (parted k) (h k.0 k.1 f.1 f.2 (inr (a, v))) f.0)
+                    | inl v ↦ absurd (both_ways (separated k) (h k.0 k.1 f.1 f.2 (inr (a, v))) f.0)
                     | inr v ↦ elim (cases_lt y k.1) [
-                      | inl w ↦ absurd (both_ways (parted (x, y)) (before_first g.order (is_parted g (lesser_end g e) (greater_end g e)) k q x y wx wy (inr (sym a, w))) t)
+                      | inl w ↦ absurd (both_ways (separated (x, y)) (before_first g.order (is_separated g (lesser_end g e) (greater_end g e)) k q x y wx wy (inr (sym a, w))) t)
                       | inr w ↦ let b : k.1 ≡ y = omega arith in ap₂ (λ i j. Some (i, j)) a b
                     ]
                   ]
@@ -79,8 +79,8 @@ module _ (g : Graph) (lim : IsWithinLimits g) (cov : IsCovered g) (e : ℕ) (we 
           ]
 
   -- none before the end: there is no pair
-  pub none_at_all : (x : ℕ) → g.order < x → NoneBefore g e x 1 → first_parted g e ≡ None
-  none_at_all x l h = no_first g.order (is_parted g (lesser_end g e) (greater_end g e)) (λ c d wc wd. h c d wc wd (inl (let w = wc.1 in omega arith)))
+  pub none_at_all : (x : ℕ) → g.order < x → NoneBefore g e x 1 → first_separated g e ≡ None
+  none_at_all x l h = no_first g.order (is_separated g (lesser_end g e) (greater_end g e)) (λ c d wc wd. h c d wc wd (inl (let w = wc.1 in omega arith)))
 
   -- a pair that gives its shore with none before it: the edge gives that
   pub found_shore : (x y : ℕ) → Within g.order x → Within g.order y → NoneBefore g e x y → (answer : Option (List ℕ)) → IsShoreOfPair g e (x, y) answer → (s : List ℕ) → answer ≡ Some s → IsShoreOfEdge g e (Some s)
@@ -92,12 +92,12 @@ module _ (g : Graph) (lim : IsWithinLimits g) (cov : IsCovered g) (e : ℕ) (we 
       }
 
   -- one pair more
-  pub next_pair : (x y : ℕ) → NoneBefore g e x y → parted (x, y) ≡ false → NoneBefore g e x (y + 1)
+  pub next_pair : (x y : ℕ) → NoneBefore g e x y → separated (x, y) ≡ false → NoneBefore g e x (y + 1)
   next_pair x y h f c d wc wd b = elim b [
     | inl l ↦ h c d wc wd (inl l)
     | inr p ↦ let p1 = p.1 in elim (cases_lt d y) [
       | inl l ↦ h c d wc wd (inr (p.0, l))
-      | inr l ↦ let q : d ≡ y = omega arith in ap (λ k. parted (k, d)) p.0 ∙ ap (λ k. parted (x, k)) q ∙ f
+      | inr l ↦ let q : d ≡ y = omega arith in ap (λ k. separated (k, d)) p.0 ∙ ap (λ k. separated (x, k)) q ∙ f
     ]
   ]
 
@@ -109,7 +109,7 @@ module _ (g : Graph) (lim : IsWithinLimits g) (cov : IsCovered g) (e : ℕ) (we 
       | inl t ↦ h c d lc.within l.within (inr (s.0, t))
       | inr t ↦ let q : d ≡ y = omega arith in
           let xy = n (subst (Leads g e leaders) q l) in
-          ap (λ k. parted (k, d)) s.0 ∙ ap (λ k. parted (x, k)) (q ∙ sym xy) ∙ unequal x
+          ap (λ k. separated (k, d)) s.0 ∙ ap (λ k. separated (x, k)) (q ∙ sym xy) ∙ unequal x
     ]
   ])
 

@@ -13,17 +13,17 @@ use Rattle.graph_core.specs.View.{IsWithinLimits}
 use Rattle.tight_cuts.proofs.EdgeLoop.{ends_between, first_pair, no_pair}
 use Rattle.tight_cuts.proofs.EdgeShores.{allowed, greater_within, lesser_within}
 use Rattle.tight_cuts.proofs.FirstPairs.{before_first}
-use Rattle.tight_cuts.proofs.LeastShores.{common_from, common_in, common_parts, parted_found, parted_says}
-use Rattle.tight_cuts.specs.Candidates.{common_shore, first_parted, greater_end, is_parted, lesser_end}
+use Rattle.tight_cuts.proofs.LeastShores.{common_from, common_in, common_parts, separated_found, separated_says}
+use Rattle.tight_cuts.specs.Candidates.{common_shore, first_separated, greater_end, is_separated, lesser_end}
 use Rattle.tight_cuts.specs.EdgeSearch.{IsCommonShore, IsShoreOfEdge, NoneBefore}
-use Rattle.tight_cuts.specs.Pieces.{PartsTightly}
+use Rattle.tight_cuts.specs.Pieces.{SeparatesTightly}
 
 -- a set that separates x from y separates x from b alone
-narrower : (g : Graph) (a b x y : ℕ) (z : Set) → PartsTightly g a b (x, y) z → PartsTightly g a b (x, b) z
+narrower : (g : Graph) (a b x y : ℕ) (z : Set) → SeparatesTightly g a b (x, y) z → SeparatesTightly g a b (x, b) z
 narrower g a b x y z p = record { tight = p.tight; has_a = p.has_a; has_x = p.has_x; lacks_b = p.lacks_b; lacks_y = p.lacks_b }
 
 -- and one that has x and not b separates x from each vertex that it lacks
-wider : (g : Graph) (a b x y : ℕ) (z : Set) → PartsTightly g a b (x, b) z → z y ≡ false → PartsTightly g a b (x, y) z
+wider : (g : Graph) (a b x y : ℕ) (z : Set) → SeparatesTightly g a b (x, b) z → z y ≡ false → SeparatesTightly g a b (x, y) z
 wider g a b x y z p l = record { tight = p.tight; has_a = p.has_a; has_x = p.has_x; lacks_b = p.lacks_b; lacks_y = l }
 
 module _ (g : Graph) (lim : IsWithinLimits g) (cov : IsCovered g) (e : ℕ) (we : Within (size g) e) (x : ℕ) (wx : Within g.order x) where
@@ -45,44 +45,44 @@ module _ (g : Graph) (lim : IsWithinLimits g) (cov : IsCovered g) (e : ℕ) (we 
   abbrev shore : Set
   shore = common_shore g a b (x, b)
 
-  shore_parts : (z : Set) → PartsTightly g a b (x, b) z → PartsTightly g a b (x, b) shore
+  shore_parts : (z : Set) → SeparatesTightly g a b (x, b) z → SeparatesTightly g a b (x, b) shore
   shore_parts = common_parts g is a b (x, b) wa wb wx wb cov e we (ends_between g e) (allowed g lim cov e we)
 
   -- the shore lies in each set that has x
-  shore_in : (z : Set) → PartsTightly g a b (x, b) z → (v : ℕ) → Within g.order v → shore v ≡ true → z v ≡ true
+  shore_in : (z : Set) → SeparatesTightly g a b (x, b) z → (v : ℕ) → Within g.order v → shore v ≡ true → z v ≡ true
   shore_in z p v w t = common_in g is a b (x, b) wa wb wx wb v w t z p
 
   -- it lacks the second vertex of each separated pair
-  shore_lacks : (y : ℕ) → Within g.order y → is_parted g a b (x, y) ≡ true → shore y ≡ false
+  shore_lacks : (y : ℕ) → Within g.order y → is_separated g a b (x, y) ≡ true → shore y ≡ false
   shore_lacks y wy t =
-      let p = parted_says g a b (x, y) t in
+      let p = separated_says g a b (x, y) t in
       false_from_ne_true (shore y) (λ s. true≢false (sym (shore_in p.2.0 (narrower g a b x y p.2.0 p.2.1) y wy s) ∙ p.2.1.lacks_y))
 
   -- if it lacks y it is the common shore of x and y
-  shore_common : (y : ℕ) → Within g.order y → PartsTightly g a b (x, b) shore → shore y ≡ false → (v : ℕ) → Within g.order v → shore v ≡ common_shore g a b (x, y) v
+  shore_common : (y : ℕ) → Within g.order y → SeparatesTightly g a b (x, b) shore → shore y ≡ false → (v : ℕ) → Within g.order v → shore v ≡ common_shore g a b (x, y) v
   shore_common y wy p l v w = same_tests (shore v) (common_shore g a b (x, y) v)
       (λ t. common_from g is a b (x, y) wa wb wx wy v (λ z q. shore_in z (narrower g a b x y z q) v w t))
       (λ t. common_in g is a b (x, y) wa wb wx wy v w t shore (wider g a b x y shore p l))
 
   -- it separates x from each vertex that it lacks, but b
-  shore_parted : (y : ℕ) → Within g.order y → PartsTightly g a b (x, b) shore → pair_set a b x ≡ false → y ≢ b → shore y ≡ false → is_parted g a b (x, y) ≡ true
-  shore_parted y wy p ox yb l = parted_found g a b (x, y) shore is wa wb wx wy ox
+  shore_separated : (y : ℕ) → Within g.order y → SeparatesTightly g a b (x, b) shore → pair_set a b x ≡ false → y ≢ b → shore y ≡ false → is_separated g a b (x, y) ≡ true
+  shore_separated y wy p ox yb l = separated_found g a b (x, y) shore is wa wb wx wy ox
       (or_from (a == y) (b == y) (ne_eqb a y (λ q. both_ways (shore a) (ap shore q ∙ l) p.has_a)) (ne_eqb b y (λ q. yb (sym q))))
       (wider g a b x y shore p l)
 
   -- the first pair has x for its first vertex, if no earlier vertex has a pair and x has one
-  first_at : (y : ℕ) → Within g.order y → NoneBefore g e x 1 → is_parted g a b (x, y) ≡ true → (d : ℕ) × Within g.order d × (first_parted g e ≡ Some (x, d)) × (is_parted g a b (x, d) ≡ true)
-  first_at y wy h t = go (first_parted g e) refl
+  first_at : (y : ℕ) → Within g.order y → NoneBefore g e x 1 → is_separated g a b (x, y) ≡ true → (d : ℕ) × Within g.order d × (first_separated g e ≡ Some (x, d)) × (is_separated g a b (x, d) ≡ true)
+  first_at y wy h t = go (first_separated g e) refl
     where
-      go : (o : Option (ℕ × ℕ)) → first_parted g e ≡ o → (d : ℕ) × Within g.order d × (first_parted g e ≡ Some (x, d)) × (is_parted g a b (x, d) ≡ true)
-      go None q = absurd (both_ways (is_parted g a b (x, y)) (no_pair g.order (is_parted g a b) q x y wx wy) t)
+      go : (o : Option (ℕ × ℕ)) → first_separated g e ≡ o → (d : ℕ) × Within g.order d × (first_separated g e ≡ Some (x, d)) × (is_separated g a b (x, d) ≡ true)
+      go None q = absurd (both_ways (is_separated g a b (x, y)) (no_pair g.order (is_separated g a b) q x y wx wy) t)
       go (Some k) q =
-          let f = first_pair g.order (is_parted g a b) k q in
+          let f = first_pair g.order (is_separated g a b) k q in
           elim (cases_lt k.0 x) [
-            | inl s ↦ absurd (both_ways (is_parted g a b k) (h k.0 k.1 f.1 f.2 (inl s)) f.0)
+            | inl s ↦ absurd (both_ways (is_separated g a b k) (h k.0 k.1 f.1 f.2 (inl s)) f.0)
             | inr s ↦ elim (cases_lt x k.0) [
-              | inl u ↦ absurd (both_ways (is_parted g a b (x, y)) (before_first g.order (is_parted g a b) k q x y wx wy (inl u)) t)
-              | inr u ↦ let same : k.0 ≡ x = omega arith in (k.1, f.2, q ∙ ap (λ i. Some (i, k.1)) same, ap (λ i. is_parted g a b (i, k.1)) (sym same) ∙ f.0)
+              | inl u ↦ absurd (both_ways (is_separated g a b (x, y)) (before_first g.order (is_separated g a b) k q x y wx wy (inl u)) t)
+              | inr u ↦ let same : k.0 ≡ x = omega arith in (k.1, f.2, q ∙ ap (λ i. Some (i, k.1)) same, ap (λ i. is_separated g a b (i, k.1)) (sym same) ∙ f.0)
             ]
           ]
 
@@ -92,7 +92,7 @@ module _ (g : Graph) (lim : IsWithinLimits g) (cov : IsCovered g) (e : ℕ) (we 
     piece_found ox h s q y wy yb l =
         let c = common.some s q in
         let p = shore_parts c.0.0 c.0.1 in
-        let t = shore_parted y wy p ox yb (sym (c.1 y wy) ∙ l) in
+        let t = shore_separated y wy p ox yb (sym (c.1 y wy) ∙ l) in
         let d = first_at y wy h t in
         record {
           some = λ r m. let same : s ≡ r = cc in ((x, d.0), d.2, λ v w. ap (λ z. mem z v) (sym same) ∙ c.1 v w ∙ shore_common d.0 d.1 p (shore_lacks d.0 d.1 d.3) v w);
@@ -100,12 +100,12 @@ module _ (g : Graph) (lim : IsWithinLimits g) (cov : IsCovered g) (e : ℕ) (we 
         }
 
     -- without such a shore no pair with x is separated
-    pub piece_none : answer ≡ None → (y : ℕ) → is_parted g a b (x, y) ≡ false
-    piece_none q y = false_from_ne_true (is_parted g a b (x, y)) (λ t. let p = parted_says g a b (x, y) t in common.none q p.2.0 (narrower g a b x y p.2.0 p.2.1))
+    pub piece_none : answer ≡ None → (y : ℕ) → is_separated g a b (x, y) ≡ false
+    piece_none q y = false_from_ne_true (is_separated g a b (x, y)) (λ t. let p = separated_says g a b (x, y) t in common.none q p.2.0 (narrower g a b x y p.2.0 p.2.1))
 
-    pub piece_full : (s : List ℕ) → answer ≡ Some s → ((y : ℕ) → Within g.order y → y ≢ b → mem s y ≡ true) → (y : ℕ) → Within g.order y → is_parted g a b (x, y) ≡ false
-    piece_full s q full y wy = false_from_ne_true (is_parted g a b (x, y)) (λ t.
-        let p = parted_says g a b (x, y) t in
+    pub piece_full : (s : List ℕ) → answer ≡ Some s → ((y : ℕ) → Within g.order y → y ≢ b → mem s y ≡ true) → (y : ℕ) → Within g.order y → is_separated g a b (x, y) ≡ false
+    piece_full s q full y wy = false_from_ne_true (is_separated g a b (x, y)) (λ t.
+        let p = separated_says g a b (x, y) t in
         let c = common.some s q in
         both_ways (shore y) (shore_lacks y wy t) (sym (c.1 y wy) ∙ full y wy (λ m. both_ways (pair_set a b y) p.1 (ap (pair_set a b) m ∙ end_in))))
       where
@@ -113,11 +113,11 @@ module _ (g : Graph) (lim : IsWithinLimits g) (cov : IsCovered g) (e : ℕ) (we 
         end_in = or_right (a == b) (b == b) (eq-eqb b b refl)
 
 -- all pairs with x are done
-pub first_done : (g : Graph) (e x : ℕ) → NoneBefore g e x 1 → ((y : ℕ) → Within g.order y → is_parted g (lesser_end g e) (greater_end g e) (x, y) ≡ false) → NoneBefore g e (x + 1) 1
+pub first_done : (g : Graph) (e x : ℕ) → NoneBefore g e x 1 → ((y : ℕ) → Within g.order y → is_separated g (lesser_end g e) (greater_end g e) (x, y) ≡ false) → NoneBefore g e (x + 1) 1
 first_done g e x h n c d wc wd before = elim before [
   | inl s ↦ elim (cases_lt c x) [
     | inl t ↦ h c d wc wd (inl t)
-    | inr t ↦ let q : c ≡ x = omega arith in ap (λ i. is_parted g (lesser_end g e) (greater_end g e) (i, d)) q ∙ n d wd
+    | inr t ↦ let q : c ≡ x = omega arith in ap (λ i. is_separated g (lesser_end g e) (greater_end g e) (i, d)) q ∙ n d wd
   ]
   | inr s ↦ let s1 = s.1 in let w = wd.0 in absurd (omega arith)
 ]

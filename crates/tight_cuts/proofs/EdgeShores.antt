@@ -22,13 +22,13 @@ use Rattle.tight_cuts.proofs.EdgeLoop.{ends_between}
 use Rattle.tight_cuts.proofs.LeanLists.{grown_length}
 use Rattle.tight_cuts.proofs.LeaderGroups.{leaders_group}
 use Rattle.tight_cuts.proofs.Leaders.{leader-least, leader-fixed}
-use Rattle.tight_cuts.proofs.LeastShores.{parted_found, parted_says}
+use Rattle.tight_cuts.proofs.LeastShores.{separated_found, separated_says}
 use Rattle.tight_cuts.proofs.Networks.{back, least_back, least_common, parts_nodes}
 use Rattle.tight_cuts.proofs.PiecesOfEdges.{beside_graph}
-use Rattle.tight_cuts.specs.Candidates.{lesser_end, greater_end, is_parted, common_shore}
+use Rattle.tight_cuts.specs.Candidates.{lesser_end, greater_end, is_separated, common_shore}
 use Rattle.tight_cuts.specs.EdgeSearch.{AreGroups, AreLeaders, AreRowsAt, AreWeights, IsBeyond, IsCommonShore, IsCutOfGroups, IsShoreOfPair, Leads, arc_between, arcs_by, at_place, group_net, row_group}
 use Rattle.tight_cuts.specs.PairSums.{weight}
-use Rattle.tight_cuts.specs.Pieces.{PartsTightly, arcs_of, contracted_net, group_of, leader, IsGrouping}
+use Rattle.tight_cuts.specs.Pieces.{SeparatesTightly, arcs_of, contracted_net, group_of, leader, IsGrouping}
 
 -- a total of numbers up to 2048
 pub total_small : (n : ℕ) (f : ℕ → ℕ) → ((v : ℕ) → Within n v → f v ≤ 2048) → total n f ≤ 2048 * n
@@ -124,7 +124,7 @@ module _ (g : Graph) (lim : IsWithinLimits g) (cov : IsCovered g) (e : ℕ) (we 
 
         -- a least cut within the bound gives the common shore
         pub cut_parts : (set : List ℕ) (value : ℕ) → IsLeastCut (group_net g weights leaders (lesser_end g e) (greater_end g e) x y) (lesser_end g e) (greater_end g e) set value → value ≤ bound →
-            ((z : Set) × PartsTightly g (lesser_end g e) (greater_end g e) (x, y) z) × ((v : ℕ) → Within g.order v → mem set (row_group (lesser_end g e) (greater_end g e) x y leaders v) ≡ common_shore g (lesser_end g e) (greater_end g e) (x, y) v)
+            ((z : Set) × SeparatesTightly g (lesser_end g e) (greater_end g e) (x, y) z) × ((v : ℕ) → Within g.order v → mem set (row_group (lesser_end g e) (greater_end g e) x y leaders v) ≡ common_shore g (lesser_end g e) (greater_end g e) (x, y) v)
         cut_parts set value c l =
             let cut = subst (λ net. IsLeastCut net (lesser_end g e) (greater_end g e) set value) same_net c in
             let m : value ≤ length wt.list = let b = wt.is in omega arith in (
@@ -136,7 +136,7 @@ module _ (g : Graph) (lim : IsWithinLimits g) (cov : IsCovered g) (e : ℕ) (we 
             )
 
         -- if no cut is within the bound no tight set separates the groups
-        pub no_cut_parts : (HasCutWithin (group_net g weights leaders (lesser_end g e) (greater_end g e) x y) (lesser_end g e) (greater_end g e) bound → ⊥) → (z : Set) → PartsTightly g (lesser_end g e) (greater_end g e) (x, y) z → ⊥
+        pub no_cut_parts : (HasCutWithin (group_net g weights leaders (lesser_end g e) (greater_end g e) x y) (lesser_end g e) (greater_end g e) bound → ⊥) → (z : Set) → SeparatesTightly g (lesser_end g e) (greater_end g e) (x, y) z → ⊥
         no_cut_parts h z p =
             let n = parts_nodes g ld.beside is (lesser_end g e) (greater_end g e) e lesser_within greater_within we (ends_between g e) ld.is allowed wt.list wt.pairs (x, y) lx.within y_within g.order groups grouping z p in
             h (subst (λ net. HasCutWithin net (lesser_end g e) (greater_end g e) bound) (sym same_net) (record { set = n.0; separates = n.1; within = let b = wt.is in let v = n.3 in omega arith }))
@@ -145,8 +145,8 @@ module _ (g : Graph) (lim : IsWithinLimits g) (cov : IsCovered g) (e : ℕ) (we 
 pub record GroupFacts (g : Graph) (e : ℕ) (leaders weights : List ℕ) (bound x y a b : ℕ) : Type 0 where
   pub groups : AreGroups g leaders weights a b x y
   pub cut : (set : List ℕ) (value : ℕ) → IsLeastCut (group_net g weights leaders a b x y) a b set value → value ≤ bound →
-      ((z : Set) × PartsTightly g (lesser_end g e) (greater_end g e) (x, y) z) × ((v : ℕ) → Within g.order v → mem set (row_group a b x y leaders v) ≡ common_shore g (lesser_end g e) (greater_end g e) (x, y) v)
-  pub none : (HasCutWithin (group_net g weights leaders a b x y) a b bound → ⊥) → (z : Set) → PartsTightly g (lesser_end g e) (greater_end g e) (x, y) z → ⊥
+      ((z : Set) × SeparatesTightly g (lesser_end g e) (greater_end g e) (x, y) z) × ((v : ℕ) → Within g.order v → mem set (row_group a b x y leaders v) ≡ common_shore g (lesser_end g e) (greater_end g e) (x, y) v)
+  pub none : (HasCutWithin (group_net g weights leaders a b x y) a b bound → ⊥) → (z : Set) → SeparatesTightly g (lesser_end g e) (greater_end g e) (x, y) z → ⊥
 
 pub group_facts : (g : Graph) (e : ℕ) (leaders weights : List ℕ) (bound x y a b : ℕ) → IsWithinLimits g → AreRowsAt g e weights bound leaders → Leads g e leaders x → IsBeyond g e leaders x y → a ≡ lesser_end g e → b ≡ greater_end g e →
     GroupFacts g e leaders weights bound x y a b
@@ -177,10 +177,10 @@ common-from_cut g e leaders weights bound x y a b facts answer h = record {
 pub pair-from_common : (g : Graph) (e : ℕ) (leaders : List ℕ) (x y : ℕ) → IsWithinLimits g → IsCovered g → Within (size g) e → Leads g e leaders x → Leads g e leaders y → (answer : Option (List ℕ)) → IsCommonShore g (lesser_end g e) (greater_end g e) (x, y) answer → IsShoreOfPair g e (x, y) answer
 pair-from_common g e leaders x y lim cov we lx ly answer h = record {
   some = λ s q. let c = h.some s q in (
-    parted_found g (lesser_end g e) (greater_end g e) (x, y) c.0.0 lim.multigraph.ends (lesser_within g lim cov e we) (greater_within g lim cov e we) lx.within ly.within lx.outside ly.outside c.0.1,
+    separated_found g (lesser_end g e) (greater_end g e) (x, y) c.0.0 lim.multigraph.ends (lesser_within g lim cov e we) (greater_within g lim cov e we) lx.within ly.within lx.outside ly.outside c.0.1,
     c.1,
   );
-  none = λ q. false_from_ne_true (is_parted g (lesser_end g e) (greater_end g e) (x, y)) (λ t. let p = parted_says g (lesser_end g e) (greater_end g e) (x, y) t in h.none q p.2.0 p.2.1);
+  none = λ q. false_from_ne_true (is_separated g (lesser_end g e) (greater_end g e) (x, y)) (λ t. let p = separated_says g (lesser_end g e) (greater_end g e) (x, y) t in h.none q p.2.0 p.2.1);
 }
 
 module _ (g : Graph) (weights leaders : List ℕ) (bound x y a b : ℕ) (net : Net) (is_net : net ≡ group_net g weights leaders a b x y) where

@@ -11,7 +11,7 @@ use Rattle.counting.specs.Sets.{Set}
 use Rattle.graph_core.specs.Graph.{Graph, size}
 use Rattle.tight_cuts.proofs.EdgeLoop.{after_edges, after_suc}
 use Rattle.tight_cuts.proofs.FrontCandidates.{edge-known, edges-all}
-use Rattle.tight_cuts.specs.Candidates.{Candidate, Flow, Origin, candidates, common_shore, cuts, first_of, first_parted, front_candidates, greater_end, lesser_end, with_edge_cut, with_pair, with_shore}
+use Rattle.tight_cuts.specs.Candidates.{Candidate, Flow, Origin, candidates, common_shore, cuts, first_of, first_separated, front_candidates, greater_end, lesser_end, with_edge_cut, with_pair, with_shore}
 use Rattle.tight_cuts.specs.View.{candidate_of}
 use Rattle.tight_cuts.specs.declared.candidate.Candidate.{Candidate as StoredCandidate}
 
@@ -37,7 +37,7 @@ first-shore_more n o list x c h = go _ _
     go false d = h
 
 first-edge_more : (g : Graph) (list : List Candidate) (e : ℕ) (c : Candidate) → first_of list ≡ Some c → first_of (with_edge_cut g list e) ≡ Some c
-first-edge_more g list e c h = go (list_any (cuts g e) list) (first_parted g e)
+first-edge_more g list e c h = go (list_any (cuts g e) list) (first_separated g e)
   where
     go : (b : Bool) (k : Option (ℕ × ℕ)) → first_of (if b then list else with_pair g (lesser_end g e) (greater_end g e) list k) ≡ Some c
     go true k = h

@@ -18,11 +18,11 @@ use Rattle.graph_core.specs.Components.{is_least}
 use Rattle.graph_core.specs.Graph.{Graph, size, IsGraph, has_ends}
 use Rattle.graph_core.specs.Walks.{joined}
 use Rattle.tight_cuts.proofs.EdgeLoop.{first_pair}
-use Rattle.tight_cuts.proofs.LeastShores.{parted_says, parted_found}
+use Rattle.tight_cuts.proofs.LeastShores.{separated_says, separated_found}
 use Rattle.tight_cuts.proofs.PairsOfEdges.{cut_between}
 use Rattle.tight_cuts.proofs.PiecesOfEdges.{tight_piece, beside_graph}
-use Rattle.tight_cuts.specs.Candidates.{is_parted}
-use Rattle.tight_cuts.specs.Pieces.{PartsTightly, IsBeside}
+use Rattle.tight_cuts.specs.Candidates.{is_separated}
+use Rattle.tight_cuts.specs.Pieces.{SeparatesTightly, IsBeside}
 
 -- the row in which the first is found
 module _ (p : ℕ × ℕ → Bool) (f : ℕ → List (ℕ × ℕ)) where
@@ -93,7 +93,7 @@ no_first n p h = go (find p (ordered_pairs n)) refl
 
 module _ (g h : Graph) (is : IsGraph g) (a b e : ℕ) (wa : Within g.order a) (wb : Within g.order b) (we : Within (size g) e) (ends : has_ends g a b e ≡ true) (beside : IsBeside g e h) where
   -- a pair is separated by its pieces alone
-  pub parts_moves : (k j : ℕ × ℕ) (z : Set) → joined h (pair_set a b) k.0 j.0 ≡ true → joined h (pair_set a b) k.1 j.1 ≡ true → PartsTightly g a b k z → PartsTightly g a b j z
+  pub parts_moves : (k j : ℕ × ℕ) (z : Set) → joined h (pair_set a b) k.0 j.0 ≡ true → joined h (pair_set a b) k.1 j.1 ≡ true → SeparatesTightly g a b k z → SeparatesTightly g a b j z
   parts_moves k j z p q s = let c = cut_between g z a b e ends s.has_a s.lacks_b in record {
     tight = s.tight;
     has_a = s.has_a;
@@ -102,19 +102,19 @@ module _ (g h : Graph) (is : IsGraph g) (a b e : ℕ) (wa : Within g.order a) (w
     lacks_y = sym (tight_piece g h is a b e wa wb we ends beside z s.tight c k.1 j.1 q) ∙ s.lacks_y;
   }
 
-  pub parted_moves : (k j : ℕ × ℕ) → Within g.order j.0 → Within g.order j.1 → joined h (pair_set a b) k.0 j.0 ≡ true → joined h (pair_set a b) k.1 j.1 ≡ true → is_parted g a b k ≡ true → is_parted g a b j ≡ true
-  parted_moves k j wx wy p q t =
-      let s = parted_says g a b k t in
+  pub separated_moves : (k j : ℕ × ℕ) → Within g.order j.0 → Within g.order j.1 → joined h (pair_set a b) k.0 j.0 ≡ true → joined h (pair_set a b) k.1 j.1 ≡ true → is_separated g a b k ≡ true → is_separated g a b j ≡ true
+  separated_moves k j wx wy p q t =
+      let s = separated_says g a b k t in
       let hg = beside_graph g h is a b e wa wb we ends beside in
-      parted_found g a b j s.2.0 is wa wb wx wy (joined_outside h (pair_set a b) hg k.0 j.0 s.0 p) (joined_outside h (pair_set a b) hg k.1 j.1 s.1 q) (parts_moves k j s.2.0 p q s.2.1)
+      separated_found g a b j s.2.0 is wa wb wx wy (joined_outside h (pair_set a b) hg k.0 j.0 s.0 p) (joined_outside h (pair_set a b) hg k.1 j.1 s.1 q) (parts_moves k j s.2.0 p q s.2.1)
 
   -- so the first pair is of least vertices of their pieces
-  pub first_leads : (k : ℕ × ℕ) → find (is_parted g a b) (ordered_pairs g.order) ≡ Some k → (is_least h (pair_set a b) k.0 ≡ true) × (is_least h (pair_set a b) k.1 ≡ true)
+  pub first_leads : (k : ℕ × ℕ) → find (is_separated g a b) (ordered_pairs g.order) ≡ Some k → (is_least h (pair_set a b) k.0 ≡ true) × (is_least h (pair_set a b) k.1 ≡ true)
   first_leads k f =
-      let t = first_pair g.order (is_parted g a b) k f in
-      let s = parted_says g a b k t.0 in (
-        lead k.0 s.0 (λ v wv l j. both_ways (is_parted g a b (v, k.1)) (before_first g.order (is_parted g a b) k f v k.1 wv t.2 (inl l)) (parted_moves k (v, k.1) wv t.2 j (own k.1 t.2) t.0)),
-        lead k.1 s.1 (λ v wv l j. both_ways (is_parted g a b (k.0, v)) (before_first g.order (is_parted g a b) k f k.0 v t.1 wv (inr (refl, l))) (parted_moves k (k.0, v) t.1 wv (own k.0 t.1) j t.0)),
+      let t = first_pair g.order (is_separated g a b) k f in
+      let s = separated_says g a b k t.0 in (
+        lead k.0 s.0 (λ v wv l j. both_ways (is_separated g a b (v, k.1)) (before_first g.order (is_separated g a b) k f v k.1 wv t.2 (inl l)) (separated_moves k (v, k.1) wv t.2 j (own k.1 t.2) t.0)),
+        lead k.1 s.1 (λ v wv l j. both_ways (is_separated g a b (k.0, v)) (before_first g.order (is_separated g a b) k f k.0 v t.1 wv (inr (refl, l))) (separated_moves k (k.0, v) t.1 wv (own k.0 t.1) j t.0)),
       )
     where
       own : (v : ℕ) → Within g.order v → joined h (pair_set a b) v v ≡ true

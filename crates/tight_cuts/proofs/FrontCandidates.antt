@@ -15,12 +15,12 @@ use Rattle.counting.specs.Counts.{count, Within}
 use Rattle.counting.specs.Lists.{mem, rising_list, IsRisingIn}
 use Rattle.counting.specs.Sets.{Set, complement}
 use Rattle.graph_core.specs.Graph.{Graph, size}
-use Rattle.graph_core.specs.Structure.{is_bicritical, unlike_pair}
+use Rattle.graph_core.specs.Structure.{is_bicritical, equivalent_pair}
 use Rattle.graph_core.specs.Tight.{canonical_shore}
 use Rattle.separation_kit.specs.SeparationShores.{separation_cuts, separation_shores}
 use Rattle.tight_cuts.proofs.CandidateLists.{fold-cuts, choose-false, choose-true}
 use Rattle.tight_cuts.proofs.EdgeLoop.{after_edges, after_suc}
-use Rattle.tight_cuts.specs.Candidates.{Barrier, Candidate, Flow, Origin, Separation, candidate_at, candidates, common_shore, cuts, first_of, first_parted, front_candidates, greater_end, lesser_end, shores_of, with_edge_cut, with_list, with_pair, with_shore}
+use Rattle.tight_cuts.specs.Candidates.{Barrier, Candidate, Flow, Origin, Separation, candidate_at, candidates, common_shore, cuts, first_of, first_separated, front_candidates, greater_end, lesser_end, shores_of, with_edge_cut, with_list, with_pair, with_shore}
 use Rattle.tight_cuts.specs.EdgeSearch.{IsShoreOfEdge}
 
 -- the cuts of shores, as candidates
@@ -69,8 +69,8 @@ first-candidate_at n o [] found h = ap (option_map (candidate_at n o)) h
 first-candidate_at n o (s ∷ shores) found h = ap (option_map (candidate_at n o)) h
 
 -- what the first pair says
-pub unlike-some : (g : Graph) (k : ℕ × ℕ) → Some k ≡ unlike_pair g → (is_bicritical g && nat_le 4 g.order) ≡ false
-unlike-some g k q = ap (λ o. is_none o && nat_le 4 g.order) (sym q)
+pub equivalent-some : (g : Graph) (k : ℕ × ℕ) → Some k ≡ equivalent_pair g → (is_bicritical g && nat_le 4 g.order) ≡ false
+equivalent-some g k q = ap (λ o. is_none o && nat_le 4 g.order) (sym q)
 
 pub order-small : (g : Graph) → g.order < 4 → (is_bicritical g && nat_le 4 g.order) ≡ false
 order-small g l = and_right (is_bicritical g) (nat_le 4 g.order) (lt-leb 4 g.order l)
@@ -99,14 +99,14 @@ shore-congr n o list x y w h =
 module _ (g : Graph) (list : List Candidate) (e : ℕ) where
   -- an edge in the cut of a candidate adds nothing
   pub edge-known : list_any (cuts g e) list ≡ true → list ≡ with_edge_cut g list e
-  edge-known h = sym (choose-true (list_any (cuts g e) list) list (with_pair g (lesser_end g e) (greater_end g e) list (first_parted g e)) h)
+  edge-known h = sym (choose-true (list_any (cuts g e) list) list (with_pair g (lesser_end g e) (greater_end g e) list (first_separated g e)) h)
 
   -- an edge that gives a shore
   pub edge-shore : (after : List Candidate) (s : List ℕ) → Within g.order g.order → list_any (cuts g e) list ≡ false → IsShoreOfEdge g e (Some s) → after ≡ with_list g.order Flow list s → after ≡ with_edge_cut g list e
   edge-shore after s w h p q =
       let k = p.some s refl in
       q ∙ shore-congr g.order Flow list (mem s) (common_shore g (lesser_end g e) (greater_end g e) k.0) w k.2
-      ∙ sym (choose-false (list_any (cuts g e) list) list (with_pair g (lesser_end g e) (greater_end g e) list (first_parted g e)) h ∙ ap (with_pair g (lesser_end g e) (greater_end g e) list) k.1)
+      ∙ sym (choose-false (list_any (cuts g e) list) list (with_pair g (lesser_end g e) (greater_end g e) list (first_separated g e)) h ∙ ap (with_pair g (lesser_end g e) (greater_end g e) list) k.1)
 
 -- one edge more
 pub edges-more : (g : Graph) (list after : List Candidate) (k : ℕ) → list ≡ after_edges g (front_candidates g) k → after ≡ with_edge_cut g list (k + 1) → after ≡ after_edges g (front_candidates g) (k + 1)

@@ -10,18 +10,18 @@ use Rattle.counting.proofs.Counts.{count_complement}
 use Rattle.counting.specs.Sets.{Set}
 use Rattle.graph_core.specs.Covered.{IsCovered}
 use Rattle.graph_core.specs.Graph.{Graph, IsBipartite, IsMultigraph}
-use Rattle.graph_core.specs.Structure.{IsBicritical, unlike_pair}
+use Rattle.graph_core.specs.Structure.{IsBicritical, equivalent_pair}
 use Rattle.graph_core.specs.Tight.{IsNontrivial, IsTight}
-use Rattle.separation_kit.proofs.SeparationFacts.{pair_some_cut, unlike-none}
+use Rattle.separation_kit.proofs.SeparationFacts.{pair_some_cut, equivalent-none}
 use Rattle.separation_kit.specs.SeparationShores.{separation_cuts}
 use Rattle.tight_cuts.proofs.Completeness.{candidates_none}
-use Rattle.tight_cuts.proofs.FrontCandidates.{front-barriers, front-separations, unlike-some}
+use Rattle.tight_cuts.proofs.FrontCandidates.{front-barriers, front-separations, equivalent-some}
 use Rattle.tight_cuts.proofs.LiftedCandidates.{map-none}
 use Rattle.tight_cuts.specs.Candidates.{Barrier, Separation, candidate_at, candidates, front_candidates}
 
 module _ (g : Graph) (is : IsMultigraph g) (cov : IsCovered g) (odd_cycle : IsBipartite g → ⊥) (front : front_candidates g ≡ []) where
   no_tight : (x : Set) → IsTight g x → IsNontrivial g.order x → ⊥
-  no_tight x tx wide = at (unlike_pair g) refl
+  no_tight x tx wide = at (equivalent_pair g) refl
     where
       four : 4 ≤ g.order
       four = let a = wide.inside in let b = wide.outside in let c = count_complement g.order x in omega arith
@@ -31,10 +31,10 @@ module _ (g : Graph) (is : IsMultigraph g) (cov : IsCovered g) (odd_cycle : IsBi
           let none = map-none (candidate_at g.order Separation) (separation_cuts g) (front-separations g (bicritical_no_cuts g is.ends cov bi) ∙ front) in
           no_shore g is cov bi (λ u v pair. pair_some_cut g is.ends bi four u v pair none) x tx wide
 
-      at : (o : Option (ℕ × ℕ)) → unlike_pair g ≡ o → ⊥
+      at : (o : Option (ℕ × ℕ)) → equivalent_pair g ≡ o → ⊥
       at (Some k) q = some_cut g is.ends cov (no_sides g is.no_loop odd_cycle) bicritical
-          (map-none (candidate_at g.order Barrier) (barrier_cuts g) (front-barriers g (unlike-some g k (sym q)) ∙ front))
-      at None q = bicritical ((unlike-none g).0 q)
+          (map-none (candidate_at g.order Barrier) (barrier_cuts g) (front-barriers g (equivalent-some g k (sym q)) ∙ front))
+      at None q = bicritical ((equivalent-none g).0 q)
 
   pub front_empty : candidates g ≡ []
   front_empty = (candidates_none g is.ends cov).1 no_tight

@@ -19,11 +19,11 @@ use Rattle.graph_core.specs.Graph.{Graph, size, first_end, second_end, IsGraph, 
 use Rattle.graph_core.specs.Matchings.{Allowed}
 use Rattle.graph_core.specs.Tight.{IsNontrivial, is_tight}
 use Rattle.tight_cuts.proofs.PairsOfEdges.{odd_sides, others_stay, cut_between}
-use Rattle.tight_cuts.specs.Candidates.{parts_tightly, is_parted, common_shore}
-use Rattle.tight_cuts.specs.Pieces.{PartsTightly}
+use Rattle.tight_cuts.specs.Candidates.{separates_tightly, is_separated, common_shore}
+use Rattle.tight_cuts.specs.Pieces.{SeparatesTightly}
 
 -- the test and the record
-pub parts_says : (g : Graph) (a b : ℕ) (k : ℕ × ℕ) (z : Set) → parts_tightly g a b k z ≡ true → PartsTightly g a b k z
+pub parts_says : (g : Graph) (a b : ℕ) (k : ℕ × ℕ) (z : Set) → separates_tightly g a b k z ≡ true → SeparatesTightly g a b k z
 parts_says g a b k z h =
     let p = and_parts (is_tight g z && (z a && z k.0)) (not (z b || z k.1)) h in
     let q = and_parts (is_tight g z) (z a && z k.0) p.0 in
@@ -31,14 +31,14 @@ parts_says g a b k z h =
     let s = or_parts (z b) (z k.1) (not-true (z b || z k.1) p.1) in
     record { tight = is_tight_says g z q.0; has_a = r.0; has_x = r.1; lacks_b = s.0; lacks_y = s.1 }
 
-pub parts_found : (g : Graph) (a b : ℕ) (k : ℕ × ℕ) (z : Set) → PartsTightly g a b k z → parts_tightly g a b k z ≡ true
+pub parts_found : (g : Graph) (a b : ℕ) (k : ℕ × ℕ) (z : Set) → SeparatesTightly g a b k z → separates_tightly g a b k z ≡ true
 parts_found g a b k z p =
     and_from (is_tight g z && (z a && z k.0)) (not (z b || z k.1))
     (and_from (is_tight g z) (z a && z k.0) (is_tight_found g z p.tight) (and_from (z a) (z k.0) p.has_a p.has_x))
     (ap not (or_from (z b) (z k.1) p.lacks_b p.lacks_y))
 
 module _ (g : Graph) (is : IsGraph g) (a b : ℕ) (k : ℕ × ℕ) (wa : Within g.order a) (wb : Within g.order b) (wx : Within g.order k.0) (wy : Within g.order k.1) where
-  pub parts_congr : (z w : Set) → ((v : ℕ) → Within g.order v → z v ≡ w v) → PartsTightly g a b k z → PartsTightly g a b k w
+  pub parts_congr : (z w : Set) → ((v : ℕ) → Within g.order v → z v ≡ w v) → SeparatesTightly g a b k z → SeparatesTightly g a b k w
   parts_congr z w h p = record {
     tight = tight-same g z w is h p.tight;
     has_a = sym (h a wa) ∙ p.has_a;
@@ -47,41 +47,41 @@ module _ (g : Graph) (is : IsGraph g) (a b : ℕ) (k : ℕ × ℕ) (wa : Within 
     lacks_y = sym (h k.1 wy) ∙ p.lacks_y;
   }
 
-  pub parts_same : (z w : Set) → ((v : ℕ) → Within g.order v → z v ≡ w v) → parts_tightly g a b k z ≡ parts_tightly g a b k w
-  parts_same z w h = same_tests (parts_tightly g a b k z) (parts_tightly g a b k w)
+  pub parts_same : (z w : Set) → ((v : ℕ) → Within g.order v → z v ≡ w v) → separates_tightly g a b k z ≡ separates_tightly g a b k w
+  parts_same z w h = same_tests (separates_tightly g a b k z) (separates_tightly g a b k w)
       (λ t. parts_found g a b k w (parts_congr z w h (parts_says g a b k z t)))
       (λ t. parts_found g a b k z (parts_congr w z (λ v u. sym (h v u)) (parts_says g a b k w t)))
 
-  pub parts_respects : Respects g.order (parts_tightly g a b k)
+  pub parts_respects : Respects g.order (separates_tightly g a b k)
   parts_respects = record { same = parts_same }
 
   -- a smaller one is looked for until there is none
-  pub least_parts : (d : ℕ) (z : Set) → PartsTightly g a b k z → count g.order z ≤ d → (w : Set) × PartsTightly g a b k w × ((v : Set) → PartsTightly g a b k v → count g.order w ≤ count g.order v)
+  pub least_parts : (d : ℕ) (z : Set) → SeparatesTightly g a b k z → count g.order z ≤ d → (w : Set) × SeparatesTightly g a b k w × ((v : Set) → SeparatesTightly g a b k v → count g.order w ≤ count g.order v)
   least_parts zero z p l = (z, p, λ v q. omega arith)
   least_parts (suc d) z p l =
-      elim (choose_set g.order (λ v. parts_tightly g a b k v && nat_lt (count g.order v) (count g.order z)) (record { same = λ v w h. ap₂ ◌&&◌ (parts_same v w h) (ap (λ c. nat_lt c (count g.order z)) (count_congr g.order v w h)) })) [
-        | inl f ↦ let q = and_parts (parts_tightly g a b k f.0) (nat_lt (count g.order f.0) (count g.order z)) f.1 in
+      elim (choose_set g.order (λ v. separates_tightly g a b k v && nat_lt (count g.order v) (count g.order z)) (record { same = λ v w h. ap₂ ◌&&◌ (parts_same v w h) (ap (λ c. nat_lt c (count g.order z)) (count_congr g.order v w h)) })) [
+        | inl f ↦ let q = and_parts (separates_tightly g a b k f.0) (nat_lt (count g.order f.0) (count g.order z)) f.1 in
             let s = ltb-true (count g.order f.0) (count g.order z) q.1 in
             least_parts d f.0 (parts_says g a b k f.0 q.0) (omega arith)
         | inr f ↦ (
           z,
           p,
           λ v q. elim (cases_lt (count g.order v) (count g.order z)) [
-            | inl s ↦ absurd (both_ways (parts_tightly g a b k v && nat_lt (count g.order v) (count g.order z)) (f v) (and_from (parts_tightly g a b k v) (nat_lt (count g.order v) (count g.order z)) (parts_found g a b k v q) (lt-ltb (count g.order v) (count g.order z) s)))
+            | inl s ↦ absurd (both_ways (separates_tightly g a b k v && nat_lt (count g.order v) (count g.order z)) (f v) (and_from (separates_tightly g a b k v) (nat_lt (count g.order v) (count g.order z)) (parts_found g a b k v q) (lt-ltb (count g.order v) (count g.order z) s)))
             | inr s ↦ s
           ],
         )
       ]
 
   -- v is in the common shore if it is in each
-  pub common_in : (v : ℕ) → Within g.order v → common_shore g a b k v ≡ true → (z : Set) → PartsTightly g a b k z → z v ≡ true
-  common_in v w h z p = implied (parts_tightly g a b k z) (z v) (each_passes g.order (λ z. not (parts_tightly g a b k z) || z v) (record { same = λ s t e. ap₂ (λ c d. not c || d) (parts_same s t e) (e v w) }) h z) (parts_found g a b k z p)
+  pub common_in : (v : ℕ) → Within g.order v → common_shore g a b k v ≡ true → (z : Set) → SeparatesTightly g a b k z → z v ≡ true
+  common_in v w h z p = implied (separates_tightly g a b k z) (z v) (each_passes g.order (λ z. not (separates_tightly g a b k z) || z v) (record { same = λ s t e. ap₂ (λ c d. not c || d) (parts_same s t e) (e v w) }) h z) (parts_found g a b k z p)
     where
       implied : (c d : Bool) → (not c || d) ≡ true → c ≡ true → d ≡ true
       implied c d h p = grind arith
 
-  pub common_from : (v : ℕ) → ((z : Set) → PartsTightly g a b k z → z v ≡ true) → common_shore g a b k v ≡ true
-  common_from v h = none_fails g.order (λ z. not (parts_tightly g a b k z) || z v) (λ z. implies (parts_tightly g a b k z) (z v) (λ t. h z (parts_says g a b k z t)))
+  pub common_from : (v : ℕ) → ((z : Set) → SeparatesTightly g a b k z → z v ≡ true) → common_shore g a b k v ≡ true
+  common_from v h = none_fails g.order (λ z. not (separates_tightly g a b k z) || z v) (λ z. implies (separates_tightly g a b k z) (z v) (λ t. h z (parts_says g a b k z t)))
     where
       implies : (c d : Bool) → (c ≡ true → d ≡ true) → (not c || d) ≡ true
       implies true d h = h refl
@@ -89,7 +89,7 @@ module _ (g : Graph) (is : IsGraph g) (a b : ℕ) (k : ℕ × ℕ) (wa : Within 
 
   module _ (cov : IsCovered g) (e : ℕ) (we : Within (size g) e) (ends : has_ends g a b e ≡ true) (al : Allowed g e) where
     -- the meet of two
-    pub meet_parts : (z w : Set) → PartsTightly g a b k z → PartsTightly g a b k w → PartsTightly g a b k (meet z w)
+    pub meet_parts : (z w : Set) → SeparatesTightly g a b k z → SeparatesTightly g a b k w → SeparatesTightly g a b k (meet z w)
     meet_parts z w p q = record {
       tight = meet_tight g is cov z w p.tight q.tight (odd_sides g (meet z w) e is we al
           (cut_between g (meet z w) a b e ends in_a out_b)
@@ -112,7 +112,7 @@ module _ (g : Graph) (is : IsGraph g) (a b : ℕ) (k : ℕ × ℕ) (wa : Within 
         both s t u v h i = grind arith
 
     -- a least one lies in each
-    pub least_in : (w : Set) → PartsTightly g a b k w → ((v : Set) → PartsTightly g a b k v → count g.order w ≤ count g.order v) → (z : Set) → PartsTightly g a b k z → (v : ℕ) → Within g.order v → w v ≡ true → z v ≡ true
+    pub least_in : (w : Set) → SeparatesTightly g a b k w → ((v : Set) → SeparatesTightly g a b k v → count g.order w ≤ count g.order v) → (z : Set) → SeparatesTightly g a b k z → (v : ℕ) → Within g.order v → w v ≡ true → z v ≡ true
     least_in w p least z q v u h = second (w v) (z v) h (total_tight g.order (λ v. bit (w v)) (λ v. bit (meet w z v)) (λ v u. le (w v) (z v)) (least (meet w z) (meet_parts w z p q)) v u)
       where
         le : (c d : Bool) → bit (c && d) ≤ bit c
@@ -126,32 +126,32 @@ module _ (g : Graph) (is : IsGraph g) (a b : ℕ) (k : ℕ × ℕ) (wa : Within 
         second false d h e = absurd (true≢false (sym h))
 
     -- so the common shore is a least one
-    pub common_least : (z : Set) → PartsTightly g a b k z → (w : Set) × PartsTightly g a b k w × ((v : ℕ) → Within g.order v → common_shore g a b k v ≡ w v)
+    pub common_least : (z : Set) → SeparatesTightly g a b k z → (w : Set) × SeparatesTightly g a b k w × ((v : ℕ) → Within g.order v → common_shore g a b k v ≡ w v)
     common_least z p =
         let l = least_parts (count g.order z) z p (omega arith) in
         (l.0, l.1, λ v u. same_tests (common_shore g a b k v) (l.0 v) (λ t. common_in v u t l.0 l.1) (λ t. common_from v (λ s q. least_in l.0 l.1 l.2 s q v u t)))
 
     -- the common shore is tight and separates the pairs
-    pub common_parts : (z : Set) → PartsTightly g a b k z → PartsTightly g a b k (common_shore g a b k)
+    pub common_parts : (z : Set) → SeparatesTightly g a b k z → SeparatesTightly g a b k (common_shore g a b k)
     common_parts z p = let l = common_least z p in parts_congr l.0 (common_shore g a b k) (λ v u. sym (l.2 v u)) l.1
 
 -- it has three vertices on both sides
-pub parts_nontrivial : (g : Graph) (a b : ℕ) (k : ℕ × ℕ) (z : Set) → Within g.order a → Within g.order b → Within g.order k.0 → Within g.order k.1 → a ≢ k.0 → b ≢ k.1 → PartsTightly g a b k z → IsNontrivial g.order z
+pub parts_nontrivial : (g : Graph) (a b : ℕ) (k : ℕ × ℕ) (z : Set) → Within g.order a → Within g.order b → Within g.order k.0 → Within g.order k.1 → a ≢ k.0 → b ≢ k.1 → SeparatesTightly g a b k z → IsNontrivial g.order z
 parts_nontrivial g a b k z wa wb wx wy dx dy p = record {
   inside = odd_three (count g.order z) p.tight.odd (two_members g.order z a k.0 wa wx dx p.has_a p.has_x);
   outside = odd_three (count g.order (complement z)) p.tight.odd_complement (two_members g.order (complement z) b k.1 wb wy dy (ap not p.lacks_b) (ap not p.lacks_y));
 }
 
 -- a pair that is separated, and a set that separates it
-pub parted_says : (g : Graph) (a b : ℕ) (k : ℕ × ℕ) → is_parted g a b k ≡ true → (pair_set a b k.0 ≡ false) × (pair_set a b k.1 ≡ false) × ((z : Set) × PartsTightly g a b k z)
-parted_says g a b k h =
-    let p = and_parts (not (pair_set a b k.0 || pair_set a b k.1)) (some_set g.order (parts_tightly g a b k)) h in
+pub separated_says : (g : Graph) (a b : ℕ) (k : ℕ × ℕ) → is_separated g a b k ≡ true → (pair_set a b k.0 ≡ false) × (pair_set a b k.1 ≡ false) × ((z : Set) × SeparatesTightly g a b k z)
+separated_says g a b k h =
+    let p = and_parts (not (pair_set a b k.0 || pair_set a b k.1)) (some_set g.order (separates_tightly g a b k)) h in
     let q = or_parts (pair_set a b k.0) (pair_set a b k.1) (not-true (pair_set a b k.0 || pair_set a b k.1) p.0) in
-    let s = some_set_found g.order (parts_tightly g a b k) p.1 in
+    let s = some_set_found g.order (separates_tightly g a b k) p.1 in
     (q.0, q.1, (s.0, parts_says g a b k s.0 s.1))
 
-pub parted_found : (g : Graph) (a b : ℕ) (k : ℕ × ℕ) (z : Set) → IsGraph g → Within g.order a → Within g.order b → Within g.order k.0 → Within g.order k.1 → pair_set a b k.0 ≡ false → pair_set a b k.1 ≡ false → PartsTightly g a b k z → is_parted g a b k ≡ true
-parted_found g a b k z is wa wb wx wy ox oy p =
-    and_from (not (pair_set a b k.0 || pair_set a b k.1)) (some_set g.order (parts_tightly g a b k))
+pub separated_found : (g : Graph) (a b : ℕ) (k : ℕ × ℕ) (z : Set) → IsGraph g → Within g.order a → Within g.order b → Within g.order k.0 → Within g.order k.1 → pair_set a b k.0 ≡ false → pair_set a b k.1 ≡ false → SeparatesTightly g a b k z → is_separated g a b k ≡ true
+separated_found g a b k z is wa wb wx wy ox oy p =
+    and_from (not (pair_set a b k.0 || pair_set a b k.1)) (some_set g.order (separates_tightly g a b k))
     (ap not (or_from (pair_set a b k.0) (pair_set a b k.1) ox oy))
-    (set_found g.order (parts_tightly g a b k) (parts_respects g is a b k wa wb wx wy) z (parts_found g a b k z p))
+    (set_found g.order (separates_tightly g a b k) (parts_respects g is a b k wa wb wx wy) z (parts_found g a b k z p))

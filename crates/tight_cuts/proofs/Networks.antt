@@ -24,7 +24,7 @@ use Rattle.tight_cuts.proofs.PairsOfEdges.{pair_list_bound, pair_list_tight, tig
 use Rattle.tight_cuts.proofs.PiecesOfEdges.{pieces_odd, tight_piece, beside_graph}
 use Rattle.tight_cuts.specs.Candidates.{common_shore}
 use Rattle.tight_cuts.specs.PairSums.{weight, cut_sum}
-use Rattle.tight_cuts.specs.Pieces.{PartsTightly, IsBeside, arcs_of, contracted_net, with_piece, IsGrouping}
+use Rattle.tight_cuts.specs.Pieces.{SeparatesTightly, IsBeside, arcs_of, contracted_net, with_piece, IsGrouping}
 
 -- the weights in a cut are its edges in all the matchings
 pub weights_cut : (g : Graph) (ms : List (List ℕ)) (x : Set) → total (size g) (λ e. weight ms e * bit (in_cut g x e)) ≡ cut_sum g ms x
@@ -96,7 +96,7 @@ module _ (g h : Graph) (is : IsGraph g) (a b e : ℕ) (wa : Within g.order a) (w
   own_piece v w = let o = beside.order in walk_joined h (pair_set a b) (beside_graph g h is a b e wa wb we ends beside) v v (omega arith) (joined_self h (pair_set a b) v)
 
   -- a set of that value separates the pairs
-  pub value_parts : (u : Set) → Separates a b u → value_of (contracted_net g ms group r) u ≡ length ms → PartsTightly g a b k (back u)
+  pub value_parts : (u : Set) → Separates a b u → value_of (contracted_net g ms group r) u ≡ length ms → SeparatesTightly g a b k (back u)
   value_parts u s v = record {
     tight = (value_tight u s).0 v;
     has_a = ap u at_a ∙ s.holds;
@@ -105,23 +105,23 @@ module _ (g h : Graph) (is : IsGraph g) (a b e : ℕ) (wa : Within g.order a) (w
     lacks_y = ap u (groups.sink k.1 wy (or_right (b == k.1) (joined h (pair_set a b) k.1 k.1) (own_piece k.1 wy))) ∙ s.lacks;
   }
 
-  piece_of : (x : Set) → PartsTightly g a b k x → (u v : ℕ) → joined h (pair_set a b) u v ≡ true → x u ≡ x v
+  piece_of : (x : Set) → SeparatesTightly g a b k x → (u v : ℕ) → joined h (pair_set a b) u v ≡ true → x u ≡ x v
   piece_of x p u v j = tight_piece g h is a b e wa wb we ends beside x p.tight (cut_between g x a b e ends p.has_a p.lacks_b) u v j
 
-  source_all : (x : Set) → PartsTightly g a b k x → (v : ℕ) → with_piece h a b a k.0 v ≡ true → x v ≡ true
+  source_all : (x : Set) → SeparatesTightly g a b k x → (v : ℕ) → with_piece h a b a k.0 v ≡ true → x v ≡ true
   source_all x p v t = elim (or_cases (a == v) (joined h (pair_set a b) k.0 v) t) [
     | inl q ↦ ap x (sym (eqb-true a v q)) ∙ p.has_a
     | inr q ↦ sym (piece_of x p k.0 v q) ∙ p.has_x
   ]
 
-  sink_none : (x : Set) → PartsTightly g a b k x → (v : ℕ) → with_piece h a b b k.1 v ≡ true → x v ≡ false
+  sink_none : (x : Set) → SeparatesTightly g a b k x → (v : ℕ) → with_piece h a b b k.1 v ≡ true → x v ≡ false
   sink_none x p v t = elim (or_cases (b == v) (joined h (pair_set a b) k.1 v) t) [
     | inl q ↦ ap x (sym (eqb-true b v q)) ∙ p.lacks_b
     | inr q ↦ sym (piece_of x p k.1 v q) ∙ p.lacks_y
   ]
 
   -- a set that separates the pairs is a union of groups
-  pub parts_group : (x : Set) → PartsTightly g a b k x → (u v : ℕ) → Within g.order u → Within g.order v → group u ≡ group v → x u ≡ x v
+  pub parts_group : (x : Set) → SeparatesTightly g a b k x → (u v : ℕ) → Within g.order u → Within g.order v → group u ≡ group v → x u ≡ x v
   parts_group x p u v wu wv q = elim (groups.apart u v wu wv q) [
     | inl j ↦ piece_of x p u v j
     | inr s ↦ elim s [
@@ -133,7 +133,7 @@ module _ (g h : Graph) (is : IsGraph g) (a b e : ℕ) (wa : Within g.order a) (w
   abbrev nodes_of : Set → Set
   nodes_of x w = some g.order (λ v. (group v == w) && x v)
 
-  nodes_back : (x : Set) → PartsTightly g a b k x → (v : ℕ) → Within g.order v → nodes_of x (group v) ≡ x v
+  nodes_back : (x : Set) → SeparatesTightly g a b k x → (v : ℕ) → Within g.order v → nodes_of x (group v) ≡ x v
   nodes_back x p v w = same_tests (nodes_of x (group v)) (x v)
       (λ t. let q = some_true g.order (λ i. (group i == group v) && x i) t in
       let s = and_parts (group q.0 == group v) (x q.0) q.2 in
@@ -141,7 +141,7 @@ module _ (g h : Graph) (is : IsGraph g) (a b e : ℕ) (wa : Within g.order a) (w
       (λ t. true_some g.order (λ i. (group i == group v) && x i) v w (and_from (group v == group v) (x v) (eq-eqb (group v) (group v) refl) t))
 
   -- so it comes from a set of nodes, whose value is the list's length
-  pub parts_nodes : (x : Set) → PartsTightly g a b k x → (u : Set) × Separates a b u × ((v : ℕ) → Within g.order v → u (group v) ≡ x v) × (value_of (contracted_net g ms group r) u ≡ length ms)
+  pub parts_nodes : (x : Set) → SeparatesTightly g a b k x → (u : Set) × Separates a b u × ((v : ℕ) → Within g.order v → u (group v) ≡ x v) × (value_of (contracted_net g ms group r) u ≡ length ms)
   parts_nodes x p =
       let s : Separates a b (nodes_of x) = record { holds = ap (nodes_of x) (sym at_a) ∙ nodes_back x p a wa ∙ p.has_a; lacks = ap (nodes_of x) (sym at_b) ∙ nodes_back x p b wb ∙ p.lacks_b } in
       (nodes_of x, s, nodes_back x p, (value_tight (nodes_of x) s).1 (tight-same g x (back (nodes_of x)) is (λ v w. sym (nodes_back x p v w)) p.tight))
@@ -152,11 +152,11 @@ module _ (g h : Graph) (is : IsGraph g) (a b e : ℕ) (wa : Within g.order a) (w
     least_value l = let v = value_bound (mem set) cut.separates in let e = cut.is in omega arith
 
     -- its vertices are a set that separates the pairs
-    pub least_back : value ≤ length ms → PartsTightly g a b k (back (mem set))
+    pub least_back : value ≤ length ms → SeparatesTightly g a b k (back (mem set))
     least_back l = let v = least_value l in let e = cut.is in value_parts (mem set) cut.separates (omega arith)
 
     -- and lie in each such set
-    pub least_inside : value ≤ length ms → (x : Set) → PartsTightly g a b k x → (v : ℕ) → Within g.order v → mem set (group v) ≡ true → x v ≡ true
+    pub least_inside : value ≤ length ms → (x : Set) → SeparatesTightly g a b k x → (v : ℕ) → Within g.order v → mem set (group v) ≡ true → x v ≡ true
     least_inside l x p v w t = let q = parts_nodes x p in let c = least_value l in let d = q.3 in sym (q.2 v w) ∙ cut.inside q.0 q.1 (omega arith) (group v) t
 
     -- so they are the common shore

@@ -15,9 +15,9 @@ use Rattle.allowed_edges.proofs.Marking.{length-marked, marks-set}
 use Rattle.match_search.specs.Rows.{marks}
 use Rattle.tight_cuts.proofs.EdgeLoop.{ends_between}
 use Rattle.tight_cuts.proofs.FirstPairs.{no_first}
-use Rattle.tight_cuts.proofs.LeastShores.{parted_says}
+use Rattle.tight_cuts.proofs.LeastShores.{separated_says}
 use Rattle.tight_cuts.proofs.PairsOfEdges.{cut_between, others_stay}
-use Rattle.tight_cuts.specs.Candidates.{first_parted, greater_end, is_parted, lesser_end}
+use Rattle.tight_cuts.specs.Candidates.{first_separated, greater_end, is_separated, lesser_end}
 use Rattle.tight_cuts.specs.QuietEdges.{AreQuiet, IsOneSided}
 
 -- one vertex alone
@@ -68,9 +68,9 @@ module _ (g : Graph) (e f : ℕ) (we : Within (size g) e) (wf : Within (size g) 
       ]
 
 -- a set that holds all vertices but the ends of e
-pub none_parted : (g : Graph) (e : ℕ) (x : Set) → IsOneSided g e x → ((v : ℕ) → Within g.order v → first_end g e ≢ v → second_end g e ≢ v → x v ≡ true) → first_parted g e ≡ None
-none_parted g e x one all = no_first g.order (is_parted g (lesser_end g e) (greater_end g e)) (λ u v wu wv. false_from_ne_true (is_parted g (lesser_end g e) (greater_end g e) (u, v)) (λ t.
-    let p = parted_says g (lesser_end g e) (greater_end g e) (u, v) t in
+pub none_parted : (g : Graph) (e : ℕ) (x : Set) → IsOneSided g e x → ((v : ℕ) → Within g.order v → first_end g e ≢ v → second_end g e ≢ v → x v ≡ true) → first_separated g e ≡ None
+none_parted g e x one all = no_first g.order (is_separated g (lesser_end g e) (greater_end g e)) (λ u v wu wv. false_from_ne_true (is_separated g (lesser_end g e) (greater_end g e) (u, v)) (λ t.
+    let p = separated_says g (lesser_end g e) (greater_end g e) (u, v) t in
     let q = p.2.1 in
     let c = cut_between g p.2.0 (lesser_end g e) (greater_end g e) e (ends_between g e) q.has_a q.lacks_b in
     both_ways (p.2.0 v) q.lacks_y (sym (one p.2.0 q.tight c u v (inside u wu p.0) (inside v wv p.1)) ∙ q.has_x)))
@@ -90,11 +90,11 @@ pub other_vertex : (full rest others : Set) (a b : ℕ) → ((v : ℕ) → rest 
 other_vertex full rest others a b one two v t n m = two v ∙ and_from (rest v) (not (b == v)) (one v ∙ and_from (full v) (not (a == v)) t (ap not (ne_eqb a v n))) (ap not (ne_eqb b v m))
 
 -- one edge more is marked
-pub quiet_more : (g : Graph) (row : List Bool) (e : ℕ) → e < length row → AreQuiet g row → first_parted g e ≡ None → AreQuiet g (slice_set row e true)
+pub quiet_more : (g : Graph) (row : List Bool) (e : ℕ) → e < length row → AreQuiet g row → first_separated g e ≡ None → AreQuiet g (slice_set row e true)
 quiet_more g row e l q h = record {
   long = length-marked row e ∙ q.long;
   quiet = λ k t. elim (cases_eq e k) [
-    | inl r ↦ subst (λ i. first_parted g i ≡ None) r h
+    | inl r ↦ subst (λ i. first_separated g i ≡ None) r h
     | inr d ↦ q.quiet k (sym (marks-set row e k l ∙ ap (λ b. marks row k || b) (ne_eqb e k d) ∙ or_false (marks row k)) ∙ t)
   ];
 }

@@ -1,6 +1,8 @@
 -- The candidates of a matching covered graph: a list of nontrivial tight cuts, empty exactly when
 -- the graph has none. Barrier and separation cuts: Edmonds, Lovász and Pulleyblank 1982; tight
 -- cuts: Lovász 1987. The third part finds, edge by edge, what the first two leave.
+-- Stated by: tight_cuts, leaf_kinds, decomposer, tree_check, list_lines, theorems.
+-- Rests on it: bench_outcomes, bench_reports, bench_top, own_order.
 use Rattle.std.specs.Prelude.{◌≡◌, ◌≢◌, false, ℕ, Bool, List, [], ◌∷◌, ◌++◌, Option, Some, None, ◌&&◌, ◌||◌, not, map, find, fold, min, max, if◌then◌else◌}
 use Rattle.std.specs.List.{list_any}
 use Rattle.counting.specs.Counts.{count}
@@ -50,16 +52,16 @@ abbrev pub cuts : Graph → ℕ → Candidate → Bool
 cuts g e c = in_cut g (mem c.shore) e
 
 -- z is a tight set with a and the first vertex of the pair, and with neither b nor the second
-abbrev pub parts_tightly : Graph → (a b : ℕ) → ℕ × ℕ → Set → Bool
-parts_tightly g a b k z = is_tight g z && (z a && z k.0) && not (z b || z k.1)
+abbrev pub separates_tightly : Graph → (a b : ℕ) → ℕ × ℕ → Set → Bool
+separates_tightly g a b k z = is_tight g z && (z a && z k.0) && not (z b || z k.1)
 
 -- both vertices of the pair differ from a and b, and some such tight set is there
-abbrev pub is_parted : Graph → (a b : ℕ) → ℕ × ℕ → Bool
-is_parted g a b k = not (pair_set a b k.0 || pair_set a b k.1) && some_set g.order (parts_tightly g a b k)
+abbrev pub is_separated : Graph → (a b : ℕ) → ℕ × ℕ → Bool
+is_separated g a b k = not (pair_set a b k.0 || pair_set a b k.1) && some_set g.order (separates_tightly g a b k)
 
 -- the intersection of all such tight sets
 abbrev pub common_shore : Graph → (a b : ℕ) → ℕ × ℕ → Set
-common_shore g a b k v = each_set g.order (λ z. not (parts_tightly g a b k z) || z v)
+common_shore g a b k v = each_set g.order (λ z. not (separates_tightly g a b k z) || z v)
 
 -- the list with the intersection for the first pair, if there is one
 abbrev pub with_pair : Graph → (a b : ℕ) → List Candidate → Option (ℕ × ℕ) → List Candidate
@@ -75,12 +77,12 @@ greater_end g e = max (first_end g e) (second_end g e)
 
 -- the first pair, in lexicographic order, that some tight set with the lesser end of e and
 -- without the greater one separates
-abbrev pub first_parted : Graph → ℕ → Option (ℕ × ℕ)
-first_parted g e = find (is_parted g (lesser_end g e) (greater_end g e)) (ordered_pairs g.order)
+abbrev pub first_separated : Graph → ℕ → Option (ℕ × ℕ)
+first_separated g e = find (is_separated g (lesser_end g e) (greater_end g e)) (ordered_pairs g.order)
 
 -- the list with what edge e gives, which is nothing if e is in the cut of a candidate
 abbrev pub with_edge_cut : Graph → List Candidate → ℕ → List Candidate
-with_edge_cut g list e = if list_any (cuts g e) list then list else with_pair g (lesser_end g e) (greater_end g e) list (first_parted g e)
+with_edge_cut g list e = if list_any (cuts g e) list then list else with_pair g (lesser_end g e) (greater_end g e) list (first_separated g e)
 
 -- part 1 and part 2: the cuts of barriers, then those of separations
 unfoldable pub front_candidates : Graph → List Candidate

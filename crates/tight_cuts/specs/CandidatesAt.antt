@@ -1,6 +1,7 @@
 -- The candidates at a partition: those of the quotient, their shores taken to vertices of the
 -- graph and their sides counted in blocks. At the partition into single vertices they are those
 -- of the graph itself, in the order of its own edges.
+-- Stated by: tight_cuts, decomposer, tree_check. Rests on it: list_lines, theorems.
 use Rattle.std.specs.Prelude.{◌≡◌, ℕ, false, List, length, map, ◌==◌, if◌then◌else◌}
 use Rattle.counting.specs.Counts.{count}
 use Rattle.counting.specs.Sets.{complement}

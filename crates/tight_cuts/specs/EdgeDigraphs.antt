@@ -1,5 +1,6 @@
 -- What the search in a bipartite graph stands on: a side and a perfect matching, and at an edge
 -- the digraph of a perfect matching that holds it, with the side of its lesser end.
+-- Stated by: tight_cuts.
 use Rattle.std.specs.Prelude.{◌≡◌, ℕ, List, true}
 use Rattle.graph_core.specs.Sides.{IsSide}
 use Rattle.counting.specs.Lists.{mem}

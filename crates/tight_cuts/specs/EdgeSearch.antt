@@ -1,4 +1,5 @@
 -- What the search at one edge keeps in rows, and what it answers.
+-- Stated by: tight_cuts.
 use Rattle.std.specs.Prelude.{◌≡◌, ◌≢◌, ℕ, zero, suc, ◌+◌, ◌<◌, ◌≤◌, ◌^◌, ◌⊎◌, ◌↔◌, false, true, List, [], ◌∷◌, ◌++◌, ◌==◌, Option, Some, None, cond, length, slice_index_or}
 use Rattle.allowed_edges.specs.PairTables.{PairsValue, edge_lists, holds_both}
 use Rattle.counting.specs.Counts.{Within, total}
@@ -10,9 +11,9 @@ use Rattle.graph_core.specs.Graph.{Graph, size, first_end, second_end}
 use Rattle.graph_core.specs.Matchings.{Together}
 use Rattle.graph_core.specs.PairLists.{IsPairList, IsLean}
 use Rattle.flow_core.specs.Nets.{Arc, Net, HasCutWithin, IsLeastCut}
-use Rattle.tight_cuts.specs.Candidates.{lesser_end, greater_end, is_parted, common_shore, first_parted}
+use Rattle.tight_cuts.specs.Candidates.{lesser_end, greater_end, is_separated, common_shore, first_separated}
 use Rattle.tight_cuts.specs.PairSums.{weight}
-use Rattle.tight_cuts.specs.Pieces.{IsBeside, PartsTightly, leader, group_of}
+use Rattle.tight_cuts.specs.Pieces.{IsBeside, SeparatesTightly, leader, group_of}
 
 -- the number at place i of a row
 abbrev pub at_place : List ℕ → ℕ → ℕ
@@ -93,20 +94,20 @@ pub record IsCutOfGroups (g : Graph) (weights leaders : List ℕ) (bound a b x y
 -- the intersection of all tight sets with a and the first vertex of the pair and with neither b
 -- nor the second, if there is one
 pub record IsCommonShore (g : Graph) (a b : ℕ) (k : ℕ × ℕ) (answer : Option (List ℕ)) : Type 0 where
-  pub some : (s : List ℕ) → answer ≡ Some s → ((z : Set) × PartsTightly g a b k z) × ((v : ℕ) → Within g.order v → mem s v ≡ common_shore g a b k v)
-  pub none : answer ≡ None → (z : Set) → PartsTightly g a b k z → ⊥
+  pub some : (s : List ℕ) → answer ≡ Some s → ((z : Set) × SeparatesTightly g a b k z) × ((v : ℕ) → Within g.order v → mem s v ≡ common_shore g a b k v)
+  pub none : answer ≡ None → (z : Set) → SeparatesTightly g a b k z → ⊥
 
 -- what a pair gives at edge e: the common shore if the pair is separated, and nothing if it is not
 pub record IsShoreOfPair (g : Graph) (e : ℕ) (k : ℕ × ℕ) (answer : Option (List ℕ)) : Type 0 where
-  pub some : (s : List ℕ) → answer ≡ Some s → (is_parted g (lesser_end g e) (greater_end g e) k ≡ true) × ((v : ℕ) → Within g.order v → mem s v ≡ common_shore g (lesser_end g e) (greater_end g e) k v)
-  pub none : answer ≡ None → is_parted g (lesser_end g e) (greater_end g e) k ≡ false
+  pub some : (s : List ℕ) → answer ≡ Some s → (is_separated g (lesser_end g e) (greater_end g e) k ≡ true) × ((v : ℕ) → Within g.order v → mem s v ≡ common_shore g (lesser_end g e) (greater_end g e) k v)
+  pub none : answer ≡ None → is_separated g (lesser_end g e) (greater_end g e) k ≡ false
 
 -- what edge e gives: the common shore of the first pair that is separated, and nothing if there is
 -- none
 pub record IsShoreOfEdge (g : Graph) (e : ℕ) (answer : Option (List ℕ)) : Type 0 where
-  pub some : (s : List ℕ) → answer ≡ Some s → (k : ℕ × ℕ) × (first_parted g e ≡ Some k) × ((v : ℕ) → Within g.order v → mem s v ≡ common_shore g (lesser_end g e) (greater_end g e) k v)
-  pub none : answer ≡ None → first_parted g e ≡ None
+  pub some : (s : List ℕ) → answer ≡ Some s → (k : ℕ × ℕ) × (first_separated g e ≡ Some k) × ((v : ℕ) → Within g.order v → mem s v ≡ common_shore g (lesser_end g e) (greater_end g e) k v)
+  pub none : answer ≡ None → first_separated g e ≡ None
 
 -- no pair before (x, y), in lexicographic order, is separated at edge e
 abbrev pub NoneBefore : Graph → ℕ → ℕ → ℕ → Type 0
-NoneBefore g e x y = (c d : ℕ) → Within g.order c → Within g.order d → (c < x) ⊎ ((c ≡ x) × (d < y)) → is_parted g (lesser_end g e) (greater_end g e) (c, d) ≡ false
+NoneBefore g e x y = (c d : ℕ) → Within g.order c → Within g.order d → (c < x) ⊎ ((c ≡ x) × (d < y)) → is_separated g (lesser_end g e) (greater_end g e) (c, d) ≡ false

@@ -1,4 +1,5 @@
 -- How often the matchings of a list hold an edge, and how often they meet a cut.
+-- Stated by: tight_cuts.
 use Rattle.std.specs.Prelude.{◌≡◌, ◌≢◌, ℕ, true, List, sum_by}
 use Rattle.counting.specs.Counts.{bit, Within}
 use Rattle.counting.specs.Sets.{Set}

@@ -1,5 +1,6 @@
 -- Tight cuts through one edge: the pieces of the edge, and the network in which each piece is one
 -- node.
+-- Stated by: tight_cuts, theorems.
 use Rattle.std.specs.Prelude.{◌≡◌, ℕ, zero, suc, ◌≢◌, ◌⊎◌, true, false, List, [], ◌∷◌, ◌++◌, ◌==◌, ◌||◌, cond}
 use Rattle.counting.specs.Counts.{Within}
 use Rattle.counting.specs.Sets.{Set, pair_set}
@@ -12,7 +13,7 @@ use Rattle.flow_core.specs.Nets.{Arc, Net}
 use Rattle.tight_cuts.specs.PairSums.{weight}
 
 -- z is a tight set with a and the first vertex of the pair, and with neither b nor the second
-pub record PartsTightly (g : Graph) (a b : ℕ) (k : ℕ × ℕ) (z : Set) : Type 0 where
+pub record SeparatesTightly (g : Graph) (a b : ℕ) (k : ℕ × ℕ) (z : Set) : Type 0 where
   pub tight : IsTight g z
   pub has_a : z a ≡ true
   pub has_x : z k.0 ≡ true

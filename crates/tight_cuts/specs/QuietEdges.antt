@@ -1,10 +1,11 @@
 -- Edges at which no pair of vertices is separated, and what shows it.
+-- Stated by: tight_cuts.
 use Rattle.std.specs.Prelude.{◌≡◌, ℕ, ◌+◌, true, Bool, List, None, length}
 use Rattle.counting.specs.Sets.{Set}
 use Rattle.graph_core.specs.Graph.{Graph, in_cut, size}
 use Rattle.graph_core.specs.Tight.{IsTight}
 use Rattle.match_search.specs.Rows.{marks}
-use Rattle.tight_cuts.specs.Candidates.{first_parted}
+use Rattle.tight_cuts.specs.Candidates.{first_separated}
 
 -- each tight set with edge e in its cut holds all of x or nothing of it
 abbrev pub IsOneSided : Graph → ℕ → Set → Type 0
@@ -13,4 +14,4 @@ IsOneSided g e x = (z : Set) → IsTight g z → in_cut g z e ≡ true → (u v 
 -- the row has a mark for each edge, and at no marked edge a pair is separated
 pub record AreQuiet (g : Graph) (row : List Bool) : Type 0 where
   pub long : length row ≡ size g + 1
-  pub quiet : (e : ℕ) → marks row e ≡ true → first_parted g e ≡ None
+  pub quiet : (e : ℕ) → marks row e ≡ true → first_separated g e ≡ None

@@ -1,5 +1,6 @@
 -- What the test of one cut answers: the cut is tight, or a perfect matching crosses it more than
 -- once.
+-- Stated by: tight_cuts. Rests on it: tree_check.
 use Rattle.std.specs.Prelude.{◌≡◌, ℕ, ◌<◌, ◌≤◌, true}
 use Rattle.counting.specs.Sets.{Set, none}
 use Rattle.counting.specs.Lists.{mem}

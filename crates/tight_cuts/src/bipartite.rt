@@ -123,7 +123,7 @@ impl EdgeSearch for FloodSearch {
         g.keeps_limits();
         let digraph = digraph_at(alloc, g, self, e)?;
         let ends = g.ends(e);
-        if digraph.is_unparted(g, ends.a.min(ends.b), ends.a.max(ends.b)) {
+        if digraph.is_inseparable(g, ends.a.min(ends.b), ends.a.max(ends.b)) {
             return Ok(None);
         }
         Ok(first_shore(g, &digraph, e))

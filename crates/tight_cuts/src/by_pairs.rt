@@ -6,7 +6,7 @@ ghost use Rattle.counting.specs.Counts.{Within};
 ghost use Rattle.counting.specs.Sets.{Set};
 ghost use Rattle.graph_core.specs.Covered.{IsCovered};
 ghost use Rattle.graph_core.specs.Graph.{in_cut, size};
-ghost use Rattle.graph_core.specs.Tight.{HasNoTightCut, IsNontrivial, IsTight};
+ghost use Rattle.graph_core.specs.Tight.{HasOnlyTrivialTightCuts, IsNontrivial, IsTight};
 ghost use Rattle.tight_cuts.specs.Candidates.{IsTightCandidate, ShoresDiffer, candidates, cuts, greater_end, lesser_end};
 ghost use Rattle.tight_cuts.specs.EdgeSearch.{AreRowsAt, IsShoreOfEdge, Leads, NoneBefore};
 
@@ -87,7 +87,7 @@ pub fn candidates_by_pairs(alloc: Global, g: &MultiGraph) -> Result<CandidateLis
         (λ list. (x : Set) (e : ℕ) → Within (size g.now) e → IsTight g.now x →
         IsNontrivial g.now.order x → in_cut g.now x e ≡ true →
         list_any (cuts g.now e) list ≡ true) }
-    ensures none { IfOk result (λ list. (list ≡ []) ↔ HasNoTightCut g.now) }
+    ensures none { IfOk result (λ list. (list ≡ []) ↔ HasOnlyTrivialTightCuts g.now) }
 {
     g.keeps_limits();
     let covered = Covered::known(alloc, g)?;

@@ -7,7 +7,7 @@ ghost use Rattle.counting.specs.Lists.{mem};
 ghost use Rattle.counting.specs.Sets.{Set};
 ghost use Rattle.graph_core.specs.Covered.{IsCovered};
 ghost use Rattle.graph_core.specs.Graph.{in_cut, size};
-ghost use Rattle.graph_core.specs.Tight.{HasNoTightCut, IsNontrivial, IsTight};
+ghost use Rattle.graph_core.specs.Tight.{HasOnlyTrivialTightCuts, IsNontrivial, IsTight};
 ghost use Rattle.tight_cuts.specs.EdgeDigraphs.{AreFloodsOf};
 ghost use Rattle.tight_cuts.specs.Candidates.{IsTightCandidate, ShoresDiffer, candidates, cuts, first_of, first_shore, front_candidates};
 ghost use Rattle.tight_cuts.specs.View.{candidate_of};
@@ -123,7 +123,7 @@ pub fn candidates(alloc: Global, g: &MultiGraph) -> Result<CandidateList, Memory
         (λ list. (x : Set) (e : ℕ) → Within (size g.now) e → IsTight g.now x →
         IsNontrivial g.now.order x → in_cut g.now x e ≡ true →
         list_any (cuts g.now e) list ≡ true) }
-    ensures none { IfOk result (λ list. (list ≡ []) ↔ HasNoTightCut g.now) }
+    ensures none { IfOk result (λ list. (list ≡ []) ↔ HasOnlyTrivialTightCuts g.now) }
 {
     g.keeps_limits();
     let covered = Covered::known(alloc, g)?;
@@ -139,7 +139,7 @@ pub fn first_candidate(alloc: Global, pairs: &FirstPairs) -> Result<Option<Candi
         (λ found. option_map candidate_of found ≡ first_of (candidates pairs.now)) }
     ensures some { IfOk result
         (λ found. (c : _) → found ≡ Some c → IsTightCandidate pairs.now (candidate_of c)) }
-    ensures none { IfOk result (λ found. (found ≡ None) ↔ HasNoTightCut pairs.now) }
+    ensures none { IfOk result (λ found. (found ≡ None) ↔ HasOnlyTrivialTightCuts pairs.now) }
 {
     pairs.keeps_covered();
     let front = first_front_candidate(alloc, pairs)?;
@@ -189,7 +189,7 @@ pub fn find_any(alloc: Global, g: &MultiGraph) -> Result<Option<VSet>, Memory>
     ensures some { IfOk result
         (λ found. (s : _) → found ≡ Some s →
         IsTight g.now (mem s) × IsNontrivial g.now.order (mem s)) }
-    ensures none { IfOk result (λ found. (found ≡ None) ↔ HasNoTightCut g.now) }
+    ensures none { IfOk result (λ found. (found ≡ None) ↔ HasOnlyTrivialTightCuts g.now) }
 {
     let covered = Covered::known(alloc, g)?;
     first_cut(alloc, &FirstPairs::of(alloc, &covered)?)
@@ -201,7 +201,7 @@ pub fn first_cut(alloc: Global, pairs: &FirstPairs) -> Result<Option<VSet>, Memo
     ensures some { IfOk result
         (λ found. (s : _) → found ≡ Some s →
         IsTight pairs.now (mem s) × IsNontrivial pairs.now.order (mem s)) }
-    ensures none { IfOk result (λ found. (found ≡ None) ↔ HasNoTightCut pairs.now) }
+    ensures none { IfOk result (λ found. (found ≡ None) ↔ HasOnlyTrivialTightCuts pairs.now) }
 {
     match first_candidate(alloc, pairs)? {
         Some(candidate) => Ok(Some(candidate.shore)),

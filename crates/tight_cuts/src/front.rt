@@ -10,7 +10,7 @@ ghost use Rattle.tight_cuts.specs.View.{candidate_of};
 use crate::candidate::{Candidate, CandidateList, Origin, candidates_of};
 use barrier_kit::{barrier_cuts_of, first_barrier_cut};
 use graph_facts::Covered;
-use separation_kit::{FirstPairs, first_separation_cut, separation_cuts, unlike_pair};
+use separation_kit::{FirstPairs, equivalent_pair, first_separation_cut, separation_cuts};
 use std::alloc::{AllocError as Memory, Global};
 
 // The cuts of barriers, as candidates.
@@ -41,7 +41,7 @@ pub(crate) fn front_candidates(alloc: Global, c: &Covered) -> Result<CandidateLi
     ensures { IfOk result (λ list. list ≡ front_candidates c.now) }
 {
     c.keeps_covered();
-    if let Some(_) = unlike_pair(alloc, c)? {
+    if let Some(_) = equivalent_pair(alloc, c)? {
         return barrier_candidates(alloc, c);
     }
     if c.order() < 4 {
@@ -90,7 +90,7 @@ pub(crate) fn first_front_candidate(
         (λ found. option_map candidate_of found ≡ first_of (front_candidates pairs.now)) }
 {
     pairs.keeps_covered();
-    if let Some(_) = pairs.unlike() {
+    if let Some(_) = pairs.equivalent() {
         return first_barrier_candidate(alloc, pairs.covered());
     }
     if pairs.order() < 4 {

@@ -18,9 +18,9 @@
 //! (`PairSums`); so the least minimum cut of the network of the pieces is the intersection of all
 //! tight sets that have a piece (`Networks`), and one cut for each piece decides what the edge
 //! gives (`EdgePieces`). The pair list is made only if a few perfect matchings do not show that no
-//! edge gives anything (`QuietEdges`). `candidates_by_pairs` answers the same by a cut for each pair of pieces,
-//! and only tests call it. One walk over the edges, `add_edge_cuts`, asks any of the three (the
-//! trait `EdgeSearch`).
+//! edge gives anything (`QuietEdges`). `candidates_by_pairs` answers the same by a cut for each
+//! pair of pieces, and only tests call it. One walk over the edges, `add_edge_cuts`, asks any of
+//! the three (the trait `EdgeSearch`).
 //!
 //! `candidates_at` lists the candidates at a partition of the vertices into blocks: those of the
 //! quotient, led back to vertices of the graph (`IsCandidateAt`); `first_candidate_at` answers

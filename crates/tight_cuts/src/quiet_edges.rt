@@ -12,7 +12,7 @@ ghost use Rattle.graph_core.specs.Graph.{first_end, second_end, size};
 ghost use Rattle.graph_core.specs.Matchings.{IsPerfect};
 ghost use Rattle.match_core.specs.MatchingRows.{IsOf, edges_of};
 ghost use Rattle.allowed_edges.specs.PairTables.{IsPerfectWith, SettlesEdges};
-ghost use Rattle.tight_cuts.specs.Candidates.{first_parted};
+ghost use Rattle.tight_cuts.specs.Candidates.{first_separated};
 ghost use Rattle.tight_cuts.specs.QuietEdges.{AreQuiet, IsOneSided};
 
 use allowed_edges::{PairTable, perfect_with_edge, seek_pair};
@@ -90,7 +90,7 @@ fn is_quiet(
     requires perfect { IsPerfect g.now none (mem (edges_of kept.now)) }
     requires begun { SettlesEdges g.now 1 pairs.old }
     ensures begun { IfOk result (λ _. SettlesEdges g.now 1 pairs.new) }
-    ensures quiet { IfOk result (λ quiet. quiet ≡ true → first_parted g.now e ≡ None) }
+    ensures quiet { IfOk result (λ quiet. quiet ≡ true → first_separated g.now e ≡ None) }
 {
     g.keeps_limits();
     let others = without_ends(g, e);

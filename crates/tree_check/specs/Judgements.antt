@@ -1,4 +1,5 @@
 -- The judgement of a tree, as the code answers it.
+-- Stated by: tree_check, bench_reports.
 use Rattle.graph_core.specs.Covered.{IsReason}
 use Rattle.graph_core.specs.Graph.{Graph}
 use Rattle.graph_core.specs.Verdicts.{reason_of}

@@ -2,6 +2,7 @@
 -- derivations, and the first rule that it breaks. At a cut the rules are that the shore is a
 -- union of blocks, has an odd number of them, at least three inside and outside, and is tight
 -- (Lovász 1987); at a leaf, that there is no nontrivial tight cut.
+-- Stated by: tree_check, bench_reports, theorems. Rests on it: bench_outcomes, bench_top.
 use Rattle.std.specs.Prelude.{◌≡◌, ◌⊎◌, ℕ, ◌+◌, ◌-◌, ◌≤◌, true, false, List, [], length, Some}
 use Rattle.counting.specs.Counts.{is_odd}
 use Rattle.counting.specs.Lists.{mem, IsRisingIn}

@@ -1,5 +1,6 @@
 -- Replays of scripts: the moves are made in order, and each tree that they make is to be a
 -- derivation of the graph.
+-- Stated by: tree_check. Rests on it: bench_outcomes, bench_reports, bench_top, theorems.
 use Rattle.std.specs.Prelude.{◌≡◌, ◌⊎◌, ℕ, ◌+◌, List, [], ◌∷◌, Some, None}
 use Rattle.graph_core.specs.Graph.{Graph}
 use Rattle.tree_core.specs.Derivations.{IsDerivation}

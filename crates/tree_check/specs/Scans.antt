@@ -1,4 +1,5 @@
 -- What a scan of a tree finds, as the code keeps it.
+-- Stated by: tree_check.
 use Rattle.std.specs.Prelude.{◌≡◌, ℕ, ◌+◌, List}
 use Rattle.graph_core.specs.Graph.{Graph}
 use Rattle.tree_core.specs.Derivations.{IsDerivationAt}

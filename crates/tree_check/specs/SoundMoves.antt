@@ -1,4 +1,5 @@
 -- What a move makes of some derivation.
+-- Stated by: tree_check.
 use Rattle.std.specs.Prelude.{◌≡◌, ℕ, List, Some}
 use Rattle.counting.specs.Lists.{IsRisingIn, mem}
 use Rattle.graph_core.specs.Graph.{Graph}

@@ -1,5 +1,7 @@
 -- Tight cut decompositions as trees (Lovász 1987): a tree of cuts that derives a matching covered
 -- graph.
+-- Stated by: tree_core, decomposer, move_laws, tree_check, uncross, list_lines and 4 more.
+-- Rests on it: bench_outcomes, bench_top.
 use Rattle.std.specs.Prelude.{◌≡◌, ℕ, false, List, length}
 use Rattle.counting.specs.Sets.{Set}
 use Rattle.counting.specs.Lists.{mem, IsRisingIn}

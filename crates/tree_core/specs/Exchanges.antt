@@ -1,5 +1,6 @@
 -- What a Switch makes of the trees below its node, by the side that a tree is on and by whether
 -- the greatest vertex comes in with v.
+-- Stated by: tree_core.
 use Rattle.std.specs.Prelude.{◌≡◌, ℕ, Bool, true, false, List, All, if◌then◌else◌}
 use Rattle.counting.specs.Counts.{Within}
 use Rattle.counting.specs.Lists.{is_subset, mem}

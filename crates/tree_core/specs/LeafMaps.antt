@@ -1,5 +1,7 @@
 -- The maps of moves and of scripts: where each leaf of a tree goes, and for each of its blocks
 -- the name of the image.
+-- Stated by: move_laws, uncross.
+-- Rests on it: tree_core, report_text, list_lines, bench_outcomes, bench_reports, theorems.
 use Rattle.std.specs.Prelude.{ℕ, zero, suc, ◌+◌, ◌-◌, List, [], ◌∷◌, ◌++◌, ◌==◌, cond, map, unwrap_or, slice_index, slice_index_or, if◌then◌else◌}
 use Rattle.counting.specs.Lists.{mem, last_of, is_subset}
 use Rattle.graph_core.specs.Partitions.{place, singles, names_of}

@@ -1,4 +1,5 @@
 -- How the code's moves are seen, as plain data.
+-- Stated by: tree_core, tree_check, uncross, move_text, report_text, bench_tasks, bench_reports.
 use Rattle.std.specs.Prelude.{List, map}
 use Rattle.tree_core.specs.Moves.{PlainMove, rotate_at, switch_at}
 use Rattle.tree_core.specs.declared.moves.Move.{Move}

@@ -33,6 +33,8 @@
 --   stays   where u is in s: x without s, with v, the trees changed    what of s is in q, with u
 --   if x is in s, with p and v if v is in s comes   where u is in s: s with q
 --   where x is in s: u in place of x
+-- Stated by: tree_core, move_laws, tree_check, uncross, move_text, bench_tasks, theorems.
+-- Rests on it: report_text, bench_outcomes, bench_reports, bench_top.
 use Rattle.std.specs.Prelude.{◌≡◌, ℕ, Bool, true, List, [], ◌∷◌, ◌&&◌, not, cond, Option, Some, None, option_map, option_and_then, if◌then◌else◌}
 use Rattle.counting.specs.Counts.{Within}
 use Rattle.counting.specs.Sets.{Set, union, meet, minus}

@@ -1,4 +1,5 @@
 -- What a move does at the end of its path, as a partial function on plain trees.
+-- Stated by: tree_core.
 use Rattle.std.specs.Prelude.{◌≡◌, Option, Some, None, Result, Ok, Err}
 use Rattle.tree_core.specs.Moves.{rotate_result_at, switch_result_at}
 use Rattle.tree_core.specs.Shapes.{Fits, Shape}

@@ -1,5 +1,6 @@
 -- The pick format: a header `s mcg K`, and K lines `pick P`. The text stands for the list of the
 -- K numbers.
+-- Stated by: tree_text, bench_tasks.
 use Rattle.std.specs.Prelude.{ℕ, ◌==◌, not, nat_lt, List, [], ◌∷◌, ◌++◌, length, codes, Result, Ok, Err, if◌then◌else◌}
 use Rattle.line_text.specs.Format.{Rules, checked}
 use Rattle.line_text.specs.Words.{has_form, word_at}

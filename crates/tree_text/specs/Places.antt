@@ -1,5 +1,6 @@
 -- Where a node stands that is still to be read: the cuts above it, with the trees that hang on
 -- them already (Huet, "The Zipper", 1997).
+-- Stated by: tree_text.
 use Rattle.std.specs.Prelude.{ℕ, List}
 use Rattle.tree_core.specs.Shapes.{Shape, cut}
 

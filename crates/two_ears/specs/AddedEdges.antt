@@ -1,4 +1,5 @@
 -- A graph with further edges, which get the numbers after those of its own.
+-- Stated by: two_ears.
 use Rattle.std.specs.Prelude.{◌≡◌, ℕ, true, List, [], ◌∷◌, ◌++◌}
 use Rattle.counting.specs.Counts.{Within}
 use Rattle.counting.specs.Tests.{some}

@@ -1,4 +1,5 @@
 -- Equivalences of the numbers 1 to n, as tests, and their classes.
+-- Stated by no contract. Rests on it: two_ears.
 use Rattle.std.specs.Prelude.{◌≡◌, ℕ, Bool, true, nat_lt, not, ◌&&◌}
 use Rattle.counting.specs.Counts.{count, Within}
 use Rattle.counting.specs.Tests.{some}

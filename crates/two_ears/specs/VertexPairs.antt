@@ -1,4 +1,5 @@
 -- Lists of pairs of vertices.
+-- Stated by: two_ears. Rests on it: ear_core.
 use Rattle.std.specs.Prelude.{ℕ, ◌+◌, ◌≤◌, List, [], ◌∷◌, ◌==◌, not}
 use Rattle.counting.specs.Counts.{bit, Within}
 use Rattle.counting.specs.Lists.{IsIn}

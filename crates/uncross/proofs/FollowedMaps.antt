@@ -1,5 +1,5 @@
--- The maps so far, followed by the map of a move: each leads to a leaf by names of its blocks, which
--- the move gives the names of their images.
+-- The maps so far, followed by the map of a move: each leads to a leaf by names of its blocks,
+-- which the move gives the names of their images.
 use Rattle.std.proofs.Common.{All, List, Option, Some, None, [], ◌∙◌, ◌∷◌, ap, ap₂, arith, get_or, length, map, refl, subst, suc, sym, ℕ, ◌+◌, ◌-◌, ◌≡◌, ◌≤◌}
 use Rattle.std.proofs.lemmas.List.{get_or-map}
 use Rattle.std.proofs.lemmas.List.Elements.{All-from_get_or}

@@ -1,4 +1,5 @@
 -- What is below the root of a derivation.
+-- Stated by: uncross.
 use Rattle.std.specs.Prelude.{◌≡◌, ◌+◌, ◌*◌, ◌≤◌, ℕ, List, length}
 use Rattle.contraction.specs.Partition.{PartitionValue}
 use Rattle.graph_core.specs.Covered.{IsCovered}

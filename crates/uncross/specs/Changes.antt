@@ -1,4 +1,5 @@
 -- The order of the leaves that a move gives at the end of its path.
+-- Stated by: uncross.
 use Rattle.std.specs.Prelude.{ℕ, List}
 use Rattle.tree_core.specs.LeafMaps.{rotate_order, switch_order}
 use Rattle.tree_core.specs.Shapes.{Shape}

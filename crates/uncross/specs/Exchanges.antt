@@ -1,4 +1,5 @@
 -- What a Switch does to the leaves of a tree, as plain data.
+-- Stated by: uncross.
 use Rattle.std.specs.Prelude.{ℕ, ◌+◌, List, [], ◌∷◌, if◌then◌else◌, nat_lt}
 use Rattle.tree_core.specs.Shapes.{Shape, cut, leaf, leaf_count}
 use Rattle.tree_core.specs.declared.path.Side.{Side}

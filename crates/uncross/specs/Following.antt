@@ -1,4 +1,5 @@
 -- Leaf maps that may be followed by those of a move, and what they lead to then.
+-- Stated by: uncross.
 use Rattle.std.specs.Prelude.{◌≡◌, ℕ, List, Option, None, Some, All, length, map}
 use Rattle.contraction.specs.Partition.{PartitionValue}
 use Rattle.counting.specs.Counts.{Within}

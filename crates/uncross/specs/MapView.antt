@@ -1,4 +1,5 @@
 -- How the code's leaf maps and images of blocks are seen, as plain data.
+-- Stated by: uncross, bench_reports.
 use Rattle.std.specs.Prelude.{ℕ, List, map}
 use Rattle.counting.specs.Lists.{is_subset, last_of}
 use Rattle.tree_core.specs.LeafMaps.{PlainLeafMap}

@@ -1,4 +1,5 @@
 -- How the code's plans are seen, as plain data.
+-- Stated by: uncross.
 use Rattle.uncross.specs.Plans.{PlainPlan, crossing, here, in_kept, in_merged}
 use Rattle.uncross.specs.declared.plans.Plan.{Plan}
 use Rattle.uncross.specs.declared.plans.Plan.TheVariants as code

@@ -1,5 +1,6 @@
 -- How a shore y is exposed in a tree with the root shore x: what is exposed first in its two
 -- trees, and what is done at the root then.
+-- Stated by: uncross.
 use Rattle.std.specs.Prelude.{◌≡◌, ◌+◌, ◌*◌, ◌≤◌, ℕ, true, false, List, [], length, Option, Some, None, ◌⊎◌, if◌then◌else◌, nat_lt}
 use Rattle.counting.specs.Lists.{is_apart, is_subset, mem}
 use Rattle.graph_core.specs.Graph.{Graph}

@@ -1,4 +1,5 @@
 -- How the code's turned trees are seen, as plain data.
+-- Stated by: uncross.
 use Rattle.std.specs.Prelude.{◌≡◌, ◌++◌, List}
 use Rattle.tree_core.specs.Moves.{PlainMove}
 use Rattle.tree_core.specs.MoveView.{moves_of}

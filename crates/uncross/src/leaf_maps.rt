@@ -93,7 +93,8 @@ fn images_after(
     names: Numbers,
 ) -> Result<Numbers, Memory>
     requires order { n ≤ MOST_VERTICES }
-    requires named { IsMapInto (blocks_of switched.now.leaves) (record { to = to; images = names }) }
+    requires named { IsMapInto (blocks_of switched.now.leaves)
+        (record { to = to; images = names }) }
     ensures { IfOk result (λ after. after ≡
         names_after n (images_at switched.now.exchange to)
         (leaf_at (blocks_of switched.now.leaves) to) names) }

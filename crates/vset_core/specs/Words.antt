@@ -1,4 +1,5 @@
 -- A word of 128 bits as a set of the numbers 1 to 128: bit v - 1 stands for v.
+-- Stated by: vset_core.
 use Rattle.std.specs.Prelude.{ℕ, zero, suc, ◌*◌, ◌^◌, ◌-◌, ◌==◌, false, List}
 use Rattle.std.specs.Int.{bit_at}
 use Rattle.counting.specs.Counts.{bit, total}

@@ -4,7 +4,7 @@ use Rattle.counting.specs.Counts.{count}
 use Rattle.graph_core.specs.Graph.{size}
 use Rattle.match_search.specs.Rows.{marks}
 use Rattle.ear_core.specs.EarLists.{FitsStep}
-use Rattle.ear_core.specs.EarTests.{Why}
+use Rattle.ear_core.specs.EarTests.{PlainWhy}
 use Rattle.ear_core.specs.Refusals.{IsJudged}
 use Rattle.ear_core.specs.Stages.{IsStage}
 use Rattle.ear_core.specs.View.{step_of}
@@ -18,7 +18,7 @@ invariant-steps l = record {
   stage : IsStage l.g (marks l.mark.items);
   fits : AllByRecursion (FitsStep l.g.order (size l.g)) (map step_of l.rest);
   few : l.number + 1 ≤ count (size l.g) (marks l.mark.items);
-  answer : (answer : Option (ℕ × Why)) → IsJudged l.g (marks l.mark.items) l.number (map step_of l.rest) answer → IsJudged l.g (marks l.initial.mark.items) 0 (map step_of l.steps) answer;
+  answer : (answer : Option (ℕ × PlainWhy)) → IsJudged l.g (marks l.mark.items) l.number (map step_of l.rest) answer → IsJudged l.g (marks l.initial.mark.items) 0 (map step_of l.steps) answer;
 }
 
 abbrev pub decreases-steps : goal.decreases-steps

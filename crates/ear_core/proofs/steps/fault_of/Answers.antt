@@ -1,6 +1,6 @@
 use Rattle.std.proofs.Common.{rules, ◌≡◌, ◌∙◌, ap, [], Option, Some, None}
 use Rattle.match_search.specs.Rows.{marks}
-use Rattle.ear_core.specs.EarTests.{Why, ear_fault}
+use Rattle.ear_core.specs.EarTests.{PlainWhy, ear_fault}
 use Rattle.ear_core.specs.Refusals.{step_fault}
 use Rattle.ear_core.specs.View.{ear_of, plain_step, step_of, why_of}
 use Rattle.ear_core.proofs.Marking.{pair-fault}
@@ -8,7 +8,7 @@ use Rattle.ear_core.proofs.steps.fault_of.Goals as goal
 use Rattle.ear_core.proofs.steps.fault_of.Goals.{After-as_slice-used}
 
 -- the fault of the second ear is that of the step
-second_fault : (c : After-as_slice-used) (fault : Option Why) → ear_fault c.args.g.now (marks c.args.mark.now) c.in-Ok.path.inner c.as_slice-used.result.now c.in-Some.second.«from» c.in-Some.second.edges ≡ fault →
+second_fault : (c : After-as_slice-used) (fault : Option PlainWhy) → ear_fault c.args.g.now (marks c.args.mark.now) c.in-Ok.path.inner c.as_slice-used.result.now c.in-Some.second.«from» c.in-Some.second.edges ≡ fault →
     step_fault c.args.g.now (marks c.args.mark.now) (step_of c.args.step.now) ≡ fault
 second_fault c fault is =
     let g = c.args.g.now in

@@ -3,7 +3,7 @@ use Rattle.std.proofs.lemmas.Result.{IfOk-weaker}
 use Rattle.graph_core.specs.Graph.{Graph}
 use Rattle.graph_core.specs.declared.verdict.Kind.{Kind}
 use Rattle.graph_core.specs.declared.verdict.Kind.TheVariants.{Brick}
-use Rattle.leaf_kinds.specs.LeafKinds.{IsKind, IsSolid}
+use Rattle.leaf_kinds.specs.LeafKinds.{IsKind, IsThreeConnectedAndBicritical}
 use Rattle.leaf_kinds.proofs.kinds.kind.Goals as goal
 
 pub returns-clause-kind : goal.returns-clause-kind
@@ -11,5 +11,5 @@ returns-clause-kind c = IfOk-weaker c.kind_of.result (λ (kind : Kind). IsKind c
     (λ kind is. subst (λ (g : Graph). IsKind g kind) (c.in_ok-of.ensures ∙ c.in_ok-covered.ensures) is) c.kind_of.ensures.kind
 
 pub returns-clause-brick : goal.returns-clause-brick
-returns-clause-brick c = IfOk-weaker c.kind_of.result (λ (kind : Kind). kind ≡ Brick → IsSolid c.in_ok-of.field-0) (λ (kind : Kind). kind ≡ Brick → IsSolid c.args.g.now)
-    (λ kind solid is. subst (λ (g : Graph). IsSolid g) (c.in_ok-of.ensures ∙ c.in_ok-covered.ensures) (solid is)) c.kind_of.ensures.brick
+returns-clause-brick c = IfOk-weaker c.kind_of.result (λ (kind : Kind). kind ≡ Brick → IsThreeConnectedAndBicritical c.in_ok-of.field-0) (λ (kind : Kind). kind ≡ Brick → IsThreeConnectedAndBicritical c.args.g.now)
+    (λ kind solid is. subst (λ (g : Graph). IsThreeConnectedAndBicritical g) (c.in_ok-of.ensures ∙ c.in_ok-covered.ensures) (solid is)) c.kind_of.ensures.brick

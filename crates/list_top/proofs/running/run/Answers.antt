@@ -1,21 +1,21 @@
 use Rattle.std.proofs.Common.{◌≡◌, refl, subst, sym}
 use Rattle.list_reader.specs.Endings.{Appended}
-use Rattle.list_top.specs.declared.status.Status.{Status}
-use Rattle.list_top.specs.Outcomes.{Outcome, Streams, TellsSome}
+use Rattle.list_top.specs.declared.status.ListStatus.{ListStatus}
+use Rattle.list_top.specs.Outcomes.{ListOutcome, Streams, TellsSome}
 use Rattle.list_top.specs.Encodings.{EncodeOutcome, EncodesSome}
 use Rattle.list_top.proofs.Ended.{appended_encoding, appended_outcome, encodes_some, tells_some}
 use Rattle.list_top.proofs.running.run.Goals as goal
 
 pub returns-in-Some-clause-outcome : goal.returns-in-Some-clause-outcome
 returns-in-Some-clause-outcome g c command bytes is left =
-    subst (λ (s : Status). Appended (Outcome command.query bytes s) (g.K.Sink.written c.args.sink.now) (g.K.Sink.written c.run_to_ending.new.sink))
+    subst (λ (s : ListStatus). Appended (ListOutcome command.query bytes s) (g.K.Sink.written c.args.sink.now) (g.K.Sink.written c.run_to_ending.new.sink))
     (sym c.status_of.ensures.status)
     (appended_outcome command.query bytes c.in-Some.ending (g.K.Sink.written c.args.sink.now) (g.K.Sink.written c.run_to_ending.new.sink)
     (c.in-Some.ensures.outcome command bytes c.in-Some.ending is left refl))
 
 pub returns-in-Some-clause-tells : goal.returns-in-Some-clause-tells
 returns-in-Some-clause-tells g c command is =
-    subst (λ (s : Status). TellsSome command.query s (g.S.Source.left c.args.source.now) (g.K.Sink.written c.args.sink.now) (g.K.Sink.written c.run_to_ending.new.sink))
+    subst (λ (s : ListStatus). TellsSome command.query s (g.S.Source.left c.args.source.now) (g.K.Sink.written c.args.sink.now) (g.K.Sink.written c.run_to_ending.new.sink))
     (sym c.status_of.ensures.status)
     (tells_some command.query c.in-Some.ending (g.S.Source.left c.args.source.now) (g.K.Sink.written c.args.sink.now) (g.K.Sink.written c.run_to_ending.new.sink)
     (c.in-Some.ensures.tells command c.in-Some.ending is refl))
@@ -29,14 +29,14 @@ returns-in-Some-clause-streams g c command is = record {
 
 pub returns-in-Some-clause-encodes : goal.returns-in-Some-clause-encodes
 returns-in-Some-clause-encodes g c name file asked left =
-    subst (λ (s : Status). Appended (EncodeOutcome file s) (g.K.Sink.written c.args.sink.now) (g.K.Sink.written c.run_to_ending.new.sink))
+    subst (λ (s : ListStatus). Appended (EncodeOutcome file s) (g.K.Sink.written c.args.sink.now) (g.K.Sink.written c.run_to_ending.new.sink))
     (sym c.status_of.ensures.status)
     (appended_encoding file c.in-Some.ending (g.K.Sink.written c.args.sink.now) (g.K.Sink.written c.run_to_ending.new.sink)
     (c.in-Some.ensures.encodes name file c.in-Some.ending asked left refl))
 
 pub returns-in-Some-clause-encodes_some : goal.returns-in-Some-clause-encodes_some
 returns-in-Some-clause-encodes_some g c name asked =
-    subst (λ (s : Status). EncodesSome s (g.S.Source.left c.args.source.now) (g.K.Sink.written c.args.sink.now) (g.K.Sink.written c.run_to_ending.new.sink))
+    subst (λ (s : ListStatus). EncodesSome s (g.S.Source.left c.args.source.now) (g.K.Sink.written c.args.sink.now) (g.K.Sink.written c.run_to_ending.new.sink))
     (sym c.status_of.ensures.status)
     (encodes_some c.in-Some.ending (g.S.Source.left c.args.source.now) (g.K.Sink.written c.args.sink.now) (g.K.Sink.written c.run_to_ending.new.sink)
     (c.in-Some.ensures.encodes_some name c.in-Some.ending asked refl))

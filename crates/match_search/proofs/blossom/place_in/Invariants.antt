@@ -5,4 +5,4 @@ use Rattle.match_search.specs.Rows.{numbers}
 use Rattle.match_search.proofs.blossom.place_in.Given as goal
 
 abbrev pub invariant-loop-i : goal.invariant-loop-i
-invariant-loop-i l = (j : ℕ) → Within l.i j → mem l.row (numbers l.ring j) ≡ false
+invariant-loop-i l = (j : ℕ) → Within l.i j → mem l.row (numbers l.cycle j) ≡ false

@@ -6,6 +6,6 @@ use Rattle.match_search.proofs.instance.gather.Goals as goal
 pub returns-clause-gathered : goal.returns-clause-gathered
 returns-clause-gathered c = record {
   one_each = c.write_row.auto.rows;
-  own = subst (IsUnionOf c.args.rows.now (mem c.args.ring)) (sym c.write_row.ensures.own) c.union_of-all.ensures;
+  own = subst (IsUnionOf c.args.rows.now (mem c.args.cycle)) (sym c.write_row.ensures.own) c.union_of-all.ensures;
   others = c.write_row.ensures.others;
 }

@@ -2,7 +2,7 @@ use Rattle.std.proofs.Common.{◌≡◌, ◌↔◌, ◌∙◌, List, None, Optio
 use Rattle.std.proofs.lemmas.Result.{IfOk-weaker}
 use Rattle.counting.specs.Lists.{mem}
 use Rattle.graph_core.specs.Graph.{Graph}
-use Rattle.graph_core.specs.Tight.{HasNoTightCut, IsNontrivial, IsTight}
+use Rattle.graph_core.specs.Tight.{HasOnlyTrivialTightCuts, IsNontrivial, IsTight}
 use Rattle.tight_cuts.proofs.finder.find_any.Goals as goal
 
 pub returns-clause-some : goal.returns-clause-some
@@ -10,5 +10,5 @@ returns-clause-some c = IfOk-weaker c.first_cut.result (λ (found : Option (List
     (λ found tight s is. subst (λ (g : Graph). IsTight g (mem s) × IsNontrivial g.order (mem s)) (c.in_ok-of.ensures ∙ c.in_ok-covered.ensures) (tight s is)) c.first_cut.ensures.some
 
 pub returns-clause-none : goal.returns-clause-none
-returns-clause-none c = IfOk-weaker c.first_cut.result (λ (found : Option (List ℕ)). (found ≡ None) ↔ HasNoTightCut c.in_ok-of.field-0) (λ (found : Option (List ℕ)). (found ≡ None) ↔ HasNoTightCut c.args.g.now)
-    (λ found h. subst (λ (g : Graph). (found ≡ None) ↔ HasNoTightCut g) (c.in_ok-of.ensures ∙ c.in_ok-covered.ensures) h) c.first_cut.ensures.none
+returns-clause-none c = IfOk-weaker c.first_cut.result (λ (found : Option (List ℕ)). (found ≡ None) ↔ HasOnlyTrivialTightCuts c.in_ok-of.field-0) (λ (found : Option (List ℕ)). (found ≡ None) ↔ HasOnlyTrivialTightCuts c.args.g.now)
+    (λ found h. subst (λ (g : Graph). (found ≡ None) ↔ HasOnlyTrivialTightCuts g) (c.in_ok-of.ensures ∙ c.in_ok-covered.ensures) h) c.first_cut.ensures.none

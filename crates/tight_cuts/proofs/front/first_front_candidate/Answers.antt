@@ -4,26 +4,26 @@ use Rattle.std.proofs.lemmas.Result.{IfOk-weaker}
 use Rattle.barrier_kit.proofs.ShoreFacts.{bicritical_no_cuts}
 use Rattle.barrier_kit.specs.BarrierShores.{barrier_cuts}
 use Rattle.graph_core.specs.Graph.{Graph}
-use Rattle.separation_kit.proofs.SeparationFacts.{unlike-none}
+use Rattle.separation_kit.proofs.SeparationFacts.{equivalent-none}
 use Rattle.separation_kit.specs.Pairs.{pair_of}
 use Rattle.separation_kit.specs.SeparationShores.{separation_cuts}
 use Rattle.tight_cuts.specs.Candidates.{Barrier, Separation, candidate_at, first_of, front_candidates}
 use Rattle.tight_cuts.specs.View.{candidate_of}
 use Rattle.tight_cuts.specs.declared.candidate.Candidate.{Candidate}
-use Rattle.tight_cuts.proofs.FrontCandidates.{front-barriers, front-separations, order-small, unlike-some}
+use Rattle.tight_cuts.proofs.FrontCandidates.{front-barriers, front-separations, order-small, equivalent-some}
 use Rattle.tight_cuts.proofs.front.first_front_candidate.Goals as goal
 
 pub first_separation_candidate-requires-clause-bicritical : goal.first_separation_candidate-requires-clause-bicritical
-first_separation_candidate-requires-clause-bicritical c = (unlike-none c.args.pairs.now).0 (sym c.unlike.ensures ∙ ap (option_map pair_of) c.in_default.is)
+first_separation_candidate-requires-clause-bicritical c = (equivalent-none c.args.pairs.now).0 (sym c.equivalent.ensures ∙ ap (option_map pair_of) c.in_default.is)
 
 pub returns : goal.returns
 returns c = IfOk-weaker c.first_separation_candidate.result (λ (found : Option Candidate). option_map candidate_of found ≡ first_of (map (candidate_at c.args.pairs.now.order Separation) (separation_cuts c.args.pairs.now))) (λ (found : Option Candidate). option_map candidate_of found ≡ first_of (front_candidates c.args.pairs.now))
-    (λ found q. q ∙ ap first_of (front-separations c.args.pairs.now (bicritical_no_cuts c.args.pairs.now c.keeps_covered.ensures.limits.multigraph.ends c.keeps_covered.ensures.covered ((unlike-none c.args.pairs.now).0 (sym c.unlike.ensures ∙ ap (option_map pair_of) c.in_default.is)))))
+    (λ found q. q ∙ ap first_of (front-separations c.args.pairs.now (bicritical_no_cuts c.args.pairs.now c.keeps_covered.ensures.limits.multigraph.ends c.keeps_covered.ensures.covered ((equivalent-none c.args.pairs.now).0 (sym c.equivalent.ensures ∙ ap (option_map pair_of) c.in_default.is)))))
     c.first_separation_candidate.ensures
 
 pub returns-in-Some : goal.returns-in-Some
 returns-in-Some c = IfOk-weaker c.first_barrier_candidate.result (λ (found : Option Candidate). option_map candidate_of found ≡ first_of (map (candidate_at c.covered.result.now.order Barrier) (barrier_cuts c.covered.result.now))) (λ (found : Option Candidate). option_map candidate_of found ≡ first_of (front_candidates c.args.pairs.now))
-    (λ found q. q ∙ ap (λ (g : Graph). first_of (map (candidate_at g.order Barrier) (barrier_cuts g))) c.covered.ensures ∙ ap first_of (front-barriers c.args.pairs.now (unlike-some c.args.pairs.now (pair_of c.in-Some.field-0) (sym (ap (option_map pair_of) c.in-Some.is) ∙ c.unlike.ensures))))
+    (λ found q. q ∙ ap (λ (g : Graph). first_of (map (candidate_at g.order Barrier) (barrier_cuts g))) c.covered.ensures ∙ ap first_of (front-barriers c.args.pairs.now (equivalent-some c.args.pairs.now (pair_of c.in-Some.field-0) (sym (ap (option_map pair_of) c.in-Some.is) ∙ c.equivalent.ensures))))
     c.first_barrier_candidate.ensures
 
 pub returns-then-order-lt4 : goal.returns-then-order-lt4

@@ -4,7 +4,7 @@ use Rattle.std.proofs.lemmas.Bool.{both_ways}
 use Rattle.graph_core.specs.Graph.{Graph}
 use Rattle.graph_core.specs.Structure.{IsBicritical}
 use Rattle.separation_kit.specs.Pairs.{pair_of}
-use Rattle.separation_kit.proofs.SeparationFacts.{unlike-none}
+use Rattle.separation_kit.proofs.SeparationFacts.{equivalent-none}
 use Rattle.separation_kit.proofs.first_pairs.FirstPairs.is_bicritical.Goals as goal
 
 pub returns-in-Some : goal.returns-in-Some
@@ -12,12 +12,12 @@ returns-in-Some c = (
   λ t. absurd (both_ways _ refl t),
   λ critical.
       let some = sym c.self.invariant.0 ∙ ap (option_map pair_of) c.in-Some.is in
-      let none = (unlike-none c.self.inside.covered.now).1 (subst (λ (g : Graph). IsBicritical g) (sym c.self.view_is) critical) in
+      let none = (equivalent-none c.self.inside.covered.now).1 (subst (λ (g : Graph). IsBicritical g) (sym c.self.view_is) critical) in
       absurd cc,
 )
 
 pub returns-in-None : goal.returns-in-None
 returns-in-None c = (
-  λ _. subst (λ (g : Graph). IsBicritical g) c.self.view_is ((unlike-none c.self.inside.covered.now).0 (sym c.self.invariant.0 ∙ ap (option_map pair_of) c.in-None.is)),
+  λ _. subst (λ (g : Graph). IsBicritical g) c.self.view_is ((equivalent-none c.self.inside.covered.now).0 (sym c.self.invariant.0 ∙ ap (option_map pair_of) c.in-None.is)),
   λ _. refl,
 )

@@ -1,0 +1,83 @@
+-- The pair that the third part takes at an edge is the first that a tight set separates: the search
+-- takes the first pair of a list that passes its test, the list is in lexicographic order, and
+-- the test says what the words say.
+use Rattle.std.proofs.Common.{◌≡◌, ℕ, ◌⊎◌, true, Option, Some, None, refl, ap, ap₂, inl, inr, arith}
+use Rattle.std.proofs.lemmas.Bool.{both_ways, cases_lt, false_from_ne_true}
+use Rattle.counting.specs.Counts.{Within}
+use Rattle.counting.specs.Lists.{ComesBefore}
+use Rattle.graph_core.specs.Graph.{Graph, IsGraph, size}
+use Rattle.tight_cuts.proofs.EdgeLoop.{first_pair, no_pair}
+use Rattle.tight_cuts.proofs.FirstPairs.{before_first, no_first}
+use Rattle.tight_cuts.specs.Candidates.{first_separated, greater_end, is_separated, lesser_end}
+use Rattle.theorems.proofs.Separated.{separated-words}
+use Rattle.theorems.specs.CutWords.{IsFirstSeparated, IsSeparated}
+
+-- of two pairs one is before the other, or they are one
+one_before : (k l : ℕ × ℕ) → (k ≡ l) ⊎ (ComesBefore k l ⊎ ComesBefore l k)
+one_before k l = elim (cases_lt k.0 l.0) [
+  | inl s ↦ inr (inl (inl s))
+  | inr s ↦ elim (cases_lt l.0 k.0) [
+    | inl t ↦ inr (inr (inl t))
+    | inr t ↦ let a : k.0 ≡ l.0 = omega arith in let b : l.0 ≡ k.0 = omega arith in elim (cases_lt k.1 l.1) [
+      | inl u ↦ inr (inl (inr (a, u)))
+      | inr u ↦ elim (cases_lt l.1 k.1) [
+        | inl v ↦ inr (inr (inr (b, v)))
+        | inr v ↦ let c : k.1 ≡ l.1 = omega arith in inl (ap₂ (λ i j. (i, j)) a c)
+      ]
+    ]
+  ]
+]
+
+module _ (g : Graph) (is : IsGraph g) (e : ℕ) (we : Within (size g) e) where
+  abbrev a : ℕ
+  a = lesser_end g e
+
+  abbrev b : ℕ
+  b = greater_end g e
+
+  lesser : Within g.order a
+  lesser =
+      let w = is e we in
+      let low = w.0.0 in let high = w.0.1 in let other_low = w.1.0 in let other_high = w.1.1 in
+      (omega arith, omega arith)
+
+  greater : Within g.order b
+  greater =
+      let w = is e we in
+      let low = w.0.0 in let high = w.0.1 in let other_low = w.1.0 in let other_high = w.1.1 in
+      (omega arith, omega arith)
+
+  -- the test at a pair of vertices says what the words say
+  pub words : (k : ℕ × ℕ) → Within g.order k.0 → Within g.order k.1 → IsSeparated g a b k → is_separated g a b k ≡ true
+  words k w0 w1 p = (separated-words g a b k is lesser greater w0 w1).1 p
+
+  pub found-first : (k : ℕ × ℕ) → first_separated g e ≡ Some k → IsFirstSeparated g a b k
+  found-first k q =
+      let f = first_pair g.order (is_separated g a b) k q in
+      record {
+        first = f.1;
+        second = f.2;
+        separated = (separated-words g a b k is lesser greater f.1 f.2).0 f.0;
+        before = λ l w0 w1 earlier p. both_ways (is_separated g a b l) (before_first g.order (is_separated g a b) k q l.0 l.1 w0 w1 earlier) (words l w0 w1 p);
+      }
+
+  pub first-found : (k : ℕ × ℕ) → IsFirstSeparated g a b k → first_separated g e ≡ Some k
+  first-found k f = go (first_separated g e) refl
+    where
+      go : (o : Option (ℕ × ℕ)) → first_separated g e ≡ o → o ≡ Some k
+      go None q = absurd (both_ways (is_separated g a b k) (no_pair g.order (is_separated g a b) q k.0 k.1 f.first f.second) (words k f.first f.second f.separated))
+      go (Some l) q =
+          let h = found-first l q in
+          elim (one_before l k) [
+            | inl same ↦ ap Some same
+            | inr (inl earlier) ↦ absurd (f.before l h.first h.second earlier h.separated)
+            | inr (inr later) ↦ absurd (h.before k f.first f.second later f.separated)
+          ]
+
+  pub none-separated : first_separated g e ≡ None → (k : ℕ × ℕ) → Within g.order k.0 → Within g.order k.1 → IsSeparated g a b k → ⊥
+  none-separated q k w0 w1 p = both_ways (is_separated g a b k) (no_pair g.order (is_separated g a b) q k.0 k.1 w0 w1) (words k w0 w1 p)
+
+  pub separated-none : ((k : ℕ × ℕ) → Within g.order k.0 → Within g.order k.1 → IsSeparated g a b k → ⊥) → first_separated g e ≡ None
+  separated-none h =
+      no_first g.order (is_separated g a b)
+      (λ x y wx wy. false_from_ne_true (is_separated g a b (x, y)) (λ t. h (x, y) wx wy ((separated-words g a b (x, y) is lesser greater wx wy).0 t)))
