@@ -1,10 +1,8 @@
 //! The quotient of a graph at a partition, with remembered edges.
-ghost use Rattle.std.specs.Prelude.{◌≡◌, slice_index_or, ◌<◌, ◌≤◌, ◌+◌, ◌&&◌, ◌||◌, ◌++◌, ℕ, List, [], All, length, map, nat_lt, flat_map, IfOk, OnOk};
-ghost use Rattle.std.specs.List.{list_any};
+ghost use Rattle.std.specs.Prelude.{◌≡◌, slice_index_or, ◌<◌, ◌≤◌, ◌+◌, ◌&&◌, ℕ, List, [], length, map, IfOk};
 ghost use Rattle.counting.specs.Counts.{Within};
-ghost use Rattle.counting.specs.Lists.{mem, item, pair_with, rising_list, IsRisingIn};
-ghost use Rattle.counting.specs.Sets.{everything};
-ghost use Rattle.graph_core.specs.Graph.{Graph, IsGraph, has_ends, size};
+ghost use Rattle.counting.specs.Lists.{mem, item, rising_list};
+ghost use Rattle.graph_core.specs.Graph.{Graph, has_ends, size};
 ghost use Rattle.graph_core.specs.Partitions.{block, contracted};
 ghost use Rattle.indexmap.specs.IndexMap.{keys};
 ghost use Rattle.contraction.specs.Contracted.{KeepsContraction, contraction};
@@ -12,9 +10,10 @@ ghost use Rattle.contraction.specs.LeastEdges.{least_at};
 ghost use Rattle.contraction.specs.Pairs.{EachOnce, joined_pairs};
 ghost use Rattle.graph_core.specs.Quotients.{remembered, union_of_blocks};
 ghost use Rattle.counting.specs.Tests.{some};
-ghost use Rattle.graph_core.specs.View.{graph_of, pair_of, are_ends, IsWithinLimits};
+ghost use Rattle.graph_core.specs.View.{graph_of, pair_of};
 
 use crate::Partition;
+use crate::place_pairs::{ends_at, graph_with, pairs_joined};
 use graph_core::{Ends, MOST_EDGES, MultiGraph};
 use indexmap::IndexMap;
 use std::alloc::{AllocError as Memory, Global};
@@ -168,119 +167,6 @@ fn quotient_by(
         graph,
         remembered,
     })
-}
-
-/// The ends of the edges as places of blocks.
-pub(crate) fn ends_at(alloc: Global, edges: &[Ends], p: &Partition) -> Result<Vec<Ends>, Memory>
-    requires { IsGraph (graph_of p.now.order edges.now) }
-    ensures { IfOk result
-        (λ ends. graph_of (length p.now.blocks) ends.items ≡
-        contracted (graph_of p.now.order edges.now) p.now.blocks) }
-{
-    p.keeps_partition();
-    let mut ends = Vec::new(alloc);
-    for edge in edges {
-        ends.push(Ends {
-            a: p.place(edge.a),
-            b: p.place(edge.b),
-        })?;
-    }
-    Ok(ends)
-}
-
-// Writes the later end of an edge into the row of the earlier one.
-fn note_edge(rows: &mut [VSet], edge: Ends)
-    requires few { length rows.old ≤ MOST_VERTICES }
-    requires first { Within (length rows.old) edge.a }
-    requires second { Within (length rows.old) edge.b }
-    ensures { (i j : ℕ) → Within (length rows.old) i →
-        mem (item rows.new i) j ≡ (mem (item rows.old i) j || (nat_lt i j && are_ends i j edge)) }
-{
-    if edge.a < edge.b {
-        let i = edge.a as usize - 1;
-        rows[i] = rows[i].with(edge.b);
-    } else if edge.b < edge.a {
-        let i = edge.b as usize - 1;
-        rows[i] = rows[i].with(edge.a);
-    }
-}
-
-// Writes into the empty rows the later neighbours of each vertex.
-fn note_edges(rows: &mut [VSet], ends: &[Ends])
-    requires few { length rows.old ≤ MOST_VERTICES }
-    requires graph { IsGraph (graph_of (length rows.old) ends.now) }
-    requires empty { All (λ row. row ≡ []) rows.old }
-    ensures { (i j : ℕ) → Within (length rows.old) i →
-        mem (item rows.new i) j ≡ (nat_lt i j && list_any (are_ends i j) ends.now) }
-{
-    for edge in ends {
-        note_edge(rows, *edge);
-    }
-}
-
-// For each vertex, in order, the set of its later neighbours.
-fn later_neighbours(alloc: Global, n: u32, ends: &[Ends]) -> Result<Vec<VSet>, Memory>
-    requires few { n ≤ MOST_VERTICES }
-    requires graph { IsGraph (graph_of n ends.now) }
-    ensures each { IfOk result (λ rows. length rows.items ≡ n) }
-    ensures later { IfOk result
-        (λ rows. (i j : ℕ) → Within n i →
-        mem (item rows.items i) j ≡ (nat_lt i j && list_any (are_ends i j) ends.now)) }
-{
-    let mut rows = vec![in alloc; VSet::empty(); n as usize]?;
-    note_edges(&mut rows, ends);
-    Ok(rows)
-}
-
-// Appends the pairs of a with the members of its row.
-fn push_row(pairs: &mut Vec<Ends>, a: u32, row: VSet) -> Result<(), Memory>
-    ensures { OnOk result
-        (map pair_of pairs.new.items ≡ map pair_of pairs.old.items ++ map (pair_with a) row) }
-{
-    for b in row.iter() {
-        pairs.push(Ends { a, b })?;
-    }
-    Ok(())
-}
-
-// The pairs of each number with the members of its row, in lexicographic order.
-fn row_pairs(alloc: Global, rows: &[VSet]) -> Result<Vec<Ends>, Memory>
-    requires { length rows.now ≤ MOST_VERTICES }
-    ensures pairs { IfOk result
-        (λ pairs. map pair_of pairs.items ≡
-        flat_map (λ a. map (pair_with a) (item rows.now a))
-        (rising_list (length rows.now) everything)) }
-    ensures rising { OnOk result
-        ((i : ℕ) → Within (length rows.now) i → IsRisingIn MOST_VERTICES (item rows.now i)) }
-{
-    let mut pairs = Vec::new(alloc);
-    for (i, row) in rows.iter().enumerate() {
-        row.rises();
-        push_row(&mut pairs, i as u32 + 1, *row)?;
-    }
-    Ok(pairs)
-}
-
-/// The pairs a < b of places that some edge joins, in lexicographic order.
-pub(crate) fn pairs_joined(alloc: Global, n: u32, ends: &[Ends]) -> Result<Vec<Ends>, Memory>
-    requires few { n ≤ MOST_VERTICES }
-    requires graph { IsGraph (graph_of n ends.now) }
-    ensures { IfOk result (λ pairs. map pair_of pairs.items ≡ joined_pairs (graph_of n ends.now)) }
-{
-    let rows = later_neighbours(alloc, n, ends)?;
-    row_pairs(alloc, &rows)
-}
-
-/// The graph with these edges.
-pub(crate) fn graph_with(alloc: Global, n: u32, pairs: &[Ends]) -> Result<MultiGraph, Memory>
-    requires { IsWithinLimits (graph_of n pairs.now) }
-    ensures { IfOk result (λ g. g ≡ graph_of n pairs.now) }
-{
-    let mut graph = MultiGraph::new(alloc, n)?;
-    for pair in pairs {
-        graph.push_edge(*pair)?;
-    }
-    Ok(graph)
 }
 
 // The edges with the ends a and b, in rising order.

@@ -6,7 +6,7 @@ ghost use Rattle.graph_core.specs.View.{graph_of, pair_of};
 ghost use Rattle.contraction.specs.Pairs.{joined_pairs};
 
 use crate::Partition;
-use crate::contracted::{ends_at, graph_with, pairs_joined};
+use crate::place_pairs::{ends_at, graph_with, pairs_joined};
 use graph_core::{Ends, MultiGraph};
 use std::alloc::{AllocError as Memory, Global};
 

@@ -24,6 +24,7 @@ mod graph_alone;
 mod laws;
 mod lifting;
 mod partition;
+mod place_pairs;
 
 pub use contracted::{Contracted, quotient};
 pub use graph_alone::quotient_graph;

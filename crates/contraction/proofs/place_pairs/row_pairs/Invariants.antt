@@ -3,7 +3,7 @@ use Rattle.counting.specs.Counts.{Within}
 use Rattle.counting.specs.Lists.{IsRisingIn, item, pair_with, rising_list}
 use Rattle.counting.specs.Sets.{everything}
 use Rattle.graph_core.specs.View.{pair_of}
-use Rattle.contraction.proofs.contracted.row_pairs.Given as goal
+use Rattle.contraction.proofs.place_pairs.row_pairs.Given as goal
 
 abbrev pub invariant-loop-i : goal.invariant-loop-i
 invariant-loop-i l = record {

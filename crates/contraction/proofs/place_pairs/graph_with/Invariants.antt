@@ -1,6 +1,6 @@
 use Rattle.std.proofs.Common.{◌≡◌, take}
 use Rattle.graph_core.specs.View.{graph_of}
-use Rattle.contraction.proofs.contracted.graph_with.Given as goal
+use Rattle.contraction.proofs.place_pairs.graph_with.Given as goal
 
 abbrev pub invariant-loop-pair : goal.invariant-loop-pair
 invariant-loop-pair l = l.graph ≡ graph_of l.n (take l.pair-index l.pairs)

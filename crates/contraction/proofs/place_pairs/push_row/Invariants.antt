@@ -1,7 +1,7 @@
 use Rattle.std.proofs.Common.{◌≡◌, ◌++◌, map}
 use Rattle.counting.specs.Lists.{pair_with}
 use Rattle.graph_core.specs.View.{pair_of}
-use Rattle.contraction.proofs.contracted.push_row.Given as goal
+use Rattle.contraction.proofs.place_pairs.push_row.Given as goal
 
 abbrev pub invariant-loop-b : goal.invariant-loop-b
 invariant-loop-b l = map pair_of l.fn.pairs.items ++ map (pair_with l.a) l.fn.row ≡ map pair_of l.pairs.items ++ map (pair_with l.a) l.b-iterator

@@ -3,7 +3,7 @@ use Rattle.std.specs.List.{list_any}
 use Rattle.counting.specs.Counts.{Within}
 use Rattle.counting.specs.Lists.{mem, item}
 use Rattle.graph_core.specs.View.{are_ends}
-use Rattle.contraction.proofs.contracted.note_edges.Given as goal
+use Rattle.contraction.proofs.place_pairs.note_edges.Given as goal
 
 abbrev pub invariant-loop-edge : goal.invariant-loop-edge
 invariant-loop-edge l = (i j : ℕ) → Within (length l.rows) i → mem (item l.rows i) j ≡ (nat_lt i j && list_any (are_ends i j) (take l.edge-index l.ends))

@@ -3,7 +3,7 @@ use Rattle.graph_core.specs.Partitions.{place}
 use Rattle.graph_core.specs.declared.ends.Ends.{Ends}
 use Rattle.graph_core.proofs.View.{ends_within}
 use Rattle.contraction.proofs.QuotientPairs.{ends-contracted}
-use Rattle.contraction.proofs.contracted.ends_at.Goals as goal
+use Rattle.contraction.proofs.place_pairs.ends_at.Goals as goal
 
 pub place-requires : goal.place-requires
 place-requires c = let w = ends_within c.args.p.now.order c.args.edges.now c.loop-edge.edge-index (record { a = 0; b = 0 }) c.requires c.loop-edge-test.true in omega arith

@@ -2,7 +2,7 @@ use Rattle.std.proofs.Common.{ap, arith}
 use Rattle.graph_core.specs.Graph.{Graph}
 use Rattle.graph_core.proofs.View.{ends_within}
 use Rattle.contraction.proofs.QuotientPairs.{ends_differ}
-use Rattle.contraction.proofs.contracted.graph_with.Goals as goal
+use Rattle.contraction.proofs.place_pairs.graph_with.Goals as goal
 
 pub push_edge-requires-clause-first : goal.push_edge-requires-clause-first
 push_edge-requires-clause-first c =
