@@ -119,6 +119,12 @@ fn cut_tree(alloc: Global, shore: VSet, kept: Tree, merged: Tree) -> Result<Tree
     })
 }
 
+// The most cuts before a node and blocks at it together, and the same below a cut. A tree at four
+// blocks or more has at least three cuts fewer than blocks, so the sum never grows.
+const MOST_COUNTED: usize = 256;
+
+const MOST_BELOW: usize = 255;
+
 // The tree that the order picks at p with so many cuts before it, and the number of cuts before
 // what follows it.
 #[cycle(decomposing)]
@@ -131,7 +137,7 @@ fn decompose_at<O: Order>(
 ) -> Result<(Tree, usize), AllocError>
     requires partition { p.now.order ≡ g.now.order }
     requires covered { IsCovered (quotient g.now p.now.blocks) }
-    requires few { before + length p.now.blocks ≤ 256 }
+    requires few { before + length p.now.blocks ≤ MOST_COUNTED }
     ensures derives { IfOk result (λ made. IsDerivationAt g.now p.now.blocks (shape_of made.0)) }
     ensures picked { IfOk result
         (λ made. IsPickedAt (O.picks order.now) g.now p.now.blocks before (shape_of made.0)) }
@@ -161,7 +167,7 @@ fn decompose_cut<O: Order>(
     requires cut { IsCutAt g.now p.now.blocks shore }
     requires picked { PicksShore (O.picks order.now)
         (candidates_at g.now p.now.blocks) before shore }
-    requires few { before + length p.now.blocks ≤ 256 }
+    requires few { before + length p.now.blocks ≤ MOST_COUNTED }
     ensures derives { IfOk result (λ made. IsDerivationAt g.now p.now.blocks (shape_of made.0)) }
     ensures picked { IfOk result
         (λ made. IsPickedAt (O.picks order.now) g.now p.now.blocks before (shape_of made.0)) }
@@ -187,7 +193,8 @@ fn decompose_kept<O: Order>(
     requires partition { p.now.order ≡ g.now.order }
     requires covered { IsCovered (quotient g.now p.now.blocks) }
     requires cut { IsCutAt g.now p.now.blocks shore }
-    requires few { before + count (length p.now.blocks) (blocks_in p.now.blocks (mem shore)) ≤ 255 }
+    requires few { before + count (length p.now.blocks) (blocks_in p.now.blocks (mem shore)) ≤
+        MOST_BELOW }
     ensures derives { IfOk result (λ made.
         IsDerivationAt g.now (kept_at g.now.order p.now.blocks shore) (shape_of made.0)) }
     ensures picked { IfOk result (λ made. IsPickedAt (O.picks order.now) g.now
@@ -214,7 +221,7 @@ fn decompose_merged<O: Order>(
     requires covered { IsCovered (quotient g.now p.now.blocks) }
     requires cut { IsCutAt g.now p.now.blocks shore }
     requires few { before + length p.now.blocks ≤
-        255 + count (length p.now.blocks) (blocks_in p.now.blocks (mem shore)) }
+        MOST_BELOW + count (length p.now.blocks) (blocks_in p.now.blocks (mem shore)) }
     ensures derives { IfOk result (λ made.
         IsDerivationAt g.now (merged_at g.now.order p.now.blocks shore) (shape_of made.0)) }
     ensures picked { IfOk result (λ made. IsPickedAt (O.picks order.now) g.now

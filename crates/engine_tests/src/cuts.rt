@@ -17,8 +17,8 @@ use vset_core::{MOST_VERTICES, VSet};
 
 const TWO_PARALLEL: [(u32, u32); 2] = [(1, 2), (1, 2)];
 
-// The set of the numbers whose bit is set, where the bit of 1 is the lowest.
-fn set_of_bits(bits: u32) -> VSet {
+/// The set of the numbers whose bit is set, where the bit of 1 is the lowest.
+pub(crate) fn set_of_bits(bits: u32) -> VSet {
     let mut set = VSet::empty();
     for v in 0..10 {
         if bits >> v & 1 == 1 {
@@ -135,8 +135,11 @@ fn all_odd_sets_of_small_graphs(rt: HostRuntime) -> Result<(), Fail> {
     Ok(())
 }
 
-// The candidates of a graph; none if it is not matching covered.
-fn candidates_if_covered(alloc: Global, graph: &MultiGraph) -> Result<CandidateList, Fail> {
+/// The candidates of a graph; none if it is not matching covered.
+pub(crate) fn candidates_if_covered(
+    alloc: Global,
+    graph: &MultiGraph,
+) -> Result<CandidateList, Fail> {
     if is_covered(alloc, graph)? {
         return Ok(candidates(alloc, graph)?);
     }
@@ -248,55 +251,6 @@ fn is_listed(alloc: Global, row: &Listed) -> Result<bool, Fail> {
 fn worked_candidates(rt: HostRuntime) -> Result<(), Fail> {
     for row in &LISTED {
         assert!(rt; is_listed(rt.alloc(), row)?);
-    }
-    Ok(())
-}
-
-// Whether some set with at least three vertices on each side is tight, by the plain program.
-fn has_tight_set(alloc: Global, graph: &MultiGraph) -> Result<bool, Fail>
-    requires { IsSmall graph.now }
-{
-    graph.keeps_limits();
-    let all = VSet::full(graph.order());
-    for bits in 0..256 {
-        let set = set_of_bits(bits);
-        let is_nontrivial = set.is_subset(all) && set.len() >= 3 && all.minus(set).len() >= 3;
-        if is_nontrivial && plain_graph::is_tight(alloc, graph, set)? {
-            return Ok(true);
-        }
-    }
-    Ok(false)
-}
-
-// Whether each candidate is tight, by the plain program.
-fn are_tight(alloc: Global, graph: &MultiGraph, list: &CandidateList) -> Result<bool, Fail>
-    requires { IsSmall graph.now }
-{
-    for i in 0..list.len() {
-        if !plain_graph::is_tight(alloc, graph, list.get(i).shore)? {
-            return Ok(false);
-        }
-    }
-    Ok(true)
-}
-
-static SMALL_GRAPHS: [(u32, &[(u32, u32)]); 6] = [
-    (4, &K4),
-    (6, &HEXAGON),
-    (6, &PRISM),
-    (6, &TWO_K4),
-    (8, &CYCLE_OF_8),
-    (8, &TRIANGLE_IN_K33),
-];
-
-#[test]
-fn candidates_exactly_where_a_set_is_tight(rt: HostRuntime) -> Result<(), Fail> {
-    for (order, edges) in &SMALL_GRAPHS {
-        let graph = made(rt.alloc(), *order, edges)?;
-        assert!(rt; is_small(&graph));
-        let list = candidates_if_covered(rt.alloc(), &graph)?;
-        assert!(rt; list.is_empty() != has_tight_set(rt.alloc(), &graph)?);
-        assert!(rt; are_tight(rt.alloc(), &graph, &list)?);
     }
     Ok(())
 }

@@ -95,6 +95,8 @@ mod sets;
 #[cfg(test)]
 mod shapes;
 #[cfg(test)]
+mod tight_sets;
+#[cfg(test)]
 mod trees;
 #[cfg(test)]
 mod worked;

@@ -36,11 +36,15 @@ line_shown program line None = []
 line_shown program line (Some text) = program ++ (codes ": line " ++ (decimal line ++ (codes " is: " ++ (shown 60 text ++ codes "\n"))))
 
 -- the file of that name, which is read so, is outside its format at that line by that kind; the
--- text is that of the line, if it is known
-abbrev pub outside_text : (program name : List ℕ) → Role → (line kind : ℕ) → Option (List ℕ) → List ℕ
-outside_text program name role line kind text =
+-- text is that of the line, if there is one to show
+abbrev pub fault_text : (program name : List ℕ) → Role → (line kind : ℕ) → Option (List ℕ) → List ℕ
+fault_text program name role line kind text =
     program ++ (codes ": " ++ (shown 4096 name ++ (codes ", line " ++ (decimal line ++ (codes ": " ++
-    (fault_words role kind ++ (note_words role kind ++ (codes "\n" ++ line_shown program line (some_line text)))))))))
+    (fault_words role kind ++ (note_words role kind ++ (codes "\n" ++ line_shown program line text))))))))
+
+-- the same if the text is that of the line, if it is known
+abbrev pub outside_text : (program name : List ℕ) → Role → (line kind : ℕ) → Option (List ℕ) → List ℕ
+outside_text program name role line kind text = fault_text program name role line kind (some_line text)
 
 -- the file of that name is bad: with line 0 it is too long
 abbrev pub bad_file_text : (program name : List ℕ) → Role → (line kind : ℕ) → Option (List ℕ) → List ℕ

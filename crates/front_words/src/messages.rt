@@ -1,7 +1,7 @@
 //! The messages.
 ghost use Rattle.std.specs.Prelude.{◌≡◌};
 ghost use Rattle.std.specs.Option.{option_map};
-ghost use Rattle.front_words.specs.Messages.{bad_file_text, outside_text, some_line, too_long_text, unread_text};
+ghost use Rattle.front_words.specs.Messages.{bad_file_text, fault_text, outside_text, some_line, too_long_text, unread_text};
 ghost use Rattle.front_words.specs.Saying.{Says};
 
 use crate::faults::{Role, fault_words, note_words};
@@ -79,6 +79,42 @@ pub fn some_line(text: Option<&[u8]>) -> Option<&[u8]>
     }
 }
 
+// Says what is wrong in which line, and the line itself.
+fn say_with_line<'a, K: Sink>(
+    sink: &mut K,
+    program: &'a str,
+    bad: &'a BadFile<'a>,
+    text: &'a [u8],
+) -> Result<(), SinkFailed>
+    ensures { Says K.written K.faults
+        (fault_text program.now bad.now.name.now bad.now.role bad.now.line bad.now.kind
+        (Some text.now)) result sink.old sink.new }
+{
+    let by = Text(program);
+    let line = Number(bad.line);
+    let end = Text("\n");
+    say(
+        sink,
+        &[
+            by,
+            Text(": "),
+            Shown(bad.name.as_bytes(), MOST_OF_NAME),
+            Text(", line "),
+            line,
+            Text(": "),
+            Text(fault_words(bad.role, bad.kind)),
+            Text(note_words(bad.role, bad.kind)),
+            end,
+            by,
+            Text(": line "),
+            line,
+            Text(" is: "),
+            Shown(text, MOST_OF_LINE),
+            end,
+        ],
+    )
+}
+
 // Says what is wrong in which line, and the line, if it is known.
 fn say_outside<'a, K: Sink>(
     sink: &mut K,
@@ -90,48 +126,20 @@ fn say_outside<'a, K: Sink>(
         (outside_text program.now bad.now.name.now bad.now.role bad.now.line bad.now.kind
         (option_map (λ line. line.now) text.entry)) result sink.old sink.new }
 {
-    let by = Text(program);
-    let name = Shown(bad.name.as_bytes(), MOST_OF_NAME);
-    let line = Number(bad.line);
-    let what = Text(fault_words(bad.role, bad.kind));
-    let note = Text(note_words(bad.role, bad.kind));
-    let end = Text("\n");
     match some_line(text) {
-        Some(text) => {
-            let text = Shown(text, MOST_OF_LINE);
-            say(
-                sink,
-                &[
-                    by,
-                    Text(": "),
-                    name,
-                    Text(", line "),
-                    line,
-                    Text(": "),
-                    what,
-                    note,
-                    end,
-                    by,
-                    Text(": line "),
-                    line,
-                    Text(" is: "),
-                    text,
-                    end,
-                ],
-            )
-        }
+        Some(text) => say_with_line(sink, program, bad, text),
         None => say(
             sink,
             &[
-                by,
+                Text(program),
                 Text(": "),
-                name,
+                Shown(bad.name.as_bytes(), MOST_OF_NAME),
                 Text(", line "),
-                line,
+                Number(bad.line),
                 Text(": "),
-                what,
-                note,
-                end,
+                Text(fault_words(bad.role, bad.kind)),
+                Text(note_words(bad.role, bad.kind)),
+                Text("\n"),
             ],
         ),
     }

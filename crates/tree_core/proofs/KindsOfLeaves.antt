@@ -1,6 +1,6 @@
 -- The kinds of the leaves of a list grow by that of one leaf, and at the end are those of all.
 -- What stands at the places before stays where an item is appended; the new one comes next.
-use Rattle.std.proofs.Common.{◌≡◌, ◌≤◌, ℕ, zero, suc, ◌+◌, ◌-◌, List, [], ◌∷◌, ◌++◌, length, map, ap, ap₂, refl, subst, subst₂, sym, ◌∙◌, get_or, slice_get, Some, inl, inr, arith}
+use Rattle.std.proofs.Common.{◌≡◌, ℕ, ◌+◌, ◌-◌, List, [], ◌∷◌, ◌++◌, length, map, ap, subst, subst₂, sym, ◌∙◌, get_or, slice_get, Some, inl, inr, arith}
 use Rattle.std.proofs.Math.ListN.{get_or-append}
 use Rattle.std.proofs.Math.Seq.{get_or-append_seam}
 use Rattle.std.proofs.lemmas.Bool.{cases_lt}

@@ -20,6 +20,17 @@ pub fn are_apart(x: VSet, y: VSet) -> bool
     x.is_subset(x.minus(y))
 }
 
+// A cut over two trees.
+fn cut_over(shore: VSet, kept: Box<Tree>, merged: Box<Tree>) -> Tree
+    ensures { shape_of result ≡ cut shore (shape_of kept.value) (shape_of merged.value) }
+{
+    Tree::Cut {
+        shore,
+        kept,
+        merged,
+    }
+}
+
 // Brings the root of `kept` over the cut.
 fn rotate_kept(shore: VSet, mut kept: Box<Tree>, merged: Box<Tree>) -> Result<Tree, Tree>
     ensures { IsAnswer
@@ -27,26 +38,14 @@ fn rotate_kept(shore: VSet, mut kept: Box<Tree>, merged: Box<Tree>) -> Result<Tr
         (cut shore (shape_of kept.value) (shape_of merged.value)) result }
 {
     match mem::replace(&mut *kept, Tree::Leaf) {
-        Tree::Leaf => Err(Tree::Cut {
-            shore,
-            kept,
-            merged,
-        }),
+        Tree::Leaf => Err(cut_over(shore, kept, merged)),
         Tree::Cut {
             shore: lower,
             kept: first,
             merged: second,
         } => {
-            *kept = Tree::Cut {
-                shore,
-                kept: second,
-                merged,
-            };
-            Ok(Tree::Cut {
-                shore: lower,
-                kept: first,
-                merged: kept,
-            })
+            *kept = cut_over(shore, second, merged);
+            Ok(cut_over(lower, first, kept))
         }
     }
 }
@@ -58,49 +57,21 @@ fn rotate_merged(shore: VSet, kept: Box<Tree>, mut merged: Box<Tree>) -> Result<
         (cut shore (shape_of kept.value) (shape_of merged.value)) result }
 {
     match mem::replace(&mut *merged, Tree::Leaf) {
-        Tree::Leaf => Err(Tree::Cut {
-            shore,
-            kept,
-            merged,
-        }),
+        Tree::Leaf => Err(cut_over(shore, kept, merged)),
         Tree::Cut {
             shore: lower,
             kept: first,
             merged: second,
         } => {
             if shore.is_subset(lower) {
-                *merged = Tree::Cut {
-                    shore,
-                    kept,
-                    merged: first,
-                };
-                Ok(Tree::Cut {
-                    shore: lower,
-                    kept: merged,
-                    merged: second,
-                })
+                *merged = cut_over(shore, kept, first);
+                Ok(cut_over(lower, merged, second))
             } else if are_apart(shore, lower) {
-                *merged = Tree::Cut {
-                    shore,
-                    kept,
-                    merged: second,
-                };
-                Ok(Tree::Cut {
-                    shore: lower,
-                    kept: first,
-                    merged,
-                })
+                *merged = cut_over(shore, kept, second);
+                Ok(cut_over(lower, first, merged))
             } else {
-                *merged = Tree::Cut {
-                    shore: lower,
-                    kept: first,
-                    merged: second,
-                };
-                Err(Tree::Cut {
-                    shore,
-                    kept,
-                    merged,
-                })
+                *merged = cut_over(lower, first, second);
+                Err(cut_over(shore, kept, merged))
             }
         }
     }

@@ -48,9 +48,13 @@ pub fn fits(tree: &Tree, n: u32) -> bool
     }
 }
 
+/// The most nodes, and the most leaves, of a tree that is counted: a derivation of a graph with 128
+/// vertices has fewer.
+pub const MOST_NODES: usize = 255;
+
 /// The number of nodes of the tree, its leaves among them. Takes no memory.
 pub fn nodes(tree: &Tree) -> usize
-    requires { node_count (shape_of tree.now) ≤ 255 }
+    requires { node_count (shape_of tree.now) ≤ MOST_NODES }
     ensures { result ≡ node_count (shape_of tree.now) }
 {
     match tree {
@@ -63,7 +67,7 @@ pub fn nodes(tree: &Tree) -> usize
 /// Takes no memory.
 #[tactic(auto, using(crate::proofs::Sizes::depth_at_most_nodes))]
 pub fn depth(tree: &Tree) -> usize
-    requires { node_count (shape_of tree.now) ≤ 255 }
+    requires { node_count (shape_of tree.now) ≤ MOST_NODES }
     ensures { result ≡ depth (shape_of tree.now) }
 {
     match tree {

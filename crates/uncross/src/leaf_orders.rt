@@ -10,12 +10,12 @@ ghost use Rattle.uncross.specs.Changes.{changed_order};
 
 use graph_core::Numbers;
 use std::alloc::{AllocError as Memory, Global};
-use tree_core::{Move, Side, Tree, holds_greatest};
+use tree_core::{MOST_NODES, Move, Side, Tree, holds_greatest};
 use vset_core::VSet;
 
 /// The number of leaves of a tree. Takes no memory.
 pub fn count_leaves(tree: &Tree) -> u32
-    requires { leaf_count (shape_of tree.now) ≤ 255 }
+    requires { leaf_count (shape_of tree.now) ≤ MOST_NODES }
     ensures { result ≡ leaf_count (shape_of tree.now) }
 {
     match tree {
@@ -26,7 +26,7 @@ pub fn count_leaves(tree: &Tree) -> u32
 
 /// Appends the numbers k + 1 to k + `count`.
 pub fn push_numbers(order: &mut Numbers, k: u32, count: u32) -> Result<(), Memory>
-    requires { k + count ≤ 255 }
+    requires { k + count ≤ MOST_NODES }
     ensures order { OnOk result (order.new ≡ order.old ++ numbers k count) }
     ensures count { OnOk result (length order.new ≡ length order.old + count) }
 {
@@ -39,7 +39,7 @@ pub fn push_numbers(order: &mut Numbers, k: u32, count: u32) -> Result<(), Memor
 // Appends the order below `kept` where the greatest vertex stays: if a shore contains u the
 // two trees change places. k leaves stand before the tree.
 fn push_kept_order(order: &mut Numbers, u: VSet, k: u32, tree: &Tree) -> Result<(), Memory>
-    requires { k + leaf_count (shape_of tree.now) ≤ 255 }
+    requires { k + leaf_count (shape_of tree.now) ≤ MOST_NODES }
     ensures order { OnOk result
         (order.new ≡ order.old ++ kept_order_if_greatest_stays u k (shape_of tree.now)) }
     ensures count { OnOk result
@@ -73,7 +73,7 @@ fn push_switch_order(
     k: u32,
     tree: &Tree,
 ) -> Result<(), Memory>
-    requires { k + leaf_count (shape_of tree.now) ≤ 255 }
+    requires { k + leaf_count (shape_of tree.now) ≤ MOST_NODES }
     ensures order { OnOk result
         (order.new ≡ order.old ++ switch_order n u v k (shape_of tree.now)) }
     ensures count { OnOk result
@@ -97,7 +97,7 @@ fn push_switch_order(
 
 // Appends the order of a Rotate at the parent of the lower cut, which is its child on the side.
 fn push_rotate_order(order: &mut Numbers, side: Side, k: u32, tree: &Tree) -> Result<(), Memory>
-    requires { k + leaf_count (shape_of tree.now) ≤ 255 }
+    requires { k + leaf_count (shape_of tree.now) ≤ MOST_NODES }
     ensures order { OnOk result (order.new ≡ order.old ++ rotate_order side k (shape_of tree.now)) }
     ensures count { OnOk result
         (length order.new ≡ length order.old + leaf_count (shape_of tree.now)) }
@@ -123,7 +123,7 @@ fn push_merged_order(
     kept: &Tree,
     merged: &Tree,
 ) -> Result<(), Memory>
-    requires { k + leaf_count (shape_of kept.now) + leaf_count (shape_of merged.now) ≤ 255 }
+    requires { k + leaf_count (shape_of kept.now) + leaf_count (shape_of merged.now) ≤ MOST_NODES }
     ensures order { OnOk result
         (order.new ≡ order.old ++
         rotate_order Merged k (cut shore (shape_of kept.now) (shape_of merged.now))) }
@@ -162,7 +162,7 @@ enum Change {
 
 // Appends the order that a change at the root of the tree makes.
 fn push_order_here(order: &mut Numbers, change: &Change, k: u32, tree: &Tree) -> Result<(), Memory>
-    requires { k + leaf_count (shape_of tree.now) ≤ 255 }
+    requires { k + leaf_count (shape_of tree.now) ≤ MOST_NODES }
     ensures order { OnOk result
         (order.new ≡ order.old ++ changed_order change.now k (shape_of tree.now)) }
     ensures count { OnOk result
@@ -182,7 +182,7 @@ fn push_order_along(
     k: u32,
     tree: &Tree,
 ) -> Result<(), Memory>
-    requires { k + leaf_count (shape_of tree.now) ≤ 255 }
+    requires { k + leaf_count (shape_of tree.now) ≤ MOST_NODES }
     ensures order { OnOk result
         (order.new ≡ order.old ++
         order_at (changed_order change.now) path.now k (shape_of tree.now)) }
@@ -212,7 +212,7 @@ fn push_order_along(
 
 // Appends the order that a move on the whole tree makes.
 fn push_move_order(order: &mut Numbers, n: u32, tree: &Tree, m: &Move) -> Result<(), Memory>
-    requires { leaf_count (shape_of tree.now) ≤ 255 }
+    requires { leaf_count (shape_of tree.now) ≤ MOST_NODES }
     ensures order { OnOk result
         (order.new ≡ order.old ++ move_order n (move_of m.now) (shape_of tree.now)) }
     ensures count { OnOk result
@@ -234,7 +234,7 @@ fn push_move_order(order: &mut Numbers, n: u32, tree: &Tree, m: &Move) -> Result
 
 /// The old numbers of the leaves, in the order of the tree that the move makes.
 pub fn move_order(alloc: Global, n: u32, tree: &Tree, m: &Move) -> Result<Numbers, Memory>
-    requires { leaf_count (shape_of tree.now) ≤ 255 }
+    requires { leaf_count (shape_of tree.now) ≤ MOST_NODES }
     ensures order { IfOk result
         (λ order. order ≡ move_order n (move_of m.now) (shape_of tree.now)) }
     ensures count { IfOk result (λ order. length order ≡ leaf_count (shape_of tree.now)) }
