@@ -1,5 +1,4 @@
--- A proper Switch keeps derivations: its four rules for the shores below are the carrying of trees
--- by the maps of the exchange law.
+-- A proper Switch keeps derivations: its four rules say how the exchange law carries the trees.
 use Rattle.move_laws.specs.Scripts.{AreRising}
 use Rattle.std.proofs.Common.{Bool, List, ap, ap₂, arith, cond, false, if◌then◌else◌, inl, inr, not, refl, subst, sym, true, ℕ, ◌&&◌, ◌||◌, ◌∙◌, ◌≡◌}
 use Rattle.std.proofs.lemmas.Bool.{both_ways, cases_Bool}
