@@ -3,22 +3,14 @@
 -- that no listed one holds.
 use Rattle.std.proofs.Common.{◌≡◌, ◌≢◌, ℕ, ◌+◌, ◌-◌, ◌<◌, true, false, ◌&&◌, ◌||◌, ◌==◌, ◌↔◌, List, [], ◌∷◌, ◌++◌, length, get_or, map, filter, refl, sym, ap, ap₂, ◌∙◌, arith, inl, inr, subst, eqb-true, length-append}
 use Rattle.std.specs.Prelude.{All, Any}
-use Rattle.std.proofs.lemmas.Bool.{and_from, and_parts, both_ways, cases_eq, cases_order, false_from_ne_true, or_cases, or_left, or_right}
-use Rattle.std.proofs.lemmas.List.{get_or_append_left, map-append}
+use Rattle.counting.proofs.Common.{and_from, and_parts, both_ways, cases_eq, cases_order, false_from_ne_true, or_cases, or_left, or_right, get_or_append_left, map-append, list_any-append, two_members, and_comm, or_false}
 use Rattle.std.proofs.Math.Seq.{get_or-append_seam}
 use Rattle.std.proofs.lemmas.List.Elements.{All-push}
-use Rattle.std.proofs.lemmas.List.Folds.{Any-from_list_any, list_any-append, list_any_at}
+use Rattle.std.proofs.lemmas.List.Folds.{Any-from_list_any, list_any_at}
 use Rattle.std.specs.List.{list_any}
-use Rattle.counting.proofs.Members.{two_members}
-use Rattle.counting.specs.Counts.{Within}
-use Rattle.counting.specs.Lists.{IsRisingIn, mem}
-use Rattle.counting.specs.Sets.{none}
-use Rattle.counting.proofs.Booleans.{and_comm, or_false}
-use Rattle.graph_core.specs.Graph.{Graph, IsGraph, first_end, in_cut, second_end, size}
-use Rattle.graph_core.specs.Matchings.{HasPerfect, IsEnd, IsPerfect, Together}
-use Rattle.graph_core.specs.PairLists.{IsLean, IsPairList}
-use Rattle.graph_core.specs.Tight.{IsTight}
-use Rattle.graph_core.proofs.Edits.{two_ends_le_degree}
+use Rattle.counting.specs.Common.{Within, IsRisingIn, mem, none}
+use Rattle.graph_core.specs.Common.{Graph, IsGraph, first_end, in_cut, second_end, size, HasPerfect, IsEnd, IsPerfect, Together, IsLean, IsPairList, IsTight}
+use Rattle.graph_core.proofs.Common.{two_ends_le_degree}
 use Rattle.match_core.specs.MatchingRows.{IsOf, KeepsMatching, MatchingValue, edges_of, is_clear}
 use Rattle.match_core.specs.declared.matching.MatchRow.{MatchRow}
 use Rattle.match_core.proofs.ClearedMatchings.{end_at}

@@ -2,16 +2,10 @@
 -- are both the edge that the row names there.
 use Rattle.std.proofs.Common.{◌≡◌, ℕ, ◌<◌, Bool, true, sym, ap, ◌∙◌, List, [], length, inl, inr, subst, false, get_or-set_same, get_or-set_other, rules}
 use Rattle.std.specs.Prelude.{slice_set}
-use Rattle.std.proofs.lemmas.Bool.{both_ways, cases_eq}
-use Rattle.counting.specs.Counts.{Within}
-use Rattle.counting.specs.Lists.{mem, rising_list}
-use Rattle.counting.specs.Sets.{Set, none}
-use Rattle.counting.proofs.Lists.{rising_holds}
-use Rattle.counting.proofs.RisingLists.{mem-rising_list}
-use Rattle.graph_core.specs.Graph.{Graph, IsMultigraph, size}
-use Rattle.graph_core.specs.Matchings.{IsEnd, IsMatching, IsPerfect, missed_count}
-use Rattle.graph_core.proofs.Perfect.{none_missed-perfect}
-use Rattle.graph_core.proofs.Textbook.{apart_matching}
+use Rattle.counting.proofs.Common.{both_ways, cases_eq, rising_holds, mem-rising_list}
+use Rattle.counting.specs.Common.{Within, mem, rising_list, Set, none}
+use Rattle.graph_core.specs.Common.{Graph, IsMultigraph, size, IsEnd, IsMatching, IsPerfect, missed_count}
+use Rattle.graph_core.proofs.Common.{none_missed-perfect, apart_matching}
 use Rattle.match_core.specs.MatchingRows.{IsOf, MatchingValue, edges_of}
 use Rattle.match_search.proofs.Alike.{matching_alike}
 use Rattle.match_search.specs.Rows.{marks, numbers}

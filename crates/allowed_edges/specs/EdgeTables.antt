@@ -2,8 +2,7 @@
 -- Stated by: allowed_edges.
 use Rattle.std.specs.Prelude.{◌≡◌, ℕ, ◌+◌, ◌<◌, Bool, List, map, length}
 use Rattle.std.specs.Global.{Vec}
-use Rattle.counting.specs.Counts.{Within}
-use Rattle.counting.specs.Lists.{row_of}
+use Rattle.counting.specs.Common.{Within, row_of}
 use Rattle.match_search.specs.Rows.{marks}
 
 -- the rows as lists

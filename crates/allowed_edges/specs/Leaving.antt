@@ -2,11 +2,8 @@
 -- set are taken out of it.
 -- Stated by: allowed_edges.
 use Rattle.std.specs.Prelude.{◌≡◌, ℕ, ◌⊎◌, Bool, true, List, ◌||◌, ◌==◌}
-use Rattle.counting.specs.Counts.{Within}
-use Rattle.counting.specs.Lists.{mem}
-use Rattle.counting.specs.Sets.{Set}
-use Rattle.graph_core.specs.Graph.{Graph, first_end, second_end}
-use Rattle.graph_core.specs.Matchings.{IsEnd, IsMatching, IsPerfect, missed_count}
+use Rattle.counting.specs.Common.{Within, mem, Set}
+use Rattle.graph_core.specs.Common.{Graph, first_end, second_end, IsEnd, IsMatching, IsPerfect, missed_count}
 use Rattle.match_core.specs.MatchingRows.{IsOf, MatchingValue, edges_of, left_over}
 
 -- m is a matching of g without met, a set of vertices of g

@@ -3,12 +3,8 @@
 -- Stated by: allowed_edges, tight_cuts.
 use Rattle.std.specs.Prelude.{◌≡◌, ℕ, ◌≤◌, ◌<◌, ◌⊎◌, Bool, true, ◌&&◌, List, [], ◌∷◌, ◌++◌, map, All}
 use Rattle.std.specs.List.{list_any}
-use Rattle.counting.specs.Counts.{Within}
-use Rattle.counting.specs.Lists.{IsRisingIn, mem}
-use Rattle.counting.specs.Sets.{none}
-use Rattle.graph_core.specs.Graph.{Graph, first_end, second_end, size}
-use Rattle.graph_core.specs.Matchings.{IsPerfect, Together}
-use Rattle.graph_core.specs.PairLists.{IsLean}
+use Rattle.counting.specs.Common.{Within, IsRisingIn, mem, none}
+use Rattle.graph_core.specs.Common.{Graph, first_end, second_end, size, IsPerfect, Together, IsLean}
 use Rattle.match_core.specs.MatchingRows.{IsOf, KeepsMatching, MatchingValue, edges_of}
 use Rattle.match_search.specs.Rows.{numbers}
 

@@ -1,10 +1,7 @@
 //! The edges that lie in perfect matchings.
 ghost use Rattle.std.specs.Prelude.{◌≡◌, ◌↔◌, None, IfSome, IfOk};
-ghost use Rattle.counting.specs.Counts.{Within};
-ghost use Rattle.counting.specs.Sets.{none};
-ghost use Rattle.counting.specs.Lists.{Lists};
-ghost use Rattle.graph_core.specs.Graph.{size};
-ghost use Rattle.graph_core.specs.Matchings.{Allowed, HasPerfect, is_allowed};
+ghost use Rattle.counting.specs.Common.{Within, none, Lists};
+ghost use Rattle.graph_core.specs.Common.{size, Allowed, HasPerfect, is_allowed};
 ghost use Rattle.match_core.specs.Partners.{ArePartners};
 
 use crate::perfect::partners_where_perfect;

@@ -1,8 +1,8 @@
 //! Perfect matchings exchanged along alternating cycles of four edges. Nothing is promised of what
 //! comes out, and it is tested before it is used (`varied`).
 ghost use Rattle.std.specs.Prelude.{◌≡◌, ◌≢◌, true};
-ghost use Rattle.counting.specs.Counts.{Within};
-ghost use Rattle.graph_core.specs.Graph.{size};
+ghost use Rattle.counting.specs.Common.{Within};
+ghost use Rattle.graph_core.specs.Common.{size};
 ghost use Rattle.match_search.specs.Rows.{marks, numbers};
 
 use graph_core::MultiGraph;

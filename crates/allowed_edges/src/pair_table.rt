@@ -1,8 +1,7 @@
 //! The table of the pairs of edges that lie together.
 ghost use Rattle.std.specs.Prelude.{◌≡◌, ◌++◌, ◌∷◌, [], true, All, IfOk, OnOk};
-ghost use Rattle.counting.specs.Counts.{Within};
-ghost use Rattle.counting.specs.Lists.{mem};
-ghost use Rattle.graph_core.specs.Graph.{size};
+ghost use Rattle.counting.specs.Common.{Within, mem};
+ghost use Rattle.graph_core.specs.Common.{size};
 ghost use Rattle.match_core.specs.MatchingRows.{edges_of};
 ghost use Rattle.allowed_edges.specs.PairTables.{IsPerfectWith, edge_lists, holds_both};
 

@@ -1,8 +1,7 @@
 //! Whether a graph has a perfect matching, and its table of partners where it has one.
 ghost use Rattle.std.specs.Prelude.{◌≡◌, ◌↔◌, None, IsTrue, IfSome, IfOk};
-ghost use Rattle.counting.specs.Lists.{mem};
-ghost use Rattle.counting.specs.Sets.{none};
-ghost use Rattle.graph_core.specs.Matchings.{HasPerfect, IsMaximum};
+ghost use Rattle.counting.specs.Common.{mem, none};
+ghost use Rattle.graph_core.specs.Common.{HasPerfect, IsMaximum};
 ghost use Rattle.match_core.specs.MatchingRows.{IsOf, edges_of};
 ghost use Rattle.match_core.specs.Partners.{ArePartners};
 

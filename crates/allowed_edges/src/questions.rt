@@ -1,11 +1,8 @@
 //! Perfect matchings that hold one edge or two, each from a perfect matching at hand by one
 //! augmentation at most.
 ghost use Rattle.std.specs.Prelude.{◌≡◌, ◌||◌, ◌==◌, ◌⊎◌, ℕ, true, ◌↔◌, IfOk, Some, None};
-ghost use Rattle.counting.specs.Counts.{Within};
-ghost use Rattle.counting.specs.Sets.{none};
-ghost use Rattle.counting.specs.Lists.{mem};
-ghost use Rattle.graph_core.specs.Graph.{size, first_end, second_end};
-ghost use Rattle.graph_core.specs.Matchings.{Allowed, HasPerfect, IsPerfect, Together, missed_count};
+ghost use Rattle.counting.specs.Common.{Within, none, mem};
+ghost use Rattle.graph_core.specs.Common.{size, first_end, second_end, Allowed, HasPerfect, IsPerfect, Together, missed_count};
 ghost use Rattle.match_core.specs.MatchingRows.{IsOf, edges_of};
 ghost use Rattle.allowed_edges.specs.Leaving.{IsMatchingOff, LeavesFew, ShareNone};
 

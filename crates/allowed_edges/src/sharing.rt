@@ -1,9 +1,8 @@
 //! What two edges share: an end, or a cut.
 ghost use Rattle.std.specs.Prelude.{◌≡◌, ◌&&◌};
 ghost use Rattle.std.specs.List.{list_any};
-ghost use Rattle.counting.specs.Counts.{Within};
-ghost use Rattle.counting.specs.Lists.{mem};
-ghost use Rattle.graph_core.specs.Graph.{in_cut, size};
+ghost use Rattle.counting.specs.Common.{Within, mem};
+ghost use Rattle.graph_core.specs.Common.{in_cut, size};
 ghost use Rattle.allowed_edges.specs.Leaving.{share_end};
 
 use graph_core::{MultiGraph, is_in_cut};

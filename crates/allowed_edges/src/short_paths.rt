@@ -2,9 +2,8 @@
 //! them, or by two edges in place of one. In a graph with many edges such a path is found far
 //! sooner than by the search for any path.
 ghost use Rattle.std.specs.Prelude.{◌≡◌, ◌<◌, ◌≤◌, ℕ, false, length, slice_get, IfOk, Some, None};
-ghost use Rattle.counting.specs.Counts.{Within};
-ghost use Rattle.counting.specs.Lists.{mem};
-ghost use Rattle.graph_core.specs.Graph.{size};
+ghost use Rattle.counting.specs.Common.{Within, mem};
+ghost use Rattle.graph_core.specs.Common.{size};
 ghost use Rattle.match_core.specs.MatchingRows.{ends_at};
 ghost use Rattle.allowed_edges.specs.Leaving.{IsMatchingOff, IsPerfectOff};
 

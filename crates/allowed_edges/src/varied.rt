@@ -1,11 +1,8 @@
 //! Perfect matchings varied, so that they hold many pairs of edges that no earlier one holds: what
 //! exchanges give is tested, and taken if it is a perfect matching with the two edges.
 ghost use Rattle.std.specs.Prelude.{◌≡◌, ℕ, ◌+◌, true, length, IfOk, Some};
-ghost use Rattle.counting.specs.Counts.{Within};
-ghost use Rattle.counting.specs.Lists.{mem};
-ghost use Rattle.counting.specs.Sets.{none};
-ghost use Rattle.graph_core.specs.Graph.{size};
-ghost use Rattle.graph_core.specs.Matchings.{IsMatching};
+ghost use Rattle.counting.specs.Common.{Within, mem, none};
+ghost use Rattle.graph_core.specs.Common.{size, IsMatching};
 ghost use Rattle.match_core.specs.MatchingRows.{edges_of};
 ghost use Rattle.match_search.specs.Rows.{marks};
 ghost use Rattle.allowed_edges.specs.PairTables.{IsPerfectWith, NamesEdge};

@@ -1,15 +1,7 @@
 //! Whether a graph is matching covered.
 ghost use Rattle.std.specs.Prelude.{◌≡◌, ◌↔◌, ℕ, ◌≤◌, None, IfSome, IfNone, IfOk};
-ghost use Rattle.counting.specs.Counts.{Within};
-ghost use Rattle.counting.specs.Lists.{mem, IsRisingIn};
-ghost use Rattle.counting.specs.Sets.{none};
-ghost use Rattle.counting.specs.Tests.{IsLeastWithout};
-ghost use Rattle.graph_core.specs.BergeSets.{Attains};
-ghost use Rattle.graph_core.specs.Components.{IsConnected, components};
-ghost use Rattle.graph_core.specs.Graph.{size};
-ghost use Rattle.graph_core.specs.Matchings.{Allowed, HasPerfect, IsMaximum};
-ghost use Rattle.graph_core.specs.Walks.{Joined};
-ghost use Rattle.graph_core.specs.Verdicts.{IsVerdict};
+ghost use Rattle.counting.specs.Common.{Within, mem, IsRisingIn, none, IsLeastWithout};
+ghost use Rattle.graph_core.specs.Common.{Attains, IsConnected, components, size, Allowed, HasPerfect, IsMaximum, Joined, IsVerdict};
 ghost use Rattle.match_core.specs.MatchingRows.{edges_of};
 ghost use Rattle.match_core.specs.Partners.{ArePartners};
 

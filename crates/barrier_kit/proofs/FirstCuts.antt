@@ -2,15 +2,13 @@
 -- appends to it; so the first cut of the first classes is the first of all.
 use Rattle.std.proofs.Common.{◌≡◌, ℕ, Bool, true, false, cond, sym, ap, ◌∙◌, List, [], ◌∷◌, ◌++◌, Some, None, flat_map, fold, take, drop, slice_get, length, ◌≤◌, ◌<◌, ◌+◌, get_or, append-nil}
 use Rattle.std.proofs.lemmas.Grind.{flat_map-append}
-use Rattle.std.proofs.lemmas.List.{take-append-drop, take_more}
+use Rattle.std.proofs.lemmas.List.{take-append-drop}
+use Rattle.counting.proofs.Common.{take_more}
 use Rattle.std.proofs.lemmas.List.Sums.{fold-append}
-use Rattle.counting.specs.Lists.{mem}
-use Rattle.graph_core.specs.Components.{components}
-use Rattle.graph_core.specs.Graph.{Graph}
-use Rattle.graph_core.specs.Structure.{classes}
+use Rattle.counting.specs.Common.{mem}
+use Rattle.graph_core.specs.Common.{components, Graph, classes, canonical_list, with_cut}
 use Rattle.barrier_kit.proofs.CutLists.{barrier_cuts-all}
 use Rattle.barrier_kit.specs.BarrierShores.{barrier_cuts, barrier_shores}
-use Rattle.graph_core.specs.CanonicalCuts.{canonical_list, with_cut}
 
 first-append : (cuts : List (List ℕ)) (d c : List ℕ) → slice_get cuts 0 ≡ Some c → slice_get (cuts ++ d ∷ []) 0 ≡ Some c
 first-append [] d c h = absurd cc

@@ -2,21 +2,10 @@
 -- before it holds it. A class is met by its least vertex, and by transitivity a vertex that was
 -- met adds no vertex to those met.
 use Rattle.std.proofs.Common.{◌≡◌, ℕ, suc, inl, inr, ◌+◌, ◌<◌, ◌≤◌, ◌↔◌, Bool, true, false, ◌==◌, refl, sym, ap, ap₂, ◌∙◌, arith, ◌&&◌, ◌||◌, not, cond, List, [], ◌∷◌, ◌++◌, map, nat_lt, ltb-true, lt-ltb, subst, append-nil}
-use Rattle.counting.proofs.Booleans.{same_tests}
-use Rattle.std.proofs.lemmas.Bool.{cases_Bool, and_parts, and_from, both_ways, false_from_ne_true}
-use Rattle.std.proofs.lemmas.List.{map-append}
-use Rattle.counting.specs.Counts.{Within}
-use Rattle.counting.specs.Lists.{IsRisingIn, mem, rising_list}
-use Rattle.counting.specs.Sets.{Set, none, pair_set}
-use Rattle.counting.specs.Tests.{some}
-use Rattle.counting.proofs.Lists.{rising_only}
-use Rattle.counting.proofs.RisingLists.{mem-rising_list, rising_list-rises, same_rising_list, set-wider}
-use Rattle.counting.proofs.Tests.{some_true, true_some}
-use Rattle.graph_core.proofs.Decide.{has_perfect_found, is_equivalent_found, is_equivalent_says}
-use Rattle.graph_core.specs.Covered.{IsCovered}
-use Rattle.graph_core.specs.Graph.{Graph, IsGraph}
-use Rattle.graph_core.specs.Matchings.{HasPerfect, has_perfect}
-use Rattle.graph_core.specs.Structure.{classes, is_equivalent, is_least_of_class}
+use Rattle.counting.proofs.Common.{same_tests, cases_Bool, and_parts, and_from, both_ways, false_from_ne_true, map-append, rising_only, mem-rising_list, rising_list-rises, same_rising_list, set-wider, some_true, true_some}
+use Rattle.counting.specs.Common.{Within, IsRisingIn, mem, rising_list, Set, none, pair_set, some}
+use Rattle.graph_core.proofs.Common.{has_perfect_found, is_equivalent_found, is_equivalent_says}
+use Rattle.graph_core.specs.Common.{IsCovered, Graph, IsGraph, HasPerfect, has_perfect, classes, is_equivalent, is_least_of_class}
 use Rattle.match_core.specs.Partners.{are_partners}
 use Rattle.barrier_kit.proofs.ClassLaw.{equivalent_on}
 use Rattle.barrier_kit.proofs.Matched.{perfect_congr}

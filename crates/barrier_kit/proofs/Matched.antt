@@ -1,22 +1,10 @@
 -- Small facts on perfect matchings without a set of vertices, and on counts that are tight. Where
 -- each term is at least one and the sum is no more than the number of terms, each term is one.
 use Rattle.std.proofs.Common.{◌≡◌, ℕ, ◌+◌, ◌≤◌, ◌≢◌, Bool, true, false, ◌==◌, refl, sym, ap, ◌∙◌, arith, ◌&&◌, ◌||◌, not, eq-eqb, eqb-true, inl, inr}
-use Rattle.std.proofs.lemmas.Bool.{cases_Bool, true≢false, false_from_ne_true, both_ways, not-false, not-true}
-use Rattle.graph_core.proofs.Perfect.{perfect_matching, perfect_misses}
-use Rattle.counting.proofs.Counts.{count_complement}
-use Rattle.counting.proofs.Members.{count_zero}
-use Rattle.counting.proofs.Odd.{odd-double}
-use Rattle.counting.proofs.Tests.{some_none, some_true}
-use Rattle.counting.proofs.Totals.{at_le_total, total_add, total_congr, total_none}
-use Rattle.counting.specs.Counts.{Within, bit, count, is_odd}
-use Rattle.counting.specs.Sets.{Set, complement, none, union}
-use Rattle.counting.specs.Tests.{some}
-use Rattle.counting.proofs.Booleans.{alike_not_apart}
-use Rattle.graph_core.proofs.Edits.{ends_le_degree, ends_of, missed_edges}
-use Rattle.graph_core.proofs.Walks.{parted}
-use Rattle.graph_core.specs.Covered.{IsCovered}
-use Rattle.graph_core.specs.Graph.{Graph, IsGraph, degree, edges_in_cut, first_end, in_cut, inside, second_end, size}
-use Rattle.graph_core.specs.Matchings.{IsPerfect}
+use Rattle.counting.proofs.Common.{cases_Bool, true≢false, false_from_ne_true, both_ways, not-false, not-true, count_complement, count_zero, odd-double, some_none, some_true, at_le_total, total_add, total_congr, total_none, alike_not_apart}
+use Rattle.graph_core.proofs.Common.{perfect_matching, perfect_misses, ends_le_degree, ends_of, missed_edges, parted}
+use Rattle.counting.specs.Common.{Within, bit, count, is_odd, Set, complement, none, union, some}
+use Rattle.graph_core.specs.Common.{IsCovered, Graph, IsGraph, degree, edges_in_cut, first_end, in_cut, inside, second_end, size, IsPerfect}
 use Rattle.match_search.proofs.NearPerfectSets.{ends_far, ends_near}
 
 abbrev pub inner : Graph → Set → Set → ℕ

@@ -3,27 +3,12 @@
 -- of each class holds of each item of the list.
 use Rattle.std.proofs.Common.{◌≡◌, ◌≢◌, ℕ, ◌≤◌, true, false, refl, sym, ap, ◌∙◌, arith, ◌&&◌, not, inl, inr, List, [], map, nat_lt, ltb-true}
 use Rattle.std.specs.Prelude.{All}
-use Rattle.std.proofs.lemmas.Bool.{and_parts, both_ways, false_from_ne_true}
-use Rattle.std.proofs.lemmas.List.Elements.{All-map}
-use Rattle.counting.proofs.Members.{two_members}
-use Rattle.counting.specs.Counts.{Within, count}
-use Rattle.counting.specs.Lists.{mem, rising_list}
-use Rattle.counting.specs.Sets.{Set}
-use Rattle.counting.specs.Tests.{some}
-use Rattle.counting.proofs.RisingLists.{mem-rising_list}
-use Rattle.counting.proofs.Tests.{least_true, some_true, true_some}
-use Rattle.graph_core.proofs.Decide.{is_equivalent_found, is_equivalent_says}
-use Rattle.graph_core.proofs.SameSets.{nontrivial-same, tight-same}
-use Rattle.graph_core.specs.Components.{components, is_least}
-use Rattle.graph_core.specs.Covered.{IsCovered}
-use Rattle.graph_core.specs.Graph.{Graph, HasNoLoop, IsGraph}
-use Rattle.graph_core.specs.Structure.{IsBicritical, IsClass, classes, is_equivalent, is_least_of_class}
-use Rattle.graph_core.specs.Tight.{IsNontrivial, IsTight, canonical_shore, is_nontrivial}
-use Rattle.graph_core.specs.Walks.{joined}
+use Rattle.counting.proofs.Common.{and_parts, both_ways, false_from_ne_true, All-map, two_members, mem-rising_list, least_true, some_true, true_some}
+use Rattle.counting.specs.Common.{Within, count, mem, rising_list, Set, some}
+use Rattle.graph_core.proofs.Common.{is_equivalent_found, is_equivalent_says, nontrivial-same, tight-same}
+use Rattle.graph_core.specs.Common.{components, is_least, IsCovered, Graph, HasNoLoop, IsGraph, IsBicritical, IsClass, classes, is_equivalent, is_least_of_class, IsNontrivial, IsTight, canonical_shore, is_nontrivial, joined, IsSide, IsCanonicalCut}
 use Rattle.barrier_kit.specs.BarrierCuts.{BarrierCut, WideClass}
-use Rattle.graph_core.specs.Sides.{IsSide}
 use Rattle.barrier_kit.specs.BarrierShores.{barrier_cuts, barrier_shores}
-use Rattle.graph_core.specs.CanonicalCuts.{IsCanonicalCut}
 use Rattle.barrier_kit.proofs.AllOf.{all_flat, all_rising, flat_all, map_all, rising_all}
 use Rattle.barrier_kit.proofs.BarrierCuts.{leader_of, leads_out, none_inside, part_same, part_tight}
 use Rattle.barrier_kit.proofs.ClassLaw.{class_barrier, equivalent_on}

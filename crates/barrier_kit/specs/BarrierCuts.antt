@@ -2,12 +2,8 @@
 -- Pulleyblank 1982).
 -- Stated by: barrier_kit, theorems.
 use Rattle.std.specs.Prelude.{◌≡◌, ◌≤◌, ℕ, false}
-use Rattle.counting.specs.Counts.{Within, count}
-use Rattle.counting.specs.Sets.{Set}
-use Rattle.graph_core.specs.Graph.{Graph, size, inside}
-use Rattle.graph_core.specs.Structure.{IsClass}
-use Rattle.graph_core.specs.Walks.{joined}
-use Rattle.graph_core.specs.Tight.{IsTight, IsNontrivial}
+use Rattle.counting.specs.Common.{Within, count, Set}
+use Rattle.graph_core.specs.Common.{Graph, size, inside, IsClass, joined, IsTight, IsNontrivial}
 
 -- a component of g without s whose cut is tight and nontrivial
 pub record BarrierCut (g : Graph) (s : Set) : Type 0 where

@@ -1,11 +1,8 @@
 -- The cuts that the classes of a covered graph give (Edmonds, Lovász and Pulleyblank 1982).
 -- Stated by: barrier_kit, quick_kinds, tight_cuts.
 use Rattle.std.specs.Prelude.{ℕ, List, flat_map}
-use Rattle.counting.specs.Lists.{mem}
-use Rattle.graph_core.specs.Graph.{Graph}
-use Rattle.graph_core.specs.Components.{components}
-use Rattle.graph_core.specs.Structure.{classes}
-use Rattle.graph_core.specs.CanonicalCuts.{cuts_of}
+use Rattle.counting.specs.Common.{mem}
+use Rattle.graph_core.specs.Common.{Graph, components, classes, cuts_of}
 
 -- for each class by least vertex, each component of the graph without it by least vertex
 unfoldable pub barrier_shores : Graph → List (List ℕ)

@@ -1,9 +1,7 @@
 -- Choices as in Hall's theorem (Hall 1935): each member of a set gets a partner of its own.
 -- Stated by no contract. Rests on it: barrier_kit, quick_kinds.
 use Rattle.std.specs.Prelude.{◌≡◌, ℕ, Bool, true, ◌&&◌}
-use Rattle.counting.specs.Counts.{Within}
-use Rattle.counting.specs.Sets.{Set}
-use Rattle.counting.specs.Tests.{some}
+use Rattle.counting.specs.Common.{Within, Set, some}
 
 -- the members of c that f relates to some member of z
 abbrev pub neighbours : ℕ → (ℕ → ℕ → Bool) → Set → Set → Set

@@ -1,8 +1,7 @@
 //! Barriers.
 ghost use Rattle.std.specs.Prelude.{◌≡◌, ◌↔◌, IfOk, IsTrue, length, count_by};
-ghost use Rattle.counting.specs.Counts.{is_odd};
-ghost use Rattle.counting.specs.Lists.{mem, IsRisingIn};
-ghost use Rattle.graph_core.specs.Structure.{IsBarrier};
+ghost use Rattle.counting.specs.Common.{is_odd, mem, IsRisingIn};
+ghost use Rattle.graph_core.specs.Common.{IsBarrier};
 
 use graph_core::MultiGraph;
 use std::alloc::{AllocError as Memory, Global};

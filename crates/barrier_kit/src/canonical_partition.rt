@@ -1,9 +1,7 @@
 //! The canonical partition of a covered graph into its classes.
 ghost use Rattle.std.specs.Prelude.{◌≡◌, IfOk};
-ghost use Rattle.counting.specs.Counts.{Within};
-ghost use Rattle.counting.specs.Lists.{rising_list};
-ghost use Rattle.graph_core.specs.Covered.{IsCovered};
-ghost use Rattle.graph_core.specs.Structure.{classes, is_equivalent};
+ghost use Rattle.counting.specs.Common.{Within, rising_list};
+ghost use Rattle.graph_core.specs.Common.{IsCovered, classes, is_equivalent};
 
 use graph_core::{MultiGraph, SetList};
 use graph_facts::Covered;

@@ -1,17 +1,9 @@
 //! The laws of barriers and classes. Each is the contract of a function that does nothing.
 ghost use Rattle.std.specs.Prelude.{◌≡◌, ◌≢◌, ℕ, true, false, ◌⊎◌, ◌↔◌, ◌≤◌, All, []};
-ghost use Rattle.counting.specs.Counts.{Within, count, is_odd};
-ghost use Rattle.counting.specs.Lists.{mem};
-ghost use Rattle.counting.specs.Sets.{Set};
-ghost use Rattle.graph_core.specs.Graph.{Graph, IsBipartite, IsGraph, IsMultigraph, size, first_end, second_end, inside};
-ghost use Rattle.graph_core.specs.Walks.{joined};
-ghost use Rattle.graph_core.specs.Components.{component_count};
-ghost use Rattle.graph_core.specs.Covered.{IsCovered};
-ghost use Rattle.graph_core.specs.Tight.{IsTight};
-ghost use Rattle.graph_core.specs.Structure.{Equivalent, IsBarrier, IsBicritical, IsClass};
+ghost use Rattle.counting.specs.Common.{Within, count, is_odd, mem, Set};
+ghost use Rattle.graph_core.specs.Common.{Graph, IsBipartite, IsGraph, IsMultigraph, size, first_end, second_end, inside, joined, component_count, IsCovered, IsTight, Equivalent, IsBarrier, IsBicritical, IsClass, IsCanonicalCut};
 ghost use Rattle.barrier_kit.specs.BarrierCuts.{WideClass};
 ghost use Rattle.barrier_kit.specs.BarrierShores.{barrier_cuts, barrier_shores};
-ghost use Rattle.graph_core.specs.CanonicalCuts.{IsCanonicalCut};
 
 /// The relation "equal, or without the two there is no perfect matching" is an equivalence in a
 /// covered graph, and it is decided (Kotzig; Lovász and Plummer, "Matching Theory", chapter 5).

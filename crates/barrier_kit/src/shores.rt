@@ -1,9 +1,7 @@
 //! The cuts that the classes of a graph give.
 ghost use Rattle.std.specs.Prelude.{◌≡◌, fold, slice_get, IfOk, OnOk};
-ghost use Rattle.counting.specs.Lists.{mem};
-ghost use Rattle.graph_core.specs.CanonicalCuts.{with_cut};
-ghost use Rattle.graph_core.specs.Components.{components};
-ghost use Rattle.graph_core.specs.Covered.{IsCovered};
+ghost use Rattle.counting.specs.Common.{mem};
+ghost use Rattle.graph_core.specs.Common.{with_cut, components, IsCovered};
 ghost use Rattle.barrier_kit.specs.BarrierShores.{barrier_cuts};
 
 use crate::canonical_partition::classes_of;

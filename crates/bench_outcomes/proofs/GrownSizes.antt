@@ -3,8 +3,8 @@
 -- each graph on the way.
 use Rattle.std.proofs.Common.{◌≡◌, ℕ, zero, suc, ◌+◌, ◌-◌, ◌≤◌, nat_le, true, refl, sym, subst, arith}
 use Rattle.std.proofs.lemmas.Bool.{leb-true}
-use Rattle.counting.proofs.Tests.{every_true}
-use Rattle.graph_core.specs.Graph.{IsMultigraph, size}
+use Rattle.counting.proofs.Common.{every_true}
+use Rattle.graph_core.specs.Common.{IsMultigraph, size}
 use Rattle.rand_pcg.specs.Lcg.{Lcg, started, increment_of}
 use Rattle.rand_pcg.specs.Pcg.{multiplier_64, pcg32}
 use Rattle.grow_gen.specs.Growth.{Growth, first_growth, growth_from, grown, with_piece}

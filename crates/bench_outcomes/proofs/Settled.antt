@@ -2,12 +2,10 @@
 -- if not, which it then may be. A refused tree is not a derivation, a refused list not an ear list,
 -- and moves that fail lead through no derivations to a last tree.
 use Rattle.std.proofs.Common.{◌≡◌, ◌∙◌, ℕ, List, [], ◌∷◌, ◌⊎◌, inl, inr, sym, subst}
-use Rattle.std.proofs.lemmas.Option.{none-some, same_Some}
-use Rattle.graph_core.specs.Graph.{Graph, IsGraph, IsMultigraph}
-use Rattle.counting.specs.Sets.{singleton}
-use Rattle.tree_core.specs.Derivations.{IsDerivation}
-use Rattle.tree_core.specs.Moves.{PlainMove, TurnsThrough}
-use Rattle.tree_core.specs.Shapes.{Shape}
+use Rattle.counting.proofs.Common.{none-some, same_Some}
+use Rattle.graph_core.specs.Common.{Graph, IsGraph, IsMultigraph, IsCovered}
+use Rattle.counting.specs.Common.{singleton}
+use Rattle.tree_core.specs.Common.{IsDerivation, PlainMove, TurnsThrough, Shape}
 use Rattle.tree_check.specs.Refusals.{Why, IsRefused}
 use Rattle.tree_check.specs.Replays.{IsStuckAt, IsRefusedMoveAt}
 use Rattle.tree_check.proofs.FirstRefusals.{refused-not_derived}
@@ -18,7 +16,7 @@ use Rattle.bench_outcomes.specs.Comparisons.{RefusesPair}
 use Rattle.bench_outcomes.specs.Outcome.{DecomposeGives, ResultOf}
 use Rattle.bench_outcomes.specs.Refusing.{TaskMayRefuse}
 use Rattle.bench_outcomes.specs.Success.{Succeeds}
-use Rattle.bench_tasks.specs.Tasks.{Task}
+use Rattle.bench_tasks.specs.Common.{Task}
 use Rattle.bench_tasks.specs.Tasks as task
 use Rattle.bench_tasks.specs.declared.verbs.GraphVerb.TheVariants.{Analyse, Convert, Decompose, Ears}
 use Rattle.bench_tasks.specs.declared.verbs.SimpleGraphVerb.TheVariants.{Analyse6}
@@ -29,7 +27,6 @@ use Rattle.bench_tasks.specs.declared.verbs.MovesVerb.TheVariants.{Replay}
 use Rattle.bench_tasks.specs.declared.verbs.TreesVerb.TheVariants.{Compare, Script}
 use Rattle.bench_tasks.specs.declared.verbs.NumbersVerb.TheVariants.{Grow}
 use Rattle.tight_cuts.specs.Candidates.{Candidate}
-use Rattle.graph_core.specs.Covered.{IsCovered}
 use Rattle.bench_outcomes.specs.declared.status.Status.{Status}
 use Rattle.bench_outcomes.specs.declared.status.Status.TheVariants.{Done, Negative}
 

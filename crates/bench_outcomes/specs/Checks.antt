@@ -4,13 +4,10 @@
 use Rattle.std.specs.Prelude.{◌≡◌, ◌⊎◌, ℕ, List}
 use Rattle.std.specs.declared.option.Option.{Option}
 use Rattle.std.specs.declared.option.Option.TheVariants.{Some, None}
-use Rattle.graph_core.specs.Graph.{Graph}
-use Rattle.tree_core.specs.Derivations.{IsDerivation}
-use Rattle.tree_core.specs.Leaves.{leaves}
-use Rattle.tree_core.specs.Shapes.{Shape}
+use Rattle.graph_core.specs.Common.{Graph}
+use Rattle.tree_core.specs.Common.{IsDerivation, leaves, Shape, IsTally}
 use Rattle.tree_check.specs.Refusals.{Why, not_blocks, even, trivial, not_tight, not_leaf, why_number, IsRefused}
 use Rattle.report_text.specs.Judgements.{judgement_text}
-use Rattle.tree_core.specs.Tallies.{IsTally}
 use Rattle.report_text.specs.declared.judgements.Shown.{Shown}
 use Rattle.report_text.specs.declared.judgements.Shown.TheVariants.{Nothing, Matching, Cut}
 use Rattle.report_text.specs.declared.judgements.TreeLine.TheVariants as line

@@ -6,14 +6,9 @@
 use Rattle.std.specs.Prelude.{◌≡◌, ◌≤◌, ◌*◌, ◌⊎◌, ℕ, suc, List, [], ◌∷◌, length}
 use Rattle.std.specs.declared.option.Option.{Option}
 use Rattle.std.specs.declared.option.Option.TheVariants.{Some, None}
-use Rattle.graph_core.specs.Graph.{Graph}
-use Rattle.graph_core.specs.Partitions.{names_of}
-use Rattle.line_text.specs.Format.{Stands}
-use Rattle.tree_core.specs.Derivations.{IsDerivation}
-use Rattle.tree_core.specs.LeafMaps.{PlainLeafMap, script_maps}
-use Rattle.tree_core.specs.Leaves.{leaves}
-use Rattle.tree_core.specs.Moves.{PlainMove, TurnsThrough}
-use Rattle.tree_core.specs.Shapes.{Shape, cut_count, leaf_count}
+use Rattle.graph_core.specs.Common.{Graph, names_of}
+use Rattle.line_text.specs.Common.{Stands}
+use Rattle.tree_core.specs.Common.{IsDerivation, PlainLeafMap, script_maps, leaves, PlainMove, TurnsThrough, Shape, cut_count, leaf_count}
 use Rattle.move_text.specs.MoveFormat.{move_format}
 use Rattle.move_text.specs.Writing.{moves_text}
 use Rattle.move_laws.specs.Pairings.{IsPairing}

@@ -3,14 +3,11 @@
 -- (`Success`) and what is free in a report (`Fixed` of `bench_top`) are read off this.
 -- Stated by no contract. Rests on it: bench_outcomes, bench_top.
 use Rattle.std.specs.Prelude.{ℕ, List}
-use Rattle.graph_core.specs.Covered.{IsCovered}
-use Rattle.graph_core.specs.Graph.{Graph}
-use Rattle.tree_core.specs.Derivations.{IsDerivation}
-use Rattle.tree_core.specs.Moves.{PlainMove, TurnsThrough}
-use Rattle.tree_core.specs.Shapes.{Shape}
+use Rattle.graph_core.specs.Common.{IsCovered, Graph}
+use Rattle.tree_core.specs.Common.{IsDerivation, PlainMove, TurnsThrough, Shape}
 use Rattle.ear_core.specs.EarLists.{IsEarList}
 use Rattle.bench_outcomes.specs.Shown.{MayBeBerge, MayShowOfTree, MayShowOfMoves, MayShowOfTwo}
-use Rattle.bench_tasks.specs.Tasks.{Task}
+use Rattle.bench_tasks.specs.Common.{Task}
 use Rattle.bench_tasks.specs.Tasks as task
 use Rattle.bench_tasks.specs.declared.verbs.GraphVerb.TheVariants.{Analyse, Convert, Decompose, Ears}
 use Rattle.bench_tasks.specs.declared.verbs.SimpleGraphVerb.TheVariants.{Analyse6}

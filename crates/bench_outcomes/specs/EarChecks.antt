@@ -3,8 +3,7 @@
 -- Stated by: bench_reports. Rests on it: bench_outcomes, bench_top, theorems.
 use Rattle.std.specs.Prelude.{◌≡◌, ◌⊎◌, ℕ, List, length, count_by, not, Bool, true, false, Option, Some, None}
 use Rattle.std.specs.List.{AllByRecursion}
-use Rattle.graph_core.specs.Covered.{IsCovered}
-use Rattle.graph_core.specs.Graph.{Graph, size, IsBipartite}
+use Rattle.graph_core.specs.Common.{IsCovered, Graph, size, IsBipartite}
 use Rattle.ear_core.specs.EarLists.{PlainEars, PlainStep, one, two, IsEarList, IsSingle, IsUnrefinable, TakesSingles}
 use Rattle.ear_core.specs.EarTests.{PlainWhy, not_path, even_length, bad_ends, inner_on_stage, edge_used, stage_not_covered, ends_early}
 use Rattle.ear_core.specs.Refusals.{IsRefused}

@@ -4,16 +4,8 @@ use Rattle.std.specs.Prelude.{◌≡◌, ◌↔◌, ℕ, IsTrue}
 use Rattle.std.specs.declared.option.Option.{Option}
 use Rattle.std.specs.declared.option.Option.TheVariants.{Some, None}
 use Rattle.std.specs.Option.{option_map}
-use Rattle.counting.specs.Counts.{count}
-use Rattle.counting.specs.Sets.{Set, none}
-use Rattle.counting.specs.Lists.{Lists}
-use Rattle.graph_core.specs.Graph.{Graph, size, IsBipartite}
-use Rattle.graph_core.specs.Components.{component_count}
-use Rattle.graph_core.specs.Matchings.{Allowed, IsMaximum, missed_count}
-use Rattle.graph_core.specs.GallaiEdmonds.{InD, InA, InC}
-use Rattle.graph_core.specs.Structure.{classes, cut_pair, equivalent_pair}
-use Rattle.graph_core.specs.Verdicts.{IsVerdict}
-use Rattle.graph_core.specs.View.{pair_of}
+use Rattle.counting.specs.Common.{count, Set, none, Lists}
+use Rattle.graph_core.specs.Common.{Graph, size, IsBipartite, component_count, Allowed, IsMaximum, missed_count, InD, InA, InC, classes, cut_pair, equivalent_pair, IsVerdict, pair_of}
 use Rattle.graph_core.specs.declared.verdict.Verdict.{Verdict}
 use Rattle.graph_core.specs.declared.verdict.Verdict.TheVariants.{Covered, NotCovered}
 use Rattle.tight_cuts.specs.Candidates.{candidates, first_shore}

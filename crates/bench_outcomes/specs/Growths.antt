@@ -2,18 +2,14 @@
 -- the first and by the last candidates, counted, and how many of them are paired.
 -- Stated by: bench_reports. Rests on it: bench_outcomes, bench_top, theorems.
 use Rattle.std.specs.Prelude.{◌≡◌, ℕ, List, length}
-use Rattle.graph_core.specs.Graph.{Graph}
+use Rattle.graph_core.specs.Common.{Graph}
 use Rattle.graph_text.specs.Writing.{graph_text}
 use Rattle.grow_gen.specs.Growth.{grown}
 use Rattle.tight_cuts.specs.Candidates.{Candidate}
 use Rattle.decomposer.specs.Picked.{IsPicked}
-use Rattle.tree_core.specs.Derivations.{IsDerivation}
-use Rattle.tree_core.specs.LeafMaps.{PlainLeafMap}
-use Rattle.tree_core.specs.Leaves.{leaves}
-use Rattle.tree_core.specs.Shapes.{Shape}
+use Rattle.tree_core.specs.Common.{IsDerivation, PlainLeafMap, leaves, Shape, IsTally}
 use Rattle.move_laws.specs.Pairings.{IsPairing}
 use Rattle.report_text.specs.Growths.{grown_text}
-use Rattle.tree_core.specs.Tallies.{IsTally}
 use Rattle.tree_core.specs.declared.tallies.Tally.{Tally}
 use Rattle.decomposer.specs.Orders.{NamedPicks}
 use Rattle.decomposer.specs.declared.orders.NamedOrder.TheVariants.{First, Last}

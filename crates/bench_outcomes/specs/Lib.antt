@@ -11,3 +11,4 @@ pub mod Growths
 pub mod Outcome
 pub mod Success
 pub mod Refusing
+pub mod Common

@@ -6,16 +6,14 @@ use Rattle.std.specs.declared.option.Option.{Option}
 use Rattle.std.specs.declared.option.Option.TheVariants.{Some, None}
 use Rattle.outside.specs.Shelf.{NamedFile}
 use Rattle.outside.specs.Sink.{appended}
-use Rattle.graph_core.specs.Graph.{Graph}
-use Rattle.line_text.specs.Format.{Stands}
+use Rattle.graph_core.specs.Common.{Graph}
+use Rattle.line_text.specs.Common.{Stands}
 use Rattle.graph_text.specs.EitherVersion.{NamedGraph, either_version}
 use Rattle.graph_text.specs.Names.{plain_names}
 use Rattle.graph_text.specs.Writing.{named_text}
 use Rattle.graph6_text.specs.Writing.{graph6_of}
 use Rattle.tight_cuts.specs.Candidates.{Candidate}
-use Rattle.tree_core.specs.Derivations.{IsDerivation}
-use Rattle.tree_core.specs.Leaves.{leaves}
-use Rattle.tree_core.specs.Shapes.{Shape}
+use Rattle.tree_core.specs.Common.{IsDerivation, leaves, Shape, AreLeafKinds}
 use Rattle.tree_text.specs.TreeFormat.{tree_format}
 use Rattle.tree_text.specs.Writing.{tree_text}
 use Rattle.decomposer.specs.Orders.{NamedPicks, ScriptPicks}
@@ -23,17 +21,15 @@ use Rattle.decomposer.specs.Picked.{IsPicked}
 use Rattle.report_text.specs.Analyses.{analysis_text}
 use Rattle.report_text.specs.Derivations.{derivation_text}
 use Rattle.report_text.specs.Reports.{bad_input_text, with_names_text, graph6_line}
-use Rattle.tree_core.specs.Tallies.{AreLeafKinds}
 use Rattle.report_text.specs.declared.analyses.AnalysisLines.{AnalysisLines}
 use Rattle.tree_core.specs.declared.tallies.LeafKind.{LeafKind}
-use Rattle.bench_tasks.specs.Commands.{Command, command_of}
+use Rattle.bench_tasks.specs.Common.{Command, command_of, Task, Loaded, All, Bad, Absent, loaded}
 use Rattle.bench_outcomes.specs.Uncovered.{Uncovered}
 use Rattle.bench_outcomes.specs.Checks.{CheckGives}
 use Rattle.bench_outcomes.specs.EarChecks.{EarCheckGives, EarsGives}
 use Rattle.bench_outcomes.specs.Replays.{ReplayGives}
 use Rattle.bench_outcomes.specs.Comparisons.{CompareGives, ScriptGives}
 use Rattle.bench_outcomes.specs.Growths.{Grown}
-use Rattle.bench_tasks.specs.Tasks.{Task}
 use Rattle.bench_tasks.specs.Tasks as task
 use Rattle.bench_tasks.specs.declared.verbs.GraphVerb.TheVariants.{Analyse, Convert, Decompose, Ears}
 use Rattle.bench_tasks.specs.declared.verbs.SimpleGraphVerb.TheVariants.{Analyse6}
@@ -43,7 +39,6 @@ use Rattle.bench_tasks.specs.declared.verbs.EarsVerb.TheVariants.{CheckEars}
 use Rattle.bench_tasks.specs.declared.verbs.MovesVerb.TheVariants.{Replay}
 use Rattle.bench_tasks.specs.declared.verbs.TreesVerb.TheVariants.{Compare, Script}
 use Rattle.bench_tasks.specs.declared.verbs.NumbersVerb.TheVariants.{Grow}
-use Rattle.bench_tasks.specs.Loading.{Loaded, All, Bad, Absent, loaded}
 use Rattle.bench_outcomes.specs.Facts.{IsAnalysis}
 use Rattle.bench_outcomes.specs.declared.status.Status.{Status}
 use Rattle.bench_outcomes.specs.declared.status.Status.TheVariants.{Done, Negative, BadInput}

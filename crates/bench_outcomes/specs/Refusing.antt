@@ -4,9 +4,7 @@ use Rattle.std.specs.declared.option.Option.{Option}
 use Rattle.std.specs.declared.option.Option.TheVariants.{Some, None}
 use Rattle.std.specs.declared.result.Result.{Result}
 use Rattle.std.specs.declared.result.Result.TheVariants.{Ok, Err}
-use Rattle.bench_tasks.specs.Commands.{Command}
-use Rattle.bench_tasks.specs.Loads.{task_of}
-use Rattle.bench_tasks.specs.Tasks.{Task, IsTaskOf}
+use Rattle.bench_tasks.specs.Common.{Command, task_of, Task, IsTaskOf}
 use Rattle.bench_tasks.specs.declared.stop.Stop.{Stop}
 use Rattle.bench_tasks.specs.declared.tasks.Task.TheVariants as code
 use Rattle.bench_outcomes.specs.Conducts.{Conduct, Writes, Tells, Needs, Chooses, conduct_of}

@@ -3,10 +3,8 @@
 -- tree itself is refused.
 -- Stated by: bench_reports. Rests on it: bench_outcomes, bench_top, theorems.
 use Rattle.std.specs.Prelude.{◌≡◌, ◌⊎◌, ℕ, List, length}
-use Rattle.graph_core.specs.Graph.{Graph}
-use Rattle.tree_core.specs.Derivations.{IsDerivation}
-use Rattle.tree_core.specs.Moves.{PlainMove, TurnsThrough}
-use Rattle.tree_core.specs.Shapes.{Shape}
+use Rattle.graph_core.specs.Common.{Graph}
+use Rattle.tree_core.specs.Common.{IsDerivation, PlainMove, TurnsThrough, Shape}
 use Rattle.tree_check.specs.Refusals.{Why, why_number}
 use Rattle.tree_check.specs.Replays.{IsStuckAt, IsRefusedMoveAt}
 use Rattle.tree_text.specs.Writing.{tree_text}

@@ -2,11 +2,8 @@
 -- perfect matching, or a perfect matching that crosses a refused cut.
 -- Stated by no contract. Rests on it: bench_outcomes, bench_top.
 use Rattle.std.specs.Prelude.{◌⊎◌, ℕ, List}
-use Rattle.graph_core.specs.Covered.{IsReason, Unmatched}
-use Rattle.graph_core.specs.Graph.{Graph}
-use Rattle.tree_core.specs.Derivations.{IsDerivation}
-use Rattle.tree_core.specs.Moves.{PlainMove}
-use Rattle.tree_core.specs.Shapes.{Shape}
+use Rattle.graph_core.specs.Common.{IsReason, Unmatched, Graph}
+use Rattle.tree_core.specs.Common.{IsDerivation, PlainMove, Shape}
 use Rattle.tree_check.specs.Refusals.{IsRefused, not_tight}
 use Rattle.tree_check.specs.Replays.{IsRefusedMoveAt}
 

@@ -3,7 +3,7 @@
 -- nothing.
 -- Stated by: bench_top. Rests on it: bench_outcomes, front_top.
 use Rattle.bench_outcomes.specs.Conducts.{Conduct, Writes, Tells, Needs, Chooses, conduct_of}
-use Rattle.bench_tasks.specs.Tasks.{Task}
+use Rattle.bench_tasks.specs.Common.{Task}
 
 -- what a conduct asks for
 abbrev pub NeedOf : Conduct → Type 0

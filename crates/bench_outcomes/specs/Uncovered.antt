@@ -1,9 +1,7 @@
 -- What the commands on matching covered graphs answer on a graph that is not one.
 -- Stated by: bench_reports. Rests on it: bench_outcomes, bench_top, theorems.
 use Rattle.std.specs.Prelude.{◌≡◌, ℕ, List}
-use Rattle.graph_core.specs.Covered.{IsCovered, IsReason}
-use Rattle.graph_core.specs.Graph.{Graph}
-use Rattle.graph_core.specs.Verdicts.{reason_of}
+use Rattle.graph_core.specs.Common.{IsCovered, IsReason, Graph, reason_of}
 use Rattle.graph_core.specs.declared.verdict.Reason.{Reason}
 use Rattle.graph_core.specs.declared.verdict.Verdict.TheVariants.{NotCovered}
 use Rattle.report_text.specs.Reports.{verdict_text}

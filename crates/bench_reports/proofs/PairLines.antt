@@ -1,10 +1,10 @@
 -- The lines of the leaves from a place on: that of the leaf there, and then those from the next
 -- place on.
 use Rattle.std.proofs.Common.{◌≡◌, ◌∙◌, ℕ, zero, suc, ◌+◌, List, [], ◌∷◌, ◌++◌, Some, append_assoc, drop, length, slice_get, refl, ap, sym, arith}
-use Rattle.std.proofs.lemmas.Option.{none-some, same_Some}
-use Rattle.tree_core.specs.LeafMaps.{PlainLeafMap}
+use Rattle.counting.proofs.Common.{none-some, same_Some}
+use Rattle.tree_core.specs.Common.{PlainLeafMap}
 use Rattle.report_text.specs.declared.comparisons.MapLine.{MapLine}
-use Rattle.bench_outcomes.specs.Comparisons.{line_of, lines_of}
+use Rattle.bench_outcomes.specs.Common.{line_of, lines_of}
 
 -- a list from a place on
 drop-at : (i : ℕ) (ps : List (List (List ℕ))) (p : List (List ℕ)) → slice_get ps i ≡ Some p → drop i ps ≡ p ∷ drop (suc i) ps

@@ -1,9 +1,8 @@
 -- What a task gives is a report: it is done or refused; and it is refused only if it may be. Each
 -- is read off how the task is settled.
 use Rattle.std.proofs.Common.{◌≡◌, ◌∙◌, ℕ, List, Result, Ok, Err, IfOk, inl, inr, sym}
-use Rattle.bench_tasks.specs.Tasks.{Task}
-use Rattle.bench_outcomes.specs.Outcome.{IsReported, ResultOf}
-use Rattle.bench_outcomes.specs.Refusing.{TaskMayRefuse}
+use Rattle.bench_tasks.specs.Common.{Task}
+use Rattle.bench_outcomes.specs.Common.{IsReported, ResultOf, TaskMayRefuse}
 use Rattle.bench_outcomes.specs.declared.report.Report.{Report}
 use Rattle.bench_outcomes.specs.declared.status.Status.{Status}
 use Rattle.bench_outcomes.specs.declared.status.Status.TheVariants.{Done, Negative, BadInput}

@@ -3,15 +3,11 @@
 -- since they are proper subsets of the shore and of its complement; and a derivation of a graph
 -- within the limits has few cuts.
 use Rattle.std.proofs.Common.{◌≡◌, ℕ, suc, ◌*◌, ◌<◌, ◌≤◌, Bool, true, false, ◌&&◌, List, [], ◌∷◌, length, Option, Some, None, option_map, if◌then◌else◌, refl, sym, arith}
-use Rattle.std.proofs.lemmas.Option.{none-some}
+use Rattle.counting.proofs.Common.{none-some, and_parts, true≢false}
 use Rattle.std.specs.List.{AllByRecursion}
-use Rattle.std.proofs.lemmas.Bool.{and_parts, true≢false}
 use Rattle.std.proofs.lemmas.Nat.{mul-le}
-use Rattle.graph_core.specs.Graph.{Graph, IsGraph}
-use Rattle.graph_core.specs.Partitions.{complement_of}
-use Rattle.tree_core.specs.Derivations.{IsDerivation}
-use Rattle.tree_core.specs.Moves.{PlainMove, rotate_at, switch_at, TurnsThrough, is_proper, last_step, move_result, parent_path, result_at, rotate_result_at, switch_result_at}
-use Rattle.tree_core.specs.Shapes.{Shape, leaf, cut, Fits, cut_count, node_count}
+use Rattle.graph_core.specs.Common.{Graph, IsGraph, complement_of}
+use Rattle.tree_core.specs.Common.{IsDerivation, PlainMove, rotate_at, switch_at, TurnsThrough, is_proper, last_step, move_result, parent_path, result_at, rotate_result_at, switch_result_at, Shape, leaf, cut, Fits, cut_count, node_count}
 use Rattle.tree_core.specs.declared.path.Side.{Side}
 use Rattle.tree_core.specs.declared.path.Side.TheVariants.{Kept, Merged}
 use Rattle.tree_core.proofs.DerivationStands.{fits-derivation}

@@ -3,18 +3,15 @@
 use Rattle.std.proofs.Common.{◌≡◌, ◌∙◌, ℕ, ◌<◌, ◌^◌, List, [], ◌∷◌, ◌++◌, map, true, length, ap, ap₂, refl, sym, subst, append_assoc}
 use Rattle.std.specs.Prelude.{codes}
 use Rattle.std.specs.Fmt.{decimal}
-use Rattle.line_text.specs.Format.{Stands}
-use Rattle.line_text.specs.Lines.{is_closed}
-use Rattle.line_text.specs.Words.{written, unwords}
+use Rattle.line_text.specs.Common.{Stands, is_closed, written, unwords}
 use Rattle.line_text.proofs.Decimals.{is_word-decimal}
 use Rattle.line_text.proofs.ReadBack.{AreSkipped-written, Stands-comments, is_closed-unlines}
-use Rattle.graph_core.specs.Graph.{Graph}
-use Rattle.tree_core.specs.Moves.{PlainMove}
-use Rattle.tree_core.specs.Shapes.{Shape, leaf_count}
+use Rattle.graph_core.specs.Common.{Graph}
+use Rattle.tree_core.specs.Common.{PlainMove, Shape, leaf_count}
 use Rattle.move_text.specs.MoveFormat.{move_format}
 use Rattle.move_text.specs.Writing.{header_words, move_words, moves_text}
 use Rattle.report_text.specs.Scripts.{script_line, script_report_text}
-use Rattle.bench_outcomes.specs.Comparisons.{IsScript, Scripted}
+use Rattle.bench_outcomes.specs.Common.{IsScript, Scripted}
 use Rattle.bench_outcomes.specs.declared.status.Status.TheVariants.{Done}
 
 -- the words of the comment after a script

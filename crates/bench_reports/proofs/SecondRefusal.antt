@@ -2,11 +2,9 @@
 -- refuses the pair.
 use Rattle.std.proofs.Common.{Option, Result, Ok, Err, IfOk, inl, inr}
 use Rattle.std.specs.declared.option.Option.TheVariants.{Some, None}
-use Rattle.graph_core.specs.Graph.{Graph}
-use Rattle.tree_core.specs.Derivations.{IsDerivation}
-use Rattle.tree_core.specs.Shapes.{Shape}
-use Rattle.bench_outcomes.specs.Checks.{RefusesIfAny}
-use Rattle.bench_outcomes.specs.Comparisons.{RefusesPairIfAny}
+use Rattle.graph_core.specs.Common.{Graph}
+use Rattle.tree_core.specs.Common.{IsDerivation, Shape}
+use Rattle.bench_outcomes.specs.Common.{RefusesIfAny, RefusesPairIfAny}
 use Rattle.bench_outcomes.specs.declared.report.Report.{Report}
 
 second-refusal : (g : Graph) (s t : Shape) (answer : Option Report) → IsDerivation g s → RefusesIfAny g t 2 answer → RefusesPairIfAny g s t answer

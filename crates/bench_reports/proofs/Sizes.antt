@@ -2,20 +2,14 @@
 -- of its rows. Each edge has two ends at different vertices, so the missed vertices and twice the
 -- edges make all vertices.
 use Rattle.std.proofs.Common.{◌≡◌, ◌≤◌, ℕ, ◌+◌, ◌-◌, ◌*◌, length, ◌∙◌, arith}
-use Rattle.std.proofs.lemmas.List.{length-map}
-use Rattle.counting.specs.Counts.{count}
-use Rattle.counting.specs.Sets.{none}
-use Rattle.counting.specs.Lists.{mem}
-use Rattle.counting.proofs.Totals.{total_zero}
-use Rattle.counting.proofs.Counts.{count_complement}
-use Rattle.counting.proofs.Lists.{count_mem_length}
-use Rattle.graph_core.specs.Graph.{Graph, IsGraph, size}
-use Rattle.graph_core.specs.Matchings.{IsMaximum, missed_count}
-use Rattle.graph_core.proofs.Edits.{missed_edges}
+use Rattle.counting.proofs.Common.{length-map, total_zero, count_complement, count_mem_length}
+use Rattle.counting.specs.Common.{count, none, mem}
+use Rattle.graph_core.specs.Common.{Graph, IsGraph, size, IsMaximum, missed_count}
+use Rattle.graph_core.proofs.Common.{missed_edges}
 use Rattle.match_core.specs.MatchingRows.{MatchingValue, KeepsMatching, IsOf, edges_of}
 use Rattle.match_core.specs.declared.matching.MatchRow.{MatchRow}
 use Rattle.match_core.proofs.MatchingEdges.{rows-rise}
-use Rattle.bench_outcomes.specs.Facts.{HasMaximum}
+use Rattle.bench_outcomes.specs.Common.{HasMaximum}
 
 module _ (g : Graph) (is : IsGraph g) (m : MatchingValue) (of : IsOf g m) (keeps : KeepsMatching m) (most : IsMaximum g none (mem (edges_of m))) where
   edge : MatchRow → ℕ

@@ -1,11 +1,9 @@
 //! Whether a tree is a derivation of a graph, as `check` reports it.
 ghost use Rattle.std.specs.Prelude.{◌≡◌, IfOk};
-ghost use Rattle.tree_core.specs.Derivations.{IsDerivation};
-ghost use Rattle.tree_core.specs.Shapes.{Fits};
-ghost use Rattle.tree_core.specs.View.{shape_of};
+ghost use Rattle.tree_core.specs.Common.{IsDerivation, Fits, shape_of};
 ghost use Rattle.tree_check.specs.Judgements.{IsJudgement, why_of};
 ghost use Rattle.tree_check.specs.Refusals.{why_number, IsRefused};
-ghost use Rattle.bench_outcomes.specs.Checks.{AcceptedTree, CheckGives, RefusedTree, RefusesIfAny, shown_of};
+ghost use Rattle.bench_outcomes.specs.Common.{AcceptedTree, CheckGives, RefusedTree, RefusesIfAny, shown_of};
 
 use crate::uncovered::uncovered_report;
 use bench_outcomes::{Report, Status};

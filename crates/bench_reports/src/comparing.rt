@@ -1,11 +1,8 @@
 //! The comparison of two derivations of a graph, as `compare` and `script` report it.
 ghost use Rattle.std.specs.Prelude.{◌≡◌, ◌≤◌, ◌<◌, ◌+◌, ◌^◌, IfOk, length, map};
-ghost use Rattle.tree_core.specs.Derivations.{IsDerivation};
-ghost use Rattle.tree_core.specs.MoveView.{moves_of};
-ghost use Rattle.tree_core.specs.Shapes.{Fits, leaf_count};
-ghost use Rattle.tree_core.specs.View.{shape_of};
+ghost use Rattle.tree_core.specs.Common.{IsDerivation, moves_of, Fits, leaf_count, shape_of};
 ghost use Rattle.uncross.specs.MapView.{map_of, maps_of};
-ghost use Rattle.bench_outcomes.specs.Comparisons.{Compared, CompareGives, RefusesPairIfAny, ScriptGives, Scripted, line_of, lines_of};
+ghost use Rattle.bench_outcomes.specs.Common.{Compared, CompareGives, RefusesPairIfAny, ScriptGives, Scripted, line_of, lines_of};
 
 use crate::checking::refusal_where_covered;
 use crate::uncovered::uncovered_report;

@@ -1,11 +1,10 @@
 //! The decomposition of a graph by tight cuts, as `decompose` reports it.
 ghost use Rattle.std.specs.Prelude.{◌≡◌, ◌<◌, ◌≤◌, IfOk, length};
 ghost use Rattle.graph_text.specs.SoFar.{named_graph};
-ghost use Rattle.tree_core.specs.Derivations.{IsDerivation};
-ghost use Rattle.tree_core.specs.View.{shape_of};
+ghost use Rattle.tree_core.specs.Common.{IsDerivation, shape_of};
 ghost use Rattle.decomposer.specs.Orders.{ScriptPicks};
 ghost use Rattle.decomposer.specs.Picked.{IsPicked};
-ghost use Rattle.bench_outcomes.specs.Outcome.{DecomposeGives, TellsDerivation};
+ghost use Rattle.bench_outcomes.specs.Common.{DecomposeGives, TellsDerivation};
 
 use crate::naming::with_given_names;
 use crate::uncovered::uncovered_report;

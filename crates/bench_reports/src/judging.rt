@@ -1,10 +1,8 @@
 //! What a command makes of its inputs.
 ghost use Rattle.std.specs.Prelude.{◌≡◌, IfOk};
 ghost use Rattle.graph_text.specs.SoFar.{named_graph};
-ghost use Rattle.bench_tasks.specs.Loads.{graph_in, task_of};
-ghost use Rattle.bench_outcomes.specs.Facts.{HasMaximum, IsAnalysis};
-ghost use Rattle.bench_outcomes.specs.Outcome.{Analysed, Converted, Analysed6, IsReported, ResultOf};
-ghost use Rattle.bench_outcomes.specs.Refusing.{TaskMayRefuse};
+ghost use Rattle.bench_tasks.specs.Common.{graph_in, task_of};
+ghost use Rattle.bench_outcomes.specs.Common.{HasMaximum, IsAnalysis, Analysed, Converted, Analysed6, IsReported, ResultOf, TaskMayRefuse};
 
 use crate::checking::check_report;
 use crate::comparing::{compare_report, script_report};

@@ -2,7 +2,7 @@
 ghost use Rattle.std.specs.Prelude.{◌≡◌, IfOk, length, true};
 ghost use Rattle.std.specs.Option.{ForSome};
 ghost use Rattle.report_text.specs.Comments.{IsCommented};
-ghost use Rattle.bench_outcomes.specs.Outcome.{with_given_names, given_or_plain};
+ghost use Rattle.bench_outcomes.specs.Common.{with_given_names, given_or_plain};
 
 use graph_core::MultiGraph;
 use graph_text::{Names, plain_names};

@@ -1,10 +1,9 @@
 //! The structure of a covered graph, as `analyse` reports it.
 ghost use Rattle.std.specs.Prelude.{◌≡◌, IfOk};
 ghost use Rattle.std.specs.Option.{option_map};
-ghost use Rattle.graph_core.specs.Verdicts.{IsVerdict};
-ghost use Rattle.graph_core.specs.View.{pair_of};
+ghost use Rattle.graph_core.specs.Common.{IsVerdict, pair_of};
 ghost use Rattle.separation_kit.specs.Pairs.{pair_of as pair_in};
-ghost use Rattle.bench_outcomes.specs.Facts.{IsStructure, TellsStructure};
+ghost use Rattle.bench_outcomes.specs.Common.{IsStructure, TellsStructure};
 
 use barrier_kit::classes_of;
 use graph_core::{Ends, Verdict};

@@ -1,8 +1,7 @@
 //! The report on a graph that is not matching covered.
 ghost use Rattle.std.specs.Prelude.{IfOk};
-ghost use Rattle.graph_core.specs.Covered.{IsReason};
-ghost use Rattle.graph_core.specs.Verdicts.{reason_of};
-ghost use Rattle.bench_outcomes.specs.Uncovered.{Uncovered};
+ghost use Rattle.graph_core.specs.Common.{IsReason, reason_of};
+ghost use Rattle.bench_outcomes.specs.Common.{Uncovered};
 
 use bench_outcomes::{Report, Status};
 use graph_core::{MultiGraph, Reason, Verdict};

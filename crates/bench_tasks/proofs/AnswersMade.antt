@@ -2,7 +2,7 @@
 -- loaded of the first files is what all files hold that give the first answers, and so on with the
 -- next: nothing is known of the files but what the answers say.
 use Rattle.std.proofs.Common.{◌≡◌, ℕ, ◌+◌, ◌≤◌, List, [], ◌∷◌, ◌++◌, length, take, refl, ap, sym, subst, ◌∙◌, arith, length-append, Result, Ok, Err, IfErr, IsOkAnd, MatchResult}
-use Rattle.std.proofs.lemmas.List.{take_all}
+use Rattle.counting.proofs.Common.{take_all}
 use Rattle.outside.specs.Shelf.{Answer, AnswersInTurn, NamedFile, ReadsInTurn, file_named}
 use Rattle.bench_tasks.specs.Answered.{CountsAs, GathersAnswered, GaveFile, HoldGiven, LoadsAnswered, ReadsOnce, by_place, place_name}
 use Rattle.bench_tasks.specs.Commands.{Command}

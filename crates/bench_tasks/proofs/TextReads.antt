@@ -1,8 +1,7 @@
 -- A reader that names the value that a text stands for, or its first fault, names what comes of
 -- the text line by line.
 use Rattle.std.proofs.Common.{ℕ, List, Result, Ok, Err, IfOk, IfErr}
-use Rattle.line_text.specs.Format.{Rules, Stands}
-use Rattle.line_text.specs.Reading.{reading_of}
+use Rattle.line_text.specs.Common.{Rules, Stands, reading_of}
 use Rattle.line_text.proofs.ExactlyOne.{Stands-reading_of, FirstFault-reading_of}
 use Rattle.text_faults.specs.Readings.{IsFirstFault, ReadsText}
 use Rattle.text_faults.specs.declared.faults.FaultKind.{FaultKind}

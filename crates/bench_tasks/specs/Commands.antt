@@ -6,7 +6,7 @@ use Rattle.std.specs.declared.option.Option.{Option}
 use Rattle.std.specs.declared.option.Option.TheVariants.{Some, None}
 use Rattle.std.specs.Option.{option_map}
 use Rattle.std.specs.Str.{bytes_eq}
-use Rattle.line_text.specs.Numerals.{is_number, value_of}
+use Rattle.line_text.specs.Common.{is_number, value_of}
 use Rattle.decomposer.specs.Orders.{order_named}
 use Rattle.decomposer.specs.declared.orders.NamedOrder.{NamedOrder}
 use Rattle.bench_tasks.specs.declared.verbs.GraphVerb.{GraphVerb}

@@ -7,3 +7,4 @@ pub mod Loading
 pub mod Loads
 pub mod Reads
 pub mod Answered
+pub mod Common

@@ -7,13 +7,10 @@ use Rattle.std.specs.declared.result.Result.{Result}
 use Rattle.std.specs.declared.result.Result.TheVariants.{Ok, Err}
 use Rattle.outside.specs.Faults.{Rose}
 use Rattle.outside.specs.Shelf.{NamedFile}
-use Rattle.graph_core.specs.Graph.{Graph}
+use Rattle.graph_core.specs.Common.{Graph}
 use Rattle.graph_text.specs.EitherVersion.{NamedGraph}
 use Rattle.graph_text.specs.SoFar.{named_graph}
-use Rattle.tree_core.specs.View.{shape_of}
-use Rattle.tree_core.specs.MoveView.{moves_of}
-use Rattle.tree_core.specs.Moves.{PlainMove}
-use Rattle.tree_core.specs.Shapes.{Shape}
+use Rattle.tree_core.specs.Common.{shape_of, moves_of, PlainMove, Shape}
 use Rattle.ear_core.specs.EarLists.{PlainEars}
 use Rattle.ear_core.specs.View.{ears_of}
 use Rattle.bench_tasks.specs.Loading.{Loaded, All, Bad, on_tree, on_picks, on_ears, on_moves, on_trees}

@@ -2,10 +2,9 @@
 -- Stated by: bench_tasks, bench_top, theorems.
 -- Rests on it: bench_outcomes, bench_reports, front_top.
 use Rattle.std.specs.Prelude.{◌≡◌, ℕ, List}
-use Rattle.graph_core.specs.Graph.{Graph}
+use Rattle.graph_core.specs.Common.{Graph}
 use Rattle.graph_text.specs.EitherVersion.{NamedGraph}
-use Rattle.tree_core.specs.Shapes.{Shape}
-use Rattle.tree_core.specs.Moves.{PlainMove}
+use Rattle.tree_core.specs.Common.{Shape, PlainMove}
 use Rattle.ear_core.specs.EarLists.{PlainEars}
 use Rattle.bench_tasks.specs.Commands.{Command}
 use Rattle.bench_tasks.specs.Commands as command

@@ -1,16 +1,13 @@
 //! The formats of the files that commands name.
 ghost use Rattle.std.specs.Prelude.{◌<◌, ◌≤◌, ◌-◌, ◌^◌, ℕ, List, length, Result, IfOk};
-ghost use Rattle.line_text.specs.Reading.{reading_of};
+ghost use Rattle.line_text.specs.Common.{reading_of};
 ghost use Rattle.text_faults.specs.Readings.{ReadsText};
-ghost use Rattle.graph_core.specs.Graph.{Graph, size};
+ghost use Rattle.graph_core.specs.Common.{Graph, size};
 ghost use Rattle.text_faults.specs.declared.faults.FaultKind.{FaultKind};
 ghost use Rattle.graph_text.specs.EitherVersion.{NamedGraph, either_version};
 ghost use Rattle.graph_text.specs.SoFar.{named_graph};
 ghost use Rattle.graph6_text.specs.Reading.{outcome_of};
-ghost use Rattle.tree_core.specs.Shapes.{Fits, Shape};
-ghost use Rattle.tree_core.specs.View.{shape_of};
-ghost use Rattle.tree_core.specs.Moves.{PlainMove};
-ghost use Rattle.tree_core.specs.MoveView.{moves_of};
+ghost use Rattle.tree_core.specs.Common.{Fits, Shape, shape_of, PlainMove, moves_of};
 ghost use Rattle.tree_text.specs.PickFormat.{pick_format};
 ghost use Rattle.tree_text.specs.TreeFormat.{tree_format};
 ghost use Rattle.move_text.specs.MoveFormat.{most_moves, move_format};

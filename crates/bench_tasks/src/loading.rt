@@ -2,13 +2,11 @@
 //! any format, and one more each set of files that commands name.
 ghost use Rattle.std.specs.Prelude.{◌≡◌, ◌≤◌, [], ◌∷◌, IfOk, IfErr, length};
 ghost use Rattle.outside.specs.Shelf.{file_named};
-ghost use Rattle.tree_core.specs.Shapes.{Fits};
-ghost use Rattle.tree_core.specs.View.{shape_of};
-ghost use Rattle.tree_core.specs.MoveView.{moves_of};
+ghost use Rattle.tree_core.specs.Common.{Fits, shape_of, moves_of};
 ghost use Rattle.move_text.specs.MoveFormat.{most_moves};
 ghost use Rattle.ear_core.specs.EarLists.{FitsEars};
 ghost use Rattle.ear_core.specs.View.{ears_of};
-ghost use Rattle.graph_core.specs.Graph.{size};
+ghost use Rattle.graph_core.specs.Common.{size};
 ghost use Rattle.bench_tasks.specs.Answered.{LoadsAnswered, ReadsOnce, place_name};
 ghost use Rattle.bench_tasks.specs.Loading.{ear_file, ears_given, file_read, move_file, moves_given, picks_given, tree_file, tree_given, trees_given};
 ghost use Rattle.bench_tasks.specs.Loads.{Loads, given_ears, given_moves, given_picks, given_tree, given_trees};

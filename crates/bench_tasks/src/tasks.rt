@@ -1,9 +1,7 @@
 //! What a command works on.
 ghost use Rattle.std.specs.Prelude.{◌≤◌, length};
-ghost use Rattle.graph_core.specs.Graph.{size};
-ghost use Rattle.graph_core.specs.Simple.{IsSimple};
-ghost use Rattle.tree_core.specs.Shapes.{Fits};
-ghost use Rattle.tree_core.specs.View.{shape_of};
+ghost use Rattle.graph_core.specs.Common.{size, IsSimple};
+ghost use Rattle.tree_core.specs.Common.{Fits, shape_of};
 ghost use Rattle.move_text.specs.MoveFormat.{most_moves};
 ghost use Rattle.ear_core.specs.EarLists.{FitsEars};
 ghost use Rattle.ear_core.specs.View.{ears_of};

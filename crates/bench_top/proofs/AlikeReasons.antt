@@ -1,9 +1,7 @@
 -- Two reasons why a graph is not covered have the same line, but for the Berge set.
 use Rattle.std.proofs.Common.{◌≡◌, ℕ, List, ◌++◌, inl, refl, ap, subst}
 use Rattle.std.specs.Prelude.{codes}
-use Rattle.graph_core.specs.Covered.{IsReason}
-use Rattle.graph_core.specs.Graph.{Graph}
-use Rattle.graph_core.specs.Verdicts.{reason_of}
+use Rattle.graph_core.specs.Common.{IsReason, Graph, reason_of}
 use Rattle.graph_core.specs.declared.verdict.Reason.{Reason}
 use Rattle.graph_core.specs.declared.verdict.Reason.TheVariants.{Small, Parted, Unmatched, Unallowed}
 use Rattle.graph_core.specs.declared.verdict.Verdict.TheVariants.{NotCovered}
@@ -11,8 +9,7 @@ use Rattle.definition_laws.proofs.Reasons.{reason-one}
 use Rattle.definition_laws.specs.Words.{without_berge}
 use Rattle.report_text.specs.Reports.{numbers_text, verdict_text}
 use Rattle.bench_top.specs.Fixed.{DifferAtMostIn}
-use Rattle.bench_outcomes.specs.Shown.{MayBeBerge}
-use Rattle.bench_outcomes.specs.Uncovered.{Uncovered}
+use Rattle.bench_outcomes.specs.Common.{MayBeBerge, Uncovered}
 use Rattle.bench_outcomes.specs.declared.status.Status.{Status}
 use Rattle.bench_top.proofs.AlikeTexts.{alike-along, alike-before, alike-behind, alike-lists}
 

@@ -2,11 +2,9 @@
 -- node that breaks a rule is one, and so is the rule, and the first step or move that fails.
 use Rattle.std.proofs.Common.{◌≡◌, ◌∙◌, ℕ, List, ◌++◌, inl, inr, refl, sym, ap, ap₂, subst, arith}
 use Rattle.std.specs.Prelude.{codes}
-use Rattle.counting.specs.Sets.{singleton}
-use Rattle.graph_core.specs.Graph.{Graph, IsGraph}
-use Rattle.tree_core.specs.Derivations.{IsDerivation}
-use Rattle.tree_core.specs.Moves.{PlainMove}
-use Rattle.tree_core.specs.Shapes.{Shape}
+use Rattle.counting.specs.Common.{singleton}
+use Rattle.graph_core.specs.Common.{Graph, IsGraph}
+use Rattle.tree_core.specs.Common.{IsDerivation, PlainMove, Shape}
 use Rattle.tree_check.proofs.FirstRefusals.{refused-not_derived, refused-once}
 use Rattle.tree_check.proofs.ReplayAnswers.{refused-exactly, refused_move-once, stuck-exactly}
 use Rattle.tree_check.specs.Refusals.{IsRefused, Why, even, not_blocks, not_leaf, not_tight, trivial, why_number, without_matching}
@@ -19,14 +17,9 @@ use Rattle.report_text.specs.Judgements.{ear_judgement_text, judgement_text, num
 use Rattle.report_text.specs.Reports.{numbers_text}
 use Rattle.report_text.specs.Scripts.{refused_move_text, stuck_text}
 use Rattle.report_text.specs.declared.ear_judgements.EarLine.TheVariants as ear_line
-use Rattle.bench_outcomes.specs.Checks.{CheckGives, RefusedTree, Refuses, shown_of}
-use Rattle.bench_outcomes.specs.Comparisons.{CompareGives, RefusesPair, ScriptGives}
-use Rattle.bench_outcomes.specs.EarChecks.{EarCheckGives, EarsGives, RefusedEars, named_edge}
+use Rattle.bench_outcomes.specs.Common.{CheckGives, RefusedTree, Refuses, shown_of, CompareGives, RefusesPair, ScriptGives, EarCheckGives, EarsGives, RefusedEars, named_edge, MayBeBerge, MayCross, MayCrossBehind, MayShowOfMoves, MayShowOfTree, MayShowOfTwo, DecomposeGives, MovesGive, RefusedMove, ReplayGives, StuckMove}
 use Rattle.bench_outcomes.specs.EarChecks as ears
 use Rattle.bench_top.specs.Fixed.{DifferAtMostIn}
-use Rattle.bench_outcomes.specs.Shown.{MayBeBerge, MayCross, MayCrossBehind, MayShowOfMoves, MayShowOfTree, MayShowOfTwo}
-use Rattle.bench_outcomes.specs.Outcome.{DecomposeGives}
-use Rattle.bench_outcomes.specs.Replays.{MovesGive, RefusedMove, ReplayGives, StuckMove}
 use Rattle.bench_outcomes.specs.declared.status.Status.TheVariants.{Negative}
 use Rattle.graph_text.specs.EitherVersion.{NamedGraph}
 use Rattle.tight_cuts.specs.Candidates.{Candidate}

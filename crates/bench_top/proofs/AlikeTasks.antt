@@ -2,7 +2,7 @@
 -- refused one, as far as its conduct promises; the rest goes by the conduct alone.
 use Rattle.std.proofs.Common.{◌≡◌, ◌∙◌, ℕ, List, inl, inr, sym, subst}
 use Rattle.decomposer.specs.Orders.{NamedPicks, ScriptPicks}
-use Rattle.bench_tasks.specs.Tasks.{Task}
+use Rattle.bench_tasks.specs.Common.{Task}
 use Rattle.bench_tasks.specs.Tasks as task
 use Rattle.bench_tasks.specs.declared.verbs.GraphVerb.TheVariants.{Analyse, Convert, Decompose, Ears}
 use Rattle.bench_tasks.specs.declared.verbs.SimpleGraphVerb.TheVariants.{Analyse6}
@@ -12,9 +12,7 @@ use Rattle.bench_tasks.specs.declared.verbs.EarsVerb.TheVariants.{CheckEars}
 use Rattle.bench_tasks.specs.declared.verbs.MovesVerb.TheVariants.{Replay}
 use Rattle.bench_tasks.specs.declared.verbs.TreesVerb.TheVariants.{Compare, Script}
 use Rattle.bench_tasks.specs.declared.verbs.NumbersVerb.TheVariants.{Grow}
-use Rattle.bench_outcomes.specs.Conducts.{Conduct, Writes, Tells, Needs, Chooses, conduct_of}
-use Rattle.bench_outcomes.specs.Outcome.{ResultOf}
-use Rattle.bench_outcomes.specs.Refusing.{RefusesBy, TaskMayRefuse}
+use Rattle.bench_outcomes.specs.Common.{Conduct, Writes, Tells, Needs, Chooses, conduct_of, ResultOf, RefusesBy, TaskMayRefuse}
 use Rattle.bench_outcomes.specs.declared.status.Status.{Status}
 use Rattle.bench_outcomes.specs.declared.status.Status.TheVariants.{Done, Negative}
 use Rattle.bench_outcomes.proofs.Settled.{IsSettledTask, KeepsGraph, settled, task-settled}

@@ -2,11 +2,8 @@
 -- it is BadInput.
 use Rattle.std.proofs.Common.{◌≡◌, ◌∙◌, ◌↔◌, ℕ, List, Option, Some, None, ◌⊎◌, inl, inr, refl, sym, subst}
 use Rattle.outside.specs.Shelf.{NamedFile}
-use Rattle.bench_tasks.specs.Commands.{Command, command_of}
-use Rattle.bench_tasks.specs.Loading.{Loaded, All, Bad, Absent, loaded}
-use Rattle.bench_outcomes.specs.Outcome.{CommandGives, IsReported, LoadedGives, Outcome}
-use Rattle.bench_outcomes.specs.Success.{Succeeds}
-use Rattle.bench_tasks.specs.Tasks.{Task}
+use Rattle.bench_tasks.specs.Common.{Command, command_of, Loaded, All, Bad, Absent, loaded, Task}
+use Rattle.bench_outcomes.specs.Common.{CommandGives, IsReported, LoadedGives, Outcome, Succeeds}
 use Rattle.bench_outcomes.specs.declared.status.Status.{Status}
 use Rattle.bench_outcomes.specs.declared.status.Status.TheVariants.{Done, Negative, Usage, ReadFault, BadInput, WriteFault, Memory}
 use Rattle.bench_top.proofs.LoadedGraphs.{Holds, loaded-graph}

@@ -4,11 +4,11 @@
 use Rattle.std.proofs.Common.{◌≡◌, ◌∙◌, ℕ, ◌≤◌, List, [], ◌∷◌, length, Some, refl, sym, subst}
 use Rattle.std.specs.Prelude.{codes}
 use Rattle.outside.specs.Shelf.{NamedFile, file_named}
-use Rattle.line_text.specs.Reading.{reading_of}
+use Rattle.line_text.specs.Common.{reading_of}
 use Rattle.line_text.proofs.ExactlyOne.{Stands-reading_of}
 use Rattle.graph_text.specs.EitherVersion.{NamedGraph, either_version}
-use Rattle.bench_tasks.specs.Loading.{Loaded, All, Bad, Absent, loaded_as, graph_file, most_bytes}
-use Rattle.bench_outcomes.specs.Outcome.{LoadedGives, Outcome, Converted, given_or_plain}
+use Rattle.bench_tasks.specs.Common.{Loaded, All, Bad, Absent, loaded_as, graph_file, most_bytes}
+use Rattle.bench_outcomes.specs.Common.{LoadedGives, Outcome, Converted, given_or_plain}
 use Rattle.bench_tasks.specs.Tasks as task
 use Rattle.bench_tasks.specs.declared.verbs.GraphVerb.TheVariants.{Convert}
 use Rattle.bench_outcomes.specs.declared.status.Status.{Status}

@@ -1,9 +1,9 @@
 -- What is read of a file that is held and within the limit of bytes is what its text is read as.
 -- Each lemma looks the file up, leaves the test of its length after, and computes.
 use Rattle.std.proofs.Common.{◌≡◌, ℕ, ◌≤◌, List, length, Ok, Result, false, ap, ◌∙◌, arith, Some, Option, Bool, cond, nat_lt}
-use Rattle.std.proofs.lemmas.Bool.Decides.{nat_tests}
+use Rattle.counting.proofs.Common.{nat_tests}
 use Rattle.text_faults.specs.declared.faults.FaultKind.{FaultKind}
-use Rattle.bench_tasks.specs.Loading.{Loaded, All, Bad, file_read, from_reading}
+use Rattle.bench_tasks.specs.Common.{Loaded, All, Bad, file_read, from_reading}
 
 -- within the limit of bytes the text is read
 file_read-within : {A : Type 0} (place : ℕ) (reading : List ℕ → Result A (ℕ × FaultKind)) (file : Option (List ℕ)) (bytes : List ℕ) → file ≡ Some bytes → length bytes ≤ 1048576 → file_read place reading file ≡ from_reading place (reading bytes)

@@ -2,19 +2,16 @@
 -- by its place. They hold what was answered at each place, since places differ.
 use Rattle.std.proofs.Common.{◌≡◌, ◌∙◌, ◌<◌, ℕ, suc, ◌+◌, List, [], ◌∷◌, length, refl, ap, sym, subst, arith, Result, Ok, Err, replicate, true, false, Bool, cond, nat_eq}
 use Rattle.std.proofs.lemmas.List.{length-replicate}
-use Rattle.std.proofs.lemmas.Bool.Decides.{nat_tests}
+use Rattle.counting.proofs.Common.{nat_tests}
 use Rattle.std.specs.declared.option.Option.{Option}
 use Rattle.std.specs.declared.option.Option.TheVariants.{Some}
 use Rattle.std.specs.Str.{bytes_eq}
 use Rattle.outside.specs.Shelf.{Answer, NamedFile, file_named}
 use Rattle.outside.specs.declared.shelf.ShelfFault.TheVariants.{Failed, TooLong, Memory}
-use Rattle.bench_tasks.specs.Answered.{GathersAnswered, GaveFile, HoldGiven, by_place, place_name}
-use Rattle.bench_tasks.specs.Commands.{Command}
-use Rattle.bench_tasks.specs.Loading.{loaded, most_bytes}
-use Rattle.bench_tasks.specs.Loads.{Held, LoadsAs, task_of}
+use Rattle.bench_tasks.specs.Common.{GathersAnswered, GaveFile, HoldGiven, by_place, place_name, Command, loaded, most_bytes, Held, LoadsAs, task_of}
 use Rattle.bench_tasks.specs.declared.stop.Stop.{Stop}
 use Rattle.bench_tasks.specs.declared.tasks.Task.TheVariants as code
-use Rattle.bench_outcomes.specs.Outcome.{LoadedGives}
+use Rattle.bench_outcomes.specs.Common.{LoadedGives}
 use Rattle.bench_outcomes.specs.declared.status.Status.{Status}
 use Rattle.bench_top.specs.Given.{AreGiven, BeginsWith, GivenOutcome}
 use Rattle.bench_top.specs.Writes.{WritesAs}

@@ -2,10 +2,8 @@
 -- refusal leaves free is one list of numbers.
 use Rattle.std.proofs.Common.{◌≡◌, ◌∙◌, ℕ, List, Option, Some, None, inl, inr, sym, subst}
 use Rattle.outside.specs.Shelf.{NamedFile}
-use Rattle.bench_tasks.specs.Commands.{Command, command_of}
-use Rattle.bench_tasks.specs.Loading.{Loaded, All, Bad, Absent, loaded}
-use Rattle.bench_tasks.specs.Tasks.{Task}
-use Rattle.bench_outcomes.specs.Outcome.{CommandGives, LoadedGives, Outcome, ResultOf}
+use Rattle.bench_tasks.specs.Common.{Command, command_of, Loaded, All, Bad, Absent, loaded, Task}
+use Rattle.bench_outcomes.specs.Common.{CommandGives, LoadedGives, Outcome, ResultOf}
 use Rattle.bench_outcomes.specs.declared.status.Status.{Status}
 use Rattle.bench_outcomes.specs.declared.status.Status.TheVariants.{Done, Negative, BadInput}
 use Rattle.bench_outcomes.proofs.Settled.{KeepsGraph, settled}

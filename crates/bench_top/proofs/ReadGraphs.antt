@@ -6,17 +6,12 @@ use Rattle.std.specs.Prelude.{codes, slice_index_or}
 use Rattle.std.specs.List.{AllByRecursion, list_any, position_or_len}
 use Rattle.std.specs.Result.{result_map_both}
 use Rattle.std.specs.Str.{bytes_eq}
-use Rattle.std.proofs.lemmas.Bool.{and_parts, both_ways, eqb-false, ltb-false, ltb-true, or_parts, true≢false, not-false}
-use Rattle.std.proofs.lemmas.Bool.Decides.{nat_tests}
-use Rattle.std.proofs.lemmas.Slice.Eq.{bytes_eq-Decides}
-use Rattle.counting.specs.Counts.{Within}
-use Rattle.graph_core.specs.Graph.{Graph, HasNoLoop, IsGraph, IsMultigraph, size}
+use Rattle.std.proofs.lemmas.Bool.{eqb-false, ltb-false, ltb-true}
+use Rattle.counting.proofs.Common.{and_parts, both_ways, or_parts, true≢false, not-false, nat_tests, bytes_eq-Decides}
+use Rattle.counting.specs.Common.{Within}
+use Rattle.graph_core.specs.Common.{Graph, HasNoLoop, IsGraph, IsMultigraph, size}
 use Rattle.text_faults.specs.declared.faults.FaultKind.TheVariants as kind
-use Rattle.line_text.specs.Format.{checked, finish, step}
-use Rattle.line_text.specs.Numerals.{is_number, value_of}
-use Rattle.line_text.specs.Reading.{go_on, reading_from, reading_of}
-use Rattle.line_text.specs.Words.{SignificantLine, has_form, significant_lines_of, word_at}
-use Rattle.line_text.specs.Lines.{lines_of}
+use Rattle.line_text.specs.Common.{checked, finish, step, is_number, value_of, go_on, reading_from, reading_of, SignificantLine, has_form, significant_lines_of, word_at, lines_of}
 use Rattle.text_faults.specs.Ranges.{is_out_of_range}
 use Rattle.text_faults.proofs.InRange.{in_range}
 use Rattle.graph_text.specs.EitherVersion.{EitherSoFar, NamedGraph, either_header, either_version, end_behind, is_named_header, is_over, is_plain_header, line_behind, named_edge_line, vertex_line}

@@ -1,10 +1,9 @@
 -- What was read by the time that loading ends is the first few names; and where a read failed
 -- over a steady shelf, its file is not held.
 use Rattle.std.proofs.Common.{◌≡◌, ℕ, List, Bool, IsTrue, Ok, Err, Result, length, sym, subst, arith}
-use Rattle.std.proofs.lemmas.List.{take_all}
+use Rattle.counting.proofs.Common.{take_all}
 use Rattle.outside.specs.Shelf.{Answer, ReadsInTurn, ReadsFirst}
-use Rattle.bench_tasks.specs.Loading.{Loaded, Absent}
-use Rattle.bench_tasks.specs.Reads.{FailsAs, IsReadFault, ReadsAs}
+use Rattle.bench_tasks.specs.Common.{Loaded, Absent, FailsAs, IsReadFault, ReadsAs}
 use Rattle.bench_tasks.specs.declared.stop.Stop.{Stop}
 use Rattle.bench_tasks.specs.declared.stop.Stop.TheVariants.{ReadFault, Bad, Memory}
 

@@ -3,9 +3,7 @@
 use Rattle.std.proofs.Common.{◌≡◌, ◌∙◌, ℕ, List, Bool, Option, Ok, Err, Result, refl, ap}
 use Rattle.outside.specs.Shelf.{Answer}
 use Rattle.outside.specs.Sink.{appended}
-use Rattle.bench_tasks.specs.Loading.{Loaded}
-use Rattle.bench_tasks.specs.Loads.{LoadsAs}
-use Rattle.bench_tasks.specs.Reads.{FailsAs, IsReadFault, ReadsAs}
+use Rattle.bench_tasks.specs.Common.{Loaded, LoadsAs, FailsAs, IsReadFault, ReadsAs}
 use Rattle.bench_tasks.specs.declared.stop.Stop.{Stop}
 use Rattle.bench_tasks.specs.declared.stop.Stop.TheVariants.{ReadFault, Bad, Memory}
 use Rattle.bench_top.specs.Endings.{IsStopOf, ReportedBad, ReportsBad, StopsAfter, Unread, stop_in}

@@ -5,21 +5,16 @@ use Rattle.std.proofs.Common.{◌≡◌, ℕ, ◌<◌, ◌≤◌, ◌^◌, List,
 use Rattle.std.specs.Prelude.{codes}
 use Rattle.std.specs.Fmt.{decimal}
 use Rattle.std.proofs.lemmas.List.Sums.{count_by-le-length}
-use Rattle.line_text.specs.Format.{Stands}
-use Rattle.line_text.specs.Lines.{is_closed}
-use Rattle.line_text.specs.Words.{is_word, unwords}
+use Rattle.line_text.specs.Common.{Stands, is_closed, is_word, unwords}
 use Rattle.line_text.proofs.Decimals.{is_word-decimal}
 use Rattle.line_text.proofs.ReadBack.{is_closed-unlines}
-use Rattle.graph_core.specs.Graph.{Graph, IsGraph, size}
-use Rattle.graph_core.specs.Partitions.{singles}
+use Rattle.graph_core.specs.Common.{Graph, IsGraph, size, singles}
 use Rattle.graph_text.specs.EitherVersion.{either_version}
 use Rattle.graph_text.specs.VersionOne.{FitsVersionOne, version_one}
 use Rattle.graph_text.specs.Writing.{graph_text, graph_words}
 use Rattle.graph_text.proofs.VersionOneReadBack.{Stands-graph_text}
 use Rattle.graph_text.proofs.Versions.{Stands-either}
-use Rattle.tree_core.specs.Derivations.{IsDerivation, IsDerivationAt, kept_at, merged_at}
-use Rattle.tree_core.specs.Leaves.{leaves}
-use Rattle.tree_core.specs.Shapes.{Shape, leaf, cut}
+use Rattle.tree_core.specs.Common.{IsDerivation, IsDerivationAt, kept_at, merged_at, leaves, Shape, leaf, cut, IsTally, is_brick}
 use Rattle.tree_core.proofs.DerivationStands.{fits-derivation, stands-derivation}
 use Rattle.tree_core.proofs.Sizes.{leaf_count-cuts, length-leaves_at, node_count-cuts}
 use Rattle.tree_text.specs.TreeFormat.{tree_format}
@@ -34,10 +29,9 @@ use Rattle.report_text.specs.Comments.{IsCommented}
 use Rattle.report_text.specs.EarReports.{ears_report_text, steps_line}
 use Rattle.report_text.specs.Growths.{grown_text, growth_lines, order_line, pairs_line}
 use Rattle.report_text.specs.Scripts.{moves_line, replayed_text}
-use Rattle.tree_core.specs.Tallies.{IsTally, is_brick}
 use Rattle.tree_core.specs.declared.tallies.Tally.{Tally}
 use Rattle.report_text.proofs.Comments.{commented-both, commented-line, commented-tail, stands-commented}
-use Rattle.bench_outcomes.specs.EarChecks.{double_count, is_single, single_count}
+use Rattle.bench_outcomes.specs.Common.{double_count, is_single, single_count}
 use Rattle.tree_core.proofs.FewLeaves.{few-nodes}
 use Rattle.bench_outcomes.proofs.DerivationTexts.{closed-tree_text, has-vertices}
 use Rattle.bench_outcomes.proofs.EarSteps.{few-steps}

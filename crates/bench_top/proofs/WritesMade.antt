@@ -2,7 +2,7 @@
 use Rattle.std.proofs.Common.{◌≡◌, ◌⊎◌, inl, inr, ℕ, List, refl, sym, subst}
 use Rattle.std.specs.declared.option.Option.{Option}
 use Rattle.outside.specs.Sink.{IsWritten, appended}
-use Rattle.bench_outcomes.specs.Outcome.{IsReported}
+use Rattle.bench_outcomes.specs.Common.{IsReported}
 use Rattle.bench_outcomes.specs.declared.status.Status.{Status}
 use Rattle.bench_outcomes.specs.declared.status.Status.TheVariants.{Done, Negative, Usage, ReadFault, BadInput, WriteFault, Memory}
 use Rattle.bench_top.specs.Writes.{WritesAs}

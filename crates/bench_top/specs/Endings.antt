@@ -9,7 +9,7 @@ use Rattle.std.specs.declared.result.Result.TheVariants.{Ok, Err}
 use Rattle.outside.specs.Shelf.{Answer, ReadsInTurn}
 use Rattle.outside.specs.Sink.{appended}
 use Rattle.report_text.specs.Reports.{bad_input_text}
-use Rattle.bench_tasks.specs.Loading.{Loaded, Bad, Absent}
+use Rattle.bench_tasks.specs.Common.{Loaded, Bad, Absent}
 use Rattle.bench_tasks.specs.declared.stop.Stop.{Stop}
 use Rattle.bench_tasks.specs.declared.stop.Stop.TheVariants as stop
 

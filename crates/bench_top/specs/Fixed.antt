@@ -5,8 +5,8 @@
 -- Stated by: bench_top.
 use Rattle.std.specs.Prelude.{◌≡◌, ◌⊎◌, ◌++◌, ℕ, List}
 use Rattle.report_text.specs.Reports.{numbers_text}
-use Rattle.bench_outcomes.specs.Conducts.{Conduct, Writes, Tells, Needs, Chooses, conduct_of}
-use Rattle.bench_tasks.specs.Tasks.{Task}
+use Rattle.bench_outcomes.specs.Common.{Conduct, Writes, Tells, Needs, Chooses, conduct_of}
+use Rattle.bench_tasks.specs.Common.{Task}
 
 -- the numbers that a report may show by a conduct
 abbrev pub ShownBy : Conduct → List ℕ → Type 0

@@ -7,11 +7,8 @@ use Rattle.std.specs.declared.result.Result.TheVariants.{Ok, Err}
 use Rattle.std.specs.Option.{option_map}
 use Rattle.outside.specs.Shelf.{Answer, AnswersInTurn, NamedFile}
 use Rattle.outside.specs.declared.shelf.ShelfFault.TheVariants.{Failed, TooLong, Memory}
-use Rattle.bench_tasks.specs.Answered.{by_place, place_name}
-use Rattle.bench_tasks.specs.Commands.{Command}
-use Rattle.bench_tasks.specs.Loading.{most_bytes}
-use Rattle.bench_tasks.specs.Reads.{names_in}
-use Rattle.bench_outcomes.specs.Outcome.{CommandGives}
+use Rattle.bench_tasks.specs.Common.{by_place, place_name, Command, most_bytes, names_in}
+use Rattle.bench_outcomes.specs.Common.{CommandGives}
 use Rattle.bench_outcomes.specs.declared.status.Status.{Status}
 use Rattle.bench_top.specs.Writes.{WritesAs}
 

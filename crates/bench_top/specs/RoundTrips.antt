@@ -4,16 +4,12 @@
 use Rattle.std.specs.Prelude.{◌≡◌, List, [], ◌∷◌, ℕ, Some, codes, length}
 use Rattle.outside.specs.Shelf.{NamedFile}
 use Rattle.graph_text.specs.EitherVersion.{NamedGraph}
-use Rattle.tree_core.specs.Moves.{PlainMove}
-use Rattle.tree_core.specs.Shapes.{Shape, leaf_count}
+use Rattle.tree_core.specs.Common.{PlainMove, Shape, leaf_count}
 use Rattle.tree_text.specs.Writing.{tree_text}
 use Rattle.move_text.specs.Writing.{moves_text}
 use Rattle.report_text.specs.Scripts.{replayed_text, script_report_text}
-use Rattle.bench_tasks.specs.Commands.{Command, command_of}
-use Rattle.bench_tasks.specs.Loading.{All, loaded, trees_given}
-use Rattle.bench_outcomes.specs.Outcome.{Outcome}
-use Rattle.bench_outcomes.specs.Success.{Succeeds}
-use Rattle.bench_tasks.specs.Tasks.{Task}
+use Rattle.bench_tasks.specs.Common.{Command, command_of, All, loaded, trees_given, Task}
+use Rattle.bench_outcomes.specs.Common.{Outcome, Succeeds}
 use Rattle.bench_outcomes.specs.declared.status.Status.{Status}
 use Rattle.bench_outcomes.specs.declared.status.Status.TheVariants.{Done}
 

@@ -3,14 +3,8 @@
 ghost use Rattle.std.specs.Prelude.{◌≡◌, ◌⊎◌, ◌↔◌, ℕ, List, [], map, string_bytes, Some, None};
 ghost use Rattle.outside.specs.MemShelf.{IsRead};
 ghost use Rattle.outside.specs.Shelf.{ReadsFirst, ReadsInTurn};
-ghost use Rattle.bench_tasks.specs.Commands.{Command, command_of};
-ghost use Rattle.bench_tasks.specs.Loading.{All, Bad, Absent, loaded};
-ghost use Rattle.bench_outcomes.specs.Outcome.{IsReported, IsSettled, Outcome};
-ghost use Rattle.bench_outcomes.specs.Refusing.{MayRefuse};
-ghost use Rattle.bench_tasks.specs.Files.{file_names};
-ghost use Rattle.bench_tasks.specs.Reads.{names_in, names_until};
-ghost use Rattle.bench_outcomes.specs.Success.{Succeeds};
-ghost use Rattle.bench_tasks.specs.Tasks.{Task};
+ghost use Rattle.bench_tasks.specs.Common.{Command, command_of, All, Bad, Absent, loaded, file_names, names_in, names_until, Task};
+ghost use Rattle.bench_outcomes.specs.Common.{IsReported, IsSettled, Outcome, MayRefuse, Succeeds};
 
 use crate::running::run;
 use bench_outcomes::Status;

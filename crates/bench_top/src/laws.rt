@@ -1,12 +1,9 @@
 //! Laws of what the commands give.
 ghost use Rattle.std.specs.Prelude.{◌≡◌, ◌↔◌, ℕ, List, Some};
 ghost use Rattle.outside.specs.Shelf.{NamedFile};
-ghost use Rattle.bench_tasks.specs.Commands.{Command, command_of};
+ghost use Rattle.bench_tasks.specs.Common.{Command, command_of, All, loaded, Task};
 ghost use Rattle.bench_top.specs.Fixed.{DifferAtMostIn, HasChosenText, HasOneOutput, MayShow, ShowsNothingFree};
-ghost use Rattle.bench_tasks.specs.Loading.{All, loaded};
-ghost use Rattle.bench_outcomes.specs.Outcome.{Outcome};
-ghost use Rattle.bench_outcomes.specs.Success.{Succeeds};
-ghost use Rattle.bench_tasks.specs.Tasks.{Task};
+ghost use Rattle.bench_outcomes.specs.Common.{Outcome, Succeeds};
 ghost use Rattle.bench_outcomes.specs.declared.status.Status.{Status};
 ghost use Rattle.bench_outcomes.specs.declared.status.Status.TheVariants.{BadInput, Done, Negative};
 

@@ -6,13 +6,8 @@ ghost use Rattle.bench_top.specs.Calm.{HasRead};
 ghost use Rattle.bench_top.specs.Endings.{IsStopOf, ReportedBad, ReportsBad, StopsAfter, Unread, stop_in};
 ghost use Rattle.bench_top.specs.Given.{GivenOutcome};
 ghost use Rattle.bench_top.specs.Writes.{GivesTold, WritesAs};
-ghost use Rattle.bench_tasks.specs.Asked.{asked};
-ghost use Rattle.bench_tasks.specs.Loading.{Absent, loaded};
-ghost use Rattle.bench_tasks.specs.Loads.{LoadsAs, task_of, Held};
-ghost use Rattle.bench_tasks.specs.Files.{file_names};
-ghost use Rattle.bench_tasks.specs.Reads.{IsRead, IsReadFault, names_until};
-ghost use Rattle.bench_outcomes.specs.Outcome.{LoadedGives, Appended, CutShort, IsReported, IsSettled};
-ghost use Rattle.bench_outcomes.specs.Refusing.{MayRefuse, GatheredMayRefuse};
+ghost use Rattle.bench_tasks.specs.Common.{asked, Absent, loaded, LoadsAs, task_of, Held, file_names, IsRead, IsReadFault, names_until};
+ghost use Rattle.bench_outcomes.specs.Common.{LoadedGives, Appended, CutShort, IsReported, IsSettled, MayRefuse, GatheredMayRefuse};
 
 use crate::ending::RunEnding;
 use bench_outcomes::{Report, Status};

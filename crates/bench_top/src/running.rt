@@ -2,14 +2,8 @@
 ghost use Rattle.std.specs.Prelude.{◌≡◌, ◌⊎◌, ◌↔◌, ℕ, List, map, string_bytes, IsTrue, Some, None};
 ghost use Rattle.outside.specs.Faults.{Rose};
 ghost use Rattle.outside.specs.Shelf.{NamedFile, ReadsFirst, ReadsInTurn};
-ghost use Rattle.bench_tasks.specs.Commands.{Command, command_of};
-ghost use Rattle.bench_tasks.specs.Tasks.{Task};
-ghost use Rattle.bench_tasks.specs.Loading.{All, Bad, Absent, loaded};
-ghost use Rattle.bench_outcomes.specs.Outcome.{Outcome, Appended, CutShort, IsReported, IsSettled};
-ghost use Rattle.bench_outcomes.specs.Refusing.{MayRefuse};
-ghost use Rattle.bench_tasks.specs.Files.{file_names};
-ghost use Rattle.bench_tasks.specs.Reads.{names_in, names_until};
-ghost use Rattle.bench_outcomes.specs.Success.{Succeeds};
+ghost use Rattle.bench_tasks.specs.Common.{Command, command_of, Task, All, Bad, Absent, loaded, file_names, names_in, names_until};
+ghost use Rattle.bench_outcomes.specs.Common.{Outcome, Appended, CutShort, IsReported, IsSettled, MayRefuse, Succeeds};
 ghost use Rattle.bench_top.specs.Calm.{HasRead, IsCalm};
 ghost use Rattle.bench_top.specs.Endings.{IsStopOf, ReportedBad, StopsAfter, Unread};
 ghost use Rattle.bench_top.specs.Given.{GivenOutcome};

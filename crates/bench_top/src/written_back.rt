@@ -6,8 +6,8 @@
 //! that `run` answers Done wherever the outside does not fail and memory lasts.
 ghost use Rattle.std.specs.Prelude.{◌≡◌, ◌≤◌, ℕ, List, [], ◌∷◌, codes, length, Some};
 ghost use Rattle.outside.specs.Shelf.{NamedFile, file_named};
-ghost use Rattle.bench_tasks.specs.Loading.{most_bytes};
-ghost use Rattle.bench_outcomes.specs.Outcome.{Outcome};
+ghost use Rattle.bench_tasks.specs.Common.{most_bytes};
+ghost use Rattle.bench_outcomes.specs.Common.{Outcome};
 ghost use Rattle.bench_top.specs.RoundTrips.{AsksDone, ReplaysScript};
 ghost use Rattle.bench_outcomes.specs.declared.status.Status.{Status};
 ghost use Rattle.bench_outcomes.specs.declared.status.Status.TheVariants.{Done};

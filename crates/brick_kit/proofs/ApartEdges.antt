@@ -2,16 +2,10 @@
 -- ends of one edge separate. Where each edge of the cut has an end of the first one, no other
 -- edge leaves the set.
 use Rattle.std.proofs.Common.{◌≡◌, ℕ, Bool, true, false, ◌==◌, ◌&&◌, ◌||◌, not, refl, sym, ap, ◌∙◌, arith, inl, inr, ◌⊎◌, ne_eqb}
-use Rattle.std.proofs.lemmas.Bool.{and_parts, both_ways, cases_Bool, eqb-false, not-true, or_from, or_parts, true≢false}
-use Rattle.counting.proofs.Members.{count_member, count_minus}
-use Rattle.counting.proofs.Tests.{some_none, some_true}
-use Rattle.counting.specs.Counts.{Within}
-use Rattle.counting.specs.Sets.{Set, complement, minus, pair_set, singleton}
-use Rattle.counting.specs.Tests.{some}
-use Rattle.graph_core.specs.Covered.{IsCovered}
-use Rattle.graph_core.specs.Graph.{Graph, HasEnds, IsGraph, first_end, in_cut, second_end, size}
-use Rattle.graph_core.specs.Structure.{IsCutPair}
-use Rattle.graph_core.specs.Tight.{IsNontrivial}
+use Rattle.std.proofs.lemmas.Bool.{eqb-false}
+use Rattle.counting.proofs.Common.{and_parts, both_ways, cases_Bool, not-true, or_from, or_parts, true≢false, count_member, count_minus, some_none, some_true}
+use Rattle.counting.specs.Common.{Within, Set, complement, minus, pair_set, singleton, some}
+use Rattle.graph_core.specs.Common.{IsCovered, Graph, HasEnds, IsGraph, first_end, in_cut, second_end, size, IsCutPair, IsNontrivial}
 use Rattle.barrier_kit.proofs.Matched.{cut_edge}
 use Rattle.brick_kit.proofs.CutEnds.{cut_ends, ends_within}
 use Rattle.brick_kit.proofs.PairSeparations.{beside_ends, separates}

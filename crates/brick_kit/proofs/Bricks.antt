@@ -3,17 +3,10 @@
 -- uncrossed to a cut pair; a graph that is not bicritical has a barrier by the law of Tutte and
 -- Berge.
 use Rattle.std.proofs.Common.{ℕ, suc, ◌+◌, ◌≤◌, ◌≢◌, ◌∷◌, ◌⊎◌, ◌↔◌, inl, inr, arith}
-use Rattle.std.proofs.lemmas.Bool.{cases_eq}
-use Rattle.counting.proofs.Members.{two_members}
-use Rattle.counting.proofs.Tests.{scan}
-use Rattle.counting.specs.Counts.{Within, bit, count}
-use Rattle.counting.specs.Sets.{Set, pair_set}
-use Rattle.graph_core.proofs.Decide.{covered_perfect}
-use Rattle.graph_core.specs.Covered.{IsCovered}
-use Rattle.graph_core.specs.Graph.{Graph, IsBipartite, IsMultigraph, in_cut}
-use Rattle.graph_core.specs.Matchings.{HasPerfect, IsPerfect}
-use Rattle.graph_core.specs.Structure.{IsBarrier, IsBicritical, IsCutPair}
-use Rattle.graph_core.specs.Tight.{IsNontrivial, IsTight}
+use Rattle.counting.proofs.Common.{cases_eq, two_members, scan}
+use Rattle.counting.specs.Common.{Within, bit, count, Set, pair_set}
+use Rattle.graph_core.proofs.Common.{covered_perfect}
+use Rattle.graph_core.specs.Common.{IsCovered, Graph, IsBipartite, IsMultigraph, in_cut, HasPerfect, IsPerfect, IsBarrier, IsBicritical, IsCutPair, IsNontrivial, IsTight}
 use Rattle.barrier_kit.proofs.Barriers.{equivalent_barrier}
 use Rattle.barrier_kit.proofs.CriticalPairs.{no_sides}
 use Rattle.separation_kit.proofs.CutPairs.{brick_facts}

@@ -2,13 +2,10 @@
 -- edges and its sets. The weight of a cover is summed vertex by vertex and set by set.
 use Rattle.std.proofs.Common.{◌≡◌, ℕ, suc, zero, ◌+◌, ◌*◌, ◌/◌, ◌≤◌, Bool, true, false, ◌&&◌, List, refl, sym, ap₂, ◌∙◌, arith}
 use Rattle.std.specs.Prelude.{All}
-use Rattle.std.proofs.lemmas.Bool.{both_ways}
-use Rattle.counting.proofs.Totals.{total_le, total_tight}
-use Rattle.counting.specs.Counts.{Within, bit, count, total}
-use Rattle.counting.specs.Sets.{Set, none}
-use Rattle.graph_core.proofs.Parity.{degrees}
-use Rattle.graph_core.specs.Graph.{Graph, IsGraph, degree, first_end, in_cut, inside, second_end, size}
-use Rattle.graph_core.specs.Matchings.{IsMatching}
+use Rattle.counting.proofs.Common.{both_ways, total_le, total_tight}
+use Rattle.counting.specs.Common.{Within, bit, count, total, Set, none}
+use Rattle.graph_core.proofs.Common.{degrees}
+use Rattle.graph_core.specs.Common.{Graph, IsGraph, degree, first_end, in_cut, inside, second_end, size, IsMatching}
 use Rattle.brick_kit.proofs.EdgeSums.{term_le, weight_le, weight_plus, weight_sum, weight_test}
 use Rattle.brick_kit.proofs.EndSums.{ends_weight}
 use Rattle.brick_kit.proofs.SetSums.{sum_le, sum_same, sum_tight}

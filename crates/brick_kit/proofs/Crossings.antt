@@ -2,18 +2,11 @@
 -- one in neither separate. Where the meet is even the complement of the second is taken. No edge
 -- joins the two differences.
 use Rattle.std.proofs.Common.{◌≡◌, ℕ, ◌≤◌, Bool, true, false, cond, ◌==◌, ◌&&◌, ◌||◌, not, refl, sym, ap, ◌∙◌, arith, inl, inr, ◌⊎◌, ne_eqb}
-use Rattle.std.proofs.lemmas.Bool.{and_from, and_parts, both_ways, cases_Bool, eqb-false, not-true, or_from, or_parts, true≢false, or_left}
-use Rattle.counting.proofs.Counts.{only_one}
-use Rattle.counting.proofs.Members.{count_member}
-use Rattle.counting.proofs.Odd.{odd-add, odd_three}
-use Rattle.counting.proofs.SetSizes.{count_mono, count_split}
-use Rattle.counting.specs.Counts.{Within, count, is_odd}
-use Rattle.counting.specs.Sets.{Set, complement, meet, minus, pair_set, union}
-use Rattle.graph_core.proofs.Uncrossing.{no_edge_joins, union_tight}
-use Rattle.graph_core.specs.Covered.{IsCovered}
-use Rattle.graph_core.specs.Graph.{Graph, HasEnds, IsGraph, connects, first_end, in_cut, second_end, size}
-use Rattle.graph_core.specs.Structure.{IsCutPair}
-use Rattle.graph_core.specs.Tight.{IsNontrivial, IsTight}
+use Rattle.std.proofs.lemmas.Bool.{eqb-false}
+use Rattle.counting.proofs.Common.{and_from, and_parts, both_ways, cases_Bool, not-true, or_from, or_parts, true≢false, or_left, only_one, count_member, odd-add, odd_three, count_mono, count_split}
+use Rattle.counting.specs.Common.{Within, count, is_odd, Set, complement, meet, minus, pair_set, union}
+use Rattle.graph_core.proofs.Common.{no_edge_joins, union_tight}
+use Rattle.graph_core.specs.Common.{IsCovered, Graph, HasEnds, IsGraph, connects, first_end, in_cut, second_end, size, IsCutPair, IsNontrivial, IsTight}
 use Rattle.barrier_kit.proofs.CutFacts.{tight-turned}
 use Rattle.brick_kit.proofs.CutEnds.{cut_ends, ends_within}
 use Rattle.brick_kit.proofs.PairSeparations.{beside_ends, separates}

@@ -1,14 +1,9 @@
 -- Weights as sums over the edges: of sums, multiples, flat weights and tests, and with one edge
 -- more. Term by term over the edges.
 use Rattle.std.proofs.Common.{◌≡◌, ℕ, ◌+◌, ◌*◌, ◌≤◌, ◌<◌, Bool, true, false, ◌&&◌, List, [], ◌∷◌, refl, sym, ap, ◌∙◌, arith, mul-add, inl, inr}
-use Rattle.counting.proofs.Counts.{bit-and}
-use Rattle.std.proofs.lemmas.Bool.{both_ways, cases_lt}
-use Rattle.counting.proofs.Choice.{total_put}
-use Rattle.counting.proofs.Totals.{total_add, total_congr, total_le, total_mul, total_none, total_tight}
-use Rattle.counting.specs.Counts.{Within, bit, count, total}
-use Rattle.counting.specs.Sets.{Set, put}
-use Rattle.counting.proofs.Booleans.{bit_times_le}
-use Rattle.graph_core.specs.Graph.{Graph, size}
+use Rattle.counting.proofs.Common.{bit-and, both_ways, cases_lt, total_put, total_add, total_congr, total_le, total_mul, total_none, total_tight, bit_times_le}
+use Rattle.counting.specs.Common.{Within, bit, count, total, Set, put}
+use Rattle.graph_core.specs.Common.{Graph, size}
 use Rattle.brick_kit.specs.Weights.{sum_over, weight_of}
 
 -- a sum is less where no term is more and one is less

@@ -3,16 +3,10 @@
 -- two numbers.
 use Rattle.std.proofs.Common.{◌≡◌, ℕ, suc, zero, ◌+◌, ◌*◌, ◌≤◌, ◌≢◌, Bool, true, false, ◌==◌, ◌&&◌, ◌||◌, not, List, [], ◌∷◌, refl, sym, ap, ap₂, ◌∙◌, arith, mul-add, eqb-true}
 use Rattle.std.specs.Prelude.{All}
-use Rattle.std.proofs.lemmas.Bool.{both_ways}
-use Rattle.std.proofs.lemmas.List.Elements.{All-head, All-tail}
-use Rattle.counting.proofs.Odd.{odd-double}
-use Rattle.counting.proofs.Totals.{total_add, total_congr, total_none}
-use Rattle.counting.specs.Counts.{Within, bit, count, is_odd, total}
-use Rattle.counting.specs.Sets.{Set, none, pair_set}
-use Rattle.graph_core.proofs.Parity.{degrees}
-use Rattle.graph_core.specs.Graph.{Graph, IsGraph, degree, edges_in_cut, first_end, in_cut, inside, second_end, size}
-use Rattle.graph_core.specs.Matchings.{IsPerfect}
-use Rattle.graph_core.specs.Tight.{IsTight}
+use Rattle.counting.proofs.Common.{both_ways, All-head, All-tail, odd-double, total_add, total_congr, total_none}
+use Rattle.counting.specs.Common.{Within, bit, count, is_odd, total, Set, none, pair_set}
+use Rattle.graph_core.proofs.Common.{degrees}
+use Rattle.graph_core.specs.Common.{Graph, IsGraph, degree, edges_in_cut, first_end, in_cut, inside, second_end, size, IsPerfect, IsTight}
 use Rattle.brick_kit.specs.Balances.{IsBalanced, apart, parts}
 use Rattle.brick_kit.proofs.EndSums.{alone, ends_weight}
 use Rattle.brick_kit.specs.Weights.{sum_over}

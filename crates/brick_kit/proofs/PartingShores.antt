@@ -3,12 +3,9 @@
 -- than the ends on the two sides.
 use Rattle.std.proofs.Common.{◌≡◌, ℕ, ◌+◌, ◌≤◌, ◌<◌, ◌≢◌, Bool, true, false, ◌&&◌, ◌||◌, not, List, [], ◌∷◌, refl, sym, ap, ap₂, ◌∙◌, arith, inl, inr, add_comm}
 use Rattle.std.specs.Prelude.{All}
-use Rattle.std.proofs.lemmas.Bool.{cases_lt, true≢false}
-use Rattle.std.proofs.lemmas.List.Elements.{All-cons, All-head, All-tail}
-use Rattle.counting.specs.Counts.{Within, bit}
-use Rattle.counting.specs.Sets.{Set}
-use Rattle.graph_core.specs.Graph.{Graph, HasEnds, IsGraph, size}
-use Rattle.graph_core.specs.Tight.{IsTight}
+use Rattle.counting.proofs.Common.{cases_lt, true≢false, All-cons, All-head, All-tail}
+use Rattle.counting.specs.Common.{Within, bit, Set}
+use Rattle.graph_core.specs.Common.{Graph, HasEnds, IsGraph, size, IsTight}
 use Rattle.brick_kit.proofs.CutEnds.{ends_within}
 use Rattle.brick_kit.proofs.SetSums.{sum_plus, sum_same}
 use Rattle.brick_kit.specs.Balances.{IsBalanced, apart, parts}

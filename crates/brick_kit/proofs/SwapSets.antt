@@ -1,15 +1,9 @@
 -- A set that no edge of two matchings leaves, grown vertex by vertex.
 -- Each vertex that comes brings at least one edge inside.
 use Rattle.std.proofs.Common.{◌≡◌, ℕ, suc, zero, ◌+◌, ◌≤◌, ◌<◌, Bool, true, false, ◌==◌, ◌&&◌, ◌||◌, refl, sym, ap, ◌∙◌, arith, inl, inr, eqb-true, eq-eqb}
-use Rattle.std.proofs.lemmas.Bool.{and_from, and_parts, cases_Bool, or_cases, or_left}
-use Rattle.counting.proofs.Counts.{count_le, count_more}
-use Rattle.counting.proofs.Members.{count_plus}
-use Rattle.counting.proofs.SetSizes.{count_mono, count_singleton}
-use Rattle.counting.proofs.Tests.{some_none, some_true}
-use Rattle.counting.specs.Counts.{Within, count}
-use Rattle.counting.specs.Sets.{Set, singleton, union}
-use Rattle.counting.specs.Tests.{some}
-use Rattle.graph_core.specs.Graph.{Graph, HasEnds, IsGraph, first_end, in_cut, inside, second_end, size}
+use Rattle.counting.proofs.Common.{and_from, and_parts, cases_Bool, or_cases, or_left, count_le, count_more, count_plus, count_mono, count_singleton, some_none, some_true}
+use Rattle.counting.specs.Common.{Within, count, Set, singleton, union, some}
+use Rattle.graph_core.specs.Common.{Graph, HasEnds, IsGraph, first_end, in_cut, inside, second_end, size}
 use Rattle.brick_kit.proofs.CutEnds.{cut_ends, ends_inside, ends_within, same_side}
 use Rattle.brick_kit.proofs.Swaps.{Swaps}
 

@@ -2,15 +2,10 @@
 -- edges inside as vertices, so that the matching that misses one of its vertices has no more
 -- edges there.
 use Rattle.std.proofs.Common.{◌≡◌, ℕ, suc, zero, ◌+◌, ◌*◌, ◌≤◌, ◌≢◌, Bool, true, false, cond, ◌==◌, ◌&&◌, ◌||◌, not, ◌⊎◌, refl, sym, ap, ap₂, ◌∙◌, arith, inl, inr, add_comm, eqb-true, eq-eqb}
-use Rattle.std.proofs.lemmas.Bool.{and_from, and_parts, cases_Bool, true≢false, and_left, and_right}
-use Rattle.counting.proofs.Counts.{count_congr}
-use Rattle.counting.proofs.Members.{member_count, two_members}
-use Rattle.counting.proofs.Totals.{total_add, total_congr, total_none}
-use Rattle.counting.specs.Counts.{Within, bit, count, total}
-use Rattle.counting.specs.Sets.{Set, none}
-use Rattle.graph_core.proofs.Parity.{degrees}
-use Rattle.graph_core.specs.Graph.{Graph, IsGraph, degree, first_end, in_cut, inside, second_end, size}
-use Rattle.graph_core.specs.Matchings.{IsMatching}
+use Rattle.counting.proofs.Common.{and_from, and_parts, cases_Bool, true≢false, and_left, and_right, count_congr, member_count, two_members, total_add, total_congr, total_none}
+use Rattle.counting.specs.Common.{Within, bit, count, total, Set, none}
+use Rattle.graph_core.proofs.Common.{degrees}
+use Rattle.graph_core.specs.Common.{Graph, IsGraph, degree, first_end, in_cut, inside, second_end, size, IsMatching}
 use Rattle.brick_kit.specs.Weights.{weight_of}
 
 -- a set with t inside k, which no edge of m or n leaves, with nearly as many edges of m and of n

@@ -35,9 +35,8 @@
 //! Source: Edmonds 1965; Cunningham and Marsh 1978; Schrijver, "Combinatorial Optimization",
 //! chapter 25.
 ghost use Rattle.std.specs.Prelude.{◌≡◌, ◌≤◌, ℕ, List};
-ghost use Rattle.counting.specs.Sets.{Set, none};
-ghost use Rattle.graph_core.specs.Graph.{Graph, IsGraph};
-ghost use Rattle.graph_core.specs.Matchings.{IsMatching};
+ghost use Rattle.counting.specs.Common.{Set, none};
+ghost use Rattle.graph_core.specs.Common.{Graph, IsGraph, IsMatching};
 ghost use Rattle.brick_kit.specs.Weights.{IsCover, IsHeaviest, cover_value, weight_of};
 
 /// Maximum weight matchings: no matching of a graph weighs more than the value of a cover, and for

@@ -3,17 +3,11 @@
 -- definition is.
 use Rattle.std.proofs.Common.{◌≡◌, ℕ, ◌+◌, ◌-◌, ◌≤◌, ◌<◌, Bool, true, false, not, cond, nat_lt, List, [], ◌∷◌, length, refl, sym, ap, ◌∙◌, arith, zero, suc, get_or, insert, count_by, Option, Some, None, position, MatchOption, IfSome, IfNone, unwrap_or, if◌then◌else◌, subst}
 use Rattle.std.specs.List.{position_or_len}
-use Rattle.std.proofs.lemmas.List.{get_or-map, length-map}
-use Rattle.std.proofs.lemmas.Bool.Decides.{nat_tests}
-use Rattle.std.proofs.lemmas.List.Sums.{sum_by-cons}
+use Rattle.counting.proofs.Common.{get_or-map, length-map, nat_tests, sum_by-cons, last-greatest, length-within, total_congr}
 use Rattle.itertools.specs.Consumer.{find_at}
-use Rattle.counting.proofs.RisingLists.{last-greatest}
-use Rattle.counting.proofs.SetSizes.{length-within}
-use Rattle.counting.proofs.Totals.{total_congr}
-use Rattle.counting.specs.Counts.{Within, bit, count, total}
-use Rattle.counting.specs.Lists.{IsGreatestOf, IsRisingIn, last_of, mem}
-use Rattle.graph_core.proofs.Merging.{mem_last}
-use Rattle.graph_core.specs.Partitions.{IsPartition, block, insert_block, names_of, place}
+use Rattle.counting.specs.Common.{Within, bit, count, total, IsGreatestOf, IsRisingIn, last_of, mem}
+use Rattle.graph_core.proofs.Common.{mem_last}
+use Rattle.graph_core.specs.Common.{IsPartition, block, insert_block, names_of, place}
 
 -- the greatest number of a set, or 0, is its last
 pub name-option : (n : ℕ) (b : List ℕ) (r : Option ℕ) → IsRisingIn n b → IfSome r (IsGreatestOf b) → IfNone r (b ≡ []) → unwrap_or r 0 ≡ last_of b

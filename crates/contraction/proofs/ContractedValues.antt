@@ -1,16 +1,9 @@
 -- What the value of a quotient says: as many lists of remembered edges as edges, each that of its
 -- edge, and the union of the blocks at the places of a set.
 use Rattle.std.proofs.Common.{◌≡◌, ℕ, ◌-◌, ◌≤◌, true, ◌&&◌, List, [], length, sym, ap, ◌∙◌, arith}
-use Rattle.std.proofs.lemmas.Bool.{and_parts}
-use Rattle.std.proofs.lemmas.List.{get_or-map, length-map}
-use Rattle.counting.proofs.RisingLists.{list-from_test, set-narrower}
-use Rattle.counting.proofs.Tests.{some_true}
-use Rattle.counting.specs.Counts.{Within}
-use Rattle.counting.specs.Lists.{IsRisingIn, item, mem}
-use Rattle.counting.specs.Tests.{some}
-use Rattle.graph_core.specs.Graph.{Graph, size}
-use Rattle.graph_core.specs.Partitions.{block}
-use Rattle.graph_core.specs.Quotients.{edges_between, quotient, remembered, union_of_blocks}
+use Rattle.counting.proofs.Common.{and_parts, get_or-map, length-map, list-from_test, set-narrower, some_true}
+use Rattle.counting.specs.Common.{Within, IsRisingIn, item, mem, some}
+use Rattle.graph_core.specs.Common.{Graph, size, block, edges_between, quotient, remembered, union_of_blocks}
 use Rattle.contraction.proofs.BlockLists.{length-partition}
 use Rattle.contraction.specs.Contracted.{ContractedValue, KeepsContraction, contraction}
 

@@ -3,24 +3,11 @@
 -- and no other pair goes there.
 use Rattle.std.proofs.Common.{◌≡◌, ℕ, ◌+◌, ◌-◌, ◌*◌, ◌≤◌, ◌<◌, ◌==◌, Bool, true, false, cond, ◌&&◌, List, [], ◌∷◌, ◌++◌, length, refl, sym, ap, ap₂, ◌∙◌, arith, ◌⊎◌, inl, inr, filter, map, flat_map, nat_lt, get_or, eq-eqb, subst, suc, zero}
 use Rattle.std.specs.List.{list_any}
-use Rattle.std.proofs.lemmas.Bool.{both_ways, cases_lt, cases_order, and_parts, or_left, or_right, false_from_ne_true}
-use Rattle.std.proofs.lemmas.Bool.Decides.{nat_tests}
-use Rattle.std.proofs.lemmas.List.{map-append}
+use Rattle.counting.proofs.Common.{both_ways, cases_lt, cases_order, and_parts, or_left, or_right, false_from_ne_true, nat_tests, map-append, Rises, mem_low, rises-from_set, rising_only, HasPair, at_pair, pair_filter, rows_only, map_pair, mem-outside, mem-rising_list, rising_list-mem, rising_list-rises, same_rising_list, set-wider, least_of, least_of_is, some_true, total_le}
 use Rattle.std.proofs.lemmas.List.Elements.{filter-append}
-use Rattle.counting.proofs.Lists.{Rises, mem_low, rises-from_set, rising_only}
-use Rattle.counting.proofs.Pairs.{HasPair, at_pair, pair_filter, rows_only, map_pair}
-use Rattle.counting.proofs.RisingLists.{mem-outside, mem-rising_list, rising_list-mem, rising_list-rises, same_rising_list, set-wider}
-use Rattle.counting.proofs.Tests.{least_of, least_of_is, some_true}
-use Rattle.counting.proofs.Totals.{total_le}
-use Rattle.counting.specs.Counts.{Within, bit, total}
-use Rattle.counting.specs.Lists.{IsRisingIn, item, mem, pair_with, rising_list, rising_pairs}
-use Rattle.counting.specs.Sets.{Set, everything}
-use Rattle.counting.specs.Tests.{some}
-use Rattle.graph_core.proofs.Carrying.{image, total_image}
-use Rattle.graph_core.proofs.View.{some-graph_of}
-use Rattle.graph_core.proofs.Walks.{has_ends-cases}
-use Rattle.graph_core.specs.Graph.{Graph, IsGraph, first_end, has_ends, second_end, size}
-use Rattle.graph_core.specs.View.{IsWithinLimits, are_ends, graph_of}
+use Rattle.counting.specs.Common.{Within, bit, total, IsRisingIn, item, mem, pair_with, rising_list, rising_pairs, Set, everything, some}
+use Rattle.graph_core.proofs.Common.{image, total_image, some-graph_of, has_ends-cases}
+use Rattle.graph_core.specs.Common.{Graph, IsGraph, first_end, has_ends, second_end, size, IsWithinLimits, are_ends, graph_of}
 use Rattle.graph_core.specs.declared.ends.Ends.{Ends}
 use Rattle.contraction.proofs.PairLists.{Once, each-once}
 use Rattle.contraction.specs.Pairs.{EachOnce, joined_pairs}

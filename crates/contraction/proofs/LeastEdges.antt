@@ -4,22 +4,11 @@
 use Rattle.std.proofs.Common.{◌≡◌, ℕ, ◌+◌, ◌<◌, Bool, true, false, ◌&&◌, ◌||◌, ◌==◌, List, [], ◌∷◌, length, map, take, get_or, refl, sym, ap, ◌∙◌, inl, inr, subst, eq-eqb, eqb-true}
 use Rattle.std.specs.Prelude.{All, Some, slice_get, slice_index}
 use Rattle.std.specs.List.{list_any}
-use Rattle.std.proofs.lemmas.Bool.{and_from, and_parts, both_ways, or_cases, or_right, or_left}
-use Rattle.std.proofs.lemmas.List.{take_more}
-use Rattle.std.proofs.lemmas.List.Elements.{All-head, All-tail}
-use Rattle.std.proofs.lemmas.List.Folds.{list_any-append}
-use Rattle.std.proofs.lemmas.Option.{get_or_from_slice_get, slice_get_within}
-use Rattle.counting.proofs.RisingLists.{rising_list-congr}
-use Rattle.counting.proofs.Tests.{some_congr, some_true, true_some}
-use Rattle.counting.specs.Counts.{Within}
-use Rattle.counting.specs.Lists.{item, mem, rising_list}
-use Rattle.counting.specs.Sets.{Set}
-use Rattle.counting.specs.Tests.{some}
-use Rattle.counting.proofs.Booleans.{or_false, same_tests}
-use Rattle.graph_core.specs.Graph.{Graph, size}
-use Rattle.graph_core.specs.Quotients.{lifted, quotient, remembered}
+use Rattle.counting.proofs.Common.{and_from, and_parts, both_ways, or_cases, or_right, or_left, take_more, All-head, All-tail, list_any-append, get_or_from_slice_get, rising_list-congr, some_congr, some_true, true_some, or_false, same_tests}
+use Rattle.std.proofs.lemmas.Option.{slice_get_within}
+use Rattle.counting.specs.Common.{Within, item, mem, rising_list, Set, some}
+use Rattle.graph_core.specs.Common.{Graph, size, lifted, quotient, remembered, AreBlocks}
 use Rattle.match_core.proofs.MatchingEdges.{edge_of}
-use Rattle.graph_core.specs.Partitions.{AreBlocks}
 use Rattle.match_core.specs.declared.matching.MatchRow.{MatchRow}
 use Rattle.contraction.proofs.ContractedValues.{item-remembered}
 use Rattle.contraction.proofs.LiftedMatchings.{least-remembered, remembered-some}

@@ -3,25 +3,11 @@
 -- along the identity of places.
 use Rattle.std.proofs.Common.{◌≡◌, ℕ, ◌<◌, length, true, false, not, ◌&&◌, ◌==◌, List, [], ◌∷◌, refl, sym, ◌∙◌, arith, subst, eq-eqb}
 use Rattle.std.specs.Prelude.{slice_index}
-use Rattle.std.proofs.lemmas.Bool.{both_ways, and_parts, or_left}
-use Rattle.counting.proofs.Lists.{rising_holds, rising_only, some-member}
-use Rattle.counting.proofs.RisingLists.{mem-rising_list}
-use Rattle.counting.proofs.Tests.{some_true}
-use Rattle.counting.specs.Counts.{Within}
-use Rattle.counting.specs.Lists.{mem}
-use Rattle.counting.specs.Sets.{Set, none}
-use Rattle.counting.specs.Tests.{some}
-use Rattle.graph_core.proofs.Blocks.{contracted-order, contracted-size}
-use Rattle.graph_core.proofs.Carrying.{carried_set, image, perfect_carried}
-use Rattle.graph_core.proofs.Decide.{degree_congr}
+use Rattle.counting.proofs.Common.{both_ways, and_parts, or_left, rising_holds, rising_only, some-member, mem-rising_list, some_true}
+use Rattle.counting.specs.Common.{Within, mem, Set, none, some}
+use Rattle.graph_core.proofs.Common.{contracted-order, contracted-size, carried_set, image, perfect_carried, degree_congr, quotient-order, quotient_edge, quotient_graph, has_ends-cases}
 use Rattle.graph_core.proofs.Edits.{HasEnds}
-use Rattle.graph_core.proofs.Quotients.{quotient-order, quotient_edge}
-use Rattle.graph_core.proofs.QuotientTight.{quotient_graph}
-use Rattle.graph_core.proofs.Walks.{has_ends-cases}
-use Rattle.graph_core.specs.Graph.{Graph, IsGraph, first_end, has_ends, second_end, size}
-use Rattle.graph_core.specs.Matchings.{IsPerfect}
-use Rattle.graph_core.specs.Partitions.{AreBlocks, IsPerfectAt, contracted}
-use Rattle.graph_core.specs.Quotients.{lifted, quotient, remembered}
+use Rattle.graph_core.specs.Common.{Graph, IsGraph, first_end, has_ends, second_end, size, IsPerfect, AreBlocks, IsPerfectAt, contracted, lifted, quotient, remembered}
 
 -- sets of edges that agree are perfect together
 pub perfect-congr : (g : Graph) (m k : Set) → ((e : ℕ) → Within (size g) e → m e ≡ k e) → IsPerfect g none m → IsPerfect g none k

@@ -2,16 +2,10 @@
 -- matching covered where the contracted graph is, and the complement of a tight shore is a tight
 -- shore.
 use Rattle.std.proofs.Common.{ℕ, List}
-use Rattle.counting.proofs.Lists.{mem-within, member-of_set}
-use Rattle.counting.specs.Lists.{IsRisingIn, mem}
-use Rattle.counting.specs.Sets.{Set}
-use Rattle.graph_core.proofs.MergedShores.{covered_merged, merge_of, tight_down_merged, tight_up_merged}
-use Rattle.graph_core.proofs.ShoreLists.{shore-some}
-use Rattle.graph_core.specs.Covered.{IsCovered}
-use Rattle.graph_core.specs.Graph.{Graph, IsGraph}
-use Rattle.graph_core.specs.Partitions.{AreBlocks, merged}
-use Rattle.graph_core.specs.Quotients.{quotient}
-use Rattle.graph_core.specs.Shores.{IsTightAt, IsUnion}
+use Rattle.counting.proofs.Common.{mem-within, member-of_set}
+use Rattle.counting.specs.Common.{IsRisingIn, mem, Set}
+use Rattle.graph_core.proofs.Common.{covered_merged, merge_of, tight_down_merged, tight_up_merged, shore-some}
+use Rattle.graph_core.specs.Common.{IsCovered, Graph, IsGraph, AreBlocks, merged, quotient, IsTightAt, IsUnion}
 use Rattle.contraction.proofs.QuotientLaws.{covered_down, covered_up}
 
 module _ (g : Graph) (p : List (List ℕ)) (x : List ℕ) (is : IsGraph g) (pp : AreBlocks g.order p) (rises : IsRisingIn g.order x) (tight : IsTightAt g p (mem x)) where

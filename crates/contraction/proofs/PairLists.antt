@@ -2,11 +2,10 @@
 -- a filter keeps of them. A pair that is in the list has one place, so a map keyed by the pairs
 -- gets a new key at each step.
 use Rattle.std.proofs.Common.{◌≡◌, ℕ, ◌+◌, ◌<◌, Bool, true, ◌==◌, if◌then◌else◌, List, [], ◌∷◌, ◌++◌, length, refl, sym, ap, ap₂, ◌∙◌, arith, inl, inr, map, get_or, take, subst, suc, zero, ◌&&◌, eqb-true}
-use Rattle.std.proofs.lemmas.Bool.{false_from_ne_true, and_parts}
-use Rattle.std.proofs.lemmas.List.{get_or-map, length-map, map_push, take-map, take_more}
+use Rattle.counting.proofs.Common.{false_from_ne_true, and_parts, get_or-map, length-map, take_more, HasPair, at_pair, pair_at}
+use Rattle.std.proofs.lemmas.List.{map_push, take-map}
 use Rattle.indexmap.specs.IndexMap.{insert_entry}
-use Rattle.counting.proofs.Pairs.{HasPair, at_pair, pair_at}
-use Rattle.graph_core.specs.View.{pair_of}
+use Rattle.graph_core.specs.Common.{pair_of}
 use Rattle.graph_core.specs.declared.ends.Ends.{Ends}
 use Rattle.contraction.specs.Pairs.{EachOnce}
 

@@ -2,27 +2,11 @@
 -- to the edge between its two blocks, of which there is one; the cut of a set of blocks has as
 -- many edges of it before and after, down and up.
 use Rattle.std.proofs.Common.{◌≡◌, ◌≢◌, ℕ, ◌-◌, ◌<◌, true, ◌==◌, ◌&&◌, List, get_or, refl, sym, ap, ◌∙◌, arith, inl, inr, ◌⊎◌, subst, eq-eqb, eqb-true}
-use Rattle.counting.proofs.Booleans.{same_tests}
+use Rattle.counting.proofs.Common.{same_tests, and_from, and_parts, cases_order, count_congr, rising_holds, rising_only, mem-rising_list, least_of, least_of_is, some_true, true_some}
 use Rattle.std.specs.Prelude.{slice_index}
-use Rattle.std.proofs.lemmas.Bool.{and_from, and_parts, cases_order}
-use Rattle.counting.proofs.Counts.{count_congr}
-use Rattle.counting.proofs.Lists.{rising_holds, rising_only}
-use Rattle.counting.proofs.RisingLists.{mem-rising_list}
-use Rattle.counting.proofs.Tests.{least_of, least_of_is, some_true, true_some}
-use Rattle.counting.specs.Counts.{Within}
-use Rattle.counting.specs.Lists.{mem}
-use Rattle.counting.specs.Sets.{Set, none}
-use Rattle.counting.specs.Tests.{some}
-use Rattle.graph_core.proofs.Adjacency.{has_ends-from}
-use Rattle.graph_core.proofs.Blocks.{contracted-graph, contracted-order, contracted-size}
-use Rattle.graph_core.proofs.Carrying.{carried_set, cut_carried, image, no_loop, perfect_carried}
-use Rattle.graph_core.proofs.Quotients.{quotient-order, quotient_edge}
-use Rattle.graph_core.proofs.QuotientTight.{quotient_graph}
-use Rattle.graph_core.proofs.Walks.{has_ends-cases, has_ends-own}
-use Rattle.graph_core.specs.Graph.{Graph, HasEnds, IsGraph, edges_in_cut, first_end, has_ends, in_cut, second_end, size}
-use Rattle.graph_core.specs.Matchings.{IsPerfect}
-use Rattle.graph_core.specs.Partitions.{AreBlocks, IsPerfectAt, contracted}
-use Rattle.graph_core.specs.Quotients.{lifted, projected, quotient, remembered}
+use Rattle.counting.specs.Common.{Within, mem, Set, none, some}
+use Rattle.graph_core.proofs.Common.{has_ends-from, contracted-graph, contracted-order, contracted-size, carried_set, cut_carried, image, no_loop, perfect_carried, quotient-order, quotient_edge, quotient_graph, has_ends-cases, has_ends-own}
+use Rattle.graph_core.specs.Common.{Graph, HasEnds, IsGraph, edges_in_cut, first_end, has_ends, in_cut, second_end, size, IsPerfect, AreBlocks, IsPerfectAt, contracted, lifted, projected, quotient, remembered}
 use Rattle.contraction.proofs.JoinedPairs.{joined-once}
 use Rattle.contraction.proofs.LiftedMatchings.{least-remembered, perfect-congr}
 use Rattle.contraction.proofs.QuotientLaws.{same_pairs}

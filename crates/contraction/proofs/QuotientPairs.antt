@@ -3,11 +3,9 @@
 -- pairs in lexicographic order, each once.
 use Rattle.std.proofs.Common.{◌≡◌, ◌≢◌, ℕ, ◌+◌, ◌<◌, cond, List, [], ◌∷◌, ◌++◌, length, sym, ap, ap₂, ◌∙◌, arith, map, get_or, suc}
 use Rattle.std.proofs.lemmas.Simd.{map-map}
-use Rattle.counting.specs.Lists.{rising_list}
-use Rattle.graph_core.proofs.View.{has_ends-graph_of, pair-graph_of, size-graph_of}
-use Rattle.graph_core.specs.Graph.{HasNoLoop, has_ends}
-use Rattle.graph_core.specs.Partitions.{contracted, place}
-use Rattle.graph_core.specs.View.{are_ends, graph_of, pair_of}
+use Rattle.counting.specs.Common.{rising_list}
+use Rattle.graph_core.proofs.Common.{has_ends-graph_of, pair-graph_of, size-graph_of}
+use Rattle.graph_core.specs.Common.{HasNoLoop, has_ends, contracted, place, are_ends, graph_of, pair_of}
 use Rattle.graph_core.specs.declared.ends.Ends.{Ends}
 
 -- the ends as places

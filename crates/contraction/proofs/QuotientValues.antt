@@ -2,17 +2,10 @@
 -- the contracted graph are the edges of the quotient, since a pair of places a < b has two
 -- different blocks.
 use Rattle.std.proofs.Common.{◌≡◌, ℕ, ◌≤◌, ◌==◌, Bool, true, false, not, cond, ◌&&◌, List, [], ◌∷◌, length, refl, sym, ap, ap₂, ◌∙◌, arith, inl, inr, filter, map, nat_lt, subst}
-use Rattle.std.proofs.lemmas.Bool.Decides.{nat_tests}
-use Rattle.counting.proofs.Pairs.{HasPair, rows_only}
-use Rattle.counting.specs.Lists.{rising_list, rising_pairs}
-use Rattle.counting.specs.Sets.{everything}
-use Rattle.counting.specs.Tests.{some}
-use Rattle.graph_core.proofs.Blocks.{contracted-graph, contracted-size}
-use Rattle.graph_core.proofs.View.{size-graph_of}
-use Rattle.graph_core.specs.Graph.{Graph, IsGraph, has_ends, size}
-use Rattle.graph_core.specs.Partitions.{AreBlocks, contracted}
-use Rattle.graph_core.specs.Quotients.{blocks_adjacent, edges_between, quotient}
-use Rattle.graph_core.specs.View.{IsWithinLimits, graph_of, pair_of}
+use Rattle.counting.proofs.Common.{nat_tests, HasPair, rows_only}
+use Rattle.counting.specs.Common.{rising_list, rising_pairs, everything, some}
+use Rattle.graph_core.proofs.Common.{contracted-graph, contracted-size, size-graph_of}
+use Rattle.graph_core.specs.Common.{Graph, IsGraph, has_ends, size, AreBlocks, contracted, blocks_adjacent, edges_between, quotient, IsWithinLimits, graph_of, pair_of}
 use Rattle.graph_core.specs.declared.ends.Ends.{Ends}
 use Rattle.contraction.proofs.BlockLists.{length-partition}
 use Rattle.contraction.proofs.JoinedPairs.{joined-limits, joined-once}

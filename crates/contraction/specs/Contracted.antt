@@ -2,10 +2,7 @@
 -- its vertices stand for, and for each of its edges the edges of the graph that it stands for.
 -- Stated by: contraction, tight_cuts, tree_check, report_text.
 use Rattle.std.specs.Prelude.{◌≡◌, ℕ, List, map}
-use Rattle.graph_core.specs.Graph.{Graph, size}
-use Rattle.graph_core.specs.Partitions.{IsPartition}
-use Rattle.graph_core.specs.Quotients.{edges_between, quotient}
-use Rattle.graph_core.specs.View.{IsWithinLimits}
+use Rattle.graph_core.specs.Common.{Graph, size, IsPartition, edges_between, quotient, IsWithinLimits}
 
 -- the numbers of vertices and edges of the graph, the blocks, the quotient graph and the
 -- remembered edges of its edges

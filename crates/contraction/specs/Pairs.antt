@@ -1,9 +1,8 @@
 -- Lists of pairs of vertices, and the pairs that edges join.
 -- Stated by: contraction. Rests on it: list_lines.
 use Rattle.std.specs.Prelude.{◌≡◌, ◌<◌, ℕ, List, length, filter, slice_index_or}
-use Rattle.counting.specs.Tests.{some}
-use Rattle.counting.specs.Lists.{rising_pairs}
-use Rattle.graph_core.specs.Graph.{Graph, has_ends, size}
+use Rattle.counting.specs.Common.{some, rising_pairs}
+use Rattle.graph_core.specs.Common.{Graph, has_ends, size}
 
 -- no pair stands twice
 abbrev pub EachOnce : List (ℕ × ℕ) → Type 0

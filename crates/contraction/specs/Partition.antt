@@ -3,9 +3,8 @@
 -- Stated by: contraction, tree_core.
 -- Rests on it: tree_check, uncross, report_text, list_lines, bench_outcomes and 2 more.
 use Rattle.std.specs.Prelude.{ℕ, ◌≤◌, List}
-use Rattle.counting.specs.Lists.{mem, IsRisingIn}
-use Rattle.graph_core.specs.Partitions.{IsPartition}
-use Rattle.graph_core.specs.Shores.{IsUnion}
+use Rattle.counting.specs.Common.{mem, IsRisingIn}
+use Rattle.graph_core.specs.Common.{IsPartition, IsUnion}
 
 -- the number of vertices, and the blocks by rising name
 pub record PartitionValue : Type 0 where

@@ -1,16 +1,11 @@
 //! The quotient of a graph at a partition, with remembered edges.
 ghost use Rattle.std.specs.Prelude.{◌≡◌, slice_index_or, ◌<◌, ◌≤◌, ◌+◌, ◌&&◌, ℕ, List, [], length, map, IfOk};
-ghost use Rattle.counting.specs.Counts.{Within};
-ghost use Rattle.counting.specs.Lists.{mem, item, rising_list};
-ghost use Rattle.graph_core.specs.Graph.{Graph, has_ends, size};
-ghost use Rattle.graph_core.specs.Partitions.{block, contracted};
+ghost use Rattle.counting.specs.Common.{Within, mem, item, rising_list, some};
+ghost use Rattle.graph_core.specs.Common.{Graph, has_ends, size, block, contracted, remembered, union_of_blocks, graph_of, pair_of};
 ghost use Rattle.indexmap.specs.IndexMap.{keys};
 ghost use Rattle.contraction.specs.Contracted.{KeepsContraction, contraction};
 ghost use Rattle.contraction.specs.LeastEdges.{least_at};
 ghost use Rattle.contraction.specs.Pairs.{EachOnce, joined_pairs};
-ghost use Rattle.graph_core.specs.Quotients.{remembered, union_of_blocks};
-ghost use Rattle.counting.specs.Tests.{some};
-ghost use Rattle.graph_core.specs.View.{graph_of, pair_of};
 
 use crate::Partition;
 use crate::place_pairs::{ends_at, graph_with, pairs_joined};

@@ -1,8 +1,6 @@
 //! The quotient graph of a graph at a partition, without what a quotient remembers.
 ghost use Rattle.std.specs.Prelude.{◌≡◌, IfOk, length, map};
-ghost use Rattle.graph_core.specs.Partitions.{contracted};
-ghost use Rattle.graph_core.specs.Quotients.{quotient};
-ghost use Rattle.graph_core.specs.View.{graph_of, pair_of};
+ghost use Rattle.graph_core.specs.Common.{contracted, quotient, graph_of, pair_of};
 ghost use Rattle.contraction.specs.Pairs.{joined_pairs};
 
 use crate::Partition;

@@ -1,15 +1,8 @@
 //! The laws that lead from a quotient to the partition and back. Each is the contract of a
 //! function that does nothing.
 ghost use Rattle.std.specs.Prelude.{◌≡◌, ℕ, List, true, ◌↔◌};
-ghost use Rattle.counting.specs.Sets.{Set, none};
-ghost use Rattle.counting.specs.Lists.{IsRisingIn, mem};
-ghost use Rattle.graph_core.specs.Graph.{Graph, IsGraph, edges_in_cut};
-ghost use Rattle.graph_core.specs.Matchings.{IsPerfect};
-ghost use Rattle.graph_core.specs.Covered.{IsCovered};
-ghost use Rattle.graph_core.specs.Partitions.{AreBlocks, IsPerfectAt, complement_of, contracted, merged};
-ghost use Rattle.graph_core.specs.Quotients.{lifted, projected, quotient};
-ghost use Rattle.graph_core.specs.Shores.{IsTightAt, IsUnion, blocks_in};
-ghost use Rattle.graph_core.specs.Tight.{IsTight};
+ghost use Rattle.counting.specs.Common.{Set, none, IsRisingIn, mem};
+ghost use Rattle.graph_core.specs.Common.{Graph, IsGraph, edges_in_cut, IsPerfect, IsCovered, AreBlocks, IsPerfectAt, complement_of, contracted, merged, lifted, projected, quotient, IsTightAt, IsUnion, blocks_in, IsTight};
 
 /// The quotient is matching covered exactly when the contracted graph is, which has the edges of
 /// the graph itself.

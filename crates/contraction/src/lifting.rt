@@ -1,13 +1,8 @@
 //! Matchings of the quotient lifted to the graph.
 ghost use Rattle.std.specs.Prelude.{◌≡◌, ℕ, ◌+◌, ◌≤◌, ◌==◌, ◌||◌, ◌<◌, true, Bool, List, length, All, IfOk};
 ghost use Rattle.std.specs.List.{list_any};
-ghost use Rattle.counting.specs.Counts.{Within};
-ghost use Rattle.counting.specs.Sets.{none, put};
-ghost use Rattle.counting.specs.Lists.{mem, rising_list};
-ghost use Rattle.graph_core.specs.Graph.{Graph, IsGraph, size};
-ghost use Rattle.graph_core.specs.Matchings.{IsPerfect};
-ghost use Rattle.graph_core.specs.Partitions.{IsPerfectAt};
-ghost use Rattle.graph_core.specs.Quotients.{lifted, quotient};
+ghost use Rattle.counting.specs.Common.{Within, none, put, mem, rising_list};
+ghost use Rattle.graph_core.specs.Common.{Graph, IsGraph, size, IsPerfect, IsPerfectAt, lifted, quotient};
 ghost use Rattle.match_core.specs.MatchingRows.{IsOf, edges_of};
 ghost use Rattle.match_search.specs.Rows.{marks};
 ghost use Rattle.contraction.specs.Contracted.{contraction};

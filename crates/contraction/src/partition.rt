@@ -2,10 +2,8 @@
 ghost use Rattle.std.specs.Prelude.{◌≡◌, ◌<◌, ◌≤◌, ◌+◌, ◌↔◌, ◌==◌, ◌||◌, not, length, slice_get, Some, IfOk, IsTrue, filter, insert, count_by, nat_lt, position};
 ghost use Rattle.itertools.specs.Consumer.{find_at};
 ghost use Rattle.std.specs.List.{list_all, position_or_len};
-ghost use Rattle.counting.specs.Counts.{Within};
-ghost use Rattle.counting.specs.Lists.{mem, last_of, is_subset, is_apart};
-ghost use Rattle.graph_core.specs.Partitions.{insert_block, merged, place, singles};
-ghost use Rattle.graph_core.specs.Shores.{block_count};
+ghost use Rattle.counting.specs.Common.{Within, mem, last_of, is_subset, is_apart};
+ghost use Rattle.graph_core.specs.Common.{insert_block, merged, place, singles, block_count};
 ghost use Rattle.contraction.specs.Partition.{IsUnionAt, KeepsPartition};
 
 use itertools::Itertools;

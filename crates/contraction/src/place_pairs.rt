@@ -1,14 +1,9 @@
 //! The pairs of places of blocks that edges join, and the graph with given edges.
 ghost use Rattle.std.specs.Prelude.{◌≡◌, ◌<◌, ◌≤◌, ◌+◌, ◌&&◌, ◌||◌, ◌++◌, ℕ, [], All, length, map, nat_lt, flat_map, IfOk, OnOk};
 ghost use Rattle.std.specs.List.{list_any};
-ghost use Rattle.counting.specs.Counts.{Within};
-ghost use Rattle.counting.specs.Lists.{mem, item, pair_with, rising_list, IsRisingIn};
-ghost use Rattle.counting.specs.Sets.{everything};
-ghost use Rattle.graph_core.specs.Graph.{IsGraph};
-ghost use Rattle.graph_core.specs.Partitions.{contracted};
+ghost use Rattle.counting.specs.Common.{Within, mem, item, pair_with, rising_list, IsRisingIn, everything, some};
+ghost use Rattle.graph_core.specs.Common.{IsGraph, contracted, graph_of, pair_of, are_ends, IsWithinLimits};
 ghost use Rattle.contraction.specs.Pairs.{joined_pairs};
-ghost use Rattle.counting.specs.Tests.{some};
-ghost use Rattle.graph_core.specs.View.{graph_of, pair_of, are_ends, IsWithinLimits};
 
 use crate::Partition;
 use graph_core::{Ends, MultiGraph};

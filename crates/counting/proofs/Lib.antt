@@ -10,3 +10,4 @@ pub mod RisingLists
 pub mod SetSizes
 pub mod Tests
 pub mod Totals
+pub mod Common

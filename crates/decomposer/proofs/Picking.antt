@@ -2,25 +2,17 @@
 -- first candidate, its shore is picked; and a cut with two trees is the tree that the order
 -- picks, and a derivation, where both trees are.
 use Rattle.std.proofs.Common.{◌≡◌, ℕ, zero, suc, ◌+◌, ◌≤◌, ◌<◌, List, [], ◌∷◌, length, map, All, unwrap_or, refl, sym, ap, ◌∙◌, arith, subst, slice_get, Option, Some, true, false, ◌==◌}
-use Rattle.std.proofs.lemmas.Bool.{both_ways}
-use Rattle.std.proofs.lemmas.List.{length-map}
-use Rattle.std.proofs.lemmas.Option.{get_or_from_slice_get, none-some, slice_get_within}
-use Rattle.counting.proofs.Counts.{count_complement}
-use Rattle.counting.specs.Counts.{count}
-use Rattle.counting.specs.Lists.{mem}
-use Rattle.counting.specs.Sets.{complement}
-use Rattle.graph_core.specs.Covered.{IsCovered}
-use Rattle.graph_core.specs.Graph.{Graph, IsGraph}
-use Rattle.graph_core.specs.Partitions.{singles}
-use Rattle.graph_core.specs.Shores.{blocks_in}
+use Rattle.counting.proofs.Common.{both_ways, length-map, get_or_from_slice_get, none-some, count_complement}
+use Rattle.std.proofs.lemmas.Option.{slice_get_within}
+use Rattle.counting.specs.Common.{count, mem, complement}
+use Rattle.graph_core.specs.Common.{IsCovered, Graph, IsGraph, singles, blocks_in}
 use Rattle.tight_cuts.proofs.FirstCandidates.{first-one, first-place}
 use Rattle.tight_cuts.proofs.PartitionCandidates.{found-root, root-candidates}
 use Rattle.tight_cuts.specs.Candidates.{Candidate, candidates, first_of, first_shore}
 use Rattle.tight_cuts.specs.CandidatesAt.{IsCandidateAt, candidates_at}
 use Rattle.tight_cuts.specs.View.{candidate_of}
 use Rattle.tight_cuts.specs.declared.candidate.Candidate.{Candidate as StoredCandidate}
-use Rattle.tree_core.specs.Shapes.{Shape, cut, cut_count}
-use Rattle.tree_core.specs.Derivations.{IsCutAt, IsDerivationAt, kept_at, merged_at}
+use Rattle.tree_core.specs.Common.{Shape, cut, cut_count, IsCutAt, IsDerivationAt, kept_at, merged_at}
 use Rattle.decomposer.specs.Orders.{NamedPicks}
 use Rattle.decomposer.specs.Picked.{IsPickedAt, IsPickedShore, PicksShore}
 use Rattle.decomposer.specs.declared.orders.NamedOrder.TheVariants.{First}

@@ -4,14 +4,12 @@
 -- Rests on it: list_lines, bench_outcomes.
 use Rattle.std.specs.Prelude.{◌≡◌, ℕ, ◌+◌, List, [], All, Option, Some, None, slice_get}
 use Rattle.std.specs.Option.{option_map}
-use Rattle.graph_core.specs.Graph.{Graph}
-use Rattle.graph_core.specs.Partitions.{singles}
+use Rattle.graph_core.specs.Common.{Graph, singles}
 use Rattle.tight_cuts.specs.Candidates.{Candidate, first_of}
 use Rattle.tight_cuts.specs.CandidatesAt.{IsCandidateAt, candidates_at}
 use Rattle.tight_cuts.specs.View.{candidate_of}
 use Rattle.tight_cuts.specs.declared.candidate.Candidate.{Candidate as StoredCandidate}
-use Rattle.tree_core.specs.Shapes.{Shape, leaf, cut, cut_count}
-use Rattle.tree_core.specs.Derivations.{IsCutAt, IsLeafAt, kept_at, merged_at}
+use Rattle.tree_core.specs.Common.{Shape, leaf, cut, cut_count, IsCutAt, IsLeafAt, kept_at, merged_at}
 
 -- the first candidate at p; none, and p is a leaf, where there is no candidate
 pub record IsFirstAt (g : Graph) (p : List (List ℕ)) (found : Option StoredCandidate) : Type 0 where

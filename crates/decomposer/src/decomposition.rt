@@ -1,12 +1,7 @@
 //! The decomposition of a graph by tight cuts.
 ghost use Rattle.std.specs.Prelude.{◌≡◌, ◌≤◌, ◌<◌, ◌+◌, ◌-◌, ℕ, List, [], length, IfOk, Err, Some, None};
-ghost use Rattle.counting.specs.Counts.{count};
-ghost use Rattle.counting.specs.Lists.{mem};
-ghost use Rattle.graph_core.specs.Covered.{IsCovered, IsReason};
-ghost use Rattle.graph_core.specs.Partitions.{singles};
-ghost use Rattle.graph_core.specs.Quotients.{quotient};
-ghost use Rattle.graph_core.specs.Shores.{blocks_in};
-ghost use Rattle.graph_core.specs.Verdicts.{reason_of};
+ghost use Rattle.counting.specs.Common.{count, mem};
+ghost use Rattle.graph_core.specs.Common.{IsCovered, IsReason, singles, quotient, blocks_in, reason_of};
 ghost use Rattle.tight_cuts.specs.Candidates.{candidates, first_shore};
 ghost use Rattle.tight_cuts.specs.CandidatesAt.{candidates_at};
 ghost use Rattle.tree_core.specs.Derivations.{
@@ -16,8 +11,7 @@ ghost use Rattle.tree_core.specs.Derivations.{
   kept_at,
   merged_at,
 };
-ghost use Rattle.tree_core.specs.Shapes.{cut, cut_count};
-ghost use Rattle.tree_core.specs.View.{shape_of};
+ghost use Rattle.tree_core.specs.Common.{cut, cut_count, shape_of};
 ghost use Rattle.decomposer.specs.Orders.{NamedPicks};
 ghost use Rattle.decomposer.specs.Picked.{IsPicked, IsPickedAt, PicksShore};
 

@@ -1,10 +1,7 @@
 //! The cut of a node: the candidate that an order picks. Where the order takes the first one, no
 //! other is looked for. At the root the candidates come from what is known of the graph.
 ghost use Rattle.std.specs.Prelude.{◌≡◌, ℕ, List, IfOk};
-ghost use Rattle.graph_core.specs.Covered.{IsCovered};
-ghost use Rattle.graph_core.specs.Graph.{Graph};
-ghost use Rattle.graph_core.specs.Partitions.{singles};
-ghost use Rattle.graph_core.specs.Quotients.{quotient};
+ghost use Rattle.graph_core.specs.Common.{IsCovered, Graph, singles, quotient};
 ghost use Rattle.decomposer.specs.Orders.{NamedPicks};
 ghost use Rattle.decomposer.specs.Picked.{AreCandidatesAt, IsFirstAt, IsPickedShore};
 

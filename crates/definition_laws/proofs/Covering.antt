@@ -2,28 +2,14 @@
 -- covered graph in exactly one listed class. The list of the least vertices holds the one that
 -- stands for it, and holds it once.
 use Rattle.std.proofs.Common.{◌≡◌, ℕ, suc, ◌<◌, true, false, List, [], ◌∷◌, length, map, refl, sym, ap, ◌∙◌, arith, inl, inr, ◌&&◌, ◌==◌, not, eqb-true, nat_lt, lt-ltb, ltb-true}
-use Rattle.std.proofs.lemmas.Bool.{and_from, and_parts, both_ways, cases_order, false_from_ne_true, or_cases, true≢false, not-true}
-use Rattle.std.proofs.lemmas.List.{get_or-map, length-map}
+use Rattle.counting.proofs.Common.{and_from, and_parts, both_ways, cases_order, false_from_ne_true, or_cases, true≢false, not-true, get_or-map, length-map, rising_holds, rising_only, mem-item, rising_list-rises, least_true, some_true, true_some}
 use Rattle.std.proofs.lemmas.List.Kept.{AllPairs-from_increasing}
 use Rattle.std.specs.Prelude.{Any, ◌-◌, slice_index_or}
-use Rattle.counting.proofs.Lists.{rising_holds, rising_only}
-use Rattle.counting.proofs.RisingLists.{mem-item, rising_list-rises}
-use Rattle.counting.proofs.Tests.{least_true, some_true, true_some}
-use Rattle.counting.specs.Counts.{Within}
-use Rattle.counting.specs.Lists.{IsRisingIn, item, mem, rising_list}
-use Rattle.counting.specs.Sets.{Set}
-use Rattle.counting.specs.Tests.{some}
+use Rattle.counting.specs.Common.{Within, IsRisingIn, item, mem, rising_list, Set, some}
 use Rattle.barrier_kit.proofs.ClassLaw.{equivalent_back, equivalent_on}
-use Rattle.graph_core.proofs.Components.{joined_walk, walk_joined}
-use Rattle.graph_core.proofs.Decide.{is_equivalent_found, is_equivalent_says}
+use Rattle.graph_core.proofs.Common.{joined_walk, walk_joined, is_equivalent_found, is_equivalent_says, least_same, joined_back, joined_on}
 use Rattle.definition_laws.proofs.Leaders.{leader}
-use Rattle.graph_core.proofs.Trees.{least_same}
-use Rattle.graph_core.proofs.Walks.{joined_back, joined_on}
-use Rattle.graph_core.specs.Components.{components, is_least}
-use Rattle.graph_core.specs.Covered.{IsCovered}
-use Rattle.graph_core.specs.Graph.{Graph, IsGraph}
-use Rattle.graph_core.specs.Structure.{Equivalent, classes, is_equivalent, is_least_of_class}
-use Rattle.graph_core.specs.Walks.{joined}
+use Rattle.graph_core.specs.Common.{components, is_least, IsCovered, Graph, IsGraph, Equivalent, classes, is_equivalent, is_least_of_class, joined}
 
 -- a number of a list stands at some place
 item_at : (xs : List ℕ) (u : ℕ) → mem xs u ≡ true → (k : ℕ) × (k < length xs) × ((d : ℕ) → slice_index_or xs k d ≡ u)

@@ -2,26 +2,12 @@
 -- vertex. The test for a least vertex looks at the vertices below it, and the lists are those of
 -- the test for a walk.
 use Rattle.std.proofs.Common.{◌≡◌, ℕ, ◌≤◌, ◌<◌, true, false, ap, ◌∙◌, sym, arith, ◌&&◌, not, nat_lt, lt-ltb, ltb-true, inl, inr, refl}
-use Rattle.std.proofs.lemmas.Bool.{and_parts, and_from, both_ways, cases_order, false_from_ne_true, not-true}
-use Rattle.std.proofs.lemmas.List.Elements.{All-map}
+use Rattle.counting.proofs.Common.{and_parts, and_from, both_ways, cases_order, false_from_ne_true, not-true, All-map, bit_true, only_one, rising_only, mem-item, mem-rising_list, rising_list-rises, some_true, true_some, some_term}
 use Rattle.std.specs.Prelude.{All, slice_index_or}
-use Rattle.counting.proofs.Counts.{bit_true, only_one}
-use Rattle.counting.proofs.Lists.{rising_only}
-use Rattle.counting.proofs.RisingLists.{mem-item, mem-rising_list, rising_list-rises}
-use Rattle.counting.proofs.Tests.{some_true, true_some}
-use Rattle.counting.proofs.Totals.{some_term}
-use Rattle.counting.specs.Counts.{Within, bit, count, is_odd}
-use Rattle.counting.specs.Lists.{rising_list}
-use Rattle.counting.specs.Sets.{Set}
-use Rattle.counting.specs.Tests.{some}
-use Rattle.graph_core.proofs.Components.{joined_walk, one_leader, some_leader, walk_joined}
-use Rattle.graph_core.proofs.Decide.{is_equivalent_found, is_equivalent_says}
-use Rattle.graph_core.proofs.Walks.{joined_self}
-use Rattle.graph_core.specs.Components.{component_count, components, is_least, odd_component_count}
-use Rattle.graph_core.specs.Graph.{Graph, IsGraph}
-use Rattle.graph_core.specs.Structure.{classes, is_equivalent, is_least_of_class}
+use Rattle.counting.specs.Common.{Within, bit, count, is_odd, rising_list, Set, some}
+use Rattle.graph_core.proofs.Common.{joined_walk, one_leader, some_leader, walk_joined, is_equivalent_found, is_equivalent_says, joined_self}
+use Rattle.graph_core.specs.Common.{component_count, components, is_least, odd_component_count, Graph, IsGraph, classes, is_equivalent, is_least_of_class, Joined, joined}
 use Rattle.definition_laws.specs.Words.{IsComponent, IsListOfClass}
-use Rattle.graph_core.specs.Walks.{Joined, joined}
 
 -- a least vertex is outside s, and no vertex joined to it is below it
 pub least_says : (g : Graph) (s : Set) → IsGraph g → (u : ℕ) → Within g.order u → is_least g s u ≡ true → (s u ≡ false) × ((v : ℕ) → Within g.order v → Joined g s u v → u ≤ v)

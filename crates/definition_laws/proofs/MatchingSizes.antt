@@ -2,14 +2,10 @@
 -- for perfect matchings it searches through all edge sets, and its condition goes by the edge
 -- numbers alone.
 use Rattle.std.proofs.Common.{◌≡◌, ℕ, true, ◌==◌, ap, ap₂, ◌&&◌, eq-eqb, eqb-true}
-use Rattle.std.proofs.lemmas.Bool.{and_from, and_parts}
-use Rattle.counting.proofs.Choice.{set_found, some_set_found}
-use Rattle.counting.proofs.Counts.{count_congr}
-use Rattle.counting.specs.Counts.{count}
-use Rattle.counting.specs.Sets.{Set}
-use Rattle.graph_core.proofs.Decide.{is_matching_congr, is_matching_true, true_is_matching}
-use Rattle.graph_core.specs.Graph.{Graph, size}
-use Rattle.graph_core.specs.Matchings.{IsMatching, has_matching_of, is_matching}
+use Rattle.counting.proofs.Common.{and_from, and_parts, set_found, some_set_found, count_congr}
+use Rattle.counting.specs.Common.{count, Set}
+use Rattle.graph_core.proofs.Common.{is_matching_congr, is_matching_true, true_is_matching}
+use Rattle.graph_core.specs.Common.{Graph, size, IsMatching, has_matching_of, is_matching}
 
 -- some matching has k edges where the test says so
 pub has_matching_says : (g : Graph) (r : Set) (k : ℕ) → has_matching_of g r k ≡ true → (m : Set) × IsMatching g r m × (count (size g) m ≡ k)

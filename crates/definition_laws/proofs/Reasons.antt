@@ -2,25 +2,14 @@
 -- reason denies a part of being covered and asserts the parts before it; each part is decided,
 -- and each graph has a Berge set.
 use Rattle.std.proofs.Common.{◌≡◌, ℕ, suc, zero, ◌+◌, ◌≤◌, ◌⊎◌, ◌||◌, inl, inr, refl, sym, ap, ap₂, ◌∙◌, arith, List, nat_le, leb-true, subst}
-use Rattle.std.proofs.lemmas.Bool.{cases_Bool, cases_eq, leb-false}
+use Rattle.std.proofs.lemmas.Bool.{leb-false}
+use Rattle.counting.proofs.Common.{cases_Bool, cases_eq, count_congr, mem-rising_list, rising_list-rises, least-one}
 use Rattle.barrier_kit.proofs.ClassLaw.{perfect_or_not}
 use Rattle.barrier_kit.proofs.Enlarging.{odd_component_count-congr}
-use Rattle.counting.proofs.Counts.{count_congr}
-use Rattle.counting.proofs.RisingLists.{mem-rising_list, rising_list-rises}
-use Rattle.counting.proofs.Tests.{least-one}
-use Rattle.counting.specs.Counts.{Within}
-use Rattle.counting.specs.Lists.{IsRisingIn, mem, rising_list}
-use Rattle.counting.specs.Sets.{none, union}
-use Rattle.counting.specs.Tests.{IsLeastWithout}
-use Rattle.graph_core.proofs.Decide.{allowed_or_not}
-use Rattle.graph_core.proofs.Walks.{joined_back, joined_on, joined_or_not}
-use Rattle.graph_core.specs.BergeSets.{IsBergeSet}
-use Rattle.graph_core.specs.Components.{IsConnected}
-use Rattle.graph_core.specs.Covered.{IsCovered, IsReason, Reason, Small, Parted, Unmatched, Unallowed}
-use Rattle.graph_core.specs.Graph.{Graph, IsGraph, size}
-use Rattle.graph_core.specs.Matchings.{Allowed, HasPerfect, missed_count}
+use Rattle.counting.specs.Common.{Within, IsRisingIn, mem, rising_list, none, union, IsLeastWithout}
+use Rattle.graph_core.proofs.Common.{allowed_or_not, joined_back, joined_on, joined_or_not}
+use Rattle.graph_core.specs.Common.{IsBergeSet, IsConnected, IsCovered, IsReason, Reason, Small, Parted, Unmatched, Unallowed, Graph, IsGraph, size, Allowed, HasPerfect, missed_count, Joined}
 use Rattle.definition_laws.specs.Words.{without_berge}
-use Rattle.graph_core.specs.Walks.{Joined}
 use Rattle.match_core.proofs.TutteBerge.{tutte_berge}
 
 -- of 1 to n all have a decided property, or there is a least that has it not

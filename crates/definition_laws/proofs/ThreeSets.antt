@@ -1,14 +1,10 @@
 -- Each vertex is in exactly one of the Gallai-Edmonds sets D, A and C. Whether some maximum
 -- matching misses a vertex is decided, and so is whether a vertex is adjacent to such a one.
 use Rattle.std.proofs.Common.{◌≡◌, ℕ, true, ◌⊎◌, inl, inr, arith}
-use Rattle.std.proofs.lemmas.Bool.{both_ways, cases_Bool}
-use Rattle.counting.proofs.Tests.{scan}
-use Rattle.counting.specs.Counts.{Within}
-use Rattle.counting.specs.Sets.{none}
-use Rattle.graph_core.proofs.Decide.{missed_or_met}
-use Rattle.graph_core.specs.GallaiEdmonds.{InA, InC, InD}
-use Rattle.graph_core.specs.Graph.{Graph}
-use Rattle.graph_core.specs.Walks.{adjacent}
+use Rattle.counting.proofs.Common.{both_ways, cases_Bool, scan}
+use Rattle.counting.specs.Common.{Within, none}
+use Rattle.graph_core.proofs.Common.{missed_or_met}
+use Rattle.graph_core.specs.Common.{InA, InC, InD, Graph, adjacent}
 
 -- some maximum matching misses v, or none does
 d_or_not : (g : Graph) (v : ℕ) → Within g.order v → (InD g v) ⊎ (InD g v → ⊥)

@@ -2,15 +2,8 @@
 -- this crate say that they agree. Any textbook (Lovász and Plummer, "Matching Theory").
 -- Stated by: definition_laws. Rests on it: bench_top.
 use Rattle.std.specs.Prelude.{◌≡◌, ◌≢◌, ◌<◌, ◌⊎◌, ◌↔◌, ℕ, true, false, List, [], length}
-use Rattle.counting.specs.Counts.{Within}
-use Rattle.counting.specs.Lists.{mem, ComesBefore, IsRisingIn}
-use Rattle.counting.specs.Sets.{Set}
-use Rattle.graph_core.specs.Covered.{Reason, Small, Parted, Unmatched, Unallowed}
-use Rattle.graph_core.specs.Graph.{Graph, size, first_end, second_end}
-use Rattle.graph_core.specs.Matchings.{IsEnd}
-use Rattle.graph_core.specs.Partitions.{block, place}
-use Rattle.graph_core.specs.Structure.{IsClass}
-use Rattle.graph_core.specs.Walks.{Joined}
+use Rattle.counting.specs.Common.{Within, mem, ComesBefore, IsRisingIn, Set}
+use Rattle.graph_core.specs.Common.{Reason, Small, Parted, Unmatched, Unallowed, Graph, size, first_end, second_end, IsEnd, block, place, IsClass, Joined}
 
 -- no edge of m is a loop; in a multigraph no edge is
 abbrev pub HoldsNoLoop : Graph → Set → Type 0

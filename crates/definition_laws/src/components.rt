@@ -4,12 +4,8 @@
 //! Each law here is the contract of a function that does nothing.
 ghost use Rattle.std.specs.Prelude.{◌≡◌, ℕ, List, ◌≤◌, ◌&&◌, true, false, length, map, count_by, slice_index, ◌↔◌, All, Any};
 ghost use Rattle.std.specs.List.Sorted.{IsStrictlyIncreasing};
-ghost use Rattle.counting.specs.Counts.{Within, count, is_odd};
-ghost use Rattle.counting.specs.Lists.{item, mem};
-ghost use Rattle.counting.specs.Sets.{Set};
-ghost use Rattle.graph_core.specs.Components.{component_count, components, is_least, odd_component_count};
-ghost use Rattle.graph_core.specs.Graph.{Graph, HasEnds, IsGraph, has_ends, size};
-ghost use Rattle.graph_core.specs.Walks.{Joined, adjacent, joined};
+ghost use Rattle.counting.specs.Common.{Within, count, is_odd, item, mem, Set};
+ghost use Rattle.graph_core.specs.Common.{component_count, components, is_least, odd_component_count, Graph, HasEnds, IsGraph, has_ends, size, Joined, adjacent, joined};
 ghost use Rattle.definition_laws.specs.Words.{IsComponent};
 
 /// Two vertices are adjacent in G - S exactly when both are outside S and some edge has them as

@@ -4,14 +4,8 @@
 //! Each law here is the contract of a function that does nothing.
 ghost use Rattle.std.specs.Prelude.{◌≡◌, ℕ, List, ◌≤◌, ◌⊎◌, true, length, map, slice_index, ◌↔◌, All, Any, Some};
 ghost use Rattle.std.specs.List.Sorted.{IsStrictlyIncreasing};
-ghost use Rattle.counting.specs.Counts.{Within};
-ghost use Rattle.counting.specs.Lists.{item, mem};
-ghost use Rattle.counting.specs.Sets.{pair_set};
-ghost use Rattle.graph_core.specs.Components.{component_count};
-ghost use Rattle.graph_core.specs.Covered.{IsCovered, IsReason, Reason};
-ghost use Rattle.graph_core.specs.Graph.{Graph, IsGraph, IsMultigraph};
-ghost use Rattle.graph_core.specs.Matchings.{HasPerfect};
-ghost use Rattle.graph_core.specs.Structure.{Equivalent, classes, cut_pair, is_equivalent, equivalent_pair};
+ghost use Rattle.counting.specs.Common.{Within, item, mem, pair_set};
+ghost use Rattle.graph_core.specs.Common.{component_count, IsCovered, IsReason, Reason, Graph, IsGraph, IsMultigraph, HasPerfect, Equivalent, classes, cut_pair, is_equivalent, equivalent_pair};
 ghost use Rattle.definition_laws.specs.Words.{IsFirstPair, IsListOfClass, without_berge};
 
 /// Each graph is matching covered or has a reason, and a multigraph never both. Two reasons of a

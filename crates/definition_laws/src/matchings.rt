@@ -3,12 +3,8 @@
 //! The definitions go by degrees, since proofs and code want them so: a matching has degree at
 //! most 1 at each vertex. Each law here is the contract of a function that does nothing.
 ghost use Rattle.std.specs.Prelude.{◌≡◌, ℕ, ◌+◌, ◌*◌, ◌⊎◌, true, ◌↔◌};
-ghost use Rattle.counting.specs.Counts.{Within, count};
-ghost use Rattle.counting.specs.Sets.{Set, complement, none};
-ghost use Rattle.graph_core.specs.GallaiEdmonds.{InA, InC, InD};
-ghost use Rattle.graph_core.specs.Graph.{Graph, IsGraph, IsMultigraph, size};
-ghost use Rattle.graph_core.specs.Matchings.{Allowed, IsMatching, IsPerfect, ShareNoEnd, has_matching_of, is_allowed, is_matching, is_perfect, missed_count};
-ghost use Rattle.graph_core.specs.Tight.{IsNontrivial, IsTight, is_nontrivial, is_tight};
+ghost use Rattle.counting.specs.Common.{Within, count, Set, complement, none};
+ghost use Rattle.graph_core.specs.Common.{InA, InC, InD, Graph, IsGraph, IsMultigraph, size, Allowed, IsMatching, IsPerfect, ShareNoEnd, has_matching_of, is_allowed, is_matching, is_perfect, missed_count, IsNontrivial, IsTight, is_nontrivial, is_tight};
 ghost use Rattle.definition_laws.specs.Words.{Avoids, HoldsNoLoop, MeetsEachOnce};
 
 /// A perfect matching of G - R, in words: no edge of it is a loop or has an end in R, and each

@@ -4,12 +4,8 @@
 //! A partition is a list of blocks in the order of their greatest vertices; `place` is the number
 //! of a vertex's block. Each law here is the contract of a function that does nothing.
 ghost use Rattle.std.specs.Prelude.{◌≡◌, ℕ, List, true, length, ◌↔◌};
-ghost use Rattle.counting.specs.Counts.{Within, is_odd};
-ghost use Rattle.counting.specs.Lists.{mem};
-ghost use Rattle.counting.specs.Sets.{Set, complement};
-ghost use Rattle.graph_core.specs.Graph.{Graph, IsGraph, edges_in_cut};
-ghost use Rattle.graph_core.specs.Partitions.{AreBlocks, IsPartition, IsPerfectAt, block, place};
-ghost use Rattle.graph_core.specs.Shores.{IsTightAt, IsUnion, block_count};
+ghost use Rattle.counting.specs.Common.{Within, is_odd, mem, Set, complement};
+ghost use Rattle.graph_core.specs.Common.{Graph, IsGraph, edges_in_cut, AreBlocks, IsPartition, IsPerfectAt, block, place, IsTightAt, IsUnion, block_count};
 ghost use Rattle.definition_laws.specs.Words.{LeavesBlocks, MeetsEachBlockOnce};
 
 /// Each vertex is in exactly one block of a partition, that at its place, and the relation "in

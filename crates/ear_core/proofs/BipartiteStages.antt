@@ -1,15 +1,10 @@
 -- Ears of bipartite graphs. An ear has its ends on opposite sides, since its length is odd; so it
 -- serves, and single ears do.
 use Rattle.std.proofs.Common.{◌≡◌, ℕ, Bool, true, false, cond, ◌==◌, refl, sym, ap, ap₂, ◌∙◌, arith, ◌&&◌, ◌||◌, not, eq-eqb, ne_eqb, eqb-true, inl, inr, [], ◌∷◌, List, length}
-use Rattle.std.proofs.lemmas.Bool.{cases_eq, cases_Bool, and_parts, and_from, true≢false, or_cases}
+use Rattle.counting.proofs.Common.{cases_eq, cases_Bool, and_parts, and_from, true≢false, or_cases, rank_once, some_true, true_some, not_not, or_comm, same_tests}
 use Rattle.barrier_kit.proofs.Matched.{perfect_congr}
-use Rattle.graph_core.specs.Sides.{IsSide}
-use Rattle.counting.proofs.Ranks.{rank_once}
-use Rattle.counting.proofs.Tests.{some_true, true_some}
-use Rattle.counting.specs.Counts.{Within, count, is_odd}
-use Rattle.counting.specs.Sets.{Set, pair_set}
-use Rattle.counting.specs.Tests.{some}
-use Rattle.counting.proofs.Booleans.{not_not, or_comm, same_tests}
+use Rattle.graph_core.specs.Common.{IsSide, Graph, IsBipartite, IsGraph, first_end, in_cut, second_end, size, HasPerfect}
+use Rattle.counting.specs.Common.{Within, count, is_odd, Set, pair_set, some}
 use Rattle.ear_core.proofs.EngineGraphs.{ends-met}
 use Rattle.ear_core.proofs.TraceEdges.{two_less_odd}
 use Rattle.ear_core.proofs.NextStages.{met-within}
@@ -19,8 +14,6 @@ use Rattle.ear_core.specs.Asking.{NoneServes}
 use Rattle.ear_core.specs.EarLists.{PlainEar}
 use Rattle.ear_core.specs.Ears.{Follow, IsEar, last_vertex, other_end}
 use Rattle.ear_core.specs.Stages.{IsStage, is_met}
-use Rattle.graph_core.specs.Graph.{Graph, IsBipartite, IsGraph, first_end, in_cut, second_end, size}
-use Rattle.graph_core.specs.Matchings.{HasPerfect}
 use Rattle.ear_core.proofs.Walking.{joins}
 use Rattle.two_ears.proofs.OppositeSides.{opposite}
 

@@ -1,16 +1,14 @@
 -- The tests of an ear say that it is an ear, and those of the second ear of a step that the two
 -- are a pair. A vertex is counted along the ear: the first, the inner ones and the last.
 use Rattle.std.proofs.Common.{◌≡◌, ℕ, ◌+◌, ◌≤◌, Bool, true, false, ◌==◌, refl, sym, ap, ◌∙◌, arith, ◌&&◌, ◌||◌, not, eq-eqb, ne_eqb, eqb-true, inl, inr, nat_le, leb-true, le-leb, subst, [], ◌∷◌, List, length, ◌↔◌}
-use Rattle.std.proofs.lemmas.Bool.{cases_eq, and_parts, and_from, both_ways, true≢false, false_from_ne_true, true_from_ne_false, not-true, or_left, or_right, or_parts, or_cases, or_from}
-use Rattle.counting.proofs.Lists.{times_mem}
-use Rattle.counting.specs.Counts.{bit, is_odd}
-use Rattle.counting.specs.Lists.{mem, times}
-use Rattle.counting.specs.Sets.{Set}
+use Rattle.std.proofs.lemmas.Bool.{true_from_ne_false}
+use Rattle.counting.proofs.Common.{cases_eq, and_parts, and_from, both_ways, true≢false, false_from_ne_true, not-true, or_left, or_right, or_parts, or_cases, or_from, times_mem}
+use Rattle.counting.specs.Common.{bit, is_odd, mem, times, Set}
 use Rattle.ear_core.proofs.TraceEdges.{mem_times}
 use Rattle.ear_core.specs.EarTests.{follows, front, inner_vertices, repeats, no_member, is_empty, Passes}
 use Rattle.ear_core.specs.Ears.{other_end, Follow, trail, last_vertex, IsEar, IsEarPair}
 use Rattle.ear_core.specs.Stages.{is_met}
-use Rattle.graph_core.specs.Graph.{Graph, size, first_end, second_end}
+use Rattle.graph_core.specs.Common.{Graph, size, first_end, second_end}
 
 trace_true : (g : Graph) (v : ℕ) (es : List ℕ) → follows g v es ≡ true → Follow g v es
 trace_true g v [] h = tt

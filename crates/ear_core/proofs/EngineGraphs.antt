@@ -2,21 +2,15 @@
 -- perfect matching of the listed edges is one of the graph of the stage; and an edge lies in one
 -- if its two ends may be left out.
 use Rattle.std.proofs.Common.{◌≡◌, ℕ, suc, zero, ◌+◌, ◌*◌, ◌≢◌, Bool, true, false, cond, ◌==◌, refl, sym, ap, ◌∙◌, arith, ◌&&◌, not, eq-eqb, ne_eqb, eqb-true, inl, inr, [], ◌∷◌, ◌++◌, length, ◌↔◌}
-use Rattle.counting.proofs.Booleans.{same_tests}
-use Rattle.std.proofs.lemmas.Bool.{cases_eq, or_right, cases_Bool, and_parts, true_from_ne_false, and_from, both_ways, false_from_ne_true, not-true, or_left, or_cases, or_parts, or_from}
-use Rattle.counting.proofs.Ranks.{rank_once}
-use Rattle.counting.proofs.Tests.{some_true, true_some}
-use Rattle.counting.specs.Counts.{bit, count, Within}
-use Rattle.counting.specs.Sets.{Set, union, put, pair_set, complement}
-use Rattle.counting.specs.Tests.{some}
+use Rattle.counting.proofs.Common.{same_tests, cases_eq, or_right, cases_Bool, and_parts, and_from, both_ways, false_from_ne_true, not-true, or_left, or_cases, or_parts, or_from, rank_once, some_true, true_some}
+use Rattle.std.proofs.lemmas.Bool.{true_from_ne_false}
+use Rattle.counting.specs.Common.{bit, count, Within, Set, union, put, pair_set, complement, some}
 use Rattle.ear_core.proofs.TraceEdges.{some-met, unmet, degree_le}
 use Rattle.ear_core.specs.StageGraphs.{by_rank, listed}
 use Rattle.two_ears.proofs.AddedEdges.{size-added, degree-added}
 use Rattle.ear_core.specs.Stages.{is_met, IsPerfectOff, IsPerfectOf}
-use Rattle.graph_core.proofs.Decide.{degree_congr}
-use Rattle.graph_core.proofs.Edits.{ends_of, ends_le_degree, degree_put}
-use Rattle.graph_core.specs.Graph.{Graph, size, first_end, second_end, degree, IsGraph, with_ends}
-use Rattle.graph_core.specs.Matchings.{IsPerfect, HasPerfect}
+use Rattle.graph_core.proofs.Common.{degree_congr, ends_of, ends_le_degree, degree_put}
+use Rattle.graph_core.specs.Common.{Graph, size, first_end, second_end, degree, IsGraph, with_ends, IsPerfect, HasPerfect}
 
 pub ends-met : (g : Graph) (f : Set) (e : ℕ) → Within (size g) e → f e ≡ true → (is_met g f (first_end g e) ≡ true) × (is_met g f (second_end g e) ≡ true)
 unfolding ends_of

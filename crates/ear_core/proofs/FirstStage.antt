@@ -1,17 +1,10 @@
 -- One edge is a stage: its two ends are joined, and it is itself the perfect matching. And the
 -- edges of steps that are taken are more and more: each step adds one.
 use Rattle.std.proofs.Common.{◌≡◌, ℕ, ◌+◌, ◌≤◌, Bool, true, false, ◌==◌, refl, sym, ap, ◌∙◌, arith, ◌&&◌, ◌||◌, eq-eqb, ne_eqb, eqb-true, ◌⊎◌, inl, inr, subst, [], ◌∷◌, List, length}
-use Rattle.std.proofs.lemmas.Bool.{cases_eq, and_from, true≢false, or_left, or_right, or_cases}
-use Rattle.counting.proofs.Counts.{count_more}
-use Rattle.counting.proofs.Tests.{true_some}
-use Rattle.counting.proofs.Totals.{at_le_total}
-use Rattle.counting.specs.Counts.{bit, count, Within, is_odd}
-use Rattle.counting.specs.Lists.{mem}
-use Rattle.counting.specs.Sets.{Set, singleton}
-use Rattle.graph_core.proofs.Decide.{degree_congr}
-use Rattle.graph_core.proofs.Edits.{ends_of}
-use Rattle.graph_core.proofs.Walks.{has_ends-own, has_ends-back}
-use Rattle.graph_core.specs.Graph.{Graph, size, first_end, second_end, degree, has_ends, IsMultigraph}
+use Rattle.counting.proofs.Common.{cases_eq, and_from, true≢false, or_left, or_right, or_cases, count_more, true_some, at_le_total}
+use Rattle.counting.specs.Common.{bit, count, Within, is_odd, mem, Set, singleton}
+use Rattle.graph_core.proofs.Common.{degree_congr, ends_of, has_ends-own, has_ends-back}
+use Rattle.graph_core.specs.Common.{Graph, size, first_end, second_end, degree, has_ends, IsMultigraph}
 use Rattle.ear_core.proofs.TraceEdges.{list_ends, mem_degree, met-some, edges-within}
 use Rattle.ear_core.specs.EarLists.{PlainStep, one, two, next_stage, IsStep}
 use Rattle.ear_core.specs.Ears.{IsEar}

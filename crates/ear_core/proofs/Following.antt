@@ -4,13 +4,9 @@ use Rattle.std.proofs.Common.{◌≡◌, ℕ, suc, zero, ◌+◌, ◌≤◌, Boo
 use Rattle.std.specs.Prelude.{slice_get}
 use Rattle.std.proofs.Math.Path.{fun_ext}
 use Rattle.std.proofs.lemmas.List.{append_assoc}
-use Rattle.std.proofs.lemmas.Bool.{and_parts, or_right}
-use Rattle.counting.proofs.Counts.{count_more}
-use Rattle.counting.specs.Counts.{Within, count}
-use Rattle.counting.specs.Lists.{mem}
-use Rattle.counting.specs.Sets.{Set, complement}
-use Rattle.counting.proofs.Booleans.{or_false_back}
-use Rattle.graph_core.specs.Graph.{Graph, IsGraph}
+use Rattle.counting.proofs.Common.{and_parts, or_right, count_more, or_false_back}
+use Rattle.counting.specs.Common.{Within, count, mem, Set, complement}
+use Rattle.graph_core.specs.Common.{Graph, IsGraph}
 use Rattle.match_core.specs.declared.matching.MatchRow.{MatchRow}
 use Rattle.ear_core.specs.AlternatingEars.{row_edge, mate, KeepsMates, IsAlternating, IsClear, IsTraced, HoldsMates, IsMatedEar, AreMatedEars, is_left}
 use Rattle.ear_core.specs.EarLists.{PlainEar}

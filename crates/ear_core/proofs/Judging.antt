@@ -4,11 +4,9 @@
 use Rattle.std.proofs.Common.{◌≡◌, ◌↔◌, ℕ, ◌+◌, ◌<◌, ◌≤◌, Bool, true, false, ◌||◌, ◌==◌, List, ◌∷◌, length, Option, Some, None, Result, IfOk, refl, sym, ap, ap₂, ◌∙◌, subst, inr}
 use Rattle.std.specs.Prelude.{slice_set, replicate}
 use Rattle.std.proofs.Math.Path.{fun_ext}
-use Rattle.std.proofs.lemmas.Bool.{both_ways}
-use Rattle.std.proofs.lemmas.Result.{IfOk-weaker}
-use Rattle.counting.specs.Counts.{Within, count}
-use Rattle.counting.specs.Sets.{Set, singleton}
-use Rattle.graph_core.specs.Graph.{Graph, size, IsMultigraph}
+use Rattle.counting.proofs.Common.{both_ways, IfOk-weaker}
+use Rattle.counting.specs.Common.{Within, count, Set, singleton}
+use Rattle.graph_core.specs.Common.{Graph, size, IsMultigraph}
 use Rattle.match_search.proofs.Marks.{no-marks}
 use Rattle.match_search.specs.Rows.{marks}
 use Rattle.allowed_edges.proofs.Marking.{marks-set}

@@ -1,12 +1,9 @@
 -- From a matching to a single ear. If the matching leads out of the stage at two vertices alone,
 -- each ear that it makes with the kept one has these for its ends, so it serves alone.
 use Rattle.std.proofs.Common.{◌≡◌, ◌≢◌, ℕ, ◌+◌, ◌≤◌, Bool, true, false, cond, ◌==◌, ◌&&◌, ◌||◌, not, refl, sym, ap, ◌∙◌, arith, eq-eqb, eqb-true, ne_eqb, inl, inr, subst, List, [], ◌∷◌}
-use Rattle.std.proofs.lemmas.Bool.{both_ways, cases_eq, false_from_ne_true, or_cases, or_left, or_right, or_parts, true≢false, not-true}
-use Rattle.counting.proofs.Booleans.{same_tests}
-use Rattle.counting.specs.Counts.{Within, bit}
-use Rattle.counting.specs.Lists.{IsIn, mem}
-use Rattle.counting.specs.Sets.{Set, pair_set}
-use Rattle.graph_core.specs.Graph.{Graph, IsGraph, first_end, second_end}
+use Rattle.counting.proofs.Common.{both_ways, cases_eq, false_from_ne_true, or_cases, or_left, or_right, or_parts, true≢false, not-true, same_tests}
+use Rattle.counting.specs.Common.{Within, bit, IsIn, mem, Set, pair_set}
+use Rattle.graph_core.specs.Common.{Graph, IsGraph, first_end, second_end}
 use Rattle.match_core.specs.MatchingRows.{MatchingValue, edges_of}
 use Rattle.two_ears.specs.VertexPairs.{in_pairs, pairs_at}
 use Rattle.ear_core.proofs.LoneMatchings.{ends-differ}

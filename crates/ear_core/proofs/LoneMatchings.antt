@@ -3,15 +3,10 @@
 -- without the two ends are a perfect matching that leads out of the stage at the two ends alone.
 use Rattle.std.proofs.Common.{◌≡◌, ◌≢◌, ℕ, ◌<◌, ◌≤◌, Bool, true, false, cond, ◌==◌, ◌&&◌, ◌||◌, not, refl, sym, ap, ◌∙◌, arith, eq-eqb, inl, inr, subst, List, [], ◌∷◌}
 use Rattle.std.proofs.Math.Path.{fun_ext}
-use Rattle.std.proofs.lemmas.Bool.{both_ways, cases_Bool, cases_order, false_from_ne_true, or_cases, or_from, or_left, or_right, true≢false}
-use Rattle.counting.proofs.Booleans.{or_comm, or_false, or_false_back}
-use Rattle.counting.specs.Counts.{Within, bit}
-use Rattle.counting.specs.Lists.{mem}
-use Rattle.counting.specs.Sets.{Set, none, pair_set, union}
-use Rattle.graph_core.proofs.Edits.{ends_le_degree, ends_of}
-use Rattle.graph_core.specs.Covered.{IsCovered}
-use Rattle.graph_core.specs.Graph.{Graph, IsGraph, IsMultigraph, first_end, second_end, size}
-use Rattle.graph_core.specs.Matchings.{IsEnd, IsPerfect}
+use Rattle.counting.proofs.Common.{both_ways, cases_Bool, cases_order, false_from_ne_true, or_cases, or_from, or_left, or_right, true≢false, or_comm, or_false, or_false_back}
+use Rattle.counting.specs.Common.{Within, bit, mem, Set, none, pair_set, union}
+use Rattle.graph_core.proofs.Common.{ends_le_degree, ends_of}
+use Rattle.graph_core.specs.Common.{IsCovered, Graph, IsGraph, IsMultigraph, first_end, second_end, size, IsEnd, IsPerfect}
 use Rattle.match_core.specs.MatchingRows.{has_end_in}
 use Rattle.ear_core.proofs.AddedEars.{evens_at, odd_on}
 use Rattle.ear_core.proofs.NeededPairs.{stage-serves}

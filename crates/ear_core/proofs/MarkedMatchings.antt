@@ -3,16 +3,10 @@
 -- has no other edge.
 use Rattle.std.proofs.Common.{◌≡◌, ℕ, suc, zero, ◌+◌, true, ◌==◌, ◌||◌, refl, sym, ap, ◌∙◌, arith, eq-eqb, ◌⊎◌, inl, inr, List, [], ◌∷◌, drop, map, Some, All, get_or}
 use Rattle.std.specs.Prelude.{slice_get}
-use Rattle.std.proofs.lemmas.Bool.{and_parts, or_left, or_right, true≢false}
-use Rattle.counting.proofs.Lists.{rising_holds, rising_only}
-use Rattle.counting.proofs.RisingLists.{mem-item}
-use Rattle.counting.specs.Counts.{Within, count}
-use Rattle.counting.specs.Lists.{mem, rising_list}
-use Rattle.counting.specs.Sets.{Set, none}
-use Rattle.graph_core.proofs.Decide.{degree_congr}
-use Rattle.graph_core.proofs.Edits.{edge_at}
-use Rattle.graph_core.specs.Graph.{Graph, IsGraph, first_end, second_end, size, with_ends}
-use Rattle.graph_core.specs.Matchings.{HasPerfect, IsPerfect}
+use Rattle.counting.proofs.Common.{and_parts, or_left, or_right, true≢false, rising_holds, rising_only, mem-item}
+use Rattle.counting.specs.Common.{Within, count, mem, rising_list, Set, none}
+use Rattle.graph_core.proofs.Common.{degree_congr, edge_at}
+use Rattle.graph_core.specs.Common.{Graph, IsGraph, first_end, second_end, size, with_ends, HasPerfect, IsPerfect}
 use Rattle.match_core.specs.declared.matching.MatchRow.{MatchRow}
 use Rattle.match_search.specs.Questions.{HasPerfectWith, HoldsAll}
 use Rattle.ear_core.proofs.EngineGraphs.{listed_degree, rank_of, same_rank}

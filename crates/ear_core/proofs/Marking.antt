@@ -2,10 +2,8 @@
 use Rattle.std.proofs.Common.{◌≡◌, ℕ, ◌+◌, ◌<◌, Bool, true, false, ◌||◌, ◌==◌, if◌then◌else◌, List, [], ◌∷◌, length, All, Option, Some, None, refl, sym, ap, ◌∙◌, arith}
 use Rattle.std.specs.Prelude.{slice_set}
 use Rattle.std.proofs.Math.Path.{fun_ext}
-use Rattle.counting.specs.Counts.{Within}
-use Rattle.counting.specs.Lists.{mem}
-use Rattle.counting.specs.Sets.{Set}
-use Rattle.graph_core.specs.Graph.{Graph}
+use Rattle.counting.specs.Common.{Within, mem, Set}
+use Rattle.graph_core.specs.Common.{Graph}
 use Rattle.match_search.specs.Rows.{marks}
 use Rattle.allowed_edges.proofs.Marking.{marks-set}
 use Rattle.ear_core.specs.EarLists.{PlainEar, two}

@@ -1,14 +1,11 @@
 -- The mates of a perfect matching: each vertex has one edge of it, and the other end of that edge
 -- has the same one. So a vertex is the mate of its mate.
 use Rattle.std.proofs.Common.{◌≡◌, ℕ, suc, ◌≢◌, Bool, true, false, cond, ◌==◌, refl, sym, ap, ◌∙◌, arith, ◌||◌, eq-eqb, ne_eqb, eqb-true, inl, inr, List, [], ◌∷◌, map, All}
-use Rattle.std.proofs.lemmas.Bool.{cases_eq, or_left, or_right, or_cases, true≢false}
+use Rattle.counting.proofs.Common.{cases_eq, or_left, or_right, or_cases, true≢false}
 use Rattle.barrier_kit.proofs.Matched.{loop_free}
-use Rattle.counting.specs.Counts.{Within, bit}
-use Rattle.counting.specs.Lists.{mem}
-use Rattle.counting.specs.Sets.{Set, none}
-use Rattle.graph_core.proofs.Edits.{edge_at, two_ends_le_degree}
-use Rattle.graph_core.specs.Graph.{Graph, size, first_end, second_end, IsGraph}
-use Rattle.graph_core.specs.Matchings.{IsPerfect}
+use Rattle.counting.specs.Common.{Within, bit, mem, Set, none}
+use Rattle.graph_core.proofs.Common.{edge_at, two_ends_le_degree}
+use Rattle.graph_core.specs.Common.{Graph, size, first_end, second_end, IsGraph, IsPerfect}
 use Rattle.match_core.specs.MatchingRows.{MatchingValue, IsRowOf, edges_of}
 use Rattle.match_core.specs.declared.matching.MatchRow.{MatchRow}
 use Rattle.ear_core.specs.AlternatingEars.{IsPerfectRows, row_edge, mate}

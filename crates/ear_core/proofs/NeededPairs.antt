@@ -3,14 +3,11 @@
 -- too, by parity; so the stage has a perfect matching without the two ends.
 use Rattle.std.proofs.Common.{◌≡◌, ◌≢◌, ◌⊎◌, ℕ, ◌+◌, ◌*◌, ◌≤◌, Bool, true, false, cond, ◌==◌, refl, sym, ap, ◌∙◌, arith, ◌&&◌, eq-eqb, ne_eqb, eqb-true, inl, inr, subst, [], ◌∷◌, ◌++◌, List}
 use Rattle.std.proofs.Math.Path.{fun_ext}
-use Rattle.std.proofs.lemmas.Bool.{and_from, and_parts, both_ways, cases_Bool, cases_eq, or_cases, or_left, or_parts, or_right, true≢false}
+use Rattle.counting.proofs.Common.{and_from, and_parts, both_ways, cases_Bool, cases_eq, or_cases, or_left, or_parts, or_right, true≢false, total_add, total_at, total_congr}
 use Rattle.std.proofs.lemmas.List.{append_assoc}
-use Rattle.counting.proofs.Totals.{total_add, total_at, total_congr}
-use Rattle.counting.specs.Counts.{Within, bit, count}
-use Rattle.counting.specs.Lists.{IsIn, mem}
-use Rattle.counting.specs.Sets.{Set, pair_set, put}
-use Rattle.graph_core.proofs.Edits.{degree_put, edge_at, ends_le_degree, ends_of, sum_degrees}
-use Rattle.graph_core.specs.Graph.{Graph, IsGraph, degree, first_end, second_end, size}
+use Rattle.counting.specs.Common.{Within, bit, count, IsIn, mem, Set, pair_set, put}
+use Rattle.graph_core.proofs.Common.{degree_put, edge_at, ends_le_degree, ends_of, sum_degrees}
+use Rattle.graph_core.specs.Common.{Graph, IsGraph, degree, first_end, second_end, size}
 use Rattle.ear_core.proofs.NextStages.{met-within}
 use Rattle.ear_core.proofs.Searching.{before-among}
 use Rattle.ear_core.proofs.Stepping.{still-met}

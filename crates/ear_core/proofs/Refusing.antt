@@ -2,12 +2,9 @@
 -- a step say that it is a step; then only the odd edges of its ears are left to ask, and the new
 -- stage is covered exactly when no edge of it is refused.
 use Rattle.std.proofs.Common.{◌≡◌, ℕ, ◌+◌, Bool, true, false, if◌then◌else◌, Option, Some, None, refl, sym, ap, ◌∙◌, ◌||◌, inl, inr, [], ◌∷◌, List}
-use Rattle.std.proofs.lemmas.Bool.{both_ways}
-use Rattle.counting.proofs.Tests.{least-one}
-use Rattle.counting.specs.Counts.{Within}
-use Rattle.counting.specs.Lists.{mem}
-use Rattle.counting.specs.Sets.{Set, none}
-use Rattle.graph_core.specs.Graph.{Graph, size, IsGraph}
+use Rattle.counting.proofs.Common.{both_ways, least-one}
+use Rattle.counting.specs.Common.{Within, mem, Set, none}
+use Rattle.graph_core.specs.Common.{Graph, size, IsGraph}
 use Rattle.ear_core.specs.Stages.{IsStage, AllowedBy, with_edges}
 use Rattle.ear_core.specs.NearlyStages.{IsNearlyStage, odds}
 use Rattle.ear_core.specs.EarLists.{PlainStep, one, two, next_stage, IsStep, AreSteps}

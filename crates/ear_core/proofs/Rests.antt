@@ -2,14 +2,10 @@
 -- a perfect matching off the new stage they are one off the stage before; at the last stage nothing
 -- is left.
 use Rattle.std.proofs.Common.{◌≡◌, ℕ, true, false, ◌+◌, ◌==◌, not, refl, sym, ap, ◌∙◌, arith, eq-eqb, inl, inr, List, [], ◌∷◌}
-use Rattle.std.proofs.lemmas.Bool.{both_ways, cases_Bool, false_from_ne_true, true≢false}
-use Rattle.counting.specs.Counts.{Within, bit}
-use Rattle.counting.specs.Sets.{Set, everything, none, union}
-use Rattle.graph_core.proofs.Decide.{degree_congr}
-use Rattle.graph_core.proofs.Edits.{ends_le_degree, ends_of}
-use Rattle.graph_core.specs.Covered.{IsCovered}
-use Rattle.graph_core.specs.Graph.{Graph, IsGraph, IsMultigraph, degree, first_end, size}
-use Rattle.graph_core.specs.Matchings.{HasPerfect, IsPerfect}
+use Rattle.counting.proofs.Common.{both_ways, cases_Bool, false_from_ne_true, true≢false}
+use Rattle.counting.specs.Common.{Within, bit, Set, everything, none, union}
+use Rattle.graph_core.proofs.Common.{degree_congr, ends_le_degree, ends_of}
+use Rattle.graph_core.specs.Common.{IsCovered, Graph, IsGraph, IsMultigraph, degree, first_end, size, HasPerfect, IsPerfect}
 use Rattle.ear_core.proofs.AddedEars.{even_on}
 use Rattle.ear_core.proofs.EngineGraphs.{ends-met}
 use Rattle.ear_core.proofs.NextStages.{second_ear}

@@ -3,14 +3,10 @@
 -- one. So the edges of this matching on the stage are a perfect matching of it without all the
 -- ends.
 use Rattle.std.proofs.Common.{◌≡◌, ℕ, suc, zero, ◌+◌, ◌≤◌, Bool, true, false, ◌==◌, refl, sym, ap, ◌∙◌, arith, ◌&&◌, ◌||◌, not, eq-eqb, ne_eqb, eqb-true, inl, inr, subst, [], ◌∷◌, List}
-use Rattle.std.proofs.lemmas.Bool.{cases_eq, cases_Bool, and_parts, and_from, both_ways, true≢false, false_from_ne_true, not-true, not-false, or_left, or_right, or_parts, or_cases}
-use Rattle.counting.proofs.Lists.{times_mem}
-use Rattle.counting.specs.Counts.{bit, Within}
-use Rattle.counting.specs.Lists.{mem, times, IsIn}
-use Rattle.counting.specs.Sets.{Set, none}
-use Rattle.graph_core.proofs.Edits.{ends_of, edge_at, ends_le_degree}
-use Rattle.graph_core.specs.Graph.{Graph, size, first_end, second_end, degree}
-use Rattle.graph_core.specs.Matchings.{IsPerfect}
+use Rattle.counting.proofs.Common.{cases_eq, cases_Bool, and_parts, and_from, both_ways, true≢false, false_from_ne_true, not-true, not-false, or_left, or_right, or_parts, or_cases, times_mem}
+use Rattle.counting.specs.Common.{bit, Within, mem, times, IsIn, Set, none}
+use Rattle.graph_core.proofs.Common.{ends_of, edge_at, ends_le_degree}
+use Rattle.graph_core.specs.Common.{Graph, size, first_end, second_end, degree, IsPerfect}
 use Rattle.two_ears.specs.VertexPairs.{pairs_at, in_pairs}
 use Rattle.ear_core.specs.AlternatingEars.{mate, IsAlternating, IsClear, HoldsMates, IsMatedEar, ends_of_ears, AreMatedEars, is_left, AreCandidates}
 use Rattle.ear_core.specs.EarLists.{PlainEar}

@@ -3,14 +3,10 @@
 -- do.
 use Rattle.std.proofs.Common.{◌≡◌, ℕ, ◌+◌, ◌≤◌, true, ◌==◌, ◌||◌, ◌⊎◌, ◌↔◌, inl, inr, refl, sym, ap, ◌∙◌, arith, subst, eq-eqb, List, [], ◌∷◌, Option, Some, None, Result, Ok, Err, IfOk, IfSome, IfNone, All, get_or}
 use Rattle.std.specs.List.{AllByRecursion}
-use Rattle.counting.proofs.RisingLists.{mem-item}
-use Rattle.counting.specs.Counts.{bit, Within}
-use Rattle.counting.specs.Lists.{mem, IsIn}
-use Rattle.counting.specs.Sets.{Set, union, complement}
-use Rattle.counting.proofs.Booleans.{or_comm}
+use Rattle.counting.proofs.Common.{mem-item, or_comm}
+use Rattle.counting.specs.Common.{bit, Within, mem, IsIn, Set, union, complement}
 use Rattle.barrier_kit.proofs.Matched.{perfect_congr}
-use Rattle.graph_core.specs.Graph.{Graph, size, IsGraph, with_ends}
-use Rattle.graph_core.specs.Matchings.{HasPerfect}
+use Rattle.graph_core.specs.Common.{Graph, size, IsGraph, with_ends, HasPerfect}
 use Rattle.two_ears.specs.VertexPairs.{pairs_at}
 use Rattle.ear_core.specs.AlternatingEars.{AreCandidates, Serves, ends_of_ear, ends_of_ears, IsChosen}
 use Rattle.ear_core.specs.Asking.{IsAsked, IsBefore, FindsBeside, FindsTwo, NoneServes, NoneServesBeside, NoTwoServe}

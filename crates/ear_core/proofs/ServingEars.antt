@@ -2,11 +2,9 @@
 -- odd edges of the ear complete it to one of the new stage, so each of its edges lies in one; two
 -- ears whose ends serve together are added one after the other.
 use Rattle.std.proofs.Common.{◌≡◌, ℕ, true, false, ◌==◌, refl, sym, ◌∙◌, ◌||◌, eqb-true, inl, inr, subst, List}
-use Rattle.std.proofs.lemmas.Bool.{cases_Bool, true≢false, or_left, or_right, or_cases}
-use Rattle.counting.specs.Lists.{mem}
-use Rattle.counting.specs.Sets.{Set, none, union, pair_set}
-use Rattle.counting.proofs.Booleans.{or_false_back}
-use Rattle.graph_core.specs.Graph.{Graph, IsGraph}
+use Rattle.counting.proofs.Common.{cases_Bool, true≢false, or_left, or_right, or_cases, or_false_back}
+use Rattle.counting.specs.Common.{mem, Set, none, union, pair_set}
+use Rattle.graph_core.specs.Common.{Graph, IsGraph}
 use Rattle.ear_core.specs.Stages.{is_met, IsPerfectOf, IsPerfectOff, IsStage, with_edges}
 use Rattle.ear_core.specs.Ears.{last_vertex, IsEar, IsEarPair}
 use Rattle.ear_core.specs.NearlyStages.{odds, IsNearlyStage}

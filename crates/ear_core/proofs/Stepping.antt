@@ -4,17 +4,12 @@
 use Rattle.std.proofs.Common.{◌≡◌, ℕ, ◌+◌, ◌≤◌, Bool, true, false, cond, ◌==◌, refl, sym, ap, ◌∙◌, arith, ◌&&◌, ◌||◌, not, eq-eqb, inl, inr, subst, [], ◌∷◌, ◌++◌, List, Result, Ok, Err, IfOk, length}
 use Rattle.std.proofs.Math.Path.{fun_ext}
 use Rattle.std.proofs.lemmas.List.{append_assoc}
-use Rattle.std.proofs.lemmas.Bool.{cases_Bool, both_ways, true≢false, false_from_ne_true, true_from_ne_false, or_left, or_right, or_cases}
+use Rattle.std.proofs.lemmas.Bool.{true_from_ne_false}
+use Rattle.counting.proofs.Common.{cases_Bool, both_ways, true≢false, false_from_ne_true, or_left, or_right, or_cases, count_complement, odd_pos}
 use Rattle.barrier_kit.proofs.Matched.{cut_edge}
 use Rattle.std.specs.List.{AllByRecursion}
-use Rattle.counting.proofs.Counts.{count_complement}
-use Rattle.counting.proofs.Odd.{odd_pos}
-use Rattle.counting.specs.Counts.{count, Within}
-use Rattle.counting.specs.Lists.{mem, IsIn}
-use Rattle.counting.specs.Sets.{Set, none, singleton, complement}
-use Rattle.graph_core.specs.Covered.{IsCovered}
-use Rattle.graph_core.specs.Graph.{Graph, size, first_end, second_end, IsGraph, IsMultigraph}
-use Rattle.graph_core.specs.Matchings.{HasPerfect, Allowed}
+use Rattle.counting.specs.Common.{count, Within, mem, IsIn, Set, none, singleton, complement}
+use Rattle.graph_core.specs.Common.{IsCovered, Graph, size, first_end, second_end, IsGraph, IsMultigraph, HasPerfect, Allowed}
 use Rattle.match_core.specs.MatchingRows.{MatchingValue, edges_of}
 use Rattle.ear_core.specs.AlternatingEars.{mate, IsPerfectRows, row_edge, KeepsMates, IsMatedEar, AreMatedEars, AreCandidates, IsChosen}
 use Rattle.ear_core.specs.EarLists.{PlainEar, PlainStep, one, two, next_stage, IsStep, AreSteps, IsSingle, FitsStep, PlainEars, FitsEars, HasEdges, IsEarList}

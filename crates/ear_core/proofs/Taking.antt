@@ -2,12 +2,9 @@
 -- that is not allowed is that of the stage.
 use Rattle.std.proofs.Common.{◌≡◌, ℕ, true, false, List, All, get_or, Option, Some, None, IfSome, ◌∙◌, subst, inl, inr}
 use Rattle.std.proofs.Math.Path.{fun_ext}
-use Rattle.std.proofs.lemmas.Bool.{cases_Bool, or_left, or_right, or_parts, or_from, both_ways, false_from_ne_true}
-use Rattle.counting.proofs.RisingLists.{mem-item}
-use Rattle.counting.specs.Counts.{Within}
-use Rattle.counting.specs.Lists.{mem}
-use Rattle.counting.specs.Sets.{Set, none}
-use Rattle.graph_core.specs.Graph.{Graph, size, IsGraph}
+use Rattle.counting.proofs.Common.{cases_Bool, or_left, or_right, or_parts, or_from, both_ways, false_from_ne_true, mem-item}
+use Rattle.counting.specs.Common.{Within, mem, Set, none}
+use Rattle.graph_core.specs.Common.{Graph, size, IsGraph}
 use Rattle.ear_core.specs.EarLists.{PlainStep, one, two, next_stage, FitsStep}
 use Rattle.ear_core.specs.NearlyStages.{odds}
 use Rattle.ear_core.specs.Refusals.{step_fault, IsLeastUnallowed}

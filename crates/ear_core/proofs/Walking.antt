@@ -2,13 +2,10 @@
 -- ear goes on as a path if each edge is at the vertex reached, the next vertex is new, and
 -- only the last may be the first.
 use Rattle.std.proofs.Common.{◌≡◌, ℕ, suc, Bool, true, false, ◌==◌, refl, sym, ap, ap₂, ◌∙◌, arith, ◌&&◌, ◌||◌, not, nat_le, eq-eqb, ne_eqb, eqb-true, le-leb, inl, inr, [], ◌∷◌, List, length, All}
-use Rattle.std.proofs.lemmas.Bool.{cases_eq, true≢false}
+use Rattle.counting.proofs.Common.{cases_eq, true≢false, and_false, or_assoc_back}
 use Rattle.std.proofs.Math.Path.{fun_ext}
-use Rattle.counting.specs.Counts.{Within}
-use Rattle.counting.specs.Lists.{mem}
-use Rattle.counting.specs.Sets.{Set, none}
-use Rattle.counting.proofs.Booleans.{and_false, or_assoc_back}
-use Rattle.graph_core.specs.Graph.{Graph, size, first_end, second_end}
+use Rattle.counting.specs.Common.{Within, mem, Set, none}
+use Rattle.graph_core.specs.Common.{Graph, size, first_end, second_end}
 use Rattle.ear_core.specs.Ears.{other_end, trail, last_vertex}
 use Rattle.ear_core.specs.EarTests.{is_path, follows, front, inner_vertices, repeats, no_member}
 

@@ -3,11 +3,8 @@
 -- stage comes again.
 -- Stated by: ear_core. Rests on it: theorems.
 use Rattle.std.specs.Prelude.{◌≡◌, ◌≢◌, ◌⊎◌, ◌≤◌, ℕ, true, false, List, [], ◌∷◌, ◌++◌, ◌==◌, ◌&&◌, ◌||◌, not, cond, length}
-use Rattle.counting.specs.Counts.{Within, is_odd}
-use Rattle.counting.specs.Lists.{IsIn, mem, times}
-use Rattle.counting.specs.Sets.{Set, none, pair_set}
-use Rattle.graph_core.specs.Graph.{Graph, first_end, second_end}
-use Rattle.graph_core.specs.Matchings.{IsPerfect}
+use Rattle.counting.specs.Common.{Within, is_odd, IsIn, mem, times, Set, none, pair_set}
+use Rattle.graph_core.specs.Common.{Graph, first_end, second_end, IsPerfect}
 use Rattle.match_core.specs.MatchingRows.{MatchingValue, IsOf, edges_of}
 use Rattle.match_core.specs.declared.matching.MatchRow.{MatchRow}
 use Rattle.two_ears.specs.VertexPairs.{pairs_at, in_pairs}

@@ -1,10 +1,8 @@
 -- How the matching engine is asked whether ears serve, and what is found.
 -- Stated by: ear_core. Rests on it: theorems.
 use Rattle.std.specs.Prelude.{◌≡◌, ◌⊎◌, ℕ, List, [], ◌∷◌, not}
-use Rattle.counting.specs.Counts.{Within}
-use Rattle.counting.specs.Lists.{mem, IsIn}
-use Rattle.counting.specs.Sets.{Set, union}
-use Rattle.graph_core.specs.Graph.{Graph, size, with_ends}
+use Rattle.counting.specs.Common.{Within, mem, IsIn, Set, union}
+use Rattle.graph_core.specs.Common.{Graph, size, with_ends}
 use Rattle.ear_core.specs.AlternatingEars.{Serves, ends_of_ear}
 use Rattle.ear_core.specs.EarLists.{PlainEar, PlainStep, two}
 use Rattle.ear_core.specs.StageGraphs.{listed}

@@ -5,9 +5,8 @@
 -- Rests on it: bench_outcomes, bench_top.
 use Rattle.std.specs.Prelude.{◌≡◌, ◌<◌, ℕ, true, List, [], ◌∷◌, All, length}
 use Rattle.std.specs.List.{AllByRecursion}
-use Rattle.counting.specs.Counts.{Within}
-use Rattle.counting.specs.Sets.{Set, singleton}
-use Rattle.graph_core.specs.Graph.{Graph, size}
+use Rattle.counting.specs.Common.{Within, Set, singleton}
+use Rattle.graph_core.specs.Common.{Graph, size}
 use Rattle.ear_core.specs.Stages.{IsStage, with_edges}
 use Rattle.ear_core.specs.Ears.{IsEar, IsEarPair}
 

@@ -2,10 +2,8 @@
 -- at marks alone.
 -- Stated by: ear_core. Rests on it: bench_outcomes, bench_top, theorems.
 use Rattle.std.specs.Prelude.{◌≡◌, ℕ, Bool, true, false, List, [], ◌∷◌, ◌==◌, nat_le, ◌&&◌, ◌||◌, not, length, Option, Some, None, if◌then◌else◌}
-use Rattle.counting.specs.Counts.{is_odd}
-use Rattle.counting.specs.Sets.{Set}
-use Rattle.counting.specs.Lists.{mem}
-use Rattle.graph_core.specs.Graph.{Graph, size, first_end, second_end}
+use Rattle.counting.specs.Common.{is_odd, Set, mem}
+use Rattle.graph_core.specs.Common.{Graph, size, first_end, second_end}
 use Rattle.ear_core.specs.Stages.{is_met}
 use Rattle.ear_core.specs.Ears.{other_end, trail, last_vertex}
 

@@ -2,10 +2,8 @@
 -- which f meets.
 -- Stated by: ear_core, theorems.
 use Rattle.std.specs.Prelude.{◌≡◌, ◌≢◌, ℕ, ◌≤◌, true, false, List, [], ◌∷◌, ◌==◌, ◌||◌, cond, length}
-use Rattle.counting.specs.Counts.{Within, is_odd}
-use Rattle.counting.specs.Sets.{Set}
-use Rattle.counting.specs.Lists.{mem, times}
-use Rattle.graph_core.specs.Graph.{Graph, size, first_end, second_end}
+use Rattle.counting.specs.Common.{Within, is_odd, Set, mem, times}
+use Rattle.graph_core.specs.Common.{Graph, size, first_end, second_end}
 use Rattle.ear_core.specs.Stages.{is_met}
 
 -- the end of edge e other than v

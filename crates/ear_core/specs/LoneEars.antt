@@ -2,10 +2,8 @@
 -- matching that keeps the stage such a one makes a single ear, and all single ears are found so.
 -- Stated by: ear_core. Rests on it: theorems.
 use Rattle.std.specs.Prelude.{◌≡◌, ◌≢◌, ℕ, true, ◌&&◌, not, cond}
-use Rattle.counting.specs.Counts.{Within}
-use Rattle.counting.specs.Sets.{Set, none, pair_set}
-use Rattle.graph_core.specs.Graph.{Graph, size}
-use Rattle.graph_core.specs.Matchings.{IsPerfect}
+use Rattle.counting.specs.Common.{Within, Set, none, pair_set}
+use Rattle.graph_core.specs.Common.{Graph, size, IsPerfect}
 use Rattle.match_core.specs.MatchingRows.{has_end_in}
 use Rattle.ear_core.specs.Stages.{is_met}
 

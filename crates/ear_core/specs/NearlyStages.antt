@@ -2,10 +2,8 @@
 -- most every other edge of the ears is left to ask.
 -- Stated by no contract. Rests on it: ear_core, theorems.
 use Rattle.std.specs.Prelude.{◌≡◌, ℕ, true, false, List, [], ◌∷◌}
-use Rattle.counting.specs.Counts.{Within}
-use Rattle.counting.specs.Sets.{Set}
-use Rattle.graph_core.specs.Graph.{Graph, size}
-use Rattle.graph_core.specs.Walks.{Walk}
+use Rattle.counting.specs.Common.{Within, Set}
+use Rattle.graph_core.specs.Common.{Graph, size, Walk}
 use Rattle.ear_core.specs.Stages.{is_met, adjacent_by, IsPerfectOf, AllowedBy}
 
 -- the first, third, .. of a list

@@ -3,9 +3,8 @@
 -- are left.
 -- Stated by: ear_core, bench_reports. Rests on it: bench_outcomes, theorems.
 use Rattle.std.specs.Prelude.{◌≡◌, ◌⊎◌, ℕ, ◌+◌, true, List, [], ◌∷◌, Option, Some, None}
-use Rattle.counting.specs.Sets.{Set, singleton}
-use Rattle.counting.specs.Tests.{IsLeastWithout}
-use Rattle.graph_core.specs.Graph.{Graph, size}
+use Rattle.counting.specs.Common.{Set, singleton, IsLeastWithout}
+use Rattle.graph_core.specs.Common.{Graph, size}
 use Rattle.ear_core.specs.Stages.{IsStage, AllowedBy}
 use Rattle.ear_core.specs.EarLists.{PlainStep, one, two, PlainEars, next_stage, AreSteps}
 use Rattle.ear_core.specs.EarTests.{PlainWhy, stage_not_covered, ends_early, ear_fault, inner_vertices}

@@ -2,9 +2,8 @@
 -- which get numbers of their own in the order of those in g.
 -- Stated by: ear_core. Rests on it: theorems.
 use Rattle.std.specs.Prelude.{◌≡◌, ◌<◌, ◌≤◌, ℕ, zero, suc, true, List, [], ◌∷◌, ◌++◌, ◌&&◌, ◌||◌, ◌==◌, cond, Option, Some, None}
-use Rattle.counting.specs.Counts.{count, Within}
-use Rattle.counting.specs.Sets.{Set}
-use Rattle.graph_core.specs.Graph.{Graph, size, first_end, second_end}
+use Rattle.counting.specs.Common.{count, Within, Set}
+use Rattle.graph_core.specs.Common.{Graph, size, first_end, second_end}
 use Rattle.ear_core.specs.Stages.{AllowedBy}
 
 -- the ends of the edges of f among the first k

@@ -3,12 +3,8 @@
 -- chapter 5).
 -- Stated by: ear_core, theorems.
 use Rattle.std.specs.Prelude.{◌≡◌, ℕ, Bool, true, false, List, ◌==◌, not, ◌&&◌, ◌||◌}
-use Rattle.counting.specs.Counts.{Within}
-use Rattle.counting.specs.Sets.{Set}
-use Rattle.counting.specs.Tests.{some}
-use Rattle.counting.specs.Lists.{mem}
-use Rattle.graph_core.specs.Graph.{Graph, size, degree, has_ends}
-use Rattle.graph_core.specs.Walks.{Walk}
+use Rattle.counting.specs.Common.{Within, Set, some, mem}
+use Rattle.graph_core.specs.Common.{Graph, size, degree, has_ends, Walk}
 
 -- an edge of f is at v
 abbrev pub is_met : Graph → Set → Set

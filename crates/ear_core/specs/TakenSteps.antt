@@ -1,8 +1,8 @@
 -- What is answered of a step.
 -- Stated by: ear_core.
 use Rattle.std.specs.Prelude.{◌≡◌, ℕ, Option, Some, None}
-use Rattle.counting.specs.Sets.{Set}
-use Rattle.graph_core.specs.Graph.{Graph}
+use Rattle.counting.specs.Common.{Set}
+use Rattle.graph_core.specs.Common.{Graph}
 use Rattle.ear_core.specs.EarLists.{PlainStep, next_stage}
 use Rattle.ear_core.specs.Refusals.{IsStepRefused, step_fault}
 use Rattle.ear_core.specs.Stages.{IsStage}

@@ -1,8 +1,7 @@
 //! The graph of a stage, of which the matching engine is asked.
 ghost use Rattle.std.specs.Prelude.{◌≡◌, ◌+◌, ℕ, true, false, length, IfOk};
-ghost use Rattle.counting.specs.Lists.{mem};
-ghost use Rattle.counting.specs.Sets.{Set};
-ghost use Rattle.graph_core.specs.Graph.{Graph, size, with_ends};
+ghost use Rattle.counting.specs.Common.{mem, Set};
+ghost use Rattle.graph_core.specs.Common.{Graph, size, with_ends};
 ghost use Rattle.match_search.specs.Rows.{marks};
 ghost use Rattle.ear_core.specs.AlternatingEars.{Serves};
 ghost use Rattle.ear_core.specs.Asking.{IsAsked};

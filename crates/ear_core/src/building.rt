@@ -1,10 +1,8 @@
 //! The builder of ear lists.
 ghost use Rattle.std.specs.Prelude.{◌≡◌, ◌+◌, ◌&&◌, ◌||◌, ℕ, true, false, not, length, map, IfOk, IfSome, IfNone};
 ghost use Rattle.std.specs.List.{AllByRecursion};
-ghost use Rattle.counting.specs.Counts.{Within};
-ghost use Rattle.counting.specs.Lists.{mem};
-ghost use Rattle.graph_core.specs.Covered.{IsCovered};
-ghost use Rattle.graph_core.specs.Graph.{size, first_end, second_end, IsBipartite};
+ghost use Rattle.counting.specs.Common.{Within, mem};
+ghost use Rattle.graph_core.specs.Common.{IsCovered, size, first_end, second_end, IsBipartite};
 ghost use Rattle.match_core.specs.MatchingRows.{edges_of};
 ghost use Rattle.match_search.specs.Rows.{marks};
 ghost use Rattle.ear_core.specs.AlternatingEars.{IsPerfectRows, KeepsMates, row_edge};

@@ -1,9 +1,8 @@
 //! The check of an ear list, step by step on a row of marks.
 ghost use Rattle.std.specs.Prelude.{◌≡◌, ◌↔◌, ◌+◌, ℕ, length, map, [], true, Some, None, IfNone, IfOk, IfSome};
 ghost use Rattle.std.specs.List.{AllByRecursion};
-ghost use Rattle.counting.specs.Counts.{Within};
-ghost use Rattle.counting.specs.Tests.{IsLeastWithout};
-ghost use Rattle.graph_core.specs.Graph.{size};
+ghost use Rattle.counting.specs.Common.{Within, IsLeastWithout};
+ghost use Rattle.graph_core.specs.Common.{size};
 ghost use Rattle.match_search.specs.Rows.{marks};
 ghost use Rattle.ear_core.specs.EarLists.{FitsEars, FitsStep, IsEarList};
 ghost use Rattle.ear_core.specs.EarTests.{PlainWhy};

@@ -1,9 +1,8 @@
 //! The choice of a step among ears that two perfect matchings make.
 ghost use Rattle.std.specs.Prelude.{◌≡◌, ◌+◌, ℕ, length, map, IfOk, IfSome, IfNone};
 ghost use Rattle.std.specs.List.{AllByRecursion};
-ghost use Rattle.counting.specs.Lists.{mem};
-ghost use Rattle.counting.specs.Sets.{Set};
-ghost use Rattle.graph_core.specs.Graph.{size, IsBipartite};
+ghost use Rattle.counting.specs.Common.{mem, Set};
+ghost use Rattle.graph_core.specs.Common.{size, IsBipartite};
 ghost use Rattle.match_search.specs.Rows.{marks};
 ghost use Rattle.ear_core.specs.AlternatingEars.{ends_of_ear, AreCandidates, IsChosen};
 ghost use Rattle.ear_core.specs.Asking.{IsAsked, FindsBeside, FindsTwo, NoneServesBeside, NoTwoServe};

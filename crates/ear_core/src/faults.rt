@@ -1,8 +1,7 @@
 //! The tests of an ear on a stage, by a row of marks.
 ghost use Rattle.std.specs.Prelude.{◌≡◌, ◌+◌, ◌<◌, ◌||◌, ◌&&◌, ◌==◌, ℕ, true, false, not, length, All, Some, None, IfOk, IfErr, List};
-ghost use Rattle.counting.specs.Counts.{Within, is_odd};
-ghost use Rattle.counting.specs.Lists.{mem};
-ghost use Rattle.graph_core.specs.Graph.{size};
+ghost use Rattle.counting.specs.Common.{Within, is_odd, mem};
+ghost use Rattle.graph_core.specs.Common.{size};
 ghost use Rattle.match_search.specs.Rows.{marks};
 ghost use Rattle.ear_core.specs.Stages.{is_met};
 ghost use Rattle.ear_core.specs.EarTests.{ear_fault, inner_vertices, has_new_edges, no_member};

@@ -1,10 +1,7 @@
 //! Laws of ear lists. Each is the contract of a function that does nothing.
 ghost use Rattle.std.specs.Prelude.{◌≡◌, ◌↔◌, ℕ, true, List, [], ◌∷◌, None};
-ghost use Rattle.counting.specs.Counts.{Within};
-ghost use Rattle.counting.specs.Sets.{Set, everything};
-ghost use Rattle.graph_core.specs.Covered.{IsCovered};
-ghost use Rattle.graph_core.specs.Graph.{Graph, IsGraph, IsMultigraph, size};
-ghost use Rattle.graph_core.specs.Matchings.{HasPerfect};
+ghost use Rattle.counting.specs.Common.{Within, Set, everything};
+ghost use Rattle.graph_core.specs.Common.{IsCovered, Graph, IsGraph, IsMultigraph, size, HasPerfect};
 ghost use Rattle.ear_core.specs.LoneEars.{LeadsAtTwo};
 ghost use Rattle.ear_core.specs.Stages.{IsStage, AllowedBy, is_met};
 ghost use Rattle.ear_core.specs.EarLists.{PlainEar, PlainEars, PlainStep, next_stage, one, IsEarList, IsStep, AreSteps};

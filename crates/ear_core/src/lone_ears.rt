@@ -1,9 +1,7 @@
 //! The search for a perfect matching that leads out of a stage at two of its vertices alone.
 ghost use Rattle.std.specs.Prelude.{◌≡◌, ◌+◌, ◌<◌, ℕ, length, true, IfOk, IfSome, IfNone};
-ghost use Rattle.counting.specs.Counts.{Within};
-ghost use Rattle.counting.specs.Lists.{mem, rising_list};
-ghost use Rattle.counting.specs.Sets.{Set, pair_set};
-ghost use Rattle.graph_core.specs.Graph.{size};
+ghost use Rattle.counting.specs.Common.{Within, mem, rising_list, Set, pair_set};
+ghost use Rattle.graph_core.specs.Common.{size};
 ghost use Rattle.match_core.specs.MatchingRows.{edges_of};
 ghost use Rattle.match_search.specs.Rows.{marks};
 ghost use Rattle.ear_core.specs.AlternatingEars.{IsPerfectRows};

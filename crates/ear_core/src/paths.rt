@@ -1,8 +1,7 @@
 //! The vertices along the edges of an ear.
 ghost use Rattle.std.specs.Prelude.{◌≡◌, ◌||◌, ◌==◌, ℕ, true, false, All, IfSome, IfNone};
-ghost use Rattle.counting.specs.Counts.{Within};
-ghost use Rattle.counting.specs.Lists.{mem};
-ghost use Rattle.graph_core.specs.Graph.{size, first_end, second_end};
+ghost use Rattle.counting.specs.Common.{Within, mem};
+ghost use Rattle.graph_core.specs.Common.{size, first_end, second_end};
 ghost use Rattle.ear_core.specs.Ears.{other_end, last_vertex};
 ghost use Rattle.ear_core.specs.EarTests.{is_path, inner_vertices};
 

@@ -1,8 +1,7 @@
 //! Whether the stage of an asked graph is matching covered, edge by edge.
 ghost use Rattle.std.specs.Prelude.{◌≡◌, ◌<◌, true, false, All, IfOk};
-ghost use Rattle.counting.specs.Counts.{Within};
-ghost use Rattle.counting.specs.Sets.{Set};
-ghost use Rattle.graph_core.specs.Graph.{size};
+ghost use Rattle.counting.specs.Common.{Within, Set};
+ghost use Rattle.graph_core.specs.Common.{size};
 ghost use Rattle.ear_core.specs.Asking.{IsAsked};
 ghost use Rattle.ear_core.specs.Stages.{AllowedBy, with_edges};
 ghost use Rattle.ear_core.specs.StageGraphs.{IsBehind, IsUpTo, Settled, asked_too};

@@ -1,9 +1,7 @@
 //! A step of an ear list, taken on the row of marks of a stage.
 ghost use Rattle.std.specs.Prelude.{◌≡◌, ◌+◌, ◌<◌, ◌||◌, ℕ, true, length, All, Some, None, IfOk, IfSome, IfNone};
-ghost use Rattle.counting.specs.Counts.{Within};
-ghost use Rattle.counting.specs.Lists.{mem};
-ghost use Rattle.counting.specs.Sets.{none};
-ghost use Rattle.graph_core.specs.Graph.{size};
+ghost use Rattle.counting.specs.Common.{Within, mem, none};
+ghost use Rattle.graph_core.specs.Common.{size};
 ghost use Rattle.match_search.specs.Rows.{marks};
 ghost use Rattle.ear_core.specs.EarLists.{FitsStep, next_stage};
 ghost use Rattle.ear_core.specs.Refusals.{step_fault};

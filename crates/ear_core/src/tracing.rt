@@ -1,8 +1,7 @@
 //! The ears that two perfect matchings make at a stage.
 ghost use Rattle.std.specs.Prelude.{◌≡◌, ◌++◌, ◌||◌, ◌==◌, ◌+◌, ℕ, true, false, length, List, map, IfOk, IfSome, IfNone};
-ghost use Rattle.counting.specs.Counts.{Within};
-ghost use Rattle.counting.specs.Lists.{mem};
-ghost use Rattle.graph_core.specs.Graph.{size};
+ghost use Rattle.counting.specs.Common.{Within, mem};
+ghost use Rattle.graph_core.specs.Common.{size};
 ghost use Rattle.match_search.specs.Rows.{marks};
 ghost use Rattle.ear_core.specs.AlternatingEars.{IsPerfectRows, row_edge, mate, KeepsMates, IsClear, IsTraced, HoldsMates, AreMatedEars, is_left};
 ghost use Rattle.ear_core.specs.EarLists.{PlainEar};

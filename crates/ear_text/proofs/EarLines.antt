@@ -1,7 +1,7 @@
 -- The line of an ear is decided by the tests of its numbers.
 use Rattle.std.proofs.Common.{◌≡◌, ℕ, Bool, true, not, List, Option, is_some, ap, Err}
 use Rattle.std.specs.Prelude.{if◌then◌else◌}
-use Rattle.line_text.specs.Format.{checked}
+use Rattle.line_text.specs.Common.{checked}
 use Rattle.text_faults.specs.declared.faults.FaultKind.TheVariants as kind
 use Rattle.ear_core.specs.EarLists.{PlainEar, PlainStep}
 use Rattle.ear_text.specs.EarFormat.{EarsSoFar, ear_at, ear_line, ear_tests, is_ear_line, is_either_ear_line, with_ear}

@@ -3,11 +3,9 @@
 -- of the table.
 use Rattle.std.proofs.Common.{◌≡◌, ◌<◌, ◌==◌, ◌||◌, ◌&&◌, ◌++◌, codes, not, nat_le, if◌then◌else◌, ℕ, List, [], ◌∷◌, Bool, length, map, true, false, Option, Some, None, is_some, Result, Ok, Err, IfOk, refl, sym, ◌∙◌, ap, subst, arith}
 use Rattle.std.specs.List.{AllByRecursion, list_all, list_any}
-use Rattle.std.proofs.lemmas.Bool.{and_parts, or_parts, both_ways, not-false}
-use Rattle.counting.specs.Counts.{Within}
-use Rattle.line_text.specs.Format.{Begins, Stands, finish}
-use Rattle.line_text.specs.Words.{has_form, word_at}
-use Rattle.line_text.specs.Numerals.{is_number, value_of}
+use Rattle.counting.proofs.Common.{and_parts, or_parts, both_ways, not-false}
+use Rattle.counting.specs.Common.{Within}
+use Rattle.line_text.specs.Common.{Begins, Stands, finish, has_form, word_at, is_number, value_of}
 use Rattle.line_text.proofs.Tables.{all_passed, no_value, value_or}
 use Rattle.text_faults.proofs.InRange.{all-in_range, in_range}
 use Rattle.text_faults.specs.declared.faults.FaultKind.{FaultKind}

@@ -4,12 +4,9 @@
 use Rattle.std.proofs.Common.{◌≡◌, ◌<◌, ◌==◌, ◌&&◌, ◌^◌, ◌++◌, codes, nat_le, ℕ, List, [], ◌∷◌, All, Bool, length, map, true, false, Option, Some, None, Ok, refl, sym, ◌∙◌, ap, subst, arith, append_assoc}
 use Rattle.std.specs.List.{AllByRecursion, list_all}
 use Rattle.std.specs.Fmt.{decimal}
-use Rattle.std.proofs.lemmas.List.{length-map, append-nil}
-use Rattle.std.proofs.lemmas.Bool.Decides.{nat_tests}
-use Rattle.counting.specs.Counts.{Within}
-use Rattle.line_text.specs.Format.{Begins, Stands}
-use Rattle.line_text.specs.Words.{has_form, IsSignificant}
-use Rattle.line_text.specs.Numerals.{is_number, value_of}
+use Rattle.counting.proofs.Common.{length-map, append-nil, nat_tests}
+use Rattle.counting.specs.Common.{Within}
+use Rattle.line_text.specs.Common.{Begins, Stands, has_form, IsSignificant, is_number, value_of}
 use Rattle.line_text.proofs.Decimals.{number_of-decimal, is_word-decimal, value-decimal, number-decimal, values-decimal, numbers-decimal, words-decimal}
 use Rattle.text_faults.proofs.InRange.{in_range-test, in_range-tests, few-digits}
 use Rattle.line_text.proofs.ReadBack.{Stands-written}

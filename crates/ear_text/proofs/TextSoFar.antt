@@ -1,8 +1,8 @@
 -- The lines of an ear, of a step and of a list of ears.
 use Rattle.std.proofs.Common.{◌≡◌, ℕ, List, [], ◌∷◌, ◌++◌, codes, length, map, sym, ◌∙◌, ap, append_assoc, arith}
-use Rattle.std.proofs.lemmas.List.{append-nil}
+use Rattle.counting.proofs.Common.{append-nil}
 use Rattle.std.specs.Fmt.{decimal}
-use Rattle.line_text.specs.Words.{unwords, written}
+use Rattle.line_text.specs.Common.{unwords, written}
 use Rattle.line_text.proofs.WrittenLines.{spaced, unwords-spaced, written-append}
 use Rattle.ear_core.specs.EarLists.{PlainEar, PlainStep, two, PlainEars}
 use Rattle.ear_text.specs.Writing.{ear_words, header_words, start_words, step_words, ears_text}

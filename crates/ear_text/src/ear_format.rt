@@ -1,9 +1,7 @@
 //! The ear format.
 ghost use Rattle.std.specs.Prelude.{◌≡◌, ◌<◌, ◌-◌, ◌^◌, ℕ, length, map, option_map, IfOk, IfErr, Ok, Err};
 ghost use Rattle.std.specs.List.{AllByRecursion, list_any};
-ghost use Rattle.line_text.specs.Reading.{Gives};
-ghost use Rattle.line_text.specs.Format.{Stands, FirstFault, checked};
-ghost use Rattle.line_text.specs.Words.{texts_of};
+ghost use Rattle.line_text.specs.Common.{Gives, Stands, FirstFault, checked, texts_of};
 ghost use Rattle.text_faults.specs.Readings.{IsFirstFault, ReadsText};
 ghost use Rattle.text_faults.specs.declared.faults.FaultKind.{FaultKind};
 ghost use Rattle.ear_core.specs.EarLists.{PlainEars, FitsEars, HasEdges};

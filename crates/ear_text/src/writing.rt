@@ -1,8 +1,7 @@
 //! Writing an ear list.
 ghost use Rattle.std.specs.Prelude.{◌≡◌, ◌≤◌, ◌++◌, [], ◌∷◌, OnOk, IfOk, map, string_bytes};
 ghost use Rattle.std.specs.List.{AllByRecursion};
-ghost use Rattle.line_text.specs.Format.{Stands, StandsAlone};
-ghost use Rattle.line_text.specs.Words.{written};
+ghost use Rattle.line_text.specs.Common.{Stands, StandsAlone, written};
 ghost use Rattle.ear_core.specs.EarLists.{FitsEars, HasEdges};
 ghost use Rattle.ear_core.specs.View.{ear_of, step_of, ears_of};
 ghost use Rattle.ear_text.specs.EarFormat.{ear_format};

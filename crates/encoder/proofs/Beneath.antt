@@ -3,15 +3,11 @@
 -- as the first k edges do. A graph6 text depends on the order and on the adjacent pairs alone.
 use Rattle.std.proofs.Common.{◌≡◌, ℕ, suc, ◌+◌, ◌≤◌, ◌==◌, ◌&&◌, ◌||◌, Bool, true, false, cond, List, [], ◌∷◌, ◌++◌, map, refl, sym, subst, ap, ap₂, ◌∙◌, arith, ◌⊎◌, inl, inr}
 use Rattle.std.proofs.lemmas.Bool.{false≢true}
-use Rattle.std.proofs.lemmas.Bool.Decides.{nat_tests}
-use Rattle.std.proofs.lemmas.List.{length-append}
-use Rattle.std.proofs.lemmas.List.Folds.{list_any-append}
+use Rattle.counting.proofs.Common.{nat_tests, length-append, list_any-append}
 use Rattle.std.specs.List.{list_any}
-use Rattle.counting.specs.Sets.{none}
-use Rattle.counting.specs.Tests.{some}
-use Rattle.graph_core.specs.Graph.{Graph, size, first_end, second_end, has_ends, with_edge}
-use Rattle.graph_core.specs.Walks.{adjacent}
-use Rattle.graph_core.proofs.EndLists.{adjacent-ends, joins}
+use Rattle.counting.specs.Common.{none, some}
+use Rattle.graph_core.specs.Common.{Graph, size, first_end, second_end, has_ends, with_edge, adjacent}
+use Rattle.graph_core.proofs.Common.{adjacent-ends, joins}
 use Rattle.graph6_text.specs.Digits.{bytes_of}
 use Rattle.graph6_text.specs.Pairs.{column_pairs}
 use Rattle.graph6_text.specs.Writing.{adjacency_bits, graph6_of, size_of}

@@ -2,7 +2,7 @@
 -- before is these bytes and what is left now; so at the end of the source they are all of it, and
 -- where they are too many the file is too long.
 use Rattle.std.proofs.Common.{◌≡◌, ◌∙◌, ◌≤◌, ◌<◌, ℕ, suc, List, [], ◌++◌, length, refl, sym, subst, ap, arith}
-use Rattle.std.proofs.lemmas.List.{length-append}
+use Rattle.counting.proofs.Common.{length-append}
 use Rattle.std.specs.declared.option.Option.{Option}
 use Rattle.std.specs.declared.option.Option.TheVariants.{Some, None}
 use Rattle.outside.specs.Source.{prepended, IsEnd}

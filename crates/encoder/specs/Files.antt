@@ -1,8 +1,7 @@
 -- A graph file and the graph6 text that is made of it.
 -- Stated by: encoder, list_top. Rests on it: list_front.
 use Rattle.std.specs.Prelude.{◌≡◌, ◌⊎◌, ℕ, ◌-◌, ◌<◌, ◌≤◌, List, [], ◌∷◌, ◌++◌, length, take, slice_index_or}
-use Rattle.line_text.specs.Format.{Stands, FirstFault}
-use Rattle.line_text.specs.Lines.{lines_of}
+use Rattle.line_text.specs.Common.{Stands, FirstFault, lines_of}
 use Rattle.graph_text.specs.EitherVersion.{NamedGraph, either_version}
 use Rattle.graph6_text.specs.Writing.{graph6_of, ReadsBack}
 use Rattle.text_faults.specs.declared.faults.FaultKind.TheVariants.{Limit}

@@ -1,10 +1,8 @@
 -- The simple graph beneath a graph: parallel edges are kept once. Any textbook.
 -- Stated by: encoder.
 use Rattle.std.specs.Prelude.{◌≡◌, ℕ, if◌then◌else◌}
-use Rattle.counting.specs.Sets.{none}
-use Rattle.graph_core.specs.Graph.{Graph, with_edge}
-use Rattle.graph_core.specs.Simple.{IsSimple}
-use Rattle.graph_core.specs.Walks.{adjacent}
+use Rattle.counting.specs.Common.{none}
+use Rattle.graph_core.specs.Common.{Graph, with_edge, IsSimple, adjacent}
 
 -- h is the simple graph beneath g: it has the same vertices, two of them are adjacent in h exactly
 -- when they are in g, and no two edges of h join the same two

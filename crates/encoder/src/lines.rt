@@ -1,6 +1,6 @@
 //! A line of a file by its number, and what is found of a bad file.
 ghost use Rattle.std.specs.Prelude.{◌≡◌, IfOk};
-ghost use Rattle.line_text.specs.Format.{FirstFault};
+ghost use Rattle.line_text.specs.Common.{FirstFault};
 ghost use Rattle.graph_text.specs.EitherVersion.{either_version};
 ghost use Rattle.encoder.specs.Files.{IsOutside, NamesTooLong, kept_line};
 

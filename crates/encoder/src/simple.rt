@@ -1,7 +1,7 @@
 //! The simple graph beneath a graph.
 ghost use Rattle.std.specs.Prelude.{◌≡◌, ◌<◌, IfOk, OnOk};
-ghost use Rattle.counting.specs.Counts.{Within};
-ghost use Rattle.graph_core.specs.Graph.{first_end, second_end, size};
+ghost use Rattle.counting.specs.Common.{Within};
+ghost use Rattle.graph_core.specs.Common.{first_end, second_end, size};
 ghost use Rattle.encoder.specs.SimpleGraphs.{IsBeneath, with_new_edge};
 
 use graph_core::MultiGraph;

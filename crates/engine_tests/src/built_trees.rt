@@ -1,7 +1,6 @@
 //! Trees by their parts: built from the shores in preorder, and compared node by node.
 ghost use Rattle.std.specs.Prelude.{◌≡◌, IfOk};
-ghost use Rattle.tree_core.specs.Shapes.{cut};
-ghost use Rattle.tree_core.specs.View.{shape_of};
+ghost use Rattle.tree_core.specs.Common.{cut, shape_of};
 
 use crate::made::set_of;
 use std::alloc::{AllocError as Memory, Global};

@@ -1,8 +1,7 @@
 //! Decompositions in several orders, and the graphs of their leaves, for the tests that need a
 //! derivation.
 ghost use Rattle.std.specs.Prelude.{◌≡◌, ◌<◌, ℕ, length, IfOk, Some};
-ghost use Rattle.tree_core.specs.Derivations.{IsDerivation};
-ghost use Rattle.tree_core.specs.View.{shape_of};
+ghost use Rattle.tree_core.specs.Common.{IsDerivation, shape_of};
 
 use contraction::{Contracted, quotient};
 use decomposer::{ByFunction, NamedOrder, Refused, Scripted, decompose};

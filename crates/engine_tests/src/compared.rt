@@ -1,7 +1,6 @@
 //! Two derivations of the cycle of eight vertices: compared, their moves made again, and a shore
 //! exposed.
-ghost use Rattle.tree_core.specs.Derivations.{IsDerivation};
-ghost use Rattle.tree_core.specs.View.{shape_of};
+ghost use Rattle.tree_core.specs.Common.{IsDerivation, shape_of};
 
 use crate::built_trees::same_tree;
 use crate::choices::{FIRST, LAST, derived};

@@ -1,7 +1,6 @@
 //! Worked cuts, and all odd sets of small graphs against the plain program.
 ghost use Rattle.std.specs.Prelude.{◌≡◌, length, true};
-ghost use Rattle.counting.specs.Counts.{is_odd};
-ghost use Rattle.counting.specs.Lists.{IsRisingIn};
+ghost use Rattle.counting.specs.Common.{is_odd, IsRisingIn};
 ghost use Rattle.plain_graph.specs.Small.{IsSmall};
 
 use crate::made::made;

@@ -1,9 +1,8 @@
 //! Worked graphs: the sizes of their maximum matchings and how many vertices these miss, their
 //! Gallai-Edmonds sets, and perfect matchings on request.
 ghost use Rattle.std.specs.Prelude.{◌≡◌, true};
-ghost use Rattle.counting.specs.Lists.{mem};
-ghost use Rattle.counting.specs.Sets.{none};
-ghost use Rattle.graph_core.specs.Matchings.{missed_count};
+ghost use Rattle.counting.specs.Common.{mem, none};
+ghost use Rattle.graph_core.specs.Common.{missed_count};
 ghost use Rattle.match_core.specs.MatchingRows.{IsOf, edges_of};
 
 use crate::made::{made, set_of};

@@ -1,6 +1,6 @@
 //! Cuts and flows of small nets, against the values of all sets of nodes.
 ghost use Rattle.std.specs.Prelude.{◌≡◌, ◌≢◌, ◌↔◌, IfOk, IsTrue};
-ghost use Rattle.counting.specs.Counts.{Within};
+ghost use Rattle.counting.specs.Common.{Within};
 
 use flow_core::{CutAnswer, Net, SignedList, min_cut};
 use std::alloc::{AllocError as Memory, Global};

@@ -1,6 +1,6 @@
 //! Worked graphs: their allowed edges, verdicts and pairs; and small graphs beside the plain
 //! program.
-ghost use Rattle.counting.specs.Counts.{Within};
+ghost use Rattle.counting.specs.Common.{Within};
 ghost use Rattle.plain_graph.specs.Small.{IsSmall};
 
 use crate::made::{made, set_of};

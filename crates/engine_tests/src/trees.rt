@@ -1,7 +1,6 @@
 //! Small trees: their sizes, their copies and their leaves, and what a move makes of them.
 ghost use Rattle.std.specs.Prelude.{◌≡◌, IfOk};
-ghost use Rattle.tree_core.specs.Shapes.{leaf, cut};
-ghost use Rattle.tree_core.specs.View.{shape_of};
+ghost use Rattle.tree_core.specs.Common.{leaf, cut, shape_of};
 
 use crate::built_trees::{Shores, cut_into, is_tree, same_tree, tree_of};
 use crate::made::set_of;

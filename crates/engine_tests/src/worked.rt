@@ -1,7 +1,7 @@
 //! Worked graphs: their classes and pairs, the cuts that these give, and the quick tests.
 ghost use Rattle.std.specs.Prelude.{IsTrue, IfOk, IfSome};
-ghost use Rattle.counting.specs.Lists.{IsRisingIn};
-ghost use Rattle.graph_core.specs.Structure.{IsBicritical};
+ghost use Rattle.counting.specs.Common.{IsRisingIn};
+ghost use Rattle.graph_core.specs.Common.{IsBicritical};
 
 use crate::made::{made, set_of};
 use barrier_kit::{barrier_cuts, classes, is_barrier};

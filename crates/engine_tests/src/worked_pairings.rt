@@ -1,8 +1,7 @@
 //! Worked pairs of derivations: all moves and all maps of their comparison, and the root shore of
 //! the second exposed in the first.
 ghost use Rattle.std.specs.Prelude.{◌≡◌, IfOk, Some};
-ghost use Rattle.tree_core.specs.Derivations.{IsDerivation};
-ghost use Rattle.tree_core.specs.View.{shape_of};
+ghost use Rattle.tree_core.specs.Common.{IsDerivation, shape_of};
 
 use crate::built_trees::{Shores, same_tree, tree_of};
 use crate::made::{made, set_of};

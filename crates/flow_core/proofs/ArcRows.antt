@@ -5,12 +5,12 @@ use Rattle.std.proofs.Common.{◌≡◌, ℕ, ◌+◌, ◌<◌, ◌≢◌, List,
 use Rattle.std.specs.Prelude.{All, Contains}
 use Rattle.std.proofs.Math.ListN.{length-set}
 use Rattle.std.proofs.Math.Seq.{get_or-append_seam}
-use Rattle.std.proofs.lemmas.Bool.{cases_eq}
-use Rattle.std.proofs.lemmas.List.{get_or-set_same, get_or-set_other, get_or_append_left}
+use Rattle.counting.proofs.Common.{cases_eq, get_or_append_left}
+use Rattle.std.proofs.lemmas.List.{get_or-set_same, get_or-set_other}
 use Rattle.std.proofs.lemmas.List.Elements.{All-push, All-weaker}
 use Rattle.flow_core.specs.Nets.{Net, IsArc}
 use Rattle.flow_core.specs.Residual.{arc_at}
-use Rattle.counting.specs.Lists.{row_of}
+use Rattle.counting.specs.Common.{row_of}
 use Rattle.flow_core.specs.Incidence.{HasEnd, ListsArcs}
 
 -- the rows with i at the end of the row of v

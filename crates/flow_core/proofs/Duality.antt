@@ -3,13 +3,9 @@
 -- node and arc by arc.
 use Rattle.std.proofs.Common.{◌≡◌, ℕ, suc, zero, ◌≤◌, ◌<◌, ◌≢◌, Bool, true, false, cond, ◌==◌, refl, sym, ap, ap₂, ◌∙◌, arith, ◌&&◌, ◌||◌, not, inl, inr, List, [], ◌∷◌, length, sum_by, eq-eqb, ne_eqb}
 use Rattle.std.specs.Prelude.{All, if◌then◌else◌, ℤ, pos, neg_ℤ, ◌+ℤ◌, ◌-ℤ◌, ◌≤ℤ◌, ◌<ℤ◌, unsigned_abs}
-use Rattle.std.proofs.lemmas.Bool.{cases_Bool, true≢false, both_ways}
+use Rattle.counting.proofs.Common.{cases_Bool, true≢false, both_ways, All-head, All-tail, sum_by-cons}
 use Rattle.std.proofs.lemmas.Int.{ints, by_lt_z}
-use Rattle.std.proofs.lemmas.List.Elements.{All-head, All-tail}
-use Rattle.std.proofs.lemmas.List.Sums.{sum_by-cons}
-use Rattle.counting.specs.Counts.{Within}
-use Rattle.counting.specs.Sets.{Set, singleton}
-use Rattle.counting.specs.Lists.{mem}
+use Rattle.counting.specs.Common.{Within, Set, singleton, mem}
 use Rattle.flow_core.specs.Nets.{Arc, Net, IsArc, IsNet, leaves_set, value_of, total_capacity, Separates, IsLeastCut}
 use Rattle.flow_core.specs.Flows.{out_by, goes_out, Fits, IsFlow}
 use Rattle.flow_core.specs.Residual.{arc_at, amount_at, Joins, room_from, IsOpenWalk, IsReachedSet}

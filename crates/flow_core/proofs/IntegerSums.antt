@@ -2,9 +2,9 @@
 -- Idea: induction on n.
 use Rattle.std.proofs.Common.{◌≡◌, ℕ, suc, zero, ◌≢◌, refl, ap, ap₂, arith, inl, inr}
 use Rattle.std.specs.Prelude.{ℤ, pos, ◌+ℤ◌, ◌-ℤ◌}
-use Rattle.std.proofs.lemmas.Bool.{cases_eq}
+use Rattle.counting.proofs.Common.{cases_eq}
 use Rattle.std.proofs.lemmas.Int.{ints}
-use Rattle.counting.specs.Counts.{Within}
+use Rattle.counting.specs.Common.{Within}
 
 -- f 1 + f 2 + .. + f n
 abbrev pub sum_to : ℕ → (ℕ → ℤ) → ℤ

@@ -4,14 +4,12 @@
 use Rattle.std.proofs.Common.{◌≡◌, ◌≢◌, ℕ, zero, suc, ◌+◌, ◌-◌, ◌≤◌, ◌<◌, List, [], ◌∷◌, ◌++◌, length, get_or, set, take, min, sym, ◌∙◌, ap, subst, arith, inl, inr, length-append, slice_index}
 use Rattle.std.specs.Prelude.{ℤ}
 use Rattle.std.proofs.Math.Seq.{get_or-append_seam}
-use Rattle.std.proofs.lemmas.Bool.{cases_eq}
+use Rattle.counting.proofs.Common.{cases_eq, get_or_read, total_congr}
 use Rattle.std.proofs.lemmas.Int.{ints}
-use Rattle.std.proofs.lemmas.List.{get_or_read, get_or-set_same, get_or-set_other, length-take}
-use Rattle.counting.specs.Counts.{Within, total}
-use Rattle.counting.proofs.Totals.{total_congr}
+use Rattle.std.proofs.lemmas.List.{get_or-set_same, get_or-set_other, length-take}
+use Rattle.counting.specs.Common.{Within, total, row_of}
 use Rattle.flow_core.specs.Nets.{Net}
 use Rattle.flow_core.specs.Residual.{arc_at}
-use Rattle.counting.specs.Lists.{row_of}
 use Rattle.flow_core.specs.Search.{visit_at, node_at, IsStep}
 use Rattle.flow_core.specs.Layers.{IsLaid, arcs_left, work_left}
 use Rattle.flow_core.specs.declared.search.Visit.{Visit}

@@ -5,15 +5,14 @@ use Rattle.std.specs.Prelude.{All, ℤ, pos, slice_get, Some, unsigned_abs}
 use mir.Val.{SFits}
 use Rattle.std.specs.Global.{Vec}
 use Rattle.std.proofs.lemmas.Int.{to_z-of_z}
-use Rattle.std.proofs.lemmas.Option.{get_or_from_slice_get}
-use Rattle.std.proofs.lemmas.List.{get_or-map, length-map, map-set}
-use Rattle.std.proofs.lemmas.List.Elements.{All-head, All-tail}
+use Rattle.counting.proofs.Common.{get_or_from_slice_get, get_or-map, length-map, All-head, All-tail}
+use Rattle.std.proofs.lemmas.List.{map-set}
 use Rattle.std.proofs.lemmas.List.Sums.{get_or-le-sum_by}
 use Rattle.flow_core.specs.Nets.{Arc, Net, IsArc, IsNet, IsBounded, total_capacity}
 use Rattle.flow_core.specs.Flows.{Fits}
 use Rattle.flow_core.specs.Residual.{arc_at, amount_at}
 use Rattle.flow_core.specs.Rows.{rows_of}
-use Rattle.counting.specs.Lists.{row_of}
+use Rattle.counting.specs.Common.{row_of}
 use Rattle.flow_core.proofs.Duality.{Fits-at}
 
 -- an arc of a net in order is in order

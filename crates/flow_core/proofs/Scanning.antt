@@ -2,14 +2,11 @@
 -- that is seen then. Idea: the arcs scanned so far stay scanned while the seen nodes grow, and
 -- the rows list every arc at the node.
 use Rattle.std.proofs.Common.{◌≡◌, ◌≢◌, ℕ, ◌+◌, ◌-◌, ◌≤◌, ◌<◌, ◌==◌, ◌||◌, true, false, List, [], ◌∷◌, ◌++◌, length, get_or, min, refl, sym, ◌∙◌, ap, subst, arith, inl, inr, eq-eqb, ne_eqb, below_more, length-append}
-use Rattle.std.proofs.lemmas.Bool.{or_right, or_left}
+use Rattle.counting.proofs.Common.{or_right, or_left, get_or_read}
 use Rattle.std.specs.Prelude.{ℤ, pos, ◌<ℤ◌, Contains}
 use Rattle.std.proofs.Math.Seq.{get_or-append_seam}
 use Rattle.std.proofs.lemmas.Int.{ints}
-use Rattle.std.proofs.lemmas.List.{get_or_read}
-use Rattle.counting.specs.Counts.{Within}
-use Rattle.counting.specs.Sets.{Set}
-use Rattle.counting.specs.Lists.{mem, row_of}
+use Rattle.counting.specs.Common.{Within, Set, mem, row_of}
 use Rattle.flow_core.specs.Nets.{Arc, Net, IsArc, IsNet}
 use Rattle.flow_core.specs.Residual.{arc_at, amount_at, Joins, room_from, HasRoom, IsScanned}
 use Rattle.flow_core.specs.Incidence.{HasEnd, IsIncidence}

@@ -4,16 +4,9 @@
 use Rattle.std.proofs.Common.{◌≡◌, ◌≢◌, ℕ, zero, suc, ◌+◌, ◌-◌, ◌≤◌, ◌<◌, ◌^◌, ◌==◌, ◌||◌, Bool, true, false, cond, List, [], ◌∷◌, ◌++◌, length, get_or, refl, sym, ◌∙◌, ap, subst, arith, inl, inr, eq-eqb, ne_eqb, length-append}
 use Rattle.std.specs.Prelude.{ℤ}
 use Rattle.std.proofs.Math.Seq.{get_or-append_seam}
-use Rattle.std.proofs.lemmas.Bool.{cases_eq, both_ways, or_right, or_left}
+use Rattle.counting.proofs.Common.{cases_eq, both_ways, or_right, or_left, get_or_append_left, mem-item, count_of_one, count_congr, count_le, count_put, or_false, or_true}
 use Rattle.std.proofs.lemmas.Int.{ints}
-use Rattle.std.proofs.lemmas.List.{get_or_append_left}
-use Rattle.counting.proofs.RisingLists.{mem-item}
-use Rattle.counting.specs.Counts.{Within, count, bit}
-use Rattle.counting.specs.Sets.{Set, put, everything}
-use Rattle.counting.specs.Lists.{mem, IsRisingIn}
-use Rattle.counting.proofs.Counts.{count_of_one, count_congr, count_le}
-use Rattle.counting.proofs.Choice.{count_put}
-use Rattle.counting.proofs.Booleans.{or_false, or_true}
+use Rattle.counting.specs.Common.{Within, count, bit, Set, put, everything, mem, IsRisingIn}
 use Rattle.flow_core.specs.Nets.{Arc, Net}
 use Rattle.flow_core.specs.Residual.{arc_at, Joins, HasRoom, IsReached, IsScanned, IsReachedSet}
 use Rattle.flow_core.specs.Search.{visit_at, node_at, IsStep, IsVisit, IsTree, IsSeen, IsSearch}

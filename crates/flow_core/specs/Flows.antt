@@ -1,7 +1,7 @@
 -- Flows: one amount for each arc of a net.
 -- Stated by: flow_core.
 use Rattle.std.specs.Prelude.{◌≡◌, ℕ, ◌≤◌, ◌≢◌, List, [], ◌∷◌, ◌==◌, ℤ, pos, ◌+ℤ◌, ◌-ℤ◌, unsigned_abs, if◌then◌else◌}
-use Rattle.counting.specs.Counts.{Within}
+use Rattle.counting.specs.Common.{Within}
 use Rattle.flow_core.specs.Nets.{Arc, Net}
 
 -- what an arc with this amount takes out of v; below zero where it brings in

@@ -2,9 +2,8 @@
 -- on.
 -- Stated by: flow_core.
 use Rattle.std.specs.Prelude.{◌≡◌, ℕ, suc, ◌+◌, ◌-◌, ◌*◌, ◌<◌, List, length, slice_index, ℤ}
-use Rattle.counting.specs.Counts.{total}
+use Rattle.counting.specs.Common.{total, row_of}
 use Rattle.flow_core.specs.Nets.{Net}
-use Rattle.counting.specs.Lists.{row_of}
 use Rattle.flow_core.specs.Search.{node_at, IsTree}
 use Rattle.flow_core.specs.declared.search.Visit.{Visit}
 

@@ -2,9 +2,7 @@
 -- Fulkerson, "Flows in Networks").
 -- Stated by: flow_core, tight_cuts.
 use Rattle.std.specs.Prelude.{◌≡◌, ℕ, ◌≤◌, ◌<◌, ◌^◌, ◌≢◌, Bool, true, false, List, [], ◌∷◌, ◌++◌, ◌&&◌, ◌||◌, not, cond, sum_by, All}
-use Rattle.counting.specs.Counts.{Within}
-use Rattle.counting.specs.Sets.{Set}
-use Rattle.counting.specs.Lists.{mem, IsRisingIn}
+use Rattle.counting.specs.Common.{Within, Set, mem, IsRisingIn}
 
 -- an arc between a and b, to be used in both directions
 pub record Arc : Type 0 where

@@ -2,8 +2,7 @@
 -- reached.
 -- Stated by: flow_core.
 use Rattle.std.specs.Prelude.{◌≡◌, ◌≢◌, ℕ, ◌-◌, ◌≤◌, ◌<◌, ◌^◌, true, false, List, length, slice_index_or, ℤ, pos, ◌≤ℤ◌}
-use Rattle.counting.specs.Counts.{Within, count}
-use Rattle.counting.specs.Lists.{mem}
+use Rattle.counting.specs.Common.{Within, count, mem}
 use Rattle.flow_core.specs.Nets.{Arc, Net}
 use Rattle.flow_core.specs.Residual.{arc_at, amount_at, Joins, room_from, IsScanned}
 use Rattle.flow_core.specs.declared.search.Visit.{Visit}

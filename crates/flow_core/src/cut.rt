@@ -1,6 +1,6 @@
 //! The least minimum cut up to a bound, or a flow above it.
 ghost use Rattle.std.specs.Prelude.{◌≡◌, ◌≢◌, ◌≤◌, ◌<◌, ◌↔◌, IfOk, OnOk, Some, None};
-ghost use Rattle.counting.specs.Counts.{Within};
+ghost use Rattle.counting.specs.Common.{Within};
 ghost use Rattle.flow_core.specs.Nets.{HasCutWithin, IsBounded, IsLeastCut};
 ghost use Rattle.flow_core.specs.Flows.{IsFlow};
 ghost use Rattle.flow_core.specs.Incidence.{IsIncidence};

@@ -1,7 +1,6 @@
 //! The law of flows and cuts, the contract of a function that does nothing.
 ghost use Rattle.std.specs.Prelude.{ℕ, ◌≤◌, List, ℤ};
-ghost use Rattle.counting.specs.Counts.{Within};
-ghost use Rattle.counting.specs.Sets.{Set};
+ghost use Rattle.counting.specs.Common.{Within, Set};
 ghost use Rattle.flow_core.specs.Nets.{Net, IsNet, Separates, IsLeastCut, value_of};
 ghost use Rattle.flow_core.specs.Flows.{IsFlow};
 ghost use Rattle.flow_core.specs.Residual.{IsReachedSet};

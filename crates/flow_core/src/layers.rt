@@ -2,7 +2,7 @@
 ghost use Rattle.std.specs.Prelude.{◌≡◌, ◌≢◌, ℕ, suc, ◌≤◌, ◌<◌, ◌+◌, ◌-◌, length, IfOk, OnOk, IsTrue, List, ℤ, slice_index, slice_set, take};
 ghost use Rattle.flow_core.specs.Nets.{IsBounded};
 ghost use Rattle.flow_core.specs.Flows.{Fits, IsFlow};
-ghost use Rattle.counting.specs.Lists.{row_of};
+ghost use Rattle.counting.specs.Common.{row_of};
 ghost use Rattle.flow_core.specs.Incidence.{IsIncidence};
 ghost use Rattle.flow_core.specs.Search.{first_node, last_node, node_at, IsTree, HasTree};
 ghost use Rattle.flow_core.specs.Layers.{IsLaid, work_left};

@@ -1,6 +1,6 @@
 //! Nets, and how they grow.
 ghost use Rattle.std.specs.Prelude.{◌≡◌, ◌≢◌, ◌+◌, ◌≤◌, ◌<◌, ◌≤ℤ◌, ◌^◌, [], IfOk, OnOk, OnErr, length, pos};
-ghost use Rattle.counting.specs.Counts.{Within};
+ghost use Rattle.counting.specs.Common.{Within};
 ghost use Rattle.flow_core.specs.Nets.{IsBounded, with_arc, total_capacity};
 ghost use Rattle.flow_core.specs.Flows.{Fits};
 ghost use Rattle.flow_core.specs.Incidence.{HasEnd};

@@ -1,7 +1,6 @@
 //! The search for a shortest path over arcs with room, breadth first.
 ghost use Rattle.std.specs.Prelude.{◌≡◌, ℕ, ◌+◌, ◌<◌, ◌≢◌, ◌||◌, ◌==◌, [], ◌∷◌, ◌++◌, length, IfOk, OnOk, MatchBool, ℤ, List};
-ghost use Rattle.counting.specs.Counts.{Within};
-ghost use Rattle.counting.specs.Lists.{mem};
+ghost use Rattle.counting.specs.Common.{Within, mem};
 ghost use Rattle.flow_core.specs.Nets.{IsBounded};
 ghost use Rattle.flow_core.specs.Flows.{Fits};
 ghost use Rattle.flow_core.specs.Incidence.{IsIncidence};

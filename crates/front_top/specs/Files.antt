@@ -4,7 +4,7 @@ use Rattle.std.specs.Prelude.{ℕ, List}
 use Rattle.std.specs.declared.option.Option.{Option}
 use Rattle.std.specs.declared.option.Option.TheVariants.{Some, None}
 use Rattle.std.specs.Option.{option_map}
-use Rattle.bench_tasks.specs.Commands.{Command}
+use Rattle.bench_tasks.specs.Common.{Command}
 use Rattle.bench_tasks.specs.Files as bench
 use Rattle.bench_tasks.specs.declared.files.FileKind.{FileKind}
 use Rattle.bench_tasks.specs.declared.files.FileKind.TheVariants as kind

@@ -6,14 +6,8 @@ use Rattle.std.specs.declared.option.Option.{Option}
 use Rattle.std.specs.declared.option.Option.TheVariants.{Some, None}
 use Rattle.outside.specs.Faults.{Rose}
 use Rattle.outside.specs.Shelf.{Answer, NamedFile, ReadsFirst, ReadsInTurn}
-use Rattle.bench_tasks.specs.Commands.{Command, command_of}
-use Rattle.bench_tasks.specs.Tasks.{Task}
-use Rattle.bench_tasks.specs.Loading.{All, Bad, Absent, loaded}
-use Rattle.bench_outcomes.specs.Refusing.{MayRefuse}
-use Rattle.bench_tasks.specs.Files.{file_names}
-use Rattle.bench_tasks.specs.Reads.{names_in, names_until}
-use Rattle.bench_outcomes.specs.Outcome.{Outcome, Appended, CutShort, IsReported, IsSettled}
-use Rattle.bench_outcomes.specs.Success.{Succeeds}
+use Rattle.bench_tasks.specs.Common.{Command, command_of, Task, All, Bad, Absent, loaded, file_names, names_in, names_until}
+use Rattle.bench_outcomes.specs.Common.{MayRefuse, Outcome, Appended, CutShort, IsReported, IsSettled, Succeeds}
 use Rattle.bench_outcomes.specs.declared.status.Status.{Status}
 use Rattle.bench_outcomes.specs.declared.status.Status.TheVariants as status
 use Rattle.bench_top.specs.Calm.{HasRead, IsCalm}

@@ -7,7 +7,7 @@ use Rattle.outside.specs.Faults.{Rose}
 use Rattle.outside.specs.declared.explain.FailureReason.{FailureReason}
 use Rattle.outside.specs.Sink.{appended}
 use Rattle.outside.specs.declared.sink.SinkFailed.{SinkFailed}
-use Rattle.bench_tasks.specs.Commands.{Command}
+use Rattle.bench_tasks.specs.Common.{Command}
 use Rattle.bench_tasks.specs.declared.stop.Stop.{Stop}
 use Rattle.bench_outcomes.specs.declared.status.Status.{Status}
 use Rattle.bench_outcomes.specs.declared.status.Status.TheVariants.{Done, ReadFault, BadInput, WriteFault}

@@ -1,7 +1,7 @@
 //! The files of a command, as the words for a person name them.
 ghost use Rattle.std.specs.Prelude.{◌≡◌};
 ghost use Rattle.std.specs.Option.{option_map};
-ghost use Rattle.bench_tasks.specs.Asked.{asked};
+ghost use Rattle.bench_tasks.specs.Common.{asked};
 ghost use Rattle.front_top.specs.Files.{file_at, role_of};
 ghost use Rattle.front_top.specs.FilesSeen.{file_seen};
 

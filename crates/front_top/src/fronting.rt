@@ -1,6 +1,6 @@
 //! The top call.
 ghost use Rattle.std.specs.Prelude.{◌≡◌, ℕ, List, map, string_bytes, true, false, Some, None};
-ghost use Rattle.bench_tasks.specs.Commands.{command_of};
+ghost use Rattle.bench_tasks.specs.Common.{command_of};
 ghost use Rattle.front_top.specs.Answers.{answer_of};
 ghost use Rattle.front_top.specs.Runs.{IsRun};
 ghost use Rattle.front_top.specs.CluesSeen.{known_by};

@@ -1,8 +1,7 @@
 //! What is said of each ending.
 ghost use Rattle.std.specs.Prelude.{◌≡◌, [], map, string_bytes};
 ghost use Rattle.std.specs.Option.{option_map};
-ghost use Rattle.bench_tasks.specs.Asked.{asked};
-ghost use Rattle.bench_tasks.specs.Commands.{command_of};
+ghost use Rattle.bench_tasks.specs.Common.{asked, command_of};
 ghost use Rattle.front_words.specs.Saying.{Says};
 ghost use Rattle.front_top.specs.CluesSeen.{known_by};
 ghost use Rattle.front_top.specs.Files.{file_in};

@@ -2,7 +2,7 @@
 -- Stated by: front_words. Rests on it: front_top.
 use Rattle.std.specs.Prelude.{ℕ, ◌-◌, List, slice_get}
 use Rattle.std.specs.declared.option.Option.{Option}
-use Rattle.line_text.specs.Lines.{lines_of}
+use Rattle.line_text.specs.Common.{lines_of}
 
 -- the line with that number, counted from 1, if the text has it
 abbrev pub line_at : List ℕ → ℕ → Option (List ℕ)

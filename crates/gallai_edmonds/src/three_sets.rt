@@ -1,7 +1,7 @@
 //! The three sets.
 ghost use Rattle.std.specs.Prelude.{◌≤◌, IfOk};
-ghost use Rattle.counting.specs.Lists.{Lists};
-ghost use Rattle.graph_core.specs.GallaiEdmonds.{InD, InA, InC};
+ghost use Rattle.counting.specs.Common.{Lists};
+ghost use Rattle.graph_core.specs.Common.{InD, InA, InC};
 
 use graph_core::MultiGraph;
 use graph_facts::Facts;

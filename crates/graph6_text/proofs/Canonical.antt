@@ -2,14 +2,13 @@
 -- can be read off the edges that they choose, and are written again as its bytes; and the size
 -- has one form.
 use Rattle.std.proofs.Common.{◌≡◌, ℕ, ◌+◌, ◌*◌, ◌/◌, ◌%◌, ◌<◌, ◌≤◌, ◌==◌, Bool, true, false, cond, List, [], ◌∷◌, ◌++◌, length, map, take, drop, Option, Some, None, Ok, refl, sym, ap, ap₂, ◌∙◌, arith, leb, subst}
-use Rattle.std.proofs.lemmas.Bool.{and_parts, eqb-true, eqb-false, le-leb, lt-leb, leb-true, cond-true, cond-false}
+use Rattle.std.proofs.lemmas.Bool.{eqb-true, eqb-false, leb-true, cond-true, cond-false}
+use Rattle.counting.proofs.Common.{and_parts, le-leb, lt-leb}
 use Rattle.std.proofs.lemmas.List.{take-append-drop}
 use Rattle.std.specs.List.{list_all, list_any}
-use Rattle.counting.specs.Sets.{none}
-use Rattle.graph_core.specs.Graph.{Graph}
-use Rattle.graph_core.specs.Simple.{IsSimple}
-use Rattle.graph_core.specs.Walks.{adjacent}
-use Rattle.graph_core.proofs.EndLists.{adjacent-ends}
+use Rattle.counting.specs.Common.{none}
+use Rattle.graph_core.specs.Common.{Graph, IsSimple, adjacent}
+use Rattle.graph_core.proofs.Common.{adjacent-ends}
 use Rattle.graph6_text.specs.Digits.{byte_of, digit_of, is_digit, bits_of, bytes_of}
 use Rattle.graph6_text.specs.Pairs.{column_pairs}
 use Rattle.graph6_text.specs.Reading.{Fault, first_fault, faults_of, is_long, digit_at, order_of, data_of, filling_of, graph_of, graph_unless, body_of, outcome_of}

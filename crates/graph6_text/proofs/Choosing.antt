@@ -1,11 +1,9 @@
 -- The pairs whose bit is set, in order. Idea: induction on the pairs and their bits together.
 use Rattle.std.proofs.Common.{◌≡◌, ℕ, Bool, true, false, List, [], ◌∷◌, ◌++◌, length, map, refl, sym, ap, ap₂, ◌∙◌, arith, append_assoc, nat_lt, Option, Some, None, ◌⊎◌, inl, inr}
-use Rattle.std.proofs.lemmas.Bool.{cases_Bool}
-use Rattle.std.proofs.lemmas.Bool.Decides.{nat_tests}
+use Rattle.counting.proofs.Common.{cases_Bool, nat_tests, append-nil, length-append, length-map}
 use Rattle.text_faults.specs.declared.faults.FaultKind.{FaultKind}
-use Rattle.std.proofs.lemmas.List.{append-nil, nil_from_length, length-append, length-map}
-use Rattle.graph_core.specs.Graph.{Graph}
-use Rattle.graph_core.specs.View.{pair_of}
+use Rattle.std.proofs.lemmas.List.{nil_from_length}
+use Rattle.graph_core.specs.Common.{Graph, pair_of}
 use Rattle.graph_core.specs.declared.ends.Ends.{Ends}
 use Rattle.text_faults.specs.declared.faults.TextFault.{TextFault}
 use Rattle.text_faults.specs.declared.faults.TextFault.TheVariants as fault

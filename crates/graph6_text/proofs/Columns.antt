@@ -2,13 +2,11 @@
 -- 1) / 2 of them. Idea: induction on the number of columns, and within a column on the number of
 -- its pairs.
 use Rattle.std.proofs.Common.{◌≡◌, ℕ, suc, zero, ◌+◌, ◌-◌, ◌*◌, ◌/◌, ◌<◌, ◌≤◌, ◌==◌, ◌&&◌, ◌||◌, Bool, true, false, List, [], ◌∷◌, ◌++◌, length, map, get_or, refl, sym, ap, ap₂, ◌∙◌, arith, inl, inr}
-use Rattle.std.proofs.lemmas.Bool.{cases_eq, or_left, or_right}
-use Rattle.std.proofs.lemmas.Bool.Decides.{nat_tests}
-use Rattle.std.proofs.lemmas.List.{append_assoc, length-append, length-map, get_or-map}
-use Rattle.std.proofs.lemmas.List.Folds.{list_any-append}
+use Rattle.counting.proofs.Common.{cases_eq, or_left, or_right, nat_tests, length-append, length-map, get_or-map, list_any-append}
+use Rattle.std.proofs.lemmas.List.{append_assoc}
 use Rattle.std.specs.List.{list_any}
-use Rattle.counting.specs.Counts.{Within}
-use Rattle.graph_core.specs.View.{pair_of}
+use Rattle.counting.specs.Common.{Within}
+use Rattle.graph_core.specs.Common.{pair_of}
 use Rattle.graph_core.specs.declared.ends.Ends.{Ends}
 use Rattle.graph6_text.specs.Pairs.{column, column_pairs}
 use Rattle.graph6_text.specs.Reading.{pair_count}

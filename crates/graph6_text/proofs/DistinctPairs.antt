@@ -1,12 +1,10 @@
 -- Lists of pairs of which no two are the same two numbers. Idea: among such pairs the bits that
 -- choose some can be read off the chosen ones, and each edge of a graph is chosen at most once.
 use Rattle.std.proofs.Common.{◌≡◌, ℕ, suc, zero, ◌+◌, ◌-◌, ◌<◌, ◌≤◌, ◌==◌, ◌&&◌, ◌||◌, Bool, true, false, cond, List, [], ◌∷◌, ◌++◌, length, map, take, get_or, refl, ap, ap₂, ◌∙◌, arith, ◌⊎◌, inl, inr}
-use Rattle.std.proofs.lemmas.Bool.{or_from, or_left, both_ways, cases_order}
-use Rattle.std.proofs.lemmas.Bool.Decides.{nat_tests}
+use Rattle.counting.proofs.Common.{or_from, or_left, both_ways, cases_order, nat_tests}
 use Rattle.std.specs.List.{list_any}
-use Rattle.graph_core.specs.Graph.{Graph}
-use Rattle.graph_core.specs.Simple.{IsSimple}
-use Rattle.graph_core.proofs.EndLists.{joins}
+use Rattle.graph_core.specs.Common.{Graph, IsSimple}
+use Rattle.graph_core.proofs.Common.{joins}
 use Rattle.graph6_text.specs.Pairs.{chosen}
 
 -- what holds of each pair of the list

@@ -1,14 +1,14 @@
 -- What the checks of a body tell of it. Idea: where no fault of a list of tests is first, each
 -- test fails; and the first fault of two lists of tests is that of the one, or else that of the
 -- other.
-use Rattle.counting.proofs.Booleans.{and_fails_second}
+use Rattle.counting.proofs.Common.{and_fails_second, and_parts, not-false}
 use Rattle.std.proofs.Common.{◌≡◌, ℕ, ◌+◌, ◌*◌, ◌/◌, ◌<◌, ◌≤◌, ◌==◌, Bool, true, false, cond, List, [], ◌∷◌, ◌++◌, length, take, drop, Option, Some, None, Ok, Err, refl, sym, ap, ap₂, ◌∙◌, arith, ltb, leb, nat_lt}
-use Rattle.std.proofs.lemmas.Bool.{and_parts, not-false, eqb-false, ltb-false, leb-false}
+use Rattle.std.proofs.lemmas.Bool.{eqb-false, ltb-false, leb-false}
 use Rattle.std.proofs.lemmas.List.{take-append-drop}
 use Rattle.std.proofs.lemmas.List.Folds.{list_all-append}
 use Rattle.std.specs.List.{list_all, list_any}
 use Rattle.text_faults.specs.Faults.{IsFault}
-use Rattle.graph_core.specs.Graph.{Graph, size}
+use Rattle.graph_core.specs.Common.{Graph, size}
 use Rattle.text_faults.specs.declared.faults.FaultKind.TheVariants.{Padding, Limit}
 use Rattle.text_faults.specs.declared.faults.TextFault.{TextFault}
 use Rattle.text_faults.specs.declared.faults.TextFault.TheVariants as fault

@@ -2,18 +2,16 @@
 -- Idea: each of its bytes writes a digit, so that nothing is set aside; the bits that are read
 -- are those that were written, with zeros after them.
 use Rattle.std.proofs.Common.{◌≡◌, ℕ, ◌+◌, ◌-◌, ◌/◌, ◌%◌, ◌<◌, ◌≤◌, ◌≢◌, ◌==◌, ◌&&◌, Bool, true, false, cond, List, [], ◌∷◌, ◌++◌, length, map, take, drop, None, Ok, refl, sym, ap, ap₂, ◌∙◌, arith, leb, ltb, inl, inr, subst, codes, nat_eq, get_or}
-use Rattle.std.proofs.lemmas.Bool.{and_parts, and_from, and_left, and_right, or_from, both_ways, cases_lt, cases_order, cases_Bool, false_from_ne_true, not_from_true, ne_eqb, lt-leb, le-ltb, cond-false}
+use Rattle.std.proofs.lemmas.Bool.{not_from_true, ne_eqb, le-ltb, cond-false}
+use Rattle.counting.proofs.Common.{and_parts, and_from, and_left, and_right, or_from, both_ways, cases_lt, cases_order, cases_Bool, false_from_ne_true, lt-leb, length-map}
 use Rattle.std.proofs.lemmas.Bool.Decides.{Decides-eqb}
-use Rattle.std.proofs.lemmas.List.{drop_at, length-map}
+use Rattle.std.proofs.lemmas.List.{drop_at}
 use Rattle.std.proofs.lemmas.List.Folds.{list_all-append}
 use Rattle.std.proofs.lemmas.Slice.Eq.{starts_is, ends_is}
 use Rattle.std.specs.List.{list_all, list_any, starts_with, ends_with}
-use Rattle.counting.specs.Sets.{none}
-use Rattle.graph_core.specs.Graph.{Graph, size, first_end, second_end, has_ends}
-use Rattle.graph_core.specs.View.{IsWithinLimits}
-use Rattle.graph_core.specs.Walks.{adjacent}
-use Rattle.graph_core.proofs.EndLists.{joins, adjacent-ends}
-use Rattle.graph_core.proofs.Walks.{adjacent-edge, adjacent_back, adjacent_within, has_ends-cases}
+use Rattle.counting.specs.Common.{none}
+use Rattle.graph_core.specs.Common.{Graph, size, first_end, second_end, has_ends, IsWithinLimits, adjacent}
+use Rattle.graph_core.proofs.Common.{joins, adjacent-ends, adjacent-edge, adjacent_back, adjacent_within, has_ends-cases}
 use Rattle.graph6_text.specs.Digits.{byte_of, is_digit, bits_of, bytes_of}
 use Rattle.graph6_text.specs.Pairs.{column_pairs, chosen}
 use Rattle.graph6_text.specs.Reading.{without_header, without_line_end, first_fault, faults_of, is_long, order_of, data_of, data_len, pair_count, filling_of, graph_of, body_of}

@@ -2,10 +2,8 @@
 -- encodings").
 -- Stated by: graph6_text, encoder. Rests on it: list_lines, bench_outcomes, bench_top, theorems.
 use Rattle.std.specs.Prelude.{◌≡◌, ℕ, ◌/◌, ◌%◌, nat_le, if◌then◌else◌, Bool, List, [], ◌∷◌, ◌++◌, map, Ok}
-use Rattle.counting.specs.Sets.{none}
-use Rattle.graph_core.specs.Graph.{Graph}
-use Rattle.graph_core.specs.Simple.{IsSimple}
-use Rattle.graph_core.specs.Walks.{adjacent}
+use Rattle.counting.specs.Common.{none}
+use Rattle.graph_core.specs.Common.{Graph, IsSimple, adjacent}
 use Rattle.graph6_text.specs.Digits.{byte_of, bytes_of}
 use Rattle.graph6_text.specs.Pairs.{column_pairs}
 use Rattle.graph6_text.specs.Reading.{outcome_of}

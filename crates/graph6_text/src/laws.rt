@@ -1,8 +1,6 @@
 //! The laws on graph6 texts. Each is the contract of a function that does nothing.
 ghost use Rattle.std.specs.Prelude.{◌≡◌, ℕ, List, Ok};
-ghost use Rattle.graph_core.specs.Graph.{Graph};
-ghost use Rattle.graph_core.specs.Simple.{IsSimple};
-ghost use Rattle.graph_core.specs.View.{IsWithinLimits};
+ghost use Rattle.graph_core.specs.Common.{Graph, IsSimple, IsWithinLimits};
 ghost use Rattle.graph6_text.specs.Reading.{IsBare, outcome_of};
 ghost use Rattle.graph6_text.specs.Writing.{graph6_of, ReadsBack};
 

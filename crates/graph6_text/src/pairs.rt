@@ -1,6 +1,6 @@
 //! Pairs of vertices, column by column.
 ghost use Rattle.std.specs.Prelude.{◌≡◌, ◌≤◌, ◌++◌, ◌-◌, IfOk, OnOk, map};
-ghost use Rattle.graph_core.specs.View.{pair_of};
+ghost use Rattle.graph_core.specs.Common.{pair_of};
 ghost use Rattle.graph6_text.specs.Pairs.{column, column_pairs};
 
 use graph_core::Ends;

@@ -2,9 +2,7 @@
 ghost use Rattle.std.specs.Prelude.{◌≡◌, ◌≤◌, ◌++◌, [], ◌∷◌, IfOk, IfErr, Ok, OnOk, None, length, drop, map, take};
 ghost use Rattle.std.specs.List.{list_any};
 ghost use Rattle.text_faults.specs.Faults.{IsFault};
-ghost use Rattle.graph_core.specs.Graph.{Graph, size};
-ghost use Rattle.graph_core.specs.Simple.{IsSimple};
-ghost use Rattle.graph_core.specs.View.{pair_of};
+ghost use Rattle.graph_core.specs.Common.{Graph, size, IsSimple, pair_of};
 ghost use Rattle.graph6_text.specs.Pairs.{chosen, chosen_one};
 ghost use Rattle.graph6_text.specs.Checks.{limit_row, Checks, IsFirstFault};
 ghost use Rattle.graph6_text.specs.Reading.{outcome_of, graph_of, faults_of, first_fault};

@@ -2,14 +2,9 @@
 -- the same adjacent pairs. A perfect matching goes over by choosing, for each of its edges, the
 -- least edge with the same ends.
 use Rattle.std.proofs.Common.{◌≡◌, ℕ, ◌≢◌, true, cond, ◌==◌, refl, sym, ap, ◌∙◌, arith, ◌&&◌, ◌||◌, eq-eqb, ne_eqb, ◌⊎◌, inl, inr, List, [], ◌∷◌, subst, subst₂}
-use Rattle.std.proofs.lemmas.Bool.{cases_eq, and_from}
-use Rattle.std.proofs.lemmas.Bool.Decides.{nat_tests}
-use Rattle.counting.proofs.Tests.{some_true, true_some}
-use Rattle.counting.specs.Counts.{Within}
-use Rattle.counting.specs.Sets.{Set, none}
-use Rattle.counting.specs.Tests.{some}
+use Rattle.counting.proofs.Common.{cases_eq, and_from, nat_tests, some_true, true_some, least_of, least_of_is}
+use Rattle.counting.specs.Common.{Within, Set, none, some}
 use Rattle.graph_core.proofs.Carrying.{carried_set, cut_carried, image, perfect_carried}
-use Rattle.counting.proofs.Tests.{least_of, least_of_is}
 use Rattle.graph_core.proofs.Walks.{adjacent-edge, adjacent_from, adjacent_within, has_ends-cases, has_ends-own}
 use Rattle.graph_core.specs.Covered.{IsCovered}
 use Rattle.graph_core.specs.Graph.{Graph, IsGraph, first_end, has_ends, second_end, size, HasEnds}

@@ -2,16 +2,8 @@
 -- union of blocks is counted at the first vertex of each block; uncrossing is that of the
 -- contracted graph.
 use Rattle.std.proofs.Common.{◌≡◌, ℕ, suc, zero, ◌-◌, ◌<◌, ◌+◌, ◌*◌, ◌≤◌, Bool, true, false, ◌==◌, refl, sym, ap, ap₂, ◌∙◌, arith, ◌&&◌, ◌||◌, not, eq-eqb, eqb-true, inl, inr, List, [], ◌∷◌, length}
-use Rattle.std.proofs.lemmas.Bool.{cases_Bool, both_ways, and_parts, and_from, cases_eq}
-use Rattle.std.proofs.lemmas.List.{get_or-map}
-use Rattle.counting.proofs.Counts.{count_congr}
-use Rattle.counting.proofs.Tests.{some_true, true_some}
-use Rattle.counting.proofs.Totals.{total_add, total_congr}
-use Rattle.counting.specs.Counts.{Within, bit, count, is_odd, total}
-use Rattle.counting.specs.Lists.{mem}
-use Rattle.counting.specs.Sets.{Set, complement, meet, minus, none, union}
-use Rattle.counting.specs.Tests.{some}
-use Rattle.counting.proofs.Booleans.{apart_denied, bit_parted, not_not}
+use Rattle.counting.proofs.Common.{cases_Bool, both_ways, and_parts, and_from, cases_eq, get_or-map, count_congr, some_true, true_some, total_add, total_congr, apart_denied, bit_parted, not_not}
+use Rattle.counting.specs.Common.{Within, bit, count, is_odd, total, mem, Set, complement, meet, minus, none, union, some}
 use Rattle.graph_core.proofs.Blocks.{contracted-graph, contracted-size, first, in_union, place_in, place_is}
 use Rattle.graph_core.proofs.Carrying.{image, total_image}
 use Rattle.graph_core.proofs.Contraction.{tight_from_cut}

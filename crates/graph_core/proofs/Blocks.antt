@@ -2,13 +2,8 @@
 -- applies. Each vertex has one block, and the block of a place in the one partition goes to a
 -- place in the other.
 use Rattle.std.proofs.Common.{◌≡◌, ℕ, suc, zero, ◌+◌, ◌-◌, ◌≤◌, ◌<◌, ◌≢◌, Bool, true, false, cond, ◌==◌, refl, sym, ap, ◌∙◌, arith, ◌&&◌, ◌||◌, eq-eqb, eqb-true, inl, inr, List, [], ◌∷◌, length, get_or, subst}
-use Rattle.std.proofs.lemmas.Bool.{cases_Bool, both_ways, true≢false, or_cases, and_from, and_left}
-use Rattle.std.proofs.lemmas.List.{get_or-map, length-map}
-use Rattle.counting.proofs.Counts.{bit_true, only_one}
-use Rattle.counting.proofs.Totals.{some_term}
-use Rattle.counting.specs.Counts.{Within, bit}
-use Rattle.counting.specs.Lists.{all_in, mem}
-use Rattle.counting.specs.Sets.{Set, union}
+use Rattle.counting.proofs.Common.{cases_Bool, both_ways, true≢false, or_cases, and_from, and_left, get_or-map, length-map, bit_true, only_one, some_term}
+use Rattle.counting.specs.Common.{Within, bit, all_in, mem, Set, union}
 use Rattle.graph_core.specs.Graph.{Graph, IsGraph, first_end, second_end, size}
 use Rattle.graph_core.specs.Partitions.{AreBlocks, IsMerge, block, contracted, place}
 use Rattle.graph_core.specs.Shores.{IsUnion, blocks_in}

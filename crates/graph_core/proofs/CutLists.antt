@@ -1,16 +1,10 @@
 -- Lists of cuts by canonical shores: a shore by its members, and what a list gets for it.
 -- A rising list is fixed by its test, and of the three cases of `with_cut` each has its step.
 use Rattle.std.proofs.Common.{◌≡◌, ℕ, suc, zero, ◌+◌, ◌-◌, ◌≤◌, Bool, true, false, refl, sym, ap, ap₂, ◌∙◌, arith, ◌&&◌, not, cond, List, [], ◌∷◌, ◌++◌, map, length, nat_le, subst, fold, flat_map, take}
-use Rattle.std.proofs.lemmas.Bool.{and_parts, and_from, and_right}
-use Rattle.std.proofs.lemmas.List.{map-append, take_all}
+use Rattle.counting.proofs.Common.{and_parts, and_from, and_right, map-append, take_all, count_complement, count_congr, count_mem_length, length-rising_list, list-from_test, mem-rising_list, rising_list-rises, set-narrower}
 use Rattle.std.proofs.lemmas.List.Sums.{sum_by-append}
 use Rattle.std.specs.Prelude.{count_by}
-use Rattle.counting.specs.Counts.{Within, bit, count, is_odd}
-use Rattle.counting.specs.Lists.{IsRisingIn, mem, rising_list}
-use Rattle.counting.specs.Sets.{Set, complement}
-use Rattle.counting.proofs.Counts.{count_complement, count_congr}
-use Rattle.counting.proofs.Lists.{count_mem_length}
-use Rattle.counting.proofs.RisingLists.{length-rising_list, list-from_test, mem-rising_list, rising_list-rises, set-narrower}
+use Rattle.counting.specs.Common.{Within, bit, count, is_odd, IsRisingIn, mem, rising_list, Set, complement}
 use Rattle.graph_core.specs.Components.{components, is_least, odd_component_count}
 use Rattle.graph_core.specs.Graph.{Graph}
 use Rattle.graph_core.specs.Structure.{classes}

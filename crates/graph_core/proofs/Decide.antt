@@ -1,14 +1,8 @@
 -- The tests for matchings, tightness and equivalence against the relations; each is decided.
 -- Each test goes by the edge numbers alone, so the search over all edge sets misses none.
 use Rattle.std.proofs.Common.{◌≡◌, ℕ, suc, zero, ◌+◌, ◌≢◌, Bool, true, false, cond, ◌==◌, refl, sym, ap, ap₂, ◌∙◌, arith, ◌&&◌, ◌||◌, not, eq-eqb, eqb-true, ◌⊎◌, inl, inr, ◌≤◌, ◌<◌, nat_le, leb-true, le-leb, List, [], ◌∷◌}
-use Rattle.std.proofs.lemmas.Bool.{cases_eq, cases_Bool, or_cases, and_parts, and_from, both_ways, not-true}
-use Rattle.std.proofs.lemmas.Bool.Decides.{nat_tests}
-use Rattle.counting.proofs.Choice.{Respects, choose_set, each_passes, implied, implies, none_fails, set_found, some_set_found}
-use Rattle.counting.proofs.Counts.{count_congr, count_le}
-use Rattle.counting.proofs.Tests.{every_congr, every_true, true_every}
-use Rattle.counting.proofs.Totals.{total_none}
-use Rattle.counting.specs.Counts.{Within, count, is_odd}
-use Rattle.counting.specs.Sets.{Set, complement, none, pair_set}
+use Rattle.counting.proofs.Common.{cases_eq, cases_Bool, or_cases, and_parts, and_from, both_ways, not-true, nat_tests, Respects, choose_set, each_passes, implied, implies, none_fails, set_found, some_set_found, count_congr, count_le, every_congr, every_true, true_every, total_none}
+use Rattle.counting.specs.Common.{Within, count, is_odd, Set, complement, none, pair_set}
 use Rattle.graph_core.proofs.Walks.{adjacent-edge, has_ends-cases}
 use Rattle.graph_core.specs.Covered.{IsCovered, IsReason, Reason, Small, Parted, Unmatched, Unallowed}
 use Rattle.graph_core.specs.Graph.{Graph, IsGraph, IsMultigraph, degree, edges_in_cut, first_end, in_cut, second_end, size}

@@ -3,8 +3,7 @@
 use Rattle.std.proofs.Common.{◌≡◌, ℕ, suc, zero, ◌+◌, ◌-◌, ◌≤◌, Bool, ◌==◌, ◌&&◌, ◌||◌, List, length, take, take_all, get_or, refl, sym, ap, ap₂, ◌∙◌, arith, le_refl}
 use Rattle.std.specs.List.{list_any}
 use Rattle.std.proofs.lemmas.List.Folds.{list_any_more}
-use Rattle.counting.specs.Sets.{none}
-use Rattle.counting.specs.Tests.{some}
+use Rattle.counting.specs.Common.{none, some}
 use Rattle.graph_core.specs.Graph.{Graph}
 use Rattle.graph_core.specs.Walks.{adjacent}
 

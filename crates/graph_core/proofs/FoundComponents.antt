@@ -2,14 +2,9 @@
 -- the list hold at the end? The components, in the order of their least vertices, and the trees
 -- of the searches are one forest.
 use Rattle.std.proofs.Common.{◌≡◌, ℕ, suc, zero, ◌+◌, ◌<◌, Bool, true, false, ◌==◌, refl, sym, ap, ap₂, ◌∙◌, arith, ◌&&◌, ◌||◌, not, ◌⊎◌, inl, inr, List, [], ◌∷◌, ◌++◌, subst, eq-eqb, eqb-true, ne_eqb, cond, map, append_assoc, append-nil, nat_lt, ltb-true}
-use Rattle.std.proofs.lemmas.Bool.{and_from, and_parts, both_ways, cases_Bool, cases_eq, false_from_ne_true, not-true, not-false, not_from_false, true≢false, or_parts}
-use Rattle.counting.specs.Counts.{Within}
-use Rattle.counting.specs.Lists.{IsRisingIn, mem, rising_list}
-use Rattle.counting.specs.Sets.{Set, complement, meet, minus, union}
-use Rattle.counting.specs.Tests.{some}
-use Rattle.counting.proofs.RisingLists.{rising_list-congr, rising_list-rises, mem-rising_list, same_rising_list}
-use Rattle.counting.proofs.Tests.{some_true}
-use Rattle.counting.proofs.Booleans.{not_but_parts, or_fails_first, same_tests, and_false, and_true}
+use Rattle.std.proofs.lemmas.Bool.{not_from_false}
+use Rattle.counting.proofs.Common.{and_from, and_parts, both_ways, cases_Bool, cases_eq, false_from_ne_true, not-true, not-false, true≢false, or_parts, rising_list-congr, rising_list-rises, mem-rising_list, same_rising_list, some_true, not_but_parts, or_fails_first, same_tests, and_false, and_true}
+use Rattle.counting.specs.Common.{Within, IsRisingIn, mem, rising_list, Set, complement, meet, minus, union, some}
 use Rattle.graph_core.specs.Components.{components, is_least}
 use Rattle.graph_core.specs.Graph.{Graph, IsGraph}
 use Rattle.graph_core.specs.FoundVertices.{IsStage}

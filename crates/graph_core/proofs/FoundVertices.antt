@@ -2,11 +2,9 @@
 -- was found before. What has it found when no found vertex has a neighbour left? A component: it
 -- is closed under steps, and the tree gives a walk to each of its vertices.
 use Rattle.std.proofs.Common.{◌≡◌, ℕ, ◌+◌, ◌≤◌, true, false, ◌==◌, refl, sym, ap, ◌∙◌, arith, ◌&&◌, not, inl, inr, subst, eq-eqb, eqb-true, ne_eqb}
-use Rattle.std.proofs.lemmas.Bool.{and_from, and_parts, both_ways, cases_eq, or_right, not-true, not-false, not_from_false}
-use Rattle.counting.specs.Counts.{Within, count}
-use Rattle.counting.specs.Sets.{Set, complement, minus}
-use Rattle.counting.proofs.Counts.{count_le, count_more}
-use Rattle.counting.proofs.Booleans.{not_but_parts, same_tests, or_false}
+use Rattle.std.proofs.lemmas.Bool.{not_from_false}
+use Rattle.counting.proofs.Common.{and_from, and_parts, both_ways, cases_eq, or_right, not-true, not-false, count_le, count_more, not_but_parts, same_tests, or_false}
+use Rattle.counting.specs.Common.{Within, count, Set, complement, minus}
 use Rattle.graph_core.specs.Graph.{Graph, IsGraph}
 use Rattle.graph_core.specs.FoundVertices.{IsGrowth, IsGrown}
 use Rattle.graph_core.specs.Trees.{Hangs}

@@ -35,3 +35,4 @@ pub mod Perfect
 pub mod SingleBlocks
 pub mod ShoreLists
 pub mod CutLists
+pub mod Common

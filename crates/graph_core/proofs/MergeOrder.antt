@@ -3,10 +3,8 @@
 use Rattle.std.proofs.Common.{◌≡◌, ℕ, suc, zero, ◌+◌, ◌-◌, ◌≤◌, ◌<◌, Bool, true, false, not, cond, List, [], ◌∷◌, length, refl, sym, ap, ◌∙◌, arith, ◌⊎◌, inl, inr, subst, filter, nat_lt, All}
 use Rattle.std.specs.Prelude.{slice_index, slice_index_or}
 use Rattle.std.specs.List.Sorted.{IsStrictlyIncreasing}
-use Rattle.std.proofs.lemmas.Bool.{both_ways, cases_lt}
-use Rattle.std.proofs.lemmas.Bool.Decides.{nat_tests}
-use Rattle.counting.specs.Counts.{Within}
-use Rattle.counting.specs.Lists.{last_of, mem}
+use Rattle.counting.proofs.Common.{both_ways, cases_lt, nat_tests}
+use Rattle.counting.specs.Common.{Within, last_of, mem}
 use Rattle.graph_core.proofs.Merging.{Has, block_of, filter_has, has_block, insert_has, mem_last, merged_partition}
 use Rattle.graph_core.proofs.SameBlocks.{Ordered, rising_ordered}
 use Rattle.graph_core.specs.Partitions.{IsPartition, insert_block, merged, names_of}

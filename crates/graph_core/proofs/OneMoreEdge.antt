@@ -3,12 +3,9 @@
 -- new edge is the last item of the list of ends, and "some edge joins v and w" is "some item
 -- does".
 use Rattle.std.proofs.Common.{◌≡◌, ◌≢◌, ℕ, ◌+◌, ◌-◌, ◌<◌, ◌∷◌, [], List, length, Bool, false, ◌==◌, ◌&&◌, ◌||◌, sym, ap, ◌∙◌, arith, subst₂, inl, inr}
-use Rattle.std.proofs.lemmas.Bool.{cases_eq}
-use Rattle.std.proofs.lemmas.List.{get_or_append_left, get_or_push, length-append}
-use Rattle.std.proofs.lemmas.List.Folds.{list_any-append}
-use Rattle.counting.specs.Counts.{Within}
-use Rattle.counting.specs.Lists.{item, mem}
-use Rattle.counting.specs.Sets.{none}
+use Rattle.counting.proofs.Common.{cases_eq, get_or_append_left, length-append, list_any-append}
+use Rattle.std.proofs.lemmas.List.{get_or_push}
+use Rattle.counting.specs.Common.{Within, item, mem, none}
 use Rattle.graph_core.specs.Graph.{Graph, first_end, second_end, size, with_edge}
 use Rattle.graph_core.specs.Rows.{AreRows}
 use Rattle.graph_core.specs.View.{IsWithinLimits}

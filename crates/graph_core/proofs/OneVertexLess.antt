@@ -1,11 +1,7 @@
 -- A set loses one vertex, or gains one: what does it answer for each, and how does its size change?
 use Rattle.std.proofs.Common.{◌≡◌, ℕ, ◌+◌, true, false, ◌==◌, refl, sym, ap, ◌∙◌, arith, ◌&&◌, ◌||◌, not, inl, inr, eq-eqb, ne_eqb}
-use Rattle.counting.proofs.Booleans.{and_false, and_true, or_false}
-use Rattle.std.proofs.lemmas.Bool.{and_parts, cases_eq, or_right}
-use Rattle.counting.specs.Counts.{Within, bit, count}
-use Rattle.counting.specs.Sets.{Set, put}
-use Rattle.counting.proofs.Choice.{count_put}
-use Rattle.counting.proofs.Counts.{count_congr}
+use Rattle.counting.proofs.Common.{and_false, and_true, or_false, and_parts, cases_eq, or_right, count_put, count_congr}
+use Rattle.counting.specs.Common.{Within, bit, count, Set, put}
 
 -- left' is left without w
 abbrev pub Loses : Set → ℕ → Set → Type 0

@@ -1,9 +1,8 @@
 -- A matching is perfect exactly if it misses no vertex outside the removed ones.
 -- A count is 0 exactly if no number passes the test.
 use Rattle.std.proofs.Common.{◌≡◌, ℕ, zero, suc, ◌≤◌, Bool, true, false, ◌==◌, refl, ap, arith, ◌&&◌, not, ne_eqb}
-use Rattle.counting.proofs.Totals.{total_none, at_le_total}
-use Rattle.counting.specs.Counts.{Within, bit}
-use Rattle.counting.specs.Sets.{Set}
+use Rattle.counting.proofs.Common.{total_none, at_le_total}
+use Rattle.counting.specs.Common.{Within, bit, Set}
 use Rattle.graph_core.specs.Graph.{Graph, degree}
 use Rattle.graph_core.specs.Matchings.{IsMatching, IsPerfect, missed_count}
 

@@ -1,11 +1,8 @@
 -- A set of blocks is tight in the quotient exactly when it is in the contracted graph.
 -- Perfect matchings go over both ways by the least edge with the same ends.
 use Rattle.std.proofs.Common.{◌≡◌, ℕ, ◌<◌, ◌≢◌, true, not, ◌==◌, List, length, refl, sym, ap, ◌∙◌, arith, inl, inr, subst, ne_eqb}
-use Rattle.std.proofs.lemmas.Bool.{and_parts, and_from, cases_lt}
-use Rattle.counting.proofs.Tests.{least_of, least_of_is, some_true, true_some}
-use Rattle.counting.specs.Counts.{Within, count, is_odd}
-use Rattle.counting.specs.Sets.{Set, complement}
-use Rattle.counting.specs.Tests.{some}
+use Rattle.counting.proofs.Common.{and_parts, and_from, cases_lt, least_of, least_of_is, some_true, true_some}
+use Rattle.counting.specs.Common.{Within, count, is_odd, Set, complement, some}
 use Rattle.graph_core.proofs.Adjacency.{has_ends-from}
 use Rattle.graph_core.proofs.Blocks.{contracted-graph, contracted-order, contracted-size}
 use Rattle.graph_core.proofs.Carrying.{carried_set, cut_carried, perfect_carried}

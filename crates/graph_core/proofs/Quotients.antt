@@ -1,12 +1,8 @@
 -- The edges of the quotient are exactly the adjacent pairs of places.
 -- By the list of pairs in lexicographic order, filtered.
 use Rattle.std.proofs.Common.{◌≡◌, ℕ, suc, ◌-◌, ◌<◌, true, List, length, refl, ap, ◌∙◌, arith, get_or, nat_lt}
-use Rattle.std.proofs.lemmas.Bool.Decides.{nat_tests}
-use Rattle.counting.proofs.Lists.{rising_holds, rising_only}
-use Rattle.counting.proofs.Pairs.{at_pair, filter_pair, pair_at, pair_filter, rows_hold, rows_only}
-use Rattle.counting.specs.Counts.{Within}
-use Rattle.counting.specs.Lists.{rising_list, rising_pairs}
-use Rattle.counting.specs.Sets.{everything}
+use Rattle.counting.proofs.Common.{nat_tests, rising_holds, rising_only, at_pair, filter_pair, pair_at, pair_filter, rows_hold, rows_only}
+use Rattle.counting.specs.Common.{Within, rising_list, rising_pairs, everything}
 use Rattle.graph_core.specs.Graph.{Graph, first_end, second_end, size}
 use Rattle.graph_core.specs.Quotients.{blocks_adjacent, quotient}
 

@@ -1,11 +1,8 @@
 -- What a row of the adjacency matrix, met with the set of the vertices that are left, tells of
 -- the neighbours that are left.
 use Rattle.std.proofs.Common.{◌≡◌, ℕ, ◌-◌, true, false, ◌&&◌, sym, ap, ◌∙◌, arith, List, [], length, get_or}
-use Rattle.std.proofs.lemmas.Bool.{and_parts, both_ways, false_from_ne_true, and_from}
-use Rattle.std.proofs.lemmas.List.{get_or_read}
-use Rattle.counting.specs.Counts.{Within}
-use Rattle.counting.specs.Lists.{mem}
-use Rattle.counting.specs.Sets.{none}
+use Rattle.counting.proofs.Common.{and_parts, both_ways, false_from_ne_true, and_from, get_or_read}
+use Rattle.counting.specs.Common.{Within, mem, none}
 use Rattle.graph_core.specs.Graph.{Graph}
 use Rattle.graph_core.specs.Rows.{AreRows}
 use Rattle.graph_core.specs.Walks.{adjacent}

@@ -1,14 +1,8 @@
 -- A tight shore as a list: it is not empty, and the list of the other numbers is the other shore,
 -- which is tight as well. An odd number of blocks is at least one, and each block has a vertex.
 use Rattle.std.proofs.Common.{ℕ, ◌<◌, ◌≤◌, List, length, sym, arith}
-use Rattle.counting.proofs.Counts.{bit_true}
-use Rattle.counting.proofs.Lists.{some-member}
-use Rattle.counting.proofs.Odd.{odd_pos}
-use Rattle.counting.proofs.RisingLists.{all_in_true}
-use Rattle.counting.proofs.Totals.{some_term}
-use Rattle.counting.specs.Counts.{bit, count}
-use Rattle.counting.specs.Lists.{mem}
-use Rattle.counting.specs.Sets.{complement}
+use Rattle.counting.proofs.Common.{bit_true, some-member, odd_pos, all_in_true, some_term}
+use Rattle.counting.specs.Common.{bit, count, mem, complement}
 use Rattle.graph_core.proofs.BlockSets.{tight_congr, tight_rest}
 use Rattle.graph_core.proofs.Complements.{mem-complement_of}
 use Rattle.graph_core.specs.Graph.{Graph, IsGraph}

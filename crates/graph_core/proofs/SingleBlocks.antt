@@ -2,12 +2,8 @@
 -- at that partition is what is said of the graph; at any partition the edges in the cut of a
 -- union of blocks are those of the graph.
 use Rattle.std.proofs.Common.{◌≡◌, ℕ, suc, ◌+◌, ◌-◌, ◌&&◌, ◌||◌, not, List, [], ◌∷◌, length, map, cond, get_or, refl, sym, ap, ap₂, ◌∙◌, arith, subst, le-leb}
-use Rattle.std.proofs.lemmas.List.{get_or-map}
-use Rattle.counting.proofs.Counts.{count_congr}
-use Rattle.counting.specs.Counts.{Within, count}
-use Rattle.counting.specs.Lists.{all_in}
-use Rattle.counting.specs.Sets.{Set}
-use Rattle.counting.proofs.Booleans.{and_true}
+use Rattle.counting.proofs.Common.{get_or-map, count_congr, and_true}
+use Rattle.counting.specs.Common.{Within, count, all_in, Set}
 use Rattle.graph_core.proofs.BlockSets.{at_place}
 use Rattle.graph_core.proofs.Blocks.{contracted-size}
 use Rattle.graph_core.proofs.SameSets.{tight-same}

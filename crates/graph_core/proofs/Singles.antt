@@ -1,16 +1,10 @@
 -- The single vertices are a partition: block i is that of i alone, and the place of a vertex is
 -- its number. By induction on the number of vertices.
 use Rattle.std.proofs.Common.{◌≡◌, ℕ, suc, zero, ◌+◌, ◌-◌, ◌≤◌, ◌<◌, Bool, true, false, cond, ◌==◌, ◌||◌, List, [], ◌∷◌, ◌++◌, length, refl, sym, ap, ◌∙◌, arith, inl, inr, eq-eqb, eqb-true, get_or, zero-add, nat_le, length-append, le-leb, subst}
-use Rattle.std.proofs.lemmas.Bool.{lt-leb, cases_lt}
-use Rattle.std.proofs.lemmas.Bool.Decides.{nat_tests}
-use Rattle.std.proofs.lemmas.List.{get_or-append-add, get_or_append_left, map-append, get_or_default}
+use Rattle.counting.proofs.Common.{lt-leb, cases_lt, nat_tests, get_or_append_left, map-append, count_congr, rising_list-rises, set-one, count_singleton}
+use Rattle.std.proofs.lemmas.List.{get_or-append-add, get_or_default}
 use Rattle.std.specs.List.Sorted.{IsStrictlyIncreasing}
-use Rattle.counting.proofs.Counts.{count_congr}
-use Rattle.counting.proofs.RisingLists.{rising_list-rises, set-one}
-use Rattle.counting.proofs.SetSizes.{count_singleton}
-use Rattle.counting.specs.Counts.{Within, count}
-use Rattle.counting.specs.Lists.{last_of, mem, rising_list}
-use Rattle.counting.specs.Sets.{everything, singleton}
+use Rattle.counting.specs.Common.{Within, count, last_of, mem, rising_list, everything, singleton}
 use Rattle.graph_core.specs.Partitions.{IsPartition, block, names_of, place, singles}
 
 -- single vertices stand at their own places

@@ -1,11 +1,8 @@
 -- A matching by degrees is a set of edges of which no two share an end. Two edges at a vertex
 -- would make its degree two; where no two are there, a sum of ends is at most one.
 use Rattle.std.proofs.Common.{◌≡◌, ℕ, suc, zero, ◌+◌, ◌*◌, ◌≤◌, ◌≢◌, Bool, true, false, ◌==◌, refl, sym, ap, ◌∙◌, arith, inl, inr, eq-eqb, ne_eqb}
-use Rattle.std.proofs.lemmas.Bool.{cases_eq, true≢false}
-use Rattle.counting.proofs.Totals.{total_none}
-use Rattle.counting.specs.Counts.{Within, bit, total}
-use Rattle.counting.specs.Sets.{Set, none}
-use Rattle.counting.proofs.Booleans.{bit_le_one}
+use Rattle.counting.proofs.Common.{cases_eq, true≢false, total_none, bit_le_one}
+use Rattle.counting.specs.Common.{Within, bit, total, Set, none}
 use Rattle.graph_core.proofs.Edits.{degree_sum, ends_of, ends_of_is, two_ends_le_degree}
 use Rattle.graph_core.specs.Graph.{Graph, HasNoLoop, IsGraph, degree, first_end, second_end, size}
 use Rattle.graph_core.specs.Matchings.{IsEnd, IsMatching, ShareNoEnd}

@@ -2,12 +2,8 @@
 -- is a walk to a root, as long as the vertex is deep. Two ways up from the ends of an edge,
 -- closed by the edge, are an odd walk where the depths are alike.
 use Rattle.std.proofs.Common.{◌≡◌, ℕ, suc, zero, ◌+◌, ◌<◌, Bool, true, false, refl, ap, ◌∙◌, arith, ◌&&◌, not, inl, inr, List, [], ◌∷◌, ◌++◌, length, nat_lt, lt-ltb}
-use Rattle.std.proofs.lemmas.Bool.{and_from, and_parts, both_ways, cases_order}
-use Rattle.std.proofs.lemmas.List.{length-append}
-use Rattle.counting.specs.Counts.{Within}
-use Rattle.counting.specs.Sets.{Set}
-use Rattle.counting.specs.Tests.{some}
-use Rattle.counting.proofs.Tests.{true_some}
+use Rattle.counting.proofs.Common.{and_from, and_parts, both_ways, cases_order, length-append, true_some}
+use Rattle.counting.specs.Common.{Within, Set, some}
 use Rattle.graph_core.specs.Components.{is_least}
 use Rattle.graph_core.specs.Graph.{Graph, IsGraph}
 use Rattle.graph_core.specs.Trees.{Hangs, IsForest, way_up, way_down, above}

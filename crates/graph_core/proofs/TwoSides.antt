@@ -2,15 +2,8 @@
 -- are on the same side: hence no closed walk is odd, and the left side is fixed by the least
 -- vertices. In a search tree the sides are the parities of depths.
 use Rattle.std.proofs.Common.{◌≡◌, ℕ, suc, ◌+◌, ◌<◌, Bool, true, false, cond, refl, sym, ap, ap₂, ◌∙◌, arith, ◌&&◌, ◌||◌, not, inl, inr, List, [], ◌∷◌, ◌++◌, subst, length, append_assoc}
-use Rattle.std.proofs.lemmas.Bool.{and_parts, both_ways}
-use Rattle.std.proofs.lemmas.List.{length-append}
-use Rattle.counting.specs.Counts.{Within, is_odd}
-use Rattle.counting.specs.Lists.{mem, rising_list}
-use Rattle.counting.specs.Sets.{Set, none}
-use Rattle.counting.proofs.Counts.{bit_true}
-use Rattle.counting.proofs.Odd.{odd-add}
-use Rattle.counting.proofs.RisingLists.{mem-rising_list, rising_list-rises, same_rising_list}
-use Rattle.counting.proofs.Totals.{some_term}
+use Rattle.counting.proofs.Common.{and_parts, both_ways, length-append, bit_true, odd-add, mem-rising_list, rising_list-rises, same_rising_list, some_term}
+use Rattle.counting.specs.Common.{Within, is_odd, mem, rising_list, Set, none}
 use Rattle.graph_core.specs.Components.{is_least}
 use Rattle.graph_core.specs.Graph.{Graph, IsBipartite, IsGraph, first_end, in_cut, second_end, size}
 use Rattle.graph_core.specs.Sides.{IsLeftSide}

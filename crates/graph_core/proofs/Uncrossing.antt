@@ -2,12 +2,8 @@
 -- joins their differences. The edges of a perfect matching in the two cuts are those in the cuts
 -- of meet and union and twice those between the differences.
 use Rattle.std.proofs.Common.{◌≡◌, ℕ, ◌+◌, ◌≤◌, Bool, true, false, cond, refl, sym, ap, ◌∙◌, arith, ◌&&◌, ◌||◌, not, inl, inr}
-use Rattle.std.proofs.lemmas.Bool.{cases_Bool, both_ways}
-use Rattle.counting.proofs.Counts.{count_meet_union}
-use Rattle.counting.proofs.Odd.{complement_odd, odd-add, odd-double, odd_pos, order_even}
-use Rattle.counting.proofs.Totals.{at_le_total}
-use Rattle.counting.specs.Counts.{Within, bit, count, is_odd}
-use Rattle.counting.specs.Sets.{Set, meet, minus, none, union}
+use Rattle.counting.proofs.Common.{cases_Bool, both_ways, count_meet_union, complement_odd, odd-add, odd-double, odd_pos, order_even, at_le_total}
+use Rattle.counting.specs.Common.{Within, bit, count, is_odd, Set, meet, minus, none, union}
 use Rattle.graph_core.proofs.Parity.{parity, two_cuts}
 use Rattle.graph_core.specs.Covered.{IsCovered}
 use Rattle.graph_core.specs.Graph.{Graph, IsGraph, connects, first_end, in_cut, inside, second_end, size}

@@ -2,11 +2,9 @@
 -- the list, so that "some edge" of the graph is "some item" of the list.
 use Rattle.std.proofs.Common.{◌≡◌, ℕ, ◌+◌, ◌-◌, ◌≤◌, ◌<◌, ◌||◌, refl, sym, ap, ap₂, ◌∙◌, arith, suc, zero, List, length, get_or, map, take, take_all, le_refl, subst, eq-eqb, true}
 use Rattle.std.specs.List.{list_any, All, Contains}
-use Rattle.std.proofs.lemmas.List.{get_or-map, length-map}
+use Rattle.counting.proofs.Common.{get_or-map, length-map}
 use Rattle.std.proofs.lemmas.List.Folds.{list_any_more}
-use Rattle.counting.specs.Counts.{Within}
-use Rattle.counting.specs.Sets.{none}
-use Rattle.counting.specs.Tests.{some}
+use Rattle.counting.specs.Common.{Within, none, some}
 use Rattle.graph_core.specs.Graph.{IsGraph, first_end, second_end, has_ends, size}
 use Rattle.graph_core.specs.View.{pair_of, graph_of, are_ends}
 use Rattle.graph_core.specs.Walks.{adjacent}

@@ -1,15 +1,8 @@
 -- Walks: they join, turn back and stay in a set that no step leaves; whether one leads on is
 -- decided. A set that grows step by step stops growing after as many steps as there are vertices.
 use Rattle.std.proofs.Common.{◌≡◌, ℕ, suc, zero, ◌+◌, ◌≤◌, Bool, true, false, ◌==◌, refl, sym, ap, ◌∙◌, arith, ◌&&◌, ◌||◌, not, eq-eqb, eqb-true, ◌⊎◌, inl, inr, List, [], ◌∷◌, ◌++◌, subst, ◌↔◌}
-use Rattle.std.proofs.lemmas.Bool.{cases_Bool, or_cases, or_left, or_right, and_parts, and_from, false_from_ne_true, both_ways}
-use Rattle.std.proofs.lemmas.Bool.Decides.{nat_tests}
-use Rattle.counting.proofs.Counts.{count_le, count_more}
-use Rattle.counting.proofs.Tests.{some_none, some_true, true_some}
-use Rattle.counting.proofs.Totals.{at_le_total}
-use Rattle.counting.specs.Counts.{Within, bit, count}
-use Rattle.counting.specs.Sets.{Set, none}
-use Rattle.counting.specs.Tests.{some}
-use Rattle.counting.proofs.Booleans.{but_fails_second}
+use Rattle.counting.proofs.Common.{cases_Bool, or_cases, or_left, or_right, and_parts, and_from, false_from_ne_true, both_ways, nat_tests, count_le, count_more, some_none, some_true, true_some, at_le_total, but_fails_second}
+use Rattle.counting.specs.Common.{Within, bit, count, Set, none, some}
 use Rattle.graph_core.specs.Graph.{Graph, IsGraph, first_end, has_ends, in_cut, second_end, size}
 use Rattle.graph_core.specs.Walks.{Joined, Walk, adjacent, reaches}
 

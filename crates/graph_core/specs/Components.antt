@@ -3,10 +3,7 @@
 -- Stated by: graph_core, allowed_edges, graph_facts, barrier_kit, separation_kit and 4 more.
 -- Rests on it: grow_gen, match_core, brick_kit, two_ears, list_lines, bench_outcomes.
 use Rattle.std.specs.Prelude.{ℕ, List, ◌&&◌, not, nat_lt, map}
-use Rattle.counting.specs.Counts.{count, is_odd, Within}
-use Rattle.counting.specs.Sets.{Set, none}
-use Rattle.counting.specs.Tests.{some}
-use Rattle.counting.specs.Lists.{rising_list}
+use Rattle.counting.specs.Common.{count, is_odd, Within, Set, none, some, rising_list}
 use Rattle.graph_core.specs.Graph.{Graph}
 use Rattle.graph_core.specs.Walks.{Joined, joined}
 

@@ -2,9 +2,7 @@
 -- contracts of the search cite them; what it answers is said by Components and Sides.
 -- Stated by: graph_core.
 use Rattle.std.specs.Prelude.{◌≡◌, ℕ, ◌+◌, ◌≤◌, true, false, ◌&&◌, not, List, ◌++◌, map}
-use Rattle.counting.specs.Counts.{Within, count}
-use Rattle.counting.specs.Lists.{rising_list}
-use Rattle.counting.specs.Sets.{Set, complement, meet, minus, singleton, union}
+use Rattle.counting.specs.Common.{Within, count, rising_list, Set, complement, meet, minus, singleton, union}
 use Rattle.graph_core.specs.Components.{components, is_least}
 use Rattle.graph_core.specs.Graph.{Graph}
 use Rattle.graph_core.specs.Trees.{IsForest}

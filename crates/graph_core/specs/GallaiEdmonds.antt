@@ -4,8 +4,7 @@
 -- Stated by: match_core, gallai_edmonds, definition_laws.
 -- Rests on it: graph_facts, bench_outcomes, bench_top, theorems.
 use Rattle.std.specs.Prelude.{◌≡◌, ℕ, true}
-use Rattle.counting.specs.Counts.{Within}
-use Rattle.counting.specs.Sets.{Set, none}
+use Rattle.counting.specs.Common.{Within, Set, none}
 use Rattle.graph_core.specs.Graph.{Graph, degree}
 use Rattle.graph_core.specs.Matchings.{IsMaximum}
 use Rattle.graph_core.specs.Walks.{adjacent}

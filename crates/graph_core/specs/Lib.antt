@@ -20,3 +20,4 @@ pub mod Shores
 pub mod Simple
 pub mod Structure
 pub mod View
+pub mod Common

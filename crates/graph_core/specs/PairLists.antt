@@ -2,9 +2,7 @@
 -- literature.
 -- Stated by: allowed_edges, tight_cuts.
 use Rattle.std.specs.Prelude.{◌≡◌, ℕ, ◌-◌, true, false, List, ◌&&◌, length, All, Any}
-use Rattle.counting.specs.Counts.{Within}
-use Rattle.counting.specs.Sets.{none}
-use Rattle.counting.specs.Lists.{mem, item, IsRisingIn}
+use Rattle.counting.specs.Common.{Within, none, mem, item, IsRisingIn}
 use Rattle.graph_core.specs.Graph.{Graph, size}
 use Rattle.graph_core.specs.Matchings.{IsPerfect, Together}
 

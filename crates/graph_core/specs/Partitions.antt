@@ -5,9 +5,7 @@
 -- Rests on it: list_lines, bench_outcomes, bench_reports, bench_top.
 use Rattle.std.specs.Prelude.{◌≡◌, ℕ, zero, suc, ◌+◌, ◌-◌, true, false, List, [], ◌∷◌, ◌++◌, map, length, filter, cond, not, nat_lt, slice_index_or, All}
 use Rattle.std.specs.List.Sorted.{IsStrictlyIncreasing}
-use Rattle.counting.specs.Counts.{count, Within}
-use Rattle.counting.specs.Sets.{Set, none}
-use Rattle.counting.specs.Lists.{mem, last_of}
+use Rattle.counting.specs.Common.{count, Within, Set, none, mem, last_of}
 use Rattle.graph_core.specs.Graph.{Graph}
 use Rattle.graph_core.specs.Matchings.{IsPerfect}
 

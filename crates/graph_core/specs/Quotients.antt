@@ -5,9 +5,7 @@
 -- Stated by: graph_core, contraction, tight_cuts, tree_core, decomposer, tree_check and 4 more.
 -- Rests on it: move_laws.
 use Rattle.std.specs.Prelude.{ℕ, ◌==◌, ◌&&◌, not, Bool, List, length, filter, slice_index}
-use Rattle.counting.specs.Sets.{Set}
-use Rattle.counting.specs.Tests.{some}
-use Rattle.counting.specs.Lists.{mem, rising_list, rising_pairs}
+use Rattle.counting.specs.Common.{Set, some, mem, rising_list, rising_pairs}
 use Rattle.graph_core.specs.Graph.{Graph, size, first_end, second_end, has_ends}
 use Rattle.graph_core.specs.Partitions.{block, contracted}
 

@@ -2,9 +2,7 @@
 -- Any textbook; differs in that parallel edges count once, since a row is a set.
 -- Stated by: graph_core, match_search, match_core, separation_kit.
 use Rattle.std.specs.Prelude.{◌≡◌, ℕ, List, length}
-use Rattle.counting.specs.Counts.{Within}
-use Rattle.counting.specs.Lists.{item, mem}
-use Rattle.counting.specs.Sets.{none}
+use Rattle.counting.specs.Common.{Within, item, mem, none}
 use Rattle.graph_core.specs.Graph.{Graph}
 use Rattle.graph_core.specs.Walks.{adjacent}
 

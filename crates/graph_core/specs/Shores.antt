@@ -2,9 +2,7 @@
 -- Stated by: graph_core, contraction, tight_cuts, tree_core, decomposer, move_laws and 3 more.
 -- Rests on it: theorems.
 use Rattle.std.specs.Prelude.{◌≡◌, ℕ, List, length}
-use Rattle.counting.specs.Counts.{count, Within}
-use Rattle.counting.specs.Sets.{Set}
-use Rattle.counting.specs.Lists.{all_in}
+use Rattle.counting.specs.Common.{count, Within, Set, all_in}
 use Rattle.graph_core.specs.Graph.{Graph}
 use Rattle.graph_core.specs.Tight.{IsTight}
 use Rattle.graph_core.specs.Partitions.{block, place, contracted}

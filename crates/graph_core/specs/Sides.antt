@@ -3,9 +3,7 @@
 -- Stated by: graph_core, graph_facts, matching_digraph, quick_kinds, tight_cuts and 2 more.
 -- Rests on it: barrier_kit, separation_kit, ear_core.
 use Rattle.std.specs.Prelude.{◌≡◌, ◌≢◌, ℕ, true, List}
-use Rattle.counting.specs.Counts.{Within}
-use Rattle.counting.specs.Sets.{Set, none}
-use Rattle.counting.specs.Lists.{mem, IsRisingIn}
+use Rattle.counting.specs.Common.{Within, Set, none, mem, IsRisingIn}
 use Rattle.graph_core.specs.Components.{is_least}
 use Rattle.graph_core.specs.Graph.{Graph, size, first_end, second_end, in_cut}
 use Rattle.graph_core.specs.Walks.{IsOddClosedWalk}

@@ -1,7 +1,7 @@
 -- Simple graphs: no two edges join the same two vertices. Any textbook.
 -- Stated by: graph_core, grow_gen, graph6_text, list_lines, bench_tasks. Rests on it: encoder.
 use Rattle.std.specs.Prelude.{◌≡◌, ℕ, true}
-use Rattle.counting.specs.Counts.{Within}
+use Rattle.counting.specs.Common.{Within}
 use Rattle.graph_core.specs.Graph.{Graph, size, first_end, second_end, has_ends}
 
 -- an edge that has the ends of edge e is edge e itself

@@ -2,9 +2,7 @@
 -- Stated by: graph_core, allowed_edges, barrier_kit, matching_digraph, separation_kit and 9 more.
 -- Rests on it: tree_core, tree_check, list_lines.
 use Rattle.std.specs.Prelude.{◌≡◌, ◌≢◌, ℕ, ◌≤◌, Bool, true, false, ◌==◌, ◌&&◌, ◌||◌, not, nat_le, if◌then◌else◌}
-use Rattle.counting.specs.Counts.{count, is_odd, Within}
-use Rattle.counting.specs.Sets.{Set, none, complement}
-use Rattle.counting.specs.Tests.{each_set}
+use Rattle.counting.specs.Common.{count, is_odd, Within, Set, none, complement, each_set}
 use Rattle.graph_core.specs.Graph.{Graph, size, first_end, second_end, edges_in_cut}
 use Rattle.graph_core.specs.Matchings.{IsPerfect, is_perfect}
 

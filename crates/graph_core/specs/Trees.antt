@@ -2,8 +2,7 @@
 -- Any textbook.
 -- Stated by: graph_core.
 use Rattle.std.specs.Prelude.{◌≡◌, ℕ, zero, suc, ◌+◌, ◌⊎◌, true, false, List, [], ◌∷◌, ◌++◌}
-use Rattle.counting.specs.Counts.{Within}
-use Rattle.counting.specs.Sets.{Set}
+use Rattle.counting.specs.Common.{Within, Set}
 use Rattle.graph_core.specs.Graph.{Graph}
 use Rattle.graph_core.specs.Walks.{adjacent}
 

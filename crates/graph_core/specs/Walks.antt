@@ -2,9 +2,7 @@
 -- Stated by: graph_core, match_core, allowed_edges, barrier_kit, matching_digraph and 3 more.
 -- Rests on it: grow_gen, brick_kit, tight_cuts, two_ears, ear_core, graph6_text, encoder, theorems.
 use Rattle.std.specs.Prelude.{◌≡◌, ℕ, zero, suc, Bool, true, List, [], ◌∷◌, ◌++◌, ◌==◌, ◌&&◌, ◌||◌, not, length}
-use Rattle.counting.specs.Counts.{is_odd}
-use Rattle.counting.specs.Sets.{Set, none}
-use Rattle.counting.specs.Tests.{some}
+use Rattle.counting.specs.Common.{is_odd, Set, none, some}
 use Rattle.graph_core.specs.Graph.{Graph, size, has_ends}
 
 -- an edge of g without s joins u and v

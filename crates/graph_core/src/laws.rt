@@ -1,8 +1,6 @@
 //! The laws on graphs. Each is the contract of a function that does nothing.
 ghost use Rattle.std.specs.Prelude.{◌≡◌, ℕ, List, ◌+◌, ◌*◌, ◌≤◌, ◌<◌, ◌&&◌, true, false, length, ◌↔◌};
-ghost use Rattle.counting.specs.Counts.{Within, count, is_odd};
-ghost use Rattle.counting.specs.Sets.{Set, none, union, meet, minus, complement};
-ghost use Rattle.counting.specs.Lists.{mem, IsRisingIn};
+ghost use Rattle.counting.specs.Common.{Within, count, is_odd, Set, none, union, meet, minus, complement, mem, IsRisingIn};
 ghost use Rattle.graph_core.specs.Graph.{Graph, size, IsGraph, IsMultigraph, inside, connects, edges_in_cut};
 ghost use Rattle.graph_core.specs.Matchings.{IsPerfect, IsMatching, ShareNoEnd, HasPerfect, has_perfect, missed_count};
 ghost use Rattle.graph_core.specs.Walks.{Joined, joined};

@@ -1,7 +1,6 @@
 //! The rows of a graph's adjacency matrix, and how an edge enters them.
 ghost use Rattle.std.specs.Prelude.{◌≡◌, ◌≤◌, ◌==◌, ◌&&◌, ◌||◌, ℕ, length};
-ghost use Rattle.counting.specs.Counts.{Within};
-ghost use Rattle.counting.specs.Lists.{mem, item};
+ghost use Rattle.counting.specs.Common.{Within, mem, item};
 ghost use Rattle.graph_core.specs.Graph.{Graph, with_edge};
 ghost use Rattle.graph_core.specs.Rows.{AreRows};
 

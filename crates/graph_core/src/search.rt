@@ -1,8 +1,7 @@
 //! The search through a graph without a vertex set: its components, and for each of them a search
 //! tree.
 ghost use Rattle.std.specs.Prelude.{◌≡◌, ◌≢◌, ◌≤◌, ◌<◌, ◌+◌, ◌^◌, ◌==◌, ◌&&◌, ◌||◌, ℕ, true, false, [], All, IfOk, OnOk, length};
-ghost use Rattle.counting.specs.Counts.{Within};
-ghost use Rattle.counting.specs.Lists.{mem, item};
+ghost use Rattle.counting.specs.Common.{Within, mem, item};
 ghost use Rattle.graph_core.specs.Components.{components};
 ghost use Rattle.graph_core.specs.Graph.{Graph, IsGraph};
 ghost use Rattle.graph_core.specs.FoundVertices.{IsGrown};

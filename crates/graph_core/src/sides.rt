@@ -1,8 +1,6 @@
 //! The two sides of a bipartite graph, or an odd closed walk.
 ghost use Rattle.std.specs.Prelude.{◌≡◌, ◌≤◌, ◌++◌, ◌∷◌, ◌↔◌, not, All, Contains, IfOk, IfSome, IfNone, Some, None, length};
-ghost use Rattle.counting.specs.Counts.{Within, is_odd};
-ghost use Rattle.counting.specs.Lists.{mem};
-ghost use Rattle.counting.specs.Sets.{none};
+ghost use Rattle.counting.specs.Common.{Within, is_odd, mem, none};
 ghost use Rattle.graph_core.specs.Graph.{IsBipartite, IsGraph};
 ghost use Rattle.graph_core.specs.Nodes.{parent_at, depth_at, AreTrees, IsRooted};
 ghost use Rattle.graph_core.specs.Sides.{AreSides, IsEven, IsSide};

@@ -1,7 +1,6 @@
 //! Simple graphs.
 ghost use Rattle.std.specs.Prelude.{◌≡◌, ◌-◌, ◌↔◌, IsTrue};
-ghost use Rattle.counting.specs.Counts.{Within};
-ghost use Rattle.counting.specs.Tests.{some};
+ghost use Rattle.counting.specs.Common.{Within, some};
 ghost use Rattle.graph_core.specs.Graph.{size, first_end, second_end, has_ends};
 ghost use Rattle.graph_core.specs.Simple.{IsSimple};
 

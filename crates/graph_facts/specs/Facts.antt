@@ -2,15 +2,8 @@
 -- Each is said in the words of the definitions of graphs and matchings.
 -- Stated by: graph_facts.
 use Rattle.std.specs.Prelude.{◌≡◌, ℕ, true, List, Option, Some, None, IfSome, ◌↔◌}
-use Rattle.counting.specs.Counts.{Within}
-use Rattle.counting.specs.Lists.{mem, IsRisingIn}
-use Rattle.counting.specs.Sets.{none}
-use Rattle.graph_core.specs.BergeSets.{Attains}
-use Rattle.graph_core.specs.Components.{components}
-use Rattle.graph_core.specs.GallaiEdmonds.{InD, InA}
-use Rattle.graph_core.specs.Graph.{Graph, IsBipartite}
-use Rattle.graph_core.specs.Matchings.{HasPerfect, IsMaximum}
-use Rattle.graph_core.specs.Sides.{IsSide}
+use Rattle.counting.specs.Common.{Within, mem, IsRisingIn, none}
+use Rattle.graph_core.specs.Common.{Attains, components, InD, InA, Graph, IsBipartite, HasPerfect, IsMaximum, IsSide}
 use Rattle.match_core.specs.MatchingRows.{IsOf, edges_of}
 use Rattle.match_core.specs.Partners.{ArePartners}
 use Rattle.match_core.specs.declared.frames.FrameSets.{FrameSets}

@@ -1,12 +1,7 @@
 //! A covered bipartite graph as a type.
 ghost use Rattle.std.specs.Prelude.{◌≡◌, ◌↔◌, None, Some, IfOk};
-ghost use Rattle.counting.specs.Lists.{mem};
-ghost use Rattle.counting.specs.Sets.{none};
-ghost use Rattle.graph_core.specs.Covered.{IsCovered};
-ghost use Rattle.graph_core.specs.Graph.{IsBipartite};
-ghost use Rattle.graph_core.specs.Matchings.{IsPerfect};
-ghost use Rattle.graph_core.specs.Sides.{IsSide};
-ghost use Rattle.graph_core.specs.View.{IsWithinLimits};
+ghost use Rattle.counting.specs.Common.{mem, none};
+ghost use Rattle.graph_core.specs.Common.{IsCovered, IsBipartite, IsPerfect, IsSide, IsWithinLimits};
 ghost use Rattle.match_core.specs.MatchingRows.{IsOf, edges_of};
 
 use crate::covered_graph::Covered;
@@ -24,9 +19,8 @@ pub struct Bipartite<'c, 'g> {
 }
 
 impl<'c, 'g> Model for Bipartite<'c, 'g> {
-    ghost use Rattle.counting.specs.Lists.{mem};
-    ghost use Rattle.graph_core.specs.Graph.{Graph};
-    ghost use Rattle.graph_core.specs.Sides.{IsSide};
+    ghost use Rattle.counting.specs.Common.{mem};
+    ghost use Rattle.graph_core.specs.Common.{Graph, IsSide};
 
     ghost Value = { Graph };
 

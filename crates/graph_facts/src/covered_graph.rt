@@ -1,13 +1,7 @@
 //! A matching covered graph as a type.
 ghost use Rattle.std.specs.Prelude.{◌≡◌, ◌↔◌, ◌≤◌, None, Some, Err, IsTrue, IfOk};
-ghost use Rattle.counting.specs.Lists.{mem};
-ghost use Rattle.counting.specs.Sets.{none};
-ghost use Rattle.graph_core.specs.Covered.{IsCovered, IsReason};
-ghost use Rattle.graph_core.specs.Graph.{IsBipartite, size};
-ghost use Rattle.graph_core.specs.Matchings.{IsPerfect};
-ghost use Rattle.graph_core.specs.Sides.{IsSide};
-ghost use Rattle.graph_core.specs.Verdicts.{reason_of};
-ghost use Rattle.graph_core.specs.View.{IsWithinLimits};
+ghost use Rattle.counting.specs.Common.{mem, none};
+ghost use Rattle.graph_core.specs.Common.{IsCovered, IsReason, IsBipartite, size, IsPerfect, IsSide, reason_of, IsWithinLimits};
 ghost use Rattle.match_core.specs.MatchingRows.{IsOf, edges_of};
 ghost use Rattle.match_core.specs.Partners.{ArePartners};
 
@@ -27,8 +21,7 @@ pub struct Covered<'g> {
 }
 
 impl<'g> Model for Covered<'g> {
-    ghost use Rattle.graph_core.specs.Covered.{IsCovered};
-    ghost use Rattle.graph_core.specs.Graph.{Graph};
+    ghost use Rattle.graph_core.specs.Common.{IsCovered, Graph};
 
     ghost Value = { Graph };
 

@@ -1,13 +1,7 @@
 //! A graph with what the searches find of it.
 ghost use Rattle.std.specs.Prelude.{◌≡◌, ◌↔◌, None, Some, IsTrue, IfSome, IfOk};
-ghost use Rattle.counting.specs.Lists.{Lists, mem};
-ghost use Rattle.counting.specs.Sets.{none};
-ghost use Rattle.graph_core.specs.Components.{component_count};
-ghost use Rattle.graph_core.specs.Graph.{IsBipartite, size};
-ghost use Rattle.graph_core.specs.Matchings.{Allowed, HasPerfect};
-ghost use Rattle.graph_core.specs.Sides.{IsSide};
-ghost use Rattle.graph_core.specs.Verdicts.{IsVerdict};
-ghost use Rattle.graph_core.specs.View.{IsWithinLimits};
+ghost use Rattle.counting.specs.Common.{Lists, mem, none};
+ghost use Rattle.graph_core.specs.Common.{component_count, IsBipartite, size, Allowed, HasPerfect, IsSide, IsVerdict, IsWithinLimits};
 ghost use Rattle.match_core.specs.Partners.{ArePartners};
 ghost use Rattle.graph_facts.specs.Facts.{IsFrame};
 
@@ -30,7 +24,7 @@ pub struct Facts<'g> {
 }
 
 impl<'g> Model for Facts<'g> {
-    ghost use Rattle.graph_core.specs.Graph.{Graph};
+    ghost use Rattle.graph_core.specs.Common.{Graph};
     ghost use Rattle.graph_facts.specs.Facts.{AreFacts};
 
     ghost Value = { Graph };

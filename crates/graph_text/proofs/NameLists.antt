@@ -3,12 +3,9 @@
 use Rattle.std.proofs.Common.{◌≡◌, ◌≢◌, ◌<◌, ◌+◌, inl, inr, ℕ, suc, zero, Bool, true, false, not, cond, nat_lt, ◌||◌, List, [], ◌∷◌, ◌++◌, length, map, get_or, Some, None, refl, sym, ◌∙◌, ap, ap₂, arith, subst, position, String, Global, Result, Ok, Err, IfOk, OnErr, is_some}
 use Rattle.std.specs.List.{list_any, list_all, position_or_len, AllByRecursion}
 use Rattle.std.specs.Str.{bytes_eq, IsUtf8, IsAscii}
-use Rattle.std.proofs.lemmas.Bool.{cases_Bool, cases_eq, and_parts, both_ways, or_parts}
-use Rattle.std.proofs.lemmas.Bool.Decides.{nat_tests}
-use Rattle.std.proofs.lemmas.List.{length-append, length-map, map-append}
+use Rattle.counting.proofs.Common.{cases_Bool, cases_eq, and_parts, both_ways, or_parts, nat_tests, length-append, length-map, map-append, bytes_eq-Decides}
 use Rattle.std.specs.String.{string_bytes}
 use Rattle.indexmap.specs.IndexSet.{insert_key}
-use Rattle.std.proofs.lemmas.Slice.Eq.{bytes_eq-Decides}
 use Rattle.std.proofs.lemmas.Str.{IsUtf8-from_ascii}
 use Rattle.std.proofs.Math.ListN.{get_or-append}
 use Rattle.std.proofs.Math.Seq.{get_or-append_seam}

@@ -4,19 +4,14 @@
 use Rattle.std.proofs.Common.{inl, inr, nat_le, ◌≡◌, ◌≢◌, ◌+◌, ◌-◌, ◌≤◌, ◌<◌, ◌==◌, ◌||◌, ◌&&◌, not, ℕ, List, [], ◌∷◌, ◌++◌, length, map, get_or, codes, true, false, Some, Ok, refl, sym, ◌∙◌, ap, subst, arith, append_assoc}
 use Rattle.std.specs.List.{AllByRecursion, list_all}
 use Rattle.std.specs.Str.{bytes_eq}
-use Rattle.std.proofs.lemmas.Bool.{cases_Bool, and_parts, and_from}
-use Rattle.std.proofs.lemmas.Bool.Decides.{nat_tests}
-use Rattle.std.proofs.lemmas.List.{append-nil, length-append}
-use Rattle.std.proofs.lemmas.Slice.Eq.{bytes_eq-Decides}
+use Rattle.counting.proofs.Common.{cases_Bool, and_parts, and_from, nat_tests, append-nil, length-append, bytes_eq-Decides}
 use Rattle.std.proofs.Math.ListN.{get_or-append}
 use Rattle.std.proofs.Math.Seq.{get_or-append_seam}
-use Rattle.counting.specs.Counts.{Within}
-use Rattle.line_text.specs.Format.{Begins, Stands}
-use Rattle.line_text.specs.Lines.{is_line_feed}
-use Rattle.line_text.specs.Words.{has_form, is_word, is_blank, IsSignificant}
+use Rattle.counting.specs.Common.{Within}
+use Rattle.line_text.specs.Common.{Begins, Stands, is_line_feed, has_form, is_word, is_blank, IsSignificant}
 use Rattle.line_text.proofs.Decimals.{number_of-decimal, is_word-decimal}
 use Rattle.line_text.proofs.ReadBack.{Stands-written, Begins-append, significant-append}
-use Rattle.graph_core.specs.Graph.{Graph, size}
+use Rattle.graph_core.specs.Common.{Graph, size}
 use Rattle.graph_text.specs.EitherVersion.{EitherSoFar, either_version}
 use Rattle.graph_text.specs.Names.{is_name, is_name_byte, is_among, vertex_of, AreNames}
 use Rattle.graph_text.specs.Writing.{named_header_words, name_words, named_edge_words, named_words, named_text, FitsNames}

@@ -4,13 +4,9 @@
 use Rattle.std.proofs.Common.{◌≡◌, ◌≤◌, ◌<◌, ◌^◌, ℕ, zero, suc, true, false, [], ◌∷◌, ◌++◌, length, inl, inr, refl, sym, ◌∙◌, ap, ap₂, ◌||◌, arith, Some}
 use Rattle.std.specs.Fmt.{decimal}
 use Rattle.std.specs.Str.{bytes_eq}
-use Rattle.std.proofs.lemmas.Bool.{cases_Bool, and_from, le-leb}
-use Rattle.std.proofs.lemmas.Bool.Decides.{nat_tests}
+use Rattle.counting.proofs.Common.{cases_Bool, and_from, le-leb, nat_tests, length-append, list_any-append, bytes_eq-Decides}
 use Rattle.std.proofs.lemmas.Fmt.{length-decimal-le}
-use Rattle.std.proofs.lemmas.List.{length-append}
-use Rattle.std.proofs.lemmas.List.Folds.{list_any-append}
-use Rattle.std.proofs.lemmas.Slice.Eq.{bytes_eq-Decides}
-use Rattle.line_text.specs.Numerals.{number_of}
+use Rattle.line_text.specs.Common.{number_of}
 use Rattle.line_text.proofs.Decimals.{number_of-decimal, digits-decimal, list_all-digits}
 use Rattle.graph_text.specs.Names.{is_name, is_name_byte, is_among, plain_name, plain_names}
 

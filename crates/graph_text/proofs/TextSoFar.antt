@@ -4,9 +4,9 @@
 use Rattle.std.proofs.Common.{◌≡◌, ◌≤◌, ◌<◌, ◌+◌, ◌-◌, ℕ, List, [], ◌∷◌, ◌++◌, length, get_or, map, take, take_all, append_assoc, sym, ◌∙◌, ap, ap₂, arith}
 use Rattle.std.specs.Prelude.{codes}
 use Rattle.std.specs.Fmt.{decimal}
-use Rattle.line_text.specs.Words.{written}
+use Rattle.line_text.specs.Common.{written}
 use Rattle.line_text.proofs.WrittenLines.{written-append, written-more}
-use Rattle.graph_core.specs.Graph.{Graph, size, first_end, second_end}
+use Rattle.graph_core.specs.Common.{Graph, size, first_end, second_end}
 use Rattle.graph_text.specs.Writing.{edge_words, header_words, graph_text, name_words, named_edge_words, named_header_words, named_text}
 
 module _ {X : Type 0} (words_of : X → List (List ℕ)) (start : List ℕ) (xs : List X) (i : ℕ) where

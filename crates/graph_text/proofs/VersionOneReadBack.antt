@@ -3,14 +3,11 @@
 -- tables applies.
 use Rattle.std.proofs.Common.{◌≡◌, ◌+◌, ◌≤◌, ◌<◌, ℕ, List, [], ◌∷◌, ◌++◌, length, map, true, Some, Ok, refl, ap, subst, arith, append_assoc}
 use Rattle.std.specs.List.{AllByRecursion}
-use Rattle.std.proofs.lemmas.Bool.Decides.{nat_tests}
-use Rattle.std.proofs.lemmas.List.{append-nil, length-append}
-use Rattle.line_text.specs.Format.{Begins, Stands}
-use Rattle.line_text.specs.Lines.{lines_of}
-use Rattle.line_text.specs.Words.{has_form, words_of, unwords, is_skipped, IsSignificant}
+use Rattle.counting.proofs.Common.{nat_tests, append-nil, length-append}
+use Rattle.line_text.specs.Common.{Begins, Stands, lines_of, has_form, words_of, unwords, is_skipped, IsSignificant}
 use Rattle.line_text.proofs.Decimals.{number_of-decimal, is_word-decimal}
 use Rattle.line_text.proofs.ReadBack.{Stands-written, Stands-comments, is_closed-unlines}
-use Rattle.graph_core.specs.Graph.{Graph, size}
+use Rattle.graph_core.specs.Common.{Graph, size}
 use Rattle.graph_text.specs.GraphLines.{GraphSoFar}
 use Rattle.graph_text.specs.VersionOne.{version_one, FitsVersionOne}
 use Rattle.graph_text.specs.Writing.{edge_words, header_words, graph_words, graph_text}

@@ -5,15 +5,10 @@
 use Rattle.std.proofs.Common.{◌≡◌, ◌↔◌, ℕ, ◌+◌, ◌==◌, ◌&&◌, ◌||◌, not, nat_lt, Bool, true, false, cond, codes, List, [], ◌∷◌, ◌++◌, length, Option, Some, None, is_some, Result, Ok, Err, IfOk, inl, inr, refl, sym, ◌∙◌, ap, ap₂, subst}
 use Rattle.std.specs.Result.{result_map_both}
 use Rattle.std.specs.Str.{bytes_eq}
-use Rattle.std.proofs.lemmas.Bool.{cases_Bool, and_parts}
-use Rattle.std.proofs.lemmas.Slice.Eq.{bytes_eq-Decides}
-use Rattle.line_text.specs.Format.{checked, Stands, FirstFault}
-use Rattle.line_text.specs.Lines.{lines_of}
-use Rattle.line_text.specs.Reading.{go_on, reading_from}
-use Rattle.line_text.specs.Numerals.{is_number, value_of}
-use Rattle.line_text.specs.Words.{SignificantLine, significant_lines_of, has_form, word_at, begin_with}
+use Rattle.counting.proofs.Common.{cases_Bool, and_parts, bytes_eq-Decides}
+use Rattle.line_text.specs.Common.{checked, Stands, FirstFault, lines_of, go_on, reading_from, is_number, value_of, SignificantLine, significant_lines_of, has_form, word_at, begin_with}
 use Rattle.line_text.proofs.ExactlyOne.{Stands-reading_of, Stands-from_reading, FirstFault-reading_of, FirstFault-from_reading}
-use Rattle.graph_core.specs.Graph.{Graph, size, with_edge}
+use Rattle.graph_core.specs.Common.{Graph, size, with_edge}
 use Rattle.text_faults.specs.declared.faults.FaultKind.{FaultKind}
 use Rattle.text_faults.specs.declared.faults.FaultKind.TheVariants as kind
 use Rattle.graph_text.specs.EitherVersion.{EitherSoFar, NamedGraph, is_named_header, is_plain_header, is_over, either_header, line_behind, end_behind, vertex_line, named_edge_line, either_version, begin_named, is_version_two}

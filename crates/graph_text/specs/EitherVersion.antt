@@ -5,10 +5,8 @@
 use Rattle.std.specs.Prelude.{ℕ, ◌==◌, ◌&&◌, ◌||◌, not, nat_lt, Bool, false, List, [], ◌∷◌, ◌++◌, codes, length, Option, Some, None, Result, Ok, Err, if◌then◌else◌}
 use Rattle.std.specs.Str.{bytes_eq}
 use Rattle.std.specs.Result.{result_map_both}
-use Rattle.line_text.specs.Format.{Rules, checked}
-use Rattle.line_text.specs.Words.{SignificantLine, significant_lines_of, has_form, word_at}
-use Rattle.line_text.specs.Numerals.{is_number, value_of}
-use Rattle.graph_core.specs.Graph.{Graph, size, with_edge}
+use Rattle.line_text.specs.Common.{Rules, checked, SignificantLine, significant_lines_of, has_form, word_at, is_number, value_of}
+use Rattle.graph_core.specs.Common.{Graph, size, with_edge}
 use Rattle.text_faults.specs.declared.faults.FaultKind.{FaultKind}
 use Rattle.text_faults.specs.declared.faults.FaultKind.TheVariants as kind
 use Rattle.graph_text.specs.GraphLines.{GraphSoFar, graph_line, graph_end}

@@ -2,10 +2,8 @@
 -- between numbered vertices.
 -- Stated by: graph_text. Rests on it: bench_top, theorems.
 use Rattle.std.specs.Prelude.{ℕ, ◌==◌, ◌&&◌, ◌||◌, not, List, [], ◌∷◌, codes, Result, Ok, Err, if◌then◌else◌}
-use Rattle.line_text.specs.Format.{checked}
-use Rattle.line_text.specs.Words.{has_form, word_at}
-use Rattle.line_text.specs.Numerals.{is_number, value_of}
-use Rattle.graph_core.specs.Graph.{Graph, size, with_edge}
+use Rattle.line_text.specs.Common.{checked, has_form, word_at, is_number, value_of}
+use Rattle.graph_core.specs.Common.{Graph, size, with_edge}
 use Rattle.text_faults.specs.Ranges.{is_out_of_range}
 use Rattle.text_faults.specs.declared.faults.FaultKind.{FaultKind}
 use Rattle.text_faults.specs.declared.faults.FaultKind.TheVariants as kind

@@ -3,8 +3,8 @@
 -- Rests on it: bench_outcomes, bench_reports, bench_top, theorems.
 use Rattle.std.specs.Prelude.{◌≡◌, ℕ, ◌-◌, ◌≤◌, List, [], ◌∷◌, ◌++◌, codes, length, map, slice_index_or}
 use Rattle.std.specs.Fmt.{decimal}
-use Rattle.line_text.specs.Words.{written}
-use Rattle.graph_core.specs.Graph.{Graph, IsMultigraph, size}
+use Rattle.line_text.specs.Common.{written}
+use Rattle.graph_core.specs.Common.{Graph, IsMultigraph, size}
 use Rattle.graph_text.specs.Names.{AreNames}
 
 -- the words of an edge between numbered vertices

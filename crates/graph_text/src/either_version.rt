@@ -1,11 +1,9 @@
 //! Both versions of the graph format.
 ghost use Rattle.std.specs.Prelude.{◌≡◌, ◌<◌, ◌≤◌, ◌-◌, ◌^◌, ℕ, length, false, Some, IfOk, IfErr, Ok, Err};
-ghost use Rattle.line_text.specs.Reading.{Gives};
-ghost use Rattle.line_text.specs.Format.{Stands, FirstFault};
-ghost use Rattle.line_text.specs.Words.{texts_of};
+ghost use Rattle.line_text.specs.Common.{Gives, Stands, FirstFault, texts_of};
 ghost use Rattle.text_faults.specs.Readings.{IsFirstFault, ReadsText};
 ghost use Rattle.text_faults.specs.declared.faults.FaultKind.{FaultKind};
-ghost use Rattle.graph_core.specs.Graph.{size};
+ghost use Rattle.graph_core.specs.Common.{size};
 ghost use Rattle.graph_text.specs.EitherVersion.{EitherSoFar, NamedGraph, named_so_far, is_over, either_header, vertex_line, named_edge_line, named_line, line_behind, end_behind, either_version};
 ghost use Rattle.graph_text.specs.SoFar.{so_far, either_so_far, named_graph};
 

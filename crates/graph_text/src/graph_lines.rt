@@ -1,8 +1,7 @@
 //! What both versions of the graph format share.
 ghost use Rattle.std.specs.Prelude.{◌≡◌, ◌≤◌};
-ghost use Rattle.line_text.specs.Reading.{Gives};
-ghost use Rattle.line_text.specs.Words.{texts_of};
-ghost use Rattle.graph_core.specs.Graph.{Graph};
+ghost use Rattle.line_text.specs.Common.{Gives, texts_of};
+ghost use Rattle.graph_core.specs.Common.{Graph};
 ghost use Rattle.graph_text.specs.GraphLines.{GraphSoFar, edge_line, graph_line, graph_end};
 ghost use Rattle.graph_text.specs.SoFar.{so_far};
 

@@ -1,12 +1,10 @@
 //! Laws of the texts of graphs.
 ghost use Rattle.std.specs.Prelude.{◌≡◌, ◌↔◌, ℕ, List, ◌∷◌, ◌++◌, true, false, Some, None};
 ghost use Rattle.std.specs.List.{AllByRecursion};
-ghost use Rattle.line_text.specs.Format.{Stands, StandsAlone, FirstFault};
-ghost use Rattle.line_text.specs.Lines.{lines_of};
-ghost use Rattle.line_text.specs.Words.{SignificantLine, significant_lines_of, words_of, is_skipped};
+ghost use Rattle.line_text.specs.Common.{Stands, StandsAlone, FirstFault, lines_of, SignificantLine, significant_lines_of, words_of, is_skipped};
 ghost use Rattle.text_faults.specs.declared.faults.FaultKind.{FaultKind};
 ghost use Rattle.text_faults.specs.declared.faults.FaultKind.TheVariants.{Header};
-ghost use Rattle.graph_core.specs.Graph.{Graph};
+ghost use Rattle.graph_core.specs.Common.{Graph};
 ghost use Rattle.graph_text.specs.VersionOne.{version_one, FitsVersionOne};
 ghost use Rattle.graph_text.specs.EitherVersion.{either_version, is_version_two, is_named_header};
 ghost use Rattle.graph_text.specs.Writing.{graph_text, named_text, FitsNames};

@@ -3,7 +3,7 @@ ghost use Rattle.std.specs.Prelude.{◌≡◌, ◌<◌, ◌≤◌, ◌^◌, ◌+
 ghost use Rattle.std.specs.List.{list_all};
 ghost use Rattle.std.specs.Str.{bytes_eq};
 ghost use Rattle.graph_text.specs.Names.{is_name, is_name_byte, is_among, vertex_of, plain_name, plain_names};
-ghost use Rattle.counting.specs.Counts.{Within};
+ghost use Rattle.counting.specs.Common.{Within};
 
 use indexmap::IndexSet;
 use std::alloc::{AllocError as Memory, Global};

@@ -3,12 +3,11 @@
 -- the list.
 use Rattle.std.proofs.Common.{◌≡◌, ℕ, suc, zero, ◌+◌, ◌-◌, ◌≤◌, ◌<◌, Bool, true, false, cond, ◌==◌, ◌&&◌, List, [], ◌∷◌, ◌++◌, length, filter, refl, sym, ap, ap₂, ◌∙◌, arith, subst}
 use Rattle.std.specs.Prelude.{slice_index_or}
-use Rattle.std.proofs.lemmas.List.{get_or_append_left, get_or-append-add}
-use Rattle.counting.specs.Counts.{Within, bit, total}
-use Rattle.counting.specs.Sets.{Set}
-use Rattle.counting.proofs.Totals.{total_add, total_congr, total-first}
-use Rattle.graph_core.specs.Graph.{Graph, size, first_end, second_end, degree}
-use Rattle.graph_core.proofs.Decide.{degree_congr}
+use Rattle.std.proofs.lemmas.List.{get_or-append-add}
+use Rattle.counting.proofs.Common.{get_or_append_left, total_add, total_congr, total-first}
+use Rattle.counting.specs.Common.{Within, bit, total, Set}
+use Rattle.graph_core.specs.Common.{Graph, size, first_end, second_end, degree}
+use Rattle.graph_core.proofs.Common.{degree_congr}
 
 -- what holds at both answers of a test holds at its answer
 pub by_test : (b : Bool) (P : Bool → Type 0) → (b ≡ true → P true) → (b ≡ false → P false) → P b

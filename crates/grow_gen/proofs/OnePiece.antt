@@ -2,11 +2,9 @@
 use Rattle.std.proofs.Common.{◌≡◌, ℕ, ◌+◌, ◌-◌, ◌%◌, ◌<◌, List, ◌++◌, length, get_or, map, filter, not, sym, ap, ap₂, ◌∙◌, arith, subst}
 use Rattle.std.specs.Prelude.{slice_index}
 use Rattle.std.proofs.Math.ListN.{get_or-map}
-use Rattle.std.proofs.lemmas.List.{length-map}
-use Rattle.counting.specs.Counts.{Within}
-use Rattle.counting.specs.Lists.{mem}
-use Rattle.graph_core.specs.Graph.{IsMultigraph, size, first_end, second_end}
-use Rattle.graph_core.specs.View.{graph_of, pair_of}
+use Rattle.counting.proofs.Common.{length-map}
+use Rattle.counting.specs.Common.{Within, mem}
+use Rattle.graph_core.specs.Common.{IsMultigraph, size, first_end, second_end, graph_of, pair_of}
 use Rattle.graph_core.specs.declared.ends.Ends.{Ends}
 use Rattle.grow_gen.specs.declared.pieces.Piece.{Piece}
 use Rattle.grow_gen.specs.Pieces.{piece_order, piece_ends, piece_graph}

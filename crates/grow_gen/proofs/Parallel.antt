@@ -3,15 +3,10 @@
 -- whose target the new vertex is.
 use Rattle.std.proofs.Common.{◌≡◌, ℕ, suc, ◌+◌, ◌-◌, ◌≤◌, ◌<◌, ◌≢◌, Bool, true, false, cond, ◌==◌, ◌&&◌, ◌||◌, not, ◌⊎◌, inl, inr, List, [], ◌∷◌, ◌++◌, length, map, filter, refl, sym, ap, ap₂, ◌∙◌, arith, subst, eq-eqb, ne_eqb, eqb-true, le_trans}
 use Rattle.std.specs.Prelude.{slice_index_or}
-use Rattle.std.proofs.lemmas.Bool.{or_cases, or_from, or_left, or_right, and_parts, and_from, and_left, and_right}
-use Rattle.counting.specs.Counts.{Within, bit, total}
-use Rattle.counting.specs.Lists.{mem}
-use Rattle.counting.proofs.Counts.{count_le_one, only_one}
-use Rattle.counting.proofs.Totals.{total_congr, at_le_total, total-first}
-use Rattle.counting.proofs.Booleans.{bit_le}
-use Rattle.graph_core.specs.Graph.{Graph, size, first_end, second_end, has_ends, IsMultigraph}
-use Rattle.graph_core.proofs.Walks.{has_ends-own, has_ends-cases, has_ends-back}
-use Rattle.graph_core.specs.Simple.{IsSimple}
+use Rattle.counting.proofs.Common.{or_cases, or_from, or_left, or_right, and_parts, and_from, and_left, and_right, count_le_one, only_one, total_congr, at_le_total, total-first, bit_le}
+use Rattle.counting.specs.Common.{Within, bit, total, mem}
+use Rattle.graph_core.specs.Common.{Graph, size, first_end, second_end, has_ends, IsMultigraph, IsSimple}
+use Rattle.graph_core.proofs.Common.{has_ends-own, has_ends-cases, has_ends-back}
 use Rattle.grow_gen.specs.Cubic.{IsCubic}
 use Rattle.grow_gen.specs.Splices.{is_at, other_end, edge_with_end, new_number, permutation, renumbered_edge, rehung_edges, splice}
 use Rattle.grow_gen.proofs.EdgeSums.{Each, by_test, item-next, each-weaker}

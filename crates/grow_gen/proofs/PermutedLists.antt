@@ -2,9 +2,8 @@
 -- marks are true, and how many of its items that pass are marked.
 use Rattle.std.proofs.Common.{◌≡◌, ℕ, suc, zero, ◌-◌, ◌<◌, Bool, true, false, ◌==◌, ◌||◌, ◌⊎◌, inl, inr, List, [], ◌∷◌, length, map, refl, sym, arith, eqb-true}
 use Rattle.std.specs.Prelude.{slice_index, slice_index_or}
-use Rattle.std.proofs.lemmas.Bool.{or_cases, true≢false}
-use Rattle.counting.specs.Sets.{Set}
-use Rattle.counting.specs.Lists.{mem}
+use Rattle.counting.proofs.Common.{or_cases, true≢false}
+use Rattle.counting.specs.Common.{Set, mem}
 use Rattle.grow_gen.specs.Splices.{permutation}
 use Rattle.grow_gen.proofs.Rehanging.{caught, member-first, member-later}
 use Rattle.grow_gen.proofs.ThreeEdges.{true_count}

@@ -1,22 +1,14 @@
 -- The pieces are cubic, matching covered multigraphs. Idea: tests that compute, with three
 -- perfect matchings that hold all edges, and all vertices reached from vertex 1 along the edges.
 use Rattle.std.proofs.Common.{◌≡◌, ℕ, ◌≤◌, Bool, true, false, cond, ◌==◌, ◌&&◌, ◌||◌, not, inl, inr, List, [], ◌∷◌, refl, sym, ap, ◌∙◌, arith, eqb-true, nat_le, leb-true}
-use Rattle.std.proofs.lemmas.Bool.{and_parts, or_cases, eqb-false, not-true, true≢false}
-use Rattle.counting.specs.Counts.{Within}
-use Rattle.counting.specs.Sets.{Set, everything, none}
-use Rattle.counting.specs.Lists.{mem}
-use Rattle.counting.specs.Tests.{every}
-use Rattle.counting.proofs.Choice.{implied}
-use Rattle.counting.proofs.Tests.{every_true}
-use Rattle.graph_core.specs.Graph.{Graph, size, degree, first_end, second_end, has_ends, IsMultigraph}
-use Rattle.graph_core.specs.Matchings.{Allowed, is_perfect}
-use Rattle.graph_core.specs.Components.{IsConnected}
-use Rattle.graph_core.specs.Covered.{IsCovered}
-use Rattle.graph_core.proofs.Decide.{is_perfect_true}
+use Rattle.std.proofs.lemmas.Bool.{eqb-false}
+use Rattle.counting.proofs.Common.{and_parts, or_cases, not-true, true≢false, implied, every_true}
+use Rattle.counting.specs.Common.{Within, Set, everything, none, mem, every}
+use Rattle.graph_core.specs.Common.{Graph, size, degree, first_end, second_end, has_ends, IsMultigraph, Allowed, is_perfect, IsConnected, IsCovered, IsSimple}
+use Rattle.graph_core.proofs.Common.{is_perfect_true}
 use Rattle.grow_gen.specs.declared.pieces.Piece.{Piece}
 use Rattle.grow_gen.specs.declared.pieces.Piece.TheVariants.{K33, K4, Prism, Cube}
 use Rattle.grow_gen.specs.Pieces.{piece_order, piece_graph}
-use Rattle.graph_core.specs.Simple.{IsSimple}
 use Rattle.grow_gen.specs.Cubic.{IsCubic}
 use Rattle.grow_gen.proofs.EdgeSums.{Each}
 use Rattle.grow_gen.proofs.Connecting.{Stays, connected-steady}

@@ -1,14 +1,9 @@
 -- The classes of the skeleton as rising lists. Idea: a rising list is fixed by its members, and
 -- all of them are vertices.
 use Rattle.std.proofs.Common.{◌≡◌, ℕ, suc, zero, ◌+◌, ◌-◌, ◌≤◌, ◌<◌, Bool, true, false, cond, ◌==◌, ◌&&◌, ◌||◌, not, ◌⊎◌, inl, inr, List, [], ◌∷◌, length, get_or, take, map, refl, sym, ap, ◌∙◌, arith, eqb-true, eq-eqb}
-use Rattle.std.proofs.lemmas.Bool.{cases_lt, or_cases, or_left, or_right, and_parts, true≢false, false_from_ne_true}
-use Rattle.std.proofs.lemmas.List.{take_more, map-append}
+use Rattle.counting.proofs.Common.{cases_lt, or_cases, or_left, or_right, and_parts, true≢false, false_from_ne_true, take_more, map-append, mem-append, rising_only, mem-within, same_rising_list, rising_list-rises, mem-rising_list, mem-outside, set-wider}
 use Rattle.std.specs.Prelude.{slice_index}
-use Rattle.counting.specs.Counts.{Within}
-use Rattle.counting.specs.Sets.{Set, union}
-use Rattle.counting.specs.Lists.{mem, rising_list, IsRisingIn}
-use Rattle.counting.proofs.Lists.{mem-append, rising_only, mem-within}
-use Rattle.counting.proofs.RisingLists.{same_rising_list, rising_list-rises, mem-rising_list, mem-outside, set-wider}
+use Rattle.counting.specs.Common.{Within, Set, union, mem, rising_list, IsRisingIn}
 use Rattle.grow_gen.specs.declared.pieces.Piece.{Piece}
 use Rattle.grow_gen.specs.declared.pieces.Piece.TheVariants.{K33, K4, Prism, Cube}
 use Rattle.grow_gen.specs.Pieces.{piece_order, is_bipartite_piece, side}

@@ -3,20 +3,13 @@
 -- piece, and no two others come in a row.
 use Rattle.std.proofs.Common.{◌≡◌, ℕ, suc, zero, ◌+◌, ◌-◌, ◌*◌, ◌/◌, ◌%◌, ◌≤◌, ◌<◌, ◌≢◌, Bool, true, false, cond, ◌==◌, ◌&&◌, ◌||◌, not, inl, inr, List, [], ◌∷◌, length, map, filter, refl, sym, ap, ap₂, ◌∙◌, arith, eq-eqb, ne_eqb}
 use Rattle.std.specs.Prelude.{slice_index, slice_index_or}
-use Rattle.std.proofs.lemmas.List.{length-append, length-map}
-use Rattle.std.proofs.lemmas.Bool.{cases_eq, cases_Bool, or_left, or_right, true≢false}
+use Rattle.counting.proofs.Common.{length-append, length-map, cases_eq, cases_Bool, or_left, or_right, true≢false, rising_holds, mem-within, some-member, rising_list-rises}
 use Rattle.std.proofs.lemmas.Nat.{div-add-mod', mod_below, mod-mul-add}
-use Rattle.counting.specs.Counts.{Within}
-use Rattle.counting.specs.Sets.{union}
-use Rattle.counting.specs.Lists.{mem, rising_list, IsRisingIn}
-use Rattle.counting.proofs.Lists.{rising_holds, mem-within, some-member}
-use Rattle.counting.proofs.RisingLists.{rising_list-rises}
-use Rattle.graph_core.specs.Graph.{size, IsMultigraph}
-use Rattle.graph_core.specs.Covered.{IsCovered}
+use Rattle.counting.specs.Common.{Within, union, mem, rising_list, IsRisingIn}
+use Rattle.graph_core.specs.Common.{size, IsMultigraph, IsCovered, IsSimple}
 use Rattle.grow_gen.specs.declared.pieces.Piece.{Piece}
 use Rattle.grow_gen.specs.declared.pieces.Piece.TheVariants.{K33, K4, Prism, Cube}
 use Rattle.grow_gen.specs.Pieces.{piece_order, piece_ends, piece_graph, is_bipartite_piece, side, further_piece}
-use Rattle.graph_core.specs.Simple.{IsSimple}
 use Rattle.grow_gen.specs.Cubic.{IsCubic}
 use Rattle.grow_gen.specs.Splices.{is_at, new_number, permutation, splice, renumbered_edge, rehung_edges, targets_of}
 use Rattle.grow_gen.specs.Growth.{Growth, first_growth, eligible, next_class, with_piece, MayTake}

@@ -3,15 +3,10 @@
 -- since each of the joined edges is allowed.
 use Rattle.std.proofs.Common.{◌≡◌, ℕ, ◌+◌, ◌-◌, ◌≤◌, ◌<◌, ◌≢◌, Bool, true, ◌==◌, ◌&&◌, not, ◌⊎◌, inl, inr, List, [], ◌∷◌, ◌++◌, length, map, filter, refl, sym, ap, ap₂, ◌∙◌, arith, subst}
 use Rattle.std.specs.Prelude.{slice_index_or}
-use Rattle.std.proofs.lemmas.List.{length-append, length-map}
-use Rattle.std.proofs.lemmas.Bool.{cases_lt, true≢false}
-use Rattle.counting.specs.Counts.{Within, bit}
-use Rattle.counting.specs.Sets.{everything, none}
-use Rattle.counting.specs.Lists.{mem}
-use Rattle.graph_core.specs.Graph.{Graph, size, degree, IsMultigraph}
-use Rattle.graph_core.specs.Matchings.{IsPerfect, Allowed}
-use Rattle.graph_core.specs.Covered.{IsCovered}
-use Rattle.graph_core.proofs.Decide.{degree_congr}
+use Rattle.counting.proofs.Common.{length-append, length-map, cases_lt, true≢false}
+use Rattle.counting.specs.Common.{Within, bit, everything, none, mem}
+use Rattle.graph_core.specs.Common.{Graph, size, degree, IsMultigraph, IsPerfect, Allowed, IsCovered}
+use Rattle.graph_core.proofs.Common.{degree_congr}
 use Rattle.grow_gen.specs.Cubic.{IsCubic}
 use Rattle.grow_gen.specs.Splices.{is_at, neighbours, new_number, permutation, renumbered_edge, rehung_edges, targets_of, splice}
 use Rattle.grow_gen.proofs.EdgeSums.{Each, sum_edges, sum_edges-append, ends_at, marks_from, marked, marked-front, marked-back, each-append, edge-at, edge-at_place, each-weaker, degree-marked, length-marks_from, length-marks_where, marked-marks_from}

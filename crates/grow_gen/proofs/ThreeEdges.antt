@@ -2,14 +2,10 @@
 -- list of three, and exactly one of them is true for a perfect matching.
 use Rattle.std.proofs.Common.{◌≡◌, ℕ, suc, zero, ◌+◌, ◌<◌, Bool, true, false, cond, ◌==◌, ◌&&◌, inl, inr, List, [], ◌∷◌, length, filter, refl, sym, ap, ◌∙◌, arith, eq-eqb}
 use Rattle.std.specs.Prelude.{slice_index_or}
-use Rattle.std.proofs.lemmas.Bool.{true≢false}
-use Rattle.counting.specs.Counts.{Within, bit}
-use Rattle.counting.specs.Sets.{Set, everything, none}
-use Rattle.counting.proofs.Booleans.{bit_and_true, bit_le_one}
-use Rattle.graph_core.specs.Graph.{Graph, size, degree, IsMultigraph}
-use Rattle.graph_core.specs.Matchings.{IsPerfect}
-use Rattle.graph_core.specs.Covered.{IsCovered}
-use Rattle.graph_core.proofs.Decide.{degree_congr}
+use Rattle.counting.proofs.Common.{true≢false, bit_and_true, bit_le_one}
+use Rattle.counting.specs.Common.{Within, bit, Set, everything, none}
+use Rattle.graph_core.specs.Common.{Graph, size, degree, IsMultigraph, IsPerfect, IsCovered}
+use Rattle.graph_core.proofs.Common.{degree_congr}
 use Rattle.grow_gen.specs.Cubic.{IsCubic}
 use Rattle.grow_gen.specs.Splices.{is_at}
 use Rattle.grow_gen.proofs.EdgeSums.{Each, sum_edges, ends_at, by_test, marks_from, marked, each-edge, edge-at_place, degree-marks, degree-marked, length-marks_from, length-marks_where, marked-marks_from}

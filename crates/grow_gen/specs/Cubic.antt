@@ -1,9 +1,8 @@
 -- Cubic graphs. Any textbook.
 -- Stated by: grow_gen, theorems.
 use Rattle.std.specs.Prelude.{◌≡◌, ℕ}
-use Rattle.counting.specs.Counts.{Within}
-use Rattle.counting.specs.Sets.{everything}
-use Rattle.graph_core.specs.Graph.{Graph, degree}
+use Rattle.counting.specs.Common.{Within, everything}
+use Rattle.graph_core.specs.Common.{Graph, degree}
 
 -- three edges are at each vertex
 abbrev pub IsCubic : Graph → Type 0

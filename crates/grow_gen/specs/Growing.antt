@@ -1,6 +1,6 @@
 -- How the code's growing graph is seen.
 -- Stated by: grow_gen.
-use Rattle.graph_core.specs.View.{graph_of}
+use Rattle.graph_core.specs.Common.{graph_of}
 use Rattle.grow_gen.specs.declared.growing.Growing.{Growing}
 use Rattle.grow_gen.specs.Growth.{Growth}
 

@@ -3,9 +3,8 @@
 -- statistically good algorithms for random number generation").
 -- Stated by: grow_gen. Rests on it: bench_outcomes, bench_top, theorems.
 use Rattle.std.specs.Prelude.{ℕ, zero, suc, ◌+◌, ◌-◌, ◌%◌, ◌≤◌, ◌<◌, Bool, List, [], ◌∷◌, ◌==◌, ◌&&◌, ◌||◌, not, map, length, slice_index, if◌then◌else◌}
-use Rattle.counting.specs.Sets.{union}
-use Rattle.counting.specs.Lists.{mem, rising_list, IsRisingIn}
-use Rattle.graph_core.specs.Graph.{Graph}
+use Rattle.counting.specs.Common.{union, mem, rising_list, IsRisingIn}
+use Rattle.graph_core.specs.Common.{Graph}
 use Rattle.rand_pcg.specs.Lcg.{Lcg, started, increment_of}
 use Rattle.rand_pcg.specs.Pcg.{pcg32, multiplier_64}
 use Rattle.grow_gen.specs.declared.pieces.Piece.{Piece}

@@ -2,7 +2,7 @@
 -- and matching covered.
 -- Stated by: grow_gen. Rests on it: bench_outcomes, theorems.
 use Rattle.std.specs.Prelude.{ℕ, ◌%◌, Bool, true, false, List, [], ◌∷◌, slice_index_or}
-use Rattle.graph_core.specs.Graph.{Graph}
+use Rattle.graph_core.specs.Common.{Graph}
 use Rattle.grow_gen.specs.declared.pieces.Piece.{Piece}
 use Rattle.grow_gen.specs.declared.pieces.Piece.TheVariants.{K33, K4, Prism, Cube}
 

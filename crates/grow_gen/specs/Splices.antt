@@ -3,7 +3,7 @@
 -- graph gives up its vertex 1.
 -- Stated by: grow_gen. Rests on it: bench_outcomes.
 use Rattle.std.specs.Prelude.{ℕ, ◌+◌, ◌-◌, Bool, List, [], ◌∷◌, ◌++◌, ◌==◌, ◌||◌, not, map, filter, slice_index, slice_index_or, if◌then◌else◌}
-use Rattle.graph_core.specs.Graph.{Graph}
+use Rattle.graph_core.specs.Common.{Graph}
 
 -- the edge is at v
 abbrev pub is_at : ℕ → ℕ × ℕ → Bool

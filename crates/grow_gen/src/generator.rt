@@ -1,9 +1,7 @@
 //! The generator.
 ghost use Rattle.std.specs.Prelude.{◌≡◌, IfOk};
-ghost use Rattle.counting.specs.Counts.{Within};
-ghost use Rattle.graph_core.specs.Covered.{IsCovered};
-ghost use Rattle.graph_core.specs.View.{IsWithinLimits};
-ghost use Rattle.graph_core.specs.Simple.{IsSimple};
+ghost use Rattle.counting.specs.Common.{Within};
+ghost use Rattle.graph_core.specs.Common.{IsCovered, IsWithinLimits, IsSimple};
 ghost use Rattle.grow_gen.specs.Cubic.{IsCubic};
 ghost use Rattle.grow_gen.specs.Growth.{grown};
 

@@ -1,8 +1,7 @@
 //! A graph that grows, piece by piece.
 ghost use Rattle.std.specs.Prelude.{◌≡◌, ◌<◌, ◌≤◌, ◌+◌, ◌%◌, IfOk, ℕ, length, slice_index};
-ghost use Rattle.counting.specs.Counts.{Within};
-ghost use Rattle.counting.specs.Lists.{mem, IsRisingIn};
-ghost use Rattle.graph_core.specs.View.{IsWithinLimits};
+ghost use Rattle.counting.specs.Common.{Within, mem, IsRisingIn};
+ghost use Rattle.graph_core.specs.Common.{IsWithinLimits};
 ghost use Rattle.grow_gen.specs.Pieces.{piece_order};
 ghost use Rattle.grow_gen.specs.Growth.{first_growth, eligible, next_class, with_piece, MayTake};
 ghost use Rattle.grow_gen.specs.Growing.{growth_of};

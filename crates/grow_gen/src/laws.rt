@@ -1,9 +1,7 @@
 //! The laws on splices and on grown graphs. Each is the contract of a function that does nothing.
 ghost use Rattle.std.specs.Prelude.{◌≡◌, ℕ, ◌<◌, ◌≤◌};
-ghost use Rattle.counting.specs.Counts.{Within};
-ghost use Rattle.graph_core.specs.Graph.{Graph, IsMultigraph};
-ghost use Rattle.graph_core.specs.Covered.{IsCovered};
-ghost use Rattle.graph_core.specs.Simple.{IsSimple};
+ghost use Rattle.counting.specs.Common.{Within};
+ghost use Rattle.graph_core.specs.Common.{Graph, IsMultigraph, IsCovered, IsSimple};
 ghost use Rattle.grow_gen.specs.Cubic.{IsCubic};
 ghost use Rattle.grow_gen.specs.Splices.{splice, permutation};
 

@@ -1,6 +1,6 @@
 //! The pieces of which a graph is made.
 ghost use Rattle.std.specs.Prelude.{◌≡◌};
-ghost use Rattle.graph_core.specs.Graph.{Graph};
+ghost use Rattle.graph_core.specs.Common.{Graph};
 ghost use Rattle.grow_gen.specs.Pieces.{piece_order, piece_ends, piece_graph, is_bipartite_piece, side, further_piece};
 ghost use Rattle.grow_gen.specs.Splices.{neighbours};
 

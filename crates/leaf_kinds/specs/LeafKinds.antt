@@ -3,10 +3,8 @@
 -- Stated by: leaf_kinds, list_lines.
 -- Rests on it: bench_outcomes, bench_reports, bench_top, theorems.
 use Rattle.std.specs.Prelude.{ℕ, ◌≤◌, List, Option, Some, None}
-use Rattle.counting.specs.Lists.{mem}
-use Rattle.graph_core.specs.Graph.{Graph, IsBipartite}
-use Rattle.graph_core.specs.Structure.{IsBicritical, IsCutPair}
-use Rattle.graph_core.specs.Tight.{IsTight, IsNontrivial, HasOnlyTrivialTightCuts}
+use Rattle.counting.specs.Common.{mem}
+use Rattle.graph_core.specs.Common.{Graph, IsBipartite, IsBicritical, IsCutPair, IsTight, IsNontrivial, HasOnlyTrivialTightCuts}
 use Rattle.graph_core.specs.declared.verdict.Kind.{Kind}
 use Rattle.graph_core.specs.declared.verdict.Kind.TheVariants.{Brace, Brick, Composite}
 

@@ -1,11 +1,10 @@
 -- The lines of the leaves grow by one line for each leaf, and so do the kinds that they give.
 use Rattle.std.proofs.Common.{List, [], ◌∷◌, ◌++◌, ap, append_assoc, arith, get_or, length, refl, subst, sym, take, ℕ, ◌+◌, ◌<◌, ◌≡◌, ◌∙◌}
-use Rattle.std.proofs.lemmas.List.{append-nil, length-append, length-take, take_all, take_more}
-use Rattle.counting.specs.Counts.{Within}
-use Rattle.graph_core.specs.Graph.{Graph}
-use Rattle.graph_core.specs.Quotients.{quotient}
-use Rattle.tree_core.specs.LeafMaps.{leaf_at}
-use Rattle.tree_core.specs.Tallies.{IsLeafKind, kind_at}
+use Rattle.std.proofs.lemmas.List.{length-take}
+use Rattle.counting.proofs.Common.{append-nil, length-append, take_all, take_more}
+use Rattle.counting.specs.Common.{Within}
+use Rattle.graph_core.specs.Common.{Graph, quotient}
+use Rattle.tree_core.specs.Common.{leaf_at, IsLeafKind, kind_at}
 use Rattle.tree_core.specs.declared.tallies.LeafKind.{LeafKind}
 use Rattle.tree_core.proofs.KindsOfLeaves.{kinds-more}
 use Rattle.list_lines.specs.LeafLines.{AddsLine, AreLinesOf, leaf_line, leaf_lines}

@@ -4,13 +4,11 @@ use Rattle.std.proofs.Common.{◌≡◌, ◌∙◌, ℕ, List, Result, Ok, Err, 
 use Rattle.list_lines.proofs.OneTree.{kinds-once, named-once, picked-once}
 use Rattle.decomposer.specs.Orders.{NamedPicks}
 use Rattle.decomposer.specs.declared.orders.NamedOrder.{NamedOrder}
-use Rattle.graph_core.specs.Graph.{Graph, IsMultigraph}
-use Rattle.graph_core.specs.Partitions.{singles}
+use Rattle.graph_core.specs.Common.{Graph, IsMultigraph, singles}
 use Rattle.list_lines.proofs.ReadMultigraphs.{read-multigraph}
 use Rattle.graph6_text.specs.Reading.{Fault, outcome_of}
 use Rattle.text_faults.specs.declared.faults.FaultKind.{FaultKind}
-use Rattle.tree_core.specs.Leaves.{leaves}
-use Rattle.tree_core.specs.Shapes.{Shape}
+use Rattle.tree_core.specs.Common.{leaves, Shape}
 use Rattle.tree_core.specs.declared.tallies.LeafKind.{LeafKind}
 use Rattle.list_lines.specs.KindLines.{IsKindLine, kind_line}
 use Rattle.list_lines.specs.LeafLines.{AreLeafLines, AreLinesOf, TellsLeaves, leaf_lines, line_front}

@@ -2,12 +2,10 @@
 -- one of a covered graph, a kind without its shore is one, and so are the numbers of
 -- bricks and braces.
 use Rattle.std.proofs.Common.{◌≡◌, ◌∙◌, ◌↔◌, ℕ, ◌≤◌, Bool, true, false, refl, sym, ap, arith, IsTrue}
-use Rattle.counting.specs.Lists.{mem}
-use Rattle.graph_core.proofs.Decide.{reason-uncovered}
-use Rattle.graph_core.specs.Components.{IsConnected}
+use Rattle.counting.specs.Common.{mem}
+use Rattle.graph_core.proofs.Common.{reason-uncovered}
+use Rattle.graph_core.specs.Common.{IsConnected, IsCovered, IsReason, Graph, IsMultigraph}
 use Rattle.graph_core.specs.Covered
-use Rattle.graph_core.specs.Covered.{IsCovered, IsReason}
-use Rattle.graph_core.specs.Graph.{Graph, IsMultigraph}
 use Rattle.graph_core.specs.declared.verdict.Kind.{Kind}
 use Rattle.graph_core.specs.declared.verdict.Kind.TheVariants.{Brace, Brick, Composite}
 use Rattle.leaf_kinds.specs.LeafKinds.{IsKind}

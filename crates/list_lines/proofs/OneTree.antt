@@ -2,21 +2,18 @@
 -- candidate. The kinds of the leaves are determined, since a quotient is bipartite or not, and so
 -- are their counts.
 use Rattle.std.proofs.Common.{◌≡◌, ◌∙◌, ℕ, ◌+◌, ◌-◌, ◌<◌, List, length, map, Option, Some, None, inl, inr, refl, sym, subst, ap, arith, slice_get, option_map, suc, get_or}
-use Rattle.std.proofs.lemmas.Bool.{cases_lt}
-use Rattle.std.proofs.lemmas.List.{ext_get_or, length-map}
-use Rattle.counting.specs.Counts.{Within}
-use Rattle.std.proofs.lemmas.Option.{none-some, same_Some, slice_get-map}
-use Rattle.graph_core.specs.Graph.{Graph}
+use Rattle.counting.proofs.Common.{cases_lt, length-map, none-some, same_Some}
+use Rattle.std.proofs.lemmas.List.{ext_get_or}
+use Rattle.counting.specs.Common.{Within}
+use Rattle.std.proofs.lemmas.Option.{slice_get-map}
+use Rattle.graph_core.specs.Common.{Graph}
 use Rattle.tight_cuts.specs.Candidates.{Candidate}
 use Rattle.tight_cuts.specs.CandidatesAt.{candidates_at}
 use Rattle.tight_cuts.specs.View.{candidate_of}
 use Rattle.tight_cuts.specs.declared.candidate.Candidate.{Candidate as StoredCandidate}
 use Rattle.decomposer.specs.Choices.{PicksBalanced, gap, gap_of}
 use Rattle.decomposer.specs.Picked.{IsPickedAt, PicksShore}
-use Rattle.tree_core.specs.Derivations.{kept_at, merged_at}
-use Rattle.tree_core.specs.LeafMaps.{leaf_at}
-use Rattle.tree_core.specs.Shapes.{Shape, leaf, cut, cut_count}
-use Rattle.tree_core.specs.Tallies.{AreLeafKinds, IsLeafKind, IsTally, kind_at, tally_of}
+use Rattle.tree_core.specs.Common.{kept_at, merged_at, leaf_at, Shape, leaf, cut, cut_count, AreLeafKinds, IsLeafKind, IsTally, kind_at, tally_of}
 use Rattle.tree_core.specs.declared.tallies.LeafKind.{LeafKind}
 use Rattle.tree_core.specs.declared.tallies.LeafKind.TheVariants.{Brick, Brace}
 use Rattle.tree_core.specs.declared.tallies.Tally.{Tally}

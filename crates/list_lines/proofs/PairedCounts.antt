@@ -3,12 +3,9 @@
 use Rattle.std.proofs.Common.{Bool, List, ◌∷◌, ap, arith, cond, eq-eqb, eqb-true, false, get_or, length, refl, suc, sym, true, ℕ, ◌+◌, ◌-◌, ◌==◌, ◌∙◌, ◌≡◌}
 use Rattle.std.specs.Prelude.{count_by}
 use Rattle.std.proofs.lemmas.List.Recursion.{is_count_by}
-use Rattle.counting.proofs.Counts.{bit_true, only_one}
-use Rattle.counting.proofs.Tests.{least_of, least_of_is, true_some}
-use Rattle.counting.proofs.Totals.{some_term, total-first, total_congr, total_ones}
-use Rattle.counting.specs.Counts.{Within, bit, count}
-use Rattle.counting.specs.Sets.{Set}
-use Rattle.graph_core.proofs.BlockSets.{count_over}
+use Rattle.counting.proofs.Common.{bit_true, only_one, least_of, least_of_is, true_some, some_term, total-first, total_congr, total_ones}
+use Rattle.counting.specs.Common.{Within, bit, count, Set}
+use Rattle.graph_core.proofs.Common.{count_over}
 
 -- the number of items that pass a test, by places counted from 1
 abbrev pub passing : {A : Type 0} → (A → Bool) → A → List A → ℕ

@@ -2,19 +2,10 @@
 -- separates each two adjacent blocks. So the quotient at the single vertices is bipartite exactly
 -- when the graph is.
 use Rattle.std.proofs.Common.{Bool, List, ap, arith, false, inl, inr, length, ne_eqb, not, refl, subst, subst₂, sym, true, ℕ, ◌&&◌, ◌<◌, ◌==◌, ◌||◌, ◌≡◌}
-use Rattle.std.proofs.lemmas.Bool.{and_from, and_parts, cases_order}
-use Rattle.std.proofs.lemmas.Bool.Decides.{nat_tests}
-use Rattle.counting.proofs.Tests.{some_true, true_some}
-use Rattle.counting.specs.Counts.{Within}
-use Rattle.counting.specs.Sets.{Set}
-use Rattle.counting.specs.Tests.{some}
-use Rattle.graph_core.proofs.Quotients.{edge_of_pair, quotient_edge}
-use Rattle.graph_core.proofs.SingleBlocks.{contracted-singles}
-use Rattle.graph_core.proofs.Singles.{length-singles}
-use Rattle.graph_core.proofs.Walks.{has_ends-back, has_ends-cases, has_ends-own}
-use Rattle.graph_core.specs.Graph.{Graph, IsBipartite, IsMultigraph, first_end, has_ends, in_cut, second_end, size}
-use Rattle.graph_core.specs.Partitions.{contracted, singles}
-use Rattle.graph_core.specs.Quotients.{blocks_adjacent, quotient}
+use Rattle.counting.proofs.Common.{and_from, and_parts, cases_order, nat_tests, some_true, true_some}
+use Rattle.counting.specs.Common.{Within, Set, some}
+use Rattle.graph_core.proofs.Common.{edge_of_pair, quotient_edge, contracted-singles, length-singles, has_ends-back, has_ends-cases, has_ends-own}
+use Rattle.graph_core.specs.Common.{Graph, IsBipartite, IsMultigraph, first_end, has_ends, in_cut, second_end, size, contracted, singles, blocks_adjacent, quotient}
 
 -- exactly one of the two holds
 abbrev pub differ : Bool → Bool → Bool

@@ -1,8 +1,8 @@
 -- The graph that a graph6 text stands for is a multigraph: each edge is one of the pairs i < j of
 -- 1 to n.
 use Rattle.std.proofs.Common.{◌≡◌, ℕ, ◌-◌, ◌<◌, ◌≤◌, Bool, true, false, List, [], ◌∷◌, Ok, subst, arith}
-use Rattle.counting.specs.Counts.{Within}
-use Rattle.graph_core.specs.Graph.{Graph, IsMultigraph, first_end, second_end, size}
+use Rattle.counting.specs.Common.{Within}
+use Rattle.graph_core.specs.Common.{Graph, IsMultigraph, first_end, second_end, size}
 use Rattle.graph6_text.specs.Digits.{bits_of}
 use Rattle.graph6_text.specs.Pairs.{chosen, column_pairs}
 use Rattle.graph6_text.specs.Reading.{body_of, data_of, graph_of, order_of, outcome_of}

@@ -1,19 +1,12 @@
 -- A covered graph without a nontrivial tight cut has the leaf as its derivation: so a brick has
 -- one brick as its only leaf, and a brace one brace.
 use Rattle.std.proofs.Common.{List, [], ◌∷◌, arith, refl, subst, ℕ, ◌≡◌}
-use Rattle.graph_core.proofs.Singles.{singles-partition}
-use Rattle.graph_core.proofs.SingleBlocks.{tight-singles}
-use Rattle.graph_core.specs.Covered.{IsCovered}
-use Rattle.graph_core.specs.Graph.{Graph, IsMultigraph}
-use Rattle.graph_core.specs.Partitions.{singles}
+use Rattle.graph_core.proofs.Common.{singles-partition, tight-singles}
+use Rattle.graph_core.specs.Common.{IsCovered, Graph, IsMultigraph, singles, HasOnlyTrivialTightCuts}
 use Rattle.graph_core.specs.declared.verdict.Kind.TheVariants.{Brace, Brick}
-use Rattle.graph_core.specs.Tight.{HasOnlyTrivialTightCuts}
 use Rattle.leaf_kinds.specs.LeafKinds.{IsKind}
 use Rattle.tree_core.proofs.DerivationShores.{nontrivial-vertices}
-use Rattle.tree_core.specs.Derivations.{IsLeafAt}
-use Rattle.tree_core.specs.Shapes.{leaf}
-use Rattle.tree_core.specs.LeafMaps.{leaf_at}
-use Rattle.tree_core.specs.Tallies.{AreLeafKinds, IsLeafKind, kind_at, tally_of}
+use Rattle.tree_core.specs.Common.{IsLeafAt, leaf, leaf_at, AreLeafKinds, IsLeafKind, kind_at, tally_of}
 use Rattle.tree_core.specs.declared.tallies.LeafKind.{LeafKind}
 use Rattle.tree_core.specs.declared.tallies.LeafKind.TheVariants as of_leaf
 use Rattle.list_lines.specs.Standings.{IsCounted}

@@ -4,7 +4,7 @@
 -- Stated by: list_lines.
 use Rattle.std.specs.Prelude.{◌≡◌, ℕ, ◌++◌, List, [], Bool, true, false, codes}
 use Rattle.std.specs.Fmt.{decimal}
-use Rattle.graph_core.specs.Graph.{Graph, size}
+use Rattle.graph_core.specs.Common.{Graph, size}
 use Rattle.graph6_text.specs.Writing.{graph6_of}
 use Rattle.list_lines.specs.Standings.{IsStanding}
 use Rattle.list_lines.specs.declared.standing.Standing.{Standing}

@@ -4,17 +4,12 @@
 -- Stated by: list_lines.
 use Rattle.std.specs.Prelude.{◌≡◌, ℕ, ◌++◌, ◌⊎◌, List, [], ◌∷◌, codes}
 use Rattle.std.specs.Fmt.{decimal}
-use Rattle.graph_core.specs.Covered.{IsCovered}
-use Rattle.graph_core.specs.Graph.{Graph}
-use Rattle.graph_core.specs.Quotients.{quotient}
+use Rattle.graph_core.specs.Common.{IsCovered, Graph, quotient}
 use Rattle.graph6_text.specs.Writing.{graph6_of}
-use Rattle.tree_core.specs.Derivations.{IsDerivation}
-use Rattle.tree_core.specs.Leaves.{leaves}
-use Rattle.tree_core.specs.Shapes.{Shape}
+use Rattle.tree_core.specs.Common.{IsDerivation, leaves, Shape, AreLeafKinds, IsKindOf}
 use Rattle.decomposer.specs.Orders.{NamedPicks}
 use Rattle.decomposer.specs.Picked.{IsPicked}
 use Rattle.decomposer.specs.declared.orders.NamedOrder.{NamedOrder}
-use Rattle.tree_core.specs.Tallies.{AreLeafKinds, IsKindOf}
 use Rattle.tree_core.specs.declared.tallies.LeafKind.{LeafKind}
 use Rattle.tree_core.specs.declared.tallies.LeafKind.TheVariants.{Brick, Brace}
 

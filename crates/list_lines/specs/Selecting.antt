@@ -1,11 +1,8 @@
 -- The lines that `select` keeps: those whose graph has a property.
 -- Stated by: list_lines, theorems.
 use Rattle.std.specs.Prelude.{◌≡◌, ◌≢◌, ℕ, ◌≤◌, ◌⊎◌, List, [], Bool, true, false}
-use Rattle.counting.specs.Sets.{none}
-use Rattle.graph_core.specs.Covered.{IsCovered}
-use Rattle.graph_core.specs.Graph.{Graph}
-use Rattle.graph_core.specs.Matchings.{HasPerfect}
-use Rattle.graph_core.specs.Structure.{IsBicritical}
+use Rattle.counting.specs.Common.{none}
+use Rattle.graph_core.specs.Common.{IsCovered, Graph, HasPerfect, IsBicritical}
 use Rattle.std.specs.declared.option.Option.{Option}
 use Rattle.std.specs.declared.option.Option.TheVariants.{Some, None}
 use Rattle.graph_core.specs.declared.verdict.Kind.{Kind}

@@ -3,16 +3,11 @@
 -- Stated by: list_lines, theorems.
 use Rattle.std.specs.Prelude.{◌≡◌, ◌↔◌, ℕ, Bool, IsTrue}
 use Rattle.graph_core.specs.Covered
-use Rattle.graph_core.specs.Covered.{IsCovered, IsReason}
-use Rattle.graph_core.specs.Graph.{Graph}
-use Rattle.graph_core.specs.Structure.{IsBicritical}
+use Rattle.graph_core.specs.Common.{IsCovered, IsReason, Graph, IsBicritical}
 use Rattle.graph_core.specs.declared.verdict.Kind.{Kind}
 use Rattle.graph_core.specs.declared.verdict.Kind.TheVariants as kind
 use Rattle.leaf_kinds.specs.LeafKinds.{IsKind}
-use Rattle.tree_core.specs.Derivations.{IsDerivation}
-use Rattle.tree_core.specs.Leaves.{leaves}
-use Rattle.tree_core.specs.Shapes.{Shape}
-use Rattle.tree_core.specs.Tallies.{IsTally}
+use Rattle.tree_core.specs.Common.{IsDerivation, leaves, Shape, IsTally}
 use Rattle.tree_core.specs.declared.tallies.Tally.{Tally}
 use Rattle.list_lines.specs.declared.standing.Standing.{Standing}
 use Rattle.list_lines.specs.declared.standing.Standing.TheVariants.{Uncovered, Covered as IsSaid}

@@ -1,7 +1,7 @@
 -- The answer to a line of a list of graphs.
 -- Stated by: list_lines. Rests on it: list_top.
 use Rattle.std.specs.Prelude.{◌≡◌, ℕ, ◌||◌, nat_lt, if◌then◌else◌, List, Ok, Err}
-use Rattle.graph_core.specs.Graph.{Graph, size}
+use Rattle.graph_core.specs.Common.{Graph, size}
 use Rattle.text_faults.specs.declared.faults.FaultKind.{FaultKind}
 use Rattle.graph6_text.specs.Reading.{outcome_of}
 use Rattle.graph_text.specs.VersionOne.{most_vertices, most_edges}

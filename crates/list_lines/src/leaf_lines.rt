@@ -1,10 +1,7 @@
 //! The lines of `leaves`.
 ghost use Rattle.std.specs.Prelude.{◌≡◌, ◌<◌, ◌++◌, IfOk, OnOk, Err, All, length, map, string_bytes};
-ghost use Rattle.graph_core.specs.Quotients.{quotient};
-ghost use Rattle.graph_core.specs.Simple.{IsSimple};
-ghost use Rattle.tree_core.specs.Derivations.{IsDerivation};
-ghost use Rattle.tree_core.specs.Leaves.{leaves};
-ghost use Rattle.tree_core.specs.View.{shape_of};
+ghost use Rattle.graph_core.specs.Common.{quotient, IsSimple};
+ghost use Rattle.tree_core.specs.Common.{IsDerivation, leaves, shape_of};
 ghost use Rattle.list_lines.specs.LeafLines.{AddsLine, AreLeafLines, AreLinesOf, leaf_end, line_front, quotient_line};
 
 use contraction::{Contracted, Partition, quotient};

@@ -1,8 +1,7 @@
 //! Whether a graph has a property.
 ghost use Rattle.std.specs.Prelude.{◌≡◌, ◌≤◌, ◌↔◌, Some, IfOk, IsTrue};
-ghost use Rattle.counting.specs.Sets.{none};
-ghost use Rattle.graph_core.specs.Matchings.{HasPerfect};
-ghost use Rattle.graph_core.specs.Structure.{IsBicritical};
+ghost use Rattle.counting.specs.Common.{none};
+ghost use Rattle.graph_core.specs.Common.{HasPerfect, IsBicritical};
 ghost use Rattle.list_lines.specs.Selecting.{Decides, IsSelected, TellsKind, TellsTally};
 
 use crate::query::Property;

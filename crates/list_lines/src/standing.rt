@@ -1,10 +1,9 @@
 //! How a graph stands among the matching covered graphs.
 ghost use Rattle.std.specs.Prelude.{◌≡◌, IfOk, Some};
-ghost use Rattle.graph_core.specs.Verdicts.{reason_of};
+ghost use Rattle.graph_core.specs.Common.{reason_of};
 ghost use Rattle.leaf_kinds.specs.LeafKinds.{IsKind, cut_of};
 ghost use Rattle.tight_cuts.specs.Candidates.{candidates, first_shore};
-ghost use Rattle.tree_core.specs.Derivations.{IsDerivation};
-ghost use Rattle.tree_core.specs.View.{shape_of};
+ghost use Rattle.tree_core.specs.Common.{IsDerivation, shape_of};
 ghost use Rattle.list_lines.specs.Standings.{IsCounted, IsStanding, sort_of, why_of};
 
 use decomposer::{NamedOrder, decompose_covered, decompose_from_first};

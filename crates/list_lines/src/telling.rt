@@ -1,7 +1,7 @@
 //! The answer to a line.
 ghost use Rattle.std.specs.Prelude.{◌≡◌, IfOk, Ok};
 ghost use Rattle.graph6_text.specs.Reading.{outcome_of};
-ghost use Rattle.graph_core.specs.Simple.{IsSimple};
+ghost use Rattle.graph_core.specs.Common.{IsSimple};
 ghost use Rattle.graph_text.specs.Names.{plain_names};
 ghost use Rattle.graph_text.specs.Writing.{named_text};
 ghost use Rattle.list_lines.specs.Telling.{IsAnswer, file_text};

@@ -6,7 +6,7 @@ use Rattle.std.specs.declared.option.Option.TheVariants.{Some, None}
 use Rattle.std.specs.List.{starts_with}
 use Rattle.std.specs.Option.{option_map, option_or}
 use Rattle.std.specs.Str.{bytes_eq}
-use Rattle.line_text.specs.Numerals.{number_of}
+use Rattle.line_text.specs.Common.{number_of}
 use Rattle.decomposer.specs.Orders.{order_named}
 use Rattle.decomposer.specs.declared.orders.NamedOrder.TheVariants.{First}
 use Rattle.list_lines.specs.declared.query.Property.{Property}

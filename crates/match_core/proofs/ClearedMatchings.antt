@@ -4,22 +4,11 @@
 -- is taken out than there are such edges, since that one has two ends.
 use Rattle.std.proofs.Common.{◌≡◌, ℕ, suc, zero, ◌+◌, ◌*◌, ◌≤◌, ◌<◌, ◌≢◌, Bool, true, false, ◌==◌, ◌&&◌, ◌||◌, ◌⊎◌, not, refl, sym, ap, ap₂, ◌∙◌, arith, List, [], ◌∷◌, length, map, filter, cond, inl, inr, eqb-true, eq-eqb, subst}
 use Rattle.std.specs.Prelude.{All}
-use Rattle.std.proofs.lemmas.Bool.{both_ways, cases_Bool, cases_eq, and_parts, or_cases, or_left, or_right, not-true}
-use Rattle.std.proofs.lemmas.List.{length-map}
+use Rattle.counting.proofs.Common.{both_ways, cases_Bool, cases_eq, and_parts, or_cases, or_left, or_right, not-true, length-map, count_put, count_complement, count_mem_length, count_split, total_add, total_congr, total_le, total_none, bit_le_one}
 use Rattle.std.proofs.lemmas.List.Elements.{All-filter}
-use Rattle.counting.specs.Counts.{Within, bit, count, total}
-use Rattle.counting.specs.Lists.{IsRisingIn, mem}
-use Rattle.counting.specs.Sets.{Set, none, put, meet}
-use Rattle.counting.proofs.Choice.{count_put}
-use Rattle.counting.proofs.Counts.{count_complement}
-use Rattle.counting.proofs.Lists.{count_mem_length}
-use Rattle.counting.proofs.SetSizes.{count_split}
-use Rattle.counting.proofs.Totals.{total_add, total_congr, total_le, total_none}
-use Rattle.counting.proofs.Booleans.{bit_le_one}
-use Rattle.graph_core.specs.Graph.{Graph, IsGraph, degree, first_end, second_end, size}
-use Rattle.graph_core.specs.Matchings.{IsMatching, IsPerfect, missed_count}
-use Rattle.graph_core.proofs.Edits.{edge_at, ends_of, missed_edges, sum_degrees, two_ends_le_degree}
-use Rattle.graph_core.proofs.Perfect.{perfect_matching, perfect_misses}
+use Rattle.counting.specs.Common.{Within, bit, count, total, IsRisingIn, mem, Set, none, put, meet}
+use Rattle.graph_core.specs.Common.{Graph, IsGraph, degree, first_end, second_end, size, IsMatching, IsPerfect, missed_count}
+use Rattle.graph_core.proofs.Common.{edge_at, ends_of, missed_edges, sum_degrees, two_ends_le_degree, perfect_matching, perfect_misses}
 use Rattle.match_core.specs.MatchingRows.{IsOf, IsRowOf, KeepsMatching, MatchingValue, edges_of, has_end_in, is_clear, left_over}
 use Rattle.match_search.specs.Questions.{MeetOnce}
 use Rattle.match_core.specs.declared.matching.MatchRow.{MatchRow}

@@ -2,23 +2,11 @@
 -- vertices; perfect exactly where there is no outer vertex. A missed vertex is outer, and an
 -- outer vertex is missed by some matching as large.
 use Rattle.std.proofs.Common.{◌≡◌, ℕ, suc, zero, ◌≤◌, ◌<◌, ◌≢◌, Bool, true, false, ◌==◌, ◌↔◌, refl, sym, ap, ◌∙◌, arith, List, [], ◌∷◌, length, subst, inl, inr, eq-eqb}
-use Rattle.std.proofs.lemmas.Bool.{both_ways, true≢false, false_from_ne_true}
+use Rattle.counting.proofs.Common.{both_ways, true≢false, false_from_ne_true, count_congr, mem-rising_list, set-narrower}
 use mathlib.Core.Path.{fun_ext}
-use Rattle.counting.specs.Counts.{Within, count, is_odd}
-use Rattle.counting.specs.Sets.{Set, none}
-use Rattle.counting.specs.Lists.{mem, rising_list, IsRisingIn}
-use Rattle.counting.proofs.Counts.{count_congr}
-use Rattle.counting.proofs.RisingLists.{mem-rising_list, set-narrower}
-use Rattle.graph_core.specs.Graph.{Graph, IsGraph, degree, size}
-use Rattle.graph_core.specs.Matchings.{IsMatching, IsMaximum, IsPerfect, HasPerfect}
-use Rattle.graph_core.specs.BergeSets.{Attains}
-use Rattle.graph_core.specs.GallaiEdmonds.{InD, InA}
-use Rattle.graph_core.specs.Walks.{joined}
-use Rattle.graph_core.proofs.Decide.{degree_congr}
-use Rattle.graph_core.proofs.Edits.{edge_of, missed_edges}
-use Rattle.graph_core.proofs.Adjacency.{has_ends-from}
-use Rattle.graph_core.proofs.Perfect.{perfect_matching, perfect_misses, missed_one}
-use Rattle.graph_core.proofs.Walks.{adjacent_from}
+use Rattle.counting.specs.Common.{Within, count, is_odd, Set, none, mem, rising_list, IsRisingIn}
+use Rattle.graph_core.specs.Common.{Graph, IsGraph, degree, size, IsMatching, IsMaximum, IsPerfect, HasPerfect, Attains, InD, InA, joined}
+use Rattle.graph_core.proofs.Common.{degree_congr, edge_of, missed_edges, has_ends-from, perfect_matching, perfect_misses, missed_one, adjacent_from}
 use Rattle.match_search.specs.Frames.{Frame}
 use Rattle.match_search.specs.Rows.{marks}
 use Rattle.match_search.specs.Optimal.{IsBest}

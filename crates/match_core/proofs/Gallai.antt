@@ -2,19 +2,10 @@
 -- of one component. By induction on a walk between the two, and an exchange of one edge that
 -- makes two maximum matchings share one edge more.
 use Rattle.std.proofs.Common.{◌≡◌, ℕ, suc, zero, ◌+◌, ◌*◌, ◌≤◌, ◌<◌, ◌≢◌, Bool, true, false, cond, ◌==◌, refl, sym, ap, ◌∙◌, arith, ◌&&◌, not, eq-eqb, ne_eqb, eqb-true, inl, inr, subst, List, [], ◌∷◌}
-use Rattle.std.proofs.lemmas.Bool.{cases_eq, cases_Bool, cases_order, both_ways, true≢false}
-use Rattle.std.proofs.lemmas.Bool.Decides.{nat_tests}
-use Rattle.counting.proofs.Choice.{count_put}
-use Rattle.counting.proofs.Counts.{bit_true, count_congr, count_le_one}
-use Rattle.counting.proofs.Totals.{some_term, total_add, total_congr, total_le, two_le_total}
-use Rattle.counting.specs.Counts.{Within, bit, count, total}
-use Rattle.counting.specs.Sets.{Set, put}
-use Rattle.counting.proofs.Booleans.{and_comm}
-use Rattle.graph_core.proofs.Edits.{add_edge, bit_other, bit_same, degree_put, edge_at, edge_of, ends_le_degree, ends_of, ends_of_is, missed_edges, shared, shared_le, shared_put, two_ends_le_degree}
-use Rattle.graph_core.proofs.Walks.{adjacent-edge, adjacent_within}
-use Rattle.graph_core.specs.Graph.{Graph, IsGraph, degree, size, HasEnds}
-use Rattle.graph_core.specs.Matchings.{IsMaximum, missed_count}
-use Rattle.graph_core.specs.Walks.{Walk, adjacent}
+use Rattle.counting.proofs.Common.{cases_eq, cases_Bool, cases_order, both_ways, true≢false, nat_tests, count_put, bit_true, count_congr, count_le_one, some_term, total_add, total_congr, total_le, two_le_total, and_comm}
+use Rattle.counting.specs.Common.{Within, bit, count, total, Set, put}
+use Rattle.graph_core.proofs.Common.{add_edge, bit_other, bit_same, degree_put, edge_at, edge_of, ends_le_degree, ends_of, ends_of_is, missed_edges, shared, shared_le, shared_put, two_ends_le_degree, adjacent-edge, adjacent_within}
+use Rattle.graph_core.specs.Common.{Graph, IsGraph, degree, size, HasEnds, IsMaximum, missed_count, Walk, adjacent}
 
 -- two maximum matchings, of which one misses u and v and the other t: the second can be made more
 -- like the first

@@ -1,12 +1,10 @@
 -- An instance of a whole graph holds the mates of each of its matchings, and goes on to hold them
 -- when it is put back. What holds of each row of a list holds when a row is put at its end.
 use Rattle.std.proofs.Common.{◌≡◌, ℕ, ◌+◌, ◌-◌, ◌<◌, ◌++◌, ◌∷◌, [], ◌∙◌, ap, sym, subst, inl, inr, arith, List, length, suc, get_or}
-use Rattle.std.proofs.lemmas.Bool.{cases_eq}
-use Rattle.std.proofs.lemmas.List.{get_or_append_left, get_or_at}
-use Rattle.counting.specs.Counts.{Within}
-use Rattle.counting.specs.Lists.{item}
-use Rattle.counting.specs.Sets.{Set}
-use Rattle.graph_core.specs.Graph.{Graph}
+use Rattle.counting.proofs.Common.{cases_eq, get_or_append_left}
+use Rattle.std.proofs.lemmas.List.{get_or_at}
+use Rattle.counting.specs.Common.{Within, item, Set}
+use Rattle.graph_core.specs.Common.{Graph}
 use Rattle.match_search.specs.Instances.{IsInstance}
 use Rattle.match_search.specs.Mates.{HasMates}
 use Rattle.match_search.specs.Rows.{numbers}

@@ -2,18 +2,13 @@
 -- tell? The other end of the edge at a vertex, that a perfect matching has one at each, and which
 -- vertices the matching misses.
 use Rattle.std.proofs.Common.{◌≡◌, ℕ, ◌-◌, ◌≢◌, Bool, true, false, cond, ◌==◌, ◌&&◌, not, refl, sym, ap, ◌∙◌, arith, List, [], length, subst, nat_lt, nat_le, lt-ltb}
-use Rattle.std.proofs.lemmas.Bool.{le-leb, and_parts}
-use Rattle.counting.specs.Counts.{Within, bit}
-use Rattle.counting.specs.Sets.{Set}
-use Rattle.counting.proofs.Totals.{total_none}
-use Rattle.counting.specs.Lists.{mem}
-use Rattle.graph_core.specs.View.{graph_of}
+use Rattle.counting.proofs.Common.{le-leb, and_parts, total_none}
+use Rattle.counting.specs.Common.{Within, bit, Set, mem}
+use Rattle.graph_core.specs.Common.{graph_of, HasEnds, degree, size, IsPerfect, missed_count}
 use Rattle.graph_core.specs.declared.ends.Ends.{Ends}
 use Rattle.match_search.specs.GraphRows.{NamesEdges}
 use Rattle.match_search.proofs.LongerPaths.{ends_by}
 use Rattle.match_search.proofs.GraphRows.{free_degree, missed_degree, pair_is, partner}
-use Rattle.graph_core.specs.Graph.{HasEnds, degree, size}
-use Rattle.graph_core.specs.Matchings.{IsPerfect, missed_count}
 use Rattle.match_search.specs.Rows.{numbers, end_a, end_b}
 use Rattle.match_search.specs.RepairPaths.{Misses}
 

@@ -2,21 +2,10 @@
 -- components ranked by least vertex are a labelling; an even component put outside the classes
 -- leaves them odd.
 use Rattle.std.proofs.Common.{◌≡◌, ℕ, ◌+◌, ◌*◌, ◌≤◌, Bool, true, false, cond, ◌==◌, refl, sym, ap, ap₂, ◌∙◌, arith, ◌&&◌, not, eq-eqb, ne_eqb, inl, inr, nat_lt, [], ◌∷◌, le-ltb, zero-mul, one-mul}
-use Rattle.std.proofs.lemmas.Bool.{cases_Bool, both_ways, true≢false, false_from_ne_true, and_parts, and_from, or_parts}
-use Rattle.counting.proofs.Counts.{bit_true, count_congr, only_one}
-use Rattle.counting.proofs.Odd.{odd-add}
-use Rattle.counting.proofs.Ranks.{count_up, rank_once, member_ranked}
-use Rattle.counting.proofs.Totals.{some_term, total_add, total_at, total_congr, total_none, total_tight}
-use Rattle.counting.specs.Counts.{Within, bit, count, is_odd, total}
-use Rattle.counting.specs.Sets.{Set, union}
-use Rattle.counting.specs.Tests.{some}
-use Rattle.counting.proofs.Booleans.{bit_times_le}
-use Rattle.graph_core.proofs.Components.{joined_outside, joined_walk, one_leader, some_leader, walk_joined}
-use Rattle.graph_core.proofs.Walks.{adjacent_from, has_ends-back, has_ends-own, joined_back, joined_on, joined_self}
-use Rattle.graph_core.specs.Components.{is_least, odd_component_count}
-use Rattle.graph_core.specs.Graph.{Graph, IsGraph, first_end, second_end, size}
-use Rattle.graph_core.specs.Matchings.{IsMatching}
-use Rattle.graph_core.specs.Walks.{Joined, joined}
+use Rattle.counting.proofs.Common.{cases_Bool, both_ways, true≢false, false_from_ne_true, and_parts, and_from, or_parts, bit_true, count_congr, only_one, odd-add, count_up, rank_once, member_ranked, some_term, total_add, total_at, total_congr, total_none, total_tight, bit_times_le}
+use Rattle.counting.specs.Common.{Within, bit, count, is_odd, total, Set, union, some}
+use Rattle.graph_core.proofs.Common.{joined_outside, joined_walk, one_leader, some_leader, walk_joined, adjacent_from, has_ends-back, has_ends-own, joined_back, joined_on, joined_self}
+use Rattle.graph_core.specs.Common.{is_least, odd_component_count, Graph, IsGraph, first_end, second_end, size, IsMatching, Joined, joined}
 use Rattle.match_search.proofs.Certificates.{certificate_tight}
 use Rattle.match_core.proofs.OddComponents.{certificate_components, classes_leaders, outer_free, same_class}
 use Rattle.match_search.specs.Frames.{Frame, IsOddLabelling}

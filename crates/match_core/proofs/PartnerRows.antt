@@ -5,20 +5,10 @@
 -- perfect matching without two vertices misses just these, so where there are partners, a maximum
 -- matching misses none or two.
 use Rattle.std.proofs.Common.{◌≡◌, ◌≢◌, ℕ, zero, suc, ◌+◌, ◌-◌, ◌*◌, ◌≤◌, ◌↔◌, List, length, Bool, true, false, ◌==◌, ◌&&◌, ◌||◌, not, refl, sym, ap, ◌∙◌, arith, inl, inr, eq-eqb, eqb-true, ne_eqb}
-use Rattle.counting.proofs.Booleans.{or_false}
-use Rattle.std.proofs.lemmas.Bool.{both_ways, cases_Bool, cases_eq, false_from_ne_true, and_from, and_parts, not-true, or_left, or_right}
-use Rattle.counting.specs.Counts.{Within, count}
-use Rattle.counting.specs.Sets.{Set, complement, pair_set, singleton, union}
-use Rattle.counting.specs.Lists.{item, mem, IsRisingIn}
-use Rattle.counting.proofs.Counts.{count_complement, count_congr, count_le, count_le_one, only_one}
-use Rattle.counting.proofs.Lists.{count_mem_length}
-use Rattle.counting.proofs.Members.{count_plus}
-use Rattle.counting.proofs.RisingLists.{set-narrower}
-use Rattle.graph_core.specs.Graph.{Graph, IsGraph, degree, size}
-use Rattle.graph_core.specs.Matchings.{HasPerfect, IsMatching, IsPerfect, has_perfect, missed_count}
-use Rattle.graph_core.proofs.Decide.{has_perfect_found, has_perfect_says}
-use Rattle.graph_core.proofs.Edits.{missed_edges}
-use Rattle.graph_core.proofs.Perfect.{missed_one, perfect_matching, perfect_misses}
+use Rattle.counting.proofs.Common.{or_false, both_ways, cases_Bool, cases_eq, false_from_ne_true, and_from, and_parts, not-true, or_left, or_right, count_complement, count_congr, count_le, count_le_one, only_one, count_mem_length, count_plus, set-narrower}
+use Rattle.counting.specs.Common.{Within, count, Set, complement, pair_set, singleton, union, item, mem, IsRisingIn}
+use Rattle.graph_core.specs.Common.{Graph, IsGraph, degree, size, HasPerfect, IsMatching, IsPerfect, has_perfect, missed_count}
+use Rattle.graph_core.proofs.Common.{has_perfect_found, has_perfect_says, missed_edges, missed_one, perfect_matching, perfect_misses}
 use mathlib.Core.Path.{fun_ext}
 use Rattle.match_search.specs.Frames.{Frame}
 use Rattle.match_search.specs.Missable.{IsMissableRow}

@@ -1,14 +1,12 @@
 -- The given matching is exchanged along a whole row: how does the repaired one differ from it? By
 -- the path of the row, from one missed vertex to the other.
 use Rattle.std.proofs.Common.{◌≡◌, ℕ, suc, zero, ◌+◌, ◌-◌, ◌/◌, ◌≤◌, ◌<◌, ◌≢◌, Bool, true, false, cond, not, refl, sym, ap, ap₂, ◌∙◌, arith, List, length, inl, inr, subst, nat_lt, lt-ltb}
-use Rattle.std.proofs.lemmas.Bool.{le-ltb, both_ways, cases_eq, cases_lt}
+use Rattle.std.proofs.lemmas.Bool.{le-ltb}
+use Rattle.counting.proofs.Common.{both_ways, cases_eq, cases_lt, odd-double}
 use mathlib.Core.Path.{fun_ext}
-use Rattle.counting.specs.Counts.{Within, is_odd}
-use Rattle.counting.specs.Sets.{Set, put}
-use Rattle.counting.proofs.Odd.{odd-double}
+use Rattle.counting.specs.Common.{Within, is_odd, Set, put}
 use Rattle.match_search.proofs.LongerPaths.{ends_by}
-use Rattle.graph_core.specs.Graph.{Graph, HasEnds, IsGraph, size}
-use Rattle.graph_core.specs.Matchings.{IsMatching}
+use Rattle.graph_core.specs.Common.{Graph, HasEnds, IsGraph, size, IsMatching}
 use Rattle.match_search.specs.Forests.{IsAlternating, flipped}
 use Rattle.match_search.specs.OddCycles.{same_answer}
 use Rattle.match_search.specs.Rows.{numbers, part}

@@ -1,8 +1,8 @@
 -- Mates as the search of the engine holds them.
 -- Stated by: match_core.
 use Rattle.std.specs.Prelude.{ℕ, List}
-use Rattle.counting.specs.Sets.{Set}
-use Rattle.graph_core.specs.Graph.{Graph}
+use Rattle.counting.specs.Common.{Set}
+use Rattle.graph_core.specs.Common.{Graph}
 use Rattle.match_search.specs.AlternatingForests.{HoldsMatching}
 use Rattle.match_search.specs.declared.instance.Instance.{Instance}
 

@@ -2,10 +2,8 @@
 -- Stated by: match_core, allowed_edges, graph_facts, matching_digraph, quick_kinds and 4 more.
 -- Rests on it: tree_check, list_lines, bench_reports, theorems.
 use Rattle.std.specs.Prelude.{◌≡◌, ℕ, ◌+◌, ◌≤◌, Bool, ◌==◌, ◌&&◌, ◌||◌, not, List, [], ◌∷◌, map, All}
-use Rattle.counting.specs.Counts.{Within, bit}
-use Rattle.counting.specs.Sets.{Set}
-use Rattle.counting.specs.Lists.{IsRisingIn}
-use Rattle.graph_core.specs.Graph.{Graph, size, first_end, second_end}
+use Rattle.counting.specs.Common.{Within, bit, Set, IsRisingIn}
+use Rattle.graph_core.specs.Common.{Graph, size, first_end, second_end}
 use Rattle.match_core.specs.declared.matching.MatchRow.{MatchRow}
 
 -- an order and rows

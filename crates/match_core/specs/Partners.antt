@@ -2,11 +2,8 @@
 -- chapter 5).
 -- Stated by: match_core, allowed_edges, graph_facts, separation_kit. Rests on it: barrier_kit.
 use Rattle.std.specs.Prelude.{◌≡◌, ℕ, Bool, true, false, List, ◌==◌, ◌&&◌, not, length}
-use Rattle.counting.specs.Counts.{Within}
-use Rattle.counting.specs.Sets.{Set, pair_set, union}
-use Rattle.counting.specs.Lists.{item, mem}
-use Rattle.graph_core.specs.Graph.{Graph}
-use Rattle.graph_core.specs.Matchings.{has_perfect}
+use Rattle.counting.specs.Common.{Within, Set, pair_set, union, item, mem}
+use Rattle.graph_core.specs.Common.{Graph, has_perfect}
 
 -- u and v are two different vertices outside r, and g without r and without these two has a
 -- perfect matching

@@ -1,9 +1,8 @@
 -- Where the walk of a repair begins.
 -- Stated by: match_core.
 use Rattle.std.specs.Prelude.{◌≡◌, ℕ, ◌+◌, List, length}
-use Rattle.counting.specs.Sets.{Set}
-use Rattle.graph_core.specs.Matchings.{IsMatching, IsPerfect, missed_count}
-use Rattle.graph_core.specs.View.{graph_of}
+use Rattle.counting.specs.Common.{Set}
+use Rattle.graph_core.specs.Common.{IsMatching, IsPerfect, missed_count, graph_of}
 use Rattle.graph_core.specs.declared.ends.Ends.{Ends}
 use Rattle.match_search.specs.GraphRows.{IsGraphRow, NamesEdges}
 use Rattle.match_search.specs.RepairPaths.{Misses}

@@ -1,12 +1,7 @@
 //! Maximum matchings with their Berge set, and the frame that gives the Gallai-Edmonds sets.
 ghost use Rattle.std.specs.Prelude.{◌≡◌, ℕ, true, false, ◌↔◌, IfOk};
-ghost use Rattle.counting.specs.Counts.{Within, count, is_odd};
-ghost use Rattle.counting.specs.Sets.{none};
-ghost use Rattle.counting.specs.Lists.{mem, IsRisingIn};
-ghost use Rattle.graph_core.specs.Matchings.{IsMaximum};
-ghost use Rattle.graph_core.specs.BergeSets.{Attains};
-ghost use Rattle.graph_core.specs.GallaiEdmonds.{InD, InA};
-ghost use Rattle.graph_core.specs.Walks.{joined};
+ghost use Rattle.counting.specs.Common.{Within, count, is_odd, none, mem, IsRisingIn};
+ghost use Rattle.graph_core.specs.Common.{IsMaximum, Attains, InD, InA, joined};
 ghost use Rattle.match_core.specs.MatchingRows.{IsOf, edges_of};
 
 use crate::matching::{Matching, matching_of};

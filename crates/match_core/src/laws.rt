@@ -1,7 +1,6 @@
 //! The law of Tutte and Berge.
-ghost use Rattle.counting.specs.Sets.{Set, Outside};
-ghost use Rattle.graph_core.specs.Graph.{Graph, IsGraph};
-ghost use Rattle.graph_core.specs.BergeSets.{IsBergeSet};
+ghost use Rattle.counting.specs.Common.{Set, Outside};
+ghost use Rattle.graph_core.specs.Common.{Graph, IsGraph, IsBergeSet};
 
 /// The law of Tutte and Berge: for every graph G and removed set R some set S outside R is a
 /// Berge set of G - R, that is, some matching of G - R misses exactly as many vertices as G - R -

@@ -13,11 +13,8 @@
 //! exactly those that some matching as large misses. Where two are missed, a row costs one
 //! augmentation more at most.
 ghost use Rattle.std.specs.Prelude.{◌≡◌, ℕ, ◌+◌, ◌-◌, ◌≤◌, ◌==◌, ◌&&◌, ◌||◌, not, true, length, IfOk, OnOk};
-ghost use Rattle.counting.specs.Counts.{Within, count};
-ghost use Rattle.counting.specs.Sets.{Set, none};
-ghost use Rattle.counting.specs.Lists.{item, mem};
-ghost use Rattle.graph_core.specs.Graph.{size};
-ghost use Rattle.graph_core.specs.Matchings.{IsMatching, missed_count};
+ghost use Rattle.counting.specs.Common.{Within, count, Set, none, item, mem};
+ghost use Rattle.graph_core.specs.Common.{size, IsMatching, missed_count};
 ghost use Rattle.match_core.specs.HeldMates.{HoldsMates};
 ghost use Rattle.match_core.specs.MatchingRows.{IsOf};
 ghost use Rattle.match_search.specs.Mates.{HasMates};

@@ -1,10 +1,7 @@
 //! Perfect matchings on request.
 ghost use Rattle.std.specs.Prelude.{◌≡◌, ◌+◌, length, ◌↔◌, IfOk, Some, None, All};
-ghost use Rattle.counting.specs.Counts.{Within};
-ghost use Rattle.counting.specs.Sets.{none};
-ghost use Rattle.counting.specs.Lists.{mem};
-ghost use Rattle.graph_core.specs.Graph.{size};
-ghost use Rattle.graph_core.specs.Matchings.{IsPerfect, HasPerfect};
+ghost use Rattle.counting.specs.Common.{Within, none, mem};
+ghost use Rattle.graph_core.specs.Common.{size, IsPerfect, HasPerfect};
 ghost use Rattle.match_search.specs.Rows.{marks};
 ghost use Rattle.match_core.specs.MatchingRows.{IsOf, edges_of};
 ghost use Rattle.match_search.specs.Questions.{HoldsAll, HasPerfectWith, MeetOnce};

@@ -1,11 +1,7 @@
 //! A matching that misses two vertices made perfect along one path.
 ghost use Rattle.std.specs.Prelude.{◌≡◌, ℕ, ◌+◌, ◌-◌, ◌/◌, ◌≢◌, ◌==◌, ◌&&◌, not, nat_lt, nat_le, cond, true, ◌<◌, ◌≤◌, length, slice_index, ◌↔◌, IfOk, Some, None};
-ghost use Rattle.counting.specs.Counts.{Within};
-ghost use Rattle.counting.specs.Lists.{mem};
-ghost use Rattle.graph_core.specs.Rows.{AreRows};
-ghost use Rattle.graph_core.specs.View.{graph_of};
-ghost use Rattle.graph_core.specs.Matchings.{IsMatching, IsPerfect, HasPerfect, missed_count};
-ghost use Rattle.counting.specs.Sets.{Set, put};
+ghost use Rattle.counting.specs.Common.{Within, mem, Set, put};
+ghost use Rattle.graph_core.specs.Common.{AreRows, graph_of, IsMatching, IsPerfect, HasPerfect, missed_count};
 ghost use Rattle.match_search.specs.Forests.{flipped};
 ghost use Rattle.match_search.specs.Rows.{marks, numbers, part, end_a, end_b};
 ghost use Rattle.match_search.specs.GraphRows.{IsGraphRow, NamesEdges};

@@ -1,11 +1,9 @@
 -- Paths, forests, matchings and cycles are what stands at their places. Each condition speaks of
 -- places within range alone, so functions that agree there meet the same conditions.
 use Rattle.std.proofs.Common.{◌≡◌, ℕ, suc, ◌+◌, ◌≤◌, ◌<◌, true, sym, ap, ◌∙◌, arith, subst}
-use Rattle.counting.specs.Counts.{Within}
-use Rattle.counting.specs.Sets.{Set}
-use Rattle.graph_core.proofs.Decide.{degree_congr}
-use Rattle.graph_core.specs.Graph.{Graph, degree, first_end, second_end, size}
-use Rattle.graph_core.specs.Matchings.{IsMatching}
+use Rattle.counting.specs.Common.{Within, Set}
+use Rattle.graph_core.proofs.Common.{degree_congr}
+use Rattle.graph_core.specs.Common.{Graph, degree, first_end, second_end, size, IsMatching}
 use Rattle.match_search.proofs.OddCycles.{next_in}
 use Rattle.match_search.proofs.LongerPaths.{ends_by}
 use Rattle.match_search.specs.OddCycles.{IsOddCycle, next}

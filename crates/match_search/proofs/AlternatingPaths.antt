@@ -2,14 +2,10 @@
 -- and an edge augment. By pairs of edges from the front: each pair moves the missed vertex by two
 -- places, and all other degrees stay.
 use Rattle.std.proofs.Common.{◌≡◌, ℕ, suc, zero, ◌+◌, ◌*◌, ◌≤◌, ◌<◌, ◌≢◌, Bool, true, false, cond, ◌==◌, refl, sym, ap, ◌∙◌, arith, not, eq-eqb, ne_eqb, inl, inr, subst}
-use Rattle.std.proofs.lemmas.Bool.{cases_eq, both_ways}
-use Rattle.counting.proofs.Choice.{count_put}
-use Rattle.counting.proofs.Odd.{odd-double}
-use Rattle.counting.specs.Counts.{Within, bit, count}
-use Rattle.counting.specs.Sets.{Set, put}
-use Rattle.graph_core.proofs.Edits.{add_edge, degree_put, ends_of, ends_of_is}
-use Rattle.graph_core.specs.Graph.{Graph, degree, size, HasEnds}
-use Rattle.graph_core.specs.Matchings.{IsMatching}
+use Rattle.counting.proofs.Common.{cases_eq, both_ways, count_put, odd-double}
+use Rattle.counting.specs.Common.{Within, bit, count, Set, put}
+use Rattle.graph_core.proofs.Common.{add_edge, degree_put, ends_of, ends_of_is}
+use Rattle.graph_core.specs.Common.{Graph, degree, size, HasEnds, IsMatching}
 use Rattle.match_search.proofs.OddCycles.{same_ends}
 use Rattle.match_search.specs.Forests.{IsAlternating, IsPath, flipped}
 

@@ -1,12 +1,9 @@
 -- What an augmentation by mates hands on: its matching is held again, with fewer exposed
 -- vertices; and where it ends, the marks of a matching with its mates and its frame are the best.
 use Rattle.std.proofs.Common.{◌≡◌, ℕ, suc, ◌+◌, ◌<◌, ◌==◌, ◌&&◌, not, nat_lt, nat_le, sym, ap, ◌∙◌, subst, arith, lt-ltb, List, length}
-use Rattle.std.proofs.lemmas.Bool.{and_from, le-leb}
-use Rattle.counting.proofs.Counts.{count_congr}
-use Rattle.counting.specs.Counts.{count, Within}
-use Rattle.counting.specs.Lists.{mem}
-use Rattle.counting.specs.Sets.{Set}
-use Rattle.graph_core.specs.Graph.{Graph, IsGraph, size}
+use Rattle.counting.proofs.Common.{and_from, le-leb, count_congr}
+use Rattle.counting.specs.Common.{count, Within, mem, Set}
+use Rattle.graph_core.specs.Common.{Graph, IsGraph, size}
 use Rattle.match_search.specs.AlternatingForests.{HoldsMatching}
 use Rattle.match_search.specs.Blossoms.{IsMateStep}
 use Rattle.match_search.specs.Frames.{Frame}

@@ -3,16 +3,10 @@
 -- mate, the edge between them can be put at a vertex of the blossom that the mate touches.
 use Rattle.std.proofs.Common.{◌≡◌, ◌≢◌, ℕ, suc, zero, ◌+◌, ◌*◌, ◌≤◌, ◌<◌, true, false, ◌==◌, refl, sym, ap, ◌∙◌, arith, eq-eqb, ne_eqb, eqb-true, inl, inr, not, ◌&&◌, ◌||◌, subst, List}
 use mathlib.Core.Path.{fun_ext}
-use Rattle.std.proofs.lemmas.Bool.{cases_Bool, cases_eq, both_ways, not-true, false_from_ne_true, and_from, or_right}
-use Rattle.counting.proofs.Odd.{half}
-use Rattle.counting.proofs.Tests.{some_true}
-use Rattle.counting.proofs.Totals.{at_le_total}
-use Rattle.counting.specs.Counts.{Within, bit, count, is_odd}
-use Rattle.counting.specs.Sets.{Set, complement, minus, put}
-use Rattle.counting.specs.Lists.{mem}
-use Rattle.graph_core.proofs.Edits.{add_edge, ends_of_is}
-use Rattle.graph_core.specs.Graph.{Graph, HasEnds, IsGraph, degree, size, with_ends}
-use Rattle.graph_core.specs.Matchings.{IsMatching}
+use Rattle.counting.proofs.Common.{cases_Bool, cases_eq, both_ways, not-true, false_from_ne_true, and_from, or_right, half, some_true, at_le_total}
+use Rattle.counting.specs.Common.{Within, bit, count, is_odd, Set, complement, minus, put, mem}
+use Rattle.graph_core.proofs.Common.{add_edge, ends_of_is}
+use Rattle.graph_core.specs.Common.{Graph, HasEnds, IsGraph, degree, size, with_ends, IsMatching}
 use Rattle.match_search.specs.Frames.{IsNearPerfect, IsShrunk, shrunk_removed}
 use Rattle.match_search.specs.Mates.{HasMates, with_mate, with_pair}
 use Rattle.match_search.specs.OddCycles.{IsOddCycle, every_other, listed, picked}

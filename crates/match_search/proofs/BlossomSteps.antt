@@ -3,12 +3,9 @@
 -- completed there.
 use Rattle.std.proofs.Common.{◌≡◌, ◌≢◌, ℕ, ◌+◌, ◌≤◌, true, refl, sym, ap, ◌∙◌, arith, inl, inr, ◌||◌, subst, subst₂, List}
 use mathlib.Core.Path.{fun_ext}
-use Rattle.std.proofs.lemmas.Bool.{or_cases}
-use Rattle.counting.proofs.Counts.{count_le}
-use Rattle.counting.specs.Counts.{Within, count}
-use Rattle.counting.specs.Sets.{Set, union}
-use Rattle.counting.specs.Lists.{mem}
-use Rattle.graph_core.specs.Graph.{Graph, HasEnds, IsGraph, degree, size, with_ends}
+use Rattle.counting.proofs.Common.{or_cases, count_le}
+use Rattle.counting.specs.Common.{Within, count, Set, union, mem}
+use Rattle.graph_core.specs.Common.{Graph, HasEnds, IsGraph, degree, size, with_ends}
 use Rattle.match_search.specs.Frames.{Frame, shrunk_removed}
 use Rattle.match_search.specs.Mates.{HasMates, paired_round, with_mate, with_pair}
 use Rattle.match_search.specs.OddCycles.{IsOddCycle, every_other, listed, picked}

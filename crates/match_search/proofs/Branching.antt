@@ -2,11 +2,9 @@
 -- nor inner. The rows have room for the branch, the forest holds again, and the search is one
 -- step nearer to its end.
 use Rattle.std.proofs.Common.{◌≡◌, ◌≢◌, ℕ, ◌+◌, ◌-◌, ◌*◌, ◌≤◌, ◌<◌, true, false, ◌==◌, arith, not, ◌&&◌, ◌||◌, List, [], length}
-use Rattle.std.proofs.lemmas.Bool.{both_ways, false_from_ne_true}
-use Rattle.counting.specs.Counts.{Within, count}
-use Rattle.counting.specs.Sets.{Set}
-use Rattle.counting.specs.Lists.{mem}
-use Rattle.graph_core.specs.Graph.{Graph}
+use Rattle.counting.proofs.Common.{both_ways, false_from_ne_true}
+use Rattle.counting.specs.Common.{Within, count, Set, mem}
+use Rattle.graph_core.specs.Common.{Graph}
 use Rattle.match_search.specs.AlternatingForests.{HasBranched, HoldsAlternating, HoldsMatching}
 use Rattle.match_search.specs.Instances.{AreNear, Touches}
 use Rattle.match_search.specs.Rows.{numbers}

@@ -2,16 +2,10 @@
 -- Each class has a vertex that the matching misses or an edge to S; summed over the classes and
 -- compared term by term.
 use Rattle.std.proofs.Common.{◌≡◌, ℕ, suc, zero, ◌+◌, ◌*◌, ◌≤◌, ◌≢◌, Bool, true, false, ◌==◌, refl, sym, ap, ap₂, ◌∙◌, arith, ◌&&◌, ◌||◌, not, eq-eqb, ne_eqb, eqb-true, inl, inr, nat_lt, mul-add, lt-ltb}
-use Rattle.std.proofs.lemmas.Bool.{cases_eq, both_ways, true≢false, false_from_ne_true, or_from}
-use Rattle.counting.proofs.Counts.{count_le_one}
-use Rattle.counting.proofs.Odd.{odd-double}
-use Rattle.counting.proofs.Totals.{total_add, total_at, total_congr, total_le, total_none, total_swap, total_tight, total_ones}
-use Rattle.counting.specs.Counts.{Within, bit, count, is_odd, total}
-use Rattle.counting.specs.Sets.{Set, complement, union}
-use Rattle.graph_core.proofs.Edits.{ends_le_degree, ends_of, ends_of_is, missed_edges}
-use Rattle.graph_core.proofs.Parity.{degrees, ends_in}
-use Rattle.graph_core.specs.Graph.{Graph, IsGraph, degree, first_end, in_cut, inside, second_end, size}
-use Rattle.graph_core.specs.Matchings.{IsMatching, missed_count}
+use Rattle.counting.proofs.Common.{cases_eq, both_ways, true≢false, false_from_ne_true, or_from, count_le_one, odd-double, total_add, total_at, total_congr, total_le, total_none, total_swap, total_tight, total_ones}
+use Rattle.counting.specs.Common.{Within, bit, count, is_odd, total, Set, complement, union}
+use Rattle.graph_core.proofs.Common.{ends_le_degree, ends_of, ends_of_is, missed_edges, degrees, ends_in}
+use Rattle.graph_core.specs.Common.{Graph, IsGraph, degree, first_end, in_cut, inside, second_end, size, IsMatching, missed_count}
 use Rattle.match_search.specs.Frames.{IsOddLabelling}
 
 -- the degrees in x, by the near and the far ends

@@ -2,10 +2,8 @@
 -- mates that are left. What is proved of the places on the paths is so said of the cycle.
 use Rattle.std.proofs.Common.{◌≡◌, ◌≢◌, ℕ, suc, ◌+◌, ◌-◌, ◌/◌, ◌≤◌, ◌<◌, ap, ap₂, ◌∙◌, arith, subst, length, List}
 use mathlib.Core.Path.{fun_ext}
-use Rattle.counting.specs.Counts.{Within}
-use Rattle.counting.specs.Sets.{Set}
-use Rattle.counting.specs.Lists.{mem}
-use Rattle.graph_core.specs.Graph.{Graph}
+use Rattle.counting.specs.Common.{Within, Set, mem}
+use Rattle.graph_core.specs.Common.{Graph}
 use Rattle.match_search.specs.Blossoms.{AreClosingPaths, ExposesOnly, HoldsBlossom, second_start}
 use Rattle.match_search.specs.Mates.{cleared_mates, flipped_mates}
 use Rattle.match_search.specs.Meetings.{IsLastMeeting}

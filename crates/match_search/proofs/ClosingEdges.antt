@@ -2,14 +2,9 @@
 -- which can be missed. The paths meet last at an outer vertex; from there along one path, over
 -- the edge and back along the other.
 use Rattle.std.proofs.Common.{◌≡◌, ℕ, suc, zero, ◌+◌, ◌-◌, ◌≤◌, ◌<◌, ◌≢◌, Bool, true, false, cond, ◌==◌, refl, sym, ap, ap₂, ◌∙◌, arith, ◌&&◌, ◌||◌, not, eq-eqb, ne_eqb, eqb-true, ◌⊎◌, inl, inr, subst, nat_lt, nat_le, le-ltb}
-use Rattle.counting.proofs.Booleans.{not_not}
-use Rattle.std.proofs.lemmas.Bool.{cases_eq, cases_Bool, cases_lt, cases_order, both_ways, true≢false, and_parts, le-leb, lt-leb}
-use Rattle.counting.proofs.Odd.{odd-add, odd-double}
-use Rattle.counting.proofs.Tests.{some_true}
-use Rattle.counting.specs.Counts.{Within, count, is_odd}
-use Rattle.counting.specs.Sets.{Set}
-use Rattle.graph_core.specs.Graph.{Graph, degree, size, HasEnds}
-use Rattle.graph_core.specs.Matchings.{IsMatching}
+use Rattle.counting.proofs.Common.{not_not, cases_eq, cases_Bool, cases_lt, cases_order, both_ways, true≢false, and_parts, le-leb, lt-leb, odd-add, odd-double, some_true}
+use Rattle.counting.specs.Common.{Within, count, is_odd, Set}
+use Rattle.graph_core.specs.Common.{Graph, degree, size, HasEnds, IsMatching}
 use Rattle.match_search.proofs.OddCycles.{next_in, same_ends}
 use Rattle.match_search.proofs.LongerPaths.{ends_by}
 use Rattle.match_search.proofs.Forests.{one_edge, turned}

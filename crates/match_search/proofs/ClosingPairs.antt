@@ -3,14 +3,10 @@
 -- are those of the opened matching.
 use Rattle.std.proofs.Common.{◌≡◌, ◌≢◌, ℕ, suc, ◌+◌, ◌-◌, ◌*◌, ◌/◌, ◌≤◌, ◌<◌, Bool, true, false, cond, ◌==◌, refl, sym, ap, ◌∙◌, arith, ne_eqb, inl, inr, subst, length, List, ◌&&◌, not}
 use mathlib.Core.Path.{fun_ext}
-use Rattle.std.proofs.lemmas.Bool.{cases_Bool, cases_eq, both_ways, and_parts, false_from_ne_true}
-use Rattle.counting.proofs.Odd.{half}
-use Rattle.counting.specs.Counts.{Within, bit, count}
-use Rattle.counting.specs.Sets.{Set, minus, put}
-use Rattle.counting.specs.Lists.{mem}
-use Rattle.graph_core.proofs.Edits.{degree_put, ends_of_is}
-use Rattle.graph_core.specs.Graph.{Graph, HasEnds, degree, size}
-use Rattle.graph_core.specs.Matchings.{IsMatching}
+use Rattle.counting.proofs.Common.{cases_Bool, cases_eq, both_ways, and_parts, false_from_ne_true, half}
+use Rattle.counting.specs.Common.{Within, bit, count, Set, minus, put, mem}
+use Rattle.graph_core.proofs.Common.{degree_put, ends_of_is}
+use Rattle.graph_core.specs.Common.{Graph, HasEnds, degree, size, IsMatching}
 use Rattle.match_search.specs.Blossoms.{AreClosingPaths, ExposesOnly, HoldsBlossom, IsAugmented, second_start}
 use Rattle.match_search.specs.Forests.{IsAlternating, flipped}
 use Rattle.match_search.specs.Frames.{IsNearPerfect}

@@ -1,13 +1,10 @@
 -- The marks that the engine begins with, and the bound on its augmentations. An edge between two
 -- free vertices is added: it meets these two alone, so all other free vertices stay free.
 use Rattle.std.proofs.Common.{◌≡◌, ℕ, ◌+◌, ◌≤◌, ◌≢◌, Bool, true, false, ◌==◌, ◌||◌, ◌&&◌, not, sym, ap, ap₂, ◌∙◌, arith}
-use Rattle.std.proofs.lemmas.Bool.{both_ways, or_left, or_right, false_from_ne_true}
-use Rattle.counting.proofs.Totals.{total_none}
-use Rattle.counting.specs.Counts.{Within, bit}
-use Rattle.counting.specs.Sets.{Set, put}
-use Rattle.graph_core.proofs.Edits.{add_edge, degree_put, ends_of_is}
-use Rattle.graph_core.specs.Graph.{Graph, HasEnds, degree, first_end, second_end, size}
-use Rattle.graph_core.specs.Matchings.{IsMatching}
+use Rattle.counting.proofs.Common.{both_ways, or_left, or_right, false_from_ne_true, total_none}
+use Rattle.counting.specs.Common.{Within, bit, Set, put}
+use Rattle.graph_core.proofs.Common.{add_edge, degree_put, ends_of_is}
+use Rattle.graph_core.specs.Common.{Graph, HasEnds, degree, first_end, second_end, size, IsMatching}
 
 -- no edge at all
 pub empty_degree : (g : Graph) (m : Set) → ((e : ℕ) → m e ≡ false) → (v : ℕ) → degree g m v ≡ 0

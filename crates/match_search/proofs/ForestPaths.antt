@@ -1,10 +1,8 @@
 -- The paths to the two ends of a closing edge: they are paths of the forest, with outer and inner
 -- vertices in turn.
 use Rattle.std.proofs.Common.{◌≡◌, ℕ, suc, ◌+◌, ◌≤◌, ◌<◌, true, refl, sym, ap, ◌∙◌, arith, subst, length, List, get_or}
-use Rattle.counting.specs.Counts.{is_odd}
-use Rattle.counting.specs.Sets.{Set}
-use Rattle.counting.specs.Lists.{mem}
-use Rattle.graph_core.specs.Graph.{Graph}
+use Rattle.counting.specs.Common.{is_odd, Set, mem}
+use Rattle.graph_core.specs.Common.{Graph}
 use Rattle.match_search.specs.Blossoms.{AreClosingPaths, ClosesForest, second_start}
 use Rattle.match_search.specs.Forests.{IsAlternating}
 use Rattle.match_search.specs.Rows.{numbers, part}

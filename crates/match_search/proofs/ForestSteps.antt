@@ -2,14 +2,10 @@
 -- this vertex. The new path is that of the outer vertex with two more edges; every other part of
 -- the forest stays.
 use Rattle.std.proofs.Common.{◌≡◌, ℕ, suc, ◌+◌, ◌≤◌, ◌≢◌, Bool, true, false, cond, ◌==◌, refl, sym, ap, ◌∙◌, arith, not, eq-eqb, eqb-true, inl, inr, subst}
-use Rattle.std.proofs.lemmas.Bool.{cases_eq, both_ways, false_from_ne_true}
-use Rattle.counting.proofs.Choice.{count_put}
-use Rattle.counting.proofs.Odd.{odd-double}
-use Rattle.counting.specs.Counts.{Within, bit, count, is_odd}
-use Rattle.counting.specs.Sets.{Set, put}
-use Rattle.graph_core.proofs.Edits.{edge_at, ends_le_degree, ends_of_is, bit_same}
-use Rattle.graph_core.specs.Graph.{Graph, IsGraph, degree, first_end, second_end, size, HasEnds}
-use Rattle.graph_core.specs.Matchings.{IsMatching}
+use Rattle.counting.proofs.Common.{cases_eq, both_ways, false_from_ne_true, count_put, odd-double}
+use Rattle.counting.specs.Common.{Within, bit, count, is_odd, Set, put}
+use Rattle.graph_core.proofs.Common.{edge_at, ends_le_degree, ends_of_is, bit_same}
+use Rattle.graph_core.specs.Common.{Graph, IsGraph, degree, first_end, second_end, size, HasEnds, IsMatching}
 use Rattle.match_search.proofs.LongerPaths.{end_within, ends_by, longer_after, spots, extended, longer}
 use Rattle.match_search.proofs.Forests.{mates_of, met, one_edge, outer_edge, turned}
 use Rattle.match_search.proofs.AlternatingPaths.{put_at, put_off}

@@ -2,17 +2,11 @@
 -- the graph without their ends. Degrees add where the sets of edges have none in common, and the
 -- two meet each vertex in turn.
 use Rattle.std.proofs.Common.{◌≡◌, ℕ, suc, zero, ◌+◌, ◌*◌, ◌≤◌, ◌<◌, ◌≢◌, Bool, true, false, ◌==◌, ◌||◌, ◌&&◌, not, refl, sym, ap, ◌∙◌, arith, inl, inr, eq-eqb, eqb-true, List, [], ◌∷◌, length, take, get_or, subst}
-use Rattle.std.proofs.lemmas.Bool.{both_ways, cases_Bool, or_left, or_right, true≢false}
+use Rattle.counting.proofs.Common.{both_ways, cases_Bool, or_left, or_right, true≢false, take_more, take_all, mem-append, or_false, or_true}
 use Rattle.std.specs.Prelude.{All}
-use Rattle.std.proofs.lemmas.List.{take_more, take_all}
-use Rattle.counting.specs.Counts.{Within, bit}
-use Rattle.counting.specs.Sets.{Set, none, put, union, minus}
-use Rattle.counting.specs.Lists.{mem}
-use Rattle.counting.proofs.Lists.{mem-append}
-use Rattle.counting.proofs.Booleans.{or_false, or_true}
-use Rattle.graph_core.proofs.Edits.{degree_put, edge_at, ends_le_degree, ends_of, ends_of_is, two_ends_le_degree, bit_same}
-use Rattle.graph_core.specs.Graph.{Graph, HasEnds, IsGraph, degree, size, first_end, second_end}
-use Rattle.graph_core.specs.Matchings.{IsMatching, IsPerfect}
+use Rattle.counting.specs.Common.{Within, bit, Set, none, put, union, minus, mem}
+use Rattle.graph_core.proofs.Common.{degree_put, edge_at, ends_le_degree, ends_of, ends_of_is, two_ends_le_degree, bit_same}
+use Rattle.graph_core.specs.Common.{Graph, HasEnds, IsGraph, degree, size, first_end, second_end, IsMatching, IsPerfect}
 use Rattle.match_search.specs.Questions.{MeetOnce}
 use Rattle.match_search.proofs.Forests.{met as met_ends}
 use Rattle.match_search.proofs.NearPerfectSets.{degree_split, bit_minus, bit_union}

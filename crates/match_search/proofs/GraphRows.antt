@@ -1,13 +1,9 @@
 -- What a row of ends says of the graph of these ends, and a row of edges of its vertices.
 -- Each fact about the ends at a place is carried to the edge one place on.
 use Rattle.std.proofs.Common.{◌≡◌, ℕ, suc, ◌+◌, ◌-◌, ◌<◌, ◌≤◌, ◌≢◌, Bool, true, false, cond, ◌==◌, refl, sym, ap, ap₂, ◌∙◌, arith, List, length, eq-eqb, ne_eqb, inl, inr, ◌&&◌}
-use Rattle.std.proofs.lemmas.Bool.{cases_eq}
-use Rattle.std.proofs.lemmas.List.{get_or-map, length-map}
-use Rattle.counting.specs.Counts.{bit, Within}
-use Rattle.counting.specs.Sets.{Set}
-use Rattle.counting.proofs.Totals.{total_none}
-use Rattle.graph_core.specs.Graph.{HasEnds, Graph, size, first_end, second_end, IsGraph, degree}
-use Rattle.graph_core.specs.View.{graph_of}
+use Rattle.counting.proofs.Common.{cases_eq, get_or-map, length-map, total_none}
+use Rattle.counting.specs.Common.{bit, Within, Set}
+use Rattle.graph_core.specs.Common.{HasEnds, Graph, size, first_end, second_end, IsGraph, degree, graph_of}
 use Rattle.match_search.proofs.Forests.{met}
 use Rattle.match_search.specs.Rows.{numbers, end_a, end_b}
 use Rattle.match_search.specs.GraphRows.{AreEnds, NamesEdges}

@@ -1,13 +1,10 @@
 -- One augmentation by mates: what its parts hand to one another.
 use Rattle.std.proofs.Common.{◌≡◌, ℕ, ◌<◌, refl, ap, ◌∙◌, arith, subst₂, length, List, get_or, not, ◌&&◌, nat_lt, nat_le, lt-ltb, Some, None, Bool, true, false, ◌==◌, ◌||◌, ◌⊎◌, sym, inl, inr, eq-eqb}
 use mathlib.Core.Path.{fun_ext}
-use Rattle.std.proofs.lemmas.Bool.{and_from, le-leb, and_parts, or_left, or_right, true≢false}
+use Rattle.counting.proofs.Common.{and_from, le-leb, and_parts, or_left, or_right, true≢false, total_congr}
 use Rattle.std.proofs.lemmas.Grind.{get_or_default_zero}
-use Rattle.counting.proofs.Totals.{total_congr}
-use Rattle.counting.specs.Counts.{Within, bit, count}
-use Rattle.counting.specs.Sets.{Set, complement}
-use Rattle.counting.specs.Lists.{mem}
-use Rattle.graph_core.specs.Graph.{Graph}
+use Rattle.counting.specs.Common.{Within, bit, count, Set, complement, mem}
+use Rattle.graph_core.specs.Common.{Graph}
 use Rattle.match_search.specs.AlternatingForests.{AreExposed, HoldsMatching, IsGrownForest, MayBeExposed}
 use Rattle.match_search.specs.Blossoms.{ClosesForest, HoldsBlossom, IsCompleted, IsMateStep, MayOpen, blossom_length, removed_with, without_blossom}
 use Rattle.match_search.specs.Instances.{IsInstance}

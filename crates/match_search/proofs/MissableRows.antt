@@ -1,14 +1,10 @@
 -- A vertex taken out of a graph with a matching. Its edge of the matching goes, so its mate is
 -- exposed, and nothing else of the matching changes; of the instance the vertex alone goes.
 use Rattle.std.proofs.Common.{◌≡◌, ◌≢◌, ℕ, zero, suc, ◌+◌, ◌-◌, ◌<◌, ◌≤◌, ◌==◌, ◌&&◌, ◌||◌, not, Bool, true, false, refl, sym, ap, ◌∙◌, arith, eq-eqb, ne_eqb, eqb-true, nat_lt, nat_le, inl, inr, ◌⊎◌, subst, List, [], length}
-use Rattle.std.proofs.lemmas.Bool.{and_parts, and_from, both_ways, cases_eq, not-true, or_cases}
-use Rattle.counting.proofs.Totals.{total_congr}
-use Rattle.counting.specs.Counts.{Within, bit, count}
-use Rattle.counting.specs.Lists.{mem}
-use Rattle.counting.specs.Sets.{Set, meet, singleton, union}
-use Rattle.graph_core.specs.Graph.{Graph, IsGraph, HasEnds, degree, first_end, second_end, size}
-use Rattle.graph_core.specs.Matchings.{IsMatching, missed_count}
-use Rattle.graph_core.proofs.Edits.{edge_at}
+use Rattle.counting.proofs.Common.{and_parts, and_from, both_ways, cases_eq, not-true, or_cases, total_congr}
+use Rattle.counting.specs.Common.{Within, bit, count, mem, Set, meet, singleton, union}
+use Rattle.graph_core.specs.Common.{Graph, IsGraph, HasEnds, degree, first_end, second_end, size, IsMatching, missed_count}
+use Rattle.graph_core.proofs.Common.{edge_at}
 use Rattle.match_search.specs.AlternatingForests.{HoldsMatching}
 use Rattle.match_search.specs.Instances.{IsInstance}
 use Rattle.match_search.specs.Mates.{HasMates, with_mate}

@@ -1,8 +1,7 @@
 -- The mates that a pass over marked edges names are those of the matching.
 use Rattle.std.proofs.Common.{◌≡◌, ℕ, ◌+◌, ◌-◌, ap, ◌∙◌, arith, List, length, inl, inr}
-use Rattle.counting.specs.Sets.{Set}
-use Rattle.graph_core.specs.Matchings.{IsMatching}
-use Rattle.graph_core.specs.View.{graph_of}
+use Rattle.counting.specs.Common.{Set}
+use Rattle.graph_core.specs.Common.{IsMatching, graph_of}
 use Rattle.graph_core.specs.declared.ends.Ends.{Ends}
 use Rattle.match_search.specs.Mates.{HasMates, NamesMates}
 use Rattle.match_search.specs.Rows.{numbers, end_a, end_b}

@@ -2,13 +2,10 @@
 -- many ends has it at each vertex, and how many edges? And how do the degrees add up where the
 -- edges of a set are those of two others?
 use Rattle.std.proofs.Common.{◌≡◌, ℕ, suc, ◌+◌, ◌*◌, ◌≤◌, ◌≢◌, Bool, true, false, cond, ◌==◌, refl, sym, ap, ap₂, ◌∙◌, arith, ◌&&◌, ◌||◌, not, eq-eqb, ne_eqb, inl, inr}
-use Rattle.std.proofs.lemmas.Bool.{cases_Bool, true≢false}
-use Rattle.counting.proofs.Choice.{count_put}
-use Rattle.counting.proofs.Totals.{total_add, total_congr}
-use Rattle.counting.specs.Counts.{Within, bit, count, total}
-use Rattle.counting.specs.Sets.{Set, put}
-use Rattle.graph_core.proofs.Edits.{degree_sum, ends_le_degree, ends_of, ends_of_is, sum_degrees}
-use Rattle.graph_core.specs.Graph.{Graph, IsGraph, degree, first_end, second_end, size}
+use Rattle.counting.proofs.Common.{cases_Bool, true≢false, count_put, total_add, total_congr}
+use Rattle.counting.specs.Common.{Within, bit, count, total, Set, put}
+use Rattle.graph_core.proofs.Common.{degree_sum, ends_le_degree, ends_of, ends_of_is, sum_degrees}
+use Rattle.graph_core.specs.Common.{Graph, IsGraph, degree, first_end, second_end, size}
 use Rattle.match_search.specs.Frames.{IsNearPerfect}
 
 -- the edges of k are those of m and those of e

@@ -2,14 +2,10 @@
 -- round. The two edges at a vertex have neighbouring places, of which exactly one is chosen
 -- unless the way starts there.
 use Rattle.std.proofs.Common.{◌≡◌, ℕ, suc, zero, ◌+◌, ◌*◌, ◌<◌, ◌≢◌, Bool, true, false, cond, ◌==◌, refl, sym, ap, ap₂, ◌∙◌, arith, ◌&&◌, ◌||◌, not, eq-eqb, ne_eqb, eqb-true, ◌⊎◌, inl, inr, nat_lt, lt-ltb, le-ltb, mul-add, subst}
-use Rattle.std.proofs.lemmas.Bool.{cases_eq, cases_order}
-use Rattle.counting.proofs.Tests.{some_none, some_true, true_some}
-use Rattle.counting.proofs.Totals.{total_add, total_at, total_congr, total_none}
-use Rattle.counting.specs.Counts.{Within, bit, count, is_odd, total}
-use Rattle.counting.specs.Sets.{Set}
-use Rattle.graph_core.proofs.Carrying.{image, total_image}
-use Rattle.graph_core.proofs.Edits.{degree_sum, ends_of, ends_of_is}
-use Rattle.graph_core.specs.Graph.{Graph, degree, size, HasEnds}
+use Rattle.counting.proofs.Common.{cases_eq, cases_order, some_none, some_true, true_some, total_add, total_at, total_congr, total_none}
+use Rattle.counting.specs.Common.{Within, bit, count, is_odd, total, Set}
+use Rattle.graph_core.proofs.Common.{image, total_image, degree_sum, ends_of, ends_of_is}
+use Rattle.graph_core.specs.Common.{Graph, degree, size, HasEnds}
 use Rattle.match_search.specs.OddCycles.{IsOddCycle, same_answer, listed, next, every_other, picked}
 use Rattle.match_search.specs.Frames.{IsNearPerfect}
 

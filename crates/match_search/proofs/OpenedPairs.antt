@@ -2,14 +2,10 @@
 -- the cycle is paired round from there. Each change is one of a few edges, so the mates change at
 -- their ends alone.
 use Rattle.std.proofs.Common.{◌≡◌, ◌≢◌, ℕ, zero, suc, ◌+◌, ◌*◌, ◌≤◌, Bool, true, false, cond, ◌==◌, refl, sym, ap, ◌∙◌, arith, eq-eqb, ne_eqb, eqb-true, inl, inr, ◌⊎◌, not, ◌&&◌, ◌||◌, subst}
-use Rattle.std.proofs.lemmas.Bool.{cases_Bool, cases_eq, both_ways, and_parts, and_from, true≢false, false_from_ne_true}
-use Rattle.counting.proofs.Choice.{count_put}
-use Rattle.counting.proofs.Tests.{some_true, true_some}
-use Rattle.counting.specs.Counts.{Within, bit, count}
-use Rattle.counting.specs.Sets.{Set, put, union}
-use Rattle.graph_core.proofs.Edits.{degree_put, edge_at, ends_of_is}
-use Rattle.graph_core.specs.Graph.{Graph, HasEnds, IsGraph, degree, size}
-use Rattle.graph_core.specs.Matchings.{IsMatching}
+use Rattle.counting.proofs.Common.{cases_Bool, cases_eq, both_ways, and_parts, and_from, true≢false, false_from_ne_true, count_put, some_true, true_some}
+use Rattle.counting.specs.Common.{Within, bit, count, Set, put, union}
+use Rattle.graph_core.proofs.Common.{degree_put, edge_at, ends_of_is}
+use Rattle.graph_core.specs.Common.{Graph, HasEnds, IsGraph, degree, size, IsMatching}
 use Rattle.match_search.specs.Frames.{IsNearPerfect}
 use Rattle.match_search.specs.Mates.{HasMates, paired_round, with_mate, with_pair}
 use Rattle.match_search.specs.OddCycles.{IsOddCycle, every_other, listed, next, picked}

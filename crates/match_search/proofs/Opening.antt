@@ -3,10 +3,8 @@
 -- the cycle, its tip.
 use Rattle.std.proofs.Common.{◌≡◌, ◌≢◌, ℕ, suc, ◌≤◌, ◌∙◌, true, arith, length, List, get_or}
 use Rattle.std.proofs.lemmas.Grind.{get_or_default_zero}
-use Rattle.counting.specs.Counts.{Within}
-use Rattle.counting.specs.Sets.{Set}
-use Rattle.counting.specs.Lists.{mem}
-use Rattle.graph_core.specs.Graph.{Graph}
+use Rattle.counting.specs.Common.{Within, Set, mem}
+use Rattle.graph_core.specs.Common.{Graph}
 use Rattle.match_search.specs.Blossoms.{IsCompleted, MayOpen, blossom_length}
 use Rattle.match_search.specs.Instances.{Touches}
 use Rattle.match_search.specs.Mates.{paired_round, with_mate, with_pair}

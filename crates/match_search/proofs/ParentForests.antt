@@ -1,11 +1,10 @@
 -- Forests by parents: the first one, one more branch, and the last one as a frame. The path of a
 -- new outer vertex is that of its grandparent, and on by its mate; all other paths stay.
 use Rattle.std.proofs.Common.{◌≡◌, ◌≢◌, ℕ, suc, ◌+◌, Bool, true, false, cond, ◌==◌, refl, sym, ap, ◌∙◌, arith, eq-eqb, eqb-true, ne_eqb, inl, inr, not, ◌&&◌, ◌||◌, nat_lt, nat_le, length, List}
-use Rattle.std.proofs.lemmas.Bool.{cases_Bool, cases_eq, both_ways, and_from, and_parts, false_from_ne_true, leb-true}
-use Rattle.counting.specs.Counts.{Within, count}
-use Rattle.counting.specs.Sets.{Set, none}
-use Rattle.counting.specs.Lists.{mem}
-use Rattle.graph_core.specs.Graph.{Graph, HasEnds, IsGraph, degree, size}
+use Rattle.std.proofs.lemmas.Bool.{leb-true}
+use Rattle.counting.proofs.Common.{cases_Bool, cases_eq, both_ways, and_from, and_parts, false_from_ne_true}
+use Rattle.counting.specs.Common.{Within, count, Set, none, mem}
+use Rattle.graph_core.specs.Common.{Graph, HasEnds, IsGraph, degree, size}
 use Rattle.match_search.specs.Forests.{IsForest}
 use Rattle.match_search.specs.Frames.{Frame}
 use Rattle.match_search.specs.Instances.{Touches}

@@ -1,12 +1,9 @@
 -- Two matchings with the same mates have the same degrees, so they have as many edges.
 use Rattle.std.proofs.Common.{◌≡◌, ℕ, ◌+◌, ◌*◌, ◌==◌, Bool, true, false, refl, sym, ap, ◌∙◌, arith, inl, inr, not, ◌&&◌, eq-eqb, ne_eqb}
-use Rattle.std.proofs.lemmas.Bool.{cases_eq}
-use Rattle.counting.proofs.Totals.{total_congr}
-use Rattle.counting.specs.Counts.{Within, bit, count}
-use Rattle.counting.specs.Sets.{Set, complement}
-use Rattle.graph_core.proofs.Edits.{missed_edges}
-use Rattle.graph_core.specs.Graph.{Graph, IsGraph, degree, size}
-use Rattle.graph_core.specs.Matchings.{missed_count}
+use Rattle.counting.proofs.Common.{cases_eq, total_congr}
+use Rattle.counting.specs.Common.{Within, bit, count, Set, complement}
+use Rattle.graph_core.proofs.Common.{missed_edges}
+use Rattle.graph_core.specs.Common.{Graph, IsGraph, degree, size, missed_count}
 use Rattle.match_search.specs.Mates.{HasMates}
 use Rattle.match_search.proofs.Forests.{met}
 

@@ -1,15 +1,9 @@
 -- A matching of G - R can be made larger by one edge, or has a frame. Induction on the vertices
 -- outside R and on the forest: a closing edge augments, or its cycle is shrunk.
 use Rattle.std.proofs.Common.{◌≡◌, ℕ, suc, zero, ◌+◌, ◌-◌, ◌≤◌, ◌<◌, ◌≢◌, Bool, true, false, ◌==◌, refl, sym, ap, ap₂, ◌∙◌, arith, ◌&&◌, not, eq-eqb, ne_eqb, eqb-true, ◌⊎◌, inl, inr, subst, List, length}
-use Rattle.std.proofs.lemmas.Bool.{cases_eq, cases_Bool, both_ways, and_parts, and_from, not-true}
-use Rattle.std.proofs.lemmas.List.{get_or-map, length-map}
-use Rattle.counting.proofs.Counts.{count_le}
-use Rattle.counting.proofs.Tests.{scan, some_true}
-use Rattle.counting.proofs.Odd.{half}
-use Rattle.counting.specs.Counts.{Within, count, is_odd}
-use Rattle.counting.specs.Sets.{Set, complement, minus, none, union}
-use Rattle.graph_core.specs.Graph.{Graph, IsGraph, degree, first_end, second_end, size, HasEnds, with_ends}
-use Rattle.graph_core.specs.Matchings.{IsMatching}
+use Rattle.counting.proofs.Common.{cases_eq, cases_Bool, both_ways, and_parts, and_from, not-true, get_or-map, length-map, count_le, scan, some_true, half}
+use Rattle.counting.specs.Common.{Within, count, is_odd, Set, complement, minus, none, union}
+use Rattle.graph_core.specs.Common.{Graph, IsGraph, degree, first_end, second_end, size, HasEnds, with_ends, IsMatching}
 use Rattle.match_search.proofs.OddCycles.{cycle_holds, cycle_outside, cycle_size, every_other-near_perfect}
 use Rattle.match_search.proofs.LongerPaths.{end_within, ends_by}
 use Rattle.match_search.proofs.Forests.{first_outer, forest_start, outer_edge, turned, final_frame}

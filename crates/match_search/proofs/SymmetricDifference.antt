@@ -1,18 +1,11 @@
 -- A matching that misses two vertices becomes perfect along one path, where a perfect matching
 -- exists. The path goes on by the perfect matching's edge and the given one's in turn until it
 -- meets the other missed vertex.
-use Rattle.graph_core.proofs.Perfect.{perfect_matching}
+use Rattle.graph_core.proofs.Common.{perfect_matching, degree_put, ends_le_degree, ends_of, ends_of_is, bit_same}
 use Rattle.std.proofs.Common.{◌≡◌, ℕ, suc, zero, ◌+◌, ◌*◌, ◌≤◌, ◌<◌, ◌≢◌, true, false, ◌==◌, refl, sym, ap, ◌∙◌, arith, not, eq-eqb, ne_eqb, ◌⊎◌, inl, inr, subst, ◌-◌}
-use Rattle.std.proofs.lemmas.Bool.{cases_eq, cases_Bool, cases_order, both_ways, true≢false, false_from_ne_true}
-use Rattle.counting.proofs.Counts.{count_le}
-use Rattle.counting.proofs.Odd.{odd-double}
-use Rattle.counting.proofs.Totals.{total_congr}
-use Rattle.counting.specs.Counts.{Within, bit, count, is_odd, total}
-use Rattle.counting.specs.Sets.{Set, put}
-use Rattle.counting.proofs.Booleans.{not_not}
-use Rattle.graph_core.proofs.Edits.{degree_put, ends_le_degree, ends_of, ends_of_is, bit_same}
-use Rattle.graph_core.specs.Graph.{Graph, IsGraph, degree, size, HasEnds}
-use Rattle.graph_core.specs.Matchings.{IsMatching, IsPerfect}
+use Rattle.counting.proofs.Common.{cases_eq, cases_Bool, cases_order, both_ways, true≢false, false_from_ne_true, count_le, odd-double, total_congr, not_not}
+use Rattle.counting.specs.Common.{Within, bit, count, is_odd, total, Set, put}
+use Rattle.graph_core.specs.Common.{Graph, IsGraph, degree, size, HasEnds, IsMatching, IsPerfect}
 use Rattle.match_search.proofs.OddCycles.{same_ends, total_picked}
 use Rattle.match_search.proofs.LongerPaths.{edge_spots, end_within, ends_by, extended, longer}
 use Rattle.match_search.proofs.Forests.{met, one_edge, turned}

@@ -1,12 +1,8 @@
 -- The order and the ends of a graph, as the code reads them, make the graph again.
 -- What is proved of these ends is so said of the graph, by one equation.
 use Rattle.std.proofs.Common.{◌≡◌, ℕ, suc, ◌-◌, ◌<◌, List, length, map, sym, ap, ap₂, ◌∙◌, arith, subst, inl}
-use Rattle.counting.specs.Counts.{Within}
-use Rattle.counting.specs.Lists.{rising_list}
-use Rattle.counting.specs.Sets.{Set}
-use Rattle.graph_core.specs.Graph.{Graph, HasEnds, IsGraph, first_end, second_end, size}
-use Rattle.graph_core.specs.Rows.{AreRows}
-use Rattle.graph_core.specs.View.{graph_of, IsWithinLimits}
+use Rattle.counting.specs.Common.{Within, rising_list, Set}
+use Rattle.graph_core.specs.Common.{Graph, HasEnds, IsGraph, first_end, second_end, size, AreRows, graph_of, IsWithinLimits}
 use Rattle.graph_core.specs.declared.ends.Ends.{Ends}
 use Rattle.match_search.specs.Rows.{end_a, end_b}
 use Rattle.match_search.specs.GraphRows.{AreEnds, IsGraphRow}

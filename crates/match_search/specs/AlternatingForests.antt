@@ -2,9 +2,8 @@
 -- from there by mates.
 -- Stated by: match_search. Rests on it: match_core.
 use Rattle.std.specs.Prelude.{◌≢◌, ◌≡◌, ℕ, suc, ◌+◌, ◌≤◌, ◌==◌, ◌&&◌, ◌||◌, true, length, List, Some, None}
-use Rattle.counting.specs.Sets.{Set}
-use Rattle.counting.specs.Lists.{mem}
-use Rattle.graph_core.specs.Graph.{Graph}
+use Rattle.counting.specs.Common.{Set, mem}
+use Rattle.graph_core.specs.Common.{Graph}
 use Rattle.match_search.specs.Forests.{IsForest}
 use Rattle.match_search.specs.Mates.{HasMates, with_mate}
 use Rattle.match_search.specs.Instances.{IsInstance, Touches}

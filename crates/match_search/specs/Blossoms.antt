@@ -2,10 +2,8 @@
 -- blossom, an odd cycle with as many edges of the matching as it may have.
 -- Stated by: match_search.
 use Rattle.std.specs.Prelude.{◌≡◌, ◌≢◌, ℕ, suc, ◌+◌, ◌-◌, ◌≤◌, ◌⊎◌, true, false, length, List, Option, Some, None}
-use Rattle.counting.specs.Counts.{Within, count, is_odd}
-use Rattle.counting.specs.Sets.{Set}
-use Rattle.counting.specs.Lists.{mem}
-use Rattle.graph_core.specs.Graph.{Graph, HasEnds, IsGraph, size, with_ends}
+use Rattle.counting.specs.Common.{Within, count, is_odd, Set, mem}
+use Rattle.graph_core.specs.Common.{Graph, HasEnds, IsGraph, size, with_ends}
 use Rattle.match_search.specs.AlternatingForests.{HoldsAlternating}
 use Rattle.match_search.specs.Forests.{IsAlternating}
 use Rattle.match_search.specs.Frames.{shrunk_ends, shrunk_removed}

@@ -2,9 +2,8 @@
 -- told in pairs.
 -- Stated by: match_core. Rests on it: match_search.
 use Rattle.std.specs.Prelude.{◌≡◌, ℕ, zero, suc, ◌+◌, ◌≤◌, ◌<◌, true, false, not}
-use Rattle.counting.specs.Counts.{Within, is_odd}
-use Rattle.counting.specs.Sets.{Set, put}
-use Rattle.graph_core.specs.Graph.{Graph, degree, first_end, second_end, size, HasEnds}
+use Rattle.counting.specs.Common.{Within, is_odd, Set, put}
+use Rattle.graph_core.specs.Common.{Graph, degree, first_end, second_end, size, HasEnds}
 
 -- f after the first k pairs of edges of a path: the first of each pair in, the second out
 abbrev pub flipped : Set → (ℕ → ℕ) → ℕ → Set

@@ -3,10 +3,8 @@
 -- vertex set to one of its vertices.
 -- Stated by no contract. Rests on it: match_search, match_core, theorems.
 use Rattle.std.specs.Prelude.{◌≡◌, ℕ, ◌+◌, ◌*◌, ◌≤◌, true, false, List, ◌==◌, nat_lt, ◌&&◌, ◌||◌, not, length, map, cond}
-use Rattle.counting.specs.Counts.{Within, bit, count, is_odd}
-use Rattle.counting.specs.Sets.{Set, complement, union}
-use Rattle.graph_core.specs.Graph.{Graph, HasEnds, degree, first_end, second_end, size, with_ends}
-use Rattle.graph_core.specs.Matchings.{IsMatching}
+use Rattle.counting.specs.Common.{Within, bit, count, is_odd, Set, complement, union}
+use Rattle.graph_core.specs.Common.{Graph, HasEnds, degree, first_end, second_end, size, with_ends, IsMatching}
 
 -- z where v is in c, else v
 abbrev pub shrunk_vertex : Set → ℕ → ℕ → ℕ

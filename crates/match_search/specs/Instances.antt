@@ -1,10 +1,8 @@
 -- A graph without its removed vertices, by rows of neighbours: what the search of the engine reads.
 -- Stated by: match_search. Rests on it: match_core.
 use Rattle.std.specs.Prelude.{◌≡◌, ◌≢◌, ◌↔◌, ℕ, ◌≤◌, ◌&&◌, false, true, not, nat_lt, nat_le, length, List}
-use Rattle.counting.specs.Counts.{Within}
-use Rattle.counting.specs.Sets.{Set}
-use Rattle.counting.specs.Lists.{mem, item}
-use Rattle.graph_core.specs.Graph.{Graph, HasEnds, IsGraph, size}
+use Rattle.counting.specs.Common.{Within, Set, mem, item}
+use Rattle.graph_core.specs.Common.{Graph, HasEnds, IsGraph, size}
 use Rattle.match_search.specs.declared.instance.Instance.{Instance}
 
 -- the vertex v touches w: the row of v holds a member of w

@@ -2,10 +2,8 @@
 -- parallel edges joins two mates is not told.
 -- Stated by: match_search, match_core.
 use Rattle.std.specs.Prelude.{◌≡◌, ◌≢◌, ℕ, zero, suc, ◌+◌, ◌<◌, ◌⊎◌, ◌==◌, cond, true, false, List}
-use Rattle.counting.specs.Counts.{Within}
-use Rattle.counting.specs.Sets.{Set, none}
-use Rattle.graph_core.specs.Graph.{Graph, HasEnds, degree, first_end, second_end, size}
-use Rattle.graph_core.specs.Matchings.{IsMatching}
+use Rattle.counting.specs.Common.{Within, Set, none}
+use Rattle.graph_core.specs.Common.{Graph, HasEnds, degree, first_end, second_end, size, IsMatching}
 use Rattle.match_search.specs.OddCycles.{every_other, listed, next}
 use Rattle.match_search.specs.Rows.{numbers, end_a, end_b}
 use Rattle.graph_core.specs.declared.ends.Ends.{Ends}

@@ -1,11 +1,8 @@
 -- What the last step of a search says of a matching by its mates.
 -- Stated by: match_search. Rests on it: match_core.
 use Rattle.std.specs.Prelude.{◌≡◌, ◌≢◌, ℕ, true, false, List}
-use Rattle.counting.specs.Counts.{Within, count}
-use Rattle.counting.specs.Sets.{Set}
-use Rattle.counting.specs.Lists.{mem}
-use Rattle.graph_core.specs.Graph.{Graph, size}
-use Rattle.graph_core.specs.Matchings.{IsMatching, missed_count}
+use Rattle.counting.specs.Common.{Within, count, Set, mem}
+use Rattle.graph_core.specs.Common.{Graph, size, IsMatching, missed_count}
 use Rattle.match_search.specs.Frames.{Frame}
 use Rattle.match_search.specs.Mates.{HasMates}
 use Rattle.match_search.specs.Rows.{numbers}

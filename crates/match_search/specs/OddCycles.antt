@@ -1,10 +1,8 @@
 -- Odd cycles, by the places of their vertices and edges from 1 on.
 -- Stated by: match_search. Rests on it: match_core.
 use Rattle.std.specs.Prelude.{◌≡◌, ℕ, suc, ◌≤◌, Bool, true, false, ◌==◌, nat_lt, ◌&&◌, ◌||◌, not, cond}
-use Rattle.counting.specs.Counts.{Within, is_odd}
-use Rattle.counting.specs.Sets.{Set}
-use Rattle.counting.specs.Tests.{some}
-use Rattle.graph_core.specs.Graph.{Graph, HasEnds, size}
+use Rattle.counting.specs.Common.{Within, is_odd, Set, some}
+use Rattle.graph_core.specs.Common.{Graph, HasEnds, size}
 
 -- the numbers that pick makes of those of 1 to k in m
 abbrev pub picked : ℕ → Set → (ℕ → ℕ) → Set

@@ -1,11 +1,8 @@
 -- What the engine answers on a whole graph.
 -- Stated by: match_search, match_core.
 use Rattle.std.specs.Prelude.{◌≡◌, ◌+◌, length}
-use Rattle.counting.specs.Counts.{count}
-use Rattle.counting.specs.Sets.{Set}
-use Rattle.counting.specs.Lists.{mem}
-use Rattle.graph_core.specs.Graph.{Graph, size}
-use Rattle.graph_core.specs.Matchings.{IsMatching}
+use Rattle.counting.specs.Common.{count, Set, mem}
+use Rattle.graph_core.specs.Common.{Graph, size, IsMatching}
 use Rattle.match_search.specs.Frames.{Frame}
 use Rattle.match_search.specs.Rows.{marks}
 use Rattle.match_search.specs.Steps.{AreVertexSets}

@@ -1,11 +1,8 @@
 -- Perfect matchings that hold given edges.
 -- Stated by: match_core. Rests on it: match_search, allowed_edges, ear_core.
 use Rattle.std.specs.Prelude.{◌≡◌, ℕ, true, List}
-use Rattle.counting.specs.Counts.{Within, bit}
-use Rattle.counting.specs.Sets.{Set, none}
-use Rattle.counting.specs.Lists.{mem}
-use Rattle.graph_core.specs.Graph.{Graph, degree}
-use Rattle.graph_core.specs.Matchings.{IsPerfect}
+use Rattle.counting.specs.Common.{Within, bit, Set, none, mem}
+use Rattle.graph_core.specs.Common.{Graph, degree, IsPerfect}
 
 -- each edge of the list is in m
 abbrev pub HoldsAll : List ℕ → Set → Type 0

@@ -1,10 +1,8 @@
 -- Repaired matchings: perfect ones that differ from a given matching by one path.
 -- Stated by: match_core.
 use Rattle.std.specs.Prelude.{◌≡◌, ℕ, suc, ◌+◌, ◌≤◌, ◌<◌, ◌≢◌, ◌↔◌, true, false, List, not, length}
-use Rattle.counting.specs.Counts.{Within, is_odd}
-use Rattle.counting.specs.Sets.{Set, put}
-use Rattle.graph_core.specs.Graph.{Graph, HasEnds, degree, size}
-use Rattle.graph_core.specs.Matchings.{IsPerfect}
+use Rattle.counting.specs.Common.{Within, is_odd, Set, put}
+use Rattle.graph_core.specs.Common.{Graph, HasEnds, degree, size, IsPerfect}
 use Rattle.match_search.specs.Forests.{IsAlternating, flipped}
 use Rattle.match_search.specs.OddCycles.{same_answer}
 use Rattle.match_search.specs.Rows.{numbers}

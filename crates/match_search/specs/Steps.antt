@@ -2,11 +2,8 @@
 -- cycle is opened for its shrinking.
 -- Stated by: match_search.
 use Rattle.std.specs.Prelude.{◌≡◌, ℕ, ◌+◌, true}
-use Rattle.counting.specs.Counts.{count, Within}
-use Rattle.counting.specs.Sets.{Set, minus, union}
-use Rattle.counting.specs.Lists.{mem}
-use Rattle.graph_core.specs.Graph.{Graph, size, degree}
-use Rattle.graph_core.specs.Matchings.{IsMatching}
+use Rattle.counting.specs.Common.{count, Within, Set, minus, union, mem}
+use Rattle.graph_core.specs.Common.{Graph, size, degree, IsMatching}
 use Rattle.match_search.specs.Frames.{Frame}
 use Rattle.match_search.specs.OddCycles.{IsOddCycle, every_other, picked}
 use Rattle.match_search.specs.declared.answer.FinalSets.{FinalSets}

@@ -5,8 +5,7 @@
 //! vertex is exposed, a root, or hangs on its mate, which is inner; an inner vertex hangs on its
 //! parent, an outer neighbour.
 ghost use Rattle.std.specs.Prelude.{◌≡◌, ℕ, ◌+◌, ◌<◌, ◌≤◌, ◌==◌, ◌&&◌, true, false, length, suc, IfOk};
-ghost use Rattle.counting.specs.Counts.{Within};
-ghost use Rattle.counting.specs.Lists.{mem};
+ghost use Rattle.counting.specs.Common.{Within, mem};
 ghost use Rattle.match_search.specs.AlternatingForests.{AreExposed, HasBranched, IsSized, MayBeExposed};
 ghost use Rattle.match_search.specs.Rows.{numbers};
 

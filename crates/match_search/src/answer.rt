@@ -4,7 +4,7 @@
 //! large misses, its inner vertices the others beside them. Without the inner vertices the outer
 //! ones form components of odd order, of which a matching can serve no more than there are inner
 //! vertices: it misses a vertex in each of the others, so none is larger.
-ghost use Rattle.counting.specs.Lists.{mem};
+ghost use Rattle.counting.specs.Common.{mem};
 ghost use Rattle.match_search.specs.Steps.{IsWidened};
 
 use vset_core::VSet;

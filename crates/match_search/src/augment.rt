@@ -10,8 +10,8 @@
 //! After a shrinking the forest is grown anew. That takes few steps: the pairs on the path to the
 //! base were exchanged, so the base is exposed and a root, and the rest of the blossom is gone.
 ghost use Rattle.std.specs.Prelude.{◌≡◌, ◌<◌, length, IfOk, OnOk, Some};
-ghost use Rattle.counting.specs.Sets.{Set};
-ghost use Rattle.graph_core.specs.Graph.{Graph};
+ghost use Rattle.counting.specs.Common.{Set};
+ghost use Rattle.graph_core.specs.Common.{Graph};
 ghost use Rattle.match_search.specs.AlternatingForests.{HoldsMatching, IsSized, MayBeExposed};
 ghost use Rattle.match_search.specs.Blossoms.{ClosesForest, ExposesOnly, IsClosed, IsMateStep};
 ghost use Rattle.match_search.specs.Shrinkings.{AreAlike};

@@ -2,13 +2,8 @@
 //! enlarged by one edge after the other until a step answers a frame instead. Each step leaves
 //! two exposed vertices less, so there are at most half as many as vertices.
 ghost use Rattle.std.specs.Prelude.{◌≡◌, ◌+◌, ◌==◌, ◌&&◌, not, length, IfOk, OnOk};
-ghost use Rattle.counting.specs.Counts.{Within};
-ghost use Rattle.counting.specs.Lists.{mem};
-ghost use Rattle.counting.specs.Sets.{Set};
-ghost use Rattle.graph_core.specs.Graph.{Graph};
-ghost use Rattle.graph_core.specs.Rows.{AreRows};
-ghost use Rattle.graph_core.specs.View.{graph_of};
-ghost use Rattle.graph_core.specs.Matchings.{IsMatching};
+ghost use Rattle.counting.specs.Common.{Within, mem, Set};
+ghost use Rattle.graph_core.specs.Common.{Graph, AreRows, graph_of, IsMatching};
 ghost use Rattle.match_search.specs.AlternatingForests.{HoldsMatching};
 ghost use Rattle.match_search.specs.Rows.{marks};
 ghost use Rattle.match_search.specs.GraphRows.{IsGraphRow};

@@ -3,10 +3,8 @@
 //! edges inside it miss, so the blossom may be shrunk to its base: a matching of the smaller
 //! graph leaves it at one vertex, and is completed round the cycle from there.
 ghost use Rattle.std.specs.Prelude.{◌≡◌, ◌≢◌, ℕ, ◌+◌, ◌-◌, ◌<◌, ◌≤◌, true, length, suc, IfOk, Some};
-ghost use Rattle.counting.specs.Counts.{Within};
-ghost use Rattle.counting.specs.Sets.{Set};
-ghost use Rattle.counting.specs.Lists.{mem};
-ghost use Rattle.graph_core.specs.Graph.{Graph};
+ghost use Rattle.counting.specs.Common.{Within, Set, mem};
+ghost use Rattle.graph_core.specs.Common.{Graph};
 ghost use Rattle.match_search.specs.Blossoms.{AreClosingPaths, ExposesOnly, HoldsBlossom, IsCompleted, MayOpen, IsAugmented, IsClosed, second_start};
 ghost use Rattle.match_search.specs.Meetings.{IsLastMeeting};
 ghost use Rattle.match_search.specs.Rows.{numbers, part};

@@ -3,9 +3,8 @@
 //! search without such an edge shows that the matching is maximum: without its inner vertices
 //! each of its outer vertices is a component by itself.
 ghost use Rattle.std.specs.Prelude.{◌≡◌, ℕ, ◌+◌, ◌<◌, ◌≤◌, length, suc, IfOk};
-ghost use Rattle.counting.specs.Sets.{Set};
-ghost use Rattle.counting.specs.Lists.{mem};
-ghost use Rattle.graph_core.specs.Graph.{Graph};
+ghost use Rattle.counting.specs.Common.{Set, mem};
+ghost use Rattle.graph_core.specs.Common.{Graph};
 ghost use Rattle.match_search.specs.AlternatingForests.{AreExposed, HoldsMatching, IsGrownForest, IsSized};
 ghost use Rattle.match_search.specs.Rows.{numbers};
 

@@ -8,11 +8,8 @@
 //! the union over the blossom. No neighbour is told of it, and it is undone by putting back what
 //! stood there.
 ghost use Rattle.std.specs.Prelude.{◌≡◌, ◌≢◌, ℕ, ◌+◌, ◌-◌, ◌<◌, ◌≤◌, true, false, length, IfOk, ◌∷◌, [], ◌↔◌};
-ghost use Rattle.counting.specs.Counts.{Within};
-ghost use Rattle.counting.specs.Sets.{Set};
-ghost use Rattle.counting.specs.Lists.{mem, item};
-ghost use Rattle.graph_core.specs.Graph.{Graph, IsGraph};
-ghost use Rattle.graph_core.specs.Rows.{AreRows};
+ghost use Rattle.counting.specs.Common.{Within, Set, mem, item};
+ghost use Rattle.graph_core.specs.Common.{Graph, IsGraph, AreRows};
 ghost use Rattle.match_search.specs.Instances.{AreNear, IsInstance};
 ghost use Rattle.match_search.specs.Shrinkings.{IsGathered, IsPutBack, IsShrinking, IsUnionOf, IsUnshrunk};
 

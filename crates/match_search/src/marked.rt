@@ -1,8 +1,8 @@
 //! From the mates of a matching back to its edges: of the parallel edges that join two mates the
 //! least is marked.
 ghost use Rattle.std.specs.Prelude.{◌≡◌, ◌+◌, ◌<◌, ◌==◌, length, IfOk};
-ghost use Rattle.counting.specs.Sets.{Set};
-ghost use Rattle.graph_core.specs.View.{graph_of};
+ghost use Rattle.counting.specs.Common.{Set};
+ghost use Rattle.graph_core.specs.Common.{graph_of};
 ghost use Rattle.match_search.specs.Mates.{HasMates};
 ghost use Rattle.match_search.specs.Rows.{marks, numbers};
 ghost use Rattle.match_search.specs.GraphRows.{IsGraphRow};

@@ -1,9 +1,7 @@
 //! Matchings by mates: for each vertex the other end of its edge, 0 where it is exposed.
 ghost use Rattle.std.specs.Prelude.{◌≡◌, ℕ, ◌+◌, ◌-◌, ◌^◌, ◌<◌, ◌≤◌, cond, length, IfOk};
-ghost use Rattle.counting.specs.Counts.{Within};
-ghost use Rattle.counting.specs.Sets.{Set};
-ghost use Rattle.graph_core.specs.Matchings.{IsMatching};
-ghost use Rattle.graph_core.specs.View.{graph_of};
+ghost use Rattle.counting.specs.Common.{Within, Set};
+ghost use Rattle.graph_core.specs.Common.{IsMatching, graph_of};
 ghost use Rattle.match_search.specs.GraphRows.{AreEnds, IsGraphRow};
 ghost use Rattle.match_search.specs.OddCycles.{every_other, next};
 ghost use Rattle.match_search.specs.Mates.{HasMates, NamesMates, with_mate, with_pair, flipped_mates, cleared_mates, paired_round};

@@ -3,10 +3,8 @@
 //! A vertex is taken out of a graph with a matching by mates, and its mate is exposed. The last
 //! frame of what is left says which vertices matchings as large as the largest miss.
 ghost use Rattle.std.specs.Prelude.{◌≡◌, ℕ, ◌+◌, ◌-◌, ◌<◌, ◌≤◌, ◌==◌, ◌&&◌, true, length, IfOk, OnOk};
-ghost use Rattle.counting.specs.Counts.{count};
-ghost use Rattle.counting.specs.Lists.{mem};
-ghost use Rattle.counting.specs.Sets.{Set, singleton, union};
-ghost use Rattle.graph_core.specs.Graph.{Graph};
+ghost use Rattle.counting.specs.Common.{count, mem, Set, singleton, union};
+ghost use Rattle.graph_core.specs.Common.{Graph};
 ghost use Rattle.match_search.specs.AlternatingForests.{HoldsMatching};
 ghost use Rattle.match_search.specs.Mates.{with_mate};
 ghost use Rattle.match_search.specs.Missable.{IsMissableRow};

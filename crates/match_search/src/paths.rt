@@ -1,9 +1,8 @@
 //! The paths of an alternating forest: the path from the root to an outer vertex, read from the
 //! vertex up to the root.
 ghost use Rattle.std.specs.Prelude.{◌≡◌, ℕ, ◌+◌, ◌<◌, ◌≤◌, true, length, suc, IfOk};
-ghost use Rattle.counting.specs.Sets.{Set};
-ghost use Rattle.counting.specs.Lists.{mem};
-ghost use Rattle.graph_core.specs.Graph.{Graph};
+ghost use Rattle.counting.specs.Common.{Set, mem};
+ghost use Rattle.graph_core.specs.Common.{Graph};
 ghost use Rattle.match_search.specs.AlternatingForests.{HoldsAlternating};
 ghost use Rattle.match_search.specs.Blossoms.{AreClosingPaths, ClosesForest};
 ghost use Rattle.match_search.specs.Mates.{with_mate};

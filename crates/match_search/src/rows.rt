@@ -1,8 +1,7 @@
 //! Rows of numbers and of marks: parts of a row put at the end of another, where a number stands,
 //! and marked places.
 ghost use Rattle.std.specs.Prelude.{◌≡◌, ◌≢◌, ℕ, ◌+◌, ◌-◌, ◌<◌, ◌≤◌, length, slice_index, IfOk, Some, None, All, ◌||◌, false, true};
-ghost use Rattle.counting.specs.Lists.{mem};
-ghost use Rattle.counting.specs.Sets.{put};
+ghost use Rattle.counting.specs.Common.{mem, put};
 ghost use Rattle.match_search.specs.Rows.{marks};
 
 use std::alloc::{AllocError as Memory, Global};

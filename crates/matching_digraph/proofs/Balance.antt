@@ -2,20 +2,11 @@
 -- more on the one side as edges leave it from there more than from the other. So a tight set has
 -- one vertex more of one side, and all edges of its cut leave it there.
 use Rattle.std.proofs.Common.{◌≡◌, ℕ, ◌+◌, Bool, true, false, refl, sym, ap, arith, ◌&&◌, ◌||◌, not, inl, inr}
-use Rattle.std.proofs.lemmas.Bool.{cases_eq, true≢false, and_parts}
+use Rattle.counting.proofs.Common.{cases_eq, true≢false, and_parts, count_zero, total_congr, total_add, total_none, and_fails_second}
 use Rattle.barrier_kit.proofs.Matched.{inner, loop_free}
-use Rattle.graph_core.specs.Sides.{IsSide}
-use Rattle.counting.proofs.Members.{count_zero}
-use Rattle.counting.proofs.Totals.{total_congr, total_add, total_none}
-use Rattle.counting.specs.Counts.{bit, count, Within}
-use Rattle.counting.specs.Sets.{Set, none, minus, meet, complement}
-use Rattle.counting.proofs.Booleans.{and_fails_second}
-use Rattle.graph_core.proofs.Decide.{covered_perfect}
-use Rattle.graph_core.proofs.Parity.{parity}
-use Rattle.graph_core.specs.Covered.{IsCovered}
-use Rattle.graph_core.specs.Graph.{Graph, size, first_end, second_end, IsGraph, connects, in_cut, edges_in_cut}
-use Rattle.graph_core.specs.Matchings.{IsPerfect}
-use Rattle.graph_core.specs.Tight.{CutIsTight}
+use Rattle.graph_core.specs.Common.{IsSide, IsCovered, Graph, size, first_end, second_end, IsGraph, connects, in_cut, edges_in_cut, IsPerfect, CutIsTight}
+use Rattle.counting.specs.Common.{bit, count, Within, Set, none, minus, meet, complement}
+use Rattle.graph_core.proofs.Common.{covered_perfect, parity}
 
 module _ (g : Graph) (is : IsGraph g) where
   -- a perfect matching has no loop, so its edges cross

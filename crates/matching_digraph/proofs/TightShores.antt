@@ -2,22 +2,10 @@
 -- perfect matching leaves, but from one vertex a of the side: then only the edge of the matching
 -- at a leaves the set from the side, and none from the other.
 use Rattle.std.proofs.Common.{◌≡◌, ◌≢◌, ℕ, ◌+◌, ◌≤◌, Bool, true, false, cond, ◌==◌, refl, sym, ap, ◌∙◌, arith, ◌&&◌, ◌||◌, not, eq-eqb, ne_eqb, inl, inr, ◌⊎◌, subst}
-use Rattle.std.proofs.lemmas.Bool.{cases_eq, cases_Bool, true≢false, both_ways, and_parts, and_from, false_from_ne_true, not-true, and_right}
-use Rattle.graph_core.specs.Sides.{IsSide}
-use Rattle.counting.proofs.Members.{member_count, two_members}
-use Rattle.counting.proofs.Tests.{some_true, true_some}
-use Rattle.counting.proofs.Totals.{total_add, total_le, total_none}
-use Rattle.counting.specs.Counts.{bit, count, Within}
-use Rattle.counting.specs.Sets.{Set, none, minus, meet}
-use Rattle.graph_core.proofs.Contraction.{tight_from_cut}
-use Rattle.graph_core.proofs.Perfect.{perfect_matching}
-use Rattle.graph_core.proofs.Textbook.{matching_apart}
-use Rattle.graph_core.proofs.Walks.{adjacent-edge, adjacent_from, has_ends-cases, has_ends-own, has_ends-back}
-use Rattle.graph_core.specs.Covered.{IsCovered}
-use Rattle.graph_core.specs.Graph.{Graph, size, first_end, second_end, IsGraph, has_ends}
-use Rattle.graph_core.specs.Matchings.{IsPerfect}
-use Rattle.graph_core.specs.Tight.{IsTight}
-use Rattle.graph_core.specs.Walks.{adjacent}
+use Rattle.counting.proofs.Common.{cases_eq, cases_Bool, true≢false, both_ways, and_parts, and_from, false_from_ne_true, not-true, and_right, member_count, two_members, some_true, true_some, total_add, total_le, total_none}
+use Rattle.graph_core.specs.Common.{IsSide, IsCovered, Graph, size, first_end, second_end, IsGraph, has_ends, IsPerfect, IsTight, adjacent}
+use Rattle.counting.specs.Common.{bit, count, Within, Set, none, minus, meet}
+use Rattle.graph_core.proofs.Common.{tight_from_cut, perfect_matching, matching_apart, adjacent-edge, adjacent_from, has_ends-cases, has_ends-own, has_ends-back}
 use Rattle.matching_digraph.proofs.Balance.{balance, crossing, leaves_left, leaves_right, none_right}
 use Rattle.matching_digraph.specs.Digraph.{NoArcLeaves, arc, are_mates, step_past}
 

@@ -1,10 +1,8 @@
 //! The arcs of the digraph of a matching, as rows of sets.
 ghost use Rattle.std.specs.Prelude.{◌≡◌, ◌≤◌, ◌==◌, ◌&&◌, ◌||◌, not, ℕ, length, IfOk, All};
 ghost use Rattle.std.specs.List.{list_any};
-ghost use Rattle.counting.specs.Counts.{Within};
-ghost use Rattle.counting.specs.Lists.{item, mem};
-ghost use Rattle.counting.specs.Sets.{none};
-ghost use Rattle.graph_core.specs.Walks.{adjacent};
+ghost use Rattle.counting.specs.Common.{Within, item, mem, none};
+ghost use Rattle.graph_core.specs.Common.{adjacent};
 ghost use Rattle.match_core.specs.MatchingRows.{IsOf, edges_of};
 ghost use Rattle.matching_digraph.specs.Digraph.{AreArcs};
 ghost use Rattle.matching_digraph.specs.MatchedPairs.{row_joins};

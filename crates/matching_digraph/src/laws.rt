@@ -1,13 +1,7 @@
 //! The laws on tight shores of bipartite graphs, each the contract of a function that does nothing.
 ghost use Rattle.std.specs.Prelude.{◌≡◌, ◌≢◌, ◌↔◌, ◌⊎◌, ℕ, true, false, List};
-ghost use Rattle.counting.specs.Counts.{Within};
-ghost use Rattle.counting.specs.Sets.{Set, complement, none};
-ghost use Rattle.graph_core.specs.Covered.{IsCovered};
-ghost use Rattle.graph_core.specs.Graph.{Graph, IsGraph};
-ghost use Rattle.graph_core.specs.Matchings.{IsPerfect};
-ghost use Rattle.graph_core.specs.Tight.{HasOnlyTrivialTightCuts, IsTight};
-ghost use Rattle.graph_core.specs.Walks.{Walk};
-ghost use Rattle.graph_core.specs.Sides.{IsSide};
+ghost use Rattle.counting.specs.Common.{Within, Set, complement, none};
+ghost use Rattle.graph_core.specs.Common.{IsCovered, Graph, IsGraph, IsPerfect, HasOnlyTrivialTightCuts, IsTight, Walk, IsSide};
 ghost use Rattle.matching_digraph.specs.Digraph.{NoArcLeaves, NoneParts, Spans, arc, are_mates, reached_past, step_past};
 
 /// The tight shores of a bipartite covered graph with the vertex a of the side and without its

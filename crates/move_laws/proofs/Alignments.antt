@@ -2,10 +2,9 @@
 -- other number.
 use Rattle.std.proofs.Common.{◌≡◌, ℕ, suc, zero, ◌+◌, ◌≤◌, ◌<◌, cond, List, [], ◌∷◌, ◌++◌, length, ◌⊎◌, inl, inr, refl, sym, ap, ap₂, ◌∙◌, arith, eq-eqb, ne_eqb}
 use Rattle.std.specs.Prelude.{slice_index, slice_index_or}
-use Rattle.std.proofs.lemmas.Bool.{cases_lt}
-use Rattle.counting.specs.Counts.{bit}
-use Rattle.counting.specs.Lists.{times}
-use Rattle.tree_core.specs.LeafMaps.{numbers, position}
+use Rattle.counting.proofs.Common.{cases_lt}
+use Rattle.counting.specs.Common.{bit, times}
+use Rattle.tree_core.specs.Common.{numbers, position}
 
 -- numbers and partitions side by side, each two related by R
 abbrev pub Aligned : (ℕ → List (List ℕ) → Type 0) → List ℕ → List (List (List ℕ)) → Type 0

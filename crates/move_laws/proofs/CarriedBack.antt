@@ -1,22 +1,13 @@
 -- Carrying there and back: a tree whose shores are canonical unions of blocks is carried back to
 -- itself, so what is carried to a derivation was one.
 use Rattle.std.proofs.Common.{◌≡◌, ℕ, ◌-◌, Bool, true, false, not, List, refl, ap, ◌∙◌, arith, subst}
-use Rattle.counting.proofs.Lists.{mem-within, member-of_set}
-use Rattle.counting.proofs.RisingLists.{mem-outside, mem-rising_list, rising_list-rises, same_rising_list}
-use Rattle.counting.specs.Counts.{Within}
-use Rattle.counting.specs.Lists.{IsRisingIn, mem, rising_list}
-use Rattle.counting.proofs.Booleans.{not_not}
-use Rattle.graph_core.proofs.Complements.{complement_of-rises, union-complement_of}
-use Rattle.graph_core.proofs.MergedShores.{closed_up}
-use Rattle.graph_core.proofs.Merging.{merged_merges}
-use Rattle.graph_core.specs.Graph.{Graph, IsGraph}
-use Rattle.graph_core.specs.Partitions.{AreBlocks, IsPartition, complement_of}
-use Rattle.graph_core.specs.Shores.{IsUnion}
+use Rattle.counting.proofs.Common.{mem-within, member-of_set, mem-outside, mem-rising_list, rising_list-rises, same_rising_list, not_not}
+use Rattle.counting.specs.Common.{Within, IsRisingIn, mem, rising_list}
+use Rattle.graph_core.proofs.Common.{complement_of-rises, union-complement_of, closed_up, merged_merges}
+use Rattle.graph_core.specs.Common.{Graph, IsGraph, AreBlocks, IsPartition, complement_of, IsUnion}
 use Rattle.tree_core.proofs.DerivationStands.{partition-kept, partition-merged}
 use Rattle.tree_core.proofs.Shores.{complement-nonempty}
-use Rattle.tree_core.specs.Derivations.{IsDerivationAt, kept_at, merged_at}
-use Rattle.tree_core.specs.Leaves.{StandsAt}
-use Rattle.tree_core.specs.Shapes.{Fits, Shape, cut, leaf}
+use Rattle.tree_core.specs.Common.{IsDerivationAt, kept_at, merged_at, StandsAt, Fits, Shape, cut, leaf}
 use Rattle.move_laws.proofs.CarriedTrees.{carried_derives}
 use Rattle.move_laws.proofs.Images.{turned}
 use Rattle.move_laws.proofs.Rising.{rising-derivation_at}

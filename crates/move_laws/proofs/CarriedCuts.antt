@@ -2,22 +2,11 @@
 -- the image of a shore or the image's complement is a cut again, and each side of the cut at the
 -- one partition has its image as a side of that at the other.
 use Rattle.std.proofs.Common.{Bool, List, ap, arith, false, inl, inr, length, not, refl, sym, true, ℕ, ◌∙◌, ◌≡◌, ◌≤◌}
-use Rattle.counting.proofs.Counts.{bit_true}
-use Rattle.counting.proofs.RisingLists.{mem-rising_list, rising_list-rises}
-use Rattle.counting.proofs.Totals.{some_term}
-use Rattle.counting.specs.Counts.{Within, bit}
-use Rattle.counting.specs.Lists.{IsRisingIn, mem, rising_list}
-use Rattle.counting.specs.Sets.{Set, complement}
-use Rattle.counting.proofs.Booleans.{not_not, not_not_back}
-use Rattle.graph_core.proofs.BlockSets.{at_rep, block_count_congr, block_count_rest, rep, rep_in, tight_congr, tight_rest, union_congr, union_rest}
-use Rattle.graph_core.proofs.Complements.{complement_of-rises, mem-complement_of}
-use Rattle.graph_core.proofs.MergedShores.{Some, alike_down, alike_in, alike_up, merge_of, same_side}
-use Rattle.graph_core.proofs.Merging.{merged_merges}
-use Rattle.graph_core.specs.Graph.{Graph, IsGraph, first_end, second_end}
-use Rattle.graph_core.specs.Partitions.{AreBlocks, IsMerge, complement_of, merged, place}
-use Rattle.graph_core.specs.Shores.{IsTightAt, IsUnion, block_count, blocks_in}
-use Rattle.graph_core.specs.Tight.{IsNontrivial}
-use Rattle.tree_core.specs.Derivations.{IsCutAt}
+use Rattle.counting.proofs.Common.{bit_true, mem-rising_list, rising_list-rises, some_term, not_not, not_not_back}
+use Rattle.counting.specs.Common.{Within, bit, IsRisingIn, mem, rising_list, Set, complement}
+use Rattle.graph_core.proofs.Common.{at_rep, block_count_congr, block_count_rest, rep, rep_in, tight_congr, tight_rest, union_congr, union_rest, complement_of-rises, mem-complement_of, Some, alike_down, alike_in, alike_up, merge_of, same_side, merged_merges}
+use Rattle.graph_core.specs.Common.{Graph, IsGraph, first_end, second_end, AreBlocks, IsMerge, complement_of, merged, place, IsTightAt, IsUnion, block_count, blocks_in, IsNontrivial}
+use Rattle.tree_core.specs.Common.{IsCutAt}
 use Rattle.move_laws.proofs.Images.{image_at, image_nontrivial, image_tight}
 use Rattle.move_laws.proofs.Rising.{bounds}
 use Rattle.move_laws.specs.Isomorphisms.{Isomorphism, OneWay, pre}

@@ -1,22 +1,13 @@
 -- The leaves of a carried tree: they are those of the tree, as same leaves by the names of the
 -- images of blocks, and two parts change their places where the complement of an image is taken.
 use Rattle.std.proofs.Common.{Bool, List, ap, arith, false, length, not, refl, sym, true, ℕ, ◌∙◌, ◌≡◌, cond, map, subst, ◌+◌, ◌-◌}
-use Rattle.std.proofs.lemmas.List.{get_or-map, length-map, map-append}
+use Rattle.counting.proofs.Common.{get_or-map, length-map, map-append}
 use Rattle.std.specs.Prelude.{[], ◌++◌}
-use Rattle.counting.specs.Counts.{Within}
-use Rattle.counting.specs.Lists.{mem, rising_list, last_of}
-use Rattle.graph_core.proofs.BlockSets.{rep}
-use Rattle.graph_core.proofs.MergeOrder.{merged_blocks}
-use Rattle.graph_core.proofs.MergedShores.{alike_up, covered_merged}
-use Rattle.graph_core.proofs.SameBlocks.{Finer}
-use Rattle.graph_core.specs.Covered.{IsCovered}
-use Rattle.graph_core.specs.Graph.{Graph, IsGraph}
-use Rattle.graph_core.specs.Partitions.{AreBlocks, complement_of, contracted, merged, place, IsPartition, block}
+use Rattle.counting.specs.Common.{Within, mem, rising_list, last_of}
+use Rattle.graph_core.proofs.Common.{rep, merged_blocks, alike_up, covered_merged, Finer}
+use Rattle.graph_core.specs.Common.{IsCovered, Graph, IsGraph, AreBlocks, complement_of, contracted, merged, place, IsPartition, block}
 use Rattle.tree_core.proofs.Sizes.{length-leaves_at}
-use Rattle.tree_core.specs.Derivations.{IsCutAt, IsDerivationAt, kept_at, merged_at}
-use Rattle.tree_core.specs.LeafMaps.{numbers}
-use Rattle.tree_core.specs.Leaves.{leaves_at}
-use Rattle.tree_core.specs.Shapes.{Shape, cut, leaf, leaf_count}
+use Rattle.tree_core.specs.Common.{IsCutAt, IsDerivationAt, kept_at, merged_at, numbers, leaves_at, Shape, cut, leaf, leaf_count}
 use Rattle.move_laws.proofs.CarriedCuts.{IsImage, image-merges, image-merged, image-inside, image-outside, rest-inside, rest-outside}
 use Rattle.move_laws.proofs.Images.{move_is}
 use Rattle.move_laws.proofs.Parts.{Part, part-join, part-one, part-turn}

@@ -1,11 +1,9 @@
 -- The law of carrying: along an isomorphism of blocks a derivation at one partition is carried to
 -- a derivation at the other.
 use Rattle.std.proofs.Common.{Bool, List, false, not, refl, true, ℕ, ◌≡◌}
-use Rattle.counting.specs.Lists.{mem, rising_list}
-use Rattle.graph_core.specs.Graph.{Graph, IsGraph}
-use Rattle.graph_core.specs.Partitions.{AreBlocks, complement_of, merged}
-use Rattle.tree_core.specs.Derivations.{IsCutAt, IsDerivationAt, IsLeafAt}
-use Rattle.tree_core.specs.Shapes.{Shape, cut, leaf}
+use Rattle.counting.specs.Common.{mem, rising_list}
+use Rattle.graph_core.specs.Common.{Graph, IsGraph, AreBlocks, complement_of, merged}
+use Rattle.tree_core.specs.Common.{IsCutAt, IsDerivationAt, IsLeafAt, Shape, cut, leaf}
 use Rattle.move_laws.proofs.CarriedCuts.{IsImage, image-merges, image-merged, image-cut, rest-cut, image-inside, image-outside, rest-inside, rest-outside}
 use Rattle.move_laws.proofs.Images.{image_nontrivial, image_tight, turned}
 use Rattle.move_laws.specs.Isomorphisms.{Isomorphism, carry, carry_cut, pre}

@@ -1,24 +1,12 @@
 -- What one leaf under names of blocks carries to the other: tight shores, derivations, merged
 -- partitions; and the names turned round.
 use Rattle.std.proofs.Common.{◌≡◌, ◌↔◌, ℕ, ◌-◌, ◌<◌, List, [], length, map, sym, ap, ◌∙◌, arith}
-use Rattle.std.proofs.lemmas.List.{get_or-map, length-map}
-use Rattle.counting.proofs.Lists.{mem-within, member-of_set}
-use Rattle.counting.proofs.RisingLists.{mem-rising_list, rising_list-rises}
-use Rattle.counting.specs.Counts.{Within}
-use Rattle.counting.specs.Lists.{IsRisingIn, last_of, mem}
-use Rattle.counting.specs.Sets.{Set}
-use Rattle.graph_core.proofs.BlockSets.{rep, rep_in, rep_place, union_congr}
-use Rattle.graph_core.proofs.MergedShores.{Some}
-use Rattle.graph_core.proofs.Merging.{merged_merges}
-use Rattle.graph_core.specs.Graph.{Graph, IsGraph}
-use Rattle.graph_core.specs.Partitions.{IsPartition, block, merged, place}
-use Rattle.graph_core.specs.Shores.{IsTightAt, IsUnion, blocks_in}
-use Rattle.graph_core.specs.Tight.{IsNontrivial}
+use Rattle.counting.proofs.Common.{get_or-map, length-map, mem-within, member-of_set, mem-rising_list, rising_list-rises}
+use Rattle.counting.specs.Common.{Within, IsRisingIn, last_of, mem, Set}
+use Rattle.graph_core.proofs.Common.{rep, rep_in, rep_place, union_congr, Some, merged_merges}
+use Rattle.graph_core.specs.Common.{Graph, IsGraph, IsPartition, block, merged, place, IsTightAt, IsUnion, blocks_in, IsNontrivial}
 use Rattle.tree_core.proofs.DerivationStands.{stands-derivation_at}
-use Rattle.tree_core.specs.Derivations.{IsDerivationAt}
-use Rattle.tree_core.specs.LeafMaps.{position}
-use Rattle.tree_core.specs.Leaves.{StandsAt}
-use Rattle.tree_core.specs.Shapes.{Fits, Shape}
+use Rattle.tree_core.specs.Common.{IsDerivationAt, position, StandsAt, Fits, Shape}
 use Rattle.move_laws.proofs.CarriedBack.{carried_back, carried_twice}
 use Rattle.move_laws.proofs.CarriedCuts.{iso_merged}
 use Rattle.move_laws.proofs.CarriedTrees.{carried_derives}

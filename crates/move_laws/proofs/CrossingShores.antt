@@ -2,18 +2,11 @@
 -- where they are no single blocks, a Switch exchanges them, and Rotate brings the shore back over
 -- both.
 use Rattle.std.proofs.Common.{Bool, List, None, Some, ap, arith, cond, false, if◌then◌else◌, inl, inr, not, refl, sym, true, ℕ, ◌&&◌, ◌∙◌, ◌≡◌, Option}
-use Rattle.counting.proofs.Odd.{odd-add}
-use Rattle.counting.specs.Counts.{Within, is_odd}
-use Rattle.counting.specs.Lists.{IsRisingIn, mem}
-use Rattle.counting.specs.Sets.{meet, minus}
-use Rattle.graph_core.proofs.BlockSets.{block_count_congr, block_count_parts, union_minus}
-use Rattle.graph_core.proofs.Complements.{mem-complement_of}
-use Rattle.graph_core.specs.Graph.{Graph}
-use Rattle.graph_core.specs.Partitions.{complement_of, contracted}
-use Rattle.graph_core.specs.Shores.{block_count}
-use Rattle.tree_core.specs.Derivations.{IsDerivationAt, kept_at, merged_at}
-use Rattle.tree_core.specs.Moves.{PlainMove, meet_list}
-use Rattle.tree_core.specs.Shapes.{Shape, cut}
+use Rattle.counting.proofs.Common.{odd-add}
+use Rattle.counting.specs.Common.{Within, is_odd, IsRisingIn, mem, meet, minus}
+use Rattle.graph_core.proofs.Common.{block_count_congr, block_count_parts, union_minus, mem-complement_of}
+use Rattle.graph_core.specs.Common.{Graph, complement_of, contracted, block_count}
+use Rattle.tree_core.specs.Common.{IsDerivationAt, kept_at, merged_at, PlainMove, meet_list, Shape, cut}
 use Rattle.move_laws.proofs.BigShores.{Big, Stage, big_rest, big_some, cut_big, stage_merged}
 use Rattle.move_laws.proofs.CornerSwitch.{Kind}
 use Rattle.move_laws.proofs.Corners.{Corners, inner_single_or_big, outer_single_or_big}

@@ -2,16 +2,10 @@
 -- partitions are the same leaf. The hard pair of blocks goes by parity, all others by a case
 -- split on the regions.
 use Rattle.std.proofs.Common.{Bool, List, ap, ap₂, arith, cond, false, inl, inr, refl, sym, true, ℕ, ◌&&◌, ◌+◌, ◌||◌, ◌∙◌, ◌≡◌, ◌≢◌}
-use Rattle.std.proofs.lemmas.Bool.{and_parts, both_ways, cases_Bool, or_cases}
-use Rattle.counting.specs.Counts.{Within, bit, is_odd}
-use Rattle.counting.specs.Sets.{Set, union}
-use Rattle.counting.proofs.Booleans.{or_fails_first}
-use Rattle.graph_core.proofs.BlockSets.{union_join}
-use Rattle.graph_core.proofs.MergedShores.{alike_down, alike_in, alike_up, same_side}
-use Rattle.graph_core.specs.Covered.{IsCovered}
-use Rattle.graph_core.specs.Graph.{Graph, IsGraph, first_end, second_end, size}
-use Rattle.graph_core.specs.Partitions.{AreBlocks, IsMerge, contracted, place}
-use Rattle.graph_core.specs.Shores.{IsUnion, block_count}
+use Rattle.counting.proofs.Common.{and_parts, both_ways, cases_Bool, or_cases, or_fails_first}
+use Rattle.counting.specs.Common.{Within, bit, is_odd, Set, union}
+use Rattle.graph_core.proofs.Common.{union_join, alike_down, alike_in, alike_up, same_side}
+use Rattle.graph_core.specs.Common.{IsCovered, Graph, IsGraph, first_end, second_end, size, AreBlocks, IsMerge, contracted, place, IsUnion, block_count}
 use Rattle.move_laws.proofs.FourRegions.{FourRegions, Link, hard_pair}
 use Rattle.move_laws.specs.Isomorphisms.{EndsAt, Isomorphism, OneWay}
 

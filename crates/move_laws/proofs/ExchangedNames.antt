@@ -1,21 +1,11 @@
 -- The exchange law by names: the two pairs of partitions are the same leaves by the names of the
 -- images.
 use Rattle.std.proofs.Common.{◌≡◌, ℕ, Bool, true, false, ◌||◌, ◌&&◌, not, List, map, sym, ap, ◌∙◌, arith}
-use Rattle.std.proofs.lemmas.Bool.{or_right}
-use Rattle.counting.proofs.RisingLists.{mem-rising_list, rising_list-rises}
-use Rattle.counting.specs.Counts.{Within}
-use Rattle.counting.specs.Lists.{IsRisingIn, last_of, mem}
-use Rattle.counting.specs.Sets.{union}
-use Rattle.graph_core.proofs.BlockSets.{tight_congr, tight_rest}
-use Rattle.graph_core.proofs.MergeOrder.{merged_blocks}
-use Rattle.graph_core.proofs.MergedShores.{Some, merge_of}
-use Rattle.graph_core.specs.Covered.{IsCovered}
-use Rattle.graph_core.specs.Graph.{Graph, IsGraph}
-use Rattle.graph_core.specs.Partitions.{IsPartition, contracted, merged}
-use Rattle.graph_core.specs.Shores.{IsTightAt}
-use Rattle.tree_core.specs.Derivations.{kept_at, merged_at}
-use Rattle.tree_core.specs.LeafMaps.{kept_image, merged_image}
-use Rattle.tree_core.specs.Moves.{inner_rest, outer_rest, union_list}
+use Rattle.counting.proofs.Common.{or_right, mem-rising_list, rising_list-rises}
+use Rattle.counting.specs.Common.{Within, IsRisingIn, last_of, mem, union}
+use Rattle.graph_core.proofs.Common.{tight_congr, tight_rest, merged_blocks, Some, merge_of}
+use Rattle.graph_core.specs.Common.{IsCovered, Graph, IsGraph, IsPartition, contracted, merged, IsTightAt}
+use Rattle.tree_core.specs.Common.{kept_at, merged_at, kept_image, merged_image, inner_rest, outer_rest, union_list}
 use Rattle.move_laws.proofs.BigShores.{Stage}
 use Rattle.move_laws.proofs.Rising.{bounds}
 use Rattle.move_laws.proofs.CarriedLeaves.{images-same_leaf}

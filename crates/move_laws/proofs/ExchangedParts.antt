@@ -2,19 +2,11 @@
 -- outside, and u with the rest of the outside is tight too. Nothing more is asked of x: it may be
 -- trivial, and it may have the greatest vertex.
 use Rattle.std.proofs.Common.{List, ap, cond, not, ℕ, Bool, true, false, ◌&&◌, ◌||◌, ◌∙◌, ◌≡◌, arith}
-use Rattle.counting.proofs.RisingLists.{mem-rising_list}
-use Rattle.counting.specs.Counts.{Within}
-use Rattle.counting.specs.Lists.{IsRisingIn, mem}
-use Rattle.counting.specs.Sets.{Set, complement, minus, union}
-use Rattle.graph_core.proofs.Complements.{complement_of-rises, mem-complement_of, union-complement_of}
-use Rattle.graph_core.proofs.MergeOrder.{merged_blocks}
-use Rattle.graph_core.proofs.MergedShores.{Some}
-use Rattle.graph_core.proofs.Merging.{merged_merges}
-use Rattle.graph_core.specs.Graph.{Graph}
-use Rattle.graph_core.specs.Partitions.{IsMerge, IsPartition, complement_of}
-use Rattle.graph_core.specs.Shores.{IsUnion}
-use Rattle.tree_core.specs.Derivations.{kept_at, merged_at}
-use Rattle.tree_core.specs.Moves.{inner_rest, outer_rest}
+use Rattle.counting.proofs.Common.{mem-rising_list}
+use Rattle.counting.specs.Common.{Within, IsRisingIn, mem, Set, complement, minus, union}
+use Rattle.graph_core.proofs.Common.{complement_of-rises, mem-complement_of, union-complement_of, merged_blocks, Some, merged_merges}
+use Rattle.graph_core.specs.Common.{Graph, IsMerge, IsPartition, complement_of, IsUnion}
+use Rattle.tree_core.specs.Common.{kept_at, merged_at, inner_rest, outer_rest}
 use Rattle.move_laws.proofs.BigShores.{Stage}
 use Rattle.move_laws.proofs.Exchange.{exchange_kept, exchange_merged}
 use Rattle.move_laws.proofs.Rising.{bounds}

@@ -1,20 +1,10 @@
 -- Images under an isomorphism of blocks: tight shores, their numbers of blocks and being covered
 -- go over, both ways.
 use Rattle.std.proofs.Common.{Bool, List, ap, arith, false, inl, inr, length, refl, subst₂, suc, sym, true, zero, ℕ, ◌∙◌, ◌≡◌, ◌≢◌}
-use Rattle.std.proofs.lemmas.Bool.{both_ways}
-use Rattle.counting.proofs.Tests.{some_true, true_some}
-use Rattle.counting.specs.Counts.{Within, count, is_odd}
-use Rattle.counting.specs.Sets.{Set, complement}
-use Rattle.counting.specs.Tests.{some}
-use Rattle.graph_core.proofs.Adjacency.{Alike, has_ends-from, tight_back}
-use Rattle.graph_core.proofs.BlockSets.{at_place, at_rep, block_count_rest, count_over, place_rep, rep, rep_in, rep_place, tight_congr, union_rest}
-use Rattle.graph_core.proofs.Blocks.{contracted-ends, contracted-graph, contracted-size, place_in}
-use Rattle.graph_core.proofs.SameSets.{cut_congr}
-use Rattle.graph_core.proofs.Walks.{has_ends-back, has_ends-cases}
-use Rattle.graph_core.specs.Graph.{Graph, IsGraph, first_end, has_ends, second_end, size}
-use Rattle.graph_core.specs.Partitions.{AreBlocks, contracted, place}
-use Rattle.graph_core.specs.Shores.{IsTightAt, IsUnion, block_count, blocks_in}
-use Rattle.graph_core.specs.Tight.{IsNontrivial}
+use Rattle.counting.proofs.Common.{both_ways, some_true, true_some}
+use Rattle.counting.specs.Common.{Within, count, is_odd, Set, complement, some}
+use Rattle.graph_core.proofs.Common.{Alike, has_ends-from, tight_back, at_place, at_rep, block_count_rest, count_over, place_rep, rep, rep_in, rep_place, tight_congr, union_rest, contracted-ends, contracted-graph, contracted-size, place_in, cut_congr, has_ends-back, has_ends-cases}
+use Rattle.graph_core.specs.Common.{Graph, IsGraph, first_end, has_ends, second_end, size, AreBlocks, contracted, place, IsTightAt, IsUnion, block_count, blocks_in, IsNontrivial}
 use Rattle.move_laws.specs.Isomorphisms.{Isomorphism, pre}
 
 pub turned : (g : Graph) (p q : List (List ℕ)) (h k : ℕ → ℕ) → Isomorphism g p q h k → Isomorphism g q p k h

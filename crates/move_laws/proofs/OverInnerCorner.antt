@@ -1,19 +1,11 @@
 -- A crossing shore is brought over both corners: after the inner one was brought to the root of
 -- `kept`, over the outer one below it, and back.
 use Rattle.std.proofs.Common.{Bool, List, None, Some, [], ap, arith, false, if◌then◌else◌, inl, inr, length, map, not, refl, subst, sym, true, ℕ, ◌&&◌, ◌*◌, ◌++◌, ◌+◌, ◌||◌, ◌∙◌, ◌∷◌, ◌≡◌, ◌≤◌, Option, option_and_then}
-use Rattle.std.proofs.lemmas.Bool.{and_left, and_right, not-true}
-use Rattle.counting.proofs.RisingLists.{rising_list-rises, true_all_in, all_in_false}
-use Rattle.counting.specs.Counts.{Within}
-use Rattle.counting.specs.Lists.{IsRisingIn, mem}
-use Rattle.counting.specs.Sets.{meet}
-use Rattle.counting.proofs.Booleans.{and_second, nor_left, nor_right}
-use Rattle.graph_core.proofs.Complements.{mem-complement_of}
-use Rattle.graph_core.proofs.MergedShores.{Apart}
-use Rattle.graph_core.specs.Graph.{Graph}
-use Rattle.graph_core.specs.Partitions.{complement_of, merged}
-use Rattle.tree_core.specs.Derivations.{IsDerivationAt, kept_at, merged_at}
-use Rattle.tree_core.specs.Moves.{IsBlockOf, PlainMove, below, rotate_at, rotate_result_at, meet_list}
-use Rattle.tree_core.specs.Shapes.{Shape, cut, cut_count}
+use Rattle.counting.proofs.Common.{and_left, and_right, not-true, rising_list-rises, true_all_in, all_in_false, and_second, nor_left, nor_right}
+use Rattle.counting.specs.Common.{Within, IsRisingIn, mem, meet}
+use Rattle.graph_core.proofs.Common.{mem-complement_of, Apart}
+use Rattle.graph_core.specs.Common.{Graph, complement_of, merged}
+use Rattle.tree_core.specs.Common.{IsDerivationAt, kept_at, merged_at, IsBlockOf, PlainMove, below, rotate_at, rotate_result_at, meet_list, Shape, cut, cut_count}
 use Rattle.tree_core.specs.declared.path.Side.TheVariants.{Kept, Merged}
 use Rattle.move_laws.proofs.BigShores.{Big, big_rest, big_some, rest_rest, stage_merged, same_number, swallowed}
 use Rattle.move_laws.proofs.CornerSwitch.{Kind}

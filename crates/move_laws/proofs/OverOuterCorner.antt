@@ -1,18 +1,11 @@
 -- A crossing shore is brought over the outer corner: where this is one block at once, and else
 -- after it was brought to the root of `merged`, and back over it.
 use Rattle.std.proofs.Common.{Bool, List, None, Some, [], ap, arith, false, if◌then◌else◌, inl, inr, length, map, not, refl, subst, sym, true, ℕ, ◌*◌, ◌++◌, ◌+◌, ◌||◌, ◌∙◌, ◌∷◌, ◌≡◌, ◌≤◌, Option, option_and_then, option_map}
-use Rattle.counting.proofs.RisingLists.{rising_list-rises, true_all_in, all_in_false}
-use Rattle.counting.specs.Counts.{Within}
-use Rattle.counting.specs.Lists.{IsRisingIn, is_subset, mem}
-use Rattle.counting.specs.Sets.{complement, union}
-use Rattle.counting.proofs.Booleans.{nor_left, nor_right}
-use Rattle.graph_core.proofs.Complements.{mem-complement_of}
-use Rattle.graph_core.proofs.MergedShores.{Apart}
-use Rattle.graph_core.specs.Graph.{Graph}
-use Rattle.graph_core.specs.Partitions.{complement_of, merged}
-use Rattle.tree_core.specs.Derivations.{IsDerivationAt, kept_at, merged_at}
-use Rattle.tree_core.specs.Moves.{IsBlockOf, PlainMove, below, rotate_at, rotate_result_at, switch_at, switch_result_at, meet_list}
-use Rattle.tree_core.specs.Shapes.{Shape, cut, cut_count}
+use Rattle.counting.proofs.Common.{rising_list-rises, true_all_in, all_in_false, nor_left, nor_right}
+use Rattle.counting.specs.Common.{Within, IsRisingIn, is_subset, mem, complement, union}
+use Rattle.graph_core.proofs.Common.{mem-complement_of, Apart}
+use Rattle.graph_core.specs.Common.{Graph, complement_of, merged}
+use Rattle.tree_core.specs.Common.{IsDerivationAt, kept_at, merged_at, IsBlockOf, PlainMove, below, rotate_at, rotate_result_at, switch_at, switch_result_at, meet_list, Shape, cut, cut_count}
 use Rattle.tree_core.specs.declared.path.Side.{Side}
 use Rattle.tree_core.specs.declared.path.Side.TheVariants.{Kept, Merged}
 use Rattle.move_laws.proofs.BigShores.{Big, Stage, big_some, rest_rest}

@@ -3,15 +3,12 @@
 -- Parts are joined as trees are, and a whole one gives a pairing.
 use Rattle.std.proofs.Common.{◌≡◌, ℕ, suc, zero, ◌+◌, ◌-◌, ◌≤◌, ◌<◌, inl, ◌==◌, List, [], ◌∷◌, ◌++◌, length, map, refl, sym, ap, ◌∙◌, arith, eq-eqb, ne_eqb, subst, subst₂, All}
 use Rattle.std.specs.Prelude.{slice_index, slice_index_or}
-use Rattle.std.proofs.lemmas.List.{get_or_append_left, get_or-append-add, get_or-map, length-append, length-map}
-use Rattle.counting.proofs.Lists.{times_mem}
-use Rattle.counting.proofs.Totals.{total_at}
-use Rattle.counting.specs.Counts.{bit, Within}
-use Rattle.counting.specs.Lists.{last_of}
-use Rattle.graph_core.proofs.BlockSets.{rep_place}
-use Rattle.graph_core.specs.Graph.{Graph, IsGraph}
-use Rattle.graph_core.specs.Partitions.{AreBlocks, IsPartition, block, names_of}
-use Rattle.tree_core.specs.LeafMaps.{PlainLeafMap, leaf_at, map_at, maps_from, numbers, position}
+use Rattle.std.proofs.lemmas.List.{get_or-append-add}
+use Rattle.counting.proofs.Common.{get_or_append_left, get_or-map, length-append, length-map, times_mem, total_at}
+use Rattle.counting.specs.Common.{bit, Within, last_of}
+use Rattle.graph_core.proofs.Common.{rep_place}
+use Rattle.graph_core.specs.Common.{Graph, IsGraph, AreBlocks, IsPartition, block, names_of}
+use Rattle.tree_core.specs.Common.{PlainLeafMap, leaf_at, map_at, maps_from, numbers, position}
 use Rattle.move_laws.proofs.Alignments.{Aligned, IsOrder, aligned-at, aligned-join, aligned-length, aligned-map, numbers-split, order-few, order-join, order-one, order-turn, position-once}
 use Rattle.move_laws.proofs.Images.{move_is}
 use Rattle.move_laws.proofs.Positions.{position-item}

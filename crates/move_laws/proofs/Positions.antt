@@ -2,10 +2,9 @@
 -- the list has no number twice.
 use Rattle.std.proofs.Common.{◌≡◌, ℕ, suc, zero, ◌+◌, ◌-◌, Bool, true, false, cond, ◌==◌, ◌||◌, List, [], ◌∷◌, length, refl, sym, ap, ◌∙◌, arith, eqb-true}
 use Rattle.std.specs.Prelude.{slice_index}
-use Rattle.std.proofs.lemmas.Bool.{both_ways}
-use Rattle.counting.specs.Counts.{Within}
-use Rattle.counting.specs.Lists.{mem}
-use Rattle.tree_core.specs.LeafMaps.{position}
+use Rattle.counting.proofs.Common.{both_ways}
+use Rattle.counting.specs.Common.{Within, mem}
+use Rattle.tree_core.specs.Common.{position}
 
 -- a number of the list stands at its place
 pub position-item : (xs : List ℕ) (j : ℕ) → mem xs j ≡ true → Within (length xs) (position xs j) × (slice_index xs (position xs j - 1) ≡ j)

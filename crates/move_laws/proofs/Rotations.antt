@@ -1,20 +1,11 @@
 -- Rotate keeps derivations and their leaves, in each of its three rows and along a path.
 use Rattle.move_laws.specs.Scripts.{AreRising}
 use Rattle.std.proofs.Common.{Bool, List, None, Option, Some, [], ap, ap₂, arith, false, if◌then◌else◌, inl, inr, not, option_map, refl, subst, sym, true, ℕ, ◌&&◌, ◌++◌, ◌∙◌, ◌∷◌, ◌≡◌}
-use Rattle.std.proofs.lemmas.Bool.{both_ways, cases_Bool}
-use Rattle.std.proofs.lemmas.Option.{none-some, same_Some}
-use Rattle.counting.proofs.RisingLists.{all_in_true}
-use Rattle.counting.specs.Counts.{Within}
-use Rattle.counting.specs.Lists.{is_apart, is_subset, mem}
-use Rattle.counting.specs.Sets.{Set, everything, minus}
-use Rattle.graph_core.proofs.Complements.{mem-complement_of}
-use Rattle.graph_core.proofs.MergedShores.{Apart, Below, inside_or_apart}
-use Rattle.graph_core.specs.Graph.{Graph}
-use Rattle.graph_core.specs.Partitions.{complement_of, merged}
-use Rattle.tree_core.specs.Derivations.{IsDerivationAt, kept_at, merged_at}
-use Rattle.tree_core.specs.Leaves.{leaves_at}
-use Rattle.tree_core.specs.Moves.{result_at, rotate_result_at, rotate_result_kept, rotate_result_merged}
-use Rattle.tree_core.specs.Shapes.{Shape, cut, cut_count, leaf}
+use Rattle.counting.proofs.Common.{both_ways, cases_Bool, none-some, same_Some, all_in_true}
+use Rattle.counting.specs.Common.{Within, is_apart, is_subset, mem, Set, everything, minus}
+use Rattle.graph_core.proofs.Common.{mem-complement_of, Apart, Below, inside_or_apart}
+use Rattle.graph_core.specs.Common.{Graph, complement_of, merged}
+use Rattle.tree_core.specs.Common.{IsDerivationAt, kept_at, merged_at, leaves_at, result_at, rotate_result_at, rotate_result_kept, rotate_result_merged, Shape, cut, cut_count, leaf}
 use Rattle.tree_core.specs.declared.path.Side.{Side}
 use Rattle.tree_core.specs.declared.path.Side.TheVariants.{Kept, Merged}
 use Rattle.move_laws.proofs.BigShores.{Big, Stage, big_cut, big_merge, big_rest, big_some, big_x, big_y, commuted, cut_big, rest_rest, stage_merged, swallowed}

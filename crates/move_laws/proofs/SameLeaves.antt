@@ -1,23 +1,12 @@
 -- A same leaf by names is an isomorphism by maps of vertices, and an isomorphism is a same leaf
 -- by the names of the images.
 use Rattle.std.proofs.Common.{Bool, List, ap, ap₂, arith, eq-eqb, eqb-true, false, inl, inr, length, map, ne_eqb, not, refl, subst, subst₂, sym, true, ℕ, ◌&&◌, ◌-◌, ◌<◌, ◌==◌, ◌||◌, ◌∙◌, ◌≡◌, ◌≢◌}
-use Rattle.std.proofs.lemmas.Bool.{and_from, and_parts, both_ways, cases_eq}
-use Rattle.std.proofs.lemmas.List.{get_or-map, length-map}
+use Rattle.counting.proofs.Common.{and_from, and_parts, both_ways, cases_eq, get_or-map, length-map, bit_true, only_one, mem-item, some_true, true_some, some_term, total_at}
 use Rattle.std.specs.Prelude.{slice_index}
-use Rattle.counting.proofs.Counts.{bit_true, only_one}
-use Rattle.counting.proofs.RisingLists.{mem-item}
-use Rattle.counting.proofs.Tests.{some_true, true_some}
-use Rattle.counting.proofs.Totals.{some_term, total_at}
-use Rattle.counting.specs.Counts.{Within, bit}
-use Rattle.counting.specs.Lists.{last_of, mem}
-use Rattle.counting.specs.Tests.{some}
-use Rattle.graph_core.proofs.Blocks.{contracted-ends, contracted-size, place_in, place_is}
-use Rattle.graph_core.proofs.Merging.{mem_last}
-use Rattle.graph_core.proofs.Walks.{has_ends-cases}
-use Rattle.graph_core.specs.Graph.{Graph, IsGraph, first_end, has_ends, second_end, size}
-use Rattle.graph_core.specs.Partitions.{AreBlocks, block, contracted, place}
-use Rattle.graph_core.specs.Quotients.{blocks_adjacent}
-use Rattle.tree_core.specs.LeafMaps.{name, position}
+use Rattle.counting.specs.Common.{Within, bit, last_of, mem, some}
+use Rattle.graph_core.proofs.Common.{contracted-ends, contracted-size, place_in, place_is, mem_last, has_ends-cases}
+use Rattle.graph_core.specs.Common.{Graph, IsGraph, first_end, has_ends, second_end, size, AreBlocks, block, contracted, place, blocks_adjacent}
+use Rattle.tree_core.specs.Common.{name, position}
 use Rattle.move_laws.proofs.Images.{back_in, back_move, image_edges, move_back, move_in, moved, moved_back}
 use Rattle.move_laws.proofs.Positions.{position-item}
 use Rattle.move_laws.specs.Isomorphisms.{EndsAt, Isomorphism}

@@ -2,19 +2,10 @@
 -- pairing of a move is a pairing.
 use Rattle.move_laws.specs.Scripts.{AreRising, IsProperScript}
 use Rattle.std.proofs.Common.{◌≡◌, ℕ, ◌-◌, ◌<◌, Bool, true, ◌==◌, List, [], ◌∷◌, length, map, unwrap_or, sym, ap, ap₂, ◌∙◌, arith, eq-eqb, ne_eqb, eqb-true, subst}
-use Rattle.std.proofs.lemmas.List.{get_or-map, length-map}
-use Rattle.counting.proofs.Counts.{bit_true, count_congr, only_one}
-use Rattle.counting.proofs.Totals.{some_term, total_at}
-use Rattle.counting.specs.Counts.{Within, bit, count}
-use Rattle.counting.specs.Lists.{last_of}
-use Rattle.graph_core.specs.Graph.{Graph}
-use Rattle.graph_core.specs.Partitions.{block, names_of, place, singles}
-use Rattle.graph_core.specs.Quotients.{blocks_adjacent}
-use Rattle.tree_core.specs.Derivations.{IsDerivationAt}
-use Rattle.tree_core.specs.LeafMaps.{PlainLeafMap, leaf_at, map_at, maps_after, move_maps, name, numbers, own_maps, script_maps, then_map}
-use Rattle.tree_core.specs.Leaves.{leaves}
-use Rattle.tree_core.specs.Moves.{PlainMove, move_result}
-use Rattle.tree_core.specs.Shapes.{Shape, leaf_count}
+use Rattle.counting.proofs.Common.{get_or-map, length-map, bit_true, count_congr, only_one, some_term, total_at}
+use Rattle.counting.specs.Common.{Within, bit, count, last_of}
+use Rattle.graph_core.specs.Common.{Graph, block, names_of, place, singles, blocks_adjacent}
+use Rattle.tree_core.specs.Common.{IsDerivationAt, PlainLeafMap, leaf_at, map_at, maps_after, move_maps, name, numbers, own_maps, script_maps, then_map, leaves, PlainMove, move_result, Shape, leaf_count}
 use Rattle.move_laws.proofs.BigShores.{Stage}
 use Rattle.move_laws.proofs.MoveParts.{move_pairs, own_part}
 use Rattle.move_laws.proofs.Parts.{part-pairing}

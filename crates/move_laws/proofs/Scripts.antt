@@ -2,11 +2,9 @@
 -- other, and below a side of a cut.
 use Rattle.move_laws.specs.Scripts.{AreRising, IsProperScript}
 use Rattle.std.proofs.Common.{List, Some, [], ap, arith, length, map, option_map, refl, subst, sym, ℕ, ◌++◌, ◌+◌, ◌∙◌, ◌∷◌, ◌≡◌}
-use Rattle.std.proofs.lemmas.Option.{none-some}
-use Rattle.graph_core.specs.Graph.{Graph}
-use Rattle.tree_core.specs.Derivations.{IsDerivationAt, kept_at, merged_at}
-use Rattle.tree_core.specs.Moves.{below, IsProper, PlainMove, move_result, rotate_at, rotate_result_at, switch_at}
-use Rattle.tree_core.specs.Shapes.{Shape, cut, cut_count}
+use Rattle.counting.proofs.Common.{none-some}
+use Rattle.graph_core.specs.Common.{Graph}
+use Rattle.tree_core.specs.Common.{IsDerivationAt, kept_at, merged_at, below, IsProper, PlainMove, move_result, rotate_at, rotate_result_at, switch_at, Shape, cut, cut_count}
 use Rattle.tree_core.specs.declared.path.Side.{Side}
 use Rattle.tree_core.specs.declared.path.Side.TheVariants.{Kept, Merged}
 use Rattle.move_laws.proofs.BigShores.{Stage}

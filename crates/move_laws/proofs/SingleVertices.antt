@@ -1,10 +1,7 @@
 -- A matching covered graph at its single vertices is a stage from which trees are derived.
 use Rattle.std.proofs.Common.{subst, sym}
-use Rattle.graph_core.proofs.SingleBlocks.{contracted-singles}
-use Rattle.graph_core.proofs.Singles.{singles-partition}
-use Rattle.graph_core.specs.Covered.{IsCovered}
-use Rattle.graph_core.specs.Graph.{Graph, IsGraph}
-use Rattle.graph_core.specs.Partitions.{singles}
+use Rattle.graph_core.proofs.Common.{contracted-singles, singles-partition}
+use Rattle.graph_core.specs.Common.{IsCovered, Graph, IsGraph, singles}
 use Rattle.move_laws.proofs.BigShores.{Stage}
 
 pub singles_stage : (g : Graph) → IsGraph g → IsCovered g → Stage g (singles g.order)

@@ -2,22 +2,12 @@
 -- that the maps give.
 use Rattle.move_laws.specs.Scripts.{AreRising}
 use Rattle.std.proofs.Common.{◌≡◌, ℕ, ◌+◌, Bool, true, false, cond, ◌||◌, ◌&&◌, not, List, [], ◌++◌, map, if◌then◌else◌, refl, sym, ap, ap₂, ◌∙◌, arith, subst}
-use Rattle.std.proofs.lemmas.Bool.{and_parts, not-true}
-use Rattle.counting.proofs.RisingLists.{mem-rising_list, all_in_true}
-use Rattle.counting.specs.Counts.{Within}
-use Rattle.counting.specs.Lists.{IsRisingIn, is_subset, last_of, mem}
-use Rattle.counting.specs.Sets.{Set, complement, minus, union}
-use Rattle.graph_core.proofs.BlockSets.{tight_congr, tight_rest}
-use Rattle.graph_core.proofs.Complements.{mem-complement_of}
-use Rattle.graph_core.specs.Graph.{Graph}
-use Rattle.graph_core.specs.Partitions.{IsMerge, complement_of}
-use Rattle.graph_core.specs.Shores.{IsTightAt, IsUnion}
+use Rattle.counting.proofs.Common.{and_parts, not-true, mem-rising_list, all_in_true}
+use Rattle.counting.specs.Common.{Within, IsRisingIn, is_subset, last_of, mem, Set, complement, minus, union}
+use Rattle.graph_core.proofs.Common.{tight_congr, tight_rest, mem-complement_of}
+use Rattle.graph_core.specs.Common.{Graph, IsMerge, complement_of, IsTightAt, IsUnion}
 use Rattle.tree_core.proofs.Sizes.{length-leaves_at}
-use Rattle.tree_core.specs.Derivations.{IsCutAt, IsDerivationAt, kept_at, merged_at}
-use Rattle.tree_core.specs.LeafMaps.{kept_image, kept_order_if_greatest_stays, merged_image, numbers, switch_names, switch_order}
-use Rattle.tree_core.specs.Leaves.{leaves_at}
-use Rattle.tree_core.specs.Moves.{IsBlockOf, inner_rest, is_proper, kept_if_greatest_stays, kept_if_greatest_comes, merged_if_greatest_stays, merged_if_greatest_comes, outer_rest, union_list}
-use Rattle.tree_core.specs.Shapes.{Shape, cut, leaf, leaf_count}
+use Rattle.tree_core.specs.Common.{IsCutAt, IsDerivationAt, kept_at, merged_at, kept_image, kept_order_if_greatest_stays, merged_image, numbers, switch_names, switch_order, leaves_at, IsBlockOf, inner_rest, is_proper, kept_if_greatest_stays, kept_if_greatest_comes, merged_if_greatest_stays, merged_if_greatest_comes, outer_rest, union_list, Shape, cut, leaf, leaf_count}
 use Rattle.move_laws.proofs.Alignments.{numbers-split}
 use Rattle.move_laws.proofs.BigShores.{Big, Stage, big_rest, cut_big, stage_merged}
 use Rattle.move_laws.proofs.CarriedLeaves.{carried_parts, carry_order}

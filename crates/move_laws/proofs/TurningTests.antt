@@ -1,12 +1,10 @@
 -- What the steps of a turning ask of the tree: tests of two shores, the two forms of Rotate in
 -- `merged`, and the shape of a carried tree.
 use Rattle.std.proofs.Common.{Bool, List, None, Some, [], ap, arith, false, if◌then◌else◌, not, refl, true, ℕ, ◌&&◌, ◌∙◌, ◌≡◌}
-use Rattle.counting.proofs.RisingLists.{rising_list-rises, true_all_in}
-use Rattle.counting.specs.Lists.{IsRisingIn, is_apart, is_subset, mem}
-use Rattle.counting.specs.Sets.{everything, minus}
-use Rattle.graph_core.proofs.MergedShores.{Apart}
-use Rattle.tree_core.specs.Moves.{is_proper, rotate_result_at}
-use Rattle.tree_core.specs.Shapes.{Shape, cut, cut_count, leaf}
+use Rattle.counting.proofs.Common.{rising_list-rises, true_all_in}
+use Rattle.counting.specs.Common.{IsRisingIn, is_apart, is_subset, mem, everything, minus}
+use Rattle.graph_core.proofs.Common.{Apart}
+use Rattle.tree_core.specs.Common.{is_proper, rotate_result_at, Shape, cut, cut_count, leaf}
 use Rattle.tree_core.specs.declared.path.Side.TheVariants.{Merged}
 use Rattle.move_laws.proofs.Rising.{bounds}
 use Rattle.move_laws.specs.Isomorphisms.{carry, carry_cut}

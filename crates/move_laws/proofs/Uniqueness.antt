@@ -2,22 +2,15 @@
 -- graph are joined by few moves (Lovász 1987).
 use Rattle.move_laws.specs.Scripts.{AreRising, IsProperScript}
 use Rattle.std.proofs.Common.{List, [], length, ℕ, ◌*◌, ◌+◌, ◌∷◌, ◌≡◌, ◌≤◌}
-use Rattle.counting.specs.Lists.{IsRisingIn}
-use Rattle.graph_core.specs.Covered.{IsCovered}
-use Rattle.graph_core.specs.Graph.{Graph, IsGraph}
-use Rattle.graph_core.specs.Partitions.{singles}
-use Rattle.tree_core.specs.Derivations.{IsCutAt, IsDerivation, IsDerivationAt}
-use Rattle.tree_core.specs.Moves.{PlainMove, TurnsThrough}
-use Rattle.tree_core.specs.Shapes.{Shape, cut, cut_count}
+use Rattle.counting.specs.Common.{IsRisingIn}
+use Rattle.graph_core.specs.Common.{IsCovered, Graph, IsGraph, singles}
+use Rattle.tree_core.specs.Common.{IsCutAt, IsDerivation, IsDerivationAt, PlainMove, TurnsThrough, Shape, cut, cut_count, PlainLeafMap, move_maps, script_maps, leaves, IsProper, last_step, move_result, parent_path, rotate_result, rotate_result_at}
 use Rattle.move_laws.proofs.BigShores.{Stage, cut_big}
 use Rattle.move_laws.proofs.Comparison.{compare}
 use Rattle.move_laws.proofs.CrossingShores.{crossed}
 use Rattle.move_laws.proofs.NestedShores.{Compared, Exposes, expose}
 use Rattle.std.proofs.Common.{Some as Just}
-use Rattle.std.proofs.lemmas.Option.{none-some}
-use Rattle.tree_core.specs.LeafMaps.{PlainLeafMap, move_maps, script_maps}
-use Rattle.tree_core.specs.Leaves.{leaves}
-use Rattle.tree_core.specs.Moves.{IsProper, last_step, move_result, parent_path, rotate_result, rotate_result_at}
+use Rattle.counting.proofs.Common.{none-some}
 use Rattle.tree_core.specs.declared.path.Side.{Side}
 use Rattle.move_laws.proofs.MoveParts.{move_pairs}
 use Rattle.move_laws.proofs.Rising.{rising-derivation_at}

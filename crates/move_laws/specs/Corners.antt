@@ -2,11 +2,8 @@
 -- outside both.
 -- Stated by: uncross. Rests on it: move_laws.
 use Rattle.std.specs.Prelude.{ℕ, List, if◌then◌else◌}
-use Rattle.counting.specs.Counts.{is_odd}
-use Rattle.counting.specs.Lists.{mem, rising_list}
-use Rattle.counting.specs.Sets.{complement, meet, union}
-use Rattle.graph_core.specs.Partitions.{complement_of}
-use Rattle.graph_core.specs.Shores.{block_count}
+use Rattle.counting.specs.Common.{is_odd, mem, rising_list, complement, meet, union}
+use Rattle.graph_core.specs.Common.{complement_of, block_count}
 
 -- what is outside both: the outer corner
 abbrev pub outer_of : ℕ → (x z : List ℕ) → List ℕ

@@ -1,11 +1,9 @@
 -- The exchange of two blocks between a tight shore and its complement.
 -- Stated by: move_laws.
 use Rattle.std.specs.Prelude.{◌≡◌, ℕ, true, false, List}
-use Rattle.counting.specs.Counts.{Within}
-use Rattle.counting.specs.Sets.{Set, union, minus, complement}
-use Rattle.graph_core.specs.Graph.{Graph}
-use Rattle.graph_core.specs.Shores.{IsTightAt}
-use Rattle.tree_core.specs.Moves.{IsBlockOf}
+use Rattle.counting.specs.Common.{Within, Set, union, minus, complement}
+use Rattle.graph_core.specs.Common.{Graph, IsTightAt}
+use Rattle.tree_core.specs.Common.{IsBlockOf}
 
 -- a tight shore x with a block u inside and a block v outside, such that u with all that is
 -- outside x and v is tight too

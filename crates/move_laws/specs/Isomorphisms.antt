@@ -2,12 +2,9 @@
 -- direction; the images of shores; and trees of cuts carried along.
 -- Stated by: move_laws.
 use Rattle.std.specs.Prelude.{◌≡◌, ℕ, ◌≢◌, Bool, List, not, cond, ◌⊎◌}
-use Rattle.counting.specs.Counts.{Within}
-use Rattle.counting.specs.Sets.{Set}
-use Rattle.counting.specs.Lists.{mem, rising_list}
-use Rattle.graph_core.specs.Graph.{Graph, size, first_end, second_end}
-use Rattle.graph_core.specs.Partitions.{place}
-use Rattle.tree_core.specs.Shapes.{Shape, leaf, cut}
+use Rattle.counting.specs.Common.{Within, Set, mem, rising_list}
+use Rattle.graph_core.specs.Common.{Graph, size, first_end, second_end, place}
+use Rattle.tree_core.specs.Common.{Shape, leaf, cut}
 
 -- edge f has its ends in the blocks a and b of q
 abbrev pub EndsAt : Graph → List (List ℕ) → ℕ → ℕ → ℕ → Type 0

@@ -2,9 +2,9 @@
 -- partners the same leaf.
 -- Stated by: move_laws, uncross. Rests on it: list_lines, bench_outcomes, bench_reports, theorems.
 use Rattle.std.specs.Prelude.{◌≡◌, ℕ, ◌==◌, List, length}
-use Rattle.counting.specs.Counts.{count, Within}
-use Rattle.graph_core.specs.Graph.{Graph}
-use Rattle.tree_core.specs.LeafMaps.{PlainLeafMap, map_at, leaf_at}
+use Rattle.counting.specs.Common.{count, Within}
+use Rattle.graph_core.specs.Common.{Graph}
+use Rattle.tree_core.specs.Common.{PlainLeafMap, map_at, leaf_at}
 use Rattle.move_laws.specs.SameLeaf.{IsSameLeaf}
 
 -- one entry for each leaf of the first list, its places those of the second, each once, and its

@@ -2,12 +2,9 @@
 -- adjacency is kept (Lovász 1987, "up to multiplicities of edges").
 -- Stated by: move_laws. Rests on it: uncross, list_lines, theorems.
 use Rattle.std.specs.Prelude.{◌≡◌, ℕ, ◌==◌, List, length, map}
-use Rattle.counting.specs.Counts.{count, Within}
-use Rattle.counting.specs.Lists.{last_of, mem, rising_list}
-use Rattle.graph_core.specs.Graph.{Graph}
-use Rattle.graph_core.specs.Partitions.{block, place}
-use Rattle.graph_core.specs.Quotients.{blocks_adjacent}
-use Rattle.tree_core.specs.LeafMaps.{name, position}
+use Rattle.counting.specs.Common.{count, Within, last_of, mem, rising_list}
+use Rattle.graph_core.specs.Common.{Graph, block, place, blocks_adjacent}
+use Rattle.tree_core.specs.Common.{name, position}
 
 -- the place of the block of q that the names give block i
 abbrev pub image : List (List ℕ) → List ℕ → ℕ → ℕ

@@ -1,11 +1,9 @@
 -- Proper scripts: scripts of proper moves through derivations at a partition.
 -- Stated by: uncross. Rests on it: move_laws, theorems.
 use Rattle.std.specs.Prelude.{◌≡◌, ℕ, List, [], ◌∷◌, Some}
-use Rattle.counting.specs.Lists.{IsRisingIn}
-use Rattle.graph_core.specs.Graph.{Graph}
-use Rattle.tree_core.specs.Derivations.{IsDerivationAt}
-use Rattle.tree_core.specs.Moves.{IsProper, PlainMove, move_result}
-use Rattle.tree_core.specs.Shapes.{Shape, leaf, cut, cut_count}
+use Rattle.counting.specs.Common.{IsRisingIn}
+use Rattle.graph_core.specs.Common.{Graph}
+use Rattle.tree_core.specs.Common.{IsDerivationAt, IsProper, PlainMove, move_result, Shape, leaf, cut, cut_count}
 
 -- the shore of each node is a rising list within 1 to n
 abbrev pub AreRising : ℕ → Shape → Type 0

@@ -2,9 +2,8 @@
 -- brought to the root before: partial functions on plain trees, with the moves that they make.
 -- Stated by: uncross. Rests on it: move_laws.
 use Rattle.std.specs.Prelude.{ℕ, List, [], ◌∷◌, ◌++◌, map, Option, Some, None, option_map, option_and_then, if◌then◌else◌}
-use Rattle.counting.specs.Lists.{is_subset}
-use Rattle.tree_core.specs.Moves.{PlainMove, below, rotate_at, rotate_result_at, switch_at, switch_result_at}
-use Rattle.tree_core.specs.Shapes.{Shape, leaf, cut}
+use Rattle.counting.specs.Common.{is_subset}
+use Rattle.tree_core.specs.Common.{PlainMove, below, rotate_at, rotate_result_at, switch_at, switch_result_at, Shape, leaf, cut}
 use Rattle.tree_core.specs.declared.path.Side.{Side}
 use Rattle.tree_core.specs.declared.path.Side.TheVariants.{Kept, Merged}
 

@@ -1,18 +1,8 @@
 //! Laws of moves on derivations. Each is the contract of a function that does nothing.
 ghost use Rattle.std.specs.Prelude.{◌≡◌, ◌+◌, ◌*◌, ◌<◌, ◌≤◌, ◌↔◌, ℕ, Some, List, [], length, map};
-ghost use Rattle.counting.specs.Counts.{Within};
-ghost use Rattle.counting.specs.Lists.{IsRisingIn, last_of, mem};
-ghost use Rattle.counting.specs.Sets.{Set};
-ghost use Rattle.graph_core.specs.Covered.{IsCovered};
-ghost use Rattle.graph_core.specs.Graph.{Graph, IsGraph};
-ghost use Rattle.graph_core.specs.Partitions.{IsPartition, contracted, merged, singles};
-ghost use Rattle.graph_core.specs.Shores.{IsTightAt, IsUnion, blocks_in};
-ghost use Rattle.graph_core.specs.Tight.{IsNontrivial};
-ghost use Rattle.tree_core.specs.Derivations.{IsCutAt, IsDerivation, IsDerivationAt, kept_at, merged_at};
-ghost use Rattle.tree_core.specs.LeafMaps.{PlainLeafMap, kept_image, merged_image, move_maps};
-ghost use Rattle.tree_core.specs.Leaves.{StandsAt, leaves};
-ghost use Rattle.tree_core.specs.Moves.{BlocksAt, IsProper, PlainMove, TurnsThrough, inner_rest, move_result, outer_rest, rotate_result, switch_result_at, union_list};
-ghost use Rattle.tree_core.specs.Shapes.{Fits, Shape, cut, cut_count};
+ghost use Rattle.counting.specs.Common.{Within, IsRisingIn, last_of, mem, Set};
+ghost use Rattle.graph_core.specs.Common.{IsCovered, Graph, IsGraph, IsPartition, contracted, merged, singles, IsTightAt, IsUnion, blocks_in, IsNontrivial};
+ghost use Rattle.tree_core.specs.Common.{IsCutAt, IsDerivation, IsDerivationAt, kept_at, merged_at, PlainLeafMap, kept_image, merged_image, move_maps, StandsAt, leaves, BlocksAt, IsProper, PlainMove, TurnsThrough, inner_rest, move_result, outer_rest, rotate_result, switch_result_at, union_list, Fits, Shape, cut, cut_count};
 ghost use Rattle.tree_core.specs.declared.path.Side.{Side};
 ghost use Rattle.move_laws.specs.Exchange.{Corner};
 ghost use Rattle.move_laws.specs.Isomorphisms.{carry, pre};

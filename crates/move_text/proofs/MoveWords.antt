@@ -4,15 +4,11 @@ use Rattle.std.proofs.Common.{◌≡◌, ◌≤◌, ◌<◌, ◌||◌, ◌^◌, 
 use Rattle.std.specs.Fmt.{decimal}
 use Rattle.std.specs.List.{All as AllOf, list_all, slice_split}
 use Rattle.std.proofs.Common.{All}
-use Rattle.std.proofs.lemmas.Bool.{and_from, and_parts, not-true, le-leb}
-use Rattle.std.proofs.lemmas.Bool.Decides.{nat_tests}
+use Rattle.counting.proofs.Common.{and_from, and_parts, not-true, le-leb, nat_tests, length-map, length-append, append-nil, All-nil, All-cons}
 use Rattle.std.proofs.lemmas.Fmt.{decimal_nonempty}
-use Rattle.std.proofs.lemmas.List.{length-map, length-append, append-nil}
-use Rattle.std.proofs.lemmas.List.Elements.{All-nil, All-cons}
 use Rattle.std.proofs.lemmas.List.Folds.{list_all-append}
 use Rattle.std.proofs.lemmas.List.Splits.{slice_split_at, slice_split_none}
-use Rattle.line_text.specs.Lines.{is_line_feed}
-use Rattle.line_text.specs.Words.{is_blank, is_word}
+use Rattle.line_text.specs.Common.{is_line_feed, is_blank, is_word}
 use Rattle.line_text.proofs.Decimals.{digits-decimal, is_word-decimal, list_all-digits, nonempty}
 use Rattle.tree_core.specs.declared.path.Side.{Side}
 use Rattle.tree_core.specs.declared.path.Side.TheVariants.{Kept, Merged}

@@ -4,18 +4,14 @@
 use Rattle.std.proofs.Common.{◌≡◌, ◌≤◌, ◌<◌, ◌==◌, ◌&&◌, ◌||◌, ◌^◌, codes, not, nat_le, if◌then◌else◌, ℕ, List, [], ◌∷◌, ◌++◌, Bool, length, map, true, false, Option, Some, None, Result, Ok, Err, IfOk, refl, sym, ◌∙◌, ap, subst, arith}
 use Rattle.std.specs.List.{AllByRecursion, list_all, list_any}
 use Rattle.std.specs.Str.{bytes_eq}
-use Rattle.std.proofs.lemmas.Bool.{and_parts, or_parts, not-false}
-use Rattle.std.proofs.lemmas.Bool.Decides.{nat_tests}
-use Rattle.std.proofs.lemmas.List.{length-map, length-append}
+use Rattle.counting.proofs.Common.{and_parts, or_parts, not-false, nat_tests, length-map, length-append}
 use Rattle.std.proofs.lemmas.List.Splits.{length-slice_split}
-use Rattle.line_text.specs.Format.{Begins, Stands, finish}
-use Rattle.line_text.specs.Words.{has_form, word_at}
-use Rattle.line_text.specs.Numerals.{is_number, value_of}
+use Rattle.line_text.specs.Common.{Begins, Stands, finish, has_form, word_at, is_number, value_of}
 use Rattle.line_text.proofs.Tables.{all_passed, no_value, value_or}
 use Rattle.text_faults.specs.declared.faults.FaultKind.{FaultKind}
 use Rattle.text_faults.specs.declared.faults.FaultKind.TheVariants as kind
 use Rattle.text_faults.specs.Ranges.{is_out_of_range}
-use Rattle.tree_core.specs.Moves.{PlainMove, rotate_at, switch_at}
+use Rattle.tree_core.specs.Common.{PlainMove, rotate_at, switch_at}
 use Rattle.tree_text.specs.TreeFormat.{is_rising}
 use Rattle.tree_text.proofs.ShoreLists.{rising_read}
 use Rattle.move_text.specs.MoveFormat.{move_format, move_line, rotate_line, switch_line, is_rotate_line, is_switch_line, is_path, is_step, is_comma, side_of, path_of, parts_of, are_numbers, vertices_of, most_moves, most_steps}

@@ -1,7 +1,7 @@
 //! Laws of the texts of moves. Each is the contract of a function that does nothing.
 ghost use Rattle.std.specs.Prelude.{◌<◌, ◌^◌, ℕ, List};
-ghost use Rattle.line_text.specs.Format.{Stands, StandsAlone};
-ghost use Rattle.tree_core.specs.Moves.{PlainMove};
+ghost use Rattle.line_text.specs.Common.{Stands, StandsAlone};
+ghost use Rattle.tree_core.specs.Common.{PlainMove};
 ghost use Rattle.move_text.specs.MoveFormat.{move_format};
 ghost use Rattle.move_text.specs.Writing.{moves_text, IsWritable};
 

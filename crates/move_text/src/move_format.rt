@@ -1,12 +1,9 @@
 //! The move format.
 ghost use Rattle.std.specs.Prelude.{◌≡◌, ◌<◌, ◌≤◌, ◌-◌, ◌^◌, ◌++◌, ◌∷◌, [], ℕ, List, length, IfOk, IfErr, Ok, Err};
-ghost use Rattle.line_text.specs.Reading.{Gives};
-ghost use Rattle.line_text.specs.Format.{Stands, FirstFault};
-ghost use Rattle.line_text.specs.Words.{texts_of};
+ghost use Rattle.line_text.specs.Common.{Gives, Stands, FirstFault, texts_of};
 ghost use Rattle.text_faults.specs.Readings.{IsFirstFault, ReadsText};
 ghost use Rattle.text_faults.specs.declared.faults.FaultKind.{FaultKind};
-ghost use Rattle.tree_core.specs.Moves.{PlainMove, switch_at};
-ghost use Rattle.tree_core.specs.MoveView.{moves_of};
+ghost use Rattle.tree_core.specs.Common.{PlainMove, switch_at, moves_of};
 ghost use Rattle.move_text.specs.MoveFormat.{move_format, moves_header, move_line, path_of, switch_line};
 ghost use Rattle.move_text.specs.Writing.{IsWritable};
 

@@ -1,10 +1,8 @@
 //! Writing moves.
 ghost use Rattle.std.specs.Prelude.{◌≡◌, ◌≤◌, ◌++◌, [], ◌∷◌, length, map, OnOk, IfOk, string_bytes};
 ghost use Rattle.std.specs.List.{AllByRecursion};
-ghost use Rattle.line_text.specs.Format.{Stands, StandsAlone};
-ghost use Rattle.line_text.specs.Words.{written};
-ghost use Rattle.tree_core.specs.MoveView.{move_of, moves_of};
-ghost use Rattle.tree_core.specs.Moves.{rotate_at, switch_at};
+ghost use Rattle.line_text.specs.Common.{Stands, StandsAlone, written};
+ghost use Rattle.tree_core.specs.Common.{move_of, moves_of, rotate_at, switch_at};
 ghost use Rattle.move_text.specs.MoveFormat.{move_format, most_moves};
 ghost use Rattle.move_text.specs.Writing.{letter_of, path_word, set_word, move_words, moves_text, HasShortPath, HasSets, SetsRise};
 

@@ -1,10 +1,9 @@
 -- What is said of a text of which there is no decomposition.
 -- Stated by: own_order.
 use Rattle.std.specs.Prelude.{ℕ, List}
-use Rattle.graph_core.specs.Covered.{IsReason}
-use Rattle.graph_core.specs.Verdicts.{reason_of}
+use Rattle.graph_core.specs.Common.{IsReason, reason_of}
 use Rattle.graph_core.specs.declared.verdict.Reason.{Reason}
-use Rattle.line_text.specs.Format.{Stands}
+use Rattle.line_text.specs.Common.{Stands}
 use Rattle.graph_text.specs.EitherVersion.{NamedGraph, either_version}
 
 -- the text stands for a graph that is not matching covered, for this reason

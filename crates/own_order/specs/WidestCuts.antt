@@ -1,9 +1,8 @@
 -- The order of this crate: the first candidate whose cut has the most edges.
 -- Stated by: own_order.
 use Rattle.std.specs.Prelude.{◌≡◌, ℕ, ◌<◌, ◌≤◌, List, length, map, slice_get, Option, Some, None}
-use Rattle.counting.specs.Counts.{count}
-use Rattle.counting.specs.Lists.{mem}
-use Rattle.graph_core.specs.Graph.{Graph, in_cut, size}
+use Rattle.counting.specs.Common.{count, mem}
+use Rattle.graph_core.specs.Common.{Graph, in_cut, size}
 use Rattle.tight_cuts.specs.Candidates.{Candidate}
 use Rattle.tight_cuts.specs.View.{candidate_of}
 use Rattle.tight_cuts.specs.declared.candidate.Candidate.{Candidate as StoredCandidate}

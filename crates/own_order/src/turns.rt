@@ -1,8 +1,7 @@
 //! A decomposition in the order of a closure: the first and the last candidates by turns.
 ghost use Rattle.std.specs.Prelude.{◌≡◌, ◌<◌, ◌-◌, ℕ, length, IfOk, Err};
-ghost use Rattle.graph_core.specs.Covered.{IsCovered};
-ghost use Rattle.tree_core.specs.Derivations.{IsDerivation};
-ghost use Rattle.tree_core.specs.View.{shape_of};
+ghost use Rattle.graph_core.specs.Common.{IsCovered};
+ghost use Rattle.tree_core.specs.Common.{IsDerivation, shape_of};
 
 use decomposer::{ByFunction, Refused, decompose};
 use graph_core::MultiGraph;

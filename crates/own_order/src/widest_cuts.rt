@@ -1,8 +1,7 @@
 //! The order: at each choice the first candidate whose cut has the most edges.
 ghost use Rattle.std.specs.Prelude.{◌≡◌, ◌<◌, ◌≤◌, length};
-ghost use Rattle.counting.specs.Counts.{count};
-ghost use Rattle.counting.specs.Lists.{mem};
-ghost use Rattle.graph_core.specs.Graph.{in_cut, size};
+ghost use Rattle.counting.specs.Common.{count, mem};
+ghost use Rattle.graph_core.specs.Common.{in_cut, size};
 ghost use Rattle.own_order.specs.WidestCuts.{IsWidest, PicksWidest};
 
 use decomposer::Order;

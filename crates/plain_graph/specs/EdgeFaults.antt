@@ -1,7 +1,7 @@
 -- The first pair of a list that no edge of a graph can be, and why.
 -- Stated by: plain_graph.
 use Rattle.std.specs.Prelude.{◌≢◌, ℕ, ◌<◌, ◌≤◌, List, length, slice_index_or}
-use Rattle.counting.specs.Counts.{Within}
+use Rattle.counting.specs.Common.{Within}
 
 -- the pair at place k, counted from 0
 abbrev pub pair_at : List (ℕ × ℕ) → ℕ → ℕ × ℕ

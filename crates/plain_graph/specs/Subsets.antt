@@ -1,10 +1,8 @@
 -- All sets of numbers 1 to n, and those of edges that are perfect matchings.
 -- Stated by: plain_graph.
 use Rattle.std.specs.Prelude.{ℕ, zero, suc, List, [], ◌∷◌, ◌++◌, filter, map}
-use Rattle.counting.specs.Lists.{mem}
-use Rattle.counting.specs.Sets.{Set}
-use Rattle.graph_core.specs.Graph.{Graph, size}
-use Rattle.graph_core.specs.Matchings.{is_perfect}
+use Rattle.counting.specs.Common.{mem, Set}
+use Rattle.graph_core.specs.Common.{Graph, size, is_perfect}
 
 -- all sets of numbers 1 to n as rising lists: those without n, then those with n
 abbrev pub subsets : ℕ → List (List ℕ)

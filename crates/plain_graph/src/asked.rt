@@ -1,8 +1,7 @@
 //! What most calls ask of a graph first: whether it is matching covered, and whether it is
 //! bipartite.
 ghost use Rattle.std.specs.Prelude.{◌↔◌, IsTrue, IfOk};
-ghost use Rattle.graph_core.specs.Covered.{IsCovered};
-ghost use Rattle.graph_core.specs.Graph.{IsBipartite};
+ghost use Rattle.graph_core.specs.Common.{IsCovered, IsBipartite};
 
 use allowed_edges::covered;
 use graph_core::{MultiGraph, Reason, Sides, Verdict};

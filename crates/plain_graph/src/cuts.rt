@@ -1,10 +1,8 @@
 //! Cuts, and whether they are tight.
 ghost use Rattle.std.specs.Prelude.{◌≡◌, ◌≤◌, ◌==◌, IfOk};
 ghost use Rattle.std.specs.List.{list_all};
-ghost use Rattle.counting.specs.Counts.{Within, count, is_odd};
-ghost use Rattle.counting.specs.Lists.{mem};
-ghost use Rattle.graph_core.specs.Graph.{edges_in_cut, in_cut, size};
-ghost use Rattle.graph_core.specs.Tight.{is_tight};
+ghost use Rattle.counting.specs.Common.{Within, count, is_odd, mem};
+ghost use Rattle.graph_core.specs.Common.{edges_in_cut, in_cut, size, is_tight};
 ghost use Rattle.plain_graph.specs.Cuts.{has_odd_sides};
 ghost use Rattle.plain_graph.specs.Small.{IsSmall};
 

@@ -1,9 +1,7 @@
 //! Degrees, and whether a set of edges is a matching.
 ghost use Rattle.std.specs.Prelude.{◌≡◌, ◌≤◌, ◌+◌, ◌==◌, cond};
-ghost use Rattle.counting.specs.Counts.{Within, bit};
-ghost use Rattle.counting.specs.Lists.{mem};
-ghost use Rattle.graph_core.specs.Graph.{degree};
-ghost use Rattle.graph_core.specs.Matchings.{is_matching, is_perfect};
+ghost use Rattle.counting.specs.Common.{Within, bit, mem};
+ghost use Rattle.graph_core.specs.Common.{degree, is_matching, is_perfect};
 ghost use Rattle.plain_graph.specs.Small.{IsSmall};
 
 use graph_core::{Ends, MultiGraph};

@@ -1,6 +1,6 @@
 //! All sets of edges.
 ghost use Rattle.std.specs.Prelude.{◌≡◌, ◌≤◌, ◌+◌, ◌++◌, ◌∷◌, [], All, IfOk, OnOk, map};
-ghost use Rattle.counting.specs.Lists.{IsRisingIn};
+ghost use Rattle.counting.specs.Common.{IsRisingIn};
 ghost use Rattle.plain_graph.specs.Subsets.{subsets};
 
 use crate::MOST_PLAIN_EDGES;

@@ -1,11 +1,8 @@
 //! All perfect matchings, and the greatest size of a matching.
 ghost use Rattle.std.specs.Prelude.{◌≡◌, ◌≤◌, ℕ, true, All, Contains, IfOk, filter, length};
 ghost use Rattle.std.specs.List.{list_any};
-ghost use Rattle.counting.specs.Counts.{Within, count};
-ghost use Rattle.counting.specs.Lists.{mem, rising_list, IsRisingIn};
-ghost use Rattle.counting.specs.Sets.{Set};
-ghost use Rattle.graph_core.specs.Graph.{size};
-ghost use Rattle.graph_core.specs.Matchings.{IsMatching, IsPerfect, has_matching_of, has_perfect, is_allowed, is_matching, is_perfect};
+ghost use Rattle.counting.specs.Common.{Within, count, mem, rising_list, IsRisingIn, Set};
+ghost use Rattle.graph_core.specs.Common.{size, IsMatching, IsPerfect, has_matching_of, has_perfect, is_allowed, is_matching, is_perfect};
 ghost use Rattle.plain_graph.specs.Small.{IsSmall};
 ghost use Rattle.plain_graph.specs.Subsets.{perfect_matchings_of};
 

@@ -1,10 +1,7 @@
 //! Components, by walks of bounded length.
 ghost use Rattle.std.specs.Prelude.{◌≡◌, ◌≤◌, ◌&&◌, ◌||◌, ℕ, true};
-ghost use Rattle.counting.specs.Counts.{Within, is_odd, count};
-ghost use Rattle.counting.specs.Lists.{mem};
-ghost use Rattle.counting.specs.Tests.{some};
-ghost use Rattle.graph_core.specs.Components.{is_least, odd_component_count};
-ghost use Rattle.graph_core.specs.Walks.{adjacent, joined};
+ghost use Rattle.counting.specs.Common.{Within, is_odd, count, mem, some};
+ghost use Rattle.graph_core.specs.Common.{is_least, odd_component_count, adjacent, joined};
 ghost use Rattle.plain_graph.specs.Parts.{begins_odd_part};
 
 use graph_core::MultiGraph;

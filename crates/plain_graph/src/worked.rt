@@ -1,7 +1,7 @@
 //! Graphs of the literature, by the ends of their edges: each is a constant, the edges in the
 //! order of their numbers.
 ghost use Rattle.std.specs.Prelude.{◌≡◌, ℕ, ◌<◌, ◌≤◌, length, IfOk, OnOk, IsErrOf};
-ghost use Rattle.counting.specs.Counts.{Within};
+ghost use Rattle.counting.specs.Common.{Within};
 ghost use Rattle.plain_graph.specs.EdgeFaults.{IsReached, JoinsTwo, pair_at};
 
 use graph_core::{AddFault, MOST_EDGES, MultiGraph};

@@ -2,14 +2,10 @@
 -- since a class of two vertices gives a cut; a bicritical graph without a cut of a cut pair has
 -- no cut pair.
 use Rattle.std.proofs.Common.{◌≡◌, ℕ, ◌≤◌, true, ◌==◌, refl, sym, ap, ◌∙◌, ◌⊎◌, inl, inr, List, [], ◌∷◌, ◌++◌, length, Option, Some, None, arith, eqb-true, subst, ◌↔◌}
-use Rattle.std.proofs.lemmas.Option.{none-some, same_Some}
+use Rattle.counting.proofs.Common.{none-some, same_Some, All-head}
 use Rattle.std.specs.Prelude.{All, slice_get}
-use Rattle.std.proofs.lemmas.List.Elements.{All-head}
-use Rattle.counting.specs.Sets.{Set}
-use Rattle.graph_core.specs.Covered.{IsCovered}
-use Rattle.graph_core.specs.Graph.{Graph, IsBipartite, IsMultigraph}
-use Rattle.graph_core.specs.Structure.{IsBicritical, IsCutPair, equivalent_pair}
-use Rattle.graph_core.specs.Tight.{IsNontrivial, IsTight}
+use Rattle.counting.specs.Common.{Set}
+use Rattle.graph_core.specs.Common.{IsCovered, Graph, IsBipartite, IsMultigraph, IsBicritical, IsCutPair, equivalent_pair, IsNontrivial, IsTight}
 use Rattle.barrier_kit.specs.BarrierShores.{barrier_cuts}
 use Rattle.barrier_kit.proofs.CriticalPairs.{four_vertices, no_sides}
 use Rattle.barrier_kit.proofs.ShoreFacts.{bicritical_no_cuts, some_cut}

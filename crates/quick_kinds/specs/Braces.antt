@@ -2,10 +2,8 @@
 -- (Lovász and Plummer, "Matching Theory").
 -- Stated by: quick_kinds, theorems.
 use Rattle.std.specs.Prelude.{◌≡◌, ◌≢◌, ℕ, true, false}
-use Rattle.counting.specs.Counts.{Within}
-use Rattle.counting.specs.Sets.{Set, pair_set, union}
-use Rattle.graph_core.specs.Graph.{Graph}
-use Rattle.graph_core.specs.Matchings.{HasPerfect}
+use Rattle.counting.specs.Common.{Within, Set, pair_set, union}
+use Rattle.graph_core.specs.Common.{Graph, HasPerfect}
 
 -- the set of two vertices a and c and two vertices b and d
 abbrev pub four_set : (a c b d : ℕ) → Set

@@ -1,11 +1,7 @@
 //! The quick test for bricks.
 ghost use Rattle.std.specs.Prelude.{◌≡◌, ◌↔◌, ◌++◌, ℕ, None, IfOk, IfSome, slice_get};
-ghost use Rattle.graph_core.specs.Covered.{IsCovered};
-ghost use Rattle.graph_core.specs.Graph.{IsBipartite};
-ghost use Rattle.graph_core.specs.Structure.{IsBicritical, IsCutPair};
-ghost use Rattle.graph_core.specs.Tight.{HasOnlyTrivialTightCuts};
+ghost use Rattle.graph_core.specs.Common.{IsCovered, IsBipartite, IsBicritical, IsCutPair, HasOnlyTrivialTightCuts, IsCanonicalCut};
 ghost use Rattle.barrier_kit.specs.BarrierShores.{barrier_cuts};
-ghost use Rattle.graph_core.specs.CanonicalCuts.{IsCanonicalCut};
 ghost use Rattle.separation_kit.specs.SeparationShores.{separation_cuts};
 
 use barrier_kit::barrier_cuts;

@@ -1,10 +1,7 @@
 //! The theorem on braces, the contract of a function that does nothing.
 ghost use Rattle.std.specs.Prelude.{◌↔◌};
-ghost use Rattle.counting.specs.Sets.{Set};
-ghost use Rattle.graph_core.specs.Covered.{IsCovered};
-ghost use Rattle.graph_core.specs.Graph.{Graph, IsGraph};
-ghost use Rattle.graph_core.specs.Tight.{HasOnlyTrivialTightCuts};
-ghost use Rattle.graph_core.specs.Sides.{IsSide};
+ghost use Rattle.counting.specs.Common.{Set};
+ghost use Rattle.graph_core.specs.Common.{IsCovered, Graph, IsGraph, HasOnlyTrivialTightCuts, IsSide};
 ghost use Rattle.quick_kinds.specs.Braces.{AreFoursMatched};
 
 /// The theorem on braces: a covered graph with the sides x and its complement has no nontrivial

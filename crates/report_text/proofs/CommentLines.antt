@@ -4,26 +4,22 @@ use Rattle.std.proofs.Common.{◌≡◌, ◌∙◌, ℕ, zero, suc, ◌-◌, ◌
 use Rattle.std.specs.Prelude.{codes}
 use Rattle.std.specs.Fmt.{decimal}
 use Rattle.std.specs.List.{AllByRecursion}
-use Rattle.std.proofs.lemmas.Bool.{cases_lt, eq-eqb, or_left, or_right}
-use Rattle.std.proofs.lemmas.List.Elements.{All-get_or, All-from_get_or, All-nil}
+use Rattle.std.proofs.lemmas.Bool.{eq-eqb}
+use Rattle.counting.proofs.Common.{cases_lt, or_left, or_right, All-nil, rising_list-rises}
+use Rattle.std.proofs.lemmas.List.Elements.{All-get_or, All-from_get_or}
 use Rattle.std.proofs.lemmas.List.Sums.{count_by-le-length}
 use Rattle.std.proofs.Math.ListN.{get_or-eq_default}
-use Rattle.counting.specs.Counts.{Within}
-use Rattle.counting.specs.Lists.{last_of, mem}
-use Rattle.counting.proofs.RisingLists.{rising_list-rises}
-use Rattle.graph_core.specs.Graph.{Graph, size, first_end, second_end, has_ends}
-use Rattle.graph_core.specs.Partitions.{IsPartition, block, contracted}
-use Rattle.graph_core.specs.Quotients.{quotient, remembered}
+use Rattle.counting.specs.Common.{Within, last_of, mem}
+use Rattle.graph_core.specs.Common.{Graph, size, first_end, second_end, has_ends, IsPartition, block, contracted, quotient, remembered}
 use Rattle.graph_text.proofs.NamedReadBack.{is_word-name}
 use Rattle.graph_text.specs.Names.{AreNames, is_name}
-use Rattle.line_text.specs.Words.{AreWords, is_word, unwords, written}
+use Rattle.line_text.specs.Common.{AreWords, is_word, unwords, written}
 use Rattle.line_text.proofs.Decimals.{is_word-decimal, words-decimal}
 use Rattle.line_text.proofs.WrittenLines.{spaced, unwords-spaced}
 use Rattle.report_text.specs.Comments.{HasFewLeaves, IsCommented}
 use Rattle.report_text.specs.Derivations.{adjacent_line, adjacent_lines, block_lines, derivation_text, kind_word, leaf_line, leaf_lines, leaf_text, name_at, tally_line}
 use Rattle.report_text.specs.Reports.{list_line, name_line, name_lines, numbers_text, with_names_text}
-use Rattle.tree_core.specs.LeafMaps.{leaf_at}
-use Rattle.tree_core.specs.Tallies.{is_brick, kind_at, tally_of}
+use Rattle.tree_core.specs.Common.{leaf_at, is_brick, kind_at, tally_of}
 use Rattle.tree_core.specs.declared.tallies.LeafKind.{LeafKind}
 use Rattle.tree_core.specs.declared.tallies.LeafKind.TheVariants.{Brick, Brace}
 use Rattle.tree_core.specs.declared.tallies.Tally.{Tally}

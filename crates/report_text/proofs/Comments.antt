@@ -2,10 +2,8 @@
 -- stands for a value stands for it with comments after it.
 use Rattle.std.proofs.Common.{◌≡◌, ◌∙◌, ℕ, List, [], ◌∷◌, ◌++◌, true, ap, sym, subst, append_assoc}
 use Rattle.std.specs.List.{AllByRecursion}
-use Rattle.std.proofs.lemmas.List.{append-nil}
-use Rattle.line_text.specs.Format.{Rules, Stands}
-use Rattle.line_text.specs.Lines.{is_closed}
-use Rattle.line_text.specs.Words.{IsComment, written}
+use Rattle.counting.proofs.Common.{append-nil}
+use Rattle.line_text.specs.Common.{Rules, Stands, is_closed, IsComment, written}
 use Rattle.line_text.proofs.ReadBack.{AreSkipped-written, Stands-comments}
 use Rattle.line_text.proofs.WrittenLines.{written-append}
 use Rattle.report_text.specs.Comments.{IsCommented}

@@ -2,9 +2,8 @@
 -- Stated by: report_text, bench_reports. Rests on it: bench_outcomes, bench_top, theorems.
 use Rattle.std.specs.Prelude.{◌≡◌, ◌<◌, ◌^◌, ℕ, List, ◌++◌, length, All}
 use Rattle.std.specs.List.{AllByRecursion}
-use Rattle.line_text.specs.Words.{IsComment, written}
-use Rattle.graph_core.specs.Graph.{Graph, size}
-use Rattle.graph_core.specs.Partitions.{IsPartition}
+use Rattle.line_text.specs.Common.{IsComment, written}
+use Rattle.graph_core.specs.Common.{Graph, size, IsPartition}
 use Rattle.tree_core.specs.declared.tallies.LeafKind.{LeafKind}
 
 -- the report is the text and after it lines that are comments

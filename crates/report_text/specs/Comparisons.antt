@@ -4,8 +4,8 @@
 -- Stated by: report_text. Rests on it: bench_outcomes, bench_reports, theorems.
 use Rattle.std.specs.Prelude.{ℕ, List, [], ◌∷◌, ◌++◌, length, codes}
 use Rattle.std.specs.Fmt.{decimal}
-use Rattle.line_text.specs.Words.{written}
-use Rattle.tree_core.specs.Moves.{PlainMove}
+use Rattle.line_text.specs.Common.{written}
+use Rattle.tree_core.specs.Common.{PlainMove}
 use Rattle.move_text.specs.Writing.{move_words}
 use Rattle.report_text.specs.declared.comparisons.MapLine.{MapLine}
 

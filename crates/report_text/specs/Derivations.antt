@@ -5,13 +5,10 @@
 -- Stated by: report_text. Rests on it: bench_outcomes, bench_top, theorems.
 use Rattle.std.specs.Prelude.{ℕ, zero, suc, List, [], ◌++◌, length, slice_index_or, codes}
 use Rattle.std.specs.Fmt.{decimal}
-use Rattle.counting.specs.Lists.{last_of}
-use Rattle.graph_core.specs.Graph.{Graph, size, first_end, second_end}
-use Rattle.graph_core.specs.Partitions.{block}
-use Rattle.graph_core.specs.Quotients.{quotient, remembered}
+use Rattle.counting.specs.Common.{last_of}
+use Rattle.graph_core.specs.Common.{Graph, size, first_end, second_end, block, quotient, remembered}
 use Rattle.report_text.specs.Reports.{list_line, numbers_text}
-use Rattle.tree_core.specs.LeafMaps.{leaf_at}
-use Rattle.tree_core.specs.Tallies.{kind_at, tally_of}
+use Rattle.tree_core.specs.Common.{leaf_at, kind_at, tally_of}
 use Rattle.tree_core.specs.declared.tallies.LeafKind.{LeafKind}
 use Rattle.tree_core.specs.declared.tallies.LeafKind.TheVariants.{Brick, Brace}
 use Rattle.tree_core.specs.declared.tallies.Tally.{Tally}

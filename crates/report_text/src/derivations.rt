@@ -1,10 +1,9 @@
 //! The report of a decomposition: the text of its tree, and its leaves as comments.
 ghost use Rattle.std.specs.Prelude.{◌≡◌, ◌<◌, ◌≤◌, ◌++◌, ◌^◌, List, length, map, codes, OnOk, IfOk, All, string_bytes};
-ghost use Rattle.counting.specs.Counts.{Within};
+ghost use Rattle.counting.specs.Common.{Within};
 ghost use Rattle.contraction.specs.Contracted.{contraction};
-ghost use Rattle.graph_core.specs.Graph.{Graph, size};
-ghost use Rattle.graph_core.specs.Quotients.{quotient};
-ghost use Rattle.tree_core.specs.Tallies.{AreLeafKinds, IsKindOf, IsLeafKind, tally_of};
+ghost use Rattle.graph_core.specs.Common.{Graph, size, quotient};
+ghost use Rattle.tree_core.specs.Common.{AreLeafKinds, IsKindOf, IsLeafKind, tally_of};
 ghost use Rattle.report_text.specs.Derivations.{adjacent_line, adjacent_lines, block_lines, derivation_text, kind_word, leaf_line, leaf_lines, leaf_text, name_at, tally_line};
 ghost use Rattle.tree_core.specs.declared.tallies.LeafKind.{LeafKind};
 

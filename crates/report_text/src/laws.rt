@@ -1,7 +1,7 @@
 //! Laws of the reports. Each is the contract of a function that does nothing.
 ghost use Rattle.std.specs.Prelude.{◌<◌, ◌^◌, ℕ, List, length, true};
-ghost use Rattle.line_text.specs.Words.{AreWords};
-ghost use Rattle.graph_core.specs.Graph.{Graph};
+ghost use Rattle.line_text.specs.Common.{AreWords};
+ghost use Rattle.graph_core.specs.Common.{Graph};
 ghost use Rattle.report_text.specs.Comments.{HasFewLeaves, IsCommented};
 ghost use Rattle.report_text.specs.Derivations.{derivation_text};
 ghost use Rattle.report_text.specs.Reports.{with_names_text};

@@ -3,16 +3,9 @@
 -- there would be else.
 use Rattle.std.proofs.Common.{◌≡◌, ℕ, ◌≤◌, false, arith}
 use Rattle.barrier_kit.proofs.BarrierCuts.{leads_out}
-use Rattle.graph_core.specs.Sides.{IsSide}
-use Rattle.counting.proofs.Members.{count_member}
-use Rattle.counting.specs.Counts.{Within}
-use Rattle.counting.specs.Sets.{Set, pair_set, union, singleton}
-use Rattle.graph_core.specs.Components.{is_least, component_count}
-use Rattle.graph_core.specs.Covered.{IsCovered}
-use Rattle.graph_core.specs.Graph.{Graph, IsGraph}
-use Rattle.graph_core.specs.Structure.{IsBicritical, IsCutPair}
-use Rattle.graph_core.specs.Tight.{IsTight, IsNontrivial}
-use Rattle.graph_core.specs.Walks.{joined}
+use Rattle.graph_core.specs.Common.{IsSide, is_least, component_count, IsCovered, Graph, IsGraph, IsBicritical, IsCutPair, IsTight, IsNontrivial, joined}
+use Rattle.counting.proofs.Common.{count_member}
+use Rattle.counting.specs.Common.{Within, Set, pair_set, union, singleton}
 use Rattle.separation_kit.proofs.Separations.{separation_tight, separation_nontrivial}
 use Rattle.barrier_kit.proofs.CriticalPairs.{four_vertices, bicritical}
 

@@ -2,14 +2,9 @@
 -- The shores at that pair stand first, and one of them gives a cut.
 use Rattle.std.proofs.Common.{◌≡◌, ◌≢◌, ℕ, ◌<◌, ◌≤◌, Bool, true, false, ◌&&◌, cond, refl, sym, ap, ap₂, ◌∙◌, arith, List, [], ◌∷◌, ◌++◌, Some, None, filter, flat_map, fold, slice_get, leb-true, le-leb, subst}
 use Rattle.std.specs.Prelude.{All, find}
-use Rattle.std.proofs.lemmas.List.Elements.{All-head, All-tail}
-use Rattle.counting.specs.Counts.{Within}
-use Rattle.counting.specs.Lists.{rising_pairs}
-use Rattle.counting.specs.Sets.{pair_set}
-use Rattle.graph_core.specs.Components.{component_count}
-use Rattle.graph_core.specs.Graph.{Graph, IsGraph}
-use Rattle.graph_core.specs.Structure.{IsBicritical, IsCutPair, cut_pair}
-use Rattle.graph_core.specs.CanonicalCuts.{with_cut}
+use Rattle.counting.proofs.Common.{All-head, All-tail}
+use Rattle.counting.specs.Common.{Within, rising_pairs, pair_set}
+use Rattle.graph_core.specs.Common.{component_count, Graph, IsGraph, IsBicritical, IsCutPair, cut_pair, with_cut}
 use Rattle.barrier_kit.proofs.AllOf.{pairs_rise}
 use Rattle.barrier_kit.proofs.FirstCuts.{first-of_part}
 use Rattle.separation_kit.specs.SeparationShores.{is_cut_pair, separation_cuts, separation_shores, shores_at_pair}

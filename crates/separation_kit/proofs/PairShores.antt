@@ -3,23 +3,14 @@
 -- nothing is added.
 use Rattle.std.proofs.Common.{◌≡◌, ℕ, ◌+◌, ◌<◌, ◌≤◌, true, false, ◌==◌, ◌||◌, ◌&&◌, cond, not, sym, ap, ap₂, ◌∙◌, arith, List, [], ◌∷◌, ◌++◌, map, flat_map, filter, fold, length, take, get_or, append-nil, inl, inr}
 use Rattle.std.specs.Prelude.{All, is_none}
-use Rattle.std.proofs.lemmas.Bool.{eqb-true, le-leb, or_cases}
+use Rattle.std.proofs.lemmas.Bool.{eqb-true}
+use Rattle.counting.proofs.Common.{le-leb, or_cases, get_or-map, length-map, map-append, take_all, take_more, All-map, mem-within, list-from_test, rising_list-rises, set-narrower}
 use Rattle.std.proofs.lemmas.Grind.{flat_map-append}
-use Rattle.std.proofs.lemmas.List.{get_or-map, length-map, map-append, take_all, take_more}
-use Rattle.std.proofs.lemmas.List.Elements.{All-map, filter-append}
+use Rattle.std.proofs.lemmas.List.Elements.{filter-append}
 use Rattle.std.proofs.lemmas.List.Sums.{fold-append}
-use Rattle.counting.specs.Counts.{Within}
-use Rattle.counting.specs.Lists.{IsRisingIn, mem, rising_list, rising_pairs}
-use Rattle.counting.specs.Sets.{Set, pair_set, singleton, union}
-use Rattle.counting.proofs.Lists.{mem-within}
-use Rattle.counting.proofs.RisingLists.{list-from_test, rising_list-rises, set-narrower}
-use Rattle.graph_core.proofs.Decide.{has_perfect_found}
-use Rattle.graph_core.specs.Components.{components, is_least}
-use Rattle.graph_core.specs.Graph.{Graph}
-use Rattle.graph_core.specs.Matchings.{has_perfect}
-use Rattle.graph_core.specs.Structure.{IsBicritical, is_bicritical, equivalent_pair}
-use Rattle.graph_core.specs.Walks.{joined}
-use Rattle.graph_core.specs.CanonicalCuts.{with_cut}
+use Rattle.counting.specs.Common.{Within, IsRisingIn, mem, rising_list, rising_pairs, Set, pair_set, singleton, union}
+use Rattle.graph_core.proofs.Common.{has_perfect_found}
+use Rattle.graph_core.specs.Common.{components, is_least, Graph, has_perfect, IsBicritical, is_bicritical, equivalent_pair, joined, with_cut}
 use Rattle.barrier_kit.proofs.AllOf.{all_rising, pairs_rise, unfound_all}
 use Rattle.separation_kit.specs.Pairs.{pair_of}
 use Rattle.separation_kit.specs.SeparationShores.{is_cut_pair, separation_cuts, separation_shores, shores_at_pair}

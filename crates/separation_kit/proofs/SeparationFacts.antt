@@ -3,23 +3,10 @@
 -- each item of the list.
 use Rattle.std.proofs.Common.{◌≡◌, ◌≢◌, ◌↔◌, ℕ, ◌≤◌, ◌<◌, Bool, true, false, ◌==◌, ◌&&◌, ◌||◌, not, refl, sym, ap, arith, inl, inr, List, [], map, filter, flat_map, nat_le, nat_lt, lt-ltb, leb-true, subst, ap₂, get_or, Option, Some, None}
 use Rattle.std.specs.Prelude.{All, find, is_none, if◌then◌else◌}
-use Rattle.std.proofs.lemmas.Bool.{both_ways, cases_lt, false_from_ne_true, le-leb, true≢false, not-false}
-use Rattle.std.proofs.lemmas.List.Elements.{All-map, All-nil}
-use Rattle.counting.proofs.Members.{count_member}
-use Rattle.counting.specs.Counts.{Within, count, is_odd}
-use Rattle.counting.specs.Lists.{mem, pair_with, rising_list, rising_pairs}
-use Rattle.counting.specs.Sets.{Set, everything, pair_set, singleton, union}
-use Rattle.counting.proofs.RisingLists.{mem-rising_list}
-use Rattle.graph_core.proofs.Decide.{has_perfect_found, has_perfect_says}
-use Rattle.graph_core.proofs.SameSets.{nontrivial-same, tight-same}
-use Rattle.graph_core.specs.Components.{component_count, components, is_least}
-use Rattle.graph_core.specs.Covered.{IsCovered}
-use Rattle.graph_core.specs.Graph.{Graph, IsGraph}
-use Rattle.graph_core.specs.Matchings.{HasPerfect, has_perfect}
-use Rattle.graph_core.specs.Structure.{IsBicritical, IsCutPair, cut_pair, is_bicritical, equivalent_pair}
-use Rattle.graph_core.specs.Tight.{IsTight, canonical_shore, is_nontrivial}
-use Rattle.graph_core.specs.Walks.{joined}
-use Rattle.graph_core.specs.CanonicalCuts.{IsCanonicalCut, cuts_of}
+use Rattle.counting.proofs.Common.{both_ways, cases_lt, false_from_ne_true, le-leb, true≢false, not-false, All-map, All-nil, count_member, mem-rising_list}
+use Rattle.counting.specs.Common.{Within, count, is_odd, mem, pair_with, rising_list, rising_pairs, Set, everything, pair_set, singleton, union}
+use Rattle.graph_core.proofs.Common.{has_perfect_found, has_perfect_says, nontrivial-same, tight-same}
+use Rattle.graph_core.specs.Common.{component_count, components, is_least, IsCovered, Graph, IsGraph, HasPerfect, has_perfect, IsBicritical, IsCutPair, cut_pair, is_bicritical, equivalent_pair, IsTight, canonical_shore, is_nontrivial, joined, IsCanonicalCut, cuts_of}
 use Rattle.barrier_kit.proofs.AllOf.{all_flat, all_passing, all_rising, all_unfound, filter_all, flat_all, map_all, pairs_rise, rising_all, unfound_all}
 use Rattle.barrier_kit.proofs.BarrierCuts.{leads_out}
 use Rattle.barrier_kit.proofs.CutFacts.{cuts-canonical, cuts-none, cuts-some}

@@ -1,7 +1,7 @@
 -- How contracts see the code's pairs of vertices.
 -- Stated by: separation_kit, bench_reports. Rests on it: tight_cuts.
 use Rattle.std.specs.Prelude.{ℕ, ◌<◌}
-use Rattle.counting.specs.Counts.{Within}
+use Rattle.counting.specs.Common.{Within}
 use Rattle.separation_kit.specs.declared.pair.Pair.{Pair}
 
 -- the two vertices as a pair

@@ -2,12 +2,8 @@
 -- 1982).
 -- Stated by: separation_kit, quick_kinds, tight_cuts.
 use Rattle.std.specs.Prelude.{ℕ, Bool, List, [], ◌&&◌, flat_map, map, filter, nat_le, if◌then◌else◌}
-use Rattle.counting.specs.Sets.{union, singleton, pair_set}
-use Rattle.counting.specs.Lists.{mem, rising_list, rising_pairs}
-use Rattle.graph_core.specs.Graph.{Graph}
-use Rattle.graph_core.specs.Components.{component_count, components}
-use Rattle.graph_core.specs.Structure.{is_bicritical}
-use Rattle.graph_core.specs.CanonicalCuts.{cuts_of}
+use Rattle.counting.specs.Common.{union, singleton, pair_set, mem, rising_list, rising_pairs}
+use Rattle.graph_core.specs.Common.{Graph, component_count, components, is_bicritical, cuts_of}
 
 -- without the two vertices at least two components are left
 abbrev pub is_cut_pair : Graph → ℕ × ℕ → Bool

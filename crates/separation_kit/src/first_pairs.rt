@@ -2,10 +2,7 @@
 //! two vertices separate it.
 ghost use Rattle.std.specs.Prelude.{◌≡◌, ◌↔◌, IsTrue, IfOk};
 ghost use Rattle.std.specs.Option.{option_map};
-ghost use Rattle.graph_core.specs.Covered.{IsCovered};
-ghost use Rattle.graph_core.specs.Graph.{IsBipartite};
-ghost use Rattle.graph_core.specs.Structure.{IsBicritical, cut_pair, equivalent_pair};
-ghost use Rattle.graph_core.specs.View.{IsWithinLimits};
+ghost use Rattle.graph_core.specs.Common.{IsCovered, IsBipartite, IsBicritical, cut_pair, equivalent_pair, IsWithinLimits};
 ghost use Rattle.separation_kit.specs.Pairs.{pair_of};
 
 use crate::critical::{cut_pair, equivalent_pair};
@@ -26,8 +23,7 @@ pub struct FirstPairs<'c, 'g> {
 impl<'c, 'g> Model for FirstPairs<'c, 'g> {
     ghost use Rattle.std.specs.Prelude.{◌≡◌};
     ghost use Rattle.std.specs.Option.{option_map};
-    ghost use Rattle.graph_core.specs.Graph.{Graph};
-    ghost use Rattle.graph_core.specs.Structure.{IsBicritical, cut_pair, equivalent_pair};
+    ghost use Rattle.graph_core.specs.Common.{Graph, IsBicritical, cut_pair, equivalent_pair};
     ghost use Rattle.separation_kit.specs.Pairs.{pair_of};
 
     ghost Value = { Graph };

@@ -1,15 +1,7 @@
 //! The laws of separations. Each is the contract of a function that does nothing.
 ghost use Rattle.std.specs.Prelude.{◌≡◌, ◌≢◌, ◌≤◌, ◌↔◌, ℕ, true, false, None, All, []};
-ghost use Rattle.counting.specs.Counts.{Within, count, is_odd};
-ghost use Rattle.counting.specs.Lists.{mem};
-ghost use Rattle.counting.specs.Sets.{pair_set, singleton, union};
-ghost use Rattle.graph_core.specs.Covered.{IsCovered};
-ghost use Rattle.graph_core.specs.Graph.{Graph, IsBipartite, IsGraph, IsMultigraph};
-ghost use Rattle.graph_core.specs.Matchings.{HasPerfect};
-ghost use Rattle.graph_core.specs.Structure.{IsBicritical, IsCutPair, cut_pair, equivalent_pair};
-ghost use Rattle.graph_core.specs.Tight.{HasOnlyTrivialTightCuts, IsNontrivial, IsTight};
-ghost use Rattle.graph_core.specs.Walks.{joined};
-ghost use Rattle.graph_core.specs.CanonicalCuts.{IsCanonicalCut};
+ghost use Rattle.counting.specs.Common.{Within, count, is_odd, mem, pair_set, singleton, union};
+ghost use Rattle.graph_core.specs.Common.{IsCovered, Graph, IsBipartite, IsGraph, IsMultigraph, HasPerfect, IsBicritical, IsCutPair, cut_pair, equivalent_pair, HasOnlyTrivialTightCuts, IsNontrivial, IsTight, joined, IsCanonicalCut};
 ghost use Rattle.separation_kit.specs.SeparationShores.{separation_cuts, separation_shores};
 
 /// There is no first pair exactly when there is none: a graph is bicritical if no two vertices are

@@ -1,7 +1,6 @@
 //! Pairs of vertices in lexicographic order.
 ghost use Rattle.std.specs.Prelude.{◌≡◌, ◌≤◌, ◌++◌, map, nat_lt, IfOk, OnOk};
-ghost use Rattle.counting.specs.Counts.{Within};
-ghost use Rattle.counting.specs.Lists.{pair_with, rising_list, rising_pairs};
+ghost use Rattle.counting.specs.Common.{Within, pair_with, rising_list, rising_pairs};
 ghost use Rattle.separation_kit.specs.Pairs.{pair_of};
 
 use std::alloc::{AllocError as Memory, Global};

@@ -1,12 +1,8 @@
 //! The cuts that cut pairs give.
 ghost use Rattle.std.specs.Prelude.{◌≡◌, ◌≤◌, fold, map, slice_get, All, IfOk, OnOk};
 ghost use Rattle.std.specs.Option.{option_map};
-ghost use Rattle.counting.specs.Counts.{Within};
-ghost use Rattle.counting.specs.Sets.{singleton, union};
-ghost use Rattle.counting.specs.Lists.{mem, rising_list, IsRisingIn};
-ghost use Rattle.graph_core.specs.Covered.{IsCovered};
-ghost use Rattle.graph_core.specs.Structure.{IsBicritical, cut_pair};
-ghost use Rattle.graph_core.specs.CanonicalCuts.{with_cut};
+ghost use Rattle.counting.specs.Common.{Within, singleton, union, mem, rising_list, IsRisingIn};
+ghost use Rattle.graph_core.specs.Common.{IsCovered, IsBicritical, cut_pair, with_cut};
 ghost use Rattle.separation_kit.specs.Pairs.{pair_of};
 ghost use Rattle.separation_kit.specs.SeparationShores.{separation_cuts, shores_at_pair};
 

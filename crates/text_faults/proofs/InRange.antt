@@ -1,10 +1,8 @@
 -- The test of a range says exactly that a number is in it, and so for all numbers of a list.
 use Rattle.std.proofs.Common.{◌≡◌, ◌||◌, ◌<◌, ◌^◌, ℕ, suc, List, [], ◌∷◌, All, false, refl, ap₂, arith}
 use Rattle.std.specs.List.{list_any}
-use Rattle.std.proofs.lemmas.Bool.{or_parts}
-use Rattle.std.proofs.lemmas.Bool.Decides.{nat_tests}
-use Rattle.std.proofs.lemmas.List.Elements.{All-nil, All-cons}
-use Rattle.counting.specs.Counts.{Within}
+use Rattle.counting.proofs.Common.{or_parts, nat_tests, All-nil, All-cons}
+use Rattle.counting.specs.Common.{Within}
 use Rattle.text_faults.specs.Ranges.{is_out_of_range}
 
 pub in_range : (n v : ℕ) → is_out_of_range n v ≡ false → Within n v

@@ -1,7 +1,7 @@
 -- What a reader of a text answers, with the faults that all texts share.
 -- Stated by: text_faults, graph_text, tree_text, move_text, ear_text, encoder and 2 more.
 use Rattle.std.specs.Prelude.{◌≡◌, ℕ, List, Result, Ok, Err}
-use Rattle.line_text.specs.Format.{Rules, FirstFault}
+use Rattle.line_text.specs.Common.{Rules, FirstFault}
 use Rattle.text_faults.specs.Faults.{IsFault}
 use Rattle.text_faults.specs.declared.faults.FaultKind.{FaultKind}
 use Rattle.text_faults.specs.declared.faults.TextFault.{TextFault}

@@ -2,36 +2,23 @@
 -- list is a rising list. The kind of a covered graph is composite by its first candidate, and
 -- if there is none it is brace or brick by its sides.
 use Rattle.std.proofs.Common.{◌≡◌, ◌⊎◌, ◌↔◌, ℕ, Bool, true, false, List, [], ◌∷◌, Option, Some, None, option_map, refl, sym, ◌∙◌, arith, inl, inr}
-use Rattle.std.proofs.lemmas.Bool.{true≢false}
+use Rattle.counting.proofs.Common.{true≢false, mem-within, mem-rising_list, rising_list-rises}
 use Rattle.std.specs.Prelude.{All, IsTrue}
-use Rattle.counting.proofs.Lists.{mem-within}
-use Rattle.counting.proofs.RisingLists.{mem-rising_list, rising_list-rises}
-use Rattle.counting.specs.Counts.{Within, count}
-use Rattle.counting.specs.Lists.{Lists, rising_list}
-use Rattle.counting.specs.Sets.{Set, none}
+use Rattle.counting.specs.Common.{Within, count, Lists, rising_list, Set, none}
 use Rattle.theorems.proofs.Quotients.{bipartite-or}
-use Rattle.graph_core.proofs.Decide.{is_allowed_found, is_allowed_says, maximum_exists}
-use Rattle.graph_core.specs.Components.{component_count}
-use Rattle.graph_core.specs.Covered.{IsCovered}
-use Rattle.graph_core.specs.GallaiEdmonds.{InA, InC, InD}
-use Rattle.graph_core.specs.Graph.{Graph, IsBipartite, IsMultigraph, size}
-use Rattle.graph_core.specs.Matchings.{Allowed, is_allowed, missed_count}
-use Rattle.graph_core.specs.Structure.{classes, cut_pair, equivalent_pair}
-use Rattle.graph_core.specs.Tight.{HasOnlyTrivialTightCuts}
-use Rattle.graph_core.specs.View.{pair_of}
+use Rattle.graph_core.proofs.Common.{is_allowed_found, is_allowed_says, maximum_exists}
+use Rattle.graph_core.specs.Common.{component_count, IsCovered, InA, InC, InD, Graph, IsBipartite, IsMultigraph, size, Allowed, is_allowed, missed_count, classes, cut_pair, equivalent_pair, HasOnlyTrivialTightCuts, pair_of, IsVerdict}
 use Rattle.graph_core.specs.declared.ends.Ends.{Ends}
 use Rattle.graph_core.specs.declared.verdict.Kind.{Kind}
 use Rattle.graph_core.specs.declared.verdict.Kind.TheVariants.{Brace, Brick, Composite}
 use Rattle.graph_core.specs.declared.verdict.Verdict.{Verdict}
 use Rattle.graph_core.specs.declared.verdict.Verdict.TheVariants.{Covered, NotCovered}
-use Rattle.graph_core.specs.Verdicts.{IsVerdict}
 use Rattle.leaf_kinds.specs.LeafKinds.{IsKind, cut_of}
 use Rattle.tight_cuts.proofs.Completeness.{candidates_found, candidates_none}
 use Rattle.tight_cuts.specs.Candidates.{Candidate, IsTightCandidate, candidates, first_shore}
 use Rattle.report_text.specs.declared.analyses.AnalysisLines.{AnalysisLines}
 use Rattle.report_text.specs.declared.structures.Structure.{Structure}
-use Rattle.bench_outcomes.specs.Facts.{IsAnalysis, IsStructure, TellsStructure}
-use Rattle.bench_outcomes.specs.Outcome.{Analysed, Analysed6, with_given_names}
+use Rattle.bench_outcomes.specs.Common.{IsAnalysis, IsStructure, TellsStructure, Analysed, Analysed6, with_given_names}
 use Rattle.bench_outcomes.specs.declared.status.Status.{Status}
 use Rattle.bench_outcomes.specs.declared.status.Status.TheVariants.{Done}
 use Rattle.graph_text.specs.EitherVersion.{NamedGraph}

@@ -2,29 +2,15 @@
 -- If a tight shore X has one vertex more on the side A, X ∩ A is the barrier: without it each
 -- vertex of X - A is alone, and the other shore is one component.
 use Rattle.std.proofs.Common.{◌≡◌, ℕ, suc, zero, ◌+◌, ◌≤◌, Bool, true, false, ◌==◌, ◌&&◌, ◌||◌, not, refl, sym, ap, ◌∙◌, arith, subst, eq-eqb, eqb-true, inl, inr}
-use Rattle.std.proofs.lemmas.Bool.{and_from, or_cases, not-true, true≢false, false_from_ne_true}
+use Rattle.counting.proofs.Common.{and_from, or_cases, not-true, true≢false, false_from_ne_true, same_tests, count_congr, count_member, count_plus, odd_pos, count_mono, count_singleton}
 use Rattle.barrier_kit.proofs.BarrierCuts.{leader_of, part_same}
 use Rattle.barrier_kit.proofs.Barriers.{few_odd_components}
 use Rattle.barrier_kit.proofs.CutFacts.{tight-turned}
 use Rattle.barrier_kit.proofs.Matched.{crosses_apart}
-use Rattle.graph_core.specs.Sides.{IsSide}
+use Rattle.graph_core.specs.Common.{IsSide, is_least, odd_component_count, IsCovered, Graph, IsGraph, first_end, in_cut, second_end, size, IsTight, Joined, joined}
 use Rattle.brick_kit.proofs.PairSeparations.{stays_joined}
-use Rattle.counting.proofs.Booleans.{same_tests}
-use Rattle.counting.proofs.Counts.{count_congr}
-use Rattle.counting.proofs.Members.{count_member, count_plus}
-use Rattle.counting.proofs.Odd.{odd_pos}
-use Rattle.counting.proofs.SetSizes.{count_mono, count_singleton}
-use Rattle.counting.specs.Counts.{Within, count, is_odd}
-use Rattle.counting.specs.Sets.{Set, complement, meet, minus, singleton, union}
-use Rattle.graph_core.proofs.Components.{joined_walk, walk_joined}
-use Rattle.graph_core.proofs.Decide.{covered_perfect}
-use Rattle.graph_core.proofs.Trees.{joined_more}
-use Rattle.graph_core.proofs.Walks.{joined_back, joined_self}
-use Rattle.graph_core.specs.Components.{is_least, odd_component_count}
-use Rattle.graph_core.specs.Covered.{IsCovered}
-use Rattle.graph_core.specs.Graph.{Graph, IsGraph, first_end, in_cut, second_end, size}
-use Rattle.graph_core.specs.Tight.{IsTight}
-use Rattle.graph_core.specs.Walks.{Joined, joined}
+use Rattle.counting.specs.Common.{Within, count, is_odd, Set, complement, meet, minus, singleton, union}
+use Rattle.graph_core.proofs.Common.{joined_walk, walk_joined, covered_perfect, joined_more, joined_back, joined_self}
 use Rattle.matching_digraph.proofs.Balance.{balance, leaves_left, leaves_right, none_right, other_side}
 use Rattle.theorems.proofs.ConnectedShores.{tight_joined}
 use Rattle.theorems.specs.Bricks.{IsBarrierCutOf}

@@ -2,22 +2,13 @@
 -- edge of a bicritical graph is in a perfect matching; two vertices of one side of a bipartite
 -- graph leave the sides unequal.
 use Rattle.std.proofs.Common.{◌≡◌, ℕ, ◌≤◌, Bool, true, ◌==◌, ◌&&◌, not, refl, sym, ap, ◌∙◌, arith, eqb-true, ◌↔◌, inl, inr}
-use Rattle.std.proofs.lemmas.Bool.{or_cases}
+use Rattle.counting.proofs.Common.{or_cases, apart_denied, count_complement, count_congr, two_of, total_congr, total_none}
 use Rattle.barrier_kit.proofs.Barriers.{two_less}
 use Rattle.barrier_kit.proofs.CriticalPairs.{no_sides}
-use Rattle.graph_core.specs.Sides.{IsSide}
+use Rattle.graph_core.specs.Common.{IsSide, IsCovered, Graph, IsBipartite, IsMultigraph, edges_in_cut, first_end, second_end, size, IsBicritical, IsCutPair, HasOnlyTrivialTightCuts}
 use Rattle.brick_kit.proofs.Bricks.{no_shore}
-use Rattle.counting.proofs.Booleans.{apart_denied}
-use Rattle.counting.proofs.Counts.{count_complement, count_congr}
-use Rattle.counting.proofs.Members.{two_of}
-use Rattle.counting.proofs.Totals.{total_congr, total_none}
-use Rattle.counting.specs.Counts.{bit, count}
-use Rattle.counting.specs.Sets.{Set, complement, minus, none, pair_set}
-use Rattle.graph_core.proofs.Parity.{degrees}
-use Rattle.graph_core.specs.Covered.{IsCovered}
-use Rattle.graph_core.specs.Graph.{Graph, IsBipartite, IsMultigraph, edges_in_cut, first_end, second_end, size}
-use Rattle.graph_core.specs.Structure.{IsBicritical, IsCutPair}
-use Rattle.graph_core.specs.Tight.{HasOnlyTrivialTightCuts}
+use Rattle.counting.specs.Common.{bit, count, Set, complement, minus, none, pair_set}
+use Rattle.graph_core.proofs.Common.{degrees}
 use Rattle.matching_digraph.proofs.Balance.{equal_sides, no_inner, other_side}
 use Rattle.separation_kit.proofs.CutPairs.{brick_facts}
 use Rattle.theorems.proofs.AddedEdges.{allowed_from, degrees_outside}

@@ -5,14 +5,9 @@
 use Rattle.std.proofs.Common.{◌≡◌, ◌∙◌, ◌↔◌, ℕ, ◌+◌, ◌*◌, ◌≤◌, List, refl, sym, ap, arith}
 use Rattle.std.specs.List.{AllByRecursion}
 use Rattle.list_lines.proofs.Counts.{same_counts}
-use Rattle.counting.specs.Lists.{mem}
-use Rattle.graph_core.proofs.Complements.{complement_of-rises, mem-complement_of}
-use Rattle.graph_core.proofs.ShoreLists.{complement-tight}
-use Rattle.graph_core.proofs.Singles.{singles-partition}
-use Rattle.graph_core.specs.Covered.{IsCovered}
-use Rattle.graph_core.specs.Graph.{Graph, IsBipartite, IsGraph, IsMultigraph}
-use Rattle.graph_core.specs.Partitions.{IsPartition, complement_of, singles}
-use Rattle.graph_core.specs.Quotients.{quotient}
+use Rattle.counting.specs.Common.{mem}
+use Rattle.graph_core.proofs.Common.{complement_of-rises, mem-complement_of, complement-tight, singles-partition}
+use Rattle.graph_core.specs.Common.{IsCovered, Graph, IsBipartite, IsGraph, IsMultigraph, IsPartition, complement_of, singles, quotient}
 use Rattle.list_lines.proofs.QuotientSides.{bipartite_from_singles, singles_from_bipartite}
 use Rattle.list_lines.specs.Standings.{IsCounted}
 use Rattle.tree_core.specs.declared.tallies.Tally.{Tally}
@@ -26,9 +21,7 @@ use Rattle.tree_core.proofs.CutsBelow.{few-leaves, kept-covers, kept-partition, 
 use Rattle.tree_core.proofs.DerivationLeaves.{partitions-leaves}
 use Rattle.tree_core.proofs.DerivationShores.{shore-cut}
 use Rattle.tree_core.proofs.Sizes.{length-leaves_at}
-use Rattle.tree_core.specs.Derivations.{IsCutAt, IsDerivationAt, IsTightShore, kept_at, merged_at}
-use Rattle.tree_core.specs.Leaves.{leaves, leaves_at}
-use Rattle.tree_core.specs.Shapes.{Shape, cut, leaf}
+use Rattle.tree_core.specs.Common.{IsCutAt, IsDerivationAt, IsTightShore, kept_at, merged_at, leaves, leaves_at, Shape, cut, leaf}
 
 -- some derivation counts, and each other one counts the same
 pub one-count : (g : Graph) → IsGraph g → IsCovered g → (tally : Tally) × IsCounted g tally × ((other : Tally) → IsCounted g other → other ≡ tally)

@@ -6,9 +6,7 @@ use Rattle.std.specs.Option.{ForSome}
 use Rattle.contraction.specs.Partition.{PartitionValue}
 use Rattle.ear_core.proofs.Stepping.{covered-edge}
 use Rattle.ear_text.specs.Writing.{ears_text}
-use Rattle.graph_core.specs.Covered.{IsCovered}
-use Rattle.graph_core.specs.Graph.{Graph, IsGraph, IsMultigraph, size}
-use Rattle.graph_core.specs.View.{IsWithinLimits}
+use Rattle.graph_core.specs.Common.{IsCovered, Graph, IsGraph, IsMultigraph, size, IsWithinLimits}
 use Rattle.graph_text.proofs.NameLists.{AreNames-more}
 use Rattle.graph_text.proofs.NamedReadBack.{Stands-named_text}
 use Rattle.graph_text.proofs.PlainNames.{is_name-plain, length-plain_names, plain-fresh, plain_names-more, plain_names-none}
@@ -28,20 +26,15 @@ use Rattle.report_text.specs.Derivations.{derivation_text}
 use Rattle.report_text.specs.EarReports.{ears_report_text}
 use Rattle.report_text.specs.Growths.{grown_text}
 use Rattle.report_text.specs.Reports.{with_names_text}
-use Rattle.tree_core.specs.Tallies.{AreLeafKinds}
+use Rattle.tree_core.specs.Common.{AreLeafKinds, IsDerivation, leaves, partitions_of, Shape}
 use Rattle.tree_core.specs.declared.tallies.Tally.{Tally}
 use Rattle.tight_cuts.specs.Candidates.{Candidate}
 use Rattle.tree_core.proofs.DerivationLeaves.{partitions-leaves}
-use Rattle.tree_core.specs.Derivations.{IsDerivation}
-use Rattle.tree_core.specs.Leaves.{leaves, partitions_of}
-use Rattle.tree_core.specs.Shapes.{Shape}
 use Rattle.tree_text.specs.Writing.{tree_text}
 use Rattle.bench_outcomes.proofs.DerivationTexts.{told}
 use Rattle.bench_outcomes.proofs.GrownSizes.{grown-multigraph}
-use Rattle.bench_outcomes.specs.EarChecks.{EarsGives, double_count, single_count}
-use Rattle.bench_outcomes.specs.Growths.{Grown, IsCounted}
+use Rattle.bench_outcomes.specs.Common.{EarsGives, double_count, single_count, Grown, IsCounted, Converted, DecomposeGives, TellsDerivation, given_or_plain, with_given_names}
 use Rattle.decomposer.specs.Orders.{NamedPicks}
-use Rattle.bench_outcomes.specs.Outcome.{Converted, DecomposeGives, TellsDerivation, given_or_plain, with_given_names}
 use Rattle.bench_outcomes.specs.declared.status.Status.{Status}
 use Rattle.bench_outcomes.specs.declared.status.Status.TheVariants.{Done, Negative}
 use Rattle.decomposer.specs.declared.orders.NamedOrder.{NamedOrder}

@@ -3,27 +3,12 @@
 -- since names rise with places; so merging first and then passing to places is the same as the
 -- other way.
 use Rattle.std.proofs.Common.{[], ◌≡◌, ◌∙◌, ℕ, zero, suc, ◌+◌, ◌-◌, ◌<◌, Bool, true, false, cond, List, ◌∷◌, map, length, get_or, inl, inr, le-leb, refl, sym, ap, ap₂, arith, subst}
-use Rattle.std.proofs.lemmas.Bool.{cases_eq, cases_lt, false_from_ne_true}
-use Rattle.std.proofs.lemmas.List.{get_or-map, length-map}
-use Rattle.std.proofs.lemmas.List.Elements.{All-map}
+use Rattle.counting.proofs.Common.{cases_eq, cases_lt, false_from_ne_true, get_or-map, length-map, All-map, same_tests, count_congr, mem-within, all_in_true, last-greatest, last_is_greatest, mem-rising_list, rising_list-rises}
 use Rattle.std.specs.List.Sorted.{IsStrictlyIncreasing}
 use Rattle.std.specs.Prelude.{slice_index}
-use Rattle.counting.proofs.Booleans.{same_tests}
-use Rattle.counting.proofs.Counts.{count_congr}
-use Rattle.counting.proofs.Lists.{mem-within}
-use Rattle.counting.proofs.RisingLists.{all_in_true, last-greatest, last_is_greatest, mem-rising_list, rising_list-rises}
-use Rattle.counting.specs.Counts.{Within, count}
-use Rattle.counting.specs.Lists.{IsRisingIn, last_of, mem, rising_list}
-use Rattle.graph_core.proofs.BlockSets.{at_place, rep, rep_in, rep_place}
-use Rattle.graph_core.proofs.Blocks.{place_in, place_is}
-use Rattle.graph_core.proofs.MergeOrder.{merged_blocks}
-use Rattle.graph_core.proofs.MergedShores.{Some, alike_down, alike_in, alike_up, same_side}
-use Rattle.graph_core.proofs.Merging.{Has, block_has, has_block, mem_last, merged_merges}
-use Rattle.graph_core.proofs.SameBlocks.{block_rises, same_blocks}
-use Rattle.graph_core.proofs.SingleBlocks.{union-singles}
-use Rattle.graph_core.proofs.Singles.{place_singles, singles-partition}
-use Rattle.graph_core.specs.Partitions.{AreBlocks, IsMerge, IsPartition, block, merged, names_of, place, singles}
-use Rattle.graph_core.specs.Shores.{IsUnion, blocks_in}
+use Rattle.counting.specs.Common.{Within, count, IsRisingIn, last_of, mem, rising_list}
+use Rattle.graph_core.proofs.Common.{at_place, rep, rep_in, rep_place, place_in, place_is, merged_blocks, Some, alike_down, alike_in, alike_up, same_side, Has, block_has, has_block, mem_last, merged_merges, block_rises, same_blocks, union-singles, place_singles, singles-partition}
+use Rattle.graph_core.specs.Common.{AreBlocks, IsMerge, IsPartition, block, merged, names_of, place, singles, IsUnion, blocks_in}
 
 rises-far : (xs : List ℕ) → IsStrictlyIncreasing xs → (i j : ℕ) → i < j → j < length xs → slice_index xs i < slice_index xs j
 rises-far xs rising i zero l m = absurd (omega arith)

@@ -3,23 +3,11 @@
 -- the quotient at p stands for it, between the same blocks of q; and the other way round.
 use Rattle.std.proofs.Common.{◌≡◌, ◌≢◌, ◌∙◌, ℕ, ◌<◌, Bool, true, not, ◌&&◌, ◌==◌, List, length, filter, inl, inr, ◌⊎◌, sym, ap, ap₂, arith, eq-eqb, subst}
 use Rattle.std.proofs.Math.Path.{fun_ext}
-use Rattle.std.proofs.lemmas.Bool.{and_from, and_parts, or_left, or_right}
-use Rattle.std.proofs.lemmas.Bool.Decides.{nat_tests}
+use Rattle.counting.proofs.Common.{and_from, and_parts, or_left, or_right, nat_tests, same_tests, some_true, true_some}
 use Rattle.contraction.proofs.QuotientLaws.{same_pairs}
-use Rattle.counting.proofs.Booleans.{same_tests}
-use Rattle.counting.proofs.Tests.{some_true, true_some}
-use Rattle.counting.specs.Counts.{Within}
-use Rattle.counting.specs.Lists.{IsRisingIn, mem, rising_pairs}
-use Rattle.counting.specs.Tests.{some}
-use Rattle.graph_core.proofs.Blocks.{contracted-ends, contracted-size, place_in}
-use Rattle.graph_core.proofs.MergedShores.{Some}
-use Rattle.graph_core.proofs.Merging.{Has}
-use Rattle.graph_core.proofs.Quotients.{quotient-order, quotient_edge}
-use Rattle.graph_core.proofs.Walks.{has_ends-cases, has_ends-own}
-use Rattle.graph_core.specs.Graph.{Graph, IsGraph, first_end, has_ends, second_end, size}
-use Rattle.graph_core.specs.Partitions.{IsPartition, contracted, merged, place, singles}
-use Rattle.graph_core.specs.Quotients.{blocks_adjacent, quotient}
-use Rattle.graph_core.specs.Shores.{IsUnion}
+use Rattle.counting.specs.Common.{Within, IsRisingIn, mem, rising_pairs, some}
+use Rattle.graph_core.proofs.Common.{contracted-ends, contracted-size, place_in, Some, Has, quotient-order, quotient_edge, has_ends-cases, has_ends-own}
+use Rattle.graph_core.specs.Common.{Graph, IsGraph, first_end, has_ends, second_end, size, IsPartition, contracted, merged, place, singles, blocks_adjacent, quotient, IsUnion}
 use Rattle.theorems.proofs.CoarserPartitions.{down, downs, length-downs, merged-down, merged-unions, place-down}
 
 -- a and b are u and v, in some order

@@ -2,8 +2,7 @@
 -- places; and a nonempty list has a first place with the least difference of the sides, by
 -- induction on the list.
 use Rattle.std.proofs.Common.{[], ◌≡◌, ℕ, zero, suc, ◌-◌, ◌<◌, ◌≤◌, ◌%◌, List, ◌∷◌, length, map, inl, inr, refl, ap, ap₂, arith, slice_index_or}
-use Rattle.std.proofs.lemmas.Bool.{cases_lt}
-use Rattle.std.proofs.lemmas.List.{length-map}
+use Rattle.counting.proofs.Common.{cases_lt, length-map}
 use Rattle.decomposer.specs.Orders.{NamedPicks, ScriptPicks, scripted_place}
 use Rattle.decomposer.specs.declared.orders.NamedOrder.{NamedOrder}
 use Rattle.decomposer.specs.declared.orders.NamedOrder.TheVariants.{First, Last, Balanced}

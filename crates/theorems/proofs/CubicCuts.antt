@@ -3,19 +3,11 @@
 -- summed over all edges.
 use Rattle.std.proofs.Common.{◌≡◌, ℕ, ◌+◌, ◌*◌, ◌/◌, ◌≤◌, true, List, [], ◌∷◌, refl, sym, ap, ◌∙◌, arith, mul-add, eqb-true}
 use Rattle.std.specs.Prelude.{All, ◌%◌}
-use Rattle.std.proofs.lemmas.List.Elements.{All-head, All-tail}
+use Rattle.counting.proofs.Common.{All-head, All-tail, count_complement, is_odd_remainder, odd_pos, total_congr, total_mul, total_none}
 use Rattle.brick_kit.proofs.CutWeights.{cut_weight, perfect_heaviest}
-use Rattle.counting.proofs.Counts.{count_complement}
-use Rattle.counting.proofs.Odd.{is_odd_remainder, odd_pos}
-use Rattle.counting.proofs.Totals.{total_congr, total_mul, total_none}
-use Rattle.counting.specs.Counts.{bit, count, is_odd, total}
-use Rattle.counting.specs.Sets.{Set, complement, everything, none}
-use Rattle.graph_core.proofs.Decide.{covered_perfect}
-use Rattle.graph_core.proofs.Edits.{missed_edges}
-use Rattle.graph_core.proofs.Perfect.{perfect_matching, perfect_misses}
-use Rattle.graph_core.specs.Graph.{Graph, IsGraph, degree, edges_in_cut, in_cut, size}
-use Rattle.graph_core.specs.Matchings.{IsPerfect}
-use Rattle.graph_core.specs.Tight.{IsTight}
+use Rattle.counting.specs.Common.{bit, count, is_odd, total, Set, complement, everything, none}
+use Rattle.graph_core.proofs.Common.{covered_perfect, missed_edges, perfect_matching, perfect_misses}
+use Rattle.graph_core.specs.Common.{Graph, IsGraph, degree, edges_in_cut, in_cut, size, IsPerfect, IsTight}
 use Rattle.grow_gen.specs.Cubic.{IsCubic}
 use Rattle.theorems.proofs.CubicCovered.{cubic_covered}
 use Rattle.theorems.proofs.CubicDegrees.{all_edges, inner_size, three_each, three_in_cut}

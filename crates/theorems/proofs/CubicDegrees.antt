@@ -3,15 +3,10 @@
 -- 2-edge-connected graph it is then at least three.
 use Rattle.std.proofs.Common.{◌≡◌, ℕ, ◌+◌, ◌*◌, ◌≤◌, ◌==◌, true, false, ◌&&◌, refl, sym, ap, ◌∙◌, arith}
 use Rattle.std.specs.Prelude.{◌%◌}
-use Rattle.std.proofs.lemmas.Bool.{not-true}
-use Rattle.counting.proofs.Counts.{count_complement}
-use Rattle.counting.proofs.Members.{count_member}
-use Rattle.counting.proofs.Odd.{complement_odd, is_odd_remainder, odd_pos, odd_three}
-use Rattle.counting.proofs.Totals.{total_congr, total_mul, total_none}
-use Rattle.counting.specs.Counts.{bit, count, is_odd}
-use Rattle.counting.specs.Sets.{Set, complement, everything}
-use Rattle.graph_core.proofs.Parity.{degrees}
-use Rattle.graph_core.specs.Graph.{Graph, IsGraph, degree, inside, size}
+use Rattle.counting.proofs.Common.{not-true, count_complement, count_member, complement_odd, is_odd_remainder, odd_pos, odd_three, total_congr, total_mul, total_none}
+use Rattle.counting.specs.Common.{bit, count, is_odd, Set, complement, everything}
+use Rattle.graph_core.proofs.Common.{degrees}
+use Rattle.graph_core.specs.Common.{Graph, IsGraph, degree, inside, size}
 use Rattle.grow_gen.specs.Cubic.{IsCubic}
 use Rattle.theorems.specs.CubicGraphs.{IsTwoEdgeConnected, cut_size}
 

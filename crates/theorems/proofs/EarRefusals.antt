@@ -2,13 +2,10 @@
 -- tests compute, and whether the graph of a stage has a perfect matching with an edge is asked of
 -- the listed edges.
 use Rattle.std.proofs.Common.{◌≡◌, ◌⊎◌, ◌↔◌, ℕ, zero, suc, ◌+◌, ◌≤◌, true, List, [], ◌∷◌, Option, Some, None, refl, sym, subst, arith, inl, inr}
-use Rattle.std.proofs.lemmas.Bool.{both_ways, cases_Bool, cases_eq}
-use Rattle.counting.specs.Counts.{Within}
-use Rattle.counting.specs.Sets.{Set, pair_set, singleton}
-use Rattle.counting.specs.Tests.{IsLeastWithout}
+use Rattle.counting.proofs.Common.{both_ways, cases_Bool, cases_eq}
+use Rattle.counting.specs.Common.{Within, Set, pair_set, singleton, IsLeastWithout}
 use Rattle.barrier_kit.proofs.ClassLaw.{perfect_or_not}
-use Rattle.graph_core.specs.Graph.{Graph, IsMultigraph, first_end, second_end, size}
-use Rattle.graph_core.specs.Matchings.{HasPerfect}
+use Rattle.graph_core.specs.Common.{Graph, IsMultigraph, first_end, second_end, size, HasPerfect}
 use Rattle.ear_core.specs.EarLists.{AreSteps, IsEarList, PlainEars, PlainStep, next_stage}
 use Rattle.ear_core.specs.EarTests.{PlainWhy, ends_early, stage_not_covered}
 use Rattle.ear_core.specs.Refusals.{IsFirstRefusal, IsLeastUnallowed, IsRefused, step_fault}

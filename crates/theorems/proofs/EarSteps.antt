@@ -3,13 +3,10 @@
 -- Idea: one perfect matching is kept; another one that holds an edge leading out of the stage
 -- makes ears with it, of which one or two serve (the two-ear theorem).
 use Rattle.std.proofs.Common.{[], ◌≡◌, ℕ, zero, suc, ◌+◌, ◌<◌, ◌⊎◌, true, not, ◌&&◌, ◌||◌, refl, arith, inl, inr, List, ◌∷◌, false}
-use Rattle.std.proofs.lemmas.Bool.{and_parts, cases_eq, not-true}
+use Rattle.counting.proofs.Common.{and_parts, cases_eq, not-true, count_member, count_zero}
 use Rattle.std.specs.List.{AllByRecursion}
 use Rattle.barrier_kit.proofs.ClassLaw.{perfect_or_not}
-use Rattle.counting.proofs.Members.{count_member, count_zero}
-use Rattle.counting.specs.Counts.{Within, count}
-use Rattle.counting.specs.Lists.{mem}
-use Rattle.counting.specs.Sets.{Set, complement, none, singleton, union}
+use Rattle.counting.specs.Common.{Within, count, mem, Set, complement, none, singleton, union}
 use Rattle.ear_core.proofs.BipartiteStages.{bipartite-found}
 use Rattle.ear_core.proofs.EngineGraphs.{served_listed}
 use Rattle.ear_core.proofs.FirstStage.{first-stage}
@@ -25,9 +22,7 @@ use Rattle.ear_core.specs.EarLists.{AreForced, AreNeeded, AreSteps, IsEarList, I
 use Rattle.ear_core.specs.LoneEars.{LeadsAtTwo}
 use Rattle.ear_core.specs.StageGraphs.{listed}
 use Rattle.ear_core.specs.Stages.{IsStage, is_met}
-use Rattle.graph_core.specs.Covered.{IsCovered}
-use Rattle.graph_core.specs.Graph.{Graph, IsBipartite, IsGraph, IsMultigraph, first_end, second_end, size, with_ends}
-use Rattle.graph_core.specs.Matchings.{IsPerfect}
+use Rattle.graph_core.specs.Common.{IsCovered, Graph, IsBipartite, IsGraph, IsMultigraph, first_end, second_end, size, with_ends, IsPerfect}
 use Rattle.match_core.proofs.MatchingEdges.{marked_matching}
 use Rattle.match_core.specs.MatchingRows.{MatchingValue, edges_of}
 use Rattle.theorems.proofs.EarPaths.{perfect-rows, round-exists, rows-hold}

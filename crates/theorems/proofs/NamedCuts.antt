@@ -7,13 +7,10 @@ use Rattle.barrier_kit.proofs.CriticalPairs.{class_cut, no_sides}
 use Rattle.barrier_kit.proofs.CutFacts.{nontrivial-turned, tight-turned}
 use Rattle.barrier_kit.specs.BarrierCuts.{BarrierCut}
 use Rattle.brick_kit.proofs.Bricks.{shore_pair}
-use Rattle.counting.specs.Sets.{Set, complement}
+use Rattle.counting.specs.Common.{Set, complement}
 use Rattle.theorems.proofs.Quotients.{bipartite-or}
-use Rattle.graph_core.proofs.SameSets.{nontrivial-same, tight-same}
-use Rattle.graph_core.specs.Covered.{IsCovered}
-use Rattle.graph_core.specs.Graph.{Graph, IsGraph, IsMultigraph}
-use Rattle.graph_core.specs.Structure.{IsBarrier, IsBicritical, IsCutPair}
-use Rattle.graph_core.specs.Tight.{IsNontrivial, IsTight}
+use Rattle.graph_core.proofs.Common.{nontrivial-same, tight-same}
+use Rattle.graph_core.specs.Common.{IsCovered, Graph, IsGraph, IsMultigraph, IsBarrier, IsBicritical, IsCutPair, IsNontrivial, IsTight}
 use Rattle.quick_kinds.proofs.QuickBricks.{critical_or_not}
 use Rattle.separation_kit.proofs.CutPairs.{beside_pair, pair_cut}
 use Rattle.theorems.proofs.BarrierShores.{shore_barrier}

@@ -2,25 +2,13 @@
 -- edges in the cut of both together as there are neighbours more; and a nontrivial tight shore,
 -- or the other one, is a set on a side with one vertex more of its neighbours' side.
 use Rattle.std.proofs.Common.{◌≡◌, ℕ, suc, zero, ◌+◌, ◌≤◌, Bool, true, false, ◌&&◌, ◌||◌, not, refl, sym, ap, ◌∙◌, arith}
-use Rattle.std.proofs.lemmas.Bool.{and_from, and_parts, both_ways, false_from_ne_true, not-true, true≢false}
+use Rattle.counting.proofs.Common.{and_from, and_parts, both_ways, false_from_ne_true, not-true, true≢false, and_comm, count_congr, count_meet_union, count_split, some_true, true_some, total_none}
 use Rattle.barrier_kit.proofs.CutFacts.{nontrivial-turned, tight-turned}
 use Rattle.barrier_kit.proofs.Joining.{cut_split}
 use Rattle.barrier_kit.proofs.Matched.{cut_matching}
-use Rattle.graph_core.specs.Sides.{IsSide}
-use Rattle.counting.proofs.Booleans.{and_comm}
-use Rattle.counting.proofs.Counts.{count_congr, count_meet_union}
-use Rattle.counting.proofs.SetSizes.{count_split}
-use Rattle.counting.proofs.Tests.{some_true, true_some}
-use Rattle.counting.proofs.Totals.{total_none}
-use Rattle.counting.specs.Counts.{Within, bit, count}
-use Rattle.counting.specs.Sets.{Set, complement, meet, minus, none, union}
-use Rattle.graph_core.proofs.Decide.{covered_perfect}
-use Rattle.graph_core.proofs.Walks.{adjacent-edge, adjacent_from, has_ends-back, has_ends-own}
-use Rattle.graph_core.specs.Covered.{IsCovered}
-use Rattle.graph_core.specs.Graph.{Graph, IsMultigraph, edges_in_cut, first_end, has_ends, second_end, size}
-use Rattle.graph_core.specs.Matchings.{IsPerfect}
-use Rattle.graph_core.specs.Tight.{IsNontrivial, IsTight}
-use Rattle.graph_core.specs.Walks.{adjacent}
+use Rattle.graph_core.specs.Common.{IsSide, IsCovered, Graph, IsMultigraph, edges_in_cut, first_end, has_ends, second_end, size, IsPerfect, IsNontrivial, IsTight, adjacent}
+use Rattle.counting.specs.Common.{Within, bit, count, Set, complement, meet, minus, none, union}
+use Rattle.graph_core.proofs.Common.{covered_perfect, adjacent-edge, adjacent_from, has_ends-back, has_ends-own}
 use Rattle.matching_digraph.proofs.Balance.{balance, equal_sides, leaves_left, leaves_right, none_right, other_side, side_count}
 use Rattle.matching_digraph.proofs.TightShores.{at_ends}
 use Rattle.theorems.specs.Braces.{neighbourhood}

@@ -3,29 +3,26 @@
 -- within the limits, a tree file shores that are sets, an ear file an edge to begin with.
 use Rattle.std.proofs.Common.{◌≡◌, ◌⊎◌, ℕ, ◌≤◌, nat_lt, Bool, true, false, cond, List, length, Option, Some, None, Result, Ok, Err, refl, sym, ap, subst, inl, inr}
 use Rattle.outside.specs.Shelf.{NamedFile, file_named}
-use Rattle.counting.specs.Counts.{Within}
+use Rattle.counting.specs.Common.{Within}
 use Rattle.ear_core.specs.EarLists.{PlainEars}
 use Rattle.ear_text.proofs.EarsRead.{list-read}
 use Rattle.ear_text.specs.EarFormat.{ear_format}
 use Rattle.graph6_text.specs.Reading.{outcome_of}
-use Rattle.graph_core.specs.Graph.{Graph, IsMultigraph, size}
+use Rattle.graph_core.specs.Common.{Graph, IsMultigraph, size}
 use Rattle.text_faults.specs.declared.faults.FaultKind.{FaultKind}
 use Rattle.graph_text.specs.EitherVersion.{NamedGraph, either_version}
 use Rattle.line_text.proofs.ExactlyOne.{Stands-from_reading}
-use Rattle.line_text.specs.Reading.{reading_of}
+use Rattle.line_text.specs.Common.{reading_of}
 use Rattle.report_text.specs.Reports.{bad_input_text}
 use Rattle.tree_check.specs.Refusals.{HasShores}
-use Rattle.tree_core.specs.Moves.{PlainMove}
-use Rattle.tree_core.specs.Shapes.{Shape}
+use Rattle.tree_core.specs.Common.{PlainMove, Shape}
 use Rattle.tree_text.proofs.TreeRead.{tree_read}
 use Rattle.tree_text.specs.TreeFormat.{tree_format}
 use Rattle.decomposer.specs.Orders.{NamedPicks, ScriptPicks}
-use Rattle.bench_outcomes.specs.Outcome.{CommandGives, LoadedGives, Outcome, ResultOf}
+use Rattle.bench_outcomes.specs.Common.{CommandGives, LoadedGives, Outcome, ResultOf}
 use Rattle.bench_outcomes.specs.declared.status.Status.{Status}
 use Rattle.bench_outcomes.specs.declared.status.Status.TheVariants.{BadInput}
-use Rattle.bench_tasks.specs.Commands.{Command, OnGraph, OnSimpleGraph, OnTree, OnPicks, OnEars, OnMoves, OnTrees, OnNumbers, command_of}
-use Rattle.bench_tasks.specs.Loading.{Loaded, All, Bad, Absent, and_then, ear_file, ears_given, file_read, from_reading, graph6_file, graph_file, loaded, loaded_as, most_bytes, move_file, moves_given, on_ears, on_moves, on_picks, on_tree, on_trees, pick_file, picks_given, tree_file, tree_given, trees_given}
-use Rattle.bench_tasks.specs.Tasks.{Task}
+use Rattle.bench_tasks.specs.Common.{Command, OnGraph, OnSimpleGraph, OnTree, OnPicks, OnEars, OnMoves, OnTrees, OnNumbers, command_of, Loaded, All, Bad, Absent, and_then, ear_file, ears_given, file_read, from_reading, graph6_file, graph_file, loaded, loaded_as, most_bytes, move_file, moves_given, on_ears, on_moves, on_picks, on_tree, on_trees, pick_file, picks_given, tree_file, tree_given, trees_given, Task}
 use Rattle.bench_tasks.specs.Tasks as task
 use Rattle.bench_tasks.specs.declared.verbs.GraphVerb.{GraphVerb}
 use Rattle.bench_tasks.specs.declared.verbs.GraphVerb.TheVariants.{Analyse, Convert, Decompose, Ears}

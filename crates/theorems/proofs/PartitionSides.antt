@@ -2,23 +2,10 @@
 -- Idea: the quotient is bipartite if and only if there are such sides. A tight shore has one
 -- vertex more on one side, so all edges that leave it leave it there.
 use Rattle.std.proofs.Common.{◌≡◌, ◌≢◌, ◌∙◌, ℕ, ◌<◌, Bool, true, false, not, ◌&&◌, ◌||◌, ◌==◌, List, length, inl, inr, refl, sym, ap, ap₂, arith, subst, subst₂, ne_eqb}
-use Rattle.std.proofs.lemmas.Bool.{and_from, and_parts, both_ways, cases_eq, true≢false}
-use Rattle.graph_core.specs.Sides.{IsSide}
-use Rattle.counting.proofs.Booleans.{not_not}
-use Rattle.counting.proofs.Counts.{count_congr}
-use Rattle.counting.proofs.Tests.{some_true, true_some}
-use Rattle.counting.specs.Counts.{Within, count}
-use Rattle.counting.specs.Sets.{Set, complement, meet, minus}
-use Rattle.counting.specs.Tests.{some}
-use Rattle.graph_core.proofs.BlockSets.{at_place, at_rep}
-use Rattle.graph_core.proofs.Blocks.{contracted-ends, contracted-graph, contracted-order, contracted-size, place_in}
-use Rattle.graph_core.proofs.Decide.{covered_perfect}
-use Rattle.graph_core.proofs.Walks.{has_ends-cases, has_ends-own}
-use Rattle.graph_core.specs.Covered.{IsCovered}
-use Rattle.graph_core.specs.Graph.{Graph, IsBipartite, IsGraph, first_end, has_ends, in_cut, second_end, size}
-use Rattle.graph_core.specs.Partitions.{AreBlocks, contracted, place}
-use Rattle.graph_core.specs.Quotients.{blocks_adjacent, quotient}
-use Rattle.graph_core.specs.Shores.{IsTightAt, IsUnion, blocks_in}
+use Rattle.counting.proofs.Common.{and_from, and_parts, both_ways, cases_eq, true≢false, not_not, count_congr, some_true, true_some}
+use Rattle.graph_core.specs.Common.{IsSide, IsCovered, Graph, IsBipartite, IsGraph, first_end, has_ends, in_cut, second_end, size, AreBlocks, contracted, place, blocks_adjacent, quotient, IsTightAt, IsUnion, blocks_in}
+use Rattle.counting.specs.Common.{Within, count, Set, complement, meet, minus, some}
+use Rattle.graph_core.proofs.Common.{at_place, at_rep, contracted-ends, contracted-graph, contracted-order, contracted-size, place_in, covered_perfect, has_ends-cases, has_ends-own}
 use Rattle.list_lines.proofs.QuotientSides.{Parts, differ, differ-back, parted, parts_from_sides, sides_from_parts}
 use Rattle.matching_digraph.proofs.Balance.{balance, leaves_right, none_right}
 

@@ -3,26 +3,21 @@
 -- both partitions below it have fewer blocks.
 use Rattle.std.proofs.Common.{[], ◌≡◌, ℕ, zero, suc, ◌+◌, ◌<◌, List, ◌∷◌, length, get_or, refl, ap, arith}
 use Rattle.std.proofs.lemmas.Option.{slice_get-get_or}
-use Rattle.counting.proofs.Counts.{count_complement}
-use Rattle.counting.specs.Lists.{mem}
+use Rattle.counting.proofs.Common.{count_complement}
+use Rattle.counting.specs.Common.{mem}
 use Rattle.decomposer.proofs.Picking.{blocks-beside, blocks-inside, cut-from_candidate}
 use Rattle.decomposer.specs.Orders.{NamedPicks}
 use Rattle.decomposer.specs.Picked.{IsPicked, IsPickedAt}
 use Rattle.decomposer.specs.declared.orders.NamedOrder.TheVariants.{First}
-use Rattle.graph_core.proofs.Singles.{singles-partition}
-use Rattle.graph_core.specs.Covered.{IsCovered}
-use Rattle.graph_core.specs.Graph.{Graph, IsGraph}
-use Rattle.graph_core.specs.Partitions.{IsPartition, singles}
-use Rattle.graph_core.specs.Quotients.{quotient}
-use Rattle.graph_core.specs.Shores.{blocks_in}
+use Rattle.graph_core.proofs.Common.{singles-partition}
+use Rattle.graph_core.specs.Common.{IsCovered, Graph, IsGraph, IsPartition, singles, quotient, blocks_in}
 use Rattle.theorems.specs.Derivations.{ChoosesPlaces, PicksChosen}
 use Rattle.tight_cuts.proofs.PartitionCandidates.{found-at, none-at}
 use Rattle.tight_cuts.specs.Candidates.{Candidate}
 use Rattle.tight_cuts.specs.CandidatesAt.{candidates_at}
 use Rattle.tree_core.proofs.CutsBelow.{kept-covers, kept-length, kept-partition, merged-covers, merged-length, merged-partition, root-covered}
 use Rattle.tree_core.proofs.DerivationShores.{shore-cut}
-use Rattle.tree_core.specs.Derivations.{IsCutAt, IsDerivation, IsDerivationAt, IsLeafAt, IsTightShore, kept_at, merged_at}
-use Rattle.tree_core.specs.Shapes.{Shape, cut, cut_count, leaf}
+use Rattle.tree_core.specs.Common.{IsCutAt, IsDerivation, IsDerivationAt, IsLeafAt, IsTightShore, kept_at, merged_at, Shape, cut, cut_count, leaf}
 
 -- of each nonempty list, whatever the number, the rule picks a place of the list
 abbrev pub PicksSome : (List Candidate → ℕ → ℕ → Type 0) → Type 0

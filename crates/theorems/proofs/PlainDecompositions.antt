@@ -3,24 +3,12 @@
 -- matching, which has exactly one edge in the cut.
 use Rattle.std.proofs.Common.{◌≡◌, ◌&&◌, ℕ, suc, ◌+◌, true, not, ◌==◌, List, length, refl, sym, ap, ◌∙◌, arith, eq-eqb, eqb-true}
 use Rattle.barrier_kit.proofs.Matched.{even_order}
-use Rattle.counting.proofs.Counts.{only_one}
-use Rattle.counting.proofs.Members.{count_member}
-use Rattle.counting.proofs.Odd.{complement_odd, odd-double}
-use Rattle.counting.specs.Counts.{Within, count, is_odd}
-use Rattle.counting.specs.Lists.{mem}
-use Rattle.counting.specs.Sets.{Set, complement, none}
+use Rattle.counting.proofs.Common.{only_one, count_member, complement_odd, odd-double}
+use Rattle.counting.specs.Common.{Within, count, is_odd, mem, Set, complement, none}
 use Rattle.definition_laws.proofs.BlockWords.{tight-words, words-tight}
-use Rattle.graph_core.proofs.Blocks.{contracted-graph}
-use Rattle.graph_core.proofs.BlockSets.{block_count_rest}
-use Rattle.graph_core.proofs.Decide.{covered_perfect}
-use Rattle.graph_core.proofs.Parity.{parity}
-use Rattle.graph_core.proofs.SingleBlocks.{edges-in-cut-at}
-use Rattle.graph_core.specs.Graph.{Graph, inside, size}
-use Rattle.graph_core.specs.Partitions.{contracted}
-use Rattle.graph_core.specs.Shores.{block_count, blocks_in}
-use Rattle.tree_core.specs.Derivations.{IsCutAt, IsDerivationAt, IsLeafAt, kept_at, merged_at}
-use Rattle.tree_core.specs.LeafMaps.{PlainLeafMap, leaf_at, map_at}
-use Rattle.tree_core.specs.Shapes.{Shape, cut, leaf}
+use Rattle.graph_core.proofs.Common.{contracted-graph, block_count_rest, covered_perfect, parity, edges-in-cut-at}
+use Rattle.graph_core.specs.Common.{Graph, inside, size, contracted, block_count, blocks_in}
+use Rattle.tree_core.specs.Common.{IsCutAt, IsDerivationAt, IsLeafAt, kept_at, merged_at, PlainLeafMap, leaf_at, map_at, Shape, cut, leaf}
 use Rattle.move_laws.proofs.BigShores.{Stage, cut_big}
 use Rattle.move_laws.specs.Pairings.{IsPairing}
 use Rattle.move_laws.specs.SameLeaf.{image}

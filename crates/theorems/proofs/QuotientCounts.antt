@@ -5,28 +5,14 @@
 use Rattle.std.proofs.Common.{[], ◌≡◌, ◌∙◌, ◌↔◌, ℕ, zero, suc, ◌+◌, ◌≤◌, ◌<◌, List, ◌∷◌, ◌++◌, length, not, inl, inr, refl, sym, ap, arith, subst}
 use Rattle.contraction.proofs.QuotientLaws.{tight_at_up}
 use Rattle.list_lines.proofs.Counts.{same_counts}
-use Rattle.counting.proofs.Counts.{count_le}
-use Rattle.counting.proofs.RisingLists.{rising_list-congr}
-use Rattle.counting.specs.Counts.{Within}
-use Rattle.counting.specs.Lists.{IsRisingIn, mem}
-use Rattle.counting.specs.Sets.{complement}
+use Rattle.counting.proofs.Common.{count_le, rising_list-congr}
+use Rattle.counting.specs.Common.{Within, IsRisingIn, mem, complement}
 use Rattle.theorems.proofs.Quotients.{bipartite-or, leaf-quotient}
-use Rattle.graph_core.proofs.BlockSets.{at_rep, rep, rep_in}
-use Rattle.graph_core.proofs.Complements.{complement_of-rises, complement_of-rising_list, mem-complement_of}
-use Rattle.graph_core.proofs.QuotientTight.{quotient_graph}
-use Rattle.graph_core.proofs.Quotients.{quotient-order, quotient_edge}
-use Rattle.graph_core.proofs.SameSets.{nontrivial-same, tight-same}
-use Rattle.graph_core.proofs.ShoreLists.{complement-tight}
-use Rattle.graph_core.proofs.Singles.{length-singles, singles-partition}
-use Rattle.graph_core.specs.Covered.{IsCovered}
-use Rattle.graph_core.specs.Graph.{Graph, IsGraph, IsMultigraph, first_end, second_end}
-use Rattle.graph_core.specs.Partitions.{IsPartition, complement_of, merged, singles}
-use Rattle.graph_core.specs.Quotients.{quotient}
-use Rattle.graph_core.specs.Shores.{IsTightAt, blocks_in}
-use Rattle.graph_core.specs.Tight.{IsNontrivial}
+use Rattle.graph_core.proofs.Common.{at_rep, rep, rep_in, complement_of-rises, complement_of-rising_list, mem-complement_of, quotient_graph, quotient-order, quotient_edge, nontrivial-same, tight-same, complement-tight, length-singles, singles-partition}
+use Rattle.graph_core.specs.Common.{IsCovered, Graph, IsGraph, IsMultigraph, first_end, second_end, IsPartition, complement_of, merged, singles, quotient, IsTightAt, blocks_in, IsNontrivial}
 use Rattle.list_lines.proofs.SingleLeaves.{one_brace, one_brick}
 use Rattle.list_lines.specs.Standings.{IsCounted}
-use Rattle.tree_core.specs.Tallies.{IsTally, tally_of}
+use Rattle.tree_core.specs.Common.{IsTally, tally_of, IsCutAt, IsDerivationAt, IsLeafAt, IsTightShore, kept_at, merged_at, leaves_at, Shape, cut, leaf}
 use Rattle.tree_core.specs.declared.tallies.LeafKind.TheVariants.{Brick, Brace}
 use Rattle.tree_core.specs.declared.tallies.Tally.{Tally}
 use Rattle.theorems.proofs.CoarserPartitions.{down, down-is, down-rises, mem-down, mem-down_at}
@@ -39,9 +25,6 @@ use Rattle.tight_cuts.proofs.SingleVertices.{last-place}
 use Rattle.tree_core.proofs.CutsBelow.{kept-covers, kept-partition, merged-covers, merged-partition, root-covered}
 use Rattle.tree_core.proofs.DerivationLeaves.{partitions-leaves_at}
 use Rattle.tree_core.proofs.DerivationShores.{shore-cut}
-use Rattle.tree_core.specs.Derivations.{IsCutAt, IsDerivationAt, IsLeafAt, IsTightShore, kept_at, merged_at}
-use Rattle.tree_core.specs.Leaves.{leaves_at}
-use Rattle.tree_core.specs.Shapes.{Shape, cut, leaf}
 
 -- the quotient has no loop
 loopless : (g : Graph) (p : List (List ℕ)) → IsGraph g → IsPartition g.order p → IsMultigraph (quotient g p)

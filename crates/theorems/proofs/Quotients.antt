@@ -2,29 +2,15 @@
 -- blocks is tight and nontrivial in the quotient exactly when no union of blocks is at the
 -- partition. And each graph is bipartite or not, since its sets can be looked through.
 use Rattle.std.proofs.Common.{◌≡◌, ℕ, not, ◌&&◌, ◌||◌, List, length, sym, ap, ap₂, ◌∙◌, subst, inl, inr, ◌⊎◌}
-use Rattle.std.proofs.lemmas.Bool.{both_ways}
+use Rattle.counting.proofs.Common.{both_ways, choose_set, every_congr, every_true, true_every}
 use Rattle.std.specs.Prelude.{All}
-use Rattle.counting.proofs.Choice.{choose_set}
-use Rattle.counting.proofs.Tests.{every_congr, every_true, true_every}
-use Rattle.counting.specs.Counts.{Within}
-use Rattle.counting.specs.Sets.{Set}
-use Rattle.counting.specs.Tests.{every}
+use Rattle.counting.specs.Common.{Within, Set, every}
 use Rattle.contraction.proofs.QuotientLaws.{tight_at_down, tight_at_up}
-use Rattle.graph_core.proofs.BlockSets.{at_rep, rep_place}
-use Rattle.graph_core.proofs.QuotientTight.{quotient_graph}
-use Rattle.graph_core.proofs.Quotients.{quotient-order}
-use Rattle.graph_core.proofs.SameSets.{nontrivial-same, tight-same}
-use Rattle.graph_core.specs.Covered.{IsCovered}
-use Rattle.graph_core.specs.Graph.{Graph, IsBipartite, IsGraph, first_end, in_cut, second_end, size}
-use Rattle.graph_core.specs.Partitions.{AreBlocks, place}
-use Rattle.graph_core.specs.Quotients.{quotient}
-use Rattle.graph_core.specs.Shores.{IsUnion, blocks_in}
-use Rattle.graph_core.specs.Tight.{HasOnlyTrivialTightCuts, IsNontrivial}
+use Rattle.graph_core.proofs.Common.{at_rep, rep_place, quotient_graph, quotient-order, nontrivial-same, tight-same}
+use Rattle.graph_core.specs.Common.{IsCovered, Graph, IsBipartite, IsGraph, first_end, in_cut, second_end, size, AreBlocks, place, quotient, IsUnion, blocks_in, HasOnlyTrivialTightCuts, IsNontrivial}
 use Rattle.tree_core.proofs.CutsBelow.{covered-leaves}
 use Rattle.tree_core.proofs.DerivationLeaves.{partitions-leaves, uncut-leaves}
-use Rattle.tree_core.specs.Derivations.{IsDerivation, IsLeafAt}
-use Rattle.tree_core.specs.Leaves.{leaves}
-use Rattle.tree_core.specs.Shapes.{Shape}
+use Rattle.tree_core.specs.Common.{IsDerivation, IsLeafAt, leaves, Shape}
 use Rattle.theorems.specs.CutWords.{EndsInBrickOrBrace}
 
 module _ (g : Graph) (p : List (List ℕ)) (is : IsGraph g) (pp : AreBlocks g.order p) where

@@ -2,19 +2,11 @@
 -- Idea: the side that all edges leave a tight shore from is kept when the shore is merged; and
 -- sides of both quotients below a cut, turned to agree on the merged vertices, are sides above it.
 use Rattle.std.proofs.Common.{◌≡◌, ◌≢◌, ◌∙◌, ℕ, Bool, true, false, cond, not, ◌||◌, List, refl, sym, ap, ap₂, arith}
-use Rattle.std.proofs.lemmas.Bool.{both_ways}
+use Rattle.counting.proofs.Common.{both_ways, mem-within, member-of_set}
 use Rattle.contraction.proofs.QuotientLaws.{covered_down}
-use Rattle.counting.proofs.Lists.{mem-within, member-of_set}
-use Rattle.counting.specs.Counts.{Within}
-use Rattle.counting.specs.Lists.{IsRisingIn, mem}
-use Rattle.counting.specs.Sets.{Set, complement}
-use Rattle.graph_core.proofs.MergedShores.{Some, alike_down, alike_in, alike_up, closed_up, merge_of, same_side}
-use Rattle.graph_core.proofs.ShoreLists.{shore-some}
-use Rattle.graph_core.specs.Covered.{IsCovered}
-use Rattle.graph_core.specs.Graph.{Graph, IsGraph, first_end, in_cut, second_end, size}
-use Rattle.graph_core.specs.Partitions.{AreBlocks, IsMerge, merged, place}
-use Rattle.graph_core.specs.Quotients.{quotient}
-use Rattle.graph_core.specs.Shores.{IsTightAt, IsUnion}
+use Rattle.counting.specs.Common.{Within, IsRisingIn, mem, Set, complement}
+use Rattle.graph_core.proofs.Common.{Some, alike_down, alike_in, alike_up, closed_up, merge_of, same_side, shore-some}
+use Rattle.graph_core.specs.Common.{IsCovered, Graph, IsGraph, first_end, in_cut, second_end, size, AreBlocks, IsMerge, merged, place, quotient, IsTightAt, IsUnion}
 use Rattle.list_lines.proofs.QuotientSides.{differ, differ-back}
 use Rattle.theorems.proofs.PartitionSides.{HasSideAt, IsSideAt, LeavesFrom, other-side_at, side-chosen}
 

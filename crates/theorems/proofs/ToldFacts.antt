@@ -5,41 +5,30 @@ use Rattle.std.proofs.Common.{◌≡◌, ◌∙◌, ◌↔◌, ℕ, List, [], �
 use Rattle.std.specs.Prelude.{codes}
 use Rattle.outside.specs.Shelf.{NamedFile}
 use Rattle.brick_kit.proofs.Bricks.{brick_or_not}
-use Rattle.counting.specs.Lists.{mem}
+use Rattle.counting.specs.Common.{mem}
 use Rattle.theorems.proofs.Quotients.{bricks-and_braces}
 use Rattle.ear_text.specs.EarFormat.{ear_format}
-use Rattle.graph_core.specs.Covered.{IsCovered}
-use Rattle.graph_core.specs.Graph.{Graph, IsBipartite, IsMultigraph, size}
-use Rattle.graph_core.specs.Partitions.{singles}
-use Rattle.graph_core.specs.Tight.{HasOnlyTrivialTightCuts, IsNontrivial, IsTight}
+use Rattle.graph_core.specs.Common.{IsCovered, Graph, IsBipartite, IsMultigraph, size, singles, HasOnlyTrivialTightCuts, IsNontrivial, IsTight, IsVerdict, reason_of}
 use Rattle.graph_core.specs.declared.verdict.Kind.{Kind}
 use Rattle.graph_core.specs.declared.verdict.Kind.TheVariants.{Brace, Brick, Composite}
 use Rattle.graph_core.specs.declared.verdict.Verdict.{Verdict}
 use Rattle.graph_core.specs.declared.verdict.Verdict.TheVariants.{Covered, NotCovered}
-use Rattle.graph_core.specs.Verdicts.{IsVerdict, reason_of}
-use Rattle.graph_core.proofs.Decide.{reason-uncovered}
+use Rattle.graph_core.proofs.Common.{reason-uncovered}
 use Rattle.graph_text.specs.EitherVersion.{NamedGraph}
 use Rattle.leaf_kinds.specs.LeafKinds.{IsKind}
-use Rattle.line_text.specs.Format.{Stands}
+use Rattle.line_text.specs.Common.{Stands}
 use Rattle.move_laws.proofs.SingleVertices.{singles_stage}
 use Rattle.report_text.specs.declared.structures.Structure.{Structure}
 use Rattle.tight_cuts.specs.Candidates.{Candidate}
-use Rattle.tree_core.specs.Derivations.{IsDerivation}
-use Rattle.tree_core.specs.Leaves.{leaves}
-use Rattle.tree_core.specs.Shapes.{Shape}
+use Rattle.tree_core.specs.Common.{IsDerivation, leaves, Shape}
 use Rattle.decomposer.specs.Orders.{order_named}
-use Rattle.bench_tasks.specs.Commands.{OnTrees, decompose_in}
-use Rattle.bench_tasks.specs.Loading.{All, Loaded, and_then, graph_file, loaded_as, on_picks, on_trees, pick_file, picks_given, trees_given}
-use Rattle.bench_tasks.specs.Tasks.{Task}
+use Rattle.bench_tasks.specs.Common.{OnTrees, decompose_in, All, Loaded, and_then, graph_file, loaded_as, on_picks, on_trees, pick_file, picks_given, trees_given, Task}
 use Rattle.bench_tasks.specs.Tasks as task
 use Rattle.bench_tasks.specs.declared.verbs.GraphVerb.TheVariants.{Analyse, Decompose, Ears}
 use Rattle.bench_tasks.specs.declared.verbs.PicksVerb.TheVariants.{DecomposeBy}
 use Rattle.bench_tasks.specs.declared.verbs.TreesVerb.TheVariants.{Compare, Script}
 use Rattle.decomposer.specs.declared.orders.NamedOrder.{NamedOrder}
-use Rattle.bench_outcomes.specs.Comparisons.{CompareGives, Compared, ScriptGives, Scripted}
-use Rattle.bench_outcomes.specs.EarChecks.{EarsGives}
-use Rattle.bench_outcomes.specs.Facts.{IsStructure, TellsStructure}
-use Rattle.bench_outcomes.specs.Outcome.{Analysed, CommandGives, DecomposeGives, LoadedGives, Outcome, ResultOf}
+use Rattle.bench_outcomes.specs.Common.{CompareGives, Compared, ScriptGives, Scripted, EarsGives, IsStructure, TellsStructure, Analysed, CommandGives, DecomposeGives, LoadedGives, Outcome, ResultOf}
 use Rattle.bench_outcomes.specs.declared.status.Status.{Status}
 use Rattle.bench_outcomes.specs.declared.status.Status.TheVariants.{Done, Negative}
 use Rattle.bench_top.proofs.LoadedGraphs.{Holds, graph-holds}

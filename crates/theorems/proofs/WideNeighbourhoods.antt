@@ -2,22 +2,10 @@
 -- have two neighbours more than vertices. A set with one neighbour more is with its neighbours a
 -- tight shore; and a nontrivial tight shore gives such a set.
 use Rattle.std.proofs.Common.{◌≡◌, ℕ, ◌+◌, ◌≤◌, true, ◌&&◌, not, sym, ap, ◌∙◌, arith, ◌↔◌, inl, inr}
-use Rattle.std.proofs.lemmas.Bool.{and_from, and_parts, cases_lt, not-true}
-use Rattle.graph_core.specs.Sides.{IsSide}
-use Rattle.counting.proofs.Counts.{count_congr}
-use Rattle.counting.proofs.Booleans.{and_implied}
-use Rattle.counting.proofs.Members.{count_member, two_members, two_of}
-use Rattle.counting.proofs.Odd.{odd_three}
-use Rattle.counting.proofs.SetSizes.{count_mono, count_split}
-use Rattle.counting.proofs.Tests.{some_congr}
-use Rattle.counting.specs.Counts.{Within, count}
-use Rattle.counting.specs.Sets.{Set, complement, meet, minus, none, union}
-use Rattle.graph_core.proofs.Contraction.{tight_from_cut}
-use Rattle.graph_core.proofs.Decide.{covered_perfect}
-use Rattle.graph_core.specs.Covered.{IsCovered}
-use Rattle.graph_core.specs.Graph.{Graph, IsMultigraph}
-use Rattle.graph_core.specs.Tight.{HasOnlyTrivialTightCuts, IsTight}
-use Rattle.graph_core.specs.Walks.{adjacent}
+use Rattle.counting.proofs.Common.{and_from, and_parts, cases_lt, not-true, count_congr, and_implied, count_member, two_members, two_of, odd_three, count_mono, count_split, some_congr}
+use Rattle.graph_core.specs.Common.{IsSide, IsCovered, Graph, IsMultigraph, HasOnlyTrivialTightCuts, IsTight, adjacent}
+use Rattle.counting.specs.Common.{Within, count, Set, complement, meet, minus, none, union}
+use Rattle.graph_core.proofs.Common.{tight_from_cut, covered_perfect}
 use Rattle.theorems.proofs.Neighbourhoods.{both_count, ends_cross, leaning, near_count, near_out, neighbour_edge, surplus}
 use Rattle.theorems.specs.Braces.{HasWideNeighbourhoods, neighbourhood}
 

@@ -2,12 +2,8 @@
 -- Lovász and Plummer, "Matching Theory").
 -- Stated by: theorems.
 use Rattle.std.specs.Prelude.{◌≡◌, ◌≢◌, ℕ, ◌+◌, ◌≤◌, Bool, ◌==◌, ◌&&◌, not, true, List}
-use Rattle.counting.specs.Counts.{Within, count}
-use Rattle.counting.specs.Sets.{Set, none}
-use Rattle.counting.specs.Tests.{some}
-use Rattle.graph_core.specs.Graph.{Graph, size}
-use Rattle.graph_core.specs.Matchings.{IsEnd, Together}
-use Rattle.graph_core.specs.Walks.{Walk, adjacent}
+use Rattle.counting.specs.Common.{Within, count, Set, none, some}
+use Rattle.graph_core.specs.Common.{Graph, size, IsEnd, Together, Walk, adjacent}
 use Rattle.matching_digraph.specs.Digraph.{arc}
 
 -- the vertices that edges join to a vertex of s

@@ -2,13 +2,8 @@
 -- barrier cut is given by the barrier, and a 2-separation cut by the cut pair.
 -- Stated by: theorems.
 use Rattle.std.specs.Prelude.{◌≡◌, ℕ, ◌≤◌, ◌⊎◌, false, not}
-use Rattle.counting.specs.Counts.{Within, count}
-use Rattle.counting.specs.Sets.{Set, pair_set, singleton, union}
-use Rattle.graph_core.specs.Graph.{Graph}
-use Rattle.graph_core.specs.Matchings.{HasPerfect}
-use Rattle.graph_core.specs.Structure.{IsBarrier, IsCutPair}
-use Rattle.graph_core.specs.Tight.{IsNontrivial, IsTight}
-use Rattle.graph_core.specs.Walks.{Joined, joined}
+use Rattle.counting.specs.Common.{Within, count, Set, pair_set, singleton, union}
+use Rattle.graph_core.specs.Common.{Graph, HasPerfect, IsBarrier, IsCutPair, IsNontrivial, IsTight, Joined, joined}
 
 -- at least four vertices, and connected without any two vertices or fewer
 pub record IsThreeConnected (g : Graph) : Type 0 where

@@ -1,9 +1,8 @@
 -- Cuts by their number of edges, and graphs without a bridge. Any textbook.
 -- Stated by: theorems.
 use Rattle.std.specs.Prelude.{◌≡◌, ℕ, ◌≤◌, true, false}
-use Rattle.counting.specs.Counts.{Within}
-use Rattle.counting.specs.Sets.{Set, everything}
-use Rattle.graph_core.specs.Graph.{Graph, edges_in_cut}
+use Rattle.counting.specs.Common.{Within, Set, everything}
+use Rattle.graph_core.specs.Common.{Graph, edges_in_cut}
 
 -- how many edges are in the cut of x
 abbrev pub cut_size : Graph → Set → ℕ

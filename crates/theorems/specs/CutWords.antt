@@ -2,12 +2,8 @@
 -- vertices that tight sets separate.
 -- Stated by: theorems.
 use Rattle.std.specs.Prelude.{◌≢◌, ℕ, List, ◌⊎◌}
-use Rattle.counting.specs.Counts.{Within}
-use Rattle.counting.specs.Lists.{ComesBefore}
-use Rattle.counting.specs.Sets.{Set}
-use Rattle.graph_core.specs.Covered.{IsCovered}
-use Rattle.graph_core.specs.Graph.{Graph}
-use Rattle.graph_core.specs.Quotients.{quotient}
+use Rattle.counting.specs.Common.{Within, ComesBefore, Set}
+use Rattle.graph_core.specs.Common.{IsCovered, Graph, quotient}
 use Rattle.graph_core.specs.declared.verdict.Kind.TheVariants as kind
 use Rattle.leaf_kinds.specs.LeafKinds.{IsKind}
 use Rattle.tight_cuts.specs.Pieces.{SeparatesTightly}

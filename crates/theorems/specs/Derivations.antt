@@ -4,13 +4,10 @@
 -- derivation counts, each one does.
 -- Stated by: theorems.
 use Rattle.std.specs.Prelude.{◌≡◌, ℕ, ◌+◌, ◌<◌, List, length}
-use Rattle.graph_core.specs.Graph.{Graph}
-use Rattle.tree_core.specs.Tallies.{IsTally}
+use Rattle.graph_core.specs.Common.{Graph}
+use Rattle.tree_core.specs.Common.{IsTally, IsDerivationAt, leaves_at, Shape}
 use Rattle.tree_core.specs.declared.tallies.Tally.{Tally}
 use Rattle.tight_cuts.specs.Candidates.{Candidate}
-use Rattle.tree_core.specs.Derivations.{IsDerivationAt}
-use Rattle.tree_core.specs.Leaves.{leaves_at}
-use Rattle.tree_core.specs.Shapes.{Shape}
 
 -- a rule takes one place of each nonempty list of candidates, whatever the number of cuts before
 abbrev pub ChoosesPlaces : (List Candidate → ℕ → ℕ) → Type 0

@@ -2,12 +2,8 @@
 -- (Gallai 1964; Edmonds 1965; Lovász and Plummer, "Matching Theory", section 3.2).
 -- Stated by: theorems.
 use Rattle.std.specs.Prelude.{◌≡◌, ◌↔◌, ℕ, ◌+◌, ◌*◌, ◌&&◌, true}
-use Rattle.counting.specs.Counts.{count, Within}
-use Rattle.counting.specs.Sets.{Set, complement, minus, singleton}
-use Rattle.graph_core.specs.GallaiEdmonds.{InA, InC, InD}
-use Rattle.graph_core.specs.Graph.{Graph, inside, size}
-use Rattle.graph_core.specs.Matchings.{HasPerfect, IsPerfect}
-use Rattle.graph_core.specs.Walks.{joined}
+use Rattle.counting.specs.Common.{count, Within, Set, complement, minus, singleton}
+use Rattle.graph_core.specs.Common.{InA, InC, InD, Graph, inside, size, HasPerfect, IsPerfect, joined}
 
 -- d, a and c are the Gallai-Edmonds sets D, A and C of g
 pub record AreThreeSets (g : Graph) (d a c : Set) : Type 0 where

@@ -5,22 +5,14 @@
 use Rattle.std.specs.Prelude.{◌≡◌, ◌↔◌, ℕ, List, All, Some, false, length}
 use Rattle.std.specs.List.{AllByRecursion}
 use Rattle.std.specs.Option.{ForSome}
-use Rattle.counting.specs.Lists.{Lists, mem}
-use Rattle.graph_core.specs.GallaiEdmonds.{InA, InC, InD}
-use Rattle.graph_core.specs.Graph.{Graph, IsBipartite, size}
-use Rattle.graph_core.specs.Partitions.{singles}
-use Rattle.graph_core.specs.Structure.{IsBicritical, IsCutPair}
-use Rattle.graph_core.specs.Tight.{HasOnlyTrivialTightCuts, IsNontrivial, IsTight}
-use Rattle.graph_core.specs.View.{IsWithinLimits}
+use Rattle.counting.specs.Common.{Lists, mem}
+use Rattle.graph_core.specs.Common.{InA, InC, InD, Graph, IsBipartite, size, singles, IsBicritical, IsCutPair, HasOnlyTrivialTightCuts, IsNontrivial, IsTight, IsWithinLimits}
 use Rattle.graph_core.specs.declared.verdict.Kind.TheVariants.{Brace, Brick, Composite}
 use Rattle.graph_text.specs.EitherVersion.{NamedGraph}
 use Rattle.graph_text.specs.Names.{AreNames}
-use Rattle.tree_core.specs.LeafMaps.{PlainLeafMap, leaf_at, map_at}
-use Rattle.tree_core.specs.Leaves.{leaves}
-use Rattle.tree_core.specs.Moves.{PlainMove, TurnsThrough}
-use Rattle.tree_core.specs.Shapes.{Shape}
+use Rattle.tree_core.specs.Common.{PlainLeafMap, leaf_at, map_at, leaves, PlainMove, TurnsThrough, Shape}
 use Rattle.tree_text.specs.TreeFormat.{tree_format}
-use Rattle.line_text.specs.Format.{Stands}
+use Rattle.line_text.specs.Common.{Stands}
 use Rattle.move_laws.specs.SameLeaf.{image}
 use Rattle.move_text.specs.MoveFormat.{move_format}
 use Rattle.ear_core.specs.EarLists.{IsEarList, IsSingle, IsUnrefinable, PlainEars, TakesSingles}
@@ -29,8 +21,7 @@ use Rattle.report_text.specs.Analyses.{analysis_text}
 use Rattle.report_text.specs.Comparisons.{pairing_text}
 use Rattle.report_text.specs.declared.analyses.AnalysisLines.{AnalysisLines}
 use Rattle.report_text.specs.declared.structures.Structure.{Structure}
-use Rattle.bench_outcomes.specs.Comparisons.{lines_of}
-use Rattle.bench_outcomes.specs.Outcome.{with_given_names}
+use Rattle.bench_outcomes.specs.Common.{lines_of, with_given_names}
 use Rattle.theorems.specs.CutWords.{EndsInBrickOrBrace}
 use Rattle.theorems.specs.TightCuts.{IsTightCutTreeAt, PairsLeaves}
 

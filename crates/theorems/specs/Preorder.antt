@@ -1,7 +1,7 @@
 -- The nodes of a tree of cuts in preorder, by the paths that lead to them from the root.
 -- Stated by: theorems.
 use Rattle.std.specs.Prelude.{List, [], ◌∷◌}
-use Rattle.counting.specs.Lists.{IsIn}
+use Rattle.counting.specs.Common.{IsIn}
 use Rattle.tree_core.specs.declared.path.Side.{Side}
 use Rattle.tree_core.specs.declared.path.Side.TheVariants.{Kept, Merged}
 

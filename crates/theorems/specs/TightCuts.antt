@@ -3,16 +3,9 @@
 -- the one without the greatest vertex.
 -- Stated by: theorems.
 use Rattle.std.specs.Prelude.{◌≡◌, ℕ, ◌≤◌, true, false, List, [], ◌∷◌, length}
-use Rattle.counting.specs.Counts.{Within}
-use Rattle.counting.specs.Lists.{IsIn, mem}
-use Rattle.counting.specs.Sets.{Set, complement}
-use Rattle.graph_core.specs.Graph.{Graph, edges_in_cut}
-use Rattle.graph_core.specs.Partitions.{IsPerfectAt}
-use Rattle.graph_core.specs.Quotients.{blocks_adjacent}
-use Rattle.graph_core.specs.Shores.{IsUnion, block_count}
-use Rattle.tree_core.specs.Derivations.{IsTightShore, kept_at, merged_at}
-use Rattle.tree_core.specs.LeafMaps.{leaf_at}
-use Rattle.tree_core.specs.Shapes.{Shape, cut, leaf}
+use Rattle.counting.specs.Common.{Within, IsIn, mem, Set, complement}
+use Rattle.graph_core.specs.Common.{Graph, edges_in_cut, IsPerfectAt, blocks_adjacent, IsUnion, block_count}
+use Rattle.tree_core.specs.Common.{IsTightShore, kept_at, merged_at, leaf_at, Shape, cut, leaf}
 
 -- the cuts of x and y cross: each of the four corners holds one of 1 to n
 pub record Cross (n : ℕ) (x y : Set) : Type 0 where

@@ -3,13 +3,9 @@
 //! Source: Edmonds, Lovász and Pulleyblank, "Brick decompositions and the matching rank of
 //! graphs" (Combinatorica 2, 1982).
 ghost use Rattle.std.specs.Prelude.{ℕ, ◌≤◌, ◌⊎◌, ◌↔◌};
-ghost use Rattle.counting.specs.Sets.{Set};
-ghost use Rattle.graph_core.specs.Covered.{IsCovered};
-ghost use Rattle.graph_core.specs.Graph.{Graph, IsBipartite, IsGraph, IsMultigraph};
-ghost use Rattle.graph_core.specs.Structure.{IsBarrier, IsBicritical, IsCutPair};
-ghost use Rattle.graph_core.specs.Tight.{HasOnlyTrivialTightCuts, IsNontrivial, IsTight};
+ghost use Rattle.counting.specs.Common.{Set};
+ghost use Rattle.graph_core.specs.Common.{IsCovered, Graph, IsBipartite, IsGraph, IsMultigraph, IsBarrier, IsBicritical, IsCutPair, HasOnlyTrivialTightCuts, IsNontrivial, IsTight, IsSide};
 ghost use Rattle.barrier_kit.specs.BarrierCuts.{BarrierCut};
-ghost use Rattle.graph_core.specs.Sides.{IsSide};
 ghost use Rattle.theorems.specs.Bricks.{IsBarrierCutOf, IsThreeConnected, SeparationCut};
 
 /// The theorem of Edmonds, Lovász and Pulleyblank: a matching covered graph with a nontrivial

@@ -1,9 +1,8 @@
 //! The third part of the list of candidates. Each law is the contract of a function that does
 //! nothing.
 ghost use Rattle.std.specs.Prelude.{◌≡◌, ℕ, true, Some, None, ◌↔◌};
-ghost use Rattle.counting.specs.Counts.{Within};
-ghost use Rattle.counting.specs.Sets.{Set};
-ghost use Rattle.graph_core.specs.Graph.{Graph, IsGraph, size};
+ghost use Rattle.counting.specs.Common.{Within, Set};
+ghost use Rattle.graph_core.specs.Common.{Graph, IsGraph, size};
 ghost use Rattle.tight_cuts.specs.Candidates.{common_shore, first_separated, greater_end, is_separated, lesser_end, separates_tightly};
 ghost use Rattle.tight_cuts.specs.Pieces.{SeparatesTightly};
 ghost use Rattle.theorems.specs.CutWords.{IsFirstSeparated, IsSeparated};

@@ -3,13 +3,9 @@
 //! Sources: Petersen, "Die Theorie der regulären graphs" (1891); Schönberger (1934); Lovász and
 //! Plummer, "Matching Theory", chapter 7.
 ghost use Rattle.std.specs.Prelude.{◌≡◌, ◌≢◌, ℕ, ◌≤◌, ◌↔◌};
-ghost use Rattle.counting.specs.Sets.{Set};
-ghost use Rattle.graph_core.specs.Components.{IsConnected};
-ghost use Rattle.graph_core.specs.Covered.{IsCovered};
-ghost use Rattle.graph_core.specs.Graph.{Graph, IsMultigraph};
-ghost use Rattle.graph_core.specs.Tight.{HasOnlyTrivialTightCuts, IsNontrivial, IsTight};
+ghost use Rattle.counting.specs.Common.{Set};
+ghost use Rattle.graph_core.specs.Common.{IsConnected, IsCovered, Graph, IsMultigraph, HasOnlyTrivialTightCuts, IsNontrivial, IsTight, IsSide};
 ghost use Rattle.grow_gen.specs.Cubic.{IsCubic};
-ghost use Rattle.graph_core.specs.Sides.{IsSide};
 ghost use Rattle.theorems.specs.CubicGraphs.{IsTwoEdgeConnected, cut_size};
 
 /// Cubic graphs: a 2-edge-connected cubic graph is matching covered (Petersen 1891; Schönberger

@@ -2,11 +2,9 @@
 //!
 //! Each law here is the contract of a function that does nothing.
 ghost use Rattle.std.specs.Prelude.{ℕ, List, ◌↔◌};
-ghost use Rattle.counting.specs.Lists.{IsIn};
-ghost use Rattle.graph_core.specs.Covered.{IsCovered};
-ghost use Rattle.graph_core.specs.Graph.{Graph, IsGraph};
-ghost use Rattle.tree_core.specs.Derivations.{IsDerivation};
-ghost use Rattle.tree_core.specs.Shapes.{Shape, cut, shores};
+ghost use Rattle.counting.specs.Common.{IsIn};
+ghost use Rattle.graph_core.specs.Common.{IsCovered, Graph, IsGraph};
+ghost use Rattle.tree_core.specs.Common.{IsDerivation, Shape, cut, shores};
 ghost use Rattle.theorems.specs.TightCuts.{AreDistinct, IsMaximalLaminar};
 
 /// The cuts of a tight cut decomposition are a maximal family of nontrivial tight cuts of which

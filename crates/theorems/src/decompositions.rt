@@ -1,13 +1,8 @@
 //! Tight cut decompositions end in bricks and braces. Each law here is the contract of a function
 //! that does nothing.
 ghost use Rattle.std.specs.Prelude.{ℕ, List, ◌↔◌, All};
-ghost use Rattle.graph_core.specs.Graph.{Graph, IsGraph};
-ghost use Rattle.graph_core.specs.Partitions.{AreBlocks};
-ghost use Rattle.graph_core.specs.Quotients.{quotient};
-ghost use Rattle.graph_core.specs.Tight.{HasOnlyTrivialTightCuts};
-ghost use Rattle.tree_core.specs.Derivations.{IsDerivation, IsLeafAt, IsTightShore};
-ghost use Rattle.tree_core.specs.Leaves.{leaves};
-ghost use Rattle.tree_core.specs.Shapes.{Shape, shores};
+ghost use Rattle.graph_core.specs.Common.{Graph, IsGraph, AreBlocks, quotient, HasOnlyTrivialTightCuts};
+ghost use Rattle.tree_core.specs.Common.{IsDerivation, IsLeafAt, IsTightShore, leaves, Shape, shores};
 ghost use Rattle.theorems.specs.CutWords.{EndsInBrickOrBrace};
 
 /// A partition is a leaf exactly when its quotient has no nontrivial tight cut.

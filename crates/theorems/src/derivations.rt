@@ -4,16 +4,12 @@ ghost use Rattle.std.specs.Prelude.{◌≡◌, ◌+◌, ◌*◌, ◌≤◌, ◌�
 ghost use Rattle.decomposer.specs.Orders.{NamedPicks, ScriptPicks};
 ghost use Rattle.decomposer.specs.declared.orders.NamedOrder.{NamedOrder};
 ghost use Rattle.decomposer.specs.Picked.{IsPicked};
-ghost use Rattle.graph_core.specs.Covered.{IsCovered};
-ghost use Rattle.graph_core.specs.Graph.{Graph, IsBipartite, IsGraph, IsMultigraph};
-ghost use Rattle.graph_core.specs.Partitions.{IsPartition, singles};
-ghost use Rattle.graph_core.specs.Quotients.{quotient};
+ghost use Rattle.graph_core.specs.Common.{IsCovered, Graph, IsBipartite, IsGraph, IsMultigraph, IsPartition, singles, quotient};
 ghost use Rattle.list_lines.specs.Standings.{IsCounted};
 ghost use Rattle.tree_core.specs.declared.tallies.Tally.{Tally};
 ghost use Rattle.theorems.specs.Derivations.{ChoosesPlaces, IsCountedAt, PicksChosen, both};
 ghost use Rattle.tight_cuts.specs.Candidates.{Candidate};
-ghost use Rattle.tree_core.specs.Derivations.{IsDerivation, IsTightShore, kept_at, merged_at};
-ghost use Rattle.tree_core.specs.Shapes.{Shape, cut};
+ghost use Rattle.tree_core.specs.Common.{IsDerivation, IsTightShore, kept_at, merged_at, Shape, cut};
 
 /// Each matching covered graph has a tight cut decomposition: one for each rule that chooses the
 /// next cut, one that begins with any given nontrivial tight cut, and so one for each order and

@@ -1,6 +1,6 @@
 //! The law of counts. Each law is the contract of a function that does nothing.
 ghost use Rattle.std.specs.Prelude.{◌≡◌, List};
-ghost use Rattle.graph_core.specs.Graph.{Graph, IsGraph};
+ghost use Rattle.graph_core.specs.Common.{Graph, IsGraph};
 ghost use Rattle.tree_core.specs.declared.tallies.Tally.{Tally};
 ghost use Rattle.list_lines.specs.Standings.{IsCounted};
 ghost use Rattle.list_lines.specs.Selecting.{HasProperty, LacksProperty};

@@ -2,12 +2,8 @@
 //!
 //! Each law here is the contract of a function that does nothing.
 ghost use Rattle.std.specs.Prelude.{◌≡◌, ℕ, ◌+◌, ◌≤◌, true};
-ghost use Rattle.counting.specs.Counts.{Within, count};
-ghost use Rattle.counting.specs.Sets.{Set, complement, none};
-ghost use Rattle.graph_core.specs.BergeSets.{Attains};
-ghost use Rattle.graph_core.specs.Components.{component_count};
-ghost use Rattle.graph_core.specs.Graph.{Graph, HasEnds, IsGraph, edges_in_cut, size};
-ghost use Rattle.graph_core.specs.Matchings.{IsMaximum, missed_count};
+ghost use Rattle.counting.specs.Common.{Within, count, Set, complement, none};
+ghost use Rattle.graph_core.specs.Common.{Attains, component_count, Graph, HasEnds, IsGraph, edges_in_cut, size, IsMaximum, missed_count};
 ghost use Rattle.theorems.specs.Matchings.{AreThreeSets, HasPerfectWithin, IsFactorCritical, MatchesAllButOne, MatchesWithin, component_in};
 
 /// The Gallai-Edmonds structure theorem: let D be the vertices that some maximum matching misses,

@@ -2,19 +2,15 @@
 //!
 //! Each law here is the contract of a function that does nothing.
 ghost use Rattle.std.specs.Prelude.{◌≡◌, ◌⊎◌, ℕ, List, [], ◌∷◌, Some, codes};
-ghost use Rattle.counting.specs.Counts.{Within};
+ghost use Rattle.counting.specs.Common.{Within};
 ghost use Rattle.outside.specs.Shelf.{NamedFile};
-ghost use Rattle.graph_core.specs.Covered.{IsCovered};
-ghost use Rattle.graph_core.specs.Graph.{Graph, IsMultigraph, size};
+ghost use Rattle.graph_core.specs.Common.{IsCovered, Graph, IsMultigraph, size};
 ghost use Rattle.graph_text.specs.EitherVersion.{NamedGraph};
-ghost use Rattle.tree_core.specs.Derivations.{IsDerivation};
-ghost use Rattle.tree_core.specs.Moves.{PlainMove};
-ghost use Rattle.tree_core.specs.Shapes.{Shape};
+ghost use Rattle.tree_core.specs.Common.{IsDerivation, PlainMove, Shape};
 ghost use Rattle.tree_check.specs.Refusals.{HasShores};
 ghost use Rattle.ear_core.specs.EarLists.{PlainEars};
-ghost use Rattle.bench_tasks.specs.Commands.{Command, command_of};
-ghost use Rattle.bench_tasks.specs.Loading.{Absent, All, graph_file, loaded, pick_file, trees_given};
-ghost use Rattle.bench_tasks.specs.Tasks.{OnEars, OnGraph, OnMoves, OnNumbers, OnPicks, OnSimpleGraph, OnTree, OnTrees, Task};
+ghost use Rattle.bench_tasks.specs.Common.{Command, command_of, Absent, All, graph_file, loaded, pick_file, trees_given, Task};
+ghost use Rattle.bench_tasks.specs.Tasks.{OnEars, OnGraph, OnMoves, OnNumbers, OnPicks, OnSimpleGraph, OnTree, OnTrees};
 ghost use Rattle.bench_tasks.specs.declared.verbs.GraphVerb.TheVariants.{Analyse, Convert, Decompose, Ears};
 ghost use Rattle.bench_tasks.specs.declared.verbs.SimpleGraphVerb.TheVariants.{Analyse6};
 ghost use Rattle.bench_tasks.specs.declared.verbs.TreeVerb.TheVariants.{Check};
@@ -24,7 +20,7 @@ ghost use Rattle.bench_tasks.specs.declared.verbs.MovesVerb.TheVariants.{Replay}
 ghost use Rattle.bench_tasks.specs.declared.verbs.TreesVerb.TheVariants.{Compare, Script};
 ghost use Rattle.bench_tasks.specs.declared.verbs.NumbersVerb.TheVariants.{Grow};
 ghost use Rattle.decomposer.specs.declared.orders.NamedOrder.{NamedOrder};
-ghost use Rattle.bench_outcomes.specs.Outcome.{Outcome, ResultOf};
+ghost use Rattle.bench_outcomes.specs.Common.{Outcome, ResultOf};
 ghost use Rattle.bench_outcomes.specs.declared.status.Status.{Status};
 ghost use Rattle.bench_outcomes.specs.declared.status.Status.TheVariants.{Done};
 ghost use Rattle.theorems.specs.Outcomes.{IsGiven, TellsDecomposition, TellsEars, TellsKind, TellsPairing, TellsScript, TellsSets};

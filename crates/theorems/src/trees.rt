@@ -2,9 +2,8 @@
 //! nothing.
 ghost use Rattle.std.specs.Prelude.{◌≡◌, ℕ, List, length};
 ghost use Rattle.std.specs.List.{AllZip};
-ghost use Rattle.graph_core.specs.Partitions.{singles};
-ghost use Rattle.tree_core.specs.Leaves.{LeadsTo, leaves};
-ghost use Rattle.tree_core.specs.Shapes.{Shape, cut, cut_count, leaf, leaf_count, node_count, shores};
+ghost use Rattle.graph_core.specs.Common.{singles};
+ghost use Rattle.tree_core.specs.Common.{LeadsTo, leaves, Shape, cut, cut_count, leaf, leaf_count, node_count, shores};
 ghost use Rattle.tree_core.specs.declared.path.Side.{Side};
 ghost use Rattle.theorems.specs.Preorder.{ListsPaths};
 

@@ -1,12 +1,10 @@
 -- The graph of the edges that lie together with one edge, made edge by edge. Idea: each edge of
 -- it comes from one of the edges so far, and each of these that lies together with e is in it.
 use Rattle.std.proofs.Common.{◌≡◌, ℕ, ◌+◌, ◌≤◌, ◌<◌, ◌≢◌, [], ◌∷◌, ◌++◌, length, ap, ◌∙◌, arith, inl, inr, subst, ◌-◌, length-append, slice_index_or}
-use Rattle.std.proofs.lemmas.Bool.{cases_lt}
-use Rattle.std.proofs.lemmas.List.{get_or_append_left}
+use Rattle.counting.proofs.Common.{cases_lt, get_or_append_left}
 use Rattle.std.proofs.Math.Seq.{get_or-append_seam}
-use Rattle.counting.specs.Counts.{Within}
-use Rattle.graph_core.specs.Graph.{Graph, size, first_end, second_end, with_edge}
-use Rattle.graph_core.specs.Matchings.{Together}
+use Rattle.counting.specs.Common.{Within}
+use Rattle.graph_core.specs.Common.{Graph, size, first_end, second_end, with_edge, Together}
 
 -- the edges 1 to k are treated
 pub record BesideSoFar (g : Graph) (e k : ℕ) (h : Graph) : Type 0 where

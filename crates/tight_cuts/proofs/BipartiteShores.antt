@@ -2,14 +2,9 @@
 -- Idea: the least tight shore with an end of the edge and x, and without the other end, is the
 -- intersection of all; and a pair is separated by a nontrivial one alone.
 use Rattle.std.proofs.Common.{IfOk, Result, Ok, Err, ◌≡◌, ℕ, true, ◌==◌, sym, ap, ◌∙◌, List, Some, None, eq-eqb}
-use Rattle.counting.proofs.Booleans.{same_tests}
-use Rattle.std.proofs.lemmas.Bool.{both_ways, false_from_ne_true, or_left, or_right}
-use Rattle.counting.specs.Counts.{Within}
-use Rattle.counting.specs.Lists.{mem}
-use Rattle.counting.specs.Sets.{pair_set}
-use Rattle.graph_core.specs.Covered.{IsCovered}
-use Rattle.graph_core.specs.Graph.{Graph, size}
-use Rattle.graph_core.specs.View.{IsWithinLimits}
+use Rattle.counting.proofs.Common.{same_tests, both_ways, false_from_ne_true, or_left, or_right}
+use Rattle.counting.specs.Common.{Within, mem, pair_set}
+use Rattle.graph_core.specs.Common.{IsCovered, Graph, size, IsWithinLimits}
 use Rattle.match_core.specs.MatchingRows.{MatchingValue, edges_of}
 use Rattle.matching_digraph.proofs.TightShores.{mates_from}
 use Rattle.matching_digraph.specs.Digraph.{IsLeastShore, NoneParts, are_mates}

@@ -4,18 +4,10 @@
 use Rattle.std.proofs.Common.{◌≡◌, ℕ, ◌-◌, Bool, true, false, refl, sym, ap, ap₂, ◌∙◌, arith, ◌&&◌, ◌||◌, not, List, [], ◌∷◌, ◌++◌, map, length}
 use Rattle.std.specs.Prelude.{if◌then◌else◌, fold}
 use Rattle.std.specs.List.{list_any}
-use Rattle.std.proofs.lemmas.Bool.{true≢false}
-use Rattle.graph_core.proofs.CutLists.{canonical-nontrivial}
-use Rattle.graph_core.specs.CanonicalCuts.{canonical_list, is_listed, with_cut}
-use Rattle.counting.proofs.Counts.{count_congr, count_complement}
-use Rattle.counting.proofs.Lists.{count_mem_length}
-use Rattle.counting.proofs.RisingLists.{mem-rising_list}
-use Rattle.counting.specs.Counts.{count}
-use Rattle.counting.specs.Lists.{mem, is_subset, rising_list, IsRisingIn}
-use Rattle.counting.specs.Sets.{Set, complement}
-use Rattle.counting.proofs.Booleans.{but_from}
-use Rattle.graph_core.specs.Graph.{Graph, in_cut}
-use Rattle.graph_core.specs.Tight.{is_nontrivial, canonical_shore}
+use Rattle.counting.proofs.Common.{true≢false, count_congr, count_complement, count_mem_length, mem-rising_list, but_from}
+use Rattle.graph_core.proofs.Common.{canonical-nontrivial}
+use Rattle.graph_core.specs.Common.{canonical_list, is_listed, with_cut, Graph, in_cut, is_nontrivial, canonical_shore}
+use Rattle.counting.specs.Common.{count, mem, is_subset, rising_list, IsRisingIn, Set, complement}
 use Rattle.tight_cuts.specs.Candidates.{Candidate, Origin, candidate, candidate_at, cuts, shores_of, with_list}
 use Rattle.tight_cuts.specs.View.{candidate_of}
 use Rattle.tight_cuts.specs.declared.candidate.Candidate.{Candidate as StoredCandidate}

@@ -1,21 +1,15 @@
 -- The candidates: none twice, each tight if the shores of the first two parts are, and each
 -- edge of a nontrivial tight cut in a candidate's cut.
 use Rattle.std.proofs.Common.{◌≡◌, ℕ, true, refl, sym, ap, ◌∙◌, arith, List, [], ◌∷◌, ◌↔◌, subst}
-use Rattle.std.proofs.lemmas.Bool.{true≢false, not-true}
-use Rattle.std.proofs.lemmas.List.Elements.{All-map, All-nil, All-head, All-tail}
+use Rattle.counting.proofs.Common.{true≢false, not-true, All-map, All-nil, All-head, All-tail, count_member}
 use Rattle.std.specs.List.{AllPairs, list_any}
 use Rattle.std.specs.Prelude.{All, fold}
 use Rattle.tight_cuts.specs.Candidates.{ShoresDiffer, Barrier, Separation, cuts, front_candidates}
 use Rattle.barrier_kit.proofs.Matched.{cut_edge}
 use Rattle.barrier_kit.proofs.ShoreFacts.{barrier_shores-tight}
 use Rattle.barrier_kit.specs.BarrierShores.{barrier_shores}
-use Rattle.counting.proofs.Members.{count_member}
-use Rattle.counting.specs.Counts.{Within}
-use Rattle.counting.specs.Lists.{mem}
-use Rattle.counting.specs.Sets.{Set, complement}
-use Rattle.graph_core.specs.Covered.{IsCovered}
-use Rattle.graph_core.specs.Graph.{Graph, size, IsGraph, in_cut}
-use Rattle.graph_core.specs.Tight.{IsTight, IsNontrivial}
+use Rattle.counting.specs.Common.{Within, mem, Set, complement}
+use Rattle.graph_core.specs.Common.{IsCovered, Graph, size, IsGraph, in_cut, IsTight, IsNontrivial}
 use Rattle.separation_kit.proofs.SeparationFacts.{separation_shores-tight}
 use Rattle.separation_kit.specs.SeparationShores.{separation_shores}
 use Rattle.tight_cuts.proofs.EdgeLoop.{after_apart, after_found, after_covers}

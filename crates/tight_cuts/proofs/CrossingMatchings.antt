@@ -2,18 +2,11 @@
 -- finds is not a witness of tightness, and if it finds none, no two edges of the cut lie
 -- together, which makes an odd cut tight.
 use Rattle.std.proofs.Common.{◌≡◌, ℕ, ◌<◌, List, length, true, false, ap, ◌∙◌, arith, inl, inr}
-use Rattle.std.proofs.lemmas.Bool.{cases_order}
+use Rattle.counting.proofs.Common.{cases_order, count_mem_length, complement_odd}
 use Rattle.barrier_kit.proofs.Matched.{even_order}
-use Rattle.counting.proofs.Lists.{count_mem_length}
-use Rattle.counting.proofs.Odd.{complement_odd}
-use Rattle.counting.specs.Counts.{Within, count, is_odd}
-use Rattle.counting.specs.Lists.{IsRisingIn, mem}
-use Rattle.counting.specs.Sets.{Set, none}
-use Rattle.graph_core.proofs.Decide.{covered_perfect}
-use Rattle.graph_core.specs.Covered.{IsCovered}
-use Rattle.graph_core.specs.Graph.{Graph, IsGraph, in_cut, size}
-use Rattle.graph_core.specs.Matchings.{IsPerfect}
-use Rattle.graph_core.specs.Tight.{IsTight}
+use Rattle.counting.specs.Common.{Within, count, is_odd, IsRisingIn, mem, Set, none}
+use Rattle.graph_core.proofs.Common.{covered_perfect}
+use Rattle.graph_core.specs.Common.{IsCovered, Graph, IsGraph, in_cut, size, IsPerfect, IsTight}
 use Rattle.match_core.specs.MatchingRows.{IsOf, MatchingValue, edges_of}
 use Rattle.tight_cuts.proofs.PairsOfEdges.{alone_tight, two_in_cut}
 use Rattle.tight_cuts.specs.Tightness.{CrossesTwice, NoLaterWith}

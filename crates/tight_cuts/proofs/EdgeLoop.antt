@@ -1,23 +1,14 @@
 -- The loop over the edges. Idea: what an edge gives is tight, and if some nontrivial tight set
 -- has the edge in its cut, so has a candidate then.
 use Rattle.std.proofs.Common.{◌≡◌, ℕ, suc, zero, ◌≤◌, Bool, true, false, cond, ◌==◌, refl, sym, ap, ap₂, ◌∙◌, arith, ◌&&◌, ◌||◌, not, inl, inr, ◌⊎◌, List, [], ◌∷◌, subst, map, flat_map, Option, Some, None, eq-eqb, ne_eqb, eqb-true, min, max}
-use Rattle.std.proofs.lemmas.Bool.{cases_eq, cases_lt, cases_Bool, and_parts, and_from, or_from, or_left, or_right, true≢false, both_ways, not-true}
-use Rattle.std.proofs.lemmas.List.Folds.{list_any-append}
+use Rattle.counting.proofs.Common.{cases_eq, cases_lt, cases_Bool, and_parts, and_from, or_from, or_left, or_right, true≢false, both_ways, not-true, list_any-append, count_minus, count_member, some_true, some_none, some_congr, or_false}
 use Rattle.std.proofs.lemmas.List.Sums.{fold_push}
 use Rattle.std.specs.List.{AllPairs, list_any}
 use Rattle.std.specs.Prelude.{All, if◌then◌else◌, find, fold}
 use Rattle.tight_cuts.specs.Candidates.{ShoresDiffer, Flow, cuts, lesser_end, greater_end, first_separated}
-use Rattle.counting.proofs.Members.{count_minus, count_member}
-use Rattle.counting.proofs.Tests.{some_true, some_none, some_congr}
-use Rattle.counting.specs.Counts.{Within}
-use Rattle.counting.specs.Lists.{rising_list, ordered_pairs, pair_with}
-use Rattle.counting.specs.Sets.{Set, complement, minus, singleton, everything, pair_set}
-use Rattle.counting.specs.Tests.{some}
-use Rattle.counting.proofs.Booleans.{or_false}
-use Rattle.graph_core.proofs.Walks.{has_ends-cases}
-use Rattle.graph_core.specs.Covered.{IsCovered}
-use Rattle.graph_core.specs.Graph.{Graph, size, first_end, second_end, IsGraph, in_cut, has_ends}
-use Rattle.graph_core.specs.Tight.{IsTight, IsNontrivial}
+use Rattle.counting.specs.Common.{Within, rising_list, ordered_pairs, pair_with, Set, complement, minus, singleton, everything, pair_set, some}
+use Rattle.graph_core.proofs.Common.{has_ends-cases}
+use Rattle.graph_core.specs.Common.{IsCovered, Graph, size, first_end, second_end, IsGraph, in_cut, has_ends, IsTight, IsNontrivial}
 use Rattle.tight_cuts.proofs.LeastShores.{separated_says, separated_found, common_parts, parts_nontrivial}
 use Rattle.tight_cuts.proofs.PairsOfEdges.{cut_between}
 use Rattle.tight_cuts.proofs.Shores.{with_found, with_apart, with_grows, with_covers}

@@ -1,11 +1,11 @@
 -- The network as the code makes it, edge by edge, is the contracted network of a pair list.
 -- Idea: one edge more is one arc more or none; equal rows give equal arcs.
 use Rattle.std.proofs.Common.{◌≡◌, ℕ, suc, zero, ◌+◌, ◌≤◌, ◌<◌, Bool, true, false, cond, ◌==◌, sym, ap, ap₂, ◌∙◌, arith, List, [], ◌∷◌, ◌++◌, sum_by, inl, inr}
-use Rattle.std.proofs.lemmas.Bool.{cases_eq}
-use Rattle.std.proofs.lemmas.List.Sums.{sum_by-append, sum_by-cons}
-use Rattle.counting.specs.Counts.{total}
+use Rattle.counting.proofs.Common.{cases_eq, sum_by-cons}
+use Rattle.std.proofs.lemmas.List.Sums.{sum_by-append}
+use Rattle.counting.specs.Common.{total}
 use Rattle.flow_core.specs.Nets.{Arc}
-use Rattle.graph_core.specs.Graph.{Graph, first_end, second_end}
+use Rattle.graph_core.specs.Common.{Graph, first_end, second_end}
 use Rattle.tight_cuts.specs.EdgeSearch.{arc_between, arcs_by, at_place}
 
 -- one edge more

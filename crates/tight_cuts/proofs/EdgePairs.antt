@@ -1,13 +1,9 @@
 -- The search over pairs in lexicographic order finds the first pair that is separated. Idea: a pair
 -- of which a vertex does not lead its piece is separated only if the earlier one of the leaders is.
 use Rattle.std.proofs.Common.{◌≡◌, ℕ, ◌+◌, ◌<◌, Bool, true, false, ◌==◌, refl, sym, ap, ap₂, ◌∙◌, arith, not, ◌&&◌, inl, inr, ◌⊎◌, List, Option, Some, None, subst, eq-eqb, eqb-true}
-use Rattle.std.proofs.lemmas.Bool.{and_parts, cases_eq, cases_lt, not-true, true≢false, both_ways, false_from_ne_true}
-use Rattle.counting.specs.Counts.{Within}
-use Rattle.counting.specs.Lists.{mem}
-use Rattle.counting.specs.Sets.{pair_set}
-use Rattle.graph_core.specs.Covered.{IsCovered}
-use Rattle.graph_core.specs.Graph.{Graph, size}
-use Rattle.graph_core.specs.View.{IsWithinLimits}
+use Rattle.counting.proofs.Common.{and_parts, cases_eq, cases_lt, not-true, true≢false, both_ways, false_from_ne_true}
+use Rattle.counting.specs.Common.{Within, mem, pair_set}
+use Rattle.graph_core.specs.Common.{IsCovered, Graph, size, IsWithinLimits}
 use Rattle.tight_cuts.proofs.EdgeLoop.{first_pair, no_pair, ends_between}
 use Rattle.tight_cuts.proofs.EdgeShores.{lesser_within, greater_within, least_leads}
 use Rattle.tight_cuts.proofs.FirstPairs.{before_first, first_leads, no_first}

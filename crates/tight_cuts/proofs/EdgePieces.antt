@@ -2,14 +2,9 @@
 -- that have x and an end of the edge, not the other. Idea: that intersection is one of these
 -- sets, so a pair (x, y) is separated exactly when it lacks y, and then it is the common shore.
 use Rattle.std.proofs.Common.{◌≡◌, ◌≢◌, ℕ, ◌+◌, true, false, ◌==◌, refl, sym, ap, ◌∙◌, arith, inl, inr, List, Option, Some, None, eq-eqb, ne_eqb}
-use Rattle.counting.proofs.Booleans.{same_tests}
-use Rattle.std.proofs.lemmas.Bool.{cases_lt, true≢false, both_ways, false_from_ne_true, or_from, or_right}
-use Rattle.counting.specs.Counts.{Within}
-use Rattle.counting.specs.Lists.{mem}
-use Rattle.counting.specs.Sets.{Set, pair_set}
-use Rattle.graph_core.specs.Covered.{IsCovered}
-use Rattle.graph_core.specs.Graph.{Graph, IsGraph, size}
-use Rattle.graph_core.specs.View.{IsWithinLimits}
+use Rattle.counting.proofs.Common.{same_tests, cases_lt, true≢false, both_ways, false_from_ne_true, or_from, or_right}
+use Rattle.counting.specs.Common.{Within, mem, Set, pair_set}
+use Rattle.graph_core.specs.Common.{IsCovered, Graph, IsGraph, size, IsWithinLimits}
 use Rattle.tight_cuts.proofs.EdgeLoop.{ends_between, first_pair, no_pair}
 use Rattle.tight_cuts.proofs.EdgeShores.{allowed, greater_within, lesser_within}
 use Rattle.tight_cuts.proofs.FirstPairs.{before_first}

@@ -2,22 +2,14 @@
 -- network within the length of the pair list. Idea: the network of the rows is the contracted
 -- network of the pair list, and the leaders give its groups.
 use Rattle.std.proofs.Common.{◌≡◌, ℕ, suc, zero, ◌*◌, ◌≤◌, ◌<◌, ◌^◌, ◌≢◌, true, false, refl, sym, ap, ap₂, ◌∙◌, arith, inl, inr, List, [], ◌∷◌, ◌++◌, length, subst, Option, Some, None, ◌↔◌}
-use Rattle.std.proofs.lemmas.Bool.{cases_lt, false_from_ne_true}
-use Rattle.std.proofs.lemmas.List.Sums.{sum_by-cons}
-use Rattle.counting.specs.Counts.{bit, Within, total}
-use Rattle.counting.specs.Lists.{mem}
-use Rattle.counting.specs.Sets.{Set, pair_set}
-use Rattle.counting.proofs.Booleans.{bit_le_one}
+use Rattle.counting.proofs.Common.{cases_lt, false_from_ne_true, sum_by-cons, bit_le_one}
+use Rattle.counting.specs.Common.{bit, Within, total, mem, Set, pair_set}
 use Rattle.flow_core.specs.Cuts.{IfCut, IsCut}
 use Rattle.flow_core.specs.Nets.{Net, HasCutWithin, IsLeastCut}
 use Rattle.flow_core.specs.declared.cut.CutAnswer.{CutAnswer}
 use Rattle.flow_core.specs.declared.cut.CutAnswer.TheVariants.{Cut, Exceeds}
 use Rattle.flow_core.specs.declared.flow.Flow.{Flow}
-use Rattle.graph_core.specs.Components.{components, is_least}
-use Rattle.graph_core.specs.Covered.{IsCovered}
-use Rattle.graph_core.specs.Graph.{Graph, size, first_end, second_end, IsGraph}
-use Rattle.graph_core.specs.Matchings.{Allowed}
-use Rattle.graph_core.specs.View.{IsWithinLimits}
+use Rattle.graph_core.specs.Common.{components, is_least, IsCovered, Graph, size, first_end, second_end, IsGraph, Allowed, IsWithinLimits}
 use Rattle.tight_cuts.proofs.EdgeLoop.{ends_between}
 use Rattle.tight_cuts.proofs.LeanLists.{grown_length}
 use Rattle.tight_cuts.proofs.LeaderGroups.{leaders_group}

@@ -4,11 +4,9 @@ use Rattle.std.proofs.Common.{◌≡◌, ℕ, suc, zero, ◌≤◌, Bool, true, 
 use Rattle.std.specs.Prelude.{if◌then◌else◌}
 use Rattle.std.specs.List.{list_any}
 use Rattle.std.specs.Option.{option_map}
-use Rattle.std.proofs.lemmas.Bool.{cases_eq}
-use Rattle.std.proofs.lemmas.List.Elements.{All-head}
-use Rattle.counting.specs.Counts.{Within}
-use Rattle.counting.specs.Sets.{Set}
-use Rattle.graph_core.specs.Graph.{Graph, size}
+use Rattle.counting.proofs.Common.{cases_eq, All-head}
+use Rattle.counting.specs.Common.{Within, Set}
+use Rattle.graph_core.specs.Common.{Graph, size}
 use Rattle.tight_cuts.proofs.EdgeLoop.{after_edges, after_suc}
 use Rattle.tight_cuts.proofs.FrontCandidates.{edge-known, edges-all}
 use Rattle.tight_cuts.specs.Candidates.{Candidate, Flow, Origin, candidates, common_shore, cuts, first_of, first_separated, front_candidates, greater_end, lesser_end, with_edge_cut, with_pair, with_shore}

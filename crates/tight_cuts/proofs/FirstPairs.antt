@@ -1,22 +1,16 @@
 -- The first pair consists of least vertices of pieces.
 -- Idea: a pair is separated by its pieces alone, so an earlier pair would be found.
 use Rattle.std.proofs.Common.{◌≡◌, ℕ, suc, zero, ◌<◌, Bool, true, false, cond, refl, sym, ap, ◌∙◌, arith, ◌&&◌, not, inl, inr, ◌⊎◌, List, [], ◌∷◌, ◌++◌, map, flat_map, Option, Some, None, nat_lt}
-use Rattle.std.proofs.lemmas.Bool.{cases_eq, cases_Bool, and_parts, and_from, both_ways, ltb-true, false_from_ne_true}
+use Rattle.std.proofs.lemmas.Bool.{ltb-true}
+use Rattle.counting.proofs.Common.{cases_eq, cases_Bool, and_parts, and_from, both_ways, false_from_ne_true, some_true}
 use Rattle.std.proofs.lemmas.Grind.{flat_map-append}
 use Rattle.std.proofs.lemmas.List.Concat.{flat_map_single}
 use Rattle.std.proofs.lemmas.List.Folds.{find-append}
 use Rattle.std.specs.Option.{option_or}
 use Rattle.std.specs.Prelude.{find}
-use Rattle.counting.proofs.Tests.{some_true}
-use Rattle.counting.specs.Counts.{Within}
-use Rattle.counting.specs.Lists.{rising_list, ordered_pairs, pair_with}
-use Rattle.counting.specs.Sets.{Set, everything, pair_set}
-use Rattle.counting.specs.Tests.{some}
-use Rattle.graph_core.proofs.Components.{joined_outside, walk_joined}
-use Rattle.graph_core.proofs.Walks.{joined_self}
-use Rattle.graph_core.specs.Components.{is_least}
-use Rattle.graph_core.specs.Graph.{Graph, size, IsGraph, has_ends}
-use Rattle.graph_core.specs.Walks.{joined}
+use Rattle.counting.specs.Common.{Within, rising_list, ordered_pairs, pair_with, Set, everything, pair_set, some}
+use Rattle.graph_core.proofs.Common.{joined_outside, walk_joined, joined_self}
+use Rattle.graph_core.specs.Common.{is_least, Graph, size, IsGraph, has_ends, joined}
 use Rattle.tight_cuts.proofs.EdgeLoop.{first_pair}
 use Rattle.tight_cuts.proofs.LeastShores.{separated_says, separated_found}
 use Rattle.tight_cuts.proofs.PairsOfEdges.{cut_between}

@@ -5,18 +5,10 @@ use Rattle.std.proofs.Common.{◌≡◌, ℕ, suc, ◌+◌, ◌<◌, Bool, true,
 use Rattle.std.specs.Prelude.{All, fold, if◌then◌else◌, is_none}
 use Rattle.std.specs.List.{list_any}
 use Rattle.std.specs.Option.{option_map}
-use Rattle.std.proofs.lemmas.Bool.{true≢false, lt-leb, and_right}
-use Rattle.std.proofs.lemmas.List.Elements.{All-head}
+use Rattle.counting.proofs.Common.{true≢false, lt-leb, and_right, All-head, count_congr, rising_list-congr}
 use Rattle.barrier_kit.specs.BarrierShores.{barrier_cuts, barrier_shores}
-use Rattle.graph_core.specs.CanonicalCuts.{IsCanonicalCut, is_listed, with_cut}
-use Rattle.counting.proofs.Counts.{count_congr}
-use Rattle.counting.proofs.RisingLists.{rising_list-congr}
-use Rattle.counting.specs.Counts.{count, Within}
-use Rattle.counting.specs.Lists.{mem, rising_list, IsRisingIn}
-use Rattle.counting.specs.Sets.{Set, complement}
-use Rattle.graph_core.specs.Graph.{Graph, size}
-use Rattle.graph_core.specs.Structure.{is_bicritical, equivalent_pair}
-use Rattle.graph_core.specs.Tight.{canonical_shore}
+use Rattle.graph_core.specs.Common.{IsCanonicalCut, is_listed, with_cut, Graph, size, is_bicritical, equivalent_pair, canonical_shore}
+use Rattle.counting.specs.Common.{count, Within, mem, rising_list, IsRisingIn, Set, complement}
 use Rattle.separation_kit.specs.SeparationShores.{separation_cuts, separation_shores}
 use Rattle.tight_cuts.proofs.CandidateLists.{fold-cuts, choose-false, choose-true}
 use Rattle.tight_cuts.proofs.EdgeLoop.{after_edges, after_suc}

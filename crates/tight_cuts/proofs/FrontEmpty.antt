@@ -6,12 +6,9 @@ use Rattle.barrier_kit.proofs.CriticalPairs.{no_sides}
 use Rattle.barrier_kit.proofs.ShoreFacts.{bicritical_no_cuts, some_cut}
 use Rattle.barrier_kit.specs.BarrierShores.{barrier_cuts}
 use Rattle.brick_kit.proofs.Bricks.{no_shore}
-use Rattle.counting.proofs.Counts.{count_complement}
-use Rattle.counting.specs.Sets.{Set}
-use Rattle.graph_core.specs.Covered.{IsCovered}
-use Rattle.graph_core.specs.Graph.{Graph, IsBipartite, IsMultigraph}
-use Rattle.graph_core.specs.Structure.{IsBicritical, equivalent_pair}
-use Rattle.graph_core.specs.Tight.{IsNontrivial, IsTight}
+use Rattle.counting.proofs.Common.{count_complement}
+use Rattle.counting.specs.Common.{Set}
+use Rattle.graph_core.specs.Common.{IsCovered, Graph, IsBipartite, IsMultigraph, IsBicritical, equivalent_pair, IsNontrivial, IsTight}
 use Rattle.separation_kit.proofs.SeparationFacts.{pair_some_cut, equivalent-none}
 use Rattle.separation_kit.specs.SeparationShores.{separation_cuts}
 use Rattle.tight_cuts.proofs.Completeness.{candidates_none}

@@ -2,15 +2,10 @@
 -- piece of y or alone, and each other piece. Idea: an end leads itself and no leader of a piece
 -- is an end, so a group's name says which vertices are in it.
 use Rattle.std.proofs.Common.{◌≡◌, ℕ, ◌≢◌, Bool, true, false, cond, ◌==◌, refl, sym, ap, ◌∙◌, arith, ◌&&◌, not, inl, inr, ◌⊎◌, [], ◌∷◌, subst, eq-eqb, ne_eqb, eqb-true}
-use Rattle.std.proofs.lemmas.Bool.{cases_Bool, cases_eq, or_cases, or_left, or_right, both_ways}
-use Rattle.counting.specs.Counts.{Within}
-use Rattle.counting.specs.Sets.{Set, pair_set}
-use Rattle.counting.specs.Tests.{some}
-use Rattle.graph_core.proofs.Components.{joined_walk, walk_joined}
-use Rattle.graph_core.proofs.Walks.{joined_self}
-use Rattle.graph_core.specs.Components.{is_least, components}
-use Rattle.graph_core.specs.Graph.{Graph, IsGraph, size, has_ends}
-use Rattle.graph_core.specs.Walks.{Joined, joined}
+use Rattle.counting.proofs.Common.{cases_Bool, cases_eq, or_cases, or_left, or_right, both_ways}
+use Rattle.counting.specs.Common.{Within, Set, pair_set, some}
+use Rattle.graph_core.proofs.Common.{joined_walk, walk_joined, joined_self}
+use Rattle.graph_core.specs.Common.{is_least, components, Graph, IsGraph, size, has_ends, Joined, joined}
 use Rattle.barrier_kit.proofs.BarrierCuts.{leads_out}
 use Rattle.tight_cuts.proofs.Leaders.{leader-fixed, leader-joined, leader-joins, leader-least, leader-own}
 use Rattle.tight_cuts.specs.Pieces.{leader, group_of, with_piece, IsGrouping}

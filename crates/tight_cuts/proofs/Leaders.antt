@@ -2,20 +2,11 @@
 -- one alone holds the vertex, and a component's list begins with its least vertex.
 use Rattle.std.proofs.Common.{◌≡◌, ℕ, ◌≤◌, Bool, true, false, cond, ◌==◌, refl, sym, ap, ◌∙◌, arith, ◌&&◌, not, inl, inr, ◌⊎◌, List, [], ◌∷◌, map, subst, eq-eqb, eqb-true, nat_lt}
 use Rattle.std.specs.Prelude.{All}
-use Rattle.std.proofs.lemmas.Bool.{cases_lt, cases_Bool, and_parts, or_cases, or_left, or_right, true≢false, both_ways, lt-ltb, false_from_ne_true, not-true}
-use Rattle.std.proofs.lemmas.List.Elements.{All-head, All-tail, All-nil, All-cons}
-use Rattle.counting.proofs.Tests.{some_none}
-use Rattle.counting.proofs.Lists.{rising_holds, rising_only}
-use Rattle.counting.proofs.RisingLists.{mem-rising_list, rising_list-rises, first-least}
-use Rattle.counting.specs.Counts.{Within}
-use Rattle.counting.specs.Lists.{mem, rising_list, IsRisingIn}
-use Rattle.counting.specs.Sets.{Set}
-use Rattle.counting.specs.Tests.{some}
-use Rattle.graph_core.proofs.Components.{joined_outside, walk_joined}
-use Rattle.graph_core.proofs.Walks.{joined_self}
-use Rattle.graph_core.specs.Components.{is_least, components}
-use Rattle.graph_core.specs.Graph.{Graph, IsGraph}
-use Rattle.graph_core.specs.Walks.{joined}
+use Rattle.std.proofs.lemmas.Bool.{lt-ltb}
+use Rattle.counting.proofs.Common.{cases_lt, cases_Bool, and_parts, or_cases, or_left, or_right, true≢false, both_ways, false_from_ne_true, not-true, All-head, All-tail, All-nil, All-cons, some_none, rising_holds, rising_only, mem-rising_list, rising_list-rises, first-least}
+use Rattle.counting.specs.Common.{Within, mem, rising_list, IsRisingIn, Set, some}
+use Rattle.graph_core.proofs.Common.{joined_outside, walk_joined, joined_self}
+use Rattle.graph_core.specs.Common.{is_least, components, Graph, IsGraph, joined}
 use Rattle.barrier_kit.proofs.BarrierCuts.{leader_of, leader_same, leads_out, part_same}
 use Rattle.tight_cuts.specs.Pieces.{head_or, leader}
 

@@ -1,23 +1,11 @@
 -- The intersection of all tight sets that separate two pairs is one of them.
 -- Idea: the meet of two of them is odd by one matching with the edge, so a least one lies in each.
 use Rattle.std.proofs.Common.{◌≡◌, ℕ, suc, zero, ◌≤◌, ◌≢◌, Bool, true, false, refl, sym, ap, ap₂, ◌∙◌, arith, ◌&&◌, ◌||◌, not, inl, inr, nat_lt, lt-ltb}
-use Rattle.counting.proofs.Booleans.{same_tests}
-use Rattle.std.proofs.lemmas.Bool.{cases_lt, and_parts, and_from, or_parts, or_from, true≢false, both_ways, ltb-true, not-true}
-use Rattle.counting.proofs.Choice.{Respects, choose_set, some_set_found, each_passes, none_fails, set_found}
-use Rattle.counting.proofs.Counts.{count_congr}
-use Rattle.counting.proofs.Members.{two_members}
-use Rattle.counting.proofs.Odd.{odd_three}
-use Rattle.counting.proofs.Totals.{total_tight}
-use Rattle.counting.specs.Counts.{bit, count, Within}
-use Rattle.counting.specs.Sets.{Set, meet, complement, pair_set}
-use Rattle.counting.specs.Tests.{some_set}
-use Rattle.graph_core.proofs.Decide.{is_tight_says, is_tight_found}
-use Rattle.graph_core.proofs.SameSets.{tight-same}
-use Rattle.graph_core.proofs.Uncrossing.{meet_tight}
-use Rattle.graph_core.specs.Covered.{IsCovered}
-use Rattle.graph_core.specs.Graph.{Graph, size, first_end, second_end, IsGraph, has_ends}
-use Rattle.graph_core.specs.Matchings.{Allowed}
-use Rattle.graph_core.specs.Tight.{IsNontrivial, is_tight}
+use Rattle.counting.proofs.Common.{same_tests, cases_lt, and_parts, and_from, or_parts, or_from, true≢false, both_ways, not-true, Respects, choose_set, some_set_found, each_passes, none_fails, set_found, count_congr, two_members, odd_three, total_tight}
+use Rattle.std.proofs.lemmas.Bool.{ltb-true}
+use Rattle.counting.specs.Common.{bit, count, Within, Set, meet, complement, pair_set, some_set}
+use Rattle.graph_core.proofs.Common.{is_tight_says, is_tight_found, tight-same, meet_tight}
+use Rattle.graph_core.specs.Common.{IsCovered, Graph, size, first_end, second_end, IsGraph, has_ends, Allowed, IsNontrivial, is_tight}
 use Rattle.tight_cuts.proofs.PairsOfEdges.{odd_sides, others_stay, cut_between}
 use Rattle.tight_cuts.specs.Candidates.{separates_tightly, is_separated, common_shore}
 use Rattle.tight_cuts.specs.Pieces.{SeparatesTightly}

@@ -1,24 +1,12 @@
 -- The contracted network.
 -- Idea: the value of a set of nodes is the sum over the pair list of the cut of its vertices.
 use Rattle.std.proofs.Common.{◌≡◌, ℕ, suc, zero, ◌+◌, ◌*◌, ◌≤◌, Bool, true, false, cond, ◌==◌, refl, sym, ap, ap₂, ◌∙◌, arith, ◌&&◌, ◌||◌, not, inl, inr, eq-eqb, ne_eqb, eqb-true, List, [], ◌∷◌, length, sum_by, ◌↔◌}
-use Rattle.counting.proofs.Booleans.{same_tests}
-use Rattle.std.proofs.lemmas.Bool.{cases_eq, and_parts, and_from, or_cases, or_left, or_right, true≢false}
-use Rattle.std.proofs.lemmas.List.Sums.{sum_by-cons, sum_by-append}
-use Rattle.counting.proofs.Tests.{some_true, true_some}
-use Rattle.counting.proofs.Totals.{total_congr, total_add, total_none}
-use Rattle.counting.specs.Counts.{bit, total, count, Within, is_odd}
-use Rattle.counting.specs.Lists.{mem}
-use Rattle.counting.specs.Sets.{Set, complement, pair_set}
-use Rattle.counting.specs.Tests.{some}
+use Rattle.counting.proofs.Common.{same_tests, cases_eq, and_parts, and_from, or_cases, or_left, or_right, true≢false, sum_by-cons, some_true, true_some, total_congr, total_add, total_none}
+use Rattle.std.proofs.lemmas.List.Sums.{sum_by-append}
+use Rattle.counting.specs.Common.{bit, total, count, Within, is_odd, mem, Set, complement, pair_set, some}
 use Rattle.flow_core.specs.Nets.{leaves_set, value_of, Separates, IsLeastCut}
-use Rattle.graph_core.proofs.Components.{walk_joined}
-use Rattle.graph_core.proofs.SameSets.{tight-same}
-use Rattle.graph_core.proofs.Walks.{joined_self}
-use Rattle.graph_core.specs.Graph.{Graph, size, first_end, second_end, IsGraph, in_cut, has_ends}
-use Rattle.graph_core.specs.Matchings.{Allowed}
-use Rattle.graph_core.specs.PairLists.{IsPairList}
-use Rattle.graph_core.specs.Tight.{IsTight}
-use Rattle.graph_core.specs.Walks.{joined}
+use Rattle.graph_core.proofs.Common.{walk_joined, tight-same, joined_self}
+use Rattle.graph_core.specs.Common.{Graph, size, first_end, second_end, IsGraph, in_cut, has_ends, Allowed, IsPairList, IsTight, joined}
 use Rattle.tight_cuts.proofs.LeastShores.{common_in, common_from}
 use Rattle.tight_cuts.proofs.PairsOfEdges.{pair_list_bound, pair_list_tight, tight_pair_list, cut_between}
 use Rattle.tight_cuts.proofs.PiecesOfEdges.{pieces_odd, tight_piece, beside_graph}

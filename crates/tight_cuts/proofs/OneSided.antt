@@ -2,15 +2,10 @@
 -- cut. If they are all vertices but the ends of e, no pair is separated at e.
 use Rattle.std.proofs.Common.{◌≡◌, ◌≢◌, ℕ, ◌<◌, Bool, true, false, ◌||◌, ◌&&◌, ◌⊎◌, not, ◌==◌, sym, ap, ◌∙◌, List, [], ◌∷◌, None, inl, inr, subst, eq-eqb, ne_eqb, eqb-true, refl, length}
 use Rattle.std.specs.Prelude.{slice_set}
-use Rattle.std.proofs.lemmas.Bool.{and_from, both_ways, cases_eq, false_from_ne_true, or_cases, or_left, or_right}
-use Rattle.counting.proofs.Booleans.{or_false}
-use Rattle.counting.specs.Counts.{Within}
-use Rattle.counting.specs.Lists.{mem}
-use Rattle.counting.specs.Sets.{Set, pair_set}
-use Rattle.graph_core.specs.Graph.{Graph, first_end, in_cut, second_end, size}
-use Rattle.graph_core.specs.Matchings.{Together}
-use Rattle.graph_core.specs.Tight.{IsTight}
-use Rattle.graph_core.proofs.Walks.{has_ends-cases}
+use Rattle.counting.proofs.Common.{and_from, both_ways, cases_eq, false_from_ne_true, or_cases, or_left, or_right, or_false}
+use Rattle.counting.specs.Common.{Within, mem, Set, pair_set}
+use Rattle.graph_core.specs.Common.{Graph, first_end, in_cut, second_end, size, Together, IsTight}
+use Rattle.graph_core.proofs.Common.{has_ends-cases}
 use Rattle.allowed_edges.proofs.Marking.{length-marked, marks-set}
 use Rattle.match_search.specs.Rows.{marks}
 use Rattle.tight_cuts.proofs.EdgeLoop.{ends_between}

@@ -2,24 +2,12 @@
 -- often as it is long. Idea: an odd set is met by each perfect matching, so one with an odd cut
 -- that is not tight is met twice by some.
 use Rattle.std.proofs.Common.{◌≡◌, ℕ, suc, ◌+◌, ◌≤◌, ◌≢◌, Bool, true, false, refl, sym, ap, ◌∙◌, arith, ◌&&◌, ◌||◌, not, inl, inr, List, [], ◌∷◌, length, sum_by, get_or}
-use Rattle.std.proofs.lemmas.Bool.{cases_lt, and_parts, and_from, true≢false, false_from_ne_true}
-use Rattle.std.proofs.lemmas.List.Elements.{All-head, All-tail, All-cons, All-nil}
-use Rattle.std.proofs.lemmas.List.Sums.{sum_by-cons}
+use Rattle.counting.proofs.Common.{cases_lt, and_parts, and_from, true≢false, false_from_ne_true, All-head, All-tail, All-cons, All-nil, sum_by-cons, two_members, two_of, odd-double, complement_odd, total_at}
 use Rattle.std.specs.Prelude.{All}
 use Rattle.barrier_kit.proofs.Matched.{inner, even_order}
-use Rattle.counting.proofs.Members.{two_members, two_of}
-use Rattle.counting.proofs.Odd.{odd-double, complement_odd}
-use Rattle.counting.proofs.Totals.{total_at}
-use Rattle.counting.specs.Counts.{bit, count, Within, is_odd}
-use Rattle.counting.specs.Lists.{mem}
-use Rattle.counting.specs.Sets.{Set, none, complement}
-use Rattle.graph_core.proofs.Parity.{parity}
-use Rattle.graph_core.proofs.Uncrossing.{odd_meets}
-use Rattle.graph_core.proofs.Walks.{has_ends-cases}
-use Rattle.graph_core.specs.Graph.{Graph, size, first_end, second_end, IsGraph, in_cut, has_ends, edges_in_cut}
-use Rattle.graph_core.specs.Matchings.{IsPerfect, Allowed, Together}
-use Rattle.graph_core.specs.PairLists.{IsPairList}
-use Rattle.graph_core.specs.Tight.{IsTight}
+use Rattle.counting.specs.Common.{bit, count, Within, is_odd, mem, Set, none, complement}
+use Rattle.graph_core.proofs.Common.{parity, odd_meets, has_ends-cases}
+use Rattle.graph_core.specs.Common.{Graph, size, first_end, second_end, IsGraph, in_cut, has_ends, edges_in_cut, IsPerfect, Allowed, Together, IsPairList, IsTight}
 use Rattle.tight_cuts.specs.PairSums.{cut_sum, NoTwoTogether}
 
 -- Tests of tightness: by pairs of edges, and by a pair list. Idea: an odd set meets each perfect

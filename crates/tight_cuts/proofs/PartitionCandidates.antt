@@ -2,16 +2,10 @@
 -- nontrivial shore is tight. Idea: they are those of the graph itself, or those of the quotient
 -- led back. At single vertices of a covered graph they are its own.
 use Rattle.std.proofs.Common.{◌≡◌, ◌↔◌, All, List, [], length, sym, subst, inl, inr, ℕ}
-use Rattle.std.proofs.lemmas.Bool.{cases_eq}
-use Rattle.counting.specs.Sets.{Set}
-use Rattle.graph_core.proofs.QuotientTight.{quotient_graph}
-use Rattle.graph_core.proofs.Singles.{length-singles, singles-partition}
-use Rattle.graph_core.specs.Covered.{IsCovered}
-use Rattle.graph_core.specs.Graph.{Graph, IsGraph}
-use Rattle.graph_core.specs.Partitions.{IsPartition, singles}
-use Rattle.graph_core.specs.Quotients.{quotient}
-use Rattle.graph_core.specs.Shores.{IsTightAt, blocks_in}
-use Rattle.graph_core.specs.Tight.{IsNontrivial}
+use Rattle.counting.proofs.Common.{cases_eq}
+use Rattle.counting.specs.Common.{Set}
+use Rattle.graph_core.proofs.Common.{quotient_graph, length-singles, singles-partition}
+use Rattle.graph_core.specs.Common.{IsCovered, Graph, IsGraph, IsPartition, singles, quotient, IsTightAt, blocks_in, IsNontrivial}
 use Rattle.tight_cuts.proofs.Completeness.{candidates_found, candidates_none}
 use Rattle.tight_cuts.proofs.LiftedCandidates.{at-blocks, at-vertices, covered-single, quotient-found, quotient-none, singles-found, singles-none}
 use Rattle.tight_cuts.specs.Candidates.{Candidate, candidates}

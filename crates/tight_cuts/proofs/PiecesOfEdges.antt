@@ -1,18 +1,11 @@
 -- The pieces of an edge. Idea: an edge that lies together with it meets neither of its ends, so
 -- it stays in one piece, and a tight set has it on one side.
 use Rattle.std.proofs.Common.{◌≡◌, ℕ, ◌≤◌, ◌≢◌, Bool, true, false, ◌==◌, refl, sym, ap, ap₂, ◌∙◌, arith, ◌&&◌, ◌||◌, not, inl, inr, ne_eqb}
-use Rattle.std.proofs.lemmas.Bool.{or_from, both_ways, not-true}
+use Rattle.counting.proofs.Common.{or_from, both_ways, not-true, alike_not_apart, same_tests}
 use Rattle.barrier_kit.proofs.BarrierCuts.{part_step}
-use Rattle.counting.specs.Counts.{count, Within, is_odd}
-use Rattle.counting.specs.Sets.{Set, none, complement, pair_set}
-use Rattle.counting.proofs.Booleans.{alike_not_apart, same_tests}
-use Rattle.graph_core.proofs.Components.{joined_walk, walk_joined}
-use Rattle.graph_core.proofs.Edits.{ends_of, two_ends_le_degree}
-use Rattle.graph_core.proofs.Walks.{has_ends-cases, adjacent-edge, adjacent_within, Walk-stays, IsClosed, joined_self}
-use Rattle.graph_core.specs.Graph.{Graph, size, first_end, second_end, IsGraph, in_cut, has_ends}
-use Rattle.graph_core.specs.Matchings.{IsPerfect, Allowed, Together}
-use Rattle.graph_core.specs.Tight.{IsTight}
-use Rattle.graph_core.specs.Walks.{joined, Joined, adjacent}
+use Rattle.counting.specs.Common.{count, Within, is_odd, Set, none, complement, pair_set}
+use Rattle.graph_core.proofs.Common.{joined_walk, walk_joined, ends_of, two_ends_le_degree, has_ends-cases, adjacent-edge, adjacent_within, Walk-stays, IsClosed, joined_self}
+use Rattle.graph_core.specs.Common.{Graph, size, first_end, second_end, IsGraph, in_cut, has_ends, IsPerfect, Allowed, Together, IsTight, joined, Joined, adjacent}
 use Rattle.tight_cuts.proofs.PairsOfEdges.{odd_sides, others_stay, cut_between}
 use Rattle.tight_cuts.specs.Pieces.{IsBeside}
 use Rattle.match_search.proofs.NearPerfectSets.{ends_far, ends_near}

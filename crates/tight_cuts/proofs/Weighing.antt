@@ -4,17 +4,11 @@ use Rattle.std.proofs.Common.{◌≡◌, ℕ, suc, zero, ◌+◌, ◌≤◌, ◌
 use Rattle.std.proofs.Math.ListN.{replicate}
 use Rattle.std.proofs.lemmas.Option.{slice_get_read}
 use Rattle.std.specs.Prelude.{Some, slice_get, slice_set}
-use Rattle.std.proofs.lemmas.Bool.{cases_eq, or_left, or_right, or_from, both_ways}
-use Rattle.std.proofs.lemmas.List.Sums.{sum_by-cons}
+use Rattle.counting.proofs.Common.{cases_eq, or_left, or_right, or_from, both_ways, sum_by-cons, Rises, mem_low, rises-from_set, bit_le_one, or_false}
 use Rattle.allowed_edges.proofs.Marking.{edges-more}
 use Rattle.allowed_edges.specs.PairTables.{PairsValue, edge_lists}
-use Rattle.counting.proofs.Lists.{Rises, mem_low, rises-from_set}
-use Rattle.counting.specs.Counts.{bit}
-use Rattle.counting.specs.Lists.{mem}
-use Rattle.counting.proofs.Booleans.{bit_le_one, or_false}
-use Rattle.graph_core.specs.Graph.{Graph, size}
-use Rattle.graph_core.specs.PairLists.{IsPairList, IsLean}
-use Rattle.graph_core.specs.View.{IsWithinLimits}
+use Rattle.counting.specs.Common.{bit, mem}
+use Rattle.graph_core.specs.Common.{Graph, size, IsPairList, IsLean, IsWithinLimits}
 use Rattle.tight_cuts.proofs.EdgeShores.{total_small}
 use Rattle.tight_cuts.proofs.LeanLists.{grown_length}
 use Rattle.match_core.proofs.MatchingEdges.{edge_of}

@@ -5,13 +5,8 @@
 -- Rests on it: bench_outcomes, bench_reports, bench_top, own_order.
 use Rattle.std.specs.Prelude.{◌≡◌, ◌≢◌, false, ℕ, Bool, List, [], ◌∷◌, ◌++◌, Option, Some, None, ◌&&◌, ◌||◌, not, map, find, fold, min, max, if◌then◌else◌}
 use Rattle.std.specs.List.{list_any}
-use Rattle.counting.specs.Counts.{count}
-use Rattle.counting.specs.Sets.{Set, complement, everything, pair_set}
-use Rattle.counting.specs.Tests.{each_set, some_set}
-use Rattle.counting.specs.Lists.{mem, rising_list, ordered_pairs, IsRisingIn}
-use Rattle.graph_core.specs.Graph.{Graph, size, first_end, second_end, in_cut}
-use Rattle.graph_core.specs.Tight.{IsTight, IsNontrivial, is_tight, is_nontrivial, canonical_shore}
-use Rattle.graph_core.specs.CanonicalCuts.{is_listed}
+use Rattle.counting.specs.Common.{count, Set, complement, everything, pair_set, each_set, some_set, mem, rising_list, ordered_pairs, IsRisingIn}
+use Rattle.graph_core.specs.Common.{Graph, size, first_end, second_end, in_cut, IsTight, IsNontrivial, is_tight, is_nontrivial, canonical_shore, is_listed}
 use Rattle.barrier_kit.specs.BarrierShores.{barrier_shores}
 use Rattle.separation_kit.specs.SeparationShores.{separation_shores}
 

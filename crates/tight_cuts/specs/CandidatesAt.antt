@@ -3,13 +3,8 @@
 -- of the graph itself, in the order of its own edges.
 -- Stated by: tight_cuts, decomposer, tree_check. Rests on it: list_lines, theorems.
 use Rattle.std.specs.Prelude.{◌≡◌, ℕ, false, List, length, map, ◌==◌, if◌then◌else◌}
-use Rattle.counting.specs.Counts.{count}
-use Rattle.counting.specs.Sets.{complement}
-use Rattle.counting.specs.Lists.{mem, IsRisingIn}
-use Rattle.graph_core.specs.Graph.{Graph}
-use Rattle.graph_core.specs.Tight.{IsNontrivial}
-use Rattle.graph_core.specs.Quotients.{quotient, union_of_blocks}
-use Rattle.graph_core.specs.Shores.{IsTightAt, blocks_in}
+use Rattle.counting.specs.Common.{count, complement, mem, IsRisingIn}
+use Rattle.graph_core.specs.Common.{Graph, IsNontrivial, quotient, union_of_blocks, IsTightAt, blocks_in}
 use Rattle.tight_cuts.specs.Candidates.{Candidate, candidates}
 
 -- a candidate of the quotient with its shore taken to vertices; inside and outside stay the

@@ -2,11 +2,8 @@
 -- the digraph of a perfect matching that holds it, with the side of its lesser end.
 -- Stated by: tight_cuts.
 use Rattle.std.specs.Prelude.{◌≡◌, ℕ, List, true}
-use Rattle.graph_core.specs.Sides.{IsSide}
-use Rattle.counting.specs.Lists.{mem}
-use Rattle.counting.specs.Sets.{none}
-use Rattle.graph_core.specs.Graph.{Graph}
-use Rattle.graph_core.specs.Matchings.{IsPerfect}
+use Rattle.graph_core.specs.Common.{IsSide, Graph, IsPerfect}
+use Rattle.counting.specs.Common.{mem, none}
 use Rattle.match_core.specs.MatchingRows.{IsOf, MatchingValue, edges_of}
 use Rattle.matching_digraph.specs.Digraph.{are_mates}
 use Rattle.matching_digraph.specs.Digraphs.{IsDigraphOf}

@@ -2,14 +2,8 @@
 -- Stated by: tight_cuts.
 use Rattle.std.specs.Prelude.{◌≡◌, ◌≢◌, ℕ, zero, suc, ◌+◌, ◌<◌, ◌≤◌, ◌^◌, ◌⊎◌, ◌↔◌, false, true, List, [], ◌∷◌, ◌++◌, ◌==◌, Option, Some, None, cond, length, slice_index_or}
 use Rattle.allowed_edges.specs.PairTables.{PairsValue, edge_lists, holds_both}
-use Rattle.counting.specs.Counts.{Within, total}
-use Rattle.counting.specs.Sets.{Set, pair_set}
-use Rattle.counting.specs.Lists.{mem}
-use Rattle.graph_core.specs.Components.{components}
-use Rattle.graph_core.specs.Covered.{IsCovered}
-use Rattle.graph_core.specs.Graph.{Graph, size, first_end, second_end}
-use Rattle.graph_core.specs.Matchings.{Together}
-use Rattle.graph_core.specs.PairLists.{IsPairList, IsLean}
+use Rattle.counting.specs.Common.{Within, total, Set, pair_set, mem}
+use Rattle.graph_core.specs.Common.{components, IsCovered, Graph, size, first_end, second_end, Together, IsPairList, IsLean}
 use Rattle.flow_core.specs.Nets.{Arc, Net, HasCutWithin, IsLeastCut}
 use Rattle.tight_cuts.specs.Candidates.{lesser_end, greater_end, is_separated, common_shore, first_separated}
 use Rattle.tight_cuts.specs.PairSums.{weight}

@@ -2,13 +2,8 @@
 -- node.
 -- Stated by: tight_cuts, theorems.
 use Rattle.std.specs.Prelude.{◌≡◌, ℕ, zero, suc, ◌≢◌, ◌⊎◌, true, false, List, [], ◌∷◌, ◌++◌, ◌==◌, ◌||◌, cond}
-use Rattle.counting.specs.Counts.{Within}
-use Rattle.counting.specs.Sets.{Set, pair_set}
-use Rattle.counting.specs.Lists.{mem}
-use Rattle.graph_core.specs.Graph.{Graph, size, first_end, second_end}
-use Rattle.graph_core.specs.Matchings.{Together}
-use Rattle.graph_core.specs.Tight.{IsTight}
-use Rattle.graph_core.specs.Walks.{joined}
+use Rattle.counting.specs.Common.{Within, Set, pair_set, mem}
+use Rattle.graph_core.specs.Common.{Graph, size, first_end, second_end, Together, IsTight, joined}
 use Rattle.flow_core.specs.Nets.{Arc, Net}
 use Rattle.tight_cuts.specs.PairSums.{weight}
 

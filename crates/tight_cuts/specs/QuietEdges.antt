@@ -1,9 +1,8 @@
 -- Edges at which no pair of vertices is separated, and what shows it.
 -- Stated by: tight_cuts.
 use Rattle.std.specs.Prelude.{◌≡◌, ℕ, ◌+◌, true, Bool, List, None, length}
-use Rattle.counting.specs.Sets.{Set}
-use Rattle.graph_core.specs.Graph.{Graph, in_cut, size}
-use Rattle.graph_core.specs.Tight.{IsTight}
+use Rattle.counting.specs.Common.{Set}
+use Rattle.graph_core.specs.Common.{Graph, in_cut, size, IsTight}
 use Rattle.match_search.specs.Rows.{marks}
 use Rattle.tight_cuts.specs.Candidates.{first_separated}
 

@@ -2,11 +2,8 @@
 -- once.
 -- Stated by: tight_cuts. Rests on it: tree_check.
 use Rattle.std.specs.Prelude.{◌≡◌, ℕ, ◌<◌, ◌≤◌, true}
-use Rattle.counting.specs.Sets.{Set, none}
-use Rattle.counting.specs.Lists.{mem}
-use Rattle.graph_core.specs.Graph.{Graph, edges_in_cut, in_cut, size}
-use Rattle.graph_core.specs.Matchings.{IsPerfect, Together}
-use Rattle.graph_core.specs.Tight.{IsTight}
+use Rattle.counting.specs.Common.{Set, none, mem}
+use Rattle.graph_core.specs.Common.{Graph, edges_in_cut, in_cut, size, IsPerfect, Together, IsTight}
 use Rattle.match_core.specs.MatchingRows.{IsOf, MatchingValue, edges_of}
 use Rattle.tight_cuts.specs.declared.tightness.Tightness.{Tightness}
 use Rattle.tight_cuts.specs.declared.tightness.Tightness.TheVariants.{Tight, Crossed}

@@ -1,13 +1,8 @@
 //! The candidates at a partition, and the first of them.
 ghost use Rattle.std.specs.Prelude.{◌≡◌, ℕ, [], ◌↔◌, All, List, IfOk, None, Some, length, map};
 ghost use Rattle.std.specs.Option.{option_map};
-ghost use Rattle.counting.specs.Sets.{Set};
-ghost use Rattle.graph_core.specs.Covered.{IsCovered};
-ghost use Rattle.graph_core.specs.Graph.{Graph};
-ghost use Rattle.graph_core.specs.Partitions.{singles};
-ghost use Rattle.graph_core.specs.Quotients.{quotient};
-ghost use Rattle.graph_core.specs.Shores.{IsTightAt, blocks_in};
-ghost use Rattle.graph_core.specs.Tight.{IsNontrivial};
+ghost use Rattle.counting.specs.Common.{Set};
+ghost use Rattle.graph_core.specs.Common.{IsCovered, Graph, singles, quotient, IsTightAt, blocks_in, IsNontrivial};
 ghost use Rattle.contraction.specs.Contracted.{contraction};
 ghost use Rattle.tight_cuts.specs.Candidates.{candidates, first_of};
 ghost use Rattle.tight_cuts.specs.CandidatesAt.{IsCandidateAt, candidates_at, lifted_candidate};

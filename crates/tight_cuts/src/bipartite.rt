@@ -1,11 +1,8 @@
 //! The search at one edge of a bipartite graph for tight cuts through it, by floods in the
 //! digraph of a perfect matching.
 ghost use Rattle.std.specs.Prelude.{◌≡◌, ◌+◌, true, Some, None, IfOk};
-ghost use Rattle.counting.specs.Counts.{Within};
-ghost use Rattle.counting.specs.Lists.{mem};
-ghost use Rattle.graph_core.specs.Covered.{IsCovered};
-ghost use Rattle.graph_core.specs.Graph.{size};
-ghost use Rattle.graph_core.specs.Sides.{IsSide};
+ghost use Rattle.counting.specs.Common.{Within, mem};
+ghost use Rattle.graph_core.specs.Common.{IsCovered, size, IsSide};
 ghost use Rattle.tight_cuts.specs.EdgeDigraphs.{AreFloodsOf, IsDigraphAt};
 ghost use Rattle.tight_cuts.specs.EdgeSearch.{IsShoreOfEdge, NoneBefore};
 

@@ -1,10 +1,8 @@
 //! Candidates: shores of nontrivial tight cuts, and lists of them.
 ghost use Rattle.std.specs.Prelude.{◌≡◌, ◌<◌, ◌≤◌, ◌&&◌, ◌++◌, ◌∷◌, [], ◌==◌, All, IfOk, OnOk, OnErr, length, map, slice_get, Some};
 ghost use Rattle.std.specs.List.{list_any};
-ghost use Rattle.counting.specs.Counts.{Within};
-ghost use Rattle.counting.specs.Lists.{mem, is_subset, IsRisingIn};
-ghost use Rattle.graph_core.specs.Graph.{in_cut, size};
-ghost use Rattle.graph_core.specs.CanonicalCuts.{is_listed};
+ghost use Rattle.counting.specs.Common.{Within, mem, is_subset, IsRisingIn};
+ghost use Rattle.graph_core.specs.Common.{in_cut, size, is_listed};
 ghost use Rattle.tight_cuts.specs.Candidates.{candidate_at, cuts, shores_of, with_list};
 ghost use Rattle.tight_cuts.specs.View.{candidate_of, origin_of};
 

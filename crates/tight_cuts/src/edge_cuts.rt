@@ -1,9 +1,8 @@
 //! What the edges add to the list of candidates, whatever way an edge is searched.
 ghost use Rattle.std.specs.Prelude.{◌≡◌, ℕ, ◌≤◌, true, IfOk, OnOk};
 ghost use Rattle.std.specs.List.{list_any};
-ghost use Rattle.counting.specs.Counts.{Within};
-ghost use Rattle.graph_core.specs.Covered.{IsCovered};
-ghost use Rattle.graph_core.specs.Graph.{Graph, size};
+ghost use Rattle.counting.specs.Common.{Within};
+ghost use Rattle.graph_core.specs.Common.{IsCovered, Graph, size};
 ghost use Rattle.tight_cuts.specs.Candidates.{candidates, cuts, front_candidates, with_edge_cut};
 ghost use Rattle.tight_cuts.specs.EdgeSearch.{IsShoreOfEdge};
 

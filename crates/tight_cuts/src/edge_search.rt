@@ -7,14 +7,8 @@
 //! first pair is the first x whose S(x) is there and is not everything but b, with the least y that
 //! S(x) lacks (Picard and Queyranne 1980).
 ghost use Rattle.std.specs.Prelude.{◌≡◌, ◌≢◌, ℕ, ◌+◌, ◌<◌, ◌≤◌, ◌==◌, ◌&&◌, ◌↔◌, All, not, true, false, length, Some, None, IfNone, IfOk, IfSome};
-ghost use Rattle.counting.specs.Counts.{Within};
-ghost use Rattle.counting.specs.Lists.{mem};
-ghost use Rattle.counting.specs.Sets.{pair_set};
-ghost use Rattle.graph_core.specs.Components.{components};
-ghost use Rattle.graph_core.specs.Covered.{IsCovered};
-ghost use Rattle.graph_core.specs.Graph.{size};
-ghost use Rattle.graph_core.specs.Matchings.{Together};
-ghost use Rattle.graph_core.specs.Tight.{IsTight};
+ghost use Rattle.counting.specs.Common.{Within, mem, pair_set};
+ghost use Rattle.graph_core.specs.Common.{components, IsCovered, size, Together, IsTight};
 ghost use Rattle.allowed_edges.specs.PairTables.{SettlesEdges, edge_lists, holds_both};
 ghost use Rattle.tight_cuts.specs.Candidates.{greater_end, lesser_end};
 ghost use Rattle.tight_cuts.specs.EdgeSearch.{AreLeaders, AreRowsAt, AreRowsOf, IsShoreOfEdge, Leads, NoneBefore, at_place};

@@ -2,12 +2,8 @@
 ghost use Rattle.std.specs.Prelude.{◌≡◌, ℕ, [], ◌↔◌, ◌≤◌, true, All, IfOk, OnOk, Some, None};
 ghost use Rattle.std.specs.List.{AllPairs, list_any};
 ghost use Rattle.std.specs.Option.{option_map};
-ghost use Rattle.counting.specs.Counts.{Within};
-ghost use Rattle.counting.specs.Lists.{mem};
-ghost use Rattle.counting.specs.Sets.{Set};
-ghost use Rattle.graph_core.specs.Covered.{IsCovered};
-ghost use Rattle.graph_core.specs.Graph.{in_cut, size};
-ghost use Rattle.graph_core.specs.Tight.{HasOnlyTrivialTightCuts, IsNontrivial, IsTight};
+ghost use Rattle.counting.specs.Common.{Within, mem, Set};
+ghost use Rattle.graph_core.specs.Common.{IsCovered, in_cut, size, HasOnlyTrivialTightCuts, IsNontrivial, IsTight};
 ghost use Rattle.tight_cuts.specs.EdgeDigraphs.{AreFloodsOf};
 ghost use Rattle.tight_cuts.specs.Candidates.{IsTightCandidate, ShoresDiffer, candidates, cuts, first_of, first_shore, front_candidates};
 ghost use Rattle.tight_cuts.specs.View.{candidate_of};

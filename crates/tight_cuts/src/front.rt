@@ -1,7 +1,7 @@
 //! The candidates of the first two parts: the cuts of barriers, and those of separations.
 ghost use Rattle.std.specs.Prelude.{◌≡◌, ◌≤◌, IfOk, map, slice_get};
 ghost use Rattle.std.specs.Option.{option_map};
-ghost use Rattle.graph_core.specs.Structure.{IsBicritical};
+ghost use Rattle.graph_core.specs.Common.{IsBicritical};
 ghost use Rattle.barrier_kit.specs.BarrierShores.{barrier_cuts};
 ghost use Rattle.separation_kit.specs.SeparationShores.{separation_cuts};
 ghost use Rattle.tight_cuts.specs.Candidates.{Barrier, Separation, candidate_at, first_of, front_candidates};

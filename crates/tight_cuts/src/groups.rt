@@ -1,9 +1,8 @@
 //! The network of the pieces of an edge in groups, and its least minimum cut.
 ghost use Rattle.std.specs.Prelude.{◌≡◌, ◌≢◌, ℕ, ◌+◌, ◌<◌, ◌≤◌, ◌^◌, ◌++◌, length, IfOk, OnOk};
-ghost use Rattle.counting.specs.Counts.{Within, total};
-ghost use Rattle.counting.specs.Lists.{mem};
+ghost use Rattle.counting.specs.Common.{Within, total, mem};
 ghost use Rattle.flow_core.specs.Nets.{total_capacity, with_arc};
-ghost use Rattle.graph_core.specs.Graph.{first_end, second_end, size};
+ghost use Rattle.graph_core.specs.Common.{first_end, second_end, size};
 ghost use Rattle.tight_cuts.specs.Candidates.{greater_end, lesser_end};
 ghost use Rattle.tight_cuts.specs.EdgeSearch.{AreGroups, AreRowsAt, IsBeyond, IsCommonShore, IsCutOfGroups, Leads, arc_between, arcs_by, at_place, group_net, row_group};
 ghost use Rattle.tight_cuts.specs.Pieces.{group_of};

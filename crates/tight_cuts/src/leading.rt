@@ -1,10 +1,7 @@
 //! The vertices that lead the pieces of an edge.
 ghost use Rattle.std.specs.Prelude.{◌≡◌, ℕ, ◌+◌, ◌↔◌, true, length, IfOk};
-ghost use Rattle.counting.specs.Counts.{Within};
-ghost use Rattle.counting.specs.Sets.{pair_set};
-ghost use Rattle.graph_core.specs.Components.{components};
-ghost use Rattle.graph_core.specs.Graph.{size};
-ghost use Rattle.graph_core.specs.Matchings.{Together};
+ghost use Rattle.counting.specs.Common.{Within, pair_set};
+ghost use Rattle.graph_core.specs.Common.{components, size, Together};
 ghost use Rattle.allowed_edges.specs.PairTables.{edge_lists, holds_both};
 ghost use Rattle.tight_cuts.specs.EdgeSearch.{AreLeaders, at_place};
 ghost use Rattle.tight_cuts.specs.Pieces.{leader};

@@ -1,11 +1,8 @@
 //! What the search at an edge stands on: how often the matchings of a pair list hold each edge,
 //! and the graph of the edges that lie together with one edge.
 ghost use Rattle.std.specs.Prelude.{◌≡◌, ℕ, ◌+◌, ◌<◌, ◌≤◌, ◌-◌, ◌^◌, ◌↔◌, true, All, IfOk, length, map};
-ghost use Rattle.counting.specs.Counts.{Within, bit};
-ghost use Rattle.counting.specs.Lists.{mem};
-ghost use Rattle.graph_core.specs.Graph.{size};
-ghost use Rattle.graph_core.specs.Matchings.{Together};
-ghost use Rattle.graph_core.specs.PairLists.{IsLean, IsPairList};
+ghost use Rattle.counting.specs.Common.{Within, bit, mem};
+ghost use Rattle.graph_core.specs.Common.{size, Together, IsLean, IsPairList};
 ghost use Rattle.match_core.specs.MatchingRows.{IsOf, edges_of};
 ghost use Rattle.allowed_edges.specs.PairTables.{edge_lists, holds_both};
 ghost use Rattle.tight_cuts.specs.EdgeSearch.{AreWeights, at_place};

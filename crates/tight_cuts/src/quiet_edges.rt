@@ -5,11 +5,8 @@
 //! one side, and no two of them are separated at e: the edge is quiet. Mostly a few perfect
 //! matchings show it, and each of them serves all edges that it holds.
 ghost use Rattle.std.specs.Prelude.{◌≡◌, ◌≢◌, ℕ, true, IfOk, None};
-ghost use Rattle.counting.specs.Counts.{Within};
-ghost use Rattle.counting.specs.Lists.{mem};
-ghost use Rattle.counting.specs.Sets.{none};
-ghost use Rattle.graph_core.specs.Graph.{first_end, second_end, size};
-ghost use Rattle.graph_core.specs.Matchings.{IsPerfect};
+ghost use Rattle.counting.specs.Common.{Within, mem, none};
+ghost use Rattle.graph_core.specs.Common.{first_end, second_end, size, IsPerfect};
 ghost use Rattle.match_core.specs.MatchingRows.{IsOf, edges_of};
 ghost use Rattle.allowed_edges.specs.PairTables.{IsPerfectWith, SettlesEdges};
 ghost use Rattle.tight_cuts.specs.Candidates.{first_separated};

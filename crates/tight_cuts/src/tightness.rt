@@ -1,11 +1,7 @@
 //! Whether an odd cut is tight.
 ghost use Rattle.std.specs.Prelude.{◌≡◌, ℕ, ◌+◌, ◌<◌, ◌||◌, ◌&&◌, ◌==◌, not, true, length, ◌↔◌, Some, None, IfOk};
-ghost use Rattle.counting.specs.Counts.{Within, is_odd};
-ghost use Rattle.counting.specs.Sets.{none};
-ghost use Rattle.counting.specs.Lists.{mem, IsRisingIn};
-ghost use Rattle.graph_core.specs.Covered.{IsCovered};
-ghost use Rattle.graph_core.specs.Graph.{in_cut, size};
-ghost use Rattle.graph_core.specs.Matchings.{IsPerfect, Together};
+ghost use Rattle.counting.specs.Common.{Within, is_odd, none, mem, IsRisingIn};
+ghost use Rattle.graph_core.specs.Common.{IsCovered, in_cut, size, IsPerfect, Together};
 ghost use Rattle.match_core.specs.MatchingRows.{IsOf, edges_of};
 ghost use Rattle.allowed_edges.specs.PairTables.{IsPerfectWith};
 ghost use Rattle.tight_cuts.specs.Tightness.{CrossesTwice, IsTightness, NoLaterWith};

@@ -3,36 +3,18 @@
 -- matching with two edges in it is lifted to one at the partition.
 use Rattle.std.proofs.Common.{◌≡◌, ◌≢◌, ◌⊎◌, ◌↔◌, IsTrue, ◌%◌, ◌==◌, Option, Some, unwrap_or, ℕ, zero, suc, ◌+◌, ◌*◌, ◌-◌, ◌≤◌, ◌<◌, Bool, true, false, not, ◌&&◌, ◌||◌, List, length, refl, sym, ap, ap₂, ◌∙◌, arith, subst, inl, inr}
 use Rattle.std.specs.List.{list_all}
-use Rattle.std.proofs.lemmas.Bool.{both_ways, cases_Bool, cases_lt}
-use Rattle.counting.proofs.Counts.{count_complement, count_congr}
-use Rattle.counting.proofs.Odd.{is_odd_remainder, odd-double}
-use Rattle.counting.proofs.RisingLists.{length-rising_list, mem-outside, mem-rising_list, rising_list-rises, set-wider}
-use Rattle.counting.specs.Counts.{Within, count, is_odd}
-use Rattle.counting.specs.Lists.{IsRisingIn, mem, rising_list}
-use Rattle.counting.specs.Sets.{Set, complement, none}
+use Rattle.counting.proofs.Common.{both_ways, cases_Bool, cases_lt, count_complement, count_congr, is_odd_remainder, odd-double, length-rising_list, mem-outside, mem-rising_list, rising_list-rises, set-wider}
+use Rattle.counting.specs.Common.{Within, count, is_odd, IsRisingIn, mem, rising_list, Set, complement, none}
 use Rattle.contraction.proofs.BlockUnions.{in_or_apart, test-from_union, union-from_test}
 use Rattle.contraction.proofs.LiftedMatchings.{lifted-perfect, perfect-congr}
 use Rattle.contraction.proofs.ProjectedMatchings.{lifted-cut}
 use Rattle.contraction.proofs.QuotientLaws.{covered_down, tight_at_down}
 use Rattle.contraction.specs.Partition.{IsUnionAt, PartitionValue}
-use Rattle.graph_core.proofs.Blocks.{contracted-graph, contracted-order, contracted-size}
-use Rattle.graph_core.proofs.Contraction.{tight_from_cut}
-use Rattle.graph_core.proofs.Decide.{covered_perfect, tight_or_not}
-use Rattle.graph_core.proofs.Parity.{parity}
-use Rattle.graph_core.proofs.QuotientTight.{quotient_graph}
-use Rattle.graph_core.proofs.Quotients.{quotient-order}
-use Rattle.graph_core.proofs.SameSets.{tight-same}
-use Rattle.graph_core.proofs.SingleBlocks.{edges-in-cut-at}
-use Rattle.graph_core.specs.Covered.{IsCovered}
-use Rattle.graph_core.specs.Graph.{Graph, IsGraph, edges_in_cut, first_end, in_cut, inside, second_end, size}
-use Rattle.graph_core.specs.Matchings.{IsPerfect}
-use Rattle.graph_core.specs.Partitions.{AreBlocks, contracted}
-use Rattle.graph_core.specs.Quotients.{lifted, quotient}
-use Rattle.graph_core.specs.Shores.{IsTightAt, IsUnion, block_count, blocks_in}
-use Rattle.graph_core.specs.Tight.{IsNontrivial, IsTight}
+use Rattle.graph_core.proofs.Common.{contracted-graph, contracted-order, contracted-size, tight_from_cut, covered_perfect, tight_or_not, parity, quotient_graph, quotient-order, tight-same, edges-in-cut-at}
+use Rattle.graph_core.specs.Common.{IsCovered, Graph, IsGraph, edges_in_cut, first_end, in_cut, inside, second_end, size, IsPerfect, AreBlocks, contracted, lifted, quotient, IsTightAt, IsUnion, block_count, blocks_in, IsNontrivial, IsTight}
 use Rattle.match_core.specs.MatchingRows.{MatchingValue, edges_of}
 use Rattle.tight_cuts.specs.Tightness.{CrossesTwice}
-use Rattle.tree_core.specs.Derivations.{IsCutAt}
+use Rattle.tree_core.specs.Common.{IsCutAt}
 use Rattle.tree_check.specs.Judgements.{why_of}
 use Rattle.tree_check.specs.declared.judgement.Why.{Why as StoredWhy}
 use Rattle.tree_check.specs.Refusals.{BreaksCut, CrossesAt, Why, not_blocks, even, trivial, not_tight, not_leaf, without_matching}

@@ -2,15 +2,11 @@
 -- of a tree agree, and a tree that is not a derivation has one. Below a kept cut the partitions are
 -- partitions again and their quotients are matching covered.
 use Rattle.std.proofs.Common.{◌≡◌, ◌⊎◌, ℕ, ◌+◌, List, refl, sym, ap, ◌∙◌, inl, inr}
-use Rattle.counting.specs.Lists.{mem}
-use Rattle.graph_core.proofs.Singles.{singles-partition}
-use Rattle.graph_core.specs.Covered.{IsCovered}
-use Rattle.graph_core.specs.Graph.{Graph, IsGraph}
-use Rattle.graph_core.specs.Partitions.{IsPartition, singles}
-use Rattle.graph_core.specs.Quotients.{quotient}
+use Rattle.counting.specs.Common.{mem}
+use Rattle.graph_core.proofs.Common.{singles-partition}
+use Rattle.graph_core.specs.Common.{IsCovered, Graph, IsGraph, IsPartition, singles, quotient}
 use Rattle.tree_core.proofs.CutsBelow.{kept-covers, kept-partition, merged-covers, merged-partition, root-covered}
-use Rattle.tree_core.specs.Derivations.{IsDerivation, IsDerivationAt, kept_at, merged_at}
-use Rattle.tree_core.specs.Shapes.{Shape, leaf, cut, node_count}
+use Rattle.tree_core.specs.Common.{IsDerivation, IsDerivationAt, kept_at, merged_at, Shape, leaf, cut, node_count}
 use Rattle.tree_check.proofs.CutRules.{broken-not_cut, broken-once, cut-or_broken}
 use Rattle.tree_check.proofs.LeafRules.{broken-not_leaf, leaf-once, leaf-or_broken}
 use Rattle.tree_check.specs.Refusals.{HasShores, IsRefused, IsRefusedAt, Why, without_matching}

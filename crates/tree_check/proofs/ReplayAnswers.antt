@@ -1,12 +1,9 @@
 -- The three answers to a script exclude one another, and each is determined: a move has one
 -- result at most, so two replays go through the same trees, and a derivation has no refusal.
 use Rattle.std.proofs.Common.{◌≡◌, ◌↔◌, ◌+◌, ℕ, List, [], ◌∷◌, inl, inr, refl, sym, ◌∙◌, ap, subst, arith}
-use Rattle.std.proofs.lemmas.Option.{none-some, same_Some}
-use Rattle.graph_core.specs.Graph.{Graph, IsGraph}
-use Rattle.tree_core.specs.Derivations.{IsDerivation}
-use Rattle.tree_core.specs.Moves.{PlainMove, TurnsThrough}
-use Rattle.tree_core.specs.Shapes.{Shape}
-use Rattle.tree_core.specs.View.{shape_of}
+use Rattle.counting.proofs.Common.{none-some, same_Some}
+use Rattle.graph_core.specs.Common.{Graph, IsGraph}
+use Rattle.tree_core.specs.Common.{IsDerivation, PlainMove, TurnsThrough, Shape, shape_of}
 use Rattle.tree_core.specs.declared.tree.Tree.{Tree}
 use Rattle.tree_check.proofs.FirstRefusals.{refused-not_derived, refused-once}
 use Rattle.tree_check.specs.Judgements.{why_of}

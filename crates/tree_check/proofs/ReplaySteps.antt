@@ -1,12 +1,9 @@
 -- A replay as far as it has come: the first moves turn the first tree through derivations into
 -- the tree that is reached. The next move goes on, or it is the first failing one.
 use Rattle.std.proofs.Common.{◌≡◌, ◌+◌, ℕ, zero, suc, List, [], ◌∷◌, slice_get, take, Some, None, refl, ◌∙◌, ap, subst, inl, inr, arith}
-use Rattle.std.proofs.lemmas.Option.{none-some, same_Some}
-use Rattle.graph_core.specs.Graph.{Graph}
-use Rattle.tree_core.specs.Derivations.{IsDerivation}
-use Rattle.tree_core.specs.Moves.{PlainMove, TurnsThrough, move_result}
-use Rattle.tree_core.specs.MoveView.{move_of, moves_of}
-use Rattle.tree_core.specs.Shapes.{Shape}
+use Rattle.counting.proofs.Common.{none-some, same_Some}
+use Rattle.graph_core.specs.Common.{Graph}
+use Rattle.tree_core.specs.Common.{IsDerivation, PlainMove, TurnsThrough, move_result, move_of, moves_of, Shape}
 use Rattle.tree_core.specs.declared.moves.Move.{Move}
 use Rattle.tree_check.specs.Refusals.{Why, IsRefused}
 use Rattle.tree_check.specs.Replays.{IsStuckAt, IsRefusedMoveAt}

@@ -1,18 +1,12 @@
 -- Steps of the scan of a tree: what is found below a cut, said of the tree that the cut makes;
 -- and the numbers of its nodes, which stay below those of the blocks.
 use Rattle.std.proofs.Common.{◌≡◌, ℕ, ◌+◌, ◌≤◌, List, length, refl, sym, arith, subst, inl, inr}
-use Rattle.counting.proofs.Counts.{count_complement}
-use Rattle.counting.specs.Counts.{count}
-use Rattle.counting.specs.Lists.{mem}
-use Rattle.counting.specs.Sets.{complement}
-use Rattle.graph_core.specs.Graph.{Graph, IsGraph}
-use Rattle.graph_core.specs.Covered.{IsCovered}
-use Rattle.graph_core.specs.Partitions.{IsPartition, singles}
-use Rattle.graph_core.specs.Shores.{blocks_in}
+use Rattle.counting.proofs.Common.{count_complement}
+use Rattle.counting.specs.Common.{count, mem, complement}
+use Rattle.graph_core.specs.Common.{Graph, IsGraph, IsCovered, IsPartition, singles, blocks_in}
 use Rattle.tree_core.proofs.CutsBelow.{few-cuts_at, kept-partition}
 use Rattle.tree_core.proofs.Sizes.{node_count-cuts}
-use Rattle.tree_core.specs.Derivations.{IsCutAt, IsDerivationAt, kept_at, merged_at}
-use Rattle.tree_core.specs.Shapes.{Shape, cut, node_count}
+use Rattle.tree_core.specs.Common.{IsCutAt, IsDerivationAt, kept_at, merged_at, Shape, cut, node_count}
 use Rattle.tree_check.specs.Judgements.{why_of}
 use Rattle.tree_check.specs.Scans.{IsScanned}
 use Rattle.tree_check.specs.Refusals.{BreaksCut, IsRefused, IsRefusedAt}

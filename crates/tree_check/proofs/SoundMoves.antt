@@ -1,21 +1,14 @@
 -- A Switch at the end of its path. The two sets are blocks if they are unions that count one block
 -- each, and then the law of the Switch says that its result is a derivation if its shore is a cut.
 use Rattle.std.proofs.Common.{◌≡◌, ℕ, List, [], ◌∷◌, length, Some, sym, ap, ◌∙◌, subst, arith}
-use Rattle.counting.proofs.Counts.{only_one}
-use Rattle.counting.specs.Sets.{Set}
+use Rattle.counting.proofs.Common.{only_one}
+use Rattle.counting.specs.Common.{Set}
 use Rattle.contraction.proofs.QuotientLaws.{covered_down}
-use Rattle.graph_core.proofs.BlockSets.{at_place}
-use Rattle.graph_core.proofs.Blocks.{place_in}
-use Rattle.graph_core.specs.Covered.{IsCovered}
-use Rattle.graph_core.specs.Graph.{Graph, IsGraph}
-use Rattle.graph_core.specs.Partitions.{AreBlocks, IsPartition, place}
-use Rattle.graph_core.specs.Quotients.{quotient}
-use Rattle.graph_core.specs.Shores.{IsUnion, block_count, blocks_in}
+use Rattle.graph_core.proofs.Common.{at_place, place_in}
+use Rattle.graph_core.specs.Common.{IsCovered, Graph, IsGraph, AreBlocks, IsPartition, place, quotient, IsUnion, block_count, blocks_in}
 use Rattle.move_laws.proofs.CarriedCuts.{some_of}
 use Rattle.move_laws.proofs.MoveParts.{switch_derives_law}
-use Rattle.tree_core.specs.Derivations.{IsCutAt, IsDerivationAt}
-use Rattle.tree_core.specs.Moves.{IsBlockOf}
-use Rattle.tree_core.specs.Shapes.{Shape, cut}
+use Rattle.tree_core.specs.Common.{IsCutAt, IsDerivationAt, IsBlockOf, Shape, cut}
 use Rattle.tree_core.specs.declared.path.Side.{Side}
 use Rattle.tree_check.specs.SoundMoves.{IsBlock, IsSwitched}
 

@@ -4,18 +4,11 @@
 -- (Lovász 1987); at a leaf, that there is no nontrivial tight cut.
 -- Stated by: tree_check, bench_reports, theorems. Rests on it: bench_outcomes, bench_top.
 use Rattle.std.specs.Prelude.{◌≡◌, ◌⊎◌, ℕ, ◌+◌, ◌-◌, ◌≤◌, true, false, List, [], length, Some}
-use Rattle.counting.specs.Counts.{is_odd}
-use Rattle.counting.specs.Lists.{mem, IsRisingIn}
-use Rattle.counting.specs.Sets.{Set}
-use Rattle.graph_core.specs.Covered.{IsCovered}
-use Rattle.graph_core.specs.Graph.{Graph, edges_in_cut, size}
-use Rattle.graph_core.specs.Partitions.{IsPerfectAt, singles}
-use Rattle.graph_core.specs.Shores.{IsUnion, block_count, blocks_in}
-use Rattle.graph_core.specs.Tight.{IsNontrivial}
+use Rattle.counting.specs.Common.{is_odd, mem, IsRisingIn, Set}
+use Rattle.graph_core.specs.Common.{IsCovered, Graph, edges_in_cut, size, IsPerfectAt, singles, IsUnion, block_count, blocks_in, IsNontrivial}
 use Rattle.tight_cuts.specs.Candidates.{first_shore}
 use Rattle.tight_cuts.specs.CandidatesAt.{candidates_at}
-use Rattle.tree_core.specs.Derivations.{IsCutAt, IsDerivationAt, kept_at, merged_at}
-use Rattle.tree_core.specs.Shapes.{Shape, leaf, cut, node_count}
+use Rattle.tree_core.specs.Common.{IsCutAt, IsDerivationAt, kept_at, merged_at, Shape, leaf, cut, node_count}
 
 -- why a node is refused, with what shows it
 pub data Why : Type 0 where

@@ -2,11 +2,8 @@
 -- derivation of the graph.
 -- Stated by: tree_check. Rests on it: bench_outcomes, bench_reports, bench_top, theorems.
 use Rattle.std.specs.Prelude.{◌≡◌, ◌⊎◌, ℕ, ◌+◌, List, [], ◌∷◌, Some, None}
-use Rattle.graph_core.specs.Graph.{Graph}
-use Rattle.tree_core.specs.Derivations.{IsDerivation}
-use Rattle.tree_core.specs.Moves.{PlainMove, TurnsThrough, move_result}
-use Rattle.tree_core.specs.Shapes.{Shape}
-use Rattle.tree_core.specs.View.{shape_of}
+use Rattle.graph_core.specs.Common.{Graph}
+use Rattle.tree_core.specs.Common.{IsDerivation, PlainMove, TurnsThrough, move_result, Shape, shape_of}
 use Rattle.tree_check.specs.Judgements.{why_of}
 use Rattle.tree_check.specs.Refusals.{Why, IsRefused}
 use Rattle.tree_check.specs.declared.replaying.Replayed.{Replayed}

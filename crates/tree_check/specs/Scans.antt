@@ -1,9 +1,8 @@
 -- What a scan of a tree finds, as the code keeps it.
 -- Stated by: tree_check.
 use Rattle.std.specs.Prelude.{◌≡◌, ℕ, ◌+◌, List}
-use Rattle.graph_core.specs.Graph.{Graph}
-use Rattle.tree_core.specs.Derivations.{IsDerivationAt}
-use Rattle.tree_core.specs.Shapes.{Shape, node_count}
+use Rattle.graph_core.specs.Common.{Graph}
+use Rattle.tree_core.specs.Common.{IsDerivationAt, Shape, node_count}
 use Rattle.tree_check.specs.Judgements.{why_of}
 use Rattle.tree_check.specs.Refusals.{IsRefusedAt}
 use Rattle.tree_check.specs.declared.scan.Scanned.{Scanned}

@@ -1,11 +1,9 @@
 -- What a move makes of some derivation.
 -- Stated by: tree_check.
 use Rattle.std.specs.Prelude.{◌≡◌, ℕ, List, Some}
-use Rattle.counting.specs.Lists.{IsRisingIn, mem}
-use Rattle.graph_core.specs.Graph.{Graph}
-use Rattle.tree_core.specs.Derivations.{IsDerivation, IsDerivationAt}
-use Rattle.tree_core.specs.Moves.{IsBlockOf, PlainMove, move_result, switch_result}
-use Rattle.tree_core.specs.Shapes.{Shape}
+use Rattle.counting.specs.Common.{IsRisingIn, mem}
+use Rattle.graph_core.specs.Common.{Graph}
+use Rattle.tree_core.specs.Common.{IsDerivation, IsDerivationAt, IsBlockOf, PlainMove, move_result, switch_result, Shape}
 use Rattle.tree_core.specs.declared.path.Side.{Side}
 
 -- the move makes t of some derivation of g

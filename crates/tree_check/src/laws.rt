@@ -1,11 +1,8 @@
 //! Laws of refusals and of replays. Each is the contract of a function that does nothing.
 ghost use Rattle.std.specs.Prelude.{◌≡◌, ◌↔◌, ◌⊎◌, ℕ, List};
-ghost use Rattle.graph_core.specs.Covered.{IsCovered};
-ghost use Rattle.graph_core.specs.Graph.{Graph, IsGraph, IsMultigraph};
+ghost use Rattle.graph_core.specs.Common.{IsCovered, Graph, IsGraph, IsMultigraph};
 ghost use Rattle.graph_core.specs.declared.verdict.Reason.{Reason};
-ghost use Rattle.tree_core.specs.Shapes.{Shape};
-ghost use Rattle.tree_core.specs.Derivations.{IsDerivation};
-ghost use Rattle.tree_core.specs.Moves.{PlainMove, TurnsThrough};
+ghost use Rattle.tree_core.specs.Common.{Shape, IsDerivation, PlainMove, TurnsThrough};
 ghost use Rattle.tree_core.specs.declared.tree.Tree.{Tree};
 ghost use Rattle.tree_check.specs.Judgements.{IsJudgement};
 ghost use Rattle.tree_check.specs.declared.judgement.Judgement.{Judgement};

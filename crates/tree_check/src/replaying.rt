@@ -1,8 +1,6 @@
 //! The replay of a script of moves, with each tree on the way judged.
 ghost use Rattle.std.specs.Prelude.{◌≡◌, ◌<◌, ◌-◌, ◌^◌, length, IfOk};
-ghost use Rattle.tree_core.specs.Derivations.{IsDerivation};
-ghost use Rattle.tree_core.specs.MoveView.{move_of, moves_of};
-ghost use Rattle.tree_core.specs.View.{shape_of};
+ghost use Rattle.tree_core.specs.Common.{IsDerivation, move_of, moves_of, shape_of};
 ghost use Rattle.tree_check.specs.Replays.{IsReplay, IsMoved};
 
 use crate::judgement::Why;

@@ -1,12 +1,9 @@
 //! The rules that a cut of a derivation keeps.
 ghost use Rattle.std.specs.Prelude.{◌≡◌, ◌-◌, ℕ, true, All, length, IfOk, None, Some};
 ghost use Rattle.contraction.specs.Contracted.{contraction};
-ghost use Rattle.counting.specs.Counts.{Within, is_odd};
-ghost use Rattle.counting.specs.Lists.{mem, rising_list};
-ghost use Rattle.graph_core.specs.Covered.{IsCovered};
-ghost use Rattle.graph_core.specs.Quotients.{quotient};
-ghost use Rattle.graph_core.specs.Shores.{IsTightAt, IsUnion, block_count, blocks_in};
-ghost use Rattle.tree_core.specs.Derivations.{IsCutAt};
+ghost use Rattle.counting.specs.Common.{Within, is_odd, mem, rising_list};
+ghost use Rattle.graph_core.specs.Common.{IsCovered, quotient, IsTightAt, IsUnion, block_count, blocks_in};
+ghost use Rattle.tree_core.specs.Common.{IsCutAt};
 ghost use Rattle.tree_check.specs.Judgements.{why_of};
 ghost use Rattle.tree_check.specs.Refusals.{BreaksCut, CrossesAt};
 

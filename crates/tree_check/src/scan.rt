@@ -1,19 +1,12 @@
 //! The scan of a tree in preorder.
 ghost use Rattle.std.specs.Prelude.{◌≡◌, ◌≤◌, ◌+◌, ℕ, List, None, length, IfOk};
 ghost use Rattle.std.specs.Option.{option_map};
-ghost use Rattle.counting.specs.Counts.{count};
-ghost use Rattle.counting.specs.Lists.{mem};
-ghost use Rattle.graph_core.specs.Covered.{IsCovered};
-ghost use Rattle.graph_core.specs.Graph.{Graph};
-ghost use Rattle.graph_core.specs.Partitions.{singles};
-ghost use Rattle.graph_core.specs.Quotients.{quotient};
-ghost use Rattle.graph_core.specs.Shores.{blocks_in};
+ghost use Rattle.counting.specs.Common.{count, mem};
+ghost use Rattle.graph_core.specs.Common.{IsCovered, Graph, singles, quotient, blocks_in};
 ghost use Rattle.tight_cuts.specs.Candidates.{first_of};
 ghost use Rattle.tight_cuts.specs.CandidatesAt.{candidates_at};
 ghost use Rattle.tight_cuts.specs.View.{candidate_of};
-ghost use Rattle.tree_core.specs.Derivations.{IsCutAt, IsLeafAt, kept_at, merged_at};
-ghost use Rattle.tree_core.specs.Shapes.{Fits, leaf};
-ghost use Rattle.tree_core.specs.View.{shape_of};
+ghost use Rattle.tree_core.specs.Common.{IsCutAt, IsLeafAt, kept_at, merged_at, Fits, leaf, shape_of};
 ghost use Rattle.tree_check.specs.Judgements.{IsJudgement};
 ghost use Rattle.tree_check.specs.Scans.{IsScanned};
 

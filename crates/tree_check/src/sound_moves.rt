@@ -4,13 +4,9 @@
 //! it stands: all other shores follow from it (`laws::switch_derives` of `move_laws`). So one cut
 //! is judged, in place of the tree.
 ghost use Rattle.std.specs.Prelude.{◌≡◌, ◌-◌, IfOk, IsTrue, All};
-ghost use Rattle.counting.specs.Counts.{Within};
-ghost use Rattle.graph_core.specs.Covered.{IsCovered};
-ghost use Rattle.graph_core.specs.Quotients.{quotient};
-ghost use Rattle.tree_core.specs.Derivations.{IsCutAt, IsDerivation, IsDerivationAt};
-ghost use Rattle.tree_core.specs.MoveView.{move_of};
-ghost use Rattle.tree_core.specs.Shapes.{Fits};
-ghost use Rattle.tree_core.specs.View.{shape_of};
+ghost use Rattle.counting.specs.Common.{Within};
+ghost use Rattle.graph_core.specs.Common.{IsCovered, quotient};
+ghost use Rattle.tree_core.specs.Common.{IsCutAt, IsDerivation, IsDerivationAt, move_of, Fits, shape_of};
 ghost use Rattle.tree_check.specs.SoundMoves.{IsBlock, IsMadeBy, IsSwitched};
 
 use crate::rules::cut_fault;

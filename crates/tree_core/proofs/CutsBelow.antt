@@ -3,23 +3,10 @@
 -- other side. So a tree of cuts has few leaves, by induction.
 use Rattle.std.proofs.lemmas.List.Elements.{All-append}
 use Rattle.std.proofs.Common.{◌≡◌, ℕ, zero, suc, ◌+◌, ◌*◌, ◌≤◌, ◌<◌, ◌-◌, List, length, All, subst, refl, sym, ap, ◌∙◌, arith}
-use Rattle.counting.proofs.Counts.{count_congr, count_complement}
-use Rattle.counting.proofs.Lists.{mem-within, member-of_set}
-use Rattle.counting.proofs.RisingLists.{true_all_in}
-use Rattle.counting.specs.Counts.{Within, count}
-use Rattle.counting.specs.Lists.{mem, IsRisingIn}
-use Rattle.counting.specs.Sets.{complement, everything}
-use Rattle.graph_core.proofs.BlockSets.{block_count_congr, block_count_rest, union_rest}
-use Rattle.graph_core.proofs.Complements.{complement_of-rises, mem-complement_of}
-use Rattle.graph_core.proofs.MergedShores.{block_count_around, merge_of}
-use Rattle.graph_core.proofs.ShoreLists.{complement-tight, shore-some}
-use Rattle.graph_core.proofs.SingleBlocks.{contracted-singles}
-use Rattle.graph_core.proofs.Singles.{length-singles, singles-partition}
-use Rattle.graph_core.specs.Covered.{IsCovered}
-use Rattle.graph_core.specs.Graph.{Graph, IsGraph}
-use Rattle.graph_core.specs.Partitions.{IsPartition, block, complement_of, merged, singles}
-use Rattle.graph_core.specs.Quotients.{quotient}
-use Rattle.graph_core.specs.Shores.{IsTightAt, block_count, blocks_in}
+use Rattle.counting.proofs.Common.{count_congr, count_complement, mem-within, member-of_set, true_all_in}
+use Rattle.counting.specs.Common.{Within, count, mem, IsRisingIn, complement, everything}
+use Rattle.graph_core.proofs.Common.{block_count_congr, block_count_rest, union_rest, complement_of-rises, mem-complement_of, block_count_around, merge_of, complement-tight, shore-some, contracted-singles, length-singles, singles-partition}
+use Rattle.graph_core.specs.Common.{IsCovered, Graph, IsGraph, IsPartition, block, complement_of, merged, singles, quotient, IsTightAt, block_count, blocks_in}
 use Rattle.contraction.proofs.MergedQuotients.{merged-covered}
 use Rattle.contraction.proofs.QuotientLaws.{covered_up}
 use Rattle.tree_core.specs.Shapes.{Shape, leaf, cut, cut_count, leaf_count}

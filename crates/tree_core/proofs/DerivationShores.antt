@@ -2,25 +2,11 @@
 -- merged partition was tight before, so down the tree each tight shore is tight in the graph; and
 -- a union of blocks has at least as many vertices as blocks.
 use Rattle.std.proofs.Common.{◌≡◌, ℕ, ◌≤◌, ◌&&◌, ◌==◌, not, List, [], ◌∷◌, ◌++◌, length, All, refl, subst, sym, ap, ◌∙◌, arith, eq-eqb, eqb-true}
-use Rattle.std.proofs.lemmas.Bool.{and_from, and_parts}
+use Rattle.counting.proofs.Common.{and_from, and_parts, count_congr, count_mono}
 use Rattle.std.proofs.lemmas.List.Elements.{All-append}
-use Rattle.counting.proofs.Counts.{count_congr}
-use Rattle.counting.proofs.SetSizes.{count_mono}
-use Rattle.counting.specs.Counts.{count}
-use Rattle.counting.specs.Lists.{mem}
-use Rattle.counting.specs.Sets.{Set, complement}
-use Rattle.graph_core.proofs.BlockSets.{at_rep, at_place, block_count_rest, count_over, rep, rep_in, rep_place, union_rest}
-use Rattle.graph_core.proofs.Blocks.{place_in}
-use Rattle.graph_core.proofs.Complements.{complement_of-rises}
-use Rattle.graph_core.proofs.ShoreLists.{complement-tight}
-use Rattle.graph_core.proofs.SingleBlocks.{blocks-singles, singles-tight, tight-singles}
-use Rattle.graph_core.proofs.Singles.{length-singles, singles-partition}
-use Rattle.graph_core.specs.Covered.{IsCovered}
-use Rattle.graph_core.specs.Graph.{Graph, IsGraph}
-use Rattle.graph_core.specs.Partitions.{AreBlocks, IsPartition, complement_of, place, singles}
-use Rattle.graph_core.specs.Quotients.{quotient}
-use Rattle.graph_core.specs.Shores.{IsTightAt, IsUnion, block_count, blocks_in}
-use Rattle.graph_core.specs.Tight.{IsNontrivial, IsTight}
+use Rattle.counting.specs.Common.{count, mem, Set, complement}
+use Rattle.graph_core.proofs.Common.{at_rep, at_place, block_count_rest, count_over, rep, rep_in, rep_place, union_rest, place_in, complement_of-rises, complement-tight, blocks-singles, singles-tight, tight-singles, length-singles, singles-partition}
+use Rattle.graph_core.specs.Common.{IsCovered, Graph, IsGraph, AreBlocks, IsPartition, complement_of, place, singles, quotient, IsTightAt, IsUnion, block_count, blocks_in, IsNontrivial, IsTight}
 use Rattle.contraction.proofs.MergedQuotients.{tight-before}
 use Rattle.tree_core.proofs.CutsBelow.{kept-covers, kept-partition, merged-covers, merged-partition, root-covered}
 use Rattle.tree_core.proofs.DerivationLeaves.{all-one}

@@ -2,19 +2,10 @@
 -- that a nontrivial shore is a nonempty union of blocks, and merging it or its complement leaves
 -- a partition again. By induction down the tree.
 use Rattle.std.proofs.Common.{◌≡◌, ℕ, ◌-◌, ◌<◌, List, [], ◌∷◌, length, All, arith, refl, ◌∙◌}
-use Rattle.counting.specs.Counts.{Within, bit, count}
-use Rattle.counting.specs.Sets.{none}
-use Rattle.counting.specs.Lists.{mem, IsRisingIn}
-use Rattle.counting.proofs.Lists.{mem-within, member-of_set}
-use Rattle.counting.proofs.Counts.{count_congr}
-use Rattle.counting.proofs.Totals.{total_none}
-use Rattle.graph_core.specs.Graph.{Graph}
-use Rattle.graph_core.specs.Partitions.{IsPartition, complement_of, merged, singles}
-use Rattle.graph_core.specs.Shores.{IsUnion, blocks_in}
-use Rattle.graph_core.proofs.Blocks.{in_union}
-use Rattle.graph_core.proofs.Complements.{complement_of-rises, union-complement_of}
-use Rattle.graph_core.proofs.MergeOrder.{merged_blocks}
-use Rattle.graph_core.proofs.Singles.{singles-partition}
+use Rattle.counting.specs.Common.{Within, bit, count, none, mem, IsRisingIn}
+use Rattle.counting.proofs.Common.{mem-within, member-of_set, count_congr, total_none}
+use Rattle.graph_core.specs.Common.{Graph, IsPartition, complement_of, merged, singles, IsUnion, blocks_in}
+use Rattle.graph_core.proofs.Common.{in_union, complement_of-rises, union-complement_of, merged_blocks, singles-partition}
 use Rattle.tree_core.specs.Shapes.{Shape, leaf, cut, Fits}
 use Rattle.tree_core.specs.Derivations.{IsCutAt, IsDerivationAt, IsDerivation, kept_at, merged_at}
 use Rattle.tree_core.specs.Leaves.{StandsAt}

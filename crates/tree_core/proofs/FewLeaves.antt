@@ -2,13 +2,10 @@
 -- where the graph has at least four vertices, and no cut where it has fewer. Its leaves are
 -- partitions of the graph's vertices.
 use Rattle.std.proofs.Common.{◌≡◌, ℕ, ◌≤◌, ◌<◌, List, [], ◌∷◌, length, map, All, ap, refl, arith, zero, suc, inl, inr}
-use Rattle.std.proofs.lemmas.Bool.{cases_lt}
-use Rattle.counting.specs.Lists.{mem}
-use Rattle.counting.proofs.Counts.{count_complement}
-use Rattle.graph_core.specs.Graph.{Graph, IsGraph}
-use Rattle.graph_core.specs.Partitions.{singles}
-use Rattle.graph_core.specs.Shores.{blocks_in}
-use Rattle.graph_core.proofs.Singles.{length-singles}
+use Rattle.counting.proofs.Common.{cases_lt, count_complement}
+use Rattle.counting.specs.Common.{mem}
+use Rattle.graph_core.specs.Common.{Graph, IsGraph, singles, blocks_in}
+use Rattle.graph_core.proofs.Common.{length-singles}
 use Rattle.contraction.specs.Partition.{PartitionValue}
 use Rattle.tree_core.specs.Derivations.{IsDerivation, IsDerivationAt}
 use Rattle.tree_core.specs.Leaves.{leaves, partitions_of}

@@ -1,7 +1,7 @@
 -- The sizes of a tree, by induction: a cut adds one leaf and two nodes to what it joins, and its
 -- deeper child has no more levels than nodes.
 use Rattle.std.proofs.Common.{◌≡◌, ℕ, ◌+◌, ◌*◌, ◌≤◌, List, length, arith}
-use Rattle.std.proofs.lemmas.List.{length-append}
+use Rattle.counting.proofs.Common.{length-append}
 use Rattle.tree_core.specs.Shapes.{Shape, leaf, cut, cut_count, leaf_count, node_count, depth}
 use Rattle.tree_core.specs.Derivations.{kept_at, merged_at}
 use Rattle.tree_core.specs.Leaves.{leaves_at}

@@ -3,13 +3,8 @@
 -- Stated by: tree_core, decomposer, move_laws, tree_check, uncross, list_lines and 4 more.
 -- Rests on it: bench_outcomes, bench_top.
 use Rattle.std.specs.Prelude.{◌≡◌, ℕ, false, List, length}
-use Rattle.counting.specs.Sets.{Set}
-use Rattle.counting.specs.Lists.{mem, IsRisingIn}
-use Rattle.graph_core.specs.Graph.{Graph}
-use Rattle.graph_core.specs.Covered.{IsCovered}
-use Rattle.graph_core.specs.Tight.{IsNontrivial, IsTight}
-use Rattle.graph_core.specs.Partitions.{complement_of, merged, singles}
-use Rattle.graph_core.specs.Shores.{IsTightAt, blocks_in}
+use Rattle.counting.specs.Common.{Set, mem, IsRisingIn}
+use Rattle.graph_core.specs.Common.{Graph, IsCovered, IsNontrivial, IsTight, complement_of, merged, singles, IsTightAt, blocks_in}
 use Rattle.tree_core.specs.Shapes.{Shape, leaf, cut}
 
 -- p with the complement of the shore made one block

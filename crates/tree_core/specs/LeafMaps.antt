@@ -3,8 +3,8 @@
 -- Stated by: move_laws, uncross.
 -- Rests on it: tree_core, report_text, list_lines, bench_outcomes, bench_reports, theorems.
 use Rattle.std.specs.Prelude.{ℕ, zero, suc, ◌+◌, ◌-◌, List, [], ◌∷◌, ◌++◌, ◌==◌, cond, map, unwrap_or, slice_index, slice_index_or, if◌then◌else◌}
-use Rattle.counting.specs.Lists.{mem, last_of, is_subset}
-use Rattle.graph_core.specs.Partitions.{place, singles, names_of}
+use Rattle.counting.specs.Common.{mem, last_of, is_subset}
+use Rattle.graph_core.specs.Common.{place, singles, names_of}
 use Rattle.tree_core.specs.Shapes.{Shape, leaf, cut, leaf_count}
 use Rattle.tree_core.specs.Derivations.{kept_at, merged_at}
 use Rattle.tree_core.specs.Leaves.{leaves, leaves_at}

@@ -2,9 +2,8 @@
 -- Stated by: tree_core, move_laws, uncross, list_lines, theorems.
 -- Rests on it: bench_outcomes, bench_reports, bench_top.
 use Rattle.std.specs.Prelude.{◌≡◌, ◌<◌, ℕ, List, [], ◌∷◌, ◌++◌, length, map}
-use Rattle.counting.specs.Lists.{mem, IsRisingIn}
-use Rattle.graph_core.specs.Partitions.{singles}
-use Rattle.graph_core.specs.Shores.{IsUnion}
+use Rattle.counting.specs.Common.{mem, IsRisingIn}
+use Rattle.graph_core.specs.Common.{singles, IsUnion}
 use Rattle.contraction.specs.Partition.{PartitionValue}
 use Rattle.tree_core.specs.Shapes.{Shape, leaf, cut}
 use Rattle.tree_core.specs.Derivations.{kept_at, merged_at}

@@ -8,3 +8,4 @@ pub mod MoveView
 pub mod Turns
 pub mod Exchanges
 pub mod Tallies
+pub mod Common

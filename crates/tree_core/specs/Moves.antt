@@ -36,12 +36,8 @@
 -- Stated by: tree_core, move_laws, tree_check, uncross, move_text, bench_tasks, theorems.
 -- Rests on it: report_text, bench_outcomes, bench_reports, bench_top.
 use Rattle.std.specs.Prelude.{◌≡◌, ℕ, Bool, true, List, [], ◌∷◌, ◌&&◌, not, cond, Option, Some, None, option_map, option_and_then, if◌then◌else◌}
-use Rattle.counting.specs.Counts.{Within}
-use Rattle.counting.specs.Sets.{Set, union, meet, minus}
-use Rattle.counting.specs.Lists.{mem, rising_list, is_subset, is_apart, IsRisingIn}
-use Rattle.graph_core.specs.Graph.{Graph}
-use Rattle.graph_core.specs.Partitions.{place, complement_of}
-use Rattle.graph_core.specs.Shores.{IsUnion}
+use Rattle.counting.specs.Common.{Within, Set, union, meet, minus, mem, rising_list, is_subset, is_apart, IsRisingIn}
+use Rattle.graph_core.specs.Common.{Graph, place, complement_of, IsUnion}
 use Rattle.tree_core.specs.Shapes.{Shape, leaf, cut}
 use Rattle.tree_core.specs.Derivations.{IsDerivation, kept_at, merged_at}
 use Rattle.tree_core.specs.declared.path.Side.{Side}

@@ -3,9 +3,8 @@
 -- a brace where the quotient is bipartite, and a brick where it is not.
 -- Stated by: tree_core, report_text. Rests on it: list_lines, bench_outcomes, bench_top, theorems.
 use Rattle.std.specs.Prelude.{◌≡◌, ℕ, ◌-◌, List, length, slice_index_or, count_by, Bool, true, false, not}
-use Rattle.counting.specs.Counts.{Within}
-use Rattle.graph_core.specs.Graph.{Graph, IsBipartite}
-use Rattle.graph_core.specs.Quotients.{quotient}
+use Rattle.counting.specs.Common.{Within}
+use Rattle.graph_core.specs.Common.{Graph, IsBipartite, quotient}
 use Rattle.tree_core.specs.LeafMaps.{leaf_at}
 use Rattle.tree_core.specs.declared.tallies.LeafKind.{LeafKind}
 use Rattle.tree_core.specs.declared.tallies.LeafKind.TheVariants.{Brick, Brace}

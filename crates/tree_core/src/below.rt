@@ -1,12 +1,7 @@
 //! The partitions at the root of a derivation and below a cut.
 ghost use Rattle.std.specs.Prelude.{◌≡◌, ◌<◌, ◌≤◌, ◌-◌, ◌+◌, length, IfOk, All};
-ghost use Rattle.counting.specs.Counts.{Within, count};
-ghost use Rattle.counting.specs.Lists.{mem};
-ghost use Rattle.counting.specs.Sets.{complement};
-ghost use Rattle.graph_core.specs.Covered.{IsCovered};
-ghost use Rattle.graph_core.specs.Partitions.{singles};
-ghost use Rattle.graph_core.specs.Quotients.{quotient};
-ghost use Rattle.graph_core.specs.Shores.{blocks_in};
+ghost use Rattle.counting.specs.Common.{Within, count, mem, complement};
+ghost use Rattle.graph_core.specs.Common.{IsCovered, singles, quotient, blocks_in};
 ghost use Rattle.contraction.specs.Partition.{IsUnionAt};
 ghost use Rattle.tree_core.specs.Derivations.{IsCutAt, kept_at, merged_at};
 

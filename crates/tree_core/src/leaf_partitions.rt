@@ -1,7 +1,7 @@
 //! The leaves of a tree.
 ghost use Rattle.std.specs.Prelude.{◌≡◌, ◌≤◌, ◌<◌, ◌-◌, ◌++◌, length, IfOk, OnOk, All};
-ghost use Rattle.counting.specs.Counts.{Within};
-ghost use Rattle.graph_core.specs.Partitions.{complement_of, singles};
+ghost use Rattle.counting.specs.Common.{Within};
+ghost use Rattle.graph_core.specs.Common.{complement_of, singles};
 ghost use Rattle.contraction.specs.Partition.{IsUnionAt};
 ghost use Rattle.tree_core.specs.Shapes.{Fits};
 ghost use Rattle.tree_core.specs.Leaves.{leaves, leaves_at, partitions_of, StandsAt};

@@ -1,6 +1,6 @@
 //! Rotate: a cut is brought over its parent.
 ghost use Rattle.std.specs.Prelude.{◌≡◌, Some, None, IfOk, IfErr};
-ghost use Rattle.counting.specs.Lists.{is_apart};
+ghost use Rattle.counting.specs.Common.{is_apart};
 ghost use Rattle.tree_core.specs.Moves.{rotate_result, rotate_result_at, rotate_result_kept, rotate_result_merged};
 ghost use Rattle.tree_core.specs.Shapes.{cut};
 ghost use Rattle.tree_core.specs.Turns.{IsAnswer};

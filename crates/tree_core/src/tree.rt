@@ -1,6 +1,6 @@
 //! Trees of cuts.
 ghost use Rattle.std.specs.Prelude.{◌≡◌, ◌≤◌, ◌-◌, ◌↔◌, IfOk, IsTrue, All};
-ghost use Rattle.counting.specs.Counts.{Within};
+ghost use Rattle.counting.specs.Common.{Within};
 ghost use Rattle.tree_core.specs.Shapes.{Fits, node_count, depth};
 ghost use Rattle.tree_core.specs.View.{shape_of};
 

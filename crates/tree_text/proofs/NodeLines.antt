@@ -2,8 +2,8 @@
 -- tests of its vertices.
 use Rattle.std.proofs.Common.{◌≡◌, ◌<◌, ◌+◌, ℕ, Bool, true, false, not, nat_le, List, ap₂, arith, Err}
 use Rattle.std.specs.Prelude.{if◌then◌else◌}
-use Rattle.std.proofs.lemmas.Bool.Decides.{nat_tests}
-use Rattle.line_text.specs.Format.{checked}
+use Rattle.counting.proofs.Common.{nat_tests}
+use Rattle.line_text.specs.Common.{checked}
 use Rattle.text_faults.specs.declared.faults.FaultKind.TheVariants as kind
 use Rattle.tree_text.specs.Places.{Place}
 use Rattle.tree_text.specs.TreeFormat.{TreeSoFar, is_leaf_line, is_node_line, most_nodes, node_line, shore_tests, shore_told, with_node}

@@ -3,13 +3,8 @@
 -- format rises and lies in range.
 use Rattle.std.proofs.Common.{◌≡◌, ◌||◌, ◌==◌, ◌+◌, ◌≤◌, ◌<◌, ℕ, suc, List, [], ◌∷◌, All, Bool, true, false, length, nat_lt, refl, sym, ◌∙◌, ap, subst, arith}
 use Rattle.std.specs.List.{list_any}
-use Rattle.std.proofs.lemmas.Bool.{and_parts, or_parts}
-use Rattle.std.proofs.lemmas.Bool.Decides.{nat_tests}
-use Rattle.counting.specs.Counts.{Within}
-use Rattle.counting.specs.Lists.{mem, IsRisingIn}
-use Rattle.counting.proofs.Lists.{Rises}
-use Rattle.counting.proofs.RisingLists.{same_rising_list, set-from_rises, set-wider}
-use Rattle.counting.proofs.Booleans.{or_false}
+use Rattle.counting.proofs.Common.{and_parts, or_parts, nat_tests, Rises, same_rising_list, set-from_rises, set-wider, or_false}
+use Rattle.counting.specs.Common.{Within, mem, IsRisingIn}
 use Rattle.text_faults.specs.Ranges.{is_out_of_range}
 use Rattle.text_faults.proofs.InRange.{in_range}
 use Rattle.tree_text.specs.TreeFormat.{is_rising}

@@ -1,10 +1,10 @@
 -- The lines of a cut and of a tree.
 use Rattle.std.proofs.Common.{◌≡◌, ℕ, List, [], ◌∷◌, ◌++◌, codes, map, sym, ◌∙◌, ap, append_assoc}
-use Rattle.std.proofs.lemmas.List.{append-nil}
+use Rattle.counting.proofs.Common.{append-nil}
 use Rattle.std.specs.Fmt.{decimal}
-use Rattle.line_text.specs.Words.{unwords, written}
+use Rattle.line_text.specs.Common.{unwords, written}
 use Rattle.line_text.proofs.WrittenLines.{spaced, unwords-spaced, written-append}
-use Rattle.tree_core.specs.Shapes.{Shape, cut}
+use Rattle.tree_core.specs.Common.{Shape, cut}
 use Rattle.tree_text.specs.Writing.{cut_words, header_words, node_words, tree_text}
 
 -- the line of a cut is whole when no vertex is left

@@ -6,20 +6,13 @@ use Rattle.std.proofs.Common.{◌≡◌, ◌+◌, ◌-◌, ◌≤◌, ◌<◌, �
 use Rattle.std.specs.Fmt.{decimal}
 use Rattle.std.specs.List.{AllByRecursion, list_all, list_any}
 use Rattle.std.specs.List.Sorted.{IsStrictlyIncreasing}
-use Rattle.std.proofs.lemmas.List.{length-map}
-use Rattle.std.proofs.lemmas.Bool.{and_from, false_from_ne_true}
-use Rattle.std.proofs.lemmas.Bool.Decides.{nat_tests}
-use Rattle.counting.specs.Counts.{Within}
-use Rattle.counting.specs.Lists.{mem}
-use Rattle.counting.proofs.Lists.{mem-within}
-use Rattle.line_text.specs.Format.{Begins, Stands}
-use Rattle.line_text.specs.Words.{has_form, words_of, unwords, is_skipped, IsSignificant}
-use Rattle.line_text.specs.Lines.{lines_of}
-use Rattle.line_text.specs.Numerals.{is_number, value_of}
+use Rattle.counting.proofs.Common.{length-map, and_from, false_from_ne_true, nat_tests, mem-within}
+use Rattle.counting.specs.Common.{Within, mem}
+use Rattle.line_text.specs.Common.{Begins, Stands, has_form, words_of, unwords, is_skipped, IsSignificant, lines_of, is_number, value_of}
 use Rattle.line_text.proofs.Decimals.{number_of-decimal, is_word-decimal, numbers-decimal, values-decimal, words-decimal}
 use Rattle.text_faults.proofs.InRange.{in_range-tests}
 use Rattle.line_text.proofs.ReadBack.{Stands-written, Stands-comments, is_closed-unlines, Begins-append, significant-append}
-use Rattle.tree_core.specs.Shapes.{Shape, leaf, cut, Fits, node_count}
+use Rattle.tree_core.specs.Common.{Shape, leaf, cut, Fits, node_count}
 use Rattle.tree_text.specs.Places.{Place, root, in_kept, in_merged, Reading, wanted, whole, put}
 use Rattle.text_faults.specs.Ranges.{is_out_of_range}
 use Rattle.tree_text.specs.TreeFormat.{TreeSoFar, tree_format, is_rising, is_leaf_line, is_cut_line, most_nodes}

@@ -2,9 +2,7 @@
 -- K numbers.
 -- Stated by: tree_text, bench_tasks.
 use Rattle.std.specs.Prelude.{ℕ, ◌==◌, not, nat_lt, List, [], ◌∷◌, ◌++◌, length, codes, Result, Ok, Err, if◌then◌else◌}
-use Rattle.line_text.specs.Format.{Rules, checked}
-use Rattle.line_text.specs.Words.{has_form, word_at}
-use Rattle.line_text.specs.Numerals.{is_number, value_of}
+use Rattle.line_text.specs.Common.{Rules, checked, has_form, word_at, is_number, value_of}
 use Rattle.text_faults.specs.declared.faults.FaultKind.{FaultKind}
 use Rattle.text_faults.specs.declared.faults.FaultKind.TheVariants as kind
 

@@ -2,7 +2,7 @@
 -- them already (Huet, "The Zipper", 1997).
 -- Stated by: tree_text.
 use Rattle.std.specs.Prelude.{ℕ, List}
-use Rattle.tree_core.specs.Shapes.{Shape, cut}
+use Rattle.tree_core.specs.Common.{Shape, cut}
 
 -- the root, or below the lowest cut above: its `kept` tree, or its `merged` tree, where its
 -- `kept` tree is there

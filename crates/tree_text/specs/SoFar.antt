@@ -1,6 +1,6 @@
 -- How the code's state of reading a tree, and of reading picks, is seen.
 -- Stated by: tree_text.
-use Rattle.tree_core.specs.View.{shape_of}
+use Rattle.tree_core.specs.Common.{shape_of}
 use Rattle.tree_text.specs.Places.{Place, root, in_kept, in_merged, Reading, wanted, whole}
 use Rattle.tree_text.specs.TreeFormat.{TreeSoFar}
 use Rattle.tree_text.specs.PickFormat.{PicksSoFar}

@@ -4,14 +4,12 @@
 -- Stated by: tree_text, bench_tasks. Rests on it: move_text, bench_outcomes, bench_top, theorems.
 use Rattle.std.specs.Prelude.{ℕ, ◌+◌, ◌==◌, ◌&&◌, ◌||◌, not, nat_lt, nat_le, Bool, true, List, [], ◌∷◌, length, map, codes, Result, Ok, Err, if◌then◌else◌}
 use Rattle.std.specs.List.{list_all, list_any}
-use Rattle.counting.specs.Lists.{mem}
-use Rattle.line_text.specs.Format.{Rules, checked}
-use Rattle.line_text.specs.Words.{has_form, word_at}
-use Rattle.line_text.specs.Numerals.{is_number, value_of}
+use Rattle.counting.specs.Common.{mem}
+use Rattle.line_text.specs.Common.{Rules, checked, has_form, word_at, is_number, value_of}
 use Rattle.text_faults.specs.Ranges.{is_out_of_range}
 use Rattle.text_faults.specs.declared.faults.FaultKind.{FaultKind}
 use Rattle.text_faults.specs.declared.faults.FaultKind.TheVariants as kind
-use Rattle.tree_core.specs.Shapes.{Shape, leaf}
+use Rattle.tree_core.specs.Common.{Shape, leaf}
 use Rattle.tree_text.specs.Places.{Place, root, in_kept, Reading, wanted, whole, put}
 
 -- the most nodes

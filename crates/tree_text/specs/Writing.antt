@@ -3,8 +3,8 @@
 use Rattle.std.specs.Prelude.{ℕ, ◌≤◌, ◌<◌, ◌^◌, List, [], ◌∷◌, ◌++◌, codes, length, map}
 use Rattle.std.specs.Fmt.{decimal}
 use Rattle.std.specs.List.Sorted.{IsStrictlyIncreasing}
-use Rattle.line_text.specs.Words.{written}
-use Rattle.tree_core.specs.Shapes.{Shape, leaf, cut, Fits, node_count}
+use Rattle.line_text.specs.Common.{written}
+use Rattle.tree_core.specs.Common.{Shape, leaf, cut, Fits, node_count}
 use Rattle.tree_text.specs.TreeFormat.{most_nodes}
 
 -- the words of the header

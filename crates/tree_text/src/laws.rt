@@ -1,10 +1,8 @@
 //! Laws of the texts of trees. Each is the contract of a function that does nothing.
 ghost use Rattle.std.specs.Prelude.{◌≡◌, ◌<◌, ◌^◌, ℕ, List, ◌++◌, true};
 ghost use Rattle.std.specs.List.{AllByRecursion};
-ghost use Rattle.line_text.specs.Format.{Stands, StandsAlone};
-ghost use Rattle.line_text.specs.Lines.{lines_of};
-ghost use Rattle.line_text.specs.Words.{words_of, is_skipped};
-ghost use Rattle.tree_core.specs.Shapes.{Shape};
+ghost use Rattle.line_text.specs.Common.{Stands, StandsAlone, lines_of, words_of, is_skipped};
+ghost use Rattle.tree_core.specs.Common.{Shape};
 ghost use Rattle.tree_text.specs.TreeFormat.{tree_format};
 ghost use Rattle.tree_text.specs.Writing.{tree_text, IsWritable};
 

@@ -1,6 +1,6 @@
 //! Where the next node of a text stands.
 ghost use Rattle.std.specs.Prelude.{◌≡◌, IfOk};
-ghost use Rattle.tree_core.specs.View.{shape_of};
+ghost use Rattle.tree_core.specs.Common.{shape_of};
 ghost use Rattle.tree_text.specs.Places.{put};
 ghost use Rattle.tree_text.specs.SoFar.{place_of, progress_of};
 

@@ -1,7 +1,7 @@
 //! Shores as lists of numbers.
 ghost use Rattle.std.specs.Prelude.{◌≡◌, ◌≤◌};
 ghost use Rattle.std.specs.List.{list_any};
-ghost use Rattle.counting.specs.Lists.{mem, IsRisingIn};
+ghost use Rattle.counting.specs.Common.{mem, IsRisingIn};
 ghost use Rattle.text_faults.specs.Ranges.{is_out_of_range};
 ghost use Rattle.tree_text.specs.TreeFormat.{is_rising};
 

@@ -1,9 +1,7 @@
 //! Writing a tree.
 ghost use Rattle.std.specs.Prelude.{◌≡◌, ◌≤◌, ◌++◌, [], ◌∷◌, OnOk, IfOk, string_bytes};
-ghost use Rattle.line_text.specs.Format.{Stands, StandsAlone};
-ghost use Rattle.line_text.specs.Words.{written};
-ghost use Rattle.tree_core.specs.Shapes.{Fits, node_count};
-ghost use Rattle.tree_core.specs.View.{shape_of};
+ghost use Rattle.line_text.specs.Common.{Stands, StandsAlone, written};
+ghost use Rattle.tree_core.specs.Common.{Fits, node_count, shape_of};
 ghost use Rattle.tree_text.specs.TreeFormat.{tree_format, most_nodes};
 ghost use Rattle.tree_text.specs.Writing.{cut_words, node_words, tree_text, HasVertices, ShoresRise};
 

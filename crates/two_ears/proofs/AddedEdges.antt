@@ -1,18 +1,12 @@
 -- Further edges at the end of the list of edges: the old ones keep their numbers and ends, and a
 -- degree grows by the new edges that are used.
 use Rattle.std.proofs.Common.{◌≡◌, ℕ, suc, ◌+◌, ◌*◌, ◌-◌, ◌≤◌, Bool, true, false, ◌==◌, refl, sym, ap, ap₂, ◌∙◌, arith, ◌&&◌, ◌||◌, inl, inr, nat_lt, lt-ltb, le-ltb, [], ◌∷◌, ◌++◌, List, length, slice_index_or}
-use Rattle.std.proofs.lemmas.Bool.{cases_eq, or_right}
-use Rattle.std.proofs.lemmas.List.{length-append, get_or_append_left, get_or-append-add}
-use Rattle.counting.proofs.Counts.{count_congr}
-use Rattle.counting.proofs.Tests.{some_true, true_some}
-use Rattle.counting.specs.Counts.{Within, bit, count}
-use Rattle.counting.specs.Sets.{Set}
-use Rattle.counting.specs.Tests.{some}
-use Rattle.graph_core.proofs.Decide.{degree_congr}
-use Rattle.graph_core.proofs.Walks.{has_ends-own}
-use Rattle.graph_core.specs.Graph.{Graph, degree, first_end, has_ends, second_end, size, with_ends}
+use Rattle.counting.proofs.Common.{cases_eq, or_right, length-append, get_or_append_left, count_congr, some_true, true_some}
+use Rattle.std.proofs.lemmas.List.{get_or-append-add}
+use Rattle.counting.specs.Common.{Within, bit, count, Set, some, IsIn}
+use Rattle.graph_core.proofs.Common.{degree_congr, has_ends-own}
+use Rattle.graph_core.specs.Common.{Graph, degree, first_end, has_ends, second_end, size, with_ends}
 use Rattle.two_ears.specs.AddedEdges.{KeepsEdges, with_pairs}
-use Rattle.counting.specs.Lists.{IsIn}
 use Rattle.two_ears.specs.VertexPairs.{pairs_at}
 
 module _ (g : Graph) (es : List (ℕ × ℕ)) (p : ℕ × ℕ) where

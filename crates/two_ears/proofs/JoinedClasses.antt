@@ -2,19 +2,10 @@
 -- vertices of s alone. So the number of components is submodular over sets of vertices no two of
 -- which an edge joins.
 use Rattle.std.proofs.Common.{◌≡◌, ℕ, ◌+◌, ◌≤◌, ◌≢◌, Bool, true, false, ◌==◌, refl, sym, ap, ap₂, ◌∙◌, arith, ◌&&◌, not, eq-eqb, eqb-true, ◌⊎◌, inl, inr, nat_lt, ltb-true, [], ◌∷◌, List}
-use Rattle.std.proofs.lemmas.Bool.{cases_eq, and_parts, and_from, both_ways, true≢false, false_from_ne_true}
-use Rattle.counting.proofs.Counts.{count_meet_union}
-use Rattle.counting.proofs.Tests.{some_true, true_some}
-use Rattle.counting.proofs.Totals.{total_add, total_congr}
-use Rattle.counting.specs.Counts.{Within, bit, count}
-use Rattle.counting.specs.Sets.{Set, meet, union}
-use Rattle.counting.specs.Tests.{some}
-use Rattle.counting.proofs.Booleans.{and_comm}
-use Rattle.graph_core.proofs.Components.{joined_walk, walk_joined}
-use Rattle.graph_core.proofs.Walks.{IsClosed, Walk-stays, adjacent-edge, adjacent_from, adjacent_within, has_ends-back, has_ends-cases, has_ends-own, joined_back, joined_on, joined_self}
-use Rattle.graph_core.specs.Components.{component_count, is_least}
-use Rattle.graph_core.specs.Graph.{Graph, IsGraph, first_end, has_ends, second_end, size, with_ends}
-use Rattle.graph_core.specs.Walks.{Joined, Walk, adjacent, joined}
+use Rattle.counting.proofs.Common.{cases_eq, and_parts, and_from, both_ways, true≢false, false_from_ne_true, count_meet_union, some_true, true_some, total_add, total_congr, and_comm}
+use Rattle.counting.specs.Common.{Within, bit, count, Set, meet, union, some}
+use Rattle.graph_core.proofs.Common.{joined_walk, walk_joined, IsClosed, Walk-stays, adjacent-edge, adjacent_from, adjacent_within, has_ends-back, has_ends-cases, has_ends-own, joined_back, joined_on, joined_self}
+use Rattle.graph_core.specs.Common.{component_count, is_least, Graph, IsGraph, first_end, has_ends, second_end, size, with_ends, Joined, Walk, adjacent, joined}
 use Rattle.two_ears.proofs.ClassCounts.{IsFiner, four_classes}
 use Rattle.two_ears.specs.AddedEdges.{KeepsEdges}
 use Rattle.two_ears.specs.Equivalences.{IsEquivalence, class_count}

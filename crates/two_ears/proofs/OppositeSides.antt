@@ -2,24 +2,13 @@
 -- them. Else a barrier holds both; each component that it leaves is heavy on one side, and no
 -- edge would lead from the one side of the barrier to the other.
 use Rattle.std.proofs.Common.{◌≡◌, ℕ, ◌+◌, ◌≢◌, Bool, true, false, ◌==◌, refl, sym, ap, ap₂, ◌∙◌, arith, ◌&&◌, ◌||◌, not, eq-eqb, ne_eqb, inl, inr}
-use Rattle.std.proofs.lemmas.Bool.{and_parts, and_from, both_ways, true≢false, false_from_ne_true}
+use Rattle.counting.proofs.Common.{and_parts, and_from, both_ways, true≢false, false_from_ne_true, bit_true, count_congr, at_le_total, some_term, total_add, total_congr, total_none, not_not, same_tests}
 use Rattle.barrier_kit.proofs.Barriers.{equivalent_barrier}
 use Rattle.barrier_kit.proofs.ClassLaw.{perfect_or_not}
 use Rattle.barrier_kit.proofs.Matched.{crosses_apart, cut_edge, loop_free}
-use Rattle.graph_core.specs.Sides.{IsSide}
-use Rattle.counting.proofs.Counts.{bit_true, count_congr}
-use Rattle.counting.proofs.Totals.{at_le_total, some_term, total_add, total_congr, total_none}
-use Rattle.counting.specs.Counts.{Within, bit, count}
-use Rattle.counting.specs.Sets.{Set, complement, meet, none}
-use Rattle.counting.proofs.Booleans.{not_not, same_tests}
-use Rattle.graph_core.proofs.Components.{joined_outside, some_leader}
-use Rattle.graph_core.proofs.Walks.{adjacent_from, has_ends-own}
-use Rattle.graph_core.specs.Components.{is_least}
-use Rattle.graph_core.specs.Covered.{IsCovered}
-use Rattle.graph_core.specs.Graph.{Graph, IsGraph, edges_in_cut, first_end, in_cut, inside, second_end, size}
-use Rattle.graph_core.specs.Matchings.{HasPerfect, IsPerfect}
-use Rattle.graph_core.specs.Structure.{IsBarrier}
-use Rattle.graph_core.specs.Walks.{joined}
+use Rattle.graph_core.specs.Common.{IsSide, is_least, IsCovered, Graph, IsGraph, edges_in_cut, first_end, in_cut, inside, second_end, size, HasPerfect, IsPerfect, IsBarrier, joined}
+use Rattle.counting.specs.Common.{Within, bit, count, Set, complement, meet, none}
+use Rattle.graph_core.proofs.Common.{joined_outside, some_leader, adjacent_from, has_ends-own}
 use Rattle.two_ears.proofs.BarrierComponents.{count_none, none_inside, one_leaves, some_perfect}
 use Rattle.two_ears.proofs.ComponentCuts.{count_in}
 use Rattle.two_ears.proofs.JoinedClasses.{adjacent_joined, keeps-itself, joined_equivalence}

@@ -2,16 +2,9 @@
 -- or outside it; the parts of a class that keep the pairs outside joined are united, and the
 -- union leaves too many components.
 use Rattle.std.proofs.Common.{◌≡◌, ℕ, suc, zero, ◌+◌, ◌*◌, ◌≤◌, ◌≢◌, Bool, true, false, cond, ◌==◌, refl, sym, ap, ◌∙◌, arith, ◌&&◌, ◌||◌, not, eq-eqb, ne_eqb, eqb-true, ◌⊎◌, inl, inr, subst, [], ◌∷◌, List, length}
-use Rattle.counting.proofs.Booleans.{same_tests}
-use Rattle.std.proofs.lemmas.Bool.{cases_eq, and_left, true≢false, not-true, not-false, or_left, or_right, or_cases}
-use Rattle.counting.proofs.Totals.{total_add, total_at, total_congr, total_zero}
-use Rattle.counting.specs.Counts.{Within, bit, count, total}
-use Rattle.counting.specs.Sets.{Set, union}
-use Rattle.graph_core.specs.Components.{component_count}
-use Rattle.graph_core.specs.Covered.{IsCovered}
-use Rattle.graph_core.specs.Graph.{Graph, IsGraph, degree, first_end, second_end, size, with_ends}
-use Rattle.graph_core.specs.Matchings.{HasPerfect, IsPerfect}
-use Rattle.graph_core.specs.Structure.{Equivalent, IsBarrier}
+use Rattle.counting.proofs.Common.{same_tests, cases_eq, and_left, true≢false, not-true, not-false, or_left, or_right, or_cases, total_add, total_at, total_congr, total_zero}
+use Rattle.counting.specs.Common.{Within, bit, count, total, Set, union, IsIn}
+use Rattle.graph_core.specs.Common.{component_count, IsCovered, Graph, IsGraph, degree, first_end, second_end, size, with_ends, HasPerfect, IsPerfect, Equivalent, IsBarrier}
 use Rattle.barrier_kit.proofs.ClassLaw.{perfect_or_not, equivalent_back, equivalent_on, class_barrier}
 use Rattle.barrier_kit.proofs.Matched.{perfect_congr}
 use Rattle.barrier_kit.proofs.ShoreFacts.{class_set, class_list}
@@ -21,7 +14,6 @@ use Rattle.two_ears.proofs.ComponentCuts.{odd_need}
 use Rattle.two_ears.proofs.JoinedClasses.{keeps-itself}
 use Rattle.two_ears.proofs.PairBarriers.{PairBarrier, pairs_barrier, same_components}
 use Rattle.two_ears.specs.AddedEdges.{KeepsEdges, with_pairs}
-use Rattle.counting.specs.Lists.{IsIn}
 use Rattle.two_ears.specs.VertexPairs.{AreDisjoint, in_pairs, pairs_at, vertices_of}
 
 -- one of two for each pair of a list

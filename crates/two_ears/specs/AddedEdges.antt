@@ -1,9 +1,8 @@
 -- A graph with further edges, which get the numbers after those of its own.
 -- Stated by: two_ears.
 use Rattle.std.specs.Prelude.{◌≡◌, ℕ, true, List, [], ◌∷◌, ◌++◌}
-use Rattle.counting.specs.Counts.{Within}
-use Rattle.counting.specs.Tests.{some}
-use Rattle.graph_core.specs.Graph.{Graph, size, first_end, second_end, IsGraph, has_ends, with_ends}
+use Rattle.counting.specs.Common.{Within, some}
+use Rattle.graph_core.specs.Common.{Graph, size, first_end, second_end, IsGraph, has_ends, with_ends}
 
 -- the list with further pairs at its end
 abbrev pub with_pairs : List (ℕ × ℕ) → List (ℕ × ℕ) → List (ℕ × ℕ)

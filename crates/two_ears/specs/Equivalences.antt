@@ -1,8 +1,7 @@
 -- Equivalences of the numbers 1 to n, as tests, and their classes.
 -- Stated by no contract. Rests on it: two_ears.
 use Rattle.std.specs.Prelude.{◌≡◌, ℕ, Bool, true, nat_lt, not, ◌&&◌}
-use Rattle.counting.specs.Counts.{count, Within}
-use Rattle.counting.specs.Tests.{some}
+use Rattle.counting.specs.Common.{count, Within, some}
 
 -- an equivalence
 pub record IsEquivalence (n : ℕ) (p : ℕ → ℕ → Bool) : Type 0 where

@@ -1,9 +1,7 @@
 -- Lists of pairs of vertices.
 -- Stated by: two_ears. Rests on it: ear_core.
 use Rattle.std.specs.Prelude.{ℕ, ◌+◌, ◌≤◌, List, [], ◌∷◌, ◌==◌, not}
-use Rattle.counting.specs.Counts.{bit, Within}
-use Rattle.counting.specs.Lists.{IsIn}
-use Rattle.counting.specs.Sets.{Set, pair_set}
+use Rattle.counting.specs.Common.{bit, Within, IsIn, Set, pair_set}
 
 -- the two vertices of a pair
 abbrev pub vertices_of : ℕ × ℕ → Set

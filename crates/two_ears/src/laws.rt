@@ -1,13 +1,8 @@
 //! The two-ear theorem. Each law is the contract of a function that does nothing.
 ghost use Rattle.std.specs.Prelude.{◌≡◌, ◌≢◌, ◌⊎◌, ℕ, true, false, List, [], ◌∷◌};
-ghost use Rattle.counting.specs.Counts.{Within};
-ghost use Rattle.counting.specs.Sets.{Set, pair_set, union};
-ghost use Rattle.graph_core.specs.Covered.{IsCovered};
-ghost use Rattle.graph_core.specs.Graph.{Graph, IsGraph, with_ends};
-ghost use Rattle.graph_core.specs.Matchings.{HasPerfect};
-ghost use Rattle.graph_core.specs.Sides.{IsSide};
+ghost use Rattle.counting.specs.Common.{Within, Set, pair_set, union, IsIn};
+ghost use Rattle.graph_core.specs.Common.{IsCovered, Graph, IsGraph, with_ends, HasPerfect, IsSide};
 ghost use Rattle.two_ears.specs.AddedEdges.{with_pairs};
-ghost use Rattle.counting.specs.Lists.{IsIn};
 ghost use Rattle.two_ears.specs.VertexPairs.{AreDisjoint, in_pairs, vertices_of};
 
 /// Of pairs of vertices without which together a matching covered graph has a perfect matching

@@ -1,14 +1,9 @@
 -- The images of blocks: what of a set lies in 1 to n is the list of its test, and from such lists
 -- the names of images are made.
 use Rattle.std.proofs.Common.{◌≡◌, ◌↔◌, ◌<◌, ◌+◌, ℕ, Bool, true, ◌&&◌, List, [], ◌∷◌, ◌++◌, Some, length, map, take, get_or, slice_get, ap, sym, ◌∙◌}
-use Rattle.std.proofs.lemmas.Bool.{and_parts}
-use Rattle.std.proofs.lemmas.List.{map-append, take_more}
-use Rattle.std.proofs.lemmas.Option.{get_or_from_slice_get}
-use Rattle.counting.proofs.RisingLists.{list-from_test, set-narrower}
-use Rattle.counting.specs.Counts.{Within}
-use Rattle.counting.specs.Lists.{IsRisingIn, is_subset, last_of, mem, rising_list}
-use Rattle.counting.proofs.Booleans.{and_true}
-use Rattle.tree_core.specs.Moves.{inner_rest, list_if, meet_list, outer_rest, union_list}
+use Rattle.counting.proofs.Common.{and_parts, map-append, take_more, get_or_from_slice_get, list-from_test, set-narrower, and_true}
+use Rattle.counting.specs.Common.{Within, IsRisingIn, is_subset, last_of, mem, rising_list}
+use Rattle.tree_core.specs.Common.{inner_rest, list_if, meet_list, outer_rest, union_list}
 use Rattle.uncross.specs.declared.block_images.Images.{Images}
 use Rattle.uncross.specs.declared.block_images.Images.TheVariants.{Moved}
 use Rattle.uncross.specs.MapView.{image_name, kept_images}

@@ -1,13 +1,8 @@
 -- The steps of turning a derivation into another, as the code takes them: what its two calls
 -- below the root may ask, and that the whole is a script of few moves.
 use Rattle.std.proofs.Common.{◌≡◌, ℕ, ◌+◌, ◌*◌, ◌≤◌, List, ◌++◌, length, map, sym, arith, subst}
-use Rattle.graph_core.specs.Covered.{IsCovered}
-use Rattle.graph_core.specs.Graph.{Graph, IsGraph}
-use Rattle.graph_core.specs.Partitions.{IsPartition}
-use Rattle.graph_core.specs.Quotients.{quotient}
-use Rattle.tree_core.specs.Derivations.{IsDerivationAt, kept_at, merged_at}
-use Rattle.tree_core.specs.Moves.{PlainMove, below}
-use Rattle.tree_core.specs.Shapes.{Shape, cut, cut_count, leaf}
+use Rattle.graph_core.specs.Common.{IsCovered, Graph, IsGraph, IsPartition, quotient}
+use Rattle.tree_core.specs.Common.{IsDerivationAt, kept_at, merged_at, PlainMove, below, Shape, cut, cut_count, leaf}
 use Rattle.tree_core.specs.declared.path.Side.TheVariants.{Kept, Merged}
 use Rattle.move_laws.proofs.BigShores.{cut_big}
 use Rattle.move_laws.proofs.Comparison.{square}

@@ -2,12 +2,9 @@
 -- there, and elsewhere each block is its own image. The leaf maps of a move are made of them.
 use Rattle.std.proofs.Common.{◌≡◌, ℕ, zero, suc, ◌+◌, ◌≤◌, ◌<◌, Bool, true, false, ◌⊎◌, inl, inr, if◌then◌else◌, nat_lt, List, [], ◌∷◌, ◌++◌, length, map, get_or, refl, ap, ap₂, ◌∙◌, arith}
 use Rattle.std.proofs.lemmas.Bool.{le-ltb, lt-ltb}
-use Rattle.graph_core.specs.Partitions.{names_of}
+use Rattle.graph_core.specs.Common.{names_of}
 use Rattle.tree_core.proofs.Sizes.{length-leaves_at}
-use Rattle.tree_core.specs.Derivations.{kept_at, merged_at}
-use Rattle.tree_core.specs.LeafMaps.{PlainLeafMap, maps_from, names_at, position}
-use Rattle.tree_core.specs.Leaves.{leaves_at}
-use Rattle.tree_core.specs.Shapes.{Shape, cut, leaf, leaf_count}
+use Rattle.tree_core.specs.Common.{kept_at, merged_at, PlainLeafMap, maps_from, names_at, position, leaves_at, Shape, cut, leaf, leaf_count}
 use Rattle.tree_core.specs.declared.path.Side.{Side}
 use Rattle.tree_core.specs.declared.path.Side.TheVariants.{Kept, Merged}
 use Rattle.uncross.specs.Exchanges.{exchange_at, images_at}

@@ -2,14 +2,9 @@
 -- root may ask, that what comes back fits, and that the whole is exposed.
 use Rattle.std.proofs.Common.{◌≡◌, ℕ, List, Option, Some, None, sym, ap, ◌∙◌, subst}
 use Rattle.contraction.proofs.QuotientLaws.{covered_down}
-use Rattle.graph_core.specs.Covered.{IsCovered}
-use Rattle.graph_core.specs.Graph.{Graph, IsGraph}
-use Rattle.graph_core.specs.Partitions.{IsPartition, complement_of}
-use Rattle.graph_core.specs.Quotients.{quotient}
+use Rattle.graph_core.specs.Common.{IsCovered, Graph, IsGraph, IsPartition, complement_of, quotient}
 use Rattle.tree_core.proofs.DerivationStands.{cut-below, stands-derivation_at}
-use Rattle.tree_core.specs.Derivations.{IsCutAt, IsDerivationAt, kept_at, merged_at}
-use Rattle.tree_core.specs.Moves.{PlainMove}
-use Rattle.tree_core.specs.Shapes.{Fits, Shape, cut, leaf}
+use Rattle.tree_core.specs.Common.{IsCutAt, IsDerivationAt, kept_at, merged_at, PlainMove, Fits, Shape, cut, leaf}
 use Rattle.move_laws.proofs.BigShores.{Big, Stage, big_rest, cut_big, stage_merged}
 use Rattle.move_laws.proofs.NestedShores.{leaf_not}
 use Rattle.uncross.proofs.Planned.{first_is_cut, plan_done, second_is_cut}

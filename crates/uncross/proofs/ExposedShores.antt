@@ -1,10 +1,8 @@
 -- What exposing a shore in a derivation of a graph gives: a script of few moves to a derivation
 -- with the shore at its root.
 use Rattle.std.proofs.Common.{List, [], None, Option, Some, ap, arith, option_map, subst, subst₂, sym, unwrap_or, ℕ, ◌≡◌, ◌∙◌}
-use Rattle.graph_core.specs.Graph.{Graph}
-use Rattle.graph_core.specs.Partitions.{singles}
-use Rattle.tree_core.specs.MoveView.{moves_of}
-use Rattle.tree_core.specs.Shapes.{Shape, cut, cut_count, leaf}
+use Rattle.graph_core.specs.Common.{Graph, singles}
+use Rattle.tree_core.specs.Common.{moves_of, Shape, cut, cut_count, leaf}
 use Rattle.tree_core.specs.declared.moves.Move.{Move}
 use Rattle.uncross.specs.Below.{IsBrought, IsRaised}
 use Rattle.uncross.specs.Plans.{IsExposed}

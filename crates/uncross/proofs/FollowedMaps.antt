@@ -1,16 +1,12 @@
 -- The maps so far, followed by the map of a move: each leads to a leaf by names of its blocks,
 -- which the move gives the names of their images.
 use Rattle.std.proofs.Common.{All, List, Option, Some, None, [], ◌∙◌, ◌∷◌, ap, ap₂, arith, get_or, length, map, refl, subst, suc, sym, ℕ, ◌+◌, ◌-◌, ◌≡◌, ◌≤◌}
-use Rattle.std.proofs.lemmas.List.{get_or-map}
+use Rattle.counting.proofs.Common.{get_or-map}
 use Rattle.std.proofs.lemmas.List.Elements.{All-from_get_or}
 use Rattle.contraction.specs.Partition.{PartitionValue}
-use Rattle.counting.specs.Counts.{Within}
-use Rattle.graph_core.specs.Graph.{Graph}
-use Rattle.graph_core.specs.Partitions.{IsPartition, place, singles}
-use Rattle.tree_core.specs.LeafMaps.{PlainLeafMap, leaf_at, map_at, maps_from, move_maps, move_order, name, position, then_map}
-use Rattle.tree_core.specs.Leaves.{leaves, partitions_of}
-use Rattle.tree_core.specs.Moves.{PlainMove, rotate_at, switch_at}
-use Rattle.tree_core.specs.Shapes.{Shape}
+use Rattle.counting.specs.Common.{Within}
+use Rattle.graph_core.specs.Common.{Graph, IsPartition, place, singles}
+use Rattle.tree_core.specs.Common.{PlainLeafMap, leaf_at, map_at, maps_from, move_maps, move_order, name, position, then_map, leaves, partitions_of, PlainMove, rotate_at, switch_at, Shape}
 use Rattle.move_laws.proofs.SameLeaves.{name_within}
 use Rattle.uncross.proofs.ExchangedLeaves.{exchanged, maps_by-at, names_by, names_nowhere, nowhere, nowhere-own}
 use Rattle.uncross.specs.Exchanges.{exchange_at, images_at}

@@ -1,14 +1,12 @@
 -- The maps of no move, leaf by leaf: leaf i goes to leaf i, whose number has place i among those of
 -- all leaves, and each of its blocks keeps its name.
 use Rattle.std.proofs.Common.{◌≡◌, ℕ, zero, suc, ◌+◌, ◌<◌, List, [], ◌∷◌, ◌++◌, append_assoc, cond, length, map, sym, ap, ap₂, ◌∙◌, arith, eq-eqb, ne_eqb}
-use Rattle.std.proofs.lemmas.List.{length-map, map-append}
+use Rattle.counting.proofs.Common.{length-map, map-append}
 use Rattle.contraction.specs.Partition.{PartitionValue}
-use Rattle.graph_core.specs.Partitions.{names_of, singles}
+use Rattle.graph_core.specs.Common.{names_of, singles}
 use Rattle.move_laws.proofs.Alignments.{numbers-split}
 use Rattle.tree_core.proofs.Sizes.{length-leaves_at}
-use Rattle.tree_core.specs.LeafMaps.{PlainLeafMap, maps_from, numbers, own_maps, position}
-use Rattle.tree_core.specs.Leaves.{leaves, partitions_of}
-use Rattle.tree_core.specs.Shapes.{Shape, leaf_count}
+use Rattle.tree_core.specs.Common.{PlainLeafMap, maps_from, numbers, own_maps, position, leaves, partitions_of, Shape, leaf_count}
 use Rattle.uncross.proofs.FollowedMaps.{blocks-partitions}
 use Rattle.uncross.specs.Following.{blocks_of}
 use Rattle.uncross.specs.MapView.{map_of, maps_of}

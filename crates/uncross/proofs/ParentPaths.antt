@@ -2,9 +2,7 @@
 -- path of the parent ends.
 use Rattle.std.proofs.Common.{◌≡◌, ℕ, List, [], ◌∷◌, ◌++◌, ap, ap₂, refl, ◌∙◌}
 use Rattle.tree_core.proofs.RotateSteps.{last_step-end, parent_path-end}
-use Rattle.tree_core.specs.LeafMaps.{move_order, order_at, rotate_order}
-use Rattle.tree_core.specs.Moves.{rotate_at}
-use Rattle.tree_core.specs.Shapes.{Shape}
+use Rattle.tree_core.specs.Common.{move_order, order_at, rotate_order, rotate_at, Shape}
 use Rattle.tree_core.specs.declared.path.Side.{Side}
 
 order-end : (n : ℕ) (parents : List Side) (last : Side) (t : Shape) → move_order n (rotate_at (parents ++ last ∷ [])) t ≡ order_at (rotate_order last) parents 0 t

@@ -1,14 +1,9 @@
 -- The sets of a plan as lists: corners, complements, and equal shores.
 use Rattle.std.proofs.Common.{◌≡◌, ◌↔◌, ℕ, true, ◌&&◌, ◌||◌, not, List, sym, ap₂, ◌∙◌}
-use Rattle.counting.proofs.Booleans.{same_tests}
-use Rattle.std.proofs.lemmas.Bool.{and_parts}
-use Rattle.counting.proofs.Lists.{mem-within}
-use Rattle.counting.proofs.RisingLists.{all_in_true, list-from_test, same_rising_list, set-narrower}
-use Rattle.counting.specs.Counts.{Within}
-use Rattle.counting.specs.Lists.{IsRisingIn, is_subset, mem}
-use Rattle.counting.specs.Sets.{complement, meet, union}
+use Rattle.counting.proofs.Common.{same_tests, and_parts, mem-within, all_in_true, list-from_test, same_rising_list, set-narrower}
+use Rattle.counting.specs.Common.{Within, IsRisingIn, is_subset, mem, complement, meet, union}
 use Rattle.tree_core.proofs.SwitchSets.{list-of}
-use Rattle.tree_core.specs.Moves.{meet_list}
+use Rattle.tree_core.specs.Common.{meet_list}
 use Rattle.move_laws.specs.Corners.{outer_of}
 
 pub inner-is : (n : ℕ) (x y r : List ℕ) → IsRisingIn n x → IsRisingIn 128 r → ((v : ℕ) → mem r v ≡ (mem x v && mem y v)) → r ≡ meet_list n x y

@@ -1,18 +1,11 @@
 -- The plan for exposing a shore is carried out: what is exposed first in the two trees is a cut
 -- there, and then the root is the shore.
 use Rattle.std.proofs.Common.{◌≡◌, ℕ, ◌≤◌, ◌<◌, Bool, true, false, not, ◌&&◌, List, [], ◌∷◌, ◌++◌, map, Option, Some, None, ◌⊎◌, inl, inr, if◌then◌else◌, nat_lt, refl, sym, ap, ap₂, ◌∙◌, arith, subst}
-use Rattle.std.proofs.lemmas.Bool.Decides.{nat_tests}
-use Rattle.std.proofs.lemmas.Bool.{not-true}
-use Rattle.counting.specs.Counts.{Within}
-use Rattle.counting.specs.Lists.{is_apart, is_subset, mem}
-use Rattle.counting.specs.Sets.{everything, minus}
-use Rattle.graph_core.proofs.Complements.{mem-complement_of}
-use Rattle.graph_core.specs.Graph.{Graph}
-use Rattle.graph_core.specs.Partitions.{complement_of, merged}
-use Rattle.graph_core.specs.Shores.{block_count}
-use Rattle.tree_core.specs.Derivations.{IsCutAt, IsDerivationAt, kept_at, merged_at}
-use Rattle.tree_core.specs.Moves.{IsBlockOf, PlainMove, below, rotate_at, meet_list}
-use Rattle.tree_core.specs.Shapes.{Shape, cut}
+use Rattle.counting.proofs.Common.{nat_tests, not-true, false_all_in, all_in_true}
+use Rattle.counting.specs.Common.{Within, is_apart, is_subset, mem, everything, minus}
+use Rattle.graph_core.proofs.Common.{mem-complement_of, Apart, Below}
+use Rattle.graph_core.specs.Common.{Graph, complement_of, merged, block_count}
+use Rattle.tree_core.specs.Common.{IsCutAt, IsDerivationAt, kept_at, merged_at, IsBlockOf, PlainMove, below, rotate_at, meet_list, Shape, cut}
 use Rattle.tree_core.specs.declared.path.Side.TheVariants.{Kept, Merged}
 use Rattle.move_laws.proofs.BigShores.{Big, Stage, big_cut, big_rest, big_some, stage_merged}
 use Rattle.move_laws.proofs.Exchange.{block_count-one}
@@ -24,8 +17,6 @@ use Rattle.move_laws.proofs.OverOuterCorner.{OuterTurned, raised_merged_is}
 use Rattle.move_laws.proofs.NestedShores.{Cross, raised, stays_big}
 use Rattle.move_laws.proofs.BigShores.{rest_rest}
 use Rattle.move_laws.proofs.Scripts.{length_below, length_join, script_end, script_join, script_kept, script_merged, script_rotate}
-use Rattle.graph_core.proofs.MergedShores.{Apart, Below}
-use Rattle.counting.proofs.RisingLists.{false_all_in, all_in_true}
 use Rattle.move_laws.proofs.Rising.{bounds}
 use Rattle.move_laws.specs.Corners.{outer_of, outer_shore, partner}
 use Rattle.uncross.specs.Plans.{CutIf, IsExposed, IsPlan, PlainPlan, crossing, first_shore, here, if_big, in_kept, in_merged, plan_result, second_shore}

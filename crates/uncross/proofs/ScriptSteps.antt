@@ -1,19 +1,13 @@
 -- The maps of a script, move by move: what holds if some of its moves are made.
 use Rattle.std.proofs.Common.{All, List, Some, ap, arith, length, map, refl, subst, subst₂, sym, unwrap_or, ℕ, ◌∙◌, ◌∷◌, ◌≡◌, ◌≤◌}
-use Rattle.counting.proofs.Counts.{count_complement}
-use Rattle.graph_core.proofs.Singles.{length-singles}
-use Rattle.graph_core.specs.Graph.{Graph, IsGraph}
-use Rattle.graph_core.specs.Partitions.{singles}
-use Rattle.graph_core.specs.Shores.{blocks_in}
-use Rattle.counting.specs.Lists.{mem}
+use Rattle.counting.proofs.Common.{count_complement}
+use Rattle.graph_core.proofs.Common.{length-singles}
+use Rattle.graph_core.specs.Common.{Graph, IsGraph, singles, blocks_in}
+use Rattle.counting.specs.Common.{mem}
 use Rattle.tree_core.proofs.CutsBelow.{few-leaves}
 use Rattle.tree_core.proofs.DerivationLeaves.{partitions-leaves}
 use Rattle.tree_core.proofs.DerivationStands.{fits-derivation, stands-derivation}
-use Rattle.tree_core.specs.Derivations.{IsDerivation}
-use Rattle.tree_core.specs.LeafMaps.{PlainLeafMap, maps_after, move_maps, own_maps, script_maps, then_map}
-use Rattle.tree_core.specs.Leaves.{StandsAt, leaves}
-use Rattle.tree_core.specs.Moves.{PlainMove, move_result}
-use Rattle.tree_core.specs.Shapes.{Fits, Shape, cut, leaf, leaf_count}
+use Rattle.tree_core.specs.Common.{IsDerivation, PlainLeafMap, maps_after, move_maps, own_maps, script_maps, then_map, StandsAt, leaves, PlainMove, move_result, Fits, Shape, cut, leaf, leaf_count}
 use Rattle.uncross.proofs.FollowedMaps.{paired_into}
 use Rattle.move_laws.proofs.MoveParts.{move_pairs}
 use Rattle.move_laws.proofs.Rising.{rising-derivation_at}

@@ -1,8 +1,7 @@
 -- Steps of the turning of trees: what the code has made is what the partial functions give.
 use Rattle.std.proofs.Common.{◌≡◌, List, [], ◌++◌, Option, Some, None, option_and_then, refl, ap, ap₂, ◌∙◌}
-use Rattle.std.proofs.lemmas.Option.{none-some}
-use Rattle.tree_core.specs.Moves.{PlainMove}
-use Rattle.tree_core.specs.Shapes.{Shape}
+use Rattle.counting.proofs.Common.{none-some}
+use Rattle.tree_core.specs.Common.{PlainMove, Shape}
 use Rattle.move_laws.specs.Turning.{PlainTurned, followed}
 use Rattle.uncross.specs.TurnedView.{IsMade}
 

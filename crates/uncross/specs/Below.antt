@@ -2,11 +2,8 @@
 -- Stated by: uncross.
 use Rattle.std.specs.Prelude.{◌≡◌, ◌+◌, ◌*◌, ◌≤◌, ℕ, List, length}
 use Rattle.contraction.specs.Partition.{PartitionValue}
-use Rattle.graph_core.specs.Covered.{IsCovered}
-use Rattle.graph_core.specs.Graph.{Graph}
-use Rattle.graph_core.specs.Quotients.{quotient}
-use Rattle.tree_core.specs.Moves.{PlainMove}
-use Rattle.tree_core.specs.Shapes.{Shape, cut, cut_count}
+use Rattle.graph_core.specs.Common.{IsCovered, Graph, quotient}
+use Rattle.tree_core.specs.Common.{PlainMove, Shape, cut, cut_count}
 use Rattle.move_laws.specs.Scripts.{IsProperScript}
 
 -- q has the blocks p, and the quotient of g at it is covered

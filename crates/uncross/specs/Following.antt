@@ -2,13 +2,9 @@
 -- Stated by: uncross.
 use Rattle.std.specs.Prelude.{◌≡◌, ℕ, List, Option, None, Some, All, length, map}
 use Rattle.contraction.specs.Partition.{PartitionValue}
-use Rattle.counting.specs.Counts.{Within}
-use Rattle.counting.specs.Lists.{last_of}
-use Rattle.graph_core.specs.Partitions.{block, place}
-use Rattle.tree_core.specs.LeafMaps.{PlainLeafMap, leaf_at, move_maps, position, then_map}
-use Rattle.tree_core.specs.Leaves.{leaves, partitions_of}
-use Rattle.tree_core.specs.Moves.{PlainMove, rotate_at, switch_at}
-use Rattle.tree_core.specs.Shapes.{Shape}
+use Rattle.counting.specs.Common.{Within, last_of}
+use Rattle.graph_core.specs.Common.{block, place}
+use Rattle.tree_core.specs.Common.{PlainLeafMap, leaf_at, move_maps, position, then_map, leaves, partitions_of, PlainMove, rotate_at, switch_at, Shape}
 use Rattle.uncross.specs.Exchanges.{exchange_at, images_at}
 use Rattle.uncross.specs.MapView.{image_name}
 use Rattle.uncross.specs.declared.block_images.Images.{Images}

@@ -2,12 +2,9 @@
 -- trees, and what is done at the root then.
 -- Stated by: uncross.
 use Rattle.std.specs.Prelude.{◌≡◌, ◌+◌, ◌*◌, ◌≤◌, ℕ, true, false, List, [], length, Option, Some, None, ◌⊎◌, if◌then◌else◌, nat_lt}
-use Rattle.counting.specs.Lists.{is_apart, is_subset, mem}
-use Rattle.graph_core.specs.Graph.{Graph}
-use Rattle.graph_core.specs.Shores.{block_count}
-use Rattle.tree_core.specs.Derivations.{IsCutAt}
-use Rattle.tree_core.specs.Moves.{PlainMove, meet_list}
-use Rattle.tree_core.specs.Shapes.{Shape, cut, cut_count}
+use Rattle.counting.specs.Common.{is_apart, is_subset, mem}
+use Rattle.graph_core.specs.Common.{Graph, block_count}
+use Rattle.tree_core.specs.Common.{IsCutAt, PlainMove, meet_list, Shape, cut, cut_count}
 use Rattle.move_laws.specs.Corners.{outer_of, outer_shore, partner}
 use Rattle.move_laws.specs.Scripts.{IsProperScript}
 use Rattle.move_laws.specs.Turning.{PlainTurned, over_inner, raised_kept, raised_merged}

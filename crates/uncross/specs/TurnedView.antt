@@ -1,10 +1,7 @@
 -- How the code's turned trees are seen, as plain data.
 -- Stated by: uncross.
 use Rattle.std.specs.Prelude.{◌≡◌, ◌++◌, List}
-use Rattle.tree_core.specs.Moves.{PlainMove}
-use Rattle.tree_core.specs.MoveView.{moves_of}
-use Rattle.tree_core.specs.Shapes.{Shape}
-use Rattle.tree_core.specs.View.{shape_of}
+use Rattle.tree_core.specs.Common.{PlainMove, moves_of, Shape, shape_of}
 use Rattle.move_laws.specs.Turning.{PlainTurned}
 use Rattle.uncross.specs.declared.turning.Turned.{Turned}
 

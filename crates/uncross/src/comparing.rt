@@ -1,15 +1,7 @@
 //! Comparing: a derivation is turned into another, and the leaves of the two are paired.
 ghost use Rattle.std.specs.Prelude.{◌≡◌, ◌++◌, ◌*◌, ◌≤◌, IfOk, length, map};
-ghost use Rattle.graph_core.specs.Covered.{IsCovered};
-ghost use Rattle.graph_core.specs.Partitions.{singles};
-ghost use Rattle.graph_core.specs.Quotients.{quotient};
-ghost use Rattle.tree_core.specs.Derivations.{IsCutAt, IsDerivation, IsDerivationAt, kept_at, merged_at};
-ghost use Rattle.tree_core.specs.LeafMaps.{script_maps};
-ghost use Rattle.tree_core.specs.Leaves.{leaves};
-ghost use Rattle.tree_core.specs.MoveView.{moves_of};
-ghost use Rattle.tree_core.specs.Moves.{TurnsThrough, below};
-ghost use Rattle.tree_core.specs.Shapes.{cut_count};
-ghost use Rattle.tree_core.specs.View.{shape_of};
+ghost use Rattle.graph_core.specs.Common.{IsCovered, singles, quotient};
+ghost use Rattle.tree_core.specs.Common.{IsCutAt, IsDerivation, IsDerivationAt, kept_at, merged_at, script_maps, leaves, moves_of, TurnsThrough, below, cut_count, shape_of};
 ghost use Rattle.move_laws.specs.Pairings.{IsPairing};
 ghost use Rattle.move_laws.specs.Scripts.{IsProperScript};
 ghost use Rattle.uncross.specs.Below.{IsBrought, IsPartitionBelow};

@@ -1,8 +1,7 @@
 //! What a Switch does to the leaves of a tree: which of them stand below its node, and how their
 //! blocks go over to blocks of their partners.
 ghost use Rattle.std.specs.Prelude.{◌≡◌, ◌≤◌, ◌+◌};
-ghost use Rattle.tree_core.specs.Shapes.{leaf_count};
-ghost use Rattle.tree_core.specs.View.{shape_of};
+ghost use Rattle.tree_core.specs.Common.{leaf_count, shape_of};
 ghost use Rattle.uncross.specs.Exchanges.{exchange_at, images_at};
 
 use crate::block_images::{Images, kept_images, merged_images};

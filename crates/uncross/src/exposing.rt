@@ -1,15 +1,7 @@
 //! Exposing: a shore is brought to the root of a derivation.
 ghost use Rattle.std.specs.Prelude.{◌≡◌, List, Some, IfOk, map, option_map, ◌*◌, ◌≤◌, length};
-ghost use Rattle.graph_core.specs.Covered.{IsCovered};
-ghost use Rattle.graph_core.specs.Partitions.{singles};
-ghost use Rattle.graph_core.specs.Quotients.{quotient};
-ghost use Rattle.tree_core.specs.Derivations.{IsCutAt, IsDerivation, IsDerivationAt};
-ghost use Rattle.tree_core.specs.LeafMaps.{script_maps};
-ghost use Rattle.tree_core.specs.Leaves.{leaves};
-ghost use Rattle.tree_core.specs.MoveView.{moves_of};
-ghost use Rattle.tree_core.specs.Moves.{PlainMove, TurnsThrough, below};
-ghost use Rattle.tree_core.specs.Shapes.{Fits, Shape, cut, cut_count};
-ghost use Rattle.tree_core.specs.View.{shape_of};
+ghost use Rattle.graph_core.specs.Common.{IsCovered, singles, quotient};
+ghost use Rattle.tree_core.specs.Common.{IsCutAt, IsDerivation, IsDerivationAt, script_maps, leaves, moves_of, PlainMove, TurnsThrough, below, Fits, Shape, cut, cut_count, shape_of};
 ghost use Rattle.move_laws.specs.Pairings.{IsPairing};
 ghost use Rattle.move_laws.specs.Turning.{PlainTurned, followed, raised};
 ghost use Rattle.uncross.specs.Below.{IsRaised};

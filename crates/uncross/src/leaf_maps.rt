@@ -1,8 +1,8 @@
 //! Leaf maps: where each leaf of a tree goes, and its blocks; and what they are after a move more.
 ghost use Rattle.std.specs.Prelude.{◌≡◌, ◌≤◌, ◌+◌, List, ℕ, length, All, IfOk, map};
-ghost use Rattle.counting.specs.Counts.{Within};
-ghost use Rattle.graph_core.specs.Partitions.{place};
-ghost use Rattle.tree_core.specs.LeafMaps.{PlainLeafMap, leaf_at, position};
+ghost use Rattle.counting.specs.Common.{Within};
+ghost use Rattle.graph_core.specs.Common.{place};
+ghost use Rattle.tree_core.specs.Common.{PlainLeafMap, leaf_at, position};
 ghost use Rattle.uncross.specs.Following.{IsMapInto, IsMapIntoIf, IsNameIn, blocks_of, map_after, names_after};
 ghost use Rattle.uncross.specs.Exchanges.{images_at};
 ghost use Rattle.uncross.specs.MapView.{map_of, maps_of};

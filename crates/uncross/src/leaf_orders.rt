@@ -1,10 +1,7 @@
 //! The order of the leaves under a move: the old numbers of the leaves in the order of the new
 //! tree.
 ghost use Rattle.std.specs.Prelude.{◌≡◌, ◌≤◌, ◌+◌, ◌++◌, IfOk, OnOk, length};
-ghost use Rattle.tree_core.specs.LeafMaps.{kept_order_if_greatest_stays, move_order, numbers, order_at, rotate_order, switch_order};
-ghost use Rattle.tree_core.specs.MoveView.{move_of};
-ghost use Rattle.tree_core.specs.Shapes.{cut, leaf_count};
-ghost use Rattle.tree_core.specs.View.{shape_of};
+ghost use Rattle.tree_core.specs.Common.{kept_order_if_greatest_stays, move_order, numbers, order_at, rotate_order, switch_order, move_of, cut, leaf_count, shape_of};
 ghost use Rattle.tree_core.specs.declared.path.Side.TheVariants.{Merged};
 ghost use Rattle.uncross.specs.Changes.{changed_order};
 

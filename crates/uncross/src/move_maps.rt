@@ -1,13 +1,7 @@
 //! The maps of scripts of moves: where they take each leaf of a tree, and its blocks.
 ghost use Rattle.std.specs.Prelude.{◌≡◌, ◌≤◌, Some, All, IfOk};
-ghost use Rattle.graph_core.specs.Partitions.{singles};
-ghost use Rattle.tree_core.specs.Derivations.{IsDerivation};
-ghost use Rattle.tree_core.specs.LeafMaps.{own_maps, script_maps};
-ghost use Rattle.tree_core.specs.Leaves.{StandsAt, leaves};
-ghost use Rattle.tree_core.specs.MoveView.{move_of, moves_of};
-ghost use Rattle.tree_core.specs.Moves.{move_result};
-ghost use Rattle.tree_core.specs.Shapes.{Fits, Shape, leaf_count};
-ghost use Rattle.tree_core.specs.View.{shape_of};
+ghost use Rattle.graph_core.specs.Common.{singles};
+ghost use Rattle.tree_core.specs.Common.{IsDerivation, own_maps, script_maps, StandsAt, leaves, move_of, moves_of, move_result, Fits, Shape, leaf_count, shape_of};
 ghost use Rattle.move_laws.specs.Scripts.{IsProperScript};
 ghost use Rattle.uncross.specs.Following.{IsMapInto, IsSwitched, led_on};
 ghost use Rattle.uncross.specs.MapView.{maps_of};

@@ -1,8 +1,7 @@
 //! The partitions at the two trees below the root of a derivation.
 ghost use Rattle.std.specs.Prelude.{◌≡◌, IfOk};
-ghost use Rattle.graph_core.specs.Covered.{IsCovered};
-ghost use Rattle.graph_core.specs.Quotients.{quotient};
-ghost use Rattle.tree_core.specs.Derivations.{IsCutAt, kept_at, merged_at};
+ghost use Rattle.graph_core.specs.Common.{IsCovered, quotient};
+ghost use Rattle.tree_core.specs.Common.{IsCutAt, kept_at, merged_at};
 ghost use Rattle.uncross.specs.Below.{IsPartitionBelow};
 
 use contraction::Partition;

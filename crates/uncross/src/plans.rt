@@ -1,11 +1,8 @@
 //! The plan for exposing a shore: what is exposed first in the two trees below the root.
 ghost use Rattle.std.specs.Prelude.{◌≡◌, ◌≤◌};
-ghost use Rattle.counting.specs.Counts.{is_odd};
-ghost use Rattle.counting.specs.Lists.{IsRisingIn, mem};
-ghost use Rattle.counting.specs.Sets.{meet};
-ghost use Rattle.graph_core.specs.Partitions.{complement_of};
-ghost use Rattle.graph_core.specs.Shores.{block_count};
-ghost use Rattle.tree_core.specs.Moves.{meet_list};
+ghost use Rattle.counting.specs.Common.{is_odd, IsRisingIn, mem, meet};
+ghost use Rattle.graph_core.specs.Common.{complement_of, block_count};
+ghost use Rattle.tree_core.specs.Common.{meet_list};
 ghost use Rattle.move_laws.specs.Corners.{outer_of, outer_shore, partner};
 ghost use Rattle.uncross.specs.PlanView.{plan_of};
 ghost use Rattle.uncross.specs.Plans.{IsPlan, first_shore, if_big, second_shore};

@@ -1,10 +1,7 @@
 //! Turned trees: a tree that moves have made, with the moves.
 ghost use Rattle.std.specs.Prelude.{◌≡◌, ◌++◌, ◌∷◌, ◌-◌, ℕ, [], Some, IfOk, OnOk, map, option_map, All};
-ghost use Rattle.counting.specs.Counts.{Within};
-ghost use Rattle.tree_core.specs.MoveView.{moves_of};
-ghost use Rattle.tree_core.specs.Moves.{below, switch_at, with_child};
-ghost use Rattle.tree_core.specs.Shapes.{Fits, cut};
-ghost use Rattle.tree_core.specs.View.{shape_of};
+ghost use Rattle.counting.specs.Common.{Within};
+ghost use Rattle.tree_core.specs.Common.{moves_of, below, switch_at, with_child, Fits, cut, shape_of};
 ghost use Rattle.move_laws.specs.Turning.{PlainTurned, followed, outer_below, over_inner, over_outer, raised, switched, switched_below};
 ghost use Rattle.uncross.specs.TurnedView.{IsMade, turned_of};
 

@@ -4,9 +4,8 @@ use Rattle.std.proofs.Common.{◌≡◌, ℕ, zero, suc, ◌+◌, ◌-◌, ◌*�
 use Rattle.std.specs.Int.Count.{ones, ones_cat}
 use Rattle.std.proofs.lemmas.Nat.{mod_below, pow_pos, shr_below, shr_split}
 use Rattle.std.proofs.lemmas.Nat.Bits.{bit_at_cat_low, bit_at_cat_high, bit_at_lowest}
-use Rattle.counting.proofs.Counts.{count_congr}
-use Rattle.counting.proofs.RisingLists.{length-rising_list}
-use Rattle.counting.specs.Counts.{Within, bit, count}
+use Rattle.counting.proofs.Common.{count_congr, length-rising_list}
+use Rattle.counting.specs.Common.{Within, bit, count}
 use Rattle.vset_core.specs.Words.{in_word, members}
 use Rattle.vset_core.specs.WordLaws.{bit-in_word}
 

@@ -2,9 +2,7 @@
 -- Stated by: vset_core.
 use Rattle.std.specs.Prelude.{ℕ, zero, suc, ◌*◌, ◌^◌, ◌-◌, ◌==◌, false, List}
 use Rattle.std.specs.Int.{bit_at}
-use Rattle.counting.specs.Counts.{bit, total}
-use Rattle.counting.specs.Lists.{mem, rising_list}
-use Rattle.counting.specs.Sets.{Set}
+use Rattle.counting.specs.Common.{bit, total, mem, rising_list, Set}
 
 -- v is in the word's set
 abbrev pub in_word : ℕ → Set

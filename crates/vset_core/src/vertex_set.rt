@@ -2,9 +2,7 @@
 ghost use Rattle.std.specs.Prelude.{◌≡◌, ◌≤◌, ◌<◌, ◌||◌, ◌&&◌, ◌==◌, ◌↔◌, not, ℕ, length, [], ◌∷◌, IfSome, IfNone, true, false, bytes_eq};
 ghost use Rattle.std.specs.Cmp.{partial_equiv_from_equiv};
 ghost use Rattle.std.specs.Cmp.Lexicographic.{nat_list_eq_equiv};
-ghost use Rattle.counting.specs.Counts.{Within};
-ghost use Rattle.counting.specs.Lists.{mem, IsRisingIn, IsLeastOf, IsGreatestOf, IsNextAfter, is_subset, rising_list};
-ghost use Rattle.counting.specs.Sets.{everything};
+ghost use Rattle.counting.specs.Common.{Within, mem, IsRisingIn, IsLeastOf, IsGreatestOf, IsNextAfter, is_subset, rising_list, everything};
 
 use std::marker::Model;
 

@@ -1,5 +1,5 @@
 use Rattle.std.proofs.Common.{◌≡◌, ◌++◌, ◌∷◌, [], refl, sym, subst, inl, inr}
-use Rattle.std.proofs.lemmas.Result.{IfOk-weaker}
+use Rattle.counting.proofs.Common.{IfOk-weaker}
 use Rattle.allowed_edges.specs.PairTables.{IsPerfectWith, Sought}
 use Rattle.allowed_edges.proofs.pairs.list_pair.Goals as goal
 

@@ -1,5 +1,5 @@
 use Rattle.std.proofs.Common.{◌+◌}
-use Rattle.std.proofs.lemmas.Result.{IfOk-weaker}
+use Rattle.counting.proofs.Common.{IfOk-weaker}
 use Rattle.allowed_edges.specs.PairTables.{SettlesPairs, Sought}
 use Rattle.allowed_edges.proofs.PairSteps.{settles_pair, settles_sought_pair}
 use Rattle.allowed_edges.proofs.pairs.settle_pair.Goals as goal

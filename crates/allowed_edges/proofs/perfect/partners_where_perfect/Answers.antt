@@ -1,5 +1,5 @@
 use Rattle.std.proofs.Common.{List, ℕ, subst}
-use Rattle.counting.specs.Lists.{mem}
+use Rattle.counting.specs.Common.{mem}
 use Rattle.match_core.specs.Partners.{ArePartners}
 use Rattle.allowed_edges.proofs.perfect.partners_where_perfect.Goals as goal
 

@@ -1,6 +1,6 @@
 use Rattle.std.proofs.Common.{◌+◌, ◌*◌, arith}
-use Rattle.counting.specs.Lists.{mem}
-use Rattle.graph_core.specs.Matchings.{missed_count}
+use Rattle.counting.specs.Common.{mem}
+use Rattle.graph_core.specs.Common.{missed_count}
 use Rattle.match_core.specs.MatchingRows.{edges_of}
 use Rattle.allowed_edges.proofs.ShortPaths.{off_size, same_zero}
 use Rattle.allowed_edges.proofs.questions.misses_none.Goals as goal

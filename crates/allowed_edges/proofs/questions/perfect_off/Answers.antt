@@ -1,7 +1,7 @@
 use Rattle.std.proofs.Common.{◌≡◌, sym, ◌∙◌, subst, eqb-true}
-use Rattle.counting.specs.Lists.{mem}
-use Rattle.graph_core.specs.Matchings.{IsPerfect, missed_count}
-use Rattle.graph_core.proofs.Perfect.{none_missed-perfect}
+use Rattle.counting.specs.Common.{mem}
+use Rattle.graph_core.specs.Common.{IsPerfect, missed_count}
+use Rattle.graph_core.proofs.Common.{none_missed-perfect}
 use Rattle.match_core.specs.MatchingRows.{IsOf, MatchingValue, edges_of}
 use Rattle.allowed_edges.proofs.questions.perfect_off.Goals as goal
 

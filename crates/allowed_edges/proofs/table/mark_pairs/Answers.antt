@@ -1,5 +1,5 @@
 use Rattle.std.proofs.Common.{◌∙◌}
-use Rattle.counting.specs.Lists.{mem}
+use Rattle.counting.specs.Common.{mem}
 use Rattle.match_core.specs.MatchingRows.{edges_of}
 use Rattle.allowed_edges.proofs.MarkedPairs.{pairs_more, square_more}
 use Rattle.allowed_edges.proofs.table.mark_pairs.Goals as goal

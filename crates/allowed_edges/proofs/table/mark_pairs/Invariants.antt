@@ -1,5 +1,5 @@
 use Rattle.std.proofs.Common.{◌≡◌, ℕ, ◌&&◌, ◌||◌, length, map, take}
-use Rattle.counting.specs.Lists.{mem, row_of}
+use Rattle.counting.specs.Common.{mem, row_of}
 use Rattle.match_core.specs.MatchingRows.{edges_of}
 use Rattle.match_search.specs.Rows.{marks}
 use Rattle.match_core.proofs.MatchingEdges.{edge_of}

@@ -1,5 +1,5 @@
 use Rattle.std.proofs.Common.{◌+◌, ◌∙◌, ap, arith, length, false}
-use Rattle.std.proofs.lemmas.Bool.{both_ways}
+use Rattle.counting.proofs.Common.{both_ways}
 use Rattle.std.proofs.lemmas.List.{length-replicate}
 use Rattle.match_search.proofs.Marks.{no-marks}
 use Rattle.match_search.specs.Rows.{marks}

@@ -1,5 +1,5 @@
 use Rattle.std.proofs.Common.{◌≡◌, ◌+◌, ℕ, true, length}
-use Rattle.graph_core.specs.Graph.{size}
+use Rattle.graph_core.specs.Common.{size}
 use Rattle.match_search.specs.Rows.{marks}
 use Rattle.allowed_edges.specs.PairTables.{NamesEdge}
 use Rattle.allowed_edges.proofs.varied.named_marks.Given as goal

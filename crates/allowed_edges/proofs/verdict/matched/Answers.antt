@@ -1,8 +1,7 @@
 use Rattle.std.proofs.Common.{Option, ℕ, subst}
 use Rattle.std.specs.Prelude.{IfSome}
-use Rattle.counting.specs.Tests.{IsLeastWithout}
-use Rattle.graph_core.specs.Graph.{size}
-use Rattle.graph_core.specs.Matchings.{Allowed}
+use Rattle.counting.specs.Common.{IsLeastWithout}
+use Rattle.graph_core.specs.Common.{size, Allowed}
 use Rattle.allowed_edges.proofs.AllowedPartners.{perfect_unless_none}
 use Rattle.allowed_edges.proofs.verdict.matched.Goals as goal
 

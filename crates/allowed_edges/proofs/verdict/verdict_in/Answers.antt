@@ -1,8 +1,7 @@
 use Rattle.std.proofs.Common.{Option, ℕ, refl, subst, arith}
 use Rattle.std.specs.Prelude.{IfSome}
-use Rattle.counting.specs.Sets.{none}
-use Rattle.counting.specs.Tests.{IsLeastWithout}
-use Rattle.graph_core.specs.Walks.{Joined}
+use Rattle.counting.specs.Common.{none, IsLeastWithout}
+use Rattle.graph_core.specs.Common.{Joined}
 use Rattle.allowed_edges.proofs.verdict.verdict_in.Goals as goal
 
 pub returns-in-Some : goal.returns-in-Some

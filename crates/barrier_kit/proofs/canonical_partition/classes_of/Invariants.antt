@@ -1,8 +1,6 @@
 use Rattle.std.proofs.Common.{◌≡◌, ℕ, map}
-use Rattle.counting.specs.Counts.{Within}
-use Rattle.counting.specs.Lists.{mem, rising_list}
-use Rattle.counting.specs.Tests.{some}
-use Rattle.graph_core.specs.Structure.{is_equivalent, is_least_of_class}
+use Rattle.counting.specs.Common.{Within, mem, rising_list, some}
+use Rattle.graph_core.specs.Common.{is_equivalent, is_least_of_class}
 use Rattle.barrier_kit.proofs.canonical_partition.classes_of.Given as goal
 
 abbrev pub invariant-loop-k : goal.invariant-loop-k

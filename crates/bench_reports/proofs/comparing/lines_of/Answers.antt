@@ -1,12 +1,12 @@
 use Rattle.std.proofs.Common.{◌≡◌, ◌∙◌, ℕ, List, ◌++◌, Some, map, drop, length, slice_get, ap, sym, arith}
 use Rattle.std.specs.Option.{option_map}
 use Rattle.std.specs.Vec.Iter.{into_iter_items}
-use Rattle.std.proofs.lemmas.List.{append-nil, length-map}
+use Rattle.counting.proofs.Common.{append-nil, length-map}
 use Rattle.std.proofs.lemmas.Option.{slice_get-map}
 use Rattle.contraction.specs.Partition.{PartitionValue}
 use Rattle.report_text.specs.declared.comparisons.MapLine.{MapLine}
 use Rattle.uncross.specs.MapView.{map_of, maps_of}
-use Rattle.bench_outcomes.specs.Comparisons.{lines_of}
+use Rattle.bench_outcomes.specs.Common.{lines_of}
 use Rattle.bench_reports.proofs.PairLines.{lines-more, lines-none}
 use Rattle.bench_reports.proofs.comparing.lines_of.Goals as goal
 

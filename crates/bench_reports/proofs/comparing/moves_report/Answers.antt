@@ -1,8 +1,7 @@
 use Rattle.std.proofs.Common.{ℕ, length, sym, subst, arith}
 use Rattle.std.specs.List.{AllByRecursion}
-use Rattle.std.proofs.lemmas.List.{length-map}
-use Rattle.tree_core.specs.MoveView.{move_of, moves_of}
-use Rattle.tree_core.specs.View.{shape_of}
+use Rattle.counting.proofs.Common.{length-map}
+use Rattle.tree_core.specs.Common.{move_of, moves_of, shape_of}
 use Rattle.tree_core.proofs.Sizes.{leaf_count-cuts, node_count-cuts}
 use Rattle.move_text.specs.Writing.{HasSets}
 use Rattle.tree_core.proofs.FewLeaves.{few-nodes}

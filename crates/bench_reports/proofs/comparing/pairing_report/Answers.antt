@@ -1,16 +1,13 @@
 use Rattle.std.proofs.Common.{◌≡◌, ◌∙◌, ℕ, List, length, map, ap, refl, sym, subst, arith}
-use Rattle.std.proofs.lemmas.List.{length-map}
+use Rattle.counting.proofs.Common.{length-map}
 use Rattle.contraction.specs.Partition.{PartitionValue}
-use Rattle.graph_core.specs.Partitions.{singles}
-use Rattle.tree_core.specs.Leaves.{StandsAt, leaves}
-use Rattle.tree_core.specs.MoveView.{moves_of}
-use Rattle.tree_core.specs.Shapes.{Fits}
-use Rattle.tree_core.specs.View.{shape_of}
+use Rattle.graph_core.specs.Common.{singles}
+use Rattle.tree_core.specs.Common.{StandsAt, leaves, moves_of, Fits, shape_of}
 use Rattle.tree_core.proofs.DerivationStands.{fits-derivation, stands-derivation}
 use Rattle.report_text.specs.Comparisons.{pairing_text}
 use Rattle.report_text.specs.declared.comparisons.MapLine.{MapLine}
 use Rattle.uncross.specs.MapView.{map_of, maps_of}
-use Rattle.bench_outcomes.specs.Comparisons.{lines_of}
+use Rattle.bench_outcomes.specs.Common.{lines_of}
 use Rattle.tree_core.proofs.FewLeaves.{blocks-of_leaves, few-leaves_listed, few-nodes}
 use Rattle.bench_reports.proofs.comparing.pairing_report.Goals as goal
 

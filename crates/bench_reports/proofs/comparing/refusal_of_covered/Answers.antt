@@ -1,6 +1,6 @@
 use Rattle.std.proofs.Common.{subst}
-use Rattle.tree_core.specs.View.{shape_of}
-use Rattle.bench_outcomes.specs.Checks.{RefusesIfAny}
+use Rattle.tree_core.specs.Common.{shape_of}
+use Rattle.bench_outcomes.specs.Common.{RefusesIfAny}
 use Rattle.bench_reports.proofs.SecondRefusal.{refused-pair}
 use Rattle.bench_reports.proofs.comparing.refusal_of_covered.Goals as goal
 

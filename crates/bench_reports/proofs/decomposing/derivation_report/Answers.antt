@@ -1,10 +1,8 @@
 use Rattle.std.proofs.Common.{ℕ, All, ◌≡◌, ap, refl, sym, subst, arith, length}
 use Rattle.contraction.specs.Partition.{PartitionValue}
 use Rattle.graph_text.specs.SoFar.{named_graph}
-use Rattle.tree_core.specs.Leaves.{StandsAt, leaves, partitions_of}
-use Rattle.tree_core.specs.Shapes.{Fits}
-use Rattle.tree_core.specs.View.{shape_of}
-use Rattle.graph_core.specs.Partitions.{singles}
+use Rattle.tree_core.specs.Common.{StandsAt, leaves, partitions_of, Fits, shape_of}
+use Rattle.graph_core.specs.Common.{singles}
 use Rattle.tree_core.proofs.DerivationStands.{fits-derivation, stands-derivation}
 use Rattle.tree_core.proofs.FewLeaves.{few-leaves_listed, few-nodes, orders-of_leaves}
 use Rattle.bench_outcomes.proofs.DerivationTexts.{has-vertices, told}

@@ -1,5 +1,5 @@
 use Rattle.std.proofs.Common.{ℕ, ap, arith, length, subst₂, sym}
-use Rattle.std.proofs.lemmas.List.{length-map}
+use Rattle.counting.proofs.Common.{length-map}
 use Rattle.ear_core.proofs.Stepping.{list-fits, list-filled}
 use Rattle.ear_core.specs.EarLists.{FitsEars}
 use Rattle.ear_core.specs.View.{ears_of, step_of}

@@ -1,16 +1,13 @@
 use Rattle.std.proofs.Common.{◌∙◌, ℕ, ◌≤◌, List, ap, refl, sym, subst, arith}
-use Rattle.std.proofs.lemmas.List.{length-map}
-use Rattle.graph_core.specs.Graph.{Graph, size}
+use Rattle.counting.proofs.Common.{length-map}
+use Rattle.graph_core.specs.Common.{Graph, size, singles}
 use Rattle.graph_text.specs.Writing.{graph_text}
-use Rattle.tree_core.specs.Derivations.{IsDerivation}
-use Rattle.tree_core.specs.Leaves.{leaves}
-use Rattle.tree_core.specs.View.{shape_of}
-use Rattle.graph_core.specs.Partitions.{singles}
+use Rattle.tree_core.specs.Common.{IsDerivation, leaves, shape_of}
 use Rattle.tree_core.proofs.Sizes.{leaf_count-cuts, length-leaves_at, node_count-cuts}
 use Rattle.uncross.specs.MapView.{map_of, maps_of}
 use Rattle.report_text.specs.Growths.{grown_text}
 use Rattle.move_laws.specs.Pairings.{IsPairing}
-use Rattle.bench_outcomes.specs.Growths.{IsCounted}
+use Rattle.bench_outcomes.specs.Common.{IsCounted}
 use Rattle.decomposer.specs.Orders.{NamedPicks}
 use Rattle.decomposer.specs.declared.orders.NamedOrder.TheVariants.{First, Last}
 use Rattle.tree_core.proofs.FewLeaves.{few-nodes}

@@ -1,5 +1,5 @@
 use Rattle.std.proofs.Common.{ℕ, ◌-◌, ◌*◌, arith, sym, subst₂}
-use Rattle.bench_outcomes.specs.Facts.{HasMaximum}
+use Rattle.bench_outcomes.specs.Common.{HasMaximum}
 use Rattle.bench_reports.proofs.Sizes.{ends_within, has_maximum}
 use Rattle.bench_reports.proofs.judging.maximum_sizes.Goals as goal
 

@@ -1,6 +1,5 @@
 use Rattle.std.proofs.Common.{subst}
-use Rattle.tree_core.specs.MoveView.{moves_of}
-use Rattle.tree_core.specs.View.{shape_of}
+use Rattle.tree_core.specs.Common.{moves_of, shape_of}
 use Rattle.tree_check.specs.Replays.{IsReplay}
 use Rattle.tree_check.proofs.ReplaySteps.{reached-derivation}
 use Rattle.bench_reports.proofs.replaying.moves_report.Goals as goal

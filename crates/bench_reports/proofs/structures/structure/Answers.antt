@@ -1,6 +1,5 @@
 use Rattle.std.proofs.Common.{◌∙◌, ap, subst}
-use Rattle.graph_core.specs.Graph.{Graph}
-use Rattle.graph_core.specs.Structure.{cut_pair, equivalent_pair}
+use Rattle.graph_core.specs.Common.{Graph, cut_pair, equivalent_pair}
 use Rattle.leaf_kinds.specs.LeafKinds.{IsKind}
 use Rattle.tight_cuts.specs.Candidates.{candidates, first_shore}
 use Rattle.bench_reports.proofs.structures.structure.Goals as goal

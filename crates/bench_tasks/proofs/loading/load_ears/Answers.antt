@@ -1,5 +1,5 @@
 use Rattle.std.proofs.Common.{[], ◌∷◌, refl}
-use Rattle.std.proofs.lemmas.Result.{err_from_is_err_and}
+use Rattle.counting.proofs.Common.{err_from_is_err_and}
 use Rattle.graph_text.specs.SoFar.{named_graph}
 use Rattle.ear_core.specs.View.{ears_of}
 use Rattle.bench_tasks.specs.Loading.{graph_file, loaded_as, ear_file}

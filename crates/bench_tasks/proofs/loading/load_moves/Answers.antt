@@ -1,6 +1,6 @@
 use Rattle.std.proofs.Common.{[], ◌∷◌, refl}
-use Rattle.std.proofs.lemmas.Result.{err_from_is_err_and}
-use Rattle.tree_core.specs.MoveView.{moves_of}
+use Rattle.counting.proofs.Common.{err_from_is_err_and}
+use Rattle.tree_core.specs.Common.{moves_of}
 use Rattle.bench_tasks.specs.Loading.{loaded_as, move_file, tree_given}
 use Rattle.bench_tasks.specs.Answered.{place_name}
 use Rattle.bench_tasks.specs.Loads.{given_tree, given_moves}

@@ -1,7 +1,7 @@
 use Rattle.std.proofs.Common.{[], ◌∷◌, refl}
-use Rattle.std.proofs.lemmas.Result.{err_from_is_err_and}
+use Rattle.counting.proofs.Common.{err_from_is_err_and}
 use Rattle.graph_text.specs.SoFar.{named_graph}
-use Rattle.tree_core.specs.View.{shape_of}
+use Rattle.tree_core.specs.Common.{shape_of}
 use Rattle.bench_tasks.specs.Loading.{graph_file, loaded_as, tree_file}
 use Rattle.bench_tasks.specs.Answered.{place_name}
 use Rattle.bench_tasks.specs.Loads.{given_tree}

@@ -1,14 +1,11 @@
 use Rattle.std.proofs.Common.{List, ℕ, ◌≡◌, length, take, subst, ap, Err, ◌<◌}
 use Rattle.outside.specs.Sink.{IsCutOff, IsWritten, appended}
-use Rattle.bench_tasks.specs.Asked.{asked}
-use Rattle.bench_tasks.specs.Loading.{loaded}
-use Rattle.bench_tasks.specs.Files.{file_names}
-use Rattle.bench_tasks.specs.Loads.{task_of}
+use Rattle.bench_tasks.specs.Common.{asked, loaded, file_names, task_of}
 use Rattle.bench_top.proofs.GivenFiles.{given-outcome}
 use Rattle.bench_top.proofs.ReadsMade.{absent-fault, first-reads}
 use Rattle.bench_top.proofs.Refusals.{may-refuse}
 use Rattle.bench_top.proofs.Stops.{is-stop, reported-bad, stops-after, unread}
-use Rattle.bench_outcomes.specs.Outcome.{LoadedGives}
+use Rattle.bench_outcomes.specs.Common.{LoadedGives}
 use Rattle.bench_top.specs.Writes.{GivesTold}
 use Rattle.bench_top.proofs.WritesMade.{wrote-nothing, wrote-report}
 use Rattle.bench_top.proofs.performing.perform.Goals as goal

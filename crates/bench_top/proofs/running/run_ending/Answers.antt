@@ -1,12 +1,8 @@
 use Rattle.std.proofs.Common.{◌≡◌, ◌∙◌, [], map, Option, None, Some, refl, ap, inl, inr, rules, subst, sym}
-use Rattle.std.proofs.lemmas.Option.{same_Some}
+use Rattle.counting.proofs.Common.{same_Some}
 use Rattle.std.specs.Prelude.{string_bytes}
-use Rattle.bench_tasks.specs.Asked.{asked}
-use Rattle.bench_tasks.specs.Commands.{Command, command_of}
-use Rattle.bench_tasks.specs.Loading.{All, Absent, loaded}
-use Rattle.bench_outcomes.specs.Outcome.{CommandGives, CutShort}
-use Rattle.bench_outcomes.specs.Refusing.{MayRefuse}
-use Rattle.bench_tasks.specs.Reads.{names_in}
+use Rattle.bench_tasks.specs.Common.{asked, Command, command_of, All, Absent, loaded, names_in}
+use Rattle.bench_outcomes.specs.Common.{CommandGives, CutShort, MayRefuse}
 use Rattle.bench_top.specs.Endings.{IsStopOf, StopsAfter}
 use Rattle.bench_outcomes.specs.declared.status.Status.TheVariants.{Usage}
 use Rattle.bench_top.specs.Given.{GivenOutcome}

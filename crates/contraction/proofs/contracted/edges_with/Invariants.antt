@@ -1,7 +1,6 @@
 use Rattle.std.proofs.Common.{◌≡◌}
-use Rattle.counting.specs.Lists.{rising_list}
-use Rattle.graph_core.specs.Graph.{has_ends}
-use Rattle.graph_core.specs.View.{graph_of}
+use Rattle.counting.specs.Common.{rising_list}
+use Rattle.graph_core.specs.Common.{has_ends, graph_of}
 use Rattle.contraction.proofs.contracted.edges_with.Given as goal
 
 abbrev pub invariant-loop-k : goal.invariant-loop-k

@@ -1,5 +1,5 @@
 use Rattle.std.proofs.Common.{arith, subst}
-use Rattle.graph_core.specs.Partitions.{IsPartition}
+use Rattle.graph_core.specs.Common.{IsPartition}
 use Rattle.contraction.proofs.QuotientValues.{ends-at, ends-graph, few-blocks}
 use Rattle.contraction.proofs.contracted.quotient.Goals as goal
 

@@ -1,7 +1,5 @@
 use Rattle.std.proofs.Common.{◌≡◌, ap, sym, ◌∙◌, arith, subst}
-use Rattle.graph_core.specs.Graph.{Graph}
-use Rattle.graph_core.specs.Partitions.{IsPartition}
-use Rattle.graph_core.specs.View.{IsWithinLimits}
+use Rattle.graph_core.specs.Common.{Graph, IsPartition, IsWithinLimits}
 use Rattle.contraction.specs.Contracted.{ContractedValue, KeepsContraction, contraction}
 use Rattle.contraction.specs.Partition.{KeepsPartition, PartitionValue}
 use Rattle.contraction.proofs.QuotientValues.{contraction-same, few-blocks, length-ends, pairs-limits, pairs-once}

@@ -1,7 +1,6 @@
 use Rattle.std.proofs.Common.{◌≡◌, ℕ, ◌&&◌}
-use Rattle.counting.specs.Lists.{mem}
-use Rattle.counting.specs.Tests.{some}
-use Rattle.graph_core.specs.Partitions.{block}
+use Rattle.counting.specs.Common.{mem, some}
+use Rattle.graph_core.specs.Common.{block}
 use Rattle.contraction.proofs.contracted.union_at.Given as goal
 
 abbrev pub invariant-loop-i : goal.invariant-loop-i

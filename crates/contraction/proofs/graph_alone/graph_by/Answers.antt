@@ -1,8 +1,6 @@
 use Rattle.std.proofs.Common.{◌≡◌, ◌∙◌, arith}
-use Rattle.std.proofs.lemmas.Result.{IfOk-weaker}
-use Rattle.graph_core.specs.Graph.{Graph}
-use Rattle.graph_core.specs.Quotients.{quotient}
-use Rattle.graph_core.specs.View.{graph_of}
+use Rattle.counting.proofs.Common.{IfOk-weaker}
+use Rattle.graph_core.specs.Common.{Graph, quotient, graph_of}
 use Rattle.contraction.proofs.QuotientValues.{few-blocks, pairs-limits, pairs-quotient}
 use Rattle.contraction.proofs.graph_alone.graph_by.Goals as goal
 

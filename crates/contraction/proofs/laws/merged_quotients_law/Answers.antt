@@ -1,6 +1,5 @@
-use Rattle.graph_core.proofs.Complements.{complement_of-rises}
-use Rattle.graph_core.proofs.ShoreLists.{complement-tight}
-use Rattle.graph_core.specs.Partitions.{complement_of}
+use Rattle.graph_core.proofs.Common.{complement_of-rises, complement-tight}
+use Rattle.graph_core.specs.Common.{complement_of}
 use Rattle.contraction.proofs.MergedQuotients.{merged-blocks, merged-covered, tight-after, tight-before}
 use Rattle.contraction.proofs.laws.merged_quotients_law.Goals as goal
 

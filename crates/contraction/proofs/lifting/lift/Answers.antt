@@ -1,12 +1,9 @@
 use Rattle.std.proofs.Common.{◌≡◌, ℕ, Bool, false, ◌||◌, ◌==◌, List, ap, ap₂, ◌∙◌, subst, sym}
 use Rattle.std.specs.Prelude.{All}
 use Rattle.std.specs.List.{list_any}
-use Rattle.std.proofs.lemmas.Result.{IfOk-weaker}
-use Rattle.counting.specs.Counts.{Within}
-use Rattle.counting.specs.Lists.{mem, rising_list}
-use Rattle.graph_core.specs.Graph.{size}
-use Rattle.graph_core.specs.Partitions.{IsPerfectAt}
-use Rattle.graph_core.specs.Quotients.{lifted}
+use Rattle.counting.proofs.Common.{IfOk-weaker}
+use Rattle.counting.specs.Common.{Within, mem, rising_list}
+use Rattle.graph_core.specs.Common.{size, IsPerfectAt, lifted}
 use Rattle.match_search.proofs.Marks.{no-marks}
 use Rattle.match_core.specs.MatchingRows.{edges_of}
 use Rattle.match_search.specs.Rows.{marks}

@@ -1,5 +1,5 @@
 use Rattle.std.proofs.Common.{ℕ, ◌||◌, ◌==◌, sym, ap, ◌∙◌, take}
-use Rattle.counting.proofs.Booleans.{or_assoc}
+use Rattle.counting.proofs.Common.{or_assoc}
 use Rattle.std.specs.List.{list_any}
 use Rattle.match_search.specs.Rows.{marks}
 use Rattle.match_core.specs.declared.matching.MatchRow.{MatchRow}

@@ -1,5 +1,5 @@
 use Rattle.std.proofs.Common.{◌≡◌}
-use Rattle.counting.specs.Lists.{rising_list}
+use Rattle.counting.specs.Common.{rising_list}
 use Rattle.match_search.specs.Rows.{marks}
 use Rattle.contraction.proofs.lifting.marked_numbers.Given as goal
 

@@ -1,7 +1,7 @@
 use Rattle.std.proofs.Common.{◌≡◌, arith, ap, ◌∙◌, take, map, take_all}
-use Rattle.graph_core.specs.Partitions.{place}
+use Rattle.graph_core.specs.Common.{place}
 use Rattle.graph_core.specs.declared.ends.Ends.{Ends}
-use Rattle.graph_core.proofs.View.{ends_within}
+use Rattle.graph_core.proofs.Common.{ends_within}
 use Rattle.contraction.proofs.QuotientPairs.{ends-contracted}
 use Rattle.contraction.proofs.place_pairs.ends_at.Goals as goal
 

@@ -1,5 +1,5 @@
 use Rattle.std.proofs.Common.{arith, length}
-use Rattle.graph_core.proofs.View.{ends_within}
+use Rattle.graph_core.proofs.Common.{ends_within}
 use Rattle.contraction.proofs.place_pairs.note_edges.Goals as goal
 
 pub note_edge-requires-clause-first : goal.note_edge-requires-clause-first

@@ -1,9 +1,7 @@
 use Rattle.std.proofs.Common.{◌≡◌, ◌+◌, ◌-◌, ◌++◌, ◌∷◌, [], ℕ, List, ap, ap₂, sym, ◌∙◌, map, flat_map, arith, suc, get_or, inl, inr, subst, append-nil}
-use Rattle.std.proofs.lemmas.Bool.{cases_eq}
+use Rattle.counting.proofs.Common.{cases_eq, get_or_read}
 use Rattle.std.proofs.lemmas.Grind.{flat_map-append}
-use Rattle.std.proofs.lemmas.List.{get_or_read}
-use Rattle.counting.specs.Lists.{IsRisingIn, item, pair_with, rising_list}
-use Rattle.counting.specs.Sets.{everything}
+use Rattle.counting.specs.Common.{IsRisingIn, item, pair_with, rising_list, everything}
 use Rattle.contraction.proofs.place_pairs.row_pairs.Goals as goal
 
 more : (rows : List (List ℕ)) (row : List ℕ) (i : ℕ) (before after : List (ℕ × ℕ)) → item rows (i + 1) ≡ row → before ≡ flat_map (λ a. map (pair_with a) (item rows a)) (rising_list i everything) → after ≡ before ++ map (pair_with (i + 1)) row →

@@ -1,8 +1,6 @@
 use Rattle.std.proofs.Common.{◌≡◌, ℕ, map, flat_map}
-use Rattle.counting.specs.Counts.{Within}
-use Rattle.counting.specs.Lists.{IsRisingIn, item, pair_with, rising_list}
-use Rattle.counting.specs.Sets.{everything}
-use Rattle.graph_core.specs.View.{pair_of}
+use Rattle.counting.specs.Common.{Within, IsRisingIn, item, pair_with, rising_list, everything}
+use Rattle.graph_core.specs.Common.{pair_of}
 use Rattle.contraction.proofs.place_pairs.row_pairs.Given as goal
 
 abbrev pub invariant-loop-i : goal.invariant-loop-i

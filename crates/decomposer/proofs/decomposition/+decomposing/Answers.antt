@@ -1,11 +1,8 @@
 use Rattle.std.proofs.Common.{List, ℕ, ◌+◌, ◌≤◌, ap, length, arith, refl, rules, subst}
-use Rattle.std.proofs.lemmas.Result.{IfOk-weaker}
-use Rattle.counting.specs.Counts.{count}
-use Rattle.counting.specs.Lists.{mem}
-use Rattle.graph_core.specs.Shores.{blocks_in}
-use Rattle.tree_core.specs.Derivations.{IsDerivationAt, kept_at, merged_at}
-use Rattle.tree_core.specs.Shapes.{cut_count}
-use Rattle.tree_core.specs.View.{shape_of}
+use Rattle.counting.proofs.Common.{IfOk-weaker}
+use Rattle.counting.specs.Common.{count, mem}
+use Rattle.graph_core.specs.Common.{blocks_in}
+use Rattle.tree_core.specs.Common.{IsDerivationAt, kept_at, merged_at, cut_count, shape_of}
 use Rattle.decomposer.specs.Picked.{IsPickedAt}
 use Rattle.decomposer.proofs.Picking.{blocks-beside, blocks-inside, blocks-kept, cut-after, cut-derives, cut-picked}
 use Rattle.decomposer.proofs.decomposition.+decomposing.Goals as goal

@@ -1,7 +1,6 @@
 use Rattle.std.proofs.Common.{sym, subst}
-use Rattle.graph_core.specs.Graph.{Graph}
-use Rattle.graph_core.specs.Partitions.{singles}
-use Rattle.tree_core.specs.Derivations.{IsCutAt}
+use Rattle.graph_core.specs.Common.{Graph, singles}
+use Rattle.tree_core.specs.Common.{IsCutAt}
 use Rattle.decomposer.proofs.decomposition.decompose_covered.Goals as goal
 
 pub decompose_root-requires-clause-cut : goal.decompose_root-requires-clause-cut

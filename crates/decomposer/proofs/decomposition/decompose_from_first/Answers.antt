@@ -1,8 +1,7 @@
 use Rattle.std.proofs.Common.{sym, subst}
-use Rattle.graph_core.specs.Graph.{Graph}
-use Rattle.graph_core.specs.Partitions.{singles}
+use Rattle.graph_core.specs.Common.{Graph, singles}
 use Rattle.tight_cuts.specs.CandidatesAt.{candidates_at}
-use Rattle.tree_core.specs.Derivations.{IsCutAt}
+use Rattle.tree_core.specs.Common.{IsCutAt}
 use Rattle.decomposer.specs.Orders.{NamedPicks}
 use Rattle.decomposer.specs.Picked.{PicksShore}
 use Rattle.decomposer.specs.declared.orders.NamedOrder.TheVariants.{First}

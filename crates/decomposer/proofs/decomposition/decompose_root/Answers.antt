@@ -1,5 +1,5 @@
 use Rattle.std.proofs.Common.{List, ℕ, subst}
-use Rattle.tree_core.specs.View.{shape_of}
+use Rattle.tree_core.specs.Common.{shape_of}
 use Rattle.decomposer.specs.Picked.{IsPickedAt}
 use Rattle.decomposer.proofs.decomposition.decompose_root.Goals as goal
 

@@ -1,5 +1,5 @@
 use Rattle.std.proofs.Common.{rules}
-use Rattle.tree_core.specs.Derivations.{IsLeafAt}
+use Rattle.tree_core.specs.Common.{IsLeafAt}
 use Rattle.decomposer.proofs.Picking.{first-picked}
 use Rattle.decomposer.proofs.shores.picked_shore.Goals as goal
 

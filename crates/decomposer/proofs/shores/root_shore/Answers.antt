@@ -1,6 +1,6 @@
 use Rattle.std.proofs.Common.{rules}
-use Rattle.graph_core.specs.Partitions.{singles}
-use Rattle.tree_core.specs.Derivations.{IsLeafAt}
+use Rattle.graph_core.specs.Common.{singles}
+use Rattle.tree_core.specs.Common.{IsLeafAt}
 use Rattle.decomposer.proofs.Picking.{first-picked}
 use Rattle.decomposer.proofs.shores.root_shore.Goals as goal
 

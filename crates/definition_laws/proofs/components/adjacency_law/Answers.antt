@@ -1,5 +1,4 @@
-use Rattle.graph_core.proofs.Adjacency.{has_ends-from}
-use Rattle.graph_core.proofs.Walks.{adjacent-edge, adjacent_from, has_ends-cases}
+use Rattle.graph_core.proofs.Common.{has_ends-from, adjacent-edge, adjacent_from, has_ends-cases}
 use Rattle.definition_laws.proofs.components.adjacency_law.Goals as goal
 
 pub returns-clause-ends : goal.returns-clause-ends

@@ -1,9 +1,7 @@
-use Rattle.graph_core.proofs.Components.{length-components}
+use Rattle.graph_core.proofs.Common.{length-components, least_same, joined_back, joined_on, joined_self}
 use Rattle.definition_laws.proofs.Covering.{components-cover, components-once}
 use Rattle.definition_laws.proofs.Leaders.{components-are, count-leaders, count-odd_leaders, leader, least_found, least_says}
 use Rattle.definition_laws.proofs.ListOrders.{components-order, odd-lists}
-use Rattle.graph_core.proofs.Trees.{least_same}
-use Rattle.graph_core.proofs.Walks.{joined_back, joined_on, joined_self}
 use Rattle.definition_laws.proofs.components.component_law.Goals as goal
 
 pub returns-clause-same : goal.returns-clause-same

@@ -1,4 +1,4 @@
-use Rattle.graph_core.proofs.Decide.{is_equivalent_found, is_equivalent_says}
+use Rattle.graph_core.proofs.Common.{is_equivalent_found, is_equivalent_says}
 use Rattle.definition_laws.proofs.Covering.{classes-cover, classes-once}
 use Rattle.definition_laws.proofs.Leaders.{classes-are}
 use Rattle.definition_laws.proofs.ListOrders.{classes-order}

@@ -1,4 +1,4 @@
-use Rattle.graph_core.proofs.Decide.{reason-uncovered}
+use Rattle.graph_core.proofs.Common.{reason-uncovered}
 use Rattle.definition_laws.proofs.Reasons.{covered_or_reason, reason-one}
 use Rattle.definition_laws.proofs.covered.reason_law.Goals as goal
 

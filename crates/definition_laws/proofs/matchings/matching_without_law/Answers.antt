@@ -1,6 +1,5 @@
-use Rattle.graph_core.proofs.Decide.{is_matching_true, true_is_matching}
+use Rattle.graph_core.proofs.Common.{is_matching_true, true_is_matching, missed_edges}
 use Rattle.definition_laws.proofs.MatchingSizes.{has_matching_found, has_matching_says}
-use Rattle.graph_core.proofs.Edits.{missed_edges}
 use Rattle.definition_laws.proofs.MatchingWords.{matching-words, words-matching}
 use Rattle.definition_laws.proofs.matchings.matching_without_law.Goals as goal
 

@@ -1,5 +1,4 @@
-use Rattle.graph_core.proofs.Blocks.{place_in, place_is}
-use Rattle.graph_core.proofs.SameBlocks.{same_blocks}
+use Rattle.graph_core.proofs.Common.{place_in, place_is, same_blocks}
 use Rattle.definition_laws.proofs.partitions.blocks_law.Goals as goal
 
 pub returns-clause-one : goal.returns-clause-one

@@ -1,5 +1,5 @@
 use Rattle.std.proofs.Common.{◌≡◌, ◌≤◌}
-use Rattle.graph_core.specs.Graph.{size, with_ends}
+use Rattle.graph_core.specs.Common.{size, with_ends}
 use Rattle.match_search.specs.Rows.{marks}
 use Rattle.ear_core.specs.StageGraphs.{listed}
 use Rattle.ear_core.proofs.asking.marked_graph.Given as goal

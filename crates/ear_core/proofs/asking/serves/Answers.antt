@@ -1,6 +1,6 @@
 use Rattle.std.proofs.Common.{rules}
-use Rattle.std.proofs.lemmas.Bool.{true≢false}
-use Rattle.counting.specs.Lists.{mem}
+use Rattle.counting.proofs.Common.{true≢false}
+use Rattle.counting.specs.Common.{mem}
 use Rattle.match_core.specs.MatchingRows.{edges_of}
 use Rattle.ear_core.proofs.Searching.{asked-serves}
 use Rattle.ear_core.proofs.asking.serves.Goals as goal

@@ -1,6 +1,6 @@
 use Rattle.std.proofs.Common.{rules, ◌≡◌, ◌<◌, length, map, subst, sym, ℕ}
 use Rattle.std.proofs.Math.Path.{fun_ext}
-use Rattle.counting.specs.Sets.{Set, singleton}
+use Rattle.counting.specs.Common.{Set, singleton}
 use Rattle.match_search.specs.Rows.{marks}
 use Rattle.std.specs.Prelude.{slice_set}
 use Rattle.std.proofs.Common.{true}

@@ -1,6 +1,6 @@
 use Rattle.std.proofs.Common.{subst, sym, ℕ, List}
-use Rattle.counting.specs.Lists.{mem}
-use Rattle.graph_core.specs.Matchings.{IsPerfect, HasPerfect}
+use Rattle.counting.specs.Common.{mem}
+use Rattle.graph_core.specs.Common.{IsPerfect, HasPerfect}
 use Rattle.match_core.specs.MatchingRows.{edges_of}
 use Rattle.ear_core.proofs.Stepping.{covered-edge, covered-allowed, covered-perfect}
 use Rattle.ear_core.proofs.building.matching_with_first.Goals as goal

@@ -1,7 +1,7 @@
 use Rattle.std.proofs.Common.{ap, subst, sym, map, List, IfOk}
-use Rattle.std.proofs.lemmas.Result.{IfOk-weaker}
-use Rattle.counting.specs.Sets.{none}
-use Rattle.graph_core.specs.Graph.{size}
+use Rattle.counting.proofs.Common.{IfOk-weaker}
+use Rattle.counting.specs.Common.{none}
+use Rattle.graph_core.specs.Common.{size}
 use Rattle.match_search.specs.Rows.{marks}
 use Rattle.ear_core.specs.AlternatingEars.{AreCandidates, AreMatedEars, IsChosen, KeepsMates, row_edge}
 use Rattle.ear_core.specs.EarLists.{FitsStep, IsNeeded, IsSingle, IsStep, next_stage}

@@ -1,8 +1,8 @@
 use Rattle.std.proofs.Common.{rules, ◌≡◌, ◌∙◌, ◌++◌, ◌∷◌, ◌&&◌, ◌||◌, [], ap, arith, append-nil, subst, sym, map, not, List, All, Bool, false, IfSome, ℕ}
 use Rattle.std.specs.List.{AllByRecursion}
-use Rattle.std.proofs.lemmas.List.{map-append}
-use Rattle.counting.specs.Counts.{Within}
-use Rattle.graph_core.specs.Graph.{size, first_end, second_end}
+use Rattle.counting.proofs.Common.{map-append}
+use Rattle.counting.specs.Common.{Within}
+use Rattle.graph_core.specs.Common.{size, first_end, second_end}
 use Rattle.match_search.specs.Rows.{marks}
 use Rattle.ear_core.specs.AlternatingEars.{row_edge, KeepsMates}
 use Rattle.ear_core.specs.EarLists.{PlainStep, AreForced, AreNeeded, AreSteps, IsForced, IsNeeded, IsSingle, IsStep, next_stage}

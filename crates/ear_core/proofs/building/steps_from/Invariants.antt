@@ -1,8 +1,7 @@
 use Rattle.std.proofs.Common.{◌≡◌, ◌+◌, ◌++◌, List, map, length}
 use Rattle.std.specs.List.{AllByRecursion}
-use Rattle.counting.specs.Counts.{count}
-use Rattle.counting.specs.Sets.{complement}
-use Rattle.graph_core.specs.Graph.{size, IsBipartite}
+use Rattle.counting.specs.Common.{count, complement}
+use Rattle.graph_core.specs.Common.{size, IsBipartite}
 use Rattle.match_search.specs.Rows.{marks}
 use Rattle.ear_core.specs.AlternatingEars.{KeepsMates, row_edge}
 use Rattle.ear_core.specs.EarLists.{PlainStep, AreForced, AreNeeded, AreSteps, IsSingle}

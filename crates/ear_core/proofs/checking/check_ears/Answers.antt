@@ -1,6 +1,6 @@
 use Rattle.std.proofs.Common.{rules, ◌≡◌, ◌<◌, ap, map, length, true, ℕ}
 use Rattle.std.specs.Prelude.{slice_set}
-use Rattle.counting.specs.Sets.{singleton}
+use Rattle.counting.specs.Common.{singleton}
 use Rattle.match_search.specs.Rows.{marks}
 use Rattle.ear_core.specs.View.{step_of, ears_of}
 use Rattle.ear_core.proofs.Judging.{one-marked, one-stage, judged-accepted, judged-refused}

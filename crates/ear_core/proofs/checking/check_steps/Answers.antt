@@ -1,7 +1,7 @@
 use Rattle.std.proofs.Common.{rules, ◌≡◌, ◌+◌, ◌∙◌, ◌∷◌, List, ap, arith, inl, refl, subst, sym, map, Some, None}
 use Rattle.std.specs.List.{AllByRecursion}
-use Rattle.counting.proofs.Counts.{count_le}
-use Rattle.graph_core.specs.Graph.{size}
+use Rattle.counting.proofs.Common.{count_le}
+use Rattle.graph_core.specs.Common.{size}
 use Rattle.match_search.specs.Rows.{marks}
 use Rattle.ear_core.specs.EarLists.{FitsStep, PlainStep}
 use Rattle.ear_core.specs.Refusals.{IsJudged}

@@ -1,7 +1,7 @@
 use Rattle.std.proofs.Common.{◌≡◌, ◌+◌, ◌≤◌, ℕ, length, map, Option}
 use Rattle.std.specs.List.{AllByRecursion}
-use Rattle.counting.specs.Counts.{count}
-use Rattle.graph_core.specs.Graph.{size}
+use Rattle.counting.specs.Common.{count}
+use Rattle.graph_core.specs.Common.{size}
 use Rattle.match_search.specs.Rows.{marks}
 use Rattle.ear_core.specs.EarLists.{FitsStep}
 use Rattle.ear_core.specs.EarTests.{PlainWhy}

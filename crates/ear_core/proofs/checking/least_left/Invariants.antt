@@ -1,5 +1,5 @@
 use Rattle.std.proofs.Common.{◌≡◌, ℕ, true}
-use Rattle.counting.specs.Counts.{Within}
+use Rattle.counting.specs.Common.{Within}
 use Rattle.match_search.specs.Rows.{marks}
 use Rattle.ear_core.proofs.checking.least_left.Given as goal
 

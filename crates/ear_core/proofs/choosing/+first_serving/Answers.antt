@@ -1,6 +1,5 @@
 use Rattle.std.proofs.Common.{rules, ◌≡◌, ◌∙◌, ap, ap₂, map, sym, ◌||◌, ℕ}
-use Rattle.counting.specs.Lists.{mem}
-use Rattle.counting.specs.Sets.{union}
+use Rattle.counting.specs.Common.{mem, union}
 use Rattle.ear_core.specs.AlternatingEars.{ends_of_ear}
 use Rattle.ear_core.specs.Asking.{FindsBeside, NoneServesBeside}
 use Rattle.ear_core.specs.View.{ear_of}

@@ -1,5 +1,5 @@
 use Rattle.std.proofs.Common.{rules, ap, map, [], ℕ, List}
-use Rattle.counting.specs.Lists.{mem}
+use Rattle.counting.specs.Common.{mem}
 use Rattle.match_search.specs.Rows.{marks}
 use Rattle.ear_core.specs.AlternatingEars.{IsChosen}
 use Rattle.ear_core.specs.Asking.{FindsBeside, FindsTwo, NoneServes, NoTwoServe}

@@ -1,6 +1,6 @@
 use Rattle.std.proofs.Common.{◌≡◌, All, length}
-use Rattle.counting.specs.Counts.{Within}
-use Rattle.graph_core.specs.Graph.{size}
+use Rattle.counting.specs.Common.{Within}
+use Rattle.graph_core.specs.Common.{size}
 use Rattle.ear_core.specs.Ears.{last_vertex}
 use Rattle.ear_core.proofs.choosing.ends_of.Given as goal
 

@@ -1,7 +1,6 @@
 use Rattle.std.proofs.Common.{◌≡◌, ◌||◌, ◌==◌, ◌&&◌, ℕ}
-use Rattle.counting.specs.Lists.{mem}
-use Rattle.counting.specs.Tests.{some}
-use Rattle.graph_core.specs.Graph.{first_end, second_end}
+use Rattle.counting.specs.Common.{mem, some}
+use Rattle.graph_core.specs.Common.{first_end, second_end}
 use Rattle.match_search.specs.Rows.{marks}
 use Rattle.ear_core.proofs.faults.met_by.Given as goal
 

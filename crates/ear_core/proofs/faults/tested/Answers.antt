@@ -1,5 +1,5 @@
 use Rattle.std.proofs.Common.{rules, ◌≡◌, ◌∙◌, sym, ap}
-use Rattle.counting.specs.Counts.{is_odd}
+use Rattle.counting.specs.Common.{is_odd}
 use Rattle.match_search.specs.Rows.{marks}
 use Rattle.ear_core.specs.EarTests.{has_odd_length, has_good_ends, has_free_inner, has_new_edges}
 use Rattle.ear_core.proofs.FirstFaults.{fault-length, fault-ends, fault-inner, fault-edge, fault-none, ends-same, free-same}

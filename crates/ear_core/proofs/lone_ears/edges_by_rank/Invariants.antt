@@ -1,6 +1,5 @@
 use Rattle.std.proofs.Common.{◌≡◌, ◌≤◌}
-use Rattle.counting.specs.Counts.{count}
-use Rattle.counting.specs.Lists.{mem, rising_list}
+use Rattle.counting.specs.Common.{count, mem, rising_list}
 use Rattle.match_search.specs.Rows.{marks}
 use Rattle.match_core.specs.MatchingRows.{edges_of}
 use Rattle.ear_core.specs.StageGraphs.{by_rank}

@@ -1,7 +1,6 @@
 use Rattle.std.proofs.Common.{◌≡◌, ◌+◌, arith, ap, inl, inr, subst, sym, ◌∙◌, List, Bool}
-use Rattle.std.proofs.lemmas.Bool.{cases_lt, both_ways}
-use Rattle.counting.specs.Lists.{mem}
-use Rattle.counting.specs.Sets.{Set}
+use Rattle.counting.proofs.Common.{cases_lt, both_ways}
+use Rattle.counting.specs.Common.{mem, Set}
 use Rattle.match_search.specs.Rows.{marks}
 use Rattle.ear_core.specs.LoneEars.{IsPerfectBy, is_open}
 use Rattle.ear_core.proofs.LoneMatchings.{pair-is, same-by}

@@ -1,7 +1,5 @@
 use Rattle.std.proofs.Common.{◌≡◌, ◌<◌, ℕ, true}
-use Rattle.counting.specs.Counts.{Within}
-use Rattle.counting.specs.Lists.{mem}
-use Rattle.counting.specs.Sets.{Set}
+use Rattle.counting.specs.Common.{Within, mem, Set}
 use Rattle.match_search.specs.Rows.{marks}
 use Rattle.ear_core.specs.LoneEars.{IsPerfectBy, is_open}
 use Rattle.ear_core.proofs.lone_ears.lone_from.Given as goal

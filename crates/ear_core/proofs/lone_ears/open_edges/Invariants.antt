@@ -1,8 +1,6 @@
 use Rattle.std.proofs.Common.{◌≡◌, ◌+◌, ℕ, length}
-use Rattle.counting.specs.Counts.{Within}
-use Rattle.counting.specs.Lists.{mem}
-use Rattle.counting.specs.Sets.{pair_set}
-use Rattle.graph_core.specs.Graph.{size}
+use Rattle.counting.specs.Common.{Within, mem, pair_set}
+use Rattle.graph_core.specs.Common.{size}
 use Rattle.match_search.specs.Rows.{marks}
 use Rattle.ear_core.specs.LoneEars.{is_open}
 use Rattle.ear_core.specs.Stages.{is_met}

@@ -1,9 +1,6 @@
 use Rattle.std.proofs.Common.{subst, sym, List, All, ℕ}
-use Rattle.counting.specs.Counts.{Within}
-use Rattle.counting.specs.Lists.{mem}
-use Rattle.counting.specs.Sets.{none}
-use Rattle.graph_core.specs.Graph.{Graph, size, with_ends}
-use Rattle.graph_core.specs.Matchings.{HasPerfect, IsPerfect}
+use Rattle.counting.specs.Common.{Within, mem, none}
+use Rattle.graph_core.specs.Common.{Graph, size, with_ends, HasPerfect, IsPerfect}
 use Rattle.match_core.specs.MatchingRows.{edges_of}
 use Rattle.match_search.specs.Questions.{HasPerfectWith, HoldsAll}
 use Rattle.match_search.specs.Rows.{marks}

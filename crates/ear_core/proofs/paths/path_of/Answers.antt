@@ -1,7 +1,6 @@
 use Rattle.std.proofs.Common.{rules, ◌≡◌, ◌||◌, ◌∙◌, sym, ap, ap₂, subst, ℕ, All, List, false, IfNone}
-use Rattle.counting.specs.Counts.{Within}
-use Rattle.counting.specs.Lists.{mem}
-use Rattle.graph_core.specs.Graph.{size}
+use Rattle.counting.specs.Common.{Within, mem}
+use Rattle.graph_core.specs.Common.{size}
 use Rattle.ear_core.specs.Ears.{last_vertex}
 use Rattle.ear_core.specs.EarTests.{is_path, inner_vertices}
 use Rattle.ear_core.proofs.Walking.{goes_on, path-goes, not_joined, passed_before, first_again, walk_ends, walk_on, nothing_left, all-behind}

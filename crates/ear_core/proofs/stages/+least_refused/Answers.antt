@@ -1,6 +1,6 @@
 use Rattle.std.proofs.Common.{rules, arith, ◌≡◌, true}
-use Rattle.counting.specs.Counts.{Within}
-use Rattle.graph_core.specs.Graph.{size}
+use Rattle.counting.specs.Common.{Within}
+use Rattle.graph_core.specs.Common.{size}
 use Rattle.ear_core.specs.Stages.{with_edges}
 use Rattle.ear_core.specs.StageGraphs.{asked_too}
 use Rattle.ear_core.proofs.FirstFaults.{first-item, items-behind}

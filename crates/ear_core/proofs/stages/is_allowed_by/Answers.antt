@@ -1,6 +1,6 @@
-use Rattle.std.proofs.lemmas.Result.{IfOk-weaker}
+use Rattle.counting.proofs.Common.{IfOk-weaker}
 use Rattle.std.proofs.Common.{◌≡◌, false, true}
-use Rattle.counting.specs.Lists.{mem}
+use Rattle.counting.specs.Common.{mem}
 use Rattle.ear_core.specs.AlternatingEars.{Serves}
 use Rattle.ear_core.specs.Stages.{AllowedBy}
 use Rattle.ear_core.proofs.Settling.{ends-serve}

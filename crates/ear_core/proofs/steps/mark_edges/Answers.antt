@@ -1,5 +1,5 @@
 use Rattle.std.proofs.Common.{◌∙◌, ◌<◌, length, subst, sym}
-use Rattle.counting.specs.Lists.{mem}
+use Rattle.counting.specs.Common.{mem}
 use Rattle.match_search.specs.Rows.{marks}
 use Rattle.allowed_edges.proofs.Marking.{length-marked}
 use Rattle.ear_core.proofs.FirstFaults.{first-item, items-behind}

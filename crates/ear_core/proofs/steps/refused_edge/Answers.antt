@@ -1,5 +1,5 @@
 use Rattle.std.proofs.Common.{◌≡◌, ◌∙◌, All, ap, ap₂, subst, sym, true, List, ℕ}
-use Rattle.counting.specs.Sets.{none}
+use Rattle.counting.specs.Common.{none}
 use Rattle.match_search.specs.Rows.{marks}
 use Rattle.ear_core.specs.EarLists.{next_stage}
 use Rattle.ear_core.specs.Stages.{with_edges}

@@ -1,7 +1,6 @@
 use Rattle.std.proofs.Common.{rules, ◌≡◌, ◌∙◌, ap, subst, refl, sym, List, Bool, ℕ, All, IfSome, Option, Some, None, inl, inr}
-use Rattle.counting.specs.Counts.{Within}
-use Rattle.counting.specs.Sets.{none}
-use Rattle.graph_core.specs.Graph.{size}
+use Rattle.counting.specs.Common.{Within, none}
+use Rattle.graph_core.specs.Common.{size}
 use Rattle.match_search.specs.Rows.{marks}
 use Rattle.ear_core.specs.EarLists.{next_stage}
 use Rattle.ear_core.specs.Refusals.{step_fault}

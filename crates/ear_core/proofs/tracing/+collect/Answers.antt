@@ -1,8 +1,6 @@
 use Rattle.std.proofs.Common.{rules, ◌≡◌, ◌∙◌, ◌++◌, ◌∷◌, [], ap, arith, sym, subst, true, false, map, List, ℕ, append-nil}
-use Rattle.std.proofs.lemmas.Result.{IfOk-weaker}
-use Rattle.std.proofs.lemmas.List.{map-append}
-use Rattle.counting.specs.Counts.{Within}
-use Rattle.counting.specs.Lists.{mem}
+use Rattle.counting.proofs.Common.{IfOk-weaker, map-append}
+use Rattle.counting.specs.Common.{Within, mem}
 use Rattle.match_search.specs.Rows.{marks}
 use Rattle.ear_core.specs.AlternatingEars.{row_edge, is_left, AreMatedEars, IsTraced}
 use Rattle.ear_core.specs.EarLists.{PlainEar}

@@ -1,6 +1,4 @@
-use Rattle.counting.specs.Counts.{count}
-use Rattle.counting.specs.Lists.{mem}
-use Rattle.counting.specs.Sets.{complement}
+use Rattle.counting.specs.Common.{count, mem, complement}
 use Rattle.ear_core.proofs.tracing.+trace.Given as goal
 
 -- fewer vertices are not used

@@ -1,7 +1,6 @@
 use Rattle.std.proofs.Common.{◌≡◌, ◌∙◌, true, Bool, Result, Ok, map, is_some, subst, sym, ap, ap₂, rules}
 use Rattle.std.specs.Option.{option_map}
-use Rattle.line_text.specs.Reading.{Refuses}
-use Rattle.line_text.specs.Words.{texts_of}
+use Rattle.line_text.specs.Common.{Refuses, texts_of}
 use Rattle.text_faults.specs.declared.faults.FaultKind.{FaultKind}
 use Rattle.ear_core.specs.EarLists.{PlainEar}
 use Rattle.ear_core.specs.View.{ear_of, step_of}

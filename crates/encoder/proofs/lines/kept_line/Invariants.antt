@@ -1,6 +1,6 @@
 use Rattle.std.proofs.Common.{◌≡◌, ◌-◌, [], length}
 use Rattle.std.specs.Prelude.{slice_index_or}
-use Rattle.line_text.specs.Lines.{lines_of}
+use Rattle.line_text.specs.Common.{lines_of}
 use Rattle.encoder.proofs.lines.kept_line.Given as goal
 
 abbrev pub invariant-passing : goal.invariant-passing

@@ -1,5 +1,5 @@
 use Rattle.std.proofs.Common.{◌+◌, ◌*◌, [], arith, eqb-true}
-use Rattle.counting.proofs.RisingLists.{set-none}
+use Rattle.counting.proofs.Common.{set-none}
 use Rattle.match_core.proofs.ClearedMatchings.{left_size}
 use Rattle.match_core.proofs.MatchingEdges.{rows-matching}
 use Rattle.engine_tests.proofs.matchings.misses_two.Goals as goal

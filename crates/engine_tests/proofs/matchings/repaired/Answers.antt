@@ -1,6 +1,6 @@
 use Rattle.std.proofs.Common.{sym, subst}
-use Rattle.counting.specs.Lists.{mem}
-use Rattle.graph_core.specs.Matchings.{IsMatching}
+use Rattle.counting.specs.Common.{mem}
+use Rattle.graph_core.specs.Common.{IsMatching}
 use Rattle.match_core.specs.MatchingRows.{edges_of}
 use Rattle.match_core.proofs.MatchingEdges.{rows-matching}
 use Rattle.engine_tests.proofs.matchings.repaired.Goals as goal

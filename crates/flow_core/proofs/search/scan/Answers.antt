@@ -1,6 +1,6 @@
 -- Each arc at the node is passed over or taken, by the lemmas on a search that is scanning a row.
 use Rattle.std.proofs.Common.{get_or, sym, ◌∙◌, subst, refl}
-use Rattle.std.proofs.lemmas.List.{get_or_read}
+use Rattle.counting.proofs.Common.{get_or_read}
 use Rattle.flow_core.proofs.Reading.{IsNet-at}
 use Rattle.flow_core.proofs.Scanning.{IsScanning, IsScanning-start, IsScanning-seen, IsScanning-full, IsScanning-end, IsPlaced-row, Leads, Leads-read, taken-facts}
 use Rattle.flow_core.proofs.search.scan.Goals as goal

@@ -1,6 +1,6 @@
 use Rattle.std.proofs.Common.{◌≡◌, ◌-◌, length}
 use Rattle.std.specs.Prelude.{slice_get}
-use Rattle.line_text.specs.Lines.{lines_of}
+use Rattle.line_text.specs.Common.{lines_of}
 use Rattle.front_words.proofs.lines.line_at.Given as goal
 
 abbrev pub invariant-passing : goal.invariant-passing

@@ -1,9 +1,7 @@
 use Rattle.std.proofs.Common.{sym, subst, ap, ◌∙◌, List, ℕ, Bool, not, ◌&&◌}
-use Rattle.counting.specs.Counts.{Within}
-use Rattle.counting.specs.Sets.{everything}
-use Rattle.counting.specs.Lists.{mem, IsRisingIn}
-use Rattle.counting.proofs.RisingLists.{rising_list-rises}
-use Rattle.graph_core.specs.GallaiEdmonds.{InD, InA}
+use Rattle.counting.specs.Common.{Within, everything, mem, IsRisingIn}
+use Rattle.counting.proofs.Common.{rising_list-rises}
+use Rattle.graph_core.specs.Common.{InD, InA}
 use Rattle.gallai_edmonds.proofs.ThreeParts.{listed, rest_listed}
 use Rattle.gallai_edmonds.proofs.three_sets.sets_of.Goals as goal
 

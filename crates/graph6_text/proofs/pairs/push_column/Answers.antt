@@ -1,6 +1,6 @@
 use Rattle.std.proofs.Common.{◌≡◌, ◌++◌, ◌∷◌, ◌∙◌, ◌+◌, ◌-◌, ap, arith, map, [], ℕ, sym}
-use Rattle.std.proofs.lemmas.List.{map-append}
-use Rattle.graph_core.specs.View.{pair_of}
+use Rattle.counting.proofs.Common.{map-append}
+use Rattle.graph_core.specs.Common.{pair_of}
 use Rattle.graph6_text.specs.Pairs.{column}
 use Rattle.graph6_text.proofs.Columns.{column_more}
 use Rattle.graph6_text.proofs.pairs.push_column.Goals as goal

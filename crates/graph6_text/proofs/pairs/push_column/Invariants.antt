@@ -1,5 +1,5 @@
 use Rattle.std.proofs.Common.{◌≡◌, ◌-◌, ◌++◌, map}
-use Rattle.graph_core.specs.View.{pair_of}
+use Rattle.graph_core.specs.Common.{pair_of}
 use Rattle.graph6_text.specs.Pairs.{column}
 use Rattle.graph6_text.proofs.pairs.push_column.Given as goal
 

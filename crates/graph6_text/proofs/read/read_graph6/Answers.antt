@@ -1,8 +1,8 @@
 use Rattle.std.proofs.Common.{◌≡◌, ◌∙◌, ap, sym, subst, take, drop, List, ℕ, Result, Ok, Err, None}
-use Rattle.std.proofs.lemmas.Result.{err_from_is_err_and, IfOk-weaker, IfErr-weaker}
+use Rattle.std.proofs.lemmas.Result.{IfErr-weaker}
+use Rattle.counting.proofs.Common.{err_from_is_err_and, IfOk-weaker}
 use Rattle.std.specs.Result.{IfOk, OnOk}
-use Rattle.graph_core.specs.Graph.{Graph}
-use Rattle.graph_core.specs.Simple.{IsSimple}
+use Rattle.graph_core.specs.Common.{Graph, IsSimple}
 use Rattle.graph6_text.proofs.Canonical.{simple-graph_of}
 use Rattle.graph6_text.specs.Checks.{IsFirstFault}
 use Rattle.graph6_text.specs.Reading.{faults_of, first_fault, graph_of, outcome_of}

@@ -1,7 +1,7 @@
 use Rattle.std.proofs.Common.{◌≡◌, ◌∙◌, ◌++◌, drop, length, map, ap, arith, subst, None}
-use Rattle.std.proofs.lemmas.List.{length-map}
-use Rattle.std.proofs.lemmas.Result.{err_from_is_err_and, IfOk-weaker, IfErr-weaker, on_ok_weaker}
-use Rattle.graph_core.specs.View.{pair_of}
+use Rattle.counting.proofs.Common.{length-map, err_from_is_err_and, IfOk-weaker}
+use Rattle.std.proofs.lemmas.Result.{IfErr-weaker, on_ok_weaker}
+use Rattle.graph_core.specs.Common.{pair_of}
 use Rattle.graph6_text.specs.Digits.{bits_of}
 use Rattle.graph6_text.specs.Pairs.{chosen, column_pairs}
 use Rattle.graph6_text.specs.Checks.{IsFirstFault, limit_row}

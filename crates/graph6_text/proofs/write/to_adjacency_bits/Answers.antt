@@ -1,7 +1,6 @@
 use Rattle.std.proofs.Common.{◌∙◌, ℕ, List, map, take_all, ap, arith}
-use Rattle.counting.specs.Sets.{none}
-use Rattle.graph_core.specs.View.{pair_of}
-use Rattle.graph_core.specs.Walks.{adjacent}
+use Rattle.counting.specs.Common.{none}
+use Rattle.graph_core.specs.Common.{pair_of, adjacent}
 use Rattle.graph_core.specs.declared.ends.Ends.{Ends}
 use Rattle.graph6_text.specs.Writing.{adjacency_bits}
 use Rattle.graph6_text.proofs.Columns.{pair_within}

@@ -1,7 +1,6 @@
 use Rattle.std.proofs.Common.{◌≡◌, map, take}
-use Rattle.counting.specs.Sets.{none}
-use Rattle.graph_core.specs.View.{pair_of}
-use Rattle.graph_core.specs.Walks.{adjacent}
+use Rattle.counting.specs.Common.{none}
+use Rattle.graph_core.specs.Common.{pair_of, adjacent}
 use Rattle.graph6_text.specs.Pairs.{column_pairs}
 use Rattle.graph6_text.proofs.write.to_adjacency_bits.Given as goal
 

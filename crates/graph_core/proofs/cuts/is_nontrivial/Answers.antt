@@ -1,5 +1,5 @@
 use Rattle.std.proofs.Common.{◌≡◌, sym, ap, ◌∙◌, nat_le, ◌&&◌, ◌-◌, Bool, false}
-use Rattle.std.proofs.lemmas.Bool.{le-leb, lt-leb}
+use Rattle.counting.proofs.Common.{le-leb, lt-leb}
 use Rattle.graph_core.proofs.CutLists.{length-in, nontrivial-length}
 use Rattle.graph_core.proofs.cuts.is_nontrivial.Goals as goal
 

@@ -1,5 +1,5 @@
 use Rattle.std.proofs.Common.{subst, sym}
-use Rattle.counting.specs.Sets.{none}
+use Rattle.counting.specs.Common.{none}
 use Rattle.graph_core.proofs.SingleBlocks.{contracted-singles, singles-tight, tight-singles}
 use Rattle.graph_core.proofs.Singles.{singles-partition}
 use Rattle.graph_core.specs.Matchings.{IsPerfect}

@@ -1,8 +1,6 @@
 use Rattle.std.proofs.Common.{◌≡◌, ℕ, length, true, ◌==◌, ap, sym, ◌∙◌, arith, List}
-use Rattle.std.proofs.lemmas.Bool.{both_ways, false_from_ne_true}
-use Rattle.counting.specs.Counts.{Within}
-use Rattle.counting.specs.Lists.{mem}
-use Rattle.counting.proofs.Booleans.{or_false}
+use Rattle.counting.proofs.Common.{both_ways, false_from_ne_true, or_false}
+use Rattle.counting.specs.Common.{Within, mem}
 use Rattle.graph_core.specs.Graph.{Graph}
 use Rattle.graph_core.specs.FoundVertices.{IsGrowth}
 use Rattle.graph_core.specs.Nodes.{parent_at, depth_at}

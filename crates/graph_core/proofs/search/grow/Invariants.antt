@@ -1,6 +1,5 @@
 use Rattle.std.proofs.Common.{◌≡◌, ◌+◌, ◌*◌, ℕ, length, false}
-use Rattle.counting.specs.Counts.{Within, count}
-use Rattle.counting.specs.Lists.{mem}
+use Rattle.counting.specs.Common.{Within, count, mem}
 use Rattle.graph_core.specs.Graph.{Graph, IsGraph}
 use Rattle.graph_core.specs.FoundVertices.{IsGrowth}
 use Rattle.graph_core.specs.Nodes.{node_at, parent_at, depth_at}

@@ -1,8 +1,7 @@
 use Rattle.std.proofs.Common.{◌<◌, not, ap, sym, ◌∙◌, subst, arith}
-use Rattle.std.proofs.lemmas.Bool.{and_from, and_parts, not-true, not_from_false}
-use Rattle.counting.specs.Counts.{count}
-use Rattle.counting.specs.Lists.{mem}
-use Rattle.counting.proofs.RisingLists.{set-narrower}
+use Rattle.std.proofs.lemmas.Bool.{not_from_false}
+use Rattle.counting.proofs.Common.{and_from, and_parts, not-true, set-narrower}
+use Rattle.counting.specs.Common.{count, mem}
 use Rattle.graph_core.specs.FoundVertices.{IsStage}
 use Rattle.graph_core.specs.Nodes.{parent_at, depth_at}
 use Rattle.graph_core.specs.declared.tree.TreeNode.{TreeNode}

@@ -1,6 +1,5 @@
 use Rattle.std.proofs.Common.{length}
-use Rattle.counting.specs.Counts.{count}
-use Rattle.counting.specs.Lists.{mem}
+use Rattle.counting.specs.Common.{count, mem}
 use Rattle.graph_core.specs.Graph.{Graph, IsGraph}
 use Rattle.graph_core.specs.FoundVertices.{IsStage}
 use Rattle.graph_core.specs.Nodes.{parent_at, depth_at}

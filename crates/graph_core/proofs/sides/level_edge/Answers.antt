@@ -1,5 +1,5 @@
 use Rattle.std.proofs.Common.{◌≡◌, Bool, true, false, not, sym, ap, ◌∙◌, arith, length, get_or, inl, inr}
-use Rattle.std.proofs.lemmas.Bool.{cases_eq, true≢false}
+use Rattle.counting.proofs.Common.{cases_eq, true≢false}
 use Rattle.std.proofs.lemmas.List.{get_or_default}
 use mathlib.Core.Bool.{beq}
 use Rattle.graph_core.specs.declared.ends.Ends.{Ends}

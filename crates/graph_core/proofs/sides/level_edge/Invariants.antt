@@ -1,5 +1,5 @@
 use Rattle.std.proofs.Common.{◌≡◌, ◌<◌, ℕ, not, get_or}
-use Rattle.counting.specs.Counts.{is_odd}
+use Rattle.counting.specs.Common.{is_odd}
 use Rattle.graph_core.specs.Nodes.{depth_at}
 use Rattle.graph_core.specs.declared.ends.Ends.{Ends}
 use Rattle.graph_core.proofs.sides.level_edge.Given as goal

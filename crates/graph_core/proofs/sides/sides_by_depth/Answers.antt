@@ -1,8 +1,6 @@
 use Rattle.std.proofs.Common.{◌≡◌, ◌∷◌, ◌++◌, sym, length, subst, not, List, refl}
 use Rattle.std.specs.Prelude.{All, Contains}
-use Rattle.counting.specs.Counts.{is_odd}
-use Rattle.counting.specs.Lists.{rising_list}
-use Rattle.counting.specs.Sets.{none}
+use Rattle.counting.specs.Common.{is_odd, rising_list, none}
 use Rattle.graph_core.specs.Components.{is_least}
 use Rattle.graph_core.specs.Graph.{IsGraph}
 use Rattle.graph_core.specs.Nodes.{depth_at, is_even_at, parent_at}

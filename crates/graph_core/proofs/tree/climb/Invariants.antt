@@ -1,5 +1,5 @@
 use Rattle.std.proofs.Common.{◌≡◌, ◌++◌, length}
-use Rattle.counting.specs.Counts.{Within}
+use Rattle.counting.specs.Common.{Within}
 use Rattle.graph_core.specs.Nodes.{parent_at, depth_at}
 use Rattle.graph_core.specs.Trees.{way_up}
 use Rattle.graph_core.proofs.tree.climb.Given as goal

@@ -1,5 +1,5 @@
 use Rattle.std.proofs.Common.{◌≡◌}
-use Rattle.counting.specs.Lists.{rising_list}
+use Rattle.counting.specs.Common.{rising_list}
 use Rattle.graph_core.specs.Nodes.{is_even_at}
 use Rattle.graph_core.proofs.tree.even_vertices.Given as goal
 

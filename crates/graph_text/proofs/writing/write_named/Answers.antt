@@ -1,5 +1,5 @@
 use Rattle.std.proofs.Common.{subst, sym, ◌∙◌, ap, string_bytes, Vec, ℕ, Global, Some}
-use Rattle.line_text.specs.Format.{Stands}
+use Rattle.line_text.specs.Common.{Stands}
 use Rattle.graph_text.specs.EitherVersion.{either_version}
 use Rattle.graph_text.specs.Writing.{FitsNames}
 use Rattle.line_text.proofs.ExactlyOne.{StandsAlone-stands}

@@ -1,5 +1,5 @@
 use Rattle.std.proofs.Common.{◌≡◌, ℕ, ◌==◌, ◌&&◌, ◌||◌, not, take, map}
-use Rattle.counting.specs.Lists.{mem}
+use Rattle.counting.specs.Common.{mem}
 use Rattle.grow_gen.specs.Splices.{new_number}
 use Rattle.grow_gen.proofs.growing.next_class.Given as goal
 

@@ -1,5 +1,5 @@
 use Rattle.std.proofs.Common.{◌≡◌, ◌++◌, map, filter, not, take}
-use Rattle.graph_core.specs.View.{pair_of}
+use Rattle.graph_core.specs.Common.{pair_of}
 use Rattle.grow_gen.specs.Splices.{is_at, renumbered_edge}
 use Rattle.grow_gen.proofs.splices.append_kept.Given as goal
 

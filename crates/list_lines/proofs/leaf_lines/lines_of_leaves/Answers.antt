@@ -1,7 +1,7 @@
 use Rattle.std.proofs.Common.{List, [], arith, get_or, length, map, subst, sym, ℕ, ◌<◌, ◌≡◌, ◌∙◌}
-use Rattle.std.proofs.lemmas.List.{length-map}
+use Rattle.counting.proofs.Common.{length-map}
 use Rattle.contraction.specs.Partition.{PartitionValue}
-use Rattle.graph_core.specs.Quotients.{quotient}
+use Rattle.graph_core.specs.Common.{quotient}
 use Rattle.tree_core.proofs.KindsOfLeaves.{blocks-at}
 use Rattle.list_lines.specs.LeafLines.{AddsLine}
 use Rattle.list_lines.proofs.LeafTexts.{FirstLines, lines_all, lines_next, lines_none}

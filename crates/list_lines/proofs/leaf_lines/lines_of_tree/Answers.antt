@@ -1,9 +1,7 @@
 use Rattle.std.proofs.Common.{ℕ, List, All, IfOk, ◌≡◌, ◌∙◌, ap, sym, subst, subst₂, map}
 use Rattle.contraction.specs.Partition.{PartitionValue}
-use Rattle.graph_core.specs.Partitions.{singles}
-use Rattle.tree_core.specs.Leaves.{StandsAt, leaves, partitions_of}
-use Rattle.tree_core.specs.Shapes.{Fits}
-use Rattle.tree_core.specs.View.{shape_of}
+use Rattle.graph_core.specs.Common.{singles}
+use Rattle.tree_core.specs.Common.{StandsAt, leaves, partitions_of, Fits, shape_of}
 use Rattle.tree_core.proofs.DerivationStands.{fits-derivation, stands-derivation}
 use Rattle.list_lines.specs.LeafLines.{AreLinesOf, line_front}
 use Rattle.tree_core.proofs.FewLeaves.{blocks-of_leaves, orders-of_leaves}

@@ -1,9 +1,8 @@
 use Rattle.std.proofs.Common.{◌≡◌, ◌↔◌, List, ℕ, Bool, subst, sym}
 use Rattle.std.specs.Prelude.{IsTrue}
 use Rattle.std.specs.declared.option.Option.TheVariants.{None}
-use Rattle.counting.specs.Lists.{mem}
-use Rattle.counting.specs.Sets.{none}
-use Rattle.graph_core.specs.Matchings.{HasPerfect, IsPerfect}
+use Rattle.counting.specs.Common.{mem, none}
+use Rattle.graph_core.specs.Common.{HasPerfect, IsPerfect}
 use Rattle.match_core.specs.MatchingRows.{edges_of}
 use Rattle.list_lines.proofs.Matched.{decided}
 use Rattle.list_lines.proofs.selecting.has_perfect.Goals as goal

@@ -1,5 +1,5 @@
 use Rattle.std.proofs.Common.{Bool, inl, subst}
-use Rattle.std.proofs.lemmas.Result.{IfOk-weaker}
+use Rattle.counting.proofs.Common.{IfOk-weaker}
 use Rattle.list_lines.specs.Selecting.{Decides, HasProperty}
 use Rattle.list_lines.proofs.selecting.selected.Goals as goal
 

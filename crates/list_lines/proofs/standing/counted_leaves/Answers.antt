@@ -1,9 +1,6 @@
 use Rattle.std.proofs.Common.{subst, sym}
-use Rattle.graph_core.specs.Graph.{Graph}
-use Rattle.tree_core.specs.Derivations.{IsDerivation}
-use Rattle.tree_core.specs.Leaves.{leaves}
-use Rattle.tree_core.specs.Tallies.{IsTally}
-use Rattle.tree_core.specs.View.{shape_of}
+use Rattle.graph_core.specs.Common.{Graph}
+use Rattle.tree_core.specs.Common.{IsDerivation, leaves, IsTally, shape_of}
 use Rattle.list_lines.proofs.standing.counted_leaves.Goals as goal
 
 pub tally_of_tree-requires : goal.tally_of_tree-requires

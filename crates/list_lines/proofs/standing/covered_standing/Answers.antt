@@ -1,7 +1,6 @@
 use Rattle.std.proofs.Common.{◌↔◌, ap, refl, subst, ◌∙◌}
 use Rattle.std.specs.Prelude.{IsTrue}
-use Rattle.graph_core.specs.Graph.{Graph}
-use Rattle.graph_core.specs.Structure.{IsBicritical}
+use Rattle.graph_core.specs.Common.{Graph, IsBicritical}
 use Rattle.leaf_kinds.specs.LeafKinds.{IsKind}
 use Rattle.tight_cuts.specs.Candidates.{candidates, first_shore}
 use Rattle.list_lines.proofs.standing.covered_standing.Goals as goal

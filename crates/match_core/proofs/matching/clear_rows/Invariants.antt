@@ -1,5 +1,5 @@
 use Rattle.std.proofs.Common.{◌≡◌, take, filter}
-use Rattle.counting.specs.Lists.{mem}
+use Rattle.counting.specs.Common.{mem}
 use Rattle.match_core.specs.MatchingRows.{is_clear}
 use Rattle.match_core.proofs.matching.clear_rows.Given as goal
 

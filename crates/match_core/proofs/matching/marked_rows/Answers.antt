@@ -1,6 +1,6 @@
 use Rattle.std.proofs.Common.{◌≡◌, ℕ, suc, ◌+◌, ◌++◌, ◌∷◌, [], true, sym, ap, ◌∙◌, map, arith}
-use Rattle.counting.specs.Lists.{rising_list}
-use Rattle.graph_core.specs.View.{graph_of}
+use Rattle.counting.specs.Common.{rising_list}
+use Rattle.graph_core.specs.Common.{graph_of}
 use Rattle.match_search.specs.Rows.{marks, end_a, end_b}
 use Rattle.match_core.specs.MatchingRows.{row_at}
 use Rattle.match_core.specs.declared.matching.MatchRow.{MatchRow}

@@ -1,6 +1,6 @@
 use Rattle.std.proofs.Common.{◌≡◌, map}
-use Rattle.counting.specs.Lists.{rising_list}
-use Rattle.graph_core.specs.View.{graph_of}
+use Rattle.counting.specs.Common.{rising_list}
+use Rattle.graph_core.specs.Common.{graph_of}
 use Rattle.match_search.specs.Rows.{marks}
 use Rattle.match_core.specs.MatchingRows.{row_at}
 use Rattle.match_core.proofs.matching.marked_rows.Given as goal

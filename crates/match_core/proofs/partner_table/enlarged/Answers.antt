@@ -1,10 +1,8 @@
 use Rattle.std.proofs.Common.{◌≡◌, ap, sym, ◌∙◌, subst, subst₂, arith}
 use Rattle.std.specs.Prelude.{IfOk}
 use mathlib.Core.Path.{fun_ext}
-use Rattle.counting.specs.Lists.{mem}
-use Rattle.counting.specs.Sets.{Set}
-use Rattle.graph_core.specs.Graph.{Graph}
-use Rattle.graph_core.specs.Matchings.{IsMatching}
+use Rattle.counting.specs.Common.{mem, Set}
+use Rattle.graph_core.specs.Common.{Graph, IsMatching}
 use Rattle.match_core.specs.MatchingRows.{edges_of}
 use Rattle.match_search.specs.Optimal.{IsBest}
 use Rattle.match_search.specs.Rows.{marks}

@@ -1,5 +1,5 @@
 use Rattle.std.proofs.Common.{◌-◌, arith}
-use Rattle.counting.proofs.Counts.{count_le}
+use Rattle.counting.proofs.Common.{count_le}
 use Rattle.match_search.specs.Rows.{marks}
 use Rattle.match_core.proofs.partner_table.marked_count.Goals as goal
 

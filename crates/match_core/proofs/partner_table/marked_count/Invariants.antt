@@ -1,5 +1,5 @@
 use Rattle.std.proofs.Common.{◌≡◌, ◌-◌}
-use Rattle.counting.specs.Counts.{count}
+use Rattle.counting.specs.Common.{count}
 use Rattle.match_search.specs.Rows.{marks}
 use Rattle.match_core.proofs.partner_table.marked_count.Given as goal
 

@@ -1,10 +1,7 @@
 use Rattle.std.proofs.Common.{◌≡◌, sym, subst}
-use Rattle.std.proofs.lemmas.Result.{IfOk-weaker}
-use Rattle.counting.specs.Lists.{mem}
-use Rattle.counting.specs.Sets.{Set}
-use Rattle.graph_core.specs.Graph.{Graph}
-use Rattle.graph_core.specs.Matchings.{IsMatching}
-use Rattle.graph_core.specs.View.{graph_of}
+use Rattle.counting.proofs.Common.{IfOk-weaker}
+use Rattle.counting.specs.Common.{mem, Set}
+use Rattle.graph_core.specs.Common.{Graph, IsMatching, graph_of}
 use Rattle.match_search.specs.Mates.{HasMates}
 use Rattle.match_search.specs.Rows.{marks, numbers}
 use Rattle.match_search.proofs.WholeGraphs.{limits_row, whole_graph}

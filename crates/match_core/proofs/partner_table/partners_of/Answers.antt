@@ -1,8 +1,6 @@
 use Rattle.std.proofs.Common.{◌≡◌, ℕ, true, sym, ◌∙◌}
-use Rattle.std.proofs.lemmas.Result.{IfOk-weaker}
-use Rattle.counting.specs.Counts.{Within}
-use Rattle.counting.specs.Lists.{mem}
-use Rattle.counting.specs.Sets.{singleton, union}
+use Rattle.counting.proofs.Common.{IfOk-weaker}
+use Rattle.counting.specs.Common.{Within, mem, singleton, union}
 use Rattle.match_core.specs.Partners.{are_partners}
 use Rattle.match_search.specs.Missable.{IsMissableRow}
 use Rattle.match_search.proofs.Instances.{left_from}

@@ -1,6 +1,5 @@
 use Rattle.std.proofs.Common.{◌≡◌, ℕ, true, length}
-use Rattle.counting.specs.Counts.{Within}
-use Rattle.counting.specs.Lists.{item, mem}
+use Rattle.counting.specs.Common.{Within, item, mem}
 use Rattle.match_core.specs.HeldMates.{HoldsMates}
 use Rattle.match_core.specs.Partners.{are_partners}
 use Rattle.match_core.proofs.partner_table.rows_from.Given as goal

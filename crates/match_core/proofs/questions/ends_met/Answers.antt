@@ -1,12 +1,9 @@
 use Rattle.std.proofs.Common.{◌≡◌, ◌-◌, ◌==◌, ◌||◌, Bool, true, false, refl, sym, subst, ap, ◌∙◌, arith, eq-eqb, length, Vec, Global, get_or, take}
-use Rattle.std.proofs.lemmas.Bool.{both_ways}
+use Rattle.counting.proofs.Common.{both_ways, mem-item}
 use mathlib.Core.Path.{fun_ext}
-use Rattle.counting.proofs.RisingLists.{mem-item}
-use Rattle.counting.specs.Counts.{bit}
-use Rattle.counting.specs.Sets.{Set, none, put}
-use Rattle.counting.specs.Lists.{mem}
-use Rattle.graph_core.specs.Graph.{degree}
-use Rattle.graph_core.proofs.Perfect.{perfect_matching}
+use Rattle.counting.specs.Common.{bit, Set, none, put, mem}
+use Rattle.graph_core.specs.Common.{degree}
+use Rattle.graph_core.proofs.Common.{perfect_matching}
 use Rattle.match_search.specs.Rows.{marks, end_a, end_b}
 use Rattle.match_search.specs.Questions.{MeetOnce}
 use Rattle.match_search.proofs.GrownRows.{with_put}

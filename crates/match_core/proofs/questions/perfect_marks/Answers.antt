@@ -1,6 +1,6 @@
 use Rattle.std.proofs.Common.{◌≡◌, Bool, Vec, Global, sym, ◌∙◌, subst, refl}
-use Rattle.counting.specs.Lists.{mem}
-use Rattle.graph_core.specs.Matchings.{IsPerfect}
+use Rattle.counting.specs.Common.{mem}
+use Rattle.graph_core.specs.Common.{IsPerfect}
 use Rattle.match_search.specs.Rows.{marks}
 use Rattle.match_core.proofs.FrameFacts.{no_outer-best_perfect, outer-none_perfect}
 use Rattle.match_core.proofs.questions.perfect_marks.Goals as goal

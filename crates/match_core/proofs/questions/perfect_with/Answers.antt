@@ -1,10 +1,7 @@
 use Rattle.std.proofs.Common.{◌≡◌, sym, ap, ◌∙◌, subst}
-use Rattle.counting.specs.Lists.{mem}
-use Rattle.counting.proofs.Lists.{rising_holds}
-use Rattle.counting.specs.Counts.{Within}
-use Rattle.counting.specs.Sets.{none}
-use Rattle.graph_core.specs.Graph.{size}
-use Rattle.graph_core.specs.Matchings.{IsPerfect}
+use Rattle.counting.specs.Common.{mem, Within, none}
+use Rattle.counting.proofs.Common.{rising_holds}
+use Rattle.graph_core.specs.Common.{size, IsPerfect}
 use Rattle.match_search.specs.Rows.{marks}
 use Rattle.match_core.specs.MatchingRows.{edges_of, MatchingValue}
 use Rattle.match_core.proofs.FrameFacts.{passed_matching, listed_perfect}

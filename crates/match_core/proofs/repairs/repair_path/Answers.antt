@@ -1,8 +1,7 @@
 use Rattle.std.proofs.Common.{ℕ, ◌==◌, ◌&&◌, not, nat_lt, nat_le, List, length, sym, ap, ◌∙◌, subst, arith}
-use Rattle.std.proofs.lemmas.Result.{IfOk-weaker}
-use Rattle.counting.specs.Lists.{mem}
-use Rattle.counting.specs.Sets.{Set}
-use Rattle.graph_core.specs.View.{graph_of}
+use Rattle.counting.proofs.Common.{IfOk-weaker}
+use Rattle.counting.specs.Common.{mem, Set}
+use Rattle.graph_core.specs.Common.{graph_of}
 use Rattle.match_search.specs.GraphRows.{NamesEdges}
 use Rattle.match_search.specs.Rows.{marks, numbers}
 use Rattle.match_search.specs.RepairPaths.{IsRepairRow, Misses}

@@ -1,9 +1,7 @@
 use Rattle.std.proofs.Common.{◌≡◌, ℕ, ◌+◌, ◌-◌, ◌/◌, ◌<◌, Bool, true, List, Vec, Global, length, sym, ap, ◌∙◌, subst, refl, arith}
 use mathlib.Core.Path.{fun_ext}
-use Rattle.counting.specs.Sets.{Set, put}
-use Rattle.counting.specs.Lists.{mem}
-use Rattle.graph_core.specs.Matchings.{IsMatching, IsPerfect}
-use Rattle.graph_core.specs.View.{graph_of}
+use Rattle.counting.specs.Common.{Set, put, mem}
+use Rattle.graph_core.specs.Common.{IsMatching, IsPerfect, graph_of}
 use Rattle.match_search.specs.Forests.{flipped}
 use Rattle.match_search.specs.Rows.{marks, numbers, part}
 use Rattle.match_search.specs.RepairPaths.{DiffersByPath, IsRepairRow, Misses}

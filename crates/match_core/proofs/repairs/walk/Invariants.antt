@@ -1,6 +1,6 @@
 use Rattle.std.proofs.Common.{ℕ, ◌+◌, ◌-◌, length}
-use Rattle.counting.specs.Sets.{Set}
-use Rattle.graph_core.specs.View.{graph_of}
+use Rattle.counting.specs.Common.{Set}
+use Rattle.graph_core.specs.Common.{graph_of}
 use Rattle.match_search.specs.RepairPaths.{IsWalk}
 use Rattle.match_core.specs.RepairWalks.{StartsWalk}
 use Rattle.match_core.proofs.repairs.walk.Given as goal

@@ -1,5 +1,5 @@
 use Rattle.std.proofs.Common.{◌-◌, ◌∙◌, sym, rules, arith, subst, length}
-use Rattle.counting.specs.Lists.{mem}
+use Rattle.counting.specs.Common.{mem}
 use Rattle.match_search.specs.Blossoms.{IsClosed, removed_with, without_blossom}
 use Rattle.match_search.specs.Rows.{numbers}
 use Rattle.match_search.proofs.BlossomMates.{cw}

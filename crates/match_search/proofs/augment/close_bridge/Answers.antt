@@ -1,6 +1,6 @@
-use Rattle.std.proofs.lemmas.Result.{IfOk-weaker}
-use Rattle.counting.specs.Sets.{Set}
-use Rattle.graph_core.specs.Graph.{Graph}
+use Rattle.counting.proofs.Common.{IfOk-weaker}
+use Rattle.counting.specs.Common.{Set}
+use Rattle.graph_core.specs.Common.{Graph}
 use Rattle.match_search.specs.Blossoms.{AreClosingPaths, ClosesForest, IsClosed}
 use Rattle.match_search.proofs.augment.close_bridge.Goals as goal
 

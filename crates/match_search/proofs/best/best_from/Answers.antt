@@ -1,8 +1,7 @@
 use Rattle.std.proofs.Common.{arith}
-use Rattle.std.proofs.lemmas.Result.{IfOk-weaker}
-use Rattle.counting.specs.Lists.{mem}
-use Rattle.counting.specs.Sets.{Set}
-use Rattle.graph_core.specs.View.{graph_of}
+use Rattle.counting.proofs.Common.{IfOk-weaker}
+use Rattle.counting.specs.Common.{mem, Set}
+use Rattle.graph_core.specs.Common.{graph_of}
 use Rattle.match_search.specs.AlternatingForests.{HoldsMatching}
 use Rattle.match_search.specs.Optimal.{IsBest}
 use Rattle.match_search.specs.Rows.{marks}

@@ -1,7 +1,7 @@
 use Rattle.std.proofs.Common.{subst}
 use Rattle.std.specs.Prelude.{IfOk}
-use Rattle.counting.specs.Lists.{mem}
-use Rattle.graph_core.specs.Graph.{Graph}
+use Rattle.counting.specs.Common.{mem}
+use Rattle.graph_core.specs.Common.{Graph}
 use Rattle.match_search.specs.Optimal.{IsBest}
 use Rattle.match_search.proofs.WholeGraphs.{ends_rows, limits_row, whole_graph}
 use Rattle.match_search.proofs.best.find_best.Goals as goal

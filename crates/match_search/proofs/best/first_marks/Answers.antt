@@ -1,12 +1,8 @@
 use Rattle.std.proofs.Common.{◌≡◌, ℕ, suc, ◌+◌, ◌==◌, ◌||◌, Bool, true, false, sym, subst, ap, ◌∙◌, arith, inl, eq-eqb, length, Vec, Global}
-use Rattle.std.proofs.lemmas.Bool.{both_ways}
+use Rattle.counting.proofs.Common.{both_ways}
 use mathlib.Core.Path.{fun_ext}
-use Rattle.counting.specs.Sets.{Set, put}
-use Rattle.graph_core.specs.Graph.{degree, first_end, second_end}
-use Rattle.graph_core.specs.Matchings.{IsMatching}
-use Rattle.counting.specs.Counts.{Within}
-use Rattle.counting.specs.Lists.{mem}
-use Rattle.graph_core.specs.View.{graph_of}
+use Rattle.counting.specs.Common.{Set, put, Within, mem}
+use Rattle.graph_core.specs.Common.{degree, first_end, second_end, IsMatching, graph_of}
 use Rattle.match_search.specs.Rows.{marks, end_a, end_b}
 use Rattle.match_search.proofs.GraphRows.{size_is, ends_here}
 use Rattle.match_search.proofs.FirstMarks.{addable, empty_matching, empty_degree, added_edge}

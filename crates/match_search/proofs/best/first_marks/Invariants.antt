@@ -1,9 +1,6 @@
 use Rattle.std.proofs.Common.{◌≡◌, ℕ, ◌+◌, false, length}
-use Rattle.counting.specs.Counts.{Within}
-use Rattle.counting.specs.Lists.{mem}
-use Rattle.graph_core.specs.Graph.{degree}
-use Rattle.graph_core.specs.Matchings.{IsMatching}
-use Rattle.graph_core.specs.View.{graph_of}
+use Rattle.counting.specs.Common.{Within, mem}
+use Rattle.graph_core.specs.Common.{degree, IsMatching, graph_of}
 use Rattle.match_search.specs.Rows.{marks}
 use Rattle.match_search.proofs.best.first_marks.Given as goal
 

@@ -1,6 +1,5 @@
 use Rattle.std.proofs.Common.{◌<◌, ◌==◌, ◌&&◌, arith, sym, subst}
-use Rattle.counting.specs.Counts.{count}
-use Rattle.counting.specs.Lists.{mem}
+use Rattle.counting.specs.Common.{count, mem}
 use Rattle.match_search.specs.AlternatingForests.{IsSized}
 use Rattle.match_search.specs.Blossoms.{IsMateStep}
 use Rattle.match_search.specs.Frames.{Frame}

@@ -1,8 +1,6 @@
 use Rattle.std.proofs.Common.{◌==◌, ◌&&◌, length}
-use Rattle.counting.specs.Counts.{count}
-use Rattle.counting.specs.Lists.{mem}
-use Rattle.counting.specs.Sets.{Set}
-use Rattle.graph_core.specs.Graph.{Graph}
+use Rattle.counting.specs.Common.{count, mem, Set}
+use Rattle.graph_core.specs.Common.{Graph}
 use Rattle.match_search.specs.AlternatingForests.{HoldsMatching}
 use Rattle.match_search.specs.Rows.{numbers}
 use Rattle.match_search.specs.Shrinkings.{AreAlike}

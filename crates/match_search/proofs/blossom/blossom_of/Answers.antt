@@ -1,5 +1,5 @@
 use Rattle.std.proofs.Common.{◌≡◌, ℕ, suc, ◌+◌, ◌-◌, ◌<◌, refl, sym, ap, arith, subst, length, List}
-use Rattle.counting.specs.Counts.{Within}
+use Rattle.counting.specs.Common.{Within}
 use Rattle.match_search.specs.Rows.{numbers}
 use Rattle.match_search.proofs.ClosedCycles.{cycle_exposes, blossom_cycle_holds, cycle_within, stem_half}
 use Rattle.match_search.proofs.ClosingPairs.{second_in}

@@ -1,8 +1,7 @@
 use Rattle.std.proofs.Common.{◌≡◌, ◌≢◌, ℕ, ◌-◌, true, sym, ap, ap₂, ◌∙◌, arith, subst, length, List}
 use mathlib.Core.Path.{fun_ext}
 use Rattle.std.proofs.lemmas.Grind.{get_or_default_zero}
-use Rattle.counting.specs.Counts.{Within}
-use Rattle.counting.specs.Lists.{mem}
+use Rattle.counting.specs.Common.{Within, mem}
 use Rattle.match_search.specs.Blossoms.{blossom_length}
 use Rattle.match_search.specs.Instances.{Touches}
 use Rattle.match_search.specs.Mates.{paired_round, with_mate, with_pair}

@@ -1,6 +1,5 @@
 use Rattle.std.proofs.Common.{◌≡◌, ℕ, false}
-use Rattle.counting.specs.Counts.{Within}
-use Rattle.counting.specs.Lists.{mem}
+use Rattle.counting.specs.Common.{Within, mem}
 use Rattle.match_search.specs.Rows.{numbers}
 use Rattle.match_search.proofs.blossom.place_in.Given as goal
 

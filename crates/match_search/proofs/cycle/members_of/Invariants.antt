@@ -1,5 +1,5 @@
 use Rattle.std.proofs.Common.{◌≡◌, ℕ}
-use Rattle.counting.specs.Lists.{mem}
+use Rattle.counting.specs.Common.{mem}
 use Rattle.match_search.specs.OddCycles.{listed}
 use Rattle.match_search.specs.Rows.{numbers}
 use Rattle.match_search.proofs.cycle.members_of.Given as goal

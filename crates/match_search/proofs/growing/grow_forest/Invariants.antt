@@ -1,8 +1,6 @@
 use Rattle.std.proofs.Common.{◌≡◌, ℕ, ◌+◌, ◌-◌, ◌*◌, true, false, length}
-use Rattle.counting.specs.Counts.{count}
-use Rattle.counting.specs.Sets.{Set}
-use Rattle.counting.specs.Lists.{mem}
-use Rattle.graph_core.specs.Graph.{Graph}
+use Rattle.counting.specs.Common.{count, Set, mem}
+use Rattle.graph_core.specs.Common.{Graph}
 use Rattle.match_search.specs.AlternatingForests.{HoldsMatching, HoldsAlternating, IsDone}
 use Rattle.match_search.proofs.growing.grow_forest.Given as goal
 

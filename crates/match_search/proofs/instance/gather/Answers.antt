@@ -1,5 +1,5 @@
 use Rattle.std.proofs.Common.{sym, subst}
-use Rattle.counting.specs.Lists.{mem}
+use Rattle.counting.specs.Common.{mem}
 use Rattle.match_search.specs.Shrinkings.{IsUnionOf}
 use Rattle.match_search.proofs.instance.gather.Goals as goal
 

@@ -1,6 +1,5 @@
 use Rattle.std.proofs.Common.{◌≡◌, ℕ, length, [], ◌∷◌}
-use Rattle.counting.specs.Counts.{Within}
-use Rattle.counting.specs.Lists.{item}
+use Rattle.counting.specs.Common.{Within, item}
 use Rattle.match_search.proofs.instance.singles.Given as goal
 
 abbrev pub invariant-loop-i : goal.invariant-loop-i

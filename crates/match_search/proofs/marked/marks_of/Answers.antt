@@ -1,10 +1,8 @@
 use Rattle.std.proofs.Common.{◌≡◌, ℕ, suc, ◌+◌, ◌==◌, ◌&&◌, ◌||◌, ◌⊎◌, not, Bool, true, false, refl, sym, subst, subst₂, ap, ap₂, ◌∙◌, arith, inl, inr, eq-eqb, eqb-true, ne_eqb, length, List, Vec, Global}
-use Rattle.std.proofs.lemmas.Bool.{both_ways, true≢false}
+use Rattle.counting.proofs.Common.{both_ways, true≢false}
 use mathlib.Core.Path.{fun_ext}
-use Rattle.counting.specs.Counts.{Within}
-use Rattle.counting.specs.Sets.{Set, put}
-use Rattle.counting.specs.Lists.{mem}
-use Rattle.graph_core.specs.View.{graph_of}
+use Rattle.counting.specs.Common.{Within, Set, put, mem}
+use Rattle.graph_core.specs.Common.{graph_of}
 use Rattle.match_search.specs.Mates.{MarksMates}
 use Rattle.match_search.specs.Rows.{marks, numbers, end_a, end_b}
 use Rattle.match_search.proofs.GraphRows.{ends_here, row_graph, size_is}

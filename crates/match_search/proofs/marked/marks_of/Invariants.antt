@@ -1,6 +1,6 @@
 use Rattle.std.proofs.Common.{◌≡◌, ◌+◌, length}
-use Rattle.counting.specs.Lists.{mem}
-use Rattle.graph_core.specs.View.{graph_of}
+use Rattle.counting.specs.Common.{mem}
+use Rattle.graph_core.specs.Common.{graph_of}
 use Rattle.match_search.specs.Mates.{MarksMates}
 use Rattle.match_search.specs.Rows.{marks, numbers}
 use Rattle.match_search.proofs.marked.marks_of.Given as goal

@@ -1,6 +1,6 @@
 use Rattle.std.proofs.Common.{ℕ, sym, ap, ◌∙◌, subst, length, List}
 use Rattle.std.proofs.lemmas.List.{with_items_is}
-use Rattle.graph_core.specs.View.{graph_of}
+use Rattle.graph_core.specs.Common.{graph_of}
 use Rattle.match_search.specs.Mates.{HasMates}
 use Rattle.match_search.specs.Rows.{marks, numbers}
 use Rattle.match_search.proofs.NamedMates.{named_mates}

@@ -1,6 +1,6 @@
 use Rattle.std.proofs.Common.{◌-◌, ◌==◌, ◌&&◌, arith}
-use Rattle.counting.proofs.Counts.{count_le}
-use Rattle.counting.specs.Lists.{mem}
+use Rattle.counting.proofs.Common.{count_le}
+use Rattle.counting.specs.Common.{mem}
 use Rattle.match_search.specs.Rows.{numbers}
 use Rattle.match_search.proofs.missable.exposed_count.Goals as goal
 

@@ -1,6 +1,5 @@
 use Rattle.std.proofs.Common.{◌≡◌, ◌-◌, ◌==◌, ◌&&◌}
-use Rattle.counting.specs.Counts.{count}
-use Rattle.counting.specs.Lists.{mem}
+use Rattle.counting.specs.Common.{count, mem}
 use Rattle.match_search.specs.Rows.{numbers}
 use Rattle.match_search.proofs.missable.exposed_count.Given as goal
 

@@ -1,7 +1,7 @@
 use Rattle.std.proofs.Common.{◌≡◌, List, ℕ, sym, subst}
-use Rattle.std.proofs.lemmas.Result.{IfOk-weaker}
-use Rattle.counting.specs.Sets.{Set, singleton, union}
-use Rattle.graph_core.specs.Graph.{Graph}
+use Rattle.counting.proofs.Common.{IfOk-weaker}
+use Rattle.counting.specs.Common.{Set, singleton, union}
+use Rattle.graph_core.specs.Common.{Graph}
 use Rattle.match_search.specs.AlternatingForests.{HoldsMatching}
 use Rattle.match_search.specs.Missable.{IsMissableRow}
 use Rattle.match_search.proofs.Instances.{left_parts}

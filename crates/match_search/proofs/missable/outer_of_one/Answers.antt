@@ -1,6 +1,6 @@
 use Rattle.std.proofs.Common.{ℕ, List, length, refl, sym, ap, ◌∙◌}
-use Rattle.std.proofs.lemmas.Bool.{true≢false}
-use Rattle.counting.specs.Lists.{mem}
+use Rattle.counting.proofs.Common.{true≢false}
+use Rattle.counting.specs.Common.{mem}
 use Rattle.match_search.proofs.AugmentedMates.{left_is}
 use Rattle.match_search.proofs.MissableRows.{missable_row}
 use Rattle.match_search.proofs.missable.outer_of_one.Goals as goal

@@ -1,7 +1,6 @@
 use Rattle.std.proofs.Common.{◌≡◌, ℕ, ◌+◌, ◌<◌, ◌≤◌, true, length}
-use Rattle.counting.specs.Sets.{Set}
-use Rattle.counting.specs.Lists.{mem}
-use Rattle.graph_core.specs.Graph.{Graph}
+use Rattle.counting.specs.Common.{Set, mem}
+use Rattle.graph_core.specs.Common.{Graph}
 use Rattle.match_search.specs.AlternatingForests.{HoldsAlternating}
 use Rattle.match_search.specs.Rows.{numbers}
 use Rattle.match_search.proofs.paths.write_path.Given as goal

@@ -1,5 +1,5 @@
 use Rattle.std.proofs.Common.{◌≡◌, ℕ, length, take, ◌||◌}
-use Rattle.counting.specs.Lists.{mem}
+use Rattle.counting.specs.Common.{mem}
 use Rattle.match_search.specs.Rows.{marks}
 use Rattle.match_search.proofs.rows.mark_places.Given as goal
 

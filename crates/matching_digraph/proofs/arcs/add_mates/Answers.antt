@@ -1,8 +1,8 @@
 use Rattle.std.proofs.Common.{◌≡◌, ℕ, Bool, ◌==◌, ◌&&◌, ◌||◌, take, sym, ap, ◌∙◌, arith}
 use Rattle.std.proofs.lemmas.List.Folds.{list_any_more}
-use Rattle.std.proofs.lemmas.Option.{get_or_from_slice_get}
+use Rattle.counting.proofs.Common.{get_or_from_slice_get}
 use Rattle.std.specs.List.{list_any}
-use Rattle.counting.specs.Lists.{item, mem}
+use Rattle.counting.specs.Common.{item, mem}
 use Rattle.match_core.specs.declared.matching.MatchRow.{MatchRow}
 use Rattle.matching_digraph.specs.MatchedPairs.{row_joins}
 use Rattle.matching_digraph.proofs.arcs.add_mates.Goals as goal

@@ -1,6 +1,6 @@
 use Rattle.std.proofs.Common.{◌≡◌, ℕ, ◌∙◌, ◌++◌, ◌||◌, List, length, take, drop, sym, ap, ap₂, subst, arith}
 use Rattle.std.proofs.Math.Seq.{take-append_seam}
-use Rattle.counting.specs.Lists.{item, mem}
+use Rattle.counting.specs.Common.{item, mem}
 use Rattle.match_core.specs.MatchingRows.{edges_of}
 use Rattle.matching_digraph.proofs.MatchedArcs.{arcs_from, list_any-mates}
 use Rattle.matching_digraph.specs.Digraph.{AreArcs}

@@ -1,8 +1,6 @@
 use Rattle.std.proofs.Common.{◌≡◌, ◌&&◌, not, ℕ, length}
-use Rattle.counting.specs.Counts.{Within}
-use Rattle.counting.specs.Lists.{item, mem}
-use Rattle.counting.specs.Sets.{none}
-use Rattle.graph_core.specs.Walks.{adjacent}
+use Rattle.counting.specs.Common.{Within, item, mem, none}
+use Rattle.graph_core.specs.Common.{adjacent}
 use Rattle.matching_digraph.proofs.arcs.outer_rows.Given as goal
 
 abbrev pub invariant-loop-k : goal.invariant-loop-k

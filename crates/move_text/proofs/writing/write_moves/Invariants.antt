@@ -1,7 +1,7 @@
 use Rattle.std.proofs.Common.{◌≡◌, ◌∷◌, map, take, string_bytes}
 use Rattle.std.specs.List.{AllByRecursion}
-use Rattle.line_text.specs.Words.{written}
-use Rattle.tree_core.specs.MoveView.{move_of, moves_of}
+use Rattle.line_text.specs.Common.{written}
+use Rattle.tree_core.specs.Common.{move_of, moves_of}
 use Rattle.move_text.specs.Writing.{header_words, move_words, SetsRise}
 use Rattle.move_text.proofs.writing.write_moves.Given as goal
 

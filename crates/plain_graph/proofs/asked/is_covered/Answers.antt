@@ -1,7 +1,7 @@
 use Rattle.std.proofs.Common.{refl, subst, false}
-use Rattle.std.proofs.lemmas.Bool.{both_ways}
-use Rattle.graph_core.proofs.Decide.{reason-uncovered}
-use Rattle.graph_core.specs.Verdicts.{IsVerdict, reason_of}
+use Rattle.counting.proofs.Common.{both_ways}
+use Rattle.graph_core.proofs.Common.{reason-uncovered}
+use Rattle.graph_core.specs.Common.{IsVerdict, reason_of}
 use Rattle.plain_graph.proofs.asked.is_covered.Goals as goal
 
 pub returns-in-NotCovered : goal.returns-in-NotCovered

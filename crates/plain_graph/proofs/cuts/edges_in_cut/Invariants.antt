@@ -1,7 +1,6 @@
 use Rattle.std.proofs.Common.{◌≡◌, ◌≤◌, ◌&&◌}
-use Rattle.counting.specs.Counts.{count}
-use Rattle.counting.specs.Lists.{mem}
-use Rattle.graph_core.specs.Graph.{in_cut}
+use Rattle.counting.specs.Common.{count, mem}
+use Rattle.graph_core.specs.Common.{in_cut}
 use Rattle.plain_graph.proofs.cuts.edges_in_cut.Given as goal
 
 abbrev pub invariant-loop-i : goal.invariant-loop-i

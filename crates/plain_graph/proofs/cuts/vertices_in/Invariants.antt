@@ -1,6 +1,5 @@
 use Rattle.std.proofs.Common.{◌≡◌, ◌≤◌}
-use Rattle.counting.specs.Counts.{count}
-use Rattle.counting.specs.Lists.{mem}
+use Rattle.counting.specs.Common.{count, mem}
 use Rattle.plain_graph.proofs.cuts.vertices_in.Given as goal
 
 abbrev pub invariant-loop-i : goal.invariant-loop-i

@@ -1,8 +1,7 @@
 use Rattle.std.proofs.Common.{◌<◌, ◌+◌, cond, sym, arith}
-use Rattle.std.proofs.lemmas.Bool.{lt-leb}
-use Rattle.counting.specs.Lists.{mem}
-use Rattle.graph_core.specs.Graph.{degree}
-use Rattle.graph_core.specs.Matchings.{fits_at}
+use Rattle.counting.proofs.Common.{lt-leb}
+use Rattle.counting.specs.Common.{mem}
+use Rattle.graph_core.specs.Common.{degree, fits_at}
 use Rattle.plain_graph.proofs.Tries.{every_not}
 use Rattle.plain_graph.proofs.degrees.is_matching.Goals as goal
 

@@ -1,8 +1,7 @@
 use Rattle.std.proofs.Common.{◌≡◌, ℕ, ◌≤◌, List, length, true, ap, sym, ◌∙◌, subst}
 use Rattle.std.specs.Prelude.{All}
-use Rattle.counting.specs.Lists.{IsRisingIn, mem}
-use Rattle.graph_core.specs.Graph.{size}
-use Rattle.graph_core.specs.Matchings.{is_matching}
+use Rattle.counting.specs.Common.{IsRisingIn, mem}
+use Rattle.graph_core.specs.Common.{size, is_matching}
 use Rattle.plain_graph.specs.Subsets.{subsets}
 use Rattle.plain_graph.proofs.Subsets.{subsets-rising}
 use Rattle.plain_graph.proofs.Tries.{greatest-list}

@@ -1,8 +1,7 @@
 use Rattle.std.proofs.Common.{sym, ap, ◌∙◌}
-use Rattle.counting.specs.Counts.{is_odd}
-use Rattle.counting.specs.Lists.{mem}
-use Rattle.counting.proofs.Odd.{is_odd_remainder}
-use Rattle.graph_core.specs.Walks.{joined}
+use Rattle.counting.specs.Common.{is_odd, mem}
+use Rattle.counting.proofs.Common.{is_odd_remainder}
+use Rattle.graph_core.specs.Common.{joined}
 use Rattle.plain_graph.proofs.Reaching.{length-part}
 use Rattle.plain_graph.proofs.parts.is_in_odd_part.Goals as goal
 

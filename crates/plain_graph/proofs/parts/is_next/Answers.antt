@@ -1,8 +1,7 @@
 use Rattle.std.proofs.Common.{◌+◌, ◌&&◌, sym, arith}
-use Rattle.std.proofs.lemmas.Bool.{and_from}
-use Rattle.counting.specs.Lists.{mem}
-use Rattle.counting.proofs.Tests.{true_some}
-use Rattle.graph_core.specs.Walks.{adjacent}
+use Rattle.counting.proofs.Common.{and_from, true_some}
+use Rattle.counting.specs.Common.{mem}
+use Rattle.graph_core.specs.Common.{adjacent}
 use Rattle.plain_graph.proofs.parts.is_next.Goals as goal
 
 pub returns-then-is_step : goal.returns-then-is_step

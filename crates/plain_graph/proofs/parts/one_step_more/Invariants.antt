@@ -1,8 +1,6 @@
 use Rattle.std.proofs.Common.{◌≡◌, ◌<◌, ◌&&◌, ◌||◌, ℕ, true}
-use Rattle.counting.specs.Counts.{Within}
-use Rattle.counting.specs.Lists.{mem}
-use Rattle.counting.specs.Tests.{some}
-use Rattle.graph_core.specs.Walks.{adjacent}
+use Rattle.counting.specs.Common.{Within, mem, some}
+use Rattle.graph_core.specs.Common.{adjacent}
 use Rattle.plain_graph.proofs.parts.one_step_more.Given as goal
 
 abbrev pub invariant-loop-i : goal.invariant-loop-i

@@ -1,7 +1,7 @@
 use Rattle.std.proofs.Common.{ap, sym, ◌∙◌, refl, Some}
 use Rattle.std.specs.Prelude.{slice_get}
 use Rattle.barrier_kit.specs.BarrierShores.{barrier_cuts}
-use Rattle.graph_core.specs.CanonicalCuts.{IsCanonicalCut}
+use Rattle.graph_core.specs.Common.{IsCanonicalCut}
 use Rattle.barrier_kit.proofs.ShoreFacts.{barrier_cuts-canonical}
 use Rattle.separation_kit.specs.SeparationShores.{separation_cuts}
 use Rattle.separation_kit.proofs.SeparationFacts.{separation_cuts-canonical}

@@ -1,5 +1,5 @@
 use Rattle.std.proofs.Common.{◌≡◌, ◌++◌, length, string_bytes}
-use Rattle.tree_core.specs.MoveView.{moves_of}
+use Rattle.tree_core.specs.Common.{moves_of}
 use Rattle.report_text.specs.Comparisons.{move_lines}
 use Rattle.report_text.proofs.comparisons.push_moves.Given as goal
 

@@ -1,6 +1,6 @@
 use Rattle.std.proofs.Common.{◌≡◌, ◌++◌, string_bytes}
 use Rattle.contraction.specs.Contracted.{contraction}
-use Rattle.graph_core.specs.Graph.{Graph}
+use Rattle.graph_core.specs.Common.{Graph}
 use Rattle.report_text.specs.Derivations.{adjacent_lines}
 use Rattle.report_text.proofs.derivations.push_pairs.Given as goal
 

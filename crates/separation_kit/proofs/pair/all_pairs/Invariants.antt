@@ -1,6 +1,5 @@
 use Rattle.std.proofs.Common.{◌≡◌, flat_map, map, nat_lt}
-use Rattle.counting.specs.Lists.{pair_with, rising_list}
-use Rattle.counting.specs.Sets.{everything}
+use Rattle.counting.specs.Common.{pair_with, rising_list, everything}
 use Rattle.separation_kit.specs.Pairs.{pair_of}
 use Rattle.separation_kit.proofs.pair.all_pairs.Given as goal
 

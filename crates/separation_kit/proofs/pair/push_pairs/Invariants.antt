@@ -1,5 +1,5 @@
 use Rattle.std.proofs.Common.{◌≡◌, ◌++◌, ◌≤◌, map, nat_lt}
-use Rattle.counting.specs.Lists.{pair_with, rising_list}
+use Rattle.counting.specs.Common.{pair_with, rising_list}
 use Rattle.separation_kit.specs.Pairs.{pair_of}
 use Rattle.separation_kit.proofs.pair.push_pairs.Given as goal
 

@@ -1,9 +1,7 @@
 use Rattle.std.proofs.Common.{ap, sym, subst, ◌∙◌, map, fold}
 use Rattle.std.specs.Prelude.{All}
-use Rattle.counting.specs.Counts.{Within}
-use Rattle.counting.specs.Lists.{IsRisingIn, mem, rising_list}
-use Rattle.counting.specs.Sets.{pair_set, singleton, union}
-use Rattle.graph_core.specs.CanonicalCuts.{with_cut}
+use Rattle.counting.specs.Common.{Within, IsRisingIn, mem, rising_list, pair_set, singleton, union}
+use Rattle.graph_core.specs.Common.{with_cut}
 use Rattle.separation_kit.proofs.PairShores.{components-rise}
 use Rattle.separation_kit.proofs.shores.add_pair_cuts.Goals as goal
 

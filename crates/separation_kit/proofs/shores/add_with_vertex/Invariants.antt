@@ -1,7 +1,6 @@
 use Rattle.std.proofs.Common.{◌≡◌, fold, map, take}
-use Rattle.counting.specs.Lists.{mem, rising_list}
-use Rattle.counting.specs.Sets.{singleton, union}
-use Rattle.graph_core.specs.CanonicalCuts.{with_cut}
+use Rattle.counting.specs.Common.{mem, rising_list, singleton, union}
+use Rattle.graph_core.specs.Common.{with_cut}
 use Rattle.separation_kit.proofs.shores.add_with_vertex.Given as goal
 
 abbrev pub invariant-loop-part : goal.invariant-loop-part

@@ -1,5 +1,5 @@
 use Rattle.std.proofs.Common.{ap, sym, ◌∙◌, map}
-use Rattle.counting.specs.Lists.{rising_pairs}
+use Rattle.counting.specs.Common.{rising_pairs}
 use Rattle.separation_kit.specs.Pairs.{pair_of}
 use Rattle.separation_kit.proofs.PairSearch.{pair_within}
 use Rattle.separation_kit.proofs.PairShores.{shores-all, shores-passed, shores-taken}

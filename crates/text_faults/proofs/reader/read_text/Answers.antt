@@ -1,5 +1,5 @@
 use Rattle.std.proofs.Common.{Ok, Err, subst}
-use Rattle.line_text.specs.Reading.{Fails}
+use Rattle.line_text.specs.Common.{Fails}
 use Rattle.line_text.specs.declared.format.LineFault.{LineFault}
 use Rattle.text_faults.specs.declared.faults.FaultKind.{FaultKind}
 use Rattle.text_faults.proofs.reader.read_text.Goals as goal

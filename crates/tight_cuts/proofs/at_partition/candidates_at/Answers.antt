@@ -1,10 +1,7 @@
 use Rattle.std.proofs.Common.{◌≡◌, [], ◌↔◌, All, List, length, map, ◌∙◌, sym, ap, subst}
-use Rattle.std.proofs.lemmas.Result.{IfOk-weaker}
-use Rattle.counting.specs.Sets.{Set}
-use Rattle.graph_core.specs.Graph.{Graph}
-use Rattle.graph_core.specs.Partitions.{IsPartition}
-use Rattle.graph_core.specs.Shores.{IsTightAt, blocks_in}
-use Rattle.graph_core.specs.Tight.{IsNontrivial, IsTight}
+use Rattle.counting.proofs.Common.{IfOk-weaker}
+use Rattle.counting.specs.Common.{Set}
+use Rattle.graph_core.specs.Common.{Graph, IsPartition, IsTightAt, blocks_in, IsNontrivial, IsTight}
 use Rattle.tight_cuts.specs.Candidates.{Candidate, IsTightCandidate, candidates}
 use Rattle.tight_cuts.specs.CandidatesAt.{IsCandidateAt, candidates_at, lifted_candidate}
 use Rattle.tight_cuts.proofs.LiftedCandidates.{at-blocks, at-vertices, covered-single, quotient-found, quotient-none, singles-found, singles-none}

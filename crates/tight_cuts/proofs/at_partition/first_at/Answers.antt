@@ -1,8 +1,7 @@
 use Rattle.std.proofs.Common.{None, Option, Some, ◌≡◌, ◌∙◌, sym, ap, subst}
-use Rattle.std.proofs.lemmas.Result.{IfOk-weaker}
+use Rattle.counting.proofs.Common.{IfOk-weaker}
 use Rattle.std.specs.Option.{option_map}
-use Rattle.graph_core.specs.Partitions.{IsPartition}
-use Rattle.graph_core.specs.Quotients.{quotient}
+use Rattle.graph_core.specs.Common.{IsPartition, quotient}
 use Rattle.tight_cuts.specs.Candidates.{candidates, first_of}
 use Rattle.tight_cuts.specs.CandidatesAt.{candidates_at, lifted_candidate}
 use Rattle.tight_cuts.specs.View.{candidate_of}

@@ -1,6 +1,6 @@
 use Rattle.std.proofs.Common.{◌∙◌, ap, sym, subst}
 use Rattle.std.specs.Option.{option_map}
-use Rattle.graph_core.specs.Partitions.{IsPartition}
+use Rattle.graph_core.specs.Common.{IsPartition}
 use Rattle.tight_cuts.specs.CandidatesAt.{IsCandidateAt, candidates_at}
 use Rattle.tight_cuts.specs.View.{candidate_of}
 use Rattle.tight_cuts.proofs.FirstCandidates.{first-empty, first-one}

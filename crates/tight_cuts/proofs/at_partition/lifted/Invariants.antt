@@ -1,6 +1,6 @@
 -- So far the list is the candidates before the place, taken to the graph.
 use Rattle.std.proofs.Common.{◌≡◌, ℕ, List, map, take}
-use Rattle.graph_core.specs.Graph.{Graph}
+use Rattle.graph_core.specs.Common.{Graph}
 use Rattle.contraction.specs.Contracted.{contraction}
 use Rattle.tight_cuts.specs.CandidatesAt.{lifted_candidate}
 use Rattle.tight_cuts.specs.View.{candidate_of}

@@ -1,8 +1,6 @@
 use Rattle.std.proofs.Common.{◌≡◌, ◌↔◌, ◌∙◌, All, List, [], length, sym, subst}
-use Rattle.counting.specs.Sets.{Set}
-use Rattle.graph_core.specs.Partitions.{singles}
-use Rattle.graph_core.specs.Shores.{IsTightAt, blocks_in}
-use Rattle.graph_core.specs.Tight.{IsNontrivial}
+use Rattle.counting.specs.Common.{Set}
+use Rattle.graph_core.specs.Common.{singles, IsTightAt, blocks_in, IsNontrivial}
 use Rattle.tight_cuts.specs.Candidates.{Candidate}
 use Rattle.tight_cuts.specs.CandidatesAt.{IsCandidateAt}
 use Rattle.tight_cuts.proofs.PartitionCandidates.{found-root, none-root, root-candidates}

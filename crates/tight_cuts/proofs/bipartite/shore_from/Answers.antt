@@ -1,8 +1,6 @@
 use Rattle.std.proofs.Common.{◌≡◌, ◌∙◌, ◌==◌, ap₂, false, max, min, ne_eqb, refl, subst, sym}
-use Rattle.std.proofs.lemmas.Bool.{or_from}
-use Rattle.counting.specs.Counts.{Within}
-use Rattle.counting.specs.Lists.{mem}
-use Rattle.counting.specs.Sets.{pair_set}
+use Rattle.counting.proofs.Common.{or_from}
+use Rattle.counting.specs.Common.{Within, mem, pair_set}
 use Rattle.matching_digraph.specs.Digraph.{IsLeastShore}
 use Rattle.tight_cuts.specs.Candidates.{greater_end, lesser_end}
 use Rattle.tight_cuts.proofs.BipartiteShores.{least_common}

@@ -1,7 +1,7 @@
 use Rattle.std.proofs.Common.{sym, ap, ◌∙◌}
 use Rattle.std.specs.List.{list_any}
-use Rattle.counting.specs.Lists.{mem}
-use Rattle.graph_core.specs.Graph.{in_cut}
+use Rattle.counting.specs.Common.{mem}
+use Rattle.graph_core.specs.Common.{in_cut}
 use Rattle.tight_cuts.specs.Candidates.{cuts}
 use Rattle.tight_cuts.specs.declared.candidate.Candidate.{Candidate}
 use Rattle.tight_cuts.proofs.CandidateLists.{cuts-items}

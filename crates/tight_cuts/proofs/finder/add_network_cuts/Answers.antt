@@ -1,6 +1,6 @@
 use Rattle.std.proofs.Common.{List, ℕ, All, ◌∙◌, ap, sym, subst}
-use Rattle.counting.specs.Lists.{mem}
-use Rattle.graph_core.specs.Tight.{IsTight}
+use Rattle.counting.specs.Common.{mem}
+use Rattle.graph_core.specs.Common.{IsTight}
 use Rattle.tight_cuts.specs.Candidates.{shores_of}
 use Rattle.tight_cuts.proofs.Completeness.{front_tight}
 use Rattle.tight_cuts.proofs.EdgeLoop.{after_edges}

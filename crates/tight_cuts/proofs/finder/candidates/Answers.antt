@@ -1,5 +1,5 @@
 use Rattle.std.proofs.Common.{◌∙◌, ap}
-use Rattle.graph_core.specs.Graph.{Graph}
+use Rattle.graph_core.specs.Common.{Graph}
 use Rattle.tight_cuts.specs.Candidates.{candidates}
 use Rattle.tight_cuts.proofs.Completeness.{listed-apart, listed-cover, listed-none, listed-tight}
 use Rattle.tight_cuts.proofs.finder.candidates.Goals as goal

@@ -1,8 +1,7 @@
 use Rattle.std.proofs.Common.{◌≡◌, ◌↔◌, ◌∙◌, List, None, Option, Some, subst, ℕ}
-use Rattle.std.proofs.lemmas.Result.{IfOk-weaker}
-use Rattle.counting.specs.Lists.{mem}
-use Rattle.graph_core.specs.Graph.{Graph}
-use Rattle.graph_core.specs.Tight.{HasOnlyTrivialTightCuts, IsNontrivial, IsTight}
+use Rattle.counting.proofs.Common.{IfOk-weaker}
+use Rattle.counting.specs.Common.{mem}
+use Rattle.graph_core.specs.Common.{Graph, HasOnlyTrivialTightCuts, IsNontrivial, IsTight}
 use Rattle.tight_cuts.proofs.finder.find_any.Goals as goal
 
 pub returns-clause-some : goal.returns-clause-some

@@ -1,6 +1,6 @@
 use Rattle.std.proofs.Common.{◌∙◌, ap, sym}
 use Rattle.std.specs.Option.{option_map}
-use Rattle.graph_core.specs.Graph.{Graph}
+use Rattle.graph_core.specs.Common.{Graph}
 use Rattle.tight_cuts.specs.Candidates.{IsTightCandidate, candidates, first_of}
 use Rattle.tight_cuts.specs.View.{candidate_of}
 use Rattle.tight_cuts.proofs.Completeness.{candidates_found, candidates_none}

@@ -1,5 +1,5 @@
 use Rattle.std.proofs.Common.{None, sym, ap, ◌∙◌, subst}
-use Rattle.counting.specs.Lists.{IsRisingIn}
+use Rattle.counting.specs.Common.{IsRisingIn}
 use Rattle.barrier_kit.proofs.ShoreFacts.{barrier_cuts-canonical}
 use Rattle.barrier_kit.specs.BarrierShores.{barrier_cuts}
 use Rattle.tight_cuts.specs.Candidates.{Barrier, candidate_at}

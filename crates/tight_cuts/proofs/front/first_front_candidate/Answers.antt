@@ -1,9 +1,9 @@
 use Rattle.std.proofs.Common.{◌≡◌, Option, sym, ap, ◌∙◌, arith, map}
 use Rattle.std.specs.Option.{option_map}
-use Rattle.std.proofs.lemmas.Result.{IfOk-weaker}
+use Rattle.counting.proofs.Common.{IfOk-weaker}
 use Rattle.barrier_kit.proofs.ShoreFacts.{bicritical_no_cuts}
 use Rattle.barrier_kit.specs.BarrierShores.{barrier_cuts}
-use Rattle.graph_core.specs.Graph.{Graph}
+use Rattle.graph_core.specs.Common.{Graph}
 use Rattle.separation_kit.proofs.SeparationFacts.{equivalent-none}
 use Rattle.separation_kit.specs.Pairs.{pair_of}
 use Rattle.separation_kit.specs.SeparationShores.{separation_cuts}

@@ -1,5 +1,5 @@
 use Rattle.std.proofs.Common.{None, sym, ap, ◌∙◌, subst}
-use Rattle.counting.specs.Lists.{IsRisingIn}
+use Rattle.counting.specs.Common.{IsRisingIn}
 use Rattle.separation_kit.proofs.SeparationFacts.{separation_cuts-canonical}
 use Rattle.separation_kit.specs.SeparationShores.{separation_cuts}
 use Rattle.tight_cuts.specs.Candidates.{Separation, candidate_at}

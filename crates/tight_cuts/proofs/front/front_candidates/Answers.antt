@@ -1,6 +1,6 @@
 use Rattle.std.proofs.Common.{◌≡◌, List, sym, ap, ◌∙◌, arith, map}
 use Rattle.std.specs.Option.{option_map}
-use Rattle.std.proofs.lemmas.Result.{IfOk-weaker}
+use Rattle.counting.proofs.Common.{IfOk-weaker}
 use Rattle.barrier_kit.proofs.ShoreFacts.{bicritical_no_cuts}
 use Rattle.barrier_kit.specs.BarrierShores.{barrier_cuts}
 use Rattle.separation_kit.proofs.SeparationFacts.{equivalent-none}

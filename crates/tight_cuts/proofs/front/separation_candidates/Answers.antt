@@ -1,11 +1,9 @@
 use Rattle.std.proofs.Common.{◌≡◌, ◌∙◌, ap, sym, subst, List, map}
 use Rattle.std.specs.Prelude.{All}
-use Rattle.std.proofs.lemmas.Result.{IfOk-weaker}
+use Rattle.counting.proofs.Common.{IfOk-weaker}
 use Rattle.separation_kit.proofs.SeparationFacts.{separation_cuts-canonical}
-use Rattle.graph_core.specs.CanonicalCuts.{IsCanonicalCut}
-use Rattle.counting.specs.Lists.{IsRisingIn}
-use Rattle.graph_core.specs.Graph.{Graph}
-use Rattle.graph_core.specs.Structure.{IsBicritical}
+use Rattle.graph_core.specs.Common.{IsCanonicalCut, Graph, IsBicritical}
+use Rattle.counting.specs.Common.{IsRisingIn}
 use Rattle.separation_kit.specs.SeparationShores.{separation_cuts}
 use Rattle.tight_cuts.specs.Candidates.{Candidate, Separation, candidate_at}
 use Rattle.tight_cuts.proofs.FrontCandidates.{canonical-rising}

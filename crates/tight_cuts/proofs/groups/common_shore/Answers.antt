@@ -1,4 +1,4 @@
-use Rattle.std.proofs.lemmas.Result.{IfOk-weaker}
+use Rattle.counting.proofs.Common.{IfOk-weaker}
 use Rattle.tight_cuts.specs.Candidates.{greater_end, lesser_end}
 use Rattle.tight_cuts.specs.EdgeSearch.{IsCommonShore, IsCutOfGroups}
 use Rattle.tight_cuts.proofs.EdgeShores.{common-from_cut, group_facts}

@@ -1,5 +1,5 @@
 use Rattle.std.proofs.Common.{◌∙◌, ap, sym, subst}
-use Rattle.counting.specs.Counts.{Within}
+use Rattle.counting.specs.Common.{Within}
 use Rattle.tight_cuts.specs.EdgeSearch.{group_net, row_group}
 use Rattle.tight_cuts.proofs.EdgeShores.{cut_answer, flow_answer}
 use Rattle.tight_cuts.proofs.groups.cut_of_groups.Goals as goal

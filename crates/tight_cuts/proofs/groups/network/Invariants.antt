@@ -1,5 +1,5 @@
 use Rattle.std.proofs.Common.{◌≡◌, ◌≤◌}
-use Rattle.counting.specs.Counts.{total}
+use Rattle.counting.specs.Common.{total}
 use Rattle.flow_core.specs.Nets.{total_capacity}
 use Rattle.tight_cuts.specs.EdgeSearch.{arcs_by, at_place, row_group}
 use Rattle.tight_cuts.proofs.groups.network.Given as goal

@@ -1,6 +1,5 @@
 use Rattle.std.proofs.Common.{◌≡◌, ◌<◌, ℕ, false}
-use Rattle.counting.specs.Counts.{Within}
-use Rattle.counting.specs.Lists.{mem}
+use Rattle.counting.specs.Common.{Within, mem}
 use Rattle.tight_cuts.specs.EdgeSearch.{row_group}
 use Rattle.tight_cuts.proofs.groups.vertices_of.Given as goal
 

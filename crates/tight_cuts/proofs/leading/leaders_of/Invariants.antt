@@ -1,5 +1,5 @@
 use Rattle.std.proofs.Common.{◌≡◌, ℕ, ◌+◌, length}
-use Rattle.counting.specs.Counts.{Within}
+use Rattle.counting.specs.Common.{Within}
 use Rattle.tight_cuts.specs.EdgeSearch.{at_place}
 use Rattle.tight_cuts.specs.Pieces.{leader}
 use Rattle.tight_cuts.proofs.leading.leaders_of.Given as goal

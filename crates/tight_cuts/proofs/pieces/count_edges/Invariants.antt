@@ -1,6 +1,5 @@
 use Rattle.std.proofs.Common.{◌≡◌, ℕ, ◌+◌, length, take, map}
-use Rattle.counting.specs.Counts.{bit}
-use Rattle.counting.specs.Lists.{mem}
+use Rattle.counting.specs.Common.{bit, mem}
 use Rattle.match_core.proofs.MatchingEdges.{edge_of}
 use Rattle.tight_cuts.specs.EdgeSearch.{at_place}
 use Rattle.tight_cuts.proofs.pieces.count_edges.Given as goal

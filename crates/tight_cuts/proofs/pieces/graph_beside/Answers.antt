@@ -1,5 +1,5 @@
 use Rattle.std.proofs.Common.{◌+◌, ◌∙◌, sym, subst, arith}
-use Rattle.std.proofs.lemmas.Bool.{both_ways}
+use Rattle.counting.proofs.Common.{both_ways}
 use Rattle.tight_cuts.proofs.BesideGraphs.{BesideSoFar, beside-more, beside-skip}
 use Rattle.tight_cuts.proofs.pieces.graph_beside.Goals.{then-f-e+then-both+in_ok-push_edge, else-f-e, else-f-e-via-then-f-e+else-both, else-f-e-via-else-f-e}
 use Rattle.tight_cuts.proofs.pieces.graph_beside.Goals as goal

@@ -1,8 +1,7 @@
 use Rattle.std.proofs.Common.{◌≡◌, ◌+◌, ◌<◌, ◌∙◌, ℕ, List, All, length, ap, arith, get_or, map, subst, sym}
 use Rattle.std.proofs.lemmas.List.{length-replicate}
-use Rattle.counting.specs.Counts.{bit}
-use Rattle.counting.specs.Lists.{mem}
-use Rattle.graph_core.specs.Graph.{Graph, size}
+use Rattle.counting.specs.Common.{bit, mem}
+use Rattle.graph_core.specs.Common.{Graph, size}
 use Rattle.match_core.specs.MatchingRows.{IsOf, MatchingValue, edges_of}
 use Rattle.match_core.specs.declared.matching.MatchRow.{MatchRow}
 use Rattle.allowed_edges.specs.PairTables.{edge_lists}

@@ -1,5 +1,5 @@
 use Rattle.std.proofs.Common.{◌≡◌, ℕ, ◌+◌, length, take, map}
-use Rattle.graph_core.specs.Graph.{size}
+use Rattle.graph_core.specs.Common.{size}
 use Rattle.match_core.specs.MatchingRows.{edges_of}
 use Rattle.tight_cuts.specs.EdgeSearch.{at_place}
 use Rattle.tight_cuts.specs.PairSums.{weight}

@@ -1,6 +1,6 @@
 use Rattle.std.proofs.Common.{◌+◌, Bool, Global, Vec, ap, arith, subst, sym}
-use Rattle.counting.specs.Lists.{mem}
-use Rattle.graph_core.specs.Matchings.{IsPerfect}
+use Rattle.counting.specs.Common.{mem}
+use Rattle.graph_core.specs.Common.{IsPerfect}
 use Rattle.match_core.specs.MatchingRows.{edges_of}
 use Rattle.allowed_edges.specs.PairTables.{SettlesEdges}
 use Rattle.tight_cuts.specs.QuietEdges.{AreQuiet}

@@ -1,4 +1,4 @@
-use Rattle.counting.specs.Lists.{mem}
+use Rattle.counting.specs.Common.{mem}
 use Rattle.allowed_edges.specs.PairTables.{IsPerfectWith, SettlesEdges}
 use Rattle.tight_cuts.specs.QuietEdges.{IsOneSided}
 use Rattle.tight_cuts.proofs.quiet_edges.reach_of.Given as goal

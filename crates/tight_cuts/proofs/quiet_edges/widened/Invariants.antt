@@ -1,4 +1,4 @@
-use Rattle.counting.specs.Lists.{mem}
+use Rattle.counting.specs.Common.{mem}
 use Rattle.tight_cuts.specs.QuietEdges.{IsOneSided}
 use Rattle.tight_cuts.proofs.quiet_edges.widened.Given as goal
 

@@ -1,6 +1,5 @@
 use Rattle.std.proofs.Common.{◌∙◌, sym, subst}
-use Rattle.counting.specs.Counts.{Within}
-use Rattle.counting.specs.Lists.{mem}
+use Rattle.counting.specs.Common.{Within, mem}
 use Rattle.tight_cuts.proofs.OneSided.{other_vertex}
 use Rattle.tight_cuts.proofs.quiet_edges.without_ends.Goals as goal
 

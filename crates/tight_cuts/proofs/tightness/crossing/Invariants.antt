@@ -1,7 +1,6 @@
 use Rattle.std.proofs.Common.{◌≡◌, ℕ, true}
-use Rattle.counting.specs.Counts.{Within}
-use Rattle.counting.specs.Lists.{mem}
-use Rattle.graph_core.specs.Graph.{in_cut}
+use Rattle.counting.specs.Common.{Within, mem}
+use Rattle.graph_core.specs.Common.{in_cut}
 use Rattle.tight_cuts.specs.Tightness.{NoLaterWith}
 use Rattle.tight_cuts.proofs.tightness.crossing.Given as goal
 

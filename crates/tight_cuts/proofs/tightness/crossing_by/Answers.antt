@@ -1,5 +1,5 @@
 use Rattle.std.proofs.Common.{◌∙◌, sym, arith}
-use Rattle.counting.specs.Lists.{mem}
+use Rattle.counting.specs.Common.{mem}
 use Rattle.allowed_edges.proofs.PairSteps.{apart_shared, share_some}
 use Rattle.tight_cuts.proofs.CrossingMatchings.{crosses_by_two}
 use Rattle.tight_cuts.proofs.tightness.crossing_by.Goals as goal

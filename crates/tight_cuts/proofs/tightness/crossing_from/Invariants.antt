@@ -1,7 +1,6 @@
 use Rattle.std.proofs.Common.{◌≡◌, ℕ, ◌<◌, ◌≤◌, true}
-use Rattle.counting.specs.Lists.{mem}
-use Rattle.graph_core.specs.Graph.{in_cut}
-use Rattle.graph_core.specs.Matchings.{Together}
+use Rattle.counting.specs.Common.{mem}
+use Rattle.graph_core.specs.Common.{in_cut, Together}
 use Rattle.tight_cuts.proofs.tightness.crossing_from.Given as goal
 
 abbrev pub invariant-loop-k : goal.invariant-loop-k

@@ -1,6 +1,5 @@
 use Rattle.std.proofs.Common.{◌+◌, take, refl, subst}
-use Rattle.tree_core.specs.MoveView.{move_of, moves_of}
-use Rattle.tree_core.specs.View.{shape_of}
+use Rattle.tree_core.specs.Common.{move_of, moves_of, shape_of}
 use Rattle.tree_check.proofs.ReplaySteps.{reached-derivation, refused_move-next, stuck-next, turns-next}
 use Rattle.tree_check.specs.Judgements.{why_of}
 use Rattle.tree_check.specs.Replays.{IsMoved}

@@ -1,7 +1,5 @@
 use Rattle.std.proofs.Common.{take}
-use Rattle.tree_core.specs.Moves.{TurnsThrough}
-use Rattle.tree_core.specs.MoveView.{moves_of}
-use Rattle.tree_core.specs.View.{shape_of}
+use Rattle.tree_core.specs.Common.{TurnsThrough, moves_of, shape_of}
 use Rattle.tree_check.proofs.replaying.replay.Given as goal
 
 -- the first moves turn the tree through derivations into the one that is reached

@@ -1,10 +1,7 @@
 use Rattle.std.proofs.Common.{◌≡◌, Some, sym, subst}
-use Rattle.graph_core.specs.Partitions.{singles}
+use Rattle.graph_core.specs.Common.{singles}
 use Rattle.tree_core.proofs.DerivationStands.{fits-derivation}
-use Rattle.tree_core.specs.Moves.{move_result}
-use Rattle.tree_core.specs.MoveView.{move_of}
-use Rattle.tree_core.specs.Shapes.{Fits}
-use Rattle.tree_core.specs.View.{shape_of}
+use Rattle.tree_core.specs.Common.{move_result, move_of, Fits, shape_of}
 use Rattle.tree_check.proofs.MovesFit.{move-fits}
 use Rattle.tree_check.proofs.Scanning.{refused-first}
 use Rattle.tree_check.specs.Scans.{IsScanned}

@@ -1,12 +1,7 @@
 use Rattle.std.proofs.Common.{ℕ, List, [], length, Option, unwrap_or, sym, ap, ◌∙◌, subst}
-use Rattle.counting.specs.Counts.{is_odd}
-use Rattle.counting.specs.Lists.{IsRisingIn, mem, rising_list}
-use Rattle.graph_core.specs.Graph.{Graph}
-use Rattle.graph_core.specs.Partitions.{IsPartition}
-use Rattle.graph_core.specs.Quotients.{quotient}
-use Rattle.graph_core.specs.Shores.{blocks_in}
+use Rattle.counting.specs.Common.{is_odd, IsRisingIn, mem, rising_list}
+use Rattle.graph_core.specs.Common.{Graph, IsPartition, quotient, blocks_in, IsTight}
 use Rattle.tight_cuts.specs.Tightness.{CrossesTwice, IsTightness}
-use Rattle.graph_core.specs.Tight.{IsTight}
 use Rattle.tree_check.proofs.CutRules.{crossing-shown, places-odd, places-rise, tight-shown}
 use Rattle.tree_check.proofs.rules.crossing_by.Goals as goal
 

@@ -1,8 +1,7 @@
 use Rattle.std.proofs.Common.{length, arith, sym}
-use Rattle.std.proofs.lemmas.Option.{none-some}
-use Rattle.counting.proofs.Counts.{count_complement}
-use Rattle.counting.specs.Lists.{mem}
-use Rattle.graph_core.specs.Shores.{blocks_in}
+use Rattle.counting.proofs.Common.{none-some, count_complement}
+use Rattle.counting.specs.Common.{mem}
+use Rattle.graph_core.specs.Common.{blocks_in}
 use Rattle.tree_check.proofs.CutRules.{breaks-some, even-count, is-cut, nontrivial-shown, odd-count, union-at}
 use Rattle.tree_check.specs.declared.judgement.Why.TheVariants.{Even, Trivial, NotTight}
 use Rattle.tree_check.proofs.rules.cut_fault.Goals.{then-inside-lt3-via-then-inside-lt3, then-inside-lt3-via-else-inside-lt3+then-len-inside}

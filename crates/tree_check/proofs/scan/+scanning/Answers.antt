@@ -1,12 +1,8 @@
 use Rattle.std.proofs.Common.{ℕ, List, rules, arith, ◌+◌, ◌≤◌, ◌≡◌, length, refl, sym, ap, subst}
-use Rattle.std.proofs.lemmas.Result.{IfOk-weaker}
-use Rattle.counting.specs.Counts.{count}
-use Rattle.counting.specs.Lists.{mem}
-use Rattle.graph_core.specs.Partitions.{IsPartition}
-use Rattle.graph_core.specs.Shores.{blocks_in}
-use Rattle.tree_core.specs.Derivations.{kept_at, merged_at}
-use Rattle.tree_core.specs.Shapes.{Fits}
-use Rattle.tree_core.specs.View.{shape_of}
+use Rattle.counting.proofs.Common.{IfOk-weaker}
+use Rattle.counting.specs.Common.{count, mem}
+use Rattle.graph_core.specs.Common.{IsPartition, blocks_in}
+use Rattle.tree_core.specs.Common.{kept_at, merged_at, Fits, shape_of}
 use Rattle.tree_core.specs.declared.tree.Tree.{Tree}
 use Rattle.tree_check.specs.Scans.{IsScanned}
 use Rattle.tree_check.specs.declared.scan.Scanned.TheVariants as scanned

@@ -1,6 +1,6 @@
 use Rattle.std.proofs.Common.{subst}
-use Rattle.graph_core.specs.Partitions.{singles}
-use Rattle.tree_core.specs.View.{shape_of}
+use Rattle.graph_core.specs.Common.{singles}
+use Rattle.tree_core.specs.Common.{shape_of}
 use Rattle.tree_check.specs.Scans.{IsScanned}
 use Rattle.tree_check.proofs.Scanning.{refused-first}
 use Rattle.tree_check.proofs.scan.check_covered.Goals as goal

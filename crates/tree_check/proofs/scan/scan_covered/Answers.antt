@@ -1,7 +1,6 @@
 use Rattle.std.proofs.Common.{subst, sym}
-use Rattle.graph_core.specs.Partitions.{singles}
-use Rattle.tree_core.specs.Derivations.{IsLeafAt}
-use Rattle.tree_core.specs.View.{shape_of}
+use Rattle.graph_core.specs.Common.{singles}
+use Rattle.tree_core.specs.Common.{IsLeafAt, shape_of}
 use Rattle.tree_core.specs.declared.tree.Tree.{Tree}
 use Rattle.tree_check.specs.Scans.{IsScanned}
 use Rattle.tree_check.proofs.scan.scan_covered.Goals as goal

@@ -1,4 +1,4 @@
-use Rattle.tree_core.specs.Derivations.{IsLeafAt}
+use Rattle.tree_core.specs.Common.{IsLeafAt}
 use Rattle.tree_check.proofs.scan.scan_leaf.Goals as goal
 
 pub returns : goal.returns

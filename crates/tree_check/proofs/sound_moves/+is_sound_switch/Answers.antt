@@ -1,8 +1,7 @@
 use Rattle.std.proofs.Common.{IsTrue, ap, subst}
-use Rattle.std.proofs.lemmas.Result.{IfOk-weaker}
-use Rattle.graph_core.specs.Partitions.{IsPartition}
-use Rattle.tree_core.specs.Derivations.{IsCutAt, IsDerivationAt}
-use Rattle.tree_core.specs.View.{shape_of}
+use Rattle.counting.proofs.Common.{IfOk-weaker}
+use Rattle.graph_core.specs.Common.{IsPartition}
+use Rattle.tree_core.specs.Common.{IsCutAt, IsDerivationAt, shape_of}
 use Rattle.tree_check.proofs.SoundMoves.{switched-here}
 use Rattle.tree_check.specs.SoundMoves.{IsBlock}
 use Rattle.tree_check.proofs.sound_moves.+is_sound_switch.Goals as goal

@@ -1,9 +1,7 @@
 use Rattle.std.proofs.Common.{Some, subst, ◌≡◌}
 use Rattle.move_laws.proofs.Uniqueness.{rotate_derives_law}
 use Rattle.tree_core.proofs.DerivationStands.{fits-derivation}
-use Rattle.tree_core.specs.MoveView.{move_of}
-use Rattle.tree_core.specs.Moves.{move_result}
-use Rattle.tree_core.specs.View.{shape_of}
+use Rattle.tree_core.specs.Common.{move_of, move_result, shape_of}
 use Rattle.tree_core.specs.declared.moves.Move.{Move}
 use Rattle.tree_check.proofs.MovesFit.{move-fits}
 use Rattle.tree_check.proofs.sound_moves.is_sound.Goals as goal

@@ -1,5 +1,5 @@
 use Rattle.std.proofs.Common.{◌≡◌, ◌∙◌, ap}
-use Rattle.graph_core.specs.Partitions.{complement_of, merged}
+use Rattle.graph_core.specs.Common.{complement_of, merged}
 use Rattle.tree_core.specs.Derivations.{kept_at}
 use Rattle.tree_core.proofs.CutsBelow.{covers-kept, cut-fits, cut-some, length-of_kept}
 use Rattle.tree_core.proofs.below.kept_partition.Goals as goal

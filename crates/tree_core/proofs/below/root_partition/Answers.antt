@@ -1,6 +1,6 @@
 use Rattle.std.proofs.Common.{◌≡◌, ◌∙◌, ap, length, arith}
-use Rattle.graph_core.proofs.Singles.{length-singles}
-use Rattle.graph_core.specs.Partitions.{singles}
+use Rattle.graph_core.proofs.Common.{length-singles}
+use Rattle.graph_core.specs.Common.{singles}
 use Rattle.tree_core.proofs.CutsBelow.{root-covered}
 use Rattle.tree_core.proofs.below.root_partition.Goals as goal
 

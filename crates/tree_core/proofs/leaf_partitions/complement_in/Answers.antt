@@ -1,5 +1,5 @@
 use Rattle.std.proofs.Common.{◌<◌, ℕ, List, length, subst, sym}
-use Rattle.graph_core.proofs.Complements.{complement_of-rises, union-complement_of}
+use Rattle.graph_core.proofs.Common.{complement_of-rises, union-complement_of}
 use Rattle.contraction.specs.Partition.{IsUnionAt}
 use Rattle.tree_core.proofs.Shores.{is-complement, complement-nonempty}
 use Rattle.tree_core.proofs.leaf_partitions.complement_in.Goals as goal

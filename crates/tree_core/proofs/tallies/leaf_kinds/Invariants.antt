@@ -1,5 +1,5 @@
 use Rattle.std.proofs.Common.{◌≡◌, ℕ, length, map}
-use Rattle.counting.specs.Counts.{Within}
+use Rattle.counting.specs.Common.{Within}
 use Rattle.tree_core.specs.LeafMaps.{leaf_at}
 use Rattle.tree_core.specs.Tallies.{IsLeafKind, kind_at}
 use Rattle.tree_core.proofs.tallies.leaf_kinds.Given as goal

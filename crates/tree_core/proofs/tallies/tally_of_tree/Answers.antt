@@ -1,6 +1,6 @@
 use Rattle.std.proofs.Common.{ℕ, List, All, ◌≡◌, ◌∙◌, ap, sym, subst, arith, length, map}
 use Rattle.contraction.specs.Partition.{PartitionValue}
-use Rattle.graph_core.specs.Partitions.{singles}
+use Rattle.graph_core.specs.Common.{singles}
 use Rattle.tree_core.specs.Leaves.{StandsAt, leaves, partitions_of}
 use Rattle.tree_core.specs.Shapes.{Fits}
 use Rattle.tree_core.specs.View.{shape_of}

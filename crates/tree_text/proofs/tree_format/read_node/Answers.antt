@@ -1,6 +1,5 @@
 use Rattle.std.proofs.Common.{◌≡◌, ◌+◌, ◌∙◌, true, Bool, List, ℕ, Result, Ok, subst, sym, ap, ap₂, arith, rules}
-use Rattle.line_text.specs.Reading.{Refuses}
-use Rattle.line_text.specs.Words.{texts_of}
+use Rattle.line_text.specs.Common.{Refuses, texts_of}
 use Rattle.text_faults.specs.declared.faults.FaultKind.{FaultKind}
 use Rattle.tree_text.specs.Places.{Reading}
 use Rattle.tree_text.specs.SoFar.{place_of}

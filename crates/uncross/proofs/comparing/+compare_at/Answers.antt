@@ -1,8 +1,5 @@
 use Rattle.std.proofs.Common.{◌*◌, ◌≤◌, List, ap, arith, length, refl, subst, sym, ℕ}
-use Rattle.tree_core.specs.Derivations.{IsDerivationAt}
-use Rattle.tree_core.specs.MoveView.{moves_of}
-use Rattle.tree_core.specs.Shapes.{cut_count, node_count}
-use Rattle.tree_core.specs.View.{shape_of}
+use Rattle.tree_core.specs.Common.{IsDerivationAt, moves_of, cut_count, node_count, shape_of}
 use Rattle.tree_core.specs.declared.moves.Move.{Move}
 use Rattle.tree_core.specs.declared.tree.Tree.{Tree}
 use Rattle.uncross.proofs.CompareSteps.{IsCompared, both_leaves, compared}

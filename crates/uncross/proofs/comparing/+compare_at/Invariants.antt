@@ -1,5 +1,4 @@
-use Rattle.tree_core.specs.Shapes.{node_count}
-use Rattle.tree_core.specs.View.{shape_of}
+use Rattle.tree_core.specs.Common.{node_count, shape_of}
 use Rattle.uncross.proofs.comparing.+compare_at.Given as goal
 
 abbrev pub decreases-compare_at : goal.decreases-compare_at

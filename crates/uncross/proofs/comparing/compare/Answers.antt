@@ -1,7 +1,5 @@
 use Rattle.std.proofs.Common.{subst, sym}
-use Rattle.tree_core.specs.Leaves.{leaves}
-use Rattle.tree_core.specs.MoveView.{moves_of}
-use Rattle.tree_core.specs.View.{shape_of}
+use Rattle.tree_core.specs.Common.{leaves, moves_of, shape_of}
 use Rattle.uncross.proofs.ScriptSteps.{derivation_script_pairs}
 use Rattle.move_laws.specs.Pairings.{IsPairing}
 use Rattle.uncross.proofs.comparing.compare.Goals as goal

@@ -1,9 +1,7 @@
 use Rattle.std.proofs.Common.{◌∙◌, List, ℕ, ap, subst}
-use Rattle.graph_core.specs.Partitions.{singles}
+use Rattle.graph_core.specs.Common.{singles}
 use Rattle.tree_core.proofs.CutsBelow.{root-covered}
-use Rattle.tree_core.specs.MoveView.{moves_of}
-use Rattle.tree_core.specs.Shapes.{Shape}
-use Rattle.tree_core.specs.View.{shape_of}
+use Rattle.tree_core.specs.Common.{moves_of, Shape, shape_of}
 use Rattle.move_laws.proofs.Uniqueness.{script_through}
 use Rattle.move_laws.specs.Scripts.{IsProperScript}
 use Rattle.uncross.proofs.comparing.moves_between.Goals as goal

@@ -1,9 +1,6 @@
 use Rattle.std.proofs.Common.{ap, arith, option_map, subst}
-use Rattle.tree_core.specs.Derivations.{IsDerivationAt}
-use Rattle.tree_core.specs.Shapes.{node_count}
+use Rattle.tree_core.specs.Common.{IsDerivationAt, node_count, moves_of, shape_of}
 use Rattle.tree_core.specs.declared.tree.Tree.{Tree}
-use Rattle.tree_core.specs.MoveView.{moves_of}
-use Rattle.tree_core.specs.View.{shape_of}
 use Rattle.uncross.proofs.ExposeSteps.{asks_kept, asks_merged, both_fit, leaf_exposes, whole_exposed}
 use Rattle.uncross.specs.PlanView.{plan_of}
 use Rattle.uncross.specs.TurnedView.{turned_of}

@@ -1,5 +1,4 @@
-use Rattle.tree_core.specs.Shapes.{node_count}
-use Rattle.tree_core.specs.View.{shape_of}
+use Rattle.tree_core.specs.Common.{node_count, shape_of}
 use Rattle.uncross.proofs.exposing.+expose_at.Given as goal
 
 abbrev pub decreases-expose_at : goal.decreases-expose_at

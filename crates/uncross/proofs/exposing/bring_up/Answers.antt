@@ -1,6 +1,5 @@
 use Rattle.std.proofs.Common.{List, Some, subst, sym, ℕ}
-use Rattle.tree_core.specs.Derivations.{IsDerivationAt}
-use Rattle.tree_core.specs.View.{shape_of}
+use Rattle.tree_core.specs.Common.{IsDerivationAt, shape_of}
 use Rattle.uncross.proofs.ExposedShores.{raised_at_singles}
 use Rattle.uncross.specs.Plans.{CutIf}
 use Rattle.uncross.proofs.exposing.bring_up.Goals as goal

@@ -1,11 +1,6 @@
 use Rattle.std.proofs.Common.{ap, arith, subst, sym, ◌∙◌}
-use Rattle.graph_core.specs.Partitions.{singles}
-use Rattle.tree_core.specs.Derivations.{IsDerivation}
-use Rattle.tree_core.specs.LeafMaps.{script_maps}
-use Rattle.tree_core.specs.Leaves.{leaves}
-use Rattle.tree_core.specs.MoveView.{moves_of}
-use Rattle.tree_core.specs.Shapes.{Shape}
-use Rattle.tree_core.specs.View.{shape_of}
+use Rattle.graph_core.specs.Common.{singles}
+use Rattle.tree_core.specs.Common.{IsDerivation, script_maps, leaves, moves_of, Shape, shape_of}
 use Rattle.uncross.proofs.ScriptSteps.{script_derives, derivation_script_pairs}
 use Rattle.move_laws.proofs.Uniqueness.{script_through}
 use Rattle.move_laws.specs.Pairings.{IsPairing}

@@ -1,5 +1,5 @@
 use Rattle.std.proofs.Common.{[], ap, map, ◌∙◌, ◌∷◌}
-use Rattle.std.proofs.lemmas.List.{map-append}
+use Rattle.counting.proofs.Common.{map-append}
 use Rattle.std.specs.Vec.Iter.{into_iter_items}
 use Rattle.uncross.proofs.MappedSteps.{made-next}
 use Rattle.uncross.specs.Following.{IsMapIntoIf, map_after}

@@ -1,5 +1,5 @@
 use Rattle.std.proofs.Common.{ap, ℕ, ◌∙◌}
-use Rattle.graph_core.specs.Partitions.{block, place}
+use Rattle.graph_core.specs.Common.{block, place}
 use Rattle.uncross.proofs.MappedSteps.{made-next}
 use Rattle.uncross.proofs.PlaceSteps.{block-at}
 use Rattle.uncross.specs.Following.{IsNameIn, names_after}

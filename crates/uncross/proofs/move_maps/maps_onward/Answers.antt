@@ -1,6 +1,5 @@
 use Rattle.std.proofs.Common.{List, ap, map, ℕ, ◌∙◌}
-use Rattle.tree_core.specs.MoveView.{move_of}
-use Rattle.tree_core.specs.View.{shape_of}
+use Rattle.tree_core.specs.Common.{move_of, shape_of}
 use Rattle.uncross.proofs.FollowedMaps.{into_if, led}
 use Rattle.uncross.specs.Following.{map_after}
 use Rattle.uncross.specs.MapView.{maps_of}

@@ -1,6 +1,5 @@
 use Rattle.std.proofs.Common.{ap}
-use Rattle.tree_core.specs.MoveView.{move_of, moves_of}
-use Rattle.tree_core.specs.View.{shape_of}
+use Rattle.tree_core.specs.Common.{move_of, moves_of, shape_of}
 use Rattle.uncross.proofs.ScriptSteps.{fits, leads, leaves-few, stands, start, step}
 use Rattle.uncross.specs.MapView.{maps_of}
 use Rattle.uncross.proofs.move_maps.script_maps.Goals as goal

@@ -1,8 +1,7 @@
 -- The tree is a derivation, the moves left lead on from it, and the maps so far are those of the
 -- moves made.
 use Rattle.std.proofs.Common.{length}
-use Rattle.tree_core.specs.MoveView.{moves_of}
-use Rattle.tree_core.specs.View.{shape_of}
+use Rattle.tree_core.specs.Common.{moves_of, shape_of}
 use Rattle.uncross.proofs.ScriptSteps.{Remains}
 use Rattle.uncross.specs.MapView.{maps_of}
 use Rattle.uncross.proofs.move_maps.script_maps.Given as goal

@@ -1,6 +1,6 @@
 use Rattle.std.proofs.Common.{refl, subst, sym}
-use Rattle.counting.specs.Lists.{IsRisingIn}
-use Rattle.graph_core.proofs.Complements.{complement_of-rises}
+use Rattle.counting.specs.Common.{IsRisingIn}
+use Rattle.graph_core.proofs.Common.{complement_of-rises}
 use Rattle.tree_core.proofs.Shores.{is-complement}
 use Rattle.uncross.proofs.plans.complement.Goals as goal
 

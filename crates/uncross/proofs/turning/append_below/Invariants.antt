@@ -1,6 +1,5 @@
 use Rattle.std.proofs.Common.{◌≡◌, ◌++◌, map, length}
-use Rattle.tree_core.specs.Moves.{below}
-use Rattle.tree_core.specs.MoveView.{moves_of}
+use Rattle.tree_core.specs.Common.{below, moves_of}
 use Rattle.uncross.proofs.turning.append_below.Given as goal
 
 -- the moves appended and those left are all

@@ -1,5 +1,5 @@
 use Rattle.std.proofs.Common.{◌||◌, List, Bool, length, sym, ap, ◌∙◌}
-use Rattle.counting.specs.Lists.{mem, row_of}
+use Rattle.counting.specs.Common.{mem, row_of}
 use Rattle.match_core.specs.MatchingRows.{edges_of}
 use Rattle.match_search.specs.Rows.{marks}
 use Rattle.allowed_edges.proofs.MarkedPairs.{row_elsewhere, row_here, row_read, row_written}

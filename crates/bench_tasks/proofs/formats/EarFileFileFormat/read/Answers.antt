@@ -1,6 +1,6 @@
 use Rattle.std.proofs.Common.{ℕ, IfOk, subst₂}
 use Rattle.text_faults.specs.Readings.{ReadsText}
-use Rattle.line_text.specs.Reading.{reading_of}
+use Rattle.line_text.specs.Common.{reading_of}
 use Rattle.ear_core.specs.EarLists.{FitsEars}
 use Rattle.ear_core.specs.View.{ears_of}
 use Rattle.ear_text.specs.EarFormat.{ear_format}

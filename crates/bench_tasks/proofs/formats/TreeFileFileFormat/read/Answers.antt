@@ -1,7 +1,7 @@
 use Rattle.std.proofs.Common.{ℕ, subst}
 use Rattle.text_faults.specs.Readings.{ReadsText}
-use Rattle.line_text.specs.Reading.{reading_of}
-use Rattle.tree_core.specs.View.{shape_of}
+use Rattle.line_text.specs.Common.{reading_of}
+use Rattle.tree_core.specs.Common.{shape_of}
 use Rattle.tree_text.specs.TreeFormat.{tree_format}
 use Rattle.bench_tasks.proofs.TextReads.{ReadsText-reading_of}
 use Rattle.bench_tasks.proofs.formats.TreeFileFileFormat.read.Goals as goal

@@ -1,6 +1,6 @@
 use Rattle.std.proofs.Common.{ap, ◌∙◌, arith, ℕ, length, subst, Vec, Global}
-use Rattle.std.proofs.lemmas.List.{length-map}
-use Rattle.counting.specs.Lists.{item}
+use Rattle.counting.proofs.Common.{length-map}
+use Rattle.counting.specs.Common.{item}
 use Rattle.contraction.specs.Contracted.{ContractedValue, KeepsContraction}
 use Rattle.contraction.proofs.ContractedValues.{item-remembered, one-each}
 use Rattle.contraction.proofs.contracted.Contracted.remembered.Goals as goal

@@ -1,6 +1,6 @@
 use Rattle.std.proofs.Common.{sym, subst}
-use Rattle.graph_core.specs.Partitions.{IsPartition}
-use Rattle.graph_core.proofs.Singles.{singles-partition}
+use Rattle.graph_core.specs.Common.{IsPartition}
+use Rattle.graph_core.proofs.Common.{singles-partition}
 use Rattle.contraction.proofs.partition.Partition.singles.Goals as goal
 
 pub invariant_of-result : goal.invariant_of-result

@@ -1,5 +1,5 @@
 use Rattle.std.proofs.Common.{◌≡◌, ◌∙◌, ◌++◌, ◌∷◌, [], ℕ, List, map, ap}
-use Rattle.std.proofs.lemmas.List.{map-append}
+use Rattle.counting.proofs.Common.{map-append}
 use Rattle.flow_core.specs.Nets.{Arc, Net, with_arc}
 use Rattle.flow_core.specs.View.{arc_of, net_of}
 use Rattle.flow_core.specs.declared.arc.Arc.{Arc as StoredArc}

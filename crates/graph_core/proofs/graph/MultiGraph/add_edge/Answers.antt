@@ -1,5 +1,5 @@
 use Rattle.std.proofs.Common.{rules, ◌≡◌, ◌<◌, ◌∙◌, refl, ◌++◌, ◌∷◌, [], ℕ, List, length, map, drop, take, ap, arith, subst, sym}
-use Rattle.std.proofs.lemmas.List.{map-append}
+use Rattle.counting.proofs.Common.{map-append}
 use Rattle.std.proofs.Math.Seq.{take-append_seam}
 use Rattle.graph_core.specs.Graph.{Graph, with_edge}
 use Rattle.graph_core.specs.Rows.{AreRows}

@@ -1,5 +1,5 @@
 use Rattle.std.proofs.Common.{ap, ◌∙◌, arith}
-use Rattle.counting.specs.Sets.{none}
+use Rattle.counting.specs.Common.{none}
 use Rattle.graph_core.specs.Graph.{Graph}
 use Rattle.graph_core.specs.View.{graph_of}
 use Rattle.graph_core.specs.Walks.{adjacent}

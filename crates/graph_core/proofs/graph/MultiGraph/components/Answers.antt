@@ -1,6 +1,5 @@
 use Rattle.std.proofs.Common.{◌≡◌, ℕ, ap, sym, subst, ◌∙◌, length, List, [], arith}
-use Rattle.counting.specs.Lists.{mem}
-use Rattle.counting.specs.Sets.{none}
+use Rattle.counting.specs.Common.{mem, none}
 use Rattle.graph_core.specs.Components.{component_count, components}
 use Rattle.graph_core.specs.Graph.{Graph, IsGraph}
 use Rattle.graph_core.specs.Rows.{AreRows}

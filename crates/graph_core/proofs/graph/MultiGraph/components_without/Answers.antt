@@ -1,5 +1,5 @@
 use Rattle.std.proofs.Common.{◌≡◌, List, ℕ, ap, sym, subst, ◌∙◌}
-use Rattle.counting.specs.Lists.{mem}
+use Rattle.counting.specs.Common.{mem}
 use Rattle.graph_core.specs.Components.{components}
 use Rattle.graph_core.specs.Graph.{Graph, IsGraph}
 use Rattle.graph_core.specs.Rows.{AreRows}

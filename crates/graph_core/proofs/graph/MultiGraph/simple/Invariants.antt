@@ -1,6 +1,5 @@
 use Rattle.std.proofs.Common.{◌≡◌, ◌-◌, ◌<◌, false, ℕ}
-use Rattle.counting.specs.Counts.{Within}
-use Rattle.counting.specs.Tests.{some}
+use Rattle.counting.specs.Common.{Within, some}
 use Rattle.graph_core.specs.Graph.{size}
 use Rattle.graph_core.proofs.Simplicity.{repeats}
 use Rattle.graph_core.proofs.graph.MultiGraph.simple.Given as goal

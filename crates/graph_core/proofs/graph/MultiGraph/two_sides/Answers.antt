@@ -1,6 +1,5 @@
 use Rattle.std.proofs.Common.{◌≡◌, ◌∙◌, ℕ, List, [], length, ap, subst, sym}
-use Rattle.counting.specs.Lists.{mem}
-use Rattle.counting.specs.Sets.{none}
+use Rattle.counting.specs.Common.{mem, none}
 use Rattle.graph_core.specs.Nodes.{AreTrees}
 use Rattle.graph_core.specs.Rows.{AreRows}
 use Rattle.graph_core.specs.View.{graph_of}

@@ -1,10 +1,7 @@
 use Rattle.std.proofs.Common.{subst}
-use Rattle.counting.specs.Lists.{mem}
-use Rattle.counting.specs.Sets.{none}
-use Rattle.graph_core.proofs.Decide.{covered_perfect}
-use Rattle.graph_core.proofs.Perfect.{none_missed-perfect}
-use Rattle.graph_core.specs.Graph.{Graph}
-use Rattle.graph_core.specs.Matchings.{IsPerfect}
+use Rattle.counting.specs.Common.{mem, none}
+use Rattle.graph_core.proofs.Common.{covered_perfect, none_missed-perfect}
+use Rattle.graph_core.specs.Common.{Graph, IsPerfect}
 use Rattle.match_core.specs.MatchingRows.{IsOf, edges_of}
 use Rattle.allowed_edges.proofs.AllowedPartners.{maximum-perfect}
 use Rattle.graph_facts.proofs.covered_graph.Covered.matching.Goals as goal

@@ -1,7 +1,6 @@
 use Rattle.std.proofs.Common.{rules, subst}
-use Rattle.graph_core.proofs.Decide.{reason-uncovered}
-use Rattle.graph_core.specs.Graph.{Graph}
-use Rattle.graph_core.specs.Verdicts.{IsVerdict, reason_of}
+use Rattle.graph_core.proofs.Common.{reason-uncovered}
+use Rattle.graph_core.specs.Common.{Graph, IsVerdict, reason_of}
 use Rattle.graph_facts.proofs.covered_graph.Covered.of.Goals as goal
 
 pub returns-clause-uncovered : goal.returns-clause-uncovered

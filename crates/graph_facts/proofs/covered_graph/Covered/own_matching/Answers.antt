@@ -1,6 +1,6 @@
 use Rattle.std.proofs.Common.{◌≡◌, ◌&&◌, true, Bool, ap, ◌∙◌, ℕ, List, arith}
-use Rattle.counting.specs.Lists.{mem}
-use Rattle.graph_core.proofs.Decide.{degree_congr}
+use Rattle.counting.specs.Common.{mem}
+use Rattle.graph_core.proofs.Common.{degree_congr}
 use Rattle.match_core.specs.MatchingRows.{edges_of, left_over}
 use Rattle.graph_facts.proofs.covered_graph.Covered.own_matching.Goals as goal
 

@@ -1,4 +1,4 @@
-use Rattle.graph_core.proofs.Decide.{covered_perfect}
+use Rattle.graph_core.proofs.Common.{covered_perfect}
 use Rattle.graph_facts.proofs.covered_graph.Covered.table.Goals as goal
 
 pub unreachable-requires : goal.unreachable-requires

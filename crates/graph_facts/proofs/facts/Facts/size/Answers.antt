@@ -1,6 +1,5 @@
 use Rattle.std.proofs.Common.{subst}
-use Rattle.graph_core.specs.Graph.{Graph}
-use Rattle.graph_core.specs.View.{IsWithinLimits}
+use Rattle.graph_core.specs.Common.{Graph, IsWithinLimits}
 use Rattle.graph_facts.proofs.facts.Facts.size.Goals as goal
 
 pub returns-clause-limits : goal.returns-clause-limits

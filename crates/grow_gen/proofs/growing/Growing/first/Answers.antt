@@ -1,8 +1,7 @@
 use Rattle.std.proofs.Common.{◌≡◌, ℕ, ◌∷◌, [], Bool, true, false, ◌==◌, ◌||◌, map, ap, ap₂, ◌∙◌, arith, refl, List}
-use Rattle.std.proofs.lemmas.List.{take_all}
-use Rattle.counting.specs.Lists.{mem}
-use Rattle.counting.proofs.RisingLists.{same_rising_list, rising_list-rises, set-wider}
-use Rattle.graph_core.specs.View.{pair_of}
+use Rattle.counting.proofs.Common.{take_all, same_rising_list, rising_list-rises, set-wider}
+use Rattle.counting.specs.Common.{mem}
+use Rattle.graph_core.specs.Common.{pair_of}
 use Rattle.grow_gen.specs.Growth.{Growth}
 use Rattle.grow_gen.proofs.growing.Growing.first.Goals as goal
 

@@ -1,7 +1,6 @@
 use Rattle.std.proofs.Common.{ap, sym, subst, get_or}
-use Rattle.counting.specs.Counts.{Within}
-use Rattle.graph_core.specs.View.{graph_of}
-use Rattle.graph_core.specs.Graph.{Graph, IsMultigraph}
+use Rattle.counting.specs.Common.{Within}
+use Rattle.graph_core.specs.Common.{graph_of, Graph, IsMultigraph}
 use Rattle.graph_core.specs.declared.ends.Ends.{Ends}
 use Rattle.grow_gen.proofs.OnePiece.{edge-ends}
 use Rattle.grow_gen.proofs.growing.Growing.to_graph.Goals as goal

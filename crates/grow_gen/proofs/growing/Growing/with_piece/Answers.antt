@@ -1,5 +1,5 @@
 use Rattle.std.proofs.Common.{◌-◌, ◌+◌, ◌++◌, map, filter, not, ap, ◌∙◌}
-use Rattle.graph_core.specs.View.{pair_of}
+use Rattle.graph_core.specs.Common.{pair_of}
 use Rattle.grow_gen.specs.Growing.{growth_of}
 use Rattle.grow_gen.specs.Pieces.{piece_ends}
 use Rattle.grow_gen.specs.Splices.{is_at, renumbered_edge, rehung_edges}

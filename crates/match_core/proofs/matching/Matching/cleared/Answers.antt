@@ -1,6 +1,6 @@
 use Rattle.std.proofs.Common.{◌≡◌, List, sym, subst, ap, ◌∙◌, filter}
-use Rattle.counting.specs.Lists.{mem}
-use Rattle.graph_core.specs.Matchings.{IsMatching}
+use Rattle.counting.specs.Common.{mem}
+use Rattle.graph_core.specs.Common.{IsMatching}
 use Rattle.match_core.specs.MatchingRows.{KeepsMatching, IsOf, MatchingValue, edges_of, is_clear}
 use Rattle.match_core.specs.declared.matching.MatchRow.{MatchRow}
 use Rattle.match_core.proofs.ClearedMatchings.{cleared, cleared_edges, cleared_matching, cleared_of}

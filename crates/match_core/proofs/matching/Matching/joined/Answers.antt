@@ -1,11 +1,9 @@
 use Rattle.std.proofs.Common.{◌≡◌, ℕ, true, ◌||◌, ◌==◌, sym, ap, ◌∙◌, subst, refl, inl}
-use Rattle.std.proofs.lemmas.Result.{IfOk-weaker}
+use Rattle.counting.proofs.Common.{IfOk-weaker}
 use mathlib.Core.Path.{fun_ext}
-use Rattle.counting.specs.Sets.{Set, none, put}
-use Rattle.counting.specs.Lists.{mem, rising_list}
-use Rattle.graph_core.specs.Graph.{size, first_end, second_end}
-use Rattle.graph_core.specs.Matchings.{IsMatching}
-use Rattle.graph_core.proofs.Edits.{add_edge}
+use Rattle.counting.specs.Common.{Set, none, put, mem, rising_list}
+use Rattle.graph_core.specs.Common.{size, first_end, second_end, IsMatching}
+use Rattle.graph_core.proofs.Common.{add_edge}
 use Rattle.match_search.specs.Rows.{marks}
 use Rattle.match_core.specs.MatchingRows.{MatchingValue, edges_of}
 use Rattle.match_search.proofs.GrownRows.{with_put}

@@ -1,8 +1,7 @@
 use Rattle.std.proofs.Common.{◌∙◌, None, ap, refl, subst, sym}
 use Rattle.std.specs.Option.{option_map}
-use Rattle.std.proofs.lemmas.Bool.{both_ways}
-use Rattle.graph_core.specs.Graph.{Graph}
-use Rattle.graph_core.specs.Structure.{IsBicritical}
+use Rattle.counting.proofs.Common.{both_ways}
+use Rattle.graph_core.specs.Common.{Graph, IsBicritical}
 use Rattle.separation_kit.specs.Pairs.{pair_of}
 use Rattle.separation_kit.proofs.SeparationFacts.{equivalent-none}
 use Rattle.separation_kit.proofs.first_pairs.FirstPairs.is_bicritical.Goals as goal

@@ -1,5 +1,5 @@
 use Rattle.std.proofs.Common.{◌∙◌, sym, subst}
-use Rattle.counting.specs.Counts.{Within}
+use Rattle.counting.specs.Common.{Within}
 use Rattle.tight_cuts.specs.Candidates.{greater_end, lesser_end}
 use Rattle.tight_cuts.specs.EdgeSearch.{IsCommonShore}
 use Rattle.tight_cuts.proofs.EdgePieces.{first_done, piece_found, piece_full, piece_none}

@@ -1,4 +1,4 @@
-use Rattle.counting.proofs.RisingLists.{split_least}
+use Rattle.counting.proofs.Common.{split_least}
 use Rattle.vset_core.proofs.vertex_set.VSet.split_first.Goals as goal
 
 pub returns-clause-some : goal.returns-clause-some
