@@ -23,7 +23,7 @@ A file may be a pipe, as /dev/stdin. FORMATS.md has the formats and reports.
 
 /// The version, and the kit that it is proved with.
 pub const VERSION: &str = "mcg 0.2.0
-rattle-kit-13b logic dac8208d650f15bf
+rattle-kit-13f logic dac8208d650f15bf
 ";
 
 /// The usage of the program for lists. A word in brackets may be left out.
@@ -40,7 +40,7 @@ standard input or FILE. FORMATS.md has the lines that mcg6 writes.
 
 /// The version of the program for lists, and the kit that it is proved with.
 pub const LIST_VERSION: &str = "mcg6 0.2.0
-rattle-kit-13b logic dac8208d650f15bf
+rattle-kit-13f logic dac8208d650f15bf
 ";
 
 /// The usage. Takes no memory.
