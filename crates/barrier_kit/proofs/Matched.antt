@@ -2,7 +2,7 @@
 -- each term is at least one and the sum is no more than the number of terms, each term is one.
 use Rattle.std.proofs.Common.{◌≡◌, ℕ, ◌+◌, ◌≤◌, ◌≢◌, Bool, true, false, ◌==◌, refl, sym, ap, ◌∙◌, arith, ◌&&◌, ◌||◌, not, eq-eqb, eqb-true, inl, inr}
 use Rattle.counting.proofs.Common.{cases_Bool, true≢false, false_from_ne_true, both_ways, not-false, not-true, count_complement, count_zero, odd-double, some_none, some_true, at_le_total, total_add, total_congr, total_none, alike_not_apart}
-use Rattle.graph_core.proofs.Common.{perfect_matching, perfect_misses, ends_le_degree, ends_of, missed_edges, parted}
+use Rattle.graph_core.proofs.Common.{degree-inside, degree-inside_off, perfect_matching, perfect_misses, ends_le_degree, ends_of, missed_edges, parted}
 use Rattle.counting.specs.Common.{Within, bit, count, is_odd, Set, complement, none, union, some}
 use Rattle.graph_core.specs.Common.{IsCovered, Graph, IsGraph, degree, edges_in_cut, first_end, in_cut, inside, second_end, size, IsPerfect}
 use Rattle.match_search.proofs.NearPerfectSets.{ends_far, ends_near}
@@ -61,34 +61,12 @@ glue g x y m k is h p q = record {
 -- a perfect matching with no edge in the cut of x, inside x
 pub restrict : (g : Graph) (m x : Set) → IsPerfect g none m → edges_in_cut g m x ≡ 0 → IsPerfect g (complement x) (λ e. m e && inside g x e)
 restrict g m x p z = record {
-  once = λ v w o. keep v (not-false (x v) o) ∙ p.once v w refl;
-  away = λ v w o. drop v (not-true (x v) o);
+  once = λ v w o. degree-inside g m x no_cross v (not-false (x v) o) ∙ p.once v w refl;
+  away = λ v w o. degree-inside_off g m x v (not-true (x v) o);
 }
   where
     no_cross : (e : ℕ) → Within (size g) e → (m e && in_cut g x e) ≡ false
     no_cross e w = count_zero (size g) (λ e. m e && in_cut g x e) z e w
-
-    first : (a b c t : Bool) → (t ≡ true → b ≡ true) → (a && ((b && not c) || (not b && c))) ≡ false → ((a && (b && c)) && t) ≡ (a && t)
-    first a b c t f h = grind arith
-
-    second : (a b c t : Bool) → (t ≡ true → c ≡ true) → (a && ((b && not c) || (not b && c))) ≡ false → ((a && (b && c)) && t) ≡ (a && t)
-    second a b c t f h = grind arith
-
-    keep : (v : ℕ) → x v ≡ true → degree g (λ e. m e && inside g x e) v ≡ degree g m v
-    keep v o =
-        let a = total_congr (size g) (λ e. bit ((m e && inside g x e) && (first_end g e == v))) (λ e. bit (m e && (first_end g e == v))) (λ e w. ap bit (first (m e) (x (first_end g e)) (x (second_end g e)) (first_end g e == v) (λ t. ap x (eqb-true (first_end g e) v t) ∙ o) (no_cross e w))) in
-        let b = total_congr (size g) (λ e. bit ((m e && inside g x e) && (second_end g e == v))) (λ e. bit (m e && (second_end g e == v))) (λ e w. ap bit (second (m e) (x (first_end g e)) (x (second_end g e)) (second_end g e == v) (λ t. ap x (eqb-true (second_end g e) v t) ∙ o) (no_cross e w))) in omega arith
-
-    gone : (a b c t : Bool) → (t ≡ true → b ≡ false) → ((a && (b && c)) && t) ≡ false
-    gone a b c t f = grind arith
-
-    gone' : (a b c t : Bool) → (t ≡ true → c ≡ false) → ((a && (b && c)) && t) ≡ false
-    gone' a b c t f = grind arith
-
-    drop : (v : ℕ) → x v ≡ false → degree g (λ e. m e && inside g x e) v ≡ 0
-    drop v o =
-        let a = total_none (size g) (λ e. bit ((m e && inside g x e) && (first_end g e == v))) (λ e w. ap bit (gone (m e) (x (first_end g e)) (x (second_end g e)) (first_end g e == v) (λ t. ap x (eqb-true (first_end g e) v t) ∙ o))) in
-        let b = total_none (size g) (λ e. bit ((m e && inside g x e) && (second_end g e == v))) (λ e w. ap bit (gone' (m e) (x (first_end g e)) (x (second_end g e)) (second_end g e == v) (λ t. ap x (eqb-true (second_end g e) v t) ∙ o))) in omega arith
 
 -- a set that is neither empty nor all has an edge in its cut
 pub cut_edge : (g : Graph) (x : Set) (u v : ℕ) → IsGraph g → IsCovered g → Within g.order u → Within g.order v → x u ≡ true → x v ≡ false → (e : ℕ) × Within (size g) e × (in_cut g x e ≡ true)

@@ -1,6 +1,6 @@
 -- "Some" and "each" of 1 to n as tests that compute, against the statements; the least number
 -- that passes. By induction on n.
-use Rattle.std.proofs.Common.{◌≡◌, ℕ, suc, zero, Bool, true, false, cond, refl, sym, ap, ap₂, ◌∙◌, arith, ◌&&◌, ◌||◌, ◌⊎◌, inl, inr, subst, ◌<◌}
+use Rattle.std.proofs.Common.{◌≡◌, ℕ, suc, zero, Bool, true, false, cond, refl, sym, ap, ap₂, ◌∙◌, arith, ◌&&◌, ◌||◌, ◌⊎◌, inl, inr, subst, ◌<◌, ◌≤◌}
 use Rattle.std.proofs.lemmas.Bool.{cases_eq, cases_Bool, or_cases, and_parts, and_from, both_ways, or_left, or_right, true≢false, false_from_ne_true, cases_order}
 use Rattle.counting.specs.Counts.{Within}
 use Rattle.counting.specs.Tests.{IsLeastWithout, every, some}
@@ -102,3 +102,17 @@ least-one n P d e a b = elim (cases_order d e) [
     | inr l ↦ absurd (b.without (a.before e b.within l))
   ]
 ]
+
+-- of 1 to n all have a decided property, or there is a least that has it not
+pub all_or_least : (n : ℕ) (P : ℕ → Type 0) → ((v : ℕ) → Within n v → P v ⊎ (P v → ⊥)) → ((v : ℕ) → Within n v → P v) ⊎ ((v : ℕ) × IsLeastWithout n P v)
+all_or_least n P decided = go n (omega arith)
+  where
+    go : (k : ℕ) → k ≤ n → ((v : ℕ) → Within k v → P v) ⊎ ((v : ℕ) × IsLeastWithout n P v)
+    go zero l = inl (λ v w. absurd (omega arith))
+    go (suc k) l = elim (go k (omega arith)) [
+      | inr f ↦ inr f
+      | inl all ↦ elim (decided (suc k) (omega arith)) [
+        | inl p ↦ inl (λ v w. elim (cases_eq v (suc k)) [ inl e ↦ subst P (sym e) p | inr d ↦ all v (omega arith) ])
+        | inr p ↦ inr (suc k, record { within = omega arith; without = p; before = λ v w b. all v (omega arith) })
+      ]
+    ]

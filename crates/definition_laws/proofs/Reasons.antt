@@ -3,7 +3,7 @@
 -- and each graph has a Berge set.
 use Rattle.std.proofs.Common.{◌≡◌, ℕ, suc, zero, ◌+◌, ◌≤◌, ◌⊎◌, ◌||◌, inl, inr, refl, sym, ap, ap₂, ◌∙◌, arith, List, nat_le, leb-true, subst}
 use Rattle.std.proofs.lemmas.Bool.{leb-false}
-use Rattle.counting.proofs.Common.{cases_Bool, cases_eq, count_congr, mem-rising_list, rising_list-rises, least-one}
+use Rattle.counting.proofs.Common.{all_or_least, cases_Bool, cases_eq, count_congr, mem-rising_list, rising_list-rises, least-one}
 use Rattle.barrier_kit.proofs.ClassLaw.{perfect_or_not}
 use Rattle.barrier_kit.proofs.Enlarging.{odd_component_count-congr}
 use Rattle.counting.specs.Common.{Within, IsRisingIn, mem, rising_list, none, union, IsLeastWithout}
@@ -11,20 +11,6 @@ use Rattle.graph_core.proofs.Common.{allowed_or_not, joined_back, joined_on, joi
 use Rattle.graph_core.specs.Common.{IsBergeSet, IsConnected, IsCovered, IsReason, Reason, Small, Parted, Unmatched, Unallowed, Graph, IsGraph, size, Allowed, HasPerfect, missed_count, Joined}
 use Rattle.definition_laws.specs.Words.{without_berge}
 use Rattle.match_core.proofs.TutteBerge.{tutte_berge}
-
--- of 1 to n all have a decided property, or there is a least that has it not
-all_or_least : (n : ℕ) (P : ℕ → Type 0) → ((v : ℕ) → Within n v → P v ⊎ (P v → ⊥)) → ((v : ℕ) → Within n v → P v) ⊎ ((v : ℕ) × IsLeastWithout n P v)
-all_or_least n P decided = go n (omega arith)
-  where
-    go : (k : ℕ) → k ≤ n → ((v : ℕ) → Within k v → P v) ⊎ ((v : ℕ) × IsLeastWithout n P v)
-    go zero l = inl (λ v w. absurd (omega arith))
-    go (suc k) l = elim (go k (omega arith)) [
-      | inr f ↦ inr f
-      | inl all ↦ elim (decided (suc k) (omega arith)) [
-        | inl p ↦ inl (λ v w. elim (cases_eq v (suc k)) [ inl e ↦ subst P (sym e) p | inr d ↦ all v (omega arith) ])
-        | inr p ↦ inr (suc k, record { within = omega arith; without = p; before = λ v w b. all v (omega arith) })
-      ]
-    ]
 
 -- where vertex 1 is joined to each vertex, each is joined to each
 connected_from_one : (g : Graph) → ((v : ℕ) → Within g.order v → Joined g none 1 v) → IsConnected g

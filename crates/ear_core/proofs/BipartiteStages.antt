@@ -6,6 +6,7 @@ use Rattle.barrier_kit.proofs.Matched.{perfect_congr}
 use Rattle.graph_core.specs.Common.{IsSide, Graph, IsBipartite, IsGraph, first_end, in_cut, second_end, size, HasPerfect}
 use Rattle.counting.specs.Common.{Within, count, is_odd, Set, pair_set, some}
 use Rattle.ear_core.proofs.EngineGraphs.{ends-met}
+use Rattle.ear_core.proofs.OppositeEnds.{opposite-serve}
 use Rattle.ear_core.proofs.TraceEdges.{two_less_odd}
 use Rattle.ear_core.proofs.NextStages.{met-within}
 use Rattle.ear_core.proofs.RankedStages.{second_end-ranked, ranked-off, first_end-ranked, off-loop, rank-test, rank-within, size-ranked, stage_graph, ranked-covered, ranked-graph}
@@ -44,52 +45,10 @@ last_vertex-side g a sides v (e ∷ d ∷ es) t o =
     ∙ ap not (other_end-side g a d (other_end g e v) (sides d t.1.0.0) t.1.0.1 ∙ ap not (other_end-side g a e v (sides e t.0.0) t.0.1))
     ∙ ap not (not_not (a v))
 
-module _ (g : Graph) (is : IsGraph g) (a : Set) (sides : (e : ℕ) → Within (size g) e → in_cut g a e ≡ true) (f : Set) where
-  abbrev t : Set
-  t = is_met g f
-
-  -- the side by rank
-  by_rank : Set
-  by_rank k = some g.order (λ v. (t v && a v) && (count v t == k))
-
-  rank_side : (v : ℕ) → Within g.order v → t v ≡ true → by_rank (count v t) ≡ a v
-  unfolding by_rank
-  rank_side v w tv = same_tests (by_rank (count v t)) (a v)
-      (λ h. let u = some_true g.order (λ u. (t u && a u) && (count u t == count v t)) h in
-      let b = and_parts (t u.0 && a u.0) (count u.0 t == count v t) u.2 in
-      let c = and_parts (t u.0) (a u.0) b.0 in ap a (sym (rank_once t u.0 v c.0 tv (eqb-true (count u.0 t) (count v t) b.1))) ∙ c.1)
-      (λ h. true_some g.order (λ u. (t u && a u) && (count u t == count v t)) v w (and_from (t v && a v) (count v t == count v t) (and_from (t v) (a v) tv h) (eq-eqb (count v t) (count v t) refl)))
-
-  stage_sides : IsSide (stage_graph g f) by_rank
-  stage_sides e we d =
-      let l = size-ranked g is f in
-      let w : Within (size g) e = omega arith in
-      elim (cases_Bool (f e)) [
-        | inr h ↦ let u = off-loop g is f e w h in absurd (d (u.0 ∙ sym u.1))
-        | inl h ↦
-            let u = ends-met g f e w h in
-            let x = ap by_rank (first_end-ranked g is f e w h) ∙ rank_side (first_end g e) (is e w).0 u.0 in
-            let y = ap by_rank (second_end-ranked g is f e w h) ∙ rank_side (second_end g e) (is e w).1 u.1 in
-            ap₂ (λ c d. (c && not d) || (not c && d)) x y ∙ sides e w
-      ]
-
-  -- each ear of a stage serves
-  pub bipartite-serves : IsStage g f → (v : ℕ) (es : List ℕ) → IsEar g f v es → Serves g f (pair_set v (last_vertex g v es))
-  bipartite-serves s v es ear =
-      let z = last_vertex g v es in
-      let wv = met-within g is f v ear.start in
-      let wz = met-within g is f z ear.end in
-      let m = served v z wv wz ear.start ear.end (last_vertex-side g a sides v es ear.follow ear.odd) (a v) refl in
-      (m.0, ranked-off g is f (pair_set v z) (pair_set (count v t) (count z t)) (λ w ww tw. ap₂ ◌||◌ (rank-test t v w ear.start tw) (rank-test t z w ear.end tw)) (ranked-graph g is f s) m.0 m.1)
-    where
-      served : (v z : ℕ) → Within g.order v → Within g.order z → t v ≡ true → t z ≡ true → a z ≡ not (a v) → (b : Bool) → a v ≡ b → HasPerfect (stage_graph g f) (pair_set (count v t) (count z t))
-      served v z wv wz tv tz e true h =
-          opposite (stage_graph g f) (ranked-graph g is f s) (ranked-covered g is f s) by_rank stage_sides (count v t) (count z t) (rank-within g.order t v wv tv) (rank-within g.order t z wz tz)
-          (rank_side v wv tv ∙ h) (rank_side z wz tz ∙ e ∙ ap not h)
-      served v z wv wz tv tz e false h =
-          let m = opposite (stage_graph g f) (ranked-graph g is f s) (ranked-covered g is f s) by_rank stage_sides (count z t) (count v t) (rank-within g.order t z wz tz) (rank-within g.order t v wv tv)
-          (rank_side z wz tz ∙ e ∙ ap not h) (rank_side v wv tv ∙ h) in
-          (m.0, perfect_congr (stage_graph g f) (pair_set (count z t) (count v t)) (pair_set (count v t) (count z t)) m.0 (λ w ww. or_comm (count z t == w) (count v t == w)) m.1)
+-- each ear of a stage serves
+pub bipartite-serves : (g : Graph) → IsGraph g → (a : Set) → ((e : ℕ) → Within (size g) e → in_cut g a e ≡ true) → (f : Set) → IsStage g f → (v : ℕ) (es : List ℕ) → IsEar g f v es → Serves g f (pair_set v (last_vertex g v es))
+bipartite-serves g is a sides f s v es ear =
+    opposite-serve g is f a (λ e w o. sides e w) s v (last_vertex g v es) ear.start ear.end (last_vertex-side g a sides v es ear.follow ear.odd)
 
 -- so among candidates one serves
 pub bipartite-found : (g : Graph) → IsGraph g → IsBipartite g → (f : Set) → IsStage g f → (ears : List PlainEar) → AreCandidates g f ears → NoneServes g f ears → ⊥

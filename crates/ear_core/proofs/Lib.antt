@@ -19,6 +19,7 @@ pub mod MatedPaths
 pub mod Rounds
 pub mod ServingPairs
 pub mod Searching
+pub mod OppositeEnds
 pub mod BipartiteStages
 pub mod Stepping
 pub mod Following

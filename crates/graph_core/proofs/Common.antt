@@ -39,3 +39,4 @@ pub use Rattle.graph_core.proofs.Perfect.{perfect_matching, perfect_misses, miss
 pub use Rattle.graph_core.proofs.SingleBlocks.{contracted-singles, union-singles, blocks-singles, tight-singles, singles-tight, in-cut-at, edges-in-cut-at}
 pub use Rattle.graph_core.proofs.ShoreLists.{shore-some, complement-tight}
 pub use Rattle.graph_core.proofs.CutLists.{nontrivial-length, length-in, canonical-kept, canonical-turned, canonical-rises, canonical-nontrivial, cut-taken, cut-narrow, cut-known}
+pub use Rattle.graph_core.proofs.Inside.{degree-inside, degree-inside_off}

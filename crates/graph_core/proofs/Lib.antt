@@ -35,4 +35,5 @@ pub mod Perfect
 pub mod SingleBlocks
 pub mod ShoreLists
 pub mod CutLists
+pub mod Inside
 pub mod Common

@@ -13,6 +13,7 @@ use Rattle.graph_text.proofs.PlainNames.{is_name-plain, length-plain_names, plai
 use Rattle.graph_text.specs.EitherVersion.{NamedGraph}
 use Rattle.graph_text.specs.Names.{AreNames, plain_name, plain_names}
 use Rattle.graph_text.specs.Writing.{FitsNames, graph_text, named_text}
+use Rattle.bench_outcomes.proofs.GrownSizes.{sound-from}
 use Rattle.grow_gen.proofs.SoundGrowth.{IsSound, sound-first, sound-next}
 use Rattle.grow_gen.specs.Growth.{Growth, first_growth, grown, growth_from, with_piece}
 use Rattle.grow_gen.specs.Pieces.{further_piece}
@@ -111,15 +112,6 @@ decomposition-exists picks named some given = elim (covered_or_told named.graph 
       let tells = told-derivation named t.0 given t.1 in
       (Done, tells.0, inl (record { tree = t.0; picked = t.2; told = tells.1 }))
 ]
-
--- `grow`: what holds of each graph on the way
-sound-from : (i n : ℕ) (words : Lcg) (s : Growth) → IsSound i s → IsSound (i + n) (growth_from i n words s)
-unfolding growth_from
-sound-from i zero words s is = subst (λ (k : ℕ). IsSound k s) (let e : i ≡ i + zero = omega arith in e) is
-sound-from i (suc n) words s is =
-    let next = with_piece s (further_piece i) (pcg32 words).0 (pcg32 (pcg32 words).1).0 in
-    subst (λ (k : ℕ). IsSound k (growth_from (i + 1) n (pcg32 (pcg32 words).1).1 next)) (let e : i + 1 + n ≡ i + suc n = omega arith in e)
-    (sound-from (i + 1) n (pcg32 (pcg32 words).1).1 next (sound-next i s is (pcg32 words).0 (pcg32 (pcg32 words).1).0))
 
 grown-covered : (seed pieces : ℕ) → IsCovered (grown seed pieces)
 unfolding grown

@@ -2,7 +2,7 @@
 -- tests compute, and whether the graph of a stage has a perfect matching with an edge is asked of
 -- the listed edges.
 use Rattle.std.proofs.Common.{◌≡◌, ◌⊎◌, ◌↔◌, ℕ, zero, suc, ◌+◌, ◌≤◌, true, List, [], ◌∷◌, Option, Some, None, refl, sym, subst, arith, inl, inr}
-use Rattle.counting.proofs.Common.{both_ways, cases_Bool, cases_eq}
+use Rattle.counting.proofs.Common.{all_or_least, both_ways, cases_Bool, cases_eq}
 use Rattle.counting.specs.Common.{Within, Set, pair_set, singleton, IsLeastWithout}
 use Rattle.barrier_kit.proofs.ClassLaw.{perfect_or_not}
 use Rattle.graph_core.specs.Common.{Graph, IsMultigraph, first_end, second_end, size, HasPerfect}
@@ -13,20 +13,6 @@ use Rattle.ear_core.specs.Stages.{AllowedBy, IsStage}
 use Rattle.ear_core.proofs.EngineGraphs.{edge_serves, served_listed}
 use Rattle.ear_core.proofs.FirstStage.{first-stage}
 use Rattle.ear_core.proofs.Refusing.{fine-stage, step-nearly, step-none, step_odds}
-
--- of 1 to n all have a decided property, or there is a least that has it not
-all_or_least : (n : ℕ) (P : ℕ → Type 0) → ((v : ℕ) → Within n v → P v ⊎ (P v → ⊥)) → ((v : ℕ) → Within n v → P v) ⊎ ((v : ℕ) × IsLeastWithout n P v)
-all_or_least n P decided = go n (omega arith)
-  where
-    go : (k : ℕ) → k ≤ n → ((v : ℕ) → Within k v → P v) ⊎ ((v : ℕ) × IsLeastWithout n P v)
-    go zero l = inl (λ v w. absurd (omega arith))
-    go (suc k) l = elim (go k (omega arith)) [
-      | inr f ↦ inr f
-      | inl all ↦ elim (decided (suc k) (omega arith)) [
-        | inl p ↦ inl (λ v w. elim (cases_eq v (suc k)) [ inl e ↦ subst P (sym e) p | inr d ↦ all v (omega arith) ])
-        | inr p ↦ inr (suc k, record { within = omega arith; without = p; before = λ v w b. all v (omega arith) })
-      ]
-    ]
 
 -- what is the same as having a perfect matching is decided
 decided : (A : Type 0) (h : Graph) (r : Set) → A ↔ HasPerfect h r → A ⊎ (A → ⊥)

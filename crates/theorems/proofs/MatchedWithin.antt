@@ -3,7 +3,7 @@
 use Rattle.std.proofs.Common.{◌≡◌, ℕ, suc, zero, ◌+◌, ◌≤◌, Bool, true, false, ◌==◌, refl, sym, ap, ap₂, ◌∙◌, arith, ◌&&◌, ◌||◌, not, eqb-true, subst, inl, inr}
 use Rattle.counting.proofs.Common.{true≢false, not-false, not-true, total_congr, total_none}
 use Rattle.counting.specs.Common.{Within, bit, Set}
-use Rattle.graph_core.proofs.Common.{ends_le_degree, one_end}
+use Rattle.graph_core.proofs.Common.{degree-inside, degree-inside_off, ends_le_degree, one_end}
 use Rattle.graph_core.specs.Common.{Graph, HasEnds, degree, first_end, in_cut, inside, second_end, size}
 use Rattle.theorems.specs.Matchings.{MatchesWithin}
 
@@ -11,31 +11,9 @@ use Rattle.theorems.specs.Matchings.{MatchesWithin}
 -- matching of G[X]
 pub perfect_within : (g : Graph) (m x : Set) → ((v : ℕ) → Within g.order v → x v ≡ true → degree g m v ≡ 1) → ((e : ℕ) → Within (size g) e → (m e && in_cut g x e) ≡ false) → MatchesWithin g m x
 perfect_within g m x met no_cross = record {
-  once = λ v w o. keep v (not-false (x v) o) ∙ met v w (not-false (x v) o);
-  away = λ v w o. drop v (not-true (x v) o);
+  once = λ v w o. degree-inside g m x no_cross v (not-false (x v) o) ∙ met v w (not-false (x v) o);
+  away = λ v w o. degree-inside_off g m x v (not-true (x v) o);
 }
-  where
-    first : (a b c t : Bool) → (t ≡ true → b ≡ true) → (a && ((b && not c) || (not b && c))) ≡ false → ((a && (b && c)) && t) ≡ (a && t)
-    first a b c t f h = grind arith
-
-    second : (a b c t : Bool) → (t ≡ true → c ≡ true) → (a && ((b && not c) || (not b && c))) ≡ false → ((a && (b && c)) && t) ≡ (a && t)
-    second a b c t f h = grind arith
-
-    keep : (v : ℕ) → x v ≡ true → degree g (λ e. m e && inside g x e) v ≡ degree g m v
-    keep v o = ap₂ ◌+◌
-        (total_congr (size g) (λ e. bit ((m e && inside g x e) && (first_end g e == v))) (λ e. bit (m e && (first_end g e == v))) (λ e w. ap bit (first (m e) (x (first_end g e)) (x (second_end g e)) (first_end g e == v) (λ t. ap x (eqb-true (first_end g e) v t) ∙ o) (no_cross e w))))
-        (total_congr (size g) (λ e. bit ((m e && inside g x e) && (second_end g e == v))) (λ e. bit (m e && (second_end g e == v))) (λ e w. ap bit (second (m e) (x (first_end g e)) (x (second_end g e)) (second_end g e == v) (λ t. ap x (eqb-true (second_end g e) v t) ∙ o) (no_cross e w))))
-
-    gone : (a b c t : Bool) → (t ≡ true → b ≡ false) → ((a && (b && c)) && t) ≡ false
-    gone a b c t f = grind arith
-
-    gone' : (a b c t : Bool) → (t ≡ true → c ≡ false) → ((a && (b && c)) && t) ≡ false
-    gone' a b c t f = grind arith
-
-    drop : (v : ℕ) → x v ≡ false → degree g (λ e. m e && inside g x e) v ≡ 0
-    drop v o =
-        let a = total_none (size g) (λ e. bit ((m e && inside g x e) && (first_end g e == v))) (λ e w. ap bit (gone (m e) (x (first_end g e)) (x (second_end g e)) (first_end g e == v) (λ t. ap x (eqb-true (first_end g e) v t) ∙ o))) in
-        let b = total_none (size g) (λ e. bit ((m e && inside g x e) && (second_end g e == v))) (λ e w. ap bit (gone' (m e) (x (first_end g e)) (x (second_end g e)) (second_end g e == v) (λ t. ap x (eqb-true (second_end g e) v t) ∙ o))) in omega arith
 
 -- an edge crosses x where one of its ends is in x and the other is not, and nowhere else
 pub crossing_ends : (g : Graph) (x : Set) (e : ℕ) → in_cut g x e ≡ true → (v w : ℕ) × HasEnds g e v w × (x v ≡ true) × (x w ≡ false)
