@@ -38,3 +38,4 @@ pub mod Gluing
 pub mod MarkedMates
 pub mod AugmentedMates
 pub mod MissableRows
+pub mod Flowers
