@@ -3,7 +3,7 @@
 -- graph is one of the graph with the blossom among the outer vertices.
 use Rattle.std.proofs.Common.{◌≡◌, ◌≢◌, ℕ, suc, ◌+◌, ◌*◌, ◌-◌, ◌<◌, ◌≤◌, Bool, true, false, refl, sym, ap, ap₂, ◌∙◌, arith, inl, inr, not, ◌&&◌, ◌||◌, ◌==◌, subst, subst₂, eq-eqb, eqb-true, ne_eqb, List, [], ◌∷◌, length, None, Some}
 use mathlib.Core.Path.{fun_ext}
-use Rattle.counting.proofs.Common.{and_from, and_parts, cases_eq, false_from_ne_true, or_cases, only_one, not-true, or_false}
+use Rattle.counting.proofs.Common.{and_from, and_parts, count_congr, count_of_one, cases_eq, false_from_ne_true, or_cases, only_one, not-true, or_false}
 use Rattle.counting.specs.Common.{Within, bit, count, Set, complement, mem, union}
 use Rattle.graph_core.proofs.Common.{missed_edges}
 use Rattle.graph_core.specs.Common.{Graph, IsGraph, IsMatching, degree, size, missed_count}
@@ -12,6 +12,7 @@ use Rattle.match_search.specs.Blossoms.{HoldsBlossom, IsAugmented, blossom_lengt
 use Rattle.match_search.specs.Flowers.{HasOuter, HoldsFlower, HoldsRooted}
 use Rattle.match_search.specs.Forests.{IsForest}
 use Rattle.match_search.specs.Frames.{Frame}
+use Rattle.match_search.specs.Missable.{IsMissableRow}
 use Rattle.match_search.specs.OddCycles.{listed}
 use Rattle.match_search.specs.Rows.{numbers}
 use Rattle.match_search.specs.Shrinkings.{IsShrinking}
@@ -19,6 +20,7 @@ use Rattle.match_search.specs.declared.blossom.Blossom.{Blossom}
 use Rattle.match_search.specs.declared.flower.Flower.{Flower}
 use Rattle.match_search.specs.declared.growing.GrownForest.{GrownForest}
 use Rattle.match_search.specs.declared.instance.Instance.{Instance}
+use Rattle.match_search.proofs.AugmentedMates.{left_is}
 use Rattle.match_search.proofs.BlossomMates.{H, rs, below_mates, below_size, cr, cw, cz, downs, graph, halves, near_sets, pulls, smaller, wz}
 use Rattle.match_search.proofs.ClosingPairs.{cycle_missed}
 use Rattle.match_search.proofs.Instances.{left_from, left_parts}
@@ -166,3 +168,39 @@ module _ (g : Graph) (r f : Set) (s : Instance) (mate mate2 : List ℕ) (is : Ho
       where
         result_is : mem result ≡ union (mem below) (listed n c)
         result_is = fun_ext (λ v. wide v ∙ ap (λ b. mem below v || b) (held.members v))
+
+-- where one vertex is exposed, it is the root
+pub rooted_from : (g : Graph) (r f : Set) (s : Instance) (mate exposed : List ℕ) (root : ℕ) → HoldsMatching g r f s mate → AreExposed s.left mate exposed → exposed ≡ root ∷ [] → HoldsRooted g r f s mate root
+unfolding missed_count
+rooted_from g r f s mate exposed root holds are is = record {
+  holds = holds;
+  one = count_congr g.order (λ v. not (r v) && (degree g f v == 0)) (λ v. root == v) (λ v w. each v w) ∙ count_of_one g.order (λ v. true) root (left_parts g r s holds.instance_is root parts.0).0;
+  left = parts.0;
+  free = eqb-true (numbers mate root) 0 parts.1;
+}
+  where
+    member : (v : ℕ) → (mem s.left v && (numbers mate v == 0)) ≡ (root == v)
+    member v = sym (are v) ∙ ap (λ (xs : List ℕ). mem xs v) is ∙ or_false (root == v)
+
+    parts : (mem s.left root ≡ true) × ((numbers mate root == 0) ≡ true)
+    parts = and_parts (mem s.left root) (numbers mate root == 0) (member root ∙ eq-eqb root root refl)
+
+    zero_test : (b : Bool) → (bit (not b) == 0) ≡ b
+    zero_test true = refl
+    zero_test false = refl
+
+    each : (v : ℕ) → Within g.order v → (not (r v) && (degree g f v == 0)) ≡ (root == v)
+    each v w = ap₂ (λ a b. a && b) (sym (left_is g r s holds.instance_is v w)) (ap (λ d. d == 0) (mates_degree g r f (numbers mate) holds.mates v w) ∙ zero_test (numbers mate v == 0)) ∙ member v
+
+-- the outer vertices are the row
+pub outer_row : (g : Graph) (r f : Set) (s : Instance) (mate : List ℕ) (root : ℕ) → HoldsRooted g r f s mate root → (row : List ℕ) → HasOuter g r f row → IsMissableRow g r row
+outer_row g r f s mate root rooted row has = record {
+  m = f;
+  outer = mem row;
+  inner = has.inner;
+  matching = rooted.holds.mates.matching;
+  frame = has.frame;
+  one = λ q v. refl;
+  other = λ q v. absurd (q rooted.one);
+  within = has.within;
+}

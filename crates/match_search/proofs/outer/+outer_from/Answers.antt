@@ -43,8 +43,15 @@ outer_from-requires t c =
     let long = c.shrink-before.ensures.shrunk.rows.one_each in
     let less = flower_less q.0 q.1 q.2 c.args.instance.now c.args.mate.now c.flower_of.new.mate q.3.holds c.flower_of.auto.mate c.in_ok-members-in-Some.field-0 held c.shrink-before.new.self c.shrink-before.ensures.shrunk in (
       first_of (omega arith, search rules),
-      ((shrunk_graph_of q.0 q.1 q.2 c.args.instance.now c.args.mate.now c.flower_of.new.mate q.3.holds c.flower_of.auto.mate c.in_ok-members-in-Some.field-0 held, shrunk_out q.0 q.1 q.2 c.args.instance.now c.args.mate.now c.flower_of.new.mate q.3.holds c.flower_of.auto.mate c.in_ok-members-in-Some.field-0 held, held.m,
-        below_rooted q.0 q.1 q.2 c.args.instance.now c.args.mate.now c.flower_of.new.mate q.3.holds c.flower_of.auto.mate c.in_ok-members-in-Some.field-0 held c.shrink-before.new.self c.shrink-before.ensures.shrunk q.3.one), record { parents_long = omega arith; pairs_long = omega arith }),
+      (
+        (
+          shrunk_graph_of q.0 q.1 q.2 c.args.instance.now c.args.mate.now c.flower_of.new.mate q.3.holds c.flower_of.auto.mate c.in_ok-members-in-Some.field-0 held,
+          shrunk_out q.0 q.1 q.2 c.args.instance.now c.args.mate.now c.flower_of.new.mate q.3.holds c.flower_of.auto.mate c.in_ok-members-in-Some.field-0 held,
+          held.m,
+          below_rooted q.0 q.1 q.2 c.args.instance.now c.args.mate.now c.flower_of.new.mate q.3.holds c.flower_of.auto.mate c.in_ok-members-in-Some.field-0 held c.shrink-before.new.self c.shrink-before.ensures.shrunk q.3.one,
+        ),
+        record { parents_long = omega arith; pairs_long = omega arith },
+      ),
     )
 
 pub unshrink-requires-clause-base : goal.unshrink-requires-clause-base
@@ -68,5 +75,5 @@ pub returns-in_ok-below-in-Some-clause-outer : goal.returns-in_ok-below-in-Some-
 returns-in_ok-below-in-Some-clause-outer t c = λ g r f rooted.
     let held = c.in_ok-members-in-Some.ensures g r f (growth_closes g r f c.args.instance.now c.args.mate.now rooted.holds c.grow_forest-forest.result c.in-Some.bridge (c.grow_forest-forest.ensures g r f rooted.holds) c.in-Some.is) rooted.one in
     let has = c.in_ok-below-in-Some.ensures.outer (shrunk_graph_of g r f c.args.instance.now c.args.mate.now c.flower_of.new.mate rooted.holds c.flower_of.auto.mate c.in_ok-members-in-Some.field-0 held) (shrunk_out g r f c.args.instance.now c.args.mate.now c.flower_of.new.mate rooted.holds c.flower_of.auto.mate c.in_ok-members-in-Some.field-0 held) held.m
-        (below_rooted g r f c.args.instance.now c.args.mate.now c.flower_of.new.mate rooted.holds c.flower_of.auto.mate c.in_ok-members-in-Some.field-0 held c.shrink-before.new.self c.shrink-before.ensures.shrunk rooted.one) in
+    (below_rooted g r f c.args.instance.now c.args.mate.now c.flower_of.new.mate rooted.holds c.flower_of.auto.mate c.in_ok-members-in-Some.field-0 held c.shrink-before.new.self c.shrink-before.ensures.shrunk rooted.one) in
     outer_up g r f c.args.instance.now c.args.mate.now c.flower_of.new.mate rooted.holds c.flower_of.auto.mate c.in_ok-members-in-Some.field-0 held c.shrink-before.new.self c.shrink-before.ensures.shrunk c.in_ok-below-in-Some.below c.union.result has c.union.ensures
