@@ -65,9 +65,9 @@ pub fn augment_once(
     }
 }
 
-/// Closes the paths of a forest to two of its outer vertices that an edge joins: the matching is
-/// augmented along them, or a blossom is answered and its vertices are exposed.
-pub(crate) fn close_bridge(
+// Closes the paths of a forest to two of its outer vertices that an edge joins: the matching is
+// augmented along them, or a blossom is answered and its vertices are exposed.
+fn close_bridge(
     alloc: Global,
     forest: &AlternatingForest,
     bridge: Adjacent,

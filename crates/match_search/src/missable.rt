@@ -71,7 +71,7 @@ fn outer_of_one(alloc: Global, instance: &mut Instance, mate: &mut [u32]) -> Res
     match only_member(exposed_in(left, left, mate)) {
         Some(root) => {
             let unused = AlternatingForest::empty(alloc, instance.rows.len() as u32)?;
-            outer_from(alloc, instance, unused, root, mate)
+            Ok(outer_from(instance, unused, root, mate))
         }
         None => outer_of_last(alloc, instance, mate),
     }

@@ -1,23 +1,22 @@
-use Rattle.std.proofs.Common.{refl, sym, ◌∙◌, arith, subst}
-use Rattle.match_search.specs.Blossoms.{IsClosed}
-use Rattle.match_search.proofs.Flowers.{flower_from, never_augmented}
-use Rattle.match_search.proofs.MateSteps.{base_read}
+use Rattle.std.proofs.Common.{◌≡◌, ℕ, ◌==◌, ◌||◌, ◌&&◌, not, ap, ap₂, ◌∙◌, arith}
+use Rattle.counting.specs.Common.{mem}
+use Rattle.match_search.proofs.FlowerPaths.{flower_holds, members_within}
 use Rattle.match_search.proofs.flower.flower_of.Goals as goal
+use Rattle.match_search.proofs.flower.flower_of.Goals.{After-with-members}
 
-pub unreachable-requires : goal.unreachable-requires
-unreachable-requires c =
-    let q = c.requires in
-    let more = subst (IsClosed q.0 q.1 q.2 c.close_bridge.new.mate) c.in-None.is (c.in_ok-blossom.ensures.closed q.0 q.1 q.2 q.3) in
-    never_augmented q.0 q.3.graph q.1 q.2 c.close_bridge.new.mate q.3.mates.matching more q.4
+-- a member is on one of the two paths alone, or the base
+members_are : (c : After-with-members) (v : ℕ) → mem c.with-members.result v ≡ (((mem c.path_of-first.result v || mem c.path_of-second.result v) && not (mem c.path_of-first.result v && mem c.path_of-second.result v)) || c.last_in-base.result == v)
+members_are c v = c.with-members.ensures v ∙ ap (λ b. b || c.last_in-base.result == v) (c.minus.ensures v ∙ ap₂ (λ a b. a && not b) (c.union.ensures v) (c.meet.ensures v))
 
-pub index-requires : goal.index-requires
-index-requires c =
+pub expose_all-requires : goal.expose_all-requires
+expose_all-requires c = λ v m.
     let q = c.requires in
-    let held = subst (IsClosed q.0 q.1 q.2 c.close_bridge.new.mate) c.in-Some.is (c.in_ok-blossom.ensures.closed q.0 q.1 q.2 q.3) in
-    let three = held.opened.cycle.three in
-    let ok = c.in-Some.blossom.cycle.ok.0 in omega arith
+    let w = members_within q.0 q.1 q.2 c.args.mate.now c.args.forest.now c.args.bridge q.3 q.4 c.path_of-first.result c.path_of-second.result (c.path_of-first.ensures q.0 q.1 q.2 q.3.holds) (c.path_of-second.ensures q.0 q.1 q.2 q.3.holds)
+    c.last_in-base.result c.last_in-base.ensures.last (c.last_in-base.ensures.over q.0 q.1 q.2 q.3.holds) (c.last_in-base.ensures.later q.0 q.1 q.2 q.3.holds) c.with-members.result (members_are (goal.at.expose_all-requires c).After-with-members) v m in
+    let long = q.3.long in
+    let same = c.flip_path.auto.mate in omega arith
 
 pub returns : goal.returns
 returns c = λ g r f closes one.
-    let held = subst (IsClosed g r f c.close_bridge.new.mate) c.in-Some.is (c.in_ok-blossom.ensures.closed g r f closes) in
-    flower_from g r f c.close_bridge.new.mate c.in-Some.blossom (record { members = c.in-Some.blossom.members; base = c.index.result.now }) held refl (base_read g r f c.close_bridge.new.mate c.in-Some.blossom held c.index.result.now c.index.ensures)
+    flower_holds g r f c.args.mate.now c.args.forest.now c.args.bridge closes one c.path_of-first.result c.path_of-second.result (c.path_of-first.ensures g r f closes.holds) (c.path_of-second.ensures g r f closes.holds)
+    c.last_in-base.result c.last_in-base.ensures.last (c.last_in-base.ensures.over g r f closes.holds) (c.last_in-base.ensures.later g r f closes.holds) c.with-members.result (members_are (goal.at.returns c).After-with-members) c.flip_path.new.mate c.expose_all.new.mate (c.flip_path.ensures g r f closes.holds) c.expose_all.ensures

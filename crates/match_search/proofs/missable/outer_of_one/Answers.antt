@@ -14,6 +14,6 @@ outer_from-requires-clause-rooted c =
     (q.0, q.1, q.2, rooted_from q.0 q.1 q.2 c.args.instance.now c.args.mate.now c.exposed_in.result c.in-Some.root q.3 c.exposed_in.ensures (c.in-Some.ensures c.in-Some.root refl))
 
 pub returns-in_ok-unused-in-Some-clause-row : goal.returns-in_ok-unused-in-Some-clause-row
-returns-in_ok-unused-in-Some-clause-row c =
-    IfOk-weaker c.outer_from.result (λ outer. (g : Graph) (r f : Set) → HoldsRooted g r f c.args.instance.now c.args.mate.now c.in-Some.root → HasOuter g r f outer) (λ row. (g : Graph) (r f : Set) → HoldsMatching g r f c.args.instance.now c.args.mate.now → IsMissableRow g r row)
-    (λ row has g r f held. let rooted = rooted_from g r f c.args.instance.now c.args.mate.now c.exposed_in.result c.in-Some.root held c.exposed_in.ensures (c.in-Some.ensures c.in-Some.root refl) in outer_row g r f c.args.instance.now c.args.mate.now c.in-Some.root rooted row (has g r f rooted)) c.outer_from.ensures.outer
+returns-in_ok-unused-in-Some-clause-row c = λ g r f held.
+    let rooted = rooted_from g r f c.args.instance.now c.args.mate.now c.exposed_in.result c.in-Some.root held c.exposed_in.ensures (c.in-Some.ensures c.in-Some.root refl) in
+    outer_row g r f c.args.instance.now c.args.mate.now c.in-Some.root rooted c.outer_from.result (c.outer_from.ensures.outer g r f rooted)
