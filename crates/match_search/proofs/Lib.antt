@@ -38,3 +38,6 @@ pub mod Gluing
 pub mod MarkedMates
 pub mod AugmentedMates
 pub mod MissableRows
+pub mod FlippedPaths
+pub mod FlowerPaths
+pub mod Flowers

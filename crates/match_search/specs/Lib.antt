@@ -14,3 +14,4 @@ pub mod Steps
 pub mod Optimal
 pub mod Questions
 pub mod Missable
+pub mod Flowers

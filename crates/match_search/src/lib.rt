@@ -20,11 +20,13 @@ mod augment;
 mod best;
 mod blossom;
 mod cycle;
+mod flower;
 mod growing;
 mod instance;
 mod marked;
 mod mates;
 mod missable;
+mod outer;
 mod paths;
 mod rows;
 

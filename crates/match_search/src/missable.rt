@@ -2,7 +2,7 @@
 //!
 //! A vertex is taken out of a graph with a matching by mates, and its mate is exposed. The last
 //! frame of what is left says which vertices matchings as large as the largest miss.
-ghost use Rattle.std.specs.Prelude.{◌≡◌, ℕ, ◌+◌, ◌-◌, ◌<◌, ◌≤◌, ◌==◌, ◌&&◌, true, length, IfOk, OnOk};
+ghost use Rattle.std.specs.Prelude.{◌≡◌, ℕ, ◌+◌, ◌-◌, ◌<◌, ◌≤◌, ◌==◌, ◌&&◌, true, length, IfOk, OnOk, Some, ◌∷◌, []};
 ghost use Rattle.counting.specs.Common.{count, mem, Set, singleton, union};
 ghost use Rattle.graph_core.specs.Common.{Graph};
 ghost use Rattle.match_search.specs.AlternatingForests.{HoldsMatching};
@@ -11,9 +11,11 @@ ghost use Rattle.match_search.specs.Missable.{IsMissableRow};
 ghost use Rattle.match_search.specs.Rows.{numbers};
 ghost use Rattle.match_search.specs.Shrinkings.{AreAlike};
 
+use crate::alternating::{AlternatingForest, exposed_in};
 use crate::best::last_frame;
 use crate::instance::Instance;
 use crate::mates::expose;
+use crate::outer::outer_from;
 use std::alloc::{AllocError as Memory, Global};
 use vset_core::{MOST_VERTICES, VSet};
 
@@ -46,8 +48,37 @@ fn exposed_count(left: VSet, mate: &[u32]) -> usize
     found
 }
 
+// The one member of a set, if it has one member.
+fn only_member(set: VSet) -> Option<u32>
+    ensures { (v : ℕ) → result ≡ Some v → set ≡ v ∷ [] }
+{
+    let (v, others) = set.split_first()?;
+    match others.first() {
+        None => Some(v),
+        Some(_) => None,
+    }
+}
+
 // The outer vertices of the last frame if a maximum matching misses one vertex, and else none.
+// Where this matching misses one, no step can make it larger.
 fn outer_of_one(alloc: Global, instance: &mut Instance, mate: &mut [u32]) -> Result<VSet, Memory>
+    requires { (g : Graph) × (r : Set) × (f : Set) × HoldsMatching g r f instance.old mate.old }
+    ensures row { IfOk result (λ row. (g : Graph) (r f : Set) →
+        HoldsMatching g r f instance.old mate.old → IsMissableRow g r row) }
+    ensures restored { OnOk result (AreAlike instance.old instance.new) }
+{
+    let left = instance.left;
+    match only_member(exposed_in(left, left, mate)) {
+        Some(root) => {
+            let unused = AlternatingForest::empty(alloc, instance.rows.len() as u32)?;
+            Ok(outer_from(instance, unused, root, mate))
+        }
+        None => outer_of_last(alloc, instance, mate),
+    }
+}
+
+// The same by a search that makes the matching maximum first.
+fn outer_of_last(alloc: Global, instance: &mut Instance, mate: &mut [u32]) -> Result<VSet, Memory>
     requires { (g : Graph) × (r : Set) × (f : Set) × HoldsMatching g r f instance.old mate.old }
     ensures row { IfOk result (λ row. (g : Graph) (r f : Set) →
         HoldsMatching g r f instance.old mate.old → IsMissableRow g r row) }

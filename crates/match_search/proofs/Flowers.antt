@@ -1,0 +1,206 @@
+-- A matching that misses one vertex: its exposed vertex is the root, and after the shrinking of a
+-- blossom the base is. No step enlarges it, so two closing paths meet, and the frame of the shrunk
+-- graph is one of the graph with the blossom among the outer vertices.
+use Rattle.std.proofs.Common.{◌≡◌, ◌≢◌, ℕ, suc, ◌+◌, ◌*◌, ◌-◌, ◌<◌, ◌≤◌, Bool, true, false, refl, sym, ap, ap₂, ◌∙◌, arith, inl, inr, not, ◌&&◌, ◌||◌, ◌==◌, subst, subst₂, eq-eqb, eqb-true, ne_eqb, List, [], ◌∷◌, length, None, Some}
+use mathlib.Core.Path.{fun_ext}
+use Rattle.counting.proofs.Common.{and_from, and_parts, count_congr, count_of_one, cases_eq, false_from_ne_true, or_cases, only_one, not-true, or_false}
+use Rattle.counting.specs.Common.{Within, bit, count, Set, complement, mem, union}
+use Rattle.graph_core.proofs.Common.{missed_edges}
+use Rattle.graph_core.specs.Common.{Graph, IsGraph, IsMatching, degree, size, missed_count}
+use Rattle.match_search.specs.AlternatingForests.{AreExposed, HoldsMatching, IsGrownForest}
+use Rattle.match_search.specs.Blossoms.{HoldsBlossom, IsAugmented, blossom_length}
+use Rattle.match_search.specs.Flowers.{HasOuter, HoldsFlower, HoldsRooted}
+use Rattle.match_search.specs.Forests.{IsForest}
+use Rattle.match_search.specs.Frames.{Frame}
+use Rattle.match_search.specs.Missable.{IsMissableRow}
+use Rattle.match_search.specs.OddCycles.{listed}
+use Rattle.match_search.specs.Rows.{numbers}
+use Rattle.match_search.specs.Shrinkings.{IsShrinking}
+use Rattle.match_search.specs.declared.blossom.Blossom.{Blossom}
+use Rattle.match_search.specs.declared.flower.Flower.{Flower}
+use Rattle.match_search.specs.declared.growing.GrownForest.{GrownForest}
+use Rattle.match_search.specs.declared.instance.Instance.{Instance}
+use Rattle.match_search.proofs.AugmentedMates.{left_is}
+use Rattle.match_search.proofs.BlossomMates.{H, rs, below_mates, below_size, cr, cw, cz, downs, graph, halves, near_sets, pulls, smaller, wz}
+use Rattle.match_search.proofs.ClosingPairs.{cycle_missed}
+use Rattle.match_search.proofs.Instances.{left_from, left_parts}
+use Rattle.match_search.proofs.MateSteps.{left_count}
+use Rattle.match_search.proofs.ParentForests.{done_frame}
+use Rattle.match_search.proofs.SameMates.{mates_degree}
+use Rattle.match_search.proofs.ShrunkFrames.{complement_size, frame_up}
+use Rattle.match_search.proofs.ShrunkInstances.{shrunk_instance}
+
+-- a matching that misses one vertex cannot be made larger by an edge
+pub never_augmented : (g : Graph) → IsGraph g → (r f : Set) (mate : List ℕ) → IsMatching g r f → IsAugmented g r f mate → missed_count g r f ≡ 1 → ⊥
+never_augmented g is r f mate matching more one =
+    let a = missed_edges g r f is matching in
+    let b = missed_edges g r more.0 is more.1.matching in
+    let s = more.2 in absurd (omega arith)
+
+-- a vertex that is left and exposed is the root
+module _ (g : Graph) (r f : Set) (s : Instance) (mate : List ℕ) (root : ℕ) (rooted : HoldsRooted g r f s mate root) where
+  alone : (v : ℕ) → mem s.left v ≡ true → numbers mate v ≡ 0 → root ≡ v
+  unfolding missed_count
+  alone v l z =
+      let p = left_parts g r s rooted.holds.instance_is v l in
+      let q = left_parts g r s rooted.holds.instance_is root rooted.left in
+      only_one g.order (λ w. not (r w) && (degree g f w == 0)) (counted rooted.one) root v q.0 p.0
+      (missed root q.0 q.1 rooted.free) (missed v p.0 p.1 z)
+    where
+      counted : missed_count g r f ≡ 1 → count g.order (λ w. not (r w) && (degree g f w == 0)) ≡ 1
+      counted q = q
+
+      missed : (v : ℕ) → Within g.order v → r v ≡ false → numbers mate v ≡ 0 → (not (r v) && (degree g f v == 0)) ≡ true
+      missed v w out z = and_from (not (r v)) (degree g f v == 0) (ap not out) (eq-eqb (degree g f v) 0 (rooted.holds.mates.exposed v w z))
+
+  pub root_exposed : (roots : List ℕ) → roots ≡ root ∷ [] → AreExposed s.left mate roots
+  root_exposed roots is v = ap (λ (xs : List ℕ). mem xs v) is ∙ elim (cases_eq root v) [
+    | inl q ↦ ap (λ b. b || false) (eq-eqb root v q) ∙ sym (and_from (mem s.left v) (numbers mate v == 0) (ap (mem s.left) (sym q) ∙ rooted.left) (eq-eqb (numbers mate v) 0 (ap (numbers mate) (sym q) ∙ rooted.free)))
+    | inr n ↦ ap (λ b. b || false) (ne_eqb root v n) ∙ sym (false_from_ne_true (mem s.left v && (numbers mate v == 0)) (λ t. let a = and_parts (mem s.left v) (numbers mate v == 0) t in n (alone v a.0 (eqb-true (numbers mate v) 0 a.1))))
+  ]
+
+  pub root_within : Within 128 root
+  root_within = let p = left_parts g r s rooted.holds.instance_is root rooted.left in let few = rooted.holds.instance_is.few in (omega arith, omega arith)
+
+  -- a forest that no edge leaves has the outer vertices
+  pub outer_final : (t : GrownForest) → IsGrownForest g r f s mate t → t.closing ≡ None → HasOuter g r f t.forest.outer
+  outer_final t growth q = record {
+    inner = mem t.forest.inner;
+    frame = done_frame g r f s mate rooted.holds t.forest growth.holds (growth.done q);
+    within = λ v o. (growth.holds.forest.outer_in v o).0;
+  }
+
+-- the vertices and the base of a blossom
+pub flower_from : (g : Graph) (r f : Set) (mate : List ℕ) (b : Blossom) (flower : Flower) → HoldsBlossom g r f mate b → flower.members ≡ b.members → flower.base ≡ numbers b.cycle.items 1 → HoldsFlower g r f mate flower
+flower_from g r f mate b flower held members base = record {
+  length_of = blossom_length b;
+  vertex = numbers b.cycle.items;
+  edge = held.edge;
+  m = held.m;
+  members = λ v. ap (λ (xs : List ℕ). mem xs v) members ∙ held.members v;
+  base = base;
+  opened = held.opened;
+  mates = held.mates;
+}
+
+-- a blossom is shrunk
+module _ (g : Graph) (r f : Set) (s : Instance) (mate mate2 : List ℕ) (is : HoldsMatching g r f s mate) (long : length mate2 ≡ length mate) (b : Flower) (held : HoldsFlower g r f mate2 b) where
+  abbrev n : ℕ
+  n = held.length_of
+
+  abbrev c : ℕ → ℕ
+  c = held.vertex
+
+  abbrev pub shrunk_graph_of : Graph
+  shrunk_graph_of = H g is.instance_is.graph r f held.m n c held.edge held.opened
+
+  abbrev pub shrunk_out : Set
+  shrunk_out = rs g is.instance_is.graph r f held.m n c held.edge held.opened
+
+  base_in : Within g.order (c 1)
+  base_in = wz g is.instance_is.graph r f held.m n c held.edge held.opened
+
+  pub flower_within : (v : ℕ) → mem b.members v ≡ true → Within (length s.rows.items) v
+  flower_within v t = let w = cw g is.instance_is.graph r f held.m n c held.edge held.opened v (sym (held.members v) ∙ t) in let each = is.instance_is.one_each in (w.0, omega arith)
+
+  pub base_within : Within (length s.rows.items) b.base
+  base_within = let w = base_in in let each = is.instance_is.one_each in let q = held.base in (omega arith, omega arith)
+
+  module _ (h : Instance) (shrink : IsShrinking s (mem b.members) b.base h) where
+    shrinking : IsShrinking s (listed n c) (c 1) h
+    shrinking = subst₂ (λ (x : Set) (z : ℕ). IsShrinking s x z h) (fun_ext held.members) held.base shrink
+
+    below_instance : HoldsMatching shrunk_graph_of shrunk_out held.m h mate2
+    below_instance = record {
+      instance_is = shrunk_instance g (listed n c) (c 1) _ (pulls g is.instance_is.graph r f held.m n c held.edge held.opened) (cz g is.instance_is.graph r f held.m n c held.edge held.opened) r s h is.instance_is
+          (cr g is.instance_is.graph r f held.m n c held.edge held.opened) (cw g is.instance_is.graph r f held.m n c held.edge held.opened) shrinking (graph g is.instance_is.graph r f held.m n c held.edge held.opened);
+      long = long ∙ is.long;
+      mates = below_mates g is.instance_is.graph r f held.m n c held.edge held.opened (numbers mate2) held.mates;
+    }
+
+    pub flower_less : count (length h.rows.items) (mem h.left) < count (length s.rows.items) (mem s.left)
+    flower_less =
+        let a = left_count shrunk_graph_of shrunk_out h below_instance.instance_is in
+        let d = left_count g r s is.instance_is in
+        let e = smaller g is.instance_is.graph r f held.m n c held.edge held.opened in omega arith
+
+    -- the base is the one exposed vertex
+    pub below_rooted : missed_count g r f ≡ 1 → HoldsRooted shrunk_graph_of shrunk_out held.m h mate2 b.base
+    below_rooted one = record {
+      holds = below_instance;
+      one =
+          let half = halves g is.instance_is.graph r f held.m n c held.edge held.opened in
+          let a = missed_edges g r f is.instance_is.graph is.mates.matching in
+          let d = missed_edges shrunk_graph_of shrunk_out held.m (graph g is.instance_is.graph r f held.m n c held.edge held.opened) (downs g is.instance_is.graph r f held.m n c held.edge held.opened).0 in
+          let e = below_size g is.instance_is.graph r f held.m n c held.edge held.opened in
+          let sizes = complement_size g is.instance_is.graph r (listed n c) (c 1) _ (pulls g is.instance_is.graph r f held.m n c held.edge held.opened) (cr g is.instance_is.graph r f held.m n c held.edge held.opened) base_in (cz g is.instance_is.graph r f held.m n c held.edge held.opened) half.0 half.1 in
+          omega arith;
+      left = ap (mem h.left) held.base ∙ shrinking.left (c 1) ∙ and_from (mem s.left (c 1)) (not (listed n c (c 1) && not (c 1 == c 1)))
+          (left_from g r s is.instance_is (c 1) base_in (cr g is.instance_is.graph r f held.m n c held.edge held.opened (c 1) (cz g is.instance_is.graph r f held.m n c held.edge held.opened)))
+          (kept (listed n c (c 1)) (c 1 == c 1) (eq-eqb (c 1) (c 1) refl));
+      free = ap (numbers mate2) held.base ∙ no_mate (numbers mate2 (c 1))
+          (sym (mates_degree g r held.m (numbers mate2) held.mates (c 1) base_in) ∙ cycle_missed g r f held.m n c held.edge held.opened (c 1) base_in (cz g is.instance_is.graph r f held.m n c held.edge held.opened));
+    }
+      where
+        kept : (a b : Bool) → b ≡ true → not (a && not b) ≡ true
+        kept a b q = grind arith
+
+        no_mate : (k : ℕ) → bit (not (k == 0)) ≡ 0 → k ≡ 0
+        no_mate k q = elim (cases_eq k 0) [
+          | inl z ↦ z
+          | inr z ↦ let t = ap (λ b. bit (not b)) (ne_eqb k 0 z) in absurd (omega arith)
+        ]
+
+    -- the outer vertices of the shrunk graph, with those of the blossom
+    pub outer_up : (below result : List ℕ) → HasOuter shrunk_graph_of shrunk_out held.m below → ((v : ℕ) → mem result v ≡ (mem below v || mem b.members v)) → HasOuter g r f result
+    outer_up below result has wide = record {
+      inner = has.inner;
+      frame =
+          let half = halves g is.instance_is.graph r f held.m n c held.edge held.opened in
+          let down = downs g is.instance_is.graph r f held.m n c held.edge held.opened in
+          let up = (frame_up g is.instance_is.graph r (listed n c) (c 1) _ (pulls g is.instance_is.graph r f held.m n c held.edge held.opened) (cr g is.instance_is.graph r f held.m n c held.edge held.opened) base_in (cz g is.instance_is.graph r f held.m n c held.edge held.opened) held.m (mem below) has.inner half.0 (count (size shrunk_graph_of) held.m) down.0 down.1 refl has.frame (near_sets g is.instance_is.graph r f held.m n c held.edge held.opened) half.1).2 in
+          subst₂ (λ (k : ℕ) (o : Set). Frame g r k o has.inner) (below_size g is.instance_is.graph r f held.m n c held.edge held.opened) (sym result_is) up;
+      within = λ v t. elim (or_cases (mem below v) (mem b.members v) (sym (wide v) ∙ t)) [
+        | inl o ↦ has.within v o
+        | inr o ↦ cw g is.instance_is.graph r f held.m n c held.edge held.opened v (sym (held.members v) ∙ o)
+      ];
+    }
+      where
+        result_is : mem result ≡ union (mem below) (listed n c)
+        result_is = fun_ext (λ v. wide v ∙ ap (λ b. mem below v || b) (held.members v))
+
+-- where one vertex is exposed, it is the root
+pub rooted_from : (g : Graph) (r f : Set) (s : Instance) (mate exposed : List ℕ) (root : ℕ) → HoldsMatching g r f s mate → AreExposed s.left mate exposed → exposed ≡ root ∷ [] → HoldsRooted g r f s mate root
+unfolding missed_count
+rooted_from g r f s mate exposed root holds are is = record {
+  holds = holds;
+  one = count_congr g.order (λ v. not (r v) && (degree g f v == 0)) (λ v. root == v) (λ v w. each v w) ∙ count_of_one g.order (λ v. true) root (left_parts g r s holds.instance_is root parts.0).0;
+  left = parts.0;
+  free = eqb-true (numbers mate root) 0 parts.1;
+}
+  where
+    member : (v : ℕ) → (mem s.left v && (numbers mate v == 0)) ≡ (root == v)
+    member v = sym (are v) ∙ ap (λ (xs : List ℕ). mem xs v) is ∙ or_false (root == v)
+
+    parts : (mem s.left root ≡ true) × ((numbers mate root == 0) ≡ true)
+    parts = and_parts (mem s.left root) (numbers mate root == 0) (member root ∙ eq-eqb root root refl)
+
+    zero_test : (b : Bool) → (bit (not b) == 0) ≡ b
+    zero_test true = refl
+    zero_test false = refl
+
+    each : (v : ℕ) → Within g.order v → (not (r v) && (degree g f v == 0)) ≡ (root == v)
+    each v w = ap₂ (λ a b. a && b) (sym (left_is g r s holds.instance_is v w)) (ap (λ d. d == 0) (mates_degree g r f (numbers mate) holds.mates v w) ∙ zero_test (numbers mate v == 0)) ∙ member v
+
+-- the outer vertices are the row
+pub outer_row : (g : Graph) (r f : Set) (s : Instance) (mate : List ℕ) (root : ℕ) → HoldsRooted g r f s mate root → (row : List ℕ) → HasOuter g r f row → IsMissableRow g r row
+outer_row g r f s mate root rooted row has = record {
+  m = f;
+  outer = mem row;
+  inner = has.inner;
+  matching = rooted.holds.mates.matching;
+  frame = has.frame;
+  one = λ q v. refl;
+  other = λ q v. absurd (q rooted.one);
+  within = has.within;
+}

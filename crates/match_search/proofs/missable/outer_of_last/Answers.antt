@@ -1,0 +1,18 @@
+use Rattle.std.proofs.Common.{ℕ, List, length, refl, sym, ap, ◌∙◌}
+use Rattle.counting.proofs.Common.{true≢false}
+use Rattle.counting.specs.Common.{mem}
+use Rattle.match_search.proofs.AugmentedMates.{left_is}
+use Rattle.match_search.proofs.MissableRows.{missable_row}
+use Rattle.match_search.proofs.missable.outer_of_last.Goals as goal
+
+pub returns-then-exposed_count-eq1-clause-row : goal.returns-then-exposed_count-eq1-clause-row
+returns-then-exposed_count-eq1-clause-row c = λ g r f held.
+    let framed = c.in_ok-sets.ensures.frame g r f held in
+    missable_row g r c.last_frame.new.mate c.args.instance.now.left c.in_ok-sets.sets.outer c.in_ok-sets.sets framed (c.last_frame.auto.mate ∙ held.long) (left_is g r c.args.instance.now held.instance_is)
+    c.exposed_count.result c.exposed_count.ensures (λ q. refl) (λ q. absurd (q c.if-exposed_count-eq1.true)) (λ v. (framed.vertices v).0)
+
+pub returns-else-exposed_count-eq1-clause-row : goal.returns-else-exposed_count-eq1-clause-row
+returns-else-exposed_count-eq1-clause-row c = λ g r f held.
+    let framed = c.in_ok-sets.ensures.frame g r f held in
+    missable_row g r c.last_frame.new.mate c.args.instance.now.left c.empty.result c.in_ok-sets.sets framed (c.last_frame.auto.mate ∙ held.long) (left_is g r c.args.instance.now held.instance_is)
+    c.exposed_count.result c.exposed_count.ensures (λ q. absurd (c.if-exposed_count-eq1.false q)) (λ q. c.empty.ensures) (λ v t. absurd (true≢false (sym t ∙ ap (λ (xs : List ℕ). mem xs v) c.empty.ensures)))
