@@ -39,4 +39,4 @@ pub use pairs::{complete_pairs, no_pairs, seek_pair, together, together_beside};
 pub use perfect::partners_where_perfect;
 pub use questions::{perfect_with_edge, perfect_with_pair};
 pub use sharing::share_end;
-pub use verdict::{covered, verdict_in};
+pub use verdict::{covered, first_unallowed, verdict_in};

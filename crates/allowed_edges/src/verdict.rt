@@ -81,8 +81,8 @@ fn matched(g: &MultiGraph, found: &Found, table: &Option<PartnerTable>) -> Verdi
     }
 }
 
-// The least edge that lies in no perfect matching.
-fn first_unallowed(g: &MultiGraph, table: &PartnerTable) -> Option<u32>
+/// The least edge that lies in no perfect matching. Takes no memory.
+pub fn first_unallowed(g: &MultiGraph, table: &PartnerTable) -> Option<u32>
     requires { ArePartners g.now none table.now }
     ensures some { IfSome result (IsLeastWithout (size g.now) (Allowed g.now)) }
     ensures none { IfNone result ((e : ℕ) → Within (size g.now) e → Allowed g.now e) }

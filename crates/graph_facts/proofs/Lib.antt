@@ -1,0 +1,2 @@
+pub mod CoveredFacts
+pub mod Parities

@@ -3,8 +3,8 @@
 -- Stated by: graph_facts.
 use Rattle.std.specs.Prelude.{◌≡◌, ℕ, true, List, Option, Some, None, IfSome, ◌↔◌}
 use Rattle.counting.specs.Common.{Within, mem, IsRisingIn, none}
-use Rattle.graph_core.specs.Common.{Attains, components, InD, InA, Graph, IsBipartite, HasPerfect, IsMaximum, IsSide}
-use Rattle.match_core.specs.MatchingRows.{IsOf, edges_of}
+use Rattle.graph_core.specs.Common.{Attains, components, InD, InA, Graph, IsBipartite, IsCovered, HasPerfect, IsMaximum, IsPerfect, IsSide}
+use Rattle.match_core.specs.MatchingRows.{IsOf, MatchingValue, edges_of}
 use Rattle.match_core.specs.Partners.{ArePartners}
 use Rattle.match_core.specs.declared.frames.FrameSets.{FrameSets}
 
@@ -28,3 +28,12 @@ pub record AreFacts (g : Graph) (parts : List (List ℕ)) (side : Option (List �
   pub frame_is : IsFrame g frame
   pub partners : IfSome table (ArePartners g none)
   pub perfect : (table ≡ None) ↔ ¬ (HasPerfect g none)
+
+-- g is covered, with a perfect matching, its partners, and one side where it is bipartite
+pub record AreCoveredFacts (g : Graph) (matching : MatchingValue) (table : List (List ℕ)) (side : Option (List ℕ)) : Type 0 where
+  pub covered : IsCovered g
+  pub of : IsOf g matching
+  pub perfect : IsPerfect g none (mem (edges_of matching))
+  pub partners : ArePartners g none table
+  pub side_is : (s : List ℕ) → side ≡ Some s → IsSide g (mem s)
+  pub bipartite : (side ≡ None) ↔ ¬ (IsBipartite g)

@@ -1,13 +1,15 @@
 //! A matching covered graph as a type.
 ghost use Rattle.std.specs.Prelude.{◌≡◌, ◌↔◌, ◌≤◌, None, Some, Err, IsTrue, IfOk};
 ghost use Rattle.counting.specs.Common.{mem, none};
-ghost use Rattle.graph_core.specs.Common.{IsCovered, IsReason, IsBipartite, size, IsPerfect, IsSide, reason_of, IsWithinLimits};
+ghost use Rattle.graph_core.specs.Common.{IsConnected, IsCovered, IsReason, IsBipartite, size, IsPerfect, IsSide, reason_of, IsWithinLimits};
 ghost use Rattle.match_core.specs.MatchingRows.{IsOf, edges_of};
 ghost use Rattle.match_core.specs.Partners.{ArePartners};
 
 use crate::facts::Facts;
-use graph_core::{MultiGraph, Reason, Verdict};
-use match_core::{Matching, PartnerTable};
+use crate::layers::Layers;
+use allowed_edges::{first_unallowed, partners_where_perfect};
+use graph_core::{MultiGraph, Reason};
+use match_core::{Found, Matching, PartnerTable, maximum};
 use std::alloc::{AllocError as Memory, Global};
 use std::marker::Model;
 use vset_core::VSet;
@@ -17,22 +19,26 @@ use vset_core::VSet;
 /// the graph.
 #[derive(Drop)]
 pub struct Covered<'g> {
-    facts: Facts<'g>,
+    graph: &'g MultiGraph,
+    matching: Matching,
+    table: PartnerTable,
+    side: Option<VSet>,
 }
 
 impl<'g> Model for Covered<'g> {
-    ghost use Rattle.graph_core.specs.Common.{IsCovered, Graph};
+    ghost use Rattle.graph_core.specs.Common.{Graph};
+    ghost use Rattle.graph_facts.specs.Facts.{AreCoveredFacts};
 
     ghost Value = { Graph };
 
-    ghost view = { λ c. c.facts };
+    ghost view = { λ c. c.graph.now };
 
-    ghost invariant = { λ c. IsCovered c.facts };
+    ghost invariant = { λ c. AreCoveredFacts c.graph.now c.matching c.table c.side };
 }
 
 impl<'g> Covered<'g> {
     /// The graph as a covered one, or the first reason why it is not matching covered, in the
-    /// order: `Small`, `Parted`, `Unmatched`, `Unallowed`.
+    /// order: `Small`, `Parted`, `Unmatched`, `Unallowed`. Nothing is sought behind the first.
     pub fn of(alloc: Global, g: &'g MultiGraph) -> Result<Result<Covered<'g>, Reason>, Memory>
         ensures covered { IfOk result (λ r. IfOk r (λ c. c ≡ g.now)) }
         ensures reason { IfOk result
@@ -40,10 +46,45 @@ impl<'g> Covered<'g> {
         ensures uncovered { IfOk result (λ r. (why : _) → r ≡ Err why → ¬ (IsCovered g.now)) }
     {
         g.keeps_limits();
-        let facts = Facts::of(alloc, g)?;
-        match facts.verdict() {
-            Verdict::Covered => Ok(Ok(Covered { facts })),
-            Verdict::NotCovered(reason) => Ok(Err(reason)),
+        if g.order() < 2 {
+            return Ok(Err(Reason::Small));
+        }
+        let layers = Layers::of(g);
+        if let Some(b) = layers.first_apart(g) {
+            return Ok(Err(Reason::Parted { a: 1, b }));
+        }
+        let side = layers.side(g);
+        Covered::of_connected(alloc, g, side)
+    }
+
+    // The same of a connected graph, of which a side is known where it is bipartite.
+    fn of_connected(
+        alloc: Global,
+        g: &'g MultiGraph,
+        side: Option<VSet>,
+    ) -> Result<Result<Covered<'g>, Reason>, Memory>
+        requires two { 2 ≤ g.now.order }
+        requires connected { IsConnected g.now }
+        requires side { (s : _) → side ≡ Some s → IsSide g.now (mem s) }
+        requires bipartite { (side ≡ None) ↔ ¬ (IsBipartite g.now) }
+        ensures covered { IfOk result (λ r. IfOk r (λ c. c ≡ g.now)) }
+        ensures reason { IfOk result
+            (λ r. (why : _) → r ≡ Err why → IsReason g.now (reason_of why)) }
+        ensures uncovered { IfOk result (λ r. (why : _) → r ≡ Err why → ¬ (IsCovered g.now)) }
+    {
+        g.keeps_limits();
+        let Found { matching, berge } = maximum(alloc, g)?;
+        match partners_where_perfect(alloc, g, &matching)? {
+            None => Ok(Err(Reason::Unmatched { berge })),
+            Some(table) => match first_unallowed(g, &table) {
+                Some(edge) => Ok(Err(Reason::Unallowed { edge })),
+                None => Ok(Ok(Covered {
+                    graph: g,
+                    matching,
+                    table,
+                    side,
+                })),
+            },
         }
     }
 
@@ -52,8 +93,10 @@ impl<'g> Covered<'g> {
         requires { IsCovered g.now }
         ensures { IfOk result (λ c. c ≡ g.now) }
     {
-        let facts = Facts::of(alloc, g)?;
-        Ok(Covered { facts })
+        match Covered::of(alloc, g)? {
+            Ok(covered) => Ok(covered),
+            Err(_) => unreachable!(),
+        }
     }
 
     /// A graph of which the facts are at hand, where it is known to be covered. Takes no memory.
@@ -61,7 +104,23 @@ impl<'g> Covered<'g> {
         requires { IsCovered facts }
         ensures { result ≡ facts.entry }
     {
-        Covered { facts }
+        let _ = facts.graph();
+        let Facts {
+            graph,
+            side,
+            frame,
+            table,
+            ..
+        } = facts;
+        match table {
+            Some(table) => Covered {
+                graph,
+                matching: frame.found.matching,
+                table,
+                side,
+            },
+            None => unreachable!(),
+        }
     }
 
     /// The graph.
@@ -69,7 +128,7 @@ impl<'g> Covered<'g> {
         ensures same { result.now ≡ self.now }
         ensures covered { IsCovered result.now }
     {
-        self.facts.graph()
+        self.graph
     }
 
     /// The number of vertices, at least two.
@@ -78,7 +137,7 @@ impl<'g> Covered<'g> {
         ensures two { 2 ≤ self.now.order }
         ensures limits { IsWithinLimits self.now }
     {
-        self.facts.graph().order()
+        self.graph.order()
     }
 
     /// The number of edges.
@@ -86,7 +145,8 @@ impl<'g> Covered<'g> {
         ensures is { result ≡ size self.now }
         ensures limits { IsWithinLimits self.now }
     {
-        self.facts.graph().size()
+        self.graph.keeps_limits();
+        self.graph.size()
     }
 
     /// The law that the graph is covered. It does nothing: a caller states it where it needs it.
@@ -94,7 +154,7 @@ impl<'g> Covered<'g> {
         ensures covered { IsCovered self.now }
         ensures limits { IsWithinLimits self.now }
     {
-        let _ = self.facts.graph();
+        self.graph.keeps_limits();
     }
 
     /// One side; `None` exactly when the graph is not bipartite.
@@ -102,14 +162,18 @@ impl<'g> Covered<'g> {
         ensures some { (side : _) → result ≡ Some side → IsSide self.now (mem side) }
         ensures none { (result ≡ None) ↔ ¬ (IsBipartite self.now) }
     {
-        self.facts.side()
+        self.side
     }
 
     /// Whether some vertex set has all edges in its cut.
     pub fn is_bipartite(&self) -> bool
         ensures { IsTrue result ↔ IsBipartite self.now }
     {
-        self.facts.is_bipartite()
+        self.graph.keeps_limits();
+        match self.side {
+            Some(_) => true,
+            None => false,
+        }
     }
 
     /// The table of partners: two different vertices are partners if the graph without them has a
@@ -117,11 +181,7 @@ impl<'g> Covered<'g> {
     pub fn table(&self) -> &PartnerTable
         ensures { ArePartners self.now none result.now }
     {
-        let _ = self.facts.graph();
-        match self.facts.table() {
-            Some(table) => table,
-            None => unreachable!(),
-        }
+        &self.table
     }
 
     /// A perfect matching.
@@ -129,8 +189,7 @@ impl<'g> Covered<'g> {
         ensures of { IsOf self.now result.now }
         ensures perfect { IsPerfect self.now none (mem (edges_of result.now)) }
     {
-        let _ = self.facts.graph();
-        &self.facts.frame().found.matching
+        &self.matching
     }
 
     /// A copy of that perfect matching.

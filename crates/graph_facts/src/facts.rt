@@ -16,11 +16,11 @@ use vset_core::VSet;
 /// its table of partners where the matching is perfect. Contracts see the graph.
 #[derive(Drop)]
 pub struct Facts<'g> {
-    graph: &'g MultiGraph,
+    pub(crate) graph: &'g MultiGraph,
     parts: SetList,
-    side: Option<VSet>,
-    frame: FrameSets,
-    table: Option<PartnerTable>,
+    pub(crate) side: Option<VSet>,
+    pub(crate) frame: FrameSets,
+    pub(crate) table: Option<PartnerTable>,
 }
 
 impl<'g> Model for Facts<'g> {

@@ -19,6 +19,7 @@
 mod bipartite;
 mod covered_graph;
 mod facts;
+mod layers;
 
 pub use bipartite::Bipartite;
 pub use covered_graph::Covered;

@@ -1,6 +1,7 @@
 pub mod Separations
 pub mod CutPairs
 pub mod PairSearch
+pub mod PairRows
 pub mod PairShores
 pub mod SeparationFacts
 pub mod Flooding

@@ -1,7 +1,8 @@
 -- How contracts see the code's pairs of vertices.
 -- Stated by: separation_kit, bench_reports. Rests on it: tight_cuts.
-use Rattle.std.specs.Prelude.{ℕ, ◌<◌}
-use Rattle.counting.specs.Common.{Within}
+use Rattle.std.specs.Prelude.{◌≡◌, ℕ, ◌<◌, Bool, true, false, not}
+use Rattle.counting.specs.Common.{Within, pair_set}
+use Rattle.graph_core.specs.Common.{Graph, has_perfect}
 use Rattle.separation_kit.specs.declared.pair.Pair.{Pair}
 
 -- the two vertices as a pair
@@ -13,3 +14,18 @@ pub record IsPairIn (n : ℕ) (p : Pair) : Type 0 where
   pub first : Within n p.a
   pub second : Within n p.b
   pub rising : p.a < p.b
+
+-- without the two vertices there is no perfect matching
+abbrev pub is_equivalent_pair : Graph → ℕ × ℕ → Bool
+is_equivalent_pair g k = not (has_perfect g (pair_set k.0 k.1))
+
+-- b is the first number of a + 1 to n of which the pair with a passes the test
+pub record IsFirstInRow (n : ℕ) (test : ℕ × ℕ → Bool) (a b : ℕ) : Type 0 where
+  pub within : Within n b
+  pub above : a < b
+  pub passes : test (a, b) ≡ true
+  pub first : (w : ℕ) → a < w → w < b → test (a, w) ≡ false
+
+-- no pair of a with a number of a + 1 to n passes the test
+abbrev pub HasNoneInRow : ℕ → (ℕ × ℕ → Bool) → ℕ → Type 0
+HasNoneInRow n test a = (b : ℕ) → Within n b → a < b → test (a, b) ≡ false

@@ -38,7 +38,7 @@ impl<'c, 'g> FirstPairs<'c, 'g> {
     pub fn of(alloc: Global, covered: &'c Covered<'g>) -> Result<FirstPairs<'c, 'g>, Memory>
         ensures { IfOk result (λ pairs. pairs ≡ covered.now) }
     {
-        let equivalent = equivalent_pair(alloc, covered)?;
+        let equivalent = equivalent_pair(covered);
         let cut = cut_where_bicritical(alloc, covered, equivalent)?;
         Ok(FirstPairs {
             covered,

@@ -41,7 +41,7 @@ pub(crate) fn front_candidates(alloc: Global, c: &Covered) -> Result<CandidateLi
     ensures { IfOk result (λ list. list ≡ front_candidates c.now) }
 {
     c.keeps_covered();
-    if let Some(_) = equivalent_pair(alloc, c)? {
+    if let Some(_) = equivalent_pair(c) {
         return barrier_candidates(alloc, c);
     }
     if c.order() < 4 {

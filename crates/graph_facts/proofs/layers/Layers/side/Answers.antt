@@ -1,0 +1,22 @@
+use Rattle.std.proofs.Common.{◌≡◌, ◌∙◌, ap, refl, sym, subst, List, ℕ}
+use Rattle.counting.specs.Common.{mem}
+use Rattle.counting.proofs.Common.{and_parts}
+use Rattle.graph_core.specs.Common.{IsSide}
+use Rattle.graph_facts.proofs.Parities.{even_side, no_side}
+use Rattle.graph_facts.proofs.layers.Layers.side.Goals.{In-None}
+use Rattle.graph_facts.proofs.layers.Layers.side.Goals as goal
+
+even_is : (c : In-None) → IsSide c.args.g.now (mem c.args.self.now.even)
+even_is c = even_side c.args.g.now (mem c.args.self.now.even) (mem c.args.self.now.odd) c.requires.layers c.keeps_limits.ensures.multigraph c.requires.connected (λ v. sym (c.meet.ensures v) ∙ ap (λ (xs : List ℕ). mem xs v) c.in-None.ensures.none)
+
+pub returns-in-Some-clause-none : goal.returns-in-Some-clause-none
+returns-in-Some-clause-none c =
+    let v = c.in-Some.field-0 in
+    let p = and_parts (mem c.args.self.now.even v) (mem c.args.self.now.odd v) (sym (c.meet.ensures v) ∙ c.in-Some.ensures.some.member) in
+    (λ e b. no_side c.args.g.now (mem c.args.self.now.even) (mem c.args.self.now.odd) c.requires.layers c.keeps_limits.ensures.multigraph v p.0 p.1 b, λ h. refl)
+
+pub returns-in-None-clause-some : goal.returns-in-None-clause-some
+returns-in-None-clause-some c = λ side e. let same : c.args.self.now.even ≡ side = cc in subst (λ (s : List ℕ). IsSide c.args.g.now (mem s)) same (even_is (goal.at.returns-in-None-clause-some c).In-None)
+
+pub returns-in-None-clause-none : goal.returns-in-None-clause-none
+returns-in-None-clause-none c = (λ e. absurd cc, λ h. absurd (h (mem c.args.self.now.even, λ e w. even_is (goal.at.returns-in-None-clause-none c).In-None e w (c.keeps_limits.ensures.multigraph.no_loop e w))))

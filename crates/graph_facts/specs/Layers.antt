@@ -1,0 +1,27 @@
+-- What a flood from vertex 1 finds of a graph, by the parity of the steps.
+-- Stated by: graph_facts.
+use Rattle.std.specs.Prelude.{◌≡◌, ◌↔◌, ◌||◌, ℕ, true, false, not}
+use Rattle.counting.specs.Common.{Within, Set, none}
+use Rattle.graph_core.specs.Common.{Graph, IsSide, Joined, adjacent}
+
+-- walks from 1 lead to the vertices of even and odd, and to no others; in each side of g those of
+-- even are where 1 is, and those of odd where it is not; a vertex of one of both alone has its
+-- neighbours in the other
+pub record AreLayers (g : Graph) (even odd : Set) : Type 0 where
+  pub reached : (v : ℕ) → ((even v || odd v) ≡ true) ↔ Joined g none 1 v
+  pub alike : (x : Set) → IsSide g x → (v : ℕ) → even v ≡ true → x v ≡ x 1
+  pub unlike : (x : Set) → IsSide g x → (v : ℕ) → odd v ≡ true → x v ≡ not (x 1)
+  pub over : (u w : ℕ) → even u ≡ true → odd u ≡ false → adjacent g none u w ≡ true → odd w ≡ true
+  pub back : (u w : ℕ) → odd u ≡ true → even u ≡ false → adjacent g none u w ≡ true → even w ≡ true
+
+-- the same where the vertices of open_set wait for their neighbours
+pub record IsFlood (g : Graph) (even odd open_set : Set) : Type 0 where
+  pub start : even 1 ≡ true
+  pub among : (v : ℕ) → open_set v ≡ true → (even v || odd v) ≡ true
+  pub within : (v : ℕ) → (even v || odd v) ≡ true → Within g.order v
+  pub reached : (v : ℕ) → (even v || odd v) ≡ true → Joined g none 1 v
+  pub done : (u w : ℕ) → (even u || odd u) ≡ true → open_set u ≡ false → adjacent g none u w ≡ true → (even w || odd w) ≡ true
+  pub alike : (x : Set) → IsSide g x → (v : ℕ) → even v ≡ true → x v ≡ x 1
+  pub unlike : (x : Set) → IsSide g x → (v : ℕ) → odd v ≡ true → x v ≡ not (x 1)
+  pub over : (u w : ℕ) → even u ≡ true → odd u ≡ false → open_set u ≡ false → adjacent g none u w ≡ true → odd w ≡ true
+  pub back : (u w : ℕ) → odd u ≡ true → even u ≡ false → open_set u ≡ false → adjacent g none u w ≡ true → even w ≡ true
