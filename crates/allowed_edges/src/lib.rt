@@ -23,6 +23,7 @@
 
 mod edges;
 mod exchanges;
+mod known_pairs;
 mod pair_table;
 mod pairs;
 mod perfect;

@@ -6,6 +6,7 @@ ghost use Rattle.match_core.specs.MatchingRows.{IsOf, edges_of};
 ghost use Rattle.allowed_edges.specs.Leaving.{share_end};
 ghost use Rattle.allowed_edges.specs.PairTables.{IsPerfectWith, SettlesEdges, SettlesPairs, Sought, edge_lists, holds_both};
 
+use crate::known_pairs::is_known_apart;
 use crate::pair_table::PairTable;
 use crate::questions::{perfect_with_edge, perfect_with_pair};
 use crate::sharing::{share_cut, share_end};
@@ -239,13 +240,13 @@ fn listed(alloc: Global, pairs: &mut PairTable, found: Matching) -> Result<Match
 }
 
 // Whether nothing has to be asked of two edges: a listed matching contains both, or they share an
-// end or a tight cut.
+// end or a tight cut, or pairs settled before show that they do not lie together.
 fn is_settled(g: &MultiGraph, shores: &[VSet], pairs: &PairTable, e: u32, f: u32) -> bool
     requires shores { All (λ s. IsTight g.now (mem s)) shores.now }
     requires edge { Within (size g.now) e }
     requires other { Within (size g.now) f }
     requires above { e < f }
-    requires size { pairs.now.size ≡ size g.now }
+    requires before { SettlesPairs g.now e f pairs.now }
     ensures settled { result ≡ true → Together g.now e f →
         holds_both (edge_lists pairs.now) e f ≡ true }
     ensures apart { result ≡ false → share_end g.now e f ≡ false }
@@ -258,7 +259,10 @@ fn is_settled(g: &MultiGraph, shores: &[VSet], pairs: &PairTable, e: u32, f: u32
     if share_end(g, e, f) {
         return true;
     }
-    share_cut(g, shores, e, f)
+    if share_cut(g, shores, e, f) {
+        return true;
+    }
+    is_known_apart(g, shores, pairs, e, f)
 }
 
 // The same matching once more.
