@@ -7,3 +7,4 @@ pub mod MarkedPairs
 pub mod PairSteps
 pub mod AllowedPartners
 pub mod CutEnds
+pub mod ListedBases

@@ -21,6 +21,7 @@
 //! Plummer, "Matching Theory", chapter 5; Lucchesi and Murty, "Perfect Matchings".
 #![tactic(auto)]
 
+mod bases;
 mod edges;
 mod exchanges;
 mod known_pairs;
@@ -34,6 +35,7 @@ mod table;
 mod varied;
 mod verdict;
 
+pub use bases::base_with_edge;
 pub use edges::{allowed, allowed_in, is_allowed_in};
 pub use pair_table::PairTable;
 pub use pairs::{complete_pairs, no_pairs, seek_pair, together, together_beside};

@@ -6,9 +6,10 @@ ghost use Rattle.match_core.specs.MatchingRows.{IsOf, edges_of};
 ghost use Rattle.allowed_edges.specs.Leaving.{share_end};
 ghost use Rattle.allowed_edges.specs.PairTables.{IsPerfectWith, SettlesEdges, SettlesPairs, Sought, edge_lists, holds_both};
 
+use crate::bases::{base_with_edge, copied};
 use crate::known_pairs::is_known_apart;
 use crate::pair_table::PairTable;
-use crate::questions::{perfect_with_edge, perfect_with_pair};
+use crate::questions::perfect_with_pair;
 use crate::sharing::{share_cut, share_end};
 use graph_core::MultiGraph;
 use match_core::{Matching, perfect_without};
@@ -138,7 +139,7 @@ fn settle_edge(
     requires before { SettlesEdges g.now e pairs.old }
     ensures { IfOk result (λ _. SettlesEdges g.now (e + 1) pairs.new) }
 {
-    match perfect_with_edge(alloc, g, kept, e)? {
+    match base_with_edge(alloc, g, kept, pairs, e)? {
         None => Ok(()),
         Some(base) => {
             let last = settle_pairs(alloc, g, shores, base, pairs, e)?;
@@ -263,14 +264,6 @@ fn is_settled(g: &MultiGraph, shores: &[VSet], pairs: &PairTable, e: u32, f: u32
         return true;
     }
     is_known_apart(g, shores, pairs, e, f)
-}
-
-// The same matching once more.
-fn copied(alloc: Global, m: &Matching) -> Result<Matching, Memory>
-    ensures { IfOk result (λ copy. copy ≡ m.now) }
-{
-    let copy = m.cleared(alloc, VSet::empty())?;
-    Ok(copy)
 }
 
 // Lists a perfect matching that holds `e`, unless a listed one holds it; the pairs of `e` are
