@@ -11,7 +11,7 @@ ghost use Rattle.allowed_edges.specs.CutEnds.{end_in, leave_alike};
 ghost use Rattle.allowed_edges.specs.PairTables.{SettlesEdges, SettlesPairs, edge_lists, holds_both};
 
 use crate::pair_table::PairTable;
-use crate::sharing::share_end;
+use crate::sharing::{in_some_cut, share_end};
 use graph_core::{MultiGraph, is_in_cut};
 use vset_core::VSet;
 
@@ -31,12 +31,42 @@ pub(crate) fn is_known_apart(
     requires before { SettlesPairs g.now e f pairs.now }
     ensures { result ≡ true → Together g.now e f → ⊥ }
 {
+    is_apart_beside(g, shores, pairs, e, f) || is_apart_across(g, shores, pairs, e, f)
+}
+
+// Whether the pair of `e` and an edge beside `f` shows it.
+fn is_apart_beside(g: &MultiGraph, shores: &[VSet], pairs: &PairTable, e: u32, f: u32) -> bool
+    requires shores { All (λ s. IsTight g.now (mem s)) shores.now }
+    requires edge { Within (size g.now) e }
+    requires other { Within (size g.now) f }
+    requires before { SettlesPairs g.now e f pairs.now }
+    ensures { result ≡ true → Together g.now e f → ⊥ }
+{
+    if !in_some_cut(g, shores, f) {
+        return false;
+    }
     for k in 0..f - 1 {
-        let d = k + 1;
-        if d != e && is_apart_by(g, shores, pairs, e, f, d) {
+        if k + 1 != e && is_apart_by(g, shores, pairs, e, f, k + 1) {
             return true;
         }
-        if d < e && is_apart_by(g, shores, pairs, f, e, d) {
+    }
+    false
+}
+
+// Whether the pair of `f` and an edge beside `e` shows it.
+fn is_apart_across(g: &MultiGraph, shores: &[VSet], pairs: &PairTable, e: u32, f: u32) -> bool
+    requires shores { All (λ s. IsTight g.now (mem s)) shores.now }
+    requires edge { Within (size g.now) e }
+    requires other { Within (size g.now) f }
+    requires above { e < f }
+    requires before { SettlesEdges g.now e pairs.now }
+    ensures { result ≡ true → Together g.now e f → ⊥ }
+{
+    if !in_some_cut(g, shores, e) {
+        return false;
+    }
+    for k in 0..e - 1 {
+        if is_apart_by(g, shores, pairs, f, e, k + 1) {
             return true;
         }
     }

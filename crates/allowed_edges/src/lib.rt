@@ -41,5 +41,5 @@ pub use pair_table::PairTable;
 pub use pairs::{complete_pairs, no_pairs, seek_pair, together, together_beside};
 pub use perfect::partners_where_perfect;
 pub use questions::{perfect_with_edge, perfect_with_pair};
-pub use sharing::share_end;
+pub use sharing::{in_some_cut, share_end};
 pub use verdict::{covered, verdict_in};
