@@ -34,6 +34,7 @@ pub(crate) fn share_cut(g: &MultiGraph, shores: &[VSet], e: u32, f: u32) -> bool
 /// Whether the edge is in the cut of one of these shores. Takes no memory.
 pub fn in_some_cut(g: &MultiGraph, shores: &[VSet], e: u32) -> bool
     requires { Within (size g.now) e }
+    ensures { result ≡ list_any (λ s. in_cut g.now (mem s) e) shores.now }
 {
     shores.iter().any(|shore| is_in_cut(g, *shore, e))
 }
