@@ -9,7 +9,7 @@ use Rattle.std.proofs.lemmas.List.Elements.{All-push}
 use Rattle.std.proofs.lemmas.List.Folds.{Any-from_list_any, list_any_at}
 use Rattle.std.specs.List.{list_any}
 use Rattle.counting.specs.Common.{Within, IsRisingIn, mem, none}
-use Rattle.graph_core.specs.Common.{Graph, IsGraph, first_end, in_cut, second_end, size, HasPerfect, IsEnd, IsPerfect, Together, IsLean, IsPairList, IsTight}
+use Rattle.graph_core.specs.Common.{Graph, IsGraph, first_end, in_cut, second_end, size, Allowed, HasPerfect, IsEnd, IsPerfect, Together, IsLean, IsPairList, IsTight}
 use Rattle.graph_core.proofs.Common.{two_ends_le_degree}
 use Rattle.match_core.specs.MatchingRows.{IsOf, KeepsMatching, MatchingValue, edges_of, is_clear}
 use Rattle.match_core.specs.declared.matching.MatchRow.{MatchRow}
@@ -187,6 +187,19 @@ held_turned : (ms : List (List ℕ)) (e f : ℕ) → holds_both ms e f ≡ holds
 held_turned [] e f = refl
 held_turned (m ∷ ms) e f = ap (λ b. b || holds_both ms e f) (and_comm (mem m e) (mem m f)) ∙ ap (λ b. (mem m f && mem m e) || b) (held_turned ms e f)
 
+-- of the edges below f, and for f of those below e, the pairs are settled
+pub known_beside : (g : Graph) (e f d : ℕ) (p : PairsValue) → SettlesPairs g e f p → Within (size g) e → Within (size g) d → d < f → d ≢ e → Together g e d → holds_both (edge_lists p) e d ≡ true
+known_beside g e f d p s we wd l apart t = elim (cases_order d e) [
+  | inl q ↦ absurd (apart q)
+  | inr r ↦ elim r [
+    | inl l ↦ held_turned (edge_lists p) e d ∙ s.edges.done d e wd we l (omega arith) (turned g e d t)
+    | inr k ↦ s.done d wd k l t
+  ]
+]
+
+pub known_across : (g : Graph) (e f d : ℕ) (p : PairsValue) → SettlesEdges g e p → Within (size g) f → Within (size g) d → d < e → e < f → Together g f d → holds_both (edge_lists p) f d ≡ true
+known_across g e f d p s wf wd l above t = held_turned (edge_lists p) f d ∙ s.done d f wd wf l (omega arith) (turned g f d t)
+
 -- some listed matching has both
 one_holds : (p : PairsValue) (e f : ℕ) → holds_both (edge_lists p) e f ≡ true → Any (λ (m : List ℕ). (mem m e ≡ true) × (mem m f ≡ true)) (edge_lists p)
 one_holds p e f h =
@@ -196,6 +209,9 @@ one_holds p e f h =
 -- edges that a listed matching holds lie together
 pub held_together : (g : Graph) (k : ℕ) (p : PairsValue) → SettlesEdges g k p → (e f : ℕ) → holds_both (edge_lists p) e f ≡ true → Together g e f
 held_together g k p s e f h = let a = one_holds p e f h in (mem a.1, subst (λ (m : List ℕ). IsPerfect g none (mem m)) a.3 (s.grown.perfect a.0 a.1 a.2), a.4.0, a.4.1)
+
+pub held_allowed : (g : Graph) (k : ℕ) (p : PairsValue) → SettlesEdges g k p → (d : ℕ) → holds_both (edge_lists p) d d ≡ true → Allowed g d
+held_allowed g k p s d h = let t = held_together g k p s d d h in (t.0, t.1, t.2)
 
 -- all edges
 module _ (g : Graph) (p : PairsValue) (s : SettlesEdges g (size g + 1) p) where

@@ -1,3 +1,4 @@
+pub mod CutEnds
 pub mod Leaving
 pub mod EdgeTables
 pub mod PairTables

@@ -21,8 +21,10 @@
 //! Plummer, "Matching Theory", chapter 5; Lucchesi and Murty, "Perfect Matchings".
 #![tactic(auto)]
 
+mod bases;
 mod edges;
 mod exchanges;
+mod known_pairs;
 mod pair_table;
 mod pairs;
 mod perfect;
@@ -33,10 +35,11 @@ mod table;
 mod varied;
 mod verdict;
 
+pub use bases::base_with_edge;
 pub use edges::{allowed, allowed_in, is_allowed_in};
 pub use pair_table::PairTable;
 pub use pairs::{complete_pairs, no_pairs, seek_pair, together, together_beside};
 pub use perfect::partners_where_perfect;
 pub use questions::{perfect_with_edge, perfect_with_pair};
-pub use sharing::share_end;
+pub use sharing::{in_some_cut, share_end};
 pub use verdict::{covered, first_unallowed, verdict_in};

@@ -6,8 +6,10 @@ ghost use Rattle.match_core.specs.MatchingRows.{IsOf, edges_of};
 ghost use Rattle.allowed_edges.specs.Leaving.{share_end};
 ghost use Rattle.allowed_edges.specs.PairTables.{IsPerfectWith, SettlesEdges, SettlesPairs, Sought, edge_lists, holds_both};
 
+use crate::bases::{base_with_edge, copied};
+use crate::known_pairs::is_known_apart;
 use crate::pair_table::PairTable;
-use crate::questions::{perfect_with_edge, perfect_with_pair};
+use crate::questions::perfect_with_pair;
 use crate::sharing::{share_cut, share_end};
 use graph_core::MultiGraph;
 use match_core::{Matching, perfect_without};
@@ -137,7 +139,7 @@ fn settle_edge(
     requires before { SettlesEdges g.now e pairs.old }
     ensures { IfOk result (λ _. SettlesEdges g.now (e + 1) pairs.new) }
 {
-    match perfect_with_edge(alloc, g, kept, e)? {
+    match base_with_edge(alloc, g, kept, pairs, e)? {
         None => Ok(()),
         Some(base) => {
             let last = settle_pairs(alloc, g, shores, base, pairs, e)?;
@@ -239,13 +241,13 @@ fn listed(alloc: Global, pairs: &mut PairTable, found: Matching) -> Result<Match
 }
 
 // Whether nothing has to be asked of two edges: a listed matching contains both, or they share an
-// end or a tight cut.
+// end or a tight cut, or pairs settled before show that they do not lie together.
 fn is_settled(g: &MultiGraph, shores: &[VSet], pairs: &PairTable, e: u32, f: u32) -> bool
     requires shores { All (λ s. IsTight g.now (mem s)) shores.now }
     requires edge { Within (size g.now) e }
     requires other { Within (size g.now) f }
     requires above { e < f }
-    requires size { pairs.now.size ≡ size g.now }
+    requires before { SettlesPairs g.now e f pairs.now }
     ensures settled { result ≡ true → Together g.now e f →
         holds_both (edge_lists pairs.now) e f ≡ true }
     ensures apart { result ≡ false → share_end g.now e f ≡ false }
@@ -258,15 +260,10 @@ fn is_settled(g: &MultiGraph, shores: &[VSet], pairs: &PairTable, e: u32, f: u32
     if share_end(g, e, f) {
         return true;
     }
-    share_cut(g, shores, e, f)
-}
-
-// The same matching once more.
-fn copied(alloc: Global, m: &Matching) -> Result<Matching, Memory>
-    ensures { IfOk result (λ copy. copy ≡ m.now) }
-{
-    let copy = m.cleared(alloc, VSet::empty())?;
-    Ok(copy)
+    if share_cut(g, shores, e, f) {
+        return true;
+    }
+    is_known_apart(g, shores, pairs, e, f)
 }
 
 // Lists a perfect matching that holds `e`, unless a listed one holds it; the pairs of `e` are

@@ -30,3 +30,11 @@ pub(crate) fn share_cut(g: &MultiGraph, shores: &[VSet], e: u32, f: u32) -> bool
         .iter()
         .any(|shore| is_in_cut(g, *shore, e) && is_in_cut(g, *shore, f))
 }
+
+/// Whether the edge is in the cut of one of these shores. Takes no memory.
+pub fn in_some_cut(g: &MultiGraph, shores: &[VSet], e: u32) -> bool
+    requires { Within (size g.now) e }
+    ensures { result ≡ list_any (λ s. in_cut g.now (mem s) e) shores.now }
+{
+    shores.iter().any(|shore| is_in_cut(g, *shore, e))
+}

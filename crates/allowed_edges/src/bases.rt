@@ -1,0 +1,76 @@
+//! Perfect matchings from which pairs of an edge are sought.
+ghost use Rattle.std.specs.Prelude.{◌≡◌, true, IfOk, Some, None};
+ghost use Rattle.counting.specs.Common.{Within, mem, none};
+ghost use Rattle.graph_core.specs.Common.{size, Allowed, IsPerfect};
+ghost use Rattle.match_core.specs.MatchingRows.{IsOf, edges_of};
+ghost use Rattle.allowed_edges.specs.PairTables.{IsPerfectWith, SettlesEdges};
+
+use crate::pair_table::PairTable;
+use crate::questions::perfect_with_edge;
+use graph_core::MultiGraph;
+use match_core::Matching;
+use std::alloc::{AllocError as Memory, Global};
+use vset_core::VSet;
+
+/// A perfect matching that holds `e`: a listed one if there is one, and else one by one
+/// augmentation of `kept`; `None` only if no perfect matching holds it.
+pub fn base_with_edge(
+    alloc: Global,
+    g: &MultiGraph,
+    kept: &Matching,
+    pairs: &PairTable,
+    e: u32,
+) -> Result<Option<Matching>, Memory>
+    requires edge { Within (size g.now) e }
+    requires of { IsOf g.now kept.now }
+    requires perfect { IsPerfect g.now none (mem (edges_of kept.now)) }
+    requires begun { SettlesEdges g.now 1 pairs.now }
+    ensures some { IfOk result (λ o. (m : _) → o ≡ Some m → IsPerfectWith g.now e m) }
+    ensures none { IfOk result (λ o. o ≡ None → Allowed g.now e → ⊥) }
+{
+    match listed_base(alloc, g, pairs, e)? {
+        Some(base) => Ok(Some(base)),
+        None => perfect_with_edge(alloc, g, kept, e),
+    }
+}
+
+// The first listed matching that holds `e`.
+fn listed_base(
+    alloc: Global,
+    g: &MultiGraph,
+    pairs: &PairTable,
+    e: u32,
+) -> Result<Option<Matching>, Memory>
+    requires begun { SettlesEdges g.now 1 pairs.now }
+    ensures { IfOk result (λ o. (m : _) → o ≡ Some m → IsPerfectWith g.now e m) }
+{
+    let list = pairs.list();
+    for i in 0..list.len() {
+        let m = &list[i];
+        if holds(m, e) {
+            let base = copied(alloc, m)?;
+            return Ok(Some(base));
+        }
+    }
+    Ok(None)
+}
+
+// Whether the matching holds `e`.
+fn holds(m: &Matching, e: u32) -> bool
+    ensures { result ≡ true → mem (edges_of m.now) e ≡ true }
+{
+    for i in 0..m.len() {
+        if m.row(i).edge == e {
+            return true;
+        }
+    }
+    false
+}
+
+/// The same matching once more.
+pub(crate) fn copied(alloc: Global, m: &Matching) -> Result<Matching, Memory>
+    ensures { IfOk result (λ copy. copy ≡ m.now) }
+{
+    let copy = m.cleared(alloc, VSet::empty())?;
+    Ok(copy)
+}
