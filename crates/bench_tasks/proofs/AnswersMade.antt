@@ -57,9 +57,12 @@ module _ {S : Type 0} (reads : S → List ℕ → Answer → S → Type 0) where
   reads-answered names view held (Err (Bad file line kind)) first last made = names-up_to names made.answers file first last made.counts made.in_turn
   reads-answered names view held (Err Memory) first last made = (length made.answers, in_turn-names names made.answers first last made.in_turn)
 
--- the same of the files of a command
-pub reads-gathered : {S : Type 0} (reads : S → List ℕ → Answer → S → Type 0) (command : Command) (result : Result code.the_data Stop) (first last : S) → GathersAnswered reads command result first last → ReadsAs reads (file_names command) result first last
-reads-gathered reads command result first last made = reads-answered reads (file_names command) task_of (λ files. loaded files (by_place command)) result first last made
+-- a command's answers are those of each command that is the same, and its files were read
+pub gathered-as : {S : Type 0} (reads : S → List ℕ → Answer → S → Type 0) (command other : Command) (result : Result code.the_data Stop) (first last : S) → command ≡ other → GathersAnswered reads command result first last →
+    GathersAnswered reads other result first last × ReadsAs reads (file_names other) result first last
+gathered-as reads command other result first last is made =
+    let answered = subst (λ (k : Command). GathersAnswered reads k result first last) is made in
+    (answered, reads-answered reads (file_names other) task_of (λ files. loaded files (by_place other)) result first last answered)
 
 -- files that give some answers and one more
 hold-split : (files : List NamedFile) (place : ℕ) (answers : List Answer) (answer : Answer) → HoldGiven files place (answers ++ answer ∷ []) →
@@ -98,6 +101,10 @@ answered-first {S} {X} reads name view held result first last stops once = recor
     go (Ok x) stops = refl
     go (Err stopped) stops = counts-at X 1 1 stopped stops
 
+-- what is made of what was loaded: of a value the one that it stands for, and of a stop the same
+abbrev pub IsMade : {X Z A C : Type 0} (view : X → A) (out : Z → C) (make : A → C) → Result X Stop → Result Z Stop → Type 0
+IsMade view out make loaded made = MatchResult loaded (λ x. IsOkAnd made (λ z. out z ≡ make (view x))) (λ stopped. made ≡ Err stopped)
+
 module _ {S X Z A C : Type 0} (reads : S → List ℕ → Answer → S → Type 0) (names : List (List ℕ)) (view : X → A) (out : Z → C) (held : List NamedFile → Loaded A) where
   -- the first load stops
   pub answered-stopped : (more : List (List ℕ)) (next : List NamedFile → A → Loaded C) (stopped : Stop) (first last : S) → LoadsAnswered reads names view held (Err stopped) first last →
@@ -130,7 +137,7 @@ module _ {S X Z A C : Type 0} (reads : S → List ℕ → Answer → S → Type 
   }
 
   -- something is made of what is loaded, if it is
-  pub answered-mapped : (make : A → C) (loaded : Result X Stop) (made : Result Z Stop) (first last : S) → MatchResult loaded (λ x. IsOkAnd made (λ z. out z ≡ make (view x))) (λ stopped. made ≡ Err stopped) →
+  pub answered-mapped : (make : A → C) (loaded : Result X Stop) (made : Result Z Stop) (first last : S) → IsMade view out make loaded made →
       LoadsAnswered reads names view held loaded first last → LoadsAnswered reads names out (λ files. loaded_as make (held files)) made first last
   answered-mapped make (Ok x) (Ok z) first last is one = answered-made make x z first last is one
   answered-mapped make (Ok x) (Err stopped) first last is one = absurd is

@@ -30,64 +30,59 @@ fn grow_command<'a>(seed: &str, pieces: &str) -> Option<Command<'a>>
 }
 
 // The command of that verb on the graph of that file.
-fn on_graph(verb: GraphVerb, graph_file: &str) -> Command<'_>
-    ensures { asked result ≡ OnGraph verb graph_file.now }
+fn on_graph(verb: GraphVerb, graph: &str) -> Command<'_>
+    ensures { asked result ≡ OnGraph verb graph.now }
 {
-    Command::OnGraph { verb, graph_file }
+    Command::OnGraph { verb, graph }
 }
 
 // The command of that verb on the graph of a file and the trees of two.
-fn on_trees<'a>(
-    verb: TreesVerb,
-    graph_file: &'a str,
-    first_file: &'a str,
-    second_file: &'a str,
-) -> Command<'a>
-    ensures { asked result ≡ OnTrees verb graph_file.now first_file.now second_file.now }
+fn on_trees<'a>(verb: TreesVerb, graph: &'a str, first: &'a str, second: &'a str) -> Command<'a>
+    ensures { asked result ≡ OnTrees verb graph.now first.now second.now }
 {
     Command::OnTrees {
         verb,
-        graph_file,
-        first_file,
-        second_file,
+        graph,
+        first,
+        second,
     }
 }
 
 // The command that a word and the name of a file ask for.
-fn graph_command<'a>(word: &str, graph_file: &'a str) -> Option<Command<'a>>
-    ensures { option_map asked result ≡ graph_command word.now graph_file.now }
+fn graph_command<'a>(word: &str, graph: &'a str) -> Option<Command<'a>>
+    ensures { option_map asked result ≡ graph_command word.now graph.now }
 {
     match word {
-        "analyse" => Some(on_graph(GraphVerb::Analyse, graph_file)),
-        "convert" => Some(on_graph(GraphVerb::Convert, graph_file)),
+        "analyse" => Some(on_graph(GraphVerb::Analyse, graph)),
+        "convert" => Some(on_graph(GraphVerb::Convert, graph)),
         "analyse6" => Some(Command::OnSimpleGraph {
             verb: SimpleGraphVerb::Analyse6,
-            graph_file,
+            graph,
         }),
-        "ears" => Some(on_graph(GraphVerb::Ears, graph_file)),
+        "ears" => Some(on_graph(GraphVerb::Ears, graph)),
         _ => None,
     }
 }
 
 // The command that a word, the name of a file, and a second name or the word of an order ask for;
 // or a word and two numbers.
-fn pair_command<'a>(word: &str, graph_file: &'a str, second: &'a str) -> Option<Command<'a>>
-    ensures { option_map asked result ≡ pair_command word.now graph_file.now second.now }
+fn pair_command<'a>(word: &str, graph: &'a str, second: &'a str) -> Option<Command<'a>>
+    ensures { option_map asked result ≡ pair_command word.now graph.now second.now }
 {
     match word {
         "check" => Some(Command::OnTree {
             verb: TreeVerb::Check,
-            graph_file,
-            tree_file: second,
+            graph,
+            tree: second,
         }),
         "checkears" => Some(Command::OnEars {
             verb: EarsVerb::CheckEars,
-            graph_file,
-            ears_file: second,
+            graph,
+            ears: second,
         }),
-        "grow" => grow_command(graph_file, second),
+        "grow" => grow_command(graph, second),
         "decompose" => match NamedOrder::of_word(second) {
-            Some(order) => Some(on_graph(GraphVerb::Decompose { order }, graph_file)),
+            Some(order) => Some(on_graph(GraphVerb::Decompose { order }, graph)),
             None => None,
         },
         _ => None,
@@ -98,26 +93,26 @@ fn pair_command<'a>(word: &str, graph_file: &'a str, second: &'a str) -> Option<
 // further one ask for.
 fn triple_command<'a>(
     word: &str,
-    graph_file: &'a str,
+    graph: &'a str,
     second: &'a str,
     third: &'a str,
 ) -> Option<Command<'a>>
     ensures { option_map asked result ≡
-        triple_command word.now graph_file.now second.now third.now }
+        triple_command word.now graph.now second.now third.now }
 {
     match word {
         "replay" => Some(Command::OnMoves {
             verb: MovesVerb::Replay,
-            graph_file,
-            tree_file: second,
-            moves_file: third,
+            graph,
+            tree: second,
+            moves: third,
         }),
-        "compare" => Some(on_trees(TreesVerb::Compare, graph_file, second, third)),
-        "script" => Some(on_trees(TreesVerb::Script, graph_file, second, third)),
+        "compare" => Some(on_trees(TreesVerb::Compare, graph, second, third)),
+        "script" => Some(on_trees(TreesVerb::Script, graph, second, third)),
         "decompose" if second == "script" => Some(Command::OnPicks {
             verb: PicksVerb::DecomposeBy,
-            graph_file,
-            picks_file: third,
+            graph,
+            picks: third,
         }),
         _ => None,
     }

@@ -4,17 +4,29 @@
 use Rattle.std.specs.Prelude.{ℕ, ◌+◌, ◌-◌, ◌/◌, ◌%◌, ◌==◌, ◌&&◌, nat_le, Bool, if◌then◌else◌, List, [], ◌∷◌, map}
 use Rattle.std.specs.List.{flat_map}
 
--- the byte that writes a digit below 64
+-- how many digits there are: those of six bits
+abbrev pub base : ℕ
+base = 64
+
+-- the byte that writes the digit 0
+abbrev pub zero_byte : ℕ
+zero_byte = 63
+
+-- the byte that writes the greatest digit
+abbrev pub last_byte : ℕ
+last_byte = 126
+
+-- the byte that writes a digit
 abbrev pub byte_of : ℕ → ℕ
-byte_of digit = digit + 63
+byte_of digit = digit + zero_byte
 
 -- the digit that a byte writes
 abbrev pub digit_of : ℕ → ℕ
-digit_of byte = byte - 63
+digit_of byte = byte - zero_byte
 
--- the bytes 63 to 126 write digits
+-- a byte writes a digit
 abbrev pub is_digit : ℕ → Bool
-is_digit byte = nat_le 63 byte && nat_le byte 126
+is_digit byte = nat_le zero_byte byte && nat_le byte last_byte
 
 -- what the six bits of a digit weigh, the most significant first
 abbrev pub weights : List ℕ

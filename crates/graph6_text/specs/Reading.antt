@@ -6,7 +6,7 @@ use Rattle.std.specs.List.{list_all, list_any, starts_with, ends_with}
 use Rattle.graph_core.specs.Common.{Graph, size}
 use Rattle.text_faults.specs.declared.faults.FaultKind.{FaultKind}
 use Rattle.text_faults.specs.declared.faults.FaultKind.TheVariants.{Missing, Extra, Range, Limit, Padding, LongForm}
-use Rattle.graph6_text.specs.Digits.{digit_of, is_digit, bits_of}
+use Rattle.graph6_text.specs.Digits.{base, digit_of, is_digit, bits_of}
 use Rattle.graph6_text.specs.Pairs.{column_pairs, chosen}
 
 -- a text without the header that it may begin with
@@ -28,9 +28,24 @@ body_of text = without_line_end (without_header text)
 abbrev pub IsBare : List ℕ → Type 0
 IsBare text = body_of text ≡ text
 
--- the size is written in the long form: the byte 126 and three digits
+-- the most vertices and the most edges of a graph
+abbrev pub most_vertices : ℕ
+most_vertices = 128
+
+abbrev pub most_edges : ℕ
+most_edges = 2048
+
+-- the most vertices whose number one digit writes
+abbrev pub most_short : ℕ
+most_short = 62
+
+-- the byte that begins a size in the long form
+abbrev pub long_byte : ℕ
+long_byte = 126
+
+-- the size is written in the long form: that byte and three digits
 abbrev pub is_long : List ℕ → Bool
-is_long body = slice_index body 0 == 126
+is_long body = slice_index body 0 == long_byte
 
 -- digit k of the size, counted from 0
 abbrev pub digit_at : List ℕ → ℕ → ℕ
@@ -39,7 +54,7 @@ digit_at body k = digit_of (slice_index body k)
 -- the number of vertices: 18 bits in the long form, the most significant first, and else one digit
 unfoldable pub order_of : List ℕ → ℕ
 order_of body =
-    if is_long body then digit_at body 1 * 4096 + digit_at body 2 * 64 + digit_at body 3 else digit_at body 0
+    if is_long body then digit_at body 1 * (base * base) + digit_at body 2 * base + digit_at body 3 else digit_at body 0
 
 -- the bytes after the size
 unfoldable pub data_of : List ℕ → List ℕ
@@ -72,13 +87,13 @@ faults_of body =
     (list_any (λ byte. byte == 10) body, (2, Extra)) ∷
     (not (list_all is_digit body), (1, Range)) ∷
     (is_long body && nat_lt (length body) 4, (1, Missing)) ∷
-    (is_long body && (slice_index body 1 == 126), (1, Limit)) ∷
-    (is_long body && nat_le (order_of body) 62, (1, LongForm)) ∷
-    (nat_lt 128 (order_of body), (1, Limit)) ∷
+    (is_long body && (slice_index body 1 == long_byte), (1, Limit)) ∷
+    (is_long body && nat_le (order_of body) most_short, (1, LongForm)) ∷
+    (nat_lt most_vertices (order_of body), (1, Limit)) ∷
     (nat_lt (length (data_of body)) (data_len (order_of body)), (1, Missing)) ∷
     (nat_lt (data_len (order_of body)) (length (data_of body)), (1, Extra)) ∷
     (list_any (λ bit. bit) (filling_of body), (1, Padding)) ∷
-    (nat_lt 2048 (size (graph_of body)), (1, Limit)) ∷ []
+    (nat_lt most_edges (size (graph_of body)), (1, Limit)) ∷ []
 
 -- the first fault whose test holds
 abbrev pub first_fault : List (Bool × Fault) → Option Fault

@@ -1,18 +1,19 @@
 -- The graph6 text of a graph (B. D. McKay, "Description of graph6, sparse6 and digraph6
 -- encodings").
 -- Stated by: graph6_text, encoder. Rests on it: list_lines, bench_outcomes, bench_top, theorems.
-use Rattle.std.specs.Prelude.{◌≡◌, ℕ, ◌/◌, ◌%◌, nat_le, if◌then◌else◌, Bool, List, [], ◌∷◌, ◌++◌, map, Ok}
+use Rattle.std.specs.Prelude.{◌≡◌, ℕ, ◌/◌, ◌%◌, nat_le, ◌*◌, if◌then◌else◌, Bool, List, [], ◌∷◌, ◌++◌, map, Ok}
 use Rattle.counting.specs.Common.{none}
 use Rattle.graph_core.specs.Common.{Graph, IsSimple, adjacent}
-use Rattle.graph6_text.specs.Digits.{byte_of, bytes_of}
+use Rattle.graph6_text.specs.Digits.{base, byte_of, bytes_of}
 use Rattle.graph6_text.specs.Pairs.{column_pairs}
-use Rattle.graph6_text.specs.Reading.{outcome_of}
+use Rattle.graph6_text.specs.Reading.{long_byte, most_short, outcome_of}
 
--- the size: one digit, or from 63 vertices on the byte 126 and three digits, the most significant
--- first
+-- the size: one digit, or from 63 vertices on the byte of the long form and three digits, the most
+-- significant first
 unfoldable pub size_of : ℕ → List ℕ
 size_of n =
-    if nat_le n 62 then byte_of n ∷ [] else 126 ∷ byte_of (n / 4096) ∷ byte_of (n / 64 % 64) ∷ byte_of (n % 64) ∷ []
+    if nat_le n most_short then byte_of n ∷ [] else
+    long_byte ∷ byte_of (n / (base * base)) ∷ byte_of (n / base % base) ∷ byte_of (n % base) ∷ []
 
 -- one bit for each pair of vertices: whether an edge joins them
 unfoldable pub adjacency_bits : Graph → List Bool

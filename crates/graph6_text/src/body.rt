@@ -4,7 +4,7 @@ ghost use Rattle.std.specs.List.{list_all};
 ghost use Rattle.graph6_text.specs.Digits.{is_digit};
 ghost use Rattle.graph6_text.specs.Reading.{without_header, without_line_end, body_of, is_long, digit_at, order_of, data_of};
 
-use crate::digits::ZERO;
+use crate::digits::{BASE, ZERO};
 
 /// The header that a text may begin with.
 const HEADER: &[u8] = b">>graph6<<";
@@ -54,7 +54,7 @@ pub fn order(body: &[u8]) -> u32
     ensures { result ≡ order_of body.now }
 {
     if is_long(body) {
-        digit(body, 1) * 4096 + digit(body, 2) * 64 + digit(body, 3)
+        (digit(body, 1) * BASE + digit(body, 2)) * BASE + digit(body, 3)
     } else {
         digit(body, 0)
     }
@@ -65,7 +65,7 @@ fn digit(body: &[u8], k: usize) -> u32
     requires digits { IsTrue (list_all is_digit body.now) }
     requires within { k < length body.now }
     ensures value { result ≡ digit_at body.now k }
-    ensures bound { result < 64 }
+    ensures bound { result < BASE }
 {
     u32::from(body[k] - ZERO)
 }

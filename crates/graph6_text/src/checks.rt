@@ -6,7 +6,7 @@ ghost use Rattle.graph6_text.specs.Checks.{Checks};
 ghost use Rattle.graph6_text.specs.Reading.{is_long, order_of, data_len, pair_count, faults_of};
 
 use crate::body::{LONG, data, is_long, order};
-use crate::digits::is_digit;
+use crate::digits::{BITS, is_digit};
 use text_faults::{FaultKind, TextFault};
 use vset_core::MOST_VERTICES;
 
@@ -92,7 +92,7 @@ fn check_length(body: &[u8]) -> Result<(), TextFault>
     requires digits { IsTrue (list_all is_digit body.now) }
     requires some { 0 < length body.now }
     requires whole { IsTrue (is_long body.now) → 4 ≤ length body.now }
-    requires limit { order_of body.now ≤ 128 }
+    requires limit { order_of body.now ≤ MOST_VERTICES }
     ensures { Checks result (take 2 (drop 7 (faults_of body.now))) }
 {
     let given = data(body).len();
@@ -108,15 +108,15 @@ fn check_length(body: &[u8]) -> Result<(), TextFault>
 
 /// The number of bytes that hold one bit for each pair of `n` vertices.
 fn data_len(n: u32) -> usize
-    requires { n ≤ 128 }
+    requires { n ≤ MOST_VERTICES }
     ensures { result ≡ data_len n }
 {
-    (pair_count(n) + 5) / 6
+    (pair_count(n) + BITS - 1) / BITS
 }
 
-/// The number of pairs of `n` vertices.
+/// The number of pairs of `n` vertices: at most 128 * 127 / 2.
 fn pair_count(n: u32) -> usize
-    requires { n ≤ 128 }
+    requires { n ≤ MOST_VERTICES }
     ensures value { result ≡ pair_count n }
     ensures bound { result ≤ 8128 }
 {

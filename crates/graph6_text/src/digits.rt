@@ -8,14 +8,23 @@ use std::alloc::{AllocError as Memory, Global};
 /// The byte that writes the digit 0.
 pub const ZERO: u8 = 63;
 
-/// What the six bits of a digit weigh, the most significant first.
-const WEIGHTS: [u8; 6] = [32, 16, 8, 4, 2, 1];
+/// The byte that writes the greatest digit.
+const LAST: u8 = 126;
+
+/// How many bits a digit has.
+pub const BITS: usize = 6;
+
+/// How many digits there are.
+pub const BASE: u32 = 64;
+
+/// What the bits of a digit weigh, the most significant first.
+const WEIGHTS: [u8; BITS] = [32, 16, 8, 4, 2, 1];
 
 /// Whether a byte writes a digit.
 pub fn is_digit(byte: u8) -> bool
     ensures { result ≡ is_digit byte }
 {
-    ZERO <= byte && byte <= ZERO + 63
+    ZERO <= byte && byte <= LAST
 }
 
 /// The bits that bytes write, six in each.
@@ -23,7 +32,7 @@ pub fn to_bits(alloc: Global, bytes: &[u8]) -> Result<Vec<bool>, Memory>
     requires { IsTrue (list_all is_digit bytes.now) }
     ensures { IfOk result (λ v. v.items ≡ bits_of bytes.now) }
 {
-    let mut bits = Vec::with_capacity(alloc, bytes.len().saturating_mul(6))?;
+    let mut bits = Vec::with_capacity(alloc, bytes.len().saturating_mul(BITS))?;
     for byte in bytes {
         push_bits(&mut bits, *byte - ZERO)?;
     }
@@ -45,7 +54,7 @@ pub fn to_bytes(alloc: Global, bits: &[bool]) -> Result<Vec<u8>, Memory>
     ensures { IfOk result (λ v. v.items ≡ bytes_of bits.now) }
 {
     let mut bytes = Vec::new(alloc);
-    for six in bits.chunks(6) {
+    for six in bits.chunks(BITS) {
         bytes.push(to_digit(six) + ZERO)?;
     }
     Ok(bytes)
@@ -53,9 +62,9 @@ pub fn to_bytes(alloc: Global, bits: &[bool]) -> Result<Vec<u8>, Memory>
 
 /// The digit that begins with these bits and goes on with zeros.
 fn to_digit(bits: &[bool]) -> u8
-    requires { length bits.now ≤ 6 }
+    requires { length bits.now ≤ BITS }
     ensures value { result ≡ digit_of_bits bits.now }
-    ensures bound { result < 64 }
+    ensures bound { result < BASE }
 {
     let mut digit = 0;
     for (i, bit) in bits.iter().enumerate() {

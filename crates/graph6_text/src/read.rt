@@ -15,6 +15,7 @@ use crate::pairs::to_pairs;
 use graph_core::{Ends, MOST_EDGES, MultiGraph};
 use std::alloc::Global;
 use text_faults::{FaultKind, TextFault};
+use vset_core::MOST_VERTICES;
 
 /// The graph that a graph6 text stands for. The text may begin with the header `>>graph6<<` and
 /// may end with one line end; it holds one graph. The edges come column by column of the
@@ -100,7 +101,7 @@ fn add_chosen(graph: &mut MultiGraph, pair: Ends, bit: bool) -> Result<(), TextF
 /// The graph of `n` vertices whose edges are the pairs with a set bit.
 #[tactic(auto, using(crate::proofs::Choosing::chosen_step, crate::proofs::Choosing::longer_limit))]
 fn with_edges(alloc: Global, n: u32, pairs: &[Ends], bits: &[bool]) -> Result<MultiGraph, TextFault>
-    requires { n ≤ 128 }
+    requires { n ≤ MOST_VERTICES }
     ensures graph { IfOk result
         (λ g. g ≡ record { order = n; ends = chosen (map pair_of pairs.now) bits.now }) }
     ensures within { OnOk result

@@ -6,7 +6,7 @@ ghost use Rattle.graph6_text.specs.Writing.{size_of, adjacency_bits, graph6_of, 
 
 use crate::body::LONG;
 use crate::checks::MOST_SHORT;
-use crate::digits::{ZERO, to_bytes};
+use crate::digits::{BASE, ZERO, to_bytes};
 use crate::pairs::to_pairs;
 use graph_core::MultiGraph;
 use std::alloc::{AllocError as Memory, Global};
@@ -47,15 +47,15 @@ fn to_size(alloc: Global, n: u32) -> Result<Vec<u8>, Memory>
     if n <= MOST_SHORT {
         return Vec::from_slice(alloc, &[to_byte(n)]);
     }
-    let high = to_byte(n / 4096);
-    let middle = to_byte(n / 64 % 64);
-    let low = to_byte(n % 64);
+    let high = to_byte(n / (BASE * BASE));
+    let middle = to_byte(n / BASE % BASE);
+    let low = to_byte(n % BASE);
     Vec::from_slice(alloc, &[LONG, high, middle, low])
 }
 
 /// The byte that writes a digit.
 fn to_byte(digit: u32) -> u8
-    requires { digit < 64 }
+    requires { digit < BASE }
     ensures { result ≡ byte_of digit }
 {
     digit as u8 + ZERO

@@ -1,22 +1,16 @@
 -- What is left of a source after bytes were read: what was left before is these bytes and what is
 -- left now. If a source makes nothing known, some list serves.
-use Rattle.std.proofs.Common.{◌≡◌, inl, ℕ, suc, ◌≤◌, List, [], ◌++◌, length, refl, sym, subst, ◌∙◌, ap, arith, append_assoc}
+use Rattle.std.proofs.Common.{◌≡◌, ℕ, List, [], ◌++◌, refl, sym, subst, ◌∙◌, ap, append_assoc}
 use Rattle.std.proofs.lemmas.List.{append-nil}
 use Rattle.std.specs.declared.option.Option.{Option}
 use Rattle.std.specs.declared.option.Option.TheVariants.{Some, None}
-use Rattle.outside.specs.Sink.{appended}
 use Rattle.outside.specs.Source.{prepended, IsEnd}
-use Rattle.outside.proofs.Pieces.{appended-nil, appended-appended}
 use Rattle.text_faults.specs.declared.faults.FaultKind.{FaultKind}
 use Rattle.list_reader.specs.declared.ending.Ending.{Ending}
-use Rattle.list_reader.specs.declared.ending.Ending.TheVariants.{Memory}
 use Rattle.list_reader.specs.declared.place.Place.{Place}
-use Rattle.list_reader.specs.Lines.{lines_of, HasNoFeed, IsClosed}
-use Rattle.list_reader.specs.Lists.{AllTold, BeginningTold}
-use Rattle.list_reader.specs.Places.{first_place, place_behind}
-use Rattle.list_reader.specs.Told.{most_line}
-use Rattle.list_reader.specs.Endings.{Gives, Appended, ToldThrough, StopsWith, IsLeft, TellsList, ReadsTold, Wrote, WroteUpTo}
-use Rattle.list_reader.specs.Streams.{Steps, Ends, IsStream, GivesAfter}
+use Rattle.list_reader.specs.Lines.{lines_of}
+use Rattle.list_reader.specs.Places.{first_place}
+use Rattle.list_reader.specs.Endings.{Gives, Appended, IsLeft, TellsList}
 
 pub prepended-nil : (left : Option (List ℕ)) → prepended [] left ≡ left
 prepended-nil None = refl

@@ -2,9 +2,8 @@
 -- after them; so what the next piece gives, after what is held, is what the lines of the list
 -- give there.
 use Rattle.std.proofs.Common.{◌≡◌, inl, ℕ, suc, ◌≤◌, List, [], ◌++◌, length, refl, sym, subst, ◌∙◌, ap, arith, append_assoc}
-use Rattle.std.proofs.lemmas.List.{append-nil}
 use Rattle.std.specs.declared.option.Option.{Option}
-use Rattle.std.specs.declared.option.Option.TheVariants.{Some, None}
+use Rattle.std.specs.declared.option.Option.TheVariants.{Some}
 use Rattle.outside.specs.Sink.{appended}
 use Rattle.outside.specs.Source.{prepended, IsEnd}
 use Rattle.outside.proofs.Pieces.{appended-nil, appended-appended}
@@ -16,12 +15,12 @@ use Rattle.list_reader.specs.Lines.{lines_of, HasNoFeed, IsClosed}
 use Rattle.list_reader.specs.Lists.{AllTold, BeginningTold}
 use Rattle.list_reader.specs.Places.{first_place, place_behind}
 use Rattle.list_reader.specs.Told.{most_line}
-use Rattle.list_reader.specs.Endings.{Gives, Appended, ToldThrough, StopsWith, IsLeft, TellsList, ReadsTold, Wrote, WroteUpTo}
-use Rattle.list_reader.specs.Streams.{Steps, Ends, IsStream, GivesAfter}
+use Rattle.list_reader.specs.Endings.{Gives, Appended, ToldThrough, StopsWith, TellsList, ReadsTold, Wrote, WroteUpTo}
+use Rattle.list_reader.specs.Streams.{Steps}
 use Rattle.list_reader.proofs.LineCuts.{lines_of-nil, lines_of-closed, IsClosed-append}
 use Rattle.list_reader.proofs.Joins.{place_behind-append, AllTold-append, BeginningTold-none, Gives-behind}
-use Rattle.list_reader.proofs.Stages.{steps_more, wrote_otherwise, wrote_appended}
-use Rattle.list_reader.proofs.LeftBytes.{prepended-nil, ListIs, list_is, list_ends, piece_read}
+use Rattle.list_reader.proofs.Stages.{steps_more, wrote_appended}
+use Rattle.list_reader.proofs.LeftBytes.{prepended-nil, list_is, list_ends, piece_read}
 
 -- the lines up to that place were answered, these bytes are held after them, and each step was
 -- answered as it was read
@@ -60,218 +59,171 @@ so_far_none tells left reads written writes place held source sink start empty =
       steps = refl;
     })
 
--- a piece was read, and the lines that it made whole were answered
-pub so_far_piece :
-    {S K : Type 0} (tells : Place → List ℕ → List ℕ → Type 0) (left : S → Option (List ℕ)) (reads : S → Option (List ℕ) → S → Type 0)
-    (written : K → Option (List ℕ)) (writes : K → List ℕ → ℕ → K → Type 0)
-    (place more_place : Place) (held piece more_held : List ℕ) (source : S) (sink : K) (now_source : S) (now_sink : K) (next_source : S)
-    (next_sink : K) →
-    SoFar tells left reads written writes place held source sink now_source now_sink →
-    reads now_source (Some piece) next_source → left now_source ≡ prepended piece (left next_source) →
-    Wrote written writes (ToldThrough tells place (held ++ piece) more_held more_place) now_sink next_sink →
-    HasNoFeed more_held → length more_held ≤ most_line →
-    SoFar tells left reads written writes more_place more_held source sink next_source next_sink
-so_far_piece tells left reads written writes place more_place held piece more_held source sink now_source now_sink next_source next_sink so_far reading taken more no_feed short =
-    let whole = so_far.whole in
-    let through = more.right in
-    let all : lines_of (whole ++ through.whole) ≡ lines_of whole ++ lines_of through.whole =
-    lines_of-closed whole through.whole so_far.closed in
-    let joined : whole ++ (held ++ piece) ≡ (whole ++ through.whole) ++ more_held =
-    ap (λ (t : List ℕ). whole ++ t) through.cut ∙ sym (append_assoc whole through.whole more_held) in
-    let closed = IsClosed-append whole through.whole so_far.closed through.closed in
-    let more_told =
-    subst (λ (p : Place). AllTold tells p (lines_of through.whole) more.output) so_far.at through.told in
-    let told =
-    subst (λ (ls : List (List ℕ)). AllTold tells first_place ls (so_far.output ++ more.output)) (sym all)
-    (AllTold-append tells first_place (lines_of whole) (lines_of through.whole) so_far.output more.output so_far.told more_told) in
-    record {
-      whole = whole ++ through.whole;
-      output = so_far.output ++ more.output;
-      count = suc so_far.count;
-      leaves =
-          piece_read whole held piece (left source) (left now_source) (left next_source) so_far.leaves taken
-          ∙ ap (λ (t : List ℕ). prepended t (left next_source)) joined;
-      closed = closed;
-      told = told;
-      at =
-          through.place
-          ∙ ap (λ (p : Place). place_behind p (lines_of through.whole)) so_far.at
-          ∙ sym (place_behind-append first_place (lines_of whole) (lines_of through.whole))
-          ∙ ap (λ (ls : List (List ℕ)). place_behind first_place ls) (sym all);
-      wrote =
-          more.now
-          ∙ ap (λ (o : Option (List ℕ)). appended o more.output) so_far.wrote
-          ∙ appended-appended (written sink) so_far.output more.output;
-      no_feed = no_feed;
-      short = short;
-      steps =
-          steps_more tells reads writes so_far.count _ _ _ so_far.steps
-          (record {
-            piece = piece;
-            more = more.output;
-            reading = reading;
-            read = sym joined ∙ sym (append_assoc whole held piece);
-            writing = more.whole;
-            output = refl;
-            told = record {
-              whole = whole ++ through.whole;
-              part = more_held;
-              cut = refl;
-              closed = closed;
-              no_feed = no_feed;
-              short = short;
-              told = told;
-            };
-          });
-    }
-
--- what the lines after those answered give is what the list gives
-pub gives_behind :
-    {S K : Type 0} (tells : Place → List ℕ → List ℕ → Type 0) (bad : Place → List ℕ → FaultKind → Type 0) (lacks : ℕ → Option FaultKind)
-    (left : S → Option (List ℕ)) (reads : S → Option (List ℕ) → S → Type 0)
-    (written : K → Option (List ℕ)) (writes : K → List ℕ → ℕ → K → Type 0)
-    (place : Place) (held : List ℕ) (source : S) (sink : K) (now_source : S) (now_sink : K) (rest output : List ℕ) (ending : Ending) →
-    (so_far : SoFar tells left reads written writes place held source sink now_source now_sink) →
-    Gives tells bad lacks place (lines_of rest) ending output →
-    Gives tells bad lacks first_place (lines_of (so_far.whole ++ rest)) ending (so_far.output ++ output)
-gives_behind tells bad lacks left reads written writes place held source sink now_source now_sink rest output ending so_far gives =
-    subst (λ (ls : List (List ℕ)). Gives tells bad lacks first_place ls ending (so_far.output ++ output))
-    (sym (lines_of-closed so_far.whole rest so_far.closed))
-    (Gives-behind tells bad lacks first_place (lines_of so_far.whole) (lines_of rest) so_far.output output ending so_far.told
-    (subst (λ (p : Place). Gives tells bad lacks p (lines_of rest) ending output) so_far.at gives))
-
 written_behind :
     (before now next : Option (List ℕ)) (first second : List ℕ) →
     now ≡ appended before first → next ≡ appended now second → next ≡ appended before (first ++ second)
 written_behind before now next first second one two =
     two ∙ ap (λ (o : Option (List ℕ)). appended o second) one ∙ appended-appended before first second
 
--- the answers stopped in a piece
-pub so_far_stops :
-    {S K : Type 0} (tells : Place → List ℕ → List ℕ → Type 0) (bad : Place → List ℕ → FaultKind → Type 0) (lacks : ℕ → Option FaultKind)
-    (left : S → Option (List ℕ)) (reads : S → Option (List ℕ) → S → Type 0)
-    (written : K → Option (List ℕ)) (writes : K → List ℕ → ℕ → K → Type 0)
-    (place : Place) (held piece : List ℕ) (ending : Ending) (source : S) (sink : K) (now_source : S) (now_sink : K) (last_source : S)
-    (last_sink : K) →
-    SoFar tells left reads written writes place held source sink now_source now_sink →
-    left now_source ≡ prepended piece (left last_source) →
-    WroteUpTo written writes (StopsWith tells bad lacks place (held ++ piece)) ending now_sink last_sink →
-    TellsList tells bad lacks ending (left source) (written sink) (written last_sink)
-so_far_stops tells bad lacks left reads written writes place held piece ending source sink now_source now_sink last_source last_sink so_far taken wrote =
-    let whole = so_far.whole in
-    let list = list_is (left source) (left last_source) (whole ++ (held ++ piece))
-    (piece_read whole held piece (left source) (left now_source) (left last_source) so_far.leaves taken) in
-    let stops = wrote_appended written writes (StopsWith tells bad lacks place (held ++ piece))
-    (λ rest. BeginningTold-none tells place (lines_of ((held ++ piece) ++ rest))) ending now_sink last_sink wrote in
-    let joined : whole ++ ((held ++ piece) ++ list.rest) ≡ (whole ++ (held ++ piece)) ++ list.rest =
-    sym (append_assoc whole (held ++ piece) list.rest) in
-    record {
-      bytes = (whole ++ (held ++ piece)) ++ list.rest;
-      is_left = list.is_left;
-      gives = record {
-        output = so_far.output ++ stops.output;
-        right =
-            subst (λ (t : List ℕ). Gives tells bad lacks first_place (lines_of t) ending (so_far.output ++ stops.output)) joined
-            (gives_behind tells bad lacks left reads written writes place held source sink now_source now_sink
-            ((held ++ piece) ++ list.rest) stops.output ending so_far (stops.right list.rest));
-        written = written_behind (written sink) (written now_sink) (written last_sink) so_far.output stops.output so_far.wrote stops.written;
+module _ {S K : Type 0} {tells : Place → List ℕ → List ℕ → Type 0} {left : S → Option (List ℕ)} {reads : S → Option (List ℕ) → S → Type 0} {written : K → Option (List ℕ)} {writes : K → List ℕ → ℕ → K → Type 0} {place : Place} {held : List ℕ} {source : S} {sink : K} {now_source : S} {now_sink : K} (so_far : SoFar tells left reads written writes place held source sink now_source now_sink) where
+  -- a piece was read, and the lines that it made whole were answered
+  pub so_far_piece :
+      (more_place : Place) (piece more_held : List ℕ) (next_source : S) (next_sink : K) →
+      reads now_source (Some piece) next_source → left now_source ≡ prepended piece (left next_source) →
+      Wrote written writes (ToldThrough tells place (held ++ piece) more_held more_place) now_sink next_sink →
+      HasNoFeed more_held → length more_held ≤ most_line →
+      SoFar tells left reads written writes more_place more_held source sink next_source next_sink
+  so_far_piece more_place piece more_held next_source next_sink reading taken more no_feed short =
+      let whole = so_far.whole in
+      let through = more.right in
+      let all : lines_of (whole ++ through.whole) ≡ lines_of whole ++ lines_of through.whole =
+      lines_of-closed whole through.whole so_far.closed in
+      let joined : whole ++ (held ++ piece) ≡ (whole ++ through.whole) ++ more_held =
+      ap (λ (t : List ℕ). whole ++ t) through.cut ∙ sym (append_assoc whole through.whole more_held) in
+      let closed = IsClosed-append whole through.whole so_far.closed through.closed in
+      let more_told =
+      subst (λ (p : Place). AllTold tells p (lines_of through.whole) more.output) so_far.at through.told in
+      let told =
+      subst (λ (ls : List (List ℕ)). AllTold tells first_place ls (so_far.output ++ more.output)) (sym all)
+      (AllTold-append tells first_place (lines_of whole) (lines_of through.whole) so_far.output more.output so_far.told more_told) in
+      record {
+        whole = whole ++ through.whole;
+        output = so_far.output ++ more.output;
+        count = suc so_far.count;
+        leaves =
+            piece_read whole held piece (left source) (left now_source) (left next_source) so_far.leaves taken
+            ∙ ap (λ (t : List ℕ). prepended t (left next_source)) joined;
+        closed = closed;
+        told = told;
+        at =
+            through.place
+            ∙ ap (λ (p : Place). place_behind p (lines_of through.whole)) so_far.at
+            ∙ sym (place_behind-append first_place (lines_of whole) (lines_of through.whole))
+            ∙ ap (λ (ls : List (List ℕ)). place_behind first_place ls) (sym all);
+        wrote =
+            more.now
+            ∙ ap (λ (o : Option (List ℕ)). appended o more.output) so_far.wrote
+            ∙ appended-appended (written sink) so_far.output more.output;
+        no_feed = no_feed;
+        short = short;
+        steps =
+            steps_more tells reads writes so_far.count _ _ _ so_far.steps
+            (record {
+              piece = piece;
+              more = more.output;
+              reading = reading;
+              read = sym joined ∙ sym (append_assoc whole held piece);
+              writing = more.whole;
+              output = refl;
+              told = record {
+                whole = whole ++ through.whole;
+                part = more_held;
+                cut = refl;
+                closed = closed;
+                no_feed = no_feed;
+                short = short;
+                told = told;
+              };
+            });
+      }
+
+  -- the answers stopped before a piece was read
+  so_far_begins : (rest : List ℕ) → BeginningTold tells first_place (lines_of ((so_far.whole ++ held) ++ rest)) so_far.output
+  so_far_begins rest = record {
+    before = lines_of so_far.whole;
+    behind = lines_of (held ++ rest);
+    cut = ap lines_of (append_assoc so_far.whole held rest) ∙ lines_of-closed so_far.whole (held ++ rest) so_far.closed;
+    told = so_far.told;
+  }
+
+  -- a read failed: each whole line of what was read is answered
+  pub so_far_torn : (last_source : S) → left last_source ≡ left now_source → Appended (ReadsTold tells (left source) (left last_source)) (written sink) (written now_sink)
+  so_far_torn last_source same = record {
+    output = so_far.output;
+    right = record {
+      read = so_far.whole ++ held;
+      left = so_far.leaves ∙ ap (prepended (so_far.whole ++ held)) (sym same);
+      told = record {
+        whole = so_far.whole;
+        part = held;
+        cut = refl;
+        closed = so_far.closed;
+        no_feed = so_far.no_feed;
+        short = so_far.short;
+        told = so_far.told;
       };
-    }
-
--- the list ended
-pub so_far_end :
-    {S K : Type 0} (tells : Place → List ℕ → List ℕ → Type 0) (bad : Place → List ℕ → FaultKind → Type 0) (lacks : ℕ → Option FaultKind)
-    (left : S → Option (List ℕ)) (reads : S → Option (List ℕ) → S → Type 0)
-    (written : K → Option (List ℕ)) (writes : K → List ℕ → ℕ → K → Type 0)
-    (place : Place) (held : List ℕ) (ending : Ending) (source : S) (sink : K) (now_source : S) (now_sink : K) (last_source : S)
-    (last_sink : K) →
-    SoFar tells left reads written writes place held source sink now_source now_sink →
-    left now_source ≡ prepended [] (left last_source) → IsEnd (left last_source) →
-    WroteUpTo written writes (Gives tells bad lacks place (lines_of held)) ending now_sink last_sink →
-    TellsList tells bad lacks ending (left source) (written sink) (written last_sink)
-so_far_end tells bad lacks left reads written writes place held ending source sink now_source now_sink last_source last_sink so_far taken end wrote =
-    let same : left now_source ≡ left last_source = taken ∙ prepended-nil (left last_source) in
-    let gives = wrote_appended written writes (Gives tells bad lacks place (lines_of held)) (BeginningTold-none tells place (lines_of held))
-    ending now_sink last_sink wrote in
-    record {
-      bytes = so_far.whole ++ held;
-      is_left =
-          list_ends (left source) (left last_source) (so_far.whole ++ held)
-          (so_far.leaves ∙ ap (prepended (so_far.whole ++ held)) same) end;
-      gives = record {
-        output = so_far.output ++ gives.output;
-        right = gives_behind tells bad lacks left reads written writes place held source sink now_source now_sink held gives.output ending so_far gives.right;
-        written = written_behind (written sink) (written now_sink) (written last_sink) so_far.output gives.output so_far.wrote gives.written;
-      };
-    }
-
--- the answers stopped before a piece was read
-so_far_begins :
-    {S K : Type 0} (tells : Place → List ℕ → List ℕ → Type 0) (left : S → Option (List ℕ)) (reads : S → Option (List ℕ) → S → Type 0)
-    (written : K → Option (List ℕ)) (writes : K → List ℕ → ℕ → K → Type 0)
-    (place : Place) (held rest : List ℕ) (source : S) (sink : K) (now_source : S) (now_sink : K) →
-    (so_far : SoFar tells left reads written writes place held source sink now_source now_sink) →
-    BeginningTold tells first_place (lines_of ((so_far.whole ++ held) ++ rest)) so_far.output
-so_far_begins tells left reads written writes place held rest source sink now_source now_sink so_far = record {
-  before = lines_of so_far.whole;
-  behind = lines_of (held ++ rest);
-  cut =
-      ap lines_of (append_assoc so_far.whole held rest)
-      ∙ lines_of-closed so_far.whole (held ++ rest) so_far.closed;
-  told = so_far.told;
-}
-
--- the answers stopped there, with an ending that asks for no more than a beginning
-pub so_far_begun :
-    {S K : Type 0} (tells : Place → List ℕ → List ℕ → Type 0) (bad : Place → List ℕ → FaultKind → Type 0) (lacks : ℕ → Option FaultKind)
-    (left : S → Option (List ℕ)) (reads : S → Option (List ℕ) → S → Type 0)
-    (written : K → Option (List ℕ)) (writes : K → List ℕ → ℕ → K → Type 0)
-    (ending : Ending) →
-    ((lines : List (List ℕ)) (output : List ℕ) → BeginningTold tells first_place lines output
-    → Gives tells bad lacks first_place lines ending output) →
-    (place : Place) (held : List ℕ) (source : S) (sink : K) (now_source : S) (now_sink : K) →
-    SoFar tells left reads written writes place held source sink now_source now_sink →
-    TellsList tells bad lacks ending (left source) (written sink) (written now_sink)
-so_far_begun tells bad lacks left reads written writes ending enough place held source sink now_source now_sink so_far =
-    let list = list_is (left source) (left now_source) (so_far.whole ++ held) so_far.leaves in
-    let bytes = (so_far.whole ++ held) ++ list.rest in
-    record {
-      bytes = bytes;
-      is_left = list.is_left;
-      gives = record {
-        output = so_far.output;
-        right =
-            enough (lines_of bytes) so_far.output
-            (so_far_begins tells left reads written writes place held list.rest source sink now_source now_sink so_far);
-        written = so_far.wrote;
-      };
-    }
-
--- a read failed: each whole line of what was read is answered
-pub so_far_torn :
-    {S K : Type 0} (tells : Place → List ℕ → List ℕ → Type 0) (left : S → Option (List ℕ)) (reads : S → Option (List ℕ) → S → Type 0)
-    (written : K → Option (List ℕ)) (writes : K → List ℕ → ℕ → K → Type 0)
-    (place : Place) (held : List ℕ) (source : S) (sink : K) (now_source : S) (now_sink : K) (last_source : S) →
-    SoFar tells left reads written writes place held source sink now_source now_sink →
-    left last_source ≡ left now_source →
-    Appended (ReadsTold tells (left source) (left last_source)) (written sink) (written now_sink)
-so_far_torn tells left reads written writes place held source sink now_source now_sink last_source so_far same = record {
-  output = so_far.output;
-  right = record {
-    read = so_far.whole ++ held;
-    left = so_far.leaves ∙ ap (prepended (so_far.whole ++ held)) (sym same);
-    told = record {
-      whole = so_far.whole;
-      part = held;
-      cut = refl;
-      closed = so_far.closed;
-      no_feed = so_far.no_feed;
-      short = so_far.short;
-      told = so_far.told;
     };
-  };
-  written = so_far.wrote;
-}
+    written = so_far.wrote;
+  }
+
+  module _ (bad : Place → List ℕ → FaultKind → Type 0) (lacks : ℕ → Option FaultKind) (ending : Ending) where
+    -- what the lines after those answered give is what the list gives
+    pub gives_behind : (rest output : List ℕ) → Gives tells bad lacks place (lines_of rest) ending output → Gives tells bad lacks first_place (lines_of (so_far.whole ++ rest)) ending (so_far.output ++ output)
+    gives_behind rest output gives =
+        subst (λ (ls : List (List ℕ)). Gives tells bad lacks first_place ls ending (so_far.output ++ output))
+        (sym (lines_of-closed so_far.whole rest so_far.closed))
+        (Gives-behind tells bad lacks first_place (lines_of so_far.whole) (lines_of rest) so_far.output output ending so_far.told
+        (subst (λ (p : Place). Gives tells bad lacks p (lines_of rest) ending output) so_far.at gives))
+
+    -- the answers stopped in a piece
+    pub so_far_stops : (piece : List ℕ) (last_source : S) (last_sink : K) → left now_source ≡ prepended piece (left last_source) →
+        WroteUpTo written writes (StopsWith tells bad lacks place (held ++ piece)) ending now_sink last_sink →
+        TellsList tells bad lacks ending (left source) (written sink) (written last_sink)
+    so_far_stops piece last_source last_sink taken wrote =
+        let whole = so_far.whole in
+        let list = list_is (left source) (left last_source) (whole ++ (held ++ piece))
+        (piece_read whole held piece (left source) (left now_source) (left last_source) so_far.leaves taken) in
+        let stops = wrote_appended written writes (StopsWith tells bad lacks place (held ++ piece))
+        (λ rest. BeginningTold-none tells place (lines_of ((held ++ piece) ++ rest))) ending now_sink last_sink wrote in
+        let joined : whole ++ ((held ++ piece) ++ list.rest) ≡ (whole ++ (held ++ piece)) ++ list.rest =
+        sym (append_assoc whole (held ++ piece) list.rest) in
+        record {
+          bytes = (whole ++ (held ++ piece)) ++ list.rest;
+          is_left = list.is_left;
+          gives = record {
+            output = so_far.output ++ stops.output;
+            right =
+                subst (λ (t : List ℕ). Gives tells bad lacks first_place (lines_of t) ending (so_far.output ++ stops.output)) joined
+                (gives_behind ((held ++ piece) ++ list.rest) stops.output (stops.right list.rest));
+            written = written_behind (written sink) (written now_sink) (written last_sink) so_far.output stops.output so_far.wrote stops.written;
+          };
+        }
+
+    -- the list ended
+    pub so_far_end : (last_source : S) (last_sink : K) → left now_source ≡ prepended [] (left last_source) → IsEnd (left last_source) →
+        WroteUpTo written writes (Gives tells bad lacks place (lines_of held)) ending now_sink last_sink →
+        TellsList tells bad lacks ending (left source) (written sink) (written last_sink)
+    so_far_end last_source last_sink taken end wrote =
+        let same : left now_source ≡ left last_source = taken ∙ prepended-nil (left last_source) in
+        let gives = wrote_appended written writes (Gives tells bad lacks place (lines_of held)) (BeginningTold-none tells place (lines_of held))
+        ending now_sink last_sink wrote in
+        record {
+          bytes = so_far.whole ++ held;
+          is_left =
+              list_ends (left source) (left last_source) (so_far.whole ++ held)
+              (so_far.leaves ∙ ap (prepended (so_far.whole ++ held)) same) end;
+          gives = record {
+            output = so_far.output ++ gives.output;
+            right = gives_behind held gives.output gives.right;
+            written = written_behind (written sink) (written now_sink) (written last_sink) so_far.output gives.output so_far.wrote gives.written;
+          };
+        }
+
+    -- the answers stopped there, with an ending that asks for no more than a beginning
+    pub so_far_begun : ((lines : List (List ℕ)) (output : List ℕ) → BeginningTold tells first_place lines output → Gives tells bad lacks first_place lines ending output) →
+        TellsList tells bad lacks ending (left source) (written sink) (written now_sink)
+    so_far_begun enough =
+        let list = list_is (left source) (left now_source) (so_far.whole ++ held) so_far.leaves in
+        let bytes = (so_far.whole ++ held) ++ list.rest in
+        record {
+          bytes = bytes;
+          is_left = list.is_left;
+          gives = record {
+            output = so_far.output;
+            right = enough (lines_of bytes) so_far.output (so_far_begins list.rest);
+            written = so_far.wrote;
+          };
+        }
 
 -- nothing was read or written
 pub untouched :

@@ -17,7 +17,8 @@ use Rattle.line_text.specs.Common.{AreWords, is_word, unwords, written}
 use Rattle.line_text.proofs.Decimals.{is_word-decimal, words-decimal}
 use Rattle.line_text.proofs.WrittenLines.{spaced, unwords-spaced}
 use Rattle.report_text.specs.Comments.{HasFewLeaves, IsCommented}
-use Rattle.report_text.specs.Derivations.{adjacent_line, adjacent_lines, block_lines, derivation_text, kind_word, leaf_line, leaf_lines, leaf_text, name_at, tally_line}
+use Rattle.report_text.specs.Derivations.{adjacent_line, adjacent_lines, block_lines, derivation_text, leaf_line, leaf_lines, leaf_text, name_at, tally_line}
+use Rattle.report_text.specs.Words.{kind_word}
 use Rattle.report_text.specs.Reports.{list_line, name_line, name_lines, numbers_text, with_names_text}
 use Rattle.tree_core.specs.Common.{leaf_at, is_brick, kind_at, tally_of}
 use Rattle.tree_core.specs.declared.tallies.LeafKind.{LeafKind}

@@ -8,15 +8,10 @@ use Rattle.std.specs.Fmt.{decimal}
 use Rattle.counting.specs.Common.{last_of}
 use Rattle.graph_core.specs.Common.{Graph, size, first_end, second_end, block, quotient, remembered}
 use Rattle.report_text.specs.Reports.{list_line, numbers_text}
+use Rattle.report_text.specs.Words.{kind_word, tally_end}
 use Rattle.tree_core.specs.Common.{leaf_at, kind_at, tally_of}
 use Rattle.tree_core.specs.declared.tallies.LeafKind.{LeafKind}
-use Rattle.tree_core.specs.declared.tallies.LeafKind.TheVariants.{Brick, Brace}
 use Rattle.tree_core.specs.declared.tallies.Tally.{Tally}
-
--- the word of a kind
-abbrev pub kind_word : LeafKind → List ℕ
-kind_word Brick = codes "brick"
-kind_word Brace = codes "brace"
 
 -- the line of a leaf with its number
 abbrev pub leaf_line : ℕ → LeafKind → List ℕ
@@ -54,7 +49,7 @@ leaf_lines g ps kinds (suc k) = leaf_lines g ps kinds k ++ leaf_text g (suc k) (
 
 -- the line of the counts
 abbrev pub tally_line : Tally → List ℕ
-tally_line tally = codes "c leaves " ++ decimal tally.leaves ++ codes " bricks " ++ decimal tally.bricks ++ codes " braces " ++ decimal tally.braces ++ codes "\n"
+tally_line tally = codes "c" ++ tally_end tally
 
 -- a text, and after it the lines of the leaves and of their counts
 unfoldable pub derivation_text : List ℕ → Graph → List (List (List ℕ)) → List LeafKind → List ℕ

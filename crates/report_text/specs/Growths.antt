@@ -4,12 +4,12 @@
 -- Stated by: report_text. Rests on it: bench_outcomes, bench_reports, bench_top, theorems.
 use Rattle.std.specs.Prelude.{ℕ, List, ◌++◌, codes}
 use Rattle.std.specs.Fmt.{decimal}
+use Rattle.report_text.specs.Words.{tally_end}
 use Rattle.tree_core.specs.declared.tallies.Tally.{Tally}
 
 -- the line of the leaves of the decomposition by the order of this name
 abbrev pub order_line : (order : List ℕ) → Tally → List ℕ
-order_line order tally =
-    codes "c " ++ order ++ codes " leaves " ++ decimal tally.leaves ++ codes " bricks " ++ decimal tally.bricks ++ codes " braces " ++ decimal tally.braces ++ codes "\n"
+order_line order tally = codes "c " ++ order ++ tally_end tally
 
 -- the line of the number of pairs
 abbrev pub pairs_line : ℕ → List ℕ

@@ -3,6 +3,7 @@
 use Rattle.std.specs.Prelude.{ℕ, List, [], ◌++◌, Option, Some, None, codes}
 use Rattle.std.specs.Fmt.{decimal}
 use Rattle.report_text.specs.Reports.{numbers_text}
+use Rattle.report_text.specs.Words.{tally_end}
 use Rattle.tree_core.specs.declared.tallies.Tally.{Tally}
 use Rattle.report_text.specs.declared.judgements.Shown.{Shown}
 use Rattle.report_text.specs.declared.judgements.Shown.TheVariants as shown
@@ -19,7 +20,7 @@ shown_text (shown.Cut shore) = codes " cut" ++ numbers_text shore
 
 -- the line on a tree that is accepted
 abbrev pub accepted_line : Tally → List ℕ
-accepted_line tally = codes "accepted leaves " ++ decimal tally.leaves ++ codes " bricks " ++ decimal tally.bricks ++ codes " braces " ++ decimal tally.braces ++ codes "\n"
+accepted_line tally = codes "accepted" ++ tally_end tally
 
 -- words and a number
 unfoldable pub numbered : List ℕ → ℕ → List ℕ

@@ -7,10 +7,7 @@ use Rattle.graph_core.specs.declared.verdict.Reason.{Reason}
 use Rattle.graph_core.specs.declared.verdict.Reason.TheVariants.{Small, Parted, Unmatched, Unallowed}
 use Rattle.graph_core.specs.declared.verdict.Verdict.{Verdict}
 use Rattle.graph_core.specs.declared.verdict.Verdict.TheVariants.{Covered, NotCovered}
-
--- `yes` or `no`
-abbrev pub yes_or_no : Bool → List ℕ
-yes_or_no holds = if holds then codes "yes" else codes "no"
+use Rattle.report_text.specs.Words.{yes_or_no}
 
 -- the line with the number of vertices and of edges
 abbrev pub graph_line : ℕ → ℕ → List ℕ

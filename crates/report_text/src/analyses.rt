@@ -1,11 +1,12 @@
 //! The report of `analyse`.
 ghost use Rattle.std.specs.Prelude.{◌≡◌, ◌++◌, [], codes, OnOk, IfOk, string_bytes};
 ghost use Rattle.report_text.specs.Analyses.{analysis_text, numbers_told, verdict_lines, with_structure, with_three_sets};
-ghost use Rattle.report_text.specs.Reports.{bipartite_line, count_line, graph_line, yes_or_no};
+ghost use Rattle.report_text.specs.Reports.{bipartite_line, count_line, graph_line};
 
 use crate::numbers::{push_numbers_line, push_set_line};
 use crate::structures::{Structure, push_structure};
 use crate::verdicts::push_verdict;
+use crate::words::yes_or_no;
 use graph_core::{Numbers, Verdict};
 use std::alloc::{AllocError as Memory, Global};
 use vset_core::VSet;
@@ -39,13 +40,6 @@ pub struct AnalysisLines {
     pub structure: Option<Structure>,
 }
 
-// `yes` or `no`
-fn yes_or_no_text(holds: bool) -> &'static str
-    ensures { result.now ≡ yes_or_no holds }
-{
-    if holds { "yes" } else { "no" }
-}
-
 fn push_graph(text: &mut String, order: u32, size: u32) -> Result<(), Memory>
     ensures { OnOk result (string_bytes text.new ≡ string_bytes text.old ++ graph_line order size) }
 {
@@ -63,7 +57,7 @@ fn push_count(text: &mut String, word: &str, count: u32) -> Result<(), Memory>
 fn push_bipartite(text: &mut String, holds: bool) -> Result<(), Memory>
     ensures { OnOk result (string_bytes text.new ≡ string_bytes text.old ++ bipartite_line holds) }
 {
-    let answer = yes_or_no_text(holds);
+    let answer = yes_or_no(holds);
     write!(text, "bipartite {answer}\n")
 }
 

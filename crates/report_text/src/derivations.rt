@@ -4,25 +4,16 @@ ghost use Rattle.counting.specs.Common.{Within};
 ghost use Rattle.contraction.specs.Contracted.{contraction};
 ghost use Rattle.graph_core.specs.Common.{Graph, size, quotient};
 ghost use Rattle.tree_core.specs.Common.{AreLeafKinds, IsKindOf, IsLeafKind, tally_of};
-ghost use Rattle.report_text.specs.Derivations.{adjacent_line, adjacent_lines, block_lines, derivation_text, kind_word, leaf_line, leaf_lines, leaf_text, name_at, tally_line};
+ghost use Rattle.report_text.specs.Derivations.{adjacent_line, adjacent_lines, block_lines, derivation_text, leaf_line, leaf_lines, leaf_text, name_at, tally_line};
 ghost use Rattle.tree_core.specs.declared.tallies.LeafKind.{LeafKind};
 
 use crate::commenting::commented;
 use crate::numbers::{push_numbers, push_set_line};
+use crate::words::{kind_word, push_tally};
 use contraction::{Contracted, Partition, name_of, quotient};
 use graph_core::MultiGraph;
 use std::alloc::{AllocError as Memory, Global};
 use tree_core::{LeafKind, Partitions, Tally, kind_of, tallied};
-
-// The word of a kind.
-fn kind_word(kind: LeafKind) -> &'static str
-    ensures { result.now ≡ kind_word kind }
-{
-    match kind {
-        LeafKind::Brick => "brick",
-        LeafKind::Brace => "brace",
-    }
-}
 
 fn push_leaf_line(text: &mut String, number: usize, kind: LeafKind) -> Result<(), Memory>
     ensures { OnOk result (string_bytes text.new ≡ string_bytes text.old ++ leaf_line number kind) }
@@ -141,15 +132,12 @@ fn push_leaves(
     Ok(kinds)
 }
 
-fn push_tally(text: &mut String, tally: Tally) -> Result<(), Memory>
+// The line of the counts.
+fn push_counts(text: &mut String, tally: Tally) -> Result<(), Memory>
     ensures { OnOk result (string_bytes text.new ≡ string_bytes text.old ++ tally_line tally) }
 {
-    let Tally {
-        leaves,
-        bricks,
-        braces,
-    } = tally;
-    write!(text, "c leaves {leaves} bricks {bricks} braces {braces}\n")
+    write!(text, "c")?;
+    push_tally(text, tally)
 }
 
 // The lines of the leaves and of their counts.
@@ -165,7 +153,7 @@ fn leaf_comments(alloc: Global, g: &MultiGraph, leaves: &Partitions) -> Result<S
 {
     let mut comments = String::new(alloc);
     let kinds = push_leaves(alloc, &mut comments, g, leaves)?;
-    push_tally(&mut comments, tallied(&kinds))?;
+    push_counts(&mut comments, tallied(&kinds))?;
     Ok(comments)
 }
 

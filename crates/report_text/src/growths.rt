@@ -3,6 +3,7 @@ ghost use Rattle.std.specs.Prelude.{◌≡◌, ◌++◌, OnOk, IfOk, string_byte
 ghost use Rattle.report_text.specs.Growths.{grown_text, growth_lines, order_line, pairs_line};
 
 use crate::commenting::commented;
+use crate::words::push_tally;
 use std::alloc::{AllocError as Memory, Global};
 use tree_core::Tally;
 
@@ -10,15 +11,8 @@ fn push_order(text: &mut String, order: &str, tally: Tally) -> Result<(), Memory
     ensures { OnOk result
         (string_bytes text.new ≡ string_bytes text.old ++ order_line order.now tally) }
 {
-    let Tally {
-        leaves,
-        bricks,
-        braces,
-    } = tally;
-    write!(
-        text,
-        "c {order} leaves {leaves} bricks {bricks} braces {braces}\n"
-    )
+    write!(text, "c {order}")?;
+    push_tally(text, tally)
 }
 
 fn push_pairs(text: &mut String, pairs: u32) -> Result<(), Memory>

@@ -3,6 +3,7 @@ ghost use Rattle.std.specs.Prelude.{◌≡◌, ◌++◌, OnOk, IfOk, string_byte
 ghost use Rattle.report_text.specs.Judgements.{accepted_line, judgement_text, numbered, refused_line, shown_text};
 
 use crate::numbers::{push_numbers, push_set};
+use crate::words::push_tally;
 use graph_core::Numbers;
 use std::alloc::{AllocError as Memory, Global};
 use tree_core::Tally;
@@ -84,16 +85,8 @@ pub fn push_refused(
 fn push_accepted(text: &mut String, tally: Tally) -> Result<(), Memory>
     ensures { OnOk result (string_bytes text.new ≡ string_bytes text.old ++ accepted_line tally) }
 {
-    let Tally {
-        leaves,
-        bricks,
-        braces,
-    } = tally;
-    write!(
-        text,
-        "accepted leaves {leaves} bricks {bricks} braces {braces}\n"
-    )?;
-    Ok(())
+    write!(text, "accepted")?;
+    push_tally(text, tally)
 }
 
 #[tactic(auto, unfolding(crate::specs::Judgements::judgement_text))]

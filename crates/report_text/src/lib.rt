@@ -32,6 +32,7 @@ mod numbers;
 mod scripts;
 mod structures;
 mod verdicts;
+mod words;
 
 pub use analyses::{AnalysisLines, analysis};
 pub use comparisons::{MapLine, MapLines, block_names, pairing};
@@ -47,3 +48,4 @@ pub use scripts::{replay_refused, replay_stuck, replayed, script_report};
 pub use structures::Structure;
 pub use tree_core::{Tally, count_leaves};
 pub use verdicts::verdict_line;
+pub use words::{kind_word, yes_or_no};

@@ -13,9 +13,9 @@ abbrev pub behind_node : ℕ → Place → List (List ℕ) → TreeSoFar
 behind_node nodes place words = record { nodes = nodes + 1; reading = with_node place (is_leaf_line words) (shore_told words) }
 
 -- there is room for one node more
-room : (nodes : ℕ) → nodes < 127 → nat_le most_nodes nodes ≡ false
+room : (nodes : ℕ) → nodes < most_nodes → nat_le most_nodes nodes ≡ false
 room nodes less = grind (arith, nat_tests)
 
-pub node_line-tests : (n nodes : ℕ) (place : Place) (words : List (List ℕ)) → nodes < 127 → is_node_line words ≡ true → node_line n nodes place words ≡ checked (shore_tests n words) (behind_node nodes place words)
+pub node_line-tests : (n nodes : ℕ) (place : Place) (words : List (List ℕ)) → nodes < most_nodes → is_node_line words ≡ true → node_line n nodes place words ≡ checked (shore_tests n words) (behind_node nodes place words)
 node_line-tests n nodes place words less node =
     ap₂ (λ (full known : Bool). if full then Err kind.Limit else (if not known then Err kind.Word else checked (shore_tests n words) (behind_node nodes place words))) (room nodes less) node

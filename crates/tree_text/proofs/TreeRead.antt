@@ -14,7 +14,7 @@ use Rattle.tree_core.specs.Common.{Shape, leaf, cut, Fits, node_count}
 use Rattle.tree_core.proofs.Shores.{below-without_greatest}
 use Rattle.tree_text.specs.Places.{Place, root, in_kept, in_merged, Reading, wanted, whole, put}
 use Rattle.text_faults.specs.Ranges.{is_out_of_range}
-use Rattle.tree_text.specs.TreeFormat.{TreeSoFar, tree_format, node_line, line_behind, tree_end, behind_first, is_rising, is_leaf_line, is_cut_line}
+use Rattle.tree_text.specs.TreeFormat.{TreeSoFar, tree_format, node_line, line_behind, tree_end, behind_first, is_rising, is_leaf_line, is_cut_line, most_nodes}
 use Rattle.tree_text.specs.Writing.{HasVertices, ShoresRise, IsWritable}
 use Rattle.tree_text.proofs.ShoreLists.{rising_read}
 
@@ -39,11 +39,11 @@ nodes_at (in_kept x above) = 1 + nodes_at above
 nodes_at (in_merged x k above) = 1 + node_count k + nodes_at above
 
 abbrev Keeps : ℕ → ℕ → Reading → Type 0
-Keeps n nodes (wanted place) = KeepsPlace n place × (nodes ≡ nodes_at place) × (nodes ≤ 127)
-Keeps n nodes (whole t) = KeepsTree n t × (nodes ≡ node_count t) × (nodes ≤ 127)
+Keeps n nodes (wanted place) = KeepsPlace n place × (nodes ≡ nodes_at place) × (nodes ≤ most_nodes)
+Keeps n nodes (whole t) = KeepsTree n t × (nodes ≡ node_count t) × (nodes ≤ most_nodes)
 
 -- a tree put at a place
-keeps-put : (n nodes : ℕ) (place : Place) (t : Shape) → KeepsPlace n place → KeepsTree n t → nodes ≡ nodes_at place + node_count t → nodes ≤ 127 → Keeps n nodes (put place t)
+keeps-put : (n nodes : ℕ) (place : Place) (t : Shape) → KeepsPlace n place → KeepsTree n t → nodes ≡ nodes_at place + node_count t → nodes ≤ most_nodes → Keeps n nodes (put place t)
 keeps-put n nodes root t place tree count few = (tree, omega arith, few)
 keeps-put n nodes (in_kept x above) t place tree count few = ((place.0, tree, place.1), omega arith, few)
 keeps-put n nodes (in_merged x k above) t place tree count few =
@@ -56,7 +56,7 @@ vertices_of words = map value_of (behind_first words)
 
 abbrev node_tests : ℕ → ℕ → List (List ℕ) → List (Bool × FaultKind)
 node_tests n nodes words =
-    (nat_le 127 nodes, kind.Limit)
+    (nat_le most_nodes nodes, kind.Limit)
     ∷ (not (is_leaf_line words || is_cut_line words), kind.Word)
     ∷ (not (list_all is_number (behind_first words)), kind.Number)
     ∷ (list_any (is_out_of_range n) (vertices_of words), kind.Range)
@@ -67,7 +67,7 @@ node_tests n nodes words =
 abbrev node_read : ℕ → Place → List (List ℕ) → TreeSoFar
 node_read nodes place words = record { nodes = nodes + 1; reading = if is_leaf_line words then put place leaf else wanted (in_kept (vertices_of words) place) }
 
-few_nodes : (nodes : ℕ) → nat_le 127 nodes ≡ false → nodes + 1 ≤ 127
+few_nodes : (nodes : ℕ) → nat_le most_nodes nodes ≡ false → nodes + 1 ≤ most_nodes
 few_nodes nodes is = grind (arith, nat_tests)
 
 two_words : (words : List (List ℕ)) → nat_le 2 (length words) ≡ true → 0 < length (vertices_of words)
@@ -85,7 +85,7 @@ node-keeps n nodes place words next keeps count same =
     let below = below-without_greatest n (vertices_of words) rises tests.1.1.1.1.1.0 in
     subst (λ (b : TreeSoFar). Keeps n b.nodes b.reading) through.1 (go (is_leaf_line words) refl few (not-false (is_leaf_line words || is_cut_line words) tests.1.0) below rises.rising)
   where
-    go : (leafy : Bool) → is_leaf_line words ≡ leafy → nodes + 1 ≤ 127 → (is_leaf_line words || is_cut_line words) ≡ true → All (Within (n - 1)) (vertices_of words) → IsStrictlyIncreasing (vertices_of words) → Keeps n (nodes + 1) (if is_leaf_line words then put place leaf else wanted (in_kept (vertices_of words) place))
+    go : (leafy : Bool) → is_leaf_line words ≡ leafy → nodes + 1 ≤ most_nodes → (is_leaf_line words || is_cut_line words) ≡ true → All (Within (n - 1)) (vertices_of words) → IsStrictlyIncreasing (vertices_of words) → Keeps n (nodes + 1) (if is_leaf_line words then put place leaf else wanted (in_kept (vertices_of words) place))
     go true is few known below rising =
         subst (λ b. Keeps n (nodes + 1) (if b then put place leaf else wanted (in_kept (vertices_of words) place))) (sym is)
         (keeps-put n (nodes + 1) place leaf keeps (tt, tt, tt) (omega arith) few)

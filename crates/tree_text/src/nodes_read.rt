@@ -1,5 +1,6 @@
 //! The state of reading a tree.
 ghost use Rattle.std.specs.Prelude.{◌≤◌};
+ghost use Rattle.tree_text.specs.TreeFormat.{most_nodes};
 
 use crate::place::Progress;
 use std::alloc::Global;
@@ -9,7 +10,7 @@ use std::alloc::Global;
 pub struct NodesRead {
     pub nodes: u32,
     pub progress: Progress,
-    ghost few: { nodes ≤ 127 },
+    ghost few: { nodes ≤ most_nodes },
 }
 
 /// The format, for graphs of this order.

@@ -4,7 +4,7 @@ ghost use Rattle.line_text.specs.Common.{Gives, Stands, FirstFault, checked, tex
 ghost use Rattle.text_faults.specs.Readings.{IsFirstFault, ReadsText};
 ghost use Rattle.text_faults.specs.declared.faults.FaultKind.{FaultKind};
 ghost use Rattle.tree_core.specs.Common.{Shape, shape_of};
-ghost use Rattle.tree_text.specs.TreeFormat.{TreeSoFar, tree_header, node_line, line_behind, tree_end, tree_format, behind_first, is_cut_line, is_node_line, shore_told, shore_tests, with_node};
+ghost use Rattle.tree_text.specs.TreeFormat.{TreeSoFar, tree_header, node_line, line_behind, tree_end, tree_format, behind_first, is_cut_line, is_node_line, most_nodes, shore_told, shore_tests, with_node};
 ghost use Rattle.tree_text.specs.Writing.{IsWritable};
 ghost use Rattle.tree_text.specs.SoFar.{place_of, progress_of, tree_so_far};
 
@@ -103,7 +103,7 @@ fn read_node(
     words: &[&[u8]],
 ) -> Result<NodesRead, Refusal<FaultKind>>
     requires order { n ≤ MOST_VERTICES }
-    requires few { nodes ≤ 127 }
+    requires few { nodes ≤ most_nodes }
     ensures { Gives tree_so_far result (node_line n nodes (place_of above) (texts_of words.now)) }
 {
     if nodes >= MOST_NODES {

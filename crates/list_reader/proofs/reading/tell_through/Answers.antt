@@ -18,77 +18,56 @@ reading-init g c = record {
 pub reading-preserved : goal.reading-preserved
 reading-preserved g c = record {
   so_far =
-      so_far_piece (g.T.LineTeller.tells c.args.teller.now) g.S.Source.left g.S.Source.reads g.K.Sink.written g.K.Sink.writes
-      c.reading.listing.place c.take_piece.new.listing.place c.reading.listing.held.items (take c.in-Ok.count c.read.new.piece)
-      c.take_piece.new.listing.held.items c.args.source.now c.args.sink.now c.reading.source c.reading.sink c.read.new.self
-      c.take_piece.new.sink c.reading.invariant.so_far c.in-Ok.ensures.reads c.in-Ok.ensures.taken c.in-Ok-take_piece.ensures.told
-      c.in-Ok-take_piece.ensures.left c.in-Ok-take_piece.ensures.short;
+      so_far_piece c.reading.invariant.so_far c.take_piece.new.listing.place (take c.in-Ok.count c.read.new.piece)
+      c.take_piece.new.listing.held.items c.read.new.self c.take_piece.new.sink c.in-Ok.ensures.reads c.in-Ok.ensures.taken
+      c.in-Ok-take_piece.ensures.told c.in-Ok-take_piece.ensures.left c.in-Ok-take_piece.ensures.short;
   source_faults = let h1 = c.reading.invariant.source_faults in let h2 = c.in-Ok.ensures in omega arith;
   sink_faults = let h1 = c.reading.invariant.sink_faults in let h2 = c.in-Ok-take_piece.ensures in omega arith;
 }
 
 pub returns-in-Err-clause-tells : goal.returns-in-Err-clause-tells
 returns-in-Err-clause-tells g c =
-    so_far_begun (g.T.LineTeller.tells c.args.teller.now) (g.T.LineTeller.bad c.args.teller.now) (g.T.LineTeller.lacks c.args.teller.now)
-    g.S.Source.left g.S.Source.reads g.K.Sink.written g.K.Sink.writes ReadFault (λ lines output told. told) c.reading.listing.place
-    c.reading.listing.held.items c.args.source.now c.args.sink.now c.reading.source c.reading.sink c.reading.invariant.so_far
+    so_far_begun c.reading.invariant.so_far (g.T.LineTeller.bad c.args.teller.now) (g.T.LineTeller.lacks c.args.teller.now) ReadFault (λ lines output told. told)
 
 pub returns-in-Err-clause-streams : goal.returns-in-Err-clause-streams
 returns-in-Err-clause-streams g c =
     let reading : g.S.Source.reads c.reading.source None c.read.new.self = search rules in
-    stream_begun (g.T.LineTeller.tells c.args.teller.now) (g.T.LineTeller.bad c.args.teller.now) (g.T.LineTeller.lacks c.args.teller.now)
-    g.S.Source.left g.S.Source.reads g.K.Sink.written g.K.Sink.writes ReadFault c.reading.listing.place
-    c.reading.listing.held.items c.args.source.now c.args.sink.now c.reading.source c.reading.sink c.read.new.self
-    c.reading.invariant.so_far (inr (inl (record { fault = refl; reading = reading; same_sink = refl })))
+    stream_begun c.reading.invariant.so_far (g.T.LineTeller.bad c.args.teller.now) (g.T.LineTeller.lacks c.args.teller.now)
+    ReadFault c.read.new.self c.reading.sink (inr (inl (record { fault = refl; reading = reading; same_sink = refl })))
 
 pub returns-in-Err-clause-torn : goal.returns-in-Err-clause-torn
-returns-in-Err-clause-torn g c is =
-    so_far_torn (g.T.LineTeller.tells c.args.teller.now) g.S.Source.left g.S.Source.reads g.K.Sink.written g.K.Sink.writes
-    c.reading.listing.place c.reading.listing.held.items c.args.source.now c.args.sink.now c.reading.source c.reading.sink
-    c.read.new.self c.reading.invariant.so_far (search rules)
+returns-in-Err-clause-torn g c is = so_far_torn c.reading.invariant.so_far c.read.new.self (search rules)
 
 pub returns-in-Ok-eq0-clause-tells : goal.returns-in-Ok-eq0-clause-tells
 returns-in-Ok-eq0-clause-tells g c =
     let taken : g.S.Source.left c.reading.source ≡ prepended [] (g.S.Source.left c.read.new.self) = search rules in
     let end : IsEnd (g.S.Source.left c.read.new.self) = search rules in
-    so_far_end (g.T.LineTeller.tells c.args.teller.now) (g.T.LineTeller.bad c.args.teller.now) (g.T.LineTeller.lacks c.args.teller.now)
-    g.S.Source.left g.S.Source.reads g.K.Sink.written g.K.Sink.writes c.reading.listing.place c.reading.listing.held.items
-    c.take_end.result c.args.source.now c.args.sink.now c.reading.source c.reading.sink c.read.new.self c.take_end.new.sink
-    c.reading.invariant.so_far taken end c.take_end.ensures.gives
+    so_far_end c.reading.invariant.so_far (g.T.LineTeller.bad c.args.teller.now) (g.T.LineTeller.lacks c.args.teller.now)
+    c.take_end.result c.read.new.self c.take_end.new.sink taken end c.take_end.ensures.gives
 
 pub returns-in-Ok-eq0-clause-streams : goal.returns-in-Ok-eq0-clause-streams
 returns-in-Ok-eq0-clause-streams g c =
     let reading : g.S.Source.reads c.reading.source (Some []) c.read.new.self = search rules in
-    stream_end (g.T.LineTeller.tells c.args.teller.now) (g.T.LineTeller.bad c.args.teller.now) (g.T.LineTeller.lacks c.args.teller.now)
-    g.S.Source.left g.S.Source.reads g.K.Sink.written g.K.Sink.writes c.reading.listing.place c.reading.listing.held.items
-    c.take_end.result c.args.source.now c.args.sink.now c.reading.source c.reading.sink c.read.new.self c.take_end.new.sink
-    c.reading.invariant.so_far reading c.take_end.ensures.gives
+    stream_end c.reading.invariant.so_far (g.T.LineTeller.bad c.args.teller.now) (g.T.LineTeller.lacks c.args.teller.now)
+    c.take_end.result c.read.new.self c.take_end.new.sink reading c.take_end.ensures.gives
 
 pub returns-in-Err-take_piece-clause-tells : goal.returns-in-Err-take_piece-clause-tells
 returns-in-Err-take_piece-clause-tells g c =
-    so_far_stops (g.T.LineTeller.tells c.args.teller.now) (g.T.LineTeller.bad c.args.teller.now) (g.T.LineTeller.lacks c.args.teller.now)
-    g.S.Source.left g.S.Source.reads g.K.Sink.written g.K.Sink.writes c.reading.listing.place c.reading.listing.held.items
-    (take c.in-Ok.count c.read.new.piece) c.in-Err-take_piece.ending c.args.source.now c.args.sink.now c.reading.source
-    c.reading.sink c.read.new.self c.take_piece.new.sink c.reading.invariant.so_far c.in-Ok.ensures.taken
+    so_far_stops c.reading.invariant.so_far (g.T.LineTeller.bad c.args.teller.now) (g.T.LineTeller.lacks c.args.teller.now)
+    c.in-Err-take_piece.ending (take c.in-Ok.count c.read.new.piece) c.read.new.self c.take_piece.new.sink c.in-Ok.ensures.taken
     c.in-Err-take_piece.ensures.stops
 
 pub returns-in-Err-take_piece-clause-streams : goal.returns-in-Err-take_piece-clause-streams
 returns-in-Err-take_piece-clause-streams g c =
-    stream_stops (g.T.LineTeller.tells c.args.teller.now) (g.T.LineTeller.bad c.args.teller.now) (g.T.LineTeller.lacks c.args.teller.now)
-    g.S.Source.left g.S.Source.reads g.K.Sink.written g.K.Sink.writes c.reading.listing.place c.reading.listing.held.items
-    (take c.in-Ok.count c.read.new.piece) c.in-Err-take_piece.ending c.args.source.now c.args.sink.now c.reading.source
-    c.reading.sink c.read.new.self c.take_piece.new.sink c.reading.invariant.so_far c.in-Ok.ensures.reads
+    stream_stops c.reading.invariant.so_far (g.T.LineTeller.bad c.args.teller.now) (g.T.LineTeller.lacks c.args.teller.now)
+    c.in-Err-take_piece.ending c.read.new.self c.take_piece.new.sink (take c.in-Ok.count c.read.new.piece) c.in-Ok.ensures.reads
     c.in-Err-take_piece.ensures.stops
 
 pub returns-clause-tells : goal.returns-clause-tells
 returns-clause-tells g c =
-    so_far_begun (g.T.LineTeller.tells c.args.teller.now) (g.T.LineTeller.bad c.args.teller.now) (g.T.LineTeller.lacks c.args.teller.now)
-    g.S.Source.left g.S.Source.reads g.K.Sink.written g.K.Sink.writes Memory (λ lines output told. told) c.reading.listing.place
-    c.reading.listing.held.items c.args.source.now c.args.sink.now c.reading.source c.reading.sink c.reading.invariant.so_far
+    so_far_begun c.reading.invariant.so_far (g.T.LineTeller.bad c.args.teller.now) (g.T.LineTeller.lacks c.args.teller.now) Memory (λ lines output told. told)
 
 pub returns-clause-streams : goal.returns-clause-streams
 returns-clause-streams g c =
-    stream_begun (g.T.LineTeller.tells c.args.teller.now) (g.T.LineTeller.bad c.args.teller.now) (g.T.LineTeller.lacks c.args.teller.now)
-    g.S.Source.left g.S.Source.reads g.K.Sink.written g.K.Sink.writes Memory c.reading.listing.place
-    c.reading.listing.held.items c.args.source.now c.args.sink.now c.reading.source c.reading.sink c.reading.source
-    c.reading.invariant.so_far (inr (inr (record { memory = refl; same_source = refl; same_sink = refl })))
+    stream_begun c.reading.invariant.so_far (g.T.LineTeller.bad c.args.teller.now) (g.T.LineTeller.lacks c.args.teller.now)
+    Memory c.reading.source c.reading.sink (inr (inr (record { memory = refl; same_source = refl; same_sink = refl })))

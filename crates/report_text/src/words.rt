@@ -1,0 +1,35 @@
+//! Words that lines of several reports share.
+ghost use Rattle.std.specs.Prelude.{◌≡◌, ◌++◌, OnOk, string_bytes};
+ghost use Rattle.report_text.specs.Words.{kind_word, tally_end, yes_or_no};
+
+use std::alloc::AllocError as Memory;
+use tree_core::{LeafKind, Tally};
+
+/// `yes` or `no`.
+pub fn yes_or_no(holds: bool) -> &'static str
+    ensures { result.now ≡ yes_or_no holds }
+{
+    if holds { "yes" } else { "no" }
+}
+
+/// The word of a kind.
+pub fn kind_word(kind: LeafKind) -> &'static str
+    ensures { result.now ≡ kind_word kind }
+{
+    match kind {
+        LeafKind::Brick => "brick",
+        LeafKind::Brace => "brace",
+    }
+}
+
+/// Appends the end of a line that tells how many leaves there are, and how many of each kind.
+pub fn push_tally(text: &mut String, tally: Tally) -> Result<(), Memory>
+    ensures { OnOk result (string_bytes text.new ≡ string_bytes text.old ++ tally_end tally) }
+{
+    let Tally {
+        leaves,
+        bricks,
+        braces,
+    } = tally;
+    write!(text, " leaves {leaves} bricks {bricks} braces {braces}\n")
+}
