@@ -8,6 +8,7 @@ ghost use Rattle.contraction.specs.LeastEdges.{least_at};
 ghost use Rattle.contraction.specs.Pairs.{EachOnce, joined_pairs};
 
 use crate::Partition;
+use crate::partition::union_at;
 use crate::place_pairs::{ends_at, graph_with, pairs_joined};
 use graph_core::{Ends, MOST_EDGES, MultiGraph};
 use indexmap::IndexMap;
@@ -107,21 +108,6 @@ fn edges_at(kept: &IndexMap<(u32, u32), Vec<u32>>, i: usize) -> &[u32]
         Some((_, edges)) => edges,
         None => unreachable!(),
     }
-}
-
-// The union of the blocks at the places in the set.
-fn union_at(blocks: &[VSet], s: VSet) -> VSet
-    requires { length blocks.now ≤ MOST_VERTICES }
-    ensures { (v : ℕ) → mem result v ≡
-        some (length blocks.now) (λ i. mem s i && mem (block blocks.now i) v) }
-{
-    let mut union = VSet::empty();
-    for (i, block) in blocks.iter().enumerate() {
-        if s.contains(i as u32 + 1) {
-            union = union.union(*block);
-        }
-    }
-    union
 }
 
 /// The quotient of `g` at `p`, a partition of its vertices, with one edge for each two adjacent

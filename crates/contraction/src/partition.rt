@@ -1,9 +1,9 @@
 //! Partitions of the vertices into blocks.
-ghost use Rattle.std.specs.Prelude.{◌≡◌, ◌<◌, ◌≤◌, ◌+◌, ◌↔◌, ◌==◌, ◌||◌, not, length, slice_get, Some, IfOk, IsTrue, filter, insert, count_by, nat_lt, position};
+ghost use Rattle.std.specs.Prelude.{◌≡◌, ℕ, ◌&&◌, ◌<◌, ◌≤◌, ◌+◌, ◌↔◌, ◌==◌, ◌||◌, not, length, slice_get, Some, IfOk, IsTrue, filter, insert, count_by, nat_lt, position};
 ghost use Rattle.itertools.specs.Consumer.{find_at};
 ghost use Rattle.std.specs.List.{list_all, position_or_len};
-ghost use Rattle.counting.specs.Common.{Within, mem, last_of, is_subset, is_apart};
-ghost use Rattle.graph_core.specs.Common.{insert_block, merged, place, singles, block_count};
+ghost use Rattle.counting.specs.Common.{Within, mem, some, last_of, is_subset, is_apart};
+ghost use Rattle.graph_core.specs.Common.{Graph, insert_block, merged, place, singles, block, block_count, union_of_blocks};
 ghost use Rattle.contraction.specs.Partition.{IsUnionAt, KeepsPartition};
 
 use itertools::Itertools;
@@ -94,6 +94,17 @@ impl Partition {
         count_inside(&self.blocks, set) as u32
     }
 
+    /// The union of the blocks at the places in `s`. Takes no memory.
+    pub fn lift_set(&self, s: VSet) -> VSet
+        ensures { (g : Graph) → g.order ≡ self.now.order →
+            result ≡ union_of_blocks g self.now.blocks (mem s) }
+    {
+        self.keeps_partition();
+        let union = union_at(&self.blocks, s);
+        union.rises();
+        union
+    }
+
     /// The partition with the blocks in `shore`, a nonempty union of blocks, made one block.
     pub fn merge(&self, alloc: Global, shore: VSet) -> Result<Partition, Memory>
         requires union { IsUnionAt self.now shore }
@@ -123,6 +134,21 @@ impl Partition {
     {
         place_of(&self.blocks, v) as u32
     }
+}
+
+/// The union of the blocks at the places in the set. Takes no memory.
+pub(crate) fn union_at(blocks: &[VSet], s: VSet) -> VSet
+    requires { length blocks.now ≤ MOST_VERTICES }
+    ensures { (v : ℕ) → mem result v ≡
+        some (length blocks.now) (λ i. mem s i && mem (block blocks.now i) v) }
+{
+    let mut union = VSet::empty();
+    for (i, block) in blocks.iter().enumerate() {
+        if s.contains(i as u32 + 1) {
+            union = union.union(*block);
+        }
+    }
+    union
 }
 
 // The place of the block that holds v, counted from 1, and one past the end if none does.

@@ -1,14 +1,40 @@
 //! The pairs of places of blocks that edges join, and the graph with given edges.
-ghost use Rattle.std.specs.Prelude.{◌≡◌, ◌<◌, ◌≤◌, ◌+◌, ◌&&◌, ◌||◌, ◌++◌, ℕ, [], All, length, map, nat_lt, flat_map, IfOk, OnOk};
+ghost use Rattle.std.specs.Prelude.{◌≡◌, ◌<◌, ◌≤◌, ◌+◌, ◌&&◌, ◌||◌, ◌++◌, ℕ, List, [], All, length, map, nat_lt, flat_map, IfOk, OnOk};
 ghost use Rattle.std.specs.List.{list_any};
 ghost use Rattle.counting.specs.Common.{Within, mem, item, pair_with, rising_list, IsRisingIn, everything, some};
-ghost use Rattle.graph_core.specs.Common.{IsGraph, contracted, graph_of, pair_of, are_ends, IsWithinLimits};
-ghost use Rattle.contraction.specs.Pairs.{joined_pairs};
+ghost use Rattle.graph_core.specs.Common.{IsGraph, contracted, graph_of, pair_of, are_ends, place, IsWithinLimits};
+ghost use Rattle.contraction.specs.Pairs.{ArePlaces, joined_pairs};
 
 use crate::Partition;
 use graph_core::{Ends, MultiGraph};
 use std::alloc::{AllocError as Memory, Global};
 use vset_core::{MOST_VERTICES, VSet};
+
+// The place of the block that holds each vertex, by vertex.
+fn places(alloc: Global, p: &Partition) -> Result<Vec<u32>, Memory>
+    ensures each { IfOk result (λ places. length places.items ≡ p.now.order) }
+    ensures right { IfOk result (λ places. ArePlaces p.now.blocks places.items) }
+{
+    p.keeps_partition();
+    let mut places = Vec::with_capacity(alloc, p.order() as usize)?;
+    for v in 0..p.order() {
+        places.push(p.place(v + 1))?;
+    }
+    Ok(places)
+}
+
+// The ends of an edge as places of blocks.
+fn placed(places: &[u32], edge: Ends) -> Ends
+    requires first { Within (length places.now) edge.a }
+    requires second { Within (length places.now) edge.b }
+    ensures { (p : List (List ℕ)) → ArePlaces p places.now →
+        pair_of result ≡ (place p edge.a, place p edge.b) }
+{
+    Ends {
+        a: places[edge.a as usize - 1],
+        b: places[edge.b as usize - 1],
+    }
+}
 
 /// The ends of the edges as places of blocks.
 pub(crate) fn ends_at(alloc: Global, edges: &[Ends], p: &Partition) -> Result<Vec<Ends>, Memory>
@@ -18,12 +44,10 @@ pub(crate) fn ends_at(alloc: Global, edges: &[Ends], p: &Partition) -> Result<Ve
         contracted (graph_of p.now.order edges.now) p.now.blocks) }
 {
     p.keeps_partition();
-    let mut ends = Vec::new(alloc);
+    let places = places(alloc, p)?;
+    let mut ends = Vec::with_capacity(alloc, edges.len())?;
     for edge in edges {
-        ends.push(Ends {
-            a: p.place(edge.a),
-            b: p.place(edge.b),
-        })?;
+        ends.push(placed(&places, *edge))?;
     }
     Ok(ends)
 }

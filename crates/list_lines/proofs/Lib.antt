@@ -1,4 +1,3 @@
-pub mod QuotientSides
 pub mod SimpleQuotients
 pub mod SingleLeaves
 pub mod LeafTexts

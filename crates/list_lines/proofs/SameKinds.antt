@@ -7,7 +7,7 @@ use Rattle.move_laws.specs.SameLeaf.{IsSameLeaf, image, turned_names}
 use Rattle.tree_core.specs.Common.{IsLeafKind}
 use Rattle.tree_core.specs.declared.tallies.LeafKind.{LeafKind}
 use Rattle.tree_core.specs.declared.tallies.LeafKind.TheVariants.{Brick, Brace}
-use Rattle.list_lines.proofs.QuotientSides.{parted, parts_from_sides, sides_from_parts}
+use Rattle.tight_cuts.proofs.QuotientSides.{parted, parts_from_sides, sides_from_parts}
 
 -- sides are carried back
 sides_back : (g : Graph) (p q : List (List ℕ)) (names : List ℕ) → IsSameLeaf g p q names → IsBipartite (quotient g q) → IsBipartite (quotient g p)

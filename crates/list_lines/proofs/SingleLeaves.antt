@@ -10,7 +10,7 @@ use Rattle.tree_core.specs.Common.{IsLeafAt, leaf, leaf_at, AreLeafKinds, IsLeaf
 use Rattle.tree_core.specs.declared.tallies.LeafKind.{LeafKind}
 use Rattle.tree_core.specs.declared.tallies.LeafKind.TheVariants as of_leaf
 use Rattle.list_lines.specs.Standings.{IsCounted}
-use Rattle.list_lines.proofs.QuotientSides.{bipartite_from_singles, singles_from_bipartite}
+use Rattle.tight_cuts.proofs.QuotientSides.{bipartite_from_singles, singles_from_bipartite}
 
 uncut_leaf : (g : Graph) → IsMultigraph g → HasOnlyTrivialTightCuts g → IsLeafAt g (singles g.order)
 unfolding IsLeafAt

@@ -8,7 +8,7 @@ use Rattle.list_lines.proofs.Counts.{same_counts}
 use Rattle.counting.specs.Common.{mem}
 use Rattle.graph_core.proofs.Common.{complement_of-rises, mem-complement_of, complement-tight, singles-partition}
 use Rattle.graph_core.specs.Common.{IsCovered, Graph, IsBipartite, IsGraph, IsMultigraph, IsPartition, complement_of, singles, quotient}
-use Rattle.list_lines.proofs.QuotientSides.{bipartite_from_singles, singles_from_bipartite}
+use Rattle.tight_cuts.proofs.QuotientSides.{bipartite_from_singles, singles_from_bipartite}
 use Rattle.list_lines.specs.Standings.{IsCounted}
 use Rattle.tree_core.specs.declared.tallies.Tally.{Tally}
 use Rattle.theorems.proofs.LeafKindLists.{HasSides, all-joined, all-separated, count-from_sides, kinds-in_order, sides-from_count, tally-exists, tally-sum}

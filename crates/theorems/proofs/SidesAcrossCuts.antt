@@ -7,7 +7,7 @@ use Rattle.contraction.proofs.QuotientLaws.{covered_down}
 use Rattle.counting.specs.Common.{Within, IsRisingIn, mem, Set, complement}
 use Rattle.graph_core.proofs.Common.{Some, alike_down, alike_in, alike_up, closed_up, merge_of, same_side, shore-some}
 use Rattle.graph_core.specs.Common.{IsCovered, Graph, IsGraph, first_end, in_cut, second_end, size, AreBlocks, IsMerge, merged, place, quotient, IsTightAt, IsUnion}
-use Rattle.list_lines.proofs.QuotientSides.{differ, differ-back}
+use Rattle.tight_cuts.proofs.QuotientSides.{differ, differ-back}
 use Rattle.theorems.proofs.PartitionSides.{HasSideAt, IsSideAt, LeavesFrom, other-side_at, side-chosen}
 
 -- sides below a cut

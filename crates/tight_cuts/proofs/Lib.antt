@@ -20,6 +20,7 @@ pub mod FrontCandidates
 pub mod FirstCandidates
 mod CrossingMatchings
 pub mod SingleVertices
+pub mod QuotientSides
 pub mod LiftedCandidates
 pub mod PartitionCandidates
 pub mod FrontEmpty

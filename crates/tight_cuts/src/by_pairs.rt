@@ -15,6 +15,7 @@ use crate::groups::{Grouping, common_shore};
 use crate::pieces::Weights;
 use graph_core::MultiGraph;
 use graph_facts::Covered;
+use separation_kit::FirstPairs;
 use std::alloc::{AllocError as Memory, Global};
 use vset_core::VSet;
 
@@ -88,7 +89,8 @@ pub fn candidates_by_pairs(alloc: Global, g: &MultiGraph) -> Result<CandidateLis
 {
     g.keeps_limits();
     let covered = Covered::known(alloc, g)?;
-    let mut list = front_candidates(alloc, &covered)?;
+    let pairs = FirstPairs::of(alloc, &covered)?;
+    let mut list = front_candidates(alloc, &pairs)?;
     let search = NetworkSearch::by_rows(alloc, g, ByPairs)?;
     add_edge_cuts(alloc, g, &search, 0, &mut list)?;
     Ok(list)

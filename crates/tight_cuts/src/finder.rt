@@ -88,11 +88,24 @@ fn first_flood_cut(
 
 /// The list of the candidates. A graph that is not bipartite and has none of the first two parts
 /// has none at all (Edmonds, Lovász and Pulleyblank 1982).
-pub(crate) fn listed(alloc: Global, c: &Covered) -> Result<CandidateList, Memory>
+pub(crate) fn listed(alloc: Global, pairs: &FirstPairs) -> Result<CandidateList, Memory>
+    ensures { IfOk result (λ list. list ≡ candidates pairs.now) }
+{
+    pairs.keeps_covered();
+    let list = front_candidates(alloc, pairs)?;
+    listed_after(alloc, pairs.covered(), list)
+}
+
+// The list of the candidates, from those of the first two parts.
+fn listed_after(
+    alloc: Global,
+    c: &Covered,
+    mut list: CandidateList,
+) -> Result<CandidateList, Memory>
+    requires { list ≡ front_candidates c.now }
     ensures { IfOk result (λ list. list ≡ candidates c.now) }
 {
     c.keeps_covered();
-    let mut list = front_candidates(alloc, c)?;
     if let Some(bipartite) = Bipartite::of(c) {
         add_flood_cuts(alloc, &bipartite, &mut list)?;
         return Ok(list);
@@ -123,7 +136,8 @@ pub fn candidates(alloc: Global, g: &MultiGraph) -> Result<CandidateList, Memory
 {
     g.keeps_limits();
     let covered = Covered::known(alloc, g)?;
-    let list = listed(alloc, &covered)?;
+    let pairs = FirstPairs::of(alloc, &covered)?;
+    let list = listed(alloc, &pairs)?;
     Ok(list)
 }
 

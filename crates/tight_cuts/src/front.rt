@@ -10,7 +10,7 @@ ghost use Rattle.tight_cuts.specs.View.{candidate_of};
 use crate::candidate::{Candidate, CandidateList, Origin, candidates_of};
 use barrier_kit::{barrier_cuts_of, first_barrier_cut};
 use graph_facts::Covered;
-use separation_kit::{FirstPairs, equivalent_pair, first_separation_cut, separation_cuts};
+use separation_kit::{FirstPairs, first_separation_cut, separation_cuts};
 use std::alloc::{AllocError as Memory, Global};
 
 // The cuts of barriers, as candidates.
@@ -37,17 +37,17 @@ fn separation_candidates(alloc: Global, c: &Covered) -> Result<CandidateList, Me
 
 /// The candidates of the first two parts: the cuts of barriers if the graph is not bicritical,
 /// and those of separations if it is.
-pub(crate) fn front_candidates(alloc: Global, c: &Covered) -> Result<CandidateList, Memory>
-    ensures { IfOk result (λ list. list ≡ front_candidates c.now) }
+pub(crate) fn front_candidates(alloc: Global, pairs: &FirstPairs) -> Result<CandidateList, Memory>
+    ensures { IfOk result (λ list. list ≡ front_candidates pairs.now) }
 {
-    c.keeps_covered();
-    if let Some(_) = equivalent_pair(c) {
-        return barrier_candidates(alloc, c);
+    pairs.keeps_covered();
+    if let Some(_) = pairs.equivalent() {
+        return barrier_candidates(alloc, pairs.covered());
     }
-    if c.order() < 4 {
-        return barrier_candidates(alloc, c);
+    if pairs.order() < 4 {
+        return barrier_candidates(alloc, pairs.covered());
     }
-    separation_candidates(alloc, c)
+    separation_candidates(alloc, pairs.covered())
 }
 
 // The first cut of a barrier, as a candidate.

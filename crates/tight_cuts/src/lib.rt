@@ -23,9 +23,10 @@
 //! the three (the trait `EdgeSearch`).
 //!
 //! `candidates_at` lists the candidates at a partition of the vertices into blocks: those of the
-//! quotient, led back to vertices of the graph (`IsCandidateAt`); `first_candidate_at` answers
-//! the first. `root_candidates` and `first_root_candidate` answer the same at single vertices of a
-//! covered graph of which the facts are at hand.
+//! quotient, led back to vertices of the graph (`IsCandidateAt`); `first_at` answers the first.
+//! Both say whether the quotient is bipartite, so that a leaf is known for a brick or a brace.
+//! `root_candidates` and `first_of_root` answer the same at single vertices of a covered graph of
+//! which the first pairs are at hand.
 //!
 //! Stands on `contraction`, `allowed_edges`, `barrier_kit`, `separation_kit`, `brick_kit`,
 //! `matching_digraph` and `flow_core`. Sources: Edmonds, Lovász and Pulleyblank 1982; Lovász,
@@ -47,7 +48,10 @@ mod pieces;
 mod quiet_edges;
 mod tightness;
 
-pub use at_partition::{candidates_at, first_candidate_at, first_root_candidate, root_candidates};
+pub use at_partition::{
+    AllAt, FirstAt, candidates_at, first_at, first_candidate_at, first_of_root,
+    first_root_candidate, root_candidates,
+};
 pub use by_pairs::candidates_by_pairs;
 pub use candidate::{Candidate, CandidateList, Origin};
 pub use finder::{candidates, find_any, first_candidate, first_cut};

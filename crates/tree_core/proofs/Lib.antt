@@ -9,3 +9,4 @@ pub mod RotateSteps
 pub mod SwitchSets
 pub mod FewLeaves
 pub mod KindsOfLeaves
+pub mod AddedKinds

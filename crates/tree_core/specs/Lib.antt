@@ -1,5 +1,6 @@
 pub mod Shapes
 pub mod Derivations
+pub mod Places
 pub mod Leaves
 pub mod View
 pub mod Moves

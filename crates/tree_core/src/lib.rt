@@ -5,7 +5,8 @@
 //! `Shape` (`specs/Shapes`), whatever boxes hold its nodes. A tree is a derivation of a matching
 //! covered graph (`IsDerivation` of `specs/Derivations`) if each cut names a canonical nontrivial
 //! tight shore at the partition where it stands and each leaf stands where no such shore is. Its
-//! leaves are the partitions of `specs/Leaves`, in preorder.
+//! leaves are the partitions of `specs/Leaves`, in preorder. A `Place` is a graph with a partition
+//! where a derivation may stand: the quotient is matching covered.
 //!
 //! `fits`, `nodes`, `depth`, `copy` and `leaves` are exactly these definitions;
 //! `laws::derivation_stands` says that the leaves of a derivation may be asked for. A `Path` leads
@@ -18,8 +19,8 @@
 //! a move has no result. `specs/LeafMaps` says where a move and a script of moves take each leaf
 //! and its blocks.
 //!
-//! Stands on `contraction` for partitions. Source: Lovász, "Matching structure and the matching
-//! lattice" (1987); Lucchesi and Murty, "Perfect Matchings".
+//! Stands on `contraction` for partitions and on `graph_facts` for covered graphs. Source: Lovász,
+//! "Matching structure and the matching lattice" (1987); Lucchesi and Murty, "Perfect Matchings".
 #![tactic(auto)]
 
 mod below;
@@ -29,6 +30,7 @@ mod moves;
 mod opened;
 mod partitions;
 mod path;
+mod place;
 mod rotation;
 mod switched_shores;
 mod switching;
@@ -42,8 +44,9 @@ pub use moves::{Move, Moves, Stuck, apply};
 pub use opened::{Opened, open};
 pub use partitions::Partitions;
 pub use path::{Path, Side};
+pub use place::Place;
 pub use rotation::{are_apart, rotate};
 pub use switched_shores::holds_greatest;
 pub use switching::switch;
-pub use tallies::{LeafKind, Tally, count_leaves, kind_of, tallied, tally_of_tree};
+pub use tallies::{LeafKind, Tally, count_leaves, kind_by_side, kind_of, tallied, tally_of_tree};
 pub use tree::{MOST_NODES, Tree, copy, depth, fits, nodes};

@@ -1,5 +1,6 @@
 //! The kinds of the leaves of a decomposition, and their numbers.
-ghost use Rattle.std.specs.Prelude.{◌≡◌, ◌<◌, ◌^◌, length, map, count_by, not, IfOk, All};
+ghost use Rattle.std.specs.Prelude.{◌≡◌, ◌↔◌, ◌<◌, ◌^◌, length, map, count_by, not, IfOk, IsTrue, All};
+ghost use Rattle.graph_core.specs.Common.{Graph, IsBipartite};
 ghost use Rattle.tree_core.specs.Derivations.{IsDerivation};
 ghost use Rattle.tree_core.specs.Leaves.{leaves};
 ghost use Rattle.tree_core.specs.View.{shape_of};
@@ -40,6 +41,17 @@ pub fn kind_of(alloc: Global, q: &MultiGraph) -> Result<LeafKind, Memory>
     match q.two_sides(alloc)? {
         Sides::Even { .. } => Ok(LeafKind::Brace),
         Sides::Odd { .. } => Ok(LeafKind::Brick),
+    }
+}
+
+/// The kind of a leaf of which is known whether its quotient is bipartite. Takes no memory.
+pub fn kind_by_side(is_bipartite: bool) -> LeafKind
+    ensures { (q : Graph) → (IsTrue is_bipartite ↔ IsBipartite q) → IsKindOf q result }
+{
+    if is_bipartite {
+        LeafKind::Brace
+    } else {
+        LeafKind::Brick
     }
 }
 

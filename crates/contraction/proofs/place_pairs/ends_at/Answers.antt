@@ -1,15 +1,23 @@
-use Rattle.std.proofs.Common.{◌≡◌, arith, ap, ◌∙◌, take, map, take_all}
+use Rattle.std.proofs.Common.{◌≡◌, arith, ap, ◌∙◌, length, take, map, take_all}
 use Rattle.graph_core.specs.Common.{place}
 use Rattle.graph_core.specs.declared.ends.Ends.{Ends}
 use Rattle.graph_core.proofs.Common.{ends_within}
 use Rattle.contraction.proofs.QuotientPairs.{ends-contracted}
 use Rattle.contraction.proofs.place_pairs.ends_at.Goals as goal
 
-pub place-requires : goal.place-requires
-place-requires c = let w = ends_within c.args.p.now.order c.args.edges.now c.loop-edge.edge-index (record { a = 0; b = 0 }) c.requires c.loop-edge-test.true in omega arith
+pub placed-requires-clause-first : goal.placed-requires-clause-first
+placed-requires-clause-first c =
+    let w = ends_within c.args.p.now.order c.args.edges.now c.loop-edge.edge-index (record { a = 0; b = 0 }) c.requires c.loop-edge-test.true in
+    let l = ap length c.deref.ensures.value in
+    let e = c.in_ok-places.ensures.each in
+    omega arith
 
-pub place-requires-in-loop-edge : goal.place-requires-in-loop-edge
-place-requires-in-loop-edge c = let w = ends_within c.args.p.now.order c.args.edges.now c.loop-edge.edge-index (record { a = 0; b = 0 }) c.requires c.loop-edge-test.true in omega arith
+pub placed-requires-clause-second : goal.placed-requires-clause-second
+placed-requires-clause-second c =
+    let w = ends_within c.args.p.now.order c.args.edges.now c.loop-edge.edge-index (record { a = 0; b = 0 }) c.requires c.loop-edge-test.true in
+    let l = ap length c.deref.ensures.value in
+    let e = c.in_ok-places.ensures.each in
+    omega arith
 
 pub returns : goal.returns
 returns c =

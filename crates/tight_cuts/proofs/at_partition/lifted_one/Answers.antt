@@ -3,4 +3,4 @@ use Rattle.tight_cuts.specs.View.{candidate_of}
 use Rattle.tight_cuts.proofs.at_partition.lifted_one.Goals as goal
 
 pub returns : goal.returns
-returns c = λ g p is. ap (λ (s : List ℕ). record (candidate_of c.args.candidate) { shore = s }) (c.lift_set.ensures g p is)
+returns c = λ g is. ap (λ (s : List ℕ). record (candidate_of c.args.candidate) { shore = s }) (c.lift_set.ensures g is)

@@ -7,13 +7,13 @@ use Rattle.tight_cuts.proofs.PartitionCandidates.{found-root, none-root, root-ca
 use Rattle.tight_cuts.proofs.at_partition.root_candidates.Goals as goal
 
 pub returns-clause-list : goal.returns-clause-list
-returns-clause-list c = c.in_ok-list.ensures ∙ sym (root-candidates c.args.c.now)
+returns-clause-list c = c.in_ok-list.ensures ∙ sym (root-candidates c.args.pairs.now)
 
 pub returns-clause-tight : goal.returns-clause-tight
-returns-clause-tight c = subst (All (IsCandidateAt c.args.c.now (singles c.args.c.now.order))) (root-candidates c.args.c.now ∙ sym c.in_ok-list.ensures)
-    (found-root c.args.c.now c.keeps_covered.ensures.limits.multigraph.ends c.keeps_covered.ensures.covered)
+returns-clause-tight c = subst (All (IsCandidateAt c.args.pairs.now (singles c.args.pairs.now.order))) (root-candidates c.args.pairs.now ∙ sym c.in_ok-list.ensures)
+    (found-root c.args.pairs.now c.keeps_covered.ensures.limits.multigraph.ends c.keeps_covered.ensures.covered)
 
 pub returns-clause-none : goal.returns-clause-none
 returns-clause-none c =
-    subst (λ (list : List Candidate). (list ≡ []) ↔ ((x : Set) → IsTightAt c.args.c.now (singles c.args.c.now.order) x → IsNontrivial (length (singles c.args.c.now.order)) (blocks_in (singles c.args.c.now.order) x) → ⊥)) (root-candidates c.args.c.now ∙ sym c.in_ok-list.ensures)
-    (none-root c.args.c.now c.keeps_covered.ensures.limits.multigraph.ends c.keeps_covered.ensures.covered)
+    subst (λ (list : List Candidate). (list ≡ []) ↔ ((x : Set) → IsTightAt c.args.pairs.now (singles c.args.pairs.now.order) x → IsNontrivial (length (singles c.args.pairs.now.order)) (blocks_in (singles c.args.pairs.now.order) x) → ⊥)) (root-candidates c.args.pairs.now ∙ sym c.in_ok-list.ensures)
+    (none-root c.args.pairs.now c.keeps_covered.ensures.limits.multigraph.ends c.keeps_covered.ensures.covered)

@@ -1,8 +1,9 @@
-use Rattle.std.proofs.Common.{◌≡◌, List, sym, ap, ◌∙◌, arith, map}
+use Rattle.std.proofs.Common.{◌≡◌, List, sym, subst, ap, ◌∙◌, arith, map}
 use Rattle.std.specs.Option.{option_map}
 use Rattle.counting.proofs.Common.{IfOk-weaker}
 use Rattle.barrier_kit.proofs.ShoreFacts.{bicritical_no_cuts}
 use Rattle.barrier_kit.specs.BarrierShores.{barrier_cuts}
+use Rattle.graph_core.specs.Common.{Graph, IsBicritical}
 use Rattle.separation_kit.proofs.SeparationFacts.{equivalent-none}
 use Rattle.separation_kit.specs.Pairs.{pair_of}
 use Rattle.separation_kit.specs.SeparationShores.{separation_cuts}
@@ -11,19 +12,20 @@ use Rattle.tight_cuts.proofs.FrontCandidates.{front-barriers, front-separations,
 use Rattle.tight_cuts.proofs.front.front_candidates.Goals as goal
 
 pub separation_candidates-requires-clause-bicritical : goal.separation_candidates-requires-clause-bicritical
-separation_candidates-requires-clause-bicritical c = (equivalent-none c.args.c.now).0 (sym c.equivalent_pair.ensures.first ∙ ap (option_map pair_of) c.in_default.is)
+separation_candidates-requires-clause-bicritical c =
+    subst (λ (g : Graph). IsBicritical g) (sym c.covered-2.ensures) ((equivalent-none c.args.pairs.now).0 (sym c.equivalent.ensures ∙ ap (option_map pair_of) c.in_default.is))
 
 pub returns : goal.returns
-returns c = IfOk-weaker c.separation_candidates.result (λ (list : List Candidate). list ≡ map (candidate_at c.args.c.now.order Separation) (separation_cuts c.args.c.now)) (λ (list : List Candidate). list ≡ front_candidates c.args.c.now)
-    (λ list q. q ∙ front-separations c.args.c.now (bicritical_no_cuts c.args.c.now c.keeps_covered.ensures.limits.multigraph.ends c.keeps_covered.ensures.covered ((equivalent-none c.args.c.now).0 (sym c.equivalent_pair.ensures.first ∙ ap (option_map pair_of) c.in_default.is))))
+returns c = IfOk-weaker c.separation_candidates.result (λ (list : List Candidate). list ≡ map (candidate_at c.covered-2.result.now.order Separation) (separation_cuts c.covered-2.result.now)) (λ (list : List Candidate). list ≡ front_candidates c.args.pairs.now)
+    (λ list q. q ∙ ap (λ (g : Graph). map (candidate_at g.order Separation) (separation_cuts g)) c.covered-2.ensures ∙ front-separations c.args.pairs.now (bicritical_no_cuts c.args.pairs.now c.keeps_covered.ensures.limits.multigraph.ends c.keeps_covered.ensures.covered ((equivalent-none c.args.pairs.now).0 (sym c.equivalent.ensures ∙ ap (option_map pair_of) c.in_default.is))))
     c.separation_candidates.ensures
 
 pub returns-in-Some : goal.returns-in-Some
-returns-in-Some c = IfOk-weaker c.barrier_candidates.result (λ (list : List Candidate). list ≡ map (candidate_at c.args.c.now.order Barrier) (barrier_cuts c.args.c.now)) (λ (list : List Candidate). list ≡ front_candidates c.args.c.now)
-    (λ list q. q ∙ front-barriers c.args.c.now (equivalent-some c.args.c.now (pair_of c.in-Some.field-0) (sym (ap (option_map pair_of) c.in-Some.is) ∙ c.equivalent_pair.ensures.first)))
+returns-in-Some c = IfOk-weaker c.barrier_candidates.result (λ (list : List Candidate). list ≡ map (candidate_at c.covered.result.now.order Barrier) (barrier_cuts c.covered.result.now)) (λ (list : List Candidate). list ≡ front_candidates c.args.pairs.now)
+    (λ list q. q ∙ ap (λ (g : Graph). map (candidate_at g.order Barrier) (barrier_cuts g)) c.covered.ensures ∙ front-barriers c.args.pairs.now (equivalent-some c.args.pairs.now (pair_of c.in-Some.field-0) (sym (ap (option_map pair_of) c.in-Some.is) ∙ c.equivalent.ensures)))
     c.barrier_candidates.ensures
 
 pub returns-then-order-lt4 : goal.returns-then-order-lt4
-returns-then-order-lt4 c = IfOk-weaker c.barrier_candidates-then-order-lt4.result (λ (list : List Candidate). list ≡ map (candidate_at c.args.c.now.order Barrier) (barrier_cuts c.args.c.now)) (λ (list : List Candidate). list ≡ front_candidates c.args.c.now)
-    (λ list q. q ∙ front-barriers c.args.c.now (order-small c.args.c.now (let l = c.if-order-lt4.true in let e = c.order.ensures.is in omega arith)))
+returns-then-order-lt4 c = IfOk-weaker c.barrier_candidates-then-order-lt4.result (λ (list : List Candidate). list ≡ map (candidate_at c.covered-then-order-lt4.result.now.order Barrier) (barrier_cuts c.covered-then-order-lt4.result.now)) (λ (list : List Candidate). list ≡ front_candidates c.args.pairs.now)
+    (λ list q. q ∙ ap (λ (g : Graph). map (candidate_at g.order Barrier) (barrier_cuts g)) c.covered-then-order-lt4.ensures ∙ front-barriers c.args.pairs.now (order-small c.args.pairs.now (let l = c.if-order-lt4.true in let e = c.order.ensures.is in omega arith)))
     c.barrier_candidates-then-order-lt4.ensures

@@ -1,7 +1,7 @@
 use Rattle.std.proofs.Common.{◌≡◌, ℕ, ◌&&◌}
 use Rattle.counting.specs.Common.{mem, some}
 use Rattle.graph_core.specs.Common.{block}
-use Rattle.contraction.proofs.contracted.union_at.Given as goal
+use Rattle.contraction.proofs.partition.union_at.Given as goal
 
 abbrev pub invariant-loop-i : goal.invariant-loop-i
 invariant-loop-i l = (v : ℕ) → mem l.union v ≡ some l.i (λ i. mem l.s i && mem (block l.blocks i) v)

@@ -1,11 +1,12 @@
 -- The sides of a quotient: a set of blocks has each edge of the quotient in its cut exactly when it
 -- separates each two adjacent blocks. So the quotient at the single vertices is bipartite exactly
 -- when the graph is.
-use Rattle.std.proofs.Common.{Bool, List, ap, arith, false, inl, inr, length, ne_eqb, not, refl, subst, subst₂, sym, true, ℕ, ◌&&◌, ◌<◌, ◌==◌, ◌||◌, ◌≡◌}
+use Rattle.std.proofs.Common.{Bool, List, ap, arith, false, inl, inr, length, ne_eqb, not, refl, subst, subst₂, sym, true, ℕ, ◌&&◌, ◌<◌, ◌==◌, ◌||◌, ◌≡◌, ◌↔◌}
 use Rattle.counting.proofs.Common.{and_from, and_parts, cases_order, nat_tests, some_true, true_some}
 use Rattle.counting.specs.Common.{Within, Set, some}
 use Rattle.graph_core.proofs.Common.{edge_of_pair, quotient_edge, contracted-singles, length-singles, has_ends-back, has_ends-cases, has_ends-own}
-use Rattle.graph_core.specs.Common.{Graph, IsBipartite, IsMultigraph, first_end, has_ends, in_cut, second_end, size, contracted, singles, blocks_adjacent, quotient}
+use Rattle.graph_core.specs.Common.{Graph, IsBipartite, IsMultigraph, IsPartition, first_end, has_ends, in_cut, second_end, size, contracted, singles, blocks_adjacent, quotient}
+use Rattle.tight_cuts.proofs.SingleVertices.{as_many-singles}
 
 -- exactly one of the two holds
 abbrev pub differ : Bool → Bool → Bool
@@ -85,3 +86,7 @@ module _ (g : Graph) (is : IsMultigraph g) where
           | inr k ↦ differ-back (b.0 j) (b.0 i) (subst₂ (λ a c. differ (b.0 a) (b.0 c) ≡ true) k.0 k.1 (b.1 s.0 s.1))
         ]),
   )
+
+  -- at a partition with as many blocks as vertices
+  pub sides-at_vertices : (p : List (List ℕ)) → IsPartition g.order p → length p ≡ g.order → IsBipartite g ↔ IsBipartite (quotient g p)
+  sides-at_vertices p pp many = subst (λ (q : List (List ℕ)). IsBipartite g ↔ IsBipartite (quotient g q)) (sym (as_many-singles g.order p pp many)) (singles_from_bipartite, bipartite_from_singles)

@@ -1,0 +1,40 @@
+use Rattle.std.proofs.Common.{IsTrue, ◌≡◌, ◌↔◌, ◌∙◌, length, sym, ap, subst}
+use Rattle.counting.proofs.Common.{IfOk-weaker}
+use Rattle.std.specs.Option.{option_map}
+use Rattle.graph_core.specs.Common.{IsBipartite, IsPartition, quotient}
+use Rattle.tight_cuts.specs.Candidates.{candidates, first_of}
+use Rattle.tight_cuts.specs.CandidatesAt.{candidates_at, lifted_candidate}
+use Rattle.tight_cuts.specs.View.{candidate_of}
+use Rattle.tight_cuts.specs.declared.at_partition.FirstAt.{FirstAt}
+use Rattle.tight_cuts.proofs.FirstCandidates.{first-lifted}
+use Rattle.tight_cuts.proofs.LiftedCandidates.{at-blocks, at-vertices, covered-single}
+use Rattle.tight_cuts.proofs.QuotientSides.{sides-at_vertices}
+use Rattle.tight_cuts.proofs.at_partition.first_found.Goals as goal
+
+many : (c : goal.After-first_of_known) → length c.args.p.now.blocks ≡ c.args.g.now.order
+many c = sym c.len.ensures ∙ c.if-len-order.true ∙ c.order.ensures.is
+
+parts : (c : goal.After-first_of_known) → IsPartition c.args.g.now.order c.args.p.now.blocks
+parts c = subst (λ n. IsPartition n c.args.p.now.blocks) c.requires.order c.keeps_partition.ensures.partition
+
+pub first_of_known-requires : goal.first_of_known-requires
+first_of_known-requires c =
+    covered-single c.args.g.now c.args.p.now.blocks c.keeps_limits.ensures.multigraph.ends (subst (λ n. IsPartition n c.args.p.now.blocks) c.requires.order c.keeps_partition.ensures.partition)
+    (sym c.len.ensures ∙ c.if-len-order.true ∙ c.order.ensures.is) c.requires.covered
+
+pub returns-then-len-order-clause-first : goal.returns-then-len-order-clause-first
+returns-then-len-order-clause-first c = IfOk-weaker c.first_of_known.result (λ (found : FirstAt). option_map candidate_of found.candidate ≡ first_of (candidates c.args.g.now)) (λ (found : FirstAt). option_map candidate_of found.candidate ≡ first_of (candidates_at c.args.g.now c.args.p.now.blocks))
+    (λ found is. is ∙ ap first_of (sym (at-vertices c.args.g.now c.args.p.now.blocks (many c)))) c.first_of_known.ensures.first
+
+pub returns-then-len-order-clause-side : goal.returns-then-len-order-clause-side
+returns-then-len-order-clause-side c =
+    let same = sides-at_vertices c.args.g.now c.keeps_limits.ensures.multigraph c.args.p.now.blocks (parts c) (many c) in
+    IfOk-weaker c.first_of_known.result (λ (found : FirstAt). IsTrue found.is_bipartite ↔ IsBipartite c.args.g.now) (λ (found : FirstAt). IsTrue found.is_bipartite ↔ IsBipartite (quotient c.args.g.now c.args.p.now.blocks))
+    (λ found is. (λ t. same.0 (is.0 t), λ b. is.1 (same.1 b))) c.first_of_known.ensures.side
+
+pub returns-clause-first : goal.returns-clause-first
+returns-clause-first c =
+    c.lifted_first.ensures c.args.g.now (sym c.requires.order)
+    ∙ first-lifted (lifted_candidate c.args.g.now c.args.p.now.blocks) (candidates (quotient c.args.g.now c.args.p.now.blocks)) _
+    (c.in_ok-found.ensures.first ∙ ap (λ g. first_of (candidates g)) c.in_ok-q.ensures)
+    ∙ ap first_of (sym (at-blocks c.args.g.now c.args.p.now.blocks (λ e. c.if-len-order.false (c.len.ensures ∙ e ∙ sym c.order.ensures.is))))

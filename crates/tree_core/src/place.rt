@@ -1,0 +1,108 @@
+//! Places in a derivation.
+ghost use Rattle.std.specs.Prelude.{◌≡◌, ◌+◌, ◌≤◌, length, IfOk};
+ghost use Rattle.counting.specs.Common.{count, mem, complement};
+ghost use Rattle.graph_core.specs.Common.{IsCovered, IsPartition, IsWithinLimits, singles, quotient, blocks_in};
+ghost use Rattle.tree_core.specs.Derivations.{IsCutAt, kept_at, merged_at};
+
+use crate::below::{kept_partition, merged_partition, root_partition};
+use contraction::Partition;
+use graph_core::MultiGraph;
+use graph_facts::Covered;
+use std::alloc::{AllocError as Memory, Global};
+use std::marker::Model;
+use vset_core::{MOST_VERTICES, VSet};
+
+/// A place in a derivation: a graph with a partition of its vertices whose quotient is matching
+/// covered. Contracts see the graph and the blocks. A derivation starts at `root`, and each cut
+/// leads to the places `kept` and `merged` (Lovász 1987).
+#[derive(Drop)]
+pub struct Place<'g> {
+    graph: &'g MultiGraph,
+    partition: Partition,
+}
+
+impl<'g> Model for Place<'g> {
+    ghost use Rattle.std.specs.Prelude.{◌≡◌};
+    ghost use Rattle.graph_core.specs.Common.{IsCovered, quotient};
+    ghost use Rattle.tree_core.specs.Places.{PlaceValue};
+
+    ghost Value = { PlaceValue };
+
+    ghost view = { λ p. record { graph = p.graph.now; blocks = p.partition.blocks } };
+
+    ghost invariant = { λ p. (p.partition.order ≡ p.graph.now.order) × IsCovered (quotient p.graph.now p.partition.blocks) };
+}
+
+impl<'g> Place<'g> {
+    /// The place at the root: the single vertices of a covered graph.
+    pub fn root(alloc: Global, c: &Covered<'g>) -> Result<Place<'g>, Memory>
+        ensures graph { IfOk result (λ p. p.graph ≡ c.now) }
+        ensures blocks { IfOk result (λ p. p.blocks ≡ singles c.now.order) }
+    {
+        let graph = c.graph();
+        let partition = root_partition(alloc, graph)?;
+        Ok(Place { graph, partition })
+    }
+
+    /// The place below a cut where the shore is kept: its complement becomes one block.
+    pub fn kept(&self, alloc: Global, shore: VSet) -> Result<Place<'g>, Memory>
+        requires { IsCutAt self.now.graph self.now.blocks shore }
+        ensures graph { IfOk result (λ p. p.graph ≡ self.now.graph) }
+        ensures blocks { IfOk result
+            (λ p. p.blocks ≡ kept_at self.now.graph.order self.now.blocks shore) }
+        ensures length { IfOk result
+            (λ p. length p.blocks + count (length self.now.blocks)
+            (complement (blocks_in self.now.blocks (mem shore))) ≡ length self.now.blocks + 1) }
+    {
+        let partition = kept_partition(alloc, self.graph, &self.partition, shore)?;
+        Ok(Place {
+            graph: self.graph,
+            partition,
+        })
+    }
+
+    /// The place below a cut where the shore is merged: it becomes one block.
+    pub fn merged(&self, alloc: Global, shore: VSet) -> Result<Place<'g>, Memory>
+        requires { IsCutAt self.now.graph self.now.blocks shore }
+        ensures graph { IfOk result (λ p. p.graph ≡ self.now.graph) }
+        ensures blocks { IfOk result
+            (λ p. p.blocks ≡ merged_at self.now.graph.order self.now.blocks shore) }
+        ensures length { IfOk result
+            (λ p. length p.blocks + count (length self.now.blocks)
+            (blocks_in self.now.blocks (mem shore)) ≡ length self.now.blocks + 1) }
+    {
+        let partition = merged_partition(alloc, self.graph, &self.partition, shore)?;
+        Ok(Place {
+            graph: self.graph,
+            partition,
+        })
+    }
+
+    /// The law of a place: the blocks are a partition of the vertices, and the quotient at it is
+    /// matching covered. It does nothing: a caller states it where it needs it.
+    pub fn keeps_place(&self)
+        ensures covered { IsCovered (quotient self.now.graph self.now.blocks) }
+        ensures partition { IsPartition self.now.graph.order self.now.blocks }
+        ensures limits { IsWithinLimits self.now.graph }
+        ensures few { length self.now.blocks ≤ MOST_VERTICES }
+    {
+        self.graph.keeps_limits();
+        self.partition.keeps_partition();
+    }
+
+    /// The graph.
+    pub fn graph(&self) -> &'g MultiGraph
+        ensures { result.now ≡ self.now.graph }
+    {
+        self.graph
+    }
+
+    /// The partition.
+    pub fn partition(&self) -> &Partition
+        ensures order { result.now.order ≡ self.now.graph.order }
+        ensures blocks { result.now.blocks ≡ self.now.blocks }
+        ensures covered { IsCovered (quotient self.now.graph result.now.blocks) }
+    {
+        &self.partition
+    }
+}
