@@ -59,6 +59,10 @@ pub record HasBranched (t h : AlternatingForest) (x y z : ℕ) : Type 0 where
   pub parent : (v : ℕ) → numbers h.parent.items v ≡ with_mate (numbers t.parent.items) y x v
   pub pairs : (v : ℕ) → numbers h.pairs.items v ≡ with_mate (numbers t.pairs.items) z (suc (numbers t.pairs.items x)) v
 
+-- x is in the set
+pub record IsMember (set : List ℕ) (x : ℕ) : Type 0 where
+  pub member : mem set x ≡ true
+
 -- x is done: each neighbour of it that is left, but for itself, is inner
 abbrev pub IsDone : Instance → AlternatingForest → ℕ → Type 0
 IsDone s t x = (y : ℕ) → Touches s x y → mem s.left y ≡ true → x ≢ y → mem t.inner y ≡ true

@@ -19,7 +19,7 @@ ghost use Rattle.match_search.specs.Shrinkings.{AreAlike};
 use crate::alternating::{AlternatingForest, exposed_in};
 use crate::answer::{Answer, FinalSets, widen};
 use crate::blossom::{Blossom, close, open};
-use crate::growing::{Adjacent, GrownForest, grow_forest};
+use crate::growing::{Adjacent, GrownForest, Growth, grow_forest};
 use crate::instance::Instance;
 use crate::paths::paths_to;
 use std::alloc::{AllocError as Memory, Global};
@@ -45,7 +45,7 @@ pub fn augment_once(
     ensures restored { OnOk result (AreAlike instance.old instance.new) }
 {
     let roots = exposed_in(candidates, instance.left, mate);
-    let GrownForest { forest, closing } = grow_forest(instance, unused, roots, mate);
+    let GrownForest { forest, closing } = grow_forest(instance, unused, roots, mate, Growth::Least);
     match closing {
         None => Ok(Answer::Final(FinalSets {
             outer: forest.outer,

@@ -2,15 +2,15 @@
 //! vertices, or no edge leads from an outer vertex to one that is not inner. The last forest of a
 //! search without such an edge shows that the matching is maximum: without its inner vertices
 //! each of its outer vertices is a component by itself.
-ghost use Rattle.std.specs.Prelude.{◌≡◌, ℕ, ◌+◌, ◌<◌, ◌≤◌, length, suc, IfOk};
-ghost use Rattle.counting.specs.Common.{Set, mem};
+ghost use Rattle.std.specs.Prelude.{◌≡◌, ℕ, ◌+◌, ◌<◌, ◌≤◌, length, suc, IfOk, IfSome, IfNone, []};
+ghost use Rattle.counting.specs.Common.{Set, Within, mem};
 ghost use Rattle.graph_core.specs.Common.{Graph};
-ghost use Rattle.match_search.specs.AlternatingForests.{AreExposed, HoldsMatching, IsGrownForest, IsSized};
+ghost use Rattle.match_search.specs.AlternatingForests.{AreExposed, HoldsMatching, IsGrownForest, IsMember, IsSized};
 ghost use Rattle.match_search.specs.Rows.{numbers};
 
 use crate::alternating::AlternatingForest;
 use crate::instance::Instance;
-use vset_core::VSet;
+use vset_core::{MOST_VERTICES, VSet};
 
 /// Two vertices that an edge joins.
 #[derive(Clone, Copy, Debug, PartialEq, Eq, Drop)]
@@ -27,6 +27,29 @@ pub struct GrownForest {
     pub closing: Option<Adjacent>,
 }
 
+/// From which of its open vertices a forest grows: the least, or the one that became outer last.
+/// The latest soon comes back to a vertex of the forest, and its blossoms are large.
+#[derive(Clone, Copy, Drop)]
+pub enum Growth {
+    Least,
+    Latest,
+}
+
+// The next vertex to grow from.
+fn next_of(rest: VSet, latest: VSet, growth: Growth) -> Option<u32>
+    ensures some { IfSome result (IsMember rest) }
+    ensures within { IfSome result (Within MOST_VERTICES) }
+    ensures none { IfNone result (rest ≡ []) }
+{
+    match growth {
+        Growth::Least => rest.first(),
+        Growth::Latest => match rest.meet(latest).first() {
+            Some(x) => Some(x),
+            None => rest.first(),
+        },
+    }
+}
+
 /// Grows the forest of the matching with these mates from its exposed vertices. It is written
 /// into the memory of a forest that means nothing.
 pub fn grow_forest(
@@ -34,6 +57,7 @@ pub fn grow_forest(
     unused: AlternatingForest,
     roots: VSet,
     mate: &[u32],
+    growth: Growth,
 ) -> GrownForest
     requires holds { (g : Graph) × (r : Set) × (f : Set) ×
         HoldsMatching g r f instance.now mate.now }
@@ -45,7 +69,8 @@ pub fn grow_forest(
 {
     let mut forest = unused.with_roots(roots);
     let mut open = forest.outer;
-    'growing: while let Some(x) = open.first() {
+    let mut latest = VSet::empty();
+    'growing: while let Some(x) = next_of(open, latest, growth) {
         let near = instance.near(x).without(x);
         let reach = near.minus(forest.inner);
         if let Some(y) = reach.meet(forest.outer).first() {
@@ -60,6 +85,7 @@ pub fn grow_forest(
                 let z = mate[y as usize];
                 forest.branch(x, y, z);
                 open = open.with(z);
+                latest = VSet::one(z);
             }
         }
     }

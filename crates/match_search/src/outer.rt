@@ -12,7 +12,7 @@ ghost use Rattle.match_search.specs.Shrinkings.{AreAlike};
 
 use crate::alternating::AlternatingForest;
 use crate::flower::{Flower, flower_of};
-use crate::growing::{GrownForest, grow_forest};
+use crate::growing::{GrownForest, Growth, grow_forest};
 use crate::instance::Instance;
 use vset_core::VSet;
 
@@ -32,7 +32,14 @@ pub fn outer_from(
         HoldsRooted g r f instance.old mate.old root → HasOuter g r f result }
     ensures restored { AreAlike instance.old instance.new }
 {
-    let GrownForest { forest, closing } = grow_forest(instance, unused, VSet::one(root), mate);
+    let roots = VSet::one(root);
+    let GrownForest { forest, closing } = grow_forest(
+        instance,
+        unused,
+        roots,
+        mate,
+        Growth::Latest,
+    );
     match closing {
         None => forest.outer,
         Some(bridge) => {

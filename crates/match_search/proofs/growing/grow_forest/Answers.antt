@@ -93,6 +93,12 @@ with-open-requires c =
     let fits = fits_branch c.args.instance.now c.args.mate.now c.growing.forest c.in-Some.x c.in-Some-first-2.y c.near.result c.without-near.result c.minus-reach.result c.meet.result (c.growing.invariant.opens c.in-Some.x c.in-Some.ensures.some.member) c.near.ensures c.without-near.ensures c.minus-reach.ensures c.meet.ensures c.in_default-first.ensures.none c.in-Some-first-2.ensures.some.member q.0 q.1 q.2 q.3 (c.growing.invariant.holds q.0 q.1 q.2 q.3) in
     fits.z_vertex
 
+pub one-latest-requires : goal.one-latest-requires
+one-latest-requires c =
+    let q = c.requires.holds in
+    let fits = fits_branch c.args.instance.now c.args.mate.now c.growing.forest c.in-Some.x c.in-Some-first-2.y c.near.result c.without-near.result c.minus-reach.result c.meet.result (c.growing.invariant.opens c.in-Some.x c.in-Some.ensures.some.member) c.near.ensures c.without-near.ensures c.minus-reach.ensures c.meet.ensures c.in_default-first.ensures.none c.in-Some-first-2.ensures.some.member q.0 q.1 q.2 q.3 (c.growing.invariant.holds q.0 q.1 q.2 q.3) in
+    fits.z_vertex
+
 pub growing-smaller : goal.growing-smaller
 growing-smaller c =
     let q = c.requires.holds in

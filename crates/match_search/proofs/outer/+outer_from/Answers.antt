@@ -5,14 +5,14 @@ use Rattle.match_search.proofs.Instances.{alike_self, put_back}
 use Rattle.match_search.proofs.MateSteps.{growth_closes}
 use Rattle.match_search.proofs.outer.+outer_from.Goals as goal
 
-pub one-requires : goal.one-requires
-one-requires t c = let q = c.requires.rooted in root_within q.0 q.1 q.2 c.args.instance.now c.args.mate.now c.args.root q.3
+pub one-roots-requires : goal.one-roots-requires
+one-roots-requires t c = let q = c.requires.rooted in root_within q.0 q.1 q.2 c.args.instance.now c.args.mate.now c.args.root q.3
 
 pub grow_forest-forest-requires-clause-holds : goal.grow_forest-forest-requires-clause-holds
 grow_forest-forest-requires-clause-holds t c = let q = c.requires.rooted in (q.0, q.1, q.2, q.3.holds)
 
 pub grow_forest-forest-requires-clause-roots : goal.grow_forest-forest-requires-clause-roots
-grow_forest-forest-requires-clause-roots t c = let q = c.requires.rooted in root_exposed q.0 q.1 q.2 c.args.instance.now c.args.mate.now c.args.root q.3 c.one.result c.one.ensures
+grow_forest-forest-requires-clause-roots t c = let q = c.requires.rooted in root_exposed q.0 q.1 q.2 c.args.instance.now c.args.mate.now c.args.root q.3 c.one-roots.result c.one-roots.ensures
 
 pub flower_of-members-requires : goal.flower_of-members-requires
 flower_of-members-requires t c =
