@@ -6,7 +6,7 @@ ghost use Rattle.uncross.specs.Exchanges.{exchange_at, images_at};
 
 use crate::block_images::{Images, kept_images, merged_images};
 use crate::leaf_orders::count_leaves;
-use tree_core::{Side, Tree};
+use tree_core::{MOST_NODES, Side, Tree};
 use vset_core::{MOST_VERTICES, VSet};
 
 /// The leaves below the node of a Switch, by their numbers in preorder, counted from 1, and the
@@ -46,7 +46,7 @@ impl Exchange {
 /// where k leaves stand before the tree.
 pub fn exchange_at(n: u32, path: &[Side], u: VSet, v: VSet, k: u32, tree: &Tree) -> Exchange
     requires order { n ≤ MOST_VERTICES }
-    requires few { k + leaf_count (shape_of tree.now) ≤ 255 }
+    requires few { k + leaf_count (shape_of tree.now) ≤ MOST_NODES }
     ensures { result ≡ exchange_at n path.now u v k (shape_of tree.now) }
 {
     match tree {

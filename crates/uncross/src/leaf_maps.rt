@@ -13,7 +13,7 @@ use contraction::Partition;
 use graph_core::Numbers;
 use listed::Listed;
 use std::alloc::{AllocError as Memory, Global};
-use tree_core::Partitions;
+use tree_core::{MOST_NODES, Partitions};
 use vset_core::MOST_VERTICES;
 
 /// The map of one leaf.
@@ -40,7 +40,7 @@ pub struct Switched {
 
 // The place of a number in a list, counted from 1, and one past the end if it is not there.
 fn position_of(order: &[u32], i: u32) -> u32
-    requires { length order.now ≤ 255 }
+    requires { length order.now ≤ MOST_NODES }
     ensures place { result ≡ position order.now i }
     ensures within { result ≤ length order.now + 1 }
 {
@@ -117,7 +117,7 @@ fn map_after(
     m: LeafMap,
 ) -> Result<LeafMap, Memory>
     requires order { n ≤ MOST_VERTICES }
-    requires short { length order.now ≤ 255 }
+    requires short { length order.now ≤ MOST_NODES }
     requires leads { IsMapIntoIf switched.now (map_of m) }
     ensures { IfOk result
         (λ after. map_of after ≡ map_after n order.now switched.now (map_of m)) }
@@ -143,7 +143,7 @@ pub(crate) fn maps_after(
     maps: LeafMaps,
 ) -> Result<LeafMaps, Memory>
     requires order { n ≤ MOST_VERTICES }
-    requires short { length order.now ≤ 255 }
+    requires short { length order.now ≤ MOST_NODES }
     requires leads { All (IsMapIntoIf switched.now) (maps_of maps) }
     ensures { IfOk result
         (λ after. maps_of after ≡ map (map_after n order.now switched.now) (maps_of maps)) }

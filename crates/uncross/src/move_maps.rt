@@ -12,7 +12,7 @@ use crate::leaf_maps::{LeafMap, LeafMaps, Switched, maps_after};
 use crate::leaf_orders::move_order;
 use graph_core::MultiGraph;
 use std::alloc::{AllocError as Memory, Global};
-use tree_core::{Move, Moves, Tree, apply, copy, leaves};
+use tree_core::{MOST_NODES, Move, Moves, Tree, apply, copy, leaves};
 use vset_core::MOST_VERTICES;
 
 /// The maps of no move: each leaf and each block to itself.
@@ -20,7 +20,7 @@ pub fn own_maps(alloc: Global, n: u32, tree: &Tree) -> Result<LeafMaps, Memory>
     requires order { n ≤ MOST_VERTICES }
     requires fits { Fits n (shape_of tree.now) }
     requires stands { StandsAt n (singles n) (shape_of tree.now) }
-    requires few { leaf_count (shape_of tree.now) ≤ 255 }
+    requires few { leaf_count (shape_of tree.now) ≤ MOST_NODES }
     ensures { IfOk result (λ maps. maps_of maps ≡ own_maps n (shape_of tree.now)) }
 {
     let mut rest = leaves(alloc, tree, n)?.into_items().into_iter();
@@ -39,7 +39,7 @@ fn switched_by(alloc: Global, n: u32, tree: &Tree, m: &Move) -> Result<Option<Sw
     requires order { n ≤ MOST_VERTICES }
     requires fits { Fits n (shape_of tree.now) }
     requires stands { StandsAt n (singles n) (shape_of tree.now) }
-    requires few { leaf_count (shape_of tree.now) ≤ 255 }
+    requires few { leaf_count (shape_of tree.now) ≤ MOST_NODES }
     ensures { IfOk result
         (λ switched. IsSwitched n (shape_of tree.now) (move_of m.now) switched) }
 {
@@ -75,7 +75,7 @@ fn maps_onward(
     requires order { n ≤ MOST_VERTICES }
     requires fits { Fits n (shape_of tree.now) }
     requires stands { StandsAt n (singles n) (shape_of tree.now) }
-    requires few { leaf_count (shape_of tree.now) ≤ 255 }
+    requires few { leaf_count (shape_of tree.now) ≤ MOST_NODES }
     requires leads { All (IsMapInto (leaves n (shape_of tree.now))) (maps_of maps) }
     ensures { IfOk result
         (λ after. maps_of after ≡ led_on n (shape_of tree.now) (move_of m.now) (maps_of maps)) }

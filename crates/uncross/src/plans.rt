@@ -9,7 +9,7 @@ ghost use Rattle.uncross.specs.Plans.{IsPlan, first_shore, if_big, second_shore}
 
 use contraction::Partition;
 use tree_core::are_apart;
-use vset_core::VSet;
+use vset_core::{MOST_VERTICES, VSet};
 
 /// How a shore y is exposed in a tree with the root shore x.
 #[derive(Drop)]
@@ -52,7 +52,7 @@ fn met(x: VSet, y: VSet, n: u32) -> VSet
 
 // What is in neither.
 fn around(x: VSet, y: VSet, n: u32) -> VSet
-    requires { n ≤ 128 }
+    requires { n ≤ MOST_VERTICES }
     ensures { result ≡ outer_of n x y }
 {
     let outside = VSet::full(n).minus(x.union(y));
@@ -62,7 +62,7 @@ fn around(x: VSet, y: VSet, n: u32) -> VSet
 
 /// The complement of a shore.
 pub(crate) fn complement(x: VSet, n: u32) -> VSet
-    requires { n ≤ 128 }
+    requires { n ≤ MOST_VERTICES }
     ensures list { result ≡ complement_of n x }
     ensures rising { IsRisingIn n result }
 {
@@ -73,7 +73,7 @@ pub(crate) fn complement(x: VSet, n: u32) -> VSet
 
 // The one of y and its complement that shares an odd number of blocks with x.
 fn partner_of(p: &Partition, x: VSet, y: VSet) -> VSet
-    requires { p.now.order ≤ 128 }
+    requires { p.now.order ≤ MOST_VERTICES }
     ensures { result ≡ partner p.now.order p.now.blocks x y }
 {
     if share_odd(p, x, y) {
@@ -96,7 +96,7 @@ fn shore_if_big(p: &Partition, u: VSet, shore: VSet) -> Option<VSet>
 
 // The canonical shore of the outer corner.
 fn outer_shore_of(v: VSet, n: u32) -> VSet
-    requires few { n ≤ 128 }
+    requires few { n ≤ MOST_VERTICES }
     requires some { 1 ≤ n }
     ensures { result ≡ outer_shore n v }
 {
