@@ -3,7 +3,7 @@
 -- are those of the opened matching.
 use Rattle.std.proofs.Common.{◌≡◌, ◌≢◌, ℕ, suc, ◌+◌, ◌-◌, ◌*◌, ◌/◌, ◌≤◌, ◌<◌, Bool, true, false, cond, ◌==◌, refl, sym, ap, ◌∙◌, arith, ne_eqb, inl, inr, subst, length, List, ◌&&◌, not}
 use mathlib.Core.Path.{fun_ext}
-use Rattle.counting.proofs.Common.{cases_Bool, cases_eq, both_ways, and_parts, false_from_ne_true, half}
+use Rattle.counting.proofs.Common.{cases_Bool, cases_eq, both_ways, false_from_ne_true, half}
 use Rattle.counting.specs.Common.{Within, bit, count, Set, minus, put, mem}
 use Rattle.graph_core.proofs.Common.{degree_put, ends_of_is}
 use Rattle.graph_core.specs.Common.{Graph, HasEnds, degree, size, IsMatching}

@@ -1,16 +1,15 @@
 -- A matching that misses one vertex: its exposed vertex is the root, and after the shrinking of a
 -- blossom the base is. No step enlarges it, so two closing paths meet, and the frame of the shrunk
 -- graph is one of the graph with the blossom among the outer vertices.
-use Rattle.std.proofs.Common.{◌≡◌, ◌≢◌, ℕ, suc, ◌+◌, ◌*◌, ◌-◌, ◌<◌, ◌≤◌, Bool, true, false, refl, sym, ap, ap₂, ◌∙◌, arith, inl, inr, not, ◌&&◌, ◌||◌, ◌==◌, subst, subst₂, eq-eqb, eqb-true, ne_eqb, List, [], ◌∷◌, length, None, Some}
+use Rattle.std.proofs.Common.{◌≡◌, ℕ, ◌<◌, Bool, true, false, refl, sym, ap, ap₂, ◌∙◌, arith, inl, inr, not, ◌&&◌, ◌||◌, ◌==◌, subst₂, eq-eqb, eqb-true, ne_eqb, List, [], ◌∷◌, length, None}
 use mathlib.Core.Path.{fun_ext}
-use Rattle.counting.proofs.Common.{and_from, and_parts, count_congr, count_of_one, cases_eq, false_from_ne_true, or_cases, only_one, not-true, or_false}
-use Rattle.counting.specs.Common.{Within, bit, count, Set, complement, mem, union}
+use Rattle.counting.proofs.Common.{and_from, and_parts, count_congr, count_of_one, cases_eq, false_from_ne_true, or_cases, only_one, or_false}
+use Rattle.counting.specs.Common.{Within, bit, count, Set, mem, union}
 use Rattle.graph_core.proofs.Common.{missed_edges}
 use Rattle.graph_core.specs.Common.{Graph, IsGraph, IsMatching, degree, size, missed_count}
 use Rattle.match_search.specs.AlternatingForests.{AreExposed, HoldsMatching, IsGrownForest}
 use Rattle.match_search.specs.Blossoms.{HoldsBlossom, IsAugmented, blossom_length}
 use Rattle.match_search.specs.Flowers.{HasOuter, HoldsFlower, HoldsRooted}
-use Rattle.match_search.specs.Forests.{IsForest}
 use Rattle.match_search.specs.Frames.{Frame}
 use Rattle.match_search.specs.Missable.{IsMissableRow}
 use Rattle.match_search.specs.OddCycles.{listed}

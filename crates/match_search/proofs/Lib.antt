@@ -40,4 +40,5 @@ pub mod AugmentedMates
 pub mod MissableRows
 pub mod FlippedPaths
 pub mod FlowerPaths
+pub mod PathFlowers
 pub mod Flowers

@@ -3,7 +3,7 @@
 use Rattle.std.proofs.Common.{◌≡◌, ◌≢◌, ℕ, zero, suc, ◌+◌, ◌-◌, ◌<◌, ◌≤◌, ◌==◌, ◌&&◌, ◌||◌, not, Bool, true, false, refl, sym, ap, ◌∙◌, arith, eq-eqb, ne_eqb, eqb-true, nat_lt, nat_le, inl, inr, ◌⊎◌, subst, List, [], length}
 use Rattle.counting.proofs.Common.{and_parts, and_from, both_ways, cases_eq, not-true, or_cases, total_congr}
 use Rattle.counting.specs.Common.{Within, bit, count, mem, Set, meet, singleton, union}
-use Rattle.graph_core.specs.Common.{Graph, IsGraph, HasEnds, degree, first_end, second_end, size, IsMatching, missed_count}
+use Rattle.graph_core.specs.Common.{Graph, IsGraph, HasEnds, degree, first_end, second_end, IsMatching, missed_count}
 use Rattle.graph_core.proofs.Common.{edge_at}
 use Rattle.match_search.specs.AlternatingForests.{HoldsMatching}
 use Rattle.match_search.specs.Instances.{IsInstance}

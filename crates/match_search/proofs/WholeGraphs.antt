@@ -1,7 +1,7 @@
 -- The order and the ends of a graph, as the code reads them, make the graph again.
 -- What is proved of these ends is so said of the graph, by one equation.
-use Rattle.std.proofs.Common.{◌≡◌, ℕ, suc, ◌-◌, ◌<◌, List, length, map, sym, ap, ap₂, ◌∙◌, arith, subst, inl}
-use Rattle.counting.specs.Common.{Within, rising_list, Set}
+use Rattle.std.proofs.Common.{◌≡◌, ℕ, suc, ◌-◌, ◌<◌, List, length, sym, ap, ◌∙◌, arith, subst, inl}
+use Rattle.counting.specs.Common.{Within}
 use Rattle.graph_core.specs.Common.{Graph, HasEnds, IsGraph, first_end, second_end, size, AreRows, graph_of, IsWithinLimits}
 use Rattle.graph_core.specs.declared.ends.Ends.{Ends}
 use Rattle.match_search.specs.Rows.{end_a, end_b}

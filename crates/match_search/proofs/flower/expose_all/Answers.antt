@@ -1,5 +1,5 @@
 use Rattle.std.proofs.Common.{◌≡◌, ℕ, Bool, true, false, cond, refl, sym, ap, ◌∙◌, arith, inl, inr, ◌⊎◌, List}
-use Rattle.counting.proofs.Common.{cases_Bool, true≢false}
+use Rattle.counting.proofs.Common.{true≢false}
 use Rattle.counting.specs.Common.{mem}
 use Rattle.match_search.specs.Rows.{numbers}
 use Rattle.match_search.proofs.Instances.{first_in}

@@ -1,4 +1,4 @@
-use Rattle.std.proofs.Common.{◌≡◌, ℕ, ◌+◌, ◌≤◌, true, length}
+use Rattle.std.proofs.Common.{◌≡◌, ℕ, ◌+◌, true, length}
 use Rattle.counting.specs.Common.{Set, mem}
 use Rattle.graph_core.specs.Common.{Graph}
 use Rattle.match_search.specs.AlternatingForests.{HoldsAlternating}

@@ -1,12 +1,10 @@
-use Rattle.std.proofs.Common.{◌≡◌, ◌≢◌, ◌↔◌, ℕ, suc, ◌+◌, ◌-◌, ◌<◌, ◌≤◌, ◌||◌, ◌==◌, true, false, refl, sym, ap, ap₂, ◌∙◌, arith, inl, inr, subst, length, List}
+use Rattle.std.proofs.Common.{◌≡◌, ◌≢◌, ℕ, ◌+◌, sym, ap, ◌∙◌, arith, inl, inr}
 use Rattle.counting.proofs.Common.{cases_eq}
 use Rattle.std.proofs.lemmas.Grind.{get_or_default_zero}
-use Rattle.counting.specs.Common.{Within, mem}
-use Rattle.match_search.specs.Mates.{flipped_over}
+use Rattle.counting.specs.Common.{mem}
 use Rattle.match_search.specs.Rows.{numbers}
-use Rattle.match_search.proofs.FlippedPaths.{over_off}
-use Rattle.match_search.proofs.FlowerPaths.{flip_more, path_more, up_at, up_inner, up_outer, up_over, up_pairs}
-use Rattle.match_search.proofs.PathsUp.{grandparent, pairs_read, up_within}
+use Rattle.match_search.proofs.FlowerPaths.{up_outer, up_over, up_pairs}
+use Rattle.match_search.proofs.PathsUp.{pairs_read, up_within}
 use Rattle.match_search.proofs.flower.last_in.Goals as goal
 
 pub index-at-requires : goal.index-at-requires

@@ -1,5 +1,5 @@
 use Rattle.std.proofs.Common.{◌≡◌, ◌≢◌, ℕ, suc, ◌+◌, ◌-◌, ◌*◌, ◌<◌, ◌≤◌, Bool, true, false, ◌==◌, refl, sym, ap, ◌∙◌, arith, inl, inr, subst, length, List, [], None, Some, ◌&&◌, ◌||◌, not}
-use Rattle.counting.proofs.Common.{both_ways, cases_Bool, cases_eq, and_parts, and_from, false_from_ne_true, or_cases, or_left, or_right}
+use Rattle.counting.proofs.Common.{both_ways, cases_eq, and_parts, and_from, false_from_ne_true, or_cases, or_left, or_right}
 use Rattle.counting.specs.Common.{count, mem}
 use Rattle.match_search.specs.AlternatingForests.{IsDone, IsClosingPair}
 use Rattle.match_search.specs.declared.growing.Adjacent.{Adjacent}

@@ -1,9 +1,6 @@
-use Rattle.std.proofs.Common.{◌≡◌, List, ℕ, sym, subst}
-use Rattle.counting.proofs.Common.{IfOk-weaker}
-use Rattle.counting.specs.Common.{Set, singleton, union}
-use Rattle.graph_core.specs.Common.{Graph}
+use Rattle.std.proofs.Common.{List, ℕ, sym, subst}
+use Rattle.counting.specs.Common.{singleton, union}
 use Rattle.match_search.specs.AlternatingForests.{HoldsMatching}
-use Rattle.match_search.specs.Missable.{IsMissableRow}
 use Rattle.match_search.proofs.Instances.{left_parts}
 use Rattle.match_search.proofs.MissableRows.{held_without}
 use Rattle.match_search.proofs.missable.missable_beside.Goals as goal

@@ -1,4 +1,4 @@
-use Rattle.std.proofs.Common.{ℕ, List, length, refl, sym, ap, ◌∙◌}
+use Rattle.std.proofs.Common.{ℕ, List, refl, sym, ap, ◌∙◌}
 use Rattle.counting.proofs.Common.{true≢false}
 use Rattle.counting.specs.Common.{mem}
 use Rattle.match_search.proofs.AugmentedMates.{left_is}

@@ -1,10 +1,4 @@
 use Rattle.std.proofs.Common.{refl}
-use Rattle.counting.proofs.Common.{IfOk-weaker}
-use Rattle.counting.specs.Common.{Set}
-use Rattle.graph_core.specs.Common.{Graph}
-use Rattle.match_search.specs.AlternatingForests.{HoldsMatching}
-use Rattle.match_search.specs.Flowers.{HasOuter, HoldsRooted}
-use Rattle.match_search.specs.Missable.{IsMissableRow}
 use Rattle.match_search.proofs.Flowers.{outer_row, rooted_from}
 use Rattle.match_search.proofs.missable.outer_of_one.Goals as goal
 
