@@ -1,105 +1,112 @@
-//! The decomposition of a graph by tight cuts.
-ghost use Rattle.std.specs.Prelude.{◌≡◌, ◌≤◌, ◌<◌, ◌+◌, ◌-◌, ℕ, List, [], length, IfOk, Err, Some, None};
+//! The decomposition of a covered graph by tight cuts, with the kinds of the leaves.
+ghost use Rattle.std.specs.Prelude.{◌≡◌, ◌≤◌, ◌<◌, ◌+◌, ◌-◌, length, IfOk, Some};
 ghost use Rattle.counting.specs.Common.{count, mem};
-ghost use Rattle.graph_core.specs.Common.{IsCovered, IsReason, singles, quotient, blocks_in, reason_of};
+ghost use Rattle.graph_core.specs.Common.{singles, blocks_in};
 ghost use Rattle.tight_cuts.specs.Candidates.{candidates, first_shore};
 ghost use Rattle.tight_cuts.specs.CandidatesAt.{candidates_at};
-ghost use Rattle.tree_core.specs.Derivations.{
+ghost use Rattle.tree_core.specs.Common.{
+  AddsKinds,
+  AreLeafKinds,
   IsCutAt,
   IsDerivation,
   IsDerivationAt,
+  cut,
+  cut_count,
   kept_at,
+  leaves,
+  leaves_at,
   merged_at,
+  shape_of,
 };
-ghost use Rattle.tree_core.specs.Common.{cut, cut_count, shape_of};
 ghost use Rattle.decomposer.specs.Orders.{NamedPicks};
 ghost use Rattle.decomposer.specs.Picked.{IsPicked, IsPickedAt, PicksShore};
 
 use crate::orders::{NamedOrder, Order};
-use crate::shores::{picked_shore, root_shore};
-use contraction::Partition;
-use graph_core::{MultiGraph, Reason};
+use crate::shores::{picked_at, picked_at_root};
 use graph_facts::Covered;
+use separation_kit::FirstPairs;
 use std::alloc::{AllocError, Global};
-use tree_core::{Tree, kept_partition, merged_partition, root_partition};
+use tree_core::{LeafKind, Place, Tree};
 use vset_core::VSet;
 
-/// Why there is no decomposition.
-#[derive(Clone, Copy, PartialEq, Eq)]
-pub enum Refused {
-    /// The graph is not matching covered, for this reason.
-    NotCovered(Reason),
-    /// There is not enough memory.
-    Memory,
+/// The tree of tight cuts that an order picks, with the kinds of its leaves.
+#[derive(Drop)]
+pub struct TreeWithKinds {
+    /// The tree.
+    pub tree: Tree,
+    /// The kinds of its leaves, in preorder.
+    pub kinds: Vec<LeafKind>,
 }
 
-/// The tree of tight cuts that `order` picks from `g`. At the node with k cuts before it in
-/// preorder the order is asked with the candidates there and with k; the node is the cut of the
-/// candidate that it picks, and a leaf if and only if there is none. `NotCovered` comes if and
-/// only if `g` is not matching covered, with the first reason.
-pub fn decompose<O: Order>(alloc: Global, g: &MultiGraph, order: &O) -> Result<Tree, Refused>
-    ensures derivation { IfOk result (λ tree. IsDerivation g.now (shape_of tree)) }
-    ensures picked { IfOk result (λ tree. IsPicked (O.picks order.now) g.now (shape_of tree)) }
-    ensures reason { (r : _) → result ≡ Err (Refused.NotCovered r) → IsReason g.now (reason_of r) }
-    ensures uncovered { (r : _) → result ≡ Err (Refused.NotCovered r) → ¬ IsCovered g.now }
-{
-    g.keeps_limits();
-    match Covered::of(alloc, g) {
-        Err(_) => Err(Refused::Memory),
-        Ok(Err(reason)) => Err(Refused::NotCovered(reason)),
-        Ok(Ok(c)) => match decompose_covered(alloc, &c, order) {
-            Ok(tree) => Ok(tree),
-            Err(_) => Err(Refused::Memory),
-        },
-    }
-}
-
-/// The tree that `decompose` answers, of a graph that is known to be covered. What is known of the
-/// graph is not sought again.
-pub fn decompose_covered<O: Order>(
+/// The tree of tight cuts that `order` picks from a covered graph, as `decompose` answers it, with
+/// the kinds of its leaves. What is known of the graph is not sought again.
+pub fn decompose_with_kinds<O: Order>(
     alloc: Global,
     c: &Covered,
     order: &O,
-) -> Result<Tree, AllocError>
-    ensures derivation { IfOk result (λ tree. IsDerivation c.now (shape_of tree)) }
-    ensures picked { IfOk result (λ tree. IsPicked (O.picks order.now) c.now (shape_of tree)) }
+) -> Result<TreeWithKinds, AllocError>
+    ensures derivation { IfOk result (λ found. IsDerivation c.now (shape_of found.tree)) }
+    ensures picked { IfOk result
+        (λ found. IsPicked (O.picks order.now) c.now (shape_of found.tree)) }
+    ensures kinds { IfOk result (λ found.
+        AreLeafKinds c.now (leaves c.now.order (shape_of found.tree)) found.kinds.items) }
 {
     c.keeps_covered();
-    match root_shore(alloc, c, order)? {
-        None => Ok(Tree::Leaf),
-        Some(shore) => decompose_root(alloc, c.graph(), order, shore),
+    let pairs = FirstPairs::of(alloc, c)?;
+    let picked = picked_at_root(alloc, &pairs, order)?;
+    match picked.shore {
+        None => {
+            let mut kinds = Vec::new(alloc);
+            kinds.push(picked.leaf_kind)?;
+            Ok(TreeWithKinds {
+                tree: Tree::Leaf,
+                kinds,
+            })
+        }
+        Some(shore) => decompose_root(alloc, c, order, shore),
     }
 }
 
-/// The tree that `decompose` answers in the order `First`, of a covered graph of which the shore of
-/// the first candidate is at hand. What is known of the graph is not sought again.
-pub fn decompose_from_first(alloc: Global, c: &Covered, cut: VSet) -> Result<Tree, AllocError>
+/// The decomposition in the order `First` of a covered graph of which the shore of the first
+/// candidate is at hand. What is known of the graph is not sought again.
+pub fn decompose_with_kinds_from_first(
+    alloc: Global,
+    c: &Covered,
+    cut: VSet,
+) -> Result<TreeWithKinds, AllocError>
     requires { first_shore (candidates c.now) ≡ Some cut }
-    ensures derivation { IfOk result (λ tree. IsDerivation c.now (shape_of tree)) }
+    ensures derivation { IfOk result (λ found. IsDerivation c.now (shape_of found.tree)) }
     ensures picked { IfOk result
-        (λ tree. IsPicked (NamedPicks NamedOrder.First) c.now (shape_of tree)) }
+        (λ found. IsPicked (NamedPicks NamedOrder.First) c.now (shape_of found.tree)) }
+    ensures kinds { IfOk result (λ found.
+        AreLeafKinds c.now (leaves c.now.order (shape_of found.tree)) found.kinds.items) }
 {
     c.keeps_covered();
-    decompose_root(alloc, c.graph(), &NamedOrder::First, cut)
+    decompose_root(alloc, c, &NamedOrder::First, cut)
 }
 
-// The tree of a covered graph with the cut at its root.
+// The decomposition of a covered graph with the cut at its root.
 fn decompose_root<O: Order>(
     alloc: Global,
-    g: &MultiGraph,
+    c: &Covered,
     order: &O,
     shore: VSet,
-) -> Result<Tree, AllocError>
-    requires covered { IsCovered g.now }
-    requires cut { IsCutAt g.now (singles g.now.order) shore }
+) -> Result<TreeWithKinds, AllocError>
+    requires cut { IsCutAt c.now (singles c.now.order) shore }
     requires picked { PicksShore (O.picks order.now)
-        (candidates_at g.now (singles g.now.order)) 0 shore }
-    ensures derivation { IfOk result (λ tree. IsDerivation g.now (shape_of tree)) }
-    ensures picked { IfOk result (λ tree. IsPicked (O.picks order.now) g.now (shape_of tree)) }
+        (candidates_at c.now (singles c.now.order)) 0 shore }
+    ensures derivation { IfOk result (λ found. IsDerivation c.now (shape_of found.tree)) }
+    ensures picked { IfOk result
+        (λ found. IsPicked (O.picks order.now) c.now (shape_of found.tree)) }
+    ensures kinds { IfOk result (λ found.
+        AreLeafKinds c.now (leaves c.now.order (shape_of found.tree)) found.kinds.items) }
 {
-    let root = root_partition(alloc, g)?;
-    let (tree, _) = decompose_cut(alloc, g, order, &root, 0, shore)?;
-    Ok(tree)
+    c.keeps_covered();
+    let root = Place::root(alloc, c)?;
+    root.keeps_place();
+    let mut kinds = Vec::new(alloc);
+    let (tree, _) = decompose_cut(alloc, order, &root, 0, shore, &mut kinds)?;
+    Ok(TreeWithKinds { tree, kinds })
 }
 
 // The tree of a cut.
@@ -119,111 +126,123 @@ const MOST_COUNTED: usize = 256;
 
 const MOST_BELOW: usize = 255;
 
-// The tree that the order picks at p with so many cuts before it, and the number of cuts before
-// what follows it.
+// The tree that the order picks at a place with so many cuts before it, and the number of cuts
+// before what follows it. The kinds of its leaves are appended.
 #[cycle(decomposing)]
 fn decompose_at<O: Order>(
     alloc: Global,
-    g: &MultiGraph,
     order: &O,
-    p: &Partition,
+    place: &Place,
     before: usize,
+    kinds: &mut Vec<LeafKind>,
 ) -> Result<(Tree, usize), AllocError>
-    requires partition { p.now.order ≡ g.now.order }
-    requires covered { IsCovered (quotient g.now p.now.blocks) }
-    requires few { before + length p.now.blocks ≤ MOST_COUNTED }
-    ensures derives { IfOk result (λ made. IsDerivationAt g.now p.now.blocks (shape_of made.0)) }
-    ensures picked { IfOk result
-        (λ made. IsPickedAt (O.picks order.now) g.now p.now.blocks before (shape_of made.0)) }
+    requires few { before + length place.now.blocks ≤ MOST_COUNTED }
+    ensures derives { IfOk result (λ made.
+        IsDerivationAt place.now.graph place.now.blocks (shape_of made.0)) }
+    ensures picked { IfOk result (λ made. IsPickedAt (O.picks order.now) place.now.graph
+        place.now.blocks before (shape_of made.0)) }
+    ensures kinds { IfOk result (λ made. AddsKinds place.now.graph
+        (leaves_at place.now.graph.order place.now.blocks (shape_of made.0))
+        kinds.old.items kinds.new.items) }
     ensures after { IfOk result (λ made. made.1 ≡ before + cut_count (shape_of made.0)) }
-    ensures few { IfOk result
-        (λ made. 4 ≤ length p.now.blocks → cut_count (shape_of made.0) + 3 ≤ length p.now.blocks) }
+    ensures few { IfOk result (λ made.
+        4 ≤ length place.now.blocks → cut_count (shape_of made.0) + 3 ≤ length place.now.blocks) }
 {
-    match picked_shore(alloc, g, order, p, before)? {
-        None => Ok((Tree::Leaf, before)),
-        Some(shore) => decompose_cut(alloc, g, order, p, before, shore),
+    let picked = picked_at(alloc, place, order, before)?;
+    match picked.shore {
+        None => {
+            kinds.push(picked.leaf_kind)?;
+            Ok((Tree::Leaf, before))
+        }
+        Some(shore) => decompose_cut(alloc, order, place, before, shore, kinds),
     }
 }
 
-// The tree with the cut at p that the order picks there, and the number of cuts before what
+// The tree with the cut at a place that the order picks there, and the number of cuts before what
 // follows it.
 #[cycle(decomposing)]
 fn decompose_cut<O: Order>(
     alloc: Global,
-    g: &MultiGraph,
     order: &O,
-    p: &Partition,
+    place: &Place,
     before: usize,
     shore: VSet,
+    kinds: &mut Vec<LeafKind>,
 ) -> Result<(Tree, usize), AllocError>
-    requires partition { p.now.order ≡ g.now.order }
-    requires covered { IsCovered (quotient g.now p.now.blocks) }
-    requires cut { IsCutAt g.now p.now.blocks shore }
+    requires cut { IsCutAt place.now.graph place.now.blocks shore }
     requires picked { PicksShore (O.picks order.now)
-        (candidates_at g.now p.now.blocks) before shore }
-    requires few { before + length p.now.blocks ≤ MOST_COUNTED }
-    ensures derives { IfOk result (λ made. IsDerivationAt g.now p.now.blocks (shape_of made.0)) }
-    ensures picked { IfOk result
-        (λ made. IsPickedAt (O.picks order.now) g.now p.now.blocks before (shape_of made.0)) }
+        (candidates_at place.now.graph place.now.blocks) before shore }
+    requires few { before + length place.now.blocks ≤ MOST_COUNTED }
+    ensures derives { IfOk result (λ made.
+        IsDerivationAt place.now.graph place.now.blocks (shape_of made.0)) }
+    ensures picked { IfOk result (λ made. IsPickedAt (O.picks order.now) place.now.graph
+        place.now.blocks before (shape_of made.0)) }
+    ensures kinds { IfOk result (λ made. AddsKinds place.now.graph
+        (leaves_at place.now.graph.order place.now.blocks (shape_of made.0))
+        kinds.old.items kinds.new.items) }
     ensures after { IfOk result (λ made. made.1 ≡ before + cut_count (shape_of made.0)) }
-    ensures few { IfOk result (λ made. cut_count (shape_of made.0) + 3 ≤ length p.now.blocks) }
+    ensures few { IfOk result
+        (λ made. cut_count (shape_of made.0) + 3 ≤ length place.now.blocks) }
 {
-    let (kept, between) = decompose_kept(alloc, g, order, p, before + 1, shore)?;
-    let (merged, after) = decompose_merged(alloc, g, order, p, between, shore)?;
+    let (kept, between) = decompose_kept(alloc, order, place, before + 1, shore, kinds)?;
+    let (merged, after) = decompose_merged(alloc, order, place, between, shore, kinds)?;
     let tree = cut_tree(alloc, shore, kept, merged)?;
     Ok((tree, after))
 }
 
-// The tree of the side that is kept below the cut of the shore at p.
+// The tree of the side that is kept below the cut of the shore at a place.
 #[cycle(decomposing)]
 fn decompose_kept<O: Order>(
     alloc: Global,
-    g: &MultiGraph,
     order: &O,
-    p: &Partition,
+    place: &Place,
     before: usize,
     shore: VSet,
+    kinds: &mut Vec<LeafKind>,
 ) -> Result<(Tree, usize), AllocError>
-    requires partition { p.now.order ≡ g.now.order }
-    requires covered { IsCovered (quotient g.now p.now.blocks) }
-    requires cut { IsCutAt g.now p.now.blocks shore }
-    requires few { before + count (length p.now.blocks) (blocks_in p.now.blocks (mem shore)) ≤
-        MOST_BELOW }
+    requires cut { IsCutAt place.now.graph place.now.blocks shore }
+    requires few { before +
+        count (length place.now.blocks) (blocks_in place.now.blocks (mem shore)) ≤ MOST_BELOW }
     ensures derives { IfOk result (λ made.
-        IsDerivationAt g.now (kept_at g.now.order p.now.blocks shore) (shape_of made.0)) }
-    ensures picked { IfOk result (λ made. IsPickedAt (O.picks order.now) g.now
-        (kept_at g.now.order p.now.blocks shore) before (shape_of made.0)) }
+        IsDerivationAt place.now.graph (kept_at place.now.graph.order place.now.blocks shore) (shape_of made.0)) }
+    ensures picked { IfOk result (λ made. IsPickedAt (O.picks order.now) place.now.graph
+        (kept_at place.now.graph.order place.now.blocks shore) before (shape_of made.0)) }
+    ensures kinds { IfOk result (λ made. AddsKinds place.now.graph
+        (leaves_at place.now.graph.order (kept_at place.now.graph.order place.now.blocks shore) (shape_of made.0))
+        kinds.old.items kinds.new.items) }
     ensures after { IfOk result (λ made. made.1 ≡ before + cut_count (shape_of made.0)) }
     ensures few { IfOk result (λ made. cut_count (shape_of made.0) + 2 ≤
-        count (length p.now.blocks) (blocks_in p.now.blocks (mem shore))) }
+        count (length place.now.blocks) (blocks_in place.now.blocks (mem shore))) }
 {
-    let kept_at = kept_partition(alloc, g, p, shore)?;
-    decompose_at(alloc, g, order, &kept_at, before)
+    let below = place.kept(alloc, shore)?;
+    decompose_at(alloc, order, &below, before, kinds)
 }
 
-// The tree of the side that is merged below the cut of the shore at p.
+// The tree of the side that is merged below the cut of the shore at a place.
 #[cycle(decomposing)]
 fn decompose_merged<O: Order>(
     alloc: Global,
-    g: &MultiGraph,
     order: &O,
-    p: &Partition,
+    place: &Place,
     before: usize,
     shore: VSet,
+    kinds: &mut Vec<LeafKind>,
 ) -> Result<(Tree, usize), AllocError>
-    requires partition { p.now.order ≡ g.now.order }
-    requires covered { IsCovered (quotient g.now p.now.blocks) }
-    requires cut { IsCutAt g.now p.now.blocks shore }
-    requires few { before + length p.now.blocks ≤
-        MOST_BELOW + count (length p.now.blocks) (blocks_in p.now.blocks (mem shore)) }
+    requires cut { IsCutAt place.now.graph place.now.blocks shore }
+    requires few { before + length place.now.blocks ≤
+        MOST_BELOW + count (length place.now.blocks) (blocks_in place.now.blocks (mem shore)) }
     ensures derives { IfOk result (λ made.
-        IsDerivationAt g.now (merged_at g.now.order p.now.blocks shore) (shape_of made.0)) }
-    ensures picked { IfOk result (λ made. IsPickedAt (O.picks order.now) g.now
-        (merged_at g.now.order p.now.blocks shore) before (shape_of made.0)) }
+        IsDerivationAt place.now.graph (merged_at place.now.graph.order place.now.blocks shore) (shape_of made.0)) }
+    ensures picked { IfOk result (λ made. IsPickedAt (O.picks order.now) place.now.graph
+        (merged_at place.now.graph.order place.now.blocks shore) before (shape_of made.0)) }
+    ensures kinds { IfOk result (λ made. AddsKinds place.now.graph
+        (leaves_at place.now.graph.order (merged_at place.now.graph.order place.now.blocks shore) (shape_of made.0))
+        kinds.old.items kinds.new.items) }
     ensures after { IfOk result (λ made. made.1 ≡ before + cut_count (shape_of made.0)) }
     ensures few { IfOk result (λ made. cut_count (shape_of made.0) + 2 +
-        count (length p.now.blocks) (blocks_in p.now.blocks (mem shore)) ≤ length p.now.blocks) }
+        count (length place.now.blocks) (blocks_in place.now.blocks (mem shore)) ≤
+        length place.now.blocks) }
 {
-    let merged_at = merged_partition(alloc, g, p, shore)?;
-    decompose_at(alloc, g, order, &merged_at, before)
+    let below = place.merged(alloc, shore)?;
+    decompose_at(alloc, order, &below, before, kinds)
 }

@@ -1,57 +1,91 @@
-//! The cut of a node: the candidate that an order picks. Where the order takes the first one, no
-//! other is looked for. At the root the candidates come from what is known of the graph.
+//! What an order picks at a node: the shore of a candidate, or none and then a leaf stands there.
+//! Where the order takes the first candidate, no other is looked for. At the root the candidates
+//! come from what is known of the graph.
 ghost use Rattle.std.specs.Prelude.{◌≡◌, ℕ, List, IfOk};
-ghost use Rattle.graph_core.specs.Common.{IsCovered, Graph, singles, quotient};
+ghost use Rattle.graph_core.specs.Common.{Graph, singles};
+ghost use Rattle.tree_core.specs.Common.{IsLeafKind};
 ghost use Rattle.decomposer.specs.Orders.{NamedPicks};
 ghost use Rattle.decomposer.specs.Picked.{AreCandidatesAt, IsFirstAt, IsPickedShore};
 
 use crate::orders::{NamedOrder, Order};
-use contraction::Partition;
-use graph_core::MultiGraph;
-use graph_facts::Covered;
+use separation_kit::FirstPairs;
 use std::alloc::{AllocError, Global};
 use tight_cuts::{
-    Candidate, CandidateList, candidates_at, first_candidate_at, first_root_candidate,
-    root_candidates,
+    Candidate, CandidateList, candidates_at, first_at, first_of_root, root_candidates,
 };
+use tree_core::{LeafKind, Place, kind_by_side};
 use vset_core::VSet;
 
-/// The shore of the candidate at `p` that the order picks, with so many cuts before it; none if
-/// and only if there is no candidate.
-pub(crate) fn picked_shore<O: Order>(
+/// What an order picks at a node.
+#[derive(Drop)]
+pub(crate) struct Picked {
+    /// The shore of the picked candidate; none if and only if there is no candidate.
+    pub shore: Option<VSet>,
+    /// The kind that a leaf at the node has.
+    pub leaf_kind: LeafKind,
+}
+
+/// What the order picks at a place with so many cuts before it.
+pub(crate) fn picked_at<O: Order>(
     alloc: Global,
-    g: &MultiGraph,
+    place: &Place,
     order: &O,
-    p: &Partition,
     before: usize,
-) -> Result<Option<VSet>, AllocError>
-    requires partition { p.now.order ≡ g.now.order }
-    requires covered { IsCovered (quotient g.now p.now.blocks) }
-    ensures { IfOk result (IsPickedShore (O.picks order.now) g.now p.now.blocks before) }
+) -> Result<Picked, AllocError>
+    ensures shore { IfOk result (λ picked. IsPickedShore (O.picks order.now) place.now.graph
+        place.now.blocks before picked.shore) }
+    ensures kind { IfOk result
+        (λ picked. IsLeafKind place.now.graph place.now.blocks picked.leaf_kind) }
 {
+    place.keeps_place();
     if order.takes_first(before) {
-        let first = first_candidate_at(alloc, g, p)?;
-        Ok(shore_of(first))
+        let first = first_at(alloc, place.graph(), place.partition())?;
+        Ok(Picked {
+            shore: shore_of(first.candidate),
+            leaf_kind: kind_by_side(first.is_bipartite),
+        })
     } else {
-        let list = candidates_at(alloc, g, p)?;
-        Ok(listed_shore(order, &list, before))
+        let all = candidates_at(alloc, place.graph(), place.partition())?;
+        Ok(Picked {
+            shore: listed_shore(order, &all.list, before),
+            leaf_kind: kind_by_side(all.is_bipartite),
+        })
     }
 }
 
-/// The shore of the candidate of a covered graph that the order picks first; none if and only if
-/// there is no candidate.
-pub(crate) fn root_shore<O: Order>(
+/// What the order picks at the root of a covered graph with its first pairs.
+pub(crate) fn picked_at_root<O: Order>(
     alloc: Global,
-    c: &Covered,
+    pairs: &FirstPairs,
+    order: &O,
+) -> Result<Picked, AllocError>
+    ensures shore { IfOk result (λ picked. IsPickedShore (O.picks order.now) pairs.now
+        (singles pairs.now.order) 0 picked.shore) }
+    ensures kind { IfOk result
+        (λ picked. IsLeafKind pairs.now (singles pairs.now.order) picked.leaf_kind) }
+{
+    pairs.keeps_covered();
+    let shore = root_shore(alloc, pairs, order)?;
+    Ok(Picked {
+        shore,
+        leaf_kind: kind_by_side(pairs.is_bipartite()),
+    })
+}
+
+// The shore of the candidate of a covered graph that the order picks first.
+fn root_shore<O: Order>(
+    alloc: Global,
+    pairs: &FirstPairs,
     order: &O,
 ) -> Result<Option<VSet>, AllocError>
-    ensures { IfOk result (IsPickedShore (O.picks order.now) c.now (singles c.now.order) 0) }
+    ensures { IfOk result
+        (IsPickedShore (O.picks order.now) pairs.now (singles pairs.now.order) 0) }
 {
     if order.takes_first(0) {
-        let first = first_root_candidate(alloc, c)?;
+        let first = first_of_root(alloc, pairs)?;
         Ok(shore_of(first))
     } else {
-        let list = root_candidates(alloc, c)?;
+        let list = root_candidates(alloc, pairs)?;
         Ok(listed_shore(order, &list, 0))
     }
 }

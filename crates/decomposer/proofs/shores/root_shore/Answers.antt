@@ -7,8 +7,8 @@ use Rattle.decomposer.proofs.shores.root_shore.Goals as goal
 pub returns-in_ok-first : goal.returns-in_ok-first
 unfolding IsLeafAt
 returns-in_ok-first g c =
-    first-picked (g.O.Order.picks c.args.order.now) c.args.c.now (singles c.args.c.now.order) 0 c.shore_of.result (search rules)
-    (c.shore_of.ensures c.args.c.now (singles c.args.c.now.order) 0 (record {
+    first-picked (g.O.Order.picks c.args.order.now) c.args.pairs.now (singles c.args.pairs.now.order) 0 c.shore_of.result (search rules)
+    (c.shore_of.ensures c.args.pairs.now (singles c.args.pairs.now.order) 0 (record {
       first = c.in_ok-first.ensures.first;
       some = c.in_ok-first.ensures.some;
       leaf = c.in_ok-first.ensures.none.0;
@@ -17,7 +17,7 @@ returns-in_ok-first g c =
 pub returns-in_ok-list : goal.returns-in_ok-list
 unfolding IsLeafAt
 returns-in_ok-list g c =
-    c.listed_shore.ensures c.args.c.now (singles c.args.c.now.order) (record {
+    c.listed_shore.ensures c.args.pairs.now (singles c.args.pairs.now.order) (record {
       all = c.in_ok-list.ensures.list;
       each = c.in_ok-list.ensures.tight;
       leaf = c.in_ok-list.ensures.none.0;

@@ -1,0 +1,71 @@
+//! The trees of decompositions, without the kinds of their leaves.
+ghost use Rattle.std.specs.Prelude.{◌≡◌, IfOk, Err, Some};
+ghost use Rattle.graph_core.specs.Common.{IsCovered, IsReason, reason_of};
+ghost use Rattle.tight_cuts.specs.Candidates.{candidates, first_shore};
+ghost use Rattle.tree_core.specs.Common.{IsDerivation, shape_of};
+ghost use Rattle.decomposer.specs.Orders.{NamedPicks};
+ghost use Rattle.decomposer.specs.Picked.{IsPicked};
+
+use crate::decomposition::{decompose_with_kinds, decompose_with_kinds_from_first};
+use crate::orders::{NamedOrder, Order};
+use graph_core::{MultiGraph, Reason};
+use graph_facts::Covered;
+use std::alloc::{AllocError, Global};
+use tree_core::Tree;
+use vset_core::VSet;
+
+/// Why there is no decomposition.
+#[derive(Clone, Copy, PartialEq, Eq)]
+pub enum Refused {
+    /// The graph is not matching covered, for this reason.
+    NotCovered(Reason),
+    /// There is not enough memory.
+    Memory,
+}
+
+/// The tree of tight cuts that `order` picks from `g`. At the node with k cuts before it in
+/// preorder the order is asked with the candidates there and with k; the node is the cut of the
+/// candidate that it picks, and a leaf if and only if there is none. `NotCovered` comes if and
+/// only if `g` is not matching covered, with the first reason.
+pub fn decompose<O: Order>(alloc: Global, g: &MultiGraph, order: &O) -> Result<Tree, Refused>
+    ensures derivation { IfOk result (λ tree. IsDerivation g.now (shape_of tree)) }
+    ensures picked { IfOk result (λ tree. IsPicked (O.picks order.now) g.now (shape_of tree)) }
+    ensures reason { (r : _) → result ≡ Err (Refused.NotCovered r) → IsReason g.now (reason_of r) }
+    ensures uncovered { (r : _) → result ≡ Err (Refused.NotCovered r) → ¬ IsCovered g.now }
+{
+    g.keeps_limits();
+    match Covered::of(alloc, g) {
+        Err(_) => Err(Refused::Memory),
+        Ok(Err(reason)) => Err(Refused::NotCovered(reason)),
+        Ok(Ok(c)) => match decompose_covered(alloc, &c, order) {
+            Ok(tree) => Ok(tree),
+            Err(_) => Err(Refused::Memory),
+        },
+    }
+}
+
+/// The tree that `decompose` answers, of a graph that is known to be covered. What is known of the
+/// graph is not sought again.
+pub fn decompose_covered<O: Order>(
+    alloc: Global,
+    c: &Covered,
+    order: &O,
+) -> Result<Tree, AllocError>
+    ensures derivation { IfOk result (λ tree. IsDerivation c.now (shape_of tree)) }
+    ensures picked { IfOk result (λ tree. IsPicked (O.picks order.now) c.now (shape_of tree)) }
+{
+    let found = decompose_with_kinds(alloc, c, order)?;
+    Ok(found.tree)
+}
+
+/// The tree that `decompose` answers in the order `First`, of a covered graph of which the shore of
+/// the first candidate is at hand. What is known of the graph is not sought again.
+pub fn decompose_from_first(alloc: Global, c: &Covered, cut: VSet) -> Result<Tree, AllocError>
+    requires { first_shore (candidates c.now) ≡ Some cut }
+    ensures derivation { IfOk result (λ tree. IsDerivation c.now (shape_of tree)) }
+    ensures picked { IfOk result
+        (λ tree. IsPicked (NamedPicks NamedOrder.First) c.now (shape_of tree)) }
+{
+    let found = decompose_with_kinds_from_first(alloc, c, cut)?;
+    Ok(found.tree)
+}
