@@ -1,7 +1,7 @@
 -- What the search at one edge keeps in rows, and what it answers.
 -- Stated by: tight_cuts.
 use Rattle.std.specs.Prelude.{◌≡◌, ◌≢◌, ℕ, zero, suc, ◌+◌, ◌<◌, ◌≤◌, ◌^◌, ◌⊎◌, ◌↔◌, false, true, List, [], ◌∷◌, ◌++◌, ◌==◌, Option, Some, None, cond, length, slice_index_or}
-use Rattle.allowed_edges.specs.PairTables.{PairsValue, edge_lists, holds_both}
+use Rattle.allowed_edges.specs.PairTables.{PairsValue, SettlesEdges, edge_lists, holds_both}
 use Rattle.counting.specs.Common.{Within, total, Set, pair_set, mem}
 use Rattle.graph_core.specs.Common.{components, IsCovered, Graph, size, first_end, second_end, Together, IsPairList, IsLean}
 use Rattle.flow_core.specs.Nets.{Arc, Net, HasCutWithin, IsLeastCut}
@@ -34,6 +34,7 @@ pub record AreLeaders (g : Graph) (e : ℕ) (leaders : List ℕ) : Type 0 where
 -- the weights of the edges
 pub record AreRowsOf (g : Graph) (pairs : PairsValue) (weights : List ℕ) (bound : ℕ) : Type 0 where
   pub edge_count : pairs.size ≡ size g
+  pub settled : SettlesEdges g 1 pairs
   pub both : (e f : ℕ) → Within (size g) e → Within (size g) f → (holds_both (edge_lists pairs) e f ≡ true) ↔ Together g e f
   pub weighed : AreWeights g weights bound
 

@@ -13,6 +13,7 @@ use crate::edge_search::{NetworkSearch, PieceSearch, leads};
 use crate::front::front_candidates;
 use crate::groups::{Grouping, common_shore};
 use crate::pieces::Weights;
+use allowed_edges::PairTable;
 use graph_core::MultiGraph;
 use graph_facts::Covered;
 use separation_kit::FirstPairs;
@@ -53,6 +54,10 @@ fn shore_at(
 pub(crate) struct ByPairs;
 
 impl PieceSearch for ByPairs {
+    fn sees_nothing(&self, _g: &MultiGraph, _pairs: &PairTable, _e: u32) -> bool {
+        false
+    }
+
     fn shore_of_piece(
         &self,
         alloc: Global,

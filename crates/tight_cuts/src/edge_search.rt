@@ -10,7 +10,7 @@ ghost use Rattle.std.specs.Prelude.{◌≡◌, ◌≢◌, ℕ, ◌+◌, ◌<◌,
 ghost use Rattle.counting.specs.Common.{Within, mem, pair_set};
 ghost use Rattle.graph_core.specs.Common.{components, IsCovered, size, Together, IsTight};
 ghost use Rattle.allowed_edges.specs.PairTables.{SettlesEdges, edge_lists, holds_both};
-ghost use Rattle.tight_cuts.specs.Candidates.{greater_end, lesser_end};
+ghost use Rattle.tight_cuts.specs.Candidates.{first_separated, greater_end, lesser_end};
 ghost use Rattle.tight_cuts.specs.EdgeSearch.{AreLeaders, AreRowsAt, AreRowsOf, IsShoreOfEdge, Leads, NoneBefore, at_place};
 ghost use Rattle.tight_cuts.specs.Pieces.{leader};
 ghost use Rattle.tight_cuts.specs.QuietEdges.{AreQuiet};
@@ -19,7 +19,7 @@ use crate::edge_cuts::EdgeSearch;
 use crate::groups::{Grouping, common_shore};
 use crate::leading::leaders_at;
 use crate::pieces::{Weights, weights_of};
-use crate::quiet_edges::{none_quiet, quiet_edges};
+use crate::quiet_edges::{is_seen_quiet, none_quiet, quiet_edges};
 use allowed_edges::{PairTable, complete_pairs, no_pairs};
 use graph_core::MultiGraph;
 use std::alloc::{AllocError as Memory, Global};
@@ -27,6 +27,12 @@ use vset_core::{MOST_VERTICES, VSet};
 
 /// A way to ask the pairs (x, y) of one x.
 pub(crate) trait PieceSearch {
+    /// Whether edge `e` gives nothing, as the table of pairs shows without a cut.
+    fn sees_nothing(&self, g: &MultiGraph, pairs: &PairTable, e: u32) -> bool
+        requires edge { Within (size g.now) e }
+        requires begun { SettlesEdges g.now 1 pairs.now }
+        ensures { result ≡ true → first_separated g.now e ≡ None };
+
     /// What the pairs (x, y) give at edge `e`, for the x of `groups`, which leads a piece, and all
     /// y, if no pair before them is separated: the common shore of all tight sets that separate the
     /// first pair that any separates.
@@ -54,6 +60,10 @@ pub(crate) trait PieceSearch {
 pub(crate) struct ByPieces;
 
 impl PieceSearch for ByPieces {
+    fn sees_nothing(&self, g: &MultiGraph, pairs: &PairTable, e: u32) -> bool {
+        is_seen_quiet(g, pairs, e)
+    }
+
     fn shore_of_piece(
         &self,
         alloc: Global,
@@ -182,6 +192,9 @@ impl PairRows {
             self.now.weights.matchings }
         ensures { IfOk result (IsShoreOfEdge g.now e) }
     {
+        if pieces.sees_nothing(g, &self.pairs, e) {
+            return Ok(None);
+        }
         let leaders = leaders_at(alloc, g, &self.pairs, e)?;
         first_shore(alloc, g, pieces, &self.weights, &leaders, e)
     }

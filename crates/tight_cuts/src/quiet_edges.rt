@@ -12,7 +12,7 @@ ghost use Rattle.allowed_edges.specs.PairTables.{IsPerfectWith, SettlesEdges};
 ghost use Rattle.tight_cuts.specs.Candidates.{first_separated};
 ghost use Rattle.tight_cuts.specs.QuietEdges.{AreQuiet, IsOneSided};
 
-use allowed_edges::{PairTable, perfect_with_edge, seek_pair};
+use allowed_edges::{PairTable, base_with_edge, in_some_cut, seek_pair};
 use graph_core::{MultiGraph, is_in_cut};
 use match_core::{Matching, perfect_without};
 use std::alloc::{AllocError as Memory, Global};
@@ -67,13 +67,6 @@ pub(crate) fn none_quiet(alloc: Global, g: &MultiGraph) -> Result<Vec<bool>, Mem
     Ok(row)
 }
 
-// Whether the edge is in the cut of one of the shores.
-fn in_some_cut(g: &MultiGraph, shores: &[VSet], e: u32) -> bool
-    requires { Within (size g.now) e }
-{
-    shores.iter().any(|shore| is_in_cut(g, *shore, e))
-}
-
 // Whether edge `e` is seen to be quiet.
 fn is_quiet(
     alloc: Global,
@@ -98,12 +91,25 @@ fn is_quiet(
     if others.is_subset(near) {
         return Ok(true);
     }
-    match perfect_with_edge(alloc, g, kept, e)? {
+    match base_with_edge(alloc, g, kept, pairs, e)? {
         None => Ok(false),
         Some(base) => {
             let reach = reach_of(alloc, g, base, pairs, e, near, others)?;
             Ok(others.is_subset(reach))
         }
+    }
+}
+
+/// Whether edge `e` is seen to be quiet by the listed matchings alone. Takes no memory.
+pub(crate) fn is_seen_quiet(g: &MultiGraph, pairs: &PairTable, e: u32) -> bool
+    requires edge { Within (size g.now) e }
+    requires begun { SettlesEdges g.now 1 pairs.now }
+    ensures { result ≡ true → first_separated g.now e ≡ None }
+{
+    let others = without_ends(g, e);
+    match others.first() {
+        None => false,
+        Some(start) => others.is_subset(widened(g, pairs, e, VSet::one(start))),
     }
 }
 

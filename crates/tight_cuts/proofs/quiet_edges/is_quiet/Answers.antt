@@ -16,3 +16,6 @@ pub returns-in_ok-reach-in-Some-2-clause-quiet : goal.returns-in_ok-reach-in-Som
 returns-in_ok-reach-in-Some-2-clause-quiet c = λ q.
     none_parted c.args.g.now c.args.e (mem c.in_ok-reach-in-Some-2.reach) c.in_ok-reach-in-Some-2.ensures.reach
     (λ v w n m. all_in_true c.without_ends-others.result (mem c.in_ok-reach-in-Some-2.reach) (sym c.is_subset-in-Some-2.ensures ∙ q) v (c.without_ends-others.ensures v w n m))
+
+pub reach_of-requires-clause-base : goal.reach_of-requires-clause-base
+reach_of-requires-clause-base c = c.in_ok-base_with_edge.ensures.some c.in-Some-2.base c.in-Some-2.is
