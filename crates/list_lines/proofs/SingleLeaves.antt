@@ -1,12 +1,13 @@
 -- A covered graph without a nontrivial tight cut has the leaf as its derivation: so a brick has
 -- one brick as its only leaf, and a brace one brace.
-use Rattle.std.proofs.Common.{List, [], ◌∷◌, arith, refl, subst, ℕ, ◌≡◌}
+use Rattle.std.proofs.Common.{[], ◌∷◌, refl}
 use Rattle.graph_core.proofs.Common.{singles-partition, tight-singles}
 use Rattle.graph_core.specs.Common.{IsCovered, Graph, IsMultigraph, singles, HasOnlyTrivialTightCuts}
 use Rattle.graph_core.specs.declared.verdict.Kind.TheVariants.{Brace, Brick}
 use Rattle.leaf_kinds.specs.LeafKinds.{IsKind}
+use Rattle.tree_core.proofs.AddedKinds.{kinds-one}
 use Rattle.tree_core.proofs.DerivationShores.{nontrivial-vertices}
-use Rattle.tree_core.specs.Common.{IsLeafAt, leaf, leaf_at, AreLeafKinds, IsLeafKind, kind_at, tally_of}
+use Rattle.tree_core.specs.Common.{IsLeafAt, leaf, IsLeafKind, tally_of}
 use Rattle.tree_core.specs.declared.tallies.LeafKind.{LeafKind}
 use Rattle.tree_core.specs.declared.tallies.LeafKind.TheVariants as of_leaf
 use Rattle.list_lines.specs.Standings.{IsCounted}
@@ -17,18 +18,11 @@ unfolding IsLeafAt
 uncut_leaf g is uncut x t some =
     uncut x (tight-singles g x is.ends t) (nontrivial-vertices g.order (singles g.order) (singles-partition g.order).partition x t.union some)
 
--- the kinds of one leaf
-one_kind : (g : Graph) (p : List (List ℕ)) (kind : LeafKind) → IsLeafKind g p kind → AreLeafKinds g (p ∷ []) (kind ∷ [])
-one_kind g p kind is = record {
-  each_one = refl;
-  right = λ i w. let only : 1 ≡ i = omega arith in subst (λ (j : ℕ). IsLeafKind g (leaf_at (p ∷ []) j) (kind_at (kind ∷ []) j)) only is;
-}
-
 one_leaf : (g : Graph) (kind : LeafKind) → IsMultigraph g → IsCovered g → HasOnlyTrivialTightCuts g → IsLeafKind g (singles g.order) kind → IsCounted g (tally_of (kind ∷ []))
 one_leaf g kind is covered uncut of = record {
   tree = leaf;
   derivation = record { covered = covered; derives = uncut_leaf g is uncut };
-  counts = record { kinds = kind ∷ []; right = one_kind g (singles g.order) kind of; is = refl };
+  counts = record { kinds = kind ∷ []; right = kinds-one g (singles g.order) kind of; is = refl };
 }
 
 pub one_brick : (g : Graph) → IsMultigraph g → IsCovered g → IsKind g Brick → IsCounted g (record { leaves = 1; bricks = 1; braces = 0 })

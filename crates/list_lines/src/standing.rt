@@ -3,16 +3,19 @@ ghost use Rattle.std.specs.Prelude.{◌≡◌, IfOk, Some};
 ghost use Rattle.graph_core.specs.Common.{reason_of};
 ghost use Rattle.leaf_kinds.specs.LeafKinds.{IsKind, cut_of};
 ghost use Rattle.tight_cuts.specs.Candidates.{candidates, first_shore};
-ghost use Rattle.tree_core.specs.Common.{IsDerivation, shape_of};
+ghost use Rattle.tree_core.specs.Common.{AreLeafKinds, IsDerivation, leaves, shape_of};
 ghost use Rattle.list_lines.specs.Standings.{IsCounted, IsStanding, sort_of, why_of};
 
-use decomposer::{NamedOrder, decompose_covered, decompose_from_first};
+use decomposer::{
+    NamedOrder, TreeWithKinds, decompose_with_kinds, decompose_with_kinds_from_first,
+    tally_of_kinds,
+};
 use graph_core::{Kind, MultiGraph, Reason};
 use graph_facts::Covered;
 use leaf_kinds::kind_of;
 use separation_kit::FirstPairs;
 use std::alloc::{AllocError as Memory, Global};
-use tree_core::{Tally, Tree, tally_of_tree};
+use tree_core::Tally;
 use vset_core::VSet;
 
 /// The kind of the first reason why a graph is not matching covered.
@@ -137,8 +140,8 @@ fn counted_from_cut(alloc: Global, c: &Covered, cut: VSet) -> Result<Tally, Memo
     requires { first_shore (candidates c.now) ≡ Some cut }
     ensures { IfOk result (IsCounted c.now) }
 {
-    let tree = decompose_from_first(alloc, c, cut)?;
-    counted_leaves(alloc, c, &tree)
+    let found = decompose_with_kinds_from_first(alloc, c, cut)?;
+    Ok(counted_leaves(c, &found))
 }
 
 /// The numbers of the leaves of a covered graph, of the derivation for which the first candidates
@@ -146,15 +149,16 @@ fn counted_from_cut(alloc: Global, c: &Covered, cut: VSet) -> Result<Tally, Memo
 pub fn counted(alloc: Global, c: &Covered) -> Result<Tally, Memory>
     ensures { IfOk result (IsCounted c.now) }
 {
-    let tree = decompose_covered(alloc, c, &NamedOrder::First)?;
-    counted_leaves(alloc, c, &tree)
+    let found = decompose_with_kinds(alloc, c, &NamedOrder::First)?;
+    Ok(counted_leaves(c, &found))
 }
 
-// The numbers of the leaves of a derivation.
-fn counted_leaves(alloc: Global, c: &Covered, tree: &Tree) -> Result<Tally, Memory>
-    requires { IsDerivation c.now (shape_of tree.now) }
-    ensures { IfOk result (IsCounted c.now) }
+// The numbers of the leaves of a derivation. Takes no memory.
+fn counted_leaves(c: &Covered, found: &TreeWithKinds) -> Tally
+    requires derivation { IsDerivation c.now (shape_of found.now.tree) }
+    requires kinds { AreLeafKinds c.now (leaves c.now.order (shape_of found.now.tree))
+        found.now.kinds.items }
+    ensures { IsCounted c.now result }
 {
-    let tally = tally_of_tree(alloc, c.graph(), tree)?;
-    Ok(tally)
+    tally_of_kinds(c, found)
 }
