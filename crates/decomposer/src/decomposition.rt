@@ -203,12 +203,13 @@ fn decompose_kept<O: Order>(
     requires cut { IsCutAt place.now.graph place.now.blocks shore }
     requires few { before +
         count (length place.now.blocks) (blocks_in place.now.blocks (mem shore)) ≤ MOST_BELOW }
-    ensures derives { IfOk result (λ made.
-        IsDerivationAt place.now.graph (kept_at place.now.graph.order place.now.blocks shore) (shape_of made.0)) }
+    ensures derives { IfOk result (λ made. IsDerivationAt place.now.graph
+        (kept_at place.now.graph.order place.now.blocks shore) (shape_of made.0)) }
     ensures picked { IfOk result (λ made. IsPickedAt (O.picks order.now) place.now.graph
         (kept_at place.now.graph.order place.now.blocks shore) before (shape_of made.0)) }
     ensures kinds { IfOk result (λ made. AddsKinds place.now.graph
-        (leaves_at place.now.graph.order (kept_at place.now.graph.order place.now.blocks shore) (shape_of made.0))
+        (leaves_at place.now.graph.order
+        (kept_at place.now.graph.order place.now.blocks shore) (shape_of made.0))
         kinds.old.items kinds.new.items) }
     ensures after { IfOk result (λ made. made.1 ≡ before + cut_count (shape_of made.0)) }
     ensures few { IfOk result (λ made. cut_count (shape_of made.0) + 2 ≤
@@ -231,12 +232,13 @@ fn decompose_merged<O: Order>(
     requires cut { IsCutAt place.now.graph place.now.blocks shore }
     requires few { before + length place.now.blocks ≤
         MOST_BELOW + count (length place.now.blocks) (blocks_in place.now.blocks (mem shore)) }
-    ensures derives { IfOk result (λ made.
-        IsDerivationAt place.now.graph (merged_at place.now.graph.order place.now.blocks shore) (shape_of made.0)) }
+    ensures derives { IfOk result (λ made. IsDerivationAt place.now.graph
+        (merged_at place.now.graph.order place.now.blocks shore) (shape_of made.0)) }
     ensures picked { IfOk result (λ made. IsPickedAt (O.picks order.now) place.now.graph
         (merged_at place.now.graph.order place.now.blocks shore) before (shape_of made.0)) }
     ensures kinds { IfOk result (λ made. AddsKinds place.now.graph
-        (leaves_at place.now.graph.order (merged_at place.now.graph.order place.now.blocks shore) (shape_of made.0))
+        (leaves_at place.now.graph.order
+        (merged_at place.now.graph.order place.now.blocks shore) (shape_of made.0))
         kinds.old.items kinds.new.items) }
     ensures after { IfOk result (λ made. made.1 ≡ before + cut_count (shape_of made.0)) }
     ensures few { IfOk result (λ made. cut_count (shape_of made.0) + 2 +
