@@ -167,9 +167,16 @@ broken-once g p x (not_tight m) (not_tight k) s t = refl
 broken-once g p x (not_tight m) (not_leaf c) s t = absurd t
 broken-once g p x (not_leaf c) b s t = absurd s
 
--- what the tests of the code say
-pub union-at : (g : Graph) (p : PartitionValue) (x : List ℕ) (test : Bool) → p.order ≡ g.order → (IsTrue test ↔ IsUnionAt p x) → test ≡ true → IsUnion g.order p.blocks (mem x)
-union-at g p x test same says holds = subst (λ n. IsUnion n p.blocks (mem x)) same (says.0 holds).union
+-- what the tests of the code say of a partition of the graph with these blocks
+module _ (g : Graph) (q : PartitionValue) (p : List (List ℕ)) (x : List ℕ) (test : Bool) (order : q.order ≡ g.order) (same : q.blocks ≡ p) (says : IsTrue test ↔ IsUnionAt q x) where
+  pub union-at : test ≡ true → IsUnion g.order p (mem x)
+  union-at holds = subst (λ (bs : List (List ℕ)). IsUnion g.order bs (mem x)) same (subst (λ n. IsUnion n q.blocks (mem x)) order (says.0 holds).union)
+
+  pub no_union-at : test ≡ false → IsRisingIn (g.order - 1) x → IsUnion g.order p (mem x) → ⊥
+  no_union-at fails rises union = both_ways test fails (says.1 (record {
+    set = subst (λ n. IsRisingIn n x) (sym order) (set-wider (g.order - 1) g.order x (omega arith) rises);
+    union = subst (λ n. IsUnion n q.blocks (mem x)) (sym order) (subst (λ (bs : List (List ℕ)). IsUnion g.order bs (mem x)) (sym same) union);
+  }))
 
 pub even-count : (i n : ℕ) → i ≡ n → i % 2 ≡ 0 → is_odd n ≡ false
 even-count i n same half = ap is_odd (sym same) ∙ is_odd_remainder i ∙ ap (λ r. r == 1) half

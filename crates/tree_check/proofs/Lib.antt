@@ -3,6 +3,7 @@ pub mod LeafRules
 pub mod PlacesInside
 pub mod FirstRefusals
 pub mod ThreeAnswers
+pub mod CountedLeaves
 pub mod Scanning
 pub mod MovesFit
 pub mod SoundMoves

@@ -1,5 +1,6 @@
 //! What a check of a tree answers.
 use graph_core::{Numbers, Reason};
+use tree_core::Tally;
 use vset_core::VSet;
 
 /// Why a node is refused: the first of these that applies. A cut is refused by the first four, a
@@ -18,6 +19,16 @@ pub enum Why {
     /// A leaf stands where there is a nontrivial tight cut: `cut` is the shore of the first
     /// candidate there.
     NotLeaf { cut: VSet },
+}
+
+/// What a scan finds of a tree of a covered graph.
+#[derive(Drop)]
+pub enum Scanned {
+    /// The tree is a derivation of the graph, with so many leaves.
+    Passed { tally: Tally },
+    /// The tree is not a derivation of the graph: `node` is the first node in preorder, counted
+    /// from 1, that breaks a rule.
+    Refused { node: u32, why: Why },
 }
 
 /// The answer to a tree.

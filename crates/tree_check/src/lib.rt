@@ -6,13 +6,15 @@
 //! a perfect matching at the node's partition with at least two edges in a cut that is not tight,
 //! or a nontrivial tight cut where a leaf stands. Of a graph that is not matching covered it
 //! gives the first reason. `check_covered` answers the same of a `Covered`, a graph of which this
-//! and more is known.
+//! and more is known. `scan_covered` counts the leaves of a derivation too, the bricks and the braces, by
+//! what their judgement finds of them (`IsScanned` of `specs/Scans`).
 //!
 //! `replay` makes a script of moves on a derivation and judges each tree on the way: it gives the
 //! last tree exactly when all are derivations, and else names the first failing move, with what
 //! `check` answers if its result is not a derivation (`IsReplay` of `specs/Replays`). By the laws
 //! of moves a Rotate needs no test, and a Switch of two blocks only that of its new shore, at the
 //! node where it stands; the whole tree is judged after any other Switch, or if that test fails.
+//! `replay_covered` answers the same of a `Covered`.
 //!
 //! `laws::first_refusal_law`: a derivation has no refusal, and each other tree of a matching
 //! covered graph has exactly one, up to the perfect matching that it shows.
@@ -20,18 +22,19 @@
 //! those of `replay`.
 //!
 //! Stands on `graph_facts` for the verdict and for covered graphs, on `contraction` for quotients,
-//! on `tight_cuts` for the test of a cut and for the candidates at a partition, on `tree_core` for
-//! trees, and on `move_laws` for what moves keep. Source: Lovász, "Matching structure and the
+//! on `tight_cuts` for the test of a cut and for the candidates, on `tree_core` for trees and
+//! places, and on `move_laws` for what moves keep. Source: Lovász, "Matching structure and the
 //! matching lattice" (1987); Lucchesi and Murty, "Perfect Matchings".
 #![tactic(auto)]
 
 mod judgement;
 pub mod laws;
+mod leaf;
 mod replaying;
 mod rules;
 mod scan;
 mod sound_moves;
 
-pub use judgement::{Judgement, Why};
-pub use replaying::{Replayed, replay};
-pub use scan::{check, check_covered};
+pub use judgement::{Judgement, Scanned, Why};
+pub use replaying::{Replayed, replay, replay_covered};
+pub use scan::{check, check_covered, scan_covered};

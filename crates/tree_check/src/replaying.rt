@@ -3,10 +3,11 @@ ghost use Rattle.std.specs.Prelude.{◌≡◌, ◌<◌, ◌-◌, ◌^◌, length
 ghost use Rattle.tree_core.specs.Common.{IsDerivation, move_of, moves_of, shape_of};
 ghost use Rattle.tree_check.specs.Replays.{IsReplay, IsMoved};
 
-use crate::judgement::Why;
-use crate::scan::{Scanned, scan_from_root};
+use crate::judgement::{Scanned, Why};
+use crate::scan::scan_covered;
 use crate::sound_moves::is_sound;
 use graph_core::MultiGraph;
+use graph_facts::Covered;
 use std::alloc::{AllocError as Memory, Global};
 use tree_core::{Move, Moves, Tree, apply};
 
@@ -35,17 +36,17 @@ enum Moved {
 
 // Makes one move on a derivation, and judges the result: the whole tree only if the laws of moves
 // do not tell that it is a derivation.
-fn step(alloc: Global, g: &MultiGraph, tree: Tree, item: &Move) -> Result<Moved, Memory>
-    requires { IsDerivation g.now (shape_of tree) }
-    ensures { IfOk result (IsMoved g.now (shape_of tree) (move_of item.now)) }
+fn step(alloc: Global, c: &Covered, tree: Tree, item: &Move) -> Result<Moved, Memory>
+    requires { IsDerivation c.now (shape_of tree) }
+    ensures { IfOk result (IsMoved c.now (shape_of tree) (move_of item.now)) }
 {
-    let Ok(made) = apply(tree, g.order(), item) else {
+    let Ok(made) = apply(tree, c.order(), item) else {
         return Ok(Moved::Stuck);
     };
-    if is_sound(alloc, g, &made, item)? {
+    if is_sound(alloc, c, &made, item)? {
         return Ok(Moved::Passed { tree: made });
     }
-    match scan_from_root(alloc, g, &made)? {
+    match scan_covered(alloc, c, &made)? {
         Scanned::Passed { .. } => Ok(Moved::Passed { tree: made }),
         Scanned::Refused { node, why } => Ok(Moved::Refused { node, why }),
     }
@@ -60,9 +61,24 @@ pub fn replay(alloc: Global, g: &MultiGraph, tree: Tree, moves: &Moves) -> Resul
     requires few { length moves.now < 2 ^ 32 - 1 }
     ensures { IfOk result (IsReplay g.now (shape_of tree) (moves_of moves.now)) }
 {
+    let covered = Covered::known(alloc, g)?;
+    replay_covered(alloc, &covered, tree, moves)
+}
+
+/// The answer of `replay` for a covered graph, from what is known of it.
+pub fn replay_covered(
+    alloc: Global,
+    c: &Covered,
+    tree: Tree,
+    moves: &Moves,
+) -> Result<Replayed, Memory>
+    requires derivation { IsDerivation c.now (shape_of tree) }
+    requires few { length moves.now < 2 ^ 32 - 1 }
+    ensures { IfOk result (IsReplay c.now (shape_of tree) (moves_of moves.now)) }
+{
     let mut reached = tree;
     for i in 0..moves.len() {
-        match step(alloc, g, reached, moves.get(i))? {
+        match step(alloc, c, reached, moves.get(i))? {
             Moved::Passed { tree } => reached = tree,
             Moved::Stuck => return Ok(Replayed::Stuck { at: i as u32 + 1 }),
             Moved::Refused { node, why } => {

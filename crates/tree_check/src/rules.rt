@@ -2,46 +2,41 @@
 ghost use Rattle.std.specs.Prelude.{◌≡◌, ◌-◌, ℕ, true, All, length, IfOk, None, Some};
 ghost use Rattle.contraction.specs.Contracted.{contraction};
 ghost use Rattle.counting.specs.Common.{Within, is_odd, mem, rising_list};
-ghost use Rattle.graph_core.specs.Common.{IsCovered, quotient, IsTightAt, IsUnion, block_count, blocks_in};
+ghost use Rattle.graph_core.specs.Common.{IsTightAt, IsUnion, block_count, blocks_in};
 ghost use Rattle.tree_core.specs.Common.{IsCutAt};
 ghost use Rattle.tree_check.specs.Judgements.{why_of};
 ghost use Rattle.tree_check.specs.Refusals.{BreaksCut, CrossesAt};
 
 use crate::judgement::Why;
 use contraction::{Contracted, Partition, lift, quotient};
-use graph_core::{MultiGraph, Numbers};
+use graph_core::Numbers;
 use std::alloc::{AllocError as Memory, Global};
 use tight_cuts::{Tightness, is_tight};
+use tree_core::Place;
 use vset_core::VSet;
 
-/// The first rule that the cut of `shore` breaks at `p`, whose quotient is matching covered;
-/// `None` exactly when `shore` is a canonical nontrivial shore that is tight at `p`.
-pub(crate) fn cut_fault(
-    alloc: Global,
-    g: &MultiGraph,
-    p: &Partition,
-    shore: VSet,
-) -> Result<Option<Why>, Memory>
-    requires order { p.now.order ≡ g.now.order }
-    requires covered { IsCovered (quotient g.now p.now.blocks) }
-    requires fits { All (Within (g.now.order - 1)) shore }
+/// The first rule that the cut of `shore` breaks at `p`; `None` exactly when `shore` is a
+/// canonical nontrivial shore that is tight at `p`.
+pub(crate) fn cut_fault(alloc: Global, p: &Place, shore: VSet) -> Result<Option<Why>, Memory>
+    requires { All (Within (p.now.graph.order - 1)) shore }
     ensures some { IfOk result
-        (λ o. (why : _) → o ≡ Some why → BreaksCut g.now p.now.blocks (mem shore) (why_of why)) }
-    ensures none { IfOk result (λ o. o ≡ None → IsCutAt g.now p.now.blocks shore) }
+        (λ o. (why : _) → o ≡ Some why →
+        BreaksCut p.now.graph p.now.blocks (mem shore) (why_of why)) }
+    ensures none { IfOk result (λ o. o ≡ None → IsCutAt p.now.graph p.now.blocks shore) }
 {
     shore.rises();
-    p.keeps_partition();
-    if !p.is_union(shore) {
+    let blocks = p.partition();
+    if !blocks.is_union(shore) {
         return Ok(Some(Why::NotBlocks));
     }
-    let inside = p.blocks_in(shore) as usize;
+    let inside = blocks.blocks_in(shore) as usize;
     if inside % 2 == 0 {
         return Ok(Some(Why::Even));
     }
-    if inside < 3 || p.len() < inside + 3 {
+    if inside < 3 || blocks.len() < inside + 3 {
         return Ok(Some(Why::Trivial));
     }
-    match crossing_at(alloc, g, p, shore)? {
+    match crossing_at(alloc, p, shore)? {
         Some(matching) => Ok(Some(Why::NotTight { matching })),
         None => Ok(None),
     }
@@ -49,44 +44,33 @@ pub(crate) fn cut_fault(
 
 // A perfect matching at p with at least two edges in the cut of the shore, a union of an odd
 // number of blocks; none exactly when the shore is tight at p.
-fn crossing_at(
-    alloc: Global,
-    g: &MultiGraph,
-    p: &Partition,
-    shore: VSet,
-) -> Result<Option<Numbers>, Memory>
-    requires order { p.now.order ≡ g.now.order }
-    requires covered { IsCovered (quotient g.now p.now.blocks) }
-    requires union { IsUnion g.now.order p.now.blocks (mem shore) }
+fn crossing_at(alloc: Global, p: &Place, shore: VSet) -> Result<Option<Numbers>, Memory>
+    requires union { IsUnion p.now.graph.order p.now.blocks (mem shore) }
     requires odd { is_odd (block_count p.now.blocks (mem shore)) ≡ true }
     ensures some { IfOk result
-        (λ o. (m : _) → o ≡ Some m → CrossesAt g.now p.now.blocks (mem shore) m) }
-    ensures none { IfOk result (λ o. o ≡ None → IsTightAt g.now p.now.blocks (mem shore)) }
+        (λ o. (m : _) → o ≡ Some m → CrossesAt p.now.graph p.now.blocks (mem shore) m) }
+    ensures none { IfOk result (λ o. o ≡ None → IsTightAt p.now.graph p.now.blocks (mem shore)) }
 {
-    let q = quotient(alloc, g, p)?;
-    crossing_by(alloc, g, p, &q, shore)
+    let q = quotient(alloc, p.graph(), p.partition())?;
+    crossing_by(alloc, p, &q, shore)
 }
 
 // The same, from the quotient at p.
 fn crossing_by(
     alloc: Global,
-    g: &MultiGraph,
-    p: &Partition,
+    p: &Place,
     q: &Contracted,
     shore: VSet,
 ) -> Result<Option<Numbers>, Memory>
-    requires order { p.now.order ≡ g.now.order }
-    requires covered { IsCovered (quotient g.now p.now.blocks) }
-    requires contracted { q.now ≡ contraction g.now p.now.blocks }
-    requires union { IsUnion g.now.order p.now.blocks (mem shore) }
+    requires contracted { q.now ≡ contraction p.now.graph p.now.blocks }
+    requires union { IsUnion p.now.graph.order p.now.blocks (mem shore) }
     requires odd { is_odd (block_count p.now.blocks (mem shore)) ≡ true }
     ensures some { IfOk result
-        (λ o. (m : _) → o ≡ Some m → CrossesAt g.now p.now.blocks (mem shore) m) }
-    ensures none { IfOk result (λ o. o ≡ None → IsTightAt g.now p.now.blocks (mem shore)) }
+        (λ o. (m : _) → o ≡ Some m → CrossesAt p.now.graph p.now.blocks (mem shore) m) }
+    ensures none { IfOk result (λ o. o ≡ None → IsTightAt p.now.graph p.now.blocks (mem shore)) }
 {
-    g.keeps_limits();
-    p.keeps_partition();
-    match is_tight(alloc, q.graph(), places_in(p, shore))? {
+    p.keeps_place();
+    match is_tight(alloc, q.graph(), places_in(p.partition(), shore))? {
         Tightness::Tight => Ok(None),
         Tightness::Crossed { matching } => Ok(Some(lift(alloc, q, &matching)?)),
     }

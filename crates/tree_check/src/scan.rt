@@ -1,23 +1,18 @@
 //! The scan of a tree in preorder.
-ghost use Rattle.std.specs.Prelude.{◌≡◌, ◌≤◌, ◌+◌, ℕ, List, None, length, IfOk};
-ghost use Rattle.std.specs.Option.{option_map};
-ghost use Rattle.counting.specs.Common.{count, mem};
-ghost use Rattle.graph_core.specs.Common.{IsCovered, Graph, singles, quotient, blocks_in};
-ghost use Rattle.tight_cuts.specs.Candidates.{first_of};
-ghost use Rattle.tight_cuts.specs.CandidatesAt.{candidates_at};
-ghost use Rattle.tight_cuts.specs.View.{candidate_of};
-ghost use Rattle.tree_core.specs.Common.{IsCutAt, IsLeafAt, kept_at, merged_at, Fits, leaf, shape_of};
+ghost use Rattle.std.specs.Prelude.{◌≡◌, ◌≤◌, ◌<◌, ◌+◌, ◌*◌, ◌^◌, length, IfOk};
+ghost use Rattle.counting.specs.Common.{count, mem, complement};
+ghost use Rattle.graph_core.specs.Common.{singles, blocks_in};
+ghost use Rattle.tree_core.specs.Common.{IsCutAt, kept_at, merged_at, Fits, cut, shape_of};
 ghost use Rattle.tree_check.specs.Judgements.{IsJudgement};
-ghost use Rattle.tree_check.specs.Scans.{IsScanned};
+ghost use Rattle.tree_check.specs.Scans.{IsScanned, IsScannedAt, sum_of};
 
-use crate::judgement::{Judgement, Why};
+use crate::judgement::{Judgement, Scanned};
+use crate::leaf::{scan_leaf, scan_root_leaf};
 use crate::rules::cut_fault;
-use contraction::Partition;
 use graph_core::MultiGraph;
 use graph_facts::Covered;
 use std::alloc::{AllocError as Memory, Global};
-use tight_cuts::{Candidate, first_candidate_at, first_root_candidate};
-use tree_core::{Tree, kept_partition, merged_partition, root_partition};
+use tree_core::{Place, Tally, Tree};
 use vset_core::VSet;
 
 /// Whether `tree`, whose shores lie below the order of `g`, is a derivation of `g`. `NotCovered`
@@ -39,74 +34,70 @@ pub fn check_covered(alloc: Global, c: &Covered, tree: &Tree) -> Result<Judgemen
     requires { Fits c.now.order (shape_of tree.now) }
     ensures { IfOk result (IsJudgement c.now (shape_of tree.now)) }
 {
-    c.keeps_covered();
     match scan_covered(alloc, c, tree)? {
         Scanned::Passed { .. } => Ok(Judgement::Accepted),
         Scanned::Refused { node, why } => Ok(Judgement::Refused { node, why }),
     }
 }
 
-// Scans a tree of a covered graph. A tree that is a leaf is judged by what is known of the graph.
-fn scan_covered(alloc: Global, c: &Covered, tree: &Tree) -> Result<Scanned, Memory>
+/// Judges a tree of a covered graph and counts its leaves: each is told to be a brick or a brace
+/// by what its judgement finds of its quotient.
+pub fn scan_covered(alloc: Global, c: &Covered, tree: &Tree) -> Result<Scanned, Memory>
     requires { Fits c.now.order (shape_of tree.now) }
-    ensures { IfOk result (IsScanned c.now (singles c.now.order) (shape_of tree.now) 1) }
+    ensures { IfOk result (IsScanned c.now (shape_of tree.now)) }
+{
+    c.keeps_covered();
+    let found = scan_from_root(alloc, c, tree)?;
+    Ok(found)
+}
+
+// What the scan finds at the root. A tree that is one leaf is judged by what is known of the
+// graph.
+fn scan_from_root(alloc: Global, c: &Covered, tree: &Tree) -> Result<Scanned, Memory>
+    requires { Fits c.now.order (shape_of tree.now) }
+    ensures { IfOk result (IsScannedAt c.now (singles c.now.order) (shape_of tree.now) 1) }
 {
     match tree {
-        Tree::Leaf => Ok(scanned_leaf(first_root_candidate(alloc, c)?, 1)),
-        Tree::Cut { .. } => scan_from_root(alloc, c.graph(), tree),
-    }
-}
-
-/// Scans a tree of a covered graph node by node.
-pub(crate) fn scan_from_root(alloc: Global, g: &MultiGraph, tree: &Tree) -> Result<Scanned, Memory>
-    requires covered { IsCovered g.now }
-    requires fits { Fits g.now.order (shape_of tree.now) }
-    ensures { IfOk result (IsScanned g.now (singles g.now.order) (shape_of tree.now) 1) }
-{
-    let root = root_partition(alloc, g)?;
-    scan_at(alloc, g, tree, &root, 1)
-}
-
-/// What a scan of a tree finds.
-#[derive(Drop)]
-pub(crate) enum Scanned {
-    /// Each node keeps its rules; `next` is the number of the node that follows the tree in
-    /// preorder.
-    Passed { next: u32 },
-    /// The first node that breaks a rule, and the first rule that it breaks.
-    Refused { node: u32, why: Why },
-}
-
-// Scans the tree at p, whose first node has the number `node`.
-#[cycle(scanning)]
-fn scan_at(
-    alloc: Global,
-    g: &MultiGraph,
-    tree: &Tree,
-    p: &Partition,
-    node: u32,
-) -> Result<Scanned, Memory>
-    requires order { p.now.order ≡ g.now.order }
-    requires covered { IsCovered (quotient g.now p.now.blocks) }
-    requires fits { Fits g.now.order (shape_of tree.now) }
-    requires few { node + length p.now.blocks ≤ 129 }
-    ensures { IfOk result (IsScanned g.now p.now.blocks (shape_of tree.now) node) }
-{
-    match tree {
-        Tree::Leaf => scan_leaf(alloc, g, p, node),
+        Tree::Leaf => scan_root_leaf(alloc, c),
         Tree::Cut {
             shore,
             kept,
             merged,
         } => {
-            if let Some(why) = cut_fault(alloc, g, p, *shore)? {
-                return Ok(Scanned::Refused { node, why });
-            }
-            match scan_kept(alloc, g, kept, p, node + 1, *shore)? {
-                Scanned::Refused { node, why } => Ok(Scanned::Refused { node, why }),
-                Scanned::Passed { next } => scan_merged(alloc, g, merged, p, next, *shore),
-            }
+            c.keeps_covered();
+            let root = Place::root(alloc, c)?;
+            scan_cut(alloc, &root, *shore, kept, merged, 1)
         }
+    }
+}
+
+// Scans the cut of the shore at p and the two trees below it. The cut has the number `node`.
+#[cycle(scanning)]
+fn scan_cut(
+    alloc: Global,
+    p: &Place,
+    shore: VSet,
+    kept: &Tree,
+    merged: &Tree,
+    node: u32,
+) -> Result<Scanned, Memory>
+    requires fits { Fits p.now.graph.order (cut shore (shape_of kept.now) (shape_of merged.now)) }
+    requires few { node + length p.now.blocks ≤ 129 }
+    ensures { IfOk result (IsScannedAt p.now.graph p.now.blocks
+        (cut shore (shape_of kept.now) (shape_of merged.now)) node) }
+{
+    if let Some(why) = cut_fault(alloc, p, shore)? {
+        return Ok(Scanned::Refused { node, why });
+    }
+    let inside = match scan_kept(alloc, p, shore, kept, node + 1)? {
+        Scanned::Refused { node, why } => return Ok(Scanned::Refused { node, why }),
+        Scanned::Passed { tally } => tally,
+    };
+    match scan_merged(alloc, p, shore, merged, node + 2 * inside.leaves)? {
+        Scanned::Refused { node, why } => Ok(Scanned::Refused { node, why }),
+        Scanned::Passed { tally } => Ok(Scanned::Passed {
+            tally: together(inside, tally),
+        }),
     }
 }
 
@@ -114,76 +105,75 @@ fn scan_at(
 #[cycle(scanning)]
 fn scan_kept(
     alloc: Global,
-    g: &MultiGraph,
-    tree: &Tree,
-    p: &Partition,
-    node: u32,
+    p: &Place,
     shore: VSet,
+    tree: &Tree,
+    node: u32,
 ) -> Result<Scanned, Memory>
-    requires order { p.now.order ≡ g.now.order }
-    requires covered { IsCovered (quotient g.now p.now.blocks) }
-    requires cut { IsCutAt g.now p.now.blocks shore }
-    requires fits { Fits g.now.order (shape_of tree.now) }
+    requires cut { IsCutAt p.now.graph p.now.blocks shore }
+    requires fits { Fits p.now.graph.order (shape_of tree.now) }
     requires few { node + count (length p.now.blocks) (blocks_in p.now.blocks (mem shore)) ≤ 128 }
-    ensures scanned { IfOk result
-        (IsScanned g.now (kept_at g.now.order p.now.blocks shore) (shape_of tree.now) node) }
-    ensures few { IfOk result (λ found. (next : _) → found ≡ Scanned.Passed next →
-        next + 2 ≤ node + count (length p.now.blocks) (blocks_in p.now.blocks (mem shore))) }
+    ensures scanned { IfOk result (IsScannedAt p.now.graph
+        (kept_at p.now.graph.order p.now.blocks shore) (shape_of tree.now) node) }
+    ensures few { IfOk result (λ found. (tally : _) → found ≡ Scanned.Passed tally →
+        2 * tally.leaves + 1 ≤ count (length p.now.blocks) (blocks_in p.now.blocks (mem shore))) }
 {
-    g.keeps_limits();
-    p.keeps_partition();
-    let kept_at = kept_partition(alloc, g, p, shore)?;
-    scan_at(alloc, g, tree, &kept_at, node)
+    p.keeps_place();
+    let below = p.kept(alloc, shore)?;
+    scan_at(alloc, &below, tree, node)
 }
 
 // Scans the tree of the side that is merged below the cut of the shore at p.
 #[cycle(scanning)]
 fn scan_merged(
     alloc: Global,
-    g: &MultiGraph,
-    tree: &Tree,
-    p: &Partition,
-    node: u32,
+    p: &Place,
     shore: VSet,
+    tree: &Tree,
+    node: u32,
 ) -> Result<Scanned, Memory>
-    requires order { p.now.order ≡ g.now.order }
-    requires covered { IsCovered (quotient g.now p.now.blocks) }
-    requires cut { IsCutAt g.now p.now.blocks shore }
-    requires fits { Fits g.now.order (shape_of tree.now) }
+    requires cut { IsCutAt p.now.graph p.now.blocks shore }
+    requires fits { Fits p.now.graph.order (shape_of tree.now) }
     requires few { node + length p.now.blocks ≤
         128 + count (length p.now.blocks) (blocks_in p.now.blocks (mem shore)) }
-    ensures { IfOk result
-        (IsScanned g.now (merged_at g.now.order p.now.blocks shore) (shape_of tree.now) node) }
+    ensures scanned { IfOk result (IsScannedAt p.now.graph
+        (merged_at p.now.graph.order p.now.blocks shore) (shape_of tree.now) node) }
+    ensures few { IfOk result (λ found. (tally : _) → found ≡ Scanned.Passed tally →
+        2 * tally.leaves + 1 ≤
+        count (length p.now.blocks) (complement (blocks_in p.now.blocks (mem shore)))) }
 {
-    let merged_at = merged_partition(alloc, g, p, shore)?;
-    scan_at(alloc, g, tree, &merged_at, node)
+    p.keeps_place();
+    let below = p.merged(alloc, shore)?;
+    scan_at(alloc, &below, tree, node)
 }
 
-// What the scan finds at a leaf.
-fn scan_leaf(alloc: Global, g: &MultiGraph, p: &Partition, node: u32) -> Result<Scanned, Memory>
-    requires order { p.now.order ≡ g.now.order }
-    requires covered { IsCovered (quotient g.now p.now.blocks) }
+// Scans the tree at p, whose first node has the number `node`.
+#[cycle(scanning)]
+fn scan_at(alloc: Global, p: &Place, tree: &Tree, node: u32) -> Result<Scanned, Memory>
+    requires fits { Fits p.now.graph.order (shape_of tree.now) }
     requires few { node + length p.now.blocks ≤ 129 }
-    ensures { IfOk result (IsScanned g.now p.now.blocks leaf node) }
+    ensures { IfOk result (IsScannedAt p.now.graph p.now.blocks (shape_of tree.now) node) }
 {
-    let found = first_candidate_at(alloc, g, p)?;
-    Ok(scanned_leaf(found, node))
+    match tree {
+        Tree::Leaf => scan_leaf(alloc, p, node),
+        Tree::Cut {
+            shore,
+            kept,
+            merged,
+        } => scan_cut(alloc, p, *shore, kept, merged, node),
+    }
 }
 
-// What the scan finds at a leaf, from the first candidate there.
-fn scanned_leaf(found: Option<Candidate>, node: u32) -> Scanned
-    requires { node ≤ 129 }
-    ensures { (g : Graph) (p : List (List ℕ)) →
-        option_map candidate_of found ≡ first_of (candidates_at g p) →
-        (found ≡ None → IsLeafAt g p) → IsScanned g p leaf node result }
+// The leaves of the two trees below a cut together.
+fn together(inside: Tally, outside: Tally) -> Tally
+    requires leaves { inside.leaves + outside.leaves < 2 ^ 32 }
+    requires bricks { inside.bricks + outside.bricks < 2 ^ 32 }
+    requires braces { inside.braces + outside.braces < 2 ^ 32 }
+    ensures { result ≡ sum_of inside outside }
 {
-    match found {
-        Some(candidate) => Scanned::Refused {
-            node,
-            why: Why::NotLeaf {
-                cut: candidate.shore,
-            },
-        },
-        None => Scanned::Passed { next: node + 1 },
+    Tally {
+        leaves: inside.leaves + outside.leaves,
+        bricks: inside.bricks + outside.bricks,
+        braces: inside.braces + outside.braces,
     }
 }

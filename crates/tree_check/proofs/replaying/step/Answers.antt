@@ -1,15 +1,13 @@
 use Rattle.std.proofs.Common.{◌≡◌, Some, sym, subst}
-use Rattle.graph_core.specs.Common.{singles}
 use Rattle.tree_core.proofs.DerivationStands.{fits-derivation}
 use Rattle.tree_core.specs.Common.{move_result, move_of, Fits, shape_of}
 use Rattle.tree_check.proofs.MovesFit.{move-fits}
-use Rattle.tree_check.proofs.Scanning.{refused-first}
 use Rattle.tree_check.specs.Scans.{IsScanned}
 use Rattle.tree_check.proofs.replaying.step.Goals as goal
 
 pub apply-requires : goal.apply-requires
 apply-requires c =
-    subst (λ k. Fits k (shape_of c.args.tree)) (sym c.order.ensures.is) (fits-derivation c.args.g.now (shape_of c.args.tree) c.requires)
+    subst (λ k. Fits k (shape_of c.args.tree)) (sym c.order.ensures.is) (fits-derivation c.args.c.now (shape_of c.args.tree) c.requires)
 
 pub is_sound-requires : goal.is_sound-requires
 is_sound-requires c = (
@@ -18,15 +16,14 @@ is_sound-requires c = (
   subst (λ k. move_result k (shape_of c.args.tree) (move_of c.args.item.now) ≡ Some (shape_of c.in-Ok.made)) c.order.ensures.is c.in-Ok.ensures.ok,
 )
 
-pub scan_from_root-requires-clause-fits : goal.scan_from_root-requires-clause-fits
-scan_from_root-requires-clause-fits c =
-    move-fits c.args.g.now.order (shape_of c.args.tree) (shape_of c.in-Ok.made) (move_of c.args.item.now) (fits-derivation c.args.g.now (shape_of c.args.tree) c.requires)
+pub scan_covered-requires : goal.scan_covered-requires
+scan_covered-requires c =
+    move-fits c.args.c.now.order (shape_of c.args.tree) (shape_of c.in-Ok.made) (move_of c.args.item.now) (fits-derivation c.args.c.now (shape_of c.args.tree) c.requires)
     (subst (λ k. move_result k (shape_of c.args.tree) (move_of c.args.item.now) ≡ Some (shape_of c.in-Ok.made)) c.order.ensures.is c.in-Ok.ensures.ok)
 
 pub returns-in-Refused : goal.returns-in-Refused
 returns-in-Refused c = (
   shape_of c.in-Ok.made,
   subst (λ k. move_result k (shape_of c.args.tree) (move_of c.args.item.now) ≡ Some (shape_of c.in-Ok.made)) c.order.ensures.is c.in-Ok.ensures.ok,
-  refused-first c.args.g.now (shape_of c.in-Ok.made) c.in-Refused.node c.in-Refused.why c.requires.covered
-      (subst (IsScanned c.args.g.now (singles c.args.g.now.order) (shape_of c.in-Ok.made) 1) c.in-Refused.is c.in_ok-scan_from_root.ensures),
+  subst (IsScanned c.args.c.now (shape_of c.in-Ok.made)) c.in-Refused.is c.in_ok-scan_covered.ensures,
 )

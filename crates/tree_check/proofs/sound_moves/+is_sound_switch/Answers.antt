@@ -1,17 +1,57 @@
-use Rattle.std.proofs.Common.{IsTrue, ap, subst}
+use Rattle.std.proofs.Common.{IsTrue, List, ◌∷◌, ◌∙◌, ℕ, ap, arith, rules, subst, subst₂, sym}
 use Rattle.counting.proofs.Common.{IfOk-weaker}
-use Rattle.graph_core.specs.Common.{IsPartition}
-use Rattle.tree_core.specs.Common.{IsCutAt, IsDerivationAt, shape_of}
-use Rattle.tree_check.proofs.SoundMoves.{switched-here}
-use Rattle.tree_check.specs.SoundMoves.{IsBlock}
+use Rattle.graph_core.specs.Common.{Graph}
+use Rattle.tree_core.specs.Common.{Fits, IsCutAt, IsDerivationAt, Shape, shape_of}
+use Rattle.tree_core.specs.declared.path.Side.{Side}
+use Rattle.tree_core.specs.declared.tree.Tree.{Tree}
+use Rattle.tree_check.proofs.SoundMoves.{switched-here, switched-kept, switched-merged}
+use Rattle.tree_check.specs.SoundMoves.{IsBlock, IsSwitched}
 use Rattle.tree_check.proofs.sound_moves.+is_sound_switch.Goals as goal
 
 pub returns-in-None : goal.returns-in-None
 returns-in-None t c =
+    let g = c.args.p.now.graph in
+    let p = c.args.p.now.blocks in
     IfOk-weaker c.exchanges_blocks.result
-    (λ holds. IsTrue holds → IsBlock c.args.g.now.order c.args.p.now.blocks c.args.u × IsBlock c.args.g.now.order c.args.p.now.blocks c.args.v × IsCutAt c.args.g.now c.args.p.now.blocks c.in-Cut.shore)
-    (λ sound. IsTrue sound → IsDerivationAt c.args.g.now c.args.p.now.blocks (shape_of c.args.made.now))
+    (λ holds. IsTrue holds → IsBlock g.order p c.args.u × IsBlock g.order p c.args.v × IsCutAt g p c.in-Cut.shore)
+    (λ sound. IsTrue sound → IsDerivationAt g p (shape_of c.args.made.now))
     (λ w found holds.
-    switched-here c.args.g.now c.args.p.now.blocks c.args.path.now c.args.u c.args.v (shape_of c.args.made.now) c.in-Cut.shore (shape_of c.in-Cut.kept.value) (shape_of c.in-Cut.merged.value) c.keeps_limits.ensures.multigraph.ends
-    (subst (λ n. IsPartition n c.args.p.now.blocks) c.requires.order c.keeps_partition.ensures.partition) c.requires.covered c.in-None.ensures.cases (ap shape_of c.in-Cut.is) c.requires.switched (found holds))
+    switched-here g p c.args.path.now c.args.u c.args.v (shape_of c.args.made.now) c.in-Cut.shore (shape_of c.in-Cut.kept.value) (shape_of c.in-Cut.merged.value) c.keeps_place.ensures.limits.multigraph.ends c.keeps_place.ensures.partition
+    c.keeps_place.ensures.covered c.in-None.ensures.cases (ap shape_of c.in-Cut.is) c.requires.switched (found holds))
     c.exchanges_blocks.ensures
+
+pub is_sound_switch-requires : goal.is_sound_switch-requires
+is_sound_switch-requires t c =
+    let g = c.args.p.now.graph in
+    let below = c.in_ok-below-in-Some-Kept-default in
+    let arm = c.in-Some-Kept-default in
+    let shorter = arm.ensures.cases.1 in
+    let falls = c.decreases in
+    let switched = switched-kept g c.args.p.now.blocks arm.rest.now c.args.u c.args.v c.in-Cut.shore (shape_of c.in-Cut.kept.value) (shape_of c.in-Cut.merged.value)
+    (subst₂ (λ (path : List Side) (s : Shape). IsSwitched g c.args.p.now.blocks path c.args.u c.args.v s)
+    (arm.ensures.cases.0 ∙ ap (λ (s : Side). s ∷ arm.rest.now) arm.field-0-0-is) (ap shape_of c.in-Cut.is) c.requires.switched) in (
+      first_of (omega arith, search rules),
+      (
+        subst₂ (λ (h : Graph) (u : Tree). Fits h.order (shape_of u)) (sym below.ensures.graph) (sym c.deref.ensures) (subst (λ (u : Tree). Fits g.order (shape_of u)) c.in-Cut.is c.requires.fits).1,
+        subst (λ (u : Tree). IsSwitched below.below.graph below.below.blocks arm.rest.now c.args.u c.args.v (shape_of u)) (sym c.deref.ensures)
+            (subst₂ (λ (h : Graph) (q : List (List ℕ)). IsSwitched h q arm.rest.now c.args.u c.args.v (shape_of c.in-Cut.kept.value)) (sym below.ensures.graph) (sym below.ensures.blocks) switched),
+      ),
+    )
+
+pub is_sound_switch-requires-in-Some-Merged-default : goal.is_sound_switch-requires-in-Some-Merged-default
+is_sound_switch-requires-in-Some-Merged-default t c =
+    let g = c.args.p.now.graph in
+    let below = c.in_ok-below-in-Some-Merged-default in
+    let arm = c.in-Some-Merged-default in
+    let shorter = arm.ensures.cases.1 in
+    let falls = c.decreases in
+    let switched = switched-merged g c.args.p.now.blocks arm.rest.now c.args.u c.args.v c.in-Cut.shore (shape_of c.in-Cut.kept.value) (shape_of c.in-Cut.merged.value)
+    (subst₂ (λ (path : List Side) (s : Shape). IsSwitched g c.args.p.now.blocks path c.args.u c.args.v s)
+    (arm.ensures.cases.0 ∙ ap (λ (s : Side). s ∷ arm.rest.now) arm.field-0-0-is) (ap shape_of c.in-Cut.is) c.requires.switched) in (
+      first_of (omega arith, search rules),
+      (
+        subst₂ (λ (h : Graph) (u : Tree). Fits h.order (shape_of u)) (sym below.ensures.graph) (sym c.deref-in-Some-Merged-default.ensures) (subst (λ (u : Tree). Fits g.order (shape_of u)) c.in-Cut.is c.requires.fits).2,
+        subst (λ (u : Tree). IsSwitched below.below.graph below.below.blocks arm.rest.now c.args.u c.args.v (shape_of u)) (sym c.deref-in-Some-Merged-default.ensures)
+            (subst₂ (λ (h : Graph) (q : List (List ℕ)). IsSwitched h q arm.rest.now c.args.u c.args.v (shape_of c.in-Cut.merged.value)) (sym below.ensures.graph) (sym below.ensures.blocks) switched),
+      ),
+    )
