@@ -1,16 +1,14 @@
 -- What is below the root of a derivation.
 -- Stated by: uncross.
 use Rattle.std.specs.Prelude.{◌≡◌, ◌+◌, ◌*◌, ◌≤◌, ℕ, List, length}
-use Rattle.contraction.specs.Partition.{PartitionValue}
-use Rattle.graph_core.specs.Common.{IsCovered, Graph, quotient}
-use Rattle.tree_core.specs.Common.{PlainMove, Shape, cut, cut_count}
+use Rattle.graph_core.specs.Common.{Graph}
+use Rattle.tree_core.specs.Common.{PlaceValue, PlainMove, Shape, cut, cut_count}
 use Rattle.move_laws.specs.Scripts.{IsProperScript}
 
--- q has the blocks p, and the quotient of g at it is covered
-pub record IsPartitionBelow (g : Graph) (p : List (List ℕ)) (q : PartitionValue) : Type 0 where
-  pub order : q.order ≡ g.order
+-- q is the place of the graph at p
+pub record IsPlaceBelow (g : Graph) (p : List (List ℕ)) (q : PlaceValue) : Type 0 where
+  pub graph : q.graph ≡ g
   pub blocks : q.blocks ≡ p
-  pub covered : IsCovered (quotient g q.blocks)
 
 -- few moves turn s into the tree with the root shore y and these two trees below it
 pub record IsBrought (g : Graph) (p : List (List ℕ)) (s : Shape) (y : List ℕ) (k l : Shape) (ms : List PlainMove) : Type 0 where

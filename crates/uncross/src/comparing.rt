@@ -1,28 +1,28 @@
 //! Comparing: a derivation is turned into another, and the leaves of the two are paired.
 ghost use Rattle.std.specs.Prelude.{◌≡◌, ◌++◌, ◌*◌, ◌≤◌, IfOk, length, map};
-ghost use Rattle.graph_core.specs.Common.{IsCovered, singles, quotient};
+ghost use Rattle.graph_core.specs.Common.{singles};
 ghost use Rattle.tree_core.specs.Common.{IsCutAt, IsDerivation, IsDerivationAt, kept_at, merged_at, script_maps, leaves, moves_of, TurnsThrough, below, cut_count, shape_of};
 ghost use Rattle.move_laws.specs.Pairings.{IsPairing};
 ghost use Rattle.move_laws.specs.Scripts.{IsProperScript};
-ghost use Rattle.uncross.specs.Below.{IsBrought, IsPartitionBelow};
+ghost use Rattle.uncross.specs.Below.{IsBrought, IsPlaceBelow};
 ghost use Rattle.uncross.specs.MapView.{maps_of};
 
 use crate::exposing::{Exposure, expose_at};
 use crate::leaf_maps::LeafMaps;
 use crate::move_maps::script_maps;
-use crate::partitions_below::{PartitionsBelow, partitions_below};
+use crate::places_below::{PlacesBelow, places_below};
 use crate::turning::append_below;
-use contraction::Partition;
 use graph_core::MultiGraph;
+use graph_facts::Covered;
 use std::alloc::{AllocError as Memory, Global};
-use tree_core::{Moves, Side, Tree, copy};
+use tree_core::{Moves, Place, Side, Tree, copy};
 use vset_core::VSet;
 
-/// The two trees below a shore that moves brought to the root, their partitions, and the moves.
+/// The two trees below a shore that moves brought to the root, their places, and the moves.
 #[derive(Drop)]
-pub struct Brought {
-    /// The partitions at the two trees.
-    pub at: PartitionsBelow,
+pub struct Brought<'g> {
+    /// The places of the two trees.
+    pub at: PlacesBelow<'g>,
     /// The tree in `kept`.
     pub kept: Tree,
     /// The tree in `merged`.
@@ -32,27 +32,19 @@ pub struct Brought {
 }
 
 // Brings a shore to the root of a derivation at p, through derivations at p.
-fn bring(
-    alloc: Global,
-    g: &MultiGraph,
-    p: &Partition,
-    tree: Tree,
-    shore: VSet,
-) -> Result<Brought, Memory>
-    requires order { p.now.order ≡ g.now.order }
-    requires covered { IsCovered (quotient g.now p.now.blocks) }
-    requires derives { IsDerivationAt g.now p.now.blocks (shape_of tree) }
-    requires shore { IsCutAt g.now p.now.blocks shore }
-    ensures kept { IfOk result
-        (λ r. IsPartitionBelow g.now (kept_at g.now.order p.now.blocks shore) r.at.kept) }
-    ensures merged { IfOk result
-        (λ r. IsPartitionBelow g.now (merged_at g.now.order p.now.blocks shore) r.at.merged) }
+fn bring<'g>(alloc: Global, p: &Place<'g>, tree: Tree, shore: VSet) -> Result<Brought<'g>, Memory>
+    requires derives { IsDerivationAt p.now.graph p.now.blocks (shape_of tree) }
+    requires shore { IsCutAt p.now.graph p.now.blocks shore }
+    ensures kept { IfOk result (λ r.
+        IsPlaceBelow p.now.graph (kept_at p.now.graph.order p.now.blocks shore) r.at.kept) }
+    ensures merged { IfOk result (λ r.
+        IsPlaceBelow p.now.graph (merged_at p.now.graph.order p.now.blocks shore) r.at.merged) }
     ensures brought { IfOk result
-        (λ r. IsBrought g.now p.now.blocks (shape_of tree) shore (shape_of r.kept)
+        (λ r. IsBrought p.now.graph p.now.blocks (shape_of tree) shore (shape_of r.kept)
         (shape_of r.merged) (moves_of r.moves)) }
 {
-    let at = partitions_below(alloc, g, p, shore)?;
-    let Exposure { tree, moves } = expose_at(alloc, g, p, tree, Some(shore))?;
+    let at = places_below(alloc, p, shore)?;
+    let Exposure { tree, moves } = expose_at(alloc, p, tree, Some(shore))?;
     let moves = moves.unwrap_or(Moves::new(alloc));
     match tree {
         Tree::Leaf => unreachable!(),
@@ -84,26 +76,17 @@ fn with_both(alloc: Global, moves: Moves, kept: Moves, merged: Moves) -> Result<
 /// The moves that turn the first derivation at p into the second, through derivations at p: the
 /// root shore of the second is exposed in the first, then the same is done in the two trees
 /// `kept`, and then in the two trees `merged`.
-pub fn compare_at(
-    alloc: Global,
-    g: &MultiGraph,
-    p: &Partition,
-    first: Tree,
-    second: &Tree,
-) -> Result<Moves, Memory>
-    requires order { p.now.order ≡ g.now.order }
-    requires covered { IsCovered (quotient g.now p.now.blocks) }
-    requires first { IsDerivationAt g.now p.now.blocks (shape_of first) }
-    requires second { IsDerivationAt g.now p.now.blocks (shape_of second.now) }
+pub fn compare_at(alloc: Global, p: &Place, first: Tree, second: &Tree) -> Result<Moves, Memory>
+    requires first { IsDerivationAt p.now.graph p.now.blocks (shape_of first) }
+    requires second { IsDerivationAt p.now.graph p.now.blocks (shape_of second.now) }
     ensures script { IfOk result
-        (λ ms. IsProperScript g.now p.now.blocks (shape_of first) (moves_of ms)
+        (λ ms. IsProperScript p.now.graph p.now.blocks (shape_of first) (moves_of ms)
         (shape_of second.now)) }
     ensures few { IfOk result
         (λ ms. length (moves_of ms) ≤
         5 * (cut_count (shape_of first) * cut_count (shape_of first))) }
 {
-    g.keeps_limits();
-    p.keeps_partition();
+    p.keeps_place();
     match second {
         Tree::Leaf => Ok(Moves::new(alloc)),
         Tree::Cut {
@@ -112,10 +95,10 @@ pub fn compare_at(
             merged,
         } => {
             let y = *shore;
-            let brought = bring(alloc, g, p, first, y)?;
+            let brought = bring(alloc, p, first, y)?;
             let at = brought.at;
-            let in_kept = compare_at(alloc, g, &at.kept, brought.kept, kept)?;
-            let in_merged = compare_at(alloc, g, &at.merged, brought.merged, merged)?;
+            let in_kept = compare_at(alloc, &at.kept, brought.kept, kept)?;
+            let in_merged = compare_at(alloc, &at.merged, brought.merged, merged)?;
             let moves = with_both(alloc, brought.moves, in_kept, in_merged)?;
             Ok(moves)
         }
@@ -142,10 +125,31 @@ pub fn moves_between(
         (λ ms. length (moves_of ms) ≤
         5 * (cut_count (shape_of first.now) * cut_count (shape_of first.now))) }
 {
-    g.keeps_limits();
-    let root = Partition::singles(alloc, g.order())?;
+    let covered = Covered::known(alloc, g)?;
+    moves_between_covered(alloc, &covered, first, second)
+}
+
+/// The moves that `moves_between` answers for a covered graph.
+pub fn moves_between_covered(
+    alloc: Global,
+    c: &Covered,
+    first: &Tree,
+    second: &Tree,
+) -> Result<Moves, Memory>
+    requires first { IsDerivation c.now (shape_of first.now) }
+    requires second { IsDerivation c.now (shape_of second.now) }
+    ensures through { IfOk result
+        (λ ms. TurnsThrough c.now (shape_of first.now) (moves_of ms) (shape_of second.now)) }
+    ensures script { IfOk result
+        (λ ms. IsProperScript c.now (singles c.now.order) (shape_of first.now) (moves_of ms)
+        (shape_of second.now)) }
+    ensures few { IfOk result
+        (λ ms. length (moves_of ms) ≤
+        5 * (cut_count (shape_of first.now) * cut_count (shape_of first.now))) }
+{
+    let root = Place::root(alloc, c)?;
     let tree = copy(alloc, first)?;
-    let moves = compare_at(alloc, g, &root, tree, second)?;
+    let moves = compare_at(alloc, &root, tree, second)?;
     Ok(moves)
 }
 
@@ -184,8 +188,32 @@ pub fn compare(
         (λ r. IsPairing g.now (leaves g.now.order (shape_of first.now))
         (leaves g.now.order (shape_of second.now)) (maps_of r.maps)) }
 {
-    g.keeps_limits();
-    let moves = moves_between(alloc, g, first, second)?;
-    let maps = script_maps(alloc, g, first, &moves)?;
+    let covered = Covered::known(alloc, g)?;
+    compare_covered(alloc, &covered, first, second)
+}
+
+/// The answer of `compare` for a covered graph, from what is known of it.
+pub fn compare_covered(
+    alloc: Global,
+    c: &Covered,
+    first: &Tree,
+    second: &Tree,
+) -> Result<Pairing, Memory>
+    requires first { IsDerivation c.now (shape_of first.now) }
+    requires second { IsDerivation c.now (shape_of second.now) }
+    ensures through { IfOk result
+        (λ r. TurnsThrough c.now (shape_of first.now) (moves_of r.moves) (shape_of second.now)) }
+    ensures few { IfOk result
+        (λ r. length (moves_of r.moves) ≤
+        5 * (cut_count (shape_of first.now) * cut_count (shape_of first.now))) }
+    ensures maps { IfOk result
+        (λ r. maps_of r.maps ≡ script_maps c.now.order (shape_of first.now) (moves_of r.moves)) }
+    ensures paired { IfOk result
+        (λ r. IsPairing c.now (leaves c.now.order (shape_of first.now))
+        (leaves c.now.order (shape_of second.now)) (maps_of r.maps)) }
+{
+    c.keeps_covered();
+    let moves = moves_between_covered(alloc, c, first, second)?;
+    let maps = script_maps(alloc, c.graph(), first, &moves)?;
     Ok(Pairing { maps, moves })
 }

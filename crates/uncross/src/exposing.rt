@@ -1,24 +1,24 @@
 //! Exposing: a shore is brought to the root of a derivation.
 ghost use Rattle.std.specs.Prelude.{◌≡◌, List, Some, IfOk, map, option_map, ◌*◌, ◌≤◌, length};
-ghost use Rattle.graph_core.specs.Common.{IsCovered, singles, quotient};
+ghost use Rattle.graph_core.specs.Common.{singles};
 ghost use Rattle.tree_core.specs.Common.{IsCutAt, IsDerivation, IsDerivationAt, script_maps, leaves, moves_of, PlainMove, TurnsThrough, below, Fits, Shape, cut, cut_count, shape_of};
 ghost use Rattle.move_laws.specs.Pairings.{IsPairing};
 ghost use Rattle.move_laws.specs.Turning.{PlainTurned, followed, raised};
 ghost use Rattle.uncross.specs.Below.{IsRaised};
 ghost use Rattle.uncross.specs.MapView.{maps_of};
 ghost use Rattle.uncross.specs.PlanView.{plan_of};
-ghost use Rattle.uncross.specs.Plans.{CutIf, IsExposed, plan_result};
+ghost use Rattle.uncross.specs.Plans.{CutIf, IsExposed, IsPlan, plan_result};
 ghost use Rattle.uncross.specs.TurnedView.{turned_of};
 
 use crate::leaf_maps::LeafMaps;
 use crate::move_maps::script_maps;
-use crate::partitions_below::partitions_below;
+use crate::places_below::places_below;
 use crate::plans::{Plan, plan_at};
 use crate::turning::{Turned, raise, turn_over_inner};
-use contraction::Partition;
 use graph_core::MultiGraph;
+use graph_facts::Covered;
 use std::alloc::{AllocError as Memory, Global};
-use tree_core::{Moves, Side, Tree, copy, root_partition};
+use tree_core::{Moves, Place, Side, Tree, copy};
 use vset_core::VSet;
 
 // The root of a child that moves have made is brought over the root.
@@ -112,24 +112,20 @@ fn carry_out_over(
 /// Brings a shore, if there is one, to the root of a derivation at p, through derivations at p.
 pub fn expose_at(
     alloc: Global,
-    g: &MultiGraph,
-    p: &Partition,
+    p: &Place,
     tree: Tree,
     shore: Option<VSet>,
 ) -> Result<Exposure, Memory>
-    requires order { p.now.order ≡ g.now.order }
-    requires covered { IsCovered (quotient g.now p.now.blocks) }
-    requires derives { IsDerivationAt g.now p.now.blocks (shape_of tree) }
-    requires shore { CutIf g.now p.now.blocks shore }
+    requires derives { IsDerivationAt p.now.graph p.now.blocks (shape_of tree) }
+    requires shore { CutIf p.now.graph p.now.blocks shore }
     ensures { IfOk result
-        (λ r. IsExposed g.now p.now.blocks (shape_of tree) shore (shape_of r.tree)
+        (λ r. IsExposed p.now.graph p.now.blocks (shape_of tree) shore (shape_of r.tree)
         (option_map moves_of r.moves)) }
 {
     let Some(y) = shore else {
         return Ok(Exposure { tree, moves: None });
     };
-    g.keeps_limits();
-    p.keeps_partition();
+    p.keeps_place();
     match tree {
         Tree::Leaf => unreachable!(),
         Tree::Cut {
@@ -137,19 +133,30 @@ pub fn expose_at(
             kept,
             merged,
         } => {
-            let plan = plan_at(p, x, y);
-            let at = partitions_below(alloc, g, p, x)?;
+            let plan = plan_for(p, x, y);
+            let at = places_below(alloc, p, x)?;
             let kept = Box::into_inner(kept);
-            let inner = expose_at(alloc, g, &at.kept, kept, plan.first(y))?;
+            let inner = expose_at(alloc, &at.kept, kept, plan.first(y))?;
             let merged = Box::into_inner(merged);
-            let outer = expose_at(alloc, g, &at.merged, merged, plan.second(y))?;
-            let Turned { tree, moves } = carry_out_over(alloc, g.order(), x, &plan, inner, outer)?;
+            let outer = expose_at(alloc, &at.merged, merged, plan.second(y))?;
+            let n = p.graph().order();
+            let Turned { tree, moves } = carry_out_over(alloc, n, x, &plan, inner, outer)?;
             Ok(Exposure {
                 tree,
                 moves: Some(moves),
             })
         }
     }
+}
+
+// The plan for the shore y in a tree with the root shore x.
+fn plan_for(p: &Place, x: VSet, y: VSet) -> Plan
+    requires root { IsCutAt p.now.graph p.now.blocks x }
+    requires shore { IsCutAt p.now.graph p.now.blocks y }
+    ensures { IsPlan p.now.graph.order p.now.blocks x y (plan_of result) }
+{
+    p.keeps_place();
+    plan_at(p.partition(), x, y)
 }
 
 /// A derivation with a given shore at its root, and how it was reached from another.
@@ -172,8 +179,9 @@ fn bring_up(alloc: Global, g: &MultiGraph, tree: Tree, shore: VSet) -> Result<Tu
         (λ r. IsRaised g.now (singles g.now.order) (shape_of tree) shore (shape_of r.tree)
         (moves_of r.moves)) }
 {
-    let root = root_partition(alloc, g)?;
-    let Exposure { tree, moves: found } = expose_at(alloc, g, &root, tree, Some(shore))?;
+    let covered = Covered::known(alloc, g)?;
+    let root = Place::root(alloc, &covered)?;
+    let Exposure { tree, moves: found } = expose_at(alloc, &root, tree, Some(shore))?;
     let moves = found.unwrap_or(Moves::new(alloc));
     Ok(Turned { tree, moves })
 }

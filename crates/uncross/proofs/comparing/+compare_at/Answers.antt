@@ -1,4 +1,5 @@
 use Rattle.std.proofs.Common.{◌*◌, ◌≤◌, List, ap, arith, length, refl, subst, sym, ℕ}
+use Rattle.graph_core.specs.Common.{Graph}
 use Rattle.tree_core.specs.Common.{IsDerivationAt, moves_of, cut_count, node_count, shape_of}
 use Rattle.tree_core.specs.declared.moves.Move.{Move}
 use Rattle.tree_core.specs.declared.tree.Tree.{Tree}
@@ -9,10 +10,10 @@ use Rattle.uncross.proofs.comparing.+compare_at.Goals.{In_ok-brought-in-Cut, In_
 
 -- the trees below the root shore of the second tree, which was brought to the root of the first
 below_shore : (t : ℕ) (c : In_ok-brought-in-Cut t) →
-    IsCompared c.args.g.now c.args.p.now.blocks (shape_of c.args.first) (shape_of c.args.second.now) c.in-Cut.shore (shape_of c.in_ok-brought-in-Cut.brought.kept) (shape_of c.in_ok-brought-in-Cut.brought.merged) (shape_of c.in-Cut.kept.value) (shape_of c.in-Cut.merged.value) (moves_of c.in_ok-brought-in-Cut.brought.moves)
+    IsCompared c.args.p.now.graph c.args.p.now.blocks (shape_of c.args.first) (shape_of c.args.second.now) c.in-Cut.shore (shape_of c.in_ok-brought-in-Cut.brought.kept) (shape_of c.in_ok-brought-in-Cut.brought.merged) (shape_of c.in-Cut.kept.value) (shape_of c.in-Cut.merged.value) (moves_of c.in_ok-brought-in-Cut.brought.moves)
 below_shore t c =
-    compared c.args.g.now c.args.p.now.order c.args.p.now.blocks (shape_of c.args.first) (shape_of c.args.second.now) c.in-Cut.shore (shape_of c.in-Cut.kept.value) (shape_of c.in-Cut.merged.value)
-    c.keeps_limits.ensures.multigraph.ends c.requires.order c.keeps_partition.ensures.partition c.requires.covered (ap shape_of c.in-Cut.is) c.requires.first c.requires.second
+    compared c.args.p.now.graph c.args.p.now.graph.order c.args.p.now.blocks (shape_of c.args.first) (shape_of c.args.second.now) c.in-Cut.shore (shape_of c.in-Cut.kept.value) (shape_of c.in-Cut.merged.value)
+    c.keeps_place.ensures.limits.multigraph.ends refl c.keeps_place.ensures.partition c.keeps_place.ensures.covered (ap shape_of c.in-Cut.is) c.requires.first c.requires.second
     (shape_of c.in_ok-brought-in-Cut.brought.kept) (shape_of c.in_ok-brought-in-Cut.brought.merged) (moves_of c.in_ok-brought-in-Cut.brought.moves) c.in_ok-brought-in-Cut.ensures.brought
 
 abbrev nodes_of : Tree → ℕ
@@ -22,31 +23,33 @@ pub compare_at-requires : goal.compare_at-requires
 compare_at-requires t c =
     let asks = (below_shore t (goal.at.compare_at-requires t c).In_ok-brought-in-Cut).kept c.in_ok-brought-in-Cut.brought.at.kept.blocks (shape_of c.in_ok-brought-in-Cut.brought.kept) (shape_of c.deref.result.now) c.in_ok-brought-in-Cut.ensures.kept.blocks refl (ap shape_of c.deref.ensures) in
     let below = ap nodes_of c.deref.ensures in let whole = ap nodes_of c.in-Cut.is in let size = c.decreases in
-    (omega arith, (c.in_ok-brought-in-Cut.ensures.kept.order, (c.in_ok-brought-in-Cut.ensures.kept.covered, asks)))
+    (omega arith, subst (λ (h : Graph). IsDerivationAt h c.in_ok-brought-in-Cut.brought.at.kept.blocks (shape_of c.in_ok-brought-in-Cut.brought.kept) × IsDerivationAt h c.in_ok-brought-in-Cut.brought.at.kept.blocks (shape_of c.deref.result.now)) (sym c.in_ok-brought-in-Cut.ensures.kept.graph) asks)
 
 pub compare_at-requires-in-Cut : goal.compare_at-requires-in-Cut
 compare_at-requires-in-Cut t c =
     let asks = (below_shore t (goal.at.compare_at-requires-in-Cut t c).In_ok-brought-in-Cut).merged c.in_ok-brought-in-Cut.brought.at.merged.blocks (shape_of c.in_ok-brought-in-Cut.brought.merged) (shape_of c.deref-in-Cut.result.now) c.in_ok-brought-in-Cut.ensures.merged.blocks refl (ap shape_of c.deref-in-Cut.ensures) in
     let below = ap nodes_of c.deref-in-Cut.ensures in let whole = ap nodes_of c.in-Cut.is in let size = c.decreases in
-    (omega arith, (c.in_ok-brought-in-Cut.ensures.merged.order, (c.in_ok-brought-in-Cut.ensures.merged.covered, asks)))
+    (omega arith, subst (λ (h : Graph). IsDerivationAt h c.in_ok-brought-in-Cut.brought.at.merged.blocks (shape_of c.in_ok-brought-in-Cut.brought.merged) × IsDerivationAt h c.in_ok-brought-in-Cut.brought.at.merged.blocks (shape_of c.deref-in-Cut.result.now)) (sym c.in_ok-brought-in-Cut.ensures.merged.graph) asks)
 
 pub bring-requires-clause-shore : goal.bring-requires-clause-shore
-bring-requires-clause-shore t c = (subst (λ (tree : Tree). IsDerivationAt c.args.g.now c.args.p.now.blocks (shape_of tree)) c.in-Cut.is c.requires.second).0
+bring-requires-clause-shore t c = (subst (λ (tree : Tree). IsDerivationAt c.args.p.now.graph c.args.p.now.blocks (shape_of tree)) c.in-Cut.is c.requires.second).0
 
 pub returns-in-Leaf-clause-script : goal.returns-in-Leaf-clause-script
 returns-in-Leaf-clause-script t c =
-    subst (λ (ms : List Move). IsProperScript c.args.g.now c.args.p.now.blocks (shape_of c.args.first) (moves_of ms) (shape_of c.args.second.now)) (sym c.new.ensures)
-    (both_leaves c.args.g.now c.args.p.now.order c.args.p.now.blocks (shape_of c.args.first) (shape_of c.args.second.now) c.keeps_limits.ensures.multigraph.ends c.requires.order c.keeps_partition.ensures.partition c.requires.covered (ap shape_of c.in-Leaf.is) c.requires.first c.requires.second)
+    subst (λ (ms : List Move). IsProperScript c.args.p.now.graph c.args.p.now.blocks (shape_of c.args.first) (moves_of ms) (shape_of c.args.second.now)) (sym c.new.ensures)
+    (both_leaves c.args.p.now.graph c.args.p.now.graph.order c.args.p.now.blocks (shape_of c.args.first) (shape_of c.args.second.now) c.keeps_place.ensures.limits.multigraph.ends refl c.keeps_place.ensures.partition c.keeps_place.ensures.covered (ap shape_of c.in-Leaf.is) c.requires.first c.requires.second)
 
 -- the moves put together
 together : (t : ℕ) (c : In_ok-moves-in-Cut t) →
-    IsCompared c.args.g.now c.args.p.now.blocks (shape_of c.args.first) (shape_of c.args.second.now) c.in-Cut.shore (shape_of c.in_ok-brought-in-Cut.brought.kept) (shape_of c.in_ok-brought-in-Cut.brought.merged) (shape_of c.in-Cut.kept.value) (shape_of c.in-Cut.merged.value) (moves_of c.in_ok-brought-in-Cut.brought.moves) →
-    IsProperScript c.args.g.now c.args.p.now.blocks (shape_of c.args.first) (moves_of c.in_ok-moves-in-Cut.moves) (shape_of c.args.second.now) × (length (moves_of c.in_ok-moves-in-Cut.moves) ≤ 5 * (cut_count (shape_of c.args.first) * cut_count (shape_of c.args.first)))
+    IsCompared c.args.p.now.graph c.args.p.now.blocks (shape_of c.args.first) (shape_of c.args.second.now) c.in-Cut.shore (shape_of c.in_ok-brought-in-Cut.brought.kept) (shape_of c.in_ok-brought-in-Cut.brought.merged) (shape_of c.in-Cut.kept.value) (shape_of c.in-Cut.merged.value) (moves_of c.in_ok-brought-in-Cut.brought.moves) →
+    IsProperScript c.args.p.now.graph c.args.p.now.blocks (shape_of c.args.first) (moves_of c.in_ok-moves-in-Cut.moves) (shape_of c.args.second.now) × (length (moves_of c.in_ok-moves-in-Cut.moves) ≤ 5 * (cut_count (shape_of c.args.first) * cut_count (shape_of c.args.first)))
 together t c below_both =
     below_both.whole c.in_ok-brought-in-Cut.brought.at.kept.blocks c.in_ok-brought-in-Cut.brought.at.merged.blocks (moves_of c.in_ok-in_kept-in-Cut.in_kept) (moves_of c.in_ok-in_merged-in-Cut.in_merged)
     (shape_of c.in_ok-brought-in-Cut.brought.kept) (shape_of c.deref.result.now) (shape_of c.in_ok-brought-in-Cut.brought.merged) (shape_of c.deref-in-Cut.result.now)
     c.in_ok-brought-in-Cut.ensures.kept.blocks c.in_ok-brought-in-Cut.ensures.merged.blocks refl (ap shape_of c.deref.ensures) refl (ap shape_of c.deref-in-Cut.ensures)
-    c.in_ok-in_kept-in-Cut.ensures.script c.in_ok-in_merged-in-Cut.ensures.script c.in_ok-in_kept-in-Cut.ensures.few c.in_ok-in_merged-in-Cut.ensures.few
+    (subst (λ (h : Graph). IsProperScript h c.in_ok-brought-in-Cut.brought.at.kept.blocks (shape_of c.in_ok-brought-in-Cut.brought.kept) (moves_of c.in_ok-in_kept-in-Cut.in_kept) (shape_of c.deref.result.now)) c.in_ok-brought-in-Cut.ensures.kept.graph c.in_ok-in_kept-in-Cut.ensures.script)
+    (subst (λ (h : Graph). IsProperScript h c.in_ok-brought-in-Cut.brought.at.merged.blocks (shape_of c.in_ok-brought-in-Cut.brought.merged) (moves_of c.in_ok-in_merged-in-Cut.in_merged) (shape_of c.deref-in-Cut.result.now)) c.in_ok-brought-in-Cut.ensures.merged.graph c.in_ok-in_merged-in-Cut.ensures.script)
+    c.in_ok-in_kept-in-Cut.ensures.few c.in_ok-in_merged-in-Cut.ensures.few
     (moves_of c.in_ok-moves-in-Cut.moves) c.in_ok-moves-in-Cut.ensures
 
 pub returns-in_ok-moves-in-Cut-clause-script : goal.returns-in_ok-moves-in-Cut-clause-script
