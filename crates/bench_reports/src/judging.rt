@@ -1,7 +1,8 @@
 //! What a command makes of its inputs.
 ghost use Rattle.std.specs.Prelude.{◌≡◌, IfOk};
 ghost use Rattle.graph_text.specs.SoFar.{named_graph};
-ghost use Rattle.bench_tasks.specs.Common.{graph_in, task_of};
+ghost use Rattle.bench_tasks.specs.Common.{given_trees, graph_in, on_trees, task_of};
+ghost use Rattle.bench_tasks.specs.Tasks.{OnGraph};
 ghost use Rattle.bench_outcomes.specs.Common.{HasMaximum, IsAnalysis, Analysed, Converted, Analysed6, IsReported, ResultOf, TaskMayRefuse};
 
 use crate::checking::check_report;
@@ -14,7 +15,7 @@ use crate::replaying::replay_report;
 use crate::structures::structure_where_covered;
 use bench_outcomes::{Report, Status};
 use bench_tasks::{
-    EarsVerb, GivenMoves, GraphVerb, MovesVerb, NumbersVerb, PicksVerb, SimpleGraph,
+    EarsVerb, GivenMoves, GivenTrees, GraphVerb, MovesVerb, NumbersVerb, PicksVerb, SimpleGraph,
     SimpleGraphVerb, Task, TreeVerb, TreesVerb,
 };
 use gallai_edmonds::sets_of;
@@ -114,28 +115,39 @@ fn analyse6_report(alloc: Global, simple: SimpleGraph) -> Result<Report, Memory>
     })
 }
 
-// What a task gives, by its verb.
+// What a task on a graph gives, by its verb.
+fn graph_report(alloc: Global, verb: GraphVerb, named: Named) -> Result<Report, Memory>
+    ensures { IfOk result
+        (λ report. ResultOf (OnGraph verb (named_graph named)) report.status report.bytes.items) }
+{
+    match verb {
+        GraphVerb::Analyse => analyse_report(alloc, &named),
+        GraphVerb::Convert => convert_report(alloc, named),
+        GraphVerb::Decompose { order } => decompose_report(alloc, &named, &order),
+        GraphVerb::Ears => ears_report(alloc, &named.graph),
+    }
+}
+
+// What a task on a graph and two trees gives, by its verb.
+fn trees_report(alloc: Global, verb: TreesVerb, given: &GivenTrees) -> Result<Report, Memory>
+    ensures { IfOk result
+        (λ report. ResultOf (on_trees verb (given_trees given.now)) report.status
+        report.bytes.items) }
+{
+    let g = &given.named.graph;
+    match verb {
+        TreesVerb::Compare => compare_report(alloc, g, &given.first, &given.second),
+        TreesVerb::Script => script_report(alloc, g, &given.first, &given.second),
+    }
+}
+
+// What a task gives, by its files and its verb.
 fn report_of(alloc: Global, task: Task) -> Result<Report, Memory>
     ensures { IfOk result
         (λ report. ResultOf (task_of task) report.status report.bytes.items) }
 {
     match task {
-        Task::OnGraph {
-            verb: GraphVerb::Analyse,
-            named,
-        } => analyse_report(alloc, &named),
-        Task::OnGraph {
-            verb: GraphVerb::Convert,
-            named,
-        } => convert_report(alloc, named),
-        Task::OnGraph {
-            verb: GraphVerb::Decompose { order },
-            named,
-        } => decompose_report(alloc, &named, &order),
-        Task::OnGraph {
-            verb: GraphVerb::Ears,
-            named,
-        } => ears_report(alloc, &named.graph),
+        Task::OnGraph { verb, named } => graph_report(alloc, verb, named),
         Task::OnSimpleGraph {
             verb: SimpleGraphVerb::Analyse6,
             simple,
@@ -159,14 +171,7 @@ fn report_of(alloc: Global, task: Task) -> Result<Report, Memory>
             let GivenMoves { named, tree, moves } = given;
             replay_report(alloc, &named.graph, tree, &moves)
         }
-        Task::OnTrees {
-            verb: TreesVerb::Compare,
-            given,
-        } => compare_report(alloc, &given.named.graph, &given.first, &given.second),
-        Task::OnTrees {
-            verb: TreesVerb::Script,
-            given,
-        } => script_report(alloc, &given.named.graph, &given.first, &given.second),
+        Task::OnTrees { verb, given } => trees_report(alloc, verb, &given),
         Task::OnNumbers {
             verb: NumbersVerb::Grow,
             growth,

@@ -13,15 +13,3 @@ checkears_report-requires c = let given = c.in-OnEars-CheckEars-default.given in
 
 pub replay_report-requires-clause-fits : goal.replay_report-requires-clause-fits
 replay_report-requires-clause-fits c = let given = c.in-OnMoves-Replay-default.given in ∥∥₁_elim given.fits (tree-fits_prop given.named.graph.order (shape_of given.tree)) (λ fits. fits)
-
-pub compare_report-requires-clause-first : goal.compare_report-requires-clause-first
-compare_report-requires-clause-first c = let given = c.in-OnTrees-Compare-default.given in ∥∥₁_elim given.first_fits (tree-fits_prop given.named.graph.order (shape_of given.first)) (λ fits. fits)
-
-pub compare_report-requires-clause-second : goal.compare_report-requires-clause-second
-compare_report-requires-clause-second c = let given = c.in-OnTrees-Compare-default.given in ∥∥₁_elim given.second_fits (tree-fits_prop given.named.graph.order (shape_of given.second)) (λ fits. fits)
-
-pub script_report-requires-clause-first : goal.script_report-requires-clause-first
-script_report-requires-clause-first c = let given = c.in-OnTrees-Script-default.given in ∥∥₁_elim given.first_fits (tree-fits_prop given.named.graph.order (shape_of given.first)) (λ fits. fits)
-
-pub script_report-requires-clause-second : goal.script_report-requires-clause-second
-script_report-requires-clause-second c = let given = c.in-OnTrees-Script-default.given in ∥∥₁_elim given.second_fits (tree-fits_prop given.named.graph.order (shape_of given.second)) (λ fits. fits)
