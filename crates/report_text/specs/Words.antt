@@ -1,5 +1,5 @@
 -- Words that lines of several reports share: answers, kinds of leaves, and counts of leaves.
--- Stated by: report_text. Rests on it: bench_outcomes, bench_top, theorems.
+-- Stated by: report_text.
 use Rattle.std.specs.Prelude.{List, ℕ, Bool, ◌++◌, if◌then◌else◌, codes}
 use Rattle.std.specs.Fmt.{decimal}
 use Rattle.tree_core.specs.declared.tallies.LeafKind.{LeafKind}
