@@ -5,15 +5,16 @@ ghost use Rattle.std.specs.List.{AllPairs, list_any};
 ghost use Rattle.counting.specs.Common.{Within, Set};
 ghost use Rattle.graph_core.specs.Common.{IsCovered, in_cut, size, HasOnlyTrivialTightCuts, IsNontrivial, IsTight};
 ghost use Rattle.tight_cuts.specs.Candidates.{IsTightCandidate, ShoresDiffer, candidates, cuts, greater_end, lesser_end};
-ghost use Rattle.tight_cuts.specs.EdgeSearch.{AreRowsAt, IsShoreOfEdge, Leads, NoneBefore};
+ghost use Rattle.tight_cuts.specs.EdgeSearch.{AreRowsAt, AreRowsOf, IsShoreOfEdge, Leads, NoneBefore};
 
 use crate::candidate::CandidateList;
-use crate::edge_cuts::add_edge_cuts;
-use crate::edge_search::{NetworkSearch, PieceSearch, leads};
+use crate::edge_cuts::{EdgeSearch, add_edge_cuts};
+use crate::edge_search::{PairRows, leads};
 use crate::front::front_candidates;
 use crate::groups::{Grouping, common_shore};
+use crate::leading::leaders_at;
 use crate::pieces::Weights;
-use allowed_edges::PairTable;
+use allowed_edges::no_pairs;
 use graph_core::MultiGraph;
 use graph_facts::Covered;
 use separation_kit::FirstPairs;
@@ -49,32 +50,71 @@ fn shore_at(
     common_shore(alloc, g, weights, leaders, groups, e)
 }
 
-/// Each pair of one x by a minimum cut of its own.
-#[derive(Clone, Copy, Drop)]
-pub(crate) struct ByPairs;
-
-impl PieceSearch for ByPairs {
-    fn sees_nothing(&self, _g: &MultiGraph, _pairs: &PairTable, _e: u32) -> bool {
-        false
+// What the pairs (x, y) give, for one x and all y, if no pair before them is separated; nothing
+// unless x leads a piece.
+fn shore_beside(
+    alloc: Global,
+    g: &MultiGraph,
+    weights: &Weights,
+    leaders: &[u32],
+    e: u32,
+    x: u32,
+) -> Result<Option<VSet>, Memory>
+    requires rows { AreRowsAt g.now e weights.now.row.items weights.now.matchings leaders.now }
+    requires x { Within g.now.order x }
+    requires before { NoneBefore g.now e x 1 }
+    ensures some { IfOk result (λ o. (s : _) → o ≡ Some s → IsShoreOfEdge g.now e o) }
+    ensures none { IfOk result (λ o. o ≡ None → NoneBefore g.now e (x + 1) 1) }
+{
+    g.keeps_limits();
+    let ends = g.ends(e);
+    let a = ends.a.min(ends.b);
+    let b = ends.a.max(ends.b);
+    if !leads(leaders, a, b, x) {
+        return Ok(None);
     }
-
-    fn shore_of_piece(
-        &self,
-        alloc: Global,
-        g: &MultiGraph,
-        weights: &Weights,
-        leaders: &[u32],
-        groups: Grouping,
-        e: u32,
-    ) -> Result<Option<VSet>, Memory> {
-        g.keeps_limits();
-        for k in 0..g.order() {
-            let pair = Grouping { y: k + 1, ..groups };
-            if let Some(shore) = shore_at(alloc, g, weights, leaders, pair, e)? {
-                return Ok(Some(shore));
-            }
+    for k in 0..g.order() {
+        let pair = Grouping { a, b, x, y: k + 1 };
+        if let Some(shore) = shore_at(alloc, g, weights, leaders, pair, e)? {
+            return Ok(Some(shore));
         }
-        Ok(None)
+    }
+    Ok(None)
+}
+
+// What the pairs give in order.
+fn first_shore(
+    alloc: Global,
+    g: &MultiGraph,
+    weights: &Weights,
+    leaders: &[u32],
+    e: u32,
+) -> Result<Option<VSet>, Memory>
+    requires { AreRowsAt g.now e weights.now.row.items weights.now.matchings leaders.now }
+    ensures { IfOk result (IsShoreOfEdge g.now e) }
+{
+    g.keeps_limits();
+    for k in 0..g.order() {
+        if let Some(shore) = shore_beside(alloc, g, weights, leaders, e, k + 1)? {
+            return Ok(Some(shore));
+        }
+    }
+    Ok(None)
+}
+
+/// The search at the edges of any covered graph by a minimum cut for each pair of pieces.
+#[derive(Drop)]
+struct PairSearch {
+    rows: PairRows,
+}
+
+impl EdgeSearch for PairSearch {
+    ghost is_of = { λ search g. AreRowsOf g search.rows.pairs search.rows.weights.row.items
+        search.rows.weights.matchings };
+
+    fn shore_of_edge(&self, alloc: Global, g: &MultiGraph, e: u32) -> Result<Option<VSet>, Memory> {
+        let leaders = leaders_at(alloc, g, &self.rows.pairs, e)?;
+        first_shore(alloc, g, &self.rows.weights, &leaders, e)
     }
 }
 
@@ -96,7 +136,8 @@ pub fn candidates_by_pairs(alloc: Global, g: &MultiGraph) -> Result<CandidateLis
     let covered = Covered::known(alloc, g)?;
     let pairs = FirstPairs::of(alloc, &covered)?;
     let mut list = front_candidates(alloc, &pairs)?;
-    let search = NetworkSearch::by_rows(alloc, g, ByPairs)?;
+    let rows = PairRows::new(alloc, g, &[], no_pairs(alloc, g)?)?;
+    let search = PairSearch { rows };
     add_edge_cuts(alloc, g, &search, 0, &mut list)?;
     Ok(list)
 }

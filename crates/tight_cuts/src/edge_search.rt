@@ -19,70 +19,11 @@ use crate::edge_cuts::EdgeSearch;
 use crate::groups::{Grouping, common_shore};
 use crate::leading::leaders_at;
 use crate::pieces::{Weights, weights_of};
-use crate::quiet_edges::{is_seen_quiet, none_quiet, quiet_edges};
+use crate::quiet_edges::{is_seen_quiet, quiet_edges};
 use allowed_edges::{PairTable, complete_pairs, no_pairs};
 use graph_core::MultiGraph;
 use std::alloc::{AllocError as Memory, Global};
 use vset_core::{MOST_VERTICES, VSet};
-
-/// A way to ask the pairs (x, y) of one x.
-pub(crate) trait PieceSearch {
-    /// Whether edge `e` gives nothing, as the table of pairs shows without a cut.
-    fn sees_nothing(&self, g: &MultiGraph, pairs: &PairTable, e: u32) -> bool
-        requires edge { Within (size g.now) e }
-        requires begun { SettlesEdges g.now 1 pairs.now }
-        ensures { result ≡ true → first_separated g.now e ≡ None };
-
-    /// What the pairs (x, y) give at edge `e`, for the x of `groups`, which leads a piece, and all
-    /// y, if no pair before them is separated: the common shore of all tight sets that separate the
-    /// first pair that any separates.
-    fn shore_of_piece(
-        &self,
-        alloc: Global,
-        g: &MultiGraph,
-        weights: &Weights,
-        leaders: &[u32],
-        groups: Grouping,
-        e: u32,
-    ) -> Result<Option<VSet>, Memory>
-        requires rows { AreRowsAt g.now e weights.now.row.items weights.now.matchings leaders.now }
-        requires first { groups.a ≡ lesser_end g.now e }
-        requires second { groups.b ≡ greater_end g.now e }
-        requires x { Leads g.now e leaders.now groups.x }
-        requires y { groups.y ≡ greater_end g.now e }
-        requires before { NoneBefore g.now e groups.x 1 }
-        ensures some { IfOk result (λ o. (s : _) → o ≡ Some s → IsShoreOfEdge g.now e o) }
-        ensures none { IfOk result (λ o. o ≡ None → NoneBefore g.now e (groups.x + 1) 1) };
-}
-
-/// All pairs of one x by one least minimum cut.
-#[derive(Clone, Copy, Drop)]
-pub(crate) struct ByPieces;
-
-impl PieceSearch for ByPieces {
-    fn sees_nothing(&self, g: &MultiGraph, pairs: &PairTable, e: u32) -> bool {
-        is_seen_quiet(g, pairs, e)
-    }
-
-    fn shore_of_piece(
-        &self,
-        alloc: Global,
-        g: &MultiGraph,
-        weights: &Weights,
-        leaders: &[u32],
-        groups: Grouping,
-        e: u32,
-    ) -> Result<Option<VSet>, Memory> {
-        g.keeps_limits();
-        let Some(shore) = common_shore(alloc, g, weights, leaders, groups, e)? else {
-            return Ok(None);
-        };
-        match first_lacking(shore, g.order(), groups.b) {
-            Some(_) => Ok(Some(shore)),
-            None => Ok(None),
-        }
-    }
-}
 
 /// Whether `x` leads a piece of the edge with the ends `a` and `b`.
 pub(crate) fn leads(leaders: &[u32], a: u32, b: u32, x: u32) -> bool
@@ -102,12 +43,40 @@ pub(crate) fn first_lacking(shore: VSet, n: u32, b: u32) -> Option<u32>
     VSet::full(n).minus(shore).without(b).first()
 }
 
-// What the pairs (x, y) give, for one x and all y, if no pair before them is separated; nothing
-// unless x leads a piece.
-fn shore_from<P: PieceSearch>(
+// What the pairs (x, y) give at edge `e`, for the x of `groups`, which leads a piece, and all y, if
+// no pair before them is separated, by one least minimum cut.
+fn shore_of_piece(
     alloc: Global,
     g: &MultiGraph,
-    search: &P,
+    weights: &Weights,
+    leaders: &[u32],
+    groups: Grouping,
+    e: u32,
+) -> Result<Option<VSet>, Memory>
+    requires rows { AreRowsAt g.now e weights.now.row.items weights.now.matchings leaders.now }
+    requires first { groups.a ≡ lesser_end g.now e }
+    requires second { groups.b ≡ greater_end g.now e }
+    requires x { Leads g.now e leaders.now groups.x }
+    requires y { groups.y ≡ greater_end g.now e }
+    requires before { NoneBefore g.now e groups.x 1 }
+    ensures some { IfOk result (λ o. (s : _) → o ≡ Some s → IsShoreOfEdge g.now e o) }
+    ensures none { IfOk result (λ o. o ≡ None → NoneBefore g.now e (groups.x + 1) 1) }
+{
+    g.keeps_limits();
+    let Some(shore) = common_shore(alloc, g, weights, leaders, groups, e)? else {
+        return Ok(None);
+    };
+    match first_lacking(shore, g.order(), groups.b) {
+        Some(_) => Ok(Some(shore)),
+        None => Ok(None),
+    }
+}
+
+// What the pairs (x, y) give, for one x and all y, if no pair before them is separated; nothing
+// unless x leads a piece.
+fn shore_from(
+    alloc: Global,
+    g: &MultiGraph,
     weights: &Weights,
     leaders: &[u32],
     e: u32,
@@ -126,15 +95,14 @@ fn shore_from<P: PieceSearch>(
     if !leads(leaders, a, b, x) {
         return Ok(None);
     }
-    search.shore_of_piece(alloc, g, weights, leaders, Grouping { a, b, x, y: b }, e)
+    shore_of_piece(alloc, g, weights, leaders, Grouping { a, b, x, y: b }, e)
 }
 
 // What the pairs give in order. Only pairs of vertices that lead pieces are asked: a pair is
 // separated by its pieces alone.
-fn first_shore<P: PieceSearch>(
+fn first_shore(
     alloc: Global,
     g: &MultiGraph,
-    search: &P,
     weights: &Weights,
     leaders: &[u32],
     e: u32,
@@ -144,7 +112,7 @@ fn first_shore<P: PieceSearch>(
 {
     g.keeps_limits();
     for k in 0..g.order() {
-        if let Some(shore) = shore_from(alloc, g, search, weights, leaders, e, k + 1)? {
+        if let Some(shore) = shore_from(alloc, g, weights, leaders, e, k + 1)? {
             return Ok(Some(shore));
         }
     }
@@ -153,15 +121,15 @@ fn first_shore<P: PieceSearch>(
 
 /// The pairs of edges that lie together, and how often the matchings of that table hold each edge.
 #[derive(Drop)]
-struct PairRows {
-    pairs: PairTable,
-    weights: Weights,
+pub(crate) struct PairRows {
+    pub(crate) pairs: PairTable,
+    pub(crate) weights: Weights,
 }
 
 impl PairRows {
-    // The rows, if the cuts of these shores are tight, from a table in which some matchings are
-    // listed.
-    fn new(
+    /// The rows, if the cuts of these shores are tight, from a table in which some matchings are
+    /// listed.
+    pub(crate) fn new(
         alloc: Global,
         g: &MultiGraph,
         shores: &[VSet],
@@ -179,45 +147,37 @@ impl PairRows {
     }
 
     // What edge `e` gives.
-    fn shore_of_edge<P: PieceSearch>(
-        &self,
-        alloc: Global,
-        g: &MultiGraph,
-        pieces: &P,
-        e: u32,
-    ) -> Result<Option<VSet>, Memory>
+    fn shore_of_edge(&self, alloc: Global, g: &MultiGraph, e: u32) -> Result<Option<VSet>, Memory>
         requires covered { IsCovered g.now }
         requires edge { Within (size g.now) e }
         requires rows { AreRowsOf g.now self.now.pairs self.now.weights.row.items
             self.now.weights.matchings }
         ensures { IfOk result (IsShoreOfEdge g.now e) }
     {
-        if pieces.sees_nothing(g, &self.pairs, e) {
+        if is_seen_quiet(g, &self.pairs, e) {
             return Ok(None);
         }
         let leaders = leaders_at(alloc, g, &self.pairs, e)?;
-        first_shore(alloc, g, pieces, &self.weights, &leaders, e)
+        first_shore(alloc, g, &self.weights, &leaders, e)
     }
 }
 
-/// The search at the edges of any covered graph: the edges that are seen to give nothing, the rows
-/// for the others, and the way to ask the pairs of one x. There are no rows if no other edge is to
-/// be asked; if one is all the same, they are made for it.
+/// The search at the edges of any covered graph: the edges that are seen to give nothing, and the
+/// rows for the others. There are no rows if no other edge is to be asked; if one is all the same,
+/// they are made for it.
 #[derive(Drop)]
-pub(crate) struct NetworkSearch<P> {
+pub(crate) struct NetworkSearch {
     quiet: Vec<bool>,
     rows: Option<PairRows>,
-    pieces: P,
 }
 
-impl<P: PieceSearch + Drop> NetworkSearch<P> {
+impl NetworkSearch {
     /// The search if the cuts of these shores are tight; their edges are not to be asked.
     pub(crate) fn new(
         alloc: Global,
         g: &MultiGraph,
         shores: &[VSet],
-        pieces: P,
-    ) -> Result<NetworkSearch<P>, Memory>
+    ) -> Result<NetworkSearch, Memory>
         requires { All (λ s. IsTight g.now (mem s)) shores.now }
         ensures quiet { IfOk result (λ search. AreQuiet g.now search.quiet.items) }
         ensures rows { IfOk result
@@ -234,31 +194,11 @@ impl<P: PieceSearch + Drop> NetworkSearch<P> {
         Ok(NetworkSearch {
             quiet: quiet.row,
             rows,
-            pieces,
-        })
-    }
-
-    /// The search by the rows alone, whatever edge is asked.
-    pub(crate) fn by_rows(
-        alloc: Global,
-        g: &MultiGraph,
-        pieces: P,
-    ) -> Result<NetworkSearch<P>, Memory>
-        ensures quiet { IfOk result (λ search. AreQuiet g.now search.quiet.items) }
-        ensures rows { IfOk result
-            (λ search. IfSome search.rows (λ rows. AreRowsOf g.now rows.pairs
-            rows.weights.row.items rows.weights.matchings)) }
-    {
-        let rows = PairRows::new(alloc, g, &[], no_pairs(alloc, g)?)?;
-        Ok(NetworkSearch {
-            quiet: none_quiet(alloc, g)?,
-            rows: Some(rows),
-            pieces,
         })
     }
 }
 
-impl<P: PieceSearch> EdgeSearch for NetworkSearch<P> {
+impl EdgeSearch for NetworkSearch {
     ghost is_of = { λ search g. AreQuiet g search.quiet.items × IfSome search.rows
         (λ rows. AreRowsOf g rows.pairs rows.weights.row.items rows.weights.matchings) };
 
@@ -267,9 +207,9 @@ impl<P: PieceSearch> EdgeSearch for NetworkSearch<P> {
             return Ok(None);
         }
         if let Some(rows) = &self.rows {
-            return rows.shore_of_edge(alloc, g, &self.pieces, e);
+            return rows.shore_of_edge(alloc, g, e);
         }
         let rows = PairRows::new(alloc, g, &[], no_pairs(alloc, g)?)?;
-        rows.shore_of_edge(alloc, g, &self.pieces, e)
+        rows.shore_of_edge(alloc, g, e)
     }
 }

@@ -11,7 +11,7 @@ ghost use Rattle.tight_cuts.specs.View.{candidate_of};
 use crate::bipartite::FloodSearch;
 use crate::candidate::{Candidate, CandidateList, any_cuts, shores_of};
 use crate::edge_cuts::{add_edge_cut, add_edge_cuts};
-use crate::edge_search::{ByPieces, NetworkSearch};
+use crate::edge_search::NetworkSearch;
 use crate::front::{first_front_candidate, front_candidates};
 use graph_core::MultiGraph;
 use graph_facts::{Bipartite, Covered};
@@ -47,7 +47,7 @@ fn add_network_cuts(alloc: Global, g: &MultiGraph, list: &mut CandidateList) -> 
         return Ok(());
     }
     let shores = shores_of(alloc, list)?;
-    let search = NetworkSearch::new(alloc, g, shores.as_slice(), ByPieces)?;
+    let search = NetworkSearch::new(alloc, g, shores.as_slice())?;
     add_edge_cuts(alloc, g, &search, known, list)
 }
 

@@ -59,8 +59,8 @@ pub(crate) fn quiet_edges(
     Ok(QuietEdges { row, are_all: true })
 }
 
-/// No mark on any edge.
-pub(crate) fn none_quiet(alloc: Global, g: &MultiGraph) -> Result<Vec<bool>, Memory>
+// No mark on any edge.
+fn none_quiet(alloc: Global, g: &MultiGraph) -> Result<Vec<bool>, Memory>
     ensures { IfOk result (λ row. AreQuiet g.now row.items) }
 {
     let row = vec![in alloc; false; g.size() as usize + 1]?;

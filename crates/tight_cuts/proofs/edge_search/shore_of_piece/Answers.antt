@@ -3,7 +3,7 @@ use Rattle.counting.specs.Common.{Within}
 use Rattle.tight_cuts.specs.Candidates.{greater_end, lesser_end}
 use Rattle.tight_cuts.specs.EdgeSearch.{IsCommonShore}
 use Rattle.tight_cuts.proofs.EdgePieces.{first_done, piece_found, piece_full, piece_none}
-use Rattle.tight_cuts.proofs.edge_search.ByPiecesPieceSearch.shore_of_piece.Goals as goal
+use Rattle.tight_cuts.proofs.edge_search.shore_of_piece.Goals as goal
 
 pub returns-in_default-clause-none : goal.returns-in_default-clause-none
 returns-in_default-clause-none c n = first_done c.args.g.now c.args.e c.args.groups.x c.requires.before (λ y w.

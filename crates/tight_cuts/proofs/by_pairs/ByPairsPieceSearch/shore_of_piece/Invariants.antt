@@ -1,6 +1,0 @@
-use Rattle.std.proofs.Common.{◌+◌}
-use Rattle.tight_cuts.specs.EdgeSearch.{NoneBefore}
-use Rattle.tight_cuts.proofs.by_pairs.ByPairsPieceSearch.shore_of_piece.Given as goal
-
-abbrev pub invariant-loop-k : goal.invariant-loop-k
-invariant-loop-k l = NoneBefore l.g l.e l.groups.x (l.k + 1)
