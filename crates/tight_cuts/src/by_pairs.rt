@@ -94,7 +94,7 @@ pub fn candidates_by_pairs(alloc: Global, g: &MultiGraph) -> Result<CandidateLis
 {
     g.keeps_limits();
     let covered = Covered::known(alloc, g)?;
-    let pairs = FirstPairs::of(alloc, &covered)?;
+    let pairs = FirstPairs::of(&covered);
     let mut list = front_candidates(alloc, &pairs)?;
     let search = NetworkSearch::by_rows(alloc, g, ByPairs)?;
     add_edge_cuts(alloc, g, &search, 0, &mut list)?;
