@@ -1,17 +1,17 @@
 //! Ear lists of a graph, as `checkears` and `ears` report on them.
 ghost use Rattle.std.specs.Prelude.{◌≡◌, ◌<◌, ◌^◌, length, map, IfOk};
-ghost use Rattle.graph_core.specs.Common.{IsCovered, size};
+ghost use Rattle.graph_core.specs.Common.{size};
 ghost use Rattle.ear_core.specs.EarLists.{FitsEars, IsEarList};
 ghost use Rattle.ear_core.specs.Refusals.{IsRefused};
 ghost use Rattle.ear_core.specs.View.{ears_of, step_of, why_of};
 ghost use Rattle.bench_outcomes.specs.Common.{AcceptedEars, BuiltEars, EarCheckGives, EarsGives, RefusedEars, double_count, named_edge, single_count, why_number};
 
 use crate::uncovered::uncovered_report;
-use allowed_edges::covered;
 use bench_outcomes::{Report, Status};
-use ear_core::{EarJudgement, EarList, EarWhy, Step, build_ears, check_ears};
+use ear_core::{EarJudgement, EarList, EarWhy, Step, build_ears_of, check_ears};
 use ear_text::write_ears;
-use graph_core::{MultiGraph, Reason, Verdict};
+use graph_core::MultiGraph;
+use graph_facts::Covered;
 use report_text::{EarLine, ear_judgement};
 use std::alloc::{AllocError as Memory, Global};
 
@@ -76,13 +76,12 @@ fn counts_of(steps: &[Step]) -> StepCounts
 }
 
 // The line of an ear list.
-fn accepted_report(alloc: Global, g: &MultiGraph, list: &EarList) -> Result<Report, Memory>
-    requires covered { IsCovered g.now }
-    requires is { IsEarList g.now (ears_of list.now) }
+fn accepted_report(alloc: Global, c: &Covered, list: &EarList) -> Result<Report, Memory>
+    requires { IsEarList c.now (ears_of list.now) }
     ensures { IfOk result
-        (λ report. AcceptedEars g.now (ears_of list.now) report.status report.bytes.items) }
+        (λ report. AcceptedEars c.now (ears_of list.now) report.status report.bytes.items) }
 {
-    g.keeps_limits();
+    c.keeps_covered();
     let StepCounts {
         steps,
         single,
@@ -102,16 +101,16 @@ fn accepted_report(alloc: Global, g: &MultiGraph, list: &EarList) -> Result<Repo
 // The line of a refusal.
 fn refused_report(
     alloc: Global,
-    g: &MultiGraph,
+    c: &Covered,
     list: &EarList,
     step: u32,
     why: EarWhy,
 ) -> Result<Report, Memory>
-    requires covered { IsCovered g.now }
-    requires refused { IsRefused g.now (ears_of list.now) step (why_of why) }
+    requires { IsRefused c.now (ears_of list.now) step (why_of why) }
     ensures { IfOk result
-        (λ report. RefusedEars g.now (ears_of list.now) report.status report.bytes.items) }
+        (λ report. RefusedEars c.now (ears_of list.now) report.status report.bytes.items) }
 {
+    c.keeps_covered();
     let line = EarLine::Refused {
         step,
         why: number_of(why),
@@ -124,15 +123,14 @@ fn refused_report(
 }
 
 // The report on a list of ears of a covered graph.
-fn judged_report(alloc: Global, g: &MultiGraph, list: &EarList) -> Result<Report, Memory>
-    requires covered { IsCovered g.now }
-    requires fits { FitsEars g.now.order (size g.now) (ears_of list.now) }
+fn judged_report(alloc: Global, c: &Covered, list: &EarList) -> Result<Report, Memory>
+    requires { FitsEars c.now.order (size c.now) (ears_of list.now) }
     ensures { IfOk result
-        (λ report. EarCheckGives g.now (ears_of list.now) report.status report.bytes.items) }
+        (λ report. EarCheckGives c.now (ears_of list.now) report.status report.bytes.items) }
 {
-    match check_ears(alloc, g, list)? {
-        EarJudgement::Accepted => accepted_report(alloc, g, list),
-        EarJudgement::Refused { step, why } => refused_report(alloc, g, list, step, why),
+    match check_ears(alloc, c.graph(), list)? {
+        EarJudgement::Accepted => accepted_report(alloc, c, list),
+        EarJudgement::Refused { step, why } => refused_report(alloc, c, list, step, why),
     }
 }
 
@@ -143,20 +141,19 @@ pub fn checkears_report(alloc: Global, g: &MultiGraph, list: &EarList) -> Result
     ensures { IfOk result
         (λ report. EarCheckGives g.now (ears_of list.now) report.status report.bytes.items) }
 {
-    match covered(alloc, g)? {
-        Verdict::Covered => judged_report(alloc, g, list),
-        Verdict::NotCovered(reason) => uncovered_report(alloc, g, reason),
+    match Covered::of(alloc, g)? {
+        Ok(c) => judged_report(alloc, &c, list),
+        Err(reason) => uncovered_report(alloc, g, reason),
     }
 }
 
 // The text of an ear list of a covered graph, and then the numbers of its steps.
-fn built_report(alloc: Global, g: &MultiGraph) -> Result<Report, Memory>
-    requires { IsCovered g.now }
-    ensures { IfOk result (λ report. BuiltEars g.now report.status report.bytes.items) }
+fn built_report(alloc: Global, c: &Covered) -> Result<Report, Memory>
+    ensures { IfOk result (λ report. BuiltEars c.now report.status report.bytes.items) }
 {
-    g.keeps_limits();
-    let list = build_ears(alloc, g)?;
-    let (n, m) = (g.order(), g.size());
+    c.keeps_covered();
+    let list = build_ears_of(alloc, c)?;
+    let (n, m) = (c.order(), c.size());
     let text = write_ears(alloc, &list, n, m)?;
     let StepCounts {
         steps,
@@ -175,8 +172,8 @@ fn built_report(alloc: Global, g: &MultiGraph) -> Result<Report, Memory>
 pub fn ears_report(alloc: Global, g: &MultiGraph) -> Result<Report, Memory>
     ensures { IfOk result (λ report. EarsGives g.now report.status report.bytes.items) }
 {
-    match covered(alloc, g)? {
-        Verdict::Covered => built_report(alloc, g),
-        Verdict::NotCovered(reason) => uncovered_report(alloc, g, reason),
+    match Covered::of(alloc, g)? {
+        Ok(c) => built_report(alloc, &c),
+        Err(reason) => uncovered_report(alloc, g, reason),
     }
 }

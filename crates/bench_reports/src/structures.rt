@@ -28,8 +28,8 @@ fn structure(alloc: Global, c: &Covered) -> Result<Structure, Memory>
     ensures { IfOk result (IsStructure c.now) }
 {
     let classes = classes_of(alloc, c)?;
-    let pairs = FirstPairs::of(alloc, c)?;
-    let cut = pairs.any_cut(alloc)?;
+    let pairs = FirstPairs::of(c);
+    let cut = pairs.any_cut();
     let kind = kind_of(alloc, &pairs)?;
     let unlike = ends_of(pairs.equivalent());
     let cutpair = ends_of(cut);

@@ -52,7 +52,7 @@ pub fn decompose_with_kinds<O: Order>(
         AreLeafKinds c.now (leaves c.now.order (shape_of found.tree)) found.kinds.items) }
 {
     c.keeps_covered();
-    let pairs = FirstPairs::of(alloc, c)?;
+    let pairs = FirstPairs::of(c);
     let picked = picked_at_root(alloc, &pairs, order)?;
     match picked.shore {
         None => {

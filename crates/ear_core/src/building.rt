@@ -6,7 +6,7 @@ ghost use Rattle.graph_core.specs.Common.{IsCovered, size, first_end, second_end
 ghost use Rattle.match_core.specs.MatchingRows.{edges_of};
 ghost use Rattle.match_search.specs.Rows.{marks};
 ghost use Rattle.ear_core.specs.AlternatingEars.{IsPerfectRows, KeepsMates, row_edge};
-ghost use Rattle.ear_core.specs.EarLists.{AreForced, AreNeeded, AreSteps, IsEarList, IsForced, IsNeeded, IsSingle, IsStep, IsUnrefinable, next_stage, FitsEars, FitsStep, HasEdges, TakesSingles};
+ghost use Rattle.ear_core.specs.EarLists.{AreForced, AreNeeded, AreSteps, IsBuilt, IsEarList, IsForced, IsNeeded, IsSingle, IsStep, IsUnrefinable, next_stage, FitsEars, FitsStep, HasEdges, TakesSingles};
 ghost use Rattle.ear_core.specs.LoneEars.{LeadsAtTwo};
 ghost use Rattle.ear_core.specs.Stages.{is_met, IsStage};
 ghost use Rattle.ear_core.specs.View.{ears_of, step_of};
@@ -19,7 +19,8 @@ use crate::steps::mark_step;
 use crate::tracing::collect;
 use allowed_edges::perfect_with_edge;
 use graph_core::MultiGraph;
-use match_core::{Matching, perfect_without};
+use graph_facts::Covered;
+use match_core::Matching;
 use std::alloc::{AllocError as Memory, Global};
 use vset_core::VSet;
 
@@ -43,8 +44,33 @@ pub fn build_ears(alloc: Global, g: &MultiGraph) -> Result<EarList, Memory>
     ensures single { IfOk result
         (λ list. IsBipartite g.now → AllByRecursion IsSingle (ears_of list).steps) }
 {
+    build_ears_of(alloc, &Covered::known(alloc, g)?)
+}
+
+/// The ear list that `build_ears` answers, of a covered graph. It begins from the perfect matching
+/// that is at hand.
+pub fn build_ears_of(alloc: Global, c: &Covered) -> Result<EarList, Memory>
+    ensures list { IfOk result (λ list. IsEarList c.now (ears_of list)) }
+    ensures start { IfOk result (λ list. list.start ≡ 1) }
+    ensures fits { IfOk result (λ list. FitsEars c.now.order (size c.now) (ears_of list)) }
+    ensures filled { IfOk result (λ list. AllByRecursion HasEdges (ears_of list).steps) }
+    ensures unrefinable { IfOk result (λ list. IsUnrefinable c.now (ears_of list)) }
+    ensures singles { IfOk result (λ list. TakesSingles c.now (ears_of list)) }
+    ensures single { IfOk result
+        (λ list. IsBipartite c.now → AllByRecursion IsSingle (ears_of list).steps) }
+{
+    let list = built_from(alloc, c.graph(), c.matching())?;
+    Ok(list)
+}
+
+// The ear list of a covered graph, from any perfect matching.
+fn built_from(alloc: Global, g: &MultiGraph, any: &Matching) -> Result<EarList, Memory>
+    requires covered { IsCovered g.now }
+    requires any { IsPerfectRows g.now any.now }
+    ensures { IfOk result (λ list. IsBuilt g.now (ears_of list)) }
+{
     g.keeps_limits();
-    let kept = matching_with_first(alloc, g)?;
+    let kept = matching_with_first(alloc, g, any)?;
     let mut mark = vec![in alloc; false; g.size() as usize + 1]?;
     mark[1] = true;
     let steps = steps_from(alloc, g, &mut mark, &kept)?;
@@ -84,18 +110,16 @@ fn steps_from(
     Ok(steps)
 }
 
-// A perfect matching that holds edge 1.
-fn matching_with_first(alloc: Global, g: &MultiGraph) -> Result<Matching, Memory>
-    requires { IsCovered g.now }
+// A perfect matching that holds edge 1, from any one.
+fn matching_with_first(alloc: Global, g: &MultiGraph, any: &Matching) -> Result<Matching, Memory>
+    requires covered { IsCovered g.now }
+    requires any { IsPerfectRows g.now any.now }
     ensures edge { IfOk result (λ m. Within (size g.now) 1) }
     ensures perfect { IfOk result (IsPerfectRows g.now) }
     ensures holds { IfOk result (λ m. mem (edges_of m) 1 ≡ true) }
 {
     g.keeps_limits();
-    let Some(any) = perfect_without(alloc, g, VSet::empty())? else {
-        unreachable!()
-    };
-    match perfect_with_edge(alloc, g, &any, 1)? {
+    match perfect_with_edge(alloc, g, any, 1)? {
         Some(m) => Ok(m),
         None => unreachable!(),
     }

@@ -26,7 +26,7 @@
 //! or two do by the two-ear theorem. Where two do, a matching that leads out at two vertices alone
 //! is sought first: it makes a single ear.
 //!
-//! Stands on `match_core`, `allowed_edges` and `two_ears`. Source: Lovász and Plummer, "Matching
+//! Stands on `match_core`, `allowed_edges`, `graph_facts` and `two_ears`. Source: Lovász and Plummer, "Matching
 //! Theory", chapter 5.
 #![tactic(auto)]
 
@@ -44,7 +44,7 @@ mod stages;
 mod steps;
 mod tracing;
 
-pub use building::build_ears;
+pub use building::{build_ears, build_ears_of};
 pub use checking::check_ears;
 pub use ears::{Ear, EarList, Step, Steps};
 pub use judgement::{EarJudgement, EarWhy};

@@ -20,7 +20,7 @@ fn agreed(alloc: Global, g: &MultiGraph) -> Result<Option<usize>, Memory> {
     let plain = candidates_by_pairs(alloc, g)?;
     let quick = candidates(alloc, g)?;
     let covered = Covered::known(alloc, g)?;
-    let first = first_candidate(alloc, &FirstPairs::of(alloc, &covered)?)?;
+    let first = first_candidate(alloc, &FirstPairs::of(&covered))?;
     if quick.as_slice() == plain.as_slice() && first == plain.as_slice().first().copied() {
         return Ok(Some(plain.len()));
     }

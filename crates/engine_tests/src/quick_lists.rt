@@ -23,7 +23,7 @@ fn agrees(alloc: Global, g: &MultiGraph) -> Result<bool, Memory> {
         return Ok(false);
     }
     let covered = Covered::known(alloc, g)?;
-    let first = first_candidate(alloc, &FirstPairs::of(alloc, &covered)?)?;
+    let first = first_candidate(alloc, &FirstPairs::of(&covered))?;
     let shore = find_any(alloc, g)?;
     let plain = candidates_by_pairs(alloc, g)?;
     let quick = candidates(alloc, g)?;

@@ -23,7 +23,7 @@ pub fn kind(alloc: Global, g: &MultiGraph) -> Result<Kind, Memory>
     ensures brick { IfOk result (λ kind. kind ≡ Kind.Brick → IsThreeConnectedAndBicritical g.now) }
 {
     let covered = Covered::known(alloc, g)?;
-    kind_of(alloc, &FirstPairs::of(alloc, &covered)?)
+    kind_of(alloc, &FirstPairs::of(&covered))
 }
 
 /// The kind that `kind` answers, of a covered graph with its first pairs.

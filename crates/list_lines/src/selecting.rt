@@ -116,7 +116,7 @@ fn covered_kind(alloc: Global, c: &Covered) -> Result<Kind, Memory>
     ensures { IfOk result (λ kind. TellsKind c.now (Some kind)) }
 {
     c.keeps_covered();
-    let kind = kind_of(alloc, &FirstPairs::of(alloc, c)?)?;
+    let kind = kind_of(alloc, &FirstPairs::of(c))?;
     Ok(kind)
 }
 

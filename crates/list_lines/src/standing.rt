@@ -88,7 +88,7 @@ fn covered_standing(alloc: Global, c: &Covered) -> Result<Standing, Memory>
     ensures { IfOk result (IsStanding c.now) }
 {
     c.keeps_covered();
-    let pairs = FirstPairs::of(alloc, c)?;
+    let pairs = FirstPairs::of(c);
     let kind = kind_of(alloc, &pairs)?;
     let sort = sort_of(&kind);
     let bicritical = pairs.is_bicritical();

@@ -5,5 +5,6 @@ pub mod PairRows
 pub mod PairShores
 pub mod SeparationFacts
 pub mod Flooding
+pub mod Leaves
 pub mod FirstSeparations
 pub mod Domination

@@ -1,6 +1,6 @@
 //! A covered graph with the pairs of vertices that tell whether it is bicritical, and then where
 //! two vertices separate it.
-ghost use Rattle.std.specs.Prelude.{◌≡◌, ◌↔◌, IsTrue, IfOk};
+ghost use Rattle.std.specs.Prelude.{◌≡◌, ◌↔◌, IsTrue};
 ghost use Rattle.std.specs.Option.{option_map};
 ghost use Rattle.graph_core.specs.Common.{IsCovered, IsBipartite, IsBicritical, cut_pair, equivalent_pair, IsWithinLimits};
 ghost use Rattle.separation_kit.specs.Pairs.{pair_of};
@@ -8,7 +8,6 @@ ghost use Rattle.separation_kit.specs.Pairs.{pair_of};
 use crate::critical::{cut_pair, equivalent_pair};
 use crate::pair::Pair;
 use graph_facts::Covered;
-use std::alloc::{AllocError as Memory, Global};
 use std::marker::Model;
 
 /// A covered graph with the first pair of vertices that shows it not bicritical, and its first cut
@@ -35,16 +34,17 @@ impl<'c, 'g> Model for FirstPairs<'c, 'g> {
 
 impl<'c, 'g> FirstPairs<'c, 'g> {
     /// The pairs of a covered graph. A cut pair is looked for only where the graph is bicritical.
-    pub fn of(alloc: Global, covered: &'c Covered<'g>) -> Result<FirstPairs<'c, 'g>, Memory>
-        ensures { IfOk result (λ pairs. pairs ≡ covered.now) }
+    /// Takes no memory.
+    pub fn of(covered: &'c Covered<'g>) -> FirstPairs<'c, 'g>
+        ensures { result ≡ covered.now }
     {
         let equivalent = equivalent_pair(covered);
-        let cut = cut_where_bicritical(alloc, covered, equivalent)?;
-        Ok(FirstPairs {
+        let cut = cut_where_bicritical(covered, equivalent);
+        FirstPairs {
             covered,
             equivalent,
             cut,
-        })
+        }
     }
 
     /// The covered graph.
@@ -103,27 +103,23 @@ impl<'c, 'g> FirstPairs<'c, 'g> {
     }
 
     /// The first cut pair, bicritical or not. It is looked for only where it is not at hand.
-    pub fn any_cut(&self, alloc: Global) -> Result<Option<Pair>, Memory>
-        ensures { IfOk result (λ cut. option_map pair_of cut ≡ cut_pair self.now) }
+    pub fn any_cut(&self) -> Option<Pair>
+        ensures { option_map pair_of result ≡ cut_pair self.now }
     {
         if self.is_bicritical() {
-            return Ok(self.cut());
+            return self.cut();
         }
-        cut_pair(alloc, self.covered.graph())
+        cut_pair(self.covered.graph())
     }
 }
 
 // The first cut pair of a graph without a pair of equivalent vertices.
-fn cut_where_bicritical(
-    alloc: Global,
-    c: &Covered,
-    equivalent: Option<Pair>,
-) -> Result<Option<Pair>, Memory>
+fn cut_where_bicritical(c: &Covered, equivalent: Option<Pair>) -> Option<Pair>
     requires { option_map pair_of equivalent ≡ equivalent_pair c.now }
-    ensures { IfOk result (λ cut. IsBicritical c.now → option_map pair_of cut ≡ cut_pair c.now) }
+    ensures { IsBicritical c.now → option_map pair_of result ≡ cut_pair c.now }
 {
     match equivalent {
-        Some(_) => Ok(None),
-        None => cut_pair(alloc, c.graph()),
+        Some(_) => None,
+        None => cut_pair(c.graph()),
     }
 }

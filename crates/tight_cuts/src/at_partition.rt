@@ -84,7 +84,7 @@ fn all_of_known(alloc: Global, g: &MultiGraph) -> Result<AllAt, Memory>
     ensures side { IfOk result (λ all. IsTrue all.is_bipartite ↔ IsBipartite g.now) }
 {
     let covered = Covered::known(alloc, g)?;
-    let pairs = FirstPairs::of(alloc, &covered)?;
+    let pairs = FirstPairs::of(&covered);
     let list = listed(alloc, &pairs)?;
     Ok(AllAt {
         list,
@@ -100,7 +100,7 @@ fn first_of_known(alloc: Global, g: &MultiGraph) -> Result<FirstAt, Memory>
     ensures side { IfOk result (λ found. IsTrue found.is_bipartite ↔ IsBipartite g.now) }
 {
     let covered = Covered::known(alloc, g)?;
-    let pairs = FirstPairs::of(alloc, &covered)?;
+    let pairs = FirstPairs::of(&covered);
     let candidate = first_candidate(alloc, &pairs)?;
     Ok(FirstAt {
         candidate,
@@ -196,7 +196,7 @@ pub fn first_root_candidate(alloc: Global, c: &Covered) -> Result<Option<Candida
         ((x : Set) → IsTightAt c.now (singles c.now.order) x →
         IsNontrivial (length (singles c.now.order)) (blocks_in (singles c.now.order) x) → ⊥)) }
 {
-    let pairs = FirstPairs::of(alloc, c)?;
+    let pairs = FirstPairs::of(c);
     let found = first_of_root(alloc, &pairs)?;
     Ok(found)
 }

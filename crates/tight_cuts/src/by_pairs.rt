@@ -134,7 +134,7 @@ pub fn candidates_by_pairs(alloc: Global, g: &MultiGraph) -> Result<CandidateLis
 {
     g.keeps_limits();
     let covered = Covered::known(alloc, g)?;
-    let pairs = FirstPairs::of(alloc, &covered)?;
+    let pairs = FirstPairs::of(&covered);
     let mut list = front_candidates(alloc, &pairs)?;
     let rows = PairRows::new(alloc, g, &[], no_pairs(alloc, g)?)?;
     let search = PairSearch { rows };

@@ -136,7 +136,7 @@ pub fn candidates(alloc: Global, g: &MultiGraph) -> Result<CandidateList, Memory
 {
     g.keeps_limits();
     let covered = Covered::known(alloc, g)?;
-    let pairs = FirstPairs::of(alloc, &covered)?;
+    let pairs = FirstPairs::of(&covered);
     let list = listed(alloc, &pairs)?;
     Ok(list)
 }
@@ -202,7 +202,7 @@ pub fn find_any(alloc: Global, g: &MultiGraph) -> Result<Option<VSet>, Memory>
     ensures none { IfOk result (λ found. (found ≡ None) ↔ HasOnlyTrivialTightCuts g.now) }
 {
     let covered = Covered::known(alloc, g)?;
-    first_cut(alloc, &FirstPairs::of(alloc, &covered)?)
+    first_cut(alloc, &FirstPairs::of(&covered))
 }
 
 /// The shore that `find_any` answers, of a covered graph with its first pairs.

@@ -6,8 +6,8 @@ use Rattle.bench_reports.proofs.ear_checking.accepted_report.Goals as goal
 
 pub counts_of-steps-requires : goal.counts_of-steps-requires
 counts_of-steps-requires c =
-    let few = few-steps c.args.g.now (ears_of c.args.list.now) c.requires.is in
+    let few = few-steps c.args.c.now (ears_of c.args.list.now) c.requires in
     let all = length-map c.args.list.now.steps step_of in
     let same = ap length c.as_slice.ensures in
-    let limit = c.keeps_limits.ensures.edges in
+    let limit = c.keeps_covered.ensures.limits.edges in
     omega arith

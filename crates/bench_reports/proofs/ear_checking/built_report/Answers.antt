@@ -8,16 +8,16 @@ use Rattle.bench_reports.proofs.ear_checking.built_report.Goals as goal
 
 pub counts_of-steps-requires : goal.counts_of-steps-requires
 counts_of-steps-requires c =
-    let few = few-steps c.args.g.now (ears_of c.in_ok-list.list) c.in_ok-list.ensures.list in
+    let few = few-steps c.args.c.now (ears_of c.in_ok-list.list) c.in_ok-list.ensures.list in
     let all = length-map c.in_ok-list.list.steps step_of in
     let same = ap length c.as_slice.ensures in
-    let limit = c.keeps_limits.ensures.edges in
+    let limit = c.keeps_covered.ensures.limits.edges in
     omega arith
 
 pub write_ears-requires-clause-fits : goal.write_ears-requires-clause-fits
 write_ears-requires-clause-fits c =
     subst₂ (λ (n m : ℕ). FitsEars n m (ears_of c.in_ok-list.list)) (sym c.order-n.ensures.is) (sym c.size-m.ensures.is)
-    (list-fits c.args.g.now c.keeps_limits.ensures.multigraph.ends (ears_of c.in_ok-list.list) c.in_ok-list.ensures.list)
+    (list-fits c.args.c.now c.keeps_covered.ensures.limits.multigraph.ends (ears_of c.in_ok-list.list) c.in_ok-list.ensures.list)
 
 pub write_ears-requires-clause-filled : goal.write_ears-requires-clause-filled
-write_ears-requires-clause-filled c = list-filled c.args.g.now (ears_of c.in_ok-list.list) c.in_ok-list.ensures.list
+write_ears-requires-clause-filled c = list-filled c.args.c.now (ears_of c.in_ok-list.list) c.in_ok-list.ensures.list

@@ -7,10 +7,10 @@ use Rattle.bench_reports.proofs.ear_checking.refused_report.Goals as goal
 
 pub returns : goal.returns
 returns c = record {
-  covered = c.requires.covered;
+  covered = c.keeps_covered.ensures.covered;
   step = c.args.step;
   why = why_of c.args.why;
-  refused = c.requires.refused;
+  refused = c.requires;
   negative = refl;
   text = subst₂ (λ (k : ℕ) (e : Option ℕ). c.in_ok-ear_judgement.field-0.items ≡ ear_judgement_text (line.Refused c.args.step k e)) c.number_of.ensures c.edge_of.ensures c.in_ok-ear_judgement.ensures;
 }

@@ -4,4 +4,4 @@ use Rattle.leaf_kinds.specs.LeafKinds.{IsKind}
 use Rattle.list_lines.proofs.selecting.covered_kind.Goals as goal
 
 pub returns : goal.returns
-returns c = (c.keeps_covered.ensures.covered, subst (λ (g : Graph). IsKind g c.in_ok-kind.kind) c.in_ok-of.ensures c.in_ok-kind.ensures.kind)
+returns c = (c.keeps_covered.ensures.covered, subst (λ (g : Graph). IsKind g c.in_ok-kind.kind) c.of.ensures c.in_ok-kind.ensures.kind)

@@ -5,4 +5,4 @@ use Rattle.tight_cuts.specs.View.{candidate_of}
 use Rattle.tight_cuts.proofs.at_partition.first_root_candidate.Goals as goal
 
 pub returns-clause-some : goal.returns-clause-some
-returns-clause-some c d is = subst (λ (g : Graph). IsCandidateAt g (singles g.order) (candidate_of d)) c.in_ok-pairs.ensures (c.in_ok-found.ensures.some d is)
+returns-clause-some c d is = subst (λ (g : Graph). IsCandidateAt g (singles g.order) (candidate_of d)) c.of-pairs.ensures (c.in_ok-found.ensures.some d is)
