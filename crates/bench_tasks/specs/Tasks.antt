@@ -1,6 +1,6 @@
 -- What a command works on: its verb with what its files hold in place of their names.
--- Stated by: bench_tasks, bench_top, theorems.
--- Rests on it: bench_outcomes, bench_reports, front_top.
+-- Stated by: bench_tasks, bench_reports, bench_top, theorems.
+-- Rests on it: bench_outcomes, front_top.
 use Rattle.std.specs.Prelude.{◌≡◌, ℕ, List}
 use Rattle.graph_core.specs.Common.{Graph}
 use Rattle.graph_text.specs.EitherVersion.{NamedGraph}

@@ -1,6 +1,6 @@
 -- The quotient of a graph at a partition as contracts see it: the quotient graph, the blocks that
 -- its vertices stand for, and for each of its edges the edges of the graph that it stands for.
--- Stated by: contraction, tight_cuts, tree_check, report_text.
+-- Stated by: contraction, tree_check, report_text.
 use Rattle.std.specs.Prelude.{◌≡◌, ℕ, List, map}
 use Rattle.graph_core.specs.Common.{Graph, size, IsPartition, edges_between, quotient, IsWithinLimits}
 

@@ -1,6 +1,6 @@
 -- What a scan of a tree finds, as the code keeps it: a derivation with its leaves counted, or the
 -- first refusal.
--- Stated by: tree_check. Rests on it: bench_reports.
+-- Stated by: tree_check.
 use Rattle.std.specs.Prelude.{◌≡◌, ℕ, ◌+◌, List}
 use Rattle.graph_core.specs.Common.{Graph}
 use Rattle.tree_core.specs.Common.{IsDerivation, IsDerivationAt, IsTally, leaves, leaves_at, Shape}
