@@ -1,7 +1,8 @@
 //! Whether a tree is a derivation of a graph, as `check` reports it.
 ghost use Rattle.std.specs.Prelude.{◌≡◌, IfOk};
-ghost use Rattle.tree_core.specs.Common.{IsDerivation, Fits, shape_of};
-ghost use Rattle.tree_check.specs.Judgements.{IsJudgement, why_of};
+ghost use Rattle.graph_core.specs.Common.{Graph};
+ghost use Rattle.tree_core.specs.Common.{IsDerivation, IsTally, Fits, Shape, leaves, shape_of};
+ghost use Rattle.tree_check.specs.Judgements.{why_of};
 ghost use Rattle.tree_check.specs.Refusals.{why_number, IsRefused};
 ghost use Rattle.bench_outcomes.specs.Common.{AcceptedTree, CheckGives, RefusedTree, RefusesIfAny, shown_of};
 
@@ -11,8 +12,8 @@ use graph_core::MultiGraph;
 use graph_facts::Covered;
 use report_text::{Shown, TreeLine, judgement};
 use std::alloc::{AllocError as Memory, Global};
-use tree_check::{Judgement, Why, check, check_covered};
-use tree_core::{Tree, tally_of_tree};
+use tree_check::{Scanned, Why, scan_covered};
+use tree_core::{Tally, Tree};
 
 /// The number of a reason.
 pub fn number_of(why: &Why) -> u32
@@ -63,42 +64,8 @@ fn refused_report(
     })
 }
 
-// The report of the answer to the tree of this place, if it is not a derivation.
-fn refusal_of_answer(
-    alloc: Global,
-    g: &MultiGraph,
-    tree: &Tree,
-    place: u32,
-    answer: Judgement,
-) -> Result<Option<Report>, Memory>
-    requires { IsJudgement g.now (shape_of tree.now) answer }
-    ensures { IfOk result (RefusesIfAny g.now (shape_of tree.now) place) }
-{
-    match answer {
-        Judgement::Accepted => Ok(None),
-        Judgement::NotCovered(reason) => Ok(Some(uncovered_report(alloc, g, reason)?)),
-        Judgement::Refused { node, why } => {
-            Ok(Some(refused_report(alloc, g, tree, place, node, why)?))
-        }
-    }
-}
-
-/// The report that refuses the tree of this place among those that are named, counted from 1: the
-/// graph is not covered, or the tree is not a derivation of it. None if the tree is a derivation.
-pub fn refusal_of_tree(
-    alloc: Global,
-    g: &MultiGraph,
-    tree: &Tree,
-    place: u32,
-) -> Result<Option<Report>, Memory>
-    requires { Fits g.now.order (shape_of tree.now) }
-    ensures { IfOk result (RefusesIfAny g.now (shape_of tree.now) place) }
-{
-    let answer = check(alloc, g, tree)?;
-    refusal_of_answer(alloc, g, tree, place, answer)
-}
-
-/// The same for a covered graph.
+/// The report that refuses the tree of this place among those that are named, counted from 1, of a
+/// covered graph. None if the tree is a derivation.
 pub fn refusal_where_covered(
     alloc: Global,
     c: &Covered,
@@ -108,21 +75,36 @@ pub fn refusal_where_covered(
     requires { Fits c.now.order (shape_of tree.now) }
     ensures { IfOk result (RefusesIfAny c.now (shape_of tree.now) place) }
 {
-    let answer = check_covered(alloc, c, tree)?;
-    refusal_of_answer(alloc, c.graph(), tree, place, answer)
+    match scan_covered(alloc, c, tree)? {
+        Scanned::Passed { .. } => Ok(None),
+        Scanned::Refused { node, why } => {
+            let report = refused_report(alloc, c.graph(), tree, place, node, why)?;
+            Ok(Some(report))
+        }
+    }
 }
 
-// The line of a derivation.
-fn accepted_report(alloc: Global, g: &MultiGraph, tree: &Tree) -> Result<Report, Memory>
-    requires { IsDerivation g.now (shape_of tree.now) }
-    ensures { IfOk result
-        (λ report. AcceptedTree g.now (shape_of tree.now) report.status report.bytes.items) }
+// The line of a derivation with so many leaves.
+fn accepted_report(alloc: Global, tally: Tally) -> Result<Report, Memory>
+    ensures { (g : Graph) (t : Shape) → IsDerivation g t → IsTally g (leaves g.order t) tally →
+        IfOk result (λ report. AcceptedTree g t report.status report.bytes.items) }
 {
-    let tally = tally_of_tree(alloc, g, tree)?;
     Ok(Report {
         status: Status::Done,
         bytes: judgement(alloc, &TreeLine::Accepted { tally })?,
     })
+}
+
+// The report on a tree of a covered graph. Its judgement counts the leaves.
+fn judged_report(alloc: Global, c: &Covered, tree: &Tree) -> Result<Report, Memory>
+    requires { Fits c.now.order (shape_of tree.now) }
+    ensures { IfOk result
+        (λ report. CheckGives c.now (shape_of tree.now) report.status report.bytes.items) }
+{
+    match scan_covered(alloc, c, tree)? {
+        Scanned::Passed { tally } => accepted_report(alloc, tally),
+        Scanned::Refused { node, why } => refused_report(alloc, c.graph(), tree, 1, node, why),
+    }
 }
 
 /// The report on a tree: how many leaves it has, or where and why it is refused, or that the
@@ -132,6 +114,8 @@ pub fn check_report(alloc: Global, g: &MultiGraph, tree: &Tree) -> Result<Report
     ensures { IfOk result
         (λ report. CheckGives g.now (shape_of tree.now) report.status report.bytes.items) }
 {
-    let refusal = refusal_of_tree(alloc, g, tree, 1)?;
-    refusal.map_or_else(|| accepted_report(alloc, g, tree), Ok)
+    match Covered::of(alloc, g)? {
+        Ok(covered) => judged_report(alloc, &covered, tree),
+        Err(reason) => uncovered_report(alloc, g, reason),
+    }
 }

@@ -14,28 +14,10 @@ use move_text::write_moves;
 use report_text::{MapLine, MapLines, block_names, pairing};
 use std::alloc::{AllocError as Memory, Global};
 use tree_core::{Partitions, Tree, leaves, nodes};
-use uncross::{LeafMap, LeafMaps, compare, moves_between};
+use uncross::{LeafMap, LeafMaps, compare_covered, moves_between_covered};
 
-/// The report that refuses one of two trees: the graph is not covered, or the first tree is not a
-/// derivation of it, or the second is not one. None if both are derivations. Whether the graph is
-/// covered is asked once.
-pub fn refusal_of_pair(
-    alloc: Global,
-    g: &MultiGraph,
-    first: &Tree,
-    second: &Tree,
-) -> Result<Option<Report>, Memory>
-    requires first { Fits g.now.order (shape_of first.now) }
-    requires second { Fits g.now.order (shape_of second.now) }
-    ensures { IfOk result (RefusesPairIfAny g.now (shape_of first.now) (shape_of second.now)) }
-{
-    match Covered::of(alloc, g)? {
-        Ok(covered) => refusal_of_covered(alloc, &covered, first, second),
-        Err(reason) => Ok(Some(uncovered_report(alloc, g, reason)?)),
-    }
-}
-
-// The report that refuses one of two trees of a covered graph. None if both are derivations.
+// The report that refuses one of two trees of a covered graph: the first tree is not a derivation
+// of it, or the second is not one. None if both are derivations.
 fn refusal_of_covered(
     alloc: Global,
     c: &Covered,
@@ -83,22 +65,17 @@ fn lines_of(alloc: Global, found: &Partitions, maps: LeafMaps) -> Result<MapLine
 }
 
 // The report on two derivations.
-fn pairing_report(
-    alloc: Global,
-    g: &MultiGraph,
-    first: &Tree,
-    second: &Tree,
-) -> Result<Report, Memory>
-    requires first { IsDerivation g.now (shape_of first.now) }
-    requires second { IsDerivation g.now (shape_of second.now) }
+fn pairing_report(alloc: Global, c: &Covered, first: &Tree, second: &Tree) -> Result<Report, Memory>
+    requires first { IsDerivation c.now (shape_of first.now) }
+    requires second { IsDerivation c.now (shape_of second.now) }
     ensures { IfOk result
-        (λ report. Compared g.now (shape_of first.now) (shape_of second.now) report.status
+        (λ report. Compared c.now (shape_of first.now) (shape_of second.now) report.status
         report.bytes.items) }
 {
-    g.keeps_limits();
-    let n = g.order();
+    c.keeps_covered();
+    let n = c.order();
     let found = leaves(alloc, first, n)?;
-    let pairs = compare(alloc, g, first, second)?;
+    let pairs = compare_covered(alloc, c, first, second)?;
     let lines = lines_of(alloc, &found, pairs.maps)?;
     Ok(Report {
         status: Status::Done,
@@ -120,26 +97,40 @@ pub fn compare_report(
         (λ report. CompareGives g.now (shape_of first.now) (shape_of second.now) report.status
         report.bytes.items) }
 {
-    let refusal = refusal_of_pair(alloc, g, first, second)?;
-    refusal.map_or_else(|| pairing_report(alloc, g, first, second), Ok)
+    match Covered::of(alloc, g)? {
+        Ok(covered) => compare_where_covered(alloc, &covered, first, second),
+        Err(reason) => uncovered_report(alloc, g, reason),
+    }
 }
 
-// The text of a script between two derivations, and then the numbers of leaves and of moves.
-fn moves_report(
+// The same for two trees of a covered graph.
+fn compare_where_covered(
     alloc: Global,
-    g: &MultiGraph,
+    c: &Covered,
     first: &Tree,
     second: &Tree,
 ) -> Result<Report, Memory>
-    requires first { IsDerivation g.now (shape_of first.now) }
-    requires second { IsDerivation g.now (shape_of second.now) }
+    requires first { Fits c.now.order (shape_of first.now) }
+    requires second { Fits c.now.order (shape_of second.now) }
     ensures { IfOk result
-        (λ report. Scripted g.now (shape_of first.now) (shape_of second.now) report.status
+        (λ report. CompareGives c.now (shape_of first.now) (shape_of second.now) report.status
         report.bytes.items) }
 {
-    g.keeps_limits();
-    let moves = moves_between(alloc, g, first, second)?;
-    let n = g.order();
+    let refusal = refusal_of_covered(alloc, c, first, second)?;
+    refusal.map_or_else(|| pairing_report(alloc, c, first, second), Ok)
+}
+
+// The text of a script between two derivations, and then the numbers of leaves and of moves.
+fn moves_report(alloc: Global, c: &Covered, first: &Tree, second: &Tree) -> Result<Report, Memory>
+    requires first { IsDerivation c.now (shape_of first.now) }
+    requires second { IsDerivation c.now (shape_of second.now) }
+    ensures { IfOk result
+        (λ report. Scripted c.now (shape_of first.now) (shape_of second.now) report.status
+        report.bytes.items) }
+{
+    c.keeps_covered();
+    let moves = moves_between_covered(alloc, c, first, second)?;
+    let n = c.order();
     let text = write_moves(alloc, &moves, n)?;
     let leaves = nodes(first) / 2 + 1;
     Ok(Report {
@@ -162,6 +153,25 @@ pub fn script_report(
         (λ report. ScriptGives g.now (shape_of first.now) (shape_of second.now) report.status
         report.bytes.items) }
 {
-    let refusal = refusal_of_pair(alloc, g, first, second)?;
-    refusal.map_or_else(|| moves_report(alloc, g, first, second), Ok)
+    match Covered::of(alloc, g)? {
+        Ok(covered) => script_where_covered(alloc, &covered, first, second),
+        Err(reason) => uncovered_report(alloc, g, reason),
+    }
+}
+
+// The same for two trees of a covered graph.
+fn script_where_covered(
+    alloc: Global,
+    c: &Covered,
+    first: &Tree,
+    second: &Tree,
+) -> Result<Report, Memory>
+    requires first { Fits c.now.order (shape_of first.now) }
+    requires second { Fits c.now.order (shape_of second.now) }
+    ensures { IfOk result
+        (λ report. ScriptGives c.now (shape_of first.now) (shape_of second.now) report.status
+        report.bytes.items) }
+{
+    let refusal = refusal_of_covered(alloc, c, first, second)?;
+    refusal.map_or_else(|| moves_report(alloc, c, first, second), Ok)
 }

@@ -8,12 +8,14 @@ ghost use Rattle.tree_text.specs.Writing.{tree_text};
 ghost use Rattle.report_text.specs.Scripts.{refused_move_text, replayed_text, stuck_text};
 ghost use Rattle.bench_outcomes.specs.Common.{shown_of, MovesGive, ReplayGives};
 
-use crate::checking::{number_of, refusal_of_tree, shown_by};
+use crate::checking::{number_of, refusal_where_covered, shown_by};
+use crate::uncovered::uncovered_report;
 use bench_outcomes::{Report, Status};
 use graph_core::MultiGraph;
+use graph_facts::Covered;
 use report_text::{replay_refused, replay_stuck, replayed};
 use std::alloc::{AllocError as Memory, Global};
-use tree_check::{Replayed, Why, replay};
+use tree_check::{Replayed, Why, replay_covered};
 use tree_core::{Moves, Tree};
 use tree_text::write_tree;
 
@@ -67,24 +69,41 @@ fn refused_move_report(alloc: Global, at: u32, node: u32, why: Why) -> Result<Re
 }
 
 // The report on moves on a derivation.
-fn moves_report(alloc: Global, g: &MultiGraph, tree: Tree, moves: &Moves) -> Result<Report, Memory>
-    requires derivation { IsDerivation g.now (shape_of tree) }
+fn moves_report(alloc: Global, c: &Covered, tree: Tree, moves: &Moves) -> Result<Report, Memory>
+    requires derivation { IsDerivation c.now (shape_of tree) }
     requires few { length moves.now ≤ most_moves }
     ensures { IfOk result
-        (λ report. MovesGive g.now (shape_of tree) (moves_of moves.now) report.status
+        (λ report. MovesGive c.now (shape_of tree) (moves_of moves.now) report.status
         report.bytes.items) }
 {
-    let answer = replay(alloc, g, tree, moves)?;
+    let answer = replay_covered(alloc, c, tree, moves)?;
     match answer {
-        Replayed::Done { tree } => last_tree_report(alloc, g, &tree, moves.len()),
+        Replayed::Done { tree } => last_tree_report(alloc, c.graph(), &tree, moves.len()),
         Replayed::Stuck { at } => stuck_report(alloc, at),
         Replayed::Refused { at, node, why } => refused_move_report(alloc, at, node, why),
     }
 }
 
+// The report on moves on a tree of a covered graph.
+fn report_where_covered(
+    alloc: Global,
+    c: &Covered,
+    tree: Tree,
+    moves: &Moves,
+) -> Result<Report, Memory>
+    requires fits { Fits c.now.order (shape_of tree) }
+    requires few { length moves.now ≤ most_moves }
+    ensures { IfOk result
+        (λ report. ReplayGives c.now (shape_of tree) (moves_of moves.now) report.status
+        report.bytes.items) }
+{
+    let refusal = refusal_where_covered(alloc, c, &tree, 1)?;
+    refusal.map_or_else(|| moves_report(alloc, c, tree, moves), Ok)
+}
+
 /// The report on moves on a tree: the last tree that they make if each on the way is a
 /// derivation of the graph, or the first move that fails; or why the tree is refused, or that the
-/// graph is not covered.
+/// graph is not covered. What is known of the graph is sought once.
 pub fn replay_report(
     alloc: Global,
     g: &MultiGraph,
@@ -97,6 +116,8 @@ pub fn replay_report(
         (λ report. ReplayGives g.now (shape_of tree) (moves_of moves.now) report.status
         report.bytes.items) }
 {
-    let refusal = refusal_of_tree(alloc, g, &tree, 1)?;
-    refusal.map_or_else(|| moves_report(alloc, g, tree, moves), Ok)
+    match Covered::of(alloc, g)? {
+        Ok(covered) => report_where_covered(alloc, &covered, tree, moves),
+        Err(reason) => uncovered_report(alloc, g, reason),
+    }
 }

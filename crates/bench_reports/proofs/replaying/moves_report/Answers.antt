@@ -6,5 +6,5 @@ use Rattle.bench_reports.proofs.replaying.moves_report.Goals as goal
 
 pub last_tree_report-requires-clause-derivation : goal.last_tree_report-requires-clause-derivation
 last_tree_report-requires-clause-derivation c =
-    reached-derivation c.args.g.now (shape_of c.args.tree) (shape_of c.in-Done.tree) (moves_of c.args.moves.now) c.requires.derivation
-    (subst (IsReplay c.args.g.now (shape_of c.args.tree) (moves_of c.args.moves.now)) c.in-Done.is c.in_ok-answer.ensures)
+    reached-derivation c.args.c.now (shape_of c.args.tree) (shape_of c.in-Done.tree) (moves_of c.args.moves.now) c.requires.derivation
+    (subst (IsReplay c.args.c.now (shape_of c.args.tree) (moves_of c.args.moves.now)) c.in-Done.is c.in_ok-answer.ensures)
