@@ -116,8 +116,10 @@ fn compare_where_covered(
         (λ report. CompareGives c.now (shape_of first.now) (shape_of second.now) report.status
         report.bytes.items) }
 {
-    let refusal = refusal_of_covered(alloc, c, first, second)?;
-    refusal.map_or_else(|| pairing_report(alloc, c, first, second), Ok)
+    match refusal_of_covered(alloc, c, first, second)? {
+        Some(report) => Ok(report),
+        None => pairing_report(alloc, c, first, second),
+    }
 }
 
 // The text of a script between two derivations, and then the numbers of leaves and of moves.
@@ -172,6 +174,8 @@ fn script_where_covered(
         (λ report. ScriptGives c.now (shape_of first.now) (shape_of second.now) report.status
         report.bytes.items) }
 {
-    let refusal = refusal_of_covered(alloc, c, first, second)?;
-    refusal.map_or_else(|| moves_report(alloc, c, first, second), Ok)
+    match refusal_of_covered(alloc, c, first, second)? {
+        Some(report) => Ok(report),
+        None => moves_report(alloc, c, first, second),
+    }
 }

@@ -97,8 +97,10 @@ fn report_where_covered(
         (λ report. ReplayGives c.now (shape_of tree) (moves_of moves.now) report.status
         report.bytes.items) }
 {
-    let refusal = refusal_where_covered(alloc, c, &tree, 1)?;
-    refusal.map_or_else(|| moves_report(alloc, c, tree, moves), Ok)
+    match refusal_where_covered(alloc, c, &tree, 1)? {
+        Some(report) => Ok(report),
+        None => moves_report(alloc, c, tree, moves),
+    }
 }
 
 /// The report on moves on a tree: the last tree that they make if each on the way is a
