@@ -7,18 +7,18 @@ use Rattle.text_faults.specs.declared.faults.FaultKind.{FaultKind}
 use Rattle.list_reader.specs.declared.ending.BadLine.{BadLine}
 use Rattle.list_reader.specs.declared.ending.Ending.{Ending}
 use Rattle.list_reader.specs.declared.ending.Ending.TheVariants.{Done, Bad, ReadFault, WriteFault, Memory}
-use Rattle.list_reader.specs.declared.place.Place.{Place}
+use Rattle.list_reader.specs.declared.place.LinePlace.{LinePlace}
 use Rattle.list_reader.specs.Places.{place_after, place_behind}
 use Rattle.list_reader.specs.Told.{LineTold, NamesBad}
 use Rattle.list_reader.specs.Lists.{AllTold, BeginningTold, WholeTold, HasBadLine, LacksLine, ToldToBad, CutShort}
 use Rattle.list_reader.specs.Endings.{Gives}
 
-pub place_behind-append : (n : Place) (xs ys : List (List ℕ)) → place_behind n (xs ++ ys) ≡ place_behind (place_behind n xs) ys
+pub place_behind-append : (n : LinePlace) (xs ys : List (List ℕ)) → place_behind n (xs ++ ys) ≡ place_behind (place_behind n xs) ys
 place_behind-append n [] ys = refl
 place_behind-append n (x ∷ xs) ys = place_behind-append (place_after n x) xs ys
 
 pub AllTold-append :
-    (tells : Place → List ℕ → List ℕ → Type 0) (n : Place) (xs ys : List (List ℕ)) (a b : List ℕ) →
+    (tells : LinePlace → List ℕ → List ℕ → Type 0) (n : LinePlace) (xs ys : List (List ℕ)) (a b : List ℕ) →
     AllTold tells n xs a → AllTold tells (place_behind n xs) ys b → AllTold tells n (xs ++ ys) (a ++ b)
 AllTold-append tells n [] ys a b told behind =
     let out : a ++ b ≡ b = ap (λ (t : List ℕ). t ++ b) told in
@@ -33,16 +33,16 @@ AllTold-append tells n (x ∷ xs) ys a b (first, others, one, rest, out) behind 
 
 -- one line
 pub AllTold-one :
-    (tells : Place → List ℕ → List ℕ → Type 0) (n : Place) (line output : List ℕ) →
+    (tells : LinePlace → List ℕ → List ℕ → Type 0) (n : LinePlace) (line output : List ℕ) →
     LineTold tells n line output → AllTold tells n (line ∷ []) output
 AllTold-one tells n line output told = (output, [], told, refl, sym (append-nil output))
 
 pub BeginningTold-none :
-    (tells : Place → List ℕ → List ℕ → Type 0) (n : Place) (lines : List (List ℕ)) → BeginningTold tells n lines []
+    (tells : LinePlace → List ℕ → List ℕ → Type 0) (n : LinePlace) (lines : List (List ℕ)) → BeginningTold tells n lines []
 BeginningTold-none tells n lines = record { before = []; behind = lines; cut = refl; told = refl }
 
 pub BeginningTold-behind :
-    (tells : Place → List ℕ → List ℕ → Type 0) (n : Place) (xs ys : List (List ℕ)) (a b : List ℕ) →
+    (tells : LinePlace → List ℕ → List ℕ → Type 0) (n : LinePlace) (xs ys : List (List ℕ)) (a b : List ℕ) →
     AllTold tells n xs a → BeginningTold tells (place_behind n xs) ys b → BeginningTold tells n (xs ++ ys) (a ++ b)
 BeginningTold-behind tells n xs ys a b told behind = record {
   before = xs ++ behind.before;
@@ -53,7 +53,7 @@ BeginningTold-behind tells n xs ys a b told behind = record {
 
 -- the first line is bad
 pub HasBadLine-first :
-    (tells : Place → List ℕ → List ℕ → Type 0) (bad : Place → List ℕ → FaultKind → Type 0) (n : Place) (line : List ℕ) (found : BadLine)
+    (tells : LinePlace → List ℕ → List ℕ → Type 0) (bad : LinePlace → List ℕ → FaultKind → Type 0) (n : LinePlace) (line : List ℕ) (found : BadLine)
     (lines : List (List ℕ)) → NamesBad bad n line found → HasBadLine tells bad n (line ∷ lines) found []
 HasBadLine-first tells bad n line found lines named = record {
   before = [];
@@ -65,7 +65,7 @@ HasBadLine-first tells bad n line found lines named = record {
 }
 
 pub HasBadLine-behind :
-    (tells : Place → List ℕ → List ℕ → Type 0) (bad : Place → List ℕ → FaultKind → Type 0) (n : Place) (xs ys : List (List ℕ))
+    (tells : LinePlace → List ℕ → List ℕ → Type 0) (bad : LinePlace → List ℕ → FaultKind → Type 0) (n : LinePlace) (xs ys : List (List ℕ))
     (found : BadLine) (a b : List ℕ) →
     AllTold tells n xs a → HasBadLine tells bad (place_behind n xs) ys found b → HasBadLine tells bad n (xs ++ ys) found (a ++ b)
 HasBadLine-behind tells bad n xs ys found a b told behind = record {
@@ -74,24 +74,24 @@ HasBadLine-behind tells bad n xs ys found a b told behind = record {
   behind = behind.behind;
   cut = ap (λ (l : List (List ℕ)). xs ++ l) behind.cut ∙ sym (append_assoc xs behind.before (behind.line ∷ behind.behind));
   told = AllTold-append tells n xs behind.before a b told behind.told;
-  named = subst (λ (p : Place). NamesBad bad p behind.line found) (sym (place_behind-append n xs behind.before)) behind.named;
+  named = subst (λ (p : LinePlace). NamesBad bad p behind.line found) (sym (place_behind-append n xs behind.before)) behind.named;
 }
 
 pub LacksLine-behind :
-    (tells : Place → List ℕ → List ℕ → Type 0) (lacks : ℕ → Option FaultKind) (n : Place) (xs ys : List (List ℕ))
+    (tells : LinePlace → List ℕ → List ℕ → Type 0) (lacks : ℕ → Option FaultKind) (n : LinePlace) (xs ys : List (List ℕ))
     (found : BadLine) (a b : List ℕ) →
     AllTold tells n xs a → LacksLine tells lacks (place_behind n xs) ys found b → LacksLine tells lacks n (xs ++ ys) found (a ++ b)
 LacksLine-behind tells lacks n xs ys found a b told behind =
     let at = sym (place_behind-append n xs ys) in
     record {
       told = AllTold-append tells n xs ys a b told behind.told;
-      ends = subst (λ (p : Place). lacks p.graphs ≡ Some found.kind) at behind.ends;
-      number = subst (λ (p : Place). found.number ≡ p.number) at behind.number;
+      ends = subst (λ (p : LinePlace). lacks p.graphs ≡ Some found.kind) at behind.ends;
+      number = subst (λ (p : LinePlace). found.number ≡ p.number) at behind.number;
       nothing = behind.nothing;
     }
 
 pub ToldToBad-behind :
-    (tells : Place → List ℕ → List ℕ → Type 0) (bad : Place → List ℕ → FaultKind → Type 0) (lacks : ℕ → Option FaultKind) (n : Place)
+    (tells : LinePlace → List ℕ → List ℕ → Type 0) (bad : LinePlace → List ℕ → FaultKind → Type 0) (lacks : ℕ → Option FaultKind) (n : LinePlace)
     (xs ys : List (List ℕ)) (found : BadLine) (a b : List ℕ) →
     AllTold tells n xs a → ToldToBad tells bad lacks (place_behind n xs) ys found b → ToldToBad tells bad lacks n (xs ++ ys) found (a ++ b)
 ToldToBad-behind tells bad lacks n xs ys found a b told (inl behind) = inl (HasBadLine-behind tells bad n xs ys found a b told behind)
@@ -105,7 +105,7 @@ take-behind (x ∷ a) b n =
     ap (λ (t : List ℕ). x ∷ t) (take-behind a b n) ∙ ap (λ (k : ℕ). take k (x ∷ (a ++ b))) (sym next)
 
 pub CutShort-behind :
-    (tells : Place → List ℕ → List ℕ → Type 0) (n : Place) (xs ys : List (List ℕ)) (a b : List ℕ) →
+    (tells : LinePlace → List ℕ → List ℕ → Type 0) (n : LinePlace) (xs ys : List (List ℕ)) (a b : List ℕ) →
     AllTold tells n xs a → CutShort tells (place_behind n xs) ys b → CutShort tells n (xs ++ ys) (a ++ b)
 CutShort-behind tells n xs ys a b told behind = record {
   whole = a ++ behind.whole;
@@ -116,16 +116,16 @@ CutShort-behind tells n xs ys a b told behind = record {
 }
 
 WholeTold-behind :
-    (tells : Place → List ℕ → List ℕ → Type 0) (lacks : ℕ → Option FaultKind) (n : Place) (xs ys : List (List ℕ)) (a b : List ℕ) →
+    (tells : LinePlace → List ℕ → List ℕ → Type 0) (lacks : ℕ → Option FaultKind) (n : LinePlace) (xs ys : List (List ℕ)) (a b : List ℕ) →
     AllTold tells n xs a → WholeTold tells lacks (place_behind n xs) ys b → WholeTold tells lacks n (xs ++ ys) (a ++ b)
 WholeTold-behind tells lacks n xs ys a b told behind = record {
   told = AllTold-append tells n xs ys a b told behind.told;
-  ends = subst (λ (p : Place). lacks p.graphs ≡ None) (sym (place_behind-append n xs ys)) behind.ends;
+  ends = subst (λ (p : LinePlace). lacks p.graphs ≡ None) (sym (place_behind-append n xs ys)) behind.ends;
 }
 
 -- lines that are answered, and what the lines after them give
 pub Gives-behind :
-    (tells : Place → List ℕ → List ℕ → Type 0) (bad : Place → List ℕ → FaultKind → Type 0) (lacks : ℕ → Option FaultKind) (n : Place)
+    (tells : LinePlace → List ℕ → List ℕ → Type 0) (bad : LinePlace → List ℕ → FaultKind → Type 0) (lacks : ℕ → Option FaultKind) (n : LinePlace)
     (xs ys : List (List ℕ)) (a b : List ℕ) (ending : Ending) →
     AllTold tells n xs a → Gives tells bad lacks (place_behind n xs) ys ending b → Gives tells bad lacks n (xs ++ ys) ending (a ++ b)
 Gives-behind tells bad lacks n xs ys a b Done told behind = WholeTold-behind tells lacks n xs ys a b told behind

@@ -7,7 +7,7 @@ use Rattle.std.specs.declared.option.Option.TheVariants.{Some, None}
 use Rattle.outside.specs.Source.{prepended, IsEnd}
 use Rattle.text_faults.specs.declared.faults.FaultKind.{FaultKind}
 use Rattle.list_reader.specs.declared.ending.Ending.{Ending}
-use Rattle.list_reader.specs.declared.place.Place.{Place}
+use Rattle.list_reader.specs.declared.place.LinePlace.{LinePlace}
 use Rattle.list_reader.specs.Lines.{lines_of}
 use Rattle.list_reader.specs.Places.{first_place}
 use Rattle.list_reader.specs.Endings.{Gives, Appended, IsLeft, TellsList}
@@ -54,7 +54,7 @@ piece_read whole held piece before now next left taken =
 
 -- if the source makes known what is left, the list is that
 pub told_list :
-    (tells : Place → List ℕ → List ℕ → Type 0) (bad : Place → List ℕ → FaultKind → Type 0) (lacks : ℕ → Option FaultKind) (ending : Ending)
+    (tells : LinePlace → List ℕ → List ℕ → Type 0) (bad : LinePlace → List ℕ → FaultKind → Type 0) (lacks : ℕ → Option FaultKind) (ending : Ending)
     (left before now : Option (List ℕ)) (bytes : List ℕ) →
     TellsList tells bad lacks ending left before now → left ≡ Some bytes →
     Appended (Gives tells bad lacks first_place (lines_of bytes) ending) before now

@@ -10,7 +10,7 @@ use Rattle.std.proofs.lemmas.Option.{none-some, same_Some}
 use Rattle.std.proofs.lemmas.Slice.Eq.{bytes_eq-Decides}
 use Rattle.text_faults.specs.declared.faults.FaultKind.{FaultKind}
 use Rattle.list_reader.specs.declared.ending.BadLine.{BadLine}
-use Rattle.list_reader.specs.declared.place.Place.{Place}
+use Rattle.list_reader.specs.declared.place.LinePlace.{LinePlace}
 use Rattle.list_reader.specs.Headers.{is_header, is_header_line}
 use Rattle.list_reader.specs.Places.{place_after, place_behind}
 use Rattle.list_reader.specs.Told.{LineTold, LineBad, most_line}
@@ -32,16 +32,16 @@ header_short number line is =
 
 -- the kind of a bad line is one
 fault_once :
-    (bad : Place → List ℕ → FaultKind → Type 0) (place : Place) (line : List ℕ) (kind other : FaultKind) →
+    (bad : LinePlace → List ℕ → FaultKind → Type 0) (place : LinePlace) (line : List ℕ) (kind other : FaultKind) →
     HasOneFault bad → LineBad bad place line kind → LineBad bad place line other → kind ≡ other
 fault_once bad place line kind other one (inl first) (inl second) = first.1 ∙ sym second.1
 fault_once bad place line kind other one (inl first) (inr second) = let long = first.0 in let short = second.1 in absurd (omega arith)
 fault_once bad place line kind other one (inr first) (inl second) = let short = first.1 in let long = second.0 in absurd (omega arith)
 fault_once bad place line kind other one (inr first) (inr second) = one place line kind other first.2 second.2
 
-module _ (tells : Place → List ℕ → List ℕ → Type 0) (bad : Place → List ℕ → FaultKind → Type 0) (apart : TellsApart tells bad) where
+module _ (tells : LinePlace → List ℕ → List ℕ → Type 0) (bad : LinePlace → List ℕ → FaultKind → Type 0) (apart : TellsApart tells bad) where
   -- a line that is told is not bad
-  told_not_bad : (place : Place) (line output : List ℕ) (kind : FaultKind) → LineTold tells place line output → LineBad bad place line kind → ⊥
+  told_not_bad : (place : LinePlace) (line output : List ℕ) (kind : FaultKind) → LineTold tells place line output → LineBad bad place line kind → ⊥
   told_not_bad place line output kind (inl told) (inl long) = let short = header_short place.number line told.0 in let more = long.0 in omega arith
   told_not_bad place line output kind (inl told) (inr is) = let no : true ≡ false = sym told.0 ∙ is.0 in cc no
   told_not_bad place line output kind (inr told) (inl long) = let short = told.1 in let more = long.0 in omega arith
@@ -49,14 +49,14 @@ module _ (tells : Place → List ℕ → List ℕ → Type 0) (bad : Place → L
 
   -- nor is one of lines that all are
   all_not_bad :
-      (place : Place) (before : List (List ℕ)) (line : List ℕ) (behind : List (List ℕ)) (kind : FaultKind) (output : List ℕ) →
+      (place : LinePlace) (before : List (List ℕ)) (line : List ℕ) (behind : List (List ℕ)) (kind : FaultKind) (output : List ℕ) →
       AllTold tells place (before ++ line ∷ behind) output → LineBad bad (place_behind place before) line kind → ⊥
   all_not_bad place [] line behind kind output told is = told_not_bad place line told.0 kind told.2 is
   all_not_bad place (first ∷ before) line behind kind output told is = all_not_bad (place_after place first) before line behind kind told.1 told.3 is
 
   -- two first bad lines stand behind the same lines
   same_before :
-      (place : Place) (before others : List (List ℕ)) (line another : List ℕ) (behind rest : List (List ℕ)) (kind other : FaultKind) (a b : List ℕ) →
+      (place : LinePlace) (before others : List (List ℕ)) (line another : List ℕ) (behind rest : List (List ℕ)) (kind other : FaultKind) (a b : List ℕ) →
       before ++ line ∷ behind ≡ others ++ another ∷ rest → AllTold tells place before a → AllTold tells place others b →
       LineBad bad (place_behind place before) line kind → LineBad bad (place_behind place others) another other → (before ≡ others) × (line ≡ another)
   same_before place [] [] line another behind rest kind other a b same told too is also = (refl, cc same)
@@ -77,7 +77,7 @@ module _ (tells : Place → List ℕ → List ℕ → Type 0) (bad : Place → L
 
   -- a list that is told whole has no bad line
   pub whole_not_bad :
-      (lacks : ℕ → Option FaultKind) (place : Place) (lines : List (List ℕ)) (found : BadLine) (a b : List ℕ) →
+      (lacks : ℕ → Option FaultKind) (place : LinePlace) (lines : List (List ℕ)) (found : BadLine) (a b : List ℕ) →
       WholeTold tells lacks place lines a → ToldToBad tells bad lacks place lines found b → ⊥
   whole_not_bad lacks place lines found a b whole (inl stops) =
       all_not_bad place stops.before stops.line stops.behind found.kind a
@@ -86,7 +86,7 @@ module _ (tells : Place → List ℕ → List ℕ → Type 0) (bad : Place → L
 
   -- nor does one lack a line that has a bad one
   bad_not_lacking :
-      (lacks : ℕ → Option FaultKind) (place : Place) (lines : List (List ℕ)) (found other : BadLine) (a b : List ℕ) →
+      (lacks : ℕ → Option FaultKind) (place : LinePlace) (lines : List (List ℕ)) (found other : BadLine) (a b : List ℕ) →
       HasBadLine tells bad place lines found a → LacksLine tells lacks place lines other b → ⊥
   bad_not_lacking lacks place lines found other a b stops ends =
       all_not_bad place stops.before stops.line stops.behind found.kind b
@@ -95,7 +95,7 @@ module _ (tells : Place → List ℕ → List ℕ → Type 0) (bad : Place → L
   -- the first bad line is one, and so is what is told before it
   module _ (one : HasOneOutput tells) (one_fault : HasOneFault bad) where
     first_bad_once :
-        (place : Place) (lines : List (List ℕ)) (found other : BadLine) (a b : List ℕ) →
+        (place : LinePlace) (lines : List (List ℕ)) (found other : BadLine) (a b : List ℕ) →
         HasBadLine tells bad place lines found a → HasBadLine tells bad place lines other b →
         (a ≡ b) × (found.number ≡ other.number) × (found.kind ≡ other.kind)
     first_bad_once place lines found other a b first second =
@@ -111,7 +111,7 @@ module _ (tells : Place → List ℕ → List ℕ → Type 0) (bad : Place → L
         )
 
     pub stop_once :
-        (lacks : ℕ → Option FaultKind) (place : Place) (lines : List (List ℕ)) (found other : BadLine) (a b : List ℕ) →
+        (lacks : ℕ → Option FaultKind) (place : LinePlace) (lines : List (List ℕ)) (found other : BadLine) (a b : List ℕ) →
         ToldToBad tells bad lacks place lines found a → ToldToBad tells bad lacks place lines other b →
         (a ≡ b) × (found.number ≡ other.number) × (found.kind ≡ other.kind)
     stop_once lacks place lines found other a b (inl first) (inl second) = first_bad_once place lines found other a b first second

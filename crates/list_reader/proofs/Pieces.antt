@@ -9,7 +9,7 @@ use Rattle.list_reader.specs.declared.ending.BadLine.{BadLine}
 use Rattle.list_reader.specs.declared.ending.Ending.TheVariants.{Bad}
 use Rattle.list_reader.specs.declared.ending.ListStop.{ListStop}
 use Rattle.list_reader.specs.declared.ending.ListStop.TheVariants as stop
-use Rattle.list_reader.specs.declared.place.Place.{Place}
+use Rattle.list_reader.specs.declared.place.LinePlace.{LinePlace}
 use Rattle.list_reader.specs.Headers.{is_header}
 use Rattle.list_reader.specs.Lines.{lines_of, HasNoFeed, IsFirstLine}
 use Rattle.list_reader.specs.Places.{place_after, place_behind}
@@ -21,20 +21,20 @@ use Rattle.list_reader.proofs.Joins.{place_behind-append, AllTold-append, AllTol
 
 -- the header alone has an empty answer
 pub told_header :
-    (tells : Place → List ℕ → List ℕ → Type 0) (n : Place) (line output : List ℕ) →
+    (tells : LinePlace → List ℕ → List ℕ → Type 0) (n : LinePlace) (line output : List ℕ) →
     IsTrue (is_header n.number line) → Added (LineTold tells n line) output output
 told_header tells n line output header = record { more = []; right = inl (header, refl); output = sym (append-nil output) }
 
 -- any other line has what the teller answers
 pub told_line :
-    (tells : Place → List ℕ → List ℕ → Type 0) (n : Place) (line bytes before now : List ℕ) →
+    (tells : LinePlace → List ℕ → List ℕ → Type 0) (n : LinePlace) (line bytes before now : List ℕ) →
     IsFalse (is_header n.number line) → length line ≤ most_line → tells n line bytes → now ≡ before ++ bytes →
     Added (LineTold tells n line) before now
 told_line tells n line bytes before now other short told more = record { more = bytes; right = inr (other, short, told); output = more }
 
 -- a line that is too long is bad
 pub names_long :
-    (bad : Place → List ℕ → FaultKind → Type 0) (n : Place) (line : List ℕ) (why : ListStop) →
+    (bad : LinePlace → List ℕ → FaultKind → Type 0) (n : LinePlace) (line : List ℕ) (why : ListStop) →
     most_line < length line → IfBad (IsFound n.number Limit line) why → IfBad (NamesBad bad n line) why
 names_long bad n line stop.Memory long found = tt
 names_long bad n line (stop.Bad bad_line) long found = record {
@@ -45,7 +45,7 @@ names_long bad n line (stop.Bad bad_line) long found = record {
 
 -- a line in which the teller finds a fault is bad
 pub names_bad :
-    (bad : Place → List ℕ → FaultKind → Type 0) (n : Place) (line : List ℕ) (kind : FaultKind) (why : ListStop) →
+    (bad : LinePlace → List ℕ → FaultKind → Type 0) (n : LinePlace) (line : List ℕ) (kind : FaultKind) (why : ListStop) →
     IsFalse (is_header n.number line) → length line ≤ most_line → bad n line kind → IfBad (IsFound n.number kind line) why →
     IfBad (NamesBad bad n line) why
 names_bad bad n line kind stop.Memory other short is found = tt
@@ -57,7 +57,7 @@ names_bad bad n line kind (stop.Bad bad_line) other short is found = record {
 
 -- nothing is answered yet
 pub through_none :
-    (tells : Place → List ℕ → List ℕ → Type 0) (n : Place) (text output : List ℕ) →
+    (tells : LinePlace → List ℕ → List ℕ → Type 0) (n : LinePlace) (text output : List ℕ) →
     Added (ToldThrough tells n text text n) output output
 through_none tells n text output = record {
   more = [];
@@ -73,7 +73,7 @@ through_none tells n text output = record {
 
 -- one more line is answered
 pub through_more :
-    (tells : Place → List ℕ → List ℕ → Type 0) (n k next : Place) (text rest line behind a b c : List ℕ) →
+    (tells : LinePlace → List ℕ → List ℕ → Type 0) (n k next : LinePlace) (text rest line behind a b c : List ℕ) →
     Added (ToldThrough tells n text rest k) a b → IsFirstLine rest line behind → next ≡ place_after k line →
     Added (LineTold tells k line) b c → Added (ToldThrough tells n text behind next) a c
 through_more tells n k next text rest line behind a b c so_far first after one =
@@ -93,10 +93,10 @@ through_more tells n k next text rest line behind a b c so_far first after one =
             subst (λ (ls : List (List ℕ)). AllTold tells n ls (so_far.more ++ one.more)) (sym lines)
             (AllTold-append tells n (lines_of whole) (line ∷ []) so_far.more one.more so_far.right.told
             (AllTold-one tells (place_behind n (lines_of whole)) line one.more
-            (subst (λ (p : Place). LineTold tells p line one.more) so_far.right.place one.right)));
+            (subst (λ (p : LinePlace). LineTold tells p line one.more) so_far.right.place one.right)));
         place =
             after
-            ∙ ap (λ (p : Place). place_after p line) so_far.right.place
+            ∙ ap (λ (p : LinePlace). place_after p line) so_far.right.place
             ∙ sym (place_behind-append n (lines_of whole) (line ∷ []))
             ∙ ap (λ (ls : List (List ℕ)). place_behind n ls) (sym lines);
       };
@@ -104,7 +104,7 @@ through_more tells n k next text rest line behind a b c so_far first after one =
     }
 
 -- a bad line at that place stands first in a text, whatever is after it
-pub record OpensBad (bad : Place → List ℕ → FaultKind → Type 0) (n : Place) (text : List ℕ) (found : BadLine) : Type 0 where
+pub record OpensBad (bad : LinePlace → List ℕ → FaultKind → Type 0) (n : LinePlace) (text : List ℕ) (found : BadLine) : Type 0 where
   pub line : List ℕ
   pub others : List (List ℕ)
   pub cut : lines_of text ≡ line ∷ others
@@ -112,7 +112,7 @@ pub record OpensBad (bad : Place → List ℕ → FaultKind → Type 0) (n : Pla
 
 -- a first line that is bad
 opens_first :
-    (bad : Place → List ℕ → FaultKind → Type 0) (n : Place) (rest line behind tail : List ℕ) (found : BadLine) →
+    (bad : LinePlace → List ℕ → FaultKind → Type 0) (n : LinePlace) (rest line behind tail : List ℕ) (found : BadLine) →
     IsFirstLine rest line behind → NamesBad bad n line found → OpensBad bad n (rest ++ tail) found
 opens_first bad n rest line behind tail found first named = record {
   line = line;
@@ -127,7 +127,7 @@ opens_first bad n rest line behind tail found first named = record {
 
 -- a line that is too long, before its end was read
 opens_long :
-    (bad : Place → List ℕ → FaultKind → Type 0) (n : Place) (rest tail : List ℕ) (found : BadLine) →
+    (bad : LinePlace → List ℕ → FaultKind → Type 0) (n : LinePlace) (rest tail : List ℕ) (found : BadLine) →
     HasNoFeed rest → most_line < length rest → IsFound n.number Limit rest found → OpensBad bad n (rest ++ tail) found
 opens_long bad n rest tail found none long is =
     let some : 0 < length rest = omega arith in
@@ -149,7 +149,7 @@ opens_long bad n rest tail found none long is =
 
 -- the lines of a text and of what is after it, if its lines are answered up to some place
 through_lines :
-    (tells : Place → List ℕ → List ℕ → Type 0) (n k : Place) (text rest tail output : List ℕ) →
+    (tells : LinePlace → List ℕ → List ℕ → Type 0) (n k : LinePlace) (text rest tail output : List ℕ) →
     (through : ToldThrough tells n text rest k output) →
     lines_of (text ++ tail) ≡ lines_of through.whole ++ lines_of (rest ++ tail)
 through_lines tells n k text rest tail output through =
@@ -159,7 +159,7 @@ through_lines tells n k text rest tail output through =
 
 -- the next line is bad
 through_bad :
-    (tells : Place → List ℕ → List ℕ → Type 0) (bad : Place → List ℕ → FaultKind → Type 0) (lacks : ℕ → Option FaultKind) (n k : Place)
+    (tells : LinePlace → List ℕ → List ℕ → Type 0) (bad : LinePlace → List ℕ → FaultKind → Type 0) (lacks : ℕ → Option FaultKind) (n k : LinePlace)
     (text rest a b : List ℕ) (found : BadLine) →
     Added (ToldThrough tells n text rest k) a b → ((tail : List ℕ) → OpensBad bad k (rest ++ tail) found) →
     Added (StopsWith tells bad lacks n text (Bad found)) a b
@@ -169,7 +169,7 @@ through_bad tells bad lacks n k text rest a b found so_far opens =
       more = so_far.more;
       right = λ tail.
           let opened = opens tail in
-          let named = subst (λ (p : Place). NamesBad bad p opened.line found) so_far.right.place opened.named in
+          let named = subst (λ (p : LinePlace). NamesBad bad p opened.line found) so_far.right.place opened.named in
           inl (
           subst (λ (ls : List (List ℕ)). HasBadLine tells bad n ls found so_far.more)
           (sym (through_lines tells n k text rest tail so_far.more so_far.right))
@@ -183,7 +183,7 @@ through_bad tells bad lacks n k text rest a b found so_far opens =
 
 -- answering stopped at the next line
 pub through_stopped :
-    (tells : Place → List ℕ → List ℕ → Type 0) (bad : Place → List ℕ → FaultKind → Type 0) (lacks : ℕ → Option FaultKind) (n k : Place)
+    (tells : LinePlace → List ℕ → List ℕ → Type 0) (bad : LinePlace → List ℕ → FaultKind → Type 0) (lacks : ℕ → Option FaultKind) (n k : LinePlace)
     (text rest line behind a b c : List ℕ) (why : ListStop) →
     Added (ToldThrough tells n text rest k) a b → IsFirstLine rest line behind →
     IfBad (NamesBad bad k line) why → IfBad (λ found. c ≡ b) why →
@@ -195,7 +195,7 @@ through_stopped tells bad lacks n k text rest line behind a b c (stop.Bad found)
 
 -- what is left of the text begins a line that is too long
 pub through_long :
-    (tells : Place → List ℕ → List ℕ → Type 0) (bad : Place → List ℕ → FaultKind → Type 0) (lacks : ℕ → Option FaultKind) (n k : Place)
+    (tells : LinePlace → List ℕ → List ℕ → Type 0) (bad : LinePlace → List ℕ → FaultKind → Type 0) (lacks : ℕ → Option FaultKind) (n k : LinePlace)
     (text rest a b : List ℕ) (why : ListStop) →
     Added (ToldThrough tells n text rest k) a b → HasNoFeed rest → most_line < length rest →
     IfBad (IsFound k.number Limit rest) why → IfBad (λ found. Added (StopsWith tells bad lacks n text (Bad found)) a b) why
@@ -205,7 +205,7 @@ through_long tells bad lacks n k text rest a b (stop.Bad found) so_far none long
 
 -- nothing is held at the end
 pub end_none :
-    (tells : Place → List ℕ → List ℕ → Type 0) (n : Place) (held output : List ℕ) →
+    (tells : LinePlace → List ℕ → List ℕ → Type 0) (n : LinePlace) (held output : List ℕ) →
     length held ≡ 0 → Added (AllTold tells n (lines_of held)) output output × (n ≡ place_behind n (lines_of held))
 end_none tells n [] output empty = (
   record {
@@ -219,7 +219,7 @@ end_none tells n (byte ∷ held) output empty = absurd (omega arith)
 
 -- what is held at the end is answered as the last line
 pub end_told :
-    (tells : Place → List ℕ → List ℕ → Type 0) (n : Place) (held before now : List ℕ) →
+    (tells : LinePlace → List ℕ → List ℕ → Type 0) (n : LinePlace) (held before now : List ℕ) →
     HasNoFeed held → 0 < length held → Added (LineTold tells n held) before now →
     Added (AllTold tells n (lines_of held)) before now
 end_told tells n held before now none some told = record {
@@ -232,13 +232,13 @@ end_told tells n held before now none some told = record {
 
 -- and the place after it
 pub end_place :
-    (n next : Place) (held : List ℕ) → HasNoFeed held → 0 < length held → next ≡ place_after n held →
+    (n next : LinePlace) (held : List ℕ) → HasNoFeed held → 0 < length held → next ≡ place_after n held →
     next ≡ place_behind n (lines_of held)
 end_place n next held none some after = after ∙ ap (λ (ls : List (List ℕ)). place_behind n ls) (sym (lines_of-last held none some))
 
 -- what is held at the end is bad
 pub end_stopped :
-    (tells : Place → List ℕ → List ℕ → Type 0) (bad : Place → List ℕ → FaultKind → Type 0) (lacks : ℕ → Option FaultKind) (n : Place)
+    (tells : LinePlace → List ℕ → List ℕ → Type 0) (bad : LinePlace → List ℕ → FaultKind → Type 0) (lacks : ℕ → Option FaultKind) (n : LinePlace)
     (held before now : List ℕ) (why : ListStop) →
     HasNoFeed held → 0 < length held → IfBad (NamesBad bad n held) why → IfBad (λ found. now ≡ before) why →
     IfBad (λ found. Added (ToldToBad tells bad lacks n (lines_of held) found) before now) why
@@ -255,7 +255,7 @@ end_stopped tells bad lacks n held before now (stop.Bad found) none some named s
 
 -- the lines that are answered through a text are some first lines, whatever is after it
 pub through_begins :
-    (tells : Place → List ℕ → List ℕ → Type 0) (n k : Place) (text rest tail output : List ℕ) →
+    (tells : LinePlace → List ℕ → List ℕ → Type 0) (n k : LinePlace) (text rest tail output : List ℕ) →
     ToldThrough tells n text rest k output → BeginningTold tells n (lines_of (text ++ tail)) output
 through_begins tells n k text rest tail output through = record {
   before = lines_of through.whole;

@@ -10,7 +10,7 @@ use Rattle.outside.proofs.Pieces.{appended-nil, appended-appended}
 use Rattle.text_faults.specs.declared.faults.FaultKind.{FaultKind}
 use Rattle.list_reader.specs.declared.ending.Ending.{Ending}
 use Rattle.list_reader.specs.declared.ending.Ending.TheVariants.{Memory}
-use Rattle.list_reader.specs.declared.place.Place.{Place}
+use Rattle.list_reader.specs.declared.place.LinePlace.{LinePlace}
 use Rattle.list_reader.specs.Lines.{lines_of, HasNoFeed, IsClosed}
 use Rattle.list_reader.specs.Lists.{AllTold, BeginningTold}
 use Rattle.list_reader.specs.Places.{first_place, place_behind}
@@ -24,7 +24,7 @@ use Rattle.list_reader.proofs.LeftBytes.{prepended-nil, list_is, list_ends, piec
 
 -- the lines up to that place were answered, these bytes are held after them, and each step was
 -- answered as it was read
-pub record SoFar {S K : Type 0} (tells : Place → List ℕ → List ℕ → Type 0) (left : S → Option (List ℕ)) (reads : S → Option (List ℕ) → S → Type 0) (written : K → Option (List ℕ)) (writes : K → List ℕ → ℕ → K → Type 0) (place : Place) (held : List ℕ) (source : S) (sink : K) (now_source : S) (now_sink : K) : Type 0 where
+pub record SoFar {S K : Type 0} (tells : LinePlace → List ℕ → List ℕ → Type 0) (left : S → Option (List ℕ)) (reads : S → Option (List ℕ) → S → Type 0) (written : K → Option (List ℕ)) (writes : K → List ℕ → ℕ → K → Type 0) (place : LinePlace) (held : List ℕ) (source : S) (sink : K) (now_source : S) (now_sink : K) : Type 0 where
   pub whole : List ℕ
   pub output : List ℕ
   pub count : ℕ
@@ -39,9 +39,9 @@ pub record SoFar {S K : Type 0} (tells : Place → List ℕ → List ℕ → Typ
 
 -- nothing was read
 pub so_far_none :
-    {S K : Type 0} (tells : Place → List ℕ → List ℕ → Type 0) (left : S → Option (List ℕ)) (reads : S → Option (List ℕ) → S → Type 0)
+    {S K : Type 0} (tells : LinePlace → List ℕ → List ℕ → Type 0) (left : S → Option (List ℕ)) (reads : S → Option (List ℕ) → S → Type 0)
     (written : K → Option (List ℕ)) (writes : K → List ℕ → ℕ → K → Type 0)
-    (place : Place) (held : List ℕ) (source : S) (sink : K) → place ≡ first_place → held ≡ [] →
+    (place : LinePlace) (held : List ℕ) (source : S) (sink : K) → place ≡ first_place → held ≡ [] →
     SoFar tells left reads written writes place held source sink source sink
 so_far_none tells left reads written writes place held source sink start empty =
     subst (λ (t : List ℕ). SoFar tells left reads written writes place t source sink source sink) (sym empty)
@@ -65,10 +65,10 @@ written_behind :
 written_behind before now next first second one two =
     two ∙ ap (λ (o : Option (List ℕ)). appended o second) one ∙ appended-appended before first second
 
-module _ {S K : Type 0} {tells : Place → List ℕ → List ℕ → Type 0} {left : S → Option (List ℕ)} {reads : S → Option (List ℕ) → S → Type 0} {written : K → Option (List ℕ)} {writes : K → List ℕ → ℕ → K → Type 0} {place : Place} {held : List ℕ} {source : S} {sink : K} {now_source : S} {now_sink : K} (so_far : SoFar tells left reads written writes place held source sink now_source now_sink) where
+module _ {S K : Type 0} {tells : LinePlace → List ℕ → List ℕ → Type 0} {left : S → Option (List ℕ)} {reads : S → Option (List ℕ) → S → Type 0} {written : K → Option (List ℕ)} {writes : K → List ℕ → ℕ → K → Type 0} {place : LinePlace} {held : List ℕ} {source : S} {sink : K} {now_source : S} {now_sink : K} (so_far : SoFar tells left reads written writes place held source sink now_source now_sink) where
   -- a piece was read, and the lines that it made whole were answered
   pub so_far_piece :
-      (more_place : Place) (piece more_held : List ℕ) (next_source : S) (next_sink : K) →
+      (more_place : LinePlace) (piece more_held : List ℕ) (next_source : S) (next_sink : K) →
       reads now_source (Some piece) next_source → left now_source ≡ prepended piece (left next_source) →
       Wrote written writes (ToldThrough tells place (held ++ piece) more_held more_place) now_sink next_sink →
       HasNoFeed more_held → length more_held ≤ most_line →
@@ -82,7 +82,7 @@ module _ {S K : Type 0} {tells : Place → List ℕ → List ℕ → Type 0} {le
       ap (λ (t : List ℕ). whole ++ t) through.cut ∙ sym (append_assoc whole through.whole more_held) in
       let closed = IsClosed-append whole through.whole so_far.closed through.closed in
       let more_told =
-      subst (λ (p : Place). AllTold tells p (lines_of through.whole) more.output) so_far.at through.told in
+      subst (λ (p : LinePlace). AllTold tells p (lines_of through.whole) more.output) so_far.at through.told in
       let told =
       subst (λ (ls : List (List ℕ)). AllTold tells first_place ls (so_far.output ++ more.output)) (sym all)
       (AllTold-append tells first_place (lines_of whole) (lines_of through.whole) so_far.output more.output so_far.told more_told) in
@@ -97,7 +97,7 @@ module _ {S K : Type 0} {tells : Place → List ℕ → List ℕ → Type 0} {le
         told = told;
         at =
             through.place
-            ∙ ap (λ (p : Place). place_behind p (lines_of through.whole)) so_far.at
+            ∙ ap (λ (p : LinePlace). place_behind p (lines_of through.whole)) so_far.at
             ∙ sym (place_behind-append first_place (lines_of whole) (lines_of through.whole))
             ∙ ap (λ (ls : List (List ℕ)). place_behind first_place ls) (sym all);
         wrote =
@@ -156,14 +156,14 @@ module _ {S K : Type 0} {tells : Place → List ℕ → List ℕ → Type 0} {le
     written = so_far.wrote;
   }
 
-  module _ (bad : Place → List ℕ → FaultKind → Type 0) (lacks : ℕ → Option FaultKind) (ending : Ending) where
+  module _ (bad : LinePlace → List ℕ → FaultKind → Type 0) (lacks : ℕ → Option FaultKind) (ending : Ending) where
     -- what the lines after those answered give is what the list gives
     pub gives_behind : (rest output : List ℕ) → Gives tells bad lacks place (lines_of rest) ending output → Gives tells bad lacks first_place (lines_of (so_far.whole ++ rest)) ending (so_far.output ++ output)
     gives_behind rest output gives =
         subst (λ (ls : List (List ℕ)). Gives tells bad lacks first_place ls ending (so_far.output ++ output))
         (sym (lines_of-closed so_far.whole rest so_far.closed))
         (Gives-behind tells bad lacks first_place (lines_of so_far.whole) (lines_of rest) so_far.output output ending so_far.told
-        (subst (λ (p : Place). Gives tells bad lacks p (lines_of rest) ending output) so_far.at gives))
+        (subst (λ (p : LinePlace). Gives tells bad lacks p (lines_of rest) ending output) so_far.at gives))
 
     -- the answers stopped in a piece
     pub so_far_stops : (piece : List ℕ) (last_source : S) (last_sink : K) → left now_source ≡ prepended piece (left last_source) →
@@ -227,7 +227,7 @@ module _ {S K : Type 0} {tells : Place → List ℕ → List ℕ → Type 0} {le
 
 -- nothing was read or written
 pub untouched :
-    (tells : Place → List ℕ → List ℕ → Type 0) (bad : Place → List ℕ → FaultKind → Type 0) (lacks : ℕ → Option FaultKind)
+    (tells : LinePlace → List ℕ → List ℕ → Type 0) (bad : LinePlace → List ℕ → FaultKind → Type 0) (lacks : ℕ → Option FaultKind)
     (left written : Option (List ℕ)) → TellsList tells bad lacks Memory left written written
 untouched tells bad lacks left written =
     let list = list_is left left [] (sym (prepended-nil left)) in

@@ -6,13 +6,13 @@ use Rattle.outside.proofs.Pieces.{appended-nil}
 use Rattle.text_faults.specs.declared.faults.FaultKind.{FaultKind}
 use Rattle.list_reader.specs.declared.ending.Ending.{Ending}
 use Rattle.list_reader.specs.declared.ending.Ending.TheVariants.{Done, Bad, ReadFault, WriteFault, Memory}
-use Rattle.list_reader.specs.declared.place.Place.{Place}
+use Rattle.list_reader.specs.declared.place.LinePlace.{LinePlace}
 use Rattle.list_reader.specs.Endings.{Appended, WroteUpTo}
 use Rattle.list_reader.specs.Streams.{Stage, Step, Steps, IsStream}
 
 -- one more step
 pub steps_more :
-    {S K : Type 0} (tells : Place → List ℕ → List ℕ → Type 0) (reads : S → Option (List ℕ) → S → Type 0)
+    {S K : Type 0} (tells : LinePlace → List ℕ → List ℕ → Type 0) (reads : S → Option (List ℕ) → S → Type 0)
     (writes : K → List ℕ → ℕ → K → Type 0) (count : ℕ) (first mid last : Stage S K) →
     Steps tells reads writes count first mid → Step tells reads writes mid last → Steps tells reads writes (suc count) first last
 steps_more {S} {K} tells reads writes zero first mid last steps step =
@@ -65,7 +65,7 @@ wrote_appended written writes gives none Memory first last wrote =
 
 -- nothing was read or written
 pub unread :
-    {S K : Type 0} (tells : Place → List ℕ → List ℕ → Type 0) (bad : Place → List ℕ → FaultKind → Type 0) (lacks : ℕ → Option FaultKind)
+    {S K : Type 0} (tells : LinePlace → List ℕ → List ℕ → Type 0) (bad : LinePlace → List ℕ → FaultKind → Type 0) (lacks : ℕ → Option FaultKind)
     (reads : S → Option (List ℕ) → S → Type 0) (written : K → Option (List ℕ)) (writes : K → List ℕ → ℕ → K → Type 0) (source : S) (sink : K) →
     IsStream tells bad lacks reads written writes Memory source sink source sink
 unread tells bad lacks reads written writes source sink = record {

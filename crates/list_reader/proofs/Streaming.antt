@@ -6,7 +6,7 @@ use Rattle.std.specs.declared.option.Option.{Option}
 use Rattle.std.specs.declared.option.Option.TheVariants.{Some}
 use Rattle.text_faults.specs.declared.faults.FaultKind.{FaultKind}
 use Rattle.list_reader.specs.declared.ending.Ending.{Ending}
-use Rattle.list_reader.specs.declared.place.Place.{Place}
+use Rattle.list_reader.specs.declared.place.LinePlace.{LinePlace}
 use Rattle.list_reader.specs.Lines.{lines_of}
 use Rattle.list_reader.specs.Places.{first_place}
 use Rattle.list_reader.specs.Endings.{Gives, StopsWith, WroteUpTo}
@@ -14,7 +14,7 @@ use Rattle.list_reader.specs.Streams.{Ends, IsStream, GivesAfter}
 use Rattle.list_reader.proofs.Stages.{wrote_otherwise}
 use Rattle.list_reader.proofs.Readings.{SoFar, gives_behind}
 
-module _ {S K : Type 0} {tells : Place → List ℕ → List ℕ → Type 0} {left : S → Option (List ℕ)} {reads : S → Option (List ℕ) → S → Type 0} {written : K → Option (List ℕ)} {writes : K → List ℕ → ℕ → K → Type 0} {place : Place} {held : List ℕ} {source : S} {sink : K} {now_source : S} {now_sink : K} (so_far : SoFar tells left reads written writes place held source sink now_source now_sink) (bad : Place → List ℕ → FaultKind → Type 0) (lacks : ℕ → Option FaultKind) where
+module _ {S K : Type 0} {tells : LinePlace → List ℕ → List ℕ → Type 0} {left : S → Option (List ℕ)} {reads : S → Option (List ℕ) → S → Type 0} {written : K → Option (List ℕ)} {writes : K → List ℕ → ℕ → K → Type 0} {place : LinePlace} {held : List ℕ} {source : S} {sink : K} {now_source : S} {now_sink : K} (so_far : SoFar tells left reads written writes place held source sink now_source now_sink) (bad : LinePlace → List ℕ → FaultKind → Type 0) (lacks : ℕ → Option FaultKind) where
   -- what the lines of a piece give is what the list gives, whatever stands after it
   stops_after : (piece : List ℕ) (ending : Ending) (output : List ℕ) → StopsWith tells bad lacks place (held ++ piece) ending output →
       GivesAfter tells bad lacks (so_far.whole ++ held) piece so_far.output ending output

@@ -3,7 +3,7 @@
 use Rattle.std.proofs.Common.{◌≡◌, ℕ, ◌<◌, List, [], ◌++◌, length, take, sym, subst, refl, ◌∙◌, ap}
 use Rattle.std.specs.declared.option.Option.{Option}
 use Rattle.outside.specs.Sink.{appended, IsCutOff}
-use Rattle.list_reader.specs.declared.place.Place.{Place}
+use Rattle.list_reader.specs.declared.place.LinePlace.{LinePlace}
 use Rattle.list_reader.specs.Lists.{BeginningTold, CutShort}
 use Rattle.list_reader.specs.Endings.{Added, WroteCut}
 
@@ -31,6 +31,6 @@ wrote_cut written writes holds gives start out piece first last added none same 
 
 -- a proper prefix of the answer to a beginning
 pub begun_cut :
-    (tells : Place → List ℕ → List ℕ → Type 0) (n : Place) (lines : List (List ℕ)) (bytes : List ℕ) (count : ℕ) →
+    (tells : LinePlace → List ℕ → List ℕ → Type 0) (n : LinePlace) (lines : List (List ℕ)) (bytes : List ℕ) (count : ℕ) →
     BeginningTold tells n lines bytes → count < length bytes → CutShort tells n lines (take count bytes)
 begun_cut tells n lines bytes count begun less = record { whole = bytes; count = count; of = begun; less = less; part = refl }

@@ -8,7 +8,7 @@ use Rattle.outside.specs.Source.{prepended}
 use Rattle.text_faults.specs.declared.faults.FaultKind.{FaultKind}
 use Rattle.list_reader.specs.declared.ending.Ending.{Ending}
 use Rattle.list_reader.specs.declared.ending.Ending.TheVariants.{Done, Bad, ReadFault, WriteFault, Memory}
-use Rattle.list_reader.specs.declared.place.Place.{Place}
+use Rattle.list_reader.specs.declared.place.LinePlace.{LinePlace}
 use Rattle.list_reader.specs.Lines.{lines_of, HasNoFeed, IsClosed}
 use Rattle.list_reader.specs.Lists.{AllTold, BeginningTold, WholeTold, ToldToBad, CutShort}
 use Rattle.list_reader.specs.Places.{first_place, place_behind}
@@ -16,7 +16,7 @@ use Rattle.list_reader.specs.Told.{most_line}
 
 -- what lines give up to an ending, of which the first stands at that place
 abbrev pub Gives :
-    (Place → List ℕ → List ℕ → Type 0) → (Place → List ℕ → FaultKind → Type 0) → (ℕ → Option FaultKind) → Place → List (List ℕ) → Ending →
+    (LinePlace → List ℕ → List ℕ → Type 0) → (LinePlace → List ℕ → FaultKind → Type 0) → (ℕ → Option FaultKind) → LinePlace → List (List ℕ) → Ending →
     List ℕ → Type 0
 Gives tells bad lacks place lines Done output = WholeTold tells lacks place lines output
 Gives tells bad lacks place lines (Bad found) output = ToldToBad tells bad lacks place lines found output
@@ -38,7 +38,7 @@ pub record Added (holds : List ℕ → Type 0) (before now : List ℕ) : Type 0 
 
 -- each whole line of what was read is answered, and the part of a line after them is not too long
 -- for a line
-pub record WholeLinesTold (tells : Place → List ℕ → List ℕ → Type 0) (read output : List ℕ) : Type 0 where
+pub record WholeLinesTold (tells : LinePlace → List ℕ → List ℕ → Type 0) (read output : List ℕ) : Type 0 where
   pub whole : List ℕ
   pub part : List ℕ
   pub cut : read ≡ whole ++ part
@@ -49,7 +49,7 @@ pub record WholeLinesTold (tells : Place → List ℕ → List ℕ → Type 0) (
 
 -- the lines of a text up to what is left of it are answered, of which the first stands at the first
 -- place; the next stands at the second
-pub record ToldThrough (tells : Place → List ℕ → List ℕ → Type 0) (before : Place) (text left : List ℕ) (now : Place) (output : List ℕ) : Type 0 where
+pub record ToldThrough (tells : LinePlace → List ℕ → List ℕ → Type 0) (before : LinePlace) (text left : List ℕ) (now : LinePlace) (output : List ℕ) : Type 0 where
   pub whole : List ℕ
   pub cut : text ≡ whole ++ left
   pub closed : IsClosed whole
@@ -59,7 +59,7 @@ pub record ToldThrough (tells : Place → List ℕ → List ℕ → Type 0) (bef
 -- whatever stands after the text, its lines give this up to the ending, of which the first stands
 -- at that place
 abbrev pub StopsWith :
-    (Place → List ℕ → List ℕ → Type 0) → (Place → List ℕ → FaultKind → Type 0) → (ℕ → Option FaultKind) → Place → (text : List ℕ) → Ending →
+    (LinePlace → List ℕ → List ℕ → Type 0) → (LinePlace → List ℕ → FaultKind → Type 0) → (ℕ → Option FaultKind) → LinePlace → (text : List ℕ) → Ending →
     List ℕ → Type 0
 StopsWith tells bad lacks place text ending output =
     (rest : List ℕ) → Gives tells bad lacks place (lines_of (text ++ rest)) ending output
@@ -97,13 +97,13 @@ IsLeft (Some left) bytes = left ≡ bytes
 
 -- what was written up to the ending is what the lines of a list give: of the bytes that were left
 -- of the source, if it makes them known
-pub record TellsList (tells : Place → List ℕ → List ℕ → Type 0) (bad : Place → List ℕ → FaultKind → Type 0) (lacks : ℕ → Option FaultKind) (ending : Ending) (left before now : Option (List ℕ)) : Type 0 where
+pub record TellsList (tells : LinePlace → List ℕ → List ℕ → Type 0) (bad : LinePlace → List ℕ → FaultKind → Type 0) (lacks : ℕ → Option FaultKind) (ending : Ending) (left before now : Option (List ℕ)) : Type 0 where
   pub bytes : List ℕ
   pub is_left : IsLeft left bytes
   pub gives : Appended (Gives tells bad lacks first_place (lines_of bytes) ending) before now
 
 -- what was read of a source up to what is left, and each whole line of it is answered
-pub record ReadsTold (tells : Place → List ℕ → List ℕ → Type 0) (before now : Option (List ℕ)) (output : List ℕ) : Type 0 where
+pub record ReadsTold (tells : LinePlace → List ℕ → List ℕ → Type 0) (before now : Option (List ℕ)) (output : List ℕ) : Type 0 where
   pub read : List ℕ
   pub left : before ≡ prepended read now
   pub told : WholeLinesTold tells read output

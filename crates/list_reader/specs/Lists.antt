@@ -5,32 +5,32 @@ use Rattle.std.specs.declared.option.Option.{Option}
 use Rattle.std.specs.declared.option.Option.TheVariants.{Some, None}
 use Rattle.text_faults.specs.declared.faults.FaultKind.{FaultKind}
 use Rattle.list_reader.specs.declared.ending.BadLine.{BadLine}
-use Rattle.list_reader.specs.declared.place.Place.{Place}
+use Rattle.list_reader.specs.declared.place.LinePlace.{LinePlace}
 use Rattle.list_reader.specs.Places.{place_after, place_behind}
 use Rattle.list_reader.specs.Told.{LineTold, NamesBad}
 
 -- the lines, of which the first stands at that place, have this output: the outputs of the
 -- lines in their order
-abbrev pub AllTold : (Place → List ℕ → List ℕ → Type 0) → Place → List (List ℕ) → List ℕ → Type 0
+abbrev pub AllTold : (LinePlace → List ℕ → List ℕ → Type 0) → LinePlace → List (List ℕ) → List ℕ → Type 0
 AllTold tells place [] output = output ≡ []
 AllTold tells place (line ∷ lines) output =
     (first : List ℕ) × (others : List ℕ) × (LineTold tells place line first) × (AllTold tells (place_after place line) lines others)
     × (output ≡ first ++ others)
 
 -- some first lines are answered
-pub record BeginningTold (tells : Place → List ℕ → List ℕ → Type 0) (place : Place) (lines : List (List ℕ)) (output : List ℕ) : Type 0 where
+pub record BeginningTold (tells : LinePlace → List ℕ → List ℕ → Type 0) (place : LinePlace) (lines : List (List ℕ)) (output : List ℕ) : Type 0 where
   pub before : List (List ℕ)
   pub behind : List (List ℕ)
   pub cut : lines ≡ before ++ behind
   pub told : AllTold tells place before output
 
 -- all lines are answered, and a list may end after them
-pub record WholeTold (tells : Place → List ℕ → List ℕ → Type 0) (lacks : ℕ → Option FaultKind) (place : Place) (lines : List (List ℕ)) (output : List ℕ) : Type 0 where
+pub record WholeTold (tells : LinePlace → List ℕ → List ℕ → Type 0) (lacks : ℕ → Option FaultKind) (place : LinePlace) (lines : List (List ℕ)) (output : List ℕ) : Type 0 where
   pub told : AllTold tells place lines output
   pub ends : lacks (place_behind place lines).graphs ≡ None
 
 -- the lines before the first bad one are answered, and this is found of that one
-pub record HasBadLine (tells : Place → List ℕ → List ℕ → Type 0) (bad : Place → List ℕ → FaultKind → Type 0) (place : Place) (lines : List (List ℕ)) (found : BadLine) (output : List ℕ) : Type 0 where
+pub record HasBadLine (tells : LinePlace → List ℕ → List ℕ → Type 0) (bad : LinePlace → List ℕ → FaultKind → Type 0) (place : LinePlace) (lines : List (List ℕ)) (found : BadLine) (output : List ℕ) : Type 0 where
   pub before : List (List ℕ)
   pub line : List ℕ
   pub behind : List (List ℕ)
@@ -40,7 +40,7 @@ pub record HasBadLine (tells : Place → List ℕ → List ℕ → Type 0) (bad 
 
 -- all lines are answered, and no list may end after them: the line that is missing there is found,
 -- with nothing in it
-pub record LacksLine (tells : Place → List ℕ → List ℕ → Type 0) (lacks : ℕ → Option FaultKind) (place : Place) (lines : List (List ℕ)) (found : BadLine) (output : List ℕ) : Type 0 where
+pub record LacksLine (tells : LinePlace → List ℕ → List ℕ → Type 0) (lacks : ℕ → Option FaultKind) (place : LinePlace) (lines : List (List ℕ)) (found : BadLine) (output : List ℕ) : Type 0 where
   pub told : AllTold tells place lines output
   pub ends : lacks (place_behind place lines).graphs ≡ Some found.kind
   pub number : found.number ≡ (place_behind place lines).number
@@ -48,13 +48,13 @@ pub record LacksLine (tells : Place → List ℕ → List ℕ → Type 0) (lacks
 
 -- the lines before the first that is bad or missing are answered, and this is found of that one
 abbrev pub ToldToBad :
-    (Place → List ℕ → List ℕ → Type 0) → (Place → List ℕ → FaultKind → Type 0) → (ℕ → Option FaultKind) → Place → List (List ℕ) → BadLine →
+    (LinePlace → List ℕ → List ℕ → Type 0) → (LinePlace → List ℕ → FaultKind → Type 0) → (ℕ → Option FaultKind) → LinePlace → List (List ℕ) → BadLine →
     List ℕ → Type 0
 ToldToBad tells bad lacks place lines found output =
     HasBadLine tells bad place lines found output ⊎ LacksLine tells lacks place lines found output
 
 -- a proper prefix of the answer to some first lines
-pub record CutShort (tells : Place → List ℕ → List ℕ → Type 0) (place : Place) (lines : List (List ℕ)) (output : List ℕ) : Type 0 where
+pub record CutShort (tells : LinePlace → List ℕ → List ℕ → Type 0) (place : LinePlace) (lines : List (List ℕ)) (output : List ℕ) : Type 0 where
   pub whole : List ℕ
   pub count : ℕ
   pub of : BeginningTold tells place lines whole
@@ -62,13 +62,13 @@ pub record CutShort (tells : Place → List ℕ → List ℕ → Type 0) (place 
   pub part : output ≡ take count whole
 
 -- each line has at most one output
-abbrev pub HasOneOutput : (Place → List ℕ → List ℕ → Type 0) → Type 0
-HasOneOutput tells = (place : Place) (line a b : List ℕ) → tells place line a → tells place line b → a ≡ b
+abbrev pub HasOneOutput : (LinePlace → List ℕ → List ℕ → Type 0) → Type 0
+HasOneOutput tells = (place : LinePlace) (line a b : List ℕ) → tells place line a → tells place line b → a ≡ b
 
 -- each line has at most one kind of a first fault
-abbrev pub HasOneFault : (Place → List ℕ → FaultKind → Type 0) → Type 0
-HasOneFault bad = (place : Place) (line : List ℕ) (kind other : FaultKind) → bad place line kind → bad place line other → kind ≡ other
+abbrev pub HasOneFault : (LinePlace → List ℕ → FaultKind → Type 0) → Type 0
+HasOneFault bad = (place : LinePlace) (line : List ℕ) (kind other : FaultKind) → bad place line kind → bad place line other → kind ≡ other
 
 -- no line has both an output and a fault
-abbrev pub TellsApart : (Place → List ℕ → List ℕ → Type 0) → (Place → List ℕ → FaultKind → Type 0) → Type 0
-TellsApart tells bad = (place : Place) (line output : List ℕ) (kind : FaultKind) → tells place line output → bad place line kind → ⊥
+abbrev pub TellsApart : (LinePlace → List ℕ → List ℕ → Type 0) → (LinePlace → List ℕ → FaultKind → Type 0) → Type 0
+TellsApart tells bad = (place : LinePlace) (line output : List ℕ) (kind : FaultKind) → tells place line output → bad place line kind → ⊥

@@ -8,7 +8,7 @@ use Rattle.outside.specs.Sink.{IsWritten}
 use Rattle.text_faults.specs.declared.faults.FaultKind.{FaultKind}
 use Rattle.list_reader.specs.declared.ending.Ending.{Ending}
 use Rattle.list_reader.specs.declared.ending.Ending.TheVariants.{ReadFault, Memory}
-use Rattle.list_reader.specs.declared.place.Place.{Place}
+use Rattle.list_reader.specs.declared.place.LinePlace.{LinePlace}
 use Rattle.list_reader.specs.Endings.{Gives, WholeLinesTold, WroteUpTo}
 use Rattle.list_reader.specs.Lines.{lines_of}
 use Rattle.list_reader.specs.Places.{first_place}
@@ -22,7 +22,7 @@ pub record Stage (S K : Type 0) : Type 0 where
 
 -- one read gave a piece, and then the lines that it made whole were answered and written: so each
 -- whole line of what was read is, and no part of a line is held that is too long for a line
-pub record Step {S K : Type 0} (tells : Place → List ℕ → List ℕ → Type 0) (reads : S → Option (List ℕ) → S → Type 0) (writes : K → List ℕ → ℕ → K → Type 0) (before now : Stage S K) : Type 0 where
+pub record Step {S K : Type 0} (tells : LinePlace → List ℕ → List ℕ → Type 0) (reads : S → Option (List ℕ) → S → Type 0) (writes : K → List ℕ → ℕ → K → Type 0) (before now : Stage S K) : Type 0 where
   pub piece : List ℕ
   pub more : List ℕ
   pub reading : reads before.source (Some piece) now.source
@@ -33,7 +33,7 @@ pub record Step {S K : Type 0} (tells : Place → List ℕ → List ℕ → Type
 
 -- so many steps lead from the first stage to the last
 abbrev pub Steps :
-    {S K : Type 0} → (Place → List ℕ → List ℕ → Type 0) → (S → Option (List ℕ) → S → Type 0) → (K → List ℕ → ℕ → K → Type 0) → ℕ →
+    {S K : Type 0} → (LinePlace → List ℕ → List ℕ → Type 0) → (S → Option (List ℕ) → S → Type 0) → (K → List ℕ → ℕ → K → Type 0) → ℕ →
     (first last : Stage S K) → Type 0
 Steps tells reads writes zero first last = last ≡ first
 Steps {S} {K} tells reads writes (suc count) first last =
@@ -48,14 +48,14 @@ MayFollow (byte ∷ piece) rest = Unit {0}
 -- what was written before and then gives what the lines of the list give up to an ending,
 -- whatever may stand after the piece
 abbrev pub GivesAfter :
-    (Place → List ℕ → List ℕ → Type 0) → (Place → List ℕ → FaultKind → Type 0) → (ℕ → Option FaultKind) → (read piece before : List ℕ) →
+    (LinePlace → List ℕ → List ℕ → Type 0) → (LinePlace → List ℕ → FaultKind → Type 0) → (ℕ → Option FaultKind) → (read piece before : List ℕ) →
     Ending → List ℕ → Type 0
 GivesAfter tells bad lacks read piece before ending more =
     (rest : List ℕ) → MayFollow piece rest → Gives tells bad lacks first_place (lines_of ((read ++ piece) ++ rest)) ending (before ++ more)
 
 -- one read gave a piece, and the answers ended: what was written up to the ending is what the
 -- lines of the list give, whatever may stand after the piece
-pub record EndsAfter {S K : Type 0} (tells : Place → List ℕ → List ℕ → Type 0) (bad : Place → List ℕ → FaultKind → Type 0) (lacks : ℕ → Option FaultKind) (reads : S → Option (List ℕ) → S → Type 0) (written : K → Option (List ℕ)) (writes : K → List ℕ → ℕ → K → Type 0) (ending : Ending) (before : Stage S K) (source : S) (sink : K) : Type 0 where
+pub record EndsAfter {S K : Type 0} (tells : LinePlace → List ℕ → List ℕ → Type 0) (bad : LinePlace → List ℕ → FaultKind → Type 0) (lacks : ℕ → Option FaultKind) (reads : S → Option (List ℕ) → S → Type 0) (written : K → Option (List ℕ)) (writes : K → List ℕ → ℕ → K → Type 0) (ending : Ending) (before : Stage S K) (source : S) (sink : K) : Type 0 where
   pub piece : List ℕ
   pub reading : reads before.source (Some piece) source
   pub writing : WroteUpTo written writes (GivesAfter tells bad lacks before.read piece before.output) ending before.sink sink
@@ -74,7 +74,7 @@ pub record EndsTorn {S K : Type 0} (reads : S → Option (List ℕ) → S → Ty
 
 -- how the answers end
 abbrev pub Ends :
-    {S K : Type 0} → (Place → List ℕ → List ℕ → Type 0) → (Place → List ℕ → FaultKind → Type 0) → (ℕ → Option FaultKind) →
+    {S K : Type 0} → (LinePlace → List ℕ → List ℕ → Type 0) → (LinePlace → List ℕ → FaultKind → Type 0) → (ℕ → Option FaultKind) →
     (S → Option (List ℕ) → S → Type 0) → (K → Option (List ℕ)) → (K → List ℕ → ℕ → K → Type 0) → Ending → Stage S K → S → K → Type 0
 Ends tells bad lacks reads written writes ending before source sink =
     EndsAfter tells bad lacks reads written writes ending before source sink ⊎
@@ -82,7 +82,7 @@ Ends tells bad lacks reads written writes ending before source sink =
 
 -- the list of a source was answered to a sink: so many reads and what was written after each, and
 -- then how it ended
-pub record IsStream {S K : Type 0} (tells : Place → List ℕ → List ℕ → Type 0) (bad : Place → List ℕ → FaultKind → Type 0) (lacks : ℕ → Option FaultKind) (reads : S → Option (List ℕ) → S → Type 0) (written : K → Option (List ℕ)) (writes : K → List ℕ → ℕ → K → Type 0) (ending : Ending) (source : S) (sink : K) (last_source : S) (last_sink : K) : Type 0 where
+pub record IsStream {S K : Type 0} (tells : LinePlace → List ℕ → List ℕ → Type 0) (bad : LinePlace → List ℕ → FaultKind → Type 0) (lacks : ℕ → Option FaultKind) (reads : S → Option (List ℕ) → S → Type 0) (written : K → Option (List ℕ)) (writes : K → List ℕ → ℕ → K → Type 0) (ending : Ending) (source : S) (sink : K) (last_source : S) (last_sink : K) : Type 0 where
   pub count : ℕ
   pub last : Stage S K
   pub steps : Steps tells reads writes count (record { read = []; output = []; source = source; sink = sink }) last

@@ -6,7 +6,7 @@ use Rattle.text_faults.specs.declared.faults.FaultKind.TheVariants.{Limit}
 use Rattle.list_reader.specs.declared.ending.BadLine.{BadLine}
 use Rattle.list_reader.specs.declared.ending.ListStop.{ListStop}
 use Rattle.list_reader.specs.declared.ending.ListStop.TheVariants as stop
-use Rattle.list_reader.specs.declared.place.Place.{Place}
+use Rattle.list_reader.specs.declared.place.LinePlace.{LinePlace}
 use Rattle.list_reader.specs.declared.teller.LineAnswer.{LineAnswer}
 use Rattle.list_reader.specs.declared.teller.LineAnswer.TheVariants.{Output, Bad}
 use Rattle.list_reader.specs.Headers.{is_header}
@@ -21,13 +21,13 @@ abbrev pub most_line : ℕ
 most_line = 65536
 
 -- the line at that place has this output: a header has an empty one
-abbrev pub LineTold : (Place → List ℕ → List ℕ → Type 0) → Place → List ℕ → List ℕ → Type 0
+abbrev pub LineTold : (LinePlace → List ℕ → List ℕ → Type 0) → LinePlace → List ℕ → List ℕ → Type 0
 LineTold tells place line output =
     (IsTrue (is_header place.number line) × (output ≡ [])) ⊎
     (IsFalse (is_header place.number line) × (length line ≤ most_line) × tells place line output)
 
 -- the line at that place is bad, with a first fault of this kind
-abbrev pub LineBad : (Place → List ℕ → FaultKind → Type 0) → Place → List ℕ → FaultKind → Type 0
+abbrev pub LineBad : (LinePlace → List ℕ → FaultKind → Type 0) → LinePlace → List ℕ → FaultKind → Type 0
 LineBad bad place line kind =
     ((most_line < length line) × (kind ≡ Limit)) ⊎
     (IsFalse (is_header place.number line) × (length line ≤ most_line) × bad place line kind)
@@ -38,7 +38,7 @@ IsKept line kept = (kept ≡ line) ⊎ ((most_line < length kept) × ((rest : Li
 
 -- the line at that place is bad, and this is found of it: its number, the kind of its first
 -- fault, and its text as far as it is kept
-pub record NamesBad (bad : Place → List ℕ → FaultKind → Type 0) (place : Place) (line : List ℕ) (found : BadLine) : Type 0 where
+pub record NamesBad (bad : LinePlace → List ℕ → FaultKind → Type 0) (place : LinePlace) (line : List ℕ) (found : BadLine) : Type 0 where
   pub bad_line : LineBad bad place line found.kind
   pub number : found.number ≡ place.number
   pub kept : IsKept line found.text.items

@@ -30,6 +30,6 @@ mod telling;
 
 pub use ending::{BadLine, Ending};
 pub use laws::{one_ending_law, one_output_law};
-pub use place::Place;
+pub use place::LinePlace;
 pub use reading::tell_all;
 pub use teller::{LineAnswer, LineTeller};

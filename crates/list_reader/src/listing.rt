@@ -8,7 +8,7 @@ ghost use Rattle.list_reader.specs.Told.{IfBad, most_line};
 ghost use Rattle.list_reader.specs.Endings.{Added, Gives, ToldThrough, StopsWith};
 
 use crate::ending::{ListStop, stop_at};
-use crate::place::{Place, place_after};
+use crate::place::{LinePlace, place_after};
 use crate::teller::LineTeller;
 use crate::telling::{MOST_LINE, tell_line, tell_lines};
 use std::alloc::Global;
@@ -18,7 +18,7 @@ use text_faults::FaultKind;
 #[derive(Drop)]
 pub struct Listing {
     /// The place of the next line.
-    pub place: Place,
+    pub place: LinePlace,
     /// The bytes of it that were read; its line feed has not come yet.
     pub held: Vec<u8>,
 }
@@ -28,10 +28,10 @@ pub struct Listing {
 fn tell_within_limit<'a, T: LineTeller>(
     alloc: Global,
     teller: &T,
-    first: Place,
+    first: LinePlace,
     text: &'a [u8],
     output: &mut Vec<u8>,
-) -> Result<(Place, &'a [u8]), ListStop>
+) -> Result<(LinePlace, &'a [u8]), ListStop>
     ensures told { IfOk result
         (λ found. Added (ToldThrough (T.tells teller.now) first text.now found.1.now found.0)
         output.old.items output.new.items) }
@@ -81,10 +81,10 @@ pub fn add_piece<T: LineTeller>(
 fn add_last<T: LineTeller>(
     alloc: Global,
     teller: &T,
-    place: Place,
+    place: LinePlace,
     held: &[u8],
     output: &mut Vec<u8>,
-) -> Result<Place, ListStop>
+) -> Result<LinePlace, ListStop>
     requires { HasNoFeed held.now }
     ensures told { IfOk result (λ _. Added (AllTold (T.tells teller.now) place (lines_of held.now))
         output.old.items output.new.items) }
@@ -107,7 +107,7 @@ fn add_last<T: LineTeller>(
 pub fn add_end<T: LineTeller>(
     alloc: Global,
     teller: &T,
-    place: Place,
+    place: LinePlace,
     held: &[u8],
     output: &mut Vec<u8>,
 ) -> Result<(), ListStop>

@@ -9,7 +9,7 @@ use crate::ending::ListStop;
 /// Where a line stands in a list: its number, counted from 1, and how many lines stand before it
 /// that are not the header alone.
 #[derive(Clone, Copy, Debug, PartialEq, Eq)]
-pub struct Place {
+pub struct LinePlace {
     pub number: u64,
     pub graphs: u64,
 }
@@ -38,10 +38,10 @@ pub fn is_header(number: u64, line: &[u8]) -> bool
 }
 
 // The place of the first line.
-pub fn first_place() -> Place
+pub fn first_place() -> LinePlace
     ensures { result ≡ first_place }
 {
-    Place {
+    LinePlace {
         number: 1,
         graphs: 0,
     }
@@ -49,17 +49,17 @@ pub fn first_place() -> Place
 
 // The place after the line at this place, if its number can be counted.
 #[tactic(auto, unfolding(crate::specs::Places::place_after))]
-pub fn place_after(place: Place, line: &[u8]) -> Result<Place, ListStop>
+pub fn place_after(place: LinePlace, line: &[u8]) -> Result<LinePlace, ListStop>
     ensures next { IfOk result (λ next. next ≡ place_after place line.now) }
     ensures memory { IfErr result (λ stop. stop ≡ Memory) }
 {
     let number = next_number(place.number)?;
     if is_header(place.number, line) {
         let graphs = place.graphs;
-        return Ok(Place { number, graphs });
+        return Ok(LinePlace { number, graphs });
     }
     let graphs = next_number(place.graphs)?;
-    Ok(Place { number, graphs })
+    Ok(LinePlace { number, graphs })
 }
 
 // The number after this one, if it can be counted.

@@ -2,10 +2,10 @@
 ghost use Rattle.std.specs.Prelude.{◌≡◌, ℕ, List, IfOk};
 ghost use Rattle.std.specs.declared.option.Option.{Option};
 ghost use Rattle.text_faults.specs.declared.faults.FaultKind.{FaultKind};
-ghost use Rattle.list_reader.specs.declared.place.Place.{Place};
+ghost use Rattle.list_reader.specs.declared.place.LinePlace.{LinePlace};
 ghost use Rattle.list_reader.specs.Told.{IsToldAs};
 
-use crate::place::Place;
+use crate::place::LinePlace;
 use std::alloc::{AllocError as Memory, Global};
 use text_faults::FaultKind;
 
@@ -21,16 +21,16 @@ pub enum LineAnswer {
 /// What answers the lines of a list, each by itself and its place.
 pub trait LineTeller {
     /// The line at this place has this output. A line holds its line feed, if it has one.
-    ghost tells: { Self → Place → List ℕ → List ℕ → Type 0 };
+    ghost tells: { Self → LinePlace → List ℕ → List ℕ → Type 0 };
 
     /// The line at this place is bad, with a first fault of this kind.
-    ghost bad: { Self → Place → List ℕ → FaultKind → Type 0 };
+    ghost bad: { Self → LinePlace → List ℕ → FaultKind → Type 0 };
 
     /// The kind of the fault that a list has which ends after so many graphs, if it has one.
     ghost lacks: { Self → ℕ → Option FaultKind };
 
     /// The output of a line, or the kind of its first fault.
-    fn tell(&self, alloc: Global, place: Place, line: &[u8]) -> Result<LineAnswer, Memory>
+    fn tell(&self, alloc: Global, place: LinePlace, line: &[u8]) -> Result<LineAnswer, Memory>
         ensures { IfOk result
             (IsToldAs (tells self.now place line.now) (bad self.now place line.now)) };
 

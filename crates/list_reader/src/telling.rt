@@ -7,7 +7,7 @@ ghost use Rattle.list_reader.specs.Endings.{Added, ToldThrough, StopsWith};
 
 use crate::cutting::first_line;
 use crate::ending::{ListStop, stop_at};
-use crate::place::{Place, is_header, place_after};
+use crate::place::{LinePlace, is_header, place_after};
 use crate::teller::{LineAnswer, LineTeller};
 use std::alloc::Global;
 use text_faults::FaultKind;
@@ -20,7 +20,7 @@ pub const MOST_LINE: usize = 65536;
 pub fn tell_line<T: LineTeller>(
     alloc: Global,
     teller: &T,
-    place: Place,
+    place: LinePlace,
     line: &[u8],
     output: &mut Vec<u8>,
 ) -> Result<(), ListStop>
@@ -51,10 +51,10 @@ pub fn tell_line<T: LineTeller>(
 pub fn tell_lines<'a, T: LineTeller>(
     alloc: Global,
     teller: &T,
-    first: Place,
+    first: LinePlace,
     text: &'a [u8],
     output: &mut Vec<u8>,
-) -> Result<(Place, &'a [u8]), ListStop>
+) -> Result<(LinePlace, &'a [u8]), ListStop>
     ensures told { IfOk result
         (λ found. Added (ToldThrough (T.tells teller.now) first text.now found.1.now found.0)
         output.old.items output.new.items) }

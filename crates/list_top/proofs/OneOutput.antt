@@ -10,7 +10,7 @@ use Rattle.list_reader.specs.Lines.{lines_of}
 use Rattle.list_reader.specs.Lists.{HasOneFault, HasOneOutput, TellsApart, ToldToBad}
 use Rattle.list_reader.specs.Places.{first_place}
 use Rattle.list_reader.specs.declared.ending.BadLine.{BadLine}
-use Rattle.list_reader.specs.declared.place.Place.{Place}
+use Rattle.list_reader.specs.declared.place.LinePlace.{LinePlace}
 use Rattle.list_top.specs.Listings.{IsBadLine, TellsLineOf, is_further, lacks_of}
 use Rattle.list_top.specs.Outcomes.{EndsWith, ListOutcome}
 use Rattle.list_top.specs.declared.status.ListStatus.TheVariants.{BadInput, Done}

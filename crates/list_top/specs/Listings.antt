@@ -8,21 +8,21 @@ use Rattle.text_faults.specs.declared.faults.FaultKind.TheVariants.{Extra, Missi
 use Rattle.list_lines.specs.declared.query.Query.{Query}
 use Rattle.list_lines.specs.declared.query.Query.TheVariants.{Kinds, Leaves, Graph, Select}
 use Rattle.list_lines.specs.Telling.{TellsLine, HasFault}
-use Rattle.list_reader.specs.declared.place.Place.{Place}
+use Rattle.list_reader.specs.declared.place.LinePlace.{LinePlace}
 
 -- the file of one graph is asked for, and a graph stands before the line at that place
-abbrev pub is_further : Query → Place → Bool
+abbrev pub is_further : Query → LinePlace → Bool
 is_further Kinds place = false
 is_further (Leaves order) place = false
 is_further Graph place = nat_lt 0 place.graphs
 is_further (Select property) place = false
 
 -- this output is what is asked of the graph in the line at that place
-abbrev pub TellsLineOf : Query → Place → List ℕ → List ℕ → Type 0
+abbrev pub TellsLineOf : Query → LinePlace → List ℕ → List ℕ → Type 0
 TellsLineOf query place line output = IsFalse (is_further query place) × TellsLine query place.number line output
 
 -- the line at that place is bad: a further line if one is asked for, or it stands for no graph
-abbrev pub IsBadLine : Query → Place → List ℕ → FaultKind → Type 0
+abbrev pub IsBadLine : Query → LinePlace → List ℕ → FaultKind → Type 0
 IsBadLine query place line kind =
     (IsTrue (is_further query place) × (kind ≡ Extra)) ⊎ (IsFalse (is_further query place) × HasFault line kind)
 

@@ -3,7 +3,7 @@ ghost use Rattle.std.specs.Prelude.{◌≡◌};
 ghost use Rattle.list_top.specs.Listings.{TellsLineOf, IsBadLine, is_further, lacks_of};
 
 use list_lines::{Query, tell};
-use list_reader::{LineAnswer, LineTeller, Place};
+use list_reader::{LineAnswer, LinePlace, LineTeller};
 use std::alloc::{AllocError as Memory, Global};
 use text_faults::FaultKind;
 
@@ -14,7 +14,7 @@ pub struct Lister {
 }
 
 // Whether the file of one graph is asked for, and a graph stands before the line at that place.
-fn is_further(query: &Query, place: Place) -> bool
+fn is_further(query: &Query, place: LinePlace) -> bool
     ensures { result ≡ is_further query.now place }
 {
     match query {
@@ -30,7 +30,7 @@ impl LineTeller for Lister {
 
     ghost lacks = { λ lister graphs. lacks_of lister.query graphs };
 
-    fn tell(&self, alloc: Global, place: Place, line: &[u8]) -> Result<LineAnswer, Memory> {
+    fn tell(&self, alloc: Global, place: LinePlace, line: &[u8]) -> Result<LineAnswer, Memory> {
         if is_further(&self.query, place) {
             let kind = FaultKind::Extra;
             return Ok(LineAnswer::Bad { kind });

@@ -4,7 +4,7 @@ ghost use Rattle.std.specs.Prelude.{◌==◌, if◌then◌else◌};
 ghost use Rattle.std.specs.declared.option.Option.TheVariants.{Some, None};
 ghost use Rattle.text_faults.specs.declared.faults.FaultKind.TheVariants.{Missing};
 
-use list_reader::{Ending, LineAnswer, LineTeller, Place, tell_all};
+use list_reader::{Ending, LineAnswer, LinePlace, LineTeller, tell_all};
 use outside::{MemSink, MemSource};
 use std::alloc::{AllocError as Memory, Global};
 use std::test::Fail;
@@ -21,7 +21,7 @@ impl LineTeller for Copyist {
 
     ghost lacks = { λ copyist graphs. if graphs == 0 then Some Missing else None };
 
-    fn tell(&self, alloc: Global, place: Place, line: &[u8]) -> Result<LineAnswer, Memory> {
+    fn tell(&self, alloc: Global, place: LinePlace, line: &[u8]) -> Result<LineAnswer, Memory> {
         if line.contains(&b'!') {
             let kind = FaultKind::Range;
             return Ok(LineAnswer::Bad { kind });
