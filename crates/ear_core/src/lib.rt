@@ -26,8 +26,8 @@
 //! or two do by the two-ear theorem. Where two do, a matching that leads out at two vertices alone
 //! is sought first: it makes a single ear.
 //!
-//! Stands on `match_core`, `allowed_edges`, `graph_facts` and `two_ears`. Source: Lovász and Plummer, "Matching
-//! Theory", chapter 5.
+//! Stands on `match_core`, `allowed_edges`, `graph_facts` and `two_ears`. Source: Lovász and
+//! Plummer, "Matching Theory", chapter 5.
 #![tactic(auto)]
 
 mod asking;

@@ -38,7 +38,7 @@ impl<'g> Model for Covered<'g> {
 
 impl<'g> Covered<'g> {
     /// The graph as a covered one, or the first reason why it is not matching covered, in the
-    /// order: `Small`, `Parted`, `Unmatched`, `Unallowed`. Nothing is sought behind the first.
+    /// order: `Small`, `Parted`, `Unmatched`, `Unallowed`. Nothing is sought after the first.
     pub fn of(alloc: Global, g: &'g MultiGraph) -> Result<Result<Covered<'g>, Reason>, Memory>
         ensures covered { IfOk result (λ r. IfOk r (λ c. c ≡ g.now)) }
         ensures reason { IfOk result

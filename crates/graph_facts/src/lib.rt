@@ -5,11 +5,11 @@
 //! (`AreFacts`). All is made by `Facts::of` with one search each, and read from then on: the
 //! verdict, the allowed edges and the numbers of a report take no further search.
 //!
-//! `Covered` is a matching covered graph with a perfect matching, its table of partners and one side
-//! where it is bipartite (`AreCoveredFacts`). Contracts see it as the graph itself, and its
+//! `Covered` is a matching covered graph with a perfect matching, its table of partners and one
+//! side where it is bipartite (`AreCoveredFacts`). Contracts see it as the graph itself, and its
 //! invariant says that the graph is covered (`IsCovered`): who holds one has no need to test it
 //! again. `Covered::of` answers one, or the first reason why the graph is not covered, and seeks
-//! nothing behind that reason; one flood (`layers`) tells whether the graph is connected and has
+//! nothing after that reason; one flood (`layers`) tells whether the graph is connected and has
 //! two sides. `Covered::known` takes a graph that a theorem says to be covered, and
 //! `Covered::from_facts` one of which the facts are at hand. `keeps_covered` states the fact,
 //! `table` answers the table of partners, and `matching` a perfect matching. `Bipartite` is a

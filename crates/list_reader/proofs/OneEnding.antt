@@ -54,7 +54,7 @@ module _ (tells : LinePlace → List ℕ → List ℕ → Type 0) (bad : LinePla
   all_not_bad place [] line behind kind output told is = told_not_bad place line told.0 kind told.2 is
   all_not_bad place (first ∷ before) line behind kind output told is = all_not_bad (place_after place first) before line behind kind told.1 told.3 is
 
-  -- two first bad lines stand behind the same lines
+  -- two first bad lines stand after the same lines
   same_before :
       (place : LinePlace) (before others : List (List ℕ)) (line another : List ℕ) (behind rest : List (List ℕ)) (kind other : FaultKind) (a b : List ℕ) →
       before ++ line ∷ behind ≡ others ++ another ∷ rest → AllTold tells place before a → AllTold tells place others b →

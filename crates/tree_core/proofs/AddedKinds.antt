@@ -1,5 +1,5 @@
--- The kinds of the leaves of two lists, one behind the other, and of one leaf. What stands at a
--- place of the first list stays, and what stands behind it comes from the second.
+-- The kinds of the leaves of two lists, one after the other, and of one leaf. What stands at a
+-- place of the first list stays, and what stands after it comes from the second.
 use Rattle.std.proofs.Common.{◌≡◌, ℕ, ◌-◌, List, [], ◌∷◌, ◌++◌, length, ap, ap₂, refl, subst, subst₂, sym, ◌∙◌, inl, inr, arith, get_or, append_assoc}
 use Rattle.std.proofs.Math.ListN.{get_or-append}
 use Rattle.std.proofs.Math.Seq.{get_or-append_right}
@@ -48,6 +48,6 @@ adds-both g ps qs before between now a b = record {
   behind = b.behind ∙ ap (λ (ks : List LeafKind). ks ++ b.kinds) a.behind ∙ append_assoc before a.kinds b.kinds;
 }
 
--- and behind none they are all
+-- and after none they are all
 pub adds-all : (g : Graph) (ps : List (List (List ℕ))) (now : List LeafKind) → AddsKinds g ps [] now → AreLeafKinds g ps now
 adds-all g ps now a = subst (AreLeafKinds g ps) (sym a.behind) a.right
