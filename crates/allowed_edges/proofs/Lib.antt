@@ -6,5 +6,4 @@ pub mod ThroughEdges
 pub mod MarkedPairs
 pub mod PairSteps
 pub mod AllowedPartners
-pub mod CutEnds
 pub mod ListedBases

@@ -3,13 +3,13 @@
 -- that no listed one holds.
 use Rattle.std.proofs.Common.{◌≡◌, ◌≢◌, ℕ, ◌+◌, ◌-◌, ◌<◌, true, false, ◌&&◌, ◌||◌, ◌==◌, ◌↔◌, List, [], ◌∷◌, ◌++◌, length, get_or, map, filter, refl, sym, ap, ap₂, ◌∙◌, arith, inl, inr, subst, eqb-true, length-append}
 use Rattle.std.specs.Prelude.{All, Any}
-use Rattle.counting.proofs.Common.{and_from, and_parts, both_ways, cases_eq, cases_order, false_from_ne_true, or_cases, or_left, or_right, get_or_append_left, map-append, list_any-append, two_members, and_comm, or_false}
+use Rattle.counting.proofs.Common.{and_from, and_parts, both_ways, cases_eq, cases_order, false_from_ne_true, or_cases, or_left, or_right, get_or_append_left, map-append, list_any-append, and_comm, or_false}
 use Rattle.std.proofs.Math.Seq.{get_or-append_seam}
 use Rattle.std.proofs.lemmas.List.Elements.{All-push}
 use Rattle.std.proofs.lemmas.List.Folds.{Any-from_list_any, list_any_at}
 use Rattle.std.specs.List.{list_any}
 use Rattle.counting.specs.Common.{Within, IsRisingIn, mem, none}
-use Rattle.graph_core.specs.Common.{Graph, IsGraph, first_end, in_cut, second_end, size, Allowed, HasPerfect, IsEnd, IsPerfect, Together, IsLean, IsPairList, IsTight}
+use Rattle.graph_core.specs.Common.{Graph, IsGraph, first_end, second_end, size, HasPerfect, IsEnd, IsPerfect, Together, IsLean, IsPairList}
 use Rattle.graph_core.proofs.Common.{two_ends_le_degree}
 use Rattle.match_core.specs.MatchingRows.{IsOf, KeepsMatching, MatchingValue, edges_of, is_clear}
 use Rattle.match_core.specs.declared.matching.MatchRow.{MatchRow}
@@ -169,16 +169,6 @@ apart_shared g e f v d we wf wv pe pf t =
     let o = t.1.once v wv refl in
     absurd (omega arith)
 
--- nor do two edges in a tight cut
-pub apart_cut : (g : Graph) (e f : ℕ) (shores : List (List ℕ)) → e ≢ f → Within (size g) e → Within (size g) f → All (λ s. IsTight g (mem s)) shores → list_any (λ s. in_cut g (mem s) e && in_cut g (mem s) f) shores ≡ true → Together g e f → ⊥
-apart_cut g e f shores d we wf tight h t =
-    let a = Any-from_list_any (λ s. in_cut g (mem s) e && in_cut g (mem s) f) shores h in
-    let cut = and_parts (in_cut g (mem a.1) e) (in_cut g (mem a.1) f) a.4 in
-    let alone : IsTight g (mem a.1) = subst (λ (s : List ℕ). IsTight g (mem s)) a.3 (tight a.0 a.1 a.2) in
-    let one = alone.cut t.0 t.1 in
-    let two = two_members (size g) (λ k. t.0 k && in_cut g (mem a.1) k) e f we wf d (and_from (t.0 e) (in_cut g (mem a.1) e) t.2 cut.0) (and_from (t.0 f) (in_cut g (mem a.1) f) t.3 cut.1) in
-    absurd (omega arith)
-
 -- lying together does not depend on the order
 turned : (g : Graph) (e f : ℕ) → Together g e f → Together g f e
 turned g e f t = (t.0, t.1, t.3, t.2)
@@ -186,19 +176,6 @@ turned g e f t = (t.0, t.1, t.3, t.2)
 held_turned : (ms : List (List ℕ)) (e f : ℕ) → holds_both ms e f ≡ holds_both ms f e
 held_turned [] e f = refl
 held_turned (m ∷ ms) e f = ap (λ b. b || holds_both ms e f) (and_comm (mem m e) (mem m f)) ∙ ap (λ b. (mem m f && mem m e) || b) (held_turned ms e f)
-
--- of the edges below f, and for f of those below e, the pairs are settled
-pub known_beside : (g : Graph) (e f d : ℕ) (p : PairsValue) → SettlesPairs g e f p → Within (size g) e → Within (size g) d → d < f → d ≢ e → Together g e d → holds_both (edge_lists p) e d ≡ true
-known_beside g e f d p s we wd l apart t = elim (cases_order d e) [
-  | inl q ↦ absurd (apart q)
-  | inr r ↦ elim r [
-    | inl l ↦ held_turned (edge_lists p) e d ∙ s.edges.done d e wd we l (omega arith) (turned g e d t)
-    | inr k ↦ s.done d wd k l t
-  ]
-]
-
-pub known_across : (g : Graph) (e f d : ℕ) (p : PairsValue) → SettlesEdges g e p → Within (size g) f → Within (size g) d → d < e → e < f → Together g f d → holds_both (edge_lists p) f d ≡ true
-known_across g e f d p s wf wd l above t = held_turned (edge_lists p) f d ∙ s.done d f wd wf l (omega arith) (turned g f d t)
 
 -- some listed matching has both
 one_holds : (p : PairsValue) (e f : ℕ) → holds_both (edge_lists p) e f ≡ true → Any (λ (m : List ℕ). (mem m e ≡ true) × (mem m f ≡ true)) (edge_lists p)
@@ -209,9 +186,6 @@ one_holds p e f h =
 -- edges that a listed matching holds lie together
 pub held_together : (g : Graph) (k : ℕ) (p : PairsValue) → SettlesEdges g k p → (e f : ℕ) → holds_both (edge_lists p) e f ≡ true → Together g e f
 held_together g k p s e f h = let a = one_holds p e f h in (mem a.1, subst (λ (m : List ℕ). IsPerfect g none (mem m)) a.3 (s.grown.perfect a.0 a.1 a.2), a.4.0, a.4.1)
-
-pub held_allowed : (g : Graph) (k : ℕ) (p : PairsValue) → SettlesEdges g k p → (d : ℕ) → holds_both (edge_lists p) d d ≡ true → Allowed g d
-held_allowed g k p s d h = let t = held_together g k p s d d h in (t.0, t.1, t.2)
 
 -- all edges
 module _ (g : Graph) (p : PairsValue) (s : SettlesEdges g (size g + 1) p) where

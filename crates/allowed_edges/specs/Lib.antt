@@ -1,4 +1,3 @@
-pub mod CutEnds
 pub mod Leaving
 pub mod EdgeTables
 pub mod PairTables

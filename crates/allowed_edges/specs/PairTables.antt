@@ -1,7 +1,7 @@
 -- Tables of pairs: perfect matchings, among them for each two edges that lie together one with
 -- both.
 -- Stated by: allowed_edges, tight_cuts.
-use Rattle.std.specs.Prelude.{◌≡◌, ℕ, ◌≤◌, ◌<◌, ◌⊎◌, Bool, true, ◌&&◌, List, [], ◌∷◌, ◌++◌, map, All}
+use Rattle.std.specs.Prelude.{◌≡◌, ℕ, ◌≤◌, ◌<◌, ◌⊎◌, Bool, true, false, ◌&&◌, List, [], ◌∷◌, ◌++◌, map, All}
 use Rattle.std.specs.List.{list_any}
 use Rattle.counting.specs.Common.{Within, IsRisingIn, mem, none}
 use Rattle.graph_core.specs.Common.{Graph, first_end, second_end, size, IsPerfect, Together, IsLean}
@@ -32,6 +32,14 @@ pub record IsPerfectWith (g : Graph) (e : ℕ) (m : MatchingValue) : Type 0 wher
   pub of : IsOf g m
   pub perfect : IsPerfect g none (mem (edges_of m))
   pub held : mem (edges_of m) e ≡ true
+
+-- m is a perfect matching of g that holds an edge, or two, that no matching of p holds
+pub record IsNew (g : Graph) (p : PairsValue) (m : MatchingValue) : Type 0 where
+  pub one : ℕ
+  pub other : ℕ
+  pub with : IsPerfectWith g one m
+  pub held : mem (edges_of m) other ≡ true
+  pub new : holds_both (edge_lists p) one other ≡ false
 
 -- the row names edge k of g at both of its ends
 pub record NamesEdge (g : Graph) (at : List ℕ) (k : ℕ) : Type 0 where

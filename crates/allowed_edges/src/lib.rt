@@ -11,8 +11,8 @@
 //! Two edges lie together if some perfect matching contains both (`Together`). `together` answers
 //! a `PairTable`: `both` is true exactly for the edges that lie together, and `list` is a pair
 //! list (`IsPairList`), in which each matching holds an edge or a pair of edges that no earlier
-//! one holds (`IsLean`). `no_pairs` begins a table, `seek_pair` lists a matching for one pair, and
-//! `complete_pairs` does the rest.
+//! one holds (`IsLean`). A caller that needs a few matchings begins a table by `no_pairs` and lists
+//! what it needs by `seek_pair`, `list_with_edge` and `list_new`; it stays lean (`SettlesEdges`).
 //!
 //! Each question on a pair is answered from a perfect matching at hand by one augmentation at
 //! most. What is found is varied along short alternating cycles before it is listed, so that it
@@ -24,7 +24,6 @@
 mod bases;
 mod edges;
 mod exchanges;
-mod known_pairs;
 mod pair_table;
 mod pairs;
 mod perfect;
@@ -38,8 +37,8 @@ mod verdict;
 pub use bases::base_with_edge;
 pub use edges::{allowed, allowed_in, is_allowed_in};
 pub use pair_table::PairTable;
-pub use pairs::{complete_pairs, no_pairs, seek_pair, together, together_beside};
+pub use pairs::{list_new, list_with_edge, no_pairs, seek_pair, together};
 pub use perfect::partners_where_perfect;
 pub use questions::{perfect_with_edge, perfect_with_pair};
-pub use sharing::{in_some_cut, share_end};
+pub use sharing::share_end;
 pub use verdict::{covered, first_unallowed, verdict_in};

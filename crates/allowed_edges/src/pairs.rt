@@ -1,16 +1,15 @@
 //! The pairs of edges that lie together in a perfect matching.
 ghost use Rattle.std.specs.Prelude.{◌≡◌, ◌≢◌, ℕ, ◌+◌, ◌<◌, ◌≤◌, ◌++◌, ◌∷◌, [], ◌↔◌, true, false, length, IfOk, All, OnOk};
 ghost use Rattle.counting.specs.Common.{Within, none, mem};
-ghost use Rattle.graph_core.specs.Common.{size, IsPerfect, Together, IsLean, IsPairList, IsTight};
+ghost use Rattle.graph_core.specs.Common.{size, Allowed, IsPerfect, Together, IsLean, IsPairList};
 ghost use Rattle.match_core.specs.MatchingRows.{IsOf, edges_of};
 ghost use Rattle.allowed_edges.specs.Leaving.{share_end};
-ghost use Rattle.allowed_edges.specs.PairTables.{IsPerfectWith, SettlesEdges, SettlesPairs, Sought, edge_lists, holds_both};
+ghost use Rattle.allowed_edges.specs.PairTables.{IsNew, IsPerfectWith, SettlesEdges, SettlesPairs, Sought, edge_lists, holds_both};
 
 use crate::bases::{base_with_edge, copied};
-use crate::known_pairs::is_known_apart;
 use crate::pair_table::PairTable;
-use crate::questions::perfect_with_pair;
-use crate::sharing::{share_cut, share_end};
+use crate::questions::{perfect_with_edge, perfect_with_pair};
+use crate::sharing::share_end;
 use graph_core::MultiGraph;
 use match_core::{Matching, perfect_without};
 use std::alloc::{AllocError as Memory, Global};
@@ -30,23 +29,8 @@ pub fn together(alloc: Global, g: &MultiGraph) -> Result<PairTable, Memory>
         (λ pairs. (e f : ℕ) → Within (size g.now) e → Within (size g.now) f →
         (holds_both (edge_lists pairs) e f ≡ true) ↔ Together g.now e f) }
 {
-    together_beside(alloc, g, &[])
-}
-
-/// A table as `together` answers it, where the cuts of these shores are tight. Two edges in one
-/// of these cuts lie in no perfect matching together, so nothing is asked of them.
-pub fn together_beside(alloc: Global, g: &MultiGraph, shores: &[VSet]) -> Result<PairTable, Memory>
-    requires { All (λ s. IsTight g.now (mem s)) shores.now }
-    ensures size { IfOk result (λ pairs. pairs.size ≡ size g.now) }
-    ensures of { IfOk result (λ pairs. All (IsOf g.now) pairs.list) }
-    ensures list { IfOk result (λ pairs. IsPairList g.now (edge_lists pairs)) }
-    ensures lean { IfOk result (λ pairs. IsLean (edge_lists pairs)) }
-    ensures both { IfOk result
-        (λ pairs. (e f : ℕ) → Within (size g.now) e → Within (size g.now) f →
-        (holds_both (edge_lists pairs) e f ≡ true) ↔ Together g.now e f) }
-{
     let mut pairs = no_pairs(alloc, g)?;
-    complete_pairs(alloc, g, shores, &mut pairs)?;
+    complete_pairs(alloc, g, &mut pairs)?;
     Ok(pairs)
 }
 
@@ -56,24 +40,6 @@ pub fn no_pairs(alloc: Global, g: &MultiGraph) -> Result<PairTable, Memory>
 {
     let pairs = PairTable::new(alloc, g)?;
     Ok(pairs)
-}
-
-/// Completes a table in which some matchings are listed: it is then as `together_beside` answers it
-/// for these shores.
-pub fn complete_pairs(
-    alloc: Global,
-    g: &MultiGraph,
-    shores: &[VSet],
-    pairs: &mut PairTable,
-) -> Result<(), Memory>
-    requires shores { All (λ s. IsTight g.now (mem s)) shores.now }
-    requires begun { SettlesEdges g.now 1 pairs.old }
-    ensures { IfOk result (λ _. SettlesEdges g.now (size g.now + 1) pairs.new) }
-{
-    match perfect_without(alloc, g, VSet::empty())? {
-        None => Ok(()),
-        Some(kept) => settle_edges(alloc, g, shores, &kept, pairs),
-    }
 }
 
 /// Seeks a perfect matching that holds `e` and `f` if no listed one holds both, and lists it. The
@@ -103,22 +69,69 @@ pub fn seek_pair(
     Ok(next)
 }
 
-// Settles all edges.
+/// Lists a perfect matching that holds an edge, or two, that no listed one holds.
+pub fn list_new(g: &MultiGraph, pairs: &mut PairTable, found: Matching) -> Result<(), Memory>
+    requires begun { SettlesEdges g.now 1 pairs.old }
+    requires new { IsNew g.now pairs.old found }
+    ensures begun { IfOk result (λ _. SettlesEdges g.now 1 pairs.new) }
+    ensures list { IfOk result (λ _. pairs.new.list ≡ pairs.old.list ++ found ∷ []) }
+{
+    found.keeps_matching();
+    pairs.add(found)?;
+    Ok(())
+}
+
+/// Lists a perfect matching that holds `e` if there is one and no listed one does, by one
+/// augmentation of `kept` at most.
+pub fn list_with_edge(
+    alloc: Global,
+    g: &MultiGraph,
+    kept: &Matching,
+    pairs: &mut PairTable,
+    e: u32,
+) -> Result<(), Memory>
+    requires edge { Within (size g.now) e }
+    requires of { IsOf g.now kept.now }
+    requires perfect { IsPerfect g.now none (mem (edges_of kept.now)) }
+    requires begun { SettlesEdges g.now 1 pairs.old }
+    ensures begun { IfOk result (λ _. SettlesEdges g.now 1 pairs.new) }
+    ensures held { IfOk result
+        (λ _. Allowed g.now e → holds_both (edge_lists pairs.new) e e ≡ true) }
+{
+    if pairs.both(e, e) {
+        return Ok(());
+    }
+    match perfect_with_edge(alloc, g, kept, e)? {
+        Some(found) => list_new(g, pairs, found),
+        None => Ok(()),
+    }
+}
+
+// Settles all edges, if there is a perfect matching.
+fn complete_pairs(alloc: Global, g: &MultiGraph, pairs: &mut PairTable) -> Result<(), Memory>
+    requires { SettlesEdges g.now 1 pairs.old }
+    ensures { IfOk result (λ _. SettlesEdges g.now (size g.now + 1) pairs.new) }
+{
+    match perfect_without(alloc, g, VSet::empty())? {
+        None => Ok(()),
+        Some(kept) => settle_edges(alloc, g, &kept, pairs),
+    }
+}
+
+// Settles all edges, from a perfect matching.
 fn settle_edges(
     alloc: Global,
     g: &MultiGraph,
-    shores: &[VSet],
     kept: &Matching,
     pairs: &mut PairTable,
 ) -> Result<(), Memory>
-    requires shores { All (λ s. IsTight g.now (mem s)) shores.now }
     requires of { IsOf g.now kept.now }
     requires perfect { IsPerfect g.now none (mem (edges_of kept.now)) }
     requires begun { SettlesEdges g.now 1 pairs.old }
     ensures { IfOk result (λ _. SettlesEdges g.now (size g.now + 1) pairs.new) }
 {
     for k in 0..g.size() {
-        settle_edge(alloc, g, shores, kept, pairs, k + 1)?;
+        settle_edge(alloc, g, kept, pairs, k + 1)?;
     }
     Ok(())
 }
@@ -127,12 +140,10 @@ fn settle_edges(
 fn settle_edge(
     alloc: Global,
     g: &MultiGraph,
-    shores: &[VSet],
     kept: &Matching,
     pairs: &mut PairTable,
     e: u32,
 ) -> Result<(), Memory>
-    requires shores { All (λ s. IsTight g.now (mem s)) shores.now }
     requires edge { Within (size g.now) e }
     requires of { IsOf g.now kept.now }
     requires perfect { IsPerfect g.now none (mem (edges_of kept.now)) }
@@ -142,7 +153,7 @@ fn settle_edge(
     match base_with_edge(alloc, g, kept, pairs, e)? {
         None => Ok(()),
         Some(base) => {
-            let last = settle_pairs(alloc, g, shores, base, pairs, e)?;
+            let last = settle_pairs(alloc, g, base, pairs, e)?;
             list_unless_held(g, pairs, last, e)
         }
     }
@@ -154,12 +165,10 @@ fn settle_edge(
 fn settle_pairs(
     alloc: Global,
     g: &MultiGraph,
-    shores: &[VSet],
     base: Matching,
     pairs: &mut PairTable,
     e: u32,
 ) -> Result<Matching, Memory>
-    requires shores { All (λ s. IsTight g.now (mem s)) shores.now }
     requires edge { Within (size g.now) e }
     requires base { IsPerfectWith g.now e base }
     requires before { SettlesEdges g.now e pairs.old }
@@ -168,7 +177,7 @@ fn settle_pairs(
 {
     let mut kept = base;
     for k in e..g.size() {
-        kept = settle_pair(alloc, g, shores, kept, pairs, e, k + 1)?;
+        kept = settle_pair(alloc, g, kept, pairs, e, k + 1)?;
     }
     Ok(kept)
 }
@@ -177,13 +186,11 @@ fn settle_pairs(
 fn settle_pair(
     alloc: Global,
     g: &MultiGraph,
-    shores: &[VSet],
     kept: Matching,
     pairs: &mut PairTable,
     e: u32,
     f: u32,
 ) -> Result<Matching, Memory>
-    requires shores { All (λ s. IsTight g.now (mem s)) shores.now }
     requires edge { Within (size g.now) e }
     requires other { Within (size g.now) f }
     requires above { e < f }
@@ -193,7 +200,7 @@ fn settle_pair(
     ensures next { IfOk result (IsPerfectWith g.now e) }
 {
     g.keeps_limits();
-    if is_settled(g, shores, pairs, e, f) {
+    if is_settled(g, pairs, e, f) {
         return Ok(kept);
     }
     list_pair(alloc, g, kept, pairs, e, f)
@@ -241,9 +248,8 @@ fn listed(alloc: Global, pairs: &mut PairTable, found: Matching) -> Result<Match
 }
 
 // Whether nothing has to be asked of two edges: a listed matching contains both, or they share an
-// end or a tight cut, or pairs settled before show that they do not lie together.
-fn is_settled(g: &MultiGraph, shores: &[VSet], pairs: &PairTable, e: u32, f: u32) -> bool
-    requires shores { All (λ s. IsTight g.now (mem s)) shores.now }
+// end.
+fn is_settled(g: &MultiGraph, pairs: &PairTable, e: u32, f: u32) -> bool
     requires edge { Within (size g.now) e }
     requires other { Within (size g.now) f }
     requires above { e < f }
@@ -257,13 +263,7 @@ fn is_settled(g: &MultiGraph, shores: &[VSet], pairs: &PairTable, e: u32, f: u32
     if pairs.both(e, f) {
         return true;
     }
-    if share_end(g, e, f) {
-        return true;
-    }
-    if share_cut(g, shores, e, f) {
-        return true;
-    }
-    is_known_apart(g, shores, pairs, e, f)
+    share_end(g, e, f)
 }
 
 // Lists a perfect matching that holds `e`, unless a listed one holds it; the pairs of `e` are

@@ -1,5 +1,5 @@
 use Rattle.allowed_edges.proofs.PairSteps.{settled_both, settled_pairs}
-use Rattle.allowed_edges.proofs.pairs.together_beside.Goals as goal
+use Rattle.allowed_edges.proofs.pairs.together.Goals as goal
 
 pub returns-clause-list : goal.returns-clause-list
 returns-clause-list c = settled_pairs c.args.g.now c.complete_pairs.new.pairs c.in_ok-complete_pairs.ensures
