@@ -18,7 +18,7 @@ use Rattle.line_text.proofs.Decimals.{is_word-decimal, words-decimal}
 use Rattle.line_text.proofs.WrittenLines.{spaced, unwords-spaced}
 use Rattle.report_text.specs.Comments.{HasFewLeaves, IsCommented}
 use Rattle.report_text.specs.Derivations.{adjacent_line, adjacent_lines, block_lines, derivation_text, leaf_line, leaf_lines, leaf_text, name_at, tally_line}
-use Rattle.report_text.specs.Words.{kind_word}
+use Rattle.report_text.specs.Words.{leaf_kind_word}
 use Rattle.report_text.specs.Reports.{list_line, name_line, name_lines, numbers_text, with_names_text}
 use Rattle.tree_core.specs.Common.{leaf_at, is_brick, kind_at, tally_of}
 use Rattle.tree_core.specs.declared.tallies.LeafKind.{LeafKind}
@@ -32,14 +32,14 @@ numbers-spaced [] = refl
 numbers-spaced (n ∷ ns) = ap (λ (t : List ℕ). 32 ∷ (decimal n ++ t)) (numbers-spaced ns)
 
 -- the word of a kind is one
-is_word-kind : (kind : LeafKind) → is_word (kind_word kind) ≡ true
+is_word-kind : (kind : LeafKind) → is_word (leaf_kind_word kind) ≡ true
 is_word-kind Brick = refl
 is_word-kind Brace = refl
 
 -- the line of a leaf
 leaf-commented : (number : ℕ) (kind : LeafKind) → number < 10 ^ 9 → IsCommented [] (leaf_line number kind)
 leaf-commented number kind small =
-    commented-line (leaf_line number kind) (codes "c" ∷ codes "leaf" ∷ decimal number ∷ kind_word kind ∷ [])
+    commented-line (leaf_line number kind) (codes "c" ∷ codes "leaf" ∷ decimal number ∷ leaf_kind_word kind ∷ [])
     (record { skipped = refl; each = (refl, (refl, (is_word-decimal number small, (is_word-kind kind, tt)))) })
     (simp append_assoc)
 

@@ -8,14 +8,14 @@ use Rattle.std.specs.Fmt.{decimal}
 use Rattle.counting.specs.Common.{last_of}
 use Rattle.graph_core.specs.Common.{Graph, size, first_end, second_end, block, quotient, remembered}
 use Rattle.report_text.specs.Reports.{list_line, numbers_text}
-use Rattle.report_text.specs.Words.{kind_word, tally_end}
+use Rattle.report_text.specs.Words.{leaf_kind_word, tally_end}
 use Rattle.tree_core.specs.Common.{leaf_at, kind_at, tally_of}
 use Rattle.tree_core.specs.declared.tallies.LeafKind.{LeafKind}
 use Rattle.tree_core.specs.declared.tallies.Tally.{Tally}
 
 -- the line of a leaf with its number
 abbrev pub leaf_line : ℕ → LeafKind → List ℕ
-leaf_line number kind = codes "c leaf " ++ decimal number ++ codes " " ++ kind_word kind ++ codes "\n"
+leaf_line number kind = codes "c leaf " ++ decimal number ++ codes " " ++ leaf_kind_word kind ++ codes "\n"
 
 -- the lines of the first blocks, so many
 abbrev pub block_lines : List (List ℕ) → ℕ → List ℕ

@@ -7,7 +7,7 @@ use Rattle.graph_core.specs.declared.verdict.Reason.{Reason}
 use Rattle.graph_core.specs.declared.verdict.Reason.TheVariants.{Small, Parted, Unmatched, Unallowed}
 use Rattle.graph_core.specs.declared.verdict.Verdict.{Verdict}
 use Rattle.graph_core.specs.declared.verdict.Verdict.TheVariants.{Covered, NotCovered}
-use Rattle.report_text.specs.Words.{yes_or_no}
+use Rattle.report_text.specs.Words.{reason_word, yes_or_no}
 
 -- the line with the number of vertices and of edges
 abbrev pub graph_line : ℕ → ℕ → List ℕ
@@ -34,16 +34,16 @@ numbers_text (n ∷ ns) = codes " " ++ (decimal n ++ numbers_text ns)
 abbrev pub list_line : List ℕ → List ℕ → List ℕ
 list_line word ns = word ++ (numbers_text ns ++ codes "\n")
 
--- what is told of two vertices that no walk joins
-abbrev pub parts_text : (a b : ℕ) → List ℕ
-parts_text a b = codes " parts " ++ decimal a ++ codes " " ++ decimal b
+-- the numbers that show a reason: two vertices that no walk joins, a Berge set, or an edge
+abbrev pub reason_numbers : Reason → List ℕ
+reason_numbers Small = []
+reason_numbers (Parted a b) = a ∷ b ∷ []
+reason_numbers (Unmatched berge) = berge
+reason_numbers (Unallowed edge) = edge ∷ []
 
 -- what a reason adds to the line of a graph that is not covered
 abbrev pub reason_text : Reason → List ℕ
-reason_text Small = codes " order"
-reason_text (Parted a b) = parts_text a b
-reason_text (Unmatched berge) = codes " berge" ++ numbers_text berge
-reason_text (Unallowed edge) = codes " edge " ++ decimal edge
+reason_text reason = codes " " ++ reason_word reason ++ numbers_text (reason_numbers reason)
 
 -- the line of the verdict
 unfoldable pub verdict_text : Verdict → List ℕ

@@ -9,6 +9,7 @@ use Rattle.graph_core.specs.declared.ends.Ends.{Ends}
 use Rattle.graph_core.specs.declared.verdict.Kind.{Kind}
 use Rattle.graph_core.specs.declared.verdict.Kind.TheVariants.{Brace, Brick, Composite}
 use Rattle.report_text.specs.Reports.{list_line}
+use Rattle.report_text.specs.Words.{kind_word}
 use Rattle.report_text.specs.declared.structures.Structure.{Structure}
 
 -- the line of a class
@@ -38,11 +39,15 @@ abbrev pub cut_pair_line : Option Ends → List ℕ
 cut_pair_line None = codes "cutpair none\n"
 cut_pair_line (Some pair) = pair_line (codes "cutpair") pair
 
+-- the shore that shows a composite graph; none of a brick or a brace
+abbrev pub shore_of : Kind → List ℕ
+shore_of Brace = []
+shore_of Brick = []
+shore_of (Composite cut) = cut
+
 -- the line of the kind
 abbrev pub kind_line : Kind → List ℕ
-kind_line Brace = codes "kind brace\n"
-kind_line Brick = codes "kind brick\n"
-kind_line (Composite cut) = list_line (codes "kind composite") cut
+kind_line kind = list_line (codes "kind " ++ kind_word kind) (shore_of kind)
 
 -- all lines on the structure
 unfoldable pub structure_text : Structure → List ℕ

@@ -9,7 +9,7 @@ ghost use Rattle.tree_core.specs.declared.tallies.LeafKind.{LeafKind};
 
 use crate::commenting::commented;
 use crate::numbers::{push_numbers, push_set_line};
-use crate::words::{kind_word, push_tally};
+use crate::words::{leaf_kind_word, push_tally};
 use contraction::{Contracted, Partition, name_of, quotient};
 use graph_core::MultiGraph;
 use std::alloc::{AllocError as Memory, Global};
@@ -18,7 +18,7 @@ use tree_core::{LeafKind, Partitions, Tally, kind_of, tallied};
 fn push_leaf_line(text: &mut String, number: usize, kind: LeafKind) -> Result<(), Memory>
     ensures { OnOk result (string_bytes text.new ≡ string_bytes text.old ++ leaf_line number kind) }
 {
-    let word = kind_word(kind);
+    let word = leaf_kind_word(kind);
     write!(text, "c leaf {number} {word}\n")
 }
 

@@ -48,4 +48,4 @@ pub use scripts::{replay_refused, replay_stuck, replayed, script_report};
 pub use structures::Structure;
 pub use tree_core::{Tally, count_leaves};
 pub use verdicts::verdict_line;
-pub use words::{kind_word, yes_or_no};
+pub use words::{kind_word, leaf_kind_word, reason_word, yes_or_no};

@@ -1,8 +1,10 @@
 //! The lines on the structure of a matching covered graph.
 ghost use Rattle.std.specs.Prelude.{◌≡◌, ◌++◌, OnOk, string_bytes};
-ghost use Rattle.report_text.specs.Structures.{class_lines, classes_lines, pair_line, bicritical_line, cut_pair_line, kind_line, structure_text};
+ghost use Rattle.report_text.specs.Reports.{numbers_text};
+ghost use Rattle.report_text.specs.Structures.{class_lines, classes_lines, pair_line, bicritical_line, cut_pair_line, kind_line, shore_of, structure_text};
 
-use crate::numbers::push_set_line;
+use crate::numbers::{push_set, push_set_line};
+use crate::words::kind_word;
 use graph_core::{Ends, Kind, SetList};
 use std::alloc::AllocError as Memory;
 use vset_core::VSet;
@@ -71,14 +73,24 @@ fn push_cut_pair(text: &mut String, pair: Option<Ends>) -> Result<(), Memory>
     }
 }
 
-fn push_kind(text: &mut String, kind: Kind) -> Result<(), Memory>
-    ensures { OnOk result (string_bytes text.new ≡ string_bytes text.old ++ kind_line kind) }
+// Appends the shore that shows a composite graph.
+fn push_shore(text: &mut String, kind: &Kind) -> Result<(), Memory>
+    ensures { OnOk result
+        (string_bytes text.new ≡ string_bytes text.old ++ numbers_text (shore_of kind.now)) }
 {
     match kind {
-        Kind::Brace => write!(text, "kind brace\n"),
-        Kind::Brick => write!(text, "kind brick\n"),
-        Kind::Composite { cut } => push_set_line(text, "kind composite", cut),
+        Kind::Composite { cut } => push_set(text, *cut),
+        _ => Ok(()),
     }
+}
+
+fn push_kind(text: &mut String, kind: &Kind) -> Result<(), Memory>
+    ensures { OnOk result (string_bytes text.new ≡ string_bytes text.old ++ kind_line kind.now) }
+{
+    let word = kind_word(kind);
+    write!(text, "kind {word}")?;
+    push_shore(text, kind)?;
+    write!(text, "\n")
 }
 
 /// Appends the lines on the structure.
@@ -90,5 +102,5 @@ pub fn push_structure(text: &mut String, structure: &Structure) -> Result<(), Me
     push_classes(text, &structure.classes)?;
     push_bicritical(text, structure.unlike)?;
     push_cut_pair(text, structure.cutpair)?;
-    push_kind(text, structure.kind)
+    push_kind(text, &structure.kind)
 }

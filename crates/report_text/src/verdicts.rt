@@ -1,32 +1,33 @@
 //! The line of a verdict.
 ghost use Rattle.std.specs.Prelude.{◌≡◌, ◌++◌, codes, OnOk, IfOk, string_bytes};
-ghost use Rattle.report_text.specs.Reports.{parts_text, reason_text, verdict_text};
+ghost use Rattle.report_text.specs.Reports.{numbers_text, reason_numbers, reason_text, verdict_text};
 
-use crate::numbers::push_set;
+use crate::numbers::{push_numbers, push_set};
+use crate::words::reason_word;
 use graph_core::{Reason, Verdict};
 use std::alloc::{AllocError as Memory, Global};
 
-// What is told of two vertices that no walk joins.
-fn push_parts(text: &mut String, a: u32, b: u32) -> Result<(), Memory>
-    ensures { OnOk result (string_bytes text.new ≡ string_bytes text.old ++ parts_text a b) }
+// Appends the numbers that show a reason.
+fn push_reason_numbers(text: &mut String, reason: &Reason) -> Result<(), Memory>
+    ensures { OnOk result
+        (string_bytes text.new
+        ≡ string_bytes text.old ++ numbers_text (reason_numbers reason.now)) }
 {
-    write!(text, " parts {a} {b}")?;
-    Ok(())
+    match reason {
+        Reason::Small => Ok(()),
+        Reason::Parted { a, b } => push_numbers(text, &[*a, *b]),
+        Reason::Unmatched { berge } => push_set(text, *berge),
+        Reason::Unallowed { edge } => push_numbers(text, &[*edge]),
+    }
 }
 
 fn push_reason(text: &mut String, reason: &Reason) -> Result<(), Memory>
     ensures { OnOk result
         (string_bytes text.new ≡ string_bytes text.old ++ reason_text reason.now) }
 {
-    match reason {
-        Reason::Small => write!(text, " order"),
-        Reason::Parted { a, b } => push_parts(text, *a, *b),
-        Reason::Unmatched { berge } => {
-            write!(text, " berge")?;
-            push_set(text, *berge)
-        }
-        Reason::Unallowed { edge } => write!(text, " edge {edge}"),
-    }
+    let word = reason_word(reason);
+    write!(text, " {word}")?;
+    push_reason_numbers(text, reason)
 }
 
 /// Appends the line of the verdict.

@@ -1,7 +1,8 @@
 //! Words that lines of several reports share.
 ghost use Rattle.std.specs.Prelude.{◌≡◌, ◌++◌, OnOk, string_bytes};
-ghost use Rattle.report_text.specs.Words.{kind_word, tally_end, yes_or_no};
+ghost use Rattle.report_text.specs.Words.{kind_word, leaf_kind_word, reason_word, tally_end, yes_or_no};
 
+use graph_core::{Kind, Reason};
 use std::alloc::AllocError as Memory;
 use tree_core::{LeafKind, Tally};
 
@@ -12,9 +13,32 @@ pub fn yes_or_no(holds: bool) -> &'static str
     if holds { "yes" } else { "no" }
 }
 
-/// The word of a kind.
-pub fn kind_word(kind: LeafKind) -> &'static str
-    ensures { result.now ≡ kind_word kind }
+/// The word of a reason why a graph is not matching covered.
+pub fn reason_word(reason: &Reason) -> &'static str
+    ensures { result.now ≡ reason_word reason.now }
+{
+    match reason {
+        Reason::Small => "order",
+        Reason::Parted { .. } => "parts",
+        Reason::Unmatched { .. } => "berge",
+        Reason::Unallowed { .. } => "edge",
+    }
+}
+
+/// The word of the kind of a matching covered graph.
+pub fn kind_word(kind: &Kind) -> &'static str
+    ensures { result.now ≡ kind_word kind.now }
+{
+    match kind {
+        Kind::Brace => "brace",
+        Kind::Brick => "brick",
+        Kind::Composite { .. } => "composite",
+    }
+}
+
+/// The word of the kind of a leaf.
+pub fn leaf_kind_word(kind: LeafKind) -> &'static str
+    ensures { result.now ≡ leaf_kind_word kind }
 {
     match kind {
         LeafKind::Brick => "brick",
