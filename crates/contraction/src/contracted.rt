@@ -9,7 +9,7 @@ ghost use Rattle.contraction.specs.Pairs.{EachOnce, joined_pairs};
 
 use crate::Partition;
 use crate::partition::union_at;
-use crate::place_pairs::{ends_at, graph_with, pairs_joined};
+use crate::place_pairs::{graph_with, joined_places};
 use graph_core::{Ends, MOST_EDGES, MultiGraph};
 use indexmap::IndexMap;
 use std::alloc::{AllocError as Memory, Global};
@@ -116,9 +116,7 @@ pub fn quotient(alloc: Global, g: &MultiGraph, p: &Partition) -> Result<Contract
     requires { p.now.order ≡ g.now.order }
     ensures { IfOk result (λ q. q ≡ contraction g.now p.now.blocks) }
 {
-    p.keeps_partition();
-    let ends = ends_at(alloc, g.edges(), p)?;
-    let pairs = pairs_joined(alloc, p.len() as u32, &ends)?;
+    let (ends, pairs) = joined_places(alloc, g, p)?;
     quotient_by(alloc, g, p, &ends, &pairs)
 }
 

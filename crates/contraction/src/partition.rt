@@ -79,6 +79,13 @@ impl Partition {
         self.blocks[i]
     }
 
+    /// Whether two partitions have the same blocks. Takes no memory.
+    pub fn has_blocks_of(&self, other: &Partition) -> bool
+        ensures { IsTrue result ↔ (self.now.blocks ≡ other.now.blocks) }
+    {
+        self.blocks == other.blocks
+    }
+
     /// Whether `set` is a union of blocks; a set with a vertex beyond n is none. Takes no memory.
     pub fn is_union(&self, set: VSet) -> bool
         ensures { IsTrue result ↔ IsUnionAt self.now set }

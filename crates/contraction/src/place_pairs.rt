@@ -135,6 +135,25 @@ pub(crate) fn pairs_joined(alloc: Global, n: u32, ends: &[Ends]) -> Result<Vec<E
     row_pairs(alloc, &rows)
 }
 
+/// The edges of `g` seen from the blocks of `p`: the ends of each as places of blocks, and the
+/// pairs a < b of places that some edge joins, in lexicographic order.
+pub(crate) fn joined_places(
+    alloc: Global,
+    g: &MultiGraph,
+    p: &Partition,
+) -> Result<(Vec<Ends>, Vec<Ends>), Memory>
+    requires { p.now.order ≡ g.now.order }
+    ensures ends { IfOk result (λ made.
+        graph_of (length p.now.blocks) made.0.items ≡ contracted g.now p.now.blocks) }
+    ensures pairs { IfOk result (λ made.
+        map pair_of made.1.items ≡ joined_pairs (contracted g.now p.now.blocks)) }
+{
+    p.keeps_partition();
+    let ends = ends_at(alloc, g.edges(), p)?;
+    let pairs = pairs_joined(alloc, p.len() as u32, &ends)?;
+    Ok((ends, pairs))
+}
+
 /// The graph with these edges.
 pub(crate) fn graph_with(alloc: Global, n: u32, pairs: &[Ends]) -> Result<MultiGraph, Memory>
     requires { IsWithinLimits (graph_of n pairs.now) }

@@ -2,9 +2,9 @@
 -- where that of the node is, and each has one block for the merged side and the blocks of the
 -- other side. So a tree of cuts has few leaves, by induction.
 use Rattle.std.proofs.lemmas.List.Elements.{All-append}
-use Rattle.std.proofs.Common.{◌≡◌, ℕ, zero, suc, ◌+◌, ◌*◌, ◌≤◌, ◌<◌, ◌-◌, List, length, All, subst, refl, sym, ap, ◌∙◌, arith}
+use Rattle.std.proofs.Common.{◌≡◌, ℕ, zero, suc, ◌+◌, ◌*◌, ◌≤◌, List, length, All, subst, refl, sym, ◌∙◌, arith}
 use Rattle.counting.proofs.Common.{count_congr, count_complement, mem-within, member-of_set, true_all_in}
-use Rattle.counting.specs.Common.{Within, count, mem, IsRisingIn, complement, everything}
+use Rattle.counting.specs.Common.{count, mem, IsRisingIn, complement, everything}
 use Rattle.graph_core.proofs.Common.{block_count_congr, block_count_rest, union_rest, complement_of-rises, mem-complement_of, block_count_around, merge_of, complement-tight, shore-some, contracted-singles, length-singles, singles-partition}
 use Rattle.graph_core.specs.Common.{IsCovered, Graph, IsGraph, IsPartition, block, complement_of, merged, singles, quotient, IsTightAt, block_count, blocks_in}
 use Rattle.contraction.proofs.MergedQuotients.{merged-covered}
@@ -96,28 +96,3 @@ covered-leaves_at g p (cut x k m) is pp covered derives =
 
 pub covered-leaves : (g : Graph) (t : Shape) → IsGraph g → IsDerivation g t → All (λ (p : List (List ℕ)). IsCovered (quotient g p)) (leaves g.order t)
 covered-leaves g t is derives = covered-leaves_at g (singles g.order) t is (singles-partition g.order) (root-covered g (singles g.order) is refl derives.covered) derives.derives
-
--- what the code is asked and answers at a cut, for a partition whose number of vertices is that
--- of the graph
-module _ (g : Graph) (n : ℕ) (p : List (List ℕ)) (x : List ℕ) (is : IsGraph g) (pp : IsPartition n p) (same : n ≡ g.order) (cuts : IsCutAt g p x) where
-  own : IsPartition g.order p
-  own = subst (λ k. IsPartition k p) same pp
-
-  pub cut-fits : All (Within (n - 1)) x
-  cut-fits = subst (λ k. All (Within (k - 1)) x) (sym same) (cut-below g p x cuts)
-
-  pub cut-some : 0 < length x
-  cut-some = cut-nonempty g p x own cuts
-
-  module _ (q : List (List ℕ)) where
-    pub covers-kept : q ≡ kept_at g.order p x → IsCovered (quotient g p) → IsCovered (quotient g q)
-    covers-kept e covered = subst (λ (r : List (List ℕ)). IsCovered (quotient g r)) (sym e) (kept-covers g p x is own cuts covered)
-
-    pub covers-merged : q ≡ merged_at g.order p x → IsCovered (quotient g p) → IsCovered (quotient g q)
-    covers-merged e covered = subst (λ (r : List (List ℕ)). IsCovered (quotient g r)) (sym e) (merged-covers g p x is own cuts covered)
-
-    pub length-of_kept : q ≡ kept_at g.order p x → length q + count (length p) (complement (blocks_in p (mem x))) ≡ length p + 1
-    length-of_kept e = ap (λ (r : List (List ℕ)). length r + count (length p) (complement (blocks_in p (mem x)))) e ∙ kept-length g p x is own cuts
-
-    pub length-of_merged : q ≡ merged_at g.order p x → length q + count (length p) (blocks_in p (mem x)) ≡ length p + 1
-    length-of_merged e = ap (λ (r : List (List ℕ)). length r + count (length p) (blocks_in p (mem x))) e ∙ merged-length g p x is own cuts

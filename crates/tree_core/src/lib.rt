@@ -23,7 +23,6 @@
 //! "Matching structure and the matching lattice" (1987); Lucchesi and Murty, "Perfect Matchings".
 #![tactic(auto)]
 
-mod below;
 pub mod laws;
 mod leaf_partitions;
 mod moves;
@@ -38,7 +37,6 @@ mod tallies;
 mod tree;
 mod turns;
 
-pub use below::{kept_partition, merged_partition, root_partition};
 pub use leaf_partitions::{complement_in, leaves};
 pub use moves::{Move, Moves, Stuck, apply};
 pub use opened::{Opened, open};

@@ -4,7 +4,7 @@ ghost use Rattle.counting.specs.Common.{count, mem, complement};
 ghost use Rattle.graph_core.specs.Common.{IsCovered, IsPartition, IsWithinLimits, singles, quotient, blocks_in};
 ghost use Rattle.tree_core.specs.Derivations.{IsCutAt, kept_at, merged_at};
 
-use crate::below::{kept_partition, merged_partition, root_partition};
+use crate::leaf_partitions::complement_in;
 use contraction::Partition;
 use graph_core::MultiGraph;
 use graph_facts::Covered;
@@ -34,17 +34,22 @@ impl<'g> Model for Place<'g> {
 }
 
 impl<'g> Place<'g> {
-    /// The place at the root: the single vertices of a covered graph.
+    /// The place at the root: the single vertices of a covered graph. The quotient at it is the
+    /// graph itself up to parallel edges.
     pub fn root(alloc: Global, c: &Covered<'g>) -> Result<Place<'g>, Memory>
         ensures graph { IfOk result (λ p. p.graph ≡ c.now) }
         ensures blocks { IfOk result (λ p. p.blocks ≡ singles c.now.order) }
     {
-        let graph = c.graph();
-        let partition = root_partition(alloc, graph)?;
-        Ok(Place { graph, partition })
+        c.keeps_covered();
+        let partition = Partition::singles(alloc, c.order())?;
+        Ok(Place {
+            graph: c.graph(),
+            partition,
+        })
     }
 
-    /// The place below a cut where the shore is kept: its complement becomes one block.
+    /// The place below a cut where the shore is kept: its complement becomes one block. The
+    /// quotient at it is matching covered again.
     pub fn kept(&self, alloc: Global, shore: VSet) -> Result<Place<'g>, Memory>
         requires { IsCutAt self.now.graph self.now.blocks shore }
         ensures graph { IfOk result (λ p. p.graph ≡ self.now.graph) }
@@ -54,14 +59,17 @@ impl<'g> Place<'g> {
             (λ p. length p.blocks + count (length self.now.blocks)
             (complement (blocks_in self.now.blocks (mem shore))) ≡ length self.now.blocks + 1) }
     {
-        let partition = kept_partition(alloc, self.graph, &self.partition, shore)?;
+        self.keeps_place();
+        let complement = complement_in(&self.partition, shore);
+        let partition = self.partition.merge(alloc, complement)?;
         Ok(Place {
             graph: self.graph,
             partition,
         })
     }
 
-    /// The place below a cut where the shore is merged: it becomes one block.
+    /// The place below a cut where the shore is merged: it becomes one block. The quotient at it
+    /// is matching covered again.
     pub fn merged(&self, alloc: Global, shore: VSet) -> Result<Place<'g>, Memory>
         requires { IsCutAt self.now.graph self.now.blocks shore }
         ensures graph { IfOk result (λ p. p.graph ≡ self.now.graph) }
@@ -71,7 +79,8 @@ impl<'g> Place<'g> {
             (λ p. length p.blocks + count (length self.now.blocks)
             (blocks_in self.now.blocks (mem shore)) ≡ length self.now.blocks + 1) }
     {
-        let partition = merged_partition(alloc, self.graph, &self.partition, shore)?;
+        self.keeps_place();
+        let partition = self.partition.merge(alloc, shore)?;
         Ok(Place {
             graph: self.graph,
             partition,

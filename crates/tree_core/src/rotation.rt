@@ -1,16 +1,16 @@
 //! Rotate: a cut is brought over its parent.
 ghost use Rattle.std.specs.Prelude.{◌≡◌, Some, None, IfOk, IfErr};
 ghost use Rattle.counting.specs.Common.{is_apart};
-ghost use Rattle.tree_core.specs.Moves.{rotate_result, rotate_result_at, rotate_result_kept, rotate_result_merged};
-ghost use Rattle.tree_core.specs.Shapes.{cut};
+ghost use Rattle.tree_core.specs.Moves.{rotate_result, rotate_result_at, with_child};
+ghost use Rattle.tree_core.specs.Shapes.{Shape, cut};
 ghost use Rattle.tree_core.specs.Turns.{IsAnswer};
 ghost use Rattle.tree_core.specs.View.{shape_of};
 
 use crate::moves::Stuck;
+use crate::opened::{Opened, open};
 use crate::path::{Path, Side};
 use crate::tree::Tree;
 use crate::turns::{Turn, turn_along};
-use std::mem;
 use vset_core::VSet;
 
 /// Whether two sets have no common vertex. Takes no memory.
@@ -31,48 +31,39 @@ fn cut_over(shore: VSet, kept: Box<Tree>, merged: Box<Tree>) -> Tree
     }
 }
 
-// Brings the root of `kept` over the cut.
-fn rotate_kept(shore: VSet, mut kept: Box<Tree>, merged: Box<Tree>) -> Result<Tree, Tree>
-    ensures { IsAnswer
-        (rotate_result_kept shore (shape_of kept.value) (shape_of merged.value))
-        (cut shore (shape_of kept.value) (shape_of merged.value)) result }
+// Brings the cut of `lower`, which was taken out of a cut, over that cut.
+fn rotate_over(
+    upper: Opened,
+    lower: VSet,
+    first: Box<Tree>,
+    second: Box<Tree>,
+) -> Result<Tree, Tree>
+    ensures { (t : Shape) → t ≡ with_child upper.side upper.shore (shape_of upper.other.value)
+        (cut lower (shape_of first.value) (shape_of second.value)) →
+        IsAnswer (rotate_result_at upper.side t) t result }
 {
-    match mem::replace(&mut *kept, Tree::Leaf) {
-        Tree::Leaf => Err(cut_over(shore, kept, merged)),
-        Tree::Cut {
-            shore: lower,
-            kept: first,
-            merged: second,
-        } => {
-            *kept = cut_over(shore, second, merged);
-            Ok(cut_over(lower, first, kept))
+    let Opened {
+        side,
+        shore,
+        mut place,
+        other,
+    } = upper;
+    match side {
+        Side::Kept => {
+            *place = cut_over(shore, second, other);
+            Ok(cut_over(lower, first, place))
         }
-    }
-}
-
-// Brings the root of `merged` over the cut.
-fn rotate_merged(shore: VSet, kept: Box<Tree>, mut merged: Box<Tree>) -> Result<Tree, Tree>
-    ensures { IsAnswer
-        (rotate_result_merged shore (shape_of kept.value) (shape_of merged.value))
-        (cut shore (shape_of kept.value) (shape_of merged.value)) result }
-{
-    match mem::replace(&mut *merged, Tree::Leaf) {
-        Tree::Leaf => Err(cut_over(shore, kept, merged)),
-        Tree::Cut {
-            shore: lower,
-            kept: first,
-            merged: second,
-        } => {
-            if shore.is_subset(lower) {
-                *merged = cut_over(shore, kept, first);
-                Ok(cut_over(lower, merged, second))
-            } else if are_apart(shore, lower) {
-                *merged = cut_over(shore, kept, second);
-                Ok(cut_over(lower, first, merged))
-            } else {
-                *merged = cut_over(lower, first, second);
-                Err(cut_over(shore, kept, merged))
-            }
+        Side::Merged if shore.is_subset(lower) => {
+            *place = cut_over(shore, other, first);
+            Ok(cut_over(lower, place, second))
+        }
+        Side::Merged if are_apart(shore, lower) => {
+            *place = cut_over(shore, other, second);
+            Ok(cut_over(lower, first, place))
+        }
+        Side::Merged => {
+            *place = cut_over(lower, first, second);
+            Err(cut_over(shore, other, place))
         }
     }
 }
@@ -81,16 +72,22 @@ fn rotate_merged(shore: VSet, kept: Box<Tree>, mut merged: Box<Tree>) -> Result<
 pub(crate) fn rotate_here(tree: Tree, side: Side) -> Result<Tree, Tree>
     ensures { IsAnswer (rotate_result_at side (shape_of tree)) (shape_of tree) result }
 {
-    match tree {
-        Tree::Leaf => Err(Tree::Leaf),
+    let Tree::Cut {
+        shore,
+        kept,
+        merged,
+    } = tree
+    else {
+        return Err(Tree::Leaf);
+    };
+    let (child, upper) = open(side, shore, kept, merged);
+    match child {
+        Tree::Leaf => Err(upper.close(Tree::Leaf)),
         Tree::Cut {
-            shore,
-            kept,
-            merged,
-        } => match side {
-            Side::Kept => rotate_kept(shore, kept, merged),
-            Side::Merged => rotate_merged(shore, kept, merged),
-        },
+            shore: lower,
+            kept: first,
+            merged: second,
+        } => rotate_over(upper, lower, first, second),
     }
 }
 

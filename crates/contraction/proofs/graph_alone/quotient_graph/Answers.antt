@@ -1,16 +1,21 @@
-use Rattle.std.proofs.Common.{arith, subst}
-use Rattle.graph_core.specs.Common.{IsPartition}
-use Rattle.contraction.proofs.QuotientValues.{ends-at, ends-graph, few-blocks}
+use Rattle.std.proofs.Common.{◌≡◌, ◌∙◌, List, ap, arith, map}
+use Rattle.counting.proofs.Common.{IfOk-weaker}
+use Rattle.graph_core.specs.Common.{Graph, graph_of, pair_of, quotient}
+use Rattle.graph_core.specs.declared.ends.Ends.{Ends}
+use Rattle.contraction.proofs.QuotientValues.{few-blocks, pairs-limits, pairs-quotient}
 use Rattle.contraction.proofs.graph_alone.quotient_graph.Goals as goal
 
 pub overflow_cast-len : goal.overflow_cast-len
 overflow_cast-len c = let f = few-blocks c.args.p.now c.len.result c.keeps_partition.ensures c.len.ensures in omega arith
 
-pub pairs_joined-requires-clause-few : goal.pairs_joined-requires-clause-few
-pairs_joined-requires-clause-few c = few-blocks c.args.p.now c.len.result c.keeps_partition.ensures c.len.ensures
+pub graph_with-requires : goal.graph_with-requires
+graph_with-requires c =
+    let read = ap (λ (pairs : List Ends). map pair_of pairs) c.deref.ensures.value in
+    pairs-limits c.args.g.now c.args.p.now.blocks c.len.result c.in_ok-pairs.field-0-0.items c.len.ensures c.in_ok-pairs.ensures.ends c.deref.result.now (read ∙ c.in_ok-pairs.ensures.pairs)
+    (few-blocks c.args.p.now c.len.result c.keeps_partition.ensures c.len.ensures) c.keeps_limits.ensures.edges
 
-pub pairs_joined-requires-clause-graph : goal.pairs_joined-requires-clause-graph
-pairs_joined-requires-clause-graph c =
-    let at = ends-at c.args.g.now c.args.p.now c.edges.result.now _ c.deref.result.now c.requires c.edges.ensures.edges c.deref.ensures.value c.in_ok-ends.ensures in
-    ends-graph c.args.g.now c.args.p.now.blocks c.len.result c.deref.result.now c.len.ensures at c.edges.ensures.limits.multigraph.ends
-    (subst (λ n. IsPartition n c.args.p.now.blocks) c.requires c.keeps_partition.ensures.partition).partition
+pub returns : goal.returns
+returns c =
+    let read = ap (λ (pairs : List Ends). map pair_of pairs) c.deref.ensures.value in
+    IfOk-weaker c.graph_with.result (λ (q : Graph). q ≡ graph_of c.len.result c.deref.result.now) (λ (q : Graph). q ≡ quotient c.args.g.now c.args.p.now.blocks)
+    (λ q is. is ∙ pairs-quotient c.args.g.now c.args.p.now.blocks c.len.result c.in_ok-pairs.field-0-0.items c.len.ensures c.in_ok-pairs.ensures.ends c.deref.result.now (read ∙ c.in_ok-pairs.ensures.pairs)) c.graph_with.ensures

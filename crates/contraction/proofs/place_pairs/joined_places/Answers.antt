@@ -1,7 +1,7 @@
 use Rattle.std.proofs.Common.{arith, subst}
 use Rattle.graph_core.specs.Common.{IsPartition}
 use Rattle.contraction.proofs.QuotientValues.{ends-at, ends-graph, few-blocks}
-use Rattle.contraction.proofs.contracted.quotient.Goals as goal
+use Rattle.contraction.proofs.place_pairs.joined_places.Goals as goal
 
 pub overflow_cast-len : goal.overflow_cast-len
 overflow_cast-len c = let f = few-blocks c.args.p.now c.len.result c.keeps_partition.ensures c.len.ensures in omega arith
