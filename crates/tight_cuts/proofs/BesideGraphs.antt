@@ -1,26 +1,30 @@
--- The graph of the edges that lie together with one edge, made edge by edge. Idea: each edge of
--- it comes from one of the edges so far, and each of these that lies together with e is in it.
-use Rattle.std.proofs.Common.{◌≡◌, ℕ, ◌+◌, ◌≤◌, ◌<◌, ◌≢◌, [], ◌∷◌, ◌++◌, length, ap, ◌∙◌, arith, inl, inr, subst, ◌-◌, length-append, slice_index_or}
-use Rattle.counting.proofs.Common.{cases_lt, get_or_append_left}
+-- The graph of the edges that listed matchings hold together with one edge, made edge by edge. Idea:
+-- each edge of it comes from one of the edges so far, and each of these that is held with e is in
+-- it.
+use Rattle.std.proofs.Common.{◌≡◌, ℕ, ◌+◌, ◌≤◌, ◌<◌, ◌≢◌, true, ◌&&◌, List, [], ◌∷◌, ◌++◌, length, sym, ap, ◌∙◌, arith, inl, inr, subst, ◌-◌, length-append, slice_index_or}
+use Rattle.counting.proofs.Common.{and_from, and_parts, cases_lt, get_or_append_left}
 use Rattle.std.proofs.Math.Seq.{get_or-append_seam}
-use Rattle.counting.specs.Common.{Within}
-use Rattle.graph_core.specs.Common.{Graph, size, first_end, second_end, with_edge, Together}
+use Rattle.std.proofs.lemmas.List.Folds.{Any-from_list_any, list_any_at}
+use Rattle.counting.specs.Common.{Within, mem, none}
+use Rattle.graph_core.specs.Common.{Graph, size, first_end, second_end, with_edge, IsPerfect, Together}
+use Rattle.allowed_edges.specs.PairTables.{PairsValue, SettlesEdges, edge_lists, holds_both}
+use Rattle.tight_cuts.specs.Pieces.{IsBeside}
 
--- the edges 1 to k are treated
-pub record BesideSoFar (g : Graph) (e k : ℕ) (h : Graph) : Type 0 where
+-- the edges 1 to k are treated: those that a matching of ms holds together with e are in h
+pub record BesideSoFar (g : Graph) (ms : List (List ℕ)) (e k : ℕ) (h : Graph) : Type 0 where
   pub order : h.order ≡ g.order
   pub few : size h ≤ k
   pub from : (f : ℕ) → Within (size h) f → (d : ℕ) × Within (size g) d × (d ≢ e) × Together g e d × (first_end h f ≡ first_end g d) × (second_end h f ≡ second_end g d)
-  pub every : (d : ℕ) → Within k d → d ≢ e → Together g e d → (f : ℕ) × Within (size h) f × (first_end h f ≡ first_end g d) × (second_end h f ≡ second_end g d)
+  pub every : (d : ℕ) → Within k d → d ≢ e → holds_both ms e d ≡ true → (f : ℕ) × Within (size h) f × (first_end h f ≡ first_end g d) × (second_end h f ≡ second_end g d)
 
--- an edge that is e or does not lie together with it
-pub beside-skip : (g h : Graph) (e k : ℕ) → BesideSoFar g e k h → ((k + 1 ≢ e) → Together g e (k + 1) → ⊥) → BesideSoFar g e (k + 1) h
-beside-skip g h e k b n = record {
+-- an edge that is e or that no matching holds together with it
+pub beside-skip : (g h : Graph) (ms : List (List ℕ)) (e k : ℕ) → BesideSoFar g ms e k h → ((k + 1 ≢ e) → holds_both ms e (k + 1) ≡ true → ⊥) → BesideSoFar g ms e (k + 1) h
+beside-skip g h ms e k b n = record {
   order = b.order;
   few = let f = b.few in omega arith;
   from = b.from;
   every = λ d w ne t. elim (cases_lt k d) [
-    | inl l ↦ let q : d ≡ k + 1 = omega arith in absurd (n (λ s. ne (q ∙ s)) (subst (Together g e) q t))
+    | inl l ↦ let q : d ≡ k + 1 = omega arith in absurd (n (λ s. ne (q ∙ s)) (ap (holds_both ms e) (sym q) ∙ t))
     | inr l ↦ b.every d (omega arith) ne t
   ];
 }
@@ -38,8 +42,8 @@ ends-new h a b =
     let q = ap (λ i. slice_index_or (h.ends ++ (a, b) ∷ []) i (0, 0)) n ∙ get_or-append_seam h.ends (a, b) [] (0, 0) in (ap (λ p. p.0) q, ap (λ p. p.1) q)
 
 -- an edge that lies together with e
-pub beside-more : (g h : Graph) (e k a b : ℕ) → BesideSoFar g e k h → k < size g → k + 1 ≢ e → Together g e (k + 1) → a ≡ first_end g (k + 1) → b ≡ second_end g (k + 1) → BesideSoFar g e (k + 1) (with_edge h a b)
-beside-more g h e k a b s l ne t qa qb =
+pub beside-more : (g h : Graph) (ms : List (List ℕ)) (e k a b : ℕ) → BesideSoFar g ms e k h → k < size g → k + 1 ≢ e → Together g e (k + 1) → a ≡ first_end g (k + 1) → b ≡ second_end g (k + 1) → BesideSoFar g ms e (k + 1) (with_edge h a b)
+beside-more g h ms e k a b s l ne t qa qb =
     let more = size-more h a b in
     let new = ends-new h a b in
     record {
@@ -57,4 +61,19 @@ beside-more g h e k a b s l ne t qa qb =
             (size h + 1, (omega arith, omega arith), new.0 ∙ qa ∙ ap (first_end g) q, new.1 ∙ qb ∙ ap (second_end g) q)
         | inr v ↦ let r = s.every d (omega arith) n u in let o = ends-old h a b r.0 r.1 in (r.0, (r.1.0, let x = r.1.1 in omega arith), o.0 ∙ r.2, o.1 ∙ r.3)
       ];
+    }
+
+-- all edges are treated, and a listed matching holds e
+pub beside-whole : (g h : Graph) (p : PairsValue) (e k : ℕ) → SettlesEdges g 1 p → holds_both (edge_lists p) e e ≡ true → size g ≤ k → BesideSoFar g (edge_lists p) e k h → IsBeside g e h
+beside-whole g h p e k s held l b =
+    let a = Any-from_list_any (λ m. mem m e && mem m e) (edge_lists p) held in
+    let he = (and_parts (mem a.1 e) (mem a.1 e) a.4).0 in
+    record {
+      order = b.order;
+      from = b.from;
+      base = mem a.1;
+      perfect = subst (λ (m : List ℕ). IsPerfect g none (mem m)) a.3 (s.grown.perfect a.0 a.1 a.2);
+      held = he;
+      every = λ d w n hd. b.every d (w.0, let x = w.1 in omega arith) n
+          (list_any_at (λ m. mem m e && mem m d) (edge_lists p) a.0 a.1 a.2 (ap (λ m. mem m e && mem m d) a.3 ∙ and_from (mem a.1 e) (mem a.1 d) he hd));
     }

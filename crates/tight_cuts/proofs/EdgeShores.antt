@@ -1,24 +1,26 @@
 -- What the groups of two pieces, or of one, give as the code finds it: a least cut of their
--- network within the length of the pair list. Idea: the network of the rows is the contracted
--- network of the pair list, and the leaders give its groups.
-use Rattle.std.proofs.Common.{◌≡◌, ℕ, suc, zero, ◌*◌, ◌≤◌, ◌<◌, ◌^◌, ◌≢◌, true, false, refl, sym, ap, ap₂, ◌∙◌, arith, inl, inr, List, [], ◌∷◌, ◌++◌, length, subst, Option, Some, None, ◌↔◌}
-use Rattle.counting.proofs.Common.{cases_lt, false_from_ne_true, sum_by-cons, bit_le_one}
-use Rattle.counting.specs.Common.{bit, Within, total, mem, Set, pair_set}
+-- network within the number of listed matchings. Idea: the network of the rows is the contracted
+-- network of the list, and the leaders give its groups.
+use Rattle.std.proofs.Common.{◌≡◌, ℕ, suc, zero, ◌*◌, ◌≤◌, ◌<◌, ◌^◌, ◌≢◌, true, false, ◌&&◌, ◌||◌, not, get_or, refl, sym, ap, ap₂, ◌∙◌, arith, inl, inr, List, [], ◌∷◌, ◌++◌, length, subst, Option, Some, None, ◌↔◌}
+use Rattle.std.specs.Prelude.{All}
+use Rattle.counting.proofs.Common.{cases_lt, count_congr, false_from_ne_true, sum_by-cons, bit_le_one}
+use Rattle.counting.specs.Common.{bit, complement, count, is_odd, Within, total, mem, Set, pair_set}
+use Rattle.graph_core.proofs.Common.{tight-same}
 use Rattle.flow_core.specs.Cuts.{IfCut, IsCut}
 use Rattle.flow_core.specs.Nets.{Net, HasCutWithin, IsLeastCut}
 use Rattle.flow_core.specs.declared.cut.CutAnswer.{CutAnswer}
 use Rattle.flow_core.specs.declared.cut.CutAnswer.TheVariants.{Cut, Exceeds}
 use Rattle.flow_core.specs.declared.flow.Flow.{Flow}
-use Rattle.graph_core.specs.Common.{components, is_least, IsCovered, Graph, size, first_end, second_end, IsGraph, Allowed, IsWithinLimits}
+use Rattle.graph_core.specs.Common.{components, is_least, IsCovered, Graph, size, edges_in_cut, first_end, second_end, IsGraph, IsTight, Allowed, IsWithinLimits}
 use Rattle.tight_cuts.proofs.EdgeLoop.{ends_between}
 use Rattle.tight_cuts.proofs.LeanLists.{grown_length}
 use Rattle.tight_cuts.proofs.LeaderGroups.{leaders_group}
 use Rattle.tight_cuts.proofs.Leaders.{leader-least, leader-fixed}
 use Rattle.tight_cuts.proofs.LeastShores.{separated_found, separated_says}
-use Rattle.tight_cuts.proofs.Networks.{back, least_back, least_common, parts_nodes}
+use Rattle.tight_cuts.proofs.Networks.{back, back_odd, least_back, least_common, least_once, parts_nodes}
 use Rattle.tight_cuts.proofs.PiecesOfEdges.{beside_graph}
 use Rattle.tight_cuts.specs.Candidates.{lesser_end, greater_end, is_separated, common_shore}
-use Rattle.tight_cuts.specs.EdgeSearch.{AreGroups, AreLeaders, AreRowsAt, AreWeights, IsBeyond, IsCommonShore, IsCutOfGroups, IsShoreOfPair, Leads, arc_between, arcs_by, at_place, group_net, row_group}
+use Rattle.tight_cuts.specs.EdgeSearch.{AreGroups, AreLeaders, AreLeadersAt, AreWeights, IsBeyond, IsCommonShore, IsCutOfGroups, IsShoreOfPair, Leads, arc_between, arcs_by, at_place, group_net, row_group}
 use Rattle.tight_cuts.specs.PairSums.{weight}
 use Rattle.tight_cuts.specs.Pieces.{SeparatesTightly, arcs_of, contracted_net, group_of, leader, IsGrouping}
 
@@ -32,6 +34,14 @@ total_large : (n : ℕ) (f : ℕ → ℕ) → ((v : ℕ) → Within n v → f v 
 total_large zero f h = omega arith
 total_large (suc n) f h = let i = total_large n f (λ v w. h v (omega arith)) in let j = h (suc n) (omega arith) in omega arith
 
+-- what a least cut gives: an odd set that each listed matching crosses once, and the common shore if
+-- it is tight
+pub record IsCutShore (g : Graph) (e : ℕ) (list : List (List ℕ)) (x y : ℕ) (s : Set) : Type 0 where
+  pub odd : is_odd (count g.order s) ≡ true
+  pub odd_complement : is_odd (count g.order (complement s)) ≡ true
+  pub once : All (λ m. edges_in_cut g (mem m) s ≡ 1) list
+  pub common : IsTight g s → ((z : Set) × SeparatesTightly g (lesser_end g e) (greater_end g e) (x, y) z) × ((v : ℕ) → Within g.order v → s v ≡ common_shore g (lesser_end g e) (greater_end g e) (x, y) v)
+
 -- no edge is in more matchings than there are
 weight_within : (ms : List (List ℕ)) (e : ℕ) → weight ms e ≤ length ms
 weight_within [] e = omega arith
@@ -40,12 +50,12 @@ weight_within (m ∷ ms) e =
     let i = weight_within ms e in let b = bit_le_one (mem m e) in omega arith
 
 -- the sum of all weights
-pub weights_small : (g : Graph) (weights : List ℕ) (bound : ℕ) → IsWithinLimits g → AreWeights g weights bound → total (size g) (at_place weights) < 2 ^ 63
-weights_small g weights bound lim w =
+weights_small : (g : Graph) (list : List (List ℕ)) (weights : List ℕ) (bound : ℕ) → IsWithinLimits g → AreWeights g list weights bound → total (size g) (at_place weights) < 2 ^ 63
+weights_small g list weights bound lim w =
     let m = lim.edges in
-    let l = grown_length w.list (size g) w.pairs.rising w.lean in
+    let l = grown_length list (size g) w.grown.rising w.grown.lean in
     let s = total_small (size g) (λ f. f) (λ v wv. omega arith) in
-    let t = total_large (size g) (at_place weights) (λ v wv. let a = w.each v wv in let b = weight_within w.list v in omega arith) in omega arith
+    let t = total_large (size g) (at_place weights) (λ v wv. let a = w.each v wv in let b = weight_within list v in omega arith) in omega arith
 
 module _ (g : Graph) (lim : IsWithinLimits g) (cov : IsCovered g) (e : ℕ) (we : Within (size g) e) where
   is : IsGraph g
@@ -102,8 +112,8 @@ module _ (g : Graph) (lim : IsWithinLimits g) (cov : IsCovered g) (e : ℕ) (we 
       pub groups_within : (v : ℕ) → Within g.order v → Within g.order (row_group (lesser_end g e) (greater_end g e) x y leaders v)
       groups_within v w = subst (Within g.order) (sym (row_same v w)) (grouping.nodes v w)
 
-      module _ (weights : List ℕ) (bound : ℕ) (wt : AreWeights g weights bound) where
-        same_arcs : (k : ℕ) → k ≤ size g → arcs_by g weights (row_group (lesser_end g e) (greater_end g e) x y leaders) k ≡ arcs_of g wt.list groups k
+      module _ (list : List (List ℕ)) (weights : List ℕ) (bound : ℕ) (wt : AreWeights g list weights bound) where
+        same_arcs : (k : ℕ) → k ≤ size g → arcs_by g weights (row_group (lesser_end g e) (greater_end g e) x y leaders) k ≡ arcs_of g list groups k
         same_arcs zero l = refl
         same_arcs (suc k) l =
             let w : Within (size g) (suc k) = omega arith in
@@ -111,59 +121,92 @@ module _ (g : Graph) (lim : IsWithinLimits g) (cov : IsCovered g) (e : ℕ) (we 
             (ap₂ (λ i j. arc_between i j (at_place weights (suc k))) (row_same (first_end g (suc k)) (is (suc k) w).0) (row_same (second_end g (suc k)) (is (suc k) w).1)
             ∙ ap (arc_between (groups (first_end g (suc k))) (groups (second_end g (suc k)))) (wt.each (suc k) w))
 
-        same_net : group_net g weights leaders (lesser_end g e) (greater_end g e) x y ≡ contracted_net g wt.list groups g.order
+        same_net : group_net g weights leaders (lesser_end g e) (greater_end g e) x y ≡ contracted_net g list groups g.order
         same_net = ap (λ arcs. record { nodes = g.order; arcs = arcs }) (same_arcs (size g) (omega arith))
 
-        -- a least cut within the bound gives the common shore
-        pub cut_parts : (set : List ℕ) (value : ℕ) → IsLeastCut (group_net g weights leaders (lesser_end g e) (greater_end g e) x y) (lesser_end g e) (greater_end g e) set value → value ≤ bound →
-            ((z : Set) × SeparatesTightly g (lesser_end g e) (greater_end g e) (x, y) z) × ((v : ℕ) → Within g.order v → mem set (row_group (lesser_end g e) (greater_end g e) x y leaders v) ≡ common_shore g (lesser_end g e) (greater_end g e) (x, y) v)
-        cut_parts set value c l =
-            let cut = subst (λ net. IsLeastCut net (lesser_end g e) (greater_end g e) set value) same_net c in
-            let m : value ≤ length wt.list = let b = wt.is in omega arith in (
-              (
-                back g ld.beside is (lesser_end g e) (greater_end g e) e lesser_within greater_within we (ends_between g e) ld.is allowed wt.list wt.pairs (x, y) lx.within y_within g.order groups grouping (mem set),
-                least_back g ld.beside is (lesser_end g e) (greater_end g e) e lesser_within greater_within we (ends_between g e) ld.is allowed wt.list wt.pairs (x, y) lx.within y_within g.order groups grouping set value cut m,
-              ),
-              λ v w. ap (mem set) (row_same v w) ∙ least_common g ld.beside is (lesser_end g e) (greater_end g e) e lesser_within greater_within we (ends_between g e) ld.is allowed wt.list wt.pairs (x, y) lx.within y_within g.order groups grouping set value cut m v w,
-            )
+        -- what is known of the vertices of a least cut within the bound
+        module _ (set : List ℕ) (value : ℕ) (least : IsLeastCut (group_net g weights leaders (lesser_end g e) (greater_end g e) x y) (lesser_end g e) (greater_end g e) set value) (l : value ≤ bound)
+            (s : Set) (these : (v : ℕ) → Within g.order v → s v ≡ mem set (row_group (lesser_end g e) (greater_end g e) x y leaders v)) where
+          abbrev shore : Set
+          shore = back g ld.beside is (lesser_end g e) (greater_end g e) e lesser_within greater_within we (ends_between g e) ld.is list wt.grown.perfect (x, y) lx.within y_within g.order groups grouping (mem set)
+
+          on_shore : (v : ℕ) → Within g.order v → shore v ≡ s v
+          on_shore v w = sym (these v w ∙ ap (mem set) (row_same v w))
+
+          cut : IsLeastCut (contracted_net g list groups g.order) (lesser_end g e) (greater_end g e) set value
+          cut = subst (λ net. IsLeastCut net (lesser_end g e) (greater_end g e) set value) same_net least
+
+          within : value ≤ length list
+          within = let b = wt.is in omega arith
+
+          odd : (is_odd (count g.order shore) ≡ true) × (is_odd (count g.order (complement shore)) ≡ true)
+          odd = back_odd g ld.beside is (lesser_end g e) (greater_end g e) e lesser_within greater_within we (ends_between g e) ld.is list wt.grown.perfect (x, y) lx.within y_within g.order groups grouping (mem set) cut.separates
+
+          once : All (λ m. edges_in_cut g (mem m) s ≡ 1) list
+          once k d h =
+              sym (count_congr (size g) _ _ (λ f wf. ap₂ (λ a b. mem (get_or list k d) f && ((a && not b) || (not a && b))) (on_shore (first_end g f) (is f wf).0) (on_shore (second_end g f) (is f wf).1)))
+              ∙ least_once g ld.beside is (lesser_end g e) (greater_end g e) e lesser_within greater_within we (ends_between g e) ld.is list wt.grown.perfect (x, y) lx.within y_within g.order groups grouping set value cut within k d h
+
+          common : IsTight g s → ((z : Set) × SeparatesTightly g (lesser_end g e) (greater_end g e) (x, y) z) × ((v : ℕ) → Within g.order v → s v ≡ common_shore g (lesser_end g e) (greater_end g e) (x, y) v)
+          common t =
+              let tight = tight-same g s shore is (λ v w. sym (on_shore v w)) t in (
+                (shore, least_back g ld.beside is (lesser_end g e) (greater_end g e) e lesser_within greater_within we (ends_between g e) ld.is list wt.grown.perfect (x, y) lx.within y_within g.order groups grouping set value cut tight),
+                λ v w. sym (on_shore v w)
+                    ∙ least_common g ld.beside is (lesser_end g e) (greater_end g e) e lesser_within greater_within we (ends_between g e) ld.is list wt.grown.perfect (x, y) lx.within y_within g.order groups grouping set value cut within tight v w,
+              )
+
+          pub cut_facts : IsCutShore g e list x y s
+          cut_facts = record {
+            odd = ap is_odd (count_congr g.order s shore (λ v w. sym (on_shore v w))) ∙ odd.0;
+            odd_complement = ap is_odd (count_congr g.order (complement s) (complement shore) (λ v w. ap not (sym (on_shore v w)))) ∙ odd.1;
+            once = once;
+            common = common;
+          }
 
         -- if no cut is within the bound no tight set separates the groups
         pub no_cut_parts : (HasCutWithin (group_net g weights leaders (lesser_end g e) (greater_end g e) x y) (lesser_end g e) (greater_end g e) bound → ⊥) → (z : Set) → SeparatesTightly g (lesser_end g e) (greater_end g e) (x, y) z → ⊥
         no_cut_parts h z p =
-            let n = parts_nodes g ld.beside is (lesser_end g e) (greater_end g e) e lesser_within greater_within we (ends_between g e) ld.is allowed wt.list wt.pairs (x, y) lx.within y_within g.order groups grouping z p in
+            let n = parts_nodes g ld.beside is (lesser_end g e) (greater_end g e) e lesser_within greater_within we (ends_between g e) ld.is list wt.grown.perfect (x, y) lx.within y_within g.order groups grouping z p in
             h (subst (λ net. HasCutWithin net (lesser_end g e) (greater_end g e) bound) (sym same_net) (record { set = n.0; separates = n.1; within = let b = wt.is in let v = n.3 in omega arith }))
 
 -- all that the code asks at the groups, for the two ends of the edge under any names
-pub record GroupFacts (g : Graph) (e : ℕ) (leaders weights : List ℕ) (bound x y a b : ℕ) : Type 0 where
+pub record GroupFacts (g : Graph) (e : ℕ) (list : List (List ℕ)) (leaders weights : List ℕ) (bound x y a b : ℕ) : Type 0 where
   pub groups : AreGroups g leaders weights a b x y
-  pub cut : (set : List ℕ) (value : ℕ) → IsLeastCut (group_net g weights leaders a b x y) a b set value → value ≤ bound →
-      ((z : Set) × SeparatesTightly g (lesser_end g e) (greater_end g e) (x, y) z) × ((v : ℕ) → Within g.order v → mem set (row_group a b x y leaders v) ≡ common_shore g (lesser_end g e) (greater_end g e) (x, y) v)
+  pub cut : (set : List ℕ) (value : ℕ) → IsLeastCut (group_net g weights leaders a b x y) a b set value → value ≤ bound → (s : Set) → ((v : ℕ) → Within g.order v → s v ≡ mem set (row_group a b x y leaders v)) → IsCutShore g e list x y s
   pub none : (HasCutWithin (group_net g weights leaders a b x y) a b bound → ⊥) → (z : Set) → SeparatesTightly g (lesser_end g e) (greater_end g e) (x, y) z → ⊥
 
-pub group_facts : (g : Graph) (e : ℕ) (leaders weights : List ℕ) (bound x y a b : ℕ) → IsWithinLimits g → AreRowsAt g e weights bound leaders → Leads g e leaders x → IsBeyond g e leaders x y → a ≡ lesser_end g e → b ≡ greater_end g e →
-    GroupFacts g e leaders weights bound x y a b
-group_facts g e leaders weights bound x y a b lim rows lx beyond qa qb =
-    let cov = rows.covered in
-    let we = rows.edge in
-    subst (λ b. GroupFacts g e leaders weights bound x y a b) (sym qb) (subst (λ a. GroupFacts g e leaders weights bound x y a (greater_end g e)) (sym qa) (record {
+pub group_facts : (g : Graph) (e : ℕ) (list : List (List ℕ)) (leaders weights : List ℕ) (bound x y a b : ℕ) → IsWithinLimits g → AreLeadersAt g e leaders → AreWeights g list weights bound → Leads g e leaders x → IsBeyond g e leaders x y → a ≡ lesser_end g e → b ≡ greater_end g e →
+    GroupFacts g e list leaders weights bound x y a b
+group_facts g e list leaders weights bound x y a b lim at weighed lx beyond qa qb =
+    let cov = at.covered in
+    let we = at.edge in
+    subst (λ b. GroupFacts g e list leaders weights bound x y a b) (sym qb) (subst (λ a. GroupFacts g e list leaders weights bound x y a (greater_end g e)) (sym qa) (record {
       groups = record {
-        small = weights_small g weights bound lim rows.weighed;
-        within = groups_within g lim cov e we leaders rows.led x y lx beyond;
+        small = weights_small g list weights bound lim weighed;
+        within = groups_within g lim cov e we leaders at.led x y lx beyond;
         source = lesser_within g lim cov e we;
         sink = greater_within g lim cov e we;
         differ = ends_apart g lim cov e we;
       };
-      cut = cut_parts g lim cov e we leaders rows.led x y lx beyond weights bound rows.weighed;
-      none = no_cut_parts g lim cov e we leaders rows.led x y lx beyond weights bound rows.weighed;
+      cut = cut_facts g lim cov e we leaders at.led x y lx beyond list weights bound weighed;
+      none = no_cut_parts g lim cov e we leaders at.led x y lx beyond list weights bound weighed;
     }))
 
--- what the cut of the groups gives is the common shore
-pub common-from_cut : (g : Graph) (e : ℕ) (leaders weights : List ℕ) (bound x y a b : ℕ) → GroupFacts g e leaders weights bound x y a b → (answer : Option (List ℕ)) → IsCutOfGroups g weights leaders bound a b x y answer →
-    IsCommonShore g (lesser_end g e) (greater_end g e) (x, y) answer
-common-from_cut g e leaders weights bound x y a b facts answer h = record {
-  some = λ s q. let c = h.some s q in let p = facts.cut c.0 c.1 c.2 c.3 in (p.0, λ v w. c.4 v w ∙ p.1 v w);
-  none = λ q. facts.none (h.none q);
+-- the shore that the cut of the groups gives, and what no cut says
+pub cut-shore : (g : Graph) (e : ℕ) (list : List (List ℕ)) (leaders weights : List ℕ) (bound x y a b : ℕ) → GroupFacts g e list leaders weights bound x y a b → (answer : Option (List ℕ)) → IsCutOfGroups g weights leaders bound a b x y answer →
+    (s : List ℕ) → answer ≡ Some s → IsCutShore g e list x y (mem s)
+cut-shore g e list leaders weights bound x y a b facts answer h s q = let c = h.some s q in facts.cut c.0 c.1 c.2 c.3 (mem s) c.4
+
+-- if it is tight it is the common shore
+pub tight-common : (g : Graph) (e : ℕ) (list : List (List ℕ)) (x y : ℕ) (s : List ℕ) → IsCutShore g e list x y (mem s) → IsTight g (mem s) → IsCommonShore g (lesser_end g e) (greater_end g e) (x, y) (Some s)
+tight-common g e list x y s cut tight = record {
+  some = λ t q. let same : s ≡ t = cc in let c = cut.common tight in (c.0, λ v w. ap (λ z. mem z v) (sym same) ∙ c.1 v w);
+  none = λ q. absurd cc;
 }
+
+-- without a cut there is none
+pub none-common : (g : Graph) (e x y : ℕ) → ((z : Set) → SeparatesTightly g (lesser_end g e) (greater_end g e) (x, y) z → ⊥) → IsCommonShore g (lesser_end g e) (greater_end g e) (x, y) None
+none-common g e x y h = record { some = λ s q. absurd cc; none = λ q. h }
 
 -- the common shore of two pieces is what their pair gives
 pub pair-from_common : (g : Graph) (e : ℕ) (leaders : List ℕ) (x y : ℕ) → IsWithinLimits g → IsCovered g → Within (size g) e → Leads g e leaders x → Leads g e leaders y → (answer : Option (List ℕ)) → IsCommonShore g (lesser_end g e) (greater_end g e) (x, y) answer → IsShoreOfPair g e (x, y) answer

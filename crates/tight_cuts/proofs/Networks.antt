@@ -1,14 +1,15 @@
 -- The contracted network.
--- Idea: the value of a set of nodes is the sum over the pair list of the cut of its vertices.
-use Rattle.std.proofs.Common.{◌≡◌, ℕ, suc, zero, ◌+◌, ◌*◌, ◌≤◌, Bool, true, false, cond, ◌==◌, refl, sym, ap, ap₂, ◌∙◌, arith, ◌&&◌, ◌||◌, not, inl, inr, eq-eqb, ne_eqb, eqb-true, List, [], ◌∷◌, length, sum_by, ◌↔◌}
+-- Idea: the value of a set of nodes is the sum over the listed matchings of the cut of its vertices.
+use Rattle.std.proofs.Common.{◌≡◌, ℕ, suc, zero, ◌+◌, ◌*◌, ◌≤◌, Bool, true, false, cond, ◌==◌, refl, sym, ap, ap₂, ◌∙◌, arith, ◌&&◌, ◌||◌, not, inl, inr, eq-eqb, ne_eqb, eqb-true, List, [], ◌∷◌, length, sum_by}
+use Rattle.std.specs.Prelude.{All}
 use Rattle.counting.proofs.Common.{same_tests, cases_eq, and_parts, and_from, or_cases, or_left, or_right, true≢false, sum_by-cons, some_true, true_some, total_congr, total_add, total_none}
 use Rattle.std.proofs.lemmas.List.Sums.{sum_by-append}
-use Rattle.counting.specs.Common.{bit, total, count, Within, is_odd, mem, Set, complement, pair_set, some}
+use Rattle.counting.specs.Common.{bit, total, count, Within, is_odd, mem, none, Set, complement, pair_set, some}
 use Rattle.flow_core.specs.Nets.{leaves_set, value_of, Separates, IsLeastCut}
 use Rattle.graph_core.proofs.Common.{walk_joined, tight-same, joined_self}
-use Rattle.graph_core.specs.Common.{Graph, size, first_end, second_end, IsGraph, in_cut, has_ends, Allowed, IsPairList, IsTight, joined}
+use Rattle.graph_core.specs.Common.{Graph, size, first_end, second_end, IsGraph, in_cut, edges_in_cut, has_ends, IsPerfect, IsTight, joined}
 use Rattle.tight_cuts.proofs.LeastShores.{common_in, common_from}
-use Rattle.tight_cuts.proofs.PairsOfEdges.{pair_list_bound, pair_list_tight, tight_pair_list, cut_between}
+use Rattle.tight_cuts.proofs.PairsOfEdges.{met_bound, met_once, tight_met, cut_between}
 use Rattle.tight_cuts.proofs.PiecesOfEdges.{pieces_odd, tight_piece, beside_graph}
 use Rattle.tight_cuts.specs.Candidates.{common_shore}
 use Rattle.tight_cuts.specs.PairSums.{weight, cut_sum}
@@ -56,7 +57,7 @@ arcs_value g ms group u (suc e) =
 pub value_cut : (g : Graph) (ms : List (List ℕ)) (group : ℕ → ℕ) (r : ℕ) (u : Set) → value_of (contracted_net g ms group r) u ≡ cut_sum g ms (λ v. u (group v))
 value_cut g ms group r u = arcs_value g ms group u (size g) ∙ weights_cut g ms (λ v. u (group v))
 
-module _ (g h : Graph) (is : IsGraph g) (a b e : ℕ) (wa : Within g.order a) (wb : Within g.order b) (we : Within (size g) e) (ends : has_ends g a b e ≡ true) (beside : IsBeside g e h) (al : Allowed g e) (ms : List (List ℕ)) (list : IsPairList g ms)
+module _ (g h : Graph) (is : IsGraph g) (a b e : ℕ) (wa : Within g.order a) (wb : Within g.order b) (we : Within (size g) e) (ends : has_ends g a b e ≡ true) (beside : IsBeside g e h) (ms : List (List ℕ)) (perfect : All (λ m. IsPerfect g none (mem m)) ms)
     (k : ℕ × ℕ) (wx : Within g.order k.0) (wy : Within g.order k.1) (r : ℕ) (group : ℕ → ℕ) (groups : IsGrouping g h a b k r group) where
   -- the vertices of a set of nodes
   abbrev pub back : Set → Set
@@ -68,25 +69,24 @@ module _ (g h : Graph) (is : IsGraph g) (a b e : ℕ) (wa : Within g.order a) (w
   at_b : group b ≡ b
   at_b = groups.sink b wb (or_left (b == b) (joined h (pair_set a b) k.1 b) (eq-eqb b b refl))
 
-  back_odd : (u : Set) → Separates a b u → (is_odd (count g.order (back u)) ≡ true) × (is_odd (count g.order (complement (back u))) ≡ true)
-  back_odd u s = pieces_odd g h is a b e wa wb we ends beside al (back u) (ap u at_a ∙ s.holds) (ap u at_b ∙ s.lacks) (λ p q wp wq j. ap u (groups.kept p q wp wq j))
+  pub back_odd : (u : Set) → Separates a b u → (is_odd (count g.order (back u)) ≡ true) × (is_odd (count g.order (complement (back u))) ≡ true)
+  back_odd u s = pieces_odd g h is a b e wa wb we ends beside (back u) (ap u at_a ∙ s.holds) (ap u at_b ∙ s.lacks) (λ p q wp wq j. ap u (groups.kept p q wp wq j))
 
   -- the value is at least the list's length
   pub value_bound : (u : Set) → Separates a b u → length ms ≤ value_of (contracted_net g ms group r) u
-  value_bound u s = let c = value_cut g ms group r u in let l = pair_list_bound g ms is list (back u) (back_odd u s).0 in omega arith
+  value_bound u s = let c = value_cut g ms group r u in let l = met_bound g ms is perfect (back u) (back_odd u s).0 in omega arith
 
-  -- and is the length exactly when the vertices are tight
-  pub value_tight : (u : Set) → Separates a b u → (value_of (contracted_net g ms group r) u ≡ length ms) ↔ IsTight g (back u)
-  value_tight u s = let o = back_odd u s in let c = value_cut g ms group r u in
-      (λ v. pair_list_tight g ms is list (back u) o.0 o.1 (sym c ∙ v), λ t. c ∙ tight_pair_list g ms is list (back u) o.0 t)
+  -- and is the length if the vertices are tight
+  tight_value : (u : Set) → Separates a b u → IsTight g (back u) → value_of (contracted_net g ms group r) u ≡ length ms
+  tight_value u s t = value_cut g ms group r u ∙ tight_met g ms is perfect (back u) (back_odd u s).0 t
 
   own_piece : (v : ℕ) → Within g.order v → joined h (pair_set a b) v v ≡ true
   own_piece v w = let o = beside.order in walk_joined h (pair_set a b) (beside_graph g h is a b e wa wb we ends beside) v v (omega arith) (joined_self h (pair_set a b) v)
 
-  -- a set of that value separates the pairs
-  pub value_parts : (u : Set) → Separates a b u → value_of (contracted_net g ms group r) u ≡ length ms → SeparatesTightly g a b k (back u)
-  value_parts u s v = record {
-    tight = (value_tight u s).0 v;
+  -- if they are tight they separate the pairs
+  tight_parts : (u : Set) → Separates a b u → IsTight g (back u) → SeparatesTightly g a b k (back u)
+  tight_parts u s t = record {
+    tight = t;
     has_a = ap u at_a ∙ s.holds;
     has_x = ap u (groups.source k.0 wx (or_right (a == k.0) (joined h (pair_set a b) k.0 k.0) (own_piece k.0 wx))) ∙ s.holds;
     lacks_b = ap u at_b ∙ s.lacks;
@@ -132,23 +132,26 @@ module _ (g h : Graph) (is : IsGraph g) (a b e : ℕ) (wa : Within g.order a) (w
   pub parts_nodes : (x : Set) → SeparatesTightly g a b k x → (u : Set) × Separates a b u × ((v : ℕ) → Within g.order v → u (group v) ≡ x v) × (value_of (contracted_net g ms group r) u ≡ length ms)
   parts_nodes x p =
       let s : Separates a b (nodes_of x) = record { holds = ap (nodes_of x) (sym at_a) ∙ nodes_back x p a wa ∙ p.has_a; lacks = ap (nodes_of x) (sym at_b) ∙ nodes_back x p b wb ∙ p.lacks_b } in
-      (nodes_of x, s, nodes_back x p, (value_tight (nodes_of x) s).1 (tight-same g x (back (nodes_of x)) is (λ v w. sym (nodes_back x p v w)) p.tight))
+      (nodes_of x, s, nodes_back x p, tight_value (nodes_of x) s (tight-same g x (back (nodes_of x)) is (λ v w. sym (nodes_back x p v w)) p.tight))
 
   module _ (set : List ℕ) (value : ℕ) (cut : IsLeastCut (contracted_net g ms group r) a b set value) where
     -- a least cut of at most the list's length has that length
     pub least_value : value ≤ length ms → value ≡ length ms
     least_value l = let v = value_bound (mem set) cut.separates in let e = cut.is in omega arith
 
-    -- its vertices are a set that separates the pairs
-    pub least_back : value ≤ length ms → SeparatesTightly g a b k (back (mem set))
-    least_back l = let v = least_value l in let e = cut.is in value_parts (mem set) cut.separates (omega arith)
+    -- so each matching has one edge in the cut of its vertices
+    pub least_once : value ≤ length ms → All (λ m. edges_in_cut g (mem m) (back (mem set)) ≡ 1) ms
+    least_once l = let v = least_value l in let e = cut.is in let c = value_cut g ms group r (mem set) in met_once g ms is perfect (back (mem set)) (back_odd (mem set) cut.separates).0 (omega arith)
 
-    -- and lie in each such set
+    -- they lie in each set that separates the pairs
     pub least_inside : value ≤ length ms → (x : Set) → SeparatesTightly g a b k x → (v : ℕ) → Within g.order v → mem set (group v) ≡ true → x v ≡ true
     least_inside l x p v w t = let q = parts_nodes x p in let c = least_value l in let d = q.3 in sym (q.2 v w) ∙ cut.inside q.0 q.1 (omega arith) (group v) t
 
-    -- so they are the common shore
-    pub least_common : value ≤ length ms → (v : ℕ) → Within g.order v → mem set (group v) ≡ common_shore g a b k v
-    least_common l v w = same_tests (mem set (group v)) (common_shore g a b k v)
+    -- so they are the common shore, if they are tight
+    pub least_back : IsTight g (back (mem set)) → SeparatesTightly g a b k (back (mem set))
+    least_back t = tight_parts (mem set) cut.separates t
+
+    pub least_common : value ≤ length ms → IsTight g (back (mem set)) → (v : ℕ) → Within g.order v → mem set (group v) ≡ common_shore g a b k v
+    least_common l tight v w = same_tests (mem set (group v)) (common_shore g a b k v)
         (λ t. common_from g is a b k wa wb wx wy v (λ z p. least_inside l z p v w t))
-        (λ t. common_in g is a b k wa wb wx wy v w t (back (mem set)) (least_back l))
+        (λ t. common_in g is a b k wa wb wx wy v w t (back (mem set)) (least_back tight))

@@ -1,19 +1,16 @@
 -- Vertices that edges lying together with e join are on one side of each tight set with e in its
 -- cut. If they are all vertices but the ends of e, no pair is separated at e.
 use Rattle.std.proofs.Common.{◌≡◌, ◌≢◌, ℕ, ◌<◌, Bool, true, false, ◌||◌, ◌&&◌, ◌⊎◌, not, ◌==◌, sym, ap, ◌∙◌, List, [], ◌∷◌, None, inl, inr, subst, eq-eqb, ne_eqb, eqb-true, refl, length}
-use Rattle.std.specs.Prelude.{slice_set}
 use Rattle.counting.proofs.Common.{and_from, both_ways, cases_eq, false_from_ne_true, or_cases, or_left, or_right, or_false}
 use Rattle.counting.specs.Common.{Within, mem, Set, pair_set}
 use Rattle.graph_core.specs.Common.{Graph, first_end, in_cut, second_end, size, Together, IsTight}
 use Rattle.graph_core.proofs.Common.{has_ends-cases}
-use Rattle.allowed_edges.proofs.Marking.{length-marked, marks-set}
-use Rattle.match_search.specs.Rows.{marks}
 use Rattle.tight_cuts.proofs.EdgeLoop.{ends_between}
 use Rattle.tight_cuts.proofs.FirstPairs.{no_first}
 use Rattle.tight_cuts.proofs.LeastShores.{separated_says}
 use Rattle.tight_cuts.proofs.PairsOfEdges.{cut_between, others_stay}
 use Rattle.tight_cuts.specs.Candidates.{first_separated, greater_end, is_separated, lesser_end}
-use Rattle.tight_cuts.specs.QuietEdges.{AreQuiet, IsOneSided}
+use Rattle.tight_cuts.specs.QuietEdges.{IsOneSided}
 
 -- one vertex alone
 pub alone : (g : Graph) (e v : ℕ) (x : List ℕ) → x ≡ v ∷ [] → IsOneSided g e (mem x)
@@ -83,13 +80,3 @@ none_parted g e x one all = no_first g.order (is_separated g (lesser_end g e) (g
 -- a vertex that is neither of two, in what is left without them
 pub other_vertex : (full rest others : Set) (a b : ℕ) → ((v : ℕ) → rest v ≡ (full v && not (a == v))) → ((v : ℕ) → others v ≡ (rest v && not (b == v))) → (v : ℕ) → full v ≡ true → a ≢ v → b ≢ v → others v ≡ true
 other_vertex full rest others a b one two v t n m = two v ∙ and_from (rest v) (not (b == v)) (one v ∙ and_from (full v) (not (a == v)) t (ap not (ne_eqb a v n))) (ap not (ne_eqb b v m))
-
--- one edge more is marked
-pub quiet_more : (g : Graph) (row : List Bool) (e : ℕ) → e < length row → AreQuiet g row → first_separated g e ≡ None → AreQuiet g (slice_set row e true)
-quiet_more g row e l q h = record {
-  long = length-marked row e ∙ q.long;
-  quiet = λ k t. elim (cases_eq e k) [
-    | inl r ↦ subst (λ i. first_separated g i ≡ None) r h
-    | inr d ↦ q.quiet k (sym (marks-set row e k l ∙ ap (λ b. marks row k || b) (ne_eqb e k d) ∙ or_false (marks row k)) ∙ t)
-  ];
-}

@@ -1,17 +1,16 @@
--- Two tests of tightness: no two edges of the cut lie together; a pair list meets the cut as
--- often as it is long. Idea: an odd set is met by each perfect matching, so one with an odd cut
--- that is not tight is met twice by some.
+-- A test of tightness: no two edges of the cut lie together. And how often the matchings of a list
+-- meet a cut. Idea: an odd set is met by each perfect matching, so one with an odd cut that is not
+-- tight is met twice by some.
 use Rattle.std.proofs.Common.{◌≡◌, ℕ, suc, ◌+◌, ◌≤◌, ◌≢◌, Bool, true, false, refl, sym, ap, ◌∙◌, arith, ◌&&◌, ◌||◌, not, inl, inr, List, [], ◌∷◌, length, sum_by, get_or}
 use Rattle.counting.proofs.Common.{cases_lt, and_parts, and_from, true≢false, false_from_ne_true, All-head, All-tail, All-cons, All-nil, sum_by-cons, two_members, two_of, odd-double, complement_odd, total_at}
 use Rattle.std.specs.Prelude.{All}
 use Rattle.barrier_kit.proofs.Matched.{inner, even_order}
 use Rattle.counting.specs.Common.{bit, count, Within, is_odd, mem, Set, none, complement}
 use Rattle.graph_core.proofs.Common.{parity, odd_meets, has_ends-cases}
-use Rattle.graph_core.specs.Common.{Graph, size, first_end, second_end, IsGraph, in_cut, has_ends, edges_in_cut, IsPerfect, Allowed, Together, IsPairList, IsTight}
+use Rattle.graph_core.specs.Common.{Graph, size, first_end, second_end, IsGraph, in_cut, has_ends, edges_in_cut, IsPerfect, Allowed, Together, IsTight}
 use Rattle.tight_cuts.specs.PairSums.{cut_sum, NoTwoTogether}
 
--- Tests of tightness: by pairs of edges, and by a pair list. Idea: an odd set meets each perfect
--- matching, so a cut that is not tight is neighbours twice. two edges of one matching in one cut
+-- two edges of one matching in one cut
 pub two_in_cut : (g : Graph) (m x : Set) (e f : ℕ) → Within (size g) e → Within (size g) f → e ≢ f → m e ≡ true → m f ≡ true → in_cut g x e ≡ true → in_cut g x f ≡ true → 2 ≤ edges_in_cut g m x
 two_in_cut g m x e f we wf d me mf ce cf = two_members (size g) (λ e. m e && in_cut g x e) e f we wf d (and_from (m e) (in_cut g x e) me ce) (and_from (m f) (in_cut g x f) mf cf)
 
@@ -57,26 +56,24 @@ sum_ones (m ∷ ms) f h =
     let b = sum_ones ms f (All-tail (λ m. f m ≡ 1) m ms h) in
     let c = All-head (λ m. f m ≡ 1) m ms h in omega arith
 
-module _ (g : Graph) (ms : List (List ℕ)) (is : IsGraph g) (p : IsPairList g ms) (x : Set) (o : is_odd (count g.order x) ≡ true) where
+module _ (g : Graph) (ms : List (List ℕ)) (is : IsGraph g) (perfect : All (λ m. IsPerfect g none (mem m)) ms) (x : Set) (o : is_odd (count g.order x) ≡ true) where
   each_met : All (λ m. 1 ≤ edges_in_cut g (mem m) x) ms
-  each_met k d l = odd_meets g (mem (get_or ms k d)) x is (p.perfect k d l) o
+  each_met k d l = odd_meets g (mem (get_or ms k d)) x is (perfect k d l) o
 
-  -- each odd set is neighbours as often as the list is long
-  pub pair_list_bound : length ms ≤ cut_sum g ms x
+  -- an odd set is met as often as the list is long at least
+  pub met_bound : length ms ≤ cut_sum g ms x
   unfolding cut_sum
-  pair_list_bound = sum_bound ms (λ m. edges_in_cut g (mem m) x) each_met
+  met_bound = sum_bound ms (λ m. edges_in_cut g (mem m) x) each_met
 
-  -- exactly so often if it is tight
-  pub pair_list_tight : is_odd (count g.order (complement x)) ≡ true → cut_sum g ms x ≡ length ms → IsTight g x
+  -- and exactly so often if it is tight
+  pub tight_met : IsTight g x → cut_sum g ms x ≡ length ms
   unfolding cut_sum
-  pair_list_tight r s = alone_tight g x is o r (λ e f we wf d ce cf t.
-      let q = p.both e f we wf t in
-      let ones = sum_tight ms (λ m. edges_in_cut g (mem m) x) each_met s q.0 q.1 q.2 in
-      let two = two_in_cut g (mem (get_or ms q.0 q.1)) x e f we wf d (ap (λ s. mem s e) q.3 ∙ q.4.0) (ap (λ s. mem s f) q.3 ∙ q.4.1) ce cf in omega arith)
+  tight_met t = sum_ones ms (λ m. edges_in_cut g (mem m) x) (λ k d l. t.cut (mem (get_or ms k d)) (perfect k d l))
 
-  pub tight_pair_list : IsTight g x → cut_sum g ms x ≡ length ms
+  -- if it is met so often, each matching has one edge in the cut
+  pub met_once : cut_sum g ms x ≡ length ms → All (λ m. edges_in_cut g (mem m) x ≡ 1) ms
   unfolding cut_sum
-  tight_pair_list t = sum_ones ms (λ m. edges_in_cut g (mem m) x) (λ k d l. t.cut (mem (get_or ms k d)) (p.perfect k d l))
+  met_once s = sum_tight ms (λ m. edges_in_cut g (mem m) x) each_met s
 
 -- one edge of m in the cut
 pub lone_cut : (g : Graph) (m x : Set) (e : ℕ) → Within (size g) e → m e ≡ true → in_cut g x e ≡ true → ((f : ℕ) → Within (size g) f → f ≢ e → m f ≡ true → in_cut g x f ≡ false) → edges_in_cut g m x ≡ 1

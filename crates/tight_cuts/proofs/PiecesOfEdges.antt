@@ -1,12 +1,13 @@
 -- The pieces of an edge. Idea: an edge that lies together with it meets neither of its ends, so
 -- it stays in one piece, and a tight set has it on one side.
 use Rattle.std.proofs.Common.{◌≡◌, ℕ, ◌≤◌, ◌≢◌, Bool, true, false, ◌==◌, refl, sym, ap, ap₂, ◌∙◌, arith, ◌&&◌, ◌||◌, not, inl, inr, ne_eqb}
-use Rattle.counting.proofs.Common.{or_from, both_ways, not-true, alike_not_apart, same_tests}
+use Rattle.counting.proofs.Common.{or_from, both_ways, not-true, alike_not_apart, complement_odd, same_tests}
 use Rattle.barrier_kit.proofs.BarrierCuts.{part_step}
+use Rattle.barrier_kit.proofs.Matched.{even_order}
 use Rattle.counting.specs.Common.{count, Within, is_odd, Set, none, complement, pair_set}
 use Rattle.graph_core.proofs.Common.{joined_walk, walk_joined, ends_of, two_ends_le_degree, has_ends-cases, adjacent-edge, adjacent_within, Walk-stays, IsClosed, joined_self}
 use Rattle.graph_core.specs.Common.{Graph, size, first_end, second_end, IsGraph, in_cut, has_ends, IsPerfect, Allowed, Together, IsTight, joined, Joined, adjacent}
-use Rattle.tight_cuts.proofs.PairsOfEdges.{odd_sides, others_stay, cut_between}
+use Rattle.tight_cuts.proofs.PairsOfEdges.{lone_cut, odd_from_one, others_stay, cut_between}
 use Rattle.tight_cuts.specs.Pieces.{IsBeside}
 use Rattle.match_search.proofs.NearPerfectSets.{ends_far, ends_near}
 
@@ -69,17 +70,17 @@ module _ (g h : Graph) (is : IsGraph g) (a b e : ℕ) (wa : Within g.order a) (w
       let q = apart_ends g t.0 e f b t.1 wb we wf (λ q. d (sym q)) t.2 t.3 n.1 in
       (or_from (a == first_end g f) (b == first_end g f) (ne_eqb a (first_end g f) p.0) (ne_eqb b (first_end g f) q.0), or_from (a == second_end g f) (b == second_end g f) (ne_eqb a (second_end g f) p.1) (ne_eqb b (second_end g f) q.1))
 
-  -- it stays in each piece
-  pub beside_stays : (f u : ℕ) → Within g.order u → Within (size g) f → f ≢ e → Together g e f → joined h (pair_set a b) u (first_end g f) ≡ joined h (pair_set a b) u (second_end g f)
+  -- an edge of the perfect matching with e stays in each piece
+  beside_stays : (f u : ℕ) → Within g.order u → Within (size g) f → f ≢ e → beside.base f ≡ true → joined h (pair_set a b) u (first_end g f) ≡ joined h (pair_set a b) u (second_end g f)
   beside_stays f u wu wf d t =
       let q = beside.every f wf d t in
-      let o = outside_pair f wf d t in
+      let o = outside_pair f wf d (beside.base, beside.perfect, beside.held, t) in
       let r = beside.order in
       let s = part_step h (pair_set a b) u q.0 beside_graph (omega arith) q.1 (ap (pair_set a b) q.2 ∙ o.0) (ap (pair_set a b) q.3 ∙ o.1) in
       ap (joined h (pair_set a b) u) (sym q.2) ∙ s ∙ ap (joined h (pair_set a b) u) q.3
 
   -- so its ends are in one piece
-  pub beside_joined : (f : ℕ) → Within (size g) f → f ≢ e → Together g e f → joined h (pair_set a b) (first_end g f) (second_end g f) ≡ true
+  beside_joined : (f : ℕ) → Within (size g) f → f ≢ e → beside.base f ≡ true → joined h (pair_set a b) (first_end g f) (second_end g f) ≡ true
   beside_joined f wf d t = let w = is f wf in let r = beside.order in
       sym (beside_stays f (first_end g f) w.0 wf d t) ∙ walk_joined h (pair_set a b) beside_graph (first_end g f) (first_end g f) (omega arith) (joined_self h (pair_set a b) (first_end g f))
 
@@ -89,5 +90,8 @@ module _ (g h : Graph) (is : IsGraph g) (a b e : ℕ) (wa : Within g.order a) (w
       ap₂ (λ p q. (x p && not (x q)) || (not (x p) && x q)) d.4 d.5 ∙ others_stay g x e d.0 t we d.1 d.2 d.3 c) u v j
 
   -- a set with a, without b, that is a union of pieces otherwise is odd on both sides
-  pub pieces_odd : Allowed g e → (x : Set) → x a ≡ true → x b ≡ false → ((u v : ℕ) → Within g.order u → Within g.order v → joined h (pair_set a b) u v ≡ true → x u ≡ x v) → (is_odd (count g.order x) ≡ true) × (is_odd (count g.order (complement x)) ≡ true)
-  pieces_odd al x xa xb c = odd_sides g x e is we al (cut_between g x a b e ends xa xb) (λ f wf d t. alike_not_apart (x (first_end g f)) (x (second_end g f)) (c (first_end g f) (second_end g f) (is f wf).0 (is f wf).1 (beside_joined f wf d t)))
+  pub pieces_odd : (x : Set) → x a ≡ true → x b ≡ false → ((u v : ℕ) → Within g.order u → Within g.order v → joined h (pair_set a b) u v ≡ true → x u ≡ x v) → (is_odd (count g.order x) ≡ true) × (is_odd (count g.order (complement x)) ≡ true)
+  pieces_odd x xa xb c =
+      let o = odd_from_one g beside.base x is beside.perfect (lone_cut g beside.base x e we beside.held (cut_between g x a b e ends xa xb) (λ f wf d t.
+      alike_not_apart (x (first_end g f)) (x (second_end g f)) (c (first_end g f) (second_end g f) (is f wf).0 (is f wf).1 (beside_joined f wf d t)))) in
+      (o, complement_odd g.order x (even_order g beside.base is beside.perfect) o)

@@ -6,9 +6,9 @@ use Rattle.std.proofs.lemmas.Option.{slice_get_read}
 use Rattle.std.specs.Prelude.{Some, slice_get, slice_set}
 use Rattle.counting.proofs.Common.{cases_eq, or_left, or_right, or_from, both_ways, sum_by-cons, Rises, mem_low, rises-from_set, bit_le_one, or_false}
 use Rattle.allowed_edges.proofs.Marking.{edges-more}
-use Rattle.allowed_edges.specs.PairTables.{PairsValue, edge_lists}
+use Rattle.allowed_edges.specs.PairTables.{AreGrown, PairsValue, edge_lists}
 use Rattle.counting.specs.Common.{bit, mem}
-use Rattle.graph_core.specs.Common.{Graph, size, IsPairList, IsLean, IsWithinLimits}
+use Rattle.graph_core.specs.Common.{Graph, size, IsWithinLimits}
 use Rattle.tight_cuts.proofs.EdgeShores.{total_small}
 use Rattle.tight_cuts.proofs.LeanLists.{grown_length}
 use Rattle.match_core.proofs.MatchingEdges.{edge_of}
@@ -97,10 +97,10 @@ map-length (k ∷ list) = let i = map-length list in omega arith
 pub length-counted : (xs : List ℕ) (e v : ℕ) → length (slice_set xs e v) ≡ length xs
 length-counted xs e v = search rules
 
--- a lean pair list of a graph within the limits has at most 2^22 matchings
-pub list-small : (g : Graph) (pairs : PairsValue) → IsWithinLimits g → IsPairList g (edge_lists pairs) → IsLean (edge_lists pairs) → length pairs.list ≤ 4194304
-list-small g pairs lim pl lean =
+-- a lean list of perfect matchings of a graph within the limits has at most 2^22 matchings
+pub list-small : (g : Graph) (pairs : PairsValue) → IsWithinLimits g → AreGrown g (edge_lists pairs) → length pairs.list ≤ 4194304
+list-small g pairs lim grown =
     let m = lim.edges in
-    let l = grown_length (edge_lists pairs) (size g) pl.rising lean in
+    let l = grown_length (edge_lists pairs) (size g) grown.rising grown.lean in
     let s = total_small (size g) (λ f. f) (λ v wv. omega arith) in
     let n = map-length pairs.list in omega arith

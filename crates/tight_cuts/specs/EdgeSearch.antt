@@ -1,9 +1,10 @@
 -- What the search at one edge keeps in rows, and what it answers.
 -- Stated by: tight_cuts.
 use Rattle.std.specs.Prelude.{◌≡◌, ◌≢◌, ℕ, zero, suc, ◌+◌, ◌<◌, ◌≤◌, ◌^◌, ◌⊎◌, ◌↔◌, false, true, List, [], ◌∷◌, ◌++◌, ◌==◌, Option, Some, None, cond, length, slice_index_or}
-use Rattle.allowed_edges.specs.PairTables.{PairsValue, SettlesEdges, edge_lists, holds_both}
-use Rattle.counting.specs.Common.{Within, total, Set, pair_set, mem}
-use Rattle.graph_core.specs.Common.{components, IsCovered, Graph, size, first_end, second_end, Together, IsPairList, IsLean}
+use Rattle.allowed_edges.specs.PairTables.{AreGrown, PairsValue, SettlesEdges}
+use Rattle.match_core.specs.MatchingRows.{IsOf, MatchingValue, edges_of}
+use Rattle.counting.specs.Common.{Within, total, Set, none, pair_set, mem}
+use Rattle.graph_core.specs.Common.{components, IsCovered, Graph, size, first_end, second_end, IsPerfect}
 use Rattle.flow_core.specs.Nets.{Arc, Net, HasCutWithin, IsLeastCut}
 use Rattle.tight_cuts.specs.Candidates.{lesser_end, greater_end, is_separated, common_shore, first_separated}
 use Rattle.tight_cuts.specs.PairSums.{weight}
@@ -13,14 +14,19 @@ use Rattle.tight_cuts.specs.Pieces.{IsBeside, SeparatesTightly, leader, group_of
 abbrev pub at_place : List ℕ → ℕ → ℕ
 at_place row i = slice_index_or row i 0
 
--- the row has the weight of each edge in some pair list, and the number is the list's length
-pub record AreWeights (g : Graph) (weights : List ℕ) (bound : ℕ) : Type 0 where
-  pub list : List (List ℕ)
-  pub pairs : IsPairList g list
-  pub lean : IsLean list
+-- the row has the weight of each edge in a lean list of perfect matchings, and the number is the
+-- list's length
+pub record AreWeights (g : Graph) (list : List (List ℕ)) (weights : List ℕ) (bound : ℕ) : Type 0 where
+  pub grown : AreGrown g list
   pub long : length weights ≡ size g + 1
   pub each : (e : ℕ) → Within (size g) e → at_place weights e ≡ weight list e
   pub is : bound ≡ length list
+
+-- a perfect matching of g, and a table in which perfect matchings are listed
+pub record AreMatchings (g : Graph) (kept : MatchingValue) (pairs : PairsValue) : Type 0 where
+  pub of : IsOf g kept
+  pub perfect : IsPerfect g none (mem (edges_of kept))
+  pub listed : SettlesEdges g 1 pairs
 
 -- the row has for each vertex the least vertex of its piece at edge e; an end of e stands for
 -- itself
@@ -30,19 +36,10 @@ pub record AreLeaders (g : Graph) (e : ℕ) (leaders : List ℕ) : Type 0 where
   pub long : length leaders ≡ g.order + 1
   pub each : (v : ℕ) → Within g.order v → at_place leaders v ≡ leader (components beside (pair_set (lesser_end g e) (greater_end g e))) v
 
--- the table says which edges of the graph lie together in a perfect matching, and the row has
--- the weights of the edges
-pub record AreRowsOf (g : Graph) (pairs : PairsValue) (weights : List ℕ) (bound : ℕ) : Type 0 where
-  pub edge_count : pairs.size ≡ size g
-  pub settled : SettlesEdges g 1 pairs
-  pub both : (e f : ℕ) → Within (size g) e → Within (size g) f → (holds_both (edge_lists pairs) e f ≡ true) ↔ Together g e f
-  pub weighed : AreWeights g weights bound
-
--- the rows have the weights and the leaders at edge e of a covered graph
-pub record AreRowsAt (g : Graph) (e : ℕ) (weights : List ℕ) (bound : ℕ) (leaders : List ℕ) : Type 0 where
+-- the row has the leaders at edge e of a covered graph
+pub record AreLeadersAt (g : Graph) (e : ℕ) (leaders : List ℕ) : Type 0 where
   pub covered : IsCovered g
   pub edge : Within (size g) e
-  pub weighed : AreWeights g weights bound
   pub led : AreLeaders g e leaders
 
 -- an arc between two nodes, and none if they are one

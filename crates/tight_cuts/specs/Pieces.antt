@@ -2,8 +2,8 @@
 -- node.
 -- Stated by: tight_cuts, theorems.
 use Rattle.std.specs.Prelude.{◌≡◌, ℕ, zero, suc, ◌≢◌, ◌⊎◌, true, false, List, [], ◌∷◌, ◌++◌, ◌==◌, ◌||◌, cond}
-use Rattle.counting.specs.Common.{Within, Set, pair_set, mem}
-use Rattle.graph_core.specs.Common.{Graph, size, first_end, second_end, Together, IsTight, joined}
+use Rattle.counting.specs.Common.{Within, Set, none, pair_set, mem}
+use Rattle.graph_core.specs.Common.{Graph, size, first_end, second_end, IsPerfect, Together, IsTight, joined}
 use Rattle.flow_core.specs.Nets.{Arc, Net}
 use Rattle.tight_cuts.specs.PairSums.{weight}
 
@@ -15,11 +15,15 @@ pub record SeparatesTightly (g : Graph) (a b : ℕ) (k : ℕ × ℕ) (z : Set) :
   pub lacks_b : z b ≡ false
   pub lacks_y : z k.1 ≡ false
 
--- h has the vertices of g, and for edges those that lie together with e, without e itself
+-- h has the vertices of g, and for edges some that lie together with e, without e itself; among
+-- these are the other edges of some perfect matching that holds e
 pub record IsBeside (g : Graph) (e : ℕ) (h : Graph) : Type 0 where
   pub order : h.order ≡ g.order
   pub from : (f : ℕ) → Within (size h) f → (d : ℕ) × Within (size g) d × (d ≢ e) × Together g e d × (first_end h f ≡ first_end g d) × (second_end h f ≡ second_end g d)
-  pub every : (d : ℕ) → Within (size g) d → d ≢ e → Together g e d → (f : ℕ) × Within (size h) f × (first_end h f ≡ first_end g d) × (second_end h f ≡ second_end g d)
+  pub base : Set
+  pub perfect : IsPerfect g none base
+  pub held : base e ≡ true
+  pub every : (d : ℕ) → Within (size g) d → d ≢ e → base d ≡ true → (f : ℕ) × Within (size h) f × (first_end h f ≡ first_end g d) × (second_end h f ≡ second_end g d)
 
 -- the arcs of the edges 1 to e that join different groups, with the edges' weights
 abbrev pub arcs_of : Graph → List (List ℕ) → (ℕ → ℕ) → ℕ → List Arc

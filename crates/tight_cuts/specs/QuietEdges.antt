@@ -1,4 +1,4 @@
--- Edges at which no pair of vertices is separated, and what shows it.
+-- What shows that at an edge no pair of vertices is separated.
 -- Stated by: tight_cuts.
 use Rattle.std.specs.Prelude.{◌≡◌, ℕ, ◌+◌, true, Bool, List, None, length}
 use Rattle.counting.specs.Common.{Set}
@@ -9,8 +9,3 @@ use Rattle.tight_cuts.specs.Candidates.{first_separated}
 -- each tight set with edge e in its cut holds all of x or nothing of it
 abbrev pub IsOneSided : Graph → ℕ → Set → Type 0
 IsOneSided g e x = (z : Set) → IsTight g z → in_cut g z e ≡ true → (u v : ℕ) → x u ≡ true → x v ≡ true → z u ≡ z v
-
--- the row has a mark for each edge, and at no marked edge a pair is separated
-pub record AreQuiet (g : Graph) (row : List Bool) : Type 0 where
-  pub long : length row ≡ size g + 1
-  pub quiet : (e : ℕ) → marks row e ≡ true → first_separated g e ≡ None

@@ -116,7 +116,12 @@ fn first_shore(g: &MultiGraph, digraph: &Digraph, e: u32) -> Option<VSet>
 impl EdgeSearch for FloodSearch {
     ghost is_of = { λ search g. AreFloodsOf g search.side search.kept };
 
-    fn shore_of_edge(&self, alloc: Global, g: &MultiGraph, e: u32) -> Result<Option<VSet>, Memory> {
+    fn shore_of_edge(
+        &mut self,
+        alloc: Global,
+        g: &MultiGraph,
+        e: u32,
+    ) -> Result<Option<VSet>, Memory> {
         g.keeps_limits();
         let digraph = digraph_at(alloc, g, self, e)?;
         let ends = g.ends(e);

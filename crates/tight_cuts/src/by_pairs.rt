@@ -5,16 +5,15 @@ ghost use Rattle.std.specs.List.{AllPairs, list_any};
 ghost use Rattle.counting.specs.Common.{Within, Set};
 ghost use Rattle.graph_core.specs.Common.{IsCovered, in_cut, size, HasOnlyTrivialTightCuts, IsNontrivial, IsTight};
 ghost use Rattle.tight_cuts.specs.Candidates.{IsTightCandidate, ShoresDiffer, candidates, cuts, greater_end, lesser_end};
-ghost use Rattle.tight_cuts.specs.EdgeSearch.{AreRowsAt, AreRowsOf, IsShoreOfEdge, Leads, NoneBefore};
+ghost use Rattle.tight_cuts.specs.EdgeSearch.{AreLeadersAt, AreMatchings, IsShoreOfEdge, Leads, NoneBefore};
 
 use crate::candidate::CandidateList;
 use crate::edge_cuts::{EdgeSearch, add_edge_cuts};
-use crate::edge_search::{PairRows, leads};
+use crate::edge_search::leads;
 use crate::front::front_candidates;
 use crate::groups::{Grouping, common_shore};
 use crate::leading::leaders_at;
-use crate::pieces::Weights;
-use allowed_edges::no_pairs;
+use crate::matchings::Matchings;
 use graph_core::MultiGraph;
 use graph_facts::Covered;
 use separation_kit::FirstPairs;
@@ -26,17 +25,20 @@ use vset_core::VSet;
 fn shore_at(
     alloc: Global,
     g: &MultiGraph,
-    weights: &Weights,
+    matchings: &mut Matchings,
     leaders: &[u32],
     groups: Grouping,
     e: u32,
 ) -> Result<Option<VSet>, Memory>
-    requires rows { AreRowsAt g.now e weights.now.row.items weights.now.matchings leaders.now }
+    requires matchings { AreMatchings g.now matchings.old.kept matchings.old.pairs }
+    requires leaders { AreLeadersAt g.now e leaders.now }
     requires first { groups.a ≡ lesser_end g.now e }
     requires second { groups.b ≡ greater_end g.now e }
     requires x { Leads g.now e leaders.now groups.x }
     requires y { Within g.now.order groups.y }
     requires before { NoneBefore g.now e groups.x groups.y }
+    ensures matchings { IfOk result
+        (λ _. AreMatchings g.now matchings.new.kept matchings.new.pairs) }
     ensures some { IfOk result (λ o. (s : _) → o ≡ Some s → IsShoreOfEdge g.now e o) }
     ensures none { IfOk result (λ o. o ≡ None → NoneBefore g.now e groups.x (groups.y + 1)) }
 {
@@ -47,7 +49,7 @@ fn shore_at(
     if !leads(leaders, groups.a, groups.b, groups.y) {
         return Ok(None);
     }
-    common_shore(alloc, g, weights, leaders, groups, e)
+    common_shore(alloc, g, matchings, leaders, groups, e)
 }
 
 // What the pairs (x, y) give, for one x and all y, if no pair before them is separated; nothing
@@ -55,14 +57,17 @@ fn shore_at(
 fn shore_beside(
     alloc: Global,
     g: &MultiGraph,
-    weights: &Weights,
+    matchings: &mut Matchings,
     leaders: &[u32],
     e: u32,
     x: u32,
 ) -> Result<Option<VSet>, Memory>
-    requires rows { AreRowsAt g.now e weights.now.row.items weights.now.matchings leaders.now }
+    requires matchings { AreMatchings g.now matchings.old.kept matchings.old.pairs }
+    requires leaders { AreLeadersAt g.now e leaders.now }
     requires x { Within g.now.order x }
     requires before { NoneBefore g.now e x 1 }
+    ensures matchings { IfOk result
+        (λ _. AreMatchings g.now matchings.new.kept matchings.new.pairs) }
     ensures some { IfOk result (λ o. (s : _) → o ≡ Some s → IsShoreOfEdge g.now e o) }
     ensures none { IfOk result (λ o. o ≡ None → NoneBefore g.now e (x + 1) 1) }
 {
@@ -75,7 +80,7 @@ fn shore_beside(
     }
     for k in 0..g.order() {
         let pair = Grouping { a, b, x, y: k + 1 };
-        if let Some(shore) = shore_at(alloc, g, weights, leaders, pair, e)? {
+        if let Some(shore) = shore_at(alloc, g, matchings, leaders, pair, e)? {
             return Ok(Some(shore));
         }
     }
@@ -86,16 +91,19 @@ fn shore_beside(
 fn first_shore(
     alloc: Global,
     g: &MultiGraph,
-    weights: &Weights,
+    matchings: &mut Matchings,
     leaders: &[u32],
     e: u32,
 ) -> Result<Option<VSet>, Memory>
-    requires { AreRowsAt g.now e weights.now.row.items weights.now.matchings leaders.now }
-    ensures { IfOk result (IsShoreOfEdge g.now e) }
+    requires matchings { AreMatchings g.now matchings.old.kept matchings.old.pairs }
+    requires leaders { AreLeadersAt g.now e leaders.now }
+    ensures matchings { IfOk result
+        (λ _. AreMatchings g.now matchings.new.kept matchings.new.pairs) }
+    ensures shore { IfOk result (IsShoreOfEdge g.now e) }
 {
     g.keeps_limits();
     for k in 0..g.order() {
-        if let Some(shore) = shore_beside(alloc, g, weights, leaders, e, k + 1)? {
+        if let Some(shore) = shore_beside(alloc, g, matchings, leaders, e, k + 1)? {
             return Ok(Some(shore));
         }
     }
@@ -105,16 +113,20 @@ fn first_shore(
 /// The search at the edges of any covered graph by a minimum cut for each pair of pieces.
 #[derive(Drop)]
 struct PairSearch {
-    rows: PairRows,
+    matchings: Matchings,
 }
 
 impl EdgeSearch for PairSearch {
-    ghost is_of = { λ search g. AreRowsOf g search.rows.pairs search.rows.weights.row.items
-        search.rows.weights.matchings };
+    ghost is_of = { λ search g. AreMatchings g search.matchings.kept search.matchings.pairs };
 
-    fn shore_of_edge(&self, alloc: Global, g: &MultiGraph, e: u32) -> Result<Option<VSet>, Memory> {
-        let leaders = leaders_at(alloc, g, &self.rows.pairs, e)?;
-        first_shore(alloc, g, &self.rows.weights, &leaders, e)
+    fn shore_of_edge(
+        &mut self,
+        alloc: Global,
+        g: &MultiGraph,
+        e: u32,
+    ) -> Result<Option<VSet>, Memory> {
+        let leaders = leaders_at(alloc, g, &mut self.matchings, e)?;
+        first_shore(alloc, g, &mut self.matchings, &leaders, e)
     }
 }
 
@@ -136,8 +148,8 @@ pub fn candidates_by_pairs(alloc: Global, g: &MultiGraph) -> Result<CandidateLis
     let covered = Covered::known(alloc, g)?;
     let pairs = FirstPairs::of(&covered);
     let mut list = front_candidates(alloc, &pairs)?;
-    let rows = PairRows::new(alloc, g, &[], no_pairs(alloc, g)?)?;
-    let search = PairSearch { rows };
-    add_edge_cuts(alloc, g, &search, 0, &mut list)?;
+    let matchings = Matchings::new(alloc, &covered)?;
+    let mut search = PairSearch { matchings };
+    add_edge_cuts(alloc, g, &mut search, 0, &mut list)?;
     Ok(list)
 }

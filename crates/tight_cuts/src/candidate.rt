@@ -172,24 +172,6 @@ pub(crate) fn candidates_of(
     Ok(list)
 }
 
-/// The shores of a list.
-pub(crate) fn shores_of(alloc: Global, list: &CandidateList) -> Result<SetList, Memory>
-    ensures { IfOk result (λ shores. shores ≡ shores_of list.now) }
-{
-    shores_in(alloc, list.as_slice())
-}
-
-// The shores of these.
-fn shores_in(alloc: Global, items: &[Candidate]) -> Result<SetList, Memory>
-    ensures { IfOk result (λ shores. shores ≡ shores_of (map candidate_of items.now)) }
-{
-    let mut shores = SetList::new(alloc);
-    for candidate in items {
-        shores.push(candidate.shore)?;
-    }
-    Ok(shores)
-}
-
 /// Whether edge `e` of `g` is in the cut of a candidate.
 pub(crate) fn any_cuts(list: &CandidateList, g: &MultiGraph, e: u32) -> bool
     requires { Within (size g.now) e }

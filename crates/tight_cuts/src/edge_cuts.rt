@@ -18,25 +18,32 @@ pub(crate) trait EdgeSearch {
 
     /// What edge `e` gives: the common shore of all tight sets that separate the first pair in
     /// lexicographic order that any separates; `None` exactly when no pair is separated.
-    fn shore_of_edge(&self, alloc: Global, g: &MultiGraph, e: u32) -> Result<Option<VSet>, Memory>
+    fn shore_of_edge(
+        &mut self,
+        alloc: Global,
+        g: &MultiGraph,
+        e: u32,
+    ) -> Result<Option<VSet>, Memory>
         requires covered { IsCovered g.now }
         requires edge { Within (size g.now) e }
-        requires search { is_of self.now g.now }
-        ensures { IfOk result (IsShoreOfEdge g.now e) };
+        requires search { is_of self.old g.now }
+        ensures search { IfOk result (λ _. is_of self.new g.now) }
+        ensures shore { IfOk result (IsShoreOfEdge g.now e) };
 }
 
 /// Adds what one edge gives.
 pub(crate) fn add_edge_cut<S: EdgeSearch>(
     alloc: Global,
     g: &MultiGraph,
-    search: &S,
+    search: &mut S,
     e: u32,
     list: &mut CandidateList,
 ) -> Result<(), Memory>
     requires covered { IsCovered g.now }
     requires edge { Within (size g.now) e }
-    requires search { S.is_of search.now g.now }
-    ensures { OnOk result (list.new ≡ with_edge_cut g.now list.old e) }
+    requires search { S.is_of search.old g.now }
+    ensures search { OnOk result (S.is_of search.new g.now) }
+    ensures list { OnOk result (list.new ≡ with_edge_cut g.now list.old e) }
 {
     g.keeps_limits();
     if any_cuts(list, g, e) {
@@ -55,12 +62,12 @@ pub(crate) fn add_edge_cut<S: EdgeSearch>(
 pub(crate) fn add_edge_cuts<S: EdgeSearch>(
     alloc: Global,
     g: &MultiGraph,
-    search: &S,
+    search: &mut S,
     known: u32,
     list: &mut CandidateList,
 ) -> Result<(), Memory>
     requires covered { IsCovered g.now }
-    requires search { S.is_of search.now g.now }
+    requires search { S.is_of search.old g.now }
     requires within { known ≤ size g.now }
     requires cut { (e : ℕ) → Within known e → list_any (cuts g.now e) list.old ≡ true }
     requires front { list.old ≡ front_candidates g.now }

@@ -8,19 +8,14 @@
 //! S(x) lacks (Picard and Queyranne 1980).
 ghost use Rattle.std.specs.Prelude.{◌≡◌, ◌≢◌, ℕ, ◌+◌, ◌<◌, ◌≤◌, ◌==◌, ◌&&◌, ◌↔◌, All, not, true, false, length, Some, None, IfNone, IfOk, IfSome};
 ghost use Rattle.counting.specs.Common.{Within, mem, pair_set};
-ghost use Rattle.graph_core.specs.Common.{components, IsCovered, size, Together, IsTight};
-ghost use Rattle.allowed_edges.specs.PairTables.{SettlesEdges, edge_lists, holds_both};
 ghost use Rattle.tight_cuts.specs.Candidates.{first_separated, greater_end, lesser_end};
-ghost use Rattle.tight_cuts.specs.EdgeSearch.{AreLeaders, AreRowsAt, AreRowsOf, IsShoreOfEdge, Leads, NoneBefore, at_place};
-ghost use Rattle.tight_cuts.specs.Pieces.{leader};
-ghost use Rattle.tight_cuts.specs.QuietEdges.{AreQuiet};
+ghost use Rattle.tight_cuts.specs.EdgeSearch.{AreLeadersAt, AreMatchings, IsShoreOfEdge, Leads, NoneBefore, at_place};
 
 use crate::edge_cuts::EdgeSearch;
 use crate::groups::{Grouping, common_shore};
 use crate::leading::leaders_at;
-use crate::pieces::{Weights, weights_of};
-use crate::quiet_edges::{is_seen_quiet, quiet_edges};
-use allowed_edges::{PairTable, complete_pairs, no_pairs};
+use crate::matchings::Matchings;
+use crate::quiet_edges::is_quiet;
 use graph_core::MultiGraph;
 use std::alloc::{AllocError as Memory, Global};
 use vset_core::{MOST_VERTICES, VSet};
@@ -48,22 +43,25 @@ pub(crate) fn first_lacking(shore: VSet, n: u32, b: u32) -> Option<u32>
 fn shore_of_piece(
     alloc: Global,
     g: &MultiGraph,
-    weights: &Weights,
+    matchings: &mut Matchings,
     leaders: &[u32],
     groups: Grouping,
     e: u32,
 ) -> Result<Option<VSet>, Memory>
-    requires rows { AreRowsAt g.now e weights.now.row.items weights.now.matchings leaders.now }
+    requires matchings { AreMatchings g.now matchings.old.kept matchings.old.pairs }
+    requires leaders { AreLeadersAt g.now e leaders.now }
     requires first { groups.a ≡ lesser_end g.now e }
     requires second { groups.b ≡ greater_end g.now e }
     requires x { Leads g.now e leaders.now groups.x }
     requires y { groups.y ≡ greater_end g.now e }
     requires before { NoneBefore g.now e groups.x 1 }
+    ensures matchings { IfOk result
+        (λ _. AreMatchings g.now matchings.new.kept matchings.new.pairs) }
     ensures some { IfOk result (λ o. (s : _) → o ≡ Some s → IsShoreOfEdge g.now e o) }
     ensures none { IfOk result (λ o. o ≡ None → NoneBefore g.now e (groups.x + 1) 1) }
 {
     g.keeps_limits();
-    let Some(shore) = common_shore(alloc, g, weights, leaders, groups, e)? else {
+    let Some(shore) = common_shore(alloc, g, matchings, leaders, groups, e)? else {
         return Ok(None);
     };
     match first_lacking(shore, g.order(), groups.b) {
@@ -77,14 +75,17 @@ fn shore_of_piece(
 fn shore_from(
     alloc: Global,
     g: &MultiGraph,
-    weights: &Weights,
+    matchings: &mut Matchings,
     leaders: &[u32],
     e: u32,
     x: u32,
 ) -> Result<Option<VSet>, Memory>
-    requires rows { AreRowsAt g.now e weights.now.row.items weights.now.matchings leaders.now }
+    requires matchings { AreMatchings g.now matchings.old.kept matchings.old.pairs }
+    requires leaders { AreLeadersAt g.now e leaders.now }
     requires x { Within g.now.order x }
     requires before { NoneBefore g.now e x 1 }
+    ensures matchings { IfOk result
+        (λ _. AreMatchings g.now matchings.new.kept matchings.new.pairs) }
     ensures some { IfOk result (λ o. (s : _) → o ≡ Some s → IsShoreOfEdge g.now e o) }
     ensures none { IfOk result (λ o. o ≡ None → NoneBefore g.now e (x + 1) 1) }
 {
@@ -95,7 +96,7 @@ fn shore_from(
     if !leads(leaders, a, b, x) {
         return Ok(None);
     }
-    shore_of_piece(alloc, g, weights, leaders, Grouping { a, b, x, y: b }, e)
+    shore_of_piece(alloc, g, matchings, leaders, Grouping { a, b, x, y: b }, e)
 }
 
 // What the pairs give in order. Only pairs of vertices that lead pieces are asked: a pair is
@@ -103,113 +104,45 @@ fn shore_from(
 fn first_shore(
     alloc: Global,
     g: &MultiGraph,
-    weights: &Weights,
+    matchings: &mut Matchings,
     leaders: &[u32],
     e: u32,
 ) -> Result<Option<VSet>, Memory>
-    requires { AreRowsAt g.now e weights.now.row.items weights.now.matchings leaders.now }
-    ensures { IfOk result (IsShoreOfEdge g.now e) }
+    requires matchings { AreMatchings g.now matchings.old.kept matchings.old.pairs }
+    requires leaders { AreLeadersAt g.now e leaders.now }
+    ensures matchings { IfOk result
+        (λ _. AreMatchings g.now matchings.new.kept matchings.new.pairs) }
+    ensures shore { IfOk result (IsShoreOfEdge g.now e) }
 {
     g.keeps_limits();
     for k in 0..g.order() {
-        if let Some(shore) = shore_from(alloc, g, weights, leaders, e, k + 1)? {
+        if let Some(shore) = shore_from(alloc, g, matchings, leaders, e, k + 1)? {
             return Ok(Some(shore));
         }
     }
     Ok(None)
 }
 
-/// The pairs of edges that lie together, and how often the matchings of that table hold each edge.
-#[derive(Drop)]
-pub(crate) struct PairRows {
-    pub(crate) pairs: PairTable,
-    pub(crate) weights: Weights,
-}
-
-impl PairRows {
-    /// The rows, if the cuts of these shores are tight, from a table in which some matchings are
-    /// listed.
-    pub(crate) fn new(
-        alloc: Global,
-        g: &MultiGraph,
-        shores: &[VSet],
-        begun: PairTable,
-    ) -> Result<PairRows, Memory>
-        requires shores { All (λ s. IsTight g.now (mem s)) shores.now }
-        requires begun { SettlesEdges g.now 1 begun }
-        ensures { IfOk result
-            (λ rows. AreRowsOf g.now rows.pairs rows.weights.row.items rows.weights.matchings) }
-    {
-        let mut pairs = begun;
-        complete_pairs(alloc, g, shores, &mut pairs)?;
-        let weights = weights_of(alloc, g, &pairs)?;
-        Ok(PairRows { pairs, weights })
-    }
-
-    // What edge `e` gives.
-    fn shore_of_edge(&self, alloc: Global, g: &MultiGraph, e: u32) -> Result<Option<VSet>, Memory>
-        requires covered { IsCovered g.now }
-        requires edge { Within (size g.now) e }
-        requires rows { AreRowsOf g.now self.now.pairs self.now.weights.row.items
-            self.now.weights.matchings }
-        ensures { IfOk result (IsShoreOfEdge g.now e) }
-    {
-        if is_seen_quiet(g, &self.pairs, e) {
-            return Ok(None);
-        }
-        let leaders = leaders_at(alloc, g, &self.pairs, e)?;
-        first_shore(alloc, g, &self.weights, &leaders, e)
-    }
-}
-
-/// The search at the edges of any covered graph: the edges that are seen to give nothing, and the
-/// rows for the others. There are no rows if no other edge is to be asked; if one is all the same,
-/// they are made for it.
+/// The search at the edges of any covered graph, by the perfect matchings that are listed so far
+/// and those that it lists.
 #[derive(Drop)]
 pub(crate) struct NetworkSearch {
-    quiet: Vec<bool>,
-    rows: Option<PairRows>,
-}
-
-impl NetworkSearch {
-    /// The search if the cuts of these shores are tight; their edges are not to be asked.
-    pub(crate) fn new(
-        alloc: Global,
-        g: &MultiGraph,
-        shores: &[VSet],
-    ) -> Result<NetworkSearch, Memory>
-        requires { All (λ s. IsTight g.now (mem s)) shores.now }
-        ensures quiet { IfOk result (λ search. AreQuiet g.now search.quiet.items) }
-        ensures rows { IfOk result
-            (λ search. IfSome search.rows (λ rows. AreRowsOf g.now rows.pairs
-            rows.weights.row.items rows.weights.matchings)) }
-    {
-        let mut pairs = no_pairs(alloc, g)?;
-        let quiet = quiet_edges(alloc, g, shores, &mut pairs)?;
-        let rows = if quiet.are_all {
-            None
-        } else {
-            Some(PairRows::new(alloc, g, shores, pairs)?)
-        };
-        Ok(NetworkSearch {
-            quiet: quiet.row,
-            rows,
-        })
-    }
+    pub(crate) matchings: Matchings,
 }
 
 impl EdgeSearch for NetworkSearch {
-    ghost is_of = { λ search g. AreQuiet g search.quiet.items × IfSome search.rows
-        (λ rows. AreRowsOf g rows.pairs rows.weights.row.items rows.weights.matchings) };
+    ghost is_of = { λ search g. AreMatchings g search.matchings.kept search.matchings.pairs };
 
-    fn shore_of_edge(&self, alloc: Global, g: &MultiGraph, e: u32) -> Result<Option<VSet>, Memory> {
-        if self.quiet[e as usize] {
+    fn shore_of_edge(
+        &mut self,
+        alloc: Global,
+        g: &MultiGraph,
+        e: u32,
+    ) -> Result<Option<VSet>, Memory> {
+        if is_quiet(alloc, g, &mut self.matchings, e)? {
             return Ok(None);
         }
-        if let Some(rows) = &self.rows {
-            return rows.shore_of_edge(alloc, g, e);
-        }
-        let rows = PairRows::new(alloc, g, &[], no_pairs(alloc, g)?)?;
-        rows.shore_of_edge(alloc, g, e)
+        let leaders = leaders_at(alloc, g, &mut self.matchings, e)?;
+        first_shore(alloc, g, &mut self.matchings, &leaders, e)
     }
 }

@@ -9,10 +9,11 @@ ghost use Rattle.tight_cuts.specs.Candidates.{IsTightCandidate, ShoresDiffer, ca
 ghost use Rattle.tight_cuts.specs.View.{candidate_of};
 
 use crate::bipartite::FloodSearch;
-use crate::candidate::{Candidate, CandidateList, any_cuts, shores_of};
+use crate::candidate::{Candidate, CandidateList, any_cuts};
 use crate::edge_cuts::{add_edge_cut, add_edge_cuts};
 use crate::edge_search::NetworkSearch;
 use crate::front::{first_front_candidate, front_candidates};
+use crate::matchings::Matchings;
 use graph_core::MultiGraph;
 use graph_facts::{Bipartite, Covered};
 use quick_kinds::is_brace;
@@ -34,21 +35,18 @@ fn edges_cut(list: &CandidateList, g: &MultiGraph) -> u32
     g.size()
 }
 
-// Adds what the edges of any graph give. The table of pairs is made where an edge is in the cut of
-// no earlier candidate, and else not at all.
-fn add_network_cuts(alloc: Global, g: &MultiGraph, list: &mut CandidateList) -> Result<(), Memory>
-    requires covered { IsCovered g.now }
-    requires front { list.old ≡ front_candidates g.now }
-    ensures { OnOk result (list.new ≡ candidates g.now) }
+// Adds what the edges of any graph give. Nothing is made for it if each is in the cut of a candidate.
+fn add_network_cuts(alloc: Global, c: &Covered, list: &mut CandidateList) -> Result<(), Memory>
+    requires { list.old ≡ front_candidates c.now }
+    ensures { OnOk result (list.new ≡ candidates c.now) }
 {
-    g.keeps_limits();
+    let g = c.graph();
     let known = edges_cut(list, g);
     if known == g.size() {
         return Ok(());
     }
-    let shores = shores_of(alloc, list)?;
-    let search = NetworkSearch::new(alloc, g, shores.as_slice())?;
-    add_edge_cuts(alloc, g, &search, known, list)
+    let matchings = Matchings::new(alloc, c)?;
+    add_edge_cuts(alloc, g, &mut NetworkSearch { matchings }, known, list)
 }
 
 // Adds what the edges of a bipartite graph give.
@@ -60,18 +58,18 @@ fn add_flood_cuts(
     requires { list.old ≡ front_candidates bipartite.now }
     ensures { OnOk result (list.new ≡ candidates bipartite.now) }
 {
-    let search = FloodSearch::new(alloc, bipartite)?;
-    add_edge_cuts(alloc, bipartite.graph(), &search, 0, list)
+    let mut search = FloodSearch::new(alloc, bipartite)?;
+    add_edge_cuts(alloc, bipartite.graph(), &mut search, 0, list)
 }
 
 // The first candidate that an edge of a bipartite graph gives, where the first two parts give none.
 fn first_flood_cut(
     alloc: Global,
     g: &MultiGraph,
-    search: &FloodSearch,
+    search: &mut FloodSearch,
 ) -> Result<Option<Candidate>, Memory>
     requires covered { IsCovered g.now }
-    requires floods { AreFloodsOf g.now search.now.side search.now.kept }
+    requires floods { AreFloodsOf g.now search.old.side search.old.kept }
     requires front { front_candidates g.now ≡ [] }
     ensures { IfOk result (λ found. option_map candidate_of found ≡ first_of (candidates g.now)) }
 {
@@ -113,7 +111,7 @@ fn listed_after(
     if list.is_empty() {
         return Ok(list);
     }
-    add_network_cuts(alloc, c.graph(), &mut list)?;
+    add_network_cuts(alloc, c, &mut list)?;
     Ok(list)
 }
 
@@ -187,8 +185,8 @@ fn first_of_bipartite(alloc: Global, bipartite: &Bipartite) -> Result<Option<Can
     if is_brace(alloc, bipartite)? {
         return Ok(None);
     }
-    let search = FloodSearch::new(alloc, bipartite)?;
-    first_flood_cut(alloc, bipartite.graph(), &search)
+    let mut search = FloodSearch::new(alloc, bipartite)?;
+    first_flood_cut(alloc, bipartite.graph(), &mut search)
 }
 
 /// The shore of the first candidate, which is a canonical nontrivial tight shore, and `None`

@@ -4,14 +4,20 @@ ghost use Rattle.counting.specs.Common.{Within, total, mem};
 ghost use Rattle.flow_core.specs.Nets.{total_capacity, with_arc};
 ghost use Rattle.graph_core.specs.Common.{first_end, second_end, size};
 ghost use Rattle.tight_cuts.specs.Candidates.{greater_end, lesser_end};
-ghost use Rattle.tight_cuts.specs.EdgeSearch.{AreGroups, AreRowsAt, IsBeyond, IsCommonShore, IsCutOfGroups, Leads, arc_between, arcs_by, at_place, group_net, row_group};
+ghost use Rattle.tight_cuts.specs.EdgeSearch.{AreGroups, AreLeadersAt, AreMatchings, IsBeyond, IsCommonShore, IsCutOfGroups, Leads, arc_between, arcs_by, at_place, group_net, row_group};
 ghost use Rattle.tight_cuts.specs.Pieces.{group_of};
 
-use crate::pieces::Weights;
+use crate::matchings::Matchings;
+use crate::pieces::{Weights, weights_of};
+use crate::tightness::crossing;
+use allowed_edges::list_new;
 use flow_core::{CutAnswer, Net, min_cut};
 use graph_core::MultiGraph;
 use std::alloc::{AllocError as Memory, Global};
 use vset_core::{MOST_VERTICES, VSet};
+
+// No more matchings are in a list in which each holds an edge, or two, that no earlier one holds.
+const MOST_LISTED: u32 = 4_194_304;
 
 /// The ends `a` and `b` of an edge, and the vertices `x` and `y` that lead two of its pieces: `a`
 /// and the piece of `x` make one group, `b` and the piece of `y` another, and each other piece is
@@ -101,7 +107,7 @@ fn vertices_of(set: VSet, leaders: &[u32], n: u32, groups: Grouping) -> VSet
 }
 
 // The vertices of the least minimum cut of the groups' network, if its value is at most the
-// number of matchings in the pair list.
+// number of listed matchings.
 fn cut_of_groups(
     alloc: Global,
     g: &MultiGraph,
@@ -127,22 +133,39 @@ fn cut_of_groups(
 
 /// The common shore of all tight sets that have `a` and `x` and neither `b` nor `y`, if there
 /// is one. Here `x` leads a piece of edge `e`, and `y` leads another or is `b` itself.
+///
+/// The least minimum cut lies in each such set, so it is the common shore if it is tight. If it is
+/// not, a perfect matching has two edges in it, which no listed one has; it is listed, and the next
+/// cut is another one.
 pub(crate) fn common_shore(
     alloc: Global,
     g: &MultiGraph,
-    weights: &Weights,
+    matchings: &mut Matchings,
     leaders: &[u32],
     groups: Grouping,
     e: u32,
 ) -> Result<Option<VSet>, Memory>
-    requires rows { AreRowsAt g.now e weights.now.row.items weights.now.matchings leaders.now }
+    requires matchings { AreMatchings g.now matchings.old.kept matchings.old.pairs }
+    requires leaders { AreLeadersAt g.now e leaders.now }
     requires first { groups.a ≡ lesser_end g.now e }
     requires second { groups.b ≡ greater_end g.now e }
     requires x { Leads g.now e leaders.now groups.x }
     requires y { IsBeyond g.now e leaders.now groups.x groups.y }
-    ensures { IfOk result
+    ensures matchings { IfOk result
+        (λ _. AreMatchings g.now matchings.new.kept matchings.new.pairs) }
+    ensures shore { IfOk result
         (IsCommonShore g.now (lesser_end g.now e) (greater_end g.now e) (groups.x, groups.y)) }
 {
     g.keeps_limits();
-    cut_of_groups(alloc, g, weights, leaders, groups)
+    for _listed in 0..MOST_LISTED + 1 {
+        let weights = weights_of(alloc, g, &matchings.pairs)?;
+        let Some(shore) = cut_of_groups(alloc, g, &weights, leaders, groups)? else {
+            return Ok(None);
+        };
+        match crossing(alloc, g, shore, &matchings.kept)? {
+            None => return Ok(Some(shore)),
+            Some(matching) => list_new(g, &mut matchings.pairs, matching)?,
+        }
+    }
+    unreachable!()
 }

@@ -1,13 +1,13 @@
 //! The vertices that lead the pieces of an edge.
-ghost use Rattle.std.specs.Prelude.{◌≡◌, ℕ, ◌+◌, ◌↔◌, true, length, IfOk};
+ghost use Rattle.std.specs.Prelude.{◌≡◌, ℕ, ◌+◌, length, IfOk};
 ghost use Rattle.counting.specs.Common.{Within, pair_set};
-ghost use Rattle.graph_core.specs.Common.{components, size, Together};
-ghost use Rattle.allowed_edges.specs.PairTables.{edge_lists, holds_both};
-ghost use Rattle.tight_cuts.specs.EdgeSearch.{AreLeaders, at_place};
+ghost use Rattle.graph_core.specs.Common.{components, size, IsCovered};
+ghost use Rattle.tight_cuts.specs.EdgeSearch.{AreLeadersAt, AreMatchings, at_place};
 ghost use Rattle.tight_cuts.specs.Pieces.{leader};
 
+use crate::matchings::Matchings;
 use crate::pieces::graph_beside;
-use allowed_edges::PairTable;
+use allowed_edges::list_with_edge;
 use graph_core::MultiGraph;
 use std::alloc::{AllocError as Memory, Global};
 use vset_core::{MOST_VERTICES, VSet};
@@ -51,23 +51,25 @@ fn leaders_of(alloc: Global, h: &MultiGraph, a: u32, b: u32) -> Result<Vec<u32>,
 }
 
 /// For each vertex the least vertex of its piece at edge `e`; the ends of `e` stand for
-/// themselves.
+/// themselves. A matching that holds `e` is listed first, unless one is.
 pub(crate) fn leaders_at(
     alloc: Global,
     g: &MultiGraph,
-    pairs: &PairTable,
+    matchings: &mut Matchings,
     e: u32,
 ) -> Result<Vec<u32>, Memory>
+    requires covered { IsCovered g.now }
     requires edge { Within (size g.now) e }
-    requires size { pairs.now.size ≡ size g.now }
-    requires both { (e f : ℕ) → Within (size g.now) e → Within (size g.now) f →
-        (holds_both (edge_lists pairs.now) e f ≡ true) ↔ Together g.now e f }
-    ensures { IfOk result (λ row. AreLeaders g.now e row.items) }
+    requires matchings { AreMatchings g.now matchings.old.kept matchings.old.pairs }
+    ensures matchings { IfOk result
+        (λ _. AreMatchings g.now matchings.new.kept matchings.new.pairs) }
+    ensures leaders { IfOk result (λ row. AreLeadersAt g.now e row.items) }
 {
     g.keeps_limits();
+    list_with_edge(alloc, g, &matchings.kept, &mut matchings.pairs, e)?;
     let ends = g.ends(e);
     let a = ends.a.min(ends.b);
     let b = ends.a.max(ends.b);
-    let beside = graph_beside(alloc, g, pairs, e)?;
+    let beside = graph_beside(alloc, g, &matchings.pairs, e)?;
     leaders_of(alloc, &beside, a, b)
 }

@@ -44,6 +44,7 @@ mod finder;
 mod front;
 mod groups;
 mod leading;
+mod matchings;
 mod pieces;
 mod quiet_edges;
 mod tightness;

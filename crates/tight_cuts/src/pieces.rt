@@ -1,10 +1,10 @@
-//! What the search at an edge stands on: how often the matchings of a pair list hold each edge,
-//! and the graph of the edges that lie together with one edge.
+//! What the search at an edge stands on: how often the listed matchings hold each edge, and the
+//! graph of the edges that they hold together with one edge.
 ghost use Rattle.std.specs.Prelude.{◌≡◌, ℕ, ◌+◌, ◌<◌, ◌≤◌, ◌-◌, ◌^◌, ◌↔◌, true, All, IfOk, length, map};
 ghost use Rattle.counting.specs.Common.{Within, bit, mem};
-ghost use Rattle.graph_core.specs.Common.{size, Together, IsLean, IsPairList};
-ghost use Rattle.match_core.specs.MatchingRows.{IsOf, edges_of};
-ghost use Rattle.allowed_edges.specs.PairTables.{edge_lists, holds_both};
+ghost use Rattle.graph_core.specs.Common.{size};
+ghost use Rattle.match_core.specs.MatchingRows.{edges_of};
+ghost use Rattle.allowed_edges.specs.PairTables.{SettlesEdges, edge_lists, holds_both};
 ghost use Rattle.tight_cuts.specs.EdgeSearch.{AreWeights, at_place};
 ghost use Rattle.tight_cuts.specs.PairSums.{weight};
 ghost use Rattle.tight_cuts.specs.Pieces.{IsBeside};
@@ -14,8 +14,7 @@ use graph_core::MultiGraph;
 use match_core::Matching;
 use std::alloc::{AllocError as Memory, Global};
 
-/// How many matchings of a pair list hold each edge, by edge number, and how many matchings the
-/// list has.
+/// How many matchings of a list hold each edge, by edge number, and how many matchings it has.
 #[derive(Drop)]
 pub(crate) struct Weights {
     pub(crate) row: Vec<u64>,
@@ -37,16 +36,16 @@ fn count_edges(row: &mut Vec<u64>, m: &Matching)
     }
 }
 
-/// How many of the table's matchings hold each edge of `g`.
+/// How many of the listed matchings hold each edge of `g`.
 pub(crate) fn weights_of(
     alloc: Global,
     g: &MultiGraph,
     pairs: &PairTable,
 ) -> Result<Weights, Memory>
-    requires of { All (IsOf g.now) pairs.now.list }
-    requires list { IsPairList g.now (edge_lists pairs.now) }
-    requires lean { IsLean (edge_lists pairs.now) }
-    ensures { IfOk result (λ weights. AreWeights g.now weights.row.items weights.matchings) }
+    requires { SettlesEdges g.now 1 pairs.now }
+    ensures { IfOk result
+        (λ weights. AreWeights g.now (edge_lists pairs.now) weights.row.items
+        weights.matchings) }
 {
     g.keeps_limits();
     let mut row = vec![in alloc; 0; g.size() as usize + 1]?;
@@ -61,8 +60,8 @@ pub(crate) fn weights_of(
     })
 }
 
-/// The graph with the vertices of `g` and, for edges, those that lie together with edge `e`,
-/// without `e` itself.
+/// The graph with the vertices of `g` and, for edges, those that a listed matching holds together
+/// with edge `e`, without `e` itself. Some listed matching holds `e`.
 pub(crate) fn graph_beside(
     alloc: Global,
     g: &MultiGraph,
@@ -70,9 +69,8 @@ pub(crate) fn graph_beside(
     e: u32,
 ) -> Result<MultiGraph, Memory>
     requires edge { Within (size g.now) e }
-    requires size { pairs.now.size ≡ size g.now }
-    requires both { (e f : ℕ) → Within (size g.now) e → Within (size g.now) f →
-        (holds_both (edge_lists pairs.now) e f ≡ true) ↔ Together g.now e f }
+    requires listed { SettlesEdges g.now 1 pairs.now }
+    requires held { holds_both (edge_lists pairs.now) e e ≡ true }
     ensures { IfOk result (IsBeside g.now e) }
 {
     g.keeps_limits();

@@ -5,81 +5,32 @@
 //! one side, and no two of them are separated at e: the edge is quiet. Mostly a few perfect
 //! matchings show it, and each of them serves all edges that it holds.
 ghost use Rattle.std.specs.Prelude.{◌≡◌, ◌≢◌, ℕ, true, IfOk, None};
-ghost use Rattle.counting.specs.Common.{Within, mem, none};
-ghost use Rattle.graph_core.specs.Common.{first_end, second_end, size, IsPerfect};
-ghost use Rattle.match_core.specs.MatchingRows.{IsOf, edges_of};
+ghost use Rattle.counting.specs.Common.{Within, mem};
+ghost use Rattle.graph_core.specs.Common.{first_end, second_end, size};
 ghost use Rattle.allowed_edges.specs.PairTables.{IsPerfectWith, SettlesEdges};
 ghost use Rattle.tight_cuts.specs.Candidates.{first_separated};
-ghost use Rattle.tight_cuts.specs.QuietEdges.{AreQuiet, IsOneSided};
+ghost use Rattle.tight_cuts.specs.EdgeSearch.{AreMatchings};
+ghost use Rattle.tight_cuts.specs.QuietEdges.{IsOneSided};
 
-use allowed_edges::{PairTable, base_with_edge, in_some_cut, seek_pair};
+use crate::matchings::Matchings;
+use allowed_edges::{PairTable, base_with_edge, seek_pair};
 use graph_core::{MultiGraph, is_in_cut};
-use match_core::{Matching, perfect_without};
+use match_core::Matching;
 use std::alloc::{AllocError as Memory, Global};
 use vset_core::VSet;
 
-/// Marks on edges that are seen to be quiet, by edge number.
-#[derive(Drop)]
-pub(crate) struct QuietEdges {
-    pub(crate) row: Vec<bool>,
-    /// Whether each edge that is in the cut of no shore is marked. Nothing is proved of it.
-    pub(crate) are_all: bool,
-}
-
-/// The edges that are in the cut of no shore and are seen to be quiet, up to the first that is not
-/// seen to be so. The matchings that show it are listed in `pairs`.
-pub(crate) fn quiet_edges(
+/// Whether edge `e` is seen to be quiet, by the matchings that are listed and by others that are
+/// sought and listed.
+pub(crate) fn is_quiet(
     alloc: Global,
     g: &MultiGraph,
-    shores: &[VSet],
-    pairs: &mut PairTable,
-) -> Result<QuietEdges, Memory>
-    requires { SettlesEdges g.now 1 pairs.old }
-    ensures begun { IfOk result (λ _. SettlesEdges g.now 1 pairs.new) }
-    ensures quiet { IfOk result (λ quiet. AreQuiet g.now quiet.row.items) }
-{
-    let mut row = none_quiet(alloc, g)?;
-    let Some(kept) = perfect_without(alloc, g, VSet::empty())? else {
-        return Ok(QuietEdges {
-            row,
-            are_all: false,
-        });
-    };
-    for k in 0..g.size() {
-        if !in_some_cut(g, shores, k + 1) {
-            if !is_quiet(alloc, g, &kept, pairs, k + 1)? {
-                return Ok(QuietEdges {
-                    row,
-                    are_all: false,
-                });
-            }
-            row[k as usize + 1] = true;
-        }
-    }
-    Ok(QuietEdges { row, are_all: true })
-}
-
-// No mark on any edge.
-fn none_quiet(alloc: Global, g: &MultiGraph) -> Result<Vec<bool>, Memory>
-    ensures { IfOk result (λ row. AreQuiet g.now row.items) }
-{
-    let row = vec![in alloc; false; g.size() as usize + 1]?;
-    Ok(row)
-}
-
-// Whether edge `e` is seen to be quiet.
-fn is_quiet(
-    alloc: Global,
-    g: &MultiGraph,
-    kept: &Matching,
-    pairs: &mut PairTable,
+    matchings: &mut Matchings,
     e: u32,
 ) -> Result<bool, Memory>
     requires edge { Within (size g.now) e }
-    requires of { IsOf g.now kept.now }
-    requires perfect { IsPerfect g.now none (mem (edges_of kept.now)) }
-    requires begun { SettlesEdges g.now 1 pairs.old }
-    ensures begun { IfOk result (λ _. SettlesEdges g.now 1 pairs.new) }
+    requires matchings { AreMatchings g.now matchings.old.kept matchings.old.pairs }
+    ensures matchings { IfOk result
+        (λ _. AreMatchings g.now matchings.new.kept matchings.new.pairs) }
     ensures quiet { IfOk result (λ quiet. quiet ≡ true → first_separated g.now e ≡ None) }
 {
     g.keeps_limits();
@@ -87,29 +38,16 @@ fn is_quiet(
     let Some(start) = others.first() else {
         return Ok(false);
     };
-    let near = widened(g, pairs, e, VSet::one(start));
+    let near = widened(g, &matchings.pairs, e, VSet::one(start));
     if others.is_subset(near) {
         return Ok(true);
     }
-    match base_with_edge(alloc, g, kept, pairs, e)? {
+    match base_with_edge(alloc, g, &matchings.kept, &matchings.pairs, e)? {
         None => Ok(false),
         Some(base) => {
-            let reach = reach_of(alloc, g, base, pairs, e, near, others)?;
+            let reach = reach_of(alloc, g, base, &mut matchings.pairs, e, near, others)?;
             Ok(others.is_subset(reach))
         }
-    }
-}
-
-/// Whether edge `e` is seen to be quiet by the listed matchings alone. Takes no memory.
-pub(crate) fn is_seen_quiet(g: &MultiGraph, pairs: &PairTable, e: u32) -> bool
-    requires edge { Within (size g.now) e }
-    requires begun { SettlesEdges g.now 1 pairs.now }
-    ensures { result ≡ true → first_separated g.now e ≡ None }
-{
-    let others = without_ends(g, e);
-    match others.first() {
-        None => false,
-        Some(start) => others.is_subset(widened(g, pairs, e, VSet::one(start))),
     }
 }
 

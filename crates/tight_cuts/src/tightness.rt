@@ -44,9 +44,9 @@ pub fn is_tight(alloc: Global, g: &MultiGraph, shore: VSet) -> Result<Tightness,
     }
 }
 
-// A perfect matching with two edges of the cut, from a perfect matching; none exactly when no
-// edge of the cut lies together with a later one.
-fn crossing(
+/// A perfect matching with two edges of the cut, from a perfect matching; none exactly when no
+/// edge of the cut lies together with a later one.
+pub(crate) fn crossing(
     alloc: Global,
     g: &MultiGraph,
     shore: VSet,

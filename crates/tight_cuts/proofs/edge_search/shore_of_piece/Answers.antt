@@ -7,15 +7,15 @@ use Rattle.tight_cuts.proofs.edge_search.shore_of_piece.Goals as goal
 
 pub returns-in_default-clause-none : goal.returns-in_default-clause-none
 returns-in_default-clause-none c n = first_done c.args.g.now c.args.e c.args.groups.x c.requires.before (λ y w.
-    piece_none c.args.g.now c.keeps_limits.ensures c.requires.rows.covered c.args.e c.requires.rows.edge c.args.groups.x c.requires.x.within c.in_ok-shore.field-0
-    (subst (λ j. IsCommonShore c.args.g.now (lesser_end c.args.g.now c.args.e) (greater_end c.args.g.now c.args.e) (c.args.groups.x, j) c.in_ok-shore.field-0) c.requires.y c.in_ok-shore.ensures)
+    piece_none c.args.g.now c.keeps_limits.ensures c.requires.leaders.covered c.args.e c.requires.leaders.edge c.args.groups.x c.requires.x.within c.in_ok-shore.field-0
+    (subst (λ j. IsCommonShore c.args.g.now (lesser_end c.args.g.now c.args.e) (greater_end c.args.g.now c.args.e) (c.args.groups.x, j) c.in_ok-shore.field-0) c.requires.y c.in_ok-shore.ensures.shore)
     c.in_default.is y)
 
 pub returns-in-Some-first_lacking-clause-some : goal.returns-in-Some-first_lacking-clause-some
 returns-in-Some-first_lacking-clause-some c s q =
     let lacks = c.in-Some-first_lacking.ensures.some in
-    piece_found c.args.g.now c.keeps_limits.ensures c.requires.rows.covered c.args.e c.requires.rows.edge c.args.groups.x c.requires.x.within c.in_ok-shore.field-0
-    (subst (λ j. IsCommonShore c.args.g.now (lesser_end c.args.g.now c.args.e) (greater_end c.args.g.now c.args.e) (c.args.groups.x, j) c.in_ok-shore.field-0) c.requires.y c.in_ok-shore.ensures)
+    piece_found c.args.g.now c.keeps_limits.ensures c.requires.leaders.covered c.args.e c.requires.leaders.edge c.args.groups.x c.requires.x.within c.in_ok-shore.field-0
+    (subst (λ j. IsCommonShore c.args.g.now (lesser_end c.args.g.now c.args.e) (greater_end c.args.g.now c.args.e) (c.args.groups.x, j) c.in_ok-shore.field-0) c.requires.y c.in_ok-shore.ensures.shore)
     c.requires.x.outside
     c.requires.before c.in-Some.shore c.in-Some.is c.in-Some-first_lacking.field-0
     (subst (λ n. Within n c.in-Some-first_lacking.field-0) c.order.ensures.is lacks.0)
@@ -24,7 +24,7 @@ returns-in-Some-first_lacking-clause-some c s q =
 
 pub returns-in-None-clause-none : goal.returns-in-None-clause-none
 returns-in-None-clause-none c n = first_done c.args.g.now c.args.e c.args.groups.x c.requires.before
-    (piece_full c.args.g.now c.keeps_limits.ensures c.requires.rows.covered c.args.e c.requires.rows.edge c.args.groups.x c.requires.x.within c.in_ok-shore.field-0
-    (subst (λ j. IsCommonShore c.args.g.now (lesser_end c.args.g.now c.args.e) (greater_end c.args.g.now c.args.e) (c.args.groups.x, j) c.in_ok-shore.field-0) c.requires.y c.in_ok-shore.ensures)
+    (piece_full c.args.g.now c.keeps_limits.ensures c.requires.leaders.covered c.args.e c.requires.leaders.edge c.args.groups.x c.requires.x.within c.in_ok-shore.field-0
+    (subst (λ j. IsCommonShore c.args.g.now (lesser_end c.args.g.now c.args.e) (greater_end c.args.g.now c.args.e) (c.args.groups.x, j) c.in_ok-shore.field-0) c.requires.y c.in_ok-shore.ensures.shore)
     c.in-Some.shore c.in-Some.is
     (λ y w d. c.in-None.ensures.none y (subst (λ n. Within n y) (sym c.order.ensures.is) w) (λ e. d (e ∙ c.requires.second))))

@@ -1,7 +1,8 @@
 use Rattle.std.proofs.Common.{◌≡◌, []}
 use Rattle.tight_cuts.specs.Candidates.{front_candidates}
+use Rattle.tight_cuts.specs.EdgeDigraphs.{AreFloodsOf}
 use Rattle.tight_cuts.proofs.EdgeLoop.{after_edges}
 use Rattle.tight_cuts.proofs.finder.first_flood_cut.Given as goal
 
 abbrev pub invariant-loop-k : goal.invariant-loop-k
-invariant-loop-k l = record { list : l.list ≡ after_edges l.g (front_candidates l.g) l.k; none : l.list ≡ [] }
+invariant-loop-k l = record { floods : AreFloodsOf l.g l.search.side l.search.kept; list : l.list ≡ after_edges l.g (front_candidates l.g) l.k; none : l.list ≡ [] }

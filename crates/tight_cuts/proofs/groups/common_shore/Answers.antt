@@ -1,19 +1,43 @@
-use Rattle.counting.proofs.Common.{IfOk-weaker}
-use Rattle.tight_cuts.specs.Candidates.{greater_end, lesser_end}
-use Rattle.tight_cuts.specs.EdgeSearch.{IsCommonShore, IsCutOfGroups}
-use Rattle.tight_cuts.proofs.EdgeShores.{common-from_cut, group_facts}
+use Rattle.std.proofs.Common.{◌+◌, ◌∷◌, [], ap, arith, length, length-append}
+use Rattle.counting.specs.Common.{mem}
+use Rattle.allowed_edges.specs.PairTables.{edge_lists}
+use Rattle.tight_cuts.proofs.CrossingMatchings.{crosses_new, later_tight}
+use Rattle.tight_cuts.proofs.EdgeShores.{cut-shore, group_facts, none-common, tight-common}
+use Rattle.tight_cuts.proofs.Weighing.{list-small}
 use Rattle.tight_cuts.proofs.groups.common_shore.Goals as goal
 
 pub cut_of_groups-requires-clause-groups : goal.cut_of_groups-requires-clause-groups
 cut_of_groups-requires-clause-groups c =
-    (group_facts c.args.g.now c.args.e c.args.leaders.now c.args.weights.now.row.items c.args.weights.now.matchings c.args.groups.x c.args.groups.y c.args.groups.a c.args.groups.b
-    c.keeps_limits.ensures c.requires.rows c.requires.x c.requires.y c.requires.first c.requires.second).groups
+    (group_facts c.args.g.now c.args.e (edge_lists c.loop-listed.matchings.pairs) c.args.leaders.now c.in_ok-weights.weights.row.items c.in_ok-weights.weights.matchings c.args.groups.x c.args.groups.y c.args.groups.a c.args.groups.b
+    c.keeps_limits.ensures c.requires.leaders c.in_ok-weights.ensures c.requires.x c.requires.y c.requires.first c.requires.second).groups
 
-pub returns : goal.returns
-returns c =
-    let facts = group_facts c.args.g.now c.args.e c.args.leaders.now c.args.weights.now.row.items c.args.weights.now.matchings c.args.groups.x c.args.groups.y c.args.groups.a c.args.groups.b
-    c.keeps_limits.ensures c.requires.rows c.requires.x c.requires.y c.requires.first c.requires.second in
-    IfOk-weaker c.cut_of_groups.result (IsCutOfGroups c.args.g.now c.args.weights.now.row.items c.args.leaders.now c.args.weights.now.matchings c.args.groups.a c.args.groups.b c.args.groups.x c.args.groups.y)
-    (IsCommonShore c.args.g.now (lesser_end c.args.g.now c.args.e) (greater_end c.args.g.now c.args.e) (c.args.groups.x, c.args.groups.y))
-    (common-from_cut c.args.g.now c.args.e c.args.leaders.now c.args.weights.now.row.items c.args.weights.now.matchings c.args.groups.x c.args.groups.y c.args.groups.a c.args.groups.b facts)
-    c.cut_of_groups.ensures
+pub returns-in_default-clause-shore : goal.returns-in_default-clause-shore
+returns-in_default-clause-shore c =
+    let facts = group_facts c.args.g.now c.args.e (edge_lists c.loop-listed.matchings.pairs) c.args.leaders.now c.in_ok-weights.weights.row.items c.in_ok-weights.weights.matchings c.args.groups.x c.args.groups.y c.args.groups.a c.args.groups.b
+    c.keeps_limits.ensures c.requires.leaders c.in_ok-weights.ensures c.requires.x c.requires.y c.requires.first c.requires.second in
+    none-common c.args.g.now c.args.e c.args.groups.x c.args.groups.y (facts.none (c.in_ok-shore.ensures.none c.in_default.is))
+
+pub returns-in-None-clause-shore : goal.returns-in-None-clause-shore
+returns-in-None-clause-shore c =
+    let list = edge_lists c.loop-listed.matchings.pairs in
+    let facts = group_facts c.args.g.now c.args.e list c.args.leaders.now c.in_ok-weights.weights.row.items c.in_ok-weights.weights.matchings c.args.groups.x c.args.groups.y c.args.groups.a c.args.groups.b
+    c.keeps_limits.ensures c.requires.leaders c.in_ok-weights.ensures c.requires.x c.requires.y c.requires.first c.requires.second in
+    let shore = cut-shore c.args.g.now c.args.e list c.args.leaders.now c.in_ok-weights.weights.row.items c.in_ok-weights.weights.matchings c.args.groups.x c.args.groups.y c.args.groups.a c.args.groups.b
+    facts c.in_ok-shore.field-0 c.in_ok-shore.ensures c.in-Some.shore c.in-Some.is in
+    tight-common c.args.g.now c.args.e list c.args.groups.x c.args.groups.y c.in-Some.shore shore
+    (later_tight c.args.g.now (mem c.in-Some.shore) c.keeps_limits.ensures.multigraph.ends shore.odd shore.odd_complement (c.in_ok-crossing.ensures.none c.in-None.is))
+
+pub list_new-requires-clause-new : goal.list_new-requires-clause-new
+list_new-requires-clause-new c =
+    let list = edge_lists c.loop-listed.matchings.pairs in
+    let facts = group_facts c.args.g.now c.args.e list c.args.leaders.now c.in_ok-weights.weights.row.items c.in_ok-weights.weights.matchings c.args.groups.x c.args.groups.y c.args.groups.a c.args.groups.b
+    c.keeps_limits.ensures c.requires.leaders c.in_ok-weights.ensures c.requires.x c.requires.y c.requires.first c.requires.second in
+    let shore = cut-shore c.args.g.now c.args.e list c.args.leaders.now c.in_ok-weights.weights.row.items c.in_ok-weights.weights.matchings c.args.groups.x c.args.groups.y c.args.groups.a c.args.groups.b
+    facts c.in_ok-shore.field-0 c.in_ok-shore.ensures c.in-Some.shore c.in-Some.is in
+    crosses_new c.args.g.now (mem c.in-Some.shore) c.loop-listed.matchings.pairs c.in-Some-2.matching shore.once (c.in_ok-crossing.ensures.some c.in-Some-2.matching c.in-Some-2.is)
+
+pub unreachable-requires : goal.unreachable-requires
+unreachable-requires c =
+    let s = list-small c.args.g.now c.loop-listed.matchings.pairs c.keeps_limits.ensures c.loop-listed.invariant.matchings.listed.grown in
+    let m = c.loop-listed.invariant.more in
+    let l = c.loop-listed-test.false in omega arith

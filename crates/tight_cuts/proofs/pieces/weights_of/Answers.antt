@@ -4,7 +4,6 @@ use Rattle.counting.specs.Common.{bit, mem}
 use Rattle.graph_core.specs.Common.{Graph, size}
 use Rattle.match_core.specs.MatchingRows.{IsOf, MatchingValue, edges_of}
 use Rattle.match_core.specs.declared.matching.MatchRow.{MatchRow}
-use Rattle.allowed_edges.specs.PairTables.{edge_lists}
 use Rattle.tight_cuts.specs.EdgeSearch.{at_place}
 use Rattle.tight_cuts.specs.PairSums.{weight}
 use Rattle.tight_cuts.proofs.Weighing.{list-small, map-length, take-whole, weight-next, weight-taken, zeros}
@@ -25,7 +24,7 @@ count_edges-requires-clause-room c e =
     let w = c.loop-i.invariant.each e in
     let t = weight-taken c.list-list.result.now c.loop-i.i e in
     let l = c.loop-i-test.true in
-    let s = list-small c.args.g.now c.args.pairs.now c.keeps_limits.ensures c.requires.list c.requires.lean in
+    let s = list-small c.args.g.now c.args.pairs.now c.keeps_limits.ensures c.requires.grown in
     let q = ap length c.list-list.ensures in omega arith
 
 pub loop-i-preserved : goal.loop-i-preserved
@@ -43,9 +42,7 @@ loop-i-init c = record {
 
 pub returns : goal.returns
 returns c = record {
-  list = edge_lists c.args.pairs.now;
-  pairs = c.requires.list;
-  lean = c.requires.lean;
+  grown = c.requires.grown;
   long = c.loop-i.invariant.long;
   each = λ e w. c.loop-i.invariant.each e ∙ ap (λ (ms : List MatchingValue). weight (map edges_of ms) e) (take-whole c.list-list.result.now c.loop-i.i (let l = c.loop-i-test.false in omega arith) ∙ c.list-list.ensures);
   is = ap length c.list-list.ensures ∙ sym (map-length c.args.pairs.now.list);

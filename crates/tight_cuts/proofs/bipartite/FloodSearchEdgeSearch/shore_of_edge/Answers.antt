@@ -4,8 +4,8 @@ use Rattle.tight_cuts.proofs.BipartiteShores.{nothing_at, inseparable_none}
 use Rattle.tight_cuts.specs.Candidates.{greater_end, lesser_end}
 use Rattle.tight_cuts.proofs.bipartite.FloodSearchEdgeSearch.shore_of_edge.Goals as goal
 
-pub returns-then-is_inseparable : goal.returns-then-is_inseparable
-returns-then-is_inseparable c =
+pub returns-then-is_inseparable-clause-shore : goal.returns-then-is_inseparable-clause-shore
+returns-then-is_inseparable-clause-shore c =
     let g = c.args.g.now in
     let e = c.args.e in
     let lesser : c.min.result ≡ lesser_end g e = c.min.ensures ∙ ap₂ min c.ends-ends.ensures.first c.ends-ends.ensures.second in

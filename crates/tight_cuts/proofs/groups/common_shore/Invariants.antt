@@ -1,0 +1,9 @@
+use Rattle.std.proofs.Common.{◌≤◌, length}
+use Rattle.tight_cuts.specs.EdgeSearch.{AreMatchings}
+use Rattle.tight_cuts.proofs.groups.common_shore.Given as goal
+
+abbrev pub invariant-loop-listed : goal.invariant-loop-listed
+invariant-loop-listed l = record {
+  matchings : AreMatchings l.g l.matchings.kept l.matchings.pairs;
+  more : l._listed ≤ length l.matchings.pairs.list;
+}
