@@ -6,22 +6,22 @@ ghost use Rattle.bench_outcomes.specs.Common.{Grown, IsCounted};
 
 use bench_outcomes::{Report, Status};
 use bench_tasks::GrowNumbers;
-use decomposer::{NamedOrder, decompose_covered};
+use decomposer::{NamedOrder, decompose_with_kinds, tally_of_kinds};
 use graph_facts::Covered;
 use graph_text::write_graph;
 use grow_gen::grow;
 use report_text::grown;
 use std::alloc::{AllocError as Memory, Global};
-use tree_core::{Tally, Tree, tally_of_tree};
+use tree_core::{Tally, Tree};
 use uncross::compare;
 
 // The derivation of a covered graph that the order picks, with its leaves counted.
 fn counted(alloc: Global, c: &Covered, order: NamedOrder) -> Result<(Tree, Tally), Memory>
     ensures { IfOk result (λ found. IsCounted (NamedPicks order) c.now (shape_of found.0) found.1) }
 {
-    let tree = decompose_covered(alloc, c, &order)?;
-    let tally = tally_of_tree(alloc, c.graph(), &tree)?;
-    Ok((tree, tally))
+    let found = decompose_with_kinds(alloc, c, &order)?;
+    let tally = tally_of_kinds(c, &found);
+    Ok((found.tree, tally))
 }
 
 /// The report on the graph that grows from a seed: its text, the leaves of its derivations by the

@@ -1,7 +1,7 @@
 pub mod SimpleQuotients
 pub mod SingleLeaves
 pub mod LeafTexts
-pub mod Matched
+pub mod BicriticalEdges
 pub mod OneTree
 pub mod ReadMultigraphs
 pub mod PairedCounts

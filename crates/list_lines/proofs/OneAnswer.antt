@@ -18,10 +18,10 @@ use Rattle.list_lines.specs.declared.query.Property.{Property}
 use Rattle.list_lines.specs.declared.query.Query.{Query}
 use Rattle.list_lines.specs.declared.query.Query.TheVariants.{Kinds, Leaves, Graph as GraphFile, Select}
 use Rattle.list_lines.proofs.Counts.{lacks_none}
-use Rattle.list_lines.proofs.OneStanding.{standing_once}
+use Rattle.list_lines.proofs.OneStanding.{words_once}
 
 kind_line_once : (g : Graph) (a b : List ℕ) → IsMultigraph g → IsKindLine g a → IsKindLine g b → a ≡ b
-kind_line_once g a b is one two = one.line ∙ ap (kind_line g) (standing_once g one.standing two.standing is one.right two.right) ∙ sym two.line
+kind_line_once g a b is one two = one.line ∙ ap (kind_line g) (words_once g one.words two.words is one.right two.right) ∙ sym two.line
 
 -- the lines of some leaves
 lines_once : (front : List ℕ) (g : Graph) (ps : List (List (List ℕ))) (a b : List ℕ) → AreLinesOf front g ps a → AreLinesOf front g ps b → a ≡ b

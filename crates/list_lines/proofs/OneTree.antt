@@ -57,8 +57,8 @@ balanced-once : PicksOnce (λ list k place. PicksBalanced list place)
 balanced-once list k a b one two = elim (cases_lt a b) [
   | inl before ↦ absurd (balanced-later list a b one two before)
   | inr not_before ↦ elim (cases_lt b a) [
-    | inl behind ↦ absurd (balanced-later list b a two one behind)
-    | inr not_behind ↦ omega arith
+    | inl after ↦ absurd (balanced-later list b a two one after)
+    | inr not_after ↦ omega arith
   ]
 ]
 

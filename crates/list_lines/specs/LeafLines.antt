@@ -6,12 +6,12 @@ use Rattle.std.specs.Prelude.{◌≡◌, ℕ, ◌++◌, ◌⊎◌, List, [], ◌
 use Rattle.std.specs.Fmt.{decimal}
 use Rattle.graph_core.specs.Common.{IsCovered, Graph, quotient}
 use Rattle.graph6_text.specs.Writing.{graph6_of}
-use Rattle.tree_core.specs.Common.{IsDerivation, leaves, Shape, AreLeafKinds, IsKindOf}
+use Rattle.report_text.specs.Words.{leaf_kind_word}
+use Rattle.tree_core.specs.Common.{IsDerivation, leaves, Shape, AreLeafKinds}
 use Rattle.decomposer.specs.Orders.{NamedPicks}
 use Rattle.decomposer.specs.Picked.{IsPicked}
 use Rattle.decomposer.specs.declared.orders.NamedOrder.{NamedOrder}
 use Rattle.tree_core.specs.declared.tallies.LeafKind.{LeafKind}
-use Rattle.tree_core.specs.declared.tallies.LeafKind.TheVariants.{Brick, Brace}
 
 -- the front of a line: the number of the line in the list
 abbrev pub line_front : ℕ → List ℕ
@@ -19,24 +19,13 @@ line_front number = decimal number ++ codes " "
 
 -- the end of a line: the kind of the leaf
 abbrev pub leaf_end : LeafKind → List ℕ
-leaf_end Brick = codes " brick\n"
-leaf_end Brace = codes " brace\n"
+leaf_end kind = codes " " ++ leaf_kind_word kind ++ codes "\n"
 
--- the line of a leaf with this quotient
-abbrev pub quotient_line : (front : List ℕ) → Graph → LeafKind → List ℕ
-quotient_line front q kind = front ++ graph6_of q ++ leaf_end kind
-
--- the line of a leaf with this quotient was added, with its kind
-pub record AddsLine (front : List ℕ) (q : Graph) (before now : List ℕ) : Type 0 where
-  pub kind : LeafKind
-  pub right : IsKindOf q kind
-  pub line : now ≡ before ++ quotient_line front q kind
-
--- the line of the leaf at a partition
+-- the line of the leaf of this kind at a partition
 abbrev pub leaf_line : (front : List ℕ) → Graph → List (List ℕ) → LeafKind → List ℕ
-leaf_line front g p kind = quotient_line front (quotient g p) kind
+leaf_line front g p kind = front ++ graph6_of (quotient g p) ++ leaf_end kind
 
--- the lines of the leaves at these partitions, in order, each with the same front
+-- the lines of the leaves of these kinds at these partitions, in order, each with the same front
 abbrev pub leaf_lines : (front : List ℕ) → Graph → List (List (List ℕ)) → List LeafKind → List ℕ
 leaf_lines front g [] kinds = []
 leaf_lines front g (p ∷ ps) [] = []

@@ -1,13 +1,18 @@
 //! The line of `kinds`.
-ghost use Rattle.std.specs.Prelude.{◌≡◌, ◌++◌, IfOk, Ok, OnOk, string_bytes};
-ghost use Rattle.std.specs.Fmt.{decimal};
+ghost use Rattle.std.specs.Prelude.{◌≡◌, IfOk, Ok, string_bytes};
 ghost use Rattle.graph6_text.specs.Reading.{outcome_of};
-ghost use Rattle.list_lines.specs.KindLines.{IsKindLine, answer_word, sort_word, why_word, with_standing, with_word, words_behind};
+ghost use Rattle.list_lines.specs.KindLines.{IsKindLine, TellsStanding, standing_words, words_after};
+ghost use Rattle.list_lines.specs.Standings.{Structured, Uncovered};
 
-use crate::standing::{ReasonKind, Sort, Standing, standing_of};
-use graph_core::MultiGraph;
+use crate::leaf_counts::tally_of_kind;
+use graph_core::{Kind, MultiGraph, Reason};
+use graph_facts::Covered;
 use graph6_text::bare_text;
+use leaf_kinds::kind_of;
+use report_text::{kind_word, reason_word, yes_or_no};
+use separation_kit::FirstPairs;
 use std::alloc::{AllocError as Memory, Global};
+use tree_core::Tally;
 
 /// The line of the graph that stands in a line: its graph6 text, the numbers of its vertices and
 /// edges, and how it stands.
@@ -16,103 +21,64 @@ pub fn kind_line(alloc: Global, g: &MultiGraph, text: &[u8]) -> Result<Vec<u8>, 
     requires { outcome_of text.now ≡ Ok g.now }
     ensures { IfOk result (λ line. IsKindLine g.now line.items) }
 {
-    let standing = standing_of(alloc, g)?;
-    let words = words_behind(alloc, g.order(), g.size(), standing)?;
+    let standing = standing_words(alloc, g)?;
+    let words = words_after(alloc, g, standing.as_str())?;
     let mut line = Vec::from_slice(alloc, bare_text(text))?;
     line.extend_from_slice(words.as_bytes())?;
     Ok(line)
 }
 
-// The words after the graph6 text.
-fn words_behind(alloc: Global, order: u32, edges: u32, standing: Standing) -> Result<String, Memory>
-    ensures { IfOk result (λ words. string_bytes words ≡ words_behind order edges standing) }
+// The words after the graph6 text, with those on the standing of the graph.
+fn words_after(alloc: Global, g: &MultiGraph, standing: &str) -> Result<String, Memory>
+    ensures { IfOk result (λ words. string_bytes words ≡ words_after g.now standing.now) }
 {
-    let mut words = String::new(alloc);
-    push_number(&mut words, order)?;
-    push_number(&mut words, edges)?;
-    push_standing(&mut words, standing)?;
-    words.push('\n')?;
-    Ok(words)
+    let order = g.order();
+    let size = g.size();
+    format!(in alloc; " {order} {size} {standing}\n")
 }
 
-// Appends the words on the standing of a graph.
-fn push_standing(words: &mut String, standing: Standing) -> Result<(), Memory>
-    ensures { OnOk result
-        (string_bytes words.new ≡ with_standing (string_bytes words.old) standing) }
+// The words on the standing of the graph. The leaves are counted only if it has a nontrivial
+// tight cut.
+fn standing_words(alloc: Global, g: &MultiGraph) -> Result<String, Memory>
+    ensures { IfOk result (λ words. TellsStanding g.now (string_bytes words)) }
 {
-    match standing {
-        Standing::Uncovered { why } => {
-            push_word(words, "uncovered")?;
-            push_word(words, why_word(why))
-        }
-        Standing::Covered {
-            sort,
-            bricks,
-            braces,
-            bicritical,
-        } => push_covered(words, sort, bricks, braces, bicritical),
+    match Covered::of(alloc, g)? {
+        Ok(c) => covered_words(alloc, &c),
+        Err(reason) => uncovered_words(alloc, &reason),
     }
 }
 
-// Appends the words on a covered graph.
-fn push_covered(
-    words: &mut String,
-    sort: Sort,
-    bricks: u32,
-    braces: u32,
+// The words on a graph that is not covered for this reason.
+fn uncovered_words(alloc: Global, reason: &Reason) -> Result<String, Memory>
+    ensures { IfOk result (λ words. string_bytes words ≡ standing_words (Uncovered reason.now)) }
+{
+    let word = reason_word(reason);
+    format!(in alloc; "uncovered {word}")
+}
+
+// The words on the standing of a covered graph.
+fn covered_words(alloc: Global, c: &Covered) -> Result<String, Memory>
+    ensures { IfOk result (λ words. TellsStanding c.now (string_bytes words)) }
+{
+    c.keeps_covered();
+    let pairs = FirstPairs::of(c);
+    let kind = kind_of(alloc, &pairs)?;
+    let tally = tally_of_kind(alloc, c, &kind)?;
+    structure_words(alloc, &kind, tally, pairs.is_bicritical())
+}
+
+// The words on a covered graph of this kind, with its leaves counted so, and bicritical or not.
+fn structure_words(
+    alloc: Global,
+    kind: &Kind,
+    tally: Tally,
     bicritical: bool,
-) -> Result<(), Memory>
-    ensures { OnOk result (string_bytes words.new
-        ≡ with_standing (string_bytes words.old) (Standing.Covered sort bricks braces bicritical)) }
+) -> Result<String, Memory>
+    ensures { IfOk result
+        (λ words. string_bytes words ≡ standing_words (Structured kind.now tally bicritical)) }
 {
-    push_word(words, sort_word(sort))?;
-    push_number(words, bricks)?;
-    push_number(words, braces)?;
-    push_word(words, "bicritical")?;
-    push_word(words, answer_word(bicritical))
-}
-
-// Appends a word after a space.
-fn push_word(words: &mut String, word: &str) -> Result<(), Memory>
-    ensures { OnOk result (string_bytes words.new ≡ with_word (string_bytes words.old) word.now) }
-{
-    write!(words, " {word}")
-}
-
-// Appends a number after a space.
-fn push_number(words: &mut String, number: u32) -> Result<(), Memory>
-    ensures { OnOk result
-        (string_bytes words.new ≡ with_word (string_bytes words.old) (decimal number)) }
-{
-    write!(words, " {number}")
-}
-
-// The word of a reason.
-fn why_word(why: ReasonKind) -> &'static str
-    ensures { result.now ≡ why_word why }
-{
-    match why {
-        ReasonKind::Order => "order",
-        ReasonKind::Parts => "parts",
-        ReasonKind::Berge => "berge",
-        ReasonKind::Edge => "edge",
-    }
-}
-
-// The word of a kind.
-fn sort_word(sort: Sort) -> &'static str
-    ensures { result.now ≡ sort_word sort }
-{
-    match sort {
-        Sort::Brace => "brace",
-        Sort::Brick => "brick",
-        Sort::Composite => "composite",
-    }
-}
-
-// The answer to a question.
-fn answer_word(holds: bool) -> &'static str
-    ensures { result.now ≡ answer_word holds }
-{
-    if holds { "yes" } else { "no" }
+    let word = kind_word(kind);
+    let Tally { bricks, braces, .. } = tally;
+    let answer = yes_or_no(bicritical);
+    format!(in alloc; "{word} {bricks} {braces} bicritical {answer}")
 }

@@ -1,15 +1,17 @@
 //! The lines of `leaves`.
-ghost use Rattle.std.specs.Prelude.{◌≡◌, ◌<◌, ◌++◌, IfOk, OnOk, Err, All, length, map, string_bytes};
+ghost use Rattle.std.specs.Prelude.{◌≡◌, ◌++◌, IfOk, OnOk, All, length, map};
 ghost use Rattle.graph_core.specs.Common.{quotient, IsSimple};
-ghost use Rattle.tree_core.specs.Common.{IsDerivation, leaves, shape_of};
-ghost use Rattle.list_lines.specs.LeafLines.{AddsLine, AreLeafLines, AreLinesOf, leaf_end, line_front, quotient_line};
+ghost use Rattle.tree_core.specs.Common.{AreLeafKinds, IsDerivation, leaves, shape_of};
+ghost use Rattle.list_lines.specs.LeafLines.{AreLeafLines, AreLinesOf, leaf_end, leaf_line, leaf_lines, line_front};
 
-use contraction::{Contracted, Partition, quotient};
-use decomposer::{NamedOrder, Refused, decompose};
+use contraction::{Partition, quotient_graph};
+use decomposer::{NamedOrder, TreeWithKinds, decompose_with_kinds};
 use graph_core::MultiGraph;
+use graph_facts::Covered;
 use graph6_text::write_graph6;
+use report_text::leaf_kind_word;
 use std::alloc::{AllocError as Memory, Global};
-use tree_core::{LeafKind, Partitions, Tree, kind_of, leaves};
+use tree_core::{LeafKind, Partitions, leaves};
 
 /// The lines of the leaves of the derivation that the order picks, for a graph that stands in the
 /// line with this number; nothing if the graph is not matching covered.
@@ -21,113 +23,102 @@ pub fn leaf_lines(
 ) -> Result<Vec<u8>, Memory>
     ensures { IfOk result (λ lines. AreLeafLines order number g.now lines.items) }
 {
-    match decompose(alloc, g, &order) {
-        Ok(tree) => {
-            let lines = lines_of_tree(alloc, g, &tree, number)?;
-            Ok(lines)
-        }
-        Err(Refused::NotCovered(_)) => Ok(Vec::new(alloc)),
-        Err(Refused::Memory) => Err(Memory),
+    match Covered::of(alloc, g)? {
+        Ok(c) => covered_leaf_lines(alloc, &c, order, number),
+        Err(_) => Ok(Vec::new(alloc)),
     }
 }
 
-// The lines of the leaves of a derivation.
-fn lines_of_tree(alloc: Global, g: &MultiGraph, tree: &Tree, number: u64) -> Result<Vec<u8>, Memory>
-    requires { IsDerivation g.now (shape_of tree.now) }
-    ensures { IfOk result
-        (λ lines. AreLinesOf (line_front number) g.now (leaves g.now.order (shape_of tree.now))
-        lines.items) }
+// The lines of the leaves of the derivation that the order picks of a covered graph.
+fn covered_leaf_lines(
+    alloc: Global,
+    c: &Covered,
+    order: NamedOrder,
+    number: u64,
+) -> Result<Vec<u8>, Memory>
+    ensures { IfOk result (λ lines. AreLeafLines order number c.now lines.items) }
 {
-    g.keeps_limits();
-    let n = g.order();
-    let found = leaves(alloc, tree, n)?;
-    let front = format!(in alloc; "{number} ")?;
-    lines_of_leaves(alloc, g, &found, front.as_str())
+    let found = decompose_with_kinds(alloc, c, &order)?;
+    lines_of_tree(alloc, c.graph(), &found, number)
 }
 
-// The lines of the leaves at these partitions, each after the same front.
+// The lines of the leaves of a derivation.
+fn lines_of_tree(
+    alloc: Global,
+    g: &MultiGraph,
+    found: &TreeWithKinds,
+    number: u64,
+) -> Result<Vec<u8>, Memory>
+    requires derivation { IsDerivation g.now (shape_of found.now.tree) }
+    requires kinds { AreLeafKinds g.now (leaves g.now.order (shape_of found.now.tree))
+        found.now.kinds.items }
+    ensures { IfOk result
+        (λ lines. AreLinesOf (line_front number) g.now
+        (leaves g.now.order (shape_of found.now.tree)) lines.items) }
+{
+    g.keeps_limits();
+    let ps = leaves(alloc, &found.tree, g.order())?;
+    let front = format!(in alloc; "{number} ")?;
+    lines_of_leaves(alloc, g, &ps, &found.kinds, front.as_str())
+}
+
+// The lines of the leaves at these partitions, of these kinds, each after the same front.
 fn lines_of_leaves(
     alloc: Global,
     g: &MultiGraph,
-    found: &Partitions,
+    ps: &Partitions,
+    kinds: &[LeafKind],
     front: &str,
 ) -> Result<Vec<u8>, Memory>
-    requires { All (λ p. p.order ≡ g.now.order) found.now }
+    requires order { All (λ p. p.order ≡ g.now.order) ps.now }
+    requires each_one { length kinds.now ≡ length ps.now }
     ensures { IfOk result
-        (λ lines. AreLinesOf front.now g.now (map (λ p. p.blocks) found.now) lines.items) }
+        (λ lines. lines.items ≡ leaf_lines front.now g.now (map (λ p. p.blocks) ps.now)
+        kinds.now) }
 {
     let mut lines = Vec::new(alloc);
-    for i in 0..found.len() {
-        push_leaf(alloc, &mut lines, g, found.get(i), front)?;
+    for i in 0..ps.len() {
+        push_leaf(alloc, &mut lines, g, ps.get(i), kinds[i], front)?;
     }
     Ok(lines)
 }
 
-// Appends the line of the leaf at a partition.
+// Appends the line of the leaf of this kind at a partition.
 fn push_leaf(
     alloc: Global,
     lines: &mut Vec<u8>,
     g: &MultiGraph,
     p: &Partition,
+    kind: LeafKind,
     front: &str,
 ) -> Result<(), Memory>
     requires { p.now.order ≡ g.now.order }
     ensures { OnOk result
-        (AddsLine front.now (quotient g.now p.now.blocks) lines.old.items lines.new.items) }
+        (lines.new.items ≡ lines.old.items ++ leaf_line front.now g.now p.now.blocks kind) }
 {
     let q = leaf_quotient(alloc, g, p)?;
-    push_quotient(alloc, lines, q.graph(), front)
-}
-
-// Appends the line of a leaf with this quotient.
-fn push_quotient(
-    alloc: Global,
-    lines: &mut Vec<u8>,
-    q: &MultiGraph,
-    front: &str,
-) -> Result<(), Memory>
-    requires { IsSimple q.now }
-    ensures { OnOk result (AddsLine front.now q.now lines.old.items lines.new.items) }
-{
-    let kind = kind_of(alloc, q)?;
-    push_line(alloc, lines, q, front, kind)
+    let text = write_graph6(alloc, &q)?;
+    lines.extend_from_slice(front.as_bytes())?;
+    lines.extend_from_slice(&text)?;
+    push_leaf_end(lines, kind)
 }
 
 // The quotient at a partition, a simple graph.
 #[tactic(auto, using(crate::proofs::SimpleQuotients::simple_quotient))]
-fn leaf_quotient(alloc: Global, g: &MultiGraph, p: &Partition) -> Result<Contracted, Memory>
+fn leaf_quotient(alloc: Global, g: &MultiGraph, p: &Partition) -> Result<MultiGraph, Memory>
     requires { p.now.order ≡ g.now.order }
-    ensures graph { IfOk result (λ q. q.graph ≡ quotient g.now p.now.blocks) }
-    ensures simple { IfOk result (λ q. IsSimple q.graph) }
+    ensures graph { IfOk result (λ q. q ≡ quotient g.now p.now.blocks) }
+    ensures simple { IfOk result IsSimple }
 {
-    let q = quotient(alloc, g, p)?;
+    let q = quotient_graph(alloc, g, p)?;
     Ok(q)
 }
 
-// Appends the line of a leaf of this kind with this quotient.
-fn push_line(
-    alloc: Global,
-    lines: &mut Vec<u8>,
-    q: &MultiGraph,
-    front: &str,
-    kind: LeafKind,
-) -> Result<(), Memory>
-    requires { IsSimple q.now }
-    ensures { OnOk result
-        (lines.new.items ≡ lines.old.items ++ quotient_line front.now q.now kind) }
+// Appends the end of the line of a leaf of this kind.
+fn push_leaf_end(lines: &mut Vec<u8>, kind: LeafKind) -> Result<(), Memory>
+    ensures { OnOk result (lines.new.items ≡ lines.old.items ++ leaf_end kind) }
 {
-    let text = write_graph6(alloc, q)?;
-    lines.extend_from_slice(front.as_bytes())?;
-    lines.extend_from_slice(&text)?;
-    lines.extend_from_slice(leaf_end(kind).as_bytes())
-}
-
-// The end of the line of a leaf of this kind.
-fn leaf_end(kind: LeafKind) -> &'static str
-    ensures { result.now ≡ leaf_end kind }
-{
-    match kind {
-        LeafKind::Brick => " brick\n",
-        LeafKind::Brace => " brace\n",
-    }
+    lines.extend_from_slice(b" ")?;
+    lines.extend_from_slice(leaf_kind_word(kind).as_bytes())?;
+    lines.extend_from_slice(b"\n")
 }

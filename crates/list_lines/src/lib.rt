@@ -8,18 +8,19 @@
 //! is bad exactly when it stands for no graph (`HasFault`).
 //!
 //! Stands on `graph6_text` for the lines, on `graph_facts`, `separation_kit` and `leaf_kinds` for
-//! what a graph is, and on `decomposer`, `tree_core` and `contraction` for its leaves. What is told
-//! of a line is one: that the numbers of bricks and braces depend on no choice stands on the law
-//! of pairings of `move_laws` (Lovász, "Matching structure and the matching lattice", 1987).
+//! what a graph is, on `decomposer`, `tree_core` and `contraction` for its leaves, and on
+//! `report_text` for the words of reasons, kinds and answers. What is told of a line is one: two
+//! first reasons differ at most in the Berge set (`definition_laws`), and the numbers of bricks and
+//! braces depend on no choice by the law of pairings of `move_laws` (Lovász, "Matching structure
+//! and the matching lattice", 1987).
 #![tactic(auto)]
 
 mod kind_lines;
+mod leaf_counts;
 mod leaf_lines;
 mod query;
 mod selecting;
-mod standing;
 mod telling;
 
 pub use query::{Property, Query};
-pub use standing::{ReasonKind, Sort, Standing};
 pub use telling::{QueryAnswer, tell};

@@ -1,19 +1,16 @@
 //! Whether a graph has a property.
-ghost use Rattle.std.specs.Prelude.{◌≡◌, ◌≤◌, ◌↔◌, Some, IfOk, IsTrue};
-ghost use Rattle.counting.specs.Common.{none};
-ghost use Rattle.graph_core.specs.Common.{HasPerfect, IsBicritical};
+ghost use Rattle.std.specs.Prelude.{◌≡◌, ◌↔◌, Some, IfOk, IsTrue};
+ghost use Rattle.graph_core.specs.Common.{IsBicritical};
 ghost use Rattle.list_lines.specs.Selecting.{Decides, IsSelected, TellsKind, TellsTally};
 
+use crate::leaf_counts::counted;
 use crate::query::Property;
-use crate::standing::counted;
 use graph_core::{Kind, MultiGraph};
 use graph_facts::Covered;
 use leaf_kinds::kind_of;
-use match_core::perfect_without;
 use separation_kit::{FirstPairs, first_pairs_law, not_bicritical};
 use std::alloc::{AllocError as Memory, Global};
 use tree_core::Tally;
-use vset_core::VSet;
 
 /// The line itself if its graph has the property, and nothing if it has not.
 pub fn selected(
@@ -58,14 +55,6 @@ fn is_uncovered(alloc: Global, g: &MultiGraph) -> Result<bool, Memory>
     }
 }
 
-// Whether the graph has a perfect matching.
-fn has_perfect(alloc: Global, g: &MultiGraph) -> Result<bool, Memory>
-    ensures { IfOk result (λ holds. IsTrue holds ↔ HasPerfect g.now none) }
-{
-    let found = perfect_without(alloc, g, VSet::empty())?;
-    Ok(found.is_some())
-}
-
 // Whether there is a perfect matching without any two vertices.
 fn is_critical(alloc: Global, g: &MultiGraph) -> Result<bool, Memory>
     ensures { IfOk result (λ holds. IsTrue holds ↔ IsBicritical g.now) }
@@ -77,14 +66,16 @@ fn is_critical(alloc: Global, g: &MultiGraph) -> Result<bool, Memory>
     }
 }
 
-// Whether the graph is bicritical.
+// Whether the graph is bicritical. A perfect matching without the ends of an edge makes one with
+// the edge.
 fn is_bicritical(alloc: Global, g: &MultiGraph) -> Result<bool, Memory>
     ensures { IfOk result (Decides g.now Property.Bicritical) }
 {
-    if g.order() < 2 {
+    g.keeps_limits();
+    if g.size() == 0 {
         return Ok(false);
     }
-    if has_perfect(alloc, g)? && is_critical(alloc, g)? {
+    if is_critical(alloc, g)? {
         Ok(true)
     } else {
         Ok(false)

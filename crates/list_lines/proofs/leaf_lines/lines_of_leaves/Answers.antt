@@ -1,30 +1,37 @@
-use Rattle.std.proofs.Common.{List, [], arith, get_or, length, map, subst, sym, ℕ, ◌<◌, ◌≡◌, ◌∙◌}
-use Rattle.counting.proofs.Common.{length-map}
+use Rattle.std.proofs.Common.{List, ap, append_assoc, arith, drop, get_or, length, map, subst, sym, ℕ, ◌+◌, ◌++◌, ◌<◌, ◌∙◌}
+use Rattle.std.proofs.lemmas.List.{drop_all}
+use Rattle.counting.proofs.Common.{append-nil, length-map}
 use Rattle.contraction.specs.Partition.{PartitionValue}
-use Rattle.graph_core.specs.Common.{quotient}
 use Rattle.tree_core.proofs.KindsOfLeaves.{blocks-at}
-use Rattle.list_lines.specs.LeafLines.{AddsLine}
-use Rattle.list_lines.proofs.LeafTexts.{FirstLines, lines_all, lines_next, lines_none}
+use Rattle.tree_core.specs.declared.tallies.LeafKind.TheVariants.{Brick}
+use Rattle.list_lines.specs.LeafLines.{leaf_line, leaf_lines}
+use Rattle.list_lines.proofs.LeafTexts.{lines_next}
 use Rattle.list_lines.proofs.leaf_lines.lines_of_leaves.Goals as goal
 
 pub loop-i-init : goal.loop-i-init
 loop-i-init c =
-    subst (FirstLines c.args.front.now c.args.g.now (map (λ (p : PartitionValue). p.blocks) c.args.found.now) 0) (sym c.new-lines.ensures.items)
-    (lines_none c.args.front.now c.args.g.now (map (λ (p : PartitionValue). p.blocks) c.args.found.now))
+    ap (λ (lines : List ℕ). lines ++ leaf_lines c.args.front.now c.args.g.now (map (λ (p : PartitionValue). p.blocks) c.args.ps.now) c.args.kinds.now) c.new-lines.ensures.items
 
 pub loop-i-preserved : goal.loop-i-preserved
 loop-i-preserved c =
-    let ps : List (List (List ℕ)) = map (λ (p : PartitionValue). p.blocks) c.args.found.now in
+    let ps : List (List (List ℕ)) = map (λ (p : PartitionValue). p.blocks) c.args.ps.now in
     let i : ℕ = c.loop-i.i in
-    let below : i < length c.args.found.now = omega (arith, c.len-i-end.ensures) in
-    let listed : i < length ps = subst (λ (n : ℕ). i < n) (sym (length-map c.args.found.now (λ (p : PartitionValue). p.blocks))) below in
-    let blocks : get_or ps i [] ≡ c.get.result.now.blocks = blocks-at c.args.found.now i c.get.result.now c.get.ensures in
-    let now = c.push_leaf.new.lines.items in
-    lines_next c.args.front.now c.args.g.now ps i c.loop-i.lines.items now listed c.loop-i.invariant
-    (subst (λ (p : List (List ℕ)). AddsLine c.args.front.now (quotient c.args.g.now p) c.loop-i.lines.items now) (sym blocks) c.in_ok-push_leaf.ensures)
+    let listed : i < length ps = subst (λ (n : ℕ). i < n) (sym (length-map c.args.ps.now (λ (p : PartitionValue). p.blocks))) (omega (arith, c.len-i-end.ensures)) in
+    let told : i < length c.args.kinds.now = omega (arith, c.len-i-end.ensures, c.requires.each_one) in
+    let rest = leaf_lines c.args.front.now c.args.g.now (drop (i + 1) ps) (drop (i + 1) c.args.kinds.now) in
+    let here = leaf_line c.args.front.now c.args.g.now c.get.result.now.blocks (get_or c.args.kinds.now i Brick) in
+    ap (λ (lines : List ℕ). lines ++ rest) c.in_ok-push_leaf.ensures
+    ∙ append_assoc c.loop-i.lines.items here rest
+    ∙ ap (λ (p : List (List ℕ)). c.loop-i.lines.items ++ (leaf_line c.args.front.now c.args.g.now p (get_or c.args.kinds.now i Brick) ++ rest)) (sym (blocks-at c.args.ps.now i c.get.result.now c.get.ensures))
+    ∙ ap (λ (lines : List ℕ). c.loop-i.lines.items ++ lines) (sym (lines_next c.args.front.now c.args.g.now ps c.args.kinds.now i listed told))
+    ∙ c.loop-i.invariant
 
 pub returns : goal.returns
 returns c =
-    let ps : List (List (List ℕ)) = map (λ (p : PartitionValue). p.blocks) c.args.found.now in
-    let all : c.loop-i.i ≡ length c.args.found.now = omega (arith, c.len-i-end.ensures) in
-    lines_all c.args.front.now c.args.g.now ps c.loop-i.i c.loop-i.lines.items (all ∙ sym (length-map c.args.found.now (λ (p : PartitionValue). p.blocks))) c.loop-i.invariant
+    let ps : List (List (List ℕ)) = map (λ (p : PartitionValue). p.blocks) c.args.ps.now in
+    let same = length-map c.args.ps.now (λ (p : PartitionValue). p.blocks) in
+    let last = c.len-i-end.ensures in
+    let past = c.loop-i-test.false in
+    sym (append-nil c.loop-i.lines.items)
+    ∙ ap (λ (rest : List (List (List ℕ))). c.loop-i.lines.items ++ leaf_lines c.args.front.now c.args.g.now rest (drop c.loop-i.i c.args.kinds.now)) (sym (drop_all c.loop-i.i ps (omega arith)))
+    ∙ c.loop-i.invariant

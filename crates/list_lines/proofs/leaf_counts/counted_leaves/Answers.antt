@@ -1,5 +1,5 @@
 use Rattle.tree_core.specs.Common.{shape_of}
-use Rattle.list_lines.proofs.standing.counted_leaves.Goals as goal
+use Rattle.list_lines.proofs.leaf_counts.counted_leaves.Goals as goal
 
 pub returns : goal.returns
 returns c = record {

@@ -2,7 +2,7 @@ use Rattle.std.proofs.Common.{ap, subst, sym, ◌∙◌}
 use Rattle.graph_core.specs.declared.verdict.Kind.{Kind}
 use Rattle.leaf_kinds.specs.LeafKinds.{IsKind, cut_of}
 use Rattle.list_lines.proofs.SingleLeaves.{one_brace, one_brick}
-use Rattle.list_lines.proofs.standing.tally_of_kind.Goals as goal
+use Rattle.list_lines.proofs.leaf_counts.tally_of_kind.Goals as goal
 
 pub returns-in-Brick : goal.returns-in-Brick
 returns-in-Brick c = one_brick c.args.c.now c.keeps_covered.ensures.limits.multigraph c.keeps_covered.ensures.covered (subst (λ (k : Kind). IsKind c.args.c.now k) c.in-Brick.is c.requires.kind)
