@@ -1,5 +1,5 @@
 //! The quotient of a graph at a partition, with remembered edges.
-ghost use Rattle.std.specs.Prelude.{◌≡◌, slice_index_or, ◌<◌, ◌≤◌, ◌+◌, ◌&&◌, ℕ, List, [], length, map, IfOk};
+ghost use Rattle.std.specs.Prelude.{◌≡◌, ◌↔◌, slice_index_or, ◌<◌, ◌≤◌, ◌+◌, ◌&&◌, ℕ, List, [], length, map, IfOk, IsTrue};
 ghost use Rattle.counting.specs.Common.{Within, mem, item, rising_list, some};
 ghost use Rattle.graph_core.specs.Common.{Graph, has_ends, size, block, contracted, remembered, union_of_blocks, graph_of, pair_of};
 ghost use Rattle.indexmap.specs.IndexMap.{keys};
@@ -47,6 +47,13 @@ impl Contracted {
         ensures { KeepsContraction self.now }
     {
         let _ = &self.blocks;
+    }
+
+    /// Whether this is a quotient at the partition `p`. Takes no memory.
+    pub fn is_at(&self, p: &Partition) -> bool
+        ensures { IsTrue result ↔ (self.now.blocks ≡ p.now.blocks) }
+    {
+        self.blocks == p.blocks
     }
 
     /// The quotient graph. Takes no memory.

@@ -16,7 +16,7 @@ use vset_core::{MOST_VERTICES, VSet};
 #[derive(Drop)]
 pub struct Partition {
     order: u32,
-    blocks: Vec<VSet>,
+    pub(crate) blocks: Vec<VSet>,
 }
 
 impl Model for Partition {

@@ -1,20 +1,21 @@
 -- Steps of a decomposition. A candidate at a partition is a cut there; where an order takes the
 -- first candidate, its shore is picked; and a cut with two trees is the tree that the order
 -- picks, and a derivation, where both trees are.
-use Rattle.std.proofs.Common.{◌≡◌, ℕ, zero, suc, ◌+◌, ◌≤◌, ◌<◌, List, [], ◌∷◌, length, map, All, unwrap_or, refl, sym, ap, ◌∙◌, arith, subst, slice_get, Option, Some, true, false, ◌==◌}
-use Rattle.counting.proofs.Common.{both_ways, length-map, get_or_from_slice_get, none-some, count_complement}
+use Rattle.std.proofs.Common.{◌≡◌, ℕ, zero, suc, ◌+◌, ◌<◌, List, [], ◌∷◌, length, map, All, unwrap_or, refl, sym, ap, ◌∙◌, arith, subst, slice_get, Option, Some, true, false, ◌==◌}
+use Rattle.counting.proofs.Common.{both_ways, length-map, get_or_from_slice_get, none-some}
 use Rattle.std.proofs.lemmas.Option.{slice_get_within}
-use Rattle.counting.specs.Common.{count, mem, complement}
-use Rattle.graph_core.specs.Common.{IsCovered, Graph, IsGraph, singles, blocks_in}
+use Rattle.graph_core.specs.Common.{IsCovered, Graph, IsGraph, singles}
 use Rattle.tight_cuts.proofs.FirstCandidates.{first-one, first-place}
 use Rattle.tight_cuts.proofs.PartitionCandidates.{found-root, root-candidates}
 use Rattle.tight_cuts.specs.Candidates.{Candidate, candidates, first_of, first_shore}
 use Rattle.tight_cuts.specs.CandidatesAt.{IsCandidateAt, candidates_at}
 use Rattle.tight_cuts.specs.View.{candidate_of}
 use Rattle.tight_cuts.specs.declared.candidate.Candidate.{Candidate as StoredCandidate}
-use Rattle.tree_core.specs.Common.{Shape, cut, cut_count, IsCutAt, IsDerivationAt, kept_at, merged_at}
+use Rattle.tree_core.proofs.AddedKinds.{adds-both}
+use Rattle.tree_core.specs.Common.{IsCutAt, PlaceValue, Shape, cut, kept_at, leaves_at, merged_at}
+use Rattle.tree_core.specs.declared.tallies.LeafKind.{LeafKind}
 use Rattle.decomposer.specs.Orders.{NamedPicks}
-use Rattle.decomposer.specs.Picked.{IsPickedAt, IsPickedShore, PicksShore}
+use Rattle.decomposer.specs.Picked.{Decomposes, IsPickedAt, IsPickedShore, PicksShore}
 use Rattle.decomposer.specs.declared.orders.NamedOrder.TheVariants.{First}
 
 -- a candidate is a cut
@@ -28,19 +29,23 @@ picked-shore g p stored place c all is =
     let v = get_or_from_slice_get (map candidate_of stored) place (candidate_of c) (candidate_of c) is in
     cut-from_candidate g p (candidate_of c) (subst (IsCandidateAt g p) v (all place (candidate_of c) e))
 
-module _ (g : Graph) (p q r : List (List ℕ)) (x : List ℕ) (t kept merged : Shape) (is_t : t ≡ cut x kept merged) (is_q : q ≡ kept_at g.order p x) (is_r : r ≡ merged_at g.order p x) (cuts : IsCutAt g p x) where
-  pub cut-derives : IsDerivationAt g q kept → IsDerivationAt g r merged → IsDerivationAt g p t
-  cut-derives k m = subst (IsDerivationAt g p) (sym is_t) (cuts, subst (λ (s : List (List ℕ)). IsDerivationAt g s kept) is_q k, subst (λ (s : List (List ℕ)). IsDerivationAt g s merged) is_r m)
-
-  pub cut-picked : (picks : List Candidate → ℕ → ℕ → Type 0) (before between : ℕ) → PicksShore picks (candidates_at g p) before x → IsPickedAt picks g q (before + 1) kept → between ≡ before + 1 + cut_count kept → IsPickedAt picks g r between merged → IsPickedAt picks g p before t
-  cut-picked picks before between picked k e m = subst (IsPickedAt picks g p before) (sym is_t) (
-    picked,
-    subst (λ (s : List (List ℕ)). IsPickedAt picks g s (before + 1) kept) is_q k,
-    subst (λ (s : List (List ℕ)). IsPickedAt picks g s (before + 1 + cut_count kept) merged) is_r (subst (λ j. IsPickedAt picks g r j merged) e m),
-  )
-
-  pub cut-after : (before between after : ℕ) → between ≡ before + 1 + cut_count kept → after ≡ between + cut_count merged → after ≡ before + cut_count t
-  cut-after before between after a b = let e = ap cut_count is_t in omega arith
+-- what is made of a cut, from what is made of the two places below it
+pub cut-decomposes : (picks : List Candidate → ℕ → ℕ → Type 0) (place q r : PlaceValue) (x : List ℕ) (before between after : ℕ) (t kept merged : Shape) (old mid new : List LeafKind) →
+    q ≡ record { graph = place.graph; blocks = kept_at place.graph.order place.blocks x } → r ≡ record { graph = place.graph; blocks = merged_at place.graph.order place.blocks x } → t ≡ cut x kept merged →
+    IsCutAt place.graph place.blocks x → PicksShore picks (candidates_at place.graph place.blocks) before x →
+    Decomposes picks q (before + 1) old kept between mid → Decomposes picks r between mid merged after new → Decomposes picks place before old t after new
+cut-decomposes picks place q r x before between after t kept merged old mid new is_q is_r is_t cuts picked k m =
+    let g = place.graph in
+    let inside = subst (λ (s : PlaceValue). Decomposes picks s (before + 1) old kept between mid) is_q k in
+    let outside = subst (λ (s : PlaceValue). Decomposes picks s between mid merged after new) is_r m in
+    let kept_cuts = inside.cuts in
+    let merged_cuts = outside.cuts in
+    subst (λ (s : Shape). Decomposes picks place before old s after new) (sym is_t) (record {
+      derives = (cuts, inside.derives, outside.derives);
+      picked = (picked, inside.picked, subst (λ j. IsPickedAt picks g (merged_at g.order place.blocks x) j merged) inside.cuts outside.picked);
+      kinds = adds-both g (leaves_at g.order (kept_at g.order place.blocks x) kept) (leaves_at g.order (merged_at g.order place.blocks x) merged) old mid new inside.kinds outside.kinds;
+      cuts = omega arith;
+    })
 
 -- a list that is not empty has a candidate in store
 pub some-stored : (stored : List StoredCandidate) (list : List Candidate) → map candidate_of stored ≡ list → (length list == 0) ≡ false → 0 < length stored
@@ -80,14 +85,3 @@ first-shore-picked g is covered x h =
       (0, c.0, refl, first-place (candidates_at g (singles g.order)) ∙ first, c.2),
       subst (IsCutAt g (singles g.order)) c.2 (cut-from_candidate g (singles g.order) c.0 (first-one g (IsCandidateAt g (singles g.order)) (candidates_at g (singles g.order)) (found-root g is covered) c.0 first)),
     )
-
--- the numbers of blocks below a cut, of which so many are in the shore and so many are not
-module _ (g : Graph) (p : List (List ℕ)) (x : List ℕ) (cuts : IsCutAt g p x) where
-  pub blocks-beside : count (length p) (blocks_in p (mem x)) + 3 ≤ length p
-  blocks-beside = let b = cuts.nontrivial.outside in let s = count_complement (length p) (blocks_in p (mem x)) in omega arith
-
-  pub blocks-inside : 3 ≤ count (length p) (blocks_in p (mem x))
-  blocks-inside = let a = cuts.nontrivial.inside in omega arith
-
-  pub blocks-kept : (k : ℕ) → k + count (length p) (complement (blocks_in p (mem x))) ≡ length p + 1 → k ≡ count (length p) (blocks_in p (mem x)) + 1
-  blocks-kept k is = let s = count_complement (length p) (blocks_in p (mem x)) in omega arith

@@ -9,7 +9,8 @@ use Rattle.tight_cuts.specs.Candidates.{Candidate, first_of}
 use Rattle.tight_cuts.specs.CandidatesAt.{IsCandidateAt, candidates_at}
 use Rattle.tight_cuts.specs.View.{candidate_of}
 use Rattle.tight_cuts.specs.declared.candidate.Candidate.{Candidate as StoredCandidate}
-use Rattle.tree_core.specs.Common.{Shape, leaf, cut, cut_count, IsCutAt, IsLeafAt, kept_at, merged_at}
+use Rattle.tree_core.specs.Common.{AddsKinds, IsCutAt, IsDerivationAt, IsLeafAt, PlaceValue, Shape, cut, cut_count, kept_at, leaf, leaves_at, merged_at}
+use Rattle.tree_core.specs.declared.tallies.LeafKind.{LeafKind}
 
 -- the first candidate at p; none, and p is a leaf, where there is no candidate
 pub record IsFirstAt (g : Graph) (p : List (List ℕ)) (found : Option StoredCandidate) : Type 0 where
@@ -44,6 +45,14 @@ IsPickedAt picks g p k (cut x kept merged) =
     PicksShore picks (candidates_at g p) k x
     × IsPickedAt picks g (kept_at g.order p x) (k + 1) kept
     × IsPickedAt picks g (merged_at g.order p x) (k + 1 + cut_count kept) merged
+
+-- a derivation at a place with so many cuts before it, which is the tree that is picked there; the
+-- kinds of its leaves are appended, and so many cuts stand before what follows it
+pub record Decomposes (picks : List Candidate → ℕ → ℕ → Type 0) (place : PlaceValue) (before : ℕ) (old : List LeafKind) (t : Shape) (after : ℕ) (new : List LeafKind) : Type 0 where
+  pub derives : IsDerivationAt place.graph place.blocks t
+  pub picked : IsPickedAt picks place.graph place.blocks before t
+  pub kinds : AddsKinds place.graph (leaves_at place.graph.order place.blocks t) old new
+  pub cuts : after ≡ before + cut_count t
 
 -- the tree that is picked from a graph
 abbrev pub IsPicked : (List Candidate → ℕ → ℕ → Type 0) → Graph → Shape → Type 0

@@ -1,25 +1,11 @@
 //! The decomposition of a covered graph by tight cuts, with the kinds of the leaves.
-ghost use Rattle.std.specs.Prelude.{◌≡◌, ◌≤◌, ◌<◌, ◌+◌, ◌-◌, length, IfOk, Some};
-ghost use Rattle.counting.specs.Common.{count, mem};
-ghost use Rattle.graph_core.specs.Common.{singles, blocks_in};
+ghost use Rattle.std.specs.Prelude.{◌≡◌, ◌≤◌, ◌+◌, length, IfOk, Some};
+ghost use Rattle.graph_core.specs.Common.{singles};
 ghost use Rattle.tight_cuts.specs.Candidates.{candidates, first_shore};
 ghost use Rattle.tight_cuts.specs.CandidatesAt.{candidates_at};
-ghost use Rattle.tree_core.specs.Common.{
-  AddsKinds,
-  AreLeafKinds,
-  IsCutAt,
-  IsDerivation,
-  IsDerivationAt,
-  cut,
-  cut_count,
-  kept_at,
-  leaves,
-  leaves_at,
-  merged_at,
-  shape_of,
-};
+ghost use Rattle.tree_core.specs.Common.{AreLeafKinds, IsCutAt, IsDerivation, cut, cut_count, leaves, shape_of};
 ghost use Rattle.decomposer.specs.Orders.{NamedPicks};
-ghost use Rattle.decomposer.specs.Picked.{IsPicked, IsPickedAt, PicksShore};
+ghost use Rattle.decomposer.specs.Picked.{Decomposes, IsPicked, PicksShore};
 
 use crate::orders::{NamedOrder, Order};
 use crate::shores::{picked_at, picked_at_root};
@@ -120,11 +106,9 @@ fn cut_tree(alloc: Global, shore: VSet, kept: Tree, merged: Tree) -> Result<Tree
     })
 }
 
-// The most cuts before a node and blocks at it together, and the same below a cut. A tree at four
-// blocks or more has at least three cuts fewer than blocks, so the sum never grows.
+// The most cuts before a node and blocks at it together. A tree at four blocks or more has at
+// least three cuts fewer than blocks, so the sum never grows.
 const MOST_COUNTED: usize = 256;
-
-const MOST_BELOW: usize = 255;
 
 // The tree that the order picks at a place with so many cuts before it, and the number of cuts
 // before what follows it. The kinds of its leaves are appended.
@@ -137,14 +121,8 @@ fn decompose_at<O: Order>(
     kinds: &mut Vec<LeafKind>,
 ) -> Result<(Tree, usize), AllocError>
     requires few { before + length place.now.blocks ≤ MOST_COUNTED }
-    ensures derives { IfOk result (λ made.
-        IsDerivationAt place.now.graph place.now.blocks (shape_of made.0)) }
-    ensures picked { IfOk result (λ made. IsPickedAt (O.picks order.now) place.now.graph
-        place.now.blocks before (shape_of made.0)) }
-    ensures kinds { IfOk result (λ made. AddsKinds place.now.graph
-        (leaves_at place.now.graph.order place.now.blocks (shape_of made.0))
-        kinds.old.items kinds.new.items) }
-    ensures after { IfOk result (λ made. made.1 ≡ before + cut_count (shape_of made.0)) }
+    ensures made { IfOk result (λ made. Decomposes (O.picks order.now) place.now before
+        kinds.old.items (shape_of made.0) made.1 kinds.new.items) }
     ensures few { IfOk result (λ made.
         4 ≤ length place.now.blocks → cut_count (shape_of made.0) + 3 ≤ length place.now.blocks) }
 {
@@ -173,78 +151,15 @@ fn decompose_cut<O: Order>(
     requires picked { PicksShore (O.picks order.now)
         (candidates_at place.now.graph place.now.blocks) before shore }
     requires few { before + length place.now.blocks ≤ MOST_COUNTED }
-    ensures derives { IfOk result (λ made.
-        IsDerivationAt place.now.graph place.now.blocks (shape_of made.0)) }
-    ensures picked { IfOk result (λ made. IsPickedAt (O.picks order.now) place.now.graph
-        place.now.blocks before (shape_of made.0)) }
-    ensures kinds { IfOk result (λ made. AddsKinds place.now.graph
-        (leaves_at place.now.graph.order place.now.blocks (shape_of made.0))
-        kinds.old.items kinds.new.items) }
-    ensures after { IfOk result (λ made. made.1 ≡ before + cut_count (shape_of made.0)) }
+    ensures made { IfOk result (λ made. Decomposes (O.picks order.now) place.now before
+        kinds.old.items (shape_of made.0) made.1 kinds.new.items) }
     ensures few { IfOk result
         (λ made. cut_count (shape_of made.0) + 3 ≤ length place.now.blocks) }
 {
-    let (kept, between) = decompose_kept(alloc, order, place, before + 1, shore, kinds)?;
-    let (merged, after) = decompose_merged(alloc, order, place, between, shore, kinds)?;
+    let inside = place.kept(alloc, shore)?;
+    let (kept, between) = decompose_at(alloc, order, &inside, before + 1, kinds)?;
+    let outside = place.merged(alloc, shore)?;
+    let (merged, after) = decompose_at(alloc, order, &outside, between, kinds)?;
     let tree = cut_tree(alloc, shore, kept, merged)?;
     Ok((tree, after))
-}
-
-// The tree of the side that is kept below the cut of the shore at a place.
-#[cycle(decomposing)]
-fn decompose_kept<O: Order>(
-    alloc: Global,
-    order: &O,
-    place: &Place,
-    before: usize,
-    shore: VSet,
-    kinds: &mut Vec<LeafKind>,
-) -> Result<(Tree, usize), AllocError>
-    requires cut { IsCutAt place.now.graph place.now.blocks shore }
-    requires few { before +
-        count (length place.now.blocks) (blocks_in place.now.blocks (mem shore)) ≤ MOST_BELOW }
-    ensures derives { IfOk result (λ made. IsDerivationAt place.now.graph
-        (kept_at place.now.graph.order place.now.blocks shore) (shape_of made.0)) }
-    ensures picked { IfOk result (λ made. IsPickedAt (O.picks order.now) place.now.graph
-        (kept_at place.now.graph.order place.now.blocks shore) before (shape_of made.0)) }
-    ensures kinds { IfOk result (λ made. AddsKinds place.now.graph
-        (leaves_at place.now.graph.order
-        (kept_at place.now.graph.order place.now.blocks shore) (shape_of made.0))
-        kinds.old.items kinds.new.items) }
-    ensures after { IfOk result (λ made. made.1 ≡ before + cut_count (shape_of made.0)) }
-    ensures few { IfOk result (λ made. cut_count (shape_of made.0) + 2 ≤
-        count (length place.now.blocks) (blocks_in place.now.blocks (mem shore))) }
-{
-    let below = place.kept(alloc, shore)?;
-    decompose_at(alloc, order, &below, before, kinds)
-}
-
-// The tree of the side that is merged below the cut of the shore at a place.
-#[cycle(decomposing)]
-fn decompose_merged<O: Order>(
-    alloc: Global,
-    order: &O,
-    place: &Place,
-    before: usize,
-    shore: VSet,
-    kinds: &mut Vec<LeafKind>,
-) -> Result<(Tree, usize), AllocError>
-    requires cut { IsCutAt place.now.graph place.now.blocks shore }
-    requires few { before + length place.now.blocks ≤
-        MOST_BELOW + count (length place.now.blocks) (blocks_in place.now.blocks (mem shore)) }
-    ensures derives { IfOk result (λ made. IsDerivationAt place.now.graph
-        (merged_at place.now.graph.order place.now.blocks shore) (shape_of made.0)) }
-    ensures picked { IfOk result (λ made. IsPickedAt (O.picks order.now) place.now.graph
-        (merged_at place.now.graph.order place.now.blocks shore) before (shape_of made.0)) }
-    ensures kinds { IfOk result (λ made. AddsKinds place.now.graph
-        (leaves_at place.now.graph.order
-        (merged_at place.now.graph.order place.now.blocks shore) (shape_of made.0))
-        kinds.old.items kinds.new.items) }
-    ensures after { IfOk result (λ made. made.1 ≡ before + cut_count (shape_of made.0)) }
-    ensures few { IfOk result (λ made. cut_count (shape_of made.0) + 2 +
-        count (length place.now.blocks) (blocks_in place.now.blocks (mem shore)) ≤
-        length place.now.blocks) }
-{
-    let below = place.merged(alloc, shore)?;
-    decompose_at(alloc, order, &below, before, kinds)
 }

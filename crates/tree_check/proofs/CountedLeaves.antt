@@ -1,7 +1,7 @@
 -- The leaves of a derivation counted as the scan goes: the count of one leaf is told by its kind,
 -- and those of the two trees below a cut add up, since their kinds stand one after the other.
-use Rattle.std.proofs.Common.{◌≡◌, ℕ, ◌+◌, ◌≤◌, Bool, List, [], ◌∷◌, ◌++◌, cond, length, sym, ap, ap₂, ◌∙◌, subst}
-use Rattle.std.proofs.lemmas.List.Sums.{count_by-le-length, sum_by-append}
+use Rattle.std.proofs.Common.{◌≡◌, ℕ, ◌+◌, Bool, List, [], ◌∷◌, ◌++◌, cond, ap, ap₂, ◌∙◌}
+use Rattle.std.proofs.lemmas.List.Sums.{sum_by-append}
 use Rattle.std.specs.Prelude.{count_by, not}
 use Rattle.counting.proofs.Common.{length-append}
 use Rattle.graph_core.specs.Common.{Graph, quotient}
@@ -36,13 +36,6 @@ module _ (g : Graph) where
           let braces = count_by-append (λ kind. not (is_brick kind)) ks ls in
           cc
 
-  -- no more bricks or braces than leaves, and as many leaves as the tree has
-  module _ (ps : List (List (List ℕ))) (tally : Tally) (is : IsTally g ps tally) where
-    pub bricks-few : tally.bricks ≤ tally.leaves
-    bricks-few = subst (λ (t : Tally). t.bricks ≤ t.leaves) (sym is.is) (count_by-le-length is_brick is.kinds)
-
-    pub braces-few : tally.braces ≤ tally.leaves
-    braces-few = subst (λ (t : Tally). t.braces ≤ t.leaves) (sym is.is) (count_by-le-length (λ kind. not (is_brick kind)) is.kinds)
-
+  -- as many leaves as the tree has
   pub leaves-counted : (n : ℕ) (p : List (List ℕ)) (t : Shape) (tally : Tally) → IsTally g (leaves_at n p t) tally → tally.leaves ≡ leaf_count t
   leaves-counted n p t tally is = ap (λ (t : Tally). t.leaves) is.is ∙ is.right.each_one ∙ length-leaves_at n p t

@@ -1,4 +1,4 @@
--- What the rule of a leaf shows: there is no candidate at a partition exactly when no nontrivial
+-- What the rule of a leaf shows: there is no candidate at a partition if and only if no nontrivial
 -- shore is tight at it.
 use Rattle.std.proofs.Common.{◌≡◌, ◌⊎◌, ℕ, List, [], ◌∷◌, length, Option, Some, None, unwrap_or, refl, sym, ap, ◌∙◌, arith, inl, inr}
 use Rattle.counting.proofs.Common.{none-some, same_Some}

@@ -1,12 +1,11 @@
 -- Steps of the scan of a tree: what is found below a cut, said of the tree that the cut makes;
 -- and the numbers of its nodes and leaves, which stay below those of the blocks.
-use Rattle.std.proofs.Common.{◌≡◌, ℕ, ◌+◌, ◌*◌, ◌≤◌, List, length, refl, sym, arith, subst, inl, inr}
-use Rattle.counting.proofs.Common.{count_complement}
-use Rattle.counting.specs.Common.{count, mem, complement}
+use Rattle.std.proofs.Common.{◌≡◌, ℕ, ◌+◌, ◌*◌, ◌≤◌, List, length, refl, arith, subst, subst₂, inl, inr}
+use Rattle.counting.specs.Common.{count, mem}
 use Rattle.graph_core.specs.Common.{Graph, IsGraph, IsCovered, IsPartition, singles, blocks_in}
-use Rattle.tree_core.proofs.CutsBelow.{few-cuts_at, kept-length, kept-partition, merged-length, merged-partition}
+use Rattle.tree_core.proofs.CutsBelow.{blocks-below, few-cuts_at, kept-length, kept-partition, merged-length, merged-partition}
 use Rattle.tree_core.proofs.Sizes.{leaf_count-cuts, node_count-cuts}
-use Rattle.tree_core.specs.Common.{IsCutAt, IsDerivationAt, IsTally, kept_at, leaf_count, leaves_at, merged_at, Shape, cut, node_count}
+use Rattle.tree_core.specs.Common.{IsCutAt, PlaceValue, kept_at, leaves_at, merged_at, Shape, cut, node_count}
 use Rattle.tree_core.specs.declared.tallies.Tally.{Tally}
 use Rattle.tree_check.proofs.CountedLeaves.{leaves-counted, tally-both}
 use Rattle.tree_check.specs.Judgements.{why_of}
@@ -16,37 +15,44 @@ use Rattle.tree_check.specs.declared.judgement.Why.{Why as StoredWhy}
 use Rattle.tree_check.specs.declared.judgement.Scanned.{Scanned}
 use Rattle.tree_check.specs.declared.judgement.Scanned.TheVariants as scanned
 
+-- what is found at a place, said of its graph and partition
+pub found-at : (g : Graph) (p : List (List ℕ)) (place : PlaceValue) (t : Shape) (node : ℕ) (found : Scanned) → place.graph ≡ g → place.blocks ≡ p → IsScannedAt place.graph place.blocks t node found → IsScannedAt g p t node found
+found-at g p place t node found graph blocks is = subst₂ (λ (h : Graph) (q : List (List ℕ)). IsScannedAt h q t node found) graph blocks is
+
 -- a derivation has less than half as many leaves as its partition has blocks
-few-leaves : (g : Graph) (p : List (List ℕ)) (t : Shape) → IsGraph g → IsPartition g.order p → IsDerivationAt g p t → 4 ≤ length p → 2 * leaf_count t + 2 ≤ length p
-few-leaves g p t is pp d four = let a = few-cuts_at g p t is pp d four in let b = leaf_count-cuts t in omega arith
+few-found : (g : Graph) (p : List (List ℕ)) (t : Shape) (node : ℕ) (tally : Tally) → IsGraph g → IsPartition g.order p → 4 ≤ length p → IsScannedAt g p t node (scanned.Passed tally) → 2 * tally.leaves + 2 ≤ length p
+few-found g p t node tally is pp four found =
+    let leaves = leaves-counted g g.order p t tally found.1 in
+    let few = few-cuts_at g p t is pp found.0 four in
+    let cuts = leaf_count-cuts t in
+    omega arith
 
--- the numbers of blocks below a cut, of which so many are in the shore and so many are not
-module _ (g : Graph) (p : List (List ℕ)) (x : List ℕ) (cuts : IsCutAt g p x) where
-  pub blocks-beside : count (length p) (blocks_in p (mem x)) + 3 ≤ length p
-  blocks-beside = let b = cuts.nontrivial.outside in let s = count_complement (length p) (blocks_in p (mem x)) in omega arith
+-- the two trees below a cut have few leaves, for the numbers of blocks at the cut and below it
+module _ (g : Graph) (p : List (List ℕ)) (x : List ℕ) (is : IsGraph g) (pp : IsPartition g.order p) (cuts : IsCutAt g p x) where
+  room : (4 ≤ length (kept_at g.order p x)) × (4 ≤ length (merged_at g.order p x)) × (length (kept_at g.order p x) + length (merged_at g.order p x) ≡ length p + 2)
+  room = blocks-below g p x (length (kept_at g.order p x)) (length (merged_at g.order p x)) cuts (kept-length g p x is pp cuts) (merged-length g p x is pp cuts)
 
-  pub blocks-inside : 3 ≤ count (length p) (blocks_in p (mem x))
-  blocks-inside = let a = cuts.nontrivial.inside in omega arith
-
-  pub blocks-kept : (k : ℕ) → k + count (length p) (complement (blocks_in p (mem x))) ≡ length p + 1 → k ≡ count (length p) (blocks_in p (mem x)) + 1
-  blocks-kept k is = let s = count_complement (length p) (blocks_in p (mem x)) in omega arith
-
-  -- the two trees have few leaves
-  module _ (is : IsGraph g) (pp : IsPartition g.order p) where
-    pub few-kept : (k : Shape) → IsDerivationAt g (kept_at g.order p x) k → 2 * leaf_count k + 1 ≤ count (length p) (blocks_in p (mem x))
-    few-kept k derives =
-        let l = blocks-kept (length (kept_at g.order p x)) (kept-length g p x is pp cuts) in
-        let a = blocks-inside in
-        let few = few-leaves g (kept_at g.order p x) k is (kept-partition g p x is pp cuts) derives (omega arith) in
+  module _ (t : Shape) (node : ℕ) (tally : Tally) (found : IsScannedAt g (kept_at g.order p x) t node (scanned.Passed tally)) where
+    pub few-kept : 2 * tally.leaves + 2 ≤ length p
+    few-kept =
+        let few = few-found g (kept_at g.order p x) t node tally is (kept-partition g p x is pp cuts) room.0 found in
+        let a = room.1 in
+        let sum = room.2 in
         omega arith
 
-    pub few-merged : (m : Shape) → IsDerivationAt g (merged_at g.order p x) m → 2 * leaf_count m + 1 ≤ count (length p) (complement (blocks_in p (mem x)))
-    few-merged m derives =
-        let l = merged-length g p x is pp cuts in
-        let b = cuts.nontrivial.outside in
-        let s = count_complement (length p) (blocks_in p (mem x)) in
-        let few = few-leaves g (merged_at g.order p x) m is (merged-partition g p x is pp cuts) derives (omega arith) in
+    pub few-beside : (m : ℕ) → m + count (length p) (blocks_in p (mem x)) ≡ length p + 1 → 2 * tally.leaves + m ≤ length p
+    few-beside m beside =
+        let few = few-found g (kept_at g.order p x) t node tally is (kept-partition g p x is pp cuts) room.0 found in
+        let a = merged-length g p x is pp cuts in
+        let sum = room.2 in
         omega arith
+
+  pub few-merged : (t : Shape) (node : ℕ) (tally : Tally) → IsScannedAt g (merged_at g.order p x) t node (scanned.Passed tally) → 2 * tally.leaves + 2 ≤ length p
+  few-merged t node tally found =
+      let few = few-found g (merged_at g.order p x) t node tally is (merged-partition g p x is pp cuts) room.1 found in
+      let a = room.0 in
+      let sum = room.2 in
+      omega arith
 
 -- what is found below a cut
 module _ (g : Graph) (p : List (List ℕ)) (x : List ℕ) (k m : Shape) (node : ℕ) where

@@ -1,7 +1,7 @@
 -- What a scan of a tree finds, as the code keeps it: a derivation with its leaves counted, or the
 -- first refusal.
 -- Stated by: tree_check.
-use Rattle.std.specs.Prelude.{◌≡◌, ℕ, ◌+◌, List}
+use Rattle.std.specs.Prelude.{◌≡◌, ℕ, ◌+◌, ◌≤◌, List}
 use Rattle.graph_core.specs.Common.{Graph}
 use Rattle.tree_core.specs.Common.{IsDerivation, IsDerivationAt, IsTally, leaves, leaves_at, Shape}
 use Rattle.tree_core.specs.declared.tallies.Tally.{Tally}
@@ -20,6 +20,11 @@ IsScannedAt g p t node (scanned.Refused number why) = (j : ℕ) × (number + 1 �
 abbrev pub IsScanned : Graph → Shape → Scanned → Type 0
 IsScanned g t (scanned.Passed tally) = IsDerivation g t × IsTally g (leaves g.order t) tally
 IsScanned g t (scanned.Refused node why) = IsRefused g t node (why_of why)
+
+-- no more leaves of a kind than leaves
+pub record HasFewKinds (tally : Tally) : Type 0 where
+  pub bricks : tally.bricks ≤ tally.leaves
+  pub braces : tally.braces ≤ tally.leaves
 
 -- the leaves of two lists counted together
 abbrev pub sum_of : Tally → Tally → Tally

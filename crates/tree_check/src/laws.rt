@@ -25,8 +25,8 @@ pub fn first_refusal_law()
         IsDerivation g t ⊎ ((node : ℕ) × (why : Why) × IsRefused g t node why) }
 {}
 
-/// A right judgement accepts a tree exactly when it is a derivation of the graph, and says that
-/// the graph is not matching covered exactly when it is not; so it refuses exactly the other
+/// A right judgement accepts a tree if and only if it is a derivation of the graph, and says that
+/// the graph is not matching covered if and only if it is not; so it refuses exactly the other
 /// trees of matching covered graphs.
 pub fn judgement_law()
     ensures accepted { (g : Graph) (t : Shape) (answer : Judgement) → IsMultigraph g →
@@ -36,8 +36,8 @@ pub fn judgement_law()
         (IsCovered g → ⊥) }
 {}
 
-/// A right answer to a script of moves is `Done` exactly when the script turns the tree through
-/// derivations into some tree, `Stuck` or `Refused` at a move exactly when this is the first
+/// A right answer to a script of moves is `Done` if and only if the script turns the tree through
+/// derivations into some tree, `Stuck` or `Refused` at a move if and only if this is the first
 /// failing one and has no result, or one that is not a derivation. The last tree is determined,
 /// and so are the first failing move and the node and the reason of its result, but for the
 /// perfect matching that crosses a cut.

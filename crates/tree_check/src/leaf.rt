@@ -1,54 +1,99 @@
 //! The judgement of a leaf. What is found at its quotient tells both whether there is a candidate,
 //! and if there is none, whether the leaf is a brick or a brace.
-ghost use Rattle.std.specs.Prelude.{◌≡◌, ◌≤◌, ◌+◌, ◌↔◌, ℕ, List, None, IsTrue, length, IfOk};
+ghost use Rattle.std.specs.Prelude.{◌≡◌, ◌↔◌, ℕ, List, None, IsTrue, IfOk};
 ghost use Rattle.std.specs.Option.{option_map};
 ghost use Rattle.graph_core.specs.Common.{Graph, IsBipartite, quotient, singles};
 ghost use Rattle.tight_cuts.specs.Candidates.{first_of};
 ghost use Rattle.tight_cuts.specs.CandidatesAt.{candidates_at};
 ghost use Rattle.tight_cuts.specs.View.{candidate_of};
 ghost use Rattle.tree_core.specs.Common.{IsLeafAt, leaf};
+ghost use Rattle.tree_check.specs.Leaves.{IsLeafJudgement, IsLeafOfKind};
 ghost use Rattle.tree_check.specs.Scans.{IsScannedAt};
 
 use crate::judgement::{Scanned, Why};
-use graph_facts::Covered;
+use crate::known_places::KnownPlaces;
 use std::alloc::{AllocError as Memory, Global};
 use tight_cuts::{Candidate, first_at, first_root_candidate};
-use tree_core::{Place, kind_by_side, tallied};
+use tree_core::{LeafKind, Place, kind_by_side, tallied};
 
-/// What the scan finds of a covered graph as the one leaf of a tree.
-pub(crate) fn scan_root_leaf(alloc: Global, c: &Covered) -> Result<Scanned, Memory>
-    ensures { IfOk result (IsScannedAt c.now (singles c.now.order) leaf 1) }
+/// What the scan finds of the one leaf of a tree of a covered graph. The leaf is judged if it is
+/// not known, by what is known of the graph.
+pub(crate) fn scan_root_leaf(alloc: Global, known: &mut KnownPlaces) -> Result<Scanned, Memory>
+    ensures scanned { IfOk result
+        (IsScannedAt known.old (singles known.old.order) leaf 1) }
+    ensures same { known.new ≡ known.old }
 {
+    let c = known.covered();
     c.keeps_covered();
+    let root = Place::root(alloc, c)?;
+    if let Some(kind) = known.kind_at(root.partition()) {
+        return Ok(passed(kind));
+    }
     let found = first_root_candidate(alloc, c)?;
-    Ok(scanned_leaf(found, c.is_bipartite(), 1))
+    scanned_leaf(known, root, judged(found, c.is_bipartite()), 1)
 }
 
-/// What the scan finds at a leaf.
-pub(crate) fn scan_leaf(alloc: Global, p: &Place, node: u32) -> Result<Scanned, Memory>
-    ensures { IfOk result (IsScannedAt p.now.graph p.now.blocks leaf node) }
+/// What the scan finds at a leaf. It is judged if it is not known.
+pub(crate) fn scan_leaf<'c, 'g>(
+    alloc: Global,
+    known: &mut KnownPlaces<'c, 'g>,
+    p: Place<'g>,
+    node: u32,
+) -> Result<Scanned, Memory>
+    requires { p.graph ≡ known.old }
+    ensures scanned { IfOk result (IsScannedAt p.entry.graph p.entry.blocks leaf node) }
+    ensures same { known.new ≡ known.old }
 {
+    if let Some(kind) = known.kind_at(p.partition()) {
+        return Ok(passed(kind));
+    }
     let found = first_at(alloc, p.graph(), p.partition())?;
-    Ok(scanned_leaf(found.candidate, found.is_bipartite, node))
+    scanned_leaf(known, p, judged(found.candidate, found.is_bipartite), node)
 }
 
-// What the scan finds at a leaf, from the first candidate there and from whether the quotient is
+// What the scan finds at a leaf that was judged, which is known from now on.
+fn scanned_leaf<'c, 'g>(
+    known: &mut KnownPlaces<'c, 'g>,
+    p: Place<'g>,
+    judged: Result<LeafKind, Why>,
+    node: u32,
+) -> Result<Scanned, Memory>
+    requires graph { p.graph ≡ known.old }
+    requires judged { IsLeafJudgement p.graph p.blocks judged }
+    ensures scanned { IfOk result (IsScannedAt p.entry.graph p.entry.blocks leaf node) }
+    ensures same { known.new ≡ known.old }
+{
+    match judged {
+        Err(why) => Ok(Scanned::Refused { node, why }),
+        Ok(kind) => {
+            known.add_leaf(p, kind)?;
+            Ok(passed(kind))
+        }
+    }
+}
+
+// The judgement of a leaf, from the first candidate there and from whether the quotient is
 // bipartite.
-fn scanned_leaf(found: Option<Candidate>, bipartite: bool, node: u32) -> Scanned
+fn judged(found: Option<Candidate>, bipartite: bool) -> Result<LeafKind, Why>
     ensures { (g : Graph) (p : List (List ℕ)) →
         option_map candidate_of found ≡ first_of (candidates_at g p) →
         (found ≡ None → IsLeafAt g p) → (IsTrue bipartite ↔ IsBipartite (quotient g p)) →
-        IsScannedAt g p leaf node result }
+        IsLeafJudgement g p result }
 {
     match found {
-        Some(candidate) => Scanned::Refused {
-            node,
-            why: Why::NotLeaf {
-                cut: candidate.shore,
-            },
-        },
-        None => Scanned::Passed {
-            tally: tallied(&[kind_by_side(bipartite)]),
-        },
+        Some(candidate) => Err(Why::NotLeaf {
+            cut: candidate.shore,
+        }),
+        None => Ok(kind_by_side(bipartite)),
+    }
+}
+
+// What the scan finds at a leaf of this kind.
+fn passed(kind: LeafKind) -> Scanned
+    ensures { (g : Graph) (p : List (List ℕ)) (node : ℕ) → IsLeafOfKind g p kind →
+        IsScannedAt g p leaf node result }
+{
+    Scanned::Passed {
+        tally: tallied(&[kind]),
     }
 }

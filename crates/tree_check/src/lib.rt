@@ -6,11 +6,13 @@
 //! a perfect matching at the node's partition with at least two edges in a cut that is not tight,
 //! or a nontrivial tight cut where a leaf stands. Of a graph that is not matching covered it
 //! gives the first reason. `check_covered` answers the same of a `Covered`, a graph of which this
-//! and more is known. `scan_covered` counts the leaves of a derivation too, the bricks and the braces, by
-//! what their judgement finds of them (`IsScanned` of `specs/Scans`).
+//! and more is known. `scan_covered` counts the leaves of a derivation too, the bricks and the
+//! braces, by what their judgement finds of them (`IsScanned` of `specs/Scans`). `scan_known`
+//! answers the same for several trees of one graph: what is found at a place, a leaf or the
+//! quotient at a cut, is kept in a `KnownPlaces` and is not sought again.
 //!
 //! `replay` makes a script of moves on a derivation and judges each tree on the way: it gives the
-//! last tree exactly when all are derivations, and else names the first failing move, with what
+//! last tree if and only if all are derivations, and else names the first failing move, with what
 //! `check` answers if its result is not a derivation (`IsReplay` of `specs/Replays`). By the laws
 //! of moves a Rotate needs no test, and a Switch of two blocks only that of its new shore, at the
 //! node where it stands; the whole tree is judged after any other Switch, or if that test fails.
@@ -28,6 +30,7 @@
 #![tactic(auto)]
 
 mod judgement;
+mod known_places;
 pub mod laws;
 mod leaf;
 mod replaying;
@@ -36,5 +39,6 @@ mod scan;
 mod sound_moves;
 
 pub use judgement::{Judgement, Scanned, Why};
+pub use known_places::KnownPlaces;
 pub use replaying::{Replayed, replay, replay_covered};
-pub use scan::{check, check_covered, scan_covered};
+pub use scan::{check, check_covered, scan_covered, scan_known};

@@ -52,7 +52,7 @@ fn step(alloc: Global, c: &Covered, tree: Tree, item: &Move) -> Result<Moved, Me
     }
 }
 
-/// Makes the moves in order on `tree`, a derivation of `g`. `Done` comes exactly when each move
+/// Makes the moves in order on `tree`, a derivation of `g`. `Done` comes if and only if each move
 /// has a result that is a derivation of `g`, with the last tree. `Stuck` names the first failing
 /// move if it has no result, and `Refused` if its result is not a derivation, with what
 /// `check` answers of it. After `Memory` the tree is given up.

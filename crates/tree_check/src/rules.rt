@@ -8,6 +8,7 @@ ghost use Rattle.tree_check.specs.Judgements.{why_of};
 ghost use Rattle.tree_check.specs.Refusals.{BreaksCut, CrossesAt};
 
 use crate::judgement::Why;
+use crate::known_places::KnownPlaces;
 use contraction::{Contracted, Partition, lift, quotient};
 use graph_core::Numbers;
 use std::alloc::{AllocError as Memory, Global};
@@ -15,14 +16,21 @@ use tight_cuts::{Tightness, is_tight};
 use tree_core::Place;
 use vset_core::VSet;
 
-/// The first rule that the cut of `shore` breaks at `p`; `None` exactly when `shore` is a
+/// The first rule that the cut of `shore` breaks at `p`; `None` if and only if `shore` is a
 /// canonical nontrivial shore that is tight at `p`.
-pub(crate) fn cut_fault(alloc: Global, p: &Place, shore: VSet) -> Result<Option<Why>, Memory>
-    requires { All (Within (p.now.graph.order - 1)) shore }
+pub(crate) fn cut_fault(
+    alloc: Global,
+    known: &mut KnownPlaces,
+    p: &Place,
+    shore: VSet,
+) -> Result<Option<Why>, Memory>
+    requires graph { p.now.graph ≡ known.old }
+    requires within { All (Within (p.now.graph.order - 1)) shore }
     ensures some { IfOk result
         (λ o. (why : _) → o ≡ Some why →
         BreaksCut p.now.graph p.now.blocks (mem shore) (why_of why)) }
     ensures none { IfOk result (λ o. o ≡ None → IsCutAt p.now.graph p.now.blocks shore) }
+    ensures same { known.new ≡ known.old }
 {
     shore.rises();
     let blocks = p.partition();
@@ -36,23 +44,36 @@ pub(crate) fn cut_fault(alloc: Global, p: &Place, shore: VSet) -> Result<Option<
     if inside < 3 || blocks.len() < inside + 3 {
         return Ok(Some(Why::Trivial));
     }
-    match crossing_at(alloc, p, shore)? {
+    match crossing_at(alloc, known, p, shore)? {
         Some(matching) => Ok(Some(Why::NotTight { matching })),
         None => Ok(None),
     }
 }
 
 // A perfect matching at p with at least two edges in the cut of the shore, a union of an odd
-// number of blocks; none exactly when the shore is tight at p.
-fn crossing_at(alloc: Global, p: &Place, shore: VSet) -> Result<Option<Numbers>, Memory>
+// number of blocks; none if and only if the shore is tight at p. The quotient at p is made if it is
+// not known.
+fn crossing_at(
+    alloc: Global,
+    known: &mut KnownPlaces,
+    p: &Place,
+    shore: VSet,
+) -> Result<Option<Numbers>, Memory>
+    requires graph { p.now.graph ≡ known.old }
     requires union { IsUnion p.now.graph.order p.now.blocks (mem shore) }
     requires odd { is_odd (block_count p.now.blocks (mem shore)) ≡ true }
     ensures some { IfOk result
         (λ o. (m : _) → o ≡ Some m → CrossesAt p.now.graph p.now.blocks (mem shore) m) }
     ensures none { IfOk result (λ o. o ≡ None → IsTightAt p.now.graph p.now.blocks (mem shore)) }
+    ensures same { known.new ≡ known.old }
 {
+    if let Some(q) = known.quotient_at(p.partition()) {
+        return crossing_by(alloc, p, q, shore);
+    }
     let q = quotient(alloc, p.graph(), p.partition())?;
-    crossing_by(alloc, p, &q, shore)
+    let found = crossing_by(alloc, p, &q, shore)?;
+    known.add_quotient(q)?;
+    Ok(found)
 }
 
 // The same, from the quotient at p.

@@ -1,12 +1,12 @@
 //! The scan of a tree in preorder.
-ghost use Rattle.std.specs.Prelude.{◌≡◌, ◌≤◌, ◌<◌, ◌+◌, ◌*◌, ◌^◌, length, IfOk};
-ghost use Rattle.counting.specs.Common.{count, mem, complement};
-ghost use Rattle.graph_core.specs.Common.{singles, blocks_in};
-ghost use Rattle.tree_core.specs.Common.{IsCutAt, kept_at, merged_at, Fits, cut, shape_of};
+ghost use Rattle.std.specs.Prelude.{◌≡◌, ◌≤◌, ◌<◌, ◌+◌, ◌^◌, length, IfOk};
+ghost use Rattle.graph_core.specs.Common.{singles};
+ghost use Rattle.tree_core.specs.Common.{Fits, cut, shape_of};
 ghost use Rattle.tree_check.specs.Judgements.{IsJudgement};
-ghost use Rattle.tree_check.specs.Scans.{IsScanned, IsScannedAt, sum_of};
+ghost use Rattle.tree_check.specs.Scans.{HasFewKinds, IsScanned, IsScannedAt, sum_of};
 
 use crate::judgement::{Judgement, Scanned};
+use crate::known_places::KnownPlaces;
 use crate::leaf::{scan_leaf, scan_root_leaf};
 use crate::rules::cut_fault;
 use graph_core::MultiGraph;
@@ -16,9 +16,9 @@ use tree_core::{Place, Tally, Tree};
 use vset_core::VSet;
 
 /// Whether `tree`, whose shores lie below the order of `g`, is a derivation of `g`. `NotCovered`
-/// comes exactly when `g` is not matching covered, with the first reason; `Accepted` exactly when
-/// it is and the tree is a derivation of it; else `Refused` names the first node in preorder that
-/// breaks a rule, and the first rule that it breaks.
+/// comes if and only if `g` is not matching covered, with the first reason; `Accepted` if and only
+/// if it is and the tree is a derivation of it; else `Refused` names the first node in preorder
+/// that breaks a rule, and the first rule that it breaks.
 pub fn check(alloc: Global, g: &MultiGraph, tree: &Tree) -> Result<Judgement, Memory>
     requires { Fits g.now.order (shape_of tree.now) }
     ensures { IfOk result (IsJudgement g.now (shape_of tree.now)) }
@@ -46,54 +46,77 @@ pub fn scan_covered(alloc: Global, c: &Covered, tree: &Tree) -> Result<Scanned, 
     requires { Fits c.now.order (shape_of tree.now) }
     ensures { IfOk result (IsScanned c.now (shape_of tree.now)) }
 {
+    let mut known = KnownPlaces::none(alloc, c);
+    scan_known(alloc, &mut known, tree)
+}
+
+/// What `scan_covered` answers of a tree of a covered graph. What is known of a place is not
+/// sought again: whether a leaf is a brick or a brace, and the quotient at a cut. What is found is
+/// known from now on.
+pub fn scan_known(alloc: Global, known: &mut KnownPlaces, tree: &Tree) -> Result<Scanned, Memory>
+    requires { Fits known.old.order (shape_of tree.now) }
+    ensures scanned { IfOk result (IsScanned known.old (shape_of tree.now)) }
+    ensures same { known.new ≡ known.old }
+{
+    let c = known.covered();
     c.keeps_covered();
-    let found = scan_from_root(alloc, c, tree)?;
+    let found = scan_from_root(alloc, known, tree)?;
     Ok(found)
 }
 
 // What the scan finds at the root. A tree that is one leaf is judged by what is known of the
 // graph.
-fn scan_from_root(alloc: Global, c: &Covered, tree: &Tree) -> Result<Scanned, Memory>
-    requires { Fits c.now.order (shape_of tree.now) }
-    ensures { IfOk result (IsScannedAt c.now (singles c.now.order) (shape_of tree.now) 1) }
+fn scan_from_root(alloc: Global, known: &mut KnownPlaces, tree: &Tree) -> Result<Scanned, Memory>
+    requires { Fits known.old.order (shape_of tree.now) }
+    ensures scanned { IfOk result
+        (IsScannedAt known.old (singles known.old.order) (shape_of tree.now) 1) }
+    ensures same { known.new ≡ known.old }
 {
     match tree {
-        Tree::Leaf => scan_root_leaf(alloc, c),
+        Tree::Leaf => scan_root_leaf(alloc, known),
         Tree::Cut {
             shore,
             kept,
             merged,
         } => {
+            let c = known.covered();
             c.keeps_covered();
             let root = Place::root(alloc, c)?;
-            scan_cut(alloc, &root, *shore, kept, merged, 1)
+            scan_cut(alloc, known, &root, *shore, kept, merged, 1)
         }
     }
 }
 
 // Scans the cut of the shore at p and the two trees below it. The cut has the number `node`.
 #[cycle(scanning)]
-fn scan_cut(
+fn scan_cut<'c, 'g>(
     alloc: Global,
-    p: &Place,
+    known: &mut KnownPlaces<'c, 'g>,
+    p: &Place<'g>,
     shore: VSet,
     kept: &Tree,
     merged: &Tree,
     node: u32,
 ) -> Result<Scanned, Memory>
+    requires graph { p.now.graph ≡ known.old }
     requires fits { Fits p.now.graph.order (cut shore (shape_of kept.now) (shape_of merged.now)) }
     requires few { node + length p.now.blocks ≤ 129 }
-    ensures { IfOk result (IsScannedAt p.now.graph p.now.blocks
+    ensures scanned { IfOk result (IsScannedAt p.now.graph p.now.blocks
         (cut shore (shape_of kept.now) (shape_of merged.now)) node) }
+    ensures same { known.new ≡ known.old }
 {
-    if let Some(why) = cut_fault(alloc, p, shore)? {
+    if let Some(why) = cut_fault(alloc, known, p, shore)? {
         return Ok(Scanned::Refused { node, why });
     }
-    let inside = match scan_kept(alloc, p, shore, kept, node + 1)? {
+    p.keeps_place();
+    let below = p.kept(alloc, shore)?;
+    let inside = match scan_at(alloc, known, below, kept, node + 1)? {
         Scanned::Refused { node, why } => return Ok(Scanned::Refused { node, why }),
         Scanned::Passed { tally } => tally,
     };
-    match scan_merged(alloc, p, shore, merged, node + 2 * inside.leaves)? {
+    let next = node + 2 * inside.leaves;
+    let beside = p.merged(alloc, shore)?;
+    match scan_at(alloc, known, beside, merged, next)? {
         Scanned::Refused { node, why } => Ok(Scanned::Refused { node, why }),
         Scanned::Passed { tally } => Ok(Scanned::Passed {
             tally: together(inside, tally),
@@ -101,74 +124,37 @@ fn scan_cut(
     }
 }
 
-// Scans the tree of the side that is kept below the cut of the shore at p.
-#[cycle(scanning)]
-fn scan_kept(
-    alloc: Global,
-    p: &Place,
-    shore: VSet,
-    tree: &Tree,
-    node: u32,
-) -> Result<Scanned, Memory>
-    requires cut { IsCutAt p.now.graph p.now.blocks shore }
-    requires fits { Fits p.now.graph.order (shape_of tree.now) }
-    requires few { node + count (length p.now.blocks) (blocks_in p.now.blocks (mem shore)) ≤ 128 }
-    ensures scanned { IfOk result (IsScannedAt p.now.graph
-        (kept_at p.now.graph.order p.now.blocks shore) (shape_of tree.now) node) }
-    ensures few { IfOk result (λ found. (tally : _) → found ≡ Scanned.Passed tally →
-        2 * tally.leaves + 1 ≤ count (length p.now.blocks) (blocks_in p.now.blocks (mem shore))) }
-{
-    p.keeps_place();
-    let below = p.kept(alloc, shore)?;
-    scan_at(alloc, &below, tree, node)
-}
-
-// Scans the tree of the side that is merged below the cut of the shore at p.
-#[cycle(scanning)]
-fn scan_merged(
-    alloc: Global,
-    p: &Place,
-    shore: VSet,
-    tree: &Tree,
-    node: u32,
-) -> Result<Scanned, Memory>
-    requires cut { IsCutAt p.now.graph p.now.blocks shore }
-    requires fits { Fits p.now.graph.order (shape_of tree.now) }
-    requires few { node + length p.now.blocks ≤
-        128 + count (length p.now.blocks) (blocks_in p.now.blocks (mem shore)) }
-    ensures scanned { IfOk result (IsScannedAt p.now.graph
-        (merged_at p.now.graph.order p.now.blocks shore) (shape_of tree.now) node) }
-    ensures few { IfOk result (λ found. (tally : _) → found ≡ Scanned.Passed tally →
-        2 * tally.leaves + 1 ≤
-        count (length p.now.blocks) (complement (blocks_in p.now.blocks (mem shore)))) }
-{
-    p.keeps_place();
-    let below = p.merged(alloc, shore)?;
-    scan_at(alloc, &below, tree, node)
-}
-
 // Scans the tree at p, whose first node has the number `node`.
 #[cycle(scanning)]
-fn scan_at(alloc: Global, p: &Place, tree: &Tree, node: u32) -> Result<Scanned, Memory>
-    requires fits { Fits p.now.graph.order (shape_of tree.now) }
-    requires few { node + length p.now.blocks ≤ 129 }
-    ensures { IfOk result (IsScannedAt p.now.graph p.now.blocks (shape_of tree.now) node) }
+fn scan_at<'c, 'g>(
+    alloc: Global,
+    known: &mut KnownPlaces<'c, 'g>,
+    p: Place<'g>,
+    tree: &Tree,
+    node: u32,
+) -> Result<Scanned, Memory>
+    requires graph { p.graph ≡ known.old }
+    requires fits { Fits p.graph.order (shape_of tree.now) }
+    requires few { node + length p.blocks ≤ 129 }
+    ensures scanned { IfOk result
+        (IsScannedAt p.entry.graph p.entry.blocks (shape_of tree.now) node) }
+    ensures same { known.new ≡ known.old }
 {
     match tree {
-        Tree::Leaf => scan_leaf(alloc, p, node),
+        Tree::Leaf => scan_leaf(alloc, known, p, node),
         Tree::Cut {
             shore,
             kept,
             merged,
-        } => scan_cut(alloc, p, *shore, kept, merged, node),
+        } => scan_cut(alloc, known, &p, *shore, kept, merged, node),
     }
 }
 
 // The leaves of the two trees below a cut together.
 fn together(inside: Tally, outside: Tally) -> Tally
-    requires leaves { inside.leaves + outside.leaves < 2 ^ 32 }
-    requires bricks { inside.bricks + outside.bricks < 2 ^ 32 }
-    requires braces { inside.braces + outside.braces < 2 ^ 32 }
+    requires few { inside.leaves + outside.leaves < 2 ^ 32 }
+    requires inside { HasFewKinds inside }
+    requires outside { HasFewKinds outside }
     ensures { result ≡ sum_of inside outside }
 {
     Tally {

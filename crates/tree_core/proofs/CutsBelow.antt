@@ -61,6 +61,15 @@ module _ (g : Graph) (p : List (List ℕ)) (x : List ℕ) (is : IsGraph g) (pp :
       let c = block_count_congr g.order p pp.partition (complement (mem x)) (mem (complement_of g.order x)) (λ v w. sym (mem-complement_of g.order x v w)) (union_rest g.order p pp.partition (mem x) cuts.tight.union) in
       omega arith
 
+-- at least four blocks stand on each side of a cut, and on both together two more than at it
+pub blocks-below : (g : Graph) (p : List (List ℕ)) (x : List ℕ) (k m : ℕ) → IsCutAt g p x → k + count (length p) (complement (blocks_in p (mem x))) ≡ length p + 1 → m + count (length p) (blocks_in p (mem x)) ≡ length p + 1 →
+    (4 ≤ k) × (4 ≤ m) × (k + m ≡ length p + 2)
+blocks-below g p x k m cuts kept merged =
+    let inside = cuts.nontrivial.inside in
+    let outside = cuts.nontrivial.outside in
+    let both = count_complement (length p) (blocks_in p (mem x)) in
+    (omega arith, omega arith, omega arith)
+
 -- c cuts stand at a partition with at least 2 c + 4 blocks, if it has at least four
 pub few-cuts_at : (g : Graph) (p : List (List ℕ)) (t : Shape) → IsGraph g → IsPartition g.order p → IsDerivationAt g p t → 4 ≤ length p → 2 * cut_count t + 4 ≤ length p
 few-cuts_at g p leaf is pp derives four = omega arith

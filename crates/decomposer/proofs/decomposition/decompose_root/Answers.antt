@@ -22,17 +22,17 @@ returns-clause-derivation g c =
     let same : ◌≡◌ {A = PlaceValue} c.in_ok-root.root (record { graph = c.args.c.now; blocks = singles c.args.c.now.order }) = λ i. record { graph = c.in_ok-root.ensures.graph i; blocks = c.in_ok-root.ensures.blocks i } in
     record {
       covered = c.keeps_covered.ensures.covered;
-      derives = subst (λ (q : PlaceValue). IsDerivationAt q.graph q.blocks (shape_of c.in_ok-tree.tree)) same c.in_ok-tree.ensures.derives;
+      derives = subst (λ (q : PlaceValue). IsDerivationAt q.graph q.blocks (shape_of c.in_ok-tree.tree)) same c.in_ok-tree.ensures.made.derives;
     }
 
 pub returns-clause-picked : goal.returns-clause-picked
 returns-clause-picked g c =
     let same : ◌≡◌ {A = PlaceValue} c.in_ok-root.root (record { graph = c.args.c.now; blocks = singles c.args.c.now.order }) = λ i. record { graph = c.in_ok-root.ensures.graph i; blocks = c.in_ok-root.ensures.blocks i } in
-    subst (λ (q : PlaceValue). IsPickedAt (g.O.Order.picks c.args.order.now) q.graph q.blocks 0 (shape_of c.in_ok-tree.tree)) same c.in_ok-tree.ensures.picked
+    subst (λ (q : PlaceValue). IsPickedAt (g.O.Order.picks c.args.order.now) q.graph q.blocks 0 (shape_of c.in_ok-tree.tree)) same c.in_ok-tree.ensures.made.picked
 
 pub returns-clause-kinds : goal.returns-clause-kinds
 returns-clause-kinds g c =
     let same : ◌≡◌ {A = PlaceValue} c.in_ok-root.root (record { graph = c.args.c.now; blocks = singles c.args.c.now.order }) = λ i. record { graph = c.in_ok-root.ensures.graph i; blocks = c.in_ok-root.ensures.blocks i } in
     adds-all c.args.c.now (leaves_at c.args.c.now.order (singles c.args.c.now.order) (shape_of c.in_ok-tree.tree)) c.decompose_cut.new.kinds.items
     (subst (λ (ks : List LeafKind). AddsKinds c.args.c.now (leaves_at c.args.c.now.order (singles c.args.c.now.order) (shape_of c.in_ok-tree.tree)) ks c.decompose_cut.new.kinds.items) c.new-kinds.ensures.items
-    (subst (λ (q : PlaceValue). AddsKinds q.graph (leaves_at q.graph.order q.blocks (shape_of c.in_ok-tree.tree)) c.new-kinds.result.items c.decompose_cut.new.kinds.items) same c.in_ok-tree.ensures.kinds))
+    (subst (λ (q : PlaceValue). AddsKinds q.graph (leaves_at q.graph.order q.blocks (shape_of c.in_ok-tree.tree)) c.new-kinds.result.items c.decompose_cut.new.kinds.items) same c.in_ok-tree.ensures.made.kinds))

@@ -12,7 +12,7 @@ returns-then-not-is_union-clause-some c why is =
     let blocks = c.partition-blocks in
     breaks-some c.args.p.now.graph c.args.p.now.blocks (mem c.args.shore) NotBlocks why is
     (no_union-at c.args.p.now.graph blocks.result.now c.args.p.now.blocks c.args.shore c.is_union.result blocks.ensures.order blocks.ensures.blocks c.is_union.ensures c.if-not-is_union.true
-    (record { rising = c.rises.ensures.rising; within = c.requires }))
+    (record { rising = c.rises.ensures.rising; within = c.requires.within }))
 
 pub returns-then-inside-eq0-clause-some : goal.returns-then-inside-eq0-clause-some
 returns-then-inside-eq0-clause-some c why is =
@@ -69,7 +69,7 @@ returns-in-None-clause-none c none =
     let blocks = c.partition-blocks in
     let counted = c.blocks_in-inside.ensures ∙ ap (λ (bs : List (List ℕ)). block_count bs (mem c.args.shore)) blocks.ensures.blocks in
     let all = c.len.ensures ∙ ap (λ (bs : List (List ℕ)). length bs) blocks.ensures.blocks in
-    is-cut c.args.p.now.graph c.args.p.now.blocks c.args.shore (record { rising = c.rises.ensures.rising; within = c.requires }) (c.in_ok-matching.ensures.none c.in-None.is)
+    is-cut c.args.p.now.graph c.args.p.now.blocks c.args.shore (record { rising = c.rises.ensures.rising; within = c.requires.within }) (c.in_ok-matching.ensures.none c.in-None.is)
     (nontrivial-shown c.args.p.now.blocks (mem c.args.shore) c.blocks_in-inside.result c.len.result counted all (omega (arith, c.if-inside-lt3.false)) (omega (arith, c.if-len-inside.false)))
 
 pub returns-in-Some-clause-none : goal.returns-in-Some-clause-none

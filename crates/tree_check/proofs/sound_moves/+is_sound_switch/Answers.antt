@@ -32,9 +32,12 @@ is_sound_switch-requires t c =
     (arm.ensures.cases.0 ∙ ap (λ (s : Side). s ∷ arm.rest.now) arm.field-0-0-is) (ap shape_of c.in-Cut.is) c.requires.switched) in (
       first_of (omega arith, search rules),
       (
-        subst₂ (λ (h : Graph) (u : Tree). Fits h.order (shape_of u)) (sym below.ensures.graph) (sym c.deref.ensures) (subst (λ (u : Tree). Fits g.order (shape_of u)) c.in-Cut.is c.requires.fits).1,
-        subst (λ (u : Tree). IsSwitched below.below.graph below.below.blocks arm.rest.now c.args.u c.args.v (shape_of u)) (sym c.deref.ensures)
-            (subst₂ (λ (h : Graph) (q : List (List ℕ)). IsSwitched h q arm.rest.now c.args.u c.args.v (shape_of c.in-Cut.kept.value)) (sym below.ensures.graph) (sym below.ensures.blocks) switched),
+        below.ensures.graph ∙ c.requires.graph,
+        (
+          subst₂ (λ (h : Graph) (u : Tree). Fits h.order (shape_of u)) (sym below.ensures.graph) (sym c.deref.ensures) (subst (λ (u : Tree). Fits g.order (shape_of u)) c.in-Cut.is c.requires.fits).1,
+          subst (λ (u : Tree). IsSwitched below.below.graph below.below.blocks arm.rest.now c.args.u c.args.v (shape_of u)) (sym c.deref.ensures)
+              (subst₂ (λ (h : Graph) (q : List (List ℕ)). IsSwitched h q arm.rest.now c.args.u c.args.v (shape_of c.in-Cut.kept.value)) (sym below.ensures.graph) (sym below.ensures.blocks) switched),
+        ),
       ),
     )
 
@@ -50,8 +53,11 @@ is_sound_switch-requires-in-Some-Merged-default t c =
     (arm.ensures.cases.0 ∙ ap (λ (s : Side). s ∷ arm.rest.now) arm.field-0-0-is) (ap shape_of c.in-Cut.is) c.requires.switched) in (
       first_of (omega arith, search rules),
       (
-        subst₂ (λ (h : Graph) (u : Tree). Fits h.order (shape_of u)) (sym below.ensures.graph) (sym c.deref-in-Some-Merged-default.ensures) (subst (λ (u : Tree). Fits g.order (shape_of u)) c.in-Cut.is c.requires.fits).2,
-        subst (λ (u : Tree). IsSwitched below.below.graph below.below.blocks arm.rest.now c.args.u c.args.v (shape_of u)) (sym c.deref-in-Some-Merged-default.ensures)
-            (subst₂ (λ (h : Graph) (q : List (List ℕ)). IsSwitched h q arm.rest.now c.args.u c.args.v (shape_of c.in-Cut.merged.value)) (sym below.ensures.graph) (sym below.ensures.blocks) switched),
+        below.ensures.graph ∙ c.requires.graph,
+        (
+          subst₂ (λ (h : Graph) (u : Tree). Fits h.order (shape_of u)) (sym below.ensures.graph) (sym c.deref-in-Some-Merged-default.ensures) (subst (λ (u : Tree). Fits g.order (shape_of u)) c.in-Cut.is c.requires.fits).2,
+          subst (λ (u : Tree). IsSwitched below.below.graph below.below.blocks arm.rest.now c.args.u c.args.v (shape_of u)) (sym c.deref-in-Some-Merged-default.ensures)
+              (subst₂ (λ (h : Graph) (q : List (List ℕ)). IsSwitched h q arm.rest.now c.args.u c.args.v (shape_of c.in-Cut.merged.value)) (sym below.ensures.graph) (sym below.ensures.blocks) switched),
+        ),
       ),
     )
