@@ -5,27 +5,27 @@ use Rattle.counting.proofs.Common.{and_parts, cases_eq, cases_lt, not-true, true
 use Rattle.counting.specs.Common.{Within, mem, pair_set}
 use Rattle.graph_core.specs.Common.{IsCovered, Graph, size, IsWithinLimits}
 use Rattle.tight_cuts.proofs.EdgeLoop.{first_pair, no_pair, ends_between}
-use Rattle.tight_cuts.proofs.EdgeShores.{lesser_within, greater_within, least_leads}
+use Rattle.tight_cuts.proofs.EdgeShores.{ends_apart, lesser_within, greater_within, least_leads}
 use Rattle.tight_cuts.proofs.FirstPairs.{before_first, first_leads, no_first}
 use Rattle.tight_cuts.proofs.LeastShores.{separated_says}
 use Rattle.tight_cuts.specs.Candidates.{lesser_end, greater_end, is_separated, first_separated}
 use Rattle.tight_cuts.specs.EdgeSearch.{AreLeaders, IsShoreOfEdge, IsShoreOfPair, Leads, NoneBefore, at_place}
 
-module _ (g : Graph) (lim : IsWithinLimits g) (cov : IsCovered g) (e : ℕ) (we : Within (size g) e) (leaders : List ℕ) (ld : AreLeaders g e leaders) where
+module _ (g : Graph) (lim : IsWithinLimits g) (cov : IsCovered g) (e : ℕ) (we : Within (size g) e) (leaders : List ℕ) (ld : AreLeaders g (lesser_end g e) (greater_end g e) e leaders) where
   abbrev separated : ℕ × ℕ → Bool
   separated k = is_separated g (lesser_end g e) (greater_end g e) k
 
   -- both vertices of the first pair lead their pieces
-  both_lead : (k : ℕ × ℕ) → first_separated g e ≡ Some k → (separated k ≡ true) × Leads g e leaders k.0 × Leads g e leaders k.1
+  both_lead : (k : ℕ × ℕ) → first_separated g e ≡ Some k → (separated k ≡ true) × Leads g (lesser_end g e) (greater_end g e) leaders k.0 × Leads g (lesser_end g e) (greater_end g e) leaders k.1
   both_lead k q =
       let f = first_pair g.order (is_separated g (lesser_end g e) (greater_end g e)) k q in
       let p = separated_says g (lesser_end g e) (greater_end g e) k f.0 in
       let l = first_leads g ld.beside lim.multigraph.ends (lesser_end g e) (greater_end g e) e (lesser_within g lim cov e we) (greater_within g lim cov e we) we (ends_between g e) ld.is k q in
-      (f.0, least_leads g lim cov e we leaders ld k.0 f.1 p.0 l.0, least_leads g lim cov e we leaders ld k.1 f.2 p.1 l.1)
+      (f.0, least_leads g lim.multigraph.ends (lesser_end g e) (greater_end g e) e (lesser_within g lim cov e we) (greater_within g lim cov e we) (ends_apart g lim cov e we) we (ends_between g e) leaders ld k.0 f.1 p.0 l.0, least_leads g lim.multigraph.ends (lesser_end g e) (greater_end g e) e (lesser_within g lim cov e we) (greater_within g lim cov e we) (ends_apart g lim cov e we) we (ends_between g e) leaders ld k.1 f.2 p.1 l.1)
 
   -- if no pair of different leaders is separated from a pair on, none is
   abbrev pub LeadersBefore : ℕ → ℕ → Type 0
-  LeadersBefore x y = (c d : ℕ) → Leads g e leaders c → Leads g e leaders d → (c < x) ⊎ ((c ≡ x) × (d < y)) → separated (c, d) ≡ false
+  LeadersBefore x y = (c d : ℕ) → Leads g (lesser_end g e) (greater_end g e) leaders c → Leads g (lesser_end g e) (greater_end g e) leaders d → (c < x) ⊎ ((c ≡ x) × (d < y)) → separated (c, d) ≡ false
 
   -- a pair is separated only between different vertices
   unequal : (x : ℕ) → separated (x, x) ≡ false
@@ -98,23 +98,23 @@ module _ (g : Graph) (lim : IsWithinLimits g) (cov : IsCovered g) (e : ℕ) (we 
   ]
 
   -- a vertex more as the second: it does not lead a piece, or is the first itself
-  pub skip_second : (x y : ℕ) → NoneBefore g e x y → (Leads g e leaders y → x ≡ y) → NoneBefore g e x (y + 1)
+  pub skip_second : (x y : ℕ) → NoneBefore g e x y → (Leads g (lesser_end g e) (greater_end g e) leaders y → x ≡ y) → NoneBefore g e x (y + 1)
   skip_second x y h n = none_before x (y + 1) (λ c d lc l b. elim b [
     | inl s ↦ h c d lc.within l.within (inl s)
     | inr s ↦ let s1 = s.1 in elim (cases_lt d y) [
       | inl t ↦ h c d lc.within l.within (inr (s.0, t))
       | inr t ↦ let q : d ≡ y = omega arith in
-          let xy = n (subst (Leads g e leaders) q l) in
+          let xy = n (subst (Leads g (lesser_end g e) (greater_end g e) leaders) q l) in
           ap (λ k. separated (k, d)) s.0 ∙ ap (λ k. separated (x, k)) (q ∙ sym xy) ∙ unequal x
     ]
   ])
 
   -- a vertex more as the first that does not lead a piece
-  pub skip_first : (x : ℕ) → NoneBefore g e x 1 → (Leads g e leaders x → ⊥) → NoneBefore g e (x + 1) 1
+  pub skip_first : (x : ℕ) → NoneBefore g e x 1 → (Leads g (lesser_end g e) (greater_end g e) leaders x → ⊥) → NoneBefore g e (x + 1) 1
   skip_first x h n = none_before (x + 1) 1 (λ c d lc l b. elim b [
     | inl s ↦ elim (cases_lt c x) [
       | inl t ↦ h c d lc.within l.within (inl t)
-      | inr t ↦ let q : c ≡ x = omega arith in absurd (n (subst (Leads g e leaders) q lc))
+      | inr t ↦ let q : c ≡ x = omega arith in absurd (n (subst (Leads g (lesser_end g e) (greater_end g e) leaders) q lc))
     ]
     | inr s ↦ let s1 = s.1 in let w = l.within in absurd (omega arith)
   ])
@@ -124,14 +124,14 @@ module _ (g : Graph) (lim : IsWithinLimits g) (cov : IsCovered g) (e : ℕ) (we 
   pair_not x y h answer p q = next_pair x y h (p.none q)
 
 -- what the test of a leader says
-pub leads-test : (g : Graph) (e : ℕ) (leaders : List ℕ) (a b x : ℕ) → a ≡ lesser_end g e → b ≡ greater_end g e → Leads g e leaders x → (not (pair_set a b x) && (at_place leaders x == x)) ≡ true
+pub leads-test : (g : Graph) (e : ℕ) (leaders : List ℕ) (a b x : ℕ) → a ≡ lesser_end g e → b ≡ greater_end g e → Leads g (lesser_end g e) (greater_end g e) leaders x → (not (pair_set a b x) && (at_place leaders x == x)) ≡ true
 leads-test g e leaders a b x qa qb l = ap (λ t. not t && (at_place leaders x == x)) (ap₂ (λ i j. pair_set i j x) qa qb ∙ l.outside) ∙ eq-eqb (at_place leaders x) x l.itself
 
-pub leads-found : (g : Graph) (e : ℕ) (leaders : List ℕ) (a b x : ℕ) → a ≡ lesser_end g e → b ≡ greater_end g e → Within g.order x → (not (pair_set a b x) && (at_place leaders x == x)) ≡ true → Leads g e leaders x
-leads-found g e leaders a b x qa qb w l =
+pub leads-found : (g : Graph) (leaders : List ℕ) (a b x : ℕ) → Within g.order x → (not (pair_set a b x) && (at_place leaders x == x)) ≡ true → Leads g a b leaders x
+leads-found g leaders a b x w l =
     let parts = and_parts (not (pair_set a b x)) (at_place leaders x == x) l in
     record {
       within = w;
-      outside = ap₂ (λ i j. pair_set i j x) (sym qa) (sym qb) ∙ not-true (pair_set a b x) parts.0;
+      outside = not-true (pair_set a b x) parts.0;
       itself = eqb-true (at_place leaders x) x parts.1;
     }

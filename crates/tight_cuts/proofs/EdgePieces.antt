@@ -1,16 +1,17 @@
 -- What the pairs with one first vertex x give, by one set: the intersection of all tight sets
 -- that have x and an end of the edge, not the other. Idea: that intersection is one of these
 -- sets, so a pair (x, y) is separated exactly when it lacks y, and then it is the common shore.
-use Rattle.std.proofs.Common.{◌≡◌, ◌≢◌, ℕ, ◌+◌, true, false, ◌==◌, refl, sym, ap, ◌∙◌, arith, inl, inr, List, Option, Some, None, eq-eqb, ne_eqb}
-use Rattle.counting.proofs.Common.{same_tests, cases_lt, true≢false, both_ways, false_from_ne_true, or_from, or_right}
-use Rattle.counting.specs.Common.{Within, mem, Set, pair_set}
+use Rattle.std.proofs.Common.{◌≡◌, ◌≢◌, ℕ, ◌+◌, true, false, not, ◌==◌, refl, sym, ap, ◌∙◌, arith, inl, inr, List, Option, Some, None, eq-eqb, ne_eqb}
+use Rattle.counting.proofs.Common.{same_tests, cases_lt, true≢false, both_ways, false_from_ne_true, cases_Bool, or_from, or_left, or_right}
+use Rattle.barrier_kit.proofs.CutFacts.{tight-turned}
+use Rattle.counting.specs.Common.{complement, Within, mem, Set, pair_set}
 use Rattle.graph_core.specs.Common.{IsCovered, Graph, IsGraph, size, IsWithinLimits}
 use Rattle.tight_cuts.proofs.EdgeLoop.{ends_between, first_pair, no_pair}
 use Rattle.tight_cuts.proofs.EdgeShores.{allowed, greater_within, lesser_within}
-use Rattle.tight_cuts.proofs.FirstPairs.{before_first}
+use Rattle.tight_cuts.proofs.FirstPairs.{before_first, no_first}
 use Rattle.tight_cuts.proofs.LeastShores.{common_from, common_in, common_parts, separated_found, separated_says}
 use Rattle.tight_cuts.specs.Candidates.{common_shore, first_separated, greater_end, is_separated, lesser_end}
-use Rattle.tight_cuts.specs.EdgeSearch.{IsCommonShore, IsShoreOfEdge, NoneBefore}
+use Rattle.tight_cuts.specs.EdgeSearch.{AreWhole, IsCommonShore, IsShoreOfEdge, NoneBefore}
 use Rattle.tight_cuts.specs.Pieces.{SeparatesTightly}
 
 -- a set that separates x from y separates x from b alone
@@ -106,6 +107,24 @@ module _ (g : Graph) (lim : IsWithinLimits g) (cov : IsCovered g) (e : ℕ) (we 
       where
         end_in : pair_set a b b ≡ true
         end_in = or_right (a == b) (b == b) (eq-eqb b b refl)
+
+-- a common shore that is everything but b, or none, says so of each such set
+pub whole_shore : (g : Graph) → IsGraph g → (a b x : ℕ) → Within g.order a → Within g.order b → Within g.order x → (answer : Option (List ℕ)) → IsCommonShore g a b (x, b) answer → ((s : List ℕ) → answer ≡ Some s → (y : ℕ) → Within g.order y → y ≢ b → mem s y ≡ true) → AreWhole g a b x
+whole_shore g is a b x wa wb wx None common full z p v w d = absurd (common.none refl z p)
+whole_shore g is a b x wa wb wx (Some s) common full z p v w d = common_in g is a b (x, b) wa wb wx wb v w (sym ((common.some s refl).1 v w) ∙ full s refl v w d) z p
+
+-- if the sets on either side of x are so, no pair is separated
+pub inseparable : (g : Graph) (e x : ℕ) → AreWhole g (lesser_end g e) (greater_end g e) x → AreWhole g (greater_end g e) (lesser_end g e) x → first_separated g e ≡ None
+inseparable g e x near far = no_first g.order (is_separated g (lesser_end g e) (greater_end g e)) (λ u w wu ww. false_from_ne_true (is_separated g (lesser_end g e) (greater_end g e) (u, w)) (λ t.
+    let p = separated_says g (lesser_end g e) (greater_end g e) (u, w) t in
+    let z = p.2.0 in
+    let s = p.2.1 in
+    elim (cases_Bool (z x)) [
+      | inl h ↦ both_ways (z w) s.lacks_y (near z (record { tight = s.tight; has_a = s.has_a; has_x = h; lacks_b = s.lacks_b; lacks_y = s.lacks_b }) w ww
+          (λ q. both_ways (pair_set (lesser_end g e) (greater_end g e) w) p.1 (or_right (lesser_end g e == w) (greater_end g e == w) (eq-eqb (greater_end g e) w (sym q)))))
+      | inr h ↦ both_ways (not (z u)) (ap not s.has_x) (far (complement z) (record { tight = tight-turned g z s.tight; has_a = ap not s.lacks_b; has_x = ap not h; lacks_b = ap not s.has_a; lacks_y = ap not s.has_a }) u wu
+          (λ q. both_ways (pair_set (lesser_end g e) (greater_end g e) u) p.0 (or_left (lesser_end g e == u) (greater_end g e == u) (eq-eqb (lesser_end g e) u (sym q)))))
+    ]))
 
 -- all pairs with x are done
 pub first_done : (g : Graph) (e x : ℕ) → NoneBefore g e x 1 → ((y : ℕ) → Within g.order y → is_separated g (lesser_end g e) (greater_end g e) (x, y) ≡ false) → NoneBefore g e (x + 1) 1

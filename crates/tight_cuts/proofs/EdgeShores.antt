@@ -1,18 +1,18 @@
 -- What the groups of two pieces, or of one, give as the code finds it: a least cut of their
 -- network within the number of listed matchings. Idea: the network of the rows is the contracted
 -- network of the list, and the leaders give its groups.
-use Rattle.std.proofs.Common.{◌≡◌, ℕ, suc, zero, ◌*◌, ◌≤◌, ◌<◌, ◌^◌, ◌≢◌, true, false, ◌&&◌, ◌||◌, not, get_or, refl, sym, ap, ap₂, ◌∙◌, arith, inl, inr, List, [], ◌∷◌, ◌++◌, length, subst, Option, Some, None, ◌↔◌}
+use Rattle.std.proofs.Common.{◌≡◌, ℕ, suc, zero, ◌*◌, ◌≤◌, ◌<◌, ◌^◌, ◌≢◌, true, false, ◌==◌, ◌&&◌, ◌||◌, not, get_or, refl, sym, ap, ap₂, ◌∙◌, arith, inl, inr, List, [], ◌∷◌, ◌++◌, length, subst, subst₂, Option, Some, None, ◌↔◌}
 use Rattle.std.specs.Prelude.{All}
-use Rattle.counting.proofs.Common.{cases_lt, count_congr, false_from_ne_true, sum_by-cons, bit_le_one}
+use Rattle.counting.proofs.Common.{cases_lt, count_congr, false_from_ne_true, or_comm, sum_by-cons, bit_le_one}
 use Rattle.counting.specs.Common.{bit, complement, count, is_odd, Within, total, mem, Set, pair_set}
-use Rattle.graph_core.proofs.Common.{tight-same}
+use Rattle.std.proofs.Math.Path.{fun_ext}
+use Rattle.graph_core.proofs.Common.{has_ends-cases, tight-same}
 use Rattle.flow_core.specs.Cuts.{IfCut, IsCut}
 use Rattle.flow_core.specs.Nets.{Net, HasCutWithin, IsLeastCut}
 use Rattle.flow_core.specs.declared.cut.CutAnswer.{CutAnswer}
 use Rattle.flow_core.specs.declared.cut.CutAnswer.TheVariants.{Cut, Exceeds}
 use Rattle.flow_core.specs.declared.flow.Flow.{Flow}
-use Rattle.graph_core.specs.Common.{components, is_least, IsCovered, Graph, size, edges_in_cut, first_end, second_end, IsGraph, IsTight, Allowed, IsWithinLimits}
-use Rattle.tight_cuts.proofs.EdgeLoop.{ends_between}
+use Rattle.graph_core.specs.Common.{components, is_least, IsCovered, Graph, size, edges_in_cut, first_end, second_end, has_ends, IsGraph, IsTight, Allowed, IsWithinLimits}
 use Rattle.tight_cuts.proofs.LeanLists.{grown_length}
 use Rattle.tight_cuts.proofs.LeaderGroups.{leaders_group}
 use Rattle.tight_cuts.proofs.Leaders.{leader-least, leader-fixed}
@@ -36,11 +36,11 @@ total_large (suc n) f h = let i = total_large n f (λ v w. h v (omega arith)) in
 
 -- what a least cut gives: an odd set that each listed matching crosses once, and the common shore if
 -- it is tight
-pub record IsCutShore (g : Graph) (e : ℕ) (list : List (List ℕ)) (x y : ℕ) (s : Set) : Type 0 where
+pub record IsCutShore (g : Graph) (a b : ℕ) (list : List (List ℕ)) (x y : ℕ) (s : Set) : Type 0 where
   pub odd : is_odd (count g.order s) ≡ true
   pub odd_complement : is_odd (count g.order (complement s)) ≡ true
   pub once : All (λ m. edges_in_cut g (mem m) s ≡ 1) list
-  pub common : IsTight g s → ((z : Set) × SeparatesTightly g (lesser_end g e) (greater_end g e) (x, y) z) × ((v : ℕ) → Within g.order v → s v ≡ common_shore g (lesser_end g e) (greater_end g e) (x, y) v)
+  pub common : IsTight g s → ((z : Set) × SeparatesTightly g a b (x, y) z) × ((v : ℕ) → Within g.order v → s v ≡ common_shore g a b (x, y) v)
 
 -- no edge is in more matchings than there are
 weight_within : (ms : List (List ℕ)) (e : ℕ) → weight ms e ≤ length ms
@@ -73,143 +73,189 @@ module _ (g : Graph) (lim : IsWithinLimits g) (cov : IsCovered g) (e : ℕ) (we 
   pub allowed : Allowed g e
   allowed = cov.allowed e we (lim.multigraph.no_loop e we)
 
-  module _ (leaders : List ℕ) (ld : AreLeaders g e leaders) where
-    beside_is : IsGraph ld.beside
-    beside_is = beside_graph g ld.beside is (lesser_end g e) (greater_end g e) e lesser_within greater_within we (ends_between g e) ld.is
+-- what the ends of an edge are under any names
+pub ends_within : (g : Graph) → IsGraph g → (a b e : ℕ) → Within (size g) e → has_ends g a b e ≡ true → Within g.order a × Within g.order b
+ends_within g is a b e we h = let w = is e we in elim (has_ends-cases g a b e h) [
+  | inl k ↦ (subst (Within g.order) k.0 w.0, subst (Within g.order) k.1 w.1)
+  | inr k ↦ (subst (Within g.order) k.1 w.1, subst (Within g.order) k.0 w.0)
+]
 
-    inside : (v : ℕ) → Within g.order v → Within ld.beside.order v
-    inside v w = subst (λ n. Within n v) (sym ld.is.order) w
+ends_differ : (g : Graph) (a b e : ℕ) → first_end g e ≢ second_end g e → has_ends g a b e ≡ true → a ≢ b
+ends_differ g a b e d h q = elim (has_ends-cases g a b e h) [
+  | inl k ↦ d (k.0 ∙ q ∙ sym k.1)
+  | inr k ↦ d (k.0 ∙ sym q ∙ sym k.1)
+]
 
-    -- a vertex that leads a piece is its least vertex
-    pub leads_least : (x : ℕ) → Leads g e leaders x → is_least ld.beside (pair_set (lesser_end g e) (greater_end g e)) x ≡ true
-    leads_least x l =
-        let q : leader (components ld.beside (pair_set (lesser_end g e) (greater_end g e))) x ≡ x = sym (ld.each x l.within) ∙ l.itself in
-        ap (is_least ld.beside (pair_set (lesser_end g e) (greater_end g e))) (sym q) ∙ (leader-least ld.beside (pair_set (lesser_end g e) (greater_end g e)) beside_is x (inside x l.within) l.outside).1
+ends_turned : (g : Graph) (a b e : ℕ) → has_ends g a b e ≡ true → has_ends g b a e ≡ true
+ends_turned g a b e h = or_comm (first_end g e == b && second_end g e == a) (first_end g e == a && second_end g e == b) ∙ h
 
-    -- and the least vertex of a piece leads it
-    pub least_leads : (x : ℕ) → Within g.order x → pair_set (lesser_end g e) (greater_end g e) x ≡ false → is_least ld.beside (pair_set (lesser_end g e) (greater_end g e)) x ≡ true → Leads g e leaders x
-    least_leads x wx o l = record {
-      within = wx;
-      outside = o;
-      itself = ld.each x wx ∙ leader-fixed ld.beside (pair_set (lesser_end g e) (greater_end g e)) beside_is x (inside x wx) l;
-    }
+pair_turned : (a b : ℕ) → ◌≡◌ {A = Set} (pair_set a b) (pair_set b a)
+pair_turned a b = fun_ext (λ v. or_comm (a == v) (b == v))
 
-    module _ (x y : ℕ) (lx : Leads g e leaders x) (beyond : IsBeyond g e leaders x y) where
-      abbrev pub groups : ℕ → ℕ
-      groups v = group_of (lesser_end g e) (greater_end g e) x y (leader (components ld.beside (pair_set (lesser_end g e) (greater_end g e))) v)
+module _ (g : Graph) (is : IsGraph g) (a b e : ℕ) (wa : Within g.order a) (wb : Within g.order b) (ab : a ≢ b) (we : Within (size g) e) (ends : has_ends g a b e ≡ true) (leaders : List ℕ) (ld : AreLeaders g a b e leaders) where
+  beside_is : IsGraph ld.beside
+  beside_is = beside_graph g ld.beside is a b e wa wb we ends ld.is
 
-      y_within : Within g.order y
-      y_within = elim beyond [ inl l ↦ l.0.within | inr q ↦ subst (Within g.order) (sym q) greater_within ]
+  inside : (v : ℕ) → Within g.order v → Within ld.beside.order v
+  inside v w = subst (λ n. Within n v) (sym ld.is.order) w
 
-      grouping : IsGrouping g ld.beside (lesser_end g e) (greater_end g e) (x, y) g.order groups
-      grouping = leaders_group g ld.beside beside_is ld.is.order (lesser_end g e) (greater_end g e) lesser_within greater_within ends_apart x y lx.within y_within (leads_least x lx)
-          (elim beyond [ inl l ↦ inl (leads_least y l.0, l.1) | inr q ↦ inr q ])
+  -- a vertex that leads a piece is its least vertex
+  pub leads_least : (x : ℕ) → Leads g a b leaders x → is_least ld.beside (pair_set a b) x ≡ true
+  leads_least x l =
+      let q : leader (components ld.beside (pair_set a b)) x ≡ x = sym (ld.each x l.within) ∙ l.itself in
+      ap (is_least ld.beside (pair_set a b)) (sym q) ∙ (leader-least ld.beside (pair_set a b) beside_is x (inside x l.within) l.outside).1
 
-      row_same : (v : ℕ) → Within g.order v → row_group (lesser_end g e) (greater_end g e) x y leaders v ≡ groups v
-      row_same v w = ap (group_of (lesser_end g e) (greater_end g e) x y) (ld.each v w)
+  -- and the least vertex of a piece leads it
+  pub least_leads : (x : ℕ) → Within g.order x → pair_set a b x ≡ false → is_least ld.beside (pair_set a b) x ≡ true → Leads g a b leaders x
+  least_leads x wx o l = record {
+    within = wx;
+    outside = o;
+    itself = ld.each x wx ∙ leader-fixed ld.beside (pair_set a b) beside_is x (inside x wx) l;
+  }
 
-      -- each group is a node
-      pub groups_within : (v : ℕ) → Within g.order v → Within g.order (row_group (lesser_end g e) (greater_end g e) x y leaders v)
-      groups_within v w = subst (Within g.order) (sym (row_same v w)) (grouping.nodes v w)
+  module _ (x y : ℕ) (lx : Leads g a b leaders x) (beyond : IsBeyond g a b leaders x y) where
+    abbrev pub groups : ℕ → ℕ
+    groups v = group_of a b x y (leader (components ld.beside (pair_set a b)) v)
 
-      module _ (list : List (List ℕ)) (weights : List ℕ) (bound : ℕ) (wt : AreWeights g list weights bound) where
-        same_arcs : (k : ℕ) → k ≤ size g → arcs_by g weights (row_group (lesser_end g e) (greater_end g e) x y leaders) k ≡ arcs_of g list groups k
-        same_arcs zero l = refl
-        same_arcs (suc k) l =
-            let w : Within (size g) (suc k) = omega arith in
-            ap₂ ◌++◌ (same_arcs k (omega arith))
-            (ap₂ (λ i j. arc_between i j (at_place weights (suc k))) (row_same (first_end g (suc k)) (is (suc k) w).0) (row_same (second_end g (suc k)) (is (suc k) w).1)
-            ∙ ap (arc_between (groups (first_end g (suc k))) (groups (second_end g (suc k)))) (wt.each (suc k) w))
+    y_within : Within g.order y
+    y_within = elim beyond [ inl l ↦ l.0.within | inr q ↦ subst (Within g.order) (sym q) wb ]
 
-        same_net : group_net g weights leaders (lesser_end g e) (greater_end g e) x y ≡ contracted_net g list groups g.order
-        same_net = ap (λ arcs. record { nodes = g.order; arcs = arcs }) (same_arcs (size g) (omega arith))
+    grouping : IsGrouping g ld.beside a b (x, y) g.order groups
+    grouping = leaders_group g ld.beside beside_is ld.is.order a b wa wb ab x y lx.within y_within (leads_least x lx)
+        (elim beyond [ inl l ↦ inl (leads_least y l.0, l.1) | inr q ↦ inr q ])
 
-        -- what is known of the vertices of a least cut within the bound
-        module _ (set : List ℕ) (value : ℕ) (least : IsLeastCut (group_net g weights leaders (lesser_end g e) (greater_end g e) x y) (lesser_end g e) (greater_end g e) set value) (l : value ≤ bound)
-            (s : Set) (these : (v : ℕ) → Within g.order v → s v ≡ mem set (row_group (lesser_end g e) (greater_end g e) x y leaders v)) where
-          abbrev shore : Set
-          shore = back g ld.beside is (lesser_end g e) (greater_end g e) e lesser_within greater_within we (ends_between g e) ld.is list wt.grown.perfect (x, y) lx.within y_within g.order groups grouping (mem set)
+    row_same : (v : ℕ) → Within g.order v → row_group a b x y leaders v ≡ groups v
+    row_same v w = ap (group_of a b x y) (ld.each v w)
 
-          on_shore : (v : ℕ) → Within g.order v → shore v ≡ s v
-          on_shore v w = sym (these v w ∙ ap (mem set) (row_same v w))
+    -- each group is a node
+    pub groups_within : (v : ℕ) → Within g.order v → Within g.order (row_group a b x y leaders v)
+    groups_within v w = subst (Within g.order) (sym (row_same v w)) (grouping.nodes v w)
 
-          cut : IsLeastCut (contracted_net g list groups g.order) (lesser_end g e) (greater_end g e) set value
-          cut = subst (λ net. IsLeastCut net (lesser_end g e) (greater_end g e) set value) same_net least
+    module _ (list : List (List ℕ)) (weights : List ℕ) (bound : ℕ) (wt : AreWeights g list weights bound) where
+      same_arcs : (k : ℕ) → k ≤ size g → arcs_by g weights (row_group a b x y leaders) k ≡ arcs_of g list groups k
+      same_arcs zero l = refl
+      same_arcs (suc k) l =
+          let w : Within (size g) (suc k) = omega arith in
+          ap₂ ◌++◌ (same_arcs k (omega arith))
+          (ap₂ (λ i j. arc_between i j (at_place weights (suc k))) (row_same (first_end g (suc k)) (is (suc k) w).0) (row_same (second_end g (suc k)) (is (suc k) w).1)
+          ∙ ap (arc_between (groups (first_end g (suc k))) (groups (second_end g (suc k)))) (wt.each (suc k) w))
 
-          within : value ≤ length list
-          within = let b = wt.is in omega arith
+      same_net : group_net g weights leaders a b x y ≡ contracted_net g list groups g.order
+      same_net = ap (λ arcs. record { nodes = g.order; arcs = arcs }) (same_arcs (size g) (omega arith))
 
-          odd : (is_odd (count g.order shore) ≡ true) × (is_odd (count g.order (complement shore)) ≡ true)
-          odd = back_odd g ld.beside is (lesser_end g e) (greater_end g e) e lesser_within greater_within we (ends_between g e) ld.is list wt.grown.perfect (x, y) lx.within y_within g.order groups grouping (mem set) cut.separates
+      -- what is known of the vertices of a least cut within the bound
+      module _ (set : List ℕ) (value : ℕ) (least : IsLeastCut (group_net g weights leaders a b x y) a b set value) (l : value ≤ bound)
+          (s : Set) (these : (v : ℕ) → Within g.order v → s v ≡ mem set (row_group a b x y leaders v)) where
+        abbrev shore : Set
+        shore = back g ld.beside is a b e wa wb we ends ld.is list wt.grown.perfect (x, y) lx.within y_within g.order groups grouping (mem set)
 
-          once : All (λ m. edges_in_cut g (mem m) s ≡ 1) list
-          once k d h =
-              sym (count_congr (size g) _ _ (λ f wf. ap₂ (λ a b. mem (get_or list k d) f && ((a && not b) || (not a && b))) (on_shore (first_end g f) (is f wf).0) (on_shore (second_end g f) (is f wf).1)))
-              ∙ least_once g ld.beside is (lesser_end g e) (greater_end g e) e lesser_within greater_within we (ends_between g e) ld.is list wt.grown.perfect (x, y) lx.within y_within g.order groups grouping set value cut within k d h
+        on_shore : (v : ℕ) → Within g.order v → shore v ≡ s v
+        on_shore v w = sym (these v w ∙ ap (mem set) (row_same v w))
 
-          common : IsTight g s → ((z : Set) × SeparatesTightly g (lesser_end g e) (greater_end g e) (x, y) z) × ((v : ℕ) → Within g.order v → s v ≡ common_shore g (lesser_end g e) (greater_end g e) (x, y) v)
-          common t =
-              let tight = tight-same g s shore is (λ v w. sym (on_shore v w)) t in (
-                (shore, least_back g ld.beside is (lesser_end g e) (greater_end g e) e lesser_within greater_within we (ends_between g e) ld.is list wt.grown.perfect (x, y) lx.within y_within g.order groups grouping set value cut tight),
-                λ v w. sym (on_shore v w)
-                    ∙ least_common g ld.beside is (lesser_end g e) (greater_end g e) e lesser_within greater_within we (ends_between g e) ld.is list wt.grown.perfect (x, y) lx.within y_within g.order groups grouping set value cut within tight v w,
-              )
+        cut : IsLeastCut (contracted_net g list groups g.order) a b set value
+        cut = subst (λ net. IsLeastCut net a b set value) same_net least
 
-          pub cut_facts : IsCutShore g e list x y s
-          cut_facts = record {
-            odd = ap is_odd (count_congr g.order s shore (λ v w. sym (on_shore v w))) ∙ odd.0;
-            odd_complement = ap is_odd (count_congr g.order (complement s) (complement shore) (λ v w. ap not (sym (on_shore v w)))) ∙ odd.1;
-            once = once;
-            common = common;
-          }
+        within : value ≤ length list
+        within = let b = wt.is in omega arith
 
-        -- if no cut is within the bound no tight set separates the groups
-        pub no_cut_parts : (HasCutWithin (group_net g weights leaders (lesser_end g e) (greater_end g e) x y) (lesser_end g e) (greater_end g e) bound → ⊥) → (z : Set) → SeparatesTightly g (lesser_end g e) (greater_end g e) (x, y) z → ⊥
-        no_cut_parts h z p =
-            let n = parts_nodes g ld.beside is (lesser_end g e) (greater_end g e) e lesser_within greater_within we (ends_between g e) ld.is list wt.grown.perfect (x, y) lx.within y_within g.order groups grouping z p in
-            h (subst (λ net. HasCutWithin net (lesser_end g e) (greater_end g e) bound) (sym same_net) (record { set = n.0; separates = n.1; within = let b = wt.is in let v = n.3 in omega arith }))
+        odd : (is_odd (count g.order shore) ≡ true) × (is_odd (count g.order (complement shore)) ≡ true)
+        odd = back_odd g ld.beside is a b e wa wb we ends ld.is list wt.grown.perfect (x, y) lx.within y_within g.order groups grouping (mem set) cut.separates
 
--- all that the code asks at the groups, for the two ends of the edge under any names
-pub record GroupFacts (g : Graph) (e : ℕ) (list : List (List ℕ)) (leaders weights : List ℕ) (bound x y a b : ℕ) : Type 0 where
+        once : All (λ m. edges_in_cut g (mem m) s ≡ 1) list
+        once k d h =
+            sym (count_congr (size g) _ _ (λ f wf. ap₂ (λ a b. mem (get_or list k d) f && ((a && not b) || (not a && b))) (on_shore (first_end g f) (is f wf).0) (on_shore (second_end g f) (is f wf).1)))
+            ∙ least_once g ld.beside is a b e wa wb we ends ld.is list wt.grown.perfect (x, y) lx.within y_within g.order groups grouping set value cut within k d h
+
+        common : IsTight g s → ((z : Set) × SeparatesTightly g a b (x, y) z) × ((v : ℕ) → Within g.order v → s v ≡ common_shore g a b (x, y) v)
+        common t =
+            let tight = tight-same g s shore is (λ v w. sym (on_shore v w)) t in (
+              (shore, least_back g ld.beside is a b e wa wb we ends ld.is list wt.grown.perfect (x, y) lx.within y_within g.order groups grouping set value cut tight),
+              λ v w. sym (on_shore v w)
+                  ∙ least_common g ld.beside is a b e wa wb we ends ld.is list wt.grown.perfect (x, y) lx.within y_within g.order groups grouping set value cut within tight v w,
+            )
+
+        pub cut_facts : IsCutShore g a b list x y s
+        cut_facts = record {
+          odd = ap is_odd (count_congr g.order s shore (λ v w. sym (on_shore v w))) ∙ odd.0;
+          odd_complement = ap is_odd (count_congr g.order (complement s) (complement shore) (λ v w. ap not (sym (on_shore v w)))) ∙ odd.1;
+          once = once;
+          common = common;
+        }
+
+      -- if no cut is within the bound no tight set separates the groups
+      pub no_cut_parts : (HasCutWithin (group_net g weights leaders a b x y) a b bound → ⊥) → (z : Set) → SeparatesTightly g a b (x, y) z → ⊥
+      no_cut_parts h z p =
+          let n = parts_nodes g ld.beside is a b e wa wb we ends ld.is list wt.grown.perfect (x, y) lx.within y_within g.order groups grouping z p in
+          h (subst (λ net. HasCutWithin net a b bound) (sym same_net) (record { set = n.0; separates = n.1; within = let b = wt.is in let v = n.3 in omega arith }))
+
+-- all that the code asks at the groups
+pub record GroupFacts (g : Graph) (list : List (List ℕ)) (leaders weights : List ℕ) (bound x y a b : ℕ) : Type 0 where
   pub groups : AreGroups g leaders weights a b x y
-  pub cut : (set : List ℕ) (value : ℕ) → IsLeastCut (group_net g weights leaders a b x y) a b set value → value ≤ bound → (s : Set) → ((v : ℕ) → Within g.order v → s v ≡ mem set (row_group a b x y leaders v)) → IsCutShore g e list x y s
-  pub none : (HasCutWithin (group_net g weights leaders a b x y) a b bound → ⊥) → (z : Set) → SeparatesTightly g (lesser_end g e) (greater_end g e) (x, y) z → ⊥
+  pub cut : (set : List ℕ) (value : ℕ) → IsLeastCut (group_net g weights leaders a b x y) a b set value → value ≤ bound → (s : Set) → ((v : ℕ) → Within g.order v → s v ≡ mem set (row_group a b x y leaders v)) → IsCutShore g a b list x y s
+  pub none : (HasCutWithin (group_net g weights leaders a b x y) a b bound → ⊥) → (z : Set) → SeparatesTightly g a b (x, y) z → ⊥
 
-pub group_facts : (g : Graph) (e : ℕ) (list : List (List ℕ)) (leaders weights : List ℕ) (bound x y a b : ℕ) → IsWithinLimits g → AreLeadersAt g e leaders → AreWeights g list weights bound → Leads g e leaders x → IsBeyond g e leaders x y → a ≡ lesser_end g e → b ≡ greater_end g e →
-    GroupFacts g e list leaders weights bound x y a b
-group_facts g e list leaders weights bound x y a b lim at weighed lx beyond qa qb =
-    let cov = at.covered in
-    let we = at.edge in
-    subst (λ b. GroupFacts g e list leaders weights bound x y a b) (sym qb) (subst (λ a. GroupFacts g e list leaders weights bound x y a (greater_end g e)) (sym qa) (record {
+pub group_facts : (g : Graph) (list : List (List ℕ)) (leaders weights : List ℕ) (bound x y a b e : ℕ) → IsWithinLimits g → AreLeadersAt g a b e leaders → AreWeights g list weights bound → Leads g a b leaders x → IsBeyond g a b leaders x y → GroupFacts g list leaders weights bound x y a b
+group_facts g list leaders weights bound x y a b e lim at weighed lx beyond =
+    let is = lim.multigraph.ends in
+    let w = ends_within g is a b e at.edge at.ends in
+    let ab = ends_differ g a b e (lim.multigraph.no_loop e at.edge) at.ends in
+    record {
       groups = record {
         small = weights_small g list weights bound lim weighed;
-        within = groups_within g lim cov e we leaders at.led x y lx beyond;
-        source = lesser_within g lim cov e we;
-        sink = greater_within g lim cov e we;
-        differ = ends_apart g lim cov e we;
+        within = groups_within g is a b e w.0 w.1 ab at.edge at.ends leaders at.led x y lx beyond;
+        source = w.0;
+        sink = w.1;
+        differ = ab;
       };
-      cut = cut_facts g lim cov e we leaders at.led x y lx beyond list weights bound weighed;
-      none = no_cut_parts g lim cov e we leaders at.led x y lx beyond list weights bound weighed;
-    }))
+      cut = cut_facts g is a b e w.0 w.1 ab at.edge at.ends leaders at.led x y lx beyond list weights bound weighed;
+      none = no_cut_parts g is a b e w.0 w.1 ab at.edge at.ends leaders at.led x y lx beyond list weights bound weighed;
+    }
 
--- the shore that the cut of the groups gives, and what no cut says
-pub cut-shore : (g : Graph) (e : ℕ) (list : List (List ℕ)) (leaders weights : List ℕ) (bound x y a b : ℕ) → GroupFacts g e list leaders weights bound x y a b → (answer : Option (List ℕ)) → IsCutOfGroups g weights leaders bound a b x y answer →
-    (s : List ℕ) → answer ≡ Some s → IsCutShore g e list x y (mem s)
-cut-shore g e list leaders weights bound x y a b facts answer h s q = let c = h.some s q in facts.cut c.0 c.1 c.2 c.3 (mem s) c.4
+-- the shore that the cut of the groups gives
+pub cut-shore : (g : Graph) (list : List (List ℕ)) (leaders weights : List ℕ) (bound x y a b : ℕ) → GroupFacts g list leaders weights bound x y a b → (answer : Option (List ℕ)) → IsCutOfGroups g weights leaders bound a b x y answer →
+    (s : List ℕ) → answer ≡ Some s → IsCutShore g a b list x y (mem s)
+cut-shore g list leaders weights bound x y a b facts answer h s q = let c = h.some s q in facts.cut c.0 c.1 c.2 c.3 (mem s) c.4
 
 -- if it is tight it is the common shore
-pub tight-common : (g : Graph) (e : ℕ) (list : List (List ℕ)) (x y : ℕ) (s : List ℕ) → IsCutShore g e list x y (mem s) → IsTight g (mem s) → IsCommonShore g (lesser_end g e) (greater_end g e) (x, y) (Some s)
-tight-common g e list x y s cut tight = record {
+pub tight-common : (g : Graph) (list : List (List ℕ)) (x y a b : ℕ) (s : List ℕ) → IsCutShore g a b list x y (mem s) → IsTight g (mem s) → IsCommonShore g a b (x, y) (Some s)
+tight-common g list x y a b s cut tight = record {
   some = λ t q. let same : s ≡ t = cc in let c = cut.common tight in (c.0, λ v w. ap (λ z. mem z v) (sym same) ∙ c.1 v w);
   none = λ q. absurd cc;
 }
 
 -- without a cut there is none
-pub none-common : (g : Graph) (e x y : ℕ) → ((z : Set) → SeparatesTightly g (lesser_end g e) (greater_end g e) (x, y) z → ⊥) → IsCommonShore g (lesser_end g e) (greater_end g e) (x, y) None
-none-common g e x y h = record { some = λ s q. absurd cc; none = λ q. h }
+pub none-common : (g : Graph) (x y a b : ℕ) → ((z : Set) → SeparatesTightly g a b (x, y) z → ⊥) → IsCommonShore g a b (x, y) None
+none-common g x y a b h = record { some = λ s q. absurd cc; none = λ q. h }
+
+-- what is known for ends under one name holds under another
+pub named_shore : (g : Graph) (a b x y : ℕ) {l h : ℕ} (answer : Option (List ℕ)) → a ≡ l → b ≡ h → IsCommonShore g a b (x, y) answer → IsCommonShore g l h (x, y) answer
+named_shore g a b x y answer qa qb common = subst₂ (λ i j. IsCommonShore g i j (x, y) answer) qa qb common
+
+pub named_leads : (g : Graph) (a b : ℕ) (leaders : List ℕ) (x : ℕ) {l h : ℕ} → a ≡ l → b ≡ h → Leads g l h leaders x → Leads g a b leaders x
+named_leads g a b leaders x qa qb at = subst₂ (λ i j. Leads g i j leaders x) (sym qa) (sym qb) at
+
+pub named_leaders : (g : Graph) (a b e : ℕ) (leaders : List ℕ) {l h : ℕ} → a ≡ l → b ≡ h → AreLeadersAt g l h e leaders → AreLeadersAt g a b e leaders
+named_leaders g a b e leaders qa qb at = subst₂ (λ i j. AreLeadersAt g i j e leaders) (sym qa) (sym qb) at
+
+-- the row serves for the ends in either order
+pub leaders_turned : (g : Graph) (a b e : ℕ) (leaders : List ℕ) → AreLeadersAt g a b e leaders → AreLeadersAt g b a e leaders
+leaders_turned g a b e leaders at = record {
+  covered = at.covered;
+  edge = at.edge;
+  ends = ends_turned g a b e at.ends;
+  led = record {
+    beside = at.led.beside;
+    is = at.led.is;
+    long = at.led.long;
+    each = λ v w. at.led.each v w ∙ ap (λ s. leader (components at.led.beside s) v) (pair_turned a b);
+  };
+}
+
+pub leads_turned : (g : Graph) (a b : ℕ) (leaders : List ℕ) (x : ℕ) → Leads g a b leaders x → Leads g b a leaders x
+leads_turned g a b leaders x l = record { within = l.within; outside = sym (ap (λ s. s x) (pair_turned a b)) ∙ l.outside; itself = l.itself }
 
 -- the common shore of two pieces is what their pair gives
-pub pair-from_common : (g : Graph) (e : ℕ) (leaders : List ℕ) (x y : ℕ) → IsWithinLimits g → IsCovered g → Within (size g) e → Leads g e leaders x → Leads g e leaders y → (answer : Option (List ℕ)) → IsCommonShore g (lesser_end g e) (greater_end g e) (x, y) answer → IsShoreOfPair g e (x, y) answer
+pub pair-from_common : (g : Graph) (e : ℕ) (leaders : List ℕ) (x y : ℕ) → IsWithinLimits g → IsCovered g → Within (size g) e → Leads g (lesser_end g e) (greater_end g e) leaders x → Leads g (lesser_end g e) (greater_end g e) leaders y → (answer : Option (List ℕ)) → IsCommonShore g (lesser_end g e) (greater_end g e) (x, y) answer → IsShoreOfPair g e (x, y) answer
 pair-from_common g e leaders x y lim cov we lx ly answer h = record {
   some = λ s q. let c = h.some s q in (
     separated_found g (lesser_end g e) (greater_end g e) (x, y) c.0.0 lim.multigraph.ends (lesser_within g lim cov e we) (greater_within g lim cov e we) lx.within ly.within lx.outside ly.outside c.0.1,

@@ -4,7 +4,7 @@ use Rattle.std.specs.Prelude.{◌≡◌, ◌≢◌, ℕ, zero, suc, ◌+◌, ◌
 use Rattle.allowed_edges.specs.PairTables.{AreGrown, PairsValue, SettlesEdges}
 use Rattle.match_core.specs.MatchingRows.{IsOf, MatchingValue, edges_of}
 use Rattle.counting.specs.Common.{Within, total, Set, none, pair_set, mem}
-use Rattle.graph_core.specs.Common.{components, IsCovered, Graph, size, first_end, second_end, IsPerfect}
+use Rattle.graph_core.specs.Common.{components, IsCovered, Graph, size, first_end, second_end, has_ends, IsPerfect}
 use Rattle.flow_core.specs.Nets.{Arc, Net, HasCutWithin, IsLeastCut}
 use Rattle.tight_cuts.specs.Candidates.{lesser_end, greater_end, is_separated, common_shore, first_separated}
 use Rattle.tight_cuts.specs.PairSums.{weight}
@@ -28,19 +28,20 @@ pub record AreMatchings (g : Graph) (kept : MatchingValue) (pairs : PairsValue) 
   pub perfect : IsPerfect g none (mem (edges_of kept))
   pub listed : SettlesEdges g 1 pairs
 
--- the row has for each vertex the least vertex of its piece at edge e; an end of e stands for
--- itself
-pub record AreLeaders (g : Graph) (e : ℕ) (leaders : List ℕ) : Type 0 where
+-- the row has for each vertex the least vertex of its piece at edge e with the ends a and b; these
+-- stand for themselves
+pub record AreLeaders (g : Graph) (a b e : ℕ) (leaders : List ℕ) : Type 0 where
   pub beside : Graph
   pub is : IsBeside g e beside
   pub long : length leaders ≡ g.order + 1
-  pub each : (v : ℕ) → Within g.order v → at_place leaders v ≡ leader (components beside (pair_set (lesser_end g e) (greater_end g e))) v
+  pub each : (v : ℕ) → Within g.order v → at_place leaders v ≡ leader (components beside (pair_set a b)) v
 
--- the row has the leaders at edge e of a covered graph
-pub record AreLeadersAt (g : Graph) (e : ℕ) (leaders : List ℕ) : Type 0 where
+-- the row has the leaders at edge e of a covered graph, which has the ends a and b
+pub record AreLeadersAt (g : Graph) (a b e : ℕ) (leaders : List ℕ) : Type 0 where
   pub covered : IsCovered g
   pub edge : Within (size g) e
-  pub led : AreLeaders g e leaders
+  pub ends : has_ends g a b e ≡ true
+  pub led : AreLeaders g a b e leaders
 
 -- an arc between two nodes, and none if they are one
 abbrev pub arc_between : ℕ → ℕ → ℕ → List Arc
@@ -68,15 +69,15 @@ pub record AreGroups (g : Graph) (leaders weights : List ℕ) (a b x y : ℕ) : 
   pub sink : Within g.order b
   pub differ : a ≢ b
 
--- x leads a piece of edge e
-pub record Leads (g : Graph) (e : ℕ) (leaders : List ℕ) (x : ℕ) : Type 0 where
+-- x leads a piece of the edge with the ends a and b
+pub record Leads (g : Graph) (a b : ℕ) (leaders : List ℕ) (x : ℕ) : Type 0 where
   pub within : Within g.order x
-  pub outside : pair_set (lesser_end g e) (greater_end g e) x ≡ false
+  pub outside : pair_set a b x ≡ false
   pub itself : at_place leaders x ≡ x
 
--- y leads another piece than x, or is the greater end of edge e
-abbrev pub IsBeyond : Graph → ℕ → List ℕ → ℕ → ℕ → Type 0
-IsBeyond g e leaders x y = (Leads g e leaders y × (x ≢ y)) ⊎ (y ≡ greater_end g e)
+-- y leads another piece than x, or is b
+abbrev pub IsBeyond : Graph → (a b : ℕ) → List ℕ → ℕ → ℕ → Type 0
+IsBeyond g a b leaders x y = (Leads g a b leaders y × (x ≢ y)) ⊎ (y ≡ b)
 
 -- the vertices of the least cut of the groups' network, if some cut is within the bound
 pub record IsCutOfGroups (g : Graph) (weights leaders : List ℕ) (bound a b x y : ℕ) (answer : Option (List ℕ)) : Type 0 where
@@ -88,6 +89,10 @@ pub record IsCutOfGroups (g : Graph) (weights leaders : List ℕ) (bound a b x y
 pub record IsCommonShore (g : Graph) (a b : ℕ) (k : ℕ × ℕ) (answer : Option (List ℕ)) : Type 0 where
   pub some : (s : List ℕ) → answer ≡ Some s → ((z : Set) × SeparatesTightly g a b k z) × ((v : ℕ) → Within g.order v → mem s v ≡ common_shore g a b k v)
   pub none : answer ≡ None → (z : Set) → SeparatesTightly g a b k z → ⊥
+
+-- each tight set with a and x and without b is everything but b
+abbrev pub AreWhole : Graph → (a b : ℕ) → ℕ → Type 0
+AreWhole g a b x = (z : Set) → SeparatesTightly g a b (x, b) z → (v : ℕ) → Within g.order v → v ≢ b → z v ≡ true
 
 -- what a pair gives at edge e: the common shore if the pair is separated, and nothing if it is not
 pub record IsShoreOfPair (g : Graph) (e : ℕ) (k : ℕ × ℕ) (answer : Option (List ℕ)) : Type 0 where

@@ -31,10 +31,11 @@ fn shore_at(
     e: u32,
 ) -> Result<Option<VSet>, Memory>
     requires matchings { AreMatchings g.now matchings.old.kept matchings.old.pairs }
-    requires leaders { AreLeadersAt g.now e leaders.now }
+    requires leaders { AreLeadersAt g.now (lesser_end g.now e) (greater_end g.now e) e
+        leaders.now }
     requires first { groups.a ≡ lesser_end g.now e }
     requires second { groups.b ≡ greater_end g.now e }
-    requires x { Leads g.now e leaders.now groups.x }
+    requires x { Leads g.now (lesser_end g.now e) (greater_end g.now e) leaders.now groups.x }
     requires y { Within g.now.order groups.y }
     requires before { NoneBefore g.now e groups.x groups.y }
     ensures matchings { IfOk result
@@ -63,7 +64,8 @@ fn shore_beside(
     x: u32,
 ) -> Result<Option<VSet>, Memory>
     requires matchings { AreMatchings g.now matchings.old.kept matchings.old.pairs }
-    requires leaders { AreLeadersAt g.now e leaders.now }
+    requires leaders { AreLeadersAt g.now (lesser_end g.now e) (greater_end g.now e) e
+        leaders.now }
     requires x { Within g.now.order x }
     requires before { NoneBefore g.now e x 1 }
     ensures matchings { IfOk result
@@ -96,7 +98,8 @@ fn first_shore(
     e: u32,
 ) -> Result<Option<VSet>, Memory>
     requires matchings { AreMatchings g.now matchings.old.kept matchings.old.pairs }
-    requires leaders { AreLeadersAt g.now e leaders.now }
+    requires leaders { AreLeadersAt g.now (lesser_end g.now e) (greater_end g.now e) e
+        leaders.now }
     ensures matchings { IfOk result
         (λ _. AreMatchings g.now matchings.new.kept matchings.new.pairs) }
     ensures shore { IfOk result (IsShoreOfEdge g.now e) }

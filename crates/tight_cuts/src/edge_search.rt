@@ -13,6 +13,7 @@ ghost use Rattle.tight_cuts.specs.EdgeSearch.{AreLeadersAt, AreMatchings, IsShor
 
 use crate::edge_cuts::EdgeSearch;
 use crate::groups::{Grouping, common_shore};
+use crate::inseparable::is_inseparable;
 use crate::leading::leaders_at;
 use crate::matchings::Matchings;
 use crate::quiet_edges::is_quiet;
@@ -49,10 +50,11 @@ fn shore_of_piece(
     e: u32,
 ) -> Result<Option<VSet>, Memory>
     requires matchings { AreMatchings g.now matchings.old.kept matchings.old.pairs }
-    requires leaders { AreLeadersAt g.now e leaders.now }
+    requires leaders { AreLeadersAt g.now (lesser_end g.now e) (greater_end g.now e) e
+        leaders.now }
     requires first { groups.a ≡ lesser_end g.now e }
     requires second { groups.b ≡ greater_end g.now e }
-    requires x { Leads g.now e leaders.now groups.x }
+    requires x { Leads g.now (lesser_end g.now e) (greater_end g.now e) leaders.now groups.x }
     requires y { groups.y ≡ greater_end g.now e }
     requires before { NoneBefore g.now e groups.x 1 }
     ensures matchings { IfOk result
@@ -81,7 +83,8 @@ fn shore_from(
     x: u32,
 ) -> Result<Option<VSet>, Memory>
     requires matchings { AreMatchings g.now matchings.old.kept matchings.old.pairs }
-    requires leaders { AreLeadersAt g.now e leaders.now }
+    requires leaders { AreLeadersAt g.now (lesser_end g.now e) (greater_end g.now e) e
+        leaders.now }
     requires x { Within g.now.order x }
     requires before { NoneBefore g.now e x 1 }
     ensures matchings { IfOk result
@@ -109,7 +112,8 @@ fn first_shore(
     e: u32,
 ) -> Result<Option<VSet>, Memory>
     requires matchings { AreMatchings g.now matchings.old.kept matchings.old.pairs }
-    requires leaders { AreLeadersAt g.now e leaders.now }
+    requires leaders { AreLeadersAt g.now (lesser_end g.now e) (greater_end g.now e) e
+        leaders.now }
     ensures matchings { IfOk result
         (λ _. AreMatchings g.now matchings.new.kept matchings.new.pairs) }
     ensures shore { IfOk result (IsShoreOfEdge g.now e) }
@@ -143,6 +147,9 @@ impl EdgeSearch for NetworkSearch {
             return Ok(None);
         }
         let leaders = leaders_at(alloc, g, &mut self.matchings, e)?;
+        if is_inseparable(alloc, g, &mut self.matchings, &leaders, e)? {
+            return Ok(None);
+        }
         first_shore(alloc, g, &mut self.matchings, &leaders, e)
     }
 }

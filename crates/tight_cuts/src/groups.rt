@@ -3,7 +3,6 @@ ghost use Rattle.std.specs.Prelude.{◌≡◌, ◌≢◌, ℕ, ◌+◌, ◌<◌,
 ghost use Rattle.counting.specs.Common.{Within, total, mem};
 ghost use Rattle.flow_core.specs.Nets.{total_capacity, with_arc};
 ghost use Rattle.graph_core.specs.Common.{first_end, second_end, size};
-ghost use Rattle.tight_cuts.specs.Candidates.{greater_end, lesser_end};
 ghost use Rattle.tight_cuts.specs.EdgeSearch.{AreGroups, AreLeadersAt, AreMatchings, IsBeyond, IsCommonShore, IsCutOfGroups, Leads, arc_between, arcs_by, at_place, group_net, row_group};
 ghost use Rattle.tight_cuts.specs.Pieces.{group_of};
 
@@ -146,15 +145,12 @@ pub(crate) fn common_shore(
     e: u32,
 ) -> Result<Option<VSet>, Memory>
     requires matchings { AreMatchings g.now matchings.old.kept matchings.old.pairs }
-    requires leaders { AreLeadersAt g.now e leaders.now }
-    requires first { groups.a ≡ lesser_end g.now e }
-    requires second { groups.b ≡ greater_end g.now e }
-    requires x { Leads g.now e leaders.now groups.x }
-    requires y { IsBeyond g.now e leaders.now groups.x groups.y }
+    requires leaders { AreLeadersAt g.now groups.a groups.b e leaders.now }
+    requires x { Leads g.now groups.a groups.b leaders.now groups.x }
+    requires y { IsBeyond g.now groups.a groups.b leaders.now groups.x groups.y }
     ensures matchings { IfOk result
         (λ _. AreMatchings g.now matchings.new.kept matchings.new.pairs) }
-    ensures shore { IfOk result
-        (IsCommonShore g.now (lesser_end g.now e) (greater_end g.now e) (groups.x, groups.y)) }
+    ensures shore { IfOk result (IsCommonShore g.now groups.a groups.b (groups.x, groups.y)) }
 {
     g.keeps_limits();
     for _listed in 0..MOST_LISTED + 1 {

@@ -2,6 +2,7 @@
 ghost use Rattle.std.specs.Prelude.{◌≡◌, ℕ, ◌+◌, length, IfOk};
 ghost use Rattle.counting.specs.Common.{Within, pair_set};
 ghost use Rattle.graph_core.specs.Common.{components, size, IsCovered};
+ghost use Rattle.tight_cuts.specs.Candidates.{greater_end, lesser_end};
 ghost use Rattle.tight_cuts.specs.EdgeSearch.{AreLeadersAt, AreMatchings, at_place};
 ghost use Rattle.tight_cuts.specs.Pieces.{leader};
 
@@ -63,7 +64,8 @@ pub(crate) fn leaders_at(
     requires matchings { AreMatchings g.now matchings.old.kept matchings.old.pairs }
     ensures matchings { IfOk result
         (λ _. AreMatchings g.now matchings.new.kept matchings.new.pairs) }
-    ensures leaders { IfOk result (λ row. AreLeadersAt g.now e row.items) }
+    ensures leaders { IfOk result
+        (λ row. AreLeadersAt g.now (lesser_end g.now e) (greater_end g.now e) e row.items) }
 {
     g.keeps_limits();
     list_with_edge(alloc, g, &matchings.kept, &mut matchings.pairs, e)?;

@@ -43,6 +43,7 @@ mod edge_search;
 mod finder;
 mod front;
 mod groups;
+mod inseparable;
 mod leading;
 mod matchings;
 mod pieces;

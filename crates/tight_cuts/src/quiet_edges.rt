@@ -13,11 +13,14 @@ ghost use Rattle.tight_cuts.specs.EdgeSearch.{AreMatchings};
 ghost use Rattle.tight_cuts.specs.QuietEdges.{IsOneSided};
 
 use crate::matchings::Matchings;
-use allowed_edges::{PairTable, base_with_edge, seek_pair};
+use allowed_edges::{PairTable, base_with_edge, seek_pair, share_end};
 use graph_core::{MultiGraph, is_in_cut};
 use match_core::Matching;
 use std::alloc::{AllocError as Memory, Global};
 use vset_core::VSet;
+
+/// How many edges may be refused before no more are sought for one edge.
+const MOST_REFUSED: u32 = 4;
 
 /// Whether edge `e` is seen to be quiet, by the matchings that are listed and by others that are
 /// sought and listed.
@@ -45,7 +48,7 @@ pub(crate) fn is_quiet(
     match base_with_edge(alloc, g, &matchings.kept, &matchings.pairs, e)? {
         None => Ok(false),
         Some(base) => {
-            let reach = reach_of(alloc, g, base, &mut matchings.pairs, e, near, others)?;
+            let reach = reach_of(alloc, g, base, &mut matchings.pairs, e, near)?;
             Ok(others.is_subset(reach))
         }
     }
@@ -64,8 +67,8 @@ fn without_ends(g: &MultiGraph, e: u32) -> VSet
     rest.without(ends.b)
 }
 
-// A vertex set widened by edges that lie together with `e`: such are sought where an edge leaves
-// the set, until it holds the others.
+// A vertex set widened by edges that lie together with `e`: such are sought among those that leave
+// the set, until some were refused.
 fn reach_of(
     alloc: Global,
     g: &MultiGraph,
@@ -73,7 +76,6 @@ fn reach_of(
     pairs: &mut PairTable,
     e: u32,
     near: VSet,
-    others: VSet,
 ) -> Result<VSet, Memory>
     requires edge { Within (size g.now) e }
     requires base { IsPerfectWith g.now e base }
@@ -84,12 +86,15 @@ fn reach_of(
 {
     let mut kept = base;
     let mut reach = near;
+    let mut refused = 0;
     for _round in 0..g.order() {
         let before = reach;
         for k in 0..g.size() {
-            if k + 1 != e && !others.is_subset(reach) && is_in_cut(g, reach, k + 1) {
-                kept = seek_pair(alloc, g, kept, pairs, e, k + 1)?;
-                reach = widened(g, pairs, e, reach);
+            let f = k + 1;
+            if refused < MOST_REFUSED && is_in_cut(g, reach, f) && !share_end(g, e, f) {
+                kept = seek_pair(alloc, g, kept, pairs, e, f)?;
+                refused += u32::from(!pairs.both(e, f));
+                reach = widened_past(g, pairs, e, reach, f);
             }
         }
         if reach == before {
@@ -97,6 +102,20 @@ fn reach_of(
         }
     }
     Ok(reach)
+}
+
+// A vertex set widened, if a listed matching holds `f` and `e`.
+fn widened_past(g: &MultiGraph, pairs: &PairTable, e: u32, reach: VSet, f: u32) -> VSet
+    requires edge { Within (size g.now) e }
+    requires other { Within (size g.now) f }
+    requires begun { SettlesEdges g.now 1 pairs.now }
+    requires reach { IsOneSided g.now e (mem reach) }
+    ensures { IsOneSided g.now e (mem result) }
+{
+    if !pairs.both(e, f) {
+        return reach;
+    }
+    widened(g, pairs, e, reach)
 }
 
 // A vertex set widened by edges that listed matchings hold together with `e`, as far as it goes.

@@ -1,8 +1,9 @@
 //! Whether an odd cut is tight.
-ghost use Rattle.std.specs.Prelude.{◌≡◌, ℕ, ◌+◌, ◌<◌, ◌||◌, ◌&&◌, ◌==◌, not, true, length, ◌↔◌, Some, None, IfOk};
+ghost use Rattle.std.specs.Prelude.{◌≡◌, ℕ, ◌+◌, ◌<◌, ◌||◌, ◌&&◌, ◌==◌, not, true, false, length, ◌↔◌, Some, None, IfOk};
 ghost use Rattle.counting.specs.Common.{Within, is_odd, none, mem, IsRisingIn};
 ghost use Rattle.graph_core.specs.Common.{IsCovered, in_cut, size, IsPerfect, Together};
 ghost use Rattle.match_core.specs.MatchingRows.{IsOf, edges_of};
+ghost use Rattle.allowed_edges.specs.Leaving.{share_end};
 ghost use Rattle.allowed_edges.specs.PairTables.{IsPerfectWith};
 ghost use Rattle.tight_cuts.specs.Tightness.{CrossesTwice, IsTightness, NoLaterWith};
 
@@ -86,10 +87,43 @@ fn crossing_with(
     if !is_in_cut(g, shore, e) {
         return Ok(None);
     }
+    if !has_later(g, shore, e) {
+        return Ok(None);
+    }
     match perfect_with_edge(alloc, g, kept, e)? {
         Some(held) => crossing_from(alloc, g, shore, &held, e),
         None => Ok(None),
     }
+}
+
+// Whether some edge after e is one to be asked with it.
+fn has_later(g: &MultiGraph, shore: VSet, e: u32) -> bool
+    requires { Within (size g.now) e }
+    ensures { result ≡ false → NoLaterWith g.now (mem shore) e }
+{
+    for k in e..g.size() {
+        if is_to_ask(g, shore, e, k + 1) {
+            return true;
+        }
+    }
+    false
+}
+
+// Whether the later edge f is in the cut and shares no end with e; otherwise the two do not lie
+// together in the cut.
+fn is_to_ask(g: &MultiGraph, shore: VSet, e: u32, f: u32) -> bool
+    requires first { Within (size g.now) e }
+    requires second { Within (size g.now) f }
+    requires later { e < f }
+    ensures cut { result ≡ true → in_cut g.now (mem shore) f ≡ true }
+    ensures apart { result ≡ true → share_end g.now e f ≡ false }
+    ensures none { result ≡ false → in_cut g.now (mem shore) f ≡ true → Together g.now e f → ⊥ }
+{
+    g.keeps_limits();
+    if !is_in_cut(g, shore, f) {
+        return false;
+    }
+    !share_end(g, e, f)
 }
 
 // The same for an edge e of the cut from a perfect matching that holds it.
@@ -133,11 +167,7 @@ fn crossing_by(
     ensures none { IfOk result
         (λ o. o ≡ None → in_cut g.now (mem shore) f ≡ true → Together g.now e f → ⊥) }
 {
-    g.keeps_limits();
-    if !is_in_cut(g, shore, f) {
-        return Ok(None);
-    }
-    if share_end(g, e, f) {
+    if !is_to_ask(g, shore, e, f) {
         return Ok(None);
     }
     let found = perfect_with_pair(alloc, g, held, e, f)?;

@@ -1,0 +1,7 @@
+use Rattle.std.proofs.Common.{◌≡◌, ℕ, ◌<◌, ◌≤◌, true}
+use Rattle.counting.specs.Common.{mem}
+use Rattle.graph_core.specs.Common.{in_cut, Together}
+use Rattle.tight_cuts.proofs.tightness.has_later.Given as goal
+
+abbrev pub invariant-loop-k : goal.invariant-loop-k
+invariant-loop-k l = (d : ℕ) → l.e < d → d ≤ l.k → in_cut l.g (mem l.shore) d ≡ true → Together l.g l.e d → ⊥

@@ -1,0 +1,10 @@
+use Rattle.std.proofs.Common.{◌∙◌, sym, arith, ap, not}
+use Rattle.counting.proofs.Common.{not-false}
+use Rattle.counting.specs.Common.{mem}
+use Rattle.allowed_edges.proofs.PairSteps.{apart_shared, share_some}
+use Rattle.tight_cuts.proofs.tightness.is_to_ask.Goals as goal
+
+pub returns-clause-none : goal.returns-clause-none
+returns-clause-none c q cf together =
+    let v = share_some c.args.g.now c.args.e c.args.f c.keeps_limits.ensures.multigraph.ends c.requires.first (sym c.share_end.ensures ∙ not-false c.share_end.result q) in
+    apart_shared c.args.g.now c.args.e c.args.f v.0 (λ e. let l = c.requires.later in absurd (omega arith)) c.requires.first c.requires.second v.1 v.2 v.3 together

@@ -1,0 +1,81 @@
+//! Two cuts that show that an edge gives nothing.
+//!
+//! Let a and b be the ends of the edge, and let x be another vertex. If each tight set with a and x
+//! and without b is everything but b, and each with b and x and without a everything but a, then
+//! the tight sets with a and without b are a alone and everything but b: no pair is separated.
+ghost use Rattle.std.specs.Prelude.{◌≡◌, true, IfOk, None};
+ghost use Rattle.graph_core.specs.Common.{size};
+ghost use Rattle.tight_cuts.specs.Candidates.{first_separated, greater_end, lesser_end};
+ghost use Rattle.tight_cuts.specs.EdgeSearch.{AreLeadersAt, AreMatchings, AreWhole, Leads};
+
+use crate::edge_search::{first_lacking, leads};
+use crate::groups::{Grouping, common_shore};
+use crate::matchings::Matchings;
+use graph_core::MultiGraph;
+use std::alloc::{AllocError as Memory, Global};
+use vset_core::VSet;
+
+/// Whether two cuts show that no pair is separated at edge `e`.
+pub(crate) fn is_inseparable(
+    alloc: Global,
+    g: &MultiGraph,
+    matchings: &mut Matchings,
+    leaders: &[u32],
+    e: u32,
+) -> Result<bool, Memory>
+    requires matchings { AreMatchings g.now matchings.old.kept matchings.old.pairs }
+    requires leaders { AreLeadersAt g.now (lesser_end g.now e) (greater_end g.now e) e
+        leaders.now }
+    ensures matchings { IfOk result
+        (λ _. AreMatchings g.now matchings.new.kept matchings.new.pairs) }
+    ensures none { IfOk result (λ r. r ≡ true → first_separated g.now e ≡ None) }
+{
+    g.keeps_limits();
+    let ends = g.ends(e);
+    let a = ends.a.min(ends.b);
+    let b = ends.a.max(ends.b);
+    let Some(x) = VSet::full(g.order()).without(a).without(b).first() else {
+        return Ok(false);
+    };
+    if !leads(leaders, a, b, x) {
+        return Ok(false);
+    }
+    let near = Grouping { a, b, x, y: b };
+    if !are_whole(alloc, g, matchings, leaders, near, e)? {
+        return Ok(false);
+    }
+    let far = Grouping {
+        a: b,
+        b: a,
+        x,
+        y: a,
+    };
+    are_whole(alloc, g, matchings, leaders, far, e)
+}
+
+// Whether each tight set that has `a` and `x` and lacks `b` is everything but `b`.
+fn are_whole(
+    alloc: Global,
+    g: &MultiGraph,
+    matchings: &mut Matchings,
+    leaders: &[u32],
+    groups: Grouping,
+    e: u32,
+) -> Result<bool, Memory>
+    requires matchings { AreMatchings g.now matchings.old.kept matchings.old.pairs }
+    requires leaders { AreLeadersAt g.now groups.a groups.b e leaders.now }
+    requires x { Leads g.now groups.a groups.b leaders.now groups.x }
+    requires y { groups.y ≡ groups.b }
+    ensures matchings { IfOk result
+        (λ _. AreMatchings g.now matchings.new.kept matchings.new.pairs) }
+    ensures whole { IfOk result (λ r. r ≡ true → AreWhole g.now groups.a groups.b groups.x) }
+{
+    g.keeps_limits();
+    let Some(shore) = common_shore(alloc, g, matchings, leaders, groups, e)? else {
+        return Ok(true);
+    };
+    match first_lacking(shore, g.order(), groups.b) {
+        Some(_) => Ok(false),
+        None => Ok(true),
+    }
+}
