@@ -6,6 +6,7 @@ use Rattle.bench_outcomes.specs.Common.{CommandGives, CutShort, MayRefuse}
 use Rattle.bench_top.specs.Endings.{IsStopOf, StopsAfter}
 use Rattle.bench_outcomes.specs.declared.status.Status.TheVariants.{Usage}
 use Rattle.bench_top.specs.Given.{GivenOutcome}
+use Rattle.outside.specs.Shelf.{ReadsFirst}
 use Rattle.bench_top.specs.Writes.{GivesTold, WritesAs}
 use Rattle.bench_top.proofs.Completeness.{done-given, done-or_memory}
 use Rattle.bench_top.proofs.running.run_ending.Goals as goal
@@ -62,3 +63,14 @@ returns-in-None-clause-answered g c =
     let row : None ≡ command_of (map string_bytes c.args.words.now) = search rules in
     subst (λ (o : Option Command). GivenOutcome g.S.Shelf.reads g.K.Sink.written g.K.Sink.writes o Usage c.args.shelf.now c.args.shelf.now c.args.sink.now c.args.sink.now)
     row (record { answers = []; in_turn = refl; files = []; given = refl; wrote = refl })
+
+pub returns-in-None-clause-unread : goal.returns-in-None-clause-unread
+returns-in-None-clause-unread g c = λ usage. refl
+
+pub returns-in-None-clause-nothing : goal.returns-in-None-clause-nothing
+returns-in-None-clause-nothing g c = λ stopped. refl
+
+pub returns-in-Some-clause-asks : goal.returns-in-Some-clause-asks
+returns-in-Some-clause-asks g c =
+    let row : Some (asked c.in-Some.command) ≡ command_of (map string_bytes c.args.words.now) = search rules in
+    subst (λ (o : Option Command). ReadsFirst g.S.Shelf.reads (names_in o) c.args.shelf.now c.perform.new.shelf) row c.perform.ensures.asks
