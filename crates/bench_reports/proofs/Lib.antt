@@ -4,4 +4,3 @@ pub mod ScriptMoves
 pub mod ScriptTexts
 pub mod PairLines
 pub mod Reported
-pub mod SecondRefusal

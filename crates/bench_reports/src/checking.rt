@@ -12,7 +12,7 @@ use graph_core::MultiGraph;
 use graph_facts::Covered;
 use report_text::{Shown, TreeLine, judgement};
 use std::alloc::{AllocError as Memory, Global};
-use tree_check::{Scanned, Why, scan_covered};
+use tree_check::{KnownPlaces, Scanned, Why, scan_covered, scan_known};
 use tree_core::{Tally, Tree};
 
 /// The number of a reason.
@@ -65,20 +65,22 @@ fn refused_report(
 }
 
 /// The report that refuses the tree of this place among those that are named, counted from 1, of a
-/// covered graph. None if the tree is a derivation.
+/// covered graph. None if the tree is a derivation. What its judgement finds is known afterwards.
 pub fn refusal_where_covered(
     alloc: Global,
-    c: &Covered,
+    known: &mut KnownPlaces,
     tree: &Tree,
     place: u32,
 ) -> Result<Option<Report>, Memory>
-    requires { Fits c.now.order (shape_of tree.now) }
-    ensures { IfOk result (RefusesIfAny c.now (shape_of tree.now) place) }
+    requires { Fits known.old.order (shape_of tree.now) }
+    ensures refuses { IfOk result (RefusesIfAny known.old (shape_of tree.now) place) }
+    ensures same { known.new ≡ known.old }
 {
-    match scan_covered(alloc, c, tree)? {
+    match scan_known(alloc, known, tree)? {
         Scanned::Passed { .. } => Ok(None),
         Scanned::Refused { node, why } => {
-            let report = refused_report(alloc, c.graph(), tree, place, node, why)?;
+            let g = known.covered().graph();
+            let report = refused_report(alloc, g, tree, place, node, why)?;
             Ok(Some(report))
         }
     }

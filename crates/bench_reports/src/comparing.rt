@@ -1,8 +1,8 @@
 //! The comparison of two derivations of a graph, as `compare` and `script` report it.
-ghost use Rattle.std.specs.Prelude.{◌≡◌, ◌≤◌, ◌<◌, ◌+◌, ◌^◌, IfOk, length, map};
+ghost use Rattle.std.specs.Prelude.{◌≡◌, ◌≤◌, ◌<◌, ◌+◌, ◌^◌, Err, IfOk, length, map};
 ghost use Rattle.tree_core.specs.Common.{IsDerivation, moves_of, Fits, leaf_count, shape_of};
 ghost use Rattle.uncross.specs.MapView.{map_of, maps_of};
-ghost use Rattle.bench_outcomes.specs.Common.{Compared, CompareGives, RefusesPairIfAny, ScriptGives, Scripted, line_of, lines_of};
+ghost use Rattle.bench_outcomes.specs.Common.{Compared, RefusesPair, RefusesPairIfAny, Scripted, line_of, lines_of};
 
 use crate::checking::refusal_where_covered;
 use crate::uncovered::uncovered_report;
@@ -13,6 +13,7 @@ use graph_facts::Covered;
 use move_text::write_moves;
 use report_text::{MapLine, MapLines, block_names, pairing};
 use std::alloc::{AllocError as Memory, Global};
+use tree_check::KnownPlaces;
 use tree_core::{Partitions, Tree, leaves, nodes};
 use uncross::{LeafMap, LeafMaps, compare_covered, moves_between_covered};
 
@@ -28,9 +29,38 @@ fn refusal_of_covered(
     requires second { Fits c.now.order (shape_of second.now) }
     ensures { IfOk result (RefusesPairIfAny c.now (shape_of first.now) (shape_of second.now)) }
 {
-    match refusal_where_covered(alloc, c, first, 1)? {
+    let mut known = KnownPlaces::none(alloc, c);
+    match refusal_where_covered(alloc, &mut known, first, 1)? {
         Some(report) => Ok(Some(report)),
-        None => refusal_where_covered(alloc, c, second, 2),
+        None => refusal_where_covered(alloc, &mut known, second, 2),
+    }
+}
+
+/// The graph as a covered one, if it is one and both trees are derivations of it; else the report
+/// that it is not covered or which tree is refused and why. What is known of the graph is sought
+/// once, and so is what is known of a partition that both trees have.
+pub fn derivations<'g>(
+    alloc: Global,
+    g: &'g MultiGraph,
+    first: &Tree,
+    second: &Tree,
+) -> Result<Result<Covered<'g>, Report>, Memory>
+    requires first { Fits g.now.order (shape_of first.now) }
+    requires second { Fits g.now.order (shape_of second.now) }
+    ensures covered { IfOk result (λ r. IfOk r (λ c. c ≡ g.now)) }
+    ensures first { IfOk result (λ r. IfOk r (λ c. IsDerivation g.now (shape_of first.now))) }
+    ensures second { IfOk result (λ r. IfOk r (λ c. IsDerivation g.now (shape_of second.now))) }
+    ensures refused { IfOk result (λ r. (report : _) → r ≡ Err report →
+        RefusesPair g.now (shape_of first.now) (shape_of second.now) report.status
+        report.bytes.items) }
+{
+    let covered = match Covered::of(alloc, g)? {
+        Ok(covered) => covered,
+        Err(reason) => return Ok(Err(uncovered_report(alloc, g, reason)?)),
+    };
+    match refusal_of_covered(alloc, &covered, first, second)? {
+        Some(report) => Ok(Err(report)),
+        None => Ok(Ok(covered)),
     }
 }
 
@@ -64,8 +94,14 @@ fn lines_of(alloc: Global, found: &Partitions, maps: LeafMaps) -> Result<MapLine
     Ok(lines)
 }
 
-// The report on two derivations.
-fn pairing_report(alloc: Global, c: &Covered, first: &Tree, second: &Tree) -> Result<Report, Memory>
+/// The report on two derivations: the moves that turn the first into the second, and how their
+/// leaves are paired.
+pub fn compare_report(
+    alloc: Global,
+    c: &Covered,
+    first: &Tree,
+    second: &Tree,
+) -> Result<Report, Memory>
     requires first { IsDerivation c.now (shape_of first.now) }
     requires second { IsDerivation c.now (shape_of second.now) }
     ensures { IfOk result
@@ -83,47 +119,14 @@ fn pairing_report(alloc: Global, c: &Covered, first: &Tree, second: &Tree) -> Re
     })
 }
 
-/// The report on two trees: the moves that turn the first into the second and how their leaves
-/// are paired, or which tree is refused and why, or that the graph is not covered.
-pub fn compare_report(
-    alloc: Global,
-    g: &MultiGraph,
-    first: &Tree,
-    second: &Tree,
-) -> Result<Report, Memory>
-    requires first { Fits g.now.order (shape_of first.now) }
-    requires second { Fits g.now.order (shape_of second.now) }
-    ensures { IfOk result
-        (λ report. CompareGives g.now (shape_of first.now) (shape_of second.now) report.status
-        report.bytes.items) }
-{
-    match Covered::of(alloc, g)? {
-        Ok(covered) => compare_where_covered(alloc, &covered, first, second),
-        Err(reason) => uncovered_report(alloc, g, reason),
-    }
-}
-
-// The same for two trees of a covered graph.
-fn compare_where_covered(
+/// The text of a script that turns the first of two derivations into the second, and then the
+/// numbers of leaves and of moves.
+pub fn script_report(
     alloc: Global,
     c: &Covered,
     first: &Tree,
     second: &Tree,
 ) -> Result<Report, Memory>
-    requires first { Fits c.now.order (shape_of first.now) }
-    requires second { Fits c.now.order (shape_of second.now) }
-    ensures { IfOk result
-        (λ report. CompareGives c.now (shape_of first.now) (shape_of second.now) report.status
-        report.bytes.items) }
-{
-    match refusal_of_covered(alloc, c, first, second)? {
-        Some(report) => Ok(report),
-        None => pairing_report(alloc, c, first, second),
-    }
-}
-
-// The text of a script between two derivations, and then the numbers of leaves and of moves.
-fn moves_report(alloc: Global, c: &Covered, first: &Tree, second: &Tree) -> Result<Report, Memory>
     requires first { IsDerivation c.now (shape_of first.now) }
     requires second { IsDerivation c.now (shape_of second.now) }
     ensures { IfOk result
@@ -139,43 +142,4 @@ fn moves_report(alloc: Global, c: &Covered, first: &Tree, second: &Tree) -> Resu
         status: Status::Done,
         bytes: report_text::script_report(alloc, &text, leaves as u32, moves.len() as u32)?,
     })
-}
-
-/// The report on two trees: the text of moves that turn the first into the second, or which tree
-/// is refused and why, or that the graph is not covered.
-pub fn script_report(
-    alloc: Global,
-    g: &MultiGraph,
-    first: &Tree,
-    second: &Tree,
-) -> Result<Report, Memory>
-    requires first { Fits g.now.order (shape_of first.now) }
-    requires second { Fits g.now.order (shape_of second.now) }
-    ensures { IfOk result
-        (λ report. ScriptGives g.now (shape_of first.now) (shape_of second.now) report.status
-        report.bytes.items) }
-{
-    match Covered::of(alloc, g)? {
-        Ok(covered) => script_where_covered(alloc, &covered, first, second),
-        Err(reason) => uncovered_report(alloc, g, reason),
-    }
-}
-
-// The same for two trees of a covered graph.
-fn script_where_covered(
-    alloc: Global,
-    c: &Covered,
-    first: &Tree,
-    second: &Tree,
-) -> Result<Report, Memory>
-    requires first { Fits c.now.order (shape_of first.now) }
-    requires second { Fits c.now.order (shape_of second.now) }
-    ensures { IfOk result
-        (λ report. ScriptGives c.now (shape_of first.now) (shape_of second.now) report.status
-        report.bytes.items) }
-{
-    match refusal_of_covered(alloc, c, first, second)? {
-        Some(report) => Ok(report),
-        None => moves_report(alloc, c, first, second),
-    }
 }

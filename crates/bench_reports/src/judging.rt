@@ -6,7 +6,7 @@ ghost use Rattle.bench_tasks.specs.Tasks.{OnGraph};
 ghost use Rattle.bench_outcomes.specs.Common.{HasMaximum, IsAnalysis, Analysed, Converted, Analysed6, IsReported, ResultOf, TaskMayRefuse};
 
 use crate::checking::check_report;
-use crate::comparing::{compare_report, script_report};
+use crate::comparing::{compare_report, derivations, script_report};
 use crate::decomposing::{decompose_by_report, decompose_report};
 use crate::ear_checking::{checkears_report, ears_report};
 use crate::growing::grow_report;
@@ -135,9 +135,12 @@ fn trees_report(alloc: Global, verb: TreesVerb, given: &GivenTrees) -> Result<Re
         report.bytes.items) }
 {
     let g = &given.named.graph;
-    match verb {
-        TreesVerb::Compare => compare_report(alloc, g, &given.first, &given.second),
-        TreesVerb::Script => script_report(alloc, g, &given.first, &given.second),
+    match derivations(alloc, g, &given.first, &given.second)? {
+        Err(report) => Ok(report),
+        Ok(covered) => match verb {
+            TreesVerb::Compare => compare_report(alloc, &covered, &given.first, &given.second),
+            TreesVerb::Script => script_report(alloc, &covered, &given.first, &given.second),
+        },
     }
 }
 

@@ -15,7 +15,7 @@ use graph_core::MultiGraph;
 use graph_facts::Covered;
 use report_text::{replay_refused, replay_stuck, replayed};
 use std::alloc::{AllocError as Memory, Global};
-use tree_check::{Replayed, Why, replay_covered};
+use tree_check::{KnownPlaces, Replayed, Why, replay_covered};
 use tree_core::{Moves, Tree};
 use tree_text::write_tree;
 
@@ -84,25 +84,6 @@ fn moves_report(alloc: Global, c: &Covered, tree: Tree, moves: &Moves) -> Result
     }
 }
 
-// The report on moves on a tree of a covered graph.
-fn report_where_covered(
-    alloc: Global,
-    c: &Covered,
-    tree: Tree,
-    moves: &Moves,
-) -> Result<Report, Memory>
-    requires fits { Fits c.now.order (shape_of tree) }
-    requires few { length moves.now ≤ most_moves }
-    ensures { IfOk result
-        (λ report. ReplayGives c.now (shape_of tree) (moves_of moves.now) report.status
-        report.bytes.items) }
-{
-    match refusal_where_covered(alloc, c, &tree, 1)? {
-        Some(report) => Ok(report),
-        None => moves_report(alloc, c, tree, moves),
-    }
-}
-
 /// The report on moves on a tree: the last tree that they make if each on the way is a
 /// derivation of the graph, or the first move that fails; or why the tree is refused, or that the
 /// graph is not covered. What is known of the graph is sought once.
@@ -118,8 +99,13 @@ pub fn replay_report(
         (λ report. ReplayGives g.now (shape_of tree) (moves_of moves.now) report.status
         report.bytes.items) }
 {
-    match Covered::of(alloc, g)? {
-        Ok(covered) => report_where_covered(alloc, &covered, tree, moves),
-        Err(reason) => uncovered_report(alloc, g, reason),
+    let covered = match Covered::of(alloc, g)? {
+        Ok(covered) => covered,
+        Err(reason) => return uncovered_report(alloc, g, reason),
+    };
+    let mut known = KnownPlaces::none(alloc, &covered);
+    match refusal_where_covered(alloc, &mut known, &tree, 1)? {
+        Some(report) => Ok(report),
+        None => moves_report(alloc, &covered, tree, moves),
     }
 }

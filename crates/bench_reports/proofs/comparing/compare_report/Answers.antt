@@ -9,7 +9,7 @@ use Rattle.report_text.specs.declared.comparisons.MapLine.{MapLine}
 use Rattle.uncross.specs.MapView.{map_of, maps_of}
 use Rattle.bench_outcomes.specs.Common.{lines_of}
 use Rattle.tree_core.proofs.FewLeaves.{blocks-of_leaves, few-leaves_listed, few-nodes}
-use Rattle.bench_reports.proofs.comparing.pairing_report.Goals as goal
+use Rattle.bench_reports.proofs.comparing.compare_report.Goals as goal
 
 pub leaves-requires-clause-fits : goal.leaves-requires-clause-fits
 leaves-requires-clause-fits c =

@@ -7,7 +7,7 @@ use Rattle.move_text.specs.Writing.{HasSets}
 use Rattle.tree_core.proofs.FewLeaves.{few-nodes}
 use Rattle.bench_reports.proofs.ScriptMoves.{few-moves, script-paths, script-sets}
 use Rattle.bench_reports.proofs.ScriptTexts.{scripted}
-use Rattle.bench_reports.proofs.comparing.moves_report.Goals as goal
+use Rattle.bench_reports.proofs.comparing.script_report.Goals as goal
 
 pub write_moves-requires-clause-few : goal.write_moves-requires-clause-few
 write_moves-requires-clause-few c =
