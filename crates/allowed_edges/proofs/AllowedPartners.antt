@@ -2,11 +2,9 @@
 -- edge that is none, and whether a maximum matching is perfect. A perfect matching with the edge,
 -- less the edge, is perfect without its ends, and back. A perfect matching is as large as any.
 use Rattle.std.proofs.Common.{◌≡◌, ◌↔◌, ℕ, ◌==◌, ◌&&◌, ◌||◌, not, Bool, true, false, List, refl, sym, ap, ◌∙◌, arith, subst, ne_eqb, eq-eqb, inl, inr}
-use Rattle.counting.proofs.Common.{same_tests, both_ways, cases_Bool, or_right, rising_only, mem-rising_list, rising_list-rises}
-use Rattle.counting.specs.Common.{Within, Lists, item, mem, rising_list, Set, none, pair_set}
-use Rattle.graph_core.specs.Common.{Graph, IsGraph, IsMultigraph, first_end, second_end, size, Allowed, HasPerfect, IsMaximum, has_perfect, is_allowed, missed_count}
-use Rattle.graph_core.proofs.Common.{has_perfect_found, has_perfect_says, is_allowed_found, is_allowed_says, missed_edges, none_missed-perfect, perfect_matching, perfect_misses}
-use Rattle.match_core.specs.Partners.{ArePartners, are_partners}
+use Rattle.counting.proofs.Common.{same_tests, both_ways, cases_Bool, or_right, rising_only, mem-rising_list, rising_list-rises, Within, Lists, item, mem, rising_list, Set, none, pair_set}
+use Rattle.graph_core.proofs.Common.{Graph, IsGraph, IsMultigraph, first_end, second_end, size, Allowed, HasPerfect, IsMaximum, has_perfect, is_allowed, missed_count, has_perfect_found, has_perfect_says, is_allowed_found, is_allowed_says, missed_edges, none_missed-perfect, perfect_matching, perfect_misses}
+use Rattle.match_core.specs.Common.{ArePartners, are_partners}
 use Rattle.allowed_edges.proofs.ThroughEdges.{one_cut, one_glued}
 
 module _ (g : Graph) (is : IsMultigraph g) (e : ℕ) (we : Within (size g) e) where

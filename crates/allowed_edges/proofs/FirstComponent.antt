@@ -1,11 +1,8 @@
 -- The first of the components is that of vertex 1, since no vertex is less; a graph is connected
 -- where it holds all vertices. A walk from one vertex to another leads over 1.
-use Rattle.std.proofs.Common.{◌≡◌, ℕ, suc, zero, ◌≤◌, ◌<◌, true, false, not, ◌&&◌, ◌↔◌, List, [], ◌∷◌, ◌++◌, map, length, cond, sym, ap, ◌∙◌, arith, subst, nat_lt, ltb-true}
-use Rattle.std.specs.Prelude.{IfNone, IfSome, None, Option, Some, slice_get}
-use Rattle.counting.proofs.Common.{both_ways, and_parts, false_from_ne_true, mem-rising_list, some_true, but_fails_second}
-use Rattle.counting.specs.Common.{Within, IsLeastOf, mem, rising_list, Set, none, IsLeastWithout, some}
-use Rattle.graph_core.specs.Common.{IsConnected, components, is_least, Graph, IsGraph, Joined, joined}
-use Rattle.graph_core.proofs.Common.{joined_walk, walk_joined, joined_back, joined_on}
+use Rattle.std.proofs.Common.{◌≡◌, ℕ, suc, zero, ◌≤◌, ◌<◌, true, false, not, ◌&&◌, ◌↔◌, List, [], ◌∷◌, ◌++◌, map, length, cond, sym, ap, ◌∙◌, arith, subst, nat_lt, ltb-true, IfNone, IfSome, None, Option, Some, slice_get}
+use Rattle.counting.proofs.Common.{both_ways, and_parts, false_from_ne_true, mem-rising_list, some_true, but_fails_second, Within, IsLeastOf, mem, rising_list, Set, none, IsLeastWithout, some}
+use Rattle.graph_core.proofs.Common.{IsConnected, components, is_least, Graph, IsGraph, Joined, joined, joined_walk, walk_joined, joined_back, joined_on}
 
 -- a rising list that may begin with 1 does
 begins_with_one : (n : ℕ) (x : Set) → 1 ≤ n → x 1 ≡ true → (ys : List ℕ) × (rising_list n x ≡ 1 ∷ ys)

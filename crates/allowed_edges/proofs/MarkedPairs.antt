@@ -1,13 +1,11 @@
 -- Marks set in a square table row by row, for all pairs of edges of a matching. A row that is
 -- written has the new marks and every other row stays; by cases on the row that is asked for.
-use Rattle.std.proofs.Common.{◌≡◌, ◌≢◌, ℕ, suc, zero, ◌+◌, ◌<◌, Bool, true, false, ◌&&◌, ◌||◌, ◌==◌, List, [], ◌∷◌, length, get_or, set, map, take, refl, sym, ap, ◌∙◌, arith, inl, inr, eq-eqb, ne_eqb}
-use Rattle.std.specs.Prelude.{All, Some, replicate, slice_get}
+use Rattle.std.proofs.Common.{◌≡◌, ◌≢◌, ℕ, suc, zero, ◌+◌, ◌<◌, Bool, true, false, ◌&&◌, ◌||◌, ◌==◌, List, [], ◌∷◌, length, get_or, set, map, take, refl, sym, ap, ◌∙◌, arith, inl, inr, eq-eqb, ne_eqb, All, Some, replicate, slice_get, get_or-set_same, get_or-set_other}
 use Rattle.std.specs.Global.{Vec}
-use Rattle.counting.proofs.Common.{cases_eq, get_or-map, length-map, All-head, All-tail, or_false}
-use Rattle.std.proofs.lemmas.List.{get_or-set_same, get_or-set_other, map-set}
-use Rattle.counting.specs.Common.{mem, row_of}
+use Rattle.counting.proofs.Common.{cases_eq, get_or-map, length-map, All-head, All-tail, or_false, mem, row_of}
+use Rattle.std.proofs.lemmas.List.{map-set}
 use Rattle.match_search.proofs.Marks.{no-marks}
-use Rattle.match_search.specs.Rows.{marks}
+use Rattle.match_search.specs.Common.{marks}
 use Rattle.match_core.specs.declared.matching.MatchRow.{MatchRow}
 use Rattle.match_core.proofs.MatchingEdges.{edge_of}
 use Rattle.allowed_edges.specs.EdgeTables.{IsSquare, rows_of}

@@ -1,17 +1,12 @@
 -- One perfect matching more in a list of them, each of which holds something new; and what such a
 -- list settles. What a list holds it still holds when it is longer; the new matching holds a pair
 -- that no listed one holds.
-use Rattle.std.proofs.Common.{◌≡◌, ◌≢◌, ℕ, ◌+◌, ◌-◌, ◌<◌, true, false, ◌&&◌, ◌||◌, ◌==◌, ◌↔◌, List, [], ◌∷◌, ◌++◌, length, get_or, map, filter, refl, sym, ap, ap₂, ◌∙◌, arith, inl, inr, subst, eqb-true, length-append}
-use Rattle.std.specs.Prelude.{All, Any}
-use Rattle.counting.proofs.Common.{and_from, and_parts, both_ways, cases_eq, cases_order, false_from_ne_true, or_cases, or_left, or_right, get_or_append_left, map-append, list_any-append, and_comm, or_false}
-use Rattle.std.proofs.Math.Seq.{get_or-append_seam}
+use Rattle.std.proofs.Common.{◌≡◌, ◌≢◌, ℕ, ◌+◌, ◌-◌, ◌<◌, true, false, ◌&&◌, ◌||◌, ◌==◌, ◌↔◌, List, [], ◌∷◌, ◌++◌, length, get_or, map, filter, refl, sym, ap, ap₂, ◌∙◌, arith, inl, inr, subst, eqb-true, length-append, All, Any}
+use Rattle.counting.proofs.Common.{and_from, and_parts, both_ways, cases_eq, cases_order, false_from_ne_true, or_cases, or_left, or_right, get_or_append_left, map-append, list_any-append, and_comm, or_false, get_or-append_seam, list_any, Within, IsRisingIn, mem, none}
 use Rattle.std.proofs.lemmas.List.Elements.{All-push}
 use Rattle.std.proofs.lemmas.List.Folds.{Any-from_list_any, list_any_at}
-use Rattle.std.specs.List.{list_any}
-use Rattle.counting.specs.Common.{Within, IsRisingIn, mem, none}
-use Rattle.graph_core.specs.Common.{Graph, IsGraph, first_end, second_end, size, HasPerfect, IsEnd, IsPerfect, Together, IsLean, IsPairList}
-use Rattle.graph_core.proofs.Common.{two_ends_le_degree}
-use Rattle.match_core.specs.MatchingRows.{IsOf, KeepsMatching, MatchingValue, edges_of, is_clear}
+use Rattle.graph_core.proofs.Common.{Graph, IsGraph, first_end, second_end, size, HasPerfect, IsEnd, IsPerfect, Together, IsLean, IsPairList, two_ends_le_degree}
+use Rattle.match_core.specs.Common.{IsOf, KeepsMatching, MatchingValue, edges_of, is_clear}
 use Rattle.match_core.specs.declared.matching.MatchRow.{MatchRow}
 use Rattle.match_core.proofs.ClearedMatchings.{end_at}
 use Rattle.match_core.proofs.MatchingEdges.{rows-rise}

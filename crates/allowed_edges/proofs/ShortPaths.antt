@@ -1,11 +1,9 @@
 -- A matching with an edge more, between two vertices that it does not meet, and what a row that
 -- was read says of a matching's ends.
 use Rattle.std.proofs.Common.{◌≡◌, ℕ, suc, zero, ◌+◌, ◌*◌, ◌<◌, true, false, ◌==◌, ◌||◌, refl, sym, ap, ◌∙◌, arith, List, [], ◌∷◌, inl, eq-eqb, ne_eqb, Some, Option, length, slice_get}
-use Rattle.counting.proofs.Common.{both_ways, set-narrower}
-use Rattle.counting.specs.Common.{Within, bit, Set, put, IsRisingIn, mem}
-use Rattle.graph_core.specs.Common.{Graph, IsGraph, IsMultigraph, degree, first_end, second_end, size, IsMatching, missed_count}
-use Rattle.graph_core.proofs.Common.{add_edge}
-use Rattle.match_core.specs.MatchingRows.{IsOf, KeepsMatching, MatchingValue, edges_of, ends_at}
+use Rattle.counting.proofs.Common.{both_ways, set-narrower, Within, bit, Set, put, IsRisingIn, mem}
+use Rattle.graph_core.proofs.Common.{Graph, IsGraph, IsMultigraph, degree, first_end, second_end, size, IsMatching, missed_count, add_edge}
+use Rattle.match_core.specs.Common.{IsOf, KeepsMatching, MatchingValue, edges_of, ends_at}
 use Rattle.match_core.specs.declared.matching.MatchRow.{MatchRow}
 use Rattle.allowed_edges.specs.Leaving.{IsMatchingOff}
 use Rattle.match_search.proofs.Alike.{matching_alike}

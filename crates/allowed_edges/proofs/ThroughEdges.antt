@@ -3,12 +3,10 @@
 -- other; and a perfect matching leaves few vertices missed when the edges at these ends are taken
 -- out.
 use Rattle.std.proofs.Common.{◌≡◌, ℕ, ◌*◌, ◌≢◌, Bool, true, false, ◌==◌, ◌||◌, ◌⊎◌, refl, sym, ap, ◌∙◌, arith, inl, inr, eqb-true, eq-eqb, ne_eqb, subst}
-use Rattle.counting.proofs.Common.{or_true, or_false, both_ways, cases_eq, false_from_ne_true, true≢false, or_cases}
-use Rattle.counting.specs.Common.{Within, bit, Set, none, put, union, minus, everything}
-use Rattle.graph_core.specs.Common.{Graph, IsGraph, IsMultigraph, degree, first_end, second_end, size, Allowed, HasPerfect, IsPerfect, Together}
-use Rattle.graph_core.proofs.Common.{degree_congr, none_matching, degree_put, ends_of}
+use Rattle.counting.proofs.Common.{or_true, or_false, both_ways, cases_eq, false_from_ne_true, true≢false, or_cases, Within, bit, Set, none, put, union, minus, everything}
+use Rattle.graph_core.proofs.Common.{Graph, IsGraph, IsMultigraph, degree, first_end, second_end, size, Allowed, HasPerfect, IsPerfect, Together, degree_congr, none_matching, degree_put, ends_of}
 use Rattle.match_search.proofs.AlternatingPaths.{put_off, put_at}
-use Rattle.match_search.specs.Questions.{MeetOnce}
+use Rattle.match_search.specs.Common.{MeetOnce}
 use Rattle.match_core.proofs.ClearedMatchings.{left_misses}
 use Rattle.match_search.proofs.Gluing.{cut_off, glued, meet_more}
 use Rattle.allowed_edges.specs.Leaving.{LeavesFew, ShareNone}

@@ -1,14 +1,11 @@
 -- The edges that a row names at both of their ends are a matching. Idea: two of them at one vertex
 -- are both the edge that the row names there.
-use Rattle.std.proofs.Common.{◌≡◌, ℕ, ◌<◌, Bool, true, sym, ap, ◌∙◌, List, [], length, inl, inr, subst, false, get_or-set_same, get_or-set_other, rules}
-use Rattle.std.specs.Prelude.{slice_set}
-use Rattle.counting.proofs.Common.{both_ways, cases_eq, rising_holds, mem-rising_list}
-use Rattle.counting.specs.Common.{Within, mem, rising_list, Set, none}
-use Rattle.graph_core.specs.Common.{Graph, IsMultigraph, size, IsEnd, IsMatching, IsPerfect, missed_count}
-use Rattle.graph_core.proofs.Common.{none_missed-perfect, apart_matching}
-use Rattle.match_core.specs.MatchingRows.{IsOf, MatchingValue, edges_of}
+use Rattle.std.proofs.Common.{◌≡◌, ℕ, ◌<◌, Bool, true, sym, ap, ◌∙◌, List, [], length, inl, inr, subst, false, get_or-set_same, get_or-set_other, rules, slice_set}
+use Rattle.counting.proofs.Common.{both_ways, cases_eq, rising_holds, mem-rising_list, Within, mem, rising_list, Set, none}
+use Rattle.graph_core.proofs.Common.{Graph, IsMultigraph, size, IsEnd, IsMatching, IsPerfect, missed_count, none_missed-perfect, apart_matching}
+use Rattle.match_core.specs.Common.{IsOf, MatchingValue, edges_of}
 use Rattle.match_search.proofs.Alike.{matching_alike}
-use Rattle.match_search.specs.Rows.{marks, numbers}
+use Rattle.match_search.specs.Common.{marks, numbers}
 use Rattle.allowed_edges.specs.Leaving.{IsMatchingOff}
 use Rattle.allowed_edges.specs.PairTables.{NamesEdge}
 

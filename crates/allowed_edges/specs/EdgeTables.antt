@@ -3,7 +3,7 @@
 use Rattle.std.specs.Prelude.{◌≡◌, ℕ, ◌+◌, ◌<◌, Bool, List, map, length}
 use Rattle.std.specs.Global.{Vec}
 use Rattle.counting.specs.Common.{Within, row_of}
-use Rattle.match_search.specs.Rows.{marks}
+use Rattle.match_search.specs.Common.{marks}
 
 -- the rows as lists
 abbrev pub rows_of : List (Vec Bool) → List (List Bool)

@@ -1,10 +1,10 @@
 -- Matchings off a set of vertices, and what a matching leaves when the edges with an end in the
 -- set are taken out of it.
--- Stated by: allowed_edges.
+-- Stated by: allowed_edges, tight_cuts.
 use Rattle.std.specs.Prelude.{◌≡◌, ℕ, ◌⊎◌, Bool, true, List, ◌||◌, ◌==◌}
 use Rattle.counting.specs.Common.{Within, mem, Set}
 use Rattle.graph_core.specs.Common.{Graph, first_end, second_end, IsEnd, IsMatching, IsPerfect, missed_count}
-use Rattle.match_core.specs.MatchingRows.{IsOf, MatchingValue, edges_of, left_over}
+use Rattle.match_core.specs.Common.{IsOf, MatchingValue, edges_of, left_over}
 
 -- m is a matching of g without met, a set of vertices of g
 pub record IsMatchingOff (g : Graph) (met : List ℕ) (m : MatchingValue) : Type 0 where

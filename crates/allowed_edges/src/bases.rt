@@ -2,7 +2,7 @@
 ghost use Rattle.std.specs.Prelude.{◌≡◌, true, IfOk, Some, None};
 ghost use Rattle.counting.specs.Common.{Within, mem, none};
 ghost use Rattle.graph_core.specs.Common.{size, Allowed, IsPerfect};
-ghost use Rattle.match_core.specs.MatchingRows.{IsOf, edges_of};
+ghost use Rattle.match_core.specs.Common.{IsOf, edges_of};
 ghost use Rattle.allowed_edges.specs.PairTables.{IsPerfectWith, SettlesEdges};
 
 use crate::pair_table::PairTable;

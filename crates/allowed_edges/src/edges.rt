@@ -2,7 +2,7 @@
 ghost use Rattle.std.specs.Prelude.{◌≡◌, ◌↔◌, None, IfSome, IfOk};
 ghost use Rattle.counting.specs.Common.{Within, none, Lists};
 ghost use Rattle.graph_core.specs.Common.{size, Allowed, HasPerfect, is_allowed};
-ghost use Rattle.match_core.specs.Partners.{ArePartners};
+ghost use Rattle.match_core.specs.Common.{ArePartners};
 
 use crate::perfect::partners_where_perfect;
 use graph_core::{MultiGraph, Numbers};

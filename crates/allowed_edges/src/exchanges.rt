@@ -3,7 +3,7 @@
 ghost use Rattle.std.specs.Prelude.{◌≡◌, ◌≢◌, true};
 ghost use Rattle.counting.specs.Common.{Within};
 ghost use Rattle.graph_core.specs.Common.{size};
-ghost use Rattle.match_search.specs.Rows.{marks, numbers};
+ghost use Rattle.match_search.specs.Common.{marks, numbers};
 
 use graph_core::MultiGraph;
 use match_core::Matching;

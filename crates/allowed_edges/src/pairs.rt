@@ -2,7 +2,7 @@
 ghost use Rattle.std.specs.Prelude.{◌≡◌, ◌≢◌, ℕ, ◌+◌, ◌<◌, ◌≤◌, ◌++◌, ◌∷◌, [], ◌↔◌, true, false, length, IfOk, All, OnOk};
 ghost use Rattle.counting.specs.Common.{Within, none, mem};
 ghost use Rattle.graph_core.specs.Common.{size, Allowed, IsPerfect, Together, IsLean, IsPairList};
-ghost use Rattle.match_core.specs.MatchingRows.{IsOf, edges_of};
+ghost use Rattle.match_core.specs.Common.{IsOf, edges_of};
 ghost use Rattle.allowed_edges.specs.Leaving.{share_end};
 ghost use Rattle.allowed_edges.specs.PairTables.{IsNew, IsPerfectWith, SettlesEdges, SettlesPairs, Sought, edge_lists, holds_both};
 

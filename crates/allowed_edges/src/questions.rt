@@ -3,7 +3,7 @@
 ghost use Rattle.std.specs.Prelude.{◌≡◌, ◌||◌, ◌==◌, ◌⊎◌, ℕ, true, ◌↔◌, IfOk, Some, None};
 ghost use Rattle.counting.specs.Common.{Within, none, mem};
 ghost use Rattle.graph_core.specs.Common.{size, first_end, second_end, Allowed, HasPerfect, IsPerfect, Together, missed_count};
-ghost use Rattle.match_core.specs.MatchingRows.{IsOf, edges_of};
+ghost use Rattle.match_core.specs.Common.{IsOf, edges_of};
 ghost use Rattle.allowed_edges.specs.Leaving.{IsMatchingOff, LeavesFew, ShareNone};
 
 use crate::short_paths::completed;

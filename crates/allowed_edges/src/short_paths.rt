@@ -4,7 +4,7 @@
 ghost use Rattle.std.specs.Prelude.{◌≡◌, ◌<◌, ◌≤◌, ℕ, false, length, slice_get, IfOk, Some, None};
 ghost use Rattle.counting.specs.Common.{Within, mem};
 ghost use Rattle.graph_core.specs.Common.{size};
-ghost use Rattle.match_core.specs.MatchingRows.{ends_at};
+ghost use Rattle.match_core.specs.Common.{ends_at};
 ghost use Rattle.allowed_edges.specs.Leaving.{IsMatchingOff, IsPerfectOff};
 
 use crate::questions::misses_none;

@@ -1,8 +1,8 @@
 //! Square tables of marks on pairs of edges.
 ghost use Rattle.std.specs.Prelude.{◌≡◌, ◌≢◌, ℕ, ◌+◌, ◌<◌, ◌≤◌, ◌&&◌, ◌||◌, false, length, IfOk, All};
 ghost use Rattle.counting.specs.Common.{mem, row_of};
-ghost use Rattle.match_core.specs.MatchingRows.{edges_of};
-ghost use Rattle.match_search.specs.Rows.{marks};
+ghost use Rattle.match_core.specs.Common.{edges_of};
+ghost use Rattle.match_search.specs.Common.{marks};
 ghost use Rattle.allowed_edges.specs.EdgeTables.{IsSquare};
 
 use graph_core::MOST_EDGES;

@@ -3,8 +3,8 @@
 ghost use Rattle.std.specs.Prelude.{◌≡◌, ℕ, ◌+◌, true, length, IfOk, Some};
 ghost use Rattle.counting.specs.Common.{Within, mem, none};
 ghost use Rattle.graph_core.specs.Common.{size, IsMatching};
-ghost use Rattle.match_core.specs.MatchingRows.{edges_of};
-ghost use Rattle.match_search.specs.Rows.{marks};
+ghost use Rattle.match_core.specs.Common.{edges_of};
+ghost use Rattle.match_search.specs.Common.{marks};
 ghost use Rattle.allowed_edges.specs.PairTables.{IsPerfectWith, NamesEdge};
 
 use crate::exchanges::{Joins, exchanged, is_marked, number_at};

@@ -2,8 +2,7 @@
 ghost use Rattle.std.specs.Prelude.{◌≡◌, ◌↔◌, ℕ, ◌≤◌, None, IfSome, IfNone, IfOk};
 ghost use Rattle.counting.specs.Common.{Within, mem, IsRisingIn, none, IsLeastWithout};
 ghost use Rattle.graph_core.specs.Common.{Attains, IsConnected, components, size, Allowed, HasPerfect, IsMaximum, Joined, IsVerdict};
-ghost use Rattle.match_core.specs.MatchingRows.{edges_of};
-ghost use Rattle.match_core.specs.Partners.{ArePartners};
+ghost use Rattle.match_core.specs.Common.{edges_of, ArePartners};
 
 use crate::edges::is_allowed_in;
 use crate::perfect::partners_where_perfect;

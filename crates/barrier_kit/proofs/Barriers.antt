@@ -2,11 +2,8 @@
 -- components as it has vertices. Parity decides the rest: two vertices of a barrier have no
 -- perfect matching without them, and two such vertices lie in a barrier.
 use Rattle.std.proofs.Common.{◌≡◌, ℕ, suc, zero, ◌+◌, ◌*◌, ◌≤◌, ◌≢◌, Bool, true, false, cond, ◌==◌, refl, sym, ap, ap₂, ◌∙◌, arith, ◌&&◌, ◌||◌, not, eq-eqb, ne_eqb, eqb-true}
-use Rattle.counting.proofs.Common.{true≢false, count_complement, count_congr, odd-add, odd-double, odd_total, total_add, total_at, total_congr, total_mul, total_none, total_swap}
-use mathlib.Core.Path.{fun_ext}
-use Rattle.counting.specs.Common.{Within, bit, count, is_odd, total, pair_set, Set, complement, minus, none, union}
-use Rattle.graph_core.proofs.Common.{joined_outside, one_leader, some_leader, missed_edges, none_missed-perfect, perfect_matching, perfect_misses, berge_bound}
-use Rattle.graph_core.specs.Common.{is_least, odd_component_count, Graph, IsGraph, size, IsPerfect, missed_count, IsBarrier, joined}
+use Rattle.counting.proofs.Common.{true≢false, count_complement, count_congr, odd-add, odd-double, odd_total, total_add, total_at, total_congr, total_mul, total_none, total_swap, fun_ext, Within, bit, count, is_odd, total, pair_set, Set, complement, minus, none, union}
+use Rattle.graph_core.proofs.Common.{joined_outside, one_leader, some_leader, missed_edges, none_missed-perfect, perfect_matching, perfect_misses, berge_bound, is_least, odd_component_count, Graph, IsGraph, size, IsPerfect, missed_count, IsBarrier, joined}
 use Rattle.match_core.proofs.TutteBerge.{TutteBerge, tutte_berge}
 
 -- the vertices outside s, component by component

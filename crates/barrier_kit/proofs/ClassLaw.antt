@@ -1,15 +1,13 @@
 -- The classes of a covered graph are its greatest barriers, and being equivalent is an equivalence.
 -- A barrier grows by each equivalent vertex outside it, until it is the whole class.
 use Rattle.std.proofs.Common.{◌≡◌, ℕ, suc, zero, ◌+◌, ◌≤◌, Bool, true, false, ◌==◌, refl, sym, ap, ◌∙◌, arith, ◌&&◌, ◌||◌, not, eq-eqb, eqb-true, ◌⊎◌, inl, inr}
-use Rattle.counting.proofs.Common.{cases_eq, cases_Bool, true≢false, both_ways, count_singleton, scan, choose_set, count_le, count_more, or_comm, same_tests}
+use Rattle.counting.proofs.Common.{cases_eq, cases_Bool, true≢false, both_ways, count_singleton, scan, choose_set, count_le, count_more, or_comm, same_tests, Within, count, is_odd, Set, minus, singleton, union}
 use Rattle.barrier_kit.proofs.BarrierCuts.{leader_of, leads_out, odd_part, part_out}
 use Rattle.barrier_kit.proofs.Barriers.{barrier_pair, few_odd_components}
 use Rattle.barrier_kit.proofs.Enlarging.{barrier_congr, enlarge, same_parity}
 use Rattle.barrier_kit.proofs.Joining.{join}
 use Rattle.barrier_kit.proofs.Matched.{even_order, glue, perfect_congr}
-use Rattle.counting.specs.Common.{Within, count, is_odd, Set, minus, singleton, union}
-use Rattle.graph_core.proofs.Common.{covered_perfect, is_perfect_congr, is_perfect_true, true_is_perfect}
-use Rattle.graph_core.specs.Common.{odd_component_count, IsCovered, Graph, IsGraph, size, IsPerfect, is_perfect, Equivalent, IsBarrier, IsClass, joined}
+use Rattle.graph_core.proofs.Common.{covered_perfect, is_perfect_congr, is_perfect_true, true_is_perfect, odd_component_count, IsCovered, Graph, IsGraph, size, IsPerfect, is_perfect, Equivalent, IsBarrier, IsClass, joined}
 
 pub perfect_or_not : (g : Graph) (r : Set) → ((m : Set) × IsPerfect g r m) ⊎ ((m : Set) → IsPerfect g r m → ⊥)
 perfect_or_not g r = elim (choose_set (size g) (is_perfect g r) (record { same = is_perfect_congr g r })) [

@@ -2,15 +2,13 @@
 -- bicritical one has none. Without a barrier of two vertices some component has three: else each
 -- edge would have one end in the barrier.
 use Rattle.std.proofs.Common.{◌≡◌, ℕ, suc, zero, ◌≤◌, ◌≢◌, Bool, true, false, ◌==◌, refl, sym, ap, ◌∙◌, arith, not, eq-eqb, ne_eqb, ◌⊎◌, ◌↔◌, inl, inr}
-use Rattle.counting.proofs.Common.{cases_eq, cases_lt, cases_Bool, true≢false, false_from_ne_true, both_ways, only_one, member_count, two_members, two_of, odd_three, count_singleton, count_mono, scan}
+use Rattle.counting.proofs.Common.{cases_eq, cases_lt, cases_Bool, true≢false, false_from_ne_true, both_ways, only_one, member_count, two_members, two_of, odd_three, count_singleton, count_mono, scan, count, Within, is_odd, Set, pair_set, complement, singleton}
 use Rattle.barrier_kit.proofs.BarrierCuts.{leader_of, leads_out, part_out, part_step, part_same, none_inside, part_tight, many_parts}
 use Rattle.barrier_kit.proofs.Barriers.{equivalent_barrier}
 use Rattle.barrier_kit.proofs.ClassLaw.{perfect_or_not, class_exists, class_barrier}
 use Rattle.barrier_kit.proofs.Matched.{even_order}
-use Rattle.barrier_kit.specs.BarrierCuts.{BarrierCut}
-use Rattle.graph_core.specs.Common.{IsSide, is_least, IsCovered, Graph, size, first_end, second_end, IsGraph, HasNoLoop, in_cut, inside, IsBipartite, IsPerfect, IsBarrier, IsBicritical, IsClass, IsTight, IsNontrivial, joined}
-use Rattle.counting.specs.Common.{count, Within, is_odd, Set, pair_set, complement, singleton}
-use Rattle.graph_core.proofs.Common.{walk_joined, covered_perfect, joined_self}
+use Rattle.barrier_kit.specs.Common.{BarrierCut}
+use Rattle.graph_core.proofs.Common.{IsSide, is_least, IsCovered, Graph, size, first_end, second_end, IsGraph, HasNoLoop, in_cut, inside, IsBipartite, IsPerfect, IsBarrier, IsBicritical, IsClass, IsTight, IsNontrivial, joined, walk_joined, covered_perfect, joined_self}
 
 -- a component of a covered graph without a barrier has a nontrivial cut exactly when the barrier
 -- has two vertices and the component more than one

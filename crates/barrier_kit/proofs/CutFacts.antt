@@ -1,13 +1,10 @@
 -- What holds of the cuts that shores give: each is a canonical nontrivial shore, tight where the
 -- shores are, and there is none exactly when each shore is trivial. Inductions over the shores; a
 -- step appends at most one canonical shore.
-use Rattle.std.proofs.Common.{◌≡◌, ℕ, ◌≤◌, Bool, true, false, refl, sym, ap, ◌∙◌, arith, ◌&&◌, not, cond, List, [], ◌∷◌, ◌++◌, fold, length, nat_le, leb-true, inl, inr}
-use Rattle.std.specs.Prelude.{All}
-use Rattle.counting.proofs.Common.{and_from, and_parts, cases_Bool, le-leb, length-append, All-cons, All-head, All-nil, All-tail, count_congr, mem-rising_list, rising_list-rises, total_congr, apart_denied, not_not}
+use Rattle.std.proofs.Common.{◌≡◌, ℕ, ◌≤◌, Bool, true, false, refl, sym, ap, ◌∙◌, arith, ◌&&◌, not, cond, List, [], ◌∷◌, ◌++◌, fold, length, nat_le, leb-true, inl, inr, All}
+use Rattle.counting.proofs.Common.{and_from, and_parts, cases_Bool, le-leb, length-append, All-cons, All-head, All-nil, All-tail, count_congr, mem-rising_list, rising_list-rises, total_congr, apart_denied, not_not, Within, bit, count, is_odd, mem, rising_list, Set, complement}
 use Rattle.std.proofs.lemmas.List.Elements.{All-append}
-use Rattle.counting.specs.Common.{Within, bit, count, is_odd, mem, rising_list, Set, complement}
-use Rattle.graph_core.proofs.Common.{nontrivial-same, tight-same}
-use Rattle.graph_core.specs.Common.{Graph, IsGraph, first_end, second_end, size, IsNontrivial, IsTight, canonical_shore, is_nontrivial, IsCanonicalCut, canonical_list, cuts_of, is_listed, with_cut}
+use Rattle.graph_core.proofs.Common.{nontrivial-same, tight-same, Graph, IsGraph, first_end, second_end, size, IsNontrivial, IsTight, canonical_shore, is_nontrivial, IsCanonicalCut, canonical_list, cuts_of, is_listed, with_cut}
 
 -- a step keeps what is in the list
 step-length : (n : ℕ) (cuts : List (List ℕ)) (s : List ℕ) → length cuts ≤ length (with_cut n cuts s)

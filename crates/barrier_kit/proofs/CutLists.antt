@@ -1,12 +1,10 @@
 -- The cuts of all classes as a list, and the number of odd components off the list of all.
 -- Each is an induction over the list of what gives them.
-use Rattle.std.proofs.Common.{◌≡◌, ℕ, suc, zero, ◌+◌, ◌-◌, ◌≤◌, Bool, true, false, refl, sym, ap, ap₂, ◌∙◌, arith, ◌&&◌, not, cond, List, [], ◌∷◌, ◌++◌, map, length, nat_le, subst, fold, flat_map, take}
-use Rattle.counting.proofs.Common.{and_parts, and_from, and_right, map-append, take_all, count_complement, count_congr, count_mem_length, length-rising_list, list-from_test, mem-rising_list, rising_list-rises, set-narrower}
+use Rattle.std.proofs.Common.{◌≡◌, ℕ, suc, zero, ◌+◌, ◌-◌, ◌≤◌, Bool, true, false, refl, sym, ap, ap₂, ◌∙◌, arith, ◌&&◌, not, cond, List, [], ◌∷◌, ◌++◌, map, length, nat_le, subst, fold, flat_map, take, count_by}
+use Rattle.counting.proofs.Common.{and_parts, and_from, and_right, map-append, take_all, count_complement, count_congr, count_mem_length, length-rising_list, list-from_test, mem-rising_list, rising_list-rises, set-narrower, Within, bit, count, is_odd, IsRisingIn, mem, rising_list, Set, complement}
 use Rattle.std.proofs.lemmas.List.Sums.{sum_by-append}
-use Rattle.std.specs.Prelude.{count_by}
-use Rattle.counting.specs.Common.{Within, bit, count, is_odd, IsRisingIn, mem, rising_list, Set, complement}
-use Rattle.graph_core.specs.Common.{components, is_least, odd_component_count, Graph, classes, canonical_shore, is_nontrivial, joined, canonical_list, is_listed, with_cut}
-use Rattle.barrier_kit.specs.BarrierShores.{barrier_cuts, barrier_shores}
+use Rattle.graph_core.proofs.Common.{components, is_least, odd_component_count, Graph, classes, canonical_shore, is_nontrivial, joined, canonical_list, is_listed, with_cut}
+use Rattle.barrier_kit.specs.Common.{barrier_cuts, barrier_shores}
 
 -- the odd components by their lists
 count_by-least : (g : Graph) (s : Set) (n : ℕ) → count_by (λ p. is_odd (length p)) (map (λ u. rising_list g.order (joined g s u)) (rising_list n (is_least g s))) ≡ count n (λ u. is_least g s u && is_odd (count g.order (joined g s u)))

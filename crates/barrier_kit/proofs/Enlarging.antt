@@ -2,13 +2,11 @@
 -- matching. By the law of Tutte and Berge the component has a set that shows this; together with
 -- the barrier and the vertex it is a barrier.
 use Rattle.std.proofs.Common.{◌≡◌, ℕ, suc, zero, ◌+◌, ◌≤◌, Bool, true, false, cond, ◌==◌, refl, sym, ap, ap₂, ◌∙◌, arith, ◌&&◌, ◌||◌, not, eq-eqb, ne_eqb, eqb-true, inl, inr, nat_lt, List, [], ◌∷◌}
-use Rattle.counting.proofs.Common.{same_tests, cases_eq, true≢false, false_from_ne_true, both_ways, count_singleton, some_congr, count_complement, count_congr, odd-add, total_add, total_congr}
+use Rattle.counting.proofs.Common.{same_tests, cases_eq, true≢false, false_from_ne_true, both_ways, count_singleton, some_congr, count_complement, count_congr, odd-add, total_add, total_congr, Within, bit, count, is_odd, Set, complement, minus, none, singleton, union}
 use Rattle.barrier_kit.proofs.BarrierCuts.{leader_same, leads_out}
 use Rattle.barrier_kit.proofs.Barriers.{few_odd_components, odd_component_count-parity}
-use Rattle.graph_core.proofs.Common.{none_missed-perfect, joined_outside, joined_walk, walk_joined, adjacent-edge, adjacent_back, adjacent_from, adjacent_within, joined_on, joined_self}
+use Rattle.graph_core.proofs.Common.{none_missed-perfect, joined_outside, joined_walk, walk_joined, adjacent-edge, adjacent_back, adjacent_from, adjacent_within, joined_on, joined_self, is_least, odd_component_count, Graph, IsGraph, IsPerfect, missed_count, IsBarrier, Joined, Walk, adjacent, joined}
 use Rattle.barrier_kit.proofs.Matched.{even_order}
-use Rattle.counting.specs.Common.{Within, bit, count, is_odd, Set, complement, minus, none, singleton, union}
-use Rattle.graph_core.specs.Common.{is_least, odd_component_count, Graph, IsGraph, IsPerfect, missed_count, IsBarrier, Joined, Walk, adjacent, joined}
 use Rattle.match_core.proofs.TutteBerge.{TutteBerge, tutte_berge}
 
 walk_into : (g : Graph) (s t q : Set) → IsGraph g → ((v : ℕ) → Within g.order v → q v ≡ true → s v ≡ t v) → ((u v : ℕ) → q u ≡ true → adjacent g s u v ≡ true → q v ≡ true) →

@@ -1,14 +1,12 @@
 -- The first cut of a list stays the first while shores add more. A step leaves the list or
 -- appends to it; so the first cut of the first classes is the first of all.
-use Rattle.std.proofs.Common.{◌≡◌, ℕ, Bool, true, false, cond, sym, ap, ◌∙◌, List, [], ◌∷◌, ◌++◌, Some, None, flat_map, fold, take, drop, slice_get, length, ◌≤◌, ◌<◌, ◌+◌, get_or, append-nil}
+use Rattle.std.proofs.Common.{◌≡◌, ℕ, Bool, true, false, cond, sym, ap, ◌∙◌, List, [], ◌∷◌, ◌++◌, Some, None, flat_map, fold, take, drop, slice_get, length, ◌≤◌, ◌<◌, ◌+◌, get_or, append-nil, take-append-drop}
 use Rattle.std.proofs.lemmas.Grind.{flat_map-append}
-use Rattle.std.proofs.lemmas.List.{take-append-drop}
-use Rattle.counting.proofs.Common.{take_more}
+use Rattle.counting.proofs.Common.{take_more, mem}
 use Rattle.std.proofs.lemmas.List.Sums.{fold-append}
-use Rattle.counting.specs.Common.{mem}
-use Rattle.graph_core.specs.Common.{components, Graph, classes, canonical_list, with_cut}
+use Rattle.graph_core.proofs.Common.{components, Graph, classes, canonical_list, with_cut}
 use Rattle.barrier_kit.proofs.CutLists.{barrier_cuts-all}
-use Rattle.barrier_kit.specs.BarrierShores.{barrier_cuts, barrier_shores}
+use Rattle.barrier_kit.specs.Common.{barrier_cuts, barrier_shores}
 
 first-append : (cuts : List (List ℕ)) (d c : List ℕ) → slice_get cuts 0 ≡ Some c → slice_get (cuts ++ d ∷ []) 0 ≡ Some c
 first-append [] d c h = absurd cc

@@ -2,15 +2,13 @@
 -- matching. Hall's theorem gives each other vertex of the barrier a component of its own, and the
 -- matchings of the components are joined.
 use Rattle.std.proofs.Common.{◌≡◌, ℕ, ◌+◌, ◌*◌, ◌≤◌, ◌≢◌, Bool, true, false, ◌==◌, refl, sym, ap, ◌∙◌, arith, ◌&&◌, ◌||◌, not, eq-eqb, ne_eqb, eqb-true, ◌⊎◌, inl, inr}
-use Rattle.counting.proofs.Common.{cases_eq, cases_Bool, true≢false, false_from_ne_true, both_ways, and_parts, and_from, or_cases, count_member, count_minus, count_zero, count_singleton, some_true, true_some, at_le_total, total_add, total_congr, total_le, total_none, and_fails_second, same_tests}
+use Rattle.counting.proofs.Common.{cases_eq, cases_Bool, true≢false, false_from_ne_true, both_ways, and_parts, and_from, or_cases, count_member, count_minus, count_zero, count_singleton, some_true, true_some, at_le_total, total_add, total_congr, total_le, total_none, and_fails_second, same_tests, Within, bit, count, Set, complement, meet, minus, none, singleton, union, some}
 use Rattle.barrier_kit.proofs.BarrierCuts.{cover_in, covers, covers_out, cut_family, leader_of, leader_same, leads_out, many_parts, none_inside, one_cut, part_out, sat_inside}
 use Rattle.barrier_kit.proofs.Families.{glue_family}
 use Rattle.barrier_kit.proofs.Hall.{hall, hits}
 use Rattle.barrier_kit.proofs.Matched.{cut_matching, inner, loop_free, perfect_congr, restrict}
-use Rattle.barrier_kit.specs.Choices.{Picks, neighbours}
-use Rattle.counting.specs.Common.{Within, bit, count, Set, complement, meet, minus, none, singleton, union, some}
-use Rattle.graph_core.proofs.Common.{joined_outside, parity, two_cuts}
-use Rattle.graph_core.specs.Common.{is_least, IsCovered, Graph, IsGraph, connects, edges_in_cut, first_end, in_cut, inside, second_end, size, IsPerfect, IsBarrier, joined}
+use Rattle.barrier_kit.specs.Common.{Picks, neighbours}
+use Rattle.graph_core.proofs.Common.{joined_outside, parity, two_cuts, is_least, IsCovered, Graph, IsGraph, connects, edges_in_cut, first_end, in_cut, inside, second_end, size, IsPerfect, IsBarrier, joined}
 
 -- some edge joins z to the component of u
 abbrev pub touches : Graph → Set → ℕ → ℕ → Bool

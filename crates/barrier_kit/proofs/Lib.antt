@@ -13,3 +13,4 @@ pub mod CutFacts
 pub mod AllOf
 pub mod ShoreFacts
 pub mod FirstCuts
+pub mod Common

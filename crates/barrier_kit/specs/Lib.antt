@@ -1,3 +1,4 @@
 pub mod Choices
 pub mod BarrierCuts
 pub mod BarrierShores
+pub mod Common

@@ -2,8 +2,7 @@
 ghost use Rattle.std.specs.Prelude.{◌≡◌, ◌≢◌, ℕ, true, false, ◌⊎◌, ◌↔◌, ◌≤◌, All, []};
 ghost use Rattle.counting.specs.Common.{Within, count, is_odd, mem, Set};
 ghost use Rattle.graph_core.specs.Common.{Graph, IsBipartite, IsGraph, IsMultigraph, size, first_end, second_end, inside, joined, component_count, IsCovered, IsTight, Equivalent, IsBarrier, IsBicritical, IsClass, IsCanonicalCut};
-ghost use Rattle.barrier_kit.specs.BarrierCuts.{WideClass};
-ghost use Rattle.barrier_kit.specs.BarrierShores.{barrier_cuts, barrier_shores};
+ghost use Rattle.barrier_kit.specs.Common.{WideClass, barrier_cuts, barrier_shores};
 
 /// The relation "equal, or without the two there is no perfect matching" is an equivalence in a
 /// covered graph, and it is decided (Kotzig; Lovász and Plummer, "Matching Theory", chapter 5).

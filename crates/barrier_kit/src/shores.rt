@@ -2,7 +2,7 @@
 ghost use Rattle.std.specs.Prelude.{◌≡◌, fold, slice_get, IfOk, OnOk};
 ghost use Rattle.counting.specs.Common.{mem};
 ghost use Rattle.graph_core.specs.Common.{with_cut, components, IsCovered};
-ghost use Rattle.barrier_kit.specs.BarrierShores.{barrier_cuts};
+ghost use Rattle.barrier_kit.specs.Common.{barrier_cuts};
 
 use crate::canonical_partition::classes_of;
 use graph_core::{MultiGraph, SetList, add_cuts};

@@ -1,23 +1,18 @@
 -- A derivation of a graph within the limits may be written, since no shore is empty and there are
 -- few nodes; and the report with its leaves after it stands for the tree.
 use Rattle.std.proofs.Common.{◌≡◌, ℕ, List, ◌∷◌, map, ap, subst, true, refl, ◌∙◌, arith}
-use Rattle.graph_core.specs.Common.{Graph, singles, IsWithinLimits}
+use Rattle.graph_core.proofs.Common.{Graph, singles, IsWithinLimits}
 use Rattle.contraction.specs.Partition.{PartitionValue}
-use Rattle.tree_core.specs.Common.{IsDerivation, kept_at, merged_at, StandsAt, leaves, partitions_of, Shape, leaf, cut, AreLeafKinds}
-use Rattle.tree_core.proofs.DerivationLeaves.{partitions-leaves}
-use Rattle.tree_core.proofs.Sizes.{leaf_count-cuts, node_count-cuts, length-leaves_at}
+use Rattle.tree_core.proofs.Common.{IsDerivation, kept_at, merged_at, StandsAt, leaves, partitions_of, Shape, leaf, cut, AreLeafKinds, partitions-leaves, leaf_count-cuts, node_count-cuts, length-leaves_at, blocks-of_leaves, few-nodes}
 use Rattle.line_text.specs.Common.{Stands, is_closed, unwords}
 use Rattle.line_text.proofs.ReadBack.{is_closed-unlines}
-use Rattle.tree_text.specs.TreeFormat.{tree_format}
-use Rattle.tree_text.specs.Writing.{HasVertices, header_words, node_words, tree_text}
-use Rattle.graph_text.specs.EitherVersion.{NamedGraph}
-use Rattle.report_text.specs.Comments.{HasFewLeaves, IsCommented}
-use Rattle.report_text.specs.Derivations.{derivation_text}
+use Rattle.tree_text.specs.Common.{tree_format, HasVertices, header_words, node_words, tree_text}
+use Rattle.graph_text.specs.Common.{NamedGraph}
+use Rattle.report_text.specs.Common.{HasFewLeaves, IsCommented, derivation_text}
 use Rattle.tree_core.specs.declared.tallies.LeafKind.{LeafKind}
 use Rattle.report_text.proofs.Comments.{commented-more, stands-commented}
 use Rattle.report_text.proofs.CommentLines.{derivation-commented}
-use Rattle.tree_core.proofs.FewLeaves.{blocks-of_leaves, few-nodes}
-use Rattle.bench_outcomes.specs.Outcome.{TellsDerivation, with_given_names}
+use Rattle.bench_outcomes.specs.Common.{TellsDerivation, with_given_names}
 use Rattle.bench_outcomes.specs.declared.status.Status.TheVariants.{Done}
 
 -- a shore that stands is not empty

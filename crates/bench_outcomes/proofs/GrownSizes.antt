@@ -1,15 +1,12 @@
 -- A graph that grows of at most sixteen pieces has at most 64 vertices: the numbers of vertices
 -- are those of the pieces, each less two, wherever these are spliced. And it has few edges, as
 -- each graph on the way.
-use Rattle.std.proofs.Common.{◌≡◌, ℕ, zero, suc, ◌+◌, ◌-◌, ◌≤◌, nat_le, true, refl, sym, subst, arith}
-use Rattle.std.proofs.lemmas.Bool.{leb-true}
+use Rattle.std.proofs.Common.{◌≡◌, ℕ, zero, suc, ◌+◌, ◌-◌, ◌≤◌, nat_le, true, refl, sym, subst, arith, leb-true}
 use Rattle.counting.proofs.Common.{every_true}
-use Rattle.graph_core.specs.Common.{IsMultigraph, size}
+use Rattle.graph_core.proofs.Common.{IsMultigraph, size}
 use Rattle.rand_pcg.specs.Lcg.{Lcg, started, increment_of}
 use Rattle.rand_pcg.specs.Pcg.{multiplier_64, pcg32}
-use Rattle.grow_gen.specs.Growth.{Growth, first_growth, growth_from, grown, with_piece}
-use Rattle.grow_gen.specs.Pieces.{further_piece, piece_order}
-use Rattle.grow_gen.specs.Splices.{splice}
+use Rattle.grow_gen.specs.Common.{Growth, first_growth, growth_from, grown, with_piece, further_piece, piece_order, splice}
 use Rattle.grow_gen.proofs.SoundGrowth.{IsSound, sound-first, sound-next}
 
 -- a number of vertices with so many pieces from piece i on

@@ -2,20 +2,14 @@
 -- if not, which it then may be. A refused tree is not a derivation, a refused list not an ear list,
 -- and moves that fail lead through no derivations to a last tree.
 use Rattle.std.proofs.Common.{◌≡◌, ◌∙◌, ℕ, List, [], ◌∷◌, ◌⊎◌, inl, inr, sym, subst}
-use Rattle.counting.proofs.Common.{none-some, same_Some}
-use Rattle.graph_core.specs.Common.{Graph, IsGraph, IsMultigraph, IsCovered}
-use Rattle.counting.specs.Common.{singleton}
-use Rattle.tree_core.specs.Common.{IsDerivation, PlainMove, TurnsThrough, Shape}
-use Rattle.tree_check.specs.Refusals.{Why, IsRefused}
-use Rattle.tree_check.specs.Replays.{IsStuckAt, IsRefusedMoveAt}
+use Rattle.counting.proofs.Common.{none-some, same_Some, singleton}
+use Rattle.graph_core.proofs.Common.{Graph, IsGraph, IsMultigraph, IsCovered}
+use Rattle.tree_core.proofs.Common.{IsDerivation, PlainMove, TurnsThrough, Shape}
+use Rattle.tree_check.specs.Common.{Why, IsRefused, IsStuckAt, IsRefusedMoveAt}
 use Rattle.tree_check.proofs.FirstRefusals.{refused-not_derived}
 use Rattle.ear_core.proofs.Refusing.{refusal-none}
-use Rattle.graph_text.specs.EitherVersion.{NamedGraph}
-use Rattle.bench_outcomes.specs.Checks.{Refuses}
-use Rattle.bench_outcomes.specs.Comparisons.{RefusesPair}
-use Rattle.bench_outcomes.specs.Outcome.{DecomposeGives, ResultOf}
-use Rattle.bench_outcomes.specs.Refusing.{TaskMayRefuse}
-use Rattle.bench_outcomes.specs.Success.{Succeeds}
+use Rattle.graph_text.specs.Common.{NamedGraph}
+use Rattle.bench_outcomes.specs.Common.{Refuses, RefusesPair, DecomposeGives, ResultOf, TaskMayRefuse, Succeeds}
 use Rattle.bench_tasks.specs.Common.{Task}
 use Rattle.bench_tasks.specs.Tasks as task
 use Rattle.bench_tasks.specs.declared.verbs.GraphVerb.TheVariants.{Analyse, Convert, Decompose, Ears}
@@ -26,7 +20,7 @@ use Rattle.bench_tasks.specs.declared.verbs.EarsVerb.TheVariants.{CheckEars}
 use Rattle.bench_tasks.specs.declared.verbs.MovesVerb.TheVariants.{Replay}
 use Rattle.bench_tasks.specs.declared.verbs.TreesVerb.TheVariants.{Compare, Script}
 use Rattle.bench_tasks.specs.declared.verbs.NumbersVerb.TheVariants.{Grow}
-use Rattle.tight_cuts.specs.Candidates.{Candidate}
+use Rattle.tight_cuts.specs.Common.{Candidate}
 use Rattle.bench_outcomes.specs.declared.status.Status.{Status}
 use Rattle.bench_outcomes.specs.declared.status.Status.TheVariants.{Done, Negative}
 

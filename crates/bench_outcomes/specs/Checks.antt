@@ -6,8 +6,8 @@ use Rattle.std.specs.declared.option.Option.{Option}
 use Rattle.std.specs.declared.option.Option.TheVariants.{Some, None}
 use Rattle.graph_core.specs.Common.{Graph}
 use Rattle.tree_core.specs.Common.{IsDerivation, leaves, Shape, IsTally}
-use Rattle.tree_check.specs.Refusals.{Why, not_blocks, even, trivial, not_tight, not_leaf, why_number, IsRefused}
-use Rattle.report_text.specs.Judgements.{judgement_text}
+use Rattle.tree_check.specs.Common.{Why, not_blocks, even, trivial, not_tight, not_leaf, why_number, IsRefused}
+use Rattle.report_text.specs.Common.{judgement_text}
 use Rattle.report_text.specs.declared.judgements.Shown.{Shown}
 use Rattle.report_text.specs.declared.judgements.Shown.TheVariants.{Nothing, Matching, Cut}
 use Rattle.report_text.specs.declared.judgements.TreeLine.TheVariants as line

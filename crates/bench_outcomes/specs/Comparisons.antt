@@ -9,11 +9,9 @@ use Rattle.std.specs.declared.option.Option.TheVariants.{Some, None}
 use Rattle.graph_core.specs.Common.{Graph, names_of}
 use Rattle.line_text.specs.Common.{Stands}
 use Rattle.tree_core.specs.Common.{IsDerivation, PlainLeafMap, script_maps, leaves, PlainMove, TurnsThrough, Shape, cut_count, leaf_count}
-use Rattle.move_text.specs.MoveFormat.{move_format}
-use Rattle.move_text.specs.Writing.{moves_text}
-use Rattle.move_laws.specs.Pairings.{IsPairing}
-use Rattle.report_text.specs.Comparisons.{pairing_text}
-use Rattle.report_text.specs.Scripts.{script_report_text}
+use Rattle.move_text.specs.Common.{move_format, moves_text}
+use Rattle.move_laws.specs.Common.{IsPairing}
+use Rattle.report_text.specs.Common.{pairing_text, script_report_text}
 use Rattle.report_text.specs.declared.comparisons.MapLine.{MapLine}
 use Rattle.bench_outcomes.specs.Checks.{RefusedTree}
 use Rattle.bench_outcomes.specs.Uncovered.{Uncovered}

@@ -5,7 +5,7 @@
 use Rattle.std.specs.Prelude.{ℕ, List}
 use Rattle.graph_core.specs.Common.{IsCovered, Graph}
 use Rattle.tree_core.specs.Common.{IsDerivation, PlainMove, TurnsThrough, Shape}
-use Rattle.ear_core.specs.EarLists.{IsEarList}
+use Rattle.ear_core.specs.Common.{IsEarList}
 use Rattle.bench_outcomes.specs.Shown.{MayBeBerge, MayShowOfTree, MayShowOfMoves, MayShowOfTwo}
 use Rattle.bench_tasks.specs.Common.{Task}
 use Rattle.bench_tasks.specs.Tasks as task

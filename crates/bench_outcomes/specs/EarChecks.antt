@@ -4,12 +4,9 @@
 use Rattle.std.specs.Prelude.{◌≡◌, ◌⊎◌, ℕ, List, length, count_by, not, Bool, true, false, Option, Some, None}
 use Rattle.std.specs.List.{AllByRecursion}
 use Rattle.graph_core.specs.Common.{IsCovered, Graph, size, IsBipartite}
-use Rattle.ear_core.specs.EarLists.{PlainEars, PlainStep, one, two, IsEarList, IsSingle, IsUnrefinable, TakesSingles}
-use Rattle.ear_core.specs.EarTests.{PlainWhy, not_path, even_length, bad_ends, inner_on_stage, edge_used, stage_not_covered, ends_early}
-use Rattle.ear_core.specs.Refusals.{IsRefused}
+use Rattle.ear_core.specs.Common.{PlainEars, PlainStep, one, two, IsEarList, IsSingle, IsUnrefinable, TakesSingles, PlainWhy, not_path, even_length, bad_ends, inner_on_stage, edge_used, stage_not_covered, ends_early, IsRefused}
 use Rattle.ear_text.specs.Writing.{ears_text}
-use Rattle.report_text.specs.EarReports.{ears_report_text}
-use Rattle.report_text.specs.Judgements.{ear_judgement_text}
+use Rattle.report_text.specs.Common.{ears_report_text, ear_judgement_text}
 use Rattle.report_text.specs.declared.ear_judgements.EarLine.TheVariants as line
 use Rattle.bench_outcomes.specs.Uncovered.{Uncovered}
 use Rattle.bench_outcomes.specs.declared.status.Status.{Status}

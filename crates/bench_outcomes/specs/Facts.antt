@@ -8,7 +8,7 @@ use Rattle.counting.specs.Common.{count, Set, none, Lists}
 use Rattle.graph_core.specs.Common.{Graph, size, IsBipartite, component_count, Allowed, IsMaximum, missed_count, InD, InA, InC, classes, cut_pair, equivalent_pair, IsVerdict, pair_of}
 use Rattle.graph_core.specs.declared.verdict.Verdict.{Verdict}
 use Rattle.graph_core.specs.declared.verdict.Verdict.TheVariants.{Covered, NotCovered}
-use Rattle.tight_cuts.specs.Candidates.{candidates, first_shore}
+use Rattle.tight_cuts.specs.Common.{candidates, first_shore}
 use Rattle.leaf_kinds.specs.LeafKinds.{IsKind, cut_of}
 use Rattle.report_text.specs.declared.analyses.AnalysisLines.{AnalysisLines}
 use Rattle.report_text.specs.declared.structures.Structure.{Structure}

@@ -3,15 +3,14 @@
 -- Stated by: bench_reports. Rests on it: bench_outcomes, bench_top, theorems.
 use Rattle.std.specs.Prelude.{◌≡◌, ℕ, List, length}
 use Rattle.graph_core.specs.Common.{Graph}
-use Rattle.graph_text.specs.Writing.{graph_text}
-use Rattle.grow_gen.specs.Growth.{grown}
-use Rattle.tight_cuts.specs.Candidates.{Candidate}
-use Rattle.decomposer.specs.Picked.{IsPicked}
+use Rattle.graph_text.specs.Common.{graph_text}
+use Rattle.grow_gen.specs.Common.{grown}
+use Rattle.tight_cuts.specs.Common.{Candidate}
+use Rattle.decomposer.specs.Common.{IsPicked, NamedPicks}
 use Rattle.tree_core.specs.Common.{IsDerivation, PlainLeafMap, leaves, Shape, IsTally}
-use Rattle.move_laws.specs.Pairings.{IsPairing}
-use Rattle.report_text.specs.Growths.{grown_text}
+use Rattle.move_laws.specs.Common.{IsPairing}
+use Rattle.report_text.specs.Common.{grown_text}
 use Rattle.tree_core.specs.declared.tallies.Tally.{Tally}
-use Rattle.decomposer.specs.Orders.{NamedPicks}
 use Rattle.decomposer.specs.declared.orders.NamedOrder.TheVariants.{First, Last}
 use Rattle.bench_outcomes.specs.declared.status.Status.{Status}
 use Rattle.bench_outcomes.specs.declared.status.Status.TheVariants.{Done}

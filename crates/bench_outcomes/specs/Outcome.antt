@@ -4,23 +4,16 @@
 use Rattle.std.specs.Prelude.{◌≡◌, ℕ, ◌<◌, ◌⊎◌, List, length, take, Bool, true, false}
 use Rattle.std.specs.declared.option.Option.{Option}
 use Rattle.std.specs.declared.option.Option.TheVariants.{Some, None}
-use Rattle.outside.specs.Shelf.{NamedFile}
-use Rattle.outside.specs.Sink.{appended}
+use Rattle.outside.specs.Common.{NamedFile, appended}
 use Rattle.graph_core.specs.Common.{Graph}
 use Rattle.line_text.specs.Common.{Stands}
-use Rattle.graph_text.specs.EitherVersion.{NamedGraph, either_version}
-use Rattle.graph_text.specs.Names.{plain_names}
-use Rattle.graph_text.specs.Writing.{named_text}
-use Rattle.graph6_text.specs.Writing.{graph6_of}
-use Rattle.tight_cuts.specs.Candidates.{Candidate}
+use Rattle.graph_text.specs.Common.{NamedGraph, either_version, plain_names, named_text}
+use Rattle.graph6_text.specs.Common.{graph6_of}
+use Rattle.tight_cuts.specs.Common.{Candidate}
 use Rattle.tree_core.specs.Common.{IsDerivation, leaves, Shape, AreLeafKinds}
-use Rattle.tree_text.specs.TreeFormat.{tree_format}
-use Rattle.tree_text.specs.Writing.{tree_text}
-use Rattle.decomposer.specs.Orders.{NamedPicks, ScriptPicks}
-use Rattle.decomposer.specs.Picked.{IsPicked}
-use Rattle.report_text.specs.Analyses.{analysis_text}
-use Rattle.report_text.specs.Derivations.{derivation_text}
-use Rattle.report_text.specs.Reports.{bad_input_text, with_names_text, graph6_line}
+use Rattle.tree_text.specs.Common.{tree_format, tree_text}
+use Rattle.decomposer.specs.Common.{NamedPicks, ScriptPicks, IsPicked}
+use Rattle.report_text.specs.Common.{analysis_text, derivation_text, bad_input_text, with_names_text, graph6_line}
 use Rattle.report_text.specs.declared.analyses.AnalysisLines.{AnalysisLines}
 use Rattle.tree_core.specs.declared.tallies.LeafKind.{LeafKind}
 use Rattle.bench_tasks.specs.Common.{Command, command_of, Task, Loaded, All, Bad, Absent, loaded}

@@ -5,10 +5,9 @@
 use Rattle.std.specs.Prelude.{◌≡◌, ◌⊎◌, ℕ, List, length}
 use Rattle.graph_core.specs.Common.{Graph}
 use Rattle.tree_core.specs.Common.{IsDerivation, PlainMove, TurnsThrough, Shape}
-use Rattle.tree_check.specs.Refusals.{Why, why_number}
-use Rattle.tree_check.specs.Replays.{IsStuckAt, IsRefusedMoveAt}
-use Rattle.tree_text.specs.Writing.{tree_text}
-use Rattle.report_text.specs.Scripts.{replayed_text, stuck_text, refused_move_text}
+use Rattle.tree_check.specs.Common.{Why, why_number, IsStuckAt, IsRefusedMoveAt}
+use Rattle.tree_text.specs.Common.{tree_text}
+use Rattle.report_text.specs.Common.{replayed_text, stuck_text, refused_move_text}
 use Rattle.bench_outcomes.specs.Checks.{Refuses, shown_of}
 use Rattle.bench_outcomes.specs.declared.status.Status.{Status}
 use Rattle.bench_outcomes.specs.declared.status.Status.TheVariants.{Done, Negative}

@@ -4,8 +4,7 @@
 use Rattle.std.specs.Prelude.{◌⊎◌, ℕ, List}
 use Rattle.graph_core.specs.Common.{IsReason, Unmatched, Graph}
 use Rattle.tree_core.specs.Common.{IsDerivation, PlainMove, Shape}
-use Rattle.tree_check.specs.Refusals.{IsRefused, not_tight}
-use Rattle.tree_check.specs.Replays.{IsRefusedMoveAt}
+use Rattle.tree_check.specs.Common.{IsRefused, not_tight, IsRefusedMoveAt}
 
 -- a Berge set that may be the reason why the graph is not covered
 abbrev pub MayBeBerge : Graph → List ℕ → Type 0

@@ -1,6 +1,6 @@
 //! The statuses of a run.
 ghost use Rattle.std.specs.Prelude.{◌≡◌};
-ghost use Rattle.bench_outcomes.specs.Codes.{code_of};
+ghost use Rattle.bench_outcomes.specs.Common.{code_of};
 
 /// How a run ended.
 #[derive(Clone, Copy, Debug, PartialEq, Eq)]

@@ -2,7 +2,7 @@
 -- place on.
 use Rattle.std.proofs.Common.{◌≡◌, ◌∙◌, ℕ, zero, suc, ◌+◌, List, [], ◌∷◌, ◌++◌, Some, append_assoc, drop, length, slice_get, refl, ap, sym, arith}
 use Rattle.counting.proofs.Common.{none-some, same_Some}
-use Rattle.tree_core.specs.Common.{PlainLeafMap}
+use Rattle.tree_core.proofs.Common.{PlainLeafMap}
 use Rattle.report_text.specs.declared.comparisons.MapLine.{MapLine}
 use Rattle.bench_outcomes.specs.Common.{line_of, lines_of}
 

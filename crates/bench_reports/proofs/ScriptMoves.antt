@@ -3,18 +3,13 @@
 -- since they are proper subsets of the shore and of its complement; and a derivation of a graph
 -- within the limits has few cuts.
 use Rattle.std.proofs.Common.{◌≡◌, ℕ, suc, ◌*◌, ◌<◌, ◌≤◌, Bool, true, false, ◌&&◌, List, [], ◌∷◌, length, Option, Some, None, option_map, if◌then◌else◌, refl, sym, arith}
-use Rattle.counting.proofs.Common.{none-some, and_parts, true≢false}
-use Rattle.std.specs.List.{AllByRecursion}
+use Rattle.counting.proofs.Common.{none-some, and_parts, true≢false, AllByRecursion}
 use Rattle.std.proofs.lemmas.Nat.{mul-le}
-use Rattle.graph_core.specs.Common.{Graph, IsGraph, complement_of}
-use Rattle.tree_core.specs.Common.{IsDerivation, PlainMove, rotate_at, switch_at, TurnsThrough, is_proper, last_step, move_result, parent_path, result_at, rotate_result_at, switch_result_at, Shape, leaf, cut, Fits, cut_count, node_count}
+use Rattle.graph_core.proofs.Common.{Graph, IsGraph, complement_of}
+use Rattle.tree_core.proofs.Common.{IsDerivation, PlainMove, rotate_at, switch_at, TurnsThrough, is_proper, last_step, move_result, parent_path, result_at, rotate_result_at, switch_result_at, Shape, leaf, cut, Fits, cut_count, node_count, fits-derivation, node_count-cuts, proper_outside-within, proper_part-within, few-nodes}
 use Rattle.tree_core.specs.declared.path.Side.{Side}
 use Rattle.tree_core.specs.declared.path.Side.TheVariants.{Kept, Merged}
-use Rattle.tree_core.proofs.DerivationStands.{fits-derivation}
-use Rattle.tree_core.proofs.Sizes.{node_count-cuts}
-use Rattle.tree_core.proofs.SwitchSets.{proper_outside-within, proper_part-within}
-use Rattle.move_text.specs.Writing.{HasSets, HasShortPath}
-use Rattle.tree_core.proofs.FewLeaves.{few-nodes}
+use Rattle.move_text.specs.Common.{HasSets, HasShortPath}
 
 -- a path along which a tree changes
 path-short : (f : Shape → Option Shape) (path : List Side) (t r : Shape) → result_at f path t ≡ Some r → length path < node_count t

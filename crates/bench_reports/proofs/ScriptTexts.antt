@@ -1,16 +1,14 @@
 -- A text that stands for a value stands for it with comments after it, and so the report on a
 -- script stands for the script.
-use Rattle.std.proofs.Common.{◌≡◌, ◌∙◌, ℕ, ◌<◌, ◌^◌, List, [], ◌∷◌, ◌++◌, map, true, length, ap, ap₂, refl, sym, subst, append_assoc}
-use Rattle.std.specs.Prelude.{codes}
+use Rattle.std.proofs.Common.{◌≡◌, ◌∙◌, ℕ, ◌<◌, ◌^◌, List, [], ◌∷◌, ◌++◌, map, true, length, ap, ap₂, refl, sym, subst, append_assoc, codes}
 use Rattle.std.specs.Fmt.{decimal}
 use Rattle.line_text.specs.Common.{Stands, is_closed, written, unwords}
 use Rattle.line_text.proofs.Decimals.{is_word-decimal}
 use Rattle.line_text.proofs.ReadBack.{AreSkipped-written, Stands-comments, is_closed-unlines}
-use Rattle.graph_core.specs.Common.{Graph}
-use Rattle.tree_core.specs.Common.{PlainMove, Shape, leaf_count}
-use Rattle.move_text.specs.MoveFormat.{move_format}
-use Rattle.move_text.specs.Writing.{header_words, move_words, moves_text}
-use Rattle.report_text.specs.Scripts.{script_line, script_report_text}
+use Rattle.graph_core.proofs.Common.{Graph}
+use Rattle.tree_core.proofs.Common.{PlainMove, Shape, leaf_count}
+use Rattle.move_text.specs.Common.{move_format, header_words, move_words, moves_text}
+use Rattle.report_text.specs.Common.{script_line, script_report_text}
 use Rattle.bench_outcomes.specs.Common.{IsScript, Scripted}
 use Rattle.bench_outcomes.specs.declared.status.Status.TheVariants.{Done}
 

@@ -2,11 +2,9 @@
 -- of its rows. Each edge has two ends at different vertices, so the missed vertices and twice the
 -- edges make all vertices.
 use Rattle.std.proofs.Common.{◌≡◌, ◌≤◌, ℕ, ◌+◌, ◌-◌, ◌*◌, length, ◌∙◌, arith}
-use Rattle.counting.proofs.Common.{length-map, total_zero, count_complement, count_mem_length}
-use Rattle.counting.specs.Common.{count, none, mem}
-use Rattle.graph_core.specs.Common.{Graph, IsGraph, size, IsMaximum, missed_count}
-use Rattle.graph_core.proofs.Common.{missed_edges}
-use Rattle.match_core.specs.MatchingRows.{MatchingValue, KeepsMatching, IsOf, edges_of}
+use Rattle.counting.proofs.Common.{length-map, total_zero, count_complement, count_mem_length, count, none, mem}
+use Rattle.graph_core.proofs.Common.{Graph, IsGraph, size, IsMaximum, missed_count, missed_edges}
+use Rattle.match_core.specs.Common.{MatchingValue, KeepsMatching, IsOf, edges_of}
 use Rattle.match_core.specs.declared.matching.MatchRow.{MatchRow}
 use Rattle.match_core.proofs.MatchingEdges.{rows-rise}
 use Rattle.bench_outcomes.specs.Common.{HasMaximum}

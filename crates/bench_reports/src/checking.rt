@@ -2,8 +2,7 @@
 ghost use Rattle.std.specs.Prelude.{◌≡◌, IfOk};
 ghost use Rattle.graph_core.specs.Common.{Graph};
 ghost use Rattle.tree_core.specs.Common.{IsDerivation, IsTally, Fits, Shape, leaves, shape_of};
-ghost use Rattle.tree_check.specs.Judgements.{why_of};
-ghost use Rattle.tree_check.specs.Refusals.{why_number, IsRefused};
+ghost use Rattle.tree_check.specs.Common.{why_of, why_number, IsRefused};
 ghost use Rattle.bench_outcomes.specs.Common.{AcceptedTree, CheckGives, RefusedTree, RefusesIfAny, shown_of};
 
 use crate::uncovered::uncovered_report;

@@ -1,7 +1,7 @@
 //! The comparison of two derivations of a graph, as `compare` and `script` report it.
 ghost use Rattle.std.specs.Prelude.{◌≡◌, ◌≤◌, ◌<◌, ◌+◌, ◌^◌, Err, IfOk, length, map};
 ghost use Rattle.tree_core.specs.Common.{IsDerivation, moves_of, Fits, leaf_count, shape_of};
-ghost use Rattle.uncross.specs.MapView.{map_of, maps_of};
+ghost use Rattle.uncross.specs.Common.{map_of, maps_of};
 ghost use Rattle.bench_outcomes.specs.Common.{Compared, RefusesPair, RefusesPairIfAny, Scripted, line_of, lines_of};
 
 use crate::checking::refusal_where_covered;

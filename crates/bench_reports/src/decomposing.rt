@@ -1,9 +1,8 @@
 //! The decomposition of a graph by tight cuts, as `decompose` reports it.
 ghost use Rattle.std.specs.Prelude.{◌≡◌, ◌<◌, ◌≤◌, IfOk, length};
-ghost use Rattle.graph_text.specs.SoFar.{named_graph};
+ghost use Rattle.graph_text.specs.Common.{named_graph};
 ghost use Rattle.tree_core.specs.Common.{IsDerivation, shape_of};
-ghost use Rattle.decomposer.specs.Orders.{ScriptPicks};
-ghost use Rattle.decomposer.specs.Picked.{IsPicked};
+ghost use Rattle.decomposer.specs.Common.{ScriptPicks, IsPicked};
 ghost use Rattle.bench_outcomes.specs.Common.{DecomposeGives, TellsDerivation};
 
 use crate::naming::with_given_names;

@@ -1,9 +1,7 @@
 //! Ear lists of a graph, as `checkears` and `ears` report on them.
 ghost use Rattle.std.specs.Prelude.{◌≡◌, ◌<◌, ◌^◌, length, map, IfOk};
 ghost use Rattle.graph_core.specs.Common.{size};
-ghost use Rattle.ear_core.specs.EarLists.{FitsEars, IsEarList};
-ghost use Rattle.ear_core.specs.Refusals.{IsRefused};
-ghost use Rattle.ear_core.specs.View.{ears_of, step_of, why_of};
+ghost use Rattle.ear_core.specs.Common.{FitsEars, IsEarList, IsRefused, ears_of, step_of, why_of};
 ghost use Rattle.bench_outcomes.specs.Common.{AcceptedEars, BuiltEars, EarCheckGives, EarsGives, RefusedEars, double_count, named_edge, single_count, why_number};
 
 use crate::uncovered::uncovered_report;

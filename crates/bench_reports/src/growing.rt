@@ -1,7 +1,7 @@
 //! A graph that grows from a seed, with its leaves counted and compared, as `grow` reports it.
 ghost use Rattle.std.specs.Prelude.{◌≡◌, IfOk};
 ghost use Rattle.tree_core.specs.Common.{shape_of};
-ghost use Rattle.decomposer.specs.Orders.{NamedPicks};
+ghost use Rattle.decomposer.specs.Common.{NamedPicks};
 ghost use Rattle.bench_outcomes.specs.Common.{Grown, IsCounted};
 
 use bench_outcomes::{Report, Status};

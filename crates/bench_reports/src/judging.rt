@@ -1,6 +1,6 @@
 //! What a command makes of its inputs.
 ghost use Rattle.std.specs.Prelude.{◌≡◌, IfOk};
-ghost use Rattle.graph_text.specs.SoFar.{named_graph};
+ghost use Rattle.graph_text.specs.Common.{named_graph};
 ghost use Rattle.bench_tasks.specs.Common.{given_trees, graph_in, on_trees, task_of};
 ghost use Rattle.bench_tasks.specs.Tasks.{OnGraph};
 ghost use Rattle.bench_outcomes.specs.Common.{HasMaximum, IsAnalysis, Analysed, Converted, Analysed6, IsReported, ResultOf, TaskMayRefuse};

@@ -1,7 +1,7 @@
 //! The names of vertices in reports.
 ghost use Rattle.std.specs.Prelude.{◌≡◌, IfOk, length, true};
 ghost use Rattle.std.specs.Option.{ForSome};
-ghost use Rattle.report_text.specs.Comments.{IsCommented};
+ghost use Rattle.report_text.specs.Common.{IsCommented};
 ghost use Rattle.bench_outcomes.specs.Common.{with_given_names, given_or_plain};
 
 use graph_core::MultiGraph;

@@ -1,11 +1,10 @@
 //! What a script of moves makes of a derivation, as `replay` reports it.
 ghost use Rattle.std.specs.Prelude.{◌≡◌, ◌≤◌, IfOk, length};
 ghost use Rattle.tree_core.specs.Common.{IsDerivation, moves_of, Fits, shape_of};
-ghost use Rattle.tree_check.specs.Judgements.{why_of};
-ghost use Rattle.tree_check.specs.Refusals.{why_number};
-ghost use Rattle.move_text.specs.MoveFormat.{most_moves};
-ghost use Rattle.tree_text.specs.Writing.{tree_text};
-ghost use Rattle.report_text.specs.Scripts.{refused_move_text, replayed_text, stuck_text};
+ghost use Rattle.tree_check.specs.Common.{why_of, why_number};
+ghost use Rattle.move_text.specs.Common.{most_moves};
+ghost use Rattle.tree_text.specs.Common.{tree_text};
+ghost use Rattle.report_text.specs.Common.{refused_move_text, replayed_text, stuck_text};
 ghost use Rattle.bench_outcomes.specs.Common.{shown_of, MovesGive, ReplayGives};
 
 use crate::checking::{number_of, refusal_where_covered, shown_by};

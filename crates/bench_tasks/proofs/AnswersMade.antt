@@ -3,13 +3,8 @@
 -- next: nothing is known of the files but what the answers say.
 use Rattle.std.proofs.Common.{◌≡◌, ℕ, ◌+◌, ◌≤◌, List, [], ◌∷◌, ◌++◌, length, take, refl, ap, sym, subst, ◌∙◌, arith, length-append, Result, Ok, Err, IfErr, IsOkAnd, MatchResult}
 use Rattle.counting.proofs.Common.{take_all}
-use Rattle.outside.specs.Shelf.{Answer, AnswersInTurn, NamedFile, ReadsInTurn, file_named}
-use Rattle.bench_tasks.specs.Answered.{CountsAs, GathersAnswered, GaveFile, HoldGiven, LoadsAnswered, ReadsOnce, by_place, place_name}
-use Rattle.bench_tasks.specs.Commands.{Command}
-use Rattle.bench_tasks.specs.Files.{file_names}
-use Rattle.bench_tasks.specs.Loading.{Loaded, All, and_then, loaded, loaded_as}
-use Rattle.bench_tasks.specs.Loads.{LoadsAs, StopsAs, task_of}
-use Rattle.bench_tasks.specs.Reads.{ReadsAs, StopsAt}
+use Rattle.outside.specs.Common.{Answer, AnswersInTurn, NamedFile, ReadsInTurn, file_named}
+use Rattle.bench_tasks.specs.Common.{CountsAs, GathersAnswered, GaveFile, HoldGiven, LoadsAnswered, ReadsOnce, by_place, place_name, Command, file_names, Loaded, All, and_then, loaded, loaded_as, LoadsAs, StopsAs, task_of, ReadsAs, StopsAt}
 use Rattle.bench_tasks.specs.declared.stop.Stop.{Stop}
 use Rattle.bench_tasks.specs.declared.stop.Stop.TheVariants.{ReadFault, Bad, Memory}
 use Rattle.bench_tasks.specs.declared.tasks.Task.TheVariants as code

@@ -2,11 +2,8 @@
 -- stop at the second; where neither stops, what is made of the two values is what is made of the
 -- two files.
 use Rattle.std.proofs.Common.{◌≡◌, ◌∙◌, ◌≤◌, ℕ, Bool, List, Option, Ok, Err, ap, sym, subst, arith}
-use Rattle.outside.specs.Faults.{Rose}
-use Rattle.outside.specs.Shelf.{NamedFile}
-use Rattle.bench_tasks.specs.Loading.{Loaded, All, and_then, loaded_as}
-use Rattle.bench_tasks.specs.Loads.{Loads, StopsAs}
-use Rattle.bench_tasks.specs.Reads.{FailsAs, IsReadFault}
+use Rattle.outside.specs.Common.{Rose, NamedFile}
+use Rattle.bench_tasks.specs.Common.{Loaded, All, and_then, loaded_as, Loads, StopsAs, FailsAs, IsReadFault}
 use Rattle.bench_tasks.specs.declared.stop.Stop.{Stop}
 use Rattle.bench_tasks.specs.declared.stop.Stop.TheVariants.{ReadFault, Bad, Memory}
 

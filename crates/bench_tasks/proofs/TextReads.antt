@@ -3,7 +3,7 @@
 use Rattle.std.proofs.Common.{ℕ, List, Result, Ok, Err, IfOk, IfErr}
 use Rattle.line_text.specs.Common.{Rules, Stands, reading_of}
 use Rattle.line_text.proofs.ExactlyOne.{Stands-reading_of, FirstFault-reading_of}
-use Rattle.text_faults.specs.Readings.{IsFirstFault, ReadsText}
+use Rattle.text_faults.specs.Common.{IsFirstFault, ReadsText}
 use Rattle.text_faults.specs.declared.faults.FaultKind.{FaultKind}
 use Rattle.text_faults.specs.declared.faults.TextFault.{TextFault}
 use Rattle.text_faults.specs.declared.faults.TextFault.TheVariants.{At, Memory}

@@ -7,7 +7,7 @@ use Rattle.std.specs.declared.option.Option.TheVariants.{Some, None}
 use Rattle.std.specs.Option.{option_map}
 use Rattle.std.specs.Str.{bytes_eq}
 use Rattle.line_text.specs.Common.{is_number, value_of}
-use Rattle.decomposer.specs.Orders.{order_named}
+use Rattle.decomposer.specs.Common.{order_named}
 use Rattle.decomposer.specs.declared.orders.NamedOrder.{NamedOrder}
 use Rattle.bench_tasks.specs.declared.verbs.GraphVerb.{GraphVerb}
 use Rattle.bench_tasks.specs.declared.verbs.GraphVerb.TheVariants.{Analyse, Convert, Decompose, Ears}

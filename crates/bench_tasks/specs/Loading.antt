@@ -7,18 +7,17 @@ use Rattle.std.specs.declared.option.Option.{Option}
 use Rattle.std.specs.declared.option.Option.TheVariants.{Some, None}
 use Rattle.std.specs.declared.result.Result.{Result}
 use Rattle.std.specs.declared.result.Result.TheVariants.{Ok, Err}
-use Rattle.outside.specs.Shelf.{NamedFile, file_named}
+use Rattle.outside.specs.Common.{NamedFile, file_named}
 use Rattle.line_text.specs.Common.{reading_of}
 use Rattle.graph_core.specs.Common.{Graph, size}
-use Rattle.text_faults.specs.Kinds.{kind_number}
+use Rattle.text_faults.specs.Common.{kind_number}
 use Rattle.text_faults.specs.declared.faults.FaultKind.{FaultKind}
-use Rattle.graph_text.specs.EitherVersion.{NamedGraph, either_version}
-use Rattle.graph6_text.specs.Reading.{outcome_of}
+use Rattle.graph_text.specs.Common.{NamedGraph, either_version}
+use Rattle.graph6_text.specs.Common.{outcome_of}
 use Rattle.tree_core.specs.Common.{Shape, PlainMove}
-use Rattle.tree_text.specs.PickFormat.{pick_format}
-use Rattle.tree_text.specs.TreeFormat.{tree_format}
-use Rattle.move_text.specs.MoveFormat.{move_format}
-use Rattle.ear_core.specs.EarLists.{PlainEars}
+use Rattle.tree_text.specs.Common.{pick_format, tree_format}
+use Rattle.move_text.specs.Common.{move_format}
+use Rattle.ear_core.specs.Common.{PlainEars}
 use Rattle.ear_text.specs.EarFormat.{ear_format}
 use Rattle.bench_tasks.specs.Commands.{Command, OnGraph, OnSimpleGraph, OnTree, OnPicks, OnEars, OnMoves, OnTrees, OnNumbers}
 use Rattle.bench_tasks.specs.Tasks.{Task}

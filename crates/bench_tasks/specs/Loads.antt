@@ -5,14 +5,11 @@ use Rattle.std.specs.declared.option.Option.{Option}
 use Rattle.std.specs.declared.option.Option.TheVariants.{Some}
 use Rattle.std.specs.declared.result.Result.{Result}
 use Rattle.std.specs.declared.result.Result.TheVariants.{Ok, Err}
-use Rattle.outside.specs.Faults.{Rose}
-use Rattle.outside.specs.Shelf.{NamedFile}
+use Rattle.outside.specs.Common.{Rose, NamedFile}
 use Rattle.graph_core.specs.Common.{Graph}
-use Rattle.graph_text.specs.EitherVersion.{NamedGraph}
-use Rattle.graph_text.specs.SoFar.{named_graph}
+use Rattle.graph_text.specs.Common.{NamedGraph, named_graph}
 use Rattle.tree_core.specs.Common.{shape_of, moves_of, PlainMove, Shape}
-use Rattle.ear_core.specs.EarLists.{PlainEars}
-use Rattle.ear_core.specs.View.{ears_of}
+use Rattle.ear_core.specs.Common.{PlainEars, ears_of}
 use Rattle.bench_tasks.specs.Loading.{Loaded, All, Bad, on_tree, on_picks, on_ears, on_moves, on_trees}
 use Rattle.bench_tasks.specs.Reads.{FailsAs, IsReadFault}
 use Rattle.bench_tasks.specs.Tasks.{Task}

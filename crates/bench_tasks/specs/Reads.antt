@@ -5,7 +5,7 @@ use Rattle.std.specs.declared.option.Option.{Option}
 use Rattle.std.specs.declared.option.Option.TheVariants.{Some, None}
 use Rattle.std.specs.declared.result.Result.{Result}
 use Rattle.std.specs.declared.result.Result.TheVariants.{Ok, Err}
-use Rattle.outside.specs.Shelf.{Answer, ReadsInTurn, ReadsFirst}
+use Rattle.outside.specs.Common.{Answer, ReadsInTurn, ReadsFirst}
 use Rattle.bench_tasks.specs.Commands.{Command}
 use Rattle.bench_tasks.specs.Files.{file_names}
 use Rattle.bench_tasks.specs.Loading.{Loaded, All, Bad, Absent}

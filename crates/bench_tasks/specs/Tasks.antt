@@ -3,9 +3,9 @@
 -- Rests on it: bench_outcomes, front_top.
 use Rattle.std.specs.Prelude.{◌≡◌, ℕ, List}
 use Rattle.graph_core.specs.Common.{Graph}
-use Rattle.graph_text.specs.EitherVersion.{NamedGraph}
+use Rattle.graph_text.specs.Common.{NamedGraph}
 use Rattle.tree_core.specs.Common.{Shape, PlainMove}
-use Rattle.ear_core.specs.EarLists.{PlainEars}
+use Rattle.ear_core.specs.Common.{PlainEars}
 use Rattle.bench_tasks.specs.Commands.{Command}
 use Rattle.bench_tasks.specs.Commands as command
 use Rattle.bench_tasks.specs.declared.verbs.GraphVerb.{GraphVerb}

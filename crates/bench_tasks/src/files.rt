@@ -1,9 +1,7 @@
 //! The files of a command: their names, and what each is read as.
 ghost use Rattle.std.specs.Prelude.{◌≡◌, slice_get};
 ghost use Rattle.std.specs.Option.{option_map};
-ghost use Rattle.bench_tasks.specs.Asked.{asked};
-ghost use Rattle.bench_tasks.specs.Files.{file_at, files_of};
-ghost use Rattle.bench_tasks.specs.FilesSeen.{file_seen};
+ghost use Rattle.bench_tasks.specs.Common.{asked, file_at, files_of, file_seen};
 
 use crate::command::Command;
 

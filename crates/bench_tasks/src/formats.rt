@@ -1,18 +1,15 @@
 //! The formats of the files that commands name.
 ghost use Rattle.std.specs.Prelude.{◌<◌, ◌≤◌, ◌-◌, ◌^◌, ℕ, List, length, Result, IfOk};
 ghost use Rattle.line_text.specs.Common.{reading_of};
-ghost use Rattle.text_faults.specs.Readings.{ReadsText};
+ghost use Rattle.text_faults.specs.Common.{ReadsText};
 ghost use Rattle.graph_core.specs.Common.{Graph, size};
 ghost use Rattle.text_faults.specs.declared.faults.FaultKind.{FaultKind};
-ghost use Rattle.graph_text.specs.EitherVersion.{NamedGraph, either_version};
-ghost use Rattle.graph_text.specs.SoFar.{named_graph};
-ghost use Rattle.graph6_text.specs.Reading.{outcome_of};
+ghost use Rattle.graph_text.specs.Common.{NamedGraph, either_version, named_graph};
+ghost use Rattle.graph6_text.specs.Common.{outcome_of};
 ghost use Rattle.tree_core.specs.Common.{Fits, Shape, shape_of, PlainMove, moves_of};
-ghost use Rattle.tree_text.specs.PickFormat.{pick_format};
-ghost use Rattle.tree_text.specs.TreeFormat.{tree_format};
-ghost use Rattle.move_text.specs.MoveFormat.{most_moves, move_format};
-ghost use Rattle.ear_core.specs.EarLists.{FitsEars, PlainEars};
-ghost use Rattle.ear_core.specs.View.{ears_of};
+ghost use Rattle.tree_text.specs.Common.{pick_format, tree_format};
+ghost use Rattle.move_text.specs.Common.{most_moves, move_format};
+ghost use Rattle.ear_core.specs.Common.{FitsEars, PlainEars, ears_of};
 ghost use Rattle.ear_text.specs.EarFormat.{ear_format};
 ghost use Rattle.bench_tasks.specs.Loads.{graph_in};
 

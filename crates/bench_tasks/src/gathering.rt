@@ -1,12 +1,6 @@
 //! The task that the files of a command make of it.
 ghost use Rattle.std.specs.Prelude.{IfOk};
-ghost use Rattle.bench_tasks.specs.Answered.{GathersAnswered};
-ghost use Rattle.bench_tasks.specs.Asked.{asked};
-ghost use Rattle.bench_tasks.specs.Files.{file_names};
-ghost use Rattle.bench_tasks.specs.Loading.{loaded};
-ghost use Rattle.bench_tasks.specs.Loads.{Loads, task_of};
-ghost use Rattle.bench_tasks.specs.Reads.{ReadsAs};
-ghost use Rattle.bench_tasks.specs.Tasks.{IsTaskOf};
+ghost use Rattle.bench_tasks.specs.Common.{GathersAnswered, asked, file_names, loaded, Loads, task_of, ReadsAs, IsTaskOf};
 
 use crate::command::Command;
 use crate::formats::{Graph6File, GraphFile};

@@ -1,16 +1,12 @@
 //! What the files of a graph, and of what is given beside it, hold: one function loads a file of
 //! any format, and one more each set of files that commands name.
 ghost use Rattle.std.specs.Prelude.{◌≡◌, ◌≤◌, [], ◌∷◌, IfOk, IfErr, length};
-ghost use Rattle.outside.specs.Shelf.{file_named};
+ghost use Rattle.outside.specs.Common.{file_named};
 ghost use Rattle.tree_core.specs.Common.{Fits, shape_of, moves_of};
-ghost use Rattle.move_text.specs.MoveFormat.{most_moves};
-ghost use Rattle.ear_core.specs.EarLists.{FitsEars};
-ghost use Rattle.ear_core.specs.View.{ears_of};
+ghost use Rattle.move_text.specs.Common.{most_moves};
+ghost use Rattle.ear_core.specs.Common.{FitsEars, ears_of};
 ghost use Rattle.graph_core.specs.Common.{size};
-ghost use Rattle.bench_tasks.specs.Answered.{LoadsAnswered, ReadsOnce, place_name};
-ghost use Rattle.bench_tasks.specs.Loading.{ear_file, ears_given, file_read, move_file, moves_given, picks_given, tree_file, tree_given, trees_given};
-ghost use Rattle.bench_tasks.specs.Loads.{Loads, given_ears, given_moves, given_picks, given_tree, given_trees};
-ghost use Rattle.bench_tasks.specs.Reads.{StopsAt};
+ghost use Rattle.bench_tasks.specs.Common.{LoadsAnswered, ReadsOnce, place_name, ear_file, ears_given, file_read, move_file, moves_given, picks_given, tree_file, tree_given, trees_given, Loads, given_ears, given_moves, given_picks, given_tree, given_trees, StopsAt};
 
 use crate::formats::{EarFile, FileFormat, GraphFile, MoveFile, PickFile, TreeFile};
 use crate::stop::Stop;

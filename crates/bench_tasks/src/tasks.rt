@@ -2,9 +2,8 @@
 ghost use Rattle.std.specs.Prelude.{◌≤◌, length};
 ghost use Rattle.graph_core.specs.Common.{size, IsSimple};
 ghost use Rattle.tree_core.specs.Common.{Fits, shape_of};
-ghost use Rattle.move_text.specs.MoveFormat.{most_moves};
-ghost use Rattle.ear_core.specs.EarLists.{FitsEars};
-ghost use Rattle.ear_core.specs.View.{ears_of};
+ghost use Rattle.move_text.specs.Common.{most_moves};
+ghost use Rattle.ear_core.specs.Common.{FitsEars, ears_of};
 
 use crate::command::GrowNumbers;
 use crate::verbs::{

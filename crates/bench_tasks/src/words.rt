@@ -1,8 +1,7 @@
 //! What the words ask for: one command for each row of the table of words.
 ghost use Rattle.std.specs.Prelude.{◌≡◌, map, string_bytes};
 ghost use Rattle.std.specs.Option.{option_map};
-ghost use Rattle.bench_tasks.specs.Commands.{OnGraph, OnTrees, command_of, graph_command, grow_command, pair_command, triple_command};
-ghost use Rattle.bench_tasks.specs.Asked.{asked};
+ghost use Rattle.bench_tasks.specs.Common.{OnGraph, OnTrees, command_of, graph_command, grow_command, pair_command, triple_command, asked};
 
 use crate::command::{Command, GrowNumbers};
 use crate::verbs::{

@@ -2,22 +2,17 @@
 -- the verdict gives a value that the graph determines. A rising list is determined by its
 -- members, the number of edges of a maximum matching by there being none with more, and the kind
 -- by the sides and the first candidate.
-use Rattle.std.proofs.Common.{◌≡◌, ◌∙◌, ◌↔◌, ℕ, List, ◌++◌, Bool, Option, Some, None, inl, refl, sym, ap, arith}
-use Rattle.counting.proofs.Common.{same_tests, none-some, same_Some, same_rising_list}
-use Rattle.std.specs.Prelude.{codes, IsTrue}
+use Rattle.std.proofs.Common.{◌≡◌, ◌∙◌, ◌↔◌, ℕ, List, ◌++◌, Bool, Option, Some, None, inl, refl, sym, ap, arith, codes, IsTrue}
+use Rattle.counting.proofs.Common.{same_tests, none-some, same_Some, same_rising_list, Lists, mem, none}
 use Rattle.std.specs.Option.{option_map}
-use Rattle.counting.specs.Common.{Lists, mem, none}
-use Rattle.graph_core.specs.Common.{Graph, IsBipartite, IsMultigraph, size, InA, InC, InD, Allowed, IsVerdict, reason_of, pair_of}
+use Rattle.graph_core.proofs.Common.{Graph, IsBipartite, IsMultigraph, size, InA, InC, InD, Allowed, IsVerdict, reason_of, pair_of, reason-uncovered, missed_edges}
 use Rattle.graph_core.specs.declared.ends.Ends.{Ends}
 use Rattle.graph_core.specs.declared.verdict.Kind.{Kind}
 use Rattle.graph_core.specs.declared.verdict.Kind.TheVariants.{Brace, Brick, Composite}
 use Rattle.graph_core.specs.declared.verdict.Verdict.{Verdict}
 use Rattle.graph_core.specs.declared.verdict.Verdict.TheVariants.{Covered, NotCovered}
-use Rattle.graph_core.proofs.Common.{reason-uncovered, missed_edges}
 use Rattle.leaf_kinds.specs.LeafKinds.{IsKind, cut_of}
-use Rattle.report_text.specs.Analyses.{analysis_text, graph_lines, verdict_lines, with_structure, with_three_sets}
-use Rattle.report_text.specs.Reports.{deficiency_line, list_line, matching_line, verdict_text}
-use Rattle.report_text.specs.Structures.{structure_text}
+use Rattle.report_text.specs.Common.{analysis_text, graph_lines, verdict_lines, with_structure, with_three_sets, deficiency_line, list_line, matching_line, verdict_text, structure_text}
 use Rattle.report_text.specs.declared.analyses.AnalysisLines.{AnalysisLines}
 use Rattle.report_text.specs.declared.structures.Structure.{Structure}
 use Rattle.bench_outcomes.specs.Common.{HasMaximum, IsAnalysis, IsStructure, TellsStructure, MayBeBerge}

@@ -1,13 +1,12 @@
 -- Two reasons why a graph is not covered have the same line, but for the Berge set.
-use Rattle.std.proofs.Common.{◌≡◌, ℕ, List, ◌++◌, inl, refl, ap, subst}
-use Rattle.std.specs.Prelude.{codes}
-use Rattle.graph_core.specs.Common.{IsReason, Graph, reason_of}
+use Rattle.std.proofs.Common.{◌≡◌, ℕ, List, ◌++◌, inl, refl, ap, subst, codes}
+use Rattle.graph_core.proofs.Common.{IsReason, Graph, reason_of}
 use Rattle.graph_core.specs.declared.verdict.Reason.{Reason}
 use Rattle.graph_core.specs.declared.verdict.Reason.TheVariants.{Small, Parted, Unmatched, Unallowed}
 use Rattle.graph_core.specs.declared.verdict.Verdict.TheVariants.{NotCovered}
 use Rattle.definition_laws.proofs.Reasons.{reason-one}
 use Rattle.definition_laws.specs.Words.{without_berge}
-use Rattle.report_text.specs.Reports.{numbers_text, verdict_text}
+use Rattle.report_text.specs.Common.{numbers_text, verdict_text}
 use Rattle.bench_top.specs.Fixed.{DifferAtMostIn}
 use Rattle.bench_outcomes.specs.Common.{MayBeBerge, Uncovered}
 use Rattle.bench_outcomes.specs.declared.status.Status.{Status}

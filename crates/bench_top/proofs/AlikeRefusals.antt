@@ -1,28 +1,24 @@
 -- Two refusals of one thing have one text, but for the list of numbers that they show: the first
 -- node that breaks a rule is one, and so is the rule, and the first step or move that fails.
-use Rattle.std.proofs.Common.{◌≡◌, ◌∙◌, ℕ, List, ◌++◌, inl, inr, refl, sym, ap, ap₂, subst, arith}
-use Rattle.std.specs.Prelude.{codes}
-use Rattle.counting.specs.Common.{singleton}
-use Rattle.graph_core.specs.Common.{Graph, IsGraph}
-use Rattle.tree_core.specs.Common.{IsDerivation, PlainMove, Shape}
+use Rattle.std.proofs.Common.{◌≡◌, ◌∙◌, ℕ, List, ◌++◌, inl, inr, refl, sym, ap, ap₂, subst, arith, codes}
+use Rattle.counting.proofs.Common.{singleton}
+use Rattle.graph_core.proofs.Common.{Graph, IsGraph}
+use Rattle.tree_core.proofs.Common.{IsDerivation, PlainMove, Shape}
 use Rattle.tree_check.proofs.FirstRefusals.{refused-not_derived, refused-once}
 use Rattle.tree_check.proofs.ReplayAnswers.{refused-exactly, refused_move-once, stuck-exactly}
-use Rattle.tree_check.specs.Refusals.{IsRefused, Why, even, not_blocks, not_leaf, not_tight, trivial, why_number, without_matching}
-use Rattle.tree_check.specs.Replays.{IsRefusedMoveAt}
+use Rattle.tree_check.specs.Common.{IsRefused, Why, even, not_blocks, not_leaf, not_tight, trivial, why_number, without_matching, IsRefusedMoveAt}
 use Rattle.tree_check.specs.declared.replaying.Replayed.TheVariants.{Stuck}
-use Rattle.ear_core.specs.EarLists.{PlainEars}
+use Rattle.ear_core.specs.Common.{PlainEars}
 use Rattle.ear_core.specs.EarTests.{PlainWhy as EarWhy}
 use Rattle.ear_core.proofs.Refusing.{refusal-one}
-use Rattle.report_text.specs.Judgements.{ear_judgement_text, judgement_text, numbered, refused_line}
-use Rattle.report_text.specs.Reports.{numbers_text}
-use Rattle.report_text.specs.Scripts.{refused_move_text, stuck_text}
+use Rattle.report_text.specs.Common.{ear_judgement_text, judgement_text, numbered, refused_line, numbers_text, refused_move_text, stuck_text}
 use Rattle.report_text.specs.declared.ear_judgements.EarLine.TheVariants as ear_line
 use Rattle.bench_outcomes.specs.Common.{CheckGives, RefusedTree, Refuses, shown_of, CompareGives, RefusesPair, ScriptGives, EarCheckGives, EarsGives, RefusedEars, named_edge, MayBeBerge, MayCross, MayCrossBehind, MayShowOfMoves, MayShowOfTree, MayShowOfTwo, DecomposeGives, MovesGive, RefusedMove, ReplayGives, StuckMove}
 use Rattle.bench_outcomes.specs.EarChecks as ears
 use Rattle.bench_top.specs.Fixed.{DifferAtMostIn}
 use Rattle.bench_outcomes.specs.declared.status.Status.TheVariants.{Negative}
-use Rattle.graph_text.specs.EitherVersion.{NamedGraph}
-use Rattle.tight_cuts.specs.Candidates.{Candidate}
+use Rattle.graph_text.specs.Common.{NamedGraph}
+use Rattle.tight_cuts.specs.Common.{Candidate}
 use Rattle.bench_top.proofs.AlikeReasons.{uncovered-alike}
 use Rattle.bench_top.proofs.AlikeTexts.{alike-along, alike-before, alike-behind, alike-lists, alike-wider}
 use Rattle.bench_outcomes.proofs.Settled.{refused-tree}

@@ -2,28 +2,22 @@
 -- so are the counts of its leaves and the tree to which moves lead. Two analyses of one graph
 -- differ at most in the Berge set that they show.
 use Rattle.std.proofs.Common.{◌≡◌, ◌∙◌, ℕ, List, length, true, false, Option, Some, None, inl, inr, sym, subst, ap}
-use Rattle.graph_core.specs.Common.{Graph, IsMultigraph, singles}
-use Rattle.graph_text.specs.EitherVersion.{NamedGraph}
-use Rattle.tight_cuts.specs.Candidates.{Candidate}
-use Rattle.ear_core.specs.EarLists.{PlainEars}
-use Rattle.tree_core.specs.Common.{leaves, PlainMove, Shape, IsTally}
+use Rattle.graph_core.proofs.Common.{Graph, IsMultigraph, singles}
+use Rattle.graph_text.specs.Common.{NamedGraph, graph_text}
+use Rattle.tight_cuts.specs.Common.{Candidate}
+use Rattle.ear_core.specs.Common.{PlainEars}
+use Rattle.tree_core.proofs.Common.{leaves, PlainMove, Shape, IsTally}
 use Rattle.tree_check.proofs.ReplayAnswers.{last-once}
-use Rattle.tree_text.specs.Writing.{tree_text}
-use Rattle.graph6_text.specs.Writing.{graph6_of}
-use Rattle.report_text.specs.Analyses.{analysis_text}
-use Rattle.report_text.specs.Derivations.{derivation_text}
-use Rattle.report_text.specs.Growths.{grown_text}
-use Rattle.report_text.specs.Judgements.{judgement_text}
-use Rattle.report_text.specs.Reports.{graph6_line}
-use Rattle.report_text.specs.Scripts.{replayed_text}
+use Rattle.tree_text.specs.Common.{tree_text}
+use Rattle.graph6_text.specs.Common.{graph6_of}
+use Rattle.report_text.specs.Common.{analysis_text, derivation_text, grown_text, judgement_text, graph6_line, replayed_text}
 use Rattle.report_text.specs.declared.judgements.TreeLine.TheVariants as line
 use Rattle.tree_core.specs.declared.tallies.LeafKind.{LeafKind}
 use Rattle.tree_core.specs.declared.tallies.Tally.{Tally}
-use Rattle.graph_text.specs.Writing.{graph_text}
-use Rattle.grow_gen.specs.Growth.{grown}
+use Rattle.grow_gen.specs.Common.{grown}
 use Rattle.bench_outcomes.specs.Common.{CheckGives, Refuses, EarCheckGives, MayBeBerge, Grown, IsCounted, Analysed, Analysed6, DecomposeGives, TellsDerivation, with_given_names, ReplayGives, ReplayedTree}
 use Rattle.bench_top.specs.Fixed.{DifferAtMostIn}
-use Rattle.decomposer.specs.Orders.{NamedPicks}
+use Rattle.decomposer.specs.Common.{NamedPicks}
 use Rattle.decomposer.specs.declared.orders.NamedOrder.{NamedOrder}
 use Rattle.decomposer.specs.declared.orders.NamedOrder.TheVariants.{First, Last}
 use Rattle.bench_outcomes.specs.declared.status.Status.TheVariants.{Done}

@@ -1,7 +1,7 @@
 -- How alike are two reports of one task? One line for each task says it of a done one and of a
 -- refused one, as far as its conduct promises; the rest goes by the conduct alone.
 use Rattle.std.proofs.Common.{◌≡◌, ◌∙◌, ℕ, List, inl, inr, sym, subst}
-use Rattle.decomposer.specs.Orders.{NamedPicks, ScriptPicks}
+use Rattle.decomposer.specs.Common.{NamedPicks, ScriptPicks}
 use Rattle.bench_tasks.specs.Common.{Task}
 use Rattle.bench_tasks.specs.Tasks as task
 use Rattle.bench_tasks.specs.declared.verbs.GraphVerb.TheVariants.{Analyse, Convert, Decompose, Ears}

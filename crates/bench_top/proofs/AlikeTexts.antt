@@ -1,8 +1,7 @@
 -- Two texts that differ at most in one list of numbers, between texts that are the same.
-use Rattle.std.proofs.Common.{◌≡◌, ◌∙◌, ℕ, List, [], ◌++◌, length, false, inl, inr, sym, ap, append_assoc}
+use Rattle.std.proofs.Common.{◌≡◌, ◌∙◌, ℕ, List, [], ◌++◌, length, false, inl, inr, sym, ap, append_assoc, codes}
 use Rattle.counting.proofs.Common.{append-nil}
-use Rattle.std.specs.Prelude.{codes}
-use Rattle.report_text.specs.Reports.{graph6_line, name_lines, numbers_text, with_names_text}
+use Rattle.report_text.specs.Common.{graph6_line, name_lines, numbers_text, with_names_text}
 use Rattle.bench_top.specs.Fixed.{DifferAtMostIn}
 
 -- with no right list the texts are one

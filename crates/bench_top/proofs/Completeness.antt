@@ -1,7 +1,7 @@
 -- Words and files decide the status: of good files by whether the task succeeds, and of a bad one
 -- it is BadInput.
 use Rattle.std.proofs.Common.{◌≡◌, ◌∙◌, ◌↔◌, ℕ, List, Option, Some, None, ◌⊎◌, inl, inr, refl, sym, subst}
-use Rattle.outside.specs.Shelf.{NamedFile}
+use Rattle.outside.specs.Common.{NamedFile}
 use Rattle.bench_tasks.specs.Common.{Command, command_of, Loaded, All, Bad, Absent, loaded, Task}
 use Rattle.bench_outcomes.specs.Common.{CommandGives, IsReported, LoadedGives, Outcome, Succeeds}
 use Rattle.bench_outcomes.specs.declared.status.Status.{Status}

@@ -1,12 +1,11 @@
 -- What `convert` writes stands for the graph with the names that it writes, and for nothing else.
 -- So a file that holds it is read as this graph with these names, and the text of them is the
 -- same text.
-use Rattle.std.proofs.Common.{◌≡◌, ◌∙◌, ℕ, ◌≤◌, List, [], ◌∷◌, length, Some, refl, sym, subst}
-use Rattle.std.specs.Prelude.{codes}
-use Rattle.outside.specs.Shelf.{NamedFile, file_named}
+use Rattle.std.proofs.Common.{◌≡◌, ◌∙◌, ℕ, ◌≤◌, List, [], ◌∷◌, length, Some, refl, sym, subst, codes}
+use Rattle.outside.specs.Common.{NamedFile, file_named}
 use Rattle.line_text.specs.Common.{reading_of}
 use Rattle.line_text.proofs.ExactlyOne.{Stands-reading_of}
-use Rattle.graph_text.specs.EitherVersion.{NamedGraph, either_version}
+use Rattle.graph_text.specs.Common.{NamedGraph, either_version}
 use Rattle.bench_tasks.specs.Common.{Loaded, All, Bad, Absent, loaded_as, graph_file, most_bytes}
 use Rattle.bench_outcomes.specs.Common.{LoadedGives, Outcome, Converted, given_or_plain}
 use Rattle.bench_tasks.specs.Tasks as task

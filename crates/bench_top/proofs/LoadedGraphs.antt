@@ -1,14 +1,14 @@
 -- What the files of a command hold keeps a graph: the graph that a file is read as is one. Each
 -- case of loading passes this on.
 use Rattle.std.proofs.Common.{ℕ, Bool, true, false, cond, nat_lt, List, length, Option, Some, None, Result, Ok, Err}
-use Rattle.outside.specs.Shelf.{NamedFile, file_named}
+use Rattle.outside.specs.Common.{NamedFile, file_named}
 use Rattle.line_text.specs.Common.{reading_of}
-use Rattle.graph6_text.specs.Reading.{outcome_of}
-use Rattle.ear_core.specs.EarLists.{PlainEars}
-use Rattle.graph_core.specs.Common.{Graph, IsMultigraph}
+use Rattle.graph6_text.specs.Common.{outcome_of}
+use Rattle.ear_core.specs.Common.{PlainEars}
+use Rattle.graph_core.proofs.Common.{Graph, IsMultigraph}
 use Rattle.text_faults.specs.declared.faults.FaultKind.{FaultKind}
-use Rattle.graph_text.specs.EitherVersion.{NamedGraph, either_version}
-use Rattle.tree_core.specs.Common.{PlainMove, Shape}
+use Rattle.graph_text.specs.Common.{NamedGraph, either_version}
+use Rattle.tree_core.proofs.Common.{PlainMove, Shape}
 use Rattle.bench_tasks.specs.Common.{Command, OnGraph, OnSimpleGraph, OnTree, OnPicks, OnEars, OnMoves, OnTrees, OnNumbers, Loaded, All, Bad, Absent, and_then, ear_file, ears_given, file_read, from_reading, graph6_file, graph_file, loaded, loaded_as, most_bytes, move_file, moves_given, on_ears, on_moves, on_picks, on_tree, on_trees, pick_file, picks_given, tree_file, tree_given, trees_given, Task}
 use Rattle.bench_tasks.specs.Tasks as task
 use Rattle.bench_top.proofs.ReadGraphs.{GoesOn, HasGraph, IsRead, read-graph}

@@ -1,7 +1,7 @@
 -- How many outputs does a done task have? One, if its text is not free; what an analysis or a
 -- refusal leaves free is one list of numbers.
 use Rattle.std.proofs.Common.{◌≡◌, ◌∙◌, ℕ, List, Option, Some, None, inl, inr, sym, subst}
-use Rattle.outside.specs.Shelf.{NamedFile}
+use Rattle.outside.specs.Common.{NamedFile}
 use Rattle.bench_tasks.specs.Common.{Command, command_of, Loaded, All, Bad, Absent, loaded, Task}
 use Rattle.bench_outcomes.specs.Common.{CommandGives, LoadedGives, Outcome, ResultOf}
 use Rattle.bench_outcomes.specs.declared.status.Status.{Status}

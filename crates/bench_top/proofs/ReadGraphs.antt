@@ -1,22 +1,18 @@
 -- The graph that a text stands for is a multigraph within the limits: the ends of each edge are
 -- vertices, and differ. What has been read so far keeps this from line to line, and has no more
 -- names than vertices, so that the vertex of a name is one of the graph.
-use Rattle.std.proofs.Common.{◌≡◌, ◌≢◌, ◌∙◌, ℕ, zero, suc, ◌+◌, ◌-◌, ◌<◌, ◌≤◌, ◌==◌, ◌&&◌, ◌||◌, not, nat_lt, Bool, true, false, cond, List, [], ◌∷◌, ◌++◌, length, Option, Some, None, Result, Ok, Err, refl, sym, arith, length-append}
-use Rattle.std.specs.Prelude.{codes, slice_index_or}
-use Rattle.std.specs.List.{AllByRecursion, list_any, position_or_len}
+use Rattle.std.proofs.Common.{◌≡◌, ◌≢◌, ◌∙◌, ℕ, zero, suc, ◌+◌, ◌-◌, ◌<◌, ◌≤◌, ◌==◌, ◌&&◌, ◌||◌, not, nat_lt, Bool, true, false, cond, List, [], ◌∷◌, ◌++◌, length, Option, Some, None, Result, Ok, Err, refl, sym, arith, length-append, codes, slice_index_or, ltb-false, ltb-true}
+use Rattle.counting.proofs.Common.{AllByRecursion, list_any, and_parts, both_ways, or_parts, true≢false, not-false, nat_tests, bytes_eq-Decides, Within}
+use Rattle.std.specs.List.{position_or_len}
 use Rattle.std.specs.Result.{result_map_both}
 use Rattle.std.specs.Str.{bytes_eq}
-use Rattle.std.proofs.lemmas.Bool.{eqb-false, ltb-false, ltb-true}
-use Rattle.counting.proofs.Common.{and_parts, both_ways, or_parts, true≢false, not-false, nat_tests, bytes_eq-Decides}
-use Rattle.counting.specs.Common.{Within}
-use Rattle.graph_core.specs.Common.{Graph, HasNoLoop, IsGraph, IsMultigraph, size}
+use Rattle.std.proofs.lemmas.Bool.{eqb-false}
+use Rattle.graph_core.proofs.Common.{Graph, HasNoLoop, IsGraph, IsMultigraph, size}
 use Rattle.text_faults.specs.declared.faults.FaultKind.TheVariants as kind
 use Rattle.line_text.specs.Common.{checked, finish, step, is_number, value_of, go_on, reading_from, reading_of, SignificantLine, has_form, significant_lines_of, word_at, lines_of}
-use Rattle.text_faults.specs.Ranges.{is_out_of_range}
+use Rattle.text_faults.specs.Common.{is_out_of_range}
 use Rattle.text_faults.proofs.InRange.{in_range}
-use Rattle.graph_text.specs.EitherVersion.{EitherSoFar, NamedGraph, either_header, either_version, end_behind, is_named_header, is_over, is_plain_header, line_behind, named_edge_line, vertex_line}
-use Rattle.graph_text.specs.GraphLines.{GraphSoFar, edge_line, graph_end, graph_line}
-use Rattle.graph_text.specs.Names.{is_among, is_name, vertex_of}
+use Rattle.graph_text.specs.Common.{EitherSoFar, NamedGraph, either_header, either_version, end_behind, is_named_header, is_over, is_plain_header, line_behind, named_edge_line, vertex_line, GraphSoFar, edge_line, graph_end, graph_line, is_among, is_name, vertex_of}
 
 -- the two are different vertices
 abbrev JoinsTwo : ℕ → ℕ × ℕ → Type 0

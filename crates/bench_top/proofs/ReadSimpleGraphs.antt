@@ -1,7 +1,7 @@
 -- The graph that a graph6 text stands for is a multigraph, in the words of what is read.
 use Rattle.std.proofs.Common.{◌≡◌, ℕ, List, Result, Ok, Err, refl}
-use Rattle.graph_core.specs.Common.{Graph, IsMultigraph}
-use Rattle.graph6_text.specs.Reading.{Fault, outcome_of}
+use Rattle.graph_core.proofs.Common.{Graph, IsMultigraph}
+use Rattle.graph6_text.specs.Common.{Fault, outcome_of}
 use Rattle.list_lines.proofs.ReadMultigraphs.{read-multigraph}
 use Rattle.bench_top.proofs.ReadGraphs.{GoesOn}
 

@@ -2,7 +2,7 @@
 -- over a steady shelf, its file is not held.
 use Rattle.std.proofs.Common.{◌≡◌, ℕ, List, Bool, IsTrue, Ok, Err, Result, length, sym, subst, arith}
 use Rattle.counting.proofs.Common.{take_all}
-use Rattle.outside.specs.Shelf.{Answer, ReadsInTurn, ReadsFirst}
+use Rattle.outside.specs.Common.{Answer, ReadsInTurn, ReadsFirst}
 use Rattle.bench_tasks.specs.Common.{Loaded, Absent, FailsAs, IsReadFault, ReadsAs}
 use Rattle.bench_tasks.specs.declared.stop.Stop.{Stop}
 use Rattle.bench_tasks.specs.declared.stop.Stop.TheVariants.{ReadFault, Bad, Memory}

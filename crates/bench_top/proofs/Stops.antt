@@ -1,8 +1,7 @@
 -- What is known of the stop of a load is known of it as the reason why a run ended.
 -- Each lemma goes by the cases of the answer.
 use Rattle.std.proofs.Common.{◌≡◌, ◌∙◌, ℕ, List, Bool, Option, Ok, Err, Result, refl, ap}
-use Rattle.outside.specs.Shelf.{Answer}
-use Rattle.outside.specs.Sink.{appended}
+use Rattle.outside.specs.Common.{Answer, appended}
 use Rattle.bench_tasks.specs.Common.{Loaded, LoadsAs, FailsAs, IsReadFault, ReadsAs}
 use Rattle.bench_tasks.specs.declared.stop.Stop.{Stop}
 use Rattle.bench_tasks.specs.declared.stop.Stop.TheVariants.{ReadFault, Bad, Memory}

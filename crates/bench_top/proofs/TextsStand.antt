@@ -1,38 +1,28 @@
 -- The reports of `ears`, `replay` and `grow` are texts with comments after them, and so they
 -- stand for what the texts stand for: an ear list, a derivation, a graph. The limits of the graph
 -- make all numbers of the comments small.
-use Rattle.std.proofs.Common.{◌≡◌, ℕ, ◌<◌, ◌≤◌, ◌^◌, List, [], ◌∷◌, ◌++◌, length, map, true, None, refl, ap, arith, append_assoc, not}
-use Rattle.std.specs.Prelude.{codes}
+use Rattle.std.proofs.Common.{◌≡◌, ℕ, ◌<◌, ◌≤◌, ◌^◌, List, [], ◌∷◌, ◌++◌, length, map, true, None, refl, ap, arith, append_assoc, not, codes}
 use Rattle.std.specs.Fmt.{decimal}
 use Rattle.std.proofs.lemmas.List.Sums.{count_by-le-length}
 use Rattle.line_text.specs.Common.{Stands, is_closed, is_word, unwords}
 use Rattle.line_text.proofs.Decimals.{is_word-decimal}
 use Rattle.line_text.proofs.ReadBack.{is_closed-unlines}
-use Rattle.graph_core.specs.Common.{Graph, IsGraph, size, singles}
-use Rattle.graph_text.specs.EitherVersion.{either_version}
-use Rattle.graph_text.specs.VersionOne.{FitsVersionOne, version_one}
-use Rattle.graph_text.specs.Writing.{graph_text, graph_words}
+use Rattle.graph_core.proofs.Common.{Graph, IsGraph, size, singles}
+use Rattle.graph_text.specs.Common.{either_version, FitsVersionOne, version_one, graph_text, graph_words}
 use Rattle.graph_text.proofs.VersionOneReadBack.{Stands-graph_text}
 use Rattle.graph_text.proofs.Versions.{Stands-either}
-use Rattle.tree_core.specs.Common.{IsDerivation, IsDerivationAt, kept_at, merged_at, leaves, Shape, leaf, cut, IsTally, is_brick}
-use Rattle.tree_core.proofs.DerivationStands.{fits-derivation, stands-derivation}
-use Rattle.tree_core.proofs.Sizes.{leaf_count-cuts, length-leaves_at, node_count-cuts}
-use Rattle.tree_text.specs.TreeFormat.{tree_format}
-use Rattle.tree_text.specs.Writing.{ShoresRise, tree_text}
+use Rattle.tree_core.proofs.Common.{IsDerivation, IsDerivationAt, kept_at, merged_at, leaves, Shape, leaf, cut, IsTally, is_brick, fits-derivation, stands-derivation, leaf_count-cuts, length-leaves_at, node_count-cuts, few-nodes}
+use Rattle.tree_text.specs.Common.{tree_format, ShoresRise, tree_text}
 use Rattle.tree_text.proofs.TreeReadBack.{Stands-tree_text}
-use Rattle.ear_core.specs.EarLists.{IsEarList, PlainEars}
+use Rattle.ear_core.specs.Common.{IsEarList, PlainEars}
 use Rattle.ear_core.proofs.Stepping.{list-filled, list-fits}
 use Rattle.ear_text.specs.EarFormat.{ear_format}
 use Rattle.ear_text.specs.Writing.{ears_text, header_words, start_words, step_words}
 use Rattle.ear_text.proofs.EarsReadBack.{Stands-ears_text}
-use Rattle.report_text.specs.Comments.{IsCommented}
-use Rattle.report_text.specs.EarReports.{ears_report_text, steps_line}
-use Rattle.report_text.specs.Growths.{grown_text, growth_lines, order_line, pairs_line}
-use Rattle.report_text.specs.Scripts.{moves_line, replayed_text}
+use Rattle.report_text.specs.Common.{IsCommented, ears_report_text, steps_line, grown_text, growth_lines, order_line, pairs_line, moves_line, replayed_text}
 use Rattle.tree_core.specs.declared.tallies.Tally.{Tally}
 use Rattle.report_text.proofs.Comments.{commented-both, commented-line, commented-tail, stands-commented}
 use Rattle.bench_outcomes.specs.Common.{double_count, is_single, single_count}
-use Rattle.tree_core.proofs.FewLeaves.{few-nodes}
 use Rattle.bench_outcomes.proofs.DerivationTexts.{closed-tree_text, has-vertices}
 use Rattle.bench_outcomes.proofs.EarSteps.{few-steps}
 use Rattle.bench_top.proofs.ReadGraphs.{IsRead}

@@ -1,7 +1,7 @@
 -- The writes of a run are those of its report: one case for each status.
 use Rattle.std.proofs.Common.{◌≡◌, ◌⊎◌, inl, inr, ℕ, List, refl, sym, subst}
 use Rattle.std.specs.declared.option.Option.{Option}
-use Rattle.outside.specs.Sink.{IsWritten, appended}
+use Rattle.outside.specs.Common.{IsWritten, appended}
 use Rattle.bench_outcomes.specs.Common.{IsReported}
 use Rattle.bench_outcomes.specs.declared.status.Status.{Status}
 use Rattle.bench_outcomes.specs.declared.status.Status.TheVariants.{Done, Negative, Usage, ReadFault, BadInput, WriteFault, Memory}

@@ -1,28 +1,25 @@
 -- What is written is read back. An output that stands for a value is read as this value by a file
 -- that holds it, and the value is one with which a further command succeeds: a derivation, an ear
 -- list, a matching covered graph.
-use Rattle.std.proofs.Common.{◌≡◌, ◌∙◌, ℕ, ◌≤◌, ◌<◌, ◌^◌, ◌&&◌, nat_le, Bool, true, false, cond, List, [], ◌∷◌, length, Option, Some, None, Result, Ok, Err, inl, inr, refl, sym, subst, ap, arith, option_map, nat_lt}
-use Rattle.std.specs.Prelude.{codes}
-use Rattle.std.proofs.lemmas.Bool.{leb-true}
+use Rattle.std.proofs.Common.{◌≡◌, ◌∙◌, ℕ, ◌≤◌, ◌<◌, ◌^◌, ◌&&◌, nat_le, Bool, true, false, cond, List, [], ◌∷◌, length, Option, Some, None, Result, Ok, Err, inl, inr, refl, sym, subst, ap, arith, option_map, nat_lt, codes, leb-true}
 use Rattle.counting.proofs.Common.{and_parts}
-use Rattle.outside.specs.Shelf.{NamedFile, file_named}
+use Rattle.outside.specs.Common.{NamedFile, file_named}
 use Rattle.line_text.specs.Common.{Stands, is_number, value_of, reading_of}
 use Rattle.line_text.proofs.ExactlyOne.{Stands-from_reading, Stands-reading_of}
-use Rattle.graph_core.specs.Common.{size}
+use Rattle.graph_core.proofs.Common.{size}
 use Rattle.text_faults.specs.declared.faults.FaultKind.{FaultKind}
-use Rattle.graph_text.specs.EitherVersion.{NamedGraph, either_version}
-use Rattle.graph_text.specs.VersionOne.{FitsVersionOne}
-use Rattle.grow_gen.specs.Growth.{grown}
-use Rattle.tight_cuts.specs.Candidates.{Candidate}
-use Rattle.tree_core.specs.Common.{IsDerivation, PlainMove, Shape}
-use Rattle.tree_text.specs.TreeFormat.{tree_format}
+use Rattle.graph_text.specs.Common.{NamedGraph, either_version, FitsVersionOne}
+use Rattle.grow_gen.specs.Common.{grown}
+use Rattle.tight_cuts.specs.Common.{Candidate}
+use Rattle.tree_core.proofs.Common.{IsDerivation, PlainMove, Shape}
+use Rattle.tree_text.specs.Common.{tree_format}
 use Rattle.tree_check.proofs.ReplaySteps.{reached-derivation}
-use Rattle.move_text.specs.MoveFormat.{move_format}
+use Rattle.move_text.specs.Common.{move_format}
 use Rattle.move_text.proofs.MovesRead.{writable-read}
 use Rattle.ear_text.specs.EarFormat.{ear_format}
 use Rattle.bench_tasks.specs.Common.{Command, OnEars, OnGraph, OnNumbers, OnTree, command_of, decompose_in, most_pieces, Loaded, All, Bad, Absent, and_then, ear_file, ears_given, file_read, from_reading, graph_file, loaded, loaded_as, most_bytes, move_file, moves_given, on_ears, on_moves, on_picks, on_tree, pick_file, picks_given, tree_file, tree_given, Task}
-use Rattle.decomposer.specs.Orders.{order_named}
-use Rattle.ear_core.specs.EarLists.{PlainEars}
+use Rattle.decomposer.specs.Common.{order_named}
+use Rattle.ear_core.specs.Common.{PlainEars}
 use Rattle.bench_outcomes.specs.Common.{EarsGives, Grown, CommandGives, DecomposeGives, LoadedGives, Outcome, ResultOf, ReplayGives}
 use Rattle.bench_top.specs.RoundTrips.{AsksDone}
 use Rattle.bench_tasks.specs.Tasks as task

@@ -1,7 +1,7 @@
 -- Runs in which the outside did not fail, and runs that read all that they read.
 -- Stated by: bench_top. Rests on it: front_top.
 use Rattle.std.specs.Prelude.{ℕ, ◌⊎◌, Bool, IsTrue}
-use Rattle.outside.specs.Faults.{Rose}
+use Rattle.outside.specs.Common.{Rose}
 use Rattle.bench_outcomes.specs.declared.status.Status.{Status}
 use Rattle.bench_outcomes.specs.declared.status.Status.TheVariants as status
 

@@ -6,9 +6,8 @@ use Rattle.std.specs.declared.option.Option.{Option}
 use Rattle.std.specs.declared.option.Option.TheVariants.{Some, None}
 use Rattle.std.specs.declared.result.Result.{Result}
 use Rattle.std.specs.declared.result.Result.TheVariants.{Ok, Err}
-use Rattle.outside.specs.Shelf.{Answer, ReadsInTurn}
-use Rattle.outside.specs.Sink.{appended}
-use Rattle.report_text.specs.Reports.{bad_input_text}
+use Rattle.outside.specs.Common.{Answer, ReadsInTurn, appended}
+use Rattle.report_text.specs.Common.{bad_input_text}
 use Rattle.bench_tasks.specs.Common.{Loaded, Bad, Absent}
 use Rattle.bench_tasks.specs.declared.stop.Stop.{Stop}
 use Rattle.bench_tasks.specs.declared.stop.Stop.TheVariants as stop

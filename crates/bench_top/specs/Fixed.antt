@@ -4,7 +4,7 @@
 -- perfect matching, or the perfect matching that crosses a refused cut.
 -- Stated by: bench_top.
 use Rattle.std.specs.Prelude.{◌≡◌, ◌⊎◌, ◌++◌, ℕ, List}
-use Rattle.report_text.specs.Reports.{numbers_text}
+use Rattle.report_text.specs.Common.{numbers_text}
 use Rattle.bench_outcomes.specs.Common.{Conduct, Writes, Tells, Needs, Chooses, conduct_of}
 use Rattle.bench_tasks.specs.Common.{Task}
 

@@ -5,7 +5,7 @@ use Rattle.std.specs.Prelude.{◌≡◌, ◌<◌, ℕ, ◌+◌, List, [], ◌∷
 use Rattle.std.specs.declared.option.Option.{Option}
 use Rattle.std.specs.declared.result.Result.TheVariants.{Ok, Err}
 use Rattle.std.specs.Option.{option_map}
-use Rattle.outside.specs.Shelf.{Answer, AnswersInTurn, NamedFile}
+use Rattle.outside.specs.Common.{Answer, AnswersInTurn, NamedFile}
 use Rattle.outside.specs.declared.shelf.ShelfFault.TheVariants.{Failed, TooLong, Memory}
 use Rattle.bench_tasks.specs.Common.{by_place, place_name, Command, most_bytes, names_in}
 use Rattle.bench_outcomes.specs.Common.{CommandGives}

@@ -2,12 +2,12 @@
 -- script `replay` makes the tree to which it leads.
 -- Stated by: bench_top.
 use Rattle.std.specs.Prelude.{◌≡◌, List, [], ◌∷◌, ℕ, Some, codes, length}
-use Rattle.outside.specs.Shelf.{NamedFile}
-use Rattle.graph_text.specs.EitherVersion.{NamedGraph}
+use Rattle.outside.specs.Common.{NamedFile}
+use Rattle.graph_text.specs.Common.{NamedGraph}
 use Rattle.tree_core.specs.Common.{PlainMove, Shape, leaf_count}
-use Rattle.tree_text.specs.Writing.{tree_text}
-use Rattle.move_text.specs.Writing.{moves_text}
-use Rattle.report_text.specs.Scripts.{replayed_text, script_report_text}
+use Rattle.tree_text.specs.Common.{tree_text}
+use Rattle.move_text.specs.Common.{moves_text}
+use Rattle.report_text.specs.Common.{replayed_text, script_report_text}
 use Rattle.bench_tasks.specs.Common.{Command, command_of, All, loaded, trees_given, Task}
 use Rattle.bench_outcomes.specs.Common.{Outcome, Succeeds}
 use Rattle.bench_outcomes.specs.declared.status.Status.{Status}

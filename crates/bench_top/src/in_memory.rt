@@ -1,8 +1,7 @@
 //! Completeness over files in memory: with no outside that could fail only the words, the files
 //! and memory decide.
 ghost use Rattle.std.specs.Prelude.{◌≡◌, ◌⊎◌, ◌↔◌, ℕ, List, [], map, string_bytes, Some, None};
-ghost use Rattle.outside.specs.MemShelf.{IsRead};
-ghost use Rattle.outside.specs.Shelf.{ReadsFirst, ReadsInTurn};
+ghost use Rattle.outside.specs.Common.{IsRead, ReadsFirst, ReadsInTurn};
 ghost use Rattle.bench_tasks.specs.Common.{Command, command_of, All, Bad, Absent, loaded, file_names, names_in, names_until, Task};
 ghost use Rattle.bench_outcomes.specs.Common.{IsReported, IsSettled, Outcome, MayRefuse, Succeeds};
 

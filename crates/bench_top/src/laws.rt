@@ -1,6 +1,6 @@
 //! Laws of what the commands give.
 ghost use Rattle.std.specs.Prelude.{◌≡◌, ◌↔◌, ℕ, List, Some};
-ghost use Rattle.outside.specs.Shelf.{NamedFile};
+ghost use Rattle.outside.specs.Common.{NamedFile};
 ghost use Rattle.bench_tasks.specs.Common.{Command, command_of, All, loaded, Task};
 ghost use Rattle.bench_top.specs.Fixed.{DifferAtMostIn, HasChosenText, HasOneOutput, MayShow, ShowsNothingFree};
 ghost use Rattle.bench_outcomes.specs.Common.{Outcome, Succeeds};

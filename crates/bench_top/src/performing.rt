@@ -1,7 +1,6 @@
 //! A command from its files to its report.
 ghost use Rattle.std.specs.Prelude.{◌≡◌, ◌≢◌, ◌⊎◌, ◌↔◌, ℕ, List, IsTrue, IsErrOf, IsOk, IfOk, IfErr, Some};
-ghost use Rattle.outside.specs.Faults.{Rose};
-ghost use Rattle.outside.specs.Shelf.{NamedFile, ReadsFirst, ReadsInTurn};
+ghost use Rattle.outside.specs.Common.{Rose, NamedFile, ReadsFirst, ReadsInTurn};
 ghost use Rattle.bench_top.specs.Calm.{HasRead};
 ghost use Rattle.bench_top.specs.Endings.{IsStopOf, ReportedBad, ReportsBad, StopsAfter, Unread, stop_in};
 ghost use Rattle.bench_top.specs.Given.{GivenOutcome};

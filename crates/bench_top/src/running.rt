@@ -1,7 +1,6 @@
 //! The top call, and the same with the file that stopped it.
 ghost use Rattle.std.specs.Prelude.{◌≡◌, ◌⊎◌, ◌↔◌, ℕ, List, map, string_bytes, IsTrue, Some, None};
-ghost use Rattle.outside.specs.Faults.{Rose};
-ghost use Rattle.outside.specs.Shelf.{NamedFile, ReadsFirst, ReadsInTurn};
+ghost use Rattle.outside.specs.Common.{Rose, NamedFile, ReadsFirst, ReadsInTurn};
 ghost use Rattle.bench_tasks.specs.Common.{Command, command_of, Task, All, Bad, Absent, loaded, file_names, names_in, names_until};
 ghost use Rattle.bench_outcomes.specs.Common.{Outcome, Appended, CutShort, IsReported, IsSettled, MayRefuse, Succeeds};
 ghost use Rattle.bench_top.specs.Calm.{HasRead, IsCalm};

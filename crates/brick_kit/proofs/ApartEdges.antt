@@ -3,10 +3,9 @@
 -- edge leaves the set.
 use Rattle.std.proofs.Common.{◌≡◌, ℕ, Bool, true, false, ◌==◌, ◌&&◌, ◌||◌, not, refl, sym, ap, ◌∙◌, arith, inl, inr, ◌⊎◌, ne_eqb}
 use Rattle.std.proofs.lemmas.Bool.{eqb-false}
-use Rattle.counting.proofs.Common.{and_parts, both_ways, cases_Bool, not-true, or_from, or_parts, true≢false, count_member, count_minus, some_none, some_true}
-use Rattle.counting.specs.Common.{Within, Set, complement, minus, pair_set, singleton, some}
-use Rattle.graph_core.specs.Common.{IsCovered, Graph, HasEnds, IsGraph, first_end, in_cut, second_end, size, IsCutPair, IsNontrivial}
-use Rattle.barrier_kit.proofs.Matched.{cut_edge}
+use Rattle.counting.proofs.Common.{and_parts, both_ways, cases_Bool, not-true, or_from, or_parts, true≢false, count_member, count_minus, some_none, some_true, Within, Set, complement, minus, pair_set, singleton, some}
+use Rattle.graph_core.proofs.Common.{IsCovered, Graph, HasEnds, IsGraph, first_end, in_cut, second_end, size, IsCutPair, IsNontrivial}
+use Rattle.barrier_kit.proofs.Common.{cut_edge}
 use Rattle.brick_kit.proofs.CutEnds.{cut_ends, ends_within}
 use Rattle.brick_kit.proofs.PairSeparations.{beside_ends, separates}
 use Rattle.brick_kit.proofs.PartingShores.{ApartEdges}

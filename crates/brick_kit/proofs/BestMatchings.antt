@@ -3,10 +3,8 @@
 -- more than all edges inside; with its edges inside a swap set replaced by those of a heaviest
 -- matching it is best again.
 use Rattle.std.proofs.Common.{◌≡◌, ◌≢◌, ℕ, suc, zero, ◌+◌, ◌-◌, ◌*◌, ◌≤◌, ◌<◌, Bool, true, false, cond, ◌==◌, ◌&&◌, nat_lt, refl, sym, ap, ap₂, ◌∙◌, arith, inl, inr, eqb-true, lt-ltb, mul-le-mul_left, subst}
-use Rattle.counting.proofs.Common.{cases_Bool, cases_lt, count_congr, count_le}
-use Rattle.counting.specs.Common.{Within, bit, count, Set, none, put}
-use Rattle.graph_core.proofs.Common.{add_edge, bit_same, ends_le_degree, ends_of_is}
-use Rattle.graph_core.specs.Common.{Graph, HasEnds, IsGraph, degree, inside, size, IsMatching}
+use Rattle.counting.proofs.Common.{cases_Bool, cases_lt, count_congr, count_le, Within, bit, count, Set, none, put}
+use Rattle.graph_core.proofs.Common.{add_edge, bit_same, ends_le_degree, ends_of_is, Graph, HasEnds, IsGraph, degree, inside, size, IsMatching}
 use Rattle.brick_kit.proofs.EdgeSums.{weight_plus, weight_put, weight_test, weight_times}
 use Rattle.brick_kit.proofs.HeaviestMatchings.{heaviest_exists, heavy_heaviest, heavy_holds, heavy_part}
 use Rattle.brick_kit.proofs.LoweredWeights.{lowered, lowered_weight}

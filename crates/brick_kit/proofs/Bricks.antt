@@ -3,14 +3,10 @@
 -- uncrossed to a cut pair; a graph that is not bicritical has a barrier by the law of Tutte and
 -- Berge.
 use Rattle.std.proofs.Common.{ℕ, suc, ◌+◌, ◌≤◌, ◌≢◌, ◌∷◌, ◌⊎◌, ◌↔◌, inl, inr, arith}
-use Rattle.counting.proofs.Common.{cases_eq, two_members, scan}
-use Rattle.counting.specs.Common.{Within, bit, count, Set, pair_set}
-use Rattle.graph_core.proofs.Common.{covered_perfect}
-use Rattle.graph_core.specs.Common.{IsCovered, Graph, IsBipartite, IsMultigraph, in_cut, HasPerfect, IsPerfect, IsBarrier, IsBicritical, IsCutPair, IsNontrivial, IsTight}
-use Rattle.barrier_kit.proofs.Barriers.{equivalent_barrier}
-use Rattle.barrier_kit.proofs.CriticalPairs.{no_sides}
+use Rattle.counting.proofs.Common.{cases_eq, two_members, scan, Within, bit, count, Set, pair_set}
+use Rattle.graph_core.proofs.Common.{covered_perfect, IsCovered, Graph, IsBipartite, IsMultigraph, in_cut, HasPerfect, IsPerfect, IsBarrier, IsBicritical, IsCutPair, IsNontrivial, IsTight}
+use Rattle.barrier_kit.proofs.Common.{equivalent_barrier, no_sides, perfect_or_not}
 use Rattle.separation_kit.proofs.CutPairs.{brick_facts}
-use Rattle.barrier_kit.proofs.ClassLaw.{perfect_or_not}
 use Rattle.brick_kit.proofs.Duality.{dual}
 use Rattle.brick_kit.proofs.PairsFromShores.{pair_below}
 use Rattle.brick_kit.proofs.TightCovers.{dual_balance}

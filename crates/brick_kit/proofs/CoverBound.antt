@@ -1,11 +1,8 @@
 -- No matching weighs more than a cover, and where one weighs as much the cover is exact at its
 -- edges and its sets. The weight of a cover is summed vertex by vertex and set by set.
-use Rattle.std.proofs.Common.{◌≡◌, ℕ, suc, zero, ◌+◌, ◌*◌, ◌/◌, ◌≤◌, Bool, true, false, ◌&&◌, List, refl, sym, ap₂, ◌∙◌, arith}
-use Rattle.std.specs.Prelude.{All}
-use Rattle.counting.proofs.Common.{both_ways, total_le, total_tight}
-use Rattle.counting.specs.Common.{Within, bit, count, total, Set, none}
-use Rattle.graph_core.proofs.Common.{degrees}
-use Rattle.graph_core.specs.Common.{Graph, IsGraph, degree, first_end, in_cut, inside, second_end, size, IsMatching}
+use Rattle.std.proofs.Common.{◌≡◌, ℕ, suc, zero, ◌+◌, ◌*◌, ◌/◌, ◌≤◌, Bool, true, false, ◌&&◌, List, refl, sym, ap₂, ◌∙◌, arith, All}
+use Rattle.counting.proofs.Common.{both_ways, total_le, total_tight, Within, bit, count, total, Set, none}
+use Rattle.graph_core.proofs.Common.{degrees, Graph, IsGraph, degree, first_end, in_cut, inside, second_end, size, IsMatching}
 use Rattle.brick_kit.proofs.EdgeSums.{term_le, weight_le, weight_plus, weight_sum, weight_test}
 use Rattle.brick_kit.proofs.EndSums.{ends_weight}
 use Rattle.brick_kit.proofs.SetSums.{sum_le, sum_same, sum_tight}

@@ -3,11 +3,9 @@
 -- joins the two differences.
 use Rattle.std.proofs.Common.{◌≡◌, ℕ, ◌≤◌, Bool, true, false, cond, ◌==◌, ◌&&◌, ◌||◌, not, refl, sym, ap, ◌∙◌, arith, inl, inr, ◌⊎◌, ne_eqb}
 use Rattle.std.proofs.lemmas.Bool.{eqb-false}
-use Rattle.counting.proofs.Common.{and_from, and_parts, both_ways, cases_Bool, not-true, or_from, or_parts, true≢false, or_left, only_one, count_member, odd-add, odd_three, count_mono, count_split}
-use Rattle.counting.specs.Common.{Within, count, is_odd, Set, complement, meet, minus, pair_set, union}
-use Rattle.graph_core.proofs.Common.{no_edge_joins, union_tight}
-use Rattle.graph_core.specs.Common.{IsCovered, Graph, HasEnds, IsGraph, connects, first_end, in_cut, second_end, size, IsCutPair, IsNontrivial, IsTight}
-use Rattle.barrier_kit.proofs.CutFacts.{tight-turned}
+use Rattle.counting.proofs.Common.{and_from, and_parts, both_ways, cases_Bool, not-true, or_from, or_parts, true≢false, or_left, only_one, count_member, odd-add, odd_three, count_mono, count_split, Within, count, is_odd, Set, complement, meet, minus, pair_set, union}
+use Rattle.graph_core.proofs.Common.{no_edge_joins, union_tight, IsCovered, Graph, HasEnds, IsGraph, connects, first_end, in_cut, second_end, size, IsCutPair, IsNontrivial, IsTight}
+use Rattle.barrier_kit.proofs.Common.{tight-turned}
 use Rattle.brick_kit.proofs.CutEnds.{cut_ends, ends_within}
 use Rattle.brick_kit.proofs.PairSeparations.{beside_ends, separates}
 use Rattle.brick_kit.proofs.PartingShores.{ApartEdges}

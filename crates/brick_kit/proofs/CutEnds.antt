@@ -1,9 +1,8 @@
 -- An edge by its two ends, whichever is the first.
 -- Tables of the two bits at the ends.
 use Rattle.std.proofs.Common.{◌≡◌, ℕ, Bool, true, false, ◌&&◌, ◌||◌, not, refl, sym, ap, ap₂, ◌∙◌, inl, inr, subst}
-use Rattle.counting.proofs.Common.{true≢false, and_comm}
-use Rattle.counting.specs.Common.{Within, Set}
-use Rattle.graph_core.specs.Common.{Graph, HasEnds, IsGraph, first_end, in_cut, inside, second_end, size}
+use Rattle.counting.proofs.Common.{true≢false, and_comm, Within, Set}
+use Rattle.graph_core.proofs.Common.{Graph, HasEnds, IsGraph, first_end, in_cut, inside, second_end, size}
 
 -- an edge of the cut has one end in x and the other outside
 pub cut_ends : (g : Graph) (x : Set) (e : ℕ) → in_cut g x e ≡ true → (u : ℕ) × (v : ℕ) × HasEnds g e u v × (x u ≡ true) × (x v ≡ false)

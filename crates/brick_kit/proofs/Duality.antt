@@ -3,10 +3,8 @@
 -- else a component of the edges that have weight is an odd set, and the edges inside it are
 -- lowered.
 use Rattle.std.proofs.Common.{◌≡◌, ℕ, suc, zero, ◌+◌, ◌*◌, ◌≤◌, ◌<◌, true, ◌⊎◌, List, [], refl, sym, ◌∙◌, arith, inl, inr}
-use Rattle.counting.proofs.Common.{and_from, cases_lt, All-nil, scan, at_le_total, some_term, total_none, total_zero}
-use Rattle.counting.specs.Common.{Within, bit, count, is_odd, total, Set, none}
-use Rattle.graph_core.proofs.Common.{none_matching}
-use Rattle.graph_core.specs.Common.{Graph, IsGraph, degree, first_end, inside, second_end, size}
+use Rattle.counting.proofs.Common.{and_from, cases_lt, All-nil, scan, at_le_total, some_term, total_none, total_zero, Within, bit, count, is_odd, total, Set, none}
+use Rattle.graph_core.proofs.Common.{none_matching, Graph, IsGraph, degree, first_end, inside, second_end, size}
 use Rattle.brick_kit.proofs.CoverBound.{Dual, cover_bound}
 use Rattle.brick_kit.proofs.CutEnds.{same_side}
 use Rattle.brick_kit.proofs.HeaviestMatchings.{heaviest_exists, heaviest_misses}

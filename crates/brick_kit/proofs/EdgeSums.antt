@@ -1,9 +1,8 @@
 -- Weights as sums over the edges: of sums, multiples, flat weights and tests, and with one edge
 -- more. Term by term over the edges.
 use Rattle.std.proofs.Common.{◌≡◌, ℕ, ◌+◌, ◌*◌, ◌≤◌, ◌<◌, Bool, true, false, ◌&&◌, List, [], ◌∷◌, refl, sym, ap, ◌∙◌, arith, mul-add, inl, inr}
-use Rattle.counting.proofs.Common.{bit-and, both_ways, cases_lt, total_put, total_add, total_congr, total_le, total_mul, total_none, total_tight, bit_times_le}
-use Rattle.counting.specs.Common.{Within, bit, count, total, Set, put}
-use Rattle.graph_core.specs.Common.{Graph, size}
+use Rattle.counting.proofs.Common.{bit-and, both_ways, cases_lt, total_put, total_add, total_congr, total_le, total_mul, total_none, total_tight, bit_times_le, Within, bit, count, total, Set, put}
+use Rattle.graph_core.proofs.Common.{Graph, size}
 use Rattle.brick_kit.specs.Weights.{sum_over, weight_of}
 
 -- a sum is less where no term is more and one is less

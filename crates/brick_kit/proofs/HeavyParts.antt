@@ -1,11 +1,8 @@
 -- What the edges of weight 1 or more reach from a vertex.
 -- Walks speak of any test of adjacency, so no graph is made for it.
-use Rattle.std.proofs.Common.{◌≡◌, ℕ, ◌<◌, Bool, true, false, ◌&&◌, ◌||◌, not, List, nat_lt, refl, sym, lt-ltb, ◌++◌}
-use Rattle.std.proofs.lemmas.Bool.{ltb-true}
-use Rattle.counting.proofs.Common.{and_from, and_parts, some_true, true_some}
-use Rattle.counting.specs.Common.{Within, Set, some}
-use Rattle.graph_core.proofs.Common.{IsClosed, Walk-back, Walk-join, flood_closed, flood_own, flood_walk, has_ends-back, has_ends-cases, has_ends-own}
-use Rattle.graph_core.specs.Common.{Graph, HasEnds, IsGraph, first_end, has_ends, in_cut, second_end, size, Walk, reaches}
+use Rattle.std.proofs.Common.{◌≡◌, ℕ, ◌<◌, Bool, true, false, ◌&&◌, ◌||◌, not, List, nat_lt, refl, sym, lt-ltb, ◌++◌, ltb-true}
+use Rattle.counting.proofs.Common.{and_from, and_parts, some_true, true_some, Within, Set, some}
+use Rattle.graph_core.proofs.Common.{IsClosed, Walk-back, Walk-join, flood_closed, flood_own, flood_walk, has_ends-back, has_ends-cases, has_ends-own, Graph, HasEnds, IsGraph, first_end, has_ends, in_cut, second_end, size, Walk, reaches}
 use Rattle.brick_kit.proofs.CutEnds.{ends_within}
 
 -- some edge of weight 1 or more joins u and v

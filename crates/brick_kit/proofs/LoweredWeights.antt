@@ -1,11 +1,9 @@
 -- Weights lowered by one at the edges of a set that have any.
 -- Edge by edge the old weight is the new one, and one more where there was some.
 use Rattle.std.proofs.Common.{◌≡◌, ℕ, suc, zero, ◌+◌, ◌-◌, ◌*◌, ◌≤◌, ◌<◌, Bool, true, false, ◌&&◌, nat_lt, refl, ap, ◌∙◌, arith, lt-ltb}
-use Rattle.counting.proofs.Common.{total_congr, total_le}
-use Rattle.counting.specs.Common.{Within, bit, count, total, Set}
-use Rattle.graph_core.specs.Common.{Graph, size}
-use Rattle.brick_kit.proofs.EdgeSums.{term_le, weight_plus, weight_test}
-use Rattle.brick_kit.proofs.EdgeSums.{total_less}
+use Rattle.counting.proofs.Common.{total_congr, total_le, Within, bit, count, total, Set}
+use Rattle.graph_core.proofs.Common.{Graph, size}
+use Rattle.brick_kit.proofs.EdgeSums.{term_le, weight_plus, weight_test, total_less}
 use Rattle.brick_kit.specs.Weights.{weight_of}
 
 -- w, less one at the edges of p that have any

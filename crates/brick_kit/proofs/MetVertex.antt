@@ -3,10 +3,8 @@
 -- matching that is heaviest for the lowered weight would be heaviest for the weight, and have an
 -- edge at the vertex where the two differ.
 use Rattle.std.proofs.Common.{◌≡◌, ℕ, ◌+◌, ◌/◌, ◌≤◌, ◌<◌, Bool, true, false, ◌==◌, ◌&&◌, ◌||◌, sym, arith, nat_lt, inl, inr, eq-eqb}
-use Rattle.counting.proofs.Common.{cases_lt, or_left, or_right, count_singleton, total_add}
-use Rattle.counting.specs.Common.{Within, bit, count, total, Set}
-use Rattle.graph_core.proofs.Common.{edge_at}
-use Rattle.graph_core.specs.Common.{Graph, IsGraph, degree, first_end, inside, second_end, size}
+use Rattle.counting.proofs.Common.{cases_lt, or_left, or_right, count_singleton, total_add, Within, bit, count, total, Set}
+use Rattle.graph_core.proofs.Common.{edge_at, Graph, IsGraph, degree, first_end, inside, second_end, size}
 use Rattle.brick_kit.proofs.CoverBound.{Dual, cover_bound}
 use Rattle.brick_kit.proofs.EdgeSums.{weight_drop}
 use Rattle.brick_kit.proofs.HeaviestMatchings.{heaviest_exists, heavy_heaviest, heavy_holds, heavy_part}

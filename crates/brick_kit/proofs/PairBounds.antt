@@ -1,12 +1,9 @@
 -- The numbers of two vertices of a bicritical graph are bounded by twice s and the members that
 -- part them. The sums over a perfect matching and over one without the two vertices differ by the
 -- two numbers.
-use Rattle.std.proofs.Common.{◌≡◌, ℕ, suc, zero, ◌+◌, ◌*◌, ◌≤◌, ◌≢◌, Bool, true, false, ◌==◌, ◌&&◌, ◌||◌, not, List, [], ◌∷◌, refl, sym, ap, ap₂, ◌∙◌, arith, mul-add, eqb-true}
-use Rattle.std.specs.Prelude.{All}
-use Rattle.counting.proofs.Common.{both_ways, All-head, All-tail, odd-double, total_add, total_congr, total_none}
-use Rattle.counting.specs.Common.{Within, bit, count, is_odd, total, Set, none, pair_set}
-use Rattle.graph_core.proofs.Common.{degrees}
-use Rattle.graph_core.specs.Common.{Graph, IsGraph, degree, edges_in_cut, first_end, in_cut, inside, second_end, size, IsPerfect, IsTight}
+use Rattle.std.proofs.Common.{◌≡◌, ℕ, suc, zero, ◌+◌, ◌*◌, ◌≤◌, ◌≢◌, Bool, true, false, ◌==◌, ◌&&◌, ◌||◌, not, List, [], ◌∷◌, refl, sym, ap, ap₂, ◌∙◌, arith, mul-add, eqb-true, All}
+use Rattle.counting.proofs.Common.{both_ways, All-head, All-tail, odd-double, total_add, total_congr, total_none, Within, bit, count, is_odd, total, Set, none, pair_set}
+use Rattle.graph_core.proofs.Common.{degrees, Graph, IsGraph, degree, edges_in_cut, first_end, in_cut, inside, second_end, size, IsPerfect, IsTight}
 use Rattle.brick_kit.specs.Balances.{IsBalanced, apart, parts}
 use Rattle.brick_kit.proofs.EndSums.{alone, ends_weight}
 use Rattle.brick_kit.specs.Weights.{sum_over}

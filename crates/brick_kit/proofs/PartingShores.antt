@@ -1,11 +1,9 @@
 -- Two edges of the cut of a member without a common end: another member parts the one from the
 -- other. The numbers at the four ends say that the members part the ends of the edges less often
 -- than the ends on the two sides.
-use Rattle.std.proofs.Common.{◌≡◌, ℕ, ◌+◌, ◌≤◌, ◌<◌, ◌≢◌, Bool, true, false, ◌&&◌, ◌||◌, not, List, [], ◌∷◌, refl, sym, ap, ap₂, ◌∙◌, arith, inl, inr, add_comm}
-use Rattle.std.specs.Prelude.{All}
-use Rattle.counting.proofs.Common.{cases_lt, true≢false, All-cons, All-head, All-tail}
-use Rattle.counting.specs.Common.{Within, bit, Set}
-use Rattle.graph_core.specs.Common.{Graph, HasEnds, IsGraph, size, IsTight}
+use Rattle.std.proofs.Common.{◌≡◌, ℕ, ◌+◌, ◌≤◌, ◌<◌, ◌≢◌, Bool, true, false, ◌&&◌, ◌||◌, not, List, [], ◌∷◌, refl, sym, ap, ap₂, ◌∙◌, arith, inl, inr, add_comm, All}
+use Rattle.counting.proofs.Common.{cases_lt, true≢false, All-cons, All-head, All-tail, Within, bit, Set}
+use Rattle.graph_core.proofs.Common.{Graph, HasEnds, IsGraph, size, IsTight}
 use Rattle.brick_kit.proofs.CutEnds.{ends_within}
 use Rattle.brick_kit.proofs.SetSums.{sum_plus, sum_same}
 use Rattle.brick_kit.specs.Balances.{IsBalanced, apart, parts}

@@ -2,10 +2,8 @@
 -- edges inside as vertices, so that the matching that misses one of its vertices has no more
 -- edges there.
 use Rattle.std.proofs.Common.{◌≡◌, ℕ, suc, zero, ◌+◌, ◌*◌, ◌≤◌, ◌≢◌, Bool, true, false, cond, ◌==◌, ◌&&◌, ◌||◌, not, ◌⊎◌, refl, sym, ap, ap₂, ◌∙◌, arith, inl, inr, add_comm, eqb-true, eq-eqb}
-use Rattle.counting.proofs.Common.{and_from, and_parts, cases_Bool, true≢false, and_left, and_right, count_congr, member_count, two_members, total_add, total_congr, total_none}
-use Rattle.counting.specs.Common.{Within, bit, count, total, Set, none}
-use Rattle.graph_core.proofs.Common.{degrees}
-use Rattle.graph_core.specs.Common.{Graph, IsGraph, degree, first_end, in_cut, inside, second_end, size, IsMatching}
+use Rattle.counting.proofs.Common.{and_from, and_parts, cases_Bool, true≢false, and_left, and_right, count_congr, member_count, two_members, total_add, total_congr, total_none, Within, bit, count, total, Set, none}
+use Rattle.graph_core.proofs.Common.{degrees, Graph, IsGraph, degree, first_end, in_cut, inside, second_end, size, IsMatching}
 use Rattle.brick_kit.specs.Weights.{weight_of}
 
 -- a set with t inside k, which no edge of m or n leaves, with nearly as many edges of m and of n

@@ -2,11 +2,9 @@
 -- Vertex by vertex the meet and the union part as often as the two members, and twice less where
 -- these cross.
 use Rattle.std.proofs.Common.{◌≡◌, ℕ, ◌+◌, ◌*◌, ◌≤◌, ◌<◌, Bool, true, false, ◌&&◌, ◌||◌, not, List, ◌∷◌, refl, ap, ◌∙◌, arith}
-use Rattle.counting.proofs.Common.{All-cons, All-head, All-tail, total_congr, total_le}
-use Rattle.counting.specs.Common.{Within, bit, count, is_odd, total, Set, complement, meet, minus, union}
-use Rattle.graph_core.proofs.Common.{meet_tight, no_edge_joins, union_tight}
-use Rattle.graph_core.specs.Common.{IsCovered, Graph, IsGraph, first_end, second_end, IsTight}
-use Rattle.barrier_kit.proofs.CutFacts.{tight-turned}
+use Rattle.counting.proofs.Common.{All-cons, All-head, All-tail, total_congr, total_le, Within, bit, count, is_odd, total, Set, complement, meet, minus, union}
+use Rattle.graph_core.proofs.Common.{meet_tight, no_edge_joins, union_tight, IsCovered, Graph, IsGraph, first_end, second_end, IsTight}
+use Rattle.barrier_kit.proofs.Common.{tight-turned}
 use Rattle.brick_kit.proofs.PartingShores.{Picked}
 use Rattle.brick_kit.specs.Balances.{IsBalanced, apart, parts}
 use Rattle.brick_kit.proofs.EdgeSums.{total_less}

@@ -3,11 +3,9 @@
 -- definition is.
 use Rattle.std.proofs.Common.{◌≡◌, ℕ, ◌+◌, ◌-◌, ◌≤◌, ◌<◌, Bool, true, false, not, cond, nat_lt, List, [], ◌∷◌, length, refl, sym, ap, ◌∙◌, arith, zero, suc, get_or, insert, count_by, Option, Some, None, position, MatchOption, IfSome, IfNone, unwrap_or, if◌then◌else◌, subst}
 use Rattle.std.specs.List.{position_or_len}
-use Rattle.counting.proofs.Common.{get_or-map, length-map, nat_tests, sum_by-cons, last-greatest, length-within, total_congr}
+use Rattle.counting.proofs.Common.{get_or-map, length-map, nat_tests, sum_by-cons, last-greatest, length-within, total_congr, Within, bit, count, total, IsGreatestOf, IsRisingIn, last_of, mem}
 use Rattle.itertools.specs.Consumer.{find_at}
-use Rattle.counting.specs.Common.{Within, bit, count, total, IsGreatestOf, IsRisingIn, last_of, mem}
-use Rattle.graph_core.proofs.Common.{mem_last}
-use Rattle.graph_core.specs.Common.{IsPartition, block, insert_block, names_of, place}
+use Rattle.graph_core.proofs.Common.{mem_last, IsPartition, block, insert_block, names_of, place}
 
 -- the greatest number of a set, or 0, is its last
 pub name-option : (n : ℕ) (b : List ℕ) (r : Option ℕ) → IsRisingIn n b → IfSome r (IsGreatestOf b) → IfNone r (b ≡ []) → unwrap_or r 0 ≡ last_of b

@@ -1,11 +1,8 @@
 -- Unions of blocks as the code tests them: each block has all of its vertices in the set, or none.
 -- A block is a union's where one of its vertices is, so its name decides.
 use Rattle.std.proofs.Common.{◌≡◌, ℕ, ◌<◌, ◌==◌, Bool, true, false, not, cond, ◌||◌, ◌&&◌, List, [], ◌∷◌, length, refl, sym, ap, ap₂, ◌∙◌, arith, inl, inr, filter, eq-eqb, ne_eqb, suc}
-use Rattle.std.specs.List.{list_all}
-use Rattle.counting.proofs.Common.{both_ways, and_parts, and_from, or_cases, or_left, or_right, false_from_ne_true, not-true, mem-within, member-of_set, all_in_true, true_all_in, set-part}
-use Rattle.counting.specs.Common.{Within, IsRisingIn, all_in, is_apart, is_subset, last_of, mem}
-use Rattle.graph_core.proofs.Common.{in_union, place_in, merged_blocks, Has, block_has, has_block, mem_last}
-use Rattle.graph_core.specs.Common.{AreBlocks, IsPartition, block, insert_block, merged, place, IsUnion}
+use Rattle.counting.proofs.Common.{list_all, both_ways, and_parts, and_from, or_cases, or_left, or_right, false_from_ne_true, not-true, mem-within, member-of_set, all_in_true, true_all_in, set-part, Within, IsRisingIn, all_in, is_apart, is_subset, last_of, mem}
+use Rattle.graph_core.proofs.Common.{in_union, place_in, merged_blocks, Has, block_has, has_block, mem_last, AreBlocks, IsPartition, block, insert_block, merged, place, IsUnion}
 use Rattle.contraction.specs.Partition.{IsUnionAt, KeepsPartition, PartitionValue}
 
 -- no vertex of b is in s where their common part is empty

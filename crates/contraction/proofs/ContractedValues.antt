@@ -1,9 +1,8 @@
 -- What the value of a quotient says: as many lists of remembered edges as edges, each that of its
 -- edge, and the union of the blocks at the places of a set.
 use Rattle.std.proofs.Common.{◌≡◌, ℕ, ◌-◌, ◌≤◌, true, ◌&&◌, List, [], length, sym, ap, ◌∙◌, arith, subst}
-use Rattle.counting.proofs.Common.{and_parts, get_or-map, length-map, list-from_test, set-narrower, some_true}
-use Rattle.counting.specs.Common.{Within, IsRisingIn, item, mem, some}
-use Rattle.graph_core.specs.Common.{Graph, size, block, edges_between, quotient, remembered, union_of_blocks}
+use Rattle.counting.proofs.Common.{and_parts, get_or-map, length-map, list-from_test, set-narrower, some_true, Within, IsRisingIn, item, mem, some}
+use Rattle.graph_core.proofs.Common.{Graph, size, block, edges_between, quotient, remembered, union_of_blocks}
 use Rattle.contraction.proofs.BlockLists.{length-partition}
 use Rattle.contraction.specs.Contracted.{ContractedValue, KeepsContraction, contraction}
 use Rattle.contraction.specs.Partition.{KeepsPartition, PartitionValue}

@@ -2,10 +2,8 @@
 -- matching covered where the contracted graph is, and the complement of a tight shore is a tight
 -- shore.
 use Rattle.std.proofs.Common.{ℕ, List}
-use Rattle.counting.proofs.Common.{mem-within, member-of_set}
-use Rattle.counting.specs.Common.{IsRisingIn, mem, Set}
-use Rattle.graph_core.proofs.Common.{covered_merged, merge_of, tight_down_merged, tight_up_merged, shore-some}
-use Rattle.graph_core.specs.Common.{IsCovered, Graph, IsGraph, AreBlocks, merged, quotient, IsTightAt, IsUnion}
+use Rattle.counting.proofs.Common.{mem-within, member-of_set, IsRisingIn, mem, Set}
+use Rattle.graph_core.proofs.Common.{covered_merged, merge_of, tight_down_merged, tight_up_merged, shore-some, IsCovered, Graph, IsGraph, AreBlocks, merged, quotient, IsTightAt, IsUnion}
 use Rattle.contraction.proofs.QuotientLaws.{covered_down, covered_up}
 
 module _ (g : Graph) (p : List (List ℕ)) (x : List ℕ) (is : IsGraph g) (pp : AreBlocks g.order p) (rises : IsRisingIn g.order x) (tight : IsTightAt g p (mem x)) where

@@ -5,7 +5,7 @@ use Rattle.std.proofs.Common.{◌≡◌, ℕ, ◌+◌, ◌<◌, Bool, true, ◌=
 use Rattle.counting.proofs.Common.{false_from_ne_true, and_parts, get_or-map, length-map, take_more, HasPair, at_pair, pair_at}
 use Rattle.std.proofs.lemmas.List.{map_push, take-map}
 use Rattle.indexmap.specs.IndexMap.{insert_entry}
-use Rattle.graph_core.specs.Common.{pair_of}
+use Rattle.graph_core.proofs.Common.{pair_of}
 use Rattle.graph_core.specs.declared.ends.Ends.{Ends}
 use Rattle.contraction.specs.Pairs.{EachOnce}
 

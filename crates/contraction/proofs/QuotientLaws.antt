@@ -1,11 +1,9 @@
 -- The quotient and the contracted graph have the same adjacent pairs, so both are matching
 -- covered or neither is, and a union of blocks is tight in the one where it is in the other.
 use Rattle.std.proofs.Common.{◌≡◌, ℕ, ◌<◌, ◌≢◌, true, not, ◌==◌, List, length, refl, sym, ap, ◌∙◌, arith, inl, inr, subst, ne_eqb}
-use Rattle.counting.proofs.Common.{and_parts, and_from, cases_order, some_true, true_some, same_tests}
-use Rattle.counting.specs.Common.{Within, Set, some}
-use Rattle.graph_core.proofs.Common.{Alike, covered_over, has_ends-from, contracted-graph, contracted-order, contracted-size, edge_of_pair, quotient-order, quotient_edge, quotient_graph, has_ends-back, has_ends-cases}
+use Rattle.counting.proofs.Common.{and_parts, and_from, cases_order, some_true, true_some, same_tests, Within, Set, some}
+use Rattle.graph_core.proofs.Common.{Alike, covered_over, has_ends-from, contracted-graph, contracted-order, contracted-size, edge_of_pair, quotient-order, quotient_edge, quotient_graph, has_ends-back, has_ends-cases, IsCovered, Graph, IsGraph, first_end, has_ends, second_end, size, AreBlocks, contracted, quotient, IsTightAt, IsUnion, blocks_in, IsTight}
 use Rattle.graph_core.proofs.QuotientTight.{tight_down, tight_up}
-use Rattle.graph_core.specs.Common.{IsCovered, Graph, IsGraph, first_end, has_ends, second_end, size, AreBlocks, contracted, quotient, IsTightAt, IsUnion, blocks_in, IsTight}
 
 module _ (g : Graph) (p : List (List ℕ)) (is : IsGraph g) (pp : AreBlocks g.order p) where
   -- a < b are joined in the quotient where they are in the contracted graph

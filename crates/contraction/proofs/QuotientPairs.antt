@@ -3,9 +3,8 @@
 -- pairs in lexicographic order, each once.
 use Rattle.std.proofs.Common.{◌≡◌, ◌≢◌, ℕ, ◌+◌, ◌<◌, cond, List, [], ◌∷◌, ◌++◌, length, sym, ap, ap₂, ◌∙◌, arith, map, get_or, suc}
 use Rattle.std.proofs.lemmas.Simd.{map-map}
-use Rattle.counting.specs.Common.{rising_list}
-use Rattle.graph_core.proofs.Common.{has_ends-graph_of, pair-graph_of, size-graph_of}
-use Rattle.graph_core.specs.Common.{HasNoLoop, has_ends, contracted, place, are_ends, graph_of, pair_of}
+use Rattle.counting.proofs.Common.{rising_list}
+use Rattle.graph_core.proofs.Common.{has_ends-graph_of, pair-graph_of, size-graph_of, HasNoLoop, has_ends, contracted, place, are_ends, graph_of, pair_of}
 use Rattle.graph_core.specs.declared.ends.Ends.{Ends}
 
 -- the ends as places

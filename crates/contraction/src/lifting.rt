@@ -3,8 +3,8 @@ ghost use Rattle.std.specs.Prelude.{◌≡◌, ℕ, ◌+◌, ◌≤◌, ◌==◌
 ghost use Rattle.std.specs.List.{list_any};
 ghost use Rattle.counting.specs.Common.{Within, none, put, mem, rising_list};
 ghost use Rattle.graph_core.specs.Common.{Graph, IsGraph, size, IsPerfect, IsPerfectAt, lifted, quotient};
-ghost use Rattle.match_core.specs.MatchingRows.{IsOf, edges_of};
-ghost use Rattle.match_search.specs.Rows.{marks};
+ghost use Rattle.match_core.specs.Common.{IsOf, edges_of};
+ghost use Rattle.match_search.specs.Common.{marks};
 ghost use Rattle.contraction.specs.Contracted.{contraction};
 ghost use Rattle.contraction.specs.LeastEdges.{least_at};
 

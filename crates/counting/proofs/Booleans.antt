@@ -2,7 +2,7 @@
 -- exactly one, and tests as the numbers 0 and 1. Those of one and of both that the standard
 -- library has are not said again.
 use Rattle.std.proofs.Common.{◌≡◌, ℕ, Bool, true, false, not, ◌&&◌, ◌||◌, ◌+◌, ◌*◌, ◌≤◌, arith}
-use Rattle.counting.specs.Counts.{bit}
+use Rattle.counting.specs.Common.{bit}
 
 -- twice denied
 pub not_not : (b : Bool) → not (not b) ≡ b

@@ -3,9 +3,7 @@
 use Rattle.std.proofs.Common.{◌≡◌, ℕ, suc, zero, ◌+◌, ◌≢◌, Bool, true, false, ◌==◌, refl, sym, ap, ◌∙◌, arith, ◌||◌, not, eq-eqb, ne_eqb, ◌⊎◌, inl, inr, ◌*◌}
 use Rattle.std.proofs.lemmas.Bool.{cases_eq, cases_Bool, or_cases, or_parts, both_ways, not-true, not-false}
 use Rattle.counting.proofs.Totals.{total_add, total_at, total_congr}
-use Rattle.counting.specs.Counts.{Within, bit, count, total}
-use Rattle.counting.specs.Sets.{Set, none, put}
-use Rattle.counting.specs.Tests.{each_set, some_set}
+use Rattle.counting.specs.Common.{Within, bit, count, total, Set, none, put, each_set, some_set}
 
 -- p goes by 1 to n alone
 pub record Respects (n : ℕ) (p : Set → Bool) : Type 0 where

@@ -1,11 +1,9 @@
 -- How many of 1 to n pass a test: counts of unions, complements, of one number, and of tests that
 -- agree. Each is a sum over 1 to n of truth values, split number by number.
-use Rattle.std.proofs.Common.{◌≡◌, ℕ, ◌+◌, ◌*◌, Bool, true, false, ◌==◌, refl, sym, ap, ◌∙◌, arith, ◌&&◌, ◌||◌, not, eq-eqb, ne_eqb, suc, zero, inl, inr, ◌≤◌, ◌<◌}
-use Rattle.std.proofs.lemmas.Bool.{cases_Bool, true≢false, false_from_ne_true}
+use Rattle.std.proofs.Common.{◌≡◌, ℕ, ◌+◌, ◌*◌, Bool, true, false, ◌==◌, refl, sym, ap, ◌∙◌, arith, ◌&&◌, ◌||◌, not, eq-eqb, ne_eqb, suc, zero, inl, inr, ◌≤◌, ◌<◌, true≢false}
+use Rattle.std.proofs.lemmas.Bool.{cases_Bool, false_from_ne_true}
 use Rattle.counting.proofs.Totals.{at_le_total, total_add, total_at, total_congr, total_none, two_le_total}
-use Rattle.counting.specs.Counts.{Within, bit, count, total}
-use Rattle.counting.specs.Sets.{Set, complement, meet, union}
-use Rattle.counting.specs.Tests.{some}
+use Rattle.counting.specs.Common.{Within, bit, count, total, Set, complement, meet, union, some}
 use Rattle.counting.proofs.Booleans.{bit_and_false, bit_and_true, bit_le_one}
 
 pub bit-and : (x y : Bool) → bit (x && y) ≡ bit x * bit y

@@ -1,15 +1,12 @@
 -- Rising lists as sets: a rising list of numbers 1 to n has as many items as its test counts, and
 -- is fixed by its test. By induction on the list, with the least number that may still come.
-use Rattle.std.proofs.Common.{◌≡◌, ℕ, ◌+◌, ◌≤◌, ◌<◌, Bool, true, false, ◌==◌, ◌||◌, ◌&&◌, List, [], ◌∷◌, length, refl, sym, ap, ap₂, ◌∙◌, arith, ◌⊎◌, inl, inr, eq-eqb, ne_eqb, cond, subst, true≢false, suc, zero, ◌*◌, ◌++◌, eqb-true, sum_by, take, get_or}
-use Rattle.std.specs.Prelude.{slice_index, slice_index_or, All}
+use Rattle.std.proofs.Common.{◌≡◌, ℕ, ◌+◌, ◌≤◌, ◌<◌, Bool, true, false, ◌==◌, ◌||◌, ◌&&◌, List, [], ◌∷◌, length, refl, sym, ap, ap₂, ◌∙◌, arith, ◌⊎◌, inl, inr, eq-eqb, ne_eqb, cond, subst, true≢false, suc, zero, ◌*◌, ◌++◌, eqb-true, sum_by, take, get_or, slice_index, slice_index_or, All}
 use Rattle.std.specs.List.Sorted.{IsStrictlyIncreasing}
 use Rattle.std.proofs.lemmas.Bool.{cases_eq, cases_order, both_ways, cases_lt, or_cases, or_right, or_left, cases_Bool}
 use Rattle.std.proofs.lemmas.List.{take_more}
 use Rattle.std.proofs.lemmas.List.Sums.{sum_by-cons}
 use Rattle.counting.proofs.Totals.{total_add, total_at, total_congr, total_none, total_zero}
-use Rattle.counting.specs.Counts.{Within, bit, count, total}
-use Rattle.counting.specs.Lists.{IsRisingIn, mem, rising_list, times}
-use Rattle.counting.specs.Sets.{Set}
+use Rattle.counting.specs.Common.{Within, bit, count, total, IsRisingIn, mem, rising_list, times, Set}
 use Rattle.counting.proofs.Booleans.{or_false}
 
 -- rising numbers from low to n

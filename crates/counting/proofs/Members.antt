@@ -1,14 +1,12 @@
 -- Members of sets of numbers 1 to n: what a count tells of them, and counts where one comes or
 -- goes. A set that is counted has a member; without it the count is one less, and so on.
-use Rattle.std.proofs.Common.{◌≡◌, ℕ, ◌+◌, ◌≤◌, ◌<◌, ◌≢◌, Bool, true, false, ◌==◌, ◌&&◌, ◌||◌, not, refl, sym, ap, ◌∙◌, arith, eq-eqb, ne_eqb, eqb-true}
-use Rattle.std.proofs.lemmas.Bool.{both_ways, true≢false}
+use Rattle.std.proofs.Common.{◌≡◌, ℕ, ◌+◌, ◌≤◌, ◌<◌, ◌≢◌, Bool, true, false, ◌==◌, ◌&&◌, ◌||◌, not, refl, sym, ap, ◌∙◌, arith, eq-eqb, ne_eqb, eqb-true, true≢false}
+use Rattle.std.proofs.lemmas.Bool.{both_ways}
 use Rattle.counting.proofs.Counts.{bit_true, some_le_count}
 use Rattle.counting.proofs.SetSizes.{count_singleton}
 use Rattle.counting.proofs.Tests.{some_none}
 use Rattle.counting.proofs.Totals.{at_le_total, some_term, total_add, total_congr, total_none}
-use Rattle.counting.specs.Counts.{Within, bit, count}
-use Rattle.counting.specs.Sets.{Set, minus, singleton, union}
-use Rattle.counting.specs.Tests.{some}
+use Rattle.counting.specs.Common.{Within, bit, count, Set, minus, singleton, union, some}
 
 -- what is not counted has no member
 pub count_zero : (n : ℕ) (p : ℕ → Bool) → count n p ≡ 0 → (v : ℕ) → Within n v → p v ≡ false

@@ -1,11 +1,9 @@
 -- The parity of sums and doubles, and of the two sides of a set of numbers 1 to n.
 -- By induction on the number, with the truth table of "one of the two is odd".
-use Rattle.std.proofs.Common.{◌≡◌, ℕ, suc, zero, ◌+◌, ◌≤◌, ◌<◌, ◌/◌, ◌%◌, ◌==◌, Bool, true, false, refl, sym, ap, ap₂, ◌∙◌, arith, not, cond, zero-add, suc-add}
+use Rattle.std.proofs.Common.{◌≡◌, ℕ, suc, zero, ◌+◌, ◌≤◌, ◌<◌, ◌/◌, ◌%◌, ◌==◌, Bool, true, false, refl, sym, ap, ap₂, ◌∙◌, arith, not, cond, zero-add, suc-add, true≢false}
 use Rattle.counting.proofs.Booleans.{not_not}
-use Rattle.std.proofs.lemmas.Bool.{true≢false}
 use Rattle.counting.proofs.Counts.{count_complement}
-use Rattle.counting.specs.Counts.{Within, total, count, is_odd}
-use Rattle.counting.specs.Sets.{Set, complement}
+use Rattle.counting.specs.Common.{Within, total, count, is_odd, Set, complement}
 
 -- the parity of a number
 pub odd-double : (k : ℕ) → is_odd (k + k) ≡ false

@@ -3,8 +3,7 @@
 use Rattle.std.proofs.Common.{◌≡◌, ℕ, suc, zero, ◌<◌, Bool, true, false, cond, ◌==◌, List, [], ◌∷◌, ◌++◌, length, map, refl, sym, ap, ap₂, ◌∙◌, arith, ◌⊎◌, inl, inr, subst, eq-eqb, eqb-true, get_or, filter, nat_lt, flat_map}
 use Rattle.std.proofs.lemmas.Bool.{both_ways, or_cases, or_right, or_left}
 use Rattle.counting.proofs.Lists.{rising_holds, rising_only}
-use Rattle.counting.specs.Counts.{Within}
-use Rattle.counting.specs.Lists.{mem, pair_with, rising_list}
+use Rattle.counting.specs.Common.{Within, mem, pair_with, rising_list}
 
 -- The edges of a quotient are the adjacent pairs of places. Idea: membership in a list of pairs,
 -- step by step through its making.

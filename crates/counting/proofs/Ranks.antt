@@ -2,8 +2,7 @@
 -- They grow, each from 1 to the count is the rank of a member, and of only one.
 use Rattle.std.proofs.Common.{◌≡◌, ℕ, suc, zero, ◌≤◌, ◌<◌, true, ap, arith, inl, inr}
 use Rattle.std.proofs.lemmas.Bool.{cases_eq, cases_Bool, cases_order}
-use Rattle.counting.specs.Counts.{Within, bit, count}
-use Rattle.counting.specs.Sets.{Set}
+use Rattle.counting.specs.Common.{Within, bit, count, Set}
 
 -- ranks grow
 pub count_up : (p : Set) (a b : ℕ) → a ≤ b → count a p ≤ count b p

@@ -1,15 +1,12 @@
 -- Rising lists of numbers 1 to n and their tests: the list is fixed by its test, the test by the
 -- list, and the length is the count. A list is read from its first item on, and `rising_list` is
 -- made from its last item on; `Rises` joins the two.
-use Rattle.std.proofs.Common.{◌≡◌, ℕ, ◌+◌, ◌≤◌, ◌<◌, Bool, true, false, ◌==◌, ◌||◌, ◌&&◌, not, List, [], ◌∷◌, length, ◌↔◌, refl, sym, ap, ap₂, ◌∙◌, arith, inl, inr, eq-eqb, ne_eqb, cond, subst, suc, zero, ◌++◌, eqb-true}
-use Rattle.std.specs.Prelude.{slice_index, slice_index_or, All}
+use Rattle.std.proofs.Common.{◌≡◌, ℕ, ◌+◌, ◌≤◌, ◌<◌, Bool, true, false, ◌==◌, ◌||◌, ◌&&◌, not, List, [], ◌∷◌, length, ◌↔◌, refl, sym, ap, ap₂, ◌∙◌, arith, inl, inr, eq-eqb, ne_eqb, cond, subst, suc, zero, ◌++◌, eqb-true, slice_index, slice_index_or, All}
 use Rattle.std.specs.List.Sorted.{IsStrictlyIncreasing}
 use Rattle.std.proofs.lemmas.Bool.{both_ways, cases_eq, cases_lt, cases_order, or_cases, false_from_ne_true, and_parts, and_from, or_left, or_right}
 use Rattle.counting.proofs.Counts.{count_congr}
 use Rattle.counting.proofs.Lists.{Rises, count_mem_length, mem-within, mem_low, rises-from_set, rising_holds, rising_only, same_list}
-use Rattle.counting.specs.Counts.{Within, count}
-use Rattle.counting.specs.Lists.{IsGreatestOf, IsLeastOf, IsRisingIn, all_in, last_of, mem, rising_list}
-use Rattle.counting.specs.Sets.{Set, everything}
+use Rattle.counting.specs.Common.{Within, count, IsGreatestOf, IsLeastOf, IsRisingIn, all_in, last_of, mem, rising_list, Set, everything}
 use Rattle.counting.proofs.Booleans.{and_true, same_tests}
 
 -- a number of the list is at least its lowest bound

@@ -6,9 +6,7 @@ use Rattle.counting.proofs.Counts.{count_le, count_more, count_of_one}
 use Rattle.counting.proofs.Lists.{count_mem_length}
 use Rattle.counting.proofs.RisingLists.{all_in_true, same_rising_list}
 use Rattle.counting.proofs.Totals.{total_add, total_congr, total_le}
-use Rattle.counting.specs.Counts.{Within, bit, count}
-use Rattle.counting.specs.Lists.{IsRisingIn, is_subset, mem}
-use Rattle.counting.specs.Sets.{Set, meet, minus, singleton}
+use Rattle.counting.specs.Common.{Within, bit, count, IsRisingIn, is_subset, mem, Set, meet, minus, singleton}
 use Rattle.counting.proofs.Booleans.{bit_le, bit_parted}
 
 -- a smaller test counts fewer

@@ -1,9 +1,8 @@
 -- "Some" and "each" of 1 to n as tests that compute, against the statements; the least number
 -- that passes. By induction on n.
-use Rattle.std.proofs.Common.{◌≡◌, ℕ, suc, zero, Bool, true, false, cond, refl, sym, ap, ap₂, ◌∙◌, arith, ◌&&◌, ◌||◌, ◌⊎◌, inl, inr, subst, ◌<◌, ◌≤◌}
-use Rattle.std.proofs.lemmas.Bool.{cases_eq, cases_Bool, or_cases, and_parts, and_from, both_ways, or_left, or_right, true≢false, false_from_ne_true, cases_order}
-use Rattle.counting.specs.Counts.{Within}
-use Rattle.counting.specs.Tests.{IsLeastWithout, every, some}
+use Rattle.std.proofs.Common.{◌≡◌, ℕ, suc, zero, Bool, true, false, cond, refl, sym, ap, ap₂, ◌∙◌, arith, ◌&&◌, ◌||◌, ◌⊎◌, inl, inr, subst, ◌<◌, ◌≤◌, true≢false}
+use Rattle.std.proofs.lemmas.Bool.{cases_eq, cases_Bool, or_cases, and_parts, and_from, both_ways, or_left, or_right, false_from_ne_true, cases_order}
+use Rattle.counting.specs.Common.{Within, IsLeastWithout, every, some}
 use Rattle.counting.proofs.Booleans.{or_second}
 
 pub every_true : (n : ℕ) (p : ℕ → Bool) → every n p ≡ true → (v : ℕ) → Within n v → p v ≡ true

@@ -2,7 +2,7 @@
 -- By induction on n.
 use Rattle.std.proofs.Common.{◌≡◌, ℕ, suc, zero, ◌+◌, ◌*◌, ◌≤◌, ◌<◌, ◌≢◌, refl, sym, ap, ap₂, ◌∙◌, arith, inl, inr}
 use Rattle.std.proofs.lemmas.Bool.{cases_eq}
-use Rattle.counting.specs.Counts.{Within, total}
+use Rattle.counting.specs.Common.{Within, total}
 
 pub total_congr : (n : ℕ) (f g : ℕ → ℕ) → ((v : ℕ) → Within n v → f v ≡ g v) → total n f ≡ total n g
 total_congr zero f g h = refl

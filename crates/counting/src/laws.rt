@@ -1,7 +1,6 @@
 //! The laws on counts and choice, each the contract of a function that does nothing.
 ghost use Rattle.std.specs.Prelude.{◌≡◌, ℕ, List, length};
-ghost use Rattle.counting.specs.Counts.{count};
-ghost use Rattle.counting.specs.Lists.{mem, IsRisingIn};
+ghost use Rattle.counting.specs.Common.{count, mem, IsRisingIn};
 
 /// A rising list of numbers 1 to n has as many items as its test counts on 1 to n.
 #[tactic(auto, using(crate::proofs::Lists::count_mem_length))]

@@ -4,18 +4,14 @@
 use Rattle.std.proofs.Common.{◌≡◌, ℕ, zero, suc, ◌+◌, ◌<◌, List, [], ◌∷◌, length, map, All, unwrap_or, refl, sym, ap, ◌∙◌, arith, subst, slice_get, Option, Some, true, false, ◌==◌}
 use Rattle.counting.proofs.Common.{both_ways, length-map, get_or_from_slice_get, none-some}
 use Rattle.std.proofs.lemmas.Option.{slice_get_within}
-use Rattle.graph_core.specs.Common.{IsCovered, Graph, IsGraph, singles}
+use Rattle.graph_core.proofs.Common.{IsCovered, Graph, IsGraph, singles}
 use Rattle.tight_cuts.proofs.FirstCandidates.{first-one, first-place}
 use Rattle.tight_cuts.proofs.PartitionCandidates.{found-root, root-candidates}
-use Rattle.tight_cuts.specs.Candidates.{Candidate, candidates, first_of, first_shore}
-use Rattle.tight_cuts.specs.CandidatesAt.{IsCandidateAt, candidates_at}
-use Rattle.tight_cuts.specs.View.{candidate_of}
+use Rattle.tight_cuts.specs.Common.{Candidate, candidates, first_of, first_shore, IsCandidateAt, candidates_at, candidate_of}
 use Rattle.tight_cuts.specs.declared.candidate.Candidate.{Candidate as StoredCandidate}
-use Rattle.tree_core.proofs.AddedKinds.{adds-both}
-use Rattle.tree_core.specs.Common.{IsCutAt, PlaceValue, Shape, cut, kept_at, leaves_at, merged_at}
+use Rattle.tree_core.proofs.Common.{adds-both, IsCutAt, PlaceValue, Shape, cut, kept_at, leaves_at, merged_at}
 use Rattle.tree_core.specs.declared.tallies.LeafKind.{LeafKind}
-use Rattle.decomposer.specs.Orders.{NamedPicks}
-use Rattle.decomposer.specs.Picked.{Decomposes, IsPickedAt, IsPickedShore, PicksShore}
+use Rattle.decomposer.specs.Common.{NamedPicks, Decomposes, IsPickedAt, IsPickedShore, PicksShore}
 use Rattle.decomposer.specs.declared.orders.NamedOrder.TheVariants.{First}
 
 -- a candidate is a cut

@@ -2,8 +2,7 @@
 -- Stated by: decomposer. Rests on it: list_lines, theorems.
 use Rattle.std.specs.Prelude.{◌≡◌, ℕ, ◌-◌, ◌+◌, ◌<◌, ◌≤◌, List, length, map, slice_get, Option, Some, None, ◌⊎◌}
 use Rattle.std.specs.Borrow.{Bor}
-use Rattle.tight_cuts.specs.Candidates.{Candidate}
-use Rattle.tight_cuts.specs.View.{candidate_of}
+use Rattle.tight_cuts.specs.Common.{Candidate, candidate_of}
 use Rattle.tight_cuts.specs.declared.candidate.Candidate.{Candidate as StoredCandidate}
 
 -- how far the sides of a candidate differ in size

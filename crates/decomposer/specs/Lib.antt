@@ -1,3 +1,4 @@
 pub mod Choices
 pub mod Orders
 pub mod Picked
+pub mod Common

@@ -5,9 +5,7 @@
 use Rattle.std.specs.Prelude.{◌≡◌, ℕ, ◌+◌, List, [], All, Option, Some, None, slice_get}
 use Rattle.std.specs.Option.{option_map}
 use Rattle.graph_core.specs.Common.{Graph, singles}
-use Rattle.tight_cuts.specs.Candidates.{Candidate, first_of}
-use Rattle.tight_cuts.specs.CandidatesAt.{IsCandidateAt, candidates_at}
-use Rattle.tight_cuts.specs.View.{candidate_of}
+use Rattle.tight_cuts.specs.Common.{Candidate, first_of, IsCandidateAt, candidates_at, candidate_of}
 use Rattle.tight_cuts.specs.declared.candidate.Candidate.{Candidate as StoredCandidate}
 use Rattle.tree_core.specs.Common.{AddsKinds, IsCutAt, IsDerivationAt, IsLeafAt, PlaceValue, Shape, cut, cut_count, kept_at, leaf, leaves_at, merged_at}
 use Rattle.tree_core.specs.declared.tallies.LeafKind.{LeafKind}

@@ -1,11 +1,9 @@
 //! The decomposition of a covered graph by tight cuts, with the kinds of the leaves.
 ghost use Rattle.std.specs.Prelude.{◌≡◌, ◌≤◌, ◌+◌, length, IfOk, Some};
 ghost use Rattle.graph_core.specs.Common.{singles};
-ghost use Rattle.tight_cuts.specs.Candidates.{candidates, first_shore};
-ghost use Rattle.tight_cuts.specs.CandidatesAt.{candidates_at};
+ghost use Rattle.tight_cuts.specs.Common.{candidates, first_shore, candidates_at};
 ghost use Rattle.tree_core.specs.Common.{AreLeafKinds, IsCutAt, IsDerivation, cut, cut_count, leaves, shape_of};
-ghost use Rattle.decomposer.specs.Orders.{NamedPicks};
-ghost use Rattle.decomposer.specs.Picked.{Decomposes, IsPicked, PicksShore};
+ghost use Rattle.decomposer.specs.Common.{NamedPicks, Decomposes, IsPicked, PicksShore};
 
 use crate::orders::{NamedOrder, Order};
 use crate::shores::{picked_at, picked_at_root};

@@ -1,7 +1,6 @@
 //! Orders of choice: the trait, the orders that have names, and the order of a list of picks.
 ghost use Rattle.std.specs.Prelude.{◌≡◌, ◌<◌, ◌≤◌, ◌%◌, List, ℕ, length, map, IsTrue, slice_index_or};
-ghost use Rattle.tight_cuts.specs.Candidates.{Candidate};
-ghost use Rattle.tight_cuts.specs.View.{candidate_of};
+ghost use Rattle.tight_cuts.specs.Common.{Candidate, candidate_of};
 ghost use Rattle.decomposer.specs.Choices.{IsBalanced};
 ghost use Rattle.decomposer.specs.Orders.{NamedPicks, ScriptPicks, order_named, scripted_place};
 

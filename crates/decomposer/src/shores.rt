@@ -4,8 +4,7 @@
 ghost use Rattle.std.specs.Prelude.{◌≡◌, ℕ, List, IfOk};
 ghost use Rattle.graph_core.specs.Common.{Graph, singles};
 ghost use Rattle.tree_core.specs.Common.{IsLeafKind};
-ghost use Rattle.decomposer.specs.Orders.{NamedPicks};
-ghost use Rattle.decomposer.specs.Picked.{AreCandidatesAt, IsFirstAt, IsPickedShore};
+ghost use Rattle.decomposer.specs.Common.{NamedPicks, AreCandidatesAt, IsFirstAt, IsPickedShore};
 
 use crate::orders::{NamedOrder, Order};
 use separation_kit::FirstPairs;

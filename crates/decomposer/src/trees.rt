@@ -1,10 +1,9 @@
 //! The trees of decompositions, without the kinds of their leaves.
 ghost use Rattle.std.specs.Prelude.{◌≡◌, IfOk, Err, Some};
 ghost use Rattle.graph_core.specs.Common.{IsCovered, IsReason, reason_of};
-ghost use Rattle.tight_cuts.specs.Candidates.{candidates, first_shore};
+ghost use Rattle.tight_cuts.specs.Common.{candidates, first_shore};
 ghost use Rattle.tree_core.specs.Common.{IsDerivation, shape_of};
-ghost use Rattle.decomposer.specs.Orders.{NamedPicks};
-ghost use Rattle.decomposer.specs.Picked.{IsPicked};
+ghost use Rattle.decomposer.specs.Common.{NamedPicks, IsPicked};
 
 use crate::decomposition::{decompose_with_kinds, decompose_with_kinds_from_first};
 use crate::orders::{NamedOrder, Order};

@@ -2,10 +2,8 @@
 -- for perfect matchings it searches through all edge sets, and its condition goes by the edge
 -- numbers alone.
 use Rattle.std.proofs.Common.{◌≡◌, ℕ, true, ◌==◌, ap, ap₂, ◌&&◌, eq-eqb, eqb-true}
-use Rattle.counting.proofs.Common.{and_from, and_parts, set_found, some_set_found, count_congr}
-use Rattle.counting.specs.Common.{count, Set}
-use Rattle.graph_core.proofs.Common.{is_matching_congr, is_matching_true, true_is_matching}
-use Rattle.graph_core.specs.Common.{Graph, size, IsMatching, has_matching_of, is_matching}
+use Rattle.counting.proofs.Common.{and_from, and_parts, set_found, some_set_found, count_congr, count, Set}
+use Rattle.graph_core.proofs.Common.{is_matching_congr, is_matching_true, true_is_matching, Graph, size, IsMatching, has_matching_of, is_matching}
 
 -- some matching has k edges where the test says so
 pub has_matching_says : (g : Graph) (r : Set) (k : ℕ) → has_matching_of g r k ≡ true → (m : Set) × IsMatching g r m × (count (size g) m ≡ k)

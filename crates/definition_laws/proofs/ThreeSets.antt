@@ -1,10 +1,8 @@
 -- Each vertex is in exactly one of the Gallai-Edmonds sets D, A and C. Whether some maximum
 -- matching misses a vertex is decided, and so is whether a vertex is adjacent to such a one.
 use Rattle.std.proofs.Common.{◌≡◌, ℕ, true, ◌⊎◌, inl, inr, arith}
-use Rattle.counting.proofs.Common.{both_ways, cases_Bool, scan}
-use Rattle.counting.specs.Common.{Within, none}
-use Rattle.graph_core.proofs.Common.{missed_or_met}
-use Rattle.graph_core.specs.Common.{InA, InC, InD, Graph, adjacent}
+use Rattle.counting.proofs.Common.{both_ways, cases_Bool, scan, Within, none}
+use Rattle.graph_core.proofs.Common.{missed_or_met, InA, InC, InD, Graph, adjacent}
 
 -- some maximum matching misses v, or none does
 d_or_not : (g : Graph) (v : ℕ) → Within g.order v → (InD g v) ⊎ (InD g v → ⊥)

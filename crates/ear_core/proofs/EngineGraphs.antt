@@ -2,15 +2,12 @@
 -- perfect matching of the listed edges is one of the graph of the stage; and an edge lies in one
 -- if its two ends may be left out.
 use Rattle.std.proofs.Common.{◌≡◌, ℕ, suc, zero, ◌+◌, ◌*◌, ◌≢◌, Bool, true, false, cond, ◌==◌, refl, sym, ap, ◌∙◌, arith, ◌&&◌, not, eq-eqb, ne_eqb, eqb-true, inl, inr, [], ◌∷◌, ◌++◌, length, ◌↔◌}
-use Rattle.counting.proofs.Common.{same_tests, cases_eq, or_right, cases_Bool, and_parts, and_from, both_ways, false_from_ne_true, not-true, or_left, or_cases, or_parts, or_from, rank_once, some_true, true_some}
+use Rattle.counting.proofs.Common.{same_tests, cases_eq, or_right, cases_Bool, and_parts, and_from, both_ways, false_from_ne_true, not-true, or_left, or_cases, or_parts, or_from, rank_once, some_true, true_some, bit, count, Within, Set, union, put, pair_set, complement, some}
 use Rattle.std.proofs.lemmas.Bool.{true_from_ne_false}
-use Rattle.counting.specs.Common.{bit, count, Within, Set, union, put, pair_set, complement, some}
 use Rattle.ear_core.proofs.TraceEdges.{some-met, unmet, degree_le}
-use Rattle.ear_core.specs.StageGraphs.{by_rank, listed}
+use Rattle.ear_core.specs.Common.{by_rank, listed, is_met, IsPerfectOff, IsPerfectOf}
 use Rattle.two_ears.proofs.AddedEdges.{size-added, degree-added}
-use Rattle.ear_core.specs.Stages.{is_met, IsPerfectOff, IsPerfectOf}
-use Rattle.graph_core.proofs.Common.{degree_congr, ends_of, ends_le_degree, degree_put}
-use Rattle.graph_core.specs.Common.{Graph, size, first_end, second_end, degree, IsGraph, with_ends, IsPerfect, HasPerfect}
+use Rattle.graph_core.proofs.Common.{degree_congr, ends_of, ends_le_degree, degree_put, Graph, size, first_end, second_end, degree, IsGraph, with_ends, IsPerfect, HasPerfect}
 
 pub ends-met : (g : Graph) (f : Set) (e : ℕ) → Within (size g) e → f e ≡ true → (is_met g f (first_end g e) ≡ true) × (is_met g f (second_end g e) ≡ true)
 unfolding ends_of

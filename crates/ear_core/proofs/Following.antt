@@ -1,17 +1,11 @@
 -- The walk along two perfect matchings as the code makes it: the edges are appended one by one,
 -- and the vertices used are those passed.
-use Rattle.std.proofs.Common.{◌≡◌, ℕ, suc, zero, ◌+◌, ◌≤◌, Bool, true, false, cond, ◌==◌, ◌||◌, not, refl, sym, ap, ◌∙◌, arith, subst, List, [], ◌∷◌, ◌++◌, drop, Some}
-use Rattle.std.specs.Prelude.{slice_get}
+use Rattle.std.proofs.Common.{◌≡◌, ℕ, suc, zero, ◌+◌, ◌≤◌, Bool, true, false, cond, ◌==◌, ◌||◌, not, refl, sym, ap, ◌∙◌, arith, subst, List, [], ◌∷◌, ◌++◌, drop, Some, slice_get, append_assoc}
 use Rattle.std.proofs.Math.Path.{fun_ext}
-use Rattle.std.proofs.lemmas.List.{append_assoc}
-use Rattle.counting.proofs.Common.{and_parts, or_right, count_more, or_false_back}
-use Rattle.counting.specs.Common.{Within, count, mem, Set, complement}
-use Rattle.graph_core.specs.Common.{Graph, IsGraph}
+use Rattle.counting.proofs.Common.{and_parts, or_right, count_more, or_false_back, Within, count, mem, Set, complement}
+use Rattle.graph_core.proofs.Common.{Graph, IsGraph}
 use Rattle.match_core.specs.declared.matching.MatchRow.{MatchRow}
-use Rattle.ear_core.specs.AlternatingEars.{row_edge, mate, KeepsMates, IsAlternating, IsClear, IsTraced, HoldsMates, IsMatedEar, AreMatedEars, is_left}
-use Rattle.ear_core.specs.EarLists.{PlainEar}
-use Rattle.ear_core.specs.Ears.{trail}
-use Rattle.ear_core.specs.Stages.{is_met}
+use Rattle.ear_core.specs.Common.{row_edge, mate, KeepsMates, IsAlternating, IsClear, IsTraced, HoldsMates, IsMatedEar, AreMatedEars, is_left, PlainEar, trail, is_met}
 use Rattle.ear_core.proofs.TraceEdges.{start_mem}
 use Rattle.ear_core.proofs.NextStages.{met-within}
 use Rattle.ear_core.proofs.Mates.{AreMates}

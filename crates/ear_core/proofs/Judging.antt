@@ -1,20 +1,14 @@
 -- The answer to a list of steps, step by step: what is answered of the steps after one that is
 -- taken is answered of all. And the answer to a list is right both ways, since a list of steps
 -- has no refusal or leads not to all edges.
-use Rattle.std.proofs.Common.{◌≡◌, ◌↔◌, ℕ, ◌+◌, ◌<◌, ◌≤◌, Bool, true, false, ◌||◌, ◌==◌, List, ◌∷◌, length, Option, Some, None, Result, IfOk, refl, sym, ap, ap₂, ◌∙◌, subst, inr}
-use Rattle.std.specs.Prelude.{slice_set, replicate}
+use Rattle.std.proofs.Common.{◌≡◌, ◌↔◌, ℕ, ◌+◌, ◌<◌, ◌≤◌, Bool, true, false, ◌||◌, ◌==◌, List, ◌∷◌, length, Option, Some, None, Result, IfOk, refl, sym, ap, ap₂, ◌∙◌, subst, inr, slice_set, replicate}
 use Rattle.std.proofs.Math.Path.{fun_ext}
-use Rattle.counting.proofs.Common.{both_ways, IfOk-weaker}
-use Rattle.counting.specs.Common.{Within, count, Set, singleton}
-use Rattle.graph_core.specs.Common.{Graph, size, IsMultigraph}
+use Rattle.counting.proofs.Common.{both_ways, IfOk-weaker, Within, count, Set, singleton}
+use Rattle.graph_core.proofs.Common.{Graph, size, IsMultigraph}
 use Rattle.match_search.proofs.Marks.{no-marks}
-use Rattle.match_search.specs.Rows.{marks}
+use Rattle.match_search.specs.Common.{marks}
 use Rattle.allowed_edges.proofs.Marking.{marks-set}
-use Rattle.ear_core.specs.EarLists.{PlainStep, PlainEars, next_stage, IsEarList}
-use Rattle.ear_core.specs.EarTests.{PlainWhy, not_path}
-use Rattle.ear_core.specs.Refusals.{step_fault, IsJudged, IsRefused}
-use Rattle.ear_core.specs.Stages.{IsStage}
-use Rattle.ear_core.specs.View.{refusal_of}
+use Rattle.ear_core.specs.Common.{PlainStep, PlainEars, next_stage, IsEarList, PlainWhy, not_path, step_fault, IsJudged, IsRefused, IsStage, refusal_of}
 use Rattle.ear_core.specs.declared.judgement.EarJudgement.{EarJudgement}
 use Rattle.ear_core.proofs.FirstStage.{first-stage, step-adds}
 use Rattle.ear_core.proofs.Refusing.{step-none, refusal-none, refusal-one}

@@ -3,11 +3,9 @@
 -- without the two ends are a perfect matching that leads out of the stage at the two ends alone.
 use Rattle.std.proofs.Common.{◌≡◌, ◌≢◌, ℕ, ◌<◌, ◌≤◌, Bool, true, false, cond, ◌==◌, ◌&&◌, ◌||◌, not, refl, sym, ap, ◌∙◌, arith, eq-eqb, inl, inr, subst, List, [], ◌∷◌}
 use Rattle.std.proofs.Math.Path.{fun_ext}
-use Rattle.counting.proofs.Common.{both_ways, cases_Bool, cases_order, false_from_ne_true, or_cases, or_from, or_left, or_right, true≢false, or_comm, or_false, or_false_back}
-use Rattle.counting.specs.Common.{Within, bit, mem, Set, none, pair_set, union}
-use Rattle.graph_core.proofs.Common.{ends_le_degree, ends_of}
-use Rattle.graph_core.specs.Common.{IsCovered, Graph, IsGraph, IsMultigraph, first_end, second_end, size, IsEnd, IsPerfect}
-use Rattle.match_core.specs.MatchingRows.{has_end_in}
+use Rattle.counting.proofs.Common.{both_ways, cases_Bool, cases_order, false_from_ne_true, or_cases, or_from, or_left, or_right, true≢false, or_comm, or_false, or_false_back, Within, bit, mem, Set, none, pair_set, union}
+use Rattle.graph_core.proofs.Common.{ends_le_degree, ends_of, IsCovered, Graph, IsGraph, IsMultigraph, first_end, second_end, size, IsEnd, IsPerfect}
+use Rattle.match_core.specs.Common.{has_end_in}
 use Rattle.ear_core.proofs.AddedEars.{evens_at, odd_on}
 use Rattle.ear_core.proofs.NeededPairs.{stage-serves}
 use Rattle.ear_core.proofs.NextStages.{met-within}
@@ -15,11 +13,7 @@ use Rattle.ear_core.proofs.Rests.{apart-rest, covered-meets, filled, rest-perfec
 use Rattle.ear_core.proofs.ServingEars.{off-same}
 use Rattle.ear_core.proofs.Stepping.{still-met}
 use Rattle.ear_core.proofs.TraceEdges.{mem_odds, trail_has}
-use Rattle.ear_core.specs.EarLists.{AreSteps, IsForced, IsSingle, PlainEar, PlainStep, one, two}
-use Rattle.ear_core.specs.Ears.{IsEar, last_vertex}
-use Rattle.ear_core.specs.LoneEars.{IsPerfectBy, LeadsAtTwo, barred, is_open}
-use Rattle.ear_core.specs.NearlyStages.{odds}
-use Rattle.ear_core.specs.Stages.{IsPerfectOff, IsStage, is_met, with_edges}
+use Rattle.ear_core.specs.Common.{AreSteps, IsForced, IsSingle, PlainEar, PlainStep, one, two, IsEar, last_vertex, IsPerfectBy, LeadsAtTwo, barred, is_open, odds, IsPerfectOff, IsStage, is_met, with_edges}
 
 -- the two vertices of a pair
 pub pair-is : (first both : List ℕ) (u v : ℕ) → first ≡ u ∷ [] → ((w : ℕ) → mem both w ≡ (mem first w || v == w)) → (w : ℕ) → mem both w ≡ pair_set u v w

@@ -1,18 +1,14 @@
 -- A perfect matching by marked edges, from one of the graph of these edges: it holds the edges
 -- whose rank among the marked ones is an edge of that one. A perfect matching that holds them all
 -- has no other edge.
-use Rattle.std.proofs.Common.{◌≡◌, ℕ, suc, zero, ◌+◌, true, ◌==◌, ◌||◌, refl, sym, ap, ◌∙◌, arith, eq-eqb, ◌⊎◌, inl, inr, List, [], ◌∷◌, drop, map, Some, All, get_or}
-use Rattle.std.specs.Prelude.{slice_get}
-use Rattle.counting.proofs.Common.{and_parts, or_left, or_right, true≢false, rising_holds, rising_only, mem-item}
-use Rattle.counting.specs.Common.{Within, count, mem, rising_list, Set, none}
-use Rattle.graph_core.proofs.Common.{degree_congr, edge_at}
-use Rattle.graph_core.specs.Common.{Graph, IsGraph, first_end, second_end, size, with_ends, HasPerfect, IsPerfect}
+use Rattle.std.proofs.Common.{◌≡◌, ℕ, suc, zero, ◌+◌, true, ◌==◌, ◌||◌, refl, sym, ap, ◌∙◌, arith, eq-eqb, ◌⊎◌, inl, inr, List, [], ◌∷◌, drop, map, Some, All, get_or, slice_get}
+use Rattle.counting.proofs.Common.{and_parts, or_left, or_right, true≢false, rising_holds, rising_only, mem-item, Within, count, mem, rising_list, Set, none}
+use Rattle.graph_core.proofs.Common.{degree_congr, edge_at, Graph, IsGraph, first_end, second_end, size, with_ends, HasPerfect, IsPerfect}
 use Rattle.match_core.specs.declared.matching.MatchRow.{MatchRow}
-use Rattle.match_search.specs.Questions.{HasPerfectWith, HoldsAll}
+use Rattle.match_search.specs.Common.{HasPerfectWith, HoldsAll}
 use Rattle.ear_core.proofs.EngineGraphs.{listed_degree, rank_of, same_rank}
 use Rattle.ear_core.proofs.Mates.{one-at}
-use Rattle.ear_core.specs.LoneEars.{IsPerfectBy}
-use Rattle.ear_core.specs.StageGraphs.{by_rank, listed}
+use Rattle.ear_core.specs.Common.{IsPerfectBy, by_rank, listed}
 
 -- the rows from a place on, by their edges
 edges-behind : (rows : List MatchRow) (i : ℕ) (row : MatchRow) (e : ℕ) → slice_get rows i ≡ Some row → mem (map (λ (r : MatchRow). r.edge) (drop i rows)) e ≡ ((row.edge == e) || mem (map (λ (r : MatchRow). r.edge) (drop (suc i) rows)) e)

@@ -2,13 +2,11 @@
 -- passed hold their mates, so a new vertex comes each time, and the path ends at a vertex of the
 -- stage.
 use Rattle.std.proofs.Common.{◌≡◌, ℕ, ◌+◌, ◌≤◌, ◌≢◌, Bool, true, false, ◌==◌, refl, sym, ap, ◌∙◌, arith, ◌||◌, not, eq-eqb, ne_eqb, eqb-true, ◌⊎◌, inl, inr, subst, [], ◌∷◌, List, length}
-use Rattle.counting.proofs.Common.{cases_eq, cases_Bool, both_ways, true≢false, false_from_ne_true, not-true, or_left, or_right, or_cases, count_more, times_mem}
-use Rattle.counting.specs.Common.{Within, bit, count, is_odd, mem, times, Set, complement}
+use Rattle.counting.proofs.Common.{cases_eq, cases_Bool, both_ways, true≢false, false_from_ne_true, not-true, or_left, or_right, or_cases, count_more, times_mem, Within, bit, count, is_odd, mem, times, Set, complement}
 use Rattle.ear_core.proofs.TraceEdges.{start_mem}
 use Rattle.ear_core.proofs.Mates.{AreMates, mate_back, mate_within}
-use Rattle.ear_core.specs.AlternatingEars.{mate, KeepsMates, IsAlternating, IsClear}
-use Rattle.ear_core.specs.Ears.{last_vertex, trail}
-use Rattle.graph_core.specs.Common.{Graph, IsGraph, first_end, second_end}
+use Rattle.ear_core.specs.Common.{mate, KeepsMates, IsAlternating, IsClear, last_vertex, trail}
+use Rattle.graph_core.proofs.Common.{Graph, IsGraph, first_end, second_end}
 
 module _ (g : Graph) (is : IsGraph g) (met : Set) (m : ℕ → ℕ) (pm : AreMates g m) (n : ℕ → ℕ) (pn : AreMates g n) (inv : KeepsMates g n met) where
   out_n : (w : ℕ) → Within g.order w → met w ≡ false → met (mate g n w) ≡ false

@@ -1,15 +1,11 @@
 -- Steps from a stage. Whether an edge lies in a perfect matching of a stage is decided, and the
 -- second ear of a step is an ear of the stage with the first.
 use Rattle.std.proofs.Common.{◌≡◌, ℕ, true, ◌==◌, arith, ◌&&◌, ◌||◌, inl, inr, subst, List}
-use Rattle.counting.proofs.Common.{both_ways, false_from_ne_true, or_left, or_from}
-use Rattle.counting.specs.Common.{Within, mem, Set, none}
+use Rattle.counting.proofs.Common.{both_ways, false_from_ne_true, or_left, or_from, Within, mem, Set, none}
 use Rattle.ear_core.proofs.TraceEdges.{met-some, some-met, degree_le}
 use Rattle.ear_core.proofs.AddedEars.{new-met}
-use Rattle.ear_core.specs.Ears.{last_vertex, IsEar, IsEarPair}
-use Rattle.ear_core.specs.NearlyStages.{IsNearlyStage}
-use Rattle.ear_core.specs.Stages.{is_met, IsStage, with_edges}
-use Rattle.graph_core.proofs.Common.{edge_at}
-use Rattle.graph_core.specs.Common.{Graph, IsGraph}
+use Rattle.ear_core.specs.Common.{last_vertex, IsEar, IsEarPair, IsNearlyStage, is_met, IsStage, with_edges}
+use Rattle.graph_core.proofs.Common.{edge_at, Graph, IsGraph}
 
 -- the test for a perfect matching of the edges f
 pub nearly : (g : Graph) (f : Set) → IsStage g f → IsNearlyStage g f none

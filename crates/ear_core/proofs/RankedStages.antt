@@ -1,18 +1,15 @@
 -- The graph of a stage with its vertices numbered by rank; edges keep their numbers, and those
 -- off the stage are loops. It is matching covered, and its perfect matchings are those of the
 -- stage. So the two-ear theorem holds for pairs of vertices of a stage.
-use Rattle.std.proofs.Common.{◌≡◌, ℕ, suc, zero, ◌+◌, ◌-◌, ◌≤◌, ◌≢◌, Bool, true, false, cond, ◌==◌, refl, sym, ap, ap₂, ◌∙◌, arith, ◌&&◌, ◌||◌, not, eq-eqb, ne_eqb, inl, inr, subst, [], ◌∷◌, ◌++◌, List, length, slice_index_or}
+use Rattle.std.proofs.Common.{◌≡◌, ℕ, suc, zero, ◌+◌, ◌-◌, ◌≤◌, ◌≢◌, Bool, true, false, cond, ◌==◌, refl, sym, ap, ap₂, ◌∙◌, arith, ◌&&◌, ◌||◌, not, eq-eqb, ne_eqb, inl, inr, subst, [], ◌∷◌, ◌++◌, List, length, slice_index_or, get_or-append-add}
 use Rattle.std.proofs.lemmas.Bool.{true_from_ne_false}
-use Rattle.counting.proofs.Common.{cases_eq, cases_Bool, cases_order, and_parts, true≢false, length-append, get_or_append_left, count_congr, count_up, rank_once, member_ranked, some_true, at_le_total, two_le_total}
-use Rattle.std.proofs.lemmas.List.{get_or-append-add}
-use Rattle.barrier_kit.proofs.Matched.{loop_free}
-use Rattle.counting.specs.Common.{Within, bit, count, Set, none, union, IsIn}
+use Rattle.counting.proofs.Common.{cases_eq, cases_Bool, cases_order, and_parts, true≢false, length-append, get_or_append_left, count_congr, count_up, rank_once, member_ranked, some_true, at_le_total, two_le_total, Within, bit, count, Set, none, union, IsIn}
+use Rattle.barrier_kit.proofs.Common.{loop_free}
 use Rattle.ear_core.proofs.EngineGraphs.{ends-met}
 use Rattle.ear_core.proofs.TraceEdges.{degree_le, unmet}
 use Rattle.ear_core.proofs.NextStages.{met-within}
-use Rattle.ear_core.specs.Stages.{IsPerfectOff, IsStage, adjacent_by, is_met}
-use Rattle.graph_core.proofs.Common.{ends_le_degree, ends_of, adjacent_from, has_ends-back, has_ends-cases, has_ends-own}
-use Rattle.graph_core.specs.Common.{IsCovered, Graph, IsGraph, degree, first_end, has_ends, second_end, size, IsPerfect, Joined, Walk}
+use Rattle.ear_core.specs.Common.{IsPerfectOff, IsStage, adjacent_by, is_met}
+use Rattle.graph_core.proofs.Common.{ends_le_degree, ends_of, adjacent_from, has_ends-back, has_ends-cases, has_ends-own, IsCovered, Graph, IsGraph, degree, first_end, has_ends, second_end, size, IsPerfect, Joined, Walk}
 use Rattle.two_ears.proofs.TwoEars.{two_ears}
 use Rattle.two_ears.specs.VertexPairs.{AreDisjoint, in_pairs, pairs_at, vertices_of}
 

@@ -2,14 +2,9 @@
 -- a step say that it is a step; then only the odd edges of its ears are left to ask, and the new
 -- stage is covered exactly when no edge of it is refused.
 use Rattle.std.proofs.Common.{◌≡◌, ℕ, ◌+◌, Bool, true, false, if◌then◌else◌, Option, Some, None, refl, sym, ap, ◌∙◌, ◌||◌, inl, inr, [], ◌∷◌, List}
-use Rattle.counting.proofs.Common.{both_ways, least-one}
-use Rattle.counting.specs.Common.{Within, mem, Set, none}
-use Rattle.graph_core.specs.Common.{Graph, size, IsGraph}
-use Rattle.ear_core.specs.Stages.{IsStage, AllowedBy, with_edges}
-use Rattle.ear_core.specs.NearlyStages.{IsNearlyStage, odds}
-use Rattle.ear_core.specs.EarLists.{PlainStep, one, two, next_stage, IsStep, AreSteps}
-use Rattle.ear_core.specs.EarTests.{PlainWhy, not_path, even_length, bad_ends, inner_on_stage, edge_used, stage_not_covered, ends_early, is_path, has_odd_length, has_good_ends, has_free_inner, has_new_edges, Passes, ear_fault, inner_vertices}
-use Rattle.ear_core.specs.Refusals.{first_of, step_fault, IsLeastUnallowed, IsStepRefused, IsFirstRefusal}
+use Rattle.counting.proofs.Common.{both_ways, least-one, Within, mem, Set, none}
+use Rattle.graph_core.proofs.Common.{Graph, size, IsGraph}
+use Rattle.ear_core.specs.Common.{IsStage, AllowedBy, with_edges, IsNearlyStage, odds, PlainStep, one, two, next_stage, IsStep, AreSteps, PlainWhy, not_path, even_length, bad_ends, inner_on_stage, edge_used, stage_not_covered, ends_early, is_path, has_odd_length, has_good_ends, has_free_inner, has_new_edges, Passes, ear_fault, inner_vertices, first_of, step_fault, IsLeastUnallowed, IsStepRefused, IsFirstRefusal}
 use Rattle.ear_core.proofs.AddedEars.{grow}
 use Rattle.ear_core.proofs.NextStages.{nearly, met-within, second_ear}
 use Rattle.ear_core.proofs.EarTests.{first_passes, second_passes}

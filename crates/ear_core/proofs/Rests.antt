@@ -2,19 +2,14 @@
 -- a perfect matching off the new stage they are one off the stage before; at the last stage nothing
 -- is left.
 use Rattle.std.proofs.Common.{◌≡◌, ℕ, true, false, ◌+◌, ◌==◌, not, refl, sym, ap, ◌∙◌, arith, eq-eqb, inl, inr, List, [], ◌∷◌}
-use Rattle.counting.proofs.Common.{both_ways, cases_Bool, false_from_ne_true, true≢false}
-use Rattle.counting.specs.Common.{Within, bit, Set, everything, none, union}
-use Rattle.graph_core.proofs.Common.{degree_congr, ends_le_degree, ends_of}
-use Rattle.graph_core.specs.Common.{IsCovered, Graph, IsGraph, IsMultigraph, degree, first_end, size, HasPerfect, IsPerfect}
+use Rattle.counting.proofs.Common.{both_ways, cases_Bool, false_from_ne_true, true≢false, Within, bit, Set, everything, none, union}
+use Rattle.graph_core.proofs.Common.{degree_congr, ends_le_degree, ends_of, IsCovered, Graph, IsGraph, IsMultigraph, degree, first_end, size, HasPerfect, IsPerfect}
 use Rattle.ear_core.proofs.AddedEars.{even_on}
 use Rattle.ear_core.proofs.EngineGraphs.{ends-met}
 use Rattle.ear_core.proofs.NextStages.{second_ear}
 use Rattle.ear_core.proofs.Stepping.{covered-perfect, still-met}
 use Rattle.ear_core.proofs.TraceEdges.{degree_le, degree_or, some-met, unmet, zero_degree}
-use Rattle.ear_core.specs.EarLists.{AreSteps, IsStep, PlainStep, next_stage, one, two}
-use Rattle.ear_core.specs.Ears.{IsEar}
-use Rattle.ear_core.specs.NearlyStages.{evens}
-use Rattle.ear_core.specs.Stages.{IsPerfectOff, is_met, with_edges}
+use Rattle.ear_core.specs.Common.{AreSteps, IsStep, PlainStep, next_stage, one, two, IsEar, evens, IsPerfectOff, is_met, with_edges}
 
 -- an edge of q has no end that q leaves out
 pub edge-away : (g : Graph) (q : Set) (e : ℕ) → Within (size g) e → q e ≡ true → degree g q (first_end g e) ≡ 0 → ⊥

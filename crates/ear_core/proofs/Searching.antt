@@ -2,18 +2,11 @@
 -- what of that one make what is found or not among all. After the search one ear serves or two
 -- do.
 use Rattle.std.proofs.Common.{◌≡◌, ℕ, ◌+◌, ◌≤◌, true, ◌==◌, ◌||◌, ◌⊎◌, ◌↔◌, inl, inr, refl, sym, ap, ◌∙◌, arith, subst, eq-eqb, List, [], ◌∷◌, Option, Some, None, Result, Ok, Err, IfOk, IfSome, IfNone, All, get_or}
-use Rattle.std.specs.List.{AllByRecursion}
-use Rattle.counting.proofs.Common.{mem-item, or_comm}
-use Rattle.counting.specs.Common.{bit, Within, mem, IsIn, Set, union, complement}
-use Rattle.barrier_kit.proofs.Matched.{perfect_congr}
-use Rattle.graph_core.specs.Common.{Graph, size, IsGraph, with_ends, HasPerfect}
+use Rattle.counting.proofs.Common.{AllByRecursion, mem-item, or_comm, bit, Within, mem, IsIn, Set, union, complement}
+use Rattle.barrier_kit.proofs.Common.{perfect_congr}
+use Rattle.graph_core.proofs.Common.{Graph, size, IsGraph, with_ends, HasPerfect}
 use Rattle.two_ears.specs.VertexPairs.{pairs_at}
-use Rattle.ear_core.specs.AlternatingEars.{AreCandidates, Serves, ends_of_ear, ends_of_ears, IsChosen}
-use Rattle.ear_core.specs.Asking.{IsAsked, IsBefore, FindsBeside, FindsTwo, NoneServes, NoneServesBeside, NoTwoServe}
-use Rattle.ear_core.specs.EarLists.{PlainEar, PlainStep, one, two, FitsEar, IsStep, next_stage}
-use Rattle.ear_core.specs.Ears.{last_vertex, trail, IsEar}
-use Rattle.ear_core.specs.StageGraphs.{listed}
-use Rattle.ear_core.specs.Stages.{is_met, IsStage}
+use Rattle.ear_core.specs.Common.{AreCandidates, Serves, ends_of_ear, ends_of_ears, IsChosen, IsAsked, IsBefore, FindsBeside, FindsTwo, NoneServes, NoneServesBeside, NoTwoServe, PlainEar, PlainStep, one, two, FitsEar, IsStep, next_stage, last_vertex, trail, IsEar, listed, is_met, IsStage}
 use Rattle.ear_core.specs.declared.asking.Asked.{Asked}
 use Rattle.ear_core.proofs.EngineGraphs.{served_listed}
 use Rattle.ear_core.proofs.TraceEdges.{edges-within}

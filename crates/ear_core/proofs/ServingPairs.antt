@@ -1,15 +1,10 @@
 -- Of the candidates for a step one serves or two do, by the two-ear theorem on the graph of the
 -- stage, and then it is a step to a stage.
 use Rattle.std.proofs.Common.{◌≡◌, ◌≢◌, ℕ, ◌+◌, ◌≤◌, Bool, true, false, ◌==◌, refl, sym, ap, ap₂, arith, ◌||◌, eq-eqb, eqb-true, inl, inr, subst, [], ◌∷◌, List}
-use Rattle.counting.proofs.Common.{false_from_ne_true, or_left, or_right, or_cases}
-use Rattle.counting.specs.Common.{bit, mem, IsIn, Set, union}
-use Rattle.graph_core.proofs.Common.{ends_of}
-use Rattle.graph_core.specs.Common.{Graph, first_end, IsGraph}
+use Rattle.counting.proofs.Common.{false_from_ne_true, or_left, or_right, or_cases, bit, mem, IsIn, Set, union}
+use Rattle.graph_core.proofs.Common.{ends_of, Graph, first_end, IsGraph}
 use Rattle.two_ears.specs.VertexPairs.{pairs_at, vertices_of}
-use Rattle.ear_core.specs.AlternatingEars.{ends_of_ears, AreCandidates, Serves, ends_of_ear}
-use Rattle.ear_core.specs.EarLists.{PlainEar}
-use Rattle.ear_core.specs.Ears.{other_end, trail, last_vertex, IsEar, IsEarPair}
-use Rattle.ear_core.specs.Stages.{is_met, IsStage, with_edges}
+use Rattle.ear_core.specs.Common.{ends_of_ears, AreCandidates, Serves, ends_of_ear, PlainEar, other_end, trail, last_vertex, IsEar, IsEarPair, is_met, IsStage, with_edges}
 use Rattle.ear_core.proofs.TraceEdges.{start_mem, trail_has}
 use Rattle.ear_core.proofs.RankedStages.{pairs-serve}
 use Rattle.ear_core.proofs.ServingEars.{one-serves, two-serve, off-same}

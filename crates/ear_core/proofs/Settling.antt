@@ -1,12 +1,9 @@
 -- The edges of the ears of a step, asked one by one: what an answer of the engine says of an
 -- edge, and what is known after it.
 use Rattle.std.proofs.Common.{◌≡◌, ℕ, ◌<◌, ◌≤◌, arith, eqb-true, inl, inr, Bool, true, false, ◌==◌, refl, sym, ap, ap₂, ◌∙◌, ◌||◌, Some, None, Option, Result, Ok, Err, IfOk, [], ◌∷◌, List, subst, ◌↔◌}
-use Rattle.counting.proofs.Common.{or_cases, true≢false}
-use Rattle.counting.specs.Common.{Within, mem, Set, none, pair_set}
-use Rattle.graph_core.specs.Common.{Graph, IsMultigraph, first_end, second_end, size}
-use Rattle.ear_core.specs.AlternatingEars.{Serves}
-use Rattle.ear_core.specs.Stages.{AllowedBy, with_edges}
-use Rattle.ear_core.specs.StageGraphs.{IsBehind, IsUpTo, Settled, asked_too}
+use Rattle.counting.proofs.Common.{or_cases, true≢false, Within, mem, Set, none, pair_set}
+use Rattle.graph_core.proofs.Common.{Graph, IsMultigraph, first_end, second_end, size}
+use Rattle.ear_core.specs.Common.{Serves, AllowedBy, with_edges, IsBehind, IsUpTo, Settled, asked_too}
 use Rattle.ear_core.proofs.EngineGraphs.{edge_serves}
 use Rattle.ear_core.proofs.LoneMatchings.{pair-is}
 use Rattle.ear_core.proofs.Searching.{serves-same}

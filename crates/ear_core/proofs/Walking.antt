@@ -2,12 +2,10 @@
 -- ear goes on as a path if each edge is at the vertex reached, the next vertex is new, and
 -- only the last may be the first.
 use Rattle.std.proofs.Common.{◌≡◌, ℕ, suc, Bool, true, false, ◌==◌, refl, sym, ap, ap₂, ◌∙◌, arith, ◌&&◌, ◌||◌, not, nat_le, eq-eqb, ne_eqb, eqb-true, le-leb, inl, inr, [], ◌∷◌, List, length, All}
-use Rattle.counting.proofs.Common.{cases_eq, true≢false, and_false, or_assoc_back}
+use Rattle.counting.proofs.Common.{cases_eq, true≢false, and_false, or_assoc_back, Within, mem, Set, none}
 use Rattle.std.proofs.Math.Path.{fun_ext}
-use Rattle.counting.specs.Common.{Within, mem, Set, none}
-use Rattle.graph_core.specs.Common.{Graph, size, first_end, second_end}
-use Rattle.ear_core.specs.Ears.{other_end, trail, last_vertex}
-use Rattle.ear_core.specs.EarTests.{is_path, follows, front, inner_vertices, repeats, no_member}
+use Rattle.graph_core.proofs.Common.{Graph, size, first_end, second_end}
+use Rattle.ear_core.specs.Common.{other_end, trail, last_vertex, is_path, follows, front, inner_vertices, repeats, no_member}
 
 -- x with w
 abbrev with_one : Set → ℕ → Set

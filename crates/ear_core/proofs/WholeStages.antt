@@ -2,13 +2,10 @@
 -- the graph itself, so it is matching covered exactly when the graph is. An ear list leads to
 -- such a stage if no vertex is isolated.
 use Rattle.std.proofs.Common.{◌≡◌, ℕ, true, not, ◌&&◌, ◌==◌, List, [], ◌∷◌, refl, sym, ap, ◌∙◌, arith}
-use Rattle.counting.proofs.Common.{and_from, and_parts, true≢false, some_true, true_some}
-use Rattle.counting.specs.Common.{Within, Set, everything, none, singleton}
-use Rattle.graph_core.proofs.Common.{degree_congr}
-use Rattle.graph_core.specs.Common.{IsCovered, Graph, IsMultigraph, has_ends, size, Joined, Walk, adjacent}
+use Rattle.counting.proofs.Common.{and_from, and_parts, true≢false, some_true, true_some, Within, Set, everything, none, singleton}
+use Rattle.graph_core.proofs.Common.{degree_congr, IsCovered, Graph, IsMultigraph, has_ends, size, Joined, Walk, adjacent}
 use Rattle.ear_core.proofs.Stepping.{covered-allowed, covered-edge}
-use Rattle.ear_core.specs.EarLists.{AreSteps, IsEarList, PlainEars, PlainStep, next_stage}
-use Rattle.ear_core.specs.Stages.{IsStage, adjacent_by, is_met}
+use Rattle.ear_core.specs.Common.{AreSteps, IsEarList, PlainEars, PlainStep, next_stage, IsStage, adjacent_by, is_met}
 
 -- each edge of g is in f
 abbrev pub HoldsEdges : Graph → Set → Type 0

@@ -10,3 +10,4 @@ pub mod AlternatingEars
 pub mod Asking
 pub mod TakenSteps
 pub mod LoneEars
+pub mod Common

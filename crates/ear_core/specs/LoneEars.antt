@@ -4,7 +4,7 @@
 use Rattle.std.specs.Prelude.{◌≡◌, ◌≢◌, ℕ, true, ◌&&◌, not, cond}
 use Rattle.counting.specs.Common.{Within, Set, none, pair_set}
 use Rattle.graph_core.specs.Common.{Graph, size, IsPerfect}
-use Rattle.match_core.specs.MatchingRows.{has_end_in}
+use Rattle.match_core.specs.Common.{has_end_in}
 use Rattle.ear_core.specs.Stages.{is_met}
 
 -- where edge e must have no end: an edge of f at u and v, another one at other vertices of f

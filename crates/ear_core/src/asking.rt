@@ -2,11 +2,8 @@
 ghost use Rattle.std.specs.Prelude.{◌≡◌, ◌+◌, ℕ, true, false, length, IfOk};
 ghost use Rattle.counting.specs.Common.{mem, Set};
 ghost use Rattle.graph_core.specs.Common.{Graph, size, with_ends};
-ghost use Rattle.match_search.specs.Rows.{marks};
-ghost use Rattle.ear_core.specs.AlternatingEars.{Serves};
-ghost use Rattle.ear_core.specs.Asking.{IsAsked};
-ghost use Rattle.ear_core.specs.StageGraphs.{listed};
-ghost use Rattle.ear_core.specs.Stages.{is_met};
+ghost use Rattle.match_search.specs.Common.{marks};
+ghost use Rattle.ear_core.specs.Common.{Serves, IsAsked, listed, is_met};
 
 use graph_core::MultiGraph;
 use match_core::perfect_without;

@@ -3,13 +3,9 @@ ghost use Rattle.std.specs.Prelude.{◌≡◌, ◌+◌, ◌&&◌, ◌||◌, ℕ,
 ghost use Rattle.std.specs.List.{AllByRecursion};
 ghost use Rattle.counting.specs.Common.{Within, mem};
 ghost use Rattle.graph_core.specs.Common.{IsCovered, size, first_end, second_end, IsBipartite};
-ghost use Rattle.match_core.specs.MatchingRows.{edges_of};
-ghost use Rattle.match_search.specs.Rows.{marks};
-ghost use Rattle.ear_core.specs.AlternatingEars.{IsPerfectRows, KeepsMates, row_edge};
-ghost use Rattle.ear_core.specs.EarLists.{AreForced, AreNeeded, AreSteps, IsBuilt, IsEarList, IsForced, IsNeeded, IsSingle, IsStep, IsUnrefinable, next_stage, FitsEars, FitsStep, HasEdges, TakesSingles};
-ghost use Rattle.ear_core.specs.LoneEars.{LeadsAtTwo};
-ghost use Rattle.ear_core.specs.Stages.{is_met, IsStage};
-ghost use Rattle.ear_core.specs.View.{ears_of, step_of};
+ghost use Rattle.match_core.specs.Common.{edges_of};
+ghost use Rattle.match_search.specs.Common.{marks};
+ghost use Rattle.ear_core.specs.Common.{IsPerfectRows, KeepsMates, row_edge, AreForced, AreNeeded, AreSteps, IsBuilt, IsEarList, IsForced, IsNeeded, IsSingle, IsStep, IsUnrefinable, next_stage, FitsEars, FitsStep, HasEdges, TakesSingles, LeadsAtTwo, is_met, IsStage, ears_of, step_of};
 
 use crate::choosing::choose;
 use crate::ears::{EarList, Step, Steps};

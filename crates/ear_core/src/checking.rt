@@ -3,12 +3,8 @@ ghost use Rattle.std.specs.Prelude.{◌≡◌, ◌↔◌, ◌+◌, ℕ, length, 
 ghost use Rattle.std.specs.List.{AllByRecursion};
 ghost use Rattle.counting.specs.Common.{Within, IsLeastWithout};
 ghost use Rattle.graph_core.specs.Common.{size};
-ghost use Rattle.match_search.specs.Rows.{marks};
-ghost use Rattle.ear_core.specs.EarLists.{FitsEars, FitsStep, IsEarList};
-ghost use Rattle.ear_core.specs.EarTests.{PlainWhy};
-ghost use Rattle.ear_core.specs.Refusals.{IsJudged, IsRefused};
-ghost use Rattle.ear_core.specs.Stages.{IsStage};
-ghost use Rattle.ear_core.specs.View.{ears_of, refusal_of, step_of};
+ghost use Rattle.match_search.specs.Common.{marks};
+ghost use Rattle.ear_core.specs.Common.{FitsEars, FitsStep, IsEarList, PlainWhy, IsJudged, IsRefused, IsStage, ears_of, refusal_of, step_of};
 
 use crate::ears::{EarList, Step};
 use crate::judgement::{EarJudgement, EarWhy};

@@ -3,12 +3,8 @@ ghost use Rattle.std.specs.Prelude.{◌≡◌, ◌+◌, ℕ, length, map, IfOk, 
 ghost use Rattle.std.specs.List.{AllByRecursion};
 ghost use Rattle.counting.specs.Common.{mem, Set};
 ghost use Rattle.graph_core.specs.Common.{size, IsBipartite};
-ghost use Rattle.match_search.specs.Rows.{marks};
-ghost use Rattle.ear_core.specs.AlternatingEars.{ends_of_ear, AreCandidates, IsChosen};
-ghost use Rattle.ear_core.specs.Asking.{IsAsked, FindsBeside, FindsTwo, NoneServesBeside, NoTwoServe};
-ghost use Rattle.ear_core.specs.EarLists.{next_stage, IsStep, IsSingle, IsNeeded, FitsEar};
-ghost use Rattle.ear_core.specs.Stages.{is_met, IsStage};
-ghost use Rattle.ear_core.specs.View.{ear_of, step_of};
+ghost use Rattle.match_search.specs.Common.{marks};
+ghost use Rattle.ear_core.specs.Common.{ends_of_ear, AreCandidates, IsChosen, IsAsked, FindsBeside, FindsTwo, NoneServesBeside, NoTwoServe, next_stage, IsStep, IsSingle, IsNeeded, FitsEar, is_met, IsStage, ear_of, step_of};
 
 use crate::asking::{Asked, asked_about, serves};
 use crate::ears::{Ear, Step};

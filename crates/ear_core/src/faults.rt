@@ -2,10 +2,8 @@
 ghost use Rattle.std.specs.Prelude.{◌≡◌, ◌+◌, ◌<◌, ◌||◌, ◌&&◌, ◌==◌, ℕ, true, false, not, length, All, Some, None, IfOk, IfErr, List};
 ghost use Rattle.counting.specs.Common.{Within, is_odd, mem};
 ghost use Rattle.graph_core.specs.Common.{size};
-ghost use Rattle.match_search.specs.Rows.{marks};
-ghost use Rattle.ear_core.specs.Stages.{is_met};
-ghost use Rattle.ear_core.specs.EarTests.{ear_fault, inner_vertices, has_new_edges, no_member};
-ghost use Rattle.ear_core.specs.View.{why_of};
+ghost use Rattle.match_search.specs.Common.{marks};
+ghost use Rattle.ear_core.specs.Common.{is_met, ear_fault, inner_vertices, has_new_edges, no_member, why_of};
 
 use crate::ears::Ear;
 use crate::judgement::EarWhy;

@@ -2,12 +2,7 @@
 ghost use Rattle.std.specs.Prelude.{◌≡◌, ◌↔◌, ℕ, true, List, [], ◌∷◌, None};
 ghost use Rattle.counting.specs.Common.{Within, Set, everything};
 ghost use Rattle.graph_core.specs.Common.{IsCovered, Graph, IsGraph, IsMultigraph, size, HasPerfect};
-ghost use Rattle.ear_core.specs.LoneEars.{LeadsAtTwo};
-ghost use Rattle.ear_core.specs.Stages.{IsStage, AllowedBy, is_met};
-ghost use Rattle.ear_core.specs.EarLists.{PlainEar, PlainEars, PlainStep, next_stage, one, IsEarList, IsStep, AreSteps};
-ghost use Rattle.ear_core.specs.Refusals.{step_fault, IsFirstRefusal};
-ghost use Rattle.ear_core.specs.Ears.{IsEar, IsEarPair};
-ghost use Rattle.ear_core.specs.EarTests.{Passes, PlainWhy, inner_vertices};
+ghost use Rattle.ear_core.specs.Common.{LeadsAtTwo, IsStage, AllowedBy, is_met, PlainEar, PlainEars, PlainStep, next_stage, one, IsEarList, IsStep, AreSteps, step_fault, IsFirstRefusal, IsEar, IsEarPair, Passes, PlainWhy, inner_vertices};
 
 /// The five tests of an ear say that it is an ear of the stage; those of the second ear of a
 /// step, that the two are ears without a common inner vertex and without a common edge.

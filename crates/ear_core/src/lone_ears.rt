@@ -2,12 +2,9 @@
 ghost use Rattle.std.specs.Prelude.{◌≡◌, ◌+◌, ◌<◌, ℕ, length, true, IfOk, IfSome, IfNone};
 ghost use Rattle.counting.specs.Common.{Within, mem, rising_list, Set, pair_set};
 ghost use Rattle.graph_core.specs.Common.{size};
-ghost use Rattle.match_core.specs.MatchingRows.{edges_of};
-ghost use Rattle.match_search.specs.Rows.{marks};
-ghost use Rattle.ear_core.specs.AlternatingEars.{IsPerfectRows};
-ghost use Rattle.ear_core.specs.LoneEars.{is_open, IsPerfectBy, LeadsAtTwo};
-ghost use Rattle.ear_core.specs.StageGraphs.{by_rank};
-ghost use Rattle.ear_core.specs.Stages.{is_met};
+ghost use Rattle.match_core.specs.Common.{edges_of};
+ghost use Rattle.match_search.specs.Common.{marks};
+ghost use Rattle.ear_core.specs.Common.{IsPerfectRows, is_open, IsPerfectBy, LeadsAtTwo, by_rank, is_met};
 
 use crate::asking::marked_graph;
 use graph_core::{MultiGraph, Numbers};

@@ -2,8 +2,7 @@
 ghost use Rattle.std.specs.Prelude.{◌≡◌, ◌||◌, ◌==◌, ℕ, true, false, All, IfSome, IfNone};
 ghost use Rattle.counting.specs.Common.{Within, mem};
 ghost use Rattle.graph_core.specs.Common.{size, first_end, second_end};
-ghost use Rattle.ear_core.specs.Ears.{other_end, last_vertex};
-ghost use Rattle.ear_core.specs.EarTests.{is_path, inner_vertices};
+ghost use Rattle.ear_core.specs.Common.{other_end, last_vertex, is_path, inner_vertices};
 
 use crate::ears::Ear;
 use graph_core::MultiGraph;

@@ -2,9 +2,7 @@
 ghost use Rattle.std.specs.Prelude.{◌≡◌, ◌<◌, true, false, All, IfOk};
 ghost use Rattle.counting.specs.Common.{Within, Set};
 ghost use Rattle.graph_core.specs.Common.{size};
-ghost use Rattle.ear_core.specs.Asking.{IsAsked};
-ghost use Rattle.ear_core.specs.Stages.{AllowedBy, with_edges};
-ghost use Rattle.ear_core.specs.StageGraphs.{IsBehind, IsUpTo, Settled, asked_too};
+ghost use Rattle.ear_core.specs.Common.{IsAsked, AllowedBy, with_edges, IsBehind, IsUpTo, Settled, asked_too};
 
 use crate::asking::{Asked, serves};
 use graph_core::MultiGraph;

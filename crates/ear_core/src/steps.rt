@@ -2,13 +2,8 @@
 ghost use Rattle.std.specs.Prelude.{◌≡◌, ◌+◌, ◌<◌, ◌||◌, ℕ, true, length, All, Some, None, IfOk, IfSome, IfNone};
 ghost use Rattle.counting.specs.Common.{Within, mem, none};
 ghost use Rattle.graph_core.specs.Common.{size};
-ghost use Rattle.match_search.specs.Rows.{marks};
-ghost use Rattle.ear_core.specs.EarLists.{FitsStep, next_stage};
-ghost use Rattle.ear_core.specs.Refusals.{step_fault};
-ghost use Rattle.ear_core.specs.StageGraphs.{Settled};
-ghost use Rattle.ear_core.specs.Stages.{IsStage};
-ghost use Rattle.ear_core.specs.TakenSteps.{IsTaken};
-ghost use Rattle.ear_core.specs.View.{step_of, why_of};
+ghost use Rattle.match_search.specs.Common.{marks};
+ghost use Rattle.ear_core.specs.Common.{FitsStep, next_stage, step_fault, Settled, IsStage, IsTaken, step_of, why_of};
 
 use crate::asking::asked_about;
 use crate::ears::Step;

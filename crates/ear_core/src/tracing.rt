@@ -2,12 +2,8 @@
 ghost use Rattle.std.specs.Prelude.{◌≡◌, ◌++◌, ◌||◌, ◌==◌, ◌+◌, ℕ, true, false, length, List, map, IfOk, IfSome, IfNone};
 ghost use Rattle.counting.specs.Common.{Within, mem};
 ghost use Rattle.graph_core.specs.Common.{size};
-ghost use Rattle.match_search.specs.Rows.{marks};
-ghost use Rattle.ear_core.specs.AlternatingEars.{IsPerfectRows, row_edge, mate, KeepsMates, IsClear, IsTraced, HoldsMates, AreMatedEars, is_left};
-ghost use Rattle.ear_core.specs.EarLists.{PlainEar};
-ghost use Rattle.ear_core.specs.Ears.{other_end};
-ghost use Rattle.ear_core.specs.Stages.{is_met};
-ghost use Rattle.ear_core.specs.View.{ear_of};
+ghost use Rattle.match_search.specs.Common.{marks};
+ghost use Rattle.ear_core.specs.Common.{IsPerfectRows, row_edge, mate, KeepsMates, IsClear, IsTraced, HoldsMates, AreMatedEars, is_left, PlainEar, other_end, is_met, ear_of};
 
 use crate::ears::Ear;
 use graph_core::{MultiGraph, Numbers};

@@ -1,9 +1,8 @@
 -- The line of an ear is decided by the tests of its numbers.
-use Rattle.std.proofs.Common.{◌≡◌, ℕ, Bool, true, not, List, Option, is_some, ap, Err}
-use Rattle.std.specs.Prelude.{if◌then◌else◌}
+use Rattle.std.proofs.Common.{◌≡◌, ℕ, Bool, true, not, List, Option, is_some, ap, Err, if◌then◌else◌}
 use Rattle.line_text.specs.Common.{checked}
 use Rattle.text_faults.specs.declared.faults.FaultKind.TheVariants as kind
-use Rattle.ear_core.specs.EarLists.{PlainEar, PlainStep}
+use Rattle.ear_core.specs.Common.{PlainEar, PlainStep}
 use Rattle.ear_text.specs.EarFormat.{EarsSoFar, ear_at, ear_line, ear_tests, is_ear_line, is_either_ear_line, with_ear}
 
 -- what is read after an ear

@@ -2,15 +2,13 @@
 -- since the numbers are in range and no ear is empty; the ear that stands apart goes to the steps
 -- with the next line, or at the end.
 use Rattle.std.proofs.Common.{◌≡◌, ◌<◌, ◌==◌, ◌&&◌, ◌^◌, ◌++◌, codes, nat_le, ℕ, List, [], ◌∷◌, All, Bool, length, map, true, false, Option, Some, None, Ok, refl, sym, ◌∙◌, ap, subst, arith, append_assoc}
-use Rattle.std.specs.List.{AllByRecursion, list_all}
+use Rattle.counting.proofs.Common.{AllByRecursion, list_all, length-map, append-nil, nat_tests, Within}
 use Rattle.std.specs.Fmt.{decimal}
-use Rattle.counting.proofs.Common.{length-map, append-nil, nat_tests}
-use Rattle.counting.specs.Common.{Within}
 use Rattle.line_text.specs.Common.{Begins, Stands, has_form, IsSignificant, is_number, value_of}
 use Rattle.line_text.proofs.Decimals.{number_of-decimal, is_word-decimal, value-decimal, number-decimal, values-decimal, numbers-decimal, words-decimal}
 use Rattle.text_faults.proofs.InRange.{in_range-test, in_range-tests, few-digits}
 use Rattle.line_text.proofs.ReadBack.{Stands-written}
-use Rattle.ear_core.specs.EarLists.{PlainEar, PlainStep, one, two, PlainEars, FitsEar, FitsStep, HasEdges}
+use Rattle.ear_core.specs.Common.{PlainEar, PlainStep, one, two, PlainEars, FitsEar, FitsStep, HasEdges}
 use Rattle.ear_text.specs.EarFormat.{EarsSoFar, headed, started, ear_format, is_ear_line, is_with_line, closed, ears_end}
 use Rattle.ear_text.specs.Writing.{header_words, start_words, ear_words, step_words, ears_text, IsWritable}
 

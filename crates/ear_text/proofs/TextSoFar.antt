@@ -4,7 +4,7 @@ use Rattle.counting.proofs.Common.{append-nil}
 use Rattle.std.specs.Fmt.{decimal}
 use Rattle.line_text.specs.Common.{unwords, written}
 use Rattle.line_text.proofs.WrittenLines.{spaced, unwords-spaced, written-append}
-use Rattle.ear_core.specs.EarLists.{PlainEar, PlainStep, two, PlainEars}
+use Rattle.ear_core.specs.Common.{PlainEar, PlainStep, two, PlainEars}
 use Rattle.ear_text.specs.Writing.{ear_words, header_words, start_words, step_words, ears_text}
 
 -- the line of an ear is whole when no edge is left

@@ -1,7 +1,7 @@
 -- How the code's state of reading an ear list is seen.
 -- Stated by: ear_text.
 use Rattle.std.specs.Prelude.{map, option_map}
-use Rattle.ear_core.specs.View.{ear_of, step_of}
+use Rattle.ear_core.specs.Common.{ear_of, step_of}
 use Rattle.ear_text.specs.EarFormat.{EarsSoFar, headed, started}
 use Rattle.ear_text.specs.declared.ears_read.EarsRead.{EarsRead}
 use Rattle.ear_text.specs.declared.ears_read.EarsRead.TheVariants.{Headed, Started}

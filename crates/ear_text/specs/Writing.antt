@@ -4,7 +4,7 @@ use Rattle.std.specs.Prelude.{ℕ, ◌<◌, ◌^◌, List, [], ◌∷◌, codes,
 use Rattle.std.specs.Fmt.{decimal}
 use Rattle.std.specs.List.{AllByRecursion}
 use Rattle.line_text.specs.Common.{written}
-use Rattle.ear_core.specs.EarLists.{PlainEar, PlainStep, one, two, PlainEars, FitsEars, HasEdges}
+use Rattle.ear_core.specs.Common.{PlainEar, PlainStep, one, two, PlainEars, FitsEars, HasEdges}
 
 -- the words of the header
 abbrev pub header_words : ℕ → ℕ → List (List ℕ)

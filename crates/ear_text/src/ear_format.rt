@@ -2,11 +2,9 @@
 ghost use Rattle.std.specs.Prelude.{◌≡◌, ◌<◌, ◌-◌, ◌^◌, ℕ, length, map, option_map, IfOk, IfErr, Ok, Err};
 ghost use Rattle.std.specs.List.{AllByRecursion, list_any};
 ghost use Rattle.line_text.specs.Common.{Gives, Stands, FirstFault, checked, texts_of};
-ghost use Rattle.text_faults.specs.Readings.{IsFirstFault, ReadsText};
+ghost use Rattle.text_faults.specs.Common.{IsFirstFault, ReadsText, is_out_of_range};
 ghost use Rattle.text_faults.specs.declared.faults.FaultKind.{FaultKind};
-ghost use Rattle.ear_core.specs.EarLists.{PlainEars, FitsEars, HasEdges};
-ghost use Rattle.ear_core.specs.View.{ear_of, step_of, ears_of};
-ghost use Rattle.text_faults.specs.Ranges.{is_out_of_range};
+ghost use Rattle.ear_core.specs.Common.{PlainEars, FitsEars, HasEdges, ear_of, step_of, ears_of};
 ghost use Rattle.ear_text.specs.EarFormat.{EarsSoFar, ears_header, start_line, ear_at, ear_line, ear_tests, ear_format, behind_two, is_ear_line, is_either_ear_line, is_with_line, with_ear};
 ghost use Rattle.ear_text.specs.SoFar.{ears_so_far};
 

@@ -1,6 +1,6 @@
 //! The state of reading an ear list.
 ghost use Rattle.std.specs.Prelude.{◌≡◌, IfOk, map, option_map};
-ghost use Rattle.ear_core.specs.View.{ear_of, step_of};
+ghost use Rattle.ear_core.specs.Common.{ear_of, step_of};
 ghost use Rattle.ear_text.specs.EarFormat.{closed, paired};
 
 use ear_core::{Ear, Step, Steps};

@@ -2,7 +2,7 @@
 ghost use Rattle.std.specs.Prelude.{ℕ, List};
 ghost use Rattle.std.specs.List.{AllByRecursion};
 ghost use Rattle.line_text.specs.Common.{Stands, StandsAlone};
-ghost use Rattle.ear_core.specs.EarLists.{PlainEars, FitsEars, HasEdges};
+ghost use Rattle.ear_core.specs.Common.{PlainEars, FitsEars, HasEdges};
 ghost use Rattle.ear_text.specs.EarFormat.{ear_format};
 ghost use Rattle.ear_text.specs.Writing.{ears_text, IsWritable};
 

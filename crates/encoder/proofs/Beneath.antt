@@ -3,14 +3,9 @@
 -- as the first k edges do. A graph6 text depends on the order and on the adjacent pairs alone.
 use Rattle.std.proofs.Common.{◌≡◌, ℕ, suc, ◌+◌, ◌≤◌, ◌==◌, ◌&&◌, ◌||◌, Bool, true, false, cond, List, [], ◌∷◌, ◌++◌, map, refl, sym, subst, ap, ap₂, ◌∙◌, arith, ◌⊎◌, inl, inr}
 use Rattle.std.proofs.lemmas.Bool.{false≢true}
-use Rattle.counting.proofs.Common.{nat_tests, length-append, list_any-append}
-use Rattle.std.specs.List.{list_any}
-use Rattle.counting.specs.Common.{none, some}
-use Rattle.graph_core.specs.Common.{Graph, size, first_end, second_end, has_ends, with_edge, adjacent}
-use Rattle.graph_core.proofs.Common.{adjacent-ends, joins}
-use Rattle.graph6_text.specs.Digits.{bytes_of}
-use Rattle.graph6_text.specs.Pairs.{column_pairs}
-use Rattle.graph6_text.specs.Writing.{adjacency_bits, graph6_of, size_of}
+use Rattle.counting.proofs.Common.{nat_tests, length-append, list_any-append, list_any, none, some}
+use Rattle.graph_core.proofs.Common.{Graph, size, first_end, second_end, has_ends, with_edge, adjacent, adjacent-ends, joins}
+use Rattle.graph6_text.specs.Common.{bytes_of, column_pairs, adjacency_bits, graph6_of, size_of}
 use Rattle.graph6_text.proofs.DistinctPairs.{Each, Apart, AreDistinct, distinct-append, joins-back, simple_from_distinct}
 use Rattle.encoder.specs.SimpleGraphs.{IsBeneath, with_new_edge}
 

@@ -2,12 +2,12 @@
 use Rattle.std.proofs.Common.{◌≡◌, ◌∙◌, ◌<◌, ◌≤◌, ℕ, List, [], length, take, refl, sym, subst, ap, inl, inr}
 use Rattle.std.specs.declared.option.Option.{Option}
 use Rattle.std.specs.declared.option.Option.TheVariants.{Some, None}
-use Rattle.outside.specs.Sink.{appended}
+use Rattle.outside.specs.Common.{appended}
 use Rattle.outside.proofs.Pieces.{appended-nil}
 use Rattle.list_reader.specs.declared.ending.BadLine.{BadLine}
 use Rattle.list_reader.specs.declared.ending.Ending.{Ending}
 use Rattle.list_reader.specs.declared.ending.Ending.TheVariants.{Done, Bad, ReadFault, WriteFault, Memory}
-use Rattle.list_reader.specs.Endings.{Appended, IsLeft}
+use Rattle.list_reader.specs.Common.{Appended, IsLeft}
 use Rattle.encoder.specs.Files.{Encodes, NamesTooLong, most_bytes}
 use Rattle.encoder.specs.Reads.{EncodesFile, IsReadWhole, LeavesMore, ReadsFirst, WritesUpTo}
 

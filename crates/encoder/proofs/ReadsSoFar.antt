@@ -5,8 +5,8 @@ use Rattle.std.proofs.Common.{◌≡◌, ◌∙◌, ◌≤◌, ◌<◌, ℕ, suc
 use Rattle.counting.proofs.Common.{length-append}
 use Rattle.std.specs.declared.option.Option.{Option}
 use Rattle.std.specs.declared.option.Option.TheVariants.{Some, None}
-use Rattle.outside.specs.Source.{prepended, IsEnd}
-use Rattle.list_reader.specs.Endings.{IsLeft}
+use Rattle.outside.specs.Common.{prepended, IsEnd}
+use Rattle.list_reader.specs.Common.{IsLeft}
 use Rattle.list_reader.proofs.LeftBytes.{prepended-nil, prepended-prepended, list_ends}
 use Rattle.encoder.specs.Files.{most_bytes}
 use Rattle.encoder.specs.Reads.{IsReadPast, IsReadTorn, IsReadWhole, LeavesMore, ReadsGive}

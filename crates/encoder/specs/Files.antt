@@ -2,8 +2,8 @@
 -- Stated by: encoder, list_top. Rests on it: list_front.
 use Rattle.std.specs.Prelude.{◌≡◌, ◌⊎◌, ℕ, ◌-◌, ◌<◌, ◌≤◌, List, [], ◌∷◌, ◌++◌, length, take, slice_index_or}
 use Rattle.line_text.specs.Common.{Stands, FirstFault, lines_of}
-use Rattle.graph_text.specs.EitherVersion.{NamedGraph, either_version}
-use Rattle.graph6_text.specs.Writing.{graph6_of, ReadsBack}
+use Rattle.graph_text.specs.Common.{NamedGraph, either_version}
+use Rattle.graph6_text.specs.Common.{graph6_of, ReadsBack}
 use Rattle.text_faults.specs.declared.faults.FaultKind.TheVariants.{Limit}
 use Rattle.list_reader.specs.declared.ending.BadLine.{BadLine}
 use Rattle.list_reader.specs.declared.ending.Ending.{Ending}

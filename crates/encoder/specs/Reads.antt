@@ -3,11 +3,11 @@
 use Rattle.std.specs.Prelude.{◌≡◌, ◌⊎◌, ℕ, zero, suc, ◌<◌, ◌≤◌, List, [], ◌++◌, length, take}
 use Rattle.std.specs.declared.option.Option.{Option}
 use Rattle.std.specs.declared.option.Option.TheVariants.{Some, None}
-use Rattle.outside.specs.Sink.{appended, IsWritten, IsCutOff}
+use Rattle.outside.specs.Common.{appended, IsWritten, IsCutOff}
 use Rattle.list_reader.specs.declared.ending.BadLine.{BadLine}
 use Rattle.list_reader.specs.declared.ending.Ending.{Ending}
 use Rattle.list_reader.specs.declared.ending.Ending.TheVariants.{Done, Bad, ReadFault, WriteFault, Memory}
-use Rattle.list_reader.specs.Endings.{Appended, IsLeft}
+use Rattle.list_reader.specs.Common.{Appended, IsLeft}
 use Rattle.encoder.specs.Files.{Encodes, IsEncoded, IsOutside, NamesTooLong, most_bytes}
 
 -- so many reads gave these bytes, one piece after another, and lead from the first source to the

@@ -1,7 +1,7 @@
 //! Encoding a graph file.
 ghost use Rattle.std.specs.Prelude.{◌≡◌, ◌≢◌, ◌<◌, ◌-◌, ◌^◌, ℕ, List, Some, length};
-ghost use Rattle.outside.specs.Faults.{Rose};
-ghost use Rattle.list_reader.specs.Endings.{Appended};
+ghost use Rattle.outside.specs.Common.{Rose};
+ghost use Rattle.list_reader.specs.Common.{Appended};
 ghost use Rattle.encoder.specs.Files.{Encodes};
 ghost use Rattle.encoder.specs.Reads.{EncodesFile, ReadsFirst, WritesUpTo};
 

@@ -1,7 +1,7 @@
 //! A line of a file by its number, and what is found of a bad file.
 ghost use Rattle.std.specs.Prelude.{◌≡◌, IfOk};
 ghost use Rattle.line_text.specs.Common.{FirstFault};
-ghost use Rattle.graph_text.specs.EitherVersion.{either_version};
+ghost use Rattle.graph_text.specs.Common.{either_version};
 ghost use Rattle.encoder.specs.Files.{IsOutside, NamesTooLong, kept_line};
 
 use line_text::split_line;

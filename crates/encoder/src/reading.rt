@@ -1,7 +1,7 @@
 //! Reading a file from a source.
 ghost use Rattle.std.specs.Prelude.{◌≡◌, ◌<◌, ℕ, IfOk, IfErr, IsErrOf, length};
-ghost use Rattle.outside.specs.Faults.{Rose};
-ghost use Rattle.list_reader.specs.Endings.{IsLeft};
+ghost use Rattle.outside.specs.Common.{Rose};
+ghost use Rattle.list_reader.specs.Common.{IsLeft};
 ghost use Rattle.encoder.specs.Reads.{IsReadPast, IsReadTorn, IsReadWhole, LeavesMore};
 
 use outside::Source;

@@ -1,8 +1,8 @@
 //! The graph6 text of a graph file.
 ghost use Rattle.std.specs.Prelude.{◌≡◌, ◌<◌, ◌-◌, ◌^◌, ◌∷◌, ◌++◌, [], IfOk, IfErr, length};
-ghost use Rattle.text_faults.specs.Readings.{IsFirstFault};
-ghost use Rattle.graph_text.specs.EitherVersion.{either_version};
-ghost use Rattle.graph6_text.specs.Writing.{graph6_of};
+ghost use Rattle.text_faults.specs.Common.{IsFirstFault};
+ghost use Rattle.graph_text.specs.Common.{either_version};
+ghost use Rattle.graph6_text.specs.Common.{graph6_of};
 ghost use Rattle.encoder.specs.Files.{IsEncoded};
 
 use crate::simple::simple_beneath;

@@ -3,7 +3,7 @@
 ghost use Rattle.std.specs.Prelude.{◌≡◌, true};
 ghost use Rattle.counting.specs.Common.{mem, none};
 ghost use Rattle.graph_core.specs.Common.{missed_count};
-ghost use Rattle.match_core.specs.MatchingRows.{IsOf, edges_of};
+ghost use Rattle.match_core.specs.Common.{IsOf, edges_of};
 
 use crate::made::{made, set_of};
 use gallai_edmonds::sets;

@@ -1,14 +1,10 @@
 -- Max flow and min cut: a flow is at most each cut, and where a set of nodes is left by no arc
 -- with room, it is the least minimum cut. Idea: sum what goes out of the nodes of a set, node by
 -- node and arc by arc.
-use Rattle.std.proofs.Common.{◌≡◌, ℕ, suc, zero, ◌≤◌, ◌<◌, ◌≢◌, Bool, true, false, cond, ◌==◌, refl, sym, ap, ap₂, ◌∙◌, arith, ◌&&◌, ◌||◌, not, inl, inr, List, [], ◌∷◌, length, sum_by, eq-eqb, ne_eqb}
-use Rattle.std.specs.Prelude.{All, if◌then◌else◌, ℤ, pos, neg_ℤ, ◌+ℤ◌, ◌-ℤ◌, ◌≤ℤ◌, ◌<ℤ◌, unsigned_abs}
-use Rattle.counting.proofs.Common.{cases_Bool, true≢false, both_ways, All-head, All-tail, sum_by-cons}
+use Rattle.std.proofs.Common.{◌≡◌, ℕ, suc, zero, ◌≤◌, ◌<◌, ◌≢◌, Bool, true, false, cond, ◌==◌, refl, sym, ap, ap₂, ◌∙◌, arith, ◌&&◌, ◌||◌, not, inl, inr, List, [], ◌∷◌, length, sum_by, eq-eqb, ne_eqb, All, if◌then◌else◌, ℤ, pos, neg_ℤ, ◌+ℤ◌, ◌-ℤ◌, ◌≤ℤ◌, ◌<ℤ◌, unsigned_abs}
+use Rattle.counting.proofs.Common.{cases_Bool, true≢false, both_ways, All-head, All-tail, sum_by-cons, Within, Set, singleton, mem}
 use Rattle.std.proofs.lemmas.Int.{ints, by_lt_z}
-use Rattle.counting.specs.Common.{Within, Set, singleton, mem}
-use Rattle.flow_core.specs.Nets.{Arc, Net, IsArc, IsNet, leaves_set, value_of, total_capacity, Separates, IsLeastCut}
-use Rattle.flow_core.specs.Flows.{out_by, goes_out, Fits, IsFlow}
-use Rattle.flow_core.specs.Residual.{arc_at, amount_at, Joins, room_from, IsOpenWalk, IsReachedSet}
+use Rattle.flow_core.specs.Common.{Arc, Net, IsArc, IsNet, leaves_set, value_of, total_capacity, Separates, IsLeastCut, out_by, goes_out, Fits, IsFlow, arc_at, amount_at, Joins, room_from, IsOpenWalk, IsReachedSet}
 use Rattle.flow_core.proofs.IntegerSums.{sum_to, sum_to-congr, sum_to-add, sum_to-sub, sum_to-zero, sum_to-one}
 
 -- what an arc takes out of x

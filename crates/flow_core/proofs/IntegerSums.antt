@@ -1,10 +1,8 @@
 -- Sums of integers over the numbers 1 to n: term by term, and a sum with one term that is not zero.
 -- Idea: induction on n.
-use Rattle.std.proofs.Common.{◌≡◌, ℕ, suc, zero, ◌≢◌, refl, ap, ap₂, arith, inl, inr}
-use Rattle.std.specs.Prelude.{ℤ, pos, ◌+ℤ◌, ◌-ℤ◌}
-use Rattle.counting.proofs.Common.{cases_eq}
+use Rattle.std.proofs.Common.{◌≡◌, ℕ, suc, zero, ◌≢◌, refl, ap, ap₂, arith, inl, inr, ℤ, pos, ◌+ℤ◌, ◌-ℤ◌}
+use Rattle.counting.proofs.Common.{cases_eq, Within}
 use Rattle.std.proofs.lemmas.Int.{ints}
-use Rattle.counting.specs.Common.{Within}
 
 -- f 1 + f 2 + .. + f n
 abbrev pub sum_to : ℕ → (ℕ → ℤ) → ℤ

@@ -1,17 +1,10 @@
 -- A path that goes from level to level: how it grows, goes back and starts again, and that there
 -- is always less left to do. Idea: visit j is at level j, so no node comes twice; each arc is
 -- passed over once, and a path is no longer than there are levels.
-use Rattle.std.proofs.Common.{◌≡◌, ◌≢◌, ℕ, zero, suc, ◌+◌, ◌-◌, ◌≤◌, ◌<◌, List, [], ◌∷◌, ◌++◌, length, get_or, set, take, min, sym, ◌∙◌, ap, subst, arith, inl, inr, length-append, slice_index}
-use Rattle.std.specs.Prelude.{ℤ}
-use Rattle.std.proofs.Math.Seq.{get_or-append_seam}
-use Rattle.counting.proofs.Common.{cases_eq, get_or_read, total_congr}
+use Rattle.std.proofs.Common.{◌≡◌, ◌≢◌, ℕ, zero, suc, ◌+◌, ◌-◌, ◌≤◌, ◌<◌, List, [], ◌∷◌, ◌++◌, length, get_or, set, take, min, sym, ◌∙◌, ap, subst, arith, inl, inr, length-append, slice_index, ℤ, get_or-set_same, get_or-set_other, length-take}
+use Rattle.counting.proofs.Common.{get_or-append_seam, cases_eq, get_or_read, total_congr, Within, total, row_of}
 use Rattle.std.proofs.lemmas.Int.{ints}
-use Rattle.std.proofs.lemmas.List.{get_or-set_same, get_or-set_other, length-take}
-use Rattle.counting.specs.Common.{Within, total, row_of}
-use Rattle.flow_core.specs.Nets.{Net}
-use Rattle.flow_core.specs.Residual.{arc_at}
-use Rattle.flow_core.specs.Search.{visit_at, node_at, IsStep}
-use Rattle.flow_core.specs.Layers.{IsLaid, arcs_left, work_left}
+use Rattle.flow_core.specs.Common.{Net, arc_at, visit_at, node_at, IsStep, IsLaid, arcs_left, work_left}
 use Rattle.flow_core.specs.declared.search.Visit.{Visit}
 use Rattle.flow_core.proofs.SearchTrees.{IsTree-push, visit_at-push, room-some}
 use Rattle.flow_core.proofs.Scanning.{Leads, taken, end_within}

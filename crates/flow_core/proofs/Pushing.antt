@@ -1,14 +1,9 @@
 -- Sending d along a path with room: each amount stays within its capacity, and only the two ends
 -- of the path see a change. Idea: from the last visit back to the first, each step moves the
 -- change from a visit's node to its parent's node.
-use Rattle.std.proofs.Common.{◌≡◌, ◌≢◌, ℕ, zero, suc, ◌+◌, ◌≤◌, ◌<◌, ◌^◌, ◌==◌, Bool, true, false, List, [], ◌∷◌, length, set, replicate, refl, sym, ◌∙◌, ap, subst, arith, inl, inr, eq-eqb, ne_eqb}
-use Rattle.std.specs.Prelude.{ℤ, pos, ◌+ℤ◌, ◌-ℤ◌, ◌≤ℤ◌, unsigned_abs, if◌then◌else◌}
+use Rattle.std.proofs.Common.{◌≡◌, ◌≢◌, ℕ, zero, suc, ◌+◌, ◌≤◌, ◌<◌, ◌^◌, ◌==◌, Bool, true, false, List, [], ◌∷◌, length, set, replicate, refl, sym, ◌∙◌, ap, subst, arith, inl, inr, eq-eqb, ne_eqb, ℤ, pos, ◌+ℤ◌, ◌-ℤ◌, ◌≤ℤ◌, unsigned_abs, if◌then◌else◌, get_or-set_other}
 use Rattle.std.proofs.lemmas.Int.{ints}
-use Rattle.std.proofs.lemmas.List.{get_or-set_other}
-use Rattle.flow_core.specs.Nets.{Arc, Net, IsArc, IsNet, IsBounded}
-use Rattle.flow_core.specs.Flows.{out_by, goes_out, Fits, IsFlow}
-use Rattle.flow_core.specs.Residual.{arc_at, amount_at, Joins, room_from, sent_amount}
-use Rattle.flow_core.specs.Search.{visit_at, node_at, first_node, last_node, IsVisit, IsTree}
+use Rattle.flow_core.specs.Common.{Arc, Net, IsArc, IsNet, IsBounded, out_by, goes_out, Fits, IsFlow, arc_at, amount_at, Joins, room_from, sent_amount, visit_at, node_at, first_node, last_node, IsVisit, IsTree}
 use Rattle.flow_core.specs.declared.search.Visit.{Visit}
 use Rattle.flow_core.proofs.Reading.{IsNet-at}
 use Rattle.flow_core.proofs.Duality.{Fits-at, flow-le-total}

@@ -1,18 +1,13 @@
 -- What the code reads of a net: its arcs, the rows of its nodes and the amounts on its arcs.
 -- Idea: each is a reading law of lists, at the one default that the definitions use.
-use Rattle.std.proofs.Common.{◌≡◌, ℕ, zero, suc, ◌<◌, ◌≤◌, ◌^◌, List, [], ◌∷◌, ◌++◌, length, get_or, set, refl, sym, ◌∙◌, ap, ap₂, subst, arith, w64, to_z, of_z}
-use Rattle.std.specs.Prelude.{All, ℤ, pos, slice_get, Some, unsigned_abs}
+use Rattle.std.proofs.Common.{◌≡◌, ℕ, zero, suc, ◌<◌, ◌≤◌, ◌^◌, List, [], ◌∷◌, ◌++◌, length, get_or, set, refl, sym, ◌∙◌, ap, ap₂, subst, arith, w64, to_z, of_z, All, ℤ, pos, slice_get, Some, unsigned_abs}
 use mir.Val.{SFits}
 use Rattle.std.specs.Global.{Vec}
 use Rattle.std.proofs.lemmas.Int.{to_z-of_z}
-use Rattle.counting.proofs.Common.{get_or_from_slice_get, get_or-map, length-map, All-head, All-tail}
+use Rattle.counting.proofs.Common.{get_or_from_slice_get, get_or-map, length-map, All-head, All-tail, row_of}
 use Rattle.std.proofs.lemmas.List.{map-set}
 use Rattle.std.proofs.lemmas.List.Sums.{get_or-le-sum_by}
-use Rattle.flow_core.specs.Nets.{Arc, Net, IsArc, IsNet, IsBounded, total_capacity}
-use Rattle.flow_core.specs.Flows.{Fits}
-use Rattle.flow_core.specs.Residual.{arc_at, amount_at}
-use Rattle.flow_core.specs.Rows.{rows_of}
-use Rattle.counting.specs.Common.{row_of}
+use Rattle.flow_core.specs.Common.{Arc, Net, IsArc, IsNet, IsBounded, total_capacity, Fits, arc_at, amount_at, rows_of}
 use Rattle.flow_core.proofs.Duality.{Fits-at}
 
 -- an arc of a net in order is in order

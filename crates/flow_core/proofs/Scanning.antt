@@ -1,16 +1,10 @@
 -- The arcs at one node, scanned one by one: each has no room out of the node, or leads to a node
 -- that is seen then. Idea: the arcs scanned so far stay scanned while the seen nodes grow, and
 -- the rows list every arc at the node.
-use Rattle.std.proofs.Common.{◌≡◌, ◌≢◌, ℕ, ◌+◌, ◌-◌, ◌≤◌, ◌<◌, ◌==◌, ◌||◌, true, false, List, [], ◌∷◌, ◌++◌, length, get_or, min, refl, sym, ◌∙◌, ap, subst, arith, inl, inr, eq-eqb, ne_eqb, below_more, length-append}
-use Rattle.counting.proofs.Common.{or_right, or_left, get_or_read}
-use Rattle.std.specs.Prelude.{ℤ, pos, ◌<ℤ◌, Contains}
-use Rattle.std.proofs.Math.Seq.{get_or-append_seam}
+use Rattle.std.proofs.Common.{◌≡◌, ◌≢◌, ℕ, ◌+◌, ◌-◌, ◌≤◌, ◌<◌, ◌==◌, ◌||◌, true, false, List, [], ◌∷◌, ◌++◌, length, get_or, min, refl, sym, ◌∙◌, ap, subst, arith, inl, inr, eq-eqb, ne_eqb, below_more, length-append, ℤ, pos, ◌<ℤ◌, Contains}
+use Rattle.counting.proofs.Common.{or_right, or_left, get_or_read, get_or-append_seam, Within, Set, mem, row_of}
 use Rattle.std.proofs.lemmas.Int.{ints}
-use Rattle.counting.specs.Common.{Within, Set, mem, row_of}
-use Rattle.flow_core.specs.Nets.{Arc, Net, IsArc, IsNet}
-use Rattle.flow_core.specs.Residual.{arc_at, amount_at, Joins, room_from, HasRoom, IsScanned}
-use Rattle.flow_core.specs.Incidence.{HasEnd, IsIncidence}
-use Rattle.flow_core.specs.Search.{visit_at, node_at, first_node, last_node, IsStep, IsTree, IsSeen, IsSearch}
+use Rattle.flow_core.specs.Common.{Arc, Net, IsArc, IsNet, arc_at, amount_at, Joins, room_from, HasRoom, IsScanned, HasEnd, IsIncidence, visit_at, node_at, first_node, last_node, IsStep, IsTree, IsSeen, IsSearch}
 use Rattle.flow_core.specs.declared.search.Visit.{Visit}
 use Rattle.flow_core.proofs.Reading.{IsNet-at}
 use Rattle.flow_core.proofs.SearchTrees.{IsTree-push, IsSeen-push, unseen-new, visit_at-push, room-some}

@@ -1,15 +1,10 @@
 -- Search trees: how they grow, that each node is reached from the root over arcs with room, and
 -- that no arc is used twice. Idea: a visit is at a new node, so its arc has an end that no
 -- earlier arc has.
-use Rattle.std.proofs.Common.{◌≡◌, ◌≢◌, ℕ, zero, suc, ◌+◌, ◌-◌, ◌≤◌, ◌<◌, ◌^◌, ◌==◌, ◌||◌, Bool, true, false, cond, List, [], ◌∷◌, ◌++◌, length, get_or, refl, sym, ◌∙◌, ap, subst, arith, inl, inr, eq-eqb, ne_eqb, length-append}
-use Rattle.std.specs.Prelude.{ℤ}
-use Rattle.std.proofs.Math.Seq.{get_or-append_seam}
-use Rattle.counting.proofs.Common.{cases_eq, both_ways, or_right, or_left, get_or_append_left, mem-item, count_of_one, count_congr, count_le, count_put, or_false, or_true}
+use Rattle.std.proofs.Common.{◌≡◌, ◌≢◌, ℕ, zero, suc, ◌+◌, ◌-◌, ◌≤◌, ◌<◌, ◌^◌, ◌==◌, ◌||◌, Bool, true, false, cond, List, [], ◌∷◌, ◌++◌, length, get_or, refl, sym, ◌∙◌, ap, subst, arith, inl, inr, eq-eqb, ne_eqb, length-append, ℤ}
+use Rattle.counting.proofs.Common.{get_or-append_seam, cases_eq, both_ways, or_right, or_left, get_or_append_left, mem-item, count_of_one, count_congr, count_le, count_put, or_false, or_true, Within, count, bit, Set, put, everything, mem, IsRisingIn}
 use Rattle.std.proofs.lemmas.Int.{ints}
-use Rattle.counting.specs.Common.{Within, count, bit, Set, put, everything, mem, IsRisingIn}
-use Rattle.flow_core.specs.Nets.{Arc, Net}
-use Rattle.flow_core.specs.Residual.{arc_at, Joins, HasRoom, IsReached, IsScanned, IsReachedSet}
-use Rattle.flow_core.specs.Search.{visit_at, node_at, IsStep, IsVisit, IsTree, IsSeen, IsSearch}
+use Rattle.flow_core.specs.Common.{Arc, Net, arc_at, Joins, HasRoom, IsReached, IsScanned, IsReachedSet, visit_at, node_at, IsStep, IsVisit, IsTree, IsSeen, IsSearch}
 use Rattle.flow_core.specs.declared.search.Visit.{Visit}
 
 -- the default visit

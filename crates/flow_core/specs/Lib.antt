@@ -8,3 +8,4 @@ pub mod Search
 pub mod Outcomes
 pub mod Cuts
 pub mod Layers
+pub mod Common

@@ -1,7 +1,6 @@
 //! Arcs, and how much more they can take.
 ghost use Rattle.std.specs.Prelude.{◌≡◌, ◌≤◌, ◌<◌, ◌^◌, pos, ◌≤ℤ◌, unsigned_abs};
-ghost use Rattle.flow_core.specs.Residual.{Joins, room_from, sent_amount};
-ghost use Rattle.flow_core.specs.Incidence.{HasEnd};
+ghost use Rattle.flow_core.specs.Common.{Joins, room_from, sent_amount, HasEnd};
 
 /// An arc between two nodes, to be used in both directions.
 #[derive(Clone, Copy)]

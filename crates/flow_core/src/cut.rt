@@ -1,10 +1,7 @@
 //! The least minimum cut up to a bound, or a flow above it.
 ghost use Rattle.std.specs.Prelude.{◌≡◌, ◌≢◌, ◌≤◌, ◌<◌, ◌↔◌, IfOk, OnOk, Some, None};
 ghost use Rattle.counting.specs.Common.{Within};
-ghost use Rattle.flow_core.specs.Nets.{HasCutWithin, IsBounded, IsLeastCut};
-ghost use Rattle.flow_core.specs.Flows.{IsFlow};
-ghost use Rattle.flow_core.specs.Incidence.{IsIncidence};
-ghost use Rattle.flow_core.specs.Cuts.{IsCut, IfCut, IfExceeds};
+ghost use Rattle.flow_core.specs.Common.{HasCutWithin, IsBounded, IsLeastCut, IsFlow, IsIncidence, IsCut, IfCut, IfExceeds};
 
 use crate::flow::Flow;
 use crate::incidence::Incidence;

@@ -1,8 +1,6 @@
 //! Flows, and how they grow along a path with room.
 ghost use Rattle.std.specs.Prelude.{◌≡◌, ◌≢◌, ℕ, ◌<◌, IfOk};
-ghost use Rattle.flow_core.specs.Nets.{IsBounded};
-ghost use Rattle.flow_core.specs.Flows.{IsFlow};
-ghost use Rattle.flow_core.specs.Search.{IsTree, first_node, last_node};
+ghost use Rattle.flow_core.specs.Common.{IsBounded, IsFlow, IsTree, first_node, last_node};
 
 use crate::net::Net;
 use crate::search::Visit;

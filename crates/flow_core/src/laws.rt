@@ -1,9 +1,7 @@
 //! The law of flows and cuts, the contract of a function that does nothing.
 ghost use Rattle.std.specs.Prelude.{ℕ, ◌≤◌, List, ℤ};
 ghost use Rattle.counting.specs.Common.{Within, Set};
-ghost use Rattle.flow_core.specs.Nets.{Net, IsNet, Separates, IsLeastCut, value_of};
-ghost use Rattle.flow_core.specs.Flows.{IsFlow};
-ghost use Rattle.flow_core.specs.Residual.{IsReachedSet};
+ghost use Rattle.flow_core.specs.Common.{Net, IsNet, Separates, IsLeastCut, value_of, IsFlow, IsReachedSet};
 
 /// Flows and cuts (Ford and Fulkerson, 1956): no flow is more than the value of a set with the
 /// source and without the sink; and where the sink is not reached from the source over arcs with

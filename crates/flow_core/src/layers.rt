@@ -1,11 +1,7 @@
 //! Many shortest paths after one search: paths that go from each node to one of the next level.
 ghost use Rattle.std.specs.Prelude.{◌≡◌, ◌≢◌, ℕ, suc, ◌≤◌, ◌<◌, ◌+◌, ◌-◌, length, IfOk, OnOk, IsTrue, List, ℤ, slice_index, slice_set, take};
-ghost use Rattle.flow_core.specs.Nets.{IsBounded};
-ghost use Rattle.flow_core.specs.Flows.{Fits, IsFlow};
+ghost use Rattle.flow_core.specs.Common.{IsBounded, Fits, IsFlow, IsIncidence, first_node, last_node, node_at, IsTree, HasTree, IsLaid, work_left};
 ghost use Rattle.counting.specs.Common.{row_of};
-ghost use Rattle.flow_core.specs.Incidence.{IsIncidence};
-ghost use Rattle.flow_core.specs.Search.{first_node, last_node, node_at, IsTree, HasTree};
-ghost use Rattle.flow_core.specs.Layers.{IsLaid, work_left};
 
 use crate::flow::Flow;
 use crate::incidence::Incidence;

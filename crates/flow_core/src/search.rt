@@ -1,11 +1,7 @@
 //! The search for a shortest path over arcs with room, breadth first.
 ghost use Rattle.std.specs.Prelude.{◌≡◌, ℕ, ◌+◌, ◌<◌, ◌≢◌, ◌||◌, ◌==◌, [], ◌∷◌, ◌++◌, length, IfOk, OnOk, MatchBool, ℤ, List};
 ghost use Rattle.counting.specs.Common.{Within, mem};
-ghost use Rattle.flow_core.specs.Nets.{IsBounded};
-ghost use Rattle.flow_core.specs.Flows.{Fits};
-ghost use Rattle.flow_core.specs.Incidence.{IsIncidence};
-ghost use Rattle.flow_core.specs.Search.{first_node, last_node, IsTree, IsSeen, IsSearch};
-ghost use Rattle.flow_core.specs.Outcomes.{IsOutcome};
+ghost use Rattle.flow_core.specs.Common.{IsBounded, Fits, IsIncidence, first_node, last_node, IsTree, IsSeen, IsSearch, IsOutcome};
 
 use crate::incidence::Incidence;
 use crate::net::Net;

@@ -4,8 +4,7 @@
 use Rattle.std.specs.Prelude.{◌≡◌, ◌⊎◌, ◌↔◌, ℕ, List, Bool, IsTrue}
 use Rattle.std.specs.declared.option.Option.{Option}
 use Rattle.std.specs.declared.option.Option.TheVariants.{Some, None}
-use Rattle.outside.specs.Faults.{Rose}
-use Rattle.outside.specs.Shelf.{Answer, NamedFile, ReadsFirst, ReadsInTurn}
+use Rattle.outside.specs.Common.{Rose, Answer, NamedFile, ReadsFirst, ReadsInTurn}
 use Rattle.bench_tasks.specs.Common.{Command, command_of, Task, All, Bad, Absent, loaded, file_names, names_in, names_until}
 use Rattle.bench_outcomes.specs.Common.{MayRefuse, Outcome, Appended, CutShort, IsReported, IsSettled, Succeeds}
 use Rattle.bench_outcomes.specs.declared.status.Status.{Status}

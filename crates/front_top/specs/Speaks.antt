@@ -3,9 +3,8 @@
 use Rattle.std.specs.Prelude.{◌≡◌, ◌⊎◌, ℕ, List, Bool}
 use Rattle.std.specs.declared.option.Option.{Option}
 use Rattle.std.specs.declared.result.Result.{Result}
-use Rattle.outside.specs.Faults.{Rose}
+use Rattle.outside.specs.Common.{Rose, appended}
 use Rattle.outside.specs.declared.explain.FailureReason.{FailureReason}
-use Rattle.outside.specs.Sink.{appended}
 use Rattle.outside.specs.declared.sink.SinkFailed.{SinkFailed}
 use Rattle.bench_tasks.specs.Common.{Command}
 use Rattle.bench_tasks.specs.declared.stop.Stop.{Stop}

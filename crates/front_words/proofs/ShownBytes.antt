@@ -1,7 +1,6 @@
 -- The bytes of a text are shown one after another.
 -- Each lemma is a line of the definition, at a number that is not written as a successor.
-use Rattle.std.proofs.Common.{◌≡◌, ◌∙◌, ℕ, ◌-◌, zero, suc, List, [], ◌∷◌, ◌++◌, length, refl, ap, arith}
-use Rattle.std.specs.Prelude.{codes}
+use Rattle.std.proofs.Common.{◌≡◌, ◌∙◌, ℕ, ◌-◌, zero, suc, List, [], ◌∷◌, ◌++◌, length, refl, ap, arith, codes}
 use Rattle.front_words.specs.Showing.{begin_shown, byte_shown}
 
 shown-byte : (left : ℕ) (byte : ℕ) (rest : List ℕ) → (left ≡ 0 → ⊥) → begin_shown left (byte ∷ rest) ≡ byte_shown byte ++ begin_shown (left - 1) rest

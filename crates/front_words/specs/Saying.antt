@@ -3,8 +3,7 @@
 use Rattle.std.specs.Prelude.{◌≡◌, ◌≤◌, ℕ, List, ◌++◌, OnOk, OnErr}
 use Rattle.std.specs.declared.option.Option.{Option}
 use Rattle.std.specs.declared.result.Result.{Result}
-use Rattle.outside.specs.Faults.{Rose}
-use Rattle.outside.specs.Sink.{appended}
+use Rattle.outside.specs.Common.{Rose, appended}
 
 -- a beginning of the text was appended to what the sink had, maybe all of it
 pub record IsBegun (text : List ℕ) (before now : Option (List ℕ)) : Type 0 where

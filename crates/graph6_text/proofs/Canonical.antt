@@ -1,18 +1,11 @@
 -- A text without header and line end that is accepted is the text of its graph. Idea: its bits
 -- can be read off the edges that they choose, and are written again as its bytes; and the size
 -- has one form.
-use Rattle.std.proofs.Common.{◌≡◌, ℕ, ◌+◌, ◌*◌, ◌/◌, ◌%◌, ◌<◌, ◌≤◌, ◌==◌, Bool, true, false, cond, List, [], ◌∷◌, ◌++◌, length, map, take, drop, Option, Some, None, Ok, refl, sym, ap, ap₂, ◌∙◌, arith, leb, subst}
-use Rattle.std.proofs.lemmas.Bool.{eqb-true, eqb-false, leb-true, cond-true, cond-false}
-use Rattle.counting.proofs.Common.{and_parts, le-leb, lt-leb}
-use Rattle.std.proofs.lemmas.List.{take-append-drop}
-use Rattle.std.specs.List.{list_all, list_any}
-use Rattle.counting.specs.Common.{none}
-use Rattle.graph_core.specs.Common.{Graph, IsSimple, adjacent}
-use Rattle.graph_core.proofs.Common.{adjacent-ends}
-use Rattle.graph6_text.specs.Digits.{byte_of, digit_of, is_digit, bits_of, bytes_of}
-use Rattle.graph6_text.specs.Pairs.{column_pairs}
-use Rattle.graph6_text.specs.Reading.{Fault, first_fault, faults_of, is_long, digit_at, order_of, data_of, filling_of, graph_of, graph_unless, body_of, outcome_of}
-use Rattle.graph6_text.specs.Writing.{size_of, adjacency_bits, graph6_of}
+use Rattle.std.proofs.Common.{◌≡◌, ℕ, ◌+◌, ◌*◌, ◌/◌, ◌%◌, ◌<◌, ◌≤◌, ◌==◌, Bool, true, false, cond, List, [], ◌∷◌, ◌++◌, length, map, take, drop, Option, Some, None, Ok, refl, sym, ap, ap₂, ◌∙◌, arith, leb, subst, eqb-true, leb-true, take-append-drop}
+use Rattle.std.proofs.lemmas.Bool.{eqb-false, cond-true, cond-false}
+use Rattle.counting.proofs.Common.{and_parts, le-leb, lt-leb, list_all, list_any, none}
+use Rattle.graph_core.proofs.Common.{Graph, IsSimple, adjacent, adjacent-ends}
+use Rattle.graph6_text.specs.Common.{byte_of, digit_of, is_digit, bits_of, bytes_of, column_pairs, Fault, first_fault, faults_of, is_long, digit_at, order_of, data_of, filling_of, graph_of, graph_unless, body_of, outcome_of, size_of, adjacency_bits, graph6_of}
 use Rattle.graph6_text.proofs.Columns.{length-column_pairs, distinct_column_pairs}
 use Rattle.graph6_text.proofs.DistinctPairs.{present, present_chosen, distinct_chosen, simple_from_distinct}
 use Rattle.graph6_text.proofs.Passing.{IsFormed, formed, digits-data, enough_bits, all_fail, first_fault-append}

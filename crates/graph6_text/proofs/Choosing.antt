@@ -3,12 +3,11 @@ use Rattle.std.proofs.Common.{◌≡◌, ℕ, Bool, true, false, List, [], ◌�
 use Rattle.counting.proofs.Common.{cases_Bool, nat_tests, append-nil, length-append, length-map}
 use Rattle.text_faults.specs.declared.faults.FaultKind.{FaultKind}
 use Rattle.std.proofs.lemmas.List.{nil_from_length}
-use Rattle.graph_core.specs.Common.{Graph, pair_of}
+use Rattle.graph_core.proofs.Common.{Graph, pair_of}
 use Rattle.graph_core.specs.declared.ends.Ends.{Ends}
 use Rattle.text_faults.specs.declared.faults.TextFault.{TextFault}
 use Rattle.text_faults.specs.declared.faults.TextFault.TheVariants as fault
-use Rattle.graph6_text.specs.Checks.{IsFirstFault, limit_row}
-use Rattle.graph6_text.specs.Pairs.{chosen, chosen_one}
+use Rattle.graph6_text.specs.Common.{IsFirstFault, limit_row, chosen, chosen_one}
 
 chosen-no_bits : (pairs : List (ℕ × ℕ)) → chosen pairs [] ≡ []
 chosen-no_bits [] = refl

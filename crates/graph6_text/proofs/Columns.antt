@@ -1,15 +1,11 @@
 -- The pairs of vertices by columns are the pairs i < j of 1 to n, each once, and there are n (n -
 -- 1) / 2 of them. Idea: induction on the number of columns, and within a column on the number of
 -- its pairs.
-use Rattle.std.proofs.Common.{◌≡◌, ℕ, suc, zero, ◌+◌, ◌-◌, ◌*◌, ◌/◌, ◌<◌, ◌≤◌, ◌==◌, ◌&&◌, ◌||◌, Bool, true, false, List, [], ◌∷◌, ◌++◌, length, map, get_or, refl, sym, ap, ap₂, ◌∙◌, arith, inl, inr}
-use Rattle.counting.proofs.Common.{cases_eq, or_left, or_right, nat_tests, length-append, length-map, get_or-map, list_any-append}
-use Rattle.std.proofs.lemmas.List.{append_assoc}
-use Rattle.std.specs.List.{list_any}
-use Rattle.counting.specs.Common.{Within}
-use Rattle.graph_core.specs.Common.{pair_of}
+use Rattle.std.proofs.Common.{◌≡◌, ℕ, suc, zero, ◌+◌, ◌-◌, ◌*◌, ◌/◌, ◌<◌, ◌≤◌, ◌==◌, ◌&&◌, ◌||◌, Bool, true, false, List, [], ◌∷◌, ◌++◌, length, map, get_or, refl, sym, ap, ap₂, ◌∙◌, arith, inl, inr, append_assoc}
+use Rattle.counting.proofs.Common.{cases_eq, or_left, or_right, nat_tests, length-append, length-map, get_or-map, list_any-append, list_any, Within}
+use Rattle.graph_core.proofs.Common.{pair_of}
 use Rattle.graph_core.specs.declared.ends.Ends.{Ends}
-use Rattle.graph6_text.specs.Pairs.{column, column_pairs}
-use Rattle.graph6_text.specs.Reading.{pair_count}
+use Rattle.graph6_text.specs.Common.{column, column_pairs, pair_count}
 use Rattle.graph6_text.proofs.DistinctPairs.{Each, AreDistinct, each-append, each_weaker, each_at, distinct-append}
 
 pub column_pairs-zero : column_pairs 0 ≡ []

@@ -1,11 +1,9 @@
 -- Lists of pairs of which no two are the same two numbers. Idea: among such pairs the bits that
 -- choose some can be read off the chosen ones, and each edge of a graph is chosen at most once.
 use Rattle.std.proofs.Common.{◌≡◌, ℕ, suc, zero, ◌+◌, ◌-◌, ◌<◌, ◌≤◌, ◌==◌, ◌&&◌, ◌||◌, Bool, true, false, cond, List, [], ◌∷◌, ◌++◌, length, map, take, get_or, refl, ap, ap₂, ◌∙◌, arith, ◌⊎◌, inl, inr}
-use Rattle.counting.proofs.Common.{or_from, or_left, both_ways, cases_order, nat_tests}
-use Rattle.std.specs.List.{list_any}
-use Rattle.graph_core.specs.Common.{Graph, IsSimple}
-use Rattle.graph_core.proofs.Common.{joins}
-use Rattle.graph6_text.specs.Pairs.{chosen}
+use Rattle.counting.proofs.Common.{or_from, or_left, both_ways, cases_order, nat_tests, list_any}
+use Rattle.graph_core.proofs.Common.{Graph, IsSimple, joins}
+use Rattle.graph6_text.specs.Common.{chosen}
 
 -- what holds of each pair of the list
 abbrev pub Each : (ℕ × ℕ → Type 0) → List (ℕ × ℕ) → Type 0

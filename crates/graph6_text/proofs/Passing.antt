@@ -1,21 +1,16 @@
 -- What the checks of a body tell of it. Idea: where no fault of a list of tests is first, each
 -- test fails; and the first fault of two lists of tests is that of the one, or else that of the
 -- other.
-use Rattle.counting.proofs.Common.{and_fails_second, and_parts, not-false}
-use Rattle.std.proofs.Common.{◌≡◌, ℕ, ◌+◌, ◌*◌, ◌/◌, ◌<◌, ◌≤◌, ◌==◌, Bool, true, false, cond, List, [], ◌∷◌, ◌++◌, length, take, drop, Option, Some, None, Ok, Err, refl, sym, ap, ap₂, ◌∙◌, arith, ltb, leb, nat_lt}
-use Rattle.std.proofs.lemmas.Bool.{eqb-false, ltb-false, leb-false}
-use Rattle.std.proofs.lemmas.List.{take-append-drop}
+use Rattle.counting.proofs.Common.{and_fails_second, and_parts, not-false, list_all, list_any}
+use Rattle.std.proofs.Common.{◌≡◌, ℕ, ◌+◌, ◌*◌, ◌/◌, ◌<◌, ◌≤◌, ◌==◌, Bool, true, false, cond, List, [], ◌∷◌, ◌++◌, length, take, drop, Option, Some, None, Ok, Err, refl, sym, ap, ap₂, ◌∙◌, arith, ltb, leb, nat_lt, ltb-false, leb-false, take-append-drop}
+use Rattle.std.proofs.lemmas.Bool.{eqb-false}
 use Rattle.std.proofs.lemmas.List.Folds.{list_all-append}
-use Rattle.std.specs.List.{list_all, list_any}
-use Rattle.text_faults.specs.Faults.{IsFault}
-use Rattle.graph_core.specs.Common.{Graph, size}
+use Rattle.text_faults.specs.Common.{IsFault}
+use Rattle.graph_core.proofs.Common.{Graph, size}
 use Rattle.text_faults.specs.declared.faults.FaultKind.TheVariants.{Padding, Limit}
 use Rattle.text_faults.specs.declared.faults.TextFault.{TextFault}
 use Rattle.text_faults.specs.declared.faults.TextFault.TheVariants as fault
-use Rattle.graph6_text.specs.Digits.{is_digit, bits_of}
-use Rattle.graph6_text.specs.Pairs.{column_pairs, chosen}
-use Rattle.graph6_text.specs.Checks.{limit_row, Checks, IsFirstFault}
-use Rattle.graph6_text.specs.Reading.{Fault, first_fault, faults_of, is_long, order_of, data_of, data_len, pair_count, filling_of, graph_of, graph_unless, body_of, outcome_of}
+use Rattle.graph6_text.specs.Common.{is_digit, bits_of, column_pairs, chosen, limit_row, Checks, IsFirstFault, Fault, first_fault, faults_of, is_long, order_of, data_of, data_len, pair_count, filling_of, graph_of, graph_unless, body_of, outcome_of}
 use Rattle.graph6_text.proofs.SixBits.{length-bits_of}
 use Rattle.graph6_text.proofs.Columns.{length-column_pairs}
 

@@ -1,10 +1,10 @@
 -- Six bits and a digit below 64 determine each other, and so do bits and the bytes that write
 -- them, six bits in each. Idea: the weights halve, so that a digit's quotients by them are known
 -- one after the other; then by induction in steps of six.
-use Rattle.std.proofs.Common.{◌≡◌, ℕ, ◌+◌, ◌*◌, ◌<◌, ◌≤◌, Bool, true, false, cond, List, [], ◌∷◌, ◌++◌, length, take, drop, get_or, refl, sym, ap, ap₂, ◌∙◌, arith, inl, inr, min}
-use Rattle.std.proofs.lemmas.List.{drop_more, append_assoc, take_at, drop_at, drop_all, nil_from_length}
+use Rattle.std.proofs.Common.{◌≡◌, ℕ, ◌+◌, ◌*◌, ◌<◌, ◌≤◌, Bool, true, false, cond, List, [], ◌∷◌, ◌++◌, length, take, drop, get_or, refl, sym, ap, ap₂, ◌∙◌, arith, inl, inr, min, append_assoc, take_at, drop_at}
+use Rattle.std.proofs.lemmas.List.{drop_more, drop_all, nil_from_length}
 use Rattle.counting.proofs.Common.{append-nil, length-append, take_all, cases_lt}
-use Rattle.graph6_text.specs.Digits.{byte_of, digit_of, weights, bits_of_digit, weight_of, digit_of_bits, bits_of, bytes_of}
+use Rattle.graph6_text.specs.Common.{byte_of, digit_of, weights, bits_of_digit, weight_of, digit_of_bits, bits_of, bytes_of}
 
 weight_of-nil : (ws : List ℕ) → weight_of ws [] ≡ 0
 weight_of-nil [] = refl

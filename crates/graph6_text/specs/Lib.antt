@@ -3,3 +3,4 @@ pub mod Digits
 pub mod Pairs
 pub mod Reading
 pub mod Writing
+pub mod Common

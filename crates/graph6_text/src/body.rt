@@ -1,8 +1,7 @@
 //! The parts of a graph6 text: header and line end, which are set aside, and then size and data.
 ghost use Rattle.std.specs.Prelude.{◌≡◌, ◌<◌, ◌≤◌, IsTrue, length};
 ghost use Rattle.std.specs.List.{list_all};
-ghost use Rattle.graph6_text.specs.Digits.{is_digit};
-ghost use Rattle.graph6_text.specs.Reading.{without_header, without_line_end, body_of, is_long, digit_at, order_of, data_of};
+ghost use Rattle.graph6_text.specs.Common.{is_digit, without_header, without_line_end, body_of, is_long, digit_at, order_of, data_of};
 
 use crate::digits::{BASE, ZERO};
 

@@ -1,9 +1,7 @@
 //! The checks of a body, in the order of its faults.
 ghost use Rattle.std.specs.Prelude.{◌≡◌, ◌≤◌, ◌<◌, IsTrue, length, take, drop};
 ghost use Rattle.std.specs.List.{list_all};
-ghost use Rattle.graph6_text.specs.Digits.{is_digit};
-ghost use Rattle.graph6_text.specs.Checks.{Checks};
-ghost use Rattle.graph6_text.specs.Reading.{is_long, order_of, data_len, pair_count, faults_of};
+ghost use Rattle.graph6_text.specs.Common.{is_digit, Checks, is_long, order_of, data_len, pair_count, faults_of};
 
 use crate::body::{LONG, data, is_long, order};
 use crate::digits::{BITS, is_digit};

@@ -1,7 +1,7 @@
 //! Digits of six bits, and the bytes that write them.
 ghost use Rattle.std.specs.Prelude.{◌≡◌, ◌≤◌, ◌<◌, ◌++◌, length, IfOk, OnOk, IsTrue};
 ghost use Rattle.std.specs.List.{list_all};
-ghost use Rattle.graph6_text.specs.Digits.{is_digit, digit_of, bits_of_digit, digit_of_bits, bits_of, bytes_of};
+ghost use Rattle.graph6_text.specs.Common.{is_digit, digit_of, bits_of_digit, digit_of_bits, bits_of, bytes_of};
 
 use std::alloc::{AllocError as Memory, Global};
 

@@ -1,8 +1,7 @@
 //! The laws on graph6 texts. Each is the contract of a function that does nothing.
 ghost use Rattle.std.specs.Prelude.{◌≡◌, ℕ, List, Ok};
 ghost use Rattle.graph_core.specs.Common.{Graph, IsSimple, IsWithinLimits};
-ghost use Rattle.graph6_text.specs.Reading.{IsBare, outcome_of};
-ghost use Rattle.graph6_text.specs.Writing.{graph6_of, ReadsBack};
+ghost use Rattle.graph6_text.specs.Common.{IsBare, outcome_of, graph6_of, ReadsBack};
 
 /// The text is canonical: a text without header and line end that stands for a graph is exactly
 /// the text that is written of this graph, which is simple.

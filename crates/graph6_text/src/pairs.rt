@@ -1,7 +1,7 @@
 //! Pairs of vertices, column by column.
 ghost use Rattle.std.specs.Prelude.{◌≡◌, ◌≤◌, ◌++◌, ◌-◌, IfOk, OnOk, map};
 ghost use Rattle.graph_core.specs.Common.{pair_of};
-ghost use Rattle.graph6_text.specs.Pairs.{column, column_pairs};
+ghost use Rattle.graph6_text.specs.Common.{column, column_pairs};
 
 use graph_core::Ends;
 use std::alloc::{AllocError as Memory, Global};

@@ -1,12 +1,9 @@
 //! Reading graph6 texts.
 ghost use Rattle.std.specs.Prelude.{◌≡◌, ◌≤◌, ◌++◌, [], ◌∷◌, IfOk, IfErr, Ok, OnOk, None, length, drop, map, take};
 ghost use Rattle.std.specs.List.{list_any};
-ghost use Rattle.text_faults.specs.Faults.{IsFault};
+ghost use Rattle.text_faults.specs.Common.{IsFault};
 ghost use Rattle.graph_core.specs.Common.{Graph, size, IsSimple, pair_of};
-ghost use Rattle.graph6_text.specs.Pairs.{chosen, chosen_one};
-ghost use Rattle.graph6_text.specs.Checks.{limit_row, Checks, IsFirstFault};
-ghost use Rattle.graph6_text.specs.Reading.{outcome_of, graph_of, faults_of, first_fault};
-ghost use Rattle.graph6_text.specs.Writing.{graph6_of};
+ghost use Rattle.graph6_text.specs.Common.{chosen, chosen_one, limit_row, Checks, IsFirstFault, outcome_of, graph_of, faults_of, first_fault, graph6_of};
 
 use crate::body::{body, data, order};
 use crate::checks::{check_body, fault};

@@ -1,8 +1,7 @@
 //! Writing graph6 texts.
 ghost use Rattle.std.specs.Prelude.{◌≡◌, ◌<◌, ◌^◌, IfOk};
 ghost use Rattle.graph_core.specs.Common.{IsSimple};
-ghost use Rattle.graph6_text.specs.Digits.{byte_of};
-ghost use Rattle.graph6_text.specs.Writing.{size_of, adjacency_bits, graph6_of, ReadsBack};
+ghost use Rattle.graph6_text.specs.Common.{byte_of, size_of, adjacency_bits, graph6_of, ReadsBack};
 
 use crate::body::LONG;
 use crate::checks::MOST_SHORT;

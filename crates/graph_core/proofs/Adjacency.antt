@@ -2,15 +2,10 @@
 -- the same adjacent pairs. A perfect matching goes over by choosing, for each of its edges, the
 -- least edge with the same ends.
 use Rattle.std.proofs.Common.{◌≡◌, ℕ, ◌≢◌, true, cond, ◌==◌, refl, sym, ap, ◌∙◌, arith, ◌&&◌, ◌||◌, eq-eqb, ne_eqb, ◌⊎◌, inl, inr, List, [], ◌∷◌, subst, subst₂}
-use Rattle.counting.proofs.Common.{cases_eq, and_from, nat_tests, some_true, true_some, least_of, least_of_is}
-use Rattle.counting.specs.Common.{Within, Set, none, some}
+use Rattle.counting.proofs.Common.{cases_eq, and_from, nat_tests, some_true, true_some, least_of, least_of_is, Within, Set, none, some}
 use Rattle.graph_core.proofs.Carrying.{carried_set, cut_carried, image, perfect_carried}
 use Rattle.graph_core.proofs.Walks.{adjacent-edge, adjacent_from, adjacent_within, has_ends-cases, has_ends-own}
-use Rattle.graph_core.specs.Covered.{IsCovered}
-use Rattle.graph_core.specs.Graph.{Graph, IsGraph, first_end, has_ends, second_end, size, HasEnds}
-use Rattle.graph_core.specs.Matchings.{Allowed}
-use Rattle.graph_core.specs.Tight.{CutIsTight}
-use Rattle.graph_core.specs.Walks.{Joined, Walk, adjacent}
+use Rattle.graph_core.specs.Common.{IsCovered, Graph, IsGraph, first_end, has_ends, second_end, size, HasEnds, Allowed, CutIsTight, Joined, Walk, adjacent}
 
 -- h has an edge between two vertices exactly when g has one between those that move takes there
 pub record Alike (g h : Graph) (move : ℕ → ℕ) : Type 0 where

@@ -2,19 +2,14 @@
 -- union of blocks is counted at the first vertex of each block; uncrossing is that of the
 -- contracted graph.
 use Rattle.std.proofs.Common.{◌≡◌, ℕ, suc, zero, ◌-◌, ◌<◌, ◌+◌, ◌*◌, ◌≤◌, Bool, true, false, ◌==◌, refl, sym, ap, ap₂, ◌∙◌, arith, ◌&&◌, ◌||◌, not, eq-eqb, eqb-true, inl, inr, List, [], ◌∷◌, length}
-use Rattle.counting.proofs.Common.{cases_Bool, both_ways, and_parts, and_from, cases_eq, get_or-map, count_congr, some_true, true_some, total_add, total_congr, apart_denied, bit_parted, not_not}
-use Rattle.counting.specs.Common.{Within, bit, count, is_odd, total, mem, Set, complement, meet, minus, none, union, some}
+use Rattle.counting.proofs.Common.{cases_Bool, both_ways, and_parts, and_from, cases_eq, get_or-map, count_congr, some_true, true_some, total_add, total_congr, apart_denied, bit_parted, not_not, Within, bit, count, is_odd, total, mem, Set, complement, meet, minus, none, union, some}
 use Rattle.graph_core.proofs.Blocks.{contracted-graph, contracted-size, first, in_union, place_in, place_is}
 use Rattle.graph_core.proofs.Carrying.{image, total_image}
 use Rattle.graph_core.proofs.Contraction.{tight_from_cut}
 use Rattle.graph_core.proofs.Decide.{covered_perfect}
 use Rattle.graph_core.proofs.SameSets.{cut_congr}
 use Rattle.graph_core.proofs.Uncrossing.{meet_tight, no_edge_joins, union_tight}
-use Rattle.graph_core.specs.Covered.{IsCovered}
-use Rattle.graph_core.specs.Graph.{Graph, IsGraph, connects, first_end, second_end, size}
-use Rattle.graph_core.specs.Matchings.{IsPerfect}
-use Rattle.graph_core.specs.Partitions.{AreBlocks, block, contracted, place}
-use Rattle.graph_core.specs.Shores.{block_count, IsTightAt, IsUnion, blocks_in}
+use Rattle.graph_core.specs.Common.{IsCovered, Graph, IsGraph, connects, first_end, second_end, size, IsPerfect, AreBlocks, block, contracted, place, block_count, IsTightAt, IsUnion, blocks_in}
 
 -- Blocks by their first vertices, numbers of blocks, and both laws of tight cuts at a partition.
 

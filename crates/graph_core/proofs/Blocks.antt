@@ -2,12 +2,8 @@
 -- applies. Each vertex has one block, and the block of a place in the one partition goes to a
 -- place in the other.
 use Rattle.std.proofs.Common.{◌≡◌, ℕ, suc, zero, ◌+◌, ◌-◌, ◌≤◌, ◌<◌, ◌≢◌, Bool, true, false, cond, ◌==◌, refl, sym, ap, ◌∙◌, arith, ◌&&◌, ◌||◌, eq-eqb, eqb-true, inl, inr, List, [], ◌∷◌, length, get_or, subst}
-use Rattle.counting.proofs.Common.{cases_Bool, both_ways, true≢false, or_cases, and_from, and_left, get_or-map, length-map, bit_true, only_one, some_term}
-use Rattle.counting.specs.Common.{Within, bit, all_in, mem, Set, union}
-use Rattle.graph_core.specs.Graph.{Graph, IsGraph, first_end, second_end, size}
-use Rattle.graph_core.specs.Partitions.{AreBlocks, IsMerge, block, contracted, place}
-use Rattle.graph_core.specs.Shores.{IsUnion, blocks_in}
-use Rattle.graph_core.specs.Tight.{Merges}
+use Rattle.counting.proofs.Common.{cases_Bool, both_ways, true≢false, or_cases, and_from, and_left, get_or-map, length-map, bit_true, only_one, some_term, Within, bit, all_in, mem, Set, union}
+use Rattle.graph_core.specs.Common.{Graph, IsGraph, first_end, second_end, size, AreBlocks, IsMerge, block, contracted, place, IsUnion, blocks_in, Merges}
 
 -- the block at the place of v holds v, where some block does
 place_holds : (p : List (List ℕ)) (v i : ℕ) → Within (length p) i → mem (block p i) v ≡ true → Within (length p) (place p v) × (mem (block p (place p v)) v ≡ true)

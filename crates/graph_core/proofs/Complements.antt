@@ -1,10 +1,8 @@
 -- The numbers of 1 to n outside a list, as a list: it rises, it has a number exactly when the
 -- list has not, and where the list is a union of blocks so is it.
 use Rattle.std.proofs.Common.{◌≡◌, ℕ, zero, suc, ◌∷◌, [], List, Bool, true, false, cond, not, refl, ap, ap₂, subst, sym, ◌∙◌, ◌++◌}
-use Rattle.counting.specs.Common.{Within, complement, mem, rising_list, IsRisingIn}
-use Rattle.counting.proofs.Common.{rising_list-rises, mem-rising_list}
-use Rattle.graph_core.specs.Partitions.{complement_of}
-use Rattle.graph_core.specs.Shores.{IsUnion}
+use Rattle.counting.proofs.Common.{Within, complement, mem, rising_list, IsRisingIn, rising_list-rises, mem-rising_list}
+use Rattle.graph_core.specs.Common.{complement_of, IsUnion}
 
 -- it is the rising list of the other numbers
 pub complement_of-rising_list : (n : ℕ) (x : List ℕ) → complement_of n x ≡ rising_list n (complement (mem x))

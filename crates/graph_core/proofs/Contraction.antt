@@ -2,16 +2,11 @@
 -- ways, covered goes down. A perfect matching has one edge in the cut, so each vertex outside
 -- keeps its one edge and the new vertex gets one.
 use Rattle.std.proofs.Common.{◌≡◌, ℕ, suc, ◌+◌, ◌*◌, ◌≤◌, ◌<◌, ◌≢◌, Bool, true, false, cond, ◌==◌, refl, sym, ap, ap₂, ◌∙◌, arith, ◌&&◌, ◌||◌, not, eq-eqb, ne_eqb, eqb-true, ◌⊎◌, inl, inr, List, [], ◌∷◌, subst₂}
-use Rattle.counting.proofs.Common.{cases_eq, and_parts, and_from, true≢false, false_from_ne_true, both_ways, not-true, nat_tests, bit_true, count_congr, only_one, odd-double, odd_pos, at_le_total, some_term, total_add, total_congr, alike_not_apart, apart_denied}
-use Rattle.counting.specs.Common.{Within, bit, count, is_odd, Set, complement, none}
+use Rattle.counting.proofs.Common.{cases_eq, and_parts, and_from, true≢false, false_from_ne_true, both_ways, not-true, nat_tests, bit_true, count_congr, only_one, odd-double, odd_pos, at_le_total, some_term, total_add, total_congr, alike_not_apart, apart_denied, Within, bit, count, is_odd, Set, complement, none}
 use Rattle.graph_core.proofs.Decide.{degree_congr}
 use Rattle.graph_core.proofs.Parity.{parity}
 use Rattle.graph_core.proofs.Walks.{adjacent-edge, adjacent_from, has_ends-cases}
-use Rattle.graph_core.specs.Covered.{IsCovered}
-use Rattle.graph_core.specs.Graph.{Graph, IsGraph, degree, first_end, in_cut, inside, second_end, size}
-use Rattle.graph_core.specs.Matchings.{Allowed, IsPerfect}
-use Rattle.graph_core.specs.Tight.{CutIsTight, IsTight, Merges}
-use Rattle.graph_core.specs.Walks.{Joined, Walk, adjacent}
+use Rattle.graph_core.specs.Common.{IsCovered, Graph, IsGraph, degree, first_end, in_cut, inside, second_end, size, Allowed, IsPerfect, CutIsTight, IsTight, Merges, Joined, Walk, adjacent}
 
 -- a cut that each perfect matching meets once is tight, where there is one
 pub tight_from_cut : (g : Graph) (x m : Set) → IsGraph g → IsPerfect g none m → CutIsTight g x → IsTight g x

@@ -1,16 +1,9 @@
 -- Lists of cuts by canonical shores: a shore by its members, and what a list gets for it.
 -- A rising list is fixed by its test, and of the three cases of `with_cut` each has its step.
-use Rattle.std.proofs.Common.{◌≡◌, ℕ, suc, zero, ◌+◌, ◌-◌, ◌≤◌, Bool, true, false, refl, sym, ap, ap₂, ◌∙◌, arith, ◌&&◌, not, cond, List, [], ◌∷◌, ◌++◌, map, length, nat_le, subst, fold, flat_map, take}
-use Rattle.counting.proofs.Common.{and_parts, and_from, and_right, map-append, take_all, count_complement, count_congr, count_mem_length, length-rising_list, list-from_test, mem-rising_list, rising_list-rises, set-narrower}
+use Rattle.std.proofs.Common.{◌≡◌, ℕ, suc, zero, ◌+◌, ◌-◌, ◌≤◌, Bool, true, false, refl, sym, ap, ap₂, ◌∙◌, arith, ◌&&◌, not, cond, List, [], ◌∷◌, ◌++◌, map, length, nat_le, subst, fold, flat_map, take, count_by}
+use Rattle.counting.proofs.Common.{and_parts, and_from, and_right, map-append, take_all, count_complement, count_congr, count_mem_length, length-rising_list, list-from_test, mem-rising_list, rising_list-rises, set-narrower, Within, bit, count, is_odd, IsRisingIn, mem, rising_list, Set, complement}
 use Rattle.std.proofs.lemmas.List.Sums.{sum_by-append}
-use Rattle.std.specs.Prelude.{count_by}
-use Rattle.counting.specs.Common.{Within, bit, count, is_odd, IsRisingIn, mem, rising_list, Set, complement}
-use Rattle.graph_core.specs.Components.{components, is_least, odd_component_count}
-use Rattle.graph_core.specs.Graph.{Graph}
-use Rattle.graph_core.specs.Structure.{classes}
-use Rattle.graph_core.specs.Tight.{canonical_shore, is_nontrivial}
-use Rattle.graph_core.specs.Walks.{joined}
-use Rattle.graph_core.specs.CanonicalCuts.{canonical_list, is_listed, with_cut}
+use Rattle.graph_core.specs.Common.{components, is_least, odd_component_count, Graph, classes, canonical_shore, is_nontrivial, joined, canonical_list, is_listed, with_cut}
 
 -- sizes of a rising list as a set
 pub nontrivial-length : (n k : ℕ) (s : List ℕ) → IsRisingIn n s → k ≡ length s → is_nontrivial n (mem s) ≡ (nat_le 3 k && nat_le 3 (n - k))

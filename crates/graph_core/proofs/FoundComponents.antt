@@ -3,13 +3,8 @@
 -- of the searches are one forest.
 use Rattle.std.proofs.Common.{◌≡◌, ℕ, suc, zero, ◌+◌, ◌<◌, Bool, true, false, ◌==◌, refl, sym, ap, ap₂, ◌∙◌, arith, ◌&&◌, ◌||◌, not, ◌⊎◌, inl, inr, List, [], ◌∷◌, ◌++◌, subst, eq-eqb, eqb-true, ne_eqb, cond, map, append_assoc, append-nil, nat_lt, ltb-true}
 use Rattle.std.proofs.lemmas.Bool.{not_from_false}
-use Rattle.counting.proofs.Common.{and_from, and_parts, both_ways, cases_Bool, cases_eq, false_from_ne_true, not-true, not-false, true≢false, or_parts, rising_list-congr, rising_list-rises, mem-rising_list, same_rising_list, some_true, not_but_parts, or_fails_first, same_tests, and_false, and_true}
-use Rattle.counting.specs.Common.{Within, IsRisingIn, mem, rising_list, Set, complement, meet, minus, union, some}
-use Rattle.graph_core.specs.Components.{components, is_least}
-use Rattle.graph_core.specs.Graph.{Graph, IsGraph}
-use Rattle.graph_core.specs.FoundVertices.{IsStage}
-use Rattle.graph_core.specs.Trees.{Hangs, IsForest}
-use Rattle.graph_core.specs.Walks.{Joined, Walk, adjacent, joined}
+use Rattle.counting.proofs.Common.{and_from, and_parts, both_ways, cases_Bool, cases_eq, false_from_ne_true, not-true, not-false, true≢false, or_parts, rising_list-congr, rising_list-rises, mem-rising_list, same_rising_list, some_true, not_but_parts, or_fails_first, same_tests, and_false, and_true, Within, IsRisingIn, mem, rising_list, Set, complement, meet, minus, union, some}
+use Rattle.graph_core.specs.Common.{components, is_least, Graph, IsGraph, IsStage, Hangs, IsForest, Joined, Walk, adjacent, joined}
 use Rattle.graph_core.proofs.Components.{joined_walk, walk_joined}
 use Rattle.graph_core.proofs.Trees.{adjacent_more, hangs_more, joined_more, least_same}
 use Rattle.graph_core.proofs.Walks.{adjacent-edge, adjacent_from, adjacent_within, adjacent_back, joined_self, joined_on}

@@ -1,9 +1,8 @@
 -- The edges of m inside a set x: at a vertex of x they are those of m if none crosses x, and off x
 -- there are none.
 use Rattle.std.proofs.Common.{◌≡◌, ℕ, ◌+◌, Bool, true, false, ◌==◌, ap, ap₂, ◌∙◌, arith, ◌&&◌, ◌||◌, not, eqb-true}
-use Rattle.counting.proofs.Common.{total_congr, total_none}
-use Rattle.counting.specs.Common.{Within, bit, Set}
-use Rattle.graph_core.specs.Graph.{Graph, degree, first_end, in_cut, inside, second_end, size}
+use Rattle.counting.proofs.Common.{total_congr, total_none, Within, bit, Set}
+use Rattle.graph_core.specs.Common.{Graph, degree, first_end, in_cut, inside, second_end, size}
 
 first : (a b c t : Bool) → (t ≡ true → b ≡ true) → (a && ((b && not c) || (not b && c))) ≡ false → ((a && (b && c)) && t) ≡ (a && t)
 first a b c t f h = grind arith

@@ -1,14 +1,11 @@
 -- Merging keeps the names of blocks in rising order.
 -- Each name is below all later ones, and the new name is none of the kept ones.
-use Rattle.std.proofs.Common.{◌≡◌, ℕ, suc, zero, ◌+◌, ◌-◌, ◌≤◌, ◌<◌, Bool, true, false, not, cond, List, [], ◌∷◌, length, refl, sym, ap, ◌∙◌, arith, ◌⊎◌, inl, inr, subst, filter, nat_lt, All}
-use Rattle.std.specs.Prelude.{slice_index, slice_index_or}
+use Rattle.std.proofs.Common.{◌≡◌, ℕ, suc, zero, ◌+◌, ◌-◌, ◌≤◌, ◌<◌, Bool, true, false, not, cond, List, [], ◌∷◌, length, refl, sym, ap, ◌∙◌, arith, ◌⊎◌, inl, inr, subst, filter, nat_lt, All, slice_index, slice_index_or}
 use Rattle.std.specs.List.Sorted.{IsStrictlyIncreasing}
-use Rattle.counting.proofs.Common.{both_ways, cases_lt, nat_tests}
-use Rattle.counting.specs.Common.{Within, last_of, mem}
+use Rattle.counting.proofs.Common.{both_ways, cases_lt, nat_tests, Within, last_of, mem}
 use Rattle.graph_core.proofs.Merging.{Has, block_of, filter_has, has_block, insert_has, mem_last, merged_partition}
 use Rattle.graph_core.proofs.SameBlocks.{Ordered, rising_ordered}
-use Rattle.graph_core.specs.Partitions.{IsPartition, insert_block, merged, names_of}
-use Rattle.graph_core.specs.Shores.{IsUnion}
+use Rattle.graph_core.specs.Common.{IsPartition, insert_block, merged, names_of, IsUnion}
 
 -- an ordered list has rising names
 ordered_rising : (p : List (List ℕ)) → Ordered p → IsStrictlyIncreasing (names_of p)

@@ -1,17 +1,13 @@
 -- Unions of blocks before and after a merge, how many blocks they hold, and the law of
 -- contraction for them. The merged blocks are one block then, and all others stay.
 use Rattle.std.proofs.Common.{◌≡◌, ℕ, ◌+◌, ◌≢◌, Bool, true, false, refl, sym, ap, ◌∙◌, arith, ◌⊎◌, inl, inr, List, length}
-use Rattle.counting.proofs.Common.{cases_Bool, both_ways, total_at, and_implied, but_not}
-use Rattle.counting.specs.Common.{Within, bit, mem, Set, meet, minus}
+use Rattle.counting.proofs.Common.{cases_Bool, both_ways, total_at, and_implied, but_not, Within, bit, mem, Set, meet, minus}
 use Rattle.graph_core.proofs.BlockSets.{at_place, at_rep, block_count_congr, block_count_parts, count_over, place_rep, rep, rep_in, rep_place, union_meet, union_minus}
 use Rattle.graph_core.proofs.Blocks.{carried, contracted-graph, merges, place_in, place_is}
 use Rattle.graph_core.proofs.Contraction.{covered_down}
 use Rattle.graph_core.proofs.Merging.{merged_merges}
 use Rattle.graph_core.proofs.Shores.{shore_down, shore_up}
-use Rattle.graph_core.specs.Covered.{IsCovered}
-use Rattle.graph_core.specs.Graph.{Graph, IsGraph}
-use Rattle.graph_core.specs.Partitions.{AreBlocks, IsMerge, block, contracted, merged, place}
-use Rattle.graph_core.specs.Shores.{block_count, IsTightAt, IsUnion, blocks_in}
+use Rattle.graph_core.specs.Common.{IsCovered, Graph, IsGraph, AreBlocks, IsMerge, block, contracted, merged, place, block_count, IsTightAt, IsUnion, blocks_in}
 
 -- What merging a union of blocks does to blocks, unions and numbers.
 

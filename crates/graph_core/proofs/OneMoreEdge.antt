@@ -3,13 +3,9 @@
 -- new edge is the last item of the list of ends, and "some edge joins v and w" is "some item
 -- does".
 use Rattle.std.proofs.Common.{◌≡◌, ◌≢◌, ℕ, ◌+◌, ◌-◌, ◌<◌, ◌∷◌, [], List, length, Bool, false, ◌==◌, ◌&&◌, ◌||◌, sym, ap, ◌∙◌, arith, subst₂, inl, inr}
-use Rattle.counting.proofs.Common.{cases_eq, get_or_append_left, length-append, list_any-append}
+use Rattle.counting.proofs.Common.{cases_eq, get_or_append_left, length-append, list_any-append, Within, item, mem, none}
 use Rattle.std.proofs.lemmas.List.{get_or_push}
-use Rattle.counting.specs.Common.{Within, item, mem, none}
-use Rattle.graph_core.specs.Graph.{Graph, first_end, second_end, size, with_edge}
-use Rattle.graph_core.specs.Rows.{AreRows}
-use Rattle.graph_core.specs.View.{IsWithinLimits}
-use Rattle.graph_core.specs.Walks.{adjacent}
+use Rattle.graph_core.specs.Common.{Graph, first_end, second_end, size, with_edge, AreRows, IsWithinLimits, adjacent}
 use Rattle.graph_core.proofs.EndLists.{adjacent-ends, joins}
 
 size-with_edge : (g : Graph) (a b : ℕ) → size (with_edge g a b) ≡ size g + 1

@@ -1,7 +1,6 @@
 -- A set loses one vertex, or gains one: what does it answer for each, and how does its size change?
 use Rattle.std.proofs.Common.{◌≡◌, ℕ, ◌+◌, true, false, ◌==◌, refl, sym, ap, ◌∙◌, arith, ◌&&◌, ◌||◌, not, inl, inr, eq-eqb, ne_eqb}
-use Rattle.counting.proofs.Common.{and_false, and_true, or_false, and_parts, cases_eq, or_right, count_put, count_congr}
-use Rattle.counting.specs.Common.{Within, bit, count, Set, put}
+use Rattle.counting.proofs.Common.{and_false, and_true, or_false, and_parts, cases_eq, or_right, count_put, count_congr, Within, bit, count, Set, put}
 
 -- left' is left without w
 abbrev pub Loses : Set → ℕ → Set → Type 0

@@ -1,10 +1,8 @@
 -- The vertices of a set are the edges of a perfect matching in its cut and twice those inside;
 -- two cuts against their meet and union. Degrees are summed vertex by vertex and edge by edge.
 use Rattle.std.proofs.Common.{◌≡◌, ℕ, ◌+◌, ◌*◌, Bool, true, false, ◌==◌, refl, sym, ap, mul-add, ap₂, ◌∙◌, arith, ◌&&◌, ◌||◌, not}
-use Rattle.counting.proofs.Common.{bit-and, count_of_one, total_add, total_congr, total_mul, total_swap}
-use Rattle.counting.specs.Common.{Within, bit, count, total, Set, meet, minus, none, union}
-use Rattle.graph_core.specs.Graph.{Graph, IsGraph, connects, degree, first_end, in_cut, inside, second_end, size}
-use Rattle.graph_core.specs.Matchings.{IsPerfect}
+use Rattle.counting.proofs.Common.{bit-and, count_of_one, total_add, total_congr, total_mul, total_swap, Within, bit, count, total, Set, meet, minus, none, union}
+use Rattle.graph_core.specs.Common.{Graph, IsGraph, connects, degree, first_end, in_cut, inside, second_end, size, IsPerfect}
 
 -- the ends in x, vertex by vertex, are those edge by edge
 pub ends_in : (n k : ℕ) (m x : Set) (f : ℕ → ℕ) → ((e : ℕ) → Within k e → Within n (f e)) → total n (λ v. bit (x v) * count k (λ e. m e && (f e == v))) ≡ count k (λ e. m e && x (f e))

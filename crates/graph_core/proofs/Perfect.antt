@@ -1,10 +1,8 @@
 -- A matching is perfect exactly if it misses no vertex outside the removed ones.
 -- A count is 0 exactly if no number passes the test.
 use Rattle.std.proofs.Common.{◌≡◌, ℕ, zero, suc, ◌≤◌, Bool, true, false, ◌==◌, refl, ap, arith, ◌&&◌, not, ne_eqb}
-use Rattle.counting.proofs.Common.{total_none, at_le_total}
-use Rattle.counting.specs.Common.{Within, bit, Set}
-use Rattle.graph_core.specs.Graph.{Graph, degree}
-use Rattle.graph_core.specs.Matchings.{IsMatching, IsPerfect, missed_count}
+use Rattle.counting.proofs.Common.{total_none, at_le_total, Within, bit, Set}
+use Rattle.graph_core.specs.Common.{Graph, degree, IsMatching, IsPerfect, missed_count}
 
 pub perfect_matching : (g : Graph) (r m : Set) → IsPerfect g r m → IsMatching g r m
 perfect_matching g r m p = record { once = λ v w. go v w (r v) refl; away = p.away }

@@ -1,17 +1,13 @@
 -- A set of blocks is tight in the quotient exactly when it is in the contracted graph.
 -- Perfect matchings go over both ways by the least edge with the same ends.
 use Rattle.std.proofs.Common.{◌≡◌, ℕ, ◌<◌, ◌≢◌, true, not, ◌==◌, List, length, refl, sym, ap, ◌∙◌, arith, inl, inr, subst, ne_eqb}
-use Rattle.counting.proofs.Common.{and_parts, and_from, cases_lt, least_of, least_of_is, some_true, true_some}
-use Rattle.counting.specs.Common.{Within, count, is_odd, Set, complement, some}
+use Rattle.counting.proofs.Common.{and_parts, and_from, cases_lt, least_of, least_of_is, some_true, true_some, Within, count, is_odd, Set, complement, some}
 use Rattle.graph_core.proofs.Adjacency.{has_ends-from}
 use Rattle.graph_core.proofs.Blocks.{contracted-graph, contracted-order, contracted-size}
 use Rattle.graph_core.proofs.Carrying.{carried_set, cut_carried, perfect_carried}
 use Rattle.graph_core.proofs.Quotients.{edge_of_pair, quotient-order, quotient_edge}
 use Rattle.graph_core.proofs.Walks.{has_ends-back, has_ends-cases, has_ends-own}
-use Rattle.graph_core.specs.Graph.{Graph, IsGraph, first_end, has_ends, second_end, size, HasEnds}
-use Rattle.graph_core.specs.Partitions.{AreBlocks, contracted}
-use Rattle.graph_core.specs.Quotients.{quotient}
-use Rattle.graph_core.specs.Tight.{CutIsTight, IsTight}
+use Rattle.graph_core.specs.Common.{Graph, IsGraph, first_end, has_ends, second_end, size, HasEnds, AreBlocks, contracted, quotient, CutIsTight, IsTight}
 
 module _ (g : Graph) (p : List (List ℕ)) (is : IsGraph g) (pp : AreBlocks g.order p) where
   -- the quotient is a graph

@@ -1,11 +1,8 @@
 -- What a row of the adjacency matrix, met with the set of the vertices that are left, tells of
 -- the neighbours that are left.
 use Rattle.std.proofs.Common.{◌≡◌, ℕ, ◌-◌, true, false, ◌&&◌, sym, ap, ◌∙◌, arith, List, [], length, get_or}
-use Rattle.counting.proofs.Common.{and_parts, both_ways, false_from_ne_true, and_from, get_or_read}
-use Rattle.counting.specs.Common.{Within, mem, none}
-use Rattle.graph_core.specs.Graph.{Graph}
-use Rattle.graph_core.specs.Rows.{AreRows}
-use Rattle.graph_core.specs.Walks.{adjacent}
+use Rattle.counting.proofs.Common.{and_parts, both_ways, false_from_ne_true, and_from, get_or_read, Within, mem, none}
+use Rattle.graph_core.specs.Common.{Graph, AreRows, adjacent}
 
 -- the row that was read for v holds the vertices adjacent to v
 pub row-adjacent : (g : Graph) (rows : List (List ℕ)) (row : List ℕ) (v w : ℕ) → AreRows g rows → Within (length rows) v → row ≡ get_or rows (v - 1) row → mem row w ≡ adjacent g none v w

@@ -1,13 +1,11 @@
 -- A partition is fixed by its relation "in the same block": two partitions with the same relation
 -- are equal as lists. They have the same blocks, and names that rise leave one order.
-use Rattle.std.proofs.Common.{List, [], ap, ap₂, arith, inl, inr, refl, subst, suc, sym, true, ℕ, ◌+◌, ◌-◌, ◌<◌, ◌∙◌, ◌∷◌, ◌≡◌}
-use Rattle.counting.proofs.Common.{same_tests, mem-item, same_rising_list}
+use Rattle.std.proofs.Common.{List, [], ap, ap₂, arith, inl, inr, refl, subst, suc, sym, true, ℕ, ◌+◌, ◌-◌, ◌<◌, ◌∙◌, ◌∷◌, ◌≡◌, slice_index, slice_index_or}
+use Rattle.counting.proofs.Common.{same_tests, mem-item, same_rising_list, Within, IsRisingIn, last_of, mem}
 use Rattle.std.specs.List.Sorted.{IsStrictlyIncreasing}
-use Rattle.std.specs.Prelude.{slice_index, slice_index_or}
-use Rattle.counting.specs.Common.{Within, IsRisingIn, last_of, mem}
 use Rattle.graph_core.proofs.Blocks.{place_in, place_is}
 use Rattle.graph_core.proofs.Merging.{Has, block_has, has_block}
-use Rattle.graph_core.specs.Partitions.{IsPartition, block, names_of, place}
+use Rattle.graph_core.specs.Common.{IsPartition, block, names_of, place}
 
 -- each name is below all later ones
 abbrev pub Ordered : List (List ℕ) → Type 0

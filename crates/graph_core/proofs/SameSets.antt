@@ -1,10 +1,8 @@
 -- Sets with the same vertices: they have the same cut, and are tight and nontrivial together.
 -- Each is said vertex by vertex, so it goes over term by term.
 use Rattle.std.proofs.Common.{◌≡◌, ℕ, sym, ap, ap₂, ◌∙◌, ◌&&◌, ◌||◌, not, ◌≤◌, subst}
-use Rattle.counting.proofs.Common.{count_congr}
-use Rattle.counting.specs.Common.{Within, is_odd, Set, complement}
-use Rattle.graph_core.specs.Graph.{Graph, IsGraph, first_end, second_end, size}
-use Rattle.graph_core.specs.Tight.{CutIsTight, IsNontrivial, IsTight}
+use Rattle.counting.proofs.Common.{count_congr, Within, is_odd, Set, complement}
+use Rattle.graph_core.specs.Common.{Graph, IsGraph, first_end, second_end, size, CutIsTight, IsNontrivial, IsTight}
 
 -- the same cut is tight
 pub cut_congr : (g : Graph) (x y : Set) → IsGraph g → ((v : ℕ) → Within g.order v → x v ≡ y v) → CutIsTight g x → CutIsTight g y

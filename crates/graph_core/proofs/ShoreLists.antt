@@ -1,13 +1,10 @@
 -- A tight shore as a list: it is not empty, and the list of the other numbers is the other shore,
 -- which is tight as well. An odd number of blocks is at least one, and each block has a vertex.
 use Rattle.std.proofs.Common.{ℕ, ◌<◌, ◌≤◌, List, length, sym, arith}
-use Rattle.counting.proofs.Common.{bit_true, some-member, odd_pos, all_in_true, some_term}
-use Rattle.counting.specs.Common.{bit, count, mem, complement}
+use Rattle.counting.proofs.Common.{bit_true, some-member, odd_pos, all_in_true, some_term, bit, count, mem, complement}
 use Rattle.graph_core.proofs.BlockSets.{tight_congr, tight_rest}
 use Rattle.graph_core.proofs.Complements.{mem-complement_of}
-use Rattle.graph_core.specs.Graph.{Graph, IsGraph}
-use Rattle.graph_core.specs.Partitions.{AreBlocks, block, complement_of, contracted}
-use Rattle.graph_core.specs.Shores.{IsTightAt, blocks_in}
+use Rattle.graph_core.specs.Common.{Graph, IsGraph, AreBlocks, block, complement_of, contracted, IsTightAt, blocks_in}
 
 module _ (g : Graph) (is : IsGraph g) (p : List (List ℕ)) (pp : AreBlocks g.order p) (x : List ℕ) (tight : IsTightAt g p (mem x)) where
   pub shore-some : 0 < length x

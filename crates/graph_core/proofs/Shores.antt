@@ -1,15 +1,12 @@
 -- The law of contraction for shores at a partition and at a merge of it. A union of the new
 -- blocks is a union of the old ones, block by block, so the contracted graphs can be compared.
 use Rattle.std.proofs.Common.{◌≡◌, ℕ, sym, ap, ◌∙◌, List}
-use Rattle.counting.specs.Common.{Within, Set}
+use Rattle.counting.proofs.Common.{Within, Set}
 use Rattle.graph_core.proofs.Blocks.{carried, carries, contracted-graph, first, in_first, in_union, merges, place_in}
 use Rattle.graph_core.proofs.Contraction.{covered_down, tight_down, tight_from_cut, tight_up}
 use Rattle.graph_core.proofs.Decide.{covered_perfect}
 use Rattle.graph_core.proofs.SameSets.{cut_congr}
-use Rattle.graph_core.specs.Covered.{IsCovered}
-use Rattle.graph_core.specs.Graph.{Graph, IsGraph}
-use Rattle.graph_core.specs.Partitions.{AreBlocks, IsMerge, block, contracted, place}
-use Rattle.graph_core.specs.Shores.{IsTightAt, IsUnion, blocks_in}
+use Rattle.graph_core.specs.Common.{IsCovered, Graph, IsGraph, AreBlocks, IsMerge, block, contracted, place, IsTightAt, IsUnion, blocks_in}
 
 module _ (g : Graph) (is : IsGraph g) (p q : List (List ℕ)) (x : Set) (pp : AreBlocks g.order p) (tx : IsTightAt g p x) (merge : IsMerge g.order p x q) (cov : IsCovered (contracted g p)) where
   down : IsCovered (contracted g q)

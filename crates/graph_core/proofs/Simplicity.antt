@@ -1,8 +1,6 @@
 use Rattle.std.proofs.Common.{◌≡◌, ℕ, ◌-◌, Bool, true, false, sym, arith, inl, inr}
-use Rattle.counting.proofs.Common.{both_ways, cases_lt, cases_eq, some_true, some_none}
-use Rattle.counting.specs.Common.{Within, some}
-use Rattle.graph_core.specs.Graph.{Graph, size, first_end, second_end, has_ends}
-use Rattle.graph_core.specs.Simple.{IsSimple}
+use Rattle.counting.proofs.Common.{both_ways, cases_lt, cases_eq, some_true, some_none, Within, some}
+use Rattle.graph_core.specs.Common.{Graph, size, first_end, second_end, has_ends, IsSimple}
 use Rattle.graph_core.proofs.Walks.{has_ends-cases}
 use Rattle.graph_core.proofs.Adjacency.{has_ends-from}
 

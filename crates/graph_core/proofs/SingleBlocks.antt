@@ -2,16 +2,12 @@
 -- at that partition is what is said of the graph; at any partition the edges in the cut of a
 -- union of blocks are those of the graph.
 use Rattle.std.proofs.Common.{◌≡◌, ℕ, suc, ◌+◌, ◌-◌, ◌&&◌, ◌||◌, not, List, [], ◌∷◌, length, map, cond, get_or, refl, sym, ap, ap₂, ◌∙◌, arith, subst, le-leb}
-use Rattle.counting.proofs.Common.{get_or-map, count_congr, and_true}
-use Rattle.counting.specs.Common.{Within, count, all_in, Set}
+use Rattle.counting.proofs.Common.{get_or-map, count_congr, and_true, Within, count, all_in, Set}
 use Rattle.graph_core.proofs.BlockSets.{at_place}
 use Rattle.graph_core.proofs.Blocks.{contracted-size}
 use Rattle.graph_core.proofs.SameSets.{tight-same}
 use Rattle.graph_core.proofs.Singles.{block-singles, length-singles, place_singles}
-use Rattle.graph_core.specs.Graph.{Graph, IsGraph, edges_in_cut, first_end, in_cut, second_end, size}
-use Rattle.graph_core.specs.Partitions.{AreBlocks, contracted, place, singles}
-use Rattle.graph_core.specs.Shores.{IsTightAt, IsUnion, blocks_in}
-use Rattle.graph_core.specs.Tight.{IsTight}
+use Rattle.graph_core.specs.Common.{Graph, IsGraph, edges_in_cut, first_end, in_cut, second_end, size, AreBlocks, contracted, place, singles, IsTightAt, IsUnion, blocks_in, IsTight}
 
 own-place : (n v : ℕ) → Within n v → place (singles n) v ≡ v
 own-place n v w = place_singles n v w.0 ∙ ap (λ b. cond b v (n + 1)) (le-leb v n w.1)

@@ -1,11 +1,9 @@
 -- A matching by degrees is a set of edges of which no two share an end. Two edges at a vertex
 -- would make its degree two; where no two are there, a sum of ends is at most one.
 use Rattle.std.proofs.Common.{◌≡◌, ℕ, suc, zero, ◌+◌, ◌*◌, ◌≤◌, ◌≢◌, Bool, true, false, ◌==◌, refl, sym, ap, ◌∙◌, arith, inl, inr, eq-eqb, ne_eqb}
-use Rattle.counting.proofs.Common.{cases_eq, true≢false, total_none, bit_le_one}
-use Rattle.counting.specs.Common.{Within, bit, total, Set, none}
+use Rattle.counting.proofs.Common.{cases_eq, true≢false, total_none, bit_le_one, Within, bit, total, Set, none}
 use Rattle.graph_core.proofs.Edits.{degree_sum, ends_of, ends_of_is, two_ends_le_degree}
-use Rattle.graph_core.specs.Graph.{Graph, HasNoLoop, IsGraph, degree, first_end, second_end, size}
-use Rattle.graph_core.specs.Matchings.{IsEnd, IsMatching, ShareNoEnd}
+use Rattle.graph_core.specs.Common.{Graph, HasNoLoop, IsGraph, degree, first_end, second_end, size, IsEnd, IsMatching, ShareNoEnd}
 
 pub one_end : (g : Graph) (e v : ℕ) → IsEnd g e v → 1 ≤ ends_of g e v
 one_end g e v h = let a = ends_of_is g e (first_end g e) (second_end g e) (inl (refl, refl)) v in elim h [

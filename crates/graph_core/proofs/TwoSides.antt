@@ -2,14 +2,8 @@
 -- are on the same side: hence no closed walk is odd, and the left side is fixed by the least
 -- vertices. In a search tree the sides are the parities of depths.
 use Rattle.std.proofs.Common.{◌≡◌, ℕ, suc, ◌+◌, ◌<◌, Bool, true, false, cond, refl, sym, ap, ap₂, ◌∙◌, arith, ◌&&◌, ◌||◌, not, inl, inr, List, [], ◌∷◌, ◌++◌, subst, length, append_assoc}
-use Rattle.counting.proofs.Common.{and_parts, both_ways, length-append, bit_true, odd-add, mem-rising_list, rising_list-rises, same_rising_list, some_term}
-use Rattle.counting.specs.Common.{Within, is_odd, mem, rising_list, Set, none}
-use Rattle.graph_core.specs.Components.{is_least}
-use Rattle.graph_core.specs.Graph.{Graph, IsBipartite, IsGraph, first_end, in_cut, second_end, size}
-use Rattle.graph_core.specs.Sides.{IsLeftSide}
-use Rattle.graph_core.specs.Nodes.{IsRooted, depth_at, parent_at}
-use Rattle.graph_core.specs.Trees.{Hangs, IsForest, above, way_down, way_up}
-use Rattle.graph_core.specs.Walks.{IsOddClosedWalk, Joined, Walk, adjacent, joined}
+use Rattle.counting.proofs.Common.{and_parts, both_ways, length-append, bit_true, odd-add, mem-rising_list, rising_list-rises, same_rising_list, some_term, Within, is_odd, mem, rising_list, Set, none}
+use Rattle.graph_core.specs.Common.{is_least, Graph, IsBipartite, IsGraph, first_end, in_cut, second_end, size, IsLeftSide, IsRooted, depth_at, parent_at, Hangs, IsForest, above, way_down, way_up, IsOddClosedWalk, Joined, Walk, adjacent, joined}
 use Rattle.graph_core.specs.declared.tree.TreeNode.{TreeNode}
 use Rattle.graph_core.proofs.Components.{joined_walk, some_leader}
 use Rattle.graph_core.proofs.Trees.{StandsAt, above_joined, above_root, down_walk, least_same, length-way_down, length-way_up, up_walk}

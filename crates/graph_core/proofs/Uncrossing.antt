@@ -2,13 +2,9 @@
 -- joins their differences. The edges of a perfect matching in the two cuts are those in the cuts
 -- of meet and union and twice those between the differences.
 use Rattle.std.proofs.Common.{◌≡◌, ℕ, ◌+◌, ◌≤◌, Bool, true, false, cond, refl, sym, ap, ◌∙◌, arith, ◌&&◌, ◌||◌, not, inl, inr}
-use Rattle.counting.proofs.Common.{cases_Bool, both_ways, count_meet_union, complement_odd, odd-add, odd-double, odd_pos, order_even, at_le_total}
-use Rattle.counting.specs.Common.{Within, bit, count, is_odd, Set, meet, minus, none, union}
+use Rattle.counting.proofs.Common.{cases_Bool, both_ways, count_meet_union, complement_odd, odd-add, odd-double, odd_pos, order_even, at_le_total, Within, bit, count, is_odd, Set, meet, minus, none, union}
 use Rattle.graph_core.proofs.Parity.{parity, two_cuts}
-use Rattle.graph_core.specs.Covered.{IsCovered}
-use Rattle.graph_core.specs.Graph.{Graph, IsGraph, connects, first_end, in_cut, inside, second_end, size}
-use Rattle.graph_core.specs.Matchings.{IsPerfect}
-use Rattle.graph_core.specs.Tight.{IsTight}
+use Rattle.graph_core.specs.Common.{IsCovered, Graph, IsGraph, connects, first_end, in_cut, inside, second_end, size, IsPerfect, IsTight}
 
 -- the cut of an odd set meets each perfect matching
 pub odd_meets : (g : Graph) (m x : Set) → IsGraph g → IsPerfect g none m → is_odd (count g.order x) ≡ true → 1 ≤ count (size g) (λ e. m e && in_cut g x e)

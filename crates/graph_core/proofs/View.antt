@@ -1,13 +1,10 @@
 -- The code's list of edges and the graph that it stands for: edge e of the graph is item e - 1 of
 -- the list, so that "some edge" of the graph is "some item" of the list.
 use Rattle.std.proofs.Common.{◌≡◌, ℕ, ◌+◌, ◌-◌, ◌≤◌, ◌<◌, ◌||◌, refl, sym, ap, ap₂, ◌∙◌, arith, suc, zero, List, length, get_or, map, take, take_all, le_refl, subst, eq-eqb, true}
-use Rattle.std.specs.List.{list_any, All, Contains}
-use Rattle.counting.proofs.Common.{get_or-map, length-map}
+use Rattle.counting.proofs.Common.{list_any, get_or-map, length-map, Within, none, some}
+use Rattle.std.specs.List.{All, Contains}
 use Rattle.std.proofs.lemmas.List.Folds.{list_any_more}
-use Rattle.counting.specs.Common.{Within, none, some}
-use Rattle.graph_core.specs.Graph.{IsGraph, first_end, second_end, has_ends, size}
-use Rattle.graph_core.specs.View.{pair_of, graph_of, are_ends}
-use Rattle.graph_core.specs.Walks.{adjacent}
+use Rattle.graph_core.specs.Common.{IsGraph, first_end, second_end, has_ends, size, pair_of, graph_of, are_ends, adjacent}
 use Rattle.graph_core.proofs.Walks.{adjacent_from}
 use Rattle.graph_core.specs.declared.ends.Ends.{Ends}
 

@@ -2,15 +2,11 @@
 -- the removed set has vertices. Each odd component has a vertex that is missed or is matched into
 -- the set.
 use Rattle.std.proofs.Common.{◌≡◌, ℕ, ◌+◌, ◌*◌, ◌≤◌, Bool, true, false, ◌==◌, refl, sym, ap, ◌∙◌, arith, ◌&&◌, ◌||◌, not, inl, inr, [], ◌∷◌, nat_lt, le_trans, le_of_eq, mul-add, mul-le-mul_left}
-use Rattle.counting.proofs.Common.{cases_Bool, and_parts, both_ways, nat_tests, bit-and, some_le_count, odd-double, some_none, some_true, at_le_total, total_add, total_congr, total_le, total_mul, total_none, total_swap, and_fails_second, and_true}
-use Rattle.counting.specs.Common.{Within, bit, count, is_odd, total, Set, union, some}
+use Rattle.counting.proofs.Common.{cases_Bool, and_parts, both_ways, nat_tests, bit-and, some_le_count, odd-double, some_none, some_true, at_le_total, total_add, total_congr, total_le, total_mul, total_none, total_swap, and_fails_second, and_true, Within, bit, count, is_odd, total, Set, union, some}
 use Rattle.graph_core.proofs.Components.{joined_outside, joined_walk, one_leader, walk_joined}
 use Rattle.graph_core.proofs.Parity.{degrees, ends_in}
 use Rattle.graph_core.proofs.Walks.{adjacent_from, has_ends-back, has_ends-own, joined_on}
-use Rattle.graph_core.specs.Components.{is_least, odd_component_count}
-use Rattle.graph_core.specs.Graph.{Graph, IsGraph, degree, first_end, has_ends, in_cut, inside, second_end, size}
-use Rattle.graph_core.specs.Matchings.{IsMatching, missed_count}
-use Rattle.graph_core.specs.Walks.{Joined, joined}
+use Rattle.graph_core.specs.Common.{is_least, odd_component_count, Graph, IsGraph, degree, first_end, has_ends, in_cut, inside, second_end, size, IsMatching, missed_count, Joined, joined}
 
 -- what m misses outside s, or matches into s
 loose : Graph → Set → Set → ℕ → Bool

@@ -1,5 +1,5 @@
 -- Tight cuts of a graph, and the graph with one vertex set made one vertex (Lovász 1987).
--- Stated by: graph_core, allowed_edges, barrier_kit, matching_digraph, separation_kit and 9 more.
+-- Stated by: graph_core, barrier_kit, matching_digraph, separation_kit, brick_kit and 8 more.
 -- Rests on it: tree_core, tree_check, list_lines.
 use Rattle.std.specs.Prelude.{◌≡◌, ◌≢◌, ℕ, ◌≤◌, Bool, true, false, ◌==◌, ◌&&◌, ◌||◌, not, nat_le, if◌then◌else◌}
 use Rattle.counting.specs.Common.{count, is_odd, Within, Set, none, complement, each_set}

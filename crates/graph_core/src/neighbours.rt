@@ -1,8 +1,7 @@
 //! The rows of a graph's adjacency matrix, and how an edge enters them.
 ghost use Rattle.std.specs.Prelude.{◌≡◌, ◌≤◌, ◌==◌, ◌&&◌, ◌||◌, ℕ, length};
 ghost use Rattle.counting.specs.Common.{Within, mem, item};
-ghost use Rattle.graph_core.specs.Graph.{Graph, with_edge};
-ghost use Rattle.graph_core.specs.Rows.{AreRows};
+ghost use Rattle.graph_core.specs.Common.{Graph, with_edge, AreRows};
 
 use vset_core::{MOST_VERTICES, VSet};
 

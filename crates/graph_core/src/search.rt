@@ -2,11 +2,7 @@
 //! tree.
 ghost use Rattle.std.specs.Prelude.{◌≡◌, ◌≢◌, ◌≤◌, ◌<◌, ◌+◌, ◌^◌, ◌==◌, ◌&&◌, ◌||◌, ℕ, true, false, [], All, IfOk, OnOk, length};
 ghost use Rattle.counting.specs.Common.{Within, mem, item};
-ghost use Rattle.graph_core.specs.Components.{components};
-ghost use Rattle.graph_core.specs.Graph.{Graph, IsGraph};
-ghost use Rattle.graph_core.specs.FoundVertices.{IsGrown};
-ghost use Rattle.graph_core.specs.Nodes.{node_at, parent_at, depth_at, AreTrees};
-ghost use Rattle.graph_core.specs.Rows.{AreRows};
+ghost use Rattle.graph_core.specs.Common.{components, Graph, IsGraph, IsGrown, node_at, parent_at, depth_at, AreTrees, AreRows};
 
 use crate::SetList;
 use crate::tree::TreeNode;

@@ -1,11 +1,7 @@
 //! The two sides of a bipartite graph, or an odd closed walk.
 ghost use Rattle.std.specs.Prelude.{◌≡◌, ◌≤◌, ◌++◌, ◌∷◌, ◌↔◌, not, All, Contains, IfOk, IfSome, IfNone, Some, None, length};
 ghost use Rattle.counting.specs.Common.{Within, is_odd, mem, none};
-ghost use Rattle.graph_core.specs.Graph.{IsBipartite, IsGraph};
-ghost use Rattle.graph_core.specs.Nodes.{parent_at, depth_at, AreTrees, IsRooted};
-ghost use Rattle.graph_core.specs.Sides.{AreSides, IsEven, IsSide};
-ghost use Rattle.graph_core.specs.Trees.{way_up, way_down};
-ghost use Rattle.graph_core.specs.View.{graph_of};
+ghost use Rattle.graph_core.specs.Common.{IsBipartite, IsGraph, parent_at, depth_at, AreTrees, IsRooted, AreSides, IsEven, IsSide, way_up, way_down, graph_of};
 
 use crate::tree::{TreeNode, climb, descend, even_vertices};
 use crate::{Ends, MultiGraph, Numbers};

@@ -1,8 +1,7 @@
 //! Simple graphs.
 ghost use Rattle.std.specs.Prelude.{◌≡◌, ◌-◌, ◌↔◌, IsTrue};
 ghost use Rattle.counting.specs.Common.{Within, some};
-ghost use Rattle.graph_core.specs.Graph.{size, first_end, second_end, has_ends};
-ghost use Rattle.graph_core.specs.Simple.{IsSimple};
+ghost use Rattle.graph_core.specs.Common.{size, first_end, second_end, has_ends, IsSimple};
 
 use crate::MultiGraph;
 

@@ -1,8 +1,7 @@
 //! Search trees: for each vertex its parent and its depth, and the ways up and down.
 ghost use Rattle.std.specs.Prelude.{◌≡◌, ◌≤◌, ◌<◌, ◌++◌, ◌∷◌, not, OnOk, IfOk, length};
 ghost use Rattle.counting.specs.Common.{Within, is_odd, rising_list};
-ghost use Rattle.graph_core.specs.Nodes.{parent_at, depth_at, IsRooted, is_even_at};
-ghost use Rattle.graph_core.specs.Trees.{way_up, way_down};
+ghost use Rattle.graph_core.specs.Common.{parent_at, depth_at, IsRooted, is_even_at, way_up, way_down};
 
 use crate::Numbers;
 use std::alloc::{AllocError as Memory, Global};

@@ -1,10 +1,8 @@
 -- What the search for a covered graph finds, in the words of the definitions.
-use Rattle.std.proofs.Common.{◌≡◌, subst}
-use Rattle.std.specs.Prelude.{Result, Err}
-use Rattle.counting.specs.Common.{Set, none}
-use Rattle.graph_core.specs.Common.{Graph, HasPerfect, IsGraph, IsMaximum, IsPerfect, IsReason, reason_of}
+use Rattle.std.proofs.Common.{◌≡◌, subst, Result, Err}
+use Rattle.counting.proofs.Common.{Set, none}
+use Rattle.graph_core.proofs.Common.{Graph, HasPerfect, IsGraph, IsMaximum, IsPerfect, IsReason, reason_of, none_missed-perfect}
 use Rattle.graph_core.specs.declared.verdict.Reason.{Reason}
-use Rattle.graph_core.proofs.Common.{none_missed-perfect}
 use Rattle.allowed_edges.proofs.AllowedPartners.{maximum-perfect}
 
 -- where there is a perfect matching, a maximum one is perfect

@@ -1,10 +1,8 @@
 -- A flood by parities: the neighbours of an open vertex of even come into odd, those of another one
 -- into even. A vertex that would be in both shows that no side fits; else even is a side.
 use Rattle.std.proofs.Common.{◌≡◌, ◌≢◌, ◌↔◌, ◌<◌, ◌≤◌, ◌+◌, ℕ, List, [], ◌∷◌, Bool, true, false, ◌==◌, ◌&&◌, ◌||◌, not, refl, sym, ap, ap₂, ◌∙◌, arith, subst, eq-eqb, eqb-true, ne_eqb, inl, inr, Option, Some, None}
-use Rattle.counting.proofs.Common.{and_from, and_parts, both_ways, cases_Bool, cases_eq, not-true, or_cases, or_left, or_right}
-use Rattle.counting.specs.Common.{Within, count, mem, none, Set}
-use Rattle.graph_core.specs.Common.{Graph, IsBipartite, IsConnected, IsGraph, IsMultigraph, IsSide, Joined, Walk, adjacent, first_end, has_ends, in_cut, second_end, size}
-use Rattle.graph_core.proofs.Common.{adjacent-edge, adjacent_from, adjacent_within, count_lost, has_ends-cases, has_ends-own, joined_back, joined_on, joined_self}
+use Rattle.counting.proofs.Common.{and_from, and_parts, both_ways, cases_Bool, cases_eq, not-true, or_cases, or_left, or_right, Within, count, mem, none, Set}
+use Rattle.graph_core.proofs.Common.{Graph, IsBipartite, IsConnected, IsGraph, IsMultigraph, IsSide, Joined, Walk, adjacent, first_end, has_ends, in_cut, second_end, size, adjacent-edge, adjacent_from, adjacent_within, count_lost, has_ends-cases, has_ends-own, joined_back, joined_on, joined_self}
 use Rattle.graph_facts.specs.Layers.{AreLayers, IsFlood}
 
 -- neighbours are on different sides

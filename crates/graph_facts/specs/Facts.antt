@@ -4,8 +4,7 @@
 use Rattle.std.specs.Prelude.{◌≡◌, ℕ, true, List, Option, Some, None, IfSome, ◌↔◌}
 use Rattle.counting.specs.Common.{Within, mem, IsRisingIn, none}
 use Rattle.graph_core.specs.Common.{Attains, components, InD, InA, Graph, IsBipartite, IsCovered, HasPerfect, IsMaximum, IsPerfect, IsSide}
-use Rattle.match_core.specs.MatchingRows.{IsOf, MatchingValue, edges_of}
-use Rattle.match_core.specs.Partners.{ArePartners}
+use Rattle.match_core.specs.Common.{IsOf, MatchingValue, edges_of, ArePartners}
 use Rattle.match_core.specs.declared.frames.FrameSets.{FrameSets}
 
 -- a maximum matching of g; outer is D, inner is A, which is the Berge set

@@ -2,7 +2,7 @@
 ghost use Rattle.std.specs.Prelude.{◌≡◌, ◌↔◌, None, Some, IfOk};
 ghost use Rattle.counting.specs.Common.{mem, none};
 ghost use Rattle.graph_core.specs.Common.{IsCovered, IsBipartite, IsPerfect, IsSide, IsWithinLimits};
-ghost use Rattle.match_core.specs.MatchingRows.{IsOf, edges_of};
+ghost use Rattle.match_core.specs.Common.{IsOf, edges_of};
 
 use crate::covered_graph::Covered;
 use graph_core::MultiGraph;

@@ -2,8 +2,7 @@
 ghost use Rattle.std.specs.Prelude.{◌≡◌, ◌↔◌, ◌≤◌, None, Some, Err, IsTrue, IfOk};
 ghost use Rattle.counting.specs.Common.{mem, none};
 ghost use Rattle.graph_core.specs.Common.{IsConnected, IsCovered, IsReason, IsBipartite, size, IsPerfect, IsSide, reason_of, IsWithinLimits};
-ghost use Rattle.match_core.specs.MatchingRows.{IsOf, edges_of};
-ghost use Rattle.match_core.specs.Partners.{ArePartners};
+ghost use Rattle.match_core.specs.Common.{IsOf, edges_of, ArePartners};
 
 use crate::facts::Facts;
 use crate::layers::Layers;

@@ -2,7 +2,7 @@
 ghost use Rattle.std.specs.Prelude.{◌≡◌, ◌↔◌, None, Some, IsTrue, IfSome, IfOk};
 ghost use Rattle.counting.specs.Common.{Lists, mem, none};
 ghost use Rattle.graph_core.specs.Common.{component_count, IsBipartite, size, Allowed, HasPerfect, IsSide, IsVerdict, IsWithinLimits};
-ghost use Rattle.match_core.specs.Partners.{ArePartners};
+ghost use Rattle.match_core.specs.Common.{ArePartners};
 ghost use Rattle.graph_facts.specs.Facts.{IsFrame};
 
 use allowed_edges::{allowed_in, partners_where_perfect, verdict_in};

@@ -1,9 +1,8 @@
 -- The edges of a multigraph, one by one down its list of ends: what holds of the ends of each
 -- edge by its number holds of each pair of the list.
 use Rattle.std.proofs.Common.{◌≡◌, ◌≢◌, ◌<◌, ◌-◌, ℕ, suc, List, [], ◌∷◌, length, get_or, arith, subst}
-use Rattle.std.specs.List.{AllByRecursion}
-use Rattle.counting.specs.Common.{Within}
-use Rattle.graph_core.specs.Common.{Graph, size, IsMultigraph}
+use Rattle.counting.proofs.Common.{AllByRecursion, Within}
+use Rattle.graph_core.proofs.Common.{Graph, size, IsMultigraph}
 
 -- what holds at each place holds of each item
 all-places : (P : ℕ × ℕ → Type 0) (xs : List (ℕ × ℕ)) → ((i : ℕ) → i < length xs → P (get_or xs i (0, 0))) → AllByRecursion P xs

@@ -2,19 +2,14 @@
 -- to no names and no edges, the lines of the names put them one after the other, and the line of
 -- each edge adds it, since different names have different places.
 use Rattle.std.proofs.Common.{inl, inr, nat_le, ◌≡◌, ◌≢◌, ◌+◌, ◌-◌, ◌≤◌, ◌<◌, ◌==◌, ◌||◌, ◌&&◌, not, ℕ, List, [], ◌∷◌, ◌++◌, length, map, get_or, codes, true, false, Some, Ok, refl, sym, ◌∙◌, ap, subst, arith, append_assoc}
-use Rattle.std.specs.List.{AllByRecursion, list_all}
+use Rattle.counting.proofs.Common.{AllByRecursion, list_all, cases_Bool, and_parts, and_from, nat_tests, append-nil, length-append, bytes_eq-Decides, get_or-append_seam, Within}
 use Rattle.std.specs.Str.{bytes_eq}
-use Rattle.counting.proofs.Common.{cases_Bool, and_parts, and_from, nat_tests, append-nil, length-append, bytes_eq-Decides}
 use Rattle.std.proofs.Math.ListN.{get_or-append}
-use Rattle.std.proofs.Math.Seq.{get_or-append_seam}
-use Rattle.counting.specs.Common.{Within}
 use Rattle.line_text.specs.Common.{Begins, Stands, is_line_feed, has_form, is_word, is_blank, IsSignificant}
 use Rattle.line_text.proofs.Decimals.{number_of-decimal, is_word-decimal}
 use Rattle.line_text.proofs.ReadBack.{Stands-written, Begins-append, significant-append}
-use Rattle.graph_core.specs.Common.{Graph, size}
-use Rattle.graph_text.specs.EitherVersion.{EitherSoFar, either_version}
-use Rattle.graph_text.specs.Names.{is_name, is_name_byte, is_among, vertex_of, AreNames}
-use Rattle.graph_text.specs.Writing.{named_header_words, name_words, named_edge_words, named_words, named_text, FitsNames}
+use Rattle.graph_core.proofs.Common.{Graph, size}
+use Rattle.graph_text.specs.Common.{EitherSoFar, either_version, is_name, is_name_byte, is_among, vertex_of, AreNames, named_header_words, name_words, named_edge_words, named_words, named_text, FitsNames}
 use Rattle.graph_text.proofs.Edges.{IsEdgeIn, edges-multigraph}
 use Rattle.graph_text.proofs.NameLists.{among-none, none-among, place-first, each-name}
 

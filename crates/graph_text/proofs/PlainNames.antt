@@ -8,7 +8,7 @@ use Rattle.counting.proofs.Common.{cases_Bool, and_from, le-leb, nat_tests, leng
 use Rattle.std.proofs.lemmas.Fmt.{length-decimal-le}
 use Rattle.line_text.specs.Common.{number_of}
 use Rattle.line_text.proofs.Decimals.{number_of-decimal, digits-decimal, list_all-digits}
-use Rattle.graph_text.specs.Names.{is_name, is_name_byte, is_among, plain_name, plain_names}
+use Rattle.graph_text.specs.Common.{is_name, is_name_byte, is_among, plain_name, plain_names}
 
 -- a digit may stand in a name
 digit-name_byte : (byte : ℕ) → 48 ≤ byte → byte ≤ 57 → is_name_byte byte ≡ true

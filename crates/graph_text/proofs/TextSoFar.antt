@@ -1,13 +1,12 @@
 -- The text of the first items of a list grows by the line of the next item: a written list of
 -- lines with one line more is the text of the list and then the text of that line. The text of a
 -- graph is its header and then the lines of its parts.
-use Rattle.std.proofs.Common.{◌≡◌, ◌≤◌, ◌<◌, ◌+◌, ◌-◌, ℕ, List, [], ◌∷◌, ◌++◌, length, get_or, map, take, take_all, append_assoc, sym, ◌∙◌, ap, ap₂, arith}
-use Rattle.std.specs.Prelude.{codes}
+use Rattle.std.proofs.Common.{◌≡◌, ◌≤◌, ◌<◌, ◌+◌, ◌-◌, ℕ, List, [], ◌∷◌, ◌++◌, length, get_or, map, take, take_all, append_assoc, sym, ◌∙◌, ap, ap₂, arith, codes}
 use Rattle.std.specs.Fmt.{decimal}
 use Rattle.line_text.specs.Common.{written}
 use Rattle.line_text.proofs.WrittenLines.{written-append, written-more}
-use Rattle.graph_core.specs.Common.{Graph, size, first_end, second_end}
-use Rattle.graph_text.specs.Writing.{edge_words, header_words, graph_text, name_words, named_edge_words, named_header_words, named_text}
+use Rattle.graph_core.proofs.Common.{Graph, size, first_end, second_end}
+use Rattle.graph_text.specs.Common.{edge_words, header_words, graph_text, name_words, named_edge_words, named_header_words, named_text}
 
 module _ {X : Type 0} (words_of : X → List (List ℕ)) (start : List ℕ) (xs : List X) (i : ℕ) where
   -- the line of the next item

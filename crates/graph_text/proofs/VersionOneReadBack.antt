@@ -2,15 +2,12 @@
 -- without edges, and the line of each edge adds it, by induction over the edges. No test of the
 -- tables applies.
 use Rattle.std.proofs.Common.{◌≡◌, ◌+◌, ◌≤◌, ◌<◌, ℕ, List, [], ◌∷◌, ◌++◌, length, map, true, Some, Ok, refl, ap, subst, arith, append_assoc}
-use Rattle.std.specs.List.{AllByRecursion}
-use Rattle.counting.proofs.Common.{nat_tests, append-nil, length-append}
+use Rattle.counting.proofs.Common.{AllByRecursion, nat_tests, append-nil, length-append}
 use Rattle.line_text.specs.Common.{Begins, Stands, lines_of, has_form, words_of, unwords, is_skipped, IsSignificant}
 use Rattle.line_text.proofs.Decimals.{number_of-decimal, is_word-decimal}
 use Rattle.line_text.proofs.ReadBack.{Stands-written, Stands-comments, is_closed-unlines}
-use Rattle.graph_core.specs.Common.{Graph, size}
-use Rattle.graph_text.specs.GraphLines.{GraphSoFar}
-use Rattle.graph_text.specs.VersionOne.{version_one, FitsVersionOne}
-use Rattle.graph_text.specs.Writing.{edge_words, header_words, graph_words, graph_text}
+use Rattle.graph_core.proofs.Common.{Graph, size}
+use Rattle.graph_text.specs.Common.{GraphSoFar, version_one, FitsVersionOne, edge_words, header_words, graph_words, graph_text}
 use Rattle.graph_text.proofs.Edges.{IsEdgeIn, edges-multigraph}
 
 -- the edges read so far, of so many

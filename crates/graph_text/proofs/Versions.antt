@@ -8,13 +8,10 @@ use Rattle.std.specs.Str.{bytes_eq}
 use Rattle.counting.proofs.Common.{cases_Bool, and_parts, bytes_eq-Decides}
 use Rattle.line_text.specs.Common.{checked, Stands, FirstFault, lines_of, go_on, reading_from, is_number, value_of, SignificantLine, significant_lines_of, has_form, word_at, begin_with}
 use Rattle.line_text.proofs.ExactlyOne.{Stands-reading_of, Stands-from_reading, FirstFault-reading_of, FirstFault-from_reading}
-use Rattle.graph_core.specs.Common.{Graph, size, with_edge}
+use Rattle.graph_core.proofs.Common.{Graph, size, with_edge}
 use Rattle.text_faults.specs.declared.faults.FaultKind.{FaultKind}
 use Rattle.text_faults.specs.declared.faults.FaultKind.TheVariants as kind
-use Rattle.graph_text.specs.EitherVersion.{EitherSoFar, NamedGraph, is_named_header, is_plain_header, is_over, either_header, line_behind, end_behind, vertex_line, named_edge_line, either_version, begin_named, is_version_two}
-use Rattle.graph_text.specs.GraphLines.{GraphSoFar, graph_line, graph_end}
-use Rattle.graph_text.specs.Names.{is_name, is_among, vertex_of}
-use Rattle.graph_text.specs.VersionOne.{version_one, header}
+use Rattle.graph_text.specs.Common.{EitherSoFar, NamedGraph, is_named_header, is_plain_header, is_over, either_header, line_behind, end_behind, vertex_line, named_edge_line, either_version, begin_named, is_version_two, GraphSoFar, graph_line, graph_end, is_name, is_among, vertex_of, version_one, header}
 
 -- what has been read without names, and a graph without names
 abbrev nameless : GraphSoFar → EitherSoFar

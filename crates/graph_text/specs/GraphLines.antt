@@ -4,7 +4,7 @@
 use Rattle.std.specs.Prelude.{ℕ, ◌==◌, ◌&&◌, ◌||◌, not, List, [], ◌∷◌, codes, Result, Ok, Err, if◌then◌else◌}
 use Rattle.line_text.specs.Common.{checked, has_form, word_at, is_number, value_of}
 use Rattle.graph_core.specs.Common.{Graph, size, with_edge}
-use Rattle.text_faults.specs.Ranges.{is_out_of_range}
+use Rattle.text_faults.specs.Common.{is_out_of_range}
 use Rattle.text_faults.specs.declared.faults.FaultKind.{FaultKind}
 use Rattle.text_faults.specs.declared.faults.FaultKind.TheVariants as kind
 

@@ -4,3 +4,4 @@ pub mod SoFar
 pub mod Writing
 pub mod Names
 pub mod EitherVersion
+pub mod Common

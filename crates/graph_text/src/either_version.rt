@@ -1,7 +1,7 @@
 //! Both versions of the graph format.
 ghost use Rattle.std.specs.Prelude.{◌≡◌, ◌<◌, ◌≤◌, ◌-◌, ◌^◌, ℕ, length, false, Some, IfOk, IfErr, Ok, Err};
 ghost use Rattle.line_text.specs.Common.{Gives, Stands, FirstFault, texts_of};
-ghost use Rattle.text_faults.specs.Readings.{IsFirstFault, ReadsText};
+ghost use Rattle.text_faults.specs.Common.{IsFirstFault, ReadsText};
 ghost use Rattle.text_faults.specs.declared.faults.FaultKind.{FaultKind};
 ghost use Rattle.graph_core.specs.Common.{size};
 ghost use Rattle.graph_text.specs.EitherVersion.{EitherSoFar, NamedGraph, named_so_far, is_over, either_header, vertex_line, named_edge_line, named_line, line_behind, end_behind, either_version};

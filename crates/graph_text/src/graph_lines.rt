@@ -2,8 +2,7 @@
 ghost use Rattle.std.specs.Prelude.{◌≡◌, ◌≤◌};
 ghost use Rattle.line_text.specs.Common.{Gives, texts_of};
 ghost use Rattle.graph_core.specs.Common.{Graph};
-ghost use Rattle.graph_text.specs.GraphLines.{GraphSoFar, edge_line, graph_line, graph_end};
-ghost use Rattle.graph_text.specs.SoFar.{so_far};
+ghost use Rattle.graph_text.specs.Common.{GraphSoFar, edge_line, graph_line, graph_end, so_far};
 
 use crate::body::Body;
 use graph_core::MultiGraph;

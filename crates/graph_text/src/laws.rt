@@ -5,9 +5,7 @@ ghost use Rattle.line_text.specs.Common.{Stands, StandsAlone, FirstFault, lines_
 ghost use Rattle.text_faults.specs.declared.faults.FaultKind.{FaultKind};
 ghost use Rattle.text_faults.specs.declared.faults.FaultKind.TheVariants.{Header};
 ghost use Rattle.graph_core.specs.Common.{Graph};
-ghost use Rattle.graph_text.specs.VersionOne.{version_one, FitsVersionOne};
-ghost use Rattle.graph_text.specs.EitherVersion.{either_version, is_version_two, is_named_header};
-ghost use Rattle.graph_text.specs.Writing.{graph_text, named_text, FitsNames};
+ghost use Rattle.graph_text.specs.Common.{version_one, FitsVersionOne, either_version, is_version_two, is_named_header, graph_text, named_text, FitsNames};
 
 /// What is written of a graph within the limits of version 1 stands for this graph, for no other,
 /// and has no fault.

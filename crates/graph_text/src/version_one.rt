@@ -1,7 +1,7 @@
 //! Version 1 of the graph format.
 ghost use Rattle.std.specs.Prelude.{◌≡◌, ◌<◌, ◌-◌, ◌^◌, ℕ, length, IfOk, IfErr, Ok, Err};
 ghost use Rattle.line_text.specs.Common.{Gives, Stands, FirstFault, texts_of};
-ghost use Rattle.text_faults.specs.Readings.{IsFirstFault, ReadsText};
+ghost use Rattle.text_faults.specs.Common.{IsFirstFault, ReadsText};
 ghost use Rattle.text_faults.specs.declared.faults.FaultKind.{FaultKind};
 ghost use Rattle.graph_core.specs.Common.{Graph};
 ghost use Rattle.graph_text.specs.GraphLines.{GraphSoFar};

@@ -1,11 +1,9 @@
 //! Writing a graph.
 ghost use Rattle.std.specs.Prelude.{◌≡◌, ◌≤◌, ◌++◌, [], ◌∷◌, length, map, Some, OnOk, IfOk, string_bytes};
 ghost use Rattle.counting.specs.Common.{Within};
-ghost use Rattle.graph_text.specs.EitherVersion.{either_version};
+ghost use Rattle.graph_text.specs.Common.{either_version, version_one, most_vertices, most_edges, edge_words, graph_text, name_words, named_edge_words, named_text};
 ghost use Rattle.line_text.specs.Common.{Stands, StandsAlone, written};
 ghost use Rattle.graph_core.specs.Common.{size, pair_of};
-ghost use Rattle.graph_text.specs.VersionOne.{version_one, most_vertices, most_edges};
-ghost use Rattle.graph_text.specs.Writing.{edge_words, graph_text, name_words, named_edge_words, named_text};
 
 use crate::names::Names;
 use graph_core::{Ends, MultiGraph};

@@ -3,11 +3,9 @@
 -- vertices, and else each is outside; so S, with the vertex that was given up put on that side,
 -- is all or nothing in both graphs.
 use Rattle.std.proofs.Common.{◌≡◌, ℕ, suc, ◌+◌, ◌≤◌, ◌≢◌, Bool, true, false, cond, ◌==◌, ◌&&◌, ◌||◌, not, inl, inr, List, [], ◌∷◌, length, map, filter, refl, sym, ap, ap₂, ◌∙◌, arith, subst, eq-eqb, ne_eqb}
-use Rattle.counting.specs.Common.{Within, bit, Set, none, mem}
-use Rattle.counting.proofs.Common.{same_tests}
-use Rattle.graph_core.specs.Common.{Graph, size, first_end, second_end, IsGraph, has_ends, Joined, Walk, adjacent, joined, IsConnected}
-use Rattle.graph_core.proofs.Common.{adjacent-edge, adjacent_from, has_ends-back, has_ends-cases, has_ends-own, joined_on, joined_self, joined_walk, walk_joined}
-use Rattle.grow_gen.specs.Splices.{is_at, other_end, edge_with_end, new_number, renumbered_edge, rehung_edges}
+use Rattle.counting.proofs.Common.{Within, bit, Set, none, mem, same_tests}
+use Rattle.graph_core.proofs.Common.{Graph, size, first_end, second_end, IsGraph, has_ends, Joined, Walk, adjacent, joined, IsConnected, adjacent-edge, adjacent_from, has_ends-back, has_ends-cases, has_ends-own, joined_on, joined_self, joined_walk, walk_joined}
+use Rattle.grow_gen.specs.Common.{is_at, other_end, edge_with_end, new_number, renumbered_edge, rehung_edges}
 use Rattle.grow_gen.proofs.EdgeSums.{Each, by_test, sum_edges, each-edge, edge-at}
 use Rattle.grow_gen.proofs.Rehanging.{IsEdge, flags_at, caught, caught-none, at-cases, not_at-ends, rehung_edges-none, member-first, member-later}
 use Rattle.grow_gen.proofs.Renumbering.{kept_edges, ends_beside}

@@ -1,13 +1,9 @@
 -- A splice of two covered cubic graphs is covered. Idea: its edges are allowed, and it is
 -- connected since a set that no edge leaves holds the new ends of all joined edges or of none.
-use Rattle.std.proofs.Common.{◌≡◌, ℕ, suc, zero, ◌+◌, ◌-◌, ◌*◌, ◌≤◌, ◌<◌, ◌≢◌, Bool, true, false, ◌&&◌, inl, inr, List, [], ◌∷◌, map, refl, sym, ap, ap₂, ◌∙◌, arith, subst, cond, not}
-use Rattle.std.specs.Prelude.{slice_index_or}
-use Rattle.counting.specs.Common.{Within, bit, count, is_odd, Set, mem}
-use Rattle.counting.proofs.Common.{odd-add, odd-double}
-use Rattle.graph_core.specs.Common.{Graph, size, IsMultigraph, in_cut, inside, IsCovered}
-use Rattle.graph_core.proofs.Common.{parity}
-use Rattle.grow_gen.specs.Cubic.{IsCubic}
-use Rattle.grow_gen.specs.Splices.{is_at, new_number, permutation, renumbered_edge, rehung_edges, splice}
+use Rattle.std.proofs.Common.{◌≡◌, ℕ, suc, zero, ◌+◌, ◌-◌, ◌*◌, ◌≤◌, ◌<◌, ◌≢◌, Bool, true, false, ◌&&◌, inl, inr, List, [], ◌∷◌, map, refl, sym, ap, ap₂, ◌∙◌, arith, subst, cond, not, slice_index_or}
+use Rattle.counting.proofs.Common.{Within, bit, count, is_odd, Set, mem, odd-add, odd-double}
+use Rattle.graph_core.proofs.Common.{Graph, size, IsMultigraph, in_cut, inside, IsCovered, parity}
+use Rattle.grow_gen.specs.Common.{IsCubic, is_at, new_number, permutation, renumbered_edge, rehung_edges, splice}
 use Rattle.grow_gen.proofs.EdgeSums.{Each, each-split, total-edges, length-marks_where, marked}
 use Rattle.grow_gen.proofs.Rehanging.{caught}
 use Rattle.grow_gen.proofs.Renumbering.{kept_edges, ends_beside, old_or_new}

@@ -1,13 +1,9 @@
 -- Sums over the edges of a graph, taken along the list of edges with a list of marks for a set of
 -- edges. Idea: a sum from 1 on is its first term and the sum that begins one later, so it follows
 -- the list.
-use Rattle.std.proofs.Common.{◌≡◌, ℕ, suc, zero, ◌+◌, ◌-◌, ◌≤◌, ◌<◌, Bool, true, false, cond, ◌==◌, ◌&&◌, List, [], ◌∷◌, ◌++◌, length, filter, refl, sym, ap, ap₂, ◌∙◌, arith, subst}
-use Rattle.std.specs.Prelude.{slice_index_or}
-use Rattle.std.proofs.lemmas.List.{get_or-append-add}
-use Rattle.counting.proofs.Common.{get_or_append_left, total_add, total_congr, total-first}
-use Rattle.counting.specs.Common.{Within, bit, total, Set}
-use Rattle.graph_core.specs.Common.{Graph, size, first_end, second_end, degree}
-use Rattle.graph_core.proofs.Common.{degree_congr}
+use Rattle.std.proofs.Common.{◌≡◌, ℕ, suc, zero, ◌+◌, ◌-◌, ◌≤◌, ◌<◌, Bool, true, false, cond, ◌==◌, ◌&&◌, List, [], ◌∷◌, ◌++◌, length, filter, refl, sym, ap, ap₂, ◌∙◌, arith, subst, slice_index_or, get_or-append-add}
+use Rattle.counting.proofs.Common.{get_or_append_left, total_add, total_congr, total-first, Within, bit, total, Set}
+use Rattle.graph_core.proofs.Common.{Graph, size, first_end, second_end, degree, degree_congr}
 
 -- what holds at both answers of a test holds at its answer
 pub by_test : (b : Bool) (P : Bool → Type 0) → (b ≡ true → P true) → (b ≡ false → P false) → P b

@@ -1,15 +1,11 @@
 -- The parts of a graph with one more piece, and the ends of its edges as the code reads them.
-use Rattle.std.proofs.Common.{◌≡◌, ℕ, ◌+◌, ◌-◌, ◌%◌, ◌<◌, List, ◌++◌, length, get_or, map, filter, not, sym, ap, ap₂, ◌∙◌, arith, subst}
-use Rattle.std.specs.Prelude.{slice_index}
+use Rattle.std.proofs.Common.{◌≡◌, ℕ, ◌+◌, ◌-◌, ◌%◌, ◌<◌, List, ◌++◌, length, get_or, map, filter, not, sym, ap, ap₂, ◌∙◌, arith, subst, slice_index}
 use Rattle.std.proofs.Math.ListN.{get_or-map}
-use Rattle.counting.proofs.Common.{length-map}
-use Rattle.counting.specs.Common.{Within, mem}
-use Rattle.graph_core.specs.Common.{IsMultigraph, size, first_end, second_end, graph_of, pair_of}
+use Rattle.counting.proofs.Common.{length-map, Within, mem}
+use Rattle.graph_core.proofs.Common.{IsMultigraph, size, first_end, second_end, graph_of, pair_of}
 use Rattle.graph_core.specs.declared.ends.Ends.{Ends}
 use Rattle.grow_gen.specs.declared.pieces.Piece.{Piece}
-use Rattle.grow_gen.specs.Pieces.{piece_order, piece_ends, piece_graph}
-use Rattle.grow_gen.specs.Splices.{is_at, permutation, rehung_edges, renumbered_edge, splice, targets_of}
-use Rattle.grow_gen.specs.Growth.{Growth, eligible, next_class, with_piece}
+use Rattle.grow_gen.specs.Common.{piece_order, piece_ends, piece_graph, is_at, permutation, rehung_edges, renumbered_edge, splice, targets_of, Growth, eligible, next_class, with_piece}
 
 -- a growing graph from its parts
 abbrev growth : ℕ → List (ℕ × ℕ) → List ℕ → List ℕ → Growth

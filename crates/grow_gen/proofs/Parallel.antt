@@ -1,14 +1,10 @@
 -- A splice of graphs without parallel edges has none. Idea: two vertices of one side are joined
 -- by at most the edges that joined them, and an old and a new vertex only by the one edge at w
 -- whose target the new vertex is.
-use Rattle.std.proofs.Common.{◌≡◌, ℕ, suc, ◌+◌, ◌-◌, ◌≤◌, ◌<◌, ◌≢◌, Bool, true, false, cond, ◌==◌, ◌&&◌, ◌||◌, not, ◌⊎◌, inl, inr, List, [], ◌∷◌, ◌++◌, length, map, filter, refl, sym, ap, ap₂, ◌∙◌, arith, subst, eq-eqb, ne_eqb, eqb-true, le_trans}
-use Rattle.std.specs.Prelude.{slice_index_or}
-use Rattle.counting.proofs.Common.{or_cases, or_from, or_left, or_right, and_parts, and_from, and_left, and_right, count_le_one, only_one, total_congr, at_le_total, total-first, bit_le}
-use Rattle.counting.specs.Common.{Within, bit, total, mem}
-use Rattle.graph_core.specs.Common.{Graph, size, first_end, second_end, has_ends, IsMultigraph, IsSimple}
-use Rattle.graph_core.proofs.Common.{has_ends-own, has_ends-cases, has_ends-back}
-use Rattle.grow_gen.specs.Cubic.{IsCubic}
-use Rattle.grow_gen.specs.Splices.{is_at, other_end, edge_with_end, new_number, permutation, renumbered_edge, rehung_edges, splice}
+use Rattle.std.proofs.Common.{◌≡◌, ℕ, suc, ◌+◌, ◌-◌, ◌≤◌, ◌<◌, ◌≢◌, Bool, true, false, cond, ◌==◌, ◌&&◌, ◌||◌, not, ◌⊎◌, inl, inr, List, [], ◌∷◌, ◌++◌, length, map, filter, refl, sym, ap, ap₂, ◌∙◌, arith, subst, eq-eqb, ne_eqb, eqb-true, le_trans, slice_index_or}
+use Rattle.counting.proofs.Common.{or_cases, or_from, or_left, or_right, and_parts, and_from, and_left, and_right, count_le_one, only_one, total_congr, at_le_total, total-first, bit_le, Within, bit, total, mem}
+use Rattle.graph_core.proofs.Common.{Graph, size, first_end, second_end, has_ends, IsMultigraph, IsSimple, has_ends-own, has_ends-cases, has_ends-back}
+use Rattle.grow_gen.specs.Common.{IsCubic, is_at, other_end, edge_with_end, new_number, permutation, renumbered_edge, rehung_edges, splice}
 use Rattle.grow_gen.proofs.EdgeSums.{Each, by_test, item-next, each-weaker}
 use Rattle.grow_gen.proofs.Rehanging.{IsEdge, IsClear, at-cases, not_at-ends, rehung_edges-none, member-first, member-later}
 use Rattle.grow_gen.proofs.Renumbering.{kept_edges, ends_beside, new_number-same, new_number-where, old_or_new}

@@ -1,10 +1,8 @@
 -- A list of three items in the order of a permutation: what does it keep? Its members, how many
 -- marks are true, and how many of its items that pass are marked.
-use Rattle.std.proofs.Common.{◌≡◌, ℕ, suc, zero, ◌-◌, ◌<◌, Bool, true, false, ◌==◌, ◌||◌, ◌⊎◌, inl, inr, List, [], ◌∷◌, length, map, refl, sym, arith, eqb-true}
-use Rattle.std.specs.Prelude.{slice_index, slice_index_or}
-use Rattle.counting.proofs.Common.{or_cases, true≢false}
-use Rattle.counting.specs.Common.{Set, mem}
-use Rattle.grow_gen.specs.Splices.{permutation}
+use Rattle.std.proofs.Common.{◌≡◌, ℕ, suc, zero, ◌-◌, ◌<◌, Bool, true, false, ◌==◌, ◌||◌, ◌⊎◌, inl, inr, List, [], ◌∷◌, length, map, refl, sym, arith, eqb-true, slice_index, slice_index_or}
+use Rattle.counting.proofs.Common.{or_cases, true≢false, Set, mem}
+use Rattle.grow_gen.specs.Common.{permutation}
 use Rattle.grow_gen.proofs.Rehanging.{caught, member-first, member-later}
 use Rattle.grow_gen.proofs.ThreeEdges.{true_count}
 

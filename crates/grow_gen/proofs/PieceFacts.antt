@@ -2,14 +2,11 @@
 -- perfect matchings that hold all edges, and all vertices reached from vertex 1 along the edges.
 use Rattle.std.proofs.Common.{◌≡◌, ℕ, ◌≤◌, Bool, true, false, cond, ◌==◌, ◌&&◌, ◌||◌, not, inl, inr, List, [], ◌∷◌, refl, sym, ap, ◌∙◌, arith, eqb-true, nat_le, leb-true}
 use Rattle.std.proofs.lemmas.Bool.{eqb-false}
-use Rattle.counting.proofs.Common.{and_parts, or_cases, not-true, true≢false, implied, every_true}
-use Rattle.counting.specs.Common.{Within, Set, everything, none, mem, every}
-use Rattle.graph_core.specs.Common.{Graph, size, degree, first_end, second_end, has_ends, IsMultigraph, Allowed, is_perfect, IsConnected, IsCovered, IsSimple}
-use Rattle.graph_core.proofs.Common.{is_perfect_true}
+use Rattle.counting.proofs.Common.{and_parts, or_cases, not-true, true≢false, implied, every_true, Within, Set, everything, none, mem, every}
+use Rattle.graph_core.proofs.Common.{Graph, size, degree, first_end, second_end, has_ends, IsMultigraph, Allowed, is_perfect, IsConnected, IsCovered, IsSimple, is_perfect_true}
 use Rattle.grow_gen.specs.declared.pieces.Piece.{Piece}
 use Rattle.grow_gen.specs.declared.pieces.Piece.TheVariants.{K33, K4, Prism, Cube}
-use Rattle.grow_gen.specs.Pieces.{piece_order, piece_graph}
-use Rattle.grow_gen.specs.Cubic.{IsCubic}
+use Rattle.grow_gen.specs.Common.{piece_order, piece_graph, IsCubic}
 use Rattle.grow_gen.proofs.EdgeSums.{Each}
 use Rattle.grow_gen.proofs.Connecting.{Stays, connected-steady}
 

@@ -1,11 +1,11 @@
 -- One step along the edges, where those at w get new ends: what is done and what is still to be
 -- done make up the whole.
-use Rattle.std.proofs.Common.{◌≡◌, ℕ, ◌+◌, ◌<◌, true, false, cond, List, [], ◌∷◌, ◌++◌, length, get_or, set, take, drop, map, sym, ap, ap₂, ◌∙◌, arith, append_assoc, ◌⊎◌, inl, inr}
-use Rattle.std.proofs.lemmas.List.{take_more_set, drop_more, drop-set-lt}
+use Rattle.std.proofs.Common.{◌≡◌, ℕ, ◌+◌, ◌<◌, true, false, cond, List, [], ◌∷◌, ◌++◌, length, get_or, set, take, drop, map, sym, ap, ap₂, ◌∙◌, arith, append_assoc, ◌⊎◌, inl, inr, drop-set-lt}
+use Rattle.std.proofs.lemmas.List.{take_more_set, drop_more}
 use Rattle.counting.proofs.Common.{take_more, map-append}
-use Rattle.graph_core.specs.Common.{pair_of}
+use Rattle.graph_core.proofs.Common.{pair_of}
 use Rattle.graph_core.specs.declared.ends.Ends.{Ends}
-use Rattle.grow_gen.specs.Splices.{is_at, edge_with_end, rehung_edges}
+use Rattle.grow_gen.specs.Common.{is_at, edge_with_end, rehung_edges}
 use Rattle.grow_gen.proofs.Rehanging.{rehung_edges-none}
 
 -- the edges that are done, and the others with the targets that are left

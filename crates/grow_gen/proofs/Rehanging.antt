@@ -2,9 +2,8 @@
 -- vertices, and a new end meets the edges that were given it. Idea: along the list of edges, with
 -- the marks of the edges at w taken out in order.
 use Rattle.std.proofs.Common.{◌≡◌, ℕ, suc, ◌+◌, ◌≤◌, ◌<◌, ◌≢◌, Bool, true, false, cond, ◌==◌, ◌&&◌, ◌⊎◌, inl, inr, List, [], ◌∷◌, length, refl, sym, ap, ap₂, ◌∙◌, arith, subst, eq-eqb, ne_eqb, eqb-true}
-use Rattle.counting.proofs.Common.{cases_eq, or_cases, or_parts, both_ways, or_left, or_right, bit_and_false}
-use Rattle.counting.specs.Common.{Within, bit, Set, mem}
-use Rattle.grow_gen.specs.Splices.{is_at, other_end, edge_with_end, rehung_edges}
+use Rattle.counting.proofs.Common.{cases_eq, or_cases, or_parts, both_ways, or_left, or_right, bit_and_false, Within, bit, Set, mem}
+use Rattle.grow_gen.specs.Common.{is_at, other_end, edge_with_end, rehung_edges}
 use Rattle.grow_gen.proofs.EdgeSums.{Each, sum_edges, ends_at, by_test, marks_where}
 
 -- the marks of the edges at w

@@ -2,9 +2,8 @@
 -- ends. Idea: a vertex has all its edges, once those to vertex 1 are counted among the edges that
 -- got new ends.
 use Rattle.std.proofs.Common.{◌≡◌, ℕ, ◌+◌, ◌-◌, ◌≤◌, ◌<◌, ◌≢◌, Bool, true, cond, ◌==◌, ◌&&◌, not, ◌⊎◌, inl, inr, List, [], ◌∷◌, length, map, filter, refl, sym, ap, ap₂, ◌∙◌, arith, subst, eq-eqb, ne_eqb}
-use Rattle.counting.proofs.Common.{cases_eq, cases_lt}
-use Rattle.counting.specs.Common.{Within, bit}
-use Rattle.grow_gen.specs.Splices.{is_at, other_end, new_number, renumbered_edge}
+use Rattle.counting.proofs.Common.{cases_eq, cases_lt, Within, bit}
+use Rattle.grow_gen.specs.Common.{is_at, other_end, new_number, renumbered_edge}
 use Rattle.grow_gen.proofs.EdgeSums.{Each, sum_edges, ends_at, by_test, marks_where}
 use Rattle.grow_gen.proofs.Rehanging.{IsEdge, flags_at, caught, at-cases, not_at-ends, no_end}
 

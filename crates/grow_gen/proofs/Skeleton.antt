@@ -1,14 +1,10 @@
 -- The classes of the skeleton as rising lists. Idea: a rising list is fixed by its members, and
 -- all of them are vertices.
-use Rattle.std.proofs.Common.{◌≡◌, ℕ, suc, zero, ◌+◌, ◌-◌, ◌≤◌, ◌<◌, Bool, true, false, cond, ◌==◌, ◌&&◌, ◌||◌, not, ◌⊎◌, inl, inr, List, [], ◌∷◌, length, get_or, take, map, refl, sym, ap, ◌∙◌, arith, eqb-true, eq-eqb}
-use Rattle.counting.proofs.Common.{cases_lt, or_cases, or_left, or_right, and_parts, true≢false, false_from_ne_true, take_more, map-append, mem-append, rising_only, mem-within, same_rising_list, rising_list-rises, mem-rising_list, mem-outside, set-wider}
-use Rattle.std.specs.Prelude.{slice_index}
-use Rattle.counting.specs.Common.{Within, Set, union, mem, rising_list, IsRisingIn}
+use Rattle.std.proofs.Common.{◌≡◌, ℕ, suc, zero, ◌+◌, ◌-◌, ◌≤◌, ◌<◌, Bool, true, false, cond, ◌==◌, ◌&&◌, ◌||◌, not, ◌⊎◌, inl, inr, List, [], ◌∷◌, length, get_or, take, map, refl, sym, ap, ◌∙◌, arith, eqb-true, eq-eqb, slice_index}
+use Rattle.counting.proofs.Common.{cases_lt, or_cases, or_left, or_right, and_parts, true≢false, false_from_ne_true, take_more, map-append, mem-append, rising_only, mem-within, same_rising_list, rising_list-rises, mem-rising_list, mem-outside, set-wider, Within, Set, union, mem, rising_list, IsRisingIn}
 use Rattle.grow_gen.specs.declared.pieces.Piece.{Piece}
 use Rattle.grow_gen.specs.declared.pieces.Piece.TheVariants.{K33, K4, Prism, Cube}
-use Rattle.grow_gen.specs.Pieces.{piece_order, is_bipartite_piece, side}
-use Rattle.grow_gen.specs.Splices.{new_number}
-use Rattle.grow_gen.specs.Growth.{Growth, eligible, next_class}
+use Rattle.grow_gen.specs.Common.{piece_order, is_bipartite_piece, side, new_number, Growth, eligible, next_class}
 use Rattle.grow_gen.proofs.PieceFacts.{piece-two}
 use Rattle.grow_gen.proofs.Renumbering.{new_number-where}
 

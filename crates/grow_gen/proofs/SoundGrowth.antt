@@ -1,18 +1,13 @@
 -- A graph that grows stays a covered cubic multigraph, and each piece finds a vertex. Idea: class
 -- A gets at least two vertices with each bipartite piece and gives up at most one with each other
 -- piece, and no two others come in a row.
-use Rattle.std.proofs.Common.{◌≡◌, ℕ, suc, zero, ◌+◌, ◌-◌, ◌*◌, ◌/◌, ◌%◌, ◌≤◌, ◌<◌, ◌≢◌, Bool, true, false, cond, ◌==◌, ◌&&◌, ◌||◌, not, inl, inr, List, [], ◌∷◌, length, map, filter, refl, sym, ap, ap₂, ◌∙◌, arith, eq-eqb, ne_eqb}
-use Rattle.std.specs.Prelude.{slice_index, slice_index_or}
-use Rattle.counting.proofs.Common.{length-append, length-map, cases_eq, cases_Bool, or_left, or_right, true≢false, rising_holds, mem-within, some-member, rising_list-rises}
-use Rattle.std.proofs.lemmas.Nat.{div-add-mod', mod_below, mod-mul-add}
-use Rattle.counting.specs.Common.{Within, union, mem, rising_list, IsRisingIn}
-use Rattle.graph_core.specs.Common.{size, IsMultigraph, IsCovered, IsSimple}
+use Rattle.std.proofs.Common.{◌≡◌, ℕ, suc, zero, ◌+◌, ◌-◌, ◌*◌, ◌/◌, ◌%◌, ◌≤◌, ◌<◌, ◌≢◌, Bool, true, false, cond, ◌==◌, ◌&&◌, ◌||◌, not, inl, inr, List, [], ◌∷◌, length, map, filter, refl, sym, ap, ap₂, ◌∙◌, arith, eq-eqb, ne_eqb, slice_index, slice_index_or, div-add-mod'}
+use Rattle.counting.proofs.Common.{length-append, length-map, cases_eq, cases_Bool, or_left, or_right, true≢false, rising_holds, mem-within, some-member, rising_list-rises, Within, union, mem, rising_list, IsRisingIn}
+use Rattle.std.proofs.lemmas.Nat.{mod_below, mod-mul-add}
+use Rattle.graph_core.proofs.Common.{size, IsMultigraph, IsCovered, IsSimple}
 use Rattle.grow_gen.specs.declared.pieces.Piece.{Piece}
 use Rattle.grow_gen.specs.declared.pieces.Piece.TheVariants.{K33, K4, Prism, Cube}
-use Rattle.grow_gen.specs.Pieces.{piece_order, piece_ends, piece_graph, is_bipartite_piece, side, further_piece}
-use Rattle.grow_gen.specs.Cubic.{IsCubic}
-use Rattle.grow_gen.specs.Splices.{is_at, new_number, permutation, splice, renumbered_edge, rehung_edges, targets_of}
-use Rattle.grow_gen.specs.Growth.{Growth, first_growth, eligible, next_class, with_piece, MayTake}
+use Rattle.grow_gen.specs.Common.{piece_order, piece_ends, piece_graph, is_bipartite_piece, side, further_piece, IsCubic, is_at, new_number, permutation, splice, renumbered_edge, rehung_edges, targets_of, Growth, first_growth, eligible, next_class, with_piece, MayTake}
 use Rattle.grow_gen.proofs.Rehanging.{length-rehung_edges}
 use Rattle.grow_gen.proofs.PieceFacts.{piece-multigraph, piece-cubic, piece-simple, piece-covered, piece-two}
 use Rattle.grow_gen.proofs.Skeleton.{eligible-within}

@@ -1,13 +1,9 @@
 -- The three edges at a vertex of a cubic graph. Idea: the marks of the edges at a vertex are a
 -- list of three, and exactly one of them is true for a perfect matching.
-use Rattle.std.proofs.Common.{◌≡◌, ℕ, suc, zero, ◌+◌, ◌<◌, Bool, true, false, cond, ◌==◌, ◌&&◌, inl, inr, List, [], ◌∷◌, length, filter, refl, sym, ap, ◌∙◌, arith, eq-eqb}
-use Rattle.std.specs.Prelude.{slice_index_or}
-use Rattle.counting.proofs.Common.{true≢false, bit_and_true, bit_le_one}
-use Rattle.counting.specs.Common.{Within, bit, Set, everything, none}
-use Rattle.graph_core.specs.Common.{Graph, size, degree, IsMultigraph, IsPerfect, IsCovered}
-use Rattle.graph_core.proofs.Common.{degree_congr}
-use Rattle.grow_gen.specs.Cubic.{IsCubic}
-use Rattle.grow_gen.specs.Splices.{is_at}
+use Rattle.std.proofs.Common.{◌≡◌, ℕ, suc, zero, ◌+◌, ◌<◌, Bool, true, false, cond, ◌==◌, ◌&&◌, inl, inr, List, [], ◌∷◌, length, filter, refl, sym, ap, ◌∙◌, arith, eq-eqb, slice_index_or}
+use Rattle.counting.proofs.Common.{true≢false, bit_and_true, bit_le_one, Within, bit, Set, everything, none}
+use Rattle.graph_core.proofs.Common.{Graph, size, degree, IsMultigraph, IsPerfect, IsCovered, degree_congr}
+use Rattle.grow_gen.specs.Common.{IsCubic, is_at}
 use Rattle.grow_gen.proofs.EdgeSums.{Each, sum_edges, ends_at, by_test, marks_from, marked, each-edge, edge-at_place, degree-marks, degree-marked, length-marks_from, length-marks_where, marked-marks_from}
 use Rattle.grow_gen.proofs.Rehanging.{IsEdge, flags_at, at-cases, not_at-ends, no_end}
 

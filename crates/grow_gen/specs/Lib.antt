@@ -3,3 +3,4 @@ pub mod Splices
 pub mod Cubic
 pub mod Growth
 pub mod Growing
+pub mod Common

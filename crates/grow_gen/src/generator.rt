@@ -2,8 +2,7 @@
 ghost use Rattle.std.specs.Prelude.{◌≡◌, IfOk};
 ghost use Rattle.counting.specs.Common.{Within};
 ghost use Rattle.graph_core.specs.Common.{IsCovered, IsWithinLimits, IsSimple};
-ghost use Rattle.grow_gen.specs.Cubic.{IsCubic};
-ghost use Rattle.grow_gen.specs.Growth.{grown};
+ghost use Rattle.grow_gen.specs.Common.{IsCubic, grown};
 
 use crate::growing::Growing;
 use crate::pieces::Piece;

@@ -2,9 +2,7 @@
 ghost use Rattle.std.specs.Prelude.{◌≡◌, ◌<◌, ◌≤◌, ◌+◌, ◌%◌, IfOk, ℕ, length, slice_index};
 ghost use Rattle.counting.specs.Common.{Within, mem, IsRisingIn};
 ghost use Rattle.graph_core.specs.Common.{IsWithinLimits};
-ghost use Rattle.grow_gen.specs.Pieces.{piece_order};
-ghost use Rattle.grow_gen.specs.Growth.{first_growth, eligible, next_class, with_piece, MayTake};
-ghost use Rattle.grow_gen.specs.Growing.{growth_of};
+ghost use Rattle.grow_gen.specs.Common.{piece_order, first_growth, eligible, next_class, with_piece, MayTake, growth_of};
 
 use crate::pieces::Piece;
 use crate::splices;

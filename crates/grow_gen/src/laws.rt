@@ -2,8 +2,7 @@
 ghost use Rattle.std.specs.Prelude.{◌≡◌, ℕ, ◌<◌, ◌≤◌};
 ghost use Rattle.counting.specs.Common.{Within};
 ghost use Rattle.graph_core.specs.Common.{Graph, IsMultigraph, IsCovered, IsSimple};
-ghost use Rattle.grow_gen.specs.Cubic.{IsCubic};
-ghost use Rattle.grow_gen.specs.Splices.{splice, permutation};
+ghost use Rattle.grow_gen.specs.Common.{IsCubic, splice, permutation};
 
 /// Splicing: two cubic multigraphs give a cubic multigraph, without parallel edges where they
 /// have none, and covered where they are.

@@ -1,8 +1,7 @@
 //! The pieces of which a graph is made.
 ghost use Rattle.std.specs.Prelude.{◌≡◌};
 ghost use Rattle.graph_core.specs.Common.{Graph};
-ghost use Rattle.grow_gen.specs.Pieces.{piece_order, piece_ends, piece_graph, is_bipartite_piece, side, further_piece};
-ghost use Rattle.grow_gen.specs.Splices.{neighbours};
+ghost use Rattle.grow_gen.specs.Common.{piece_order, piece_ends, piece_graph, is_bipartite_piece, side, further_piece, neighbours};
 
 /// A small cubic graph.
 #[derive(Clone, Copy)]

@@ -1,8 +1,7 @@
 //! Splicing a piece into the edges of a graph.
 ghost use Rattle.std.specs.Prelude.{◌≡◌, ◌<◌, ◌≤◌, ◌+◌, ◌-◌, ◌^◌, ◌++◌, ℕ, map, filter, not, length, slice_index, IfOk, OnOk};
 ghost use Rattle.graph_core.specs.Common.{pair_of};
-ghost use Rattle.grow_gen.specs.Pieces.{piece_order, piece_ends, piece_graph};
-ghost use Rattle.grow_gen.specs.Splices.{edge_with_end, is_at, new_number, permutation, rehung_edges, renumbered_edge, targets_of};
+ghost use Rattle.grow_gen.specs.Common.{piece_order, piece_ends, piece_graph, edge_with_end, is_at, new_number, permutation, rehung_edges, renumbered_edge, targets_of};
 
 use crate::pieces::Piece;
 use graph_core::Ends;

@@ -2,7 +2,7 @@
 ghost use Rattle.std.specs.Prelude.{◌≡◌, ◌↔◌, IfOk, None, Some};
 ghost use Rattle.counting.specs.Common.{mem};
 ghost use Rattle.graph_core.specs.Common.{IsCovered, HasOnlyTrivialTightCuts, IsNontrivial, IsTight};
-ghost use Rattle.tight_cuts.specs.Candidates.{candidates, first_shore};
+ghost use Rattle.tight_cuts.specs.Common.{candidates, first_shore};
 ghost use Rattle.leaf_kinds.specs.LeafKinds.{IsKind, IsThreeConnectedAndBicritical, cut_of};
 
 use graph_core::{Kind, MultiGraph};

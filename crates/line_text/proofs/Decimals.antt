@@ -1,17 +1,15 @@
 -- What is written of a number is a word of digits, and std tells that they read as that number.
 -- Below 10 ^ 9 they are nine at most, so the word is a number.
-use Rattle.std.proofs.Common.{◌≡◌, ℕ, suc, ◌^◌, ◌≤◌, ◌<◌, List, [], ◌∷◌, All, length, map, Bool, true, not, ◌||◌, ◌==◌, cond, Some, None, refl, ◌∙◌, ap, ap₂, arith, rules}
+use Rattle.std.proofs.Common.{◌≡◌, ℕ, suc, ◌^◌, ◌≤◌, ◌<◌, List, [], ◌∷◌, All, length, map, Bool, true, not, ◌||◌, ◌==◌, cond, Some, None, refl, ◌∙◌, ap, ap₂, arith, rules, le-leb}
 use Rattle.std.specs.Char.{is_ascii_digit}
 use Rattle.std.specs.Fmt.{decimal}
 use Rattle.std.specs.List.{list_all}
 use Rattle.std.specs.Str.Parse.{digits_value}
-use Rattle.std.proofs.lemmas.Bool.{and_from, le-leb}
+use Rattle.std.proofs.lemmas.Bool.{and_from}
 use Rattle.std.proofs.lemmas.Bool.Decides.{nat_tests}
 use Rattle.std.proofs.lemmas.Fmt.{digits_decimal, digits_value-decimal, decimal_nonempty, length-decimal-le}
 use Rattle.std.proofs.lemmas.Str.Parse.{IsNumeralModel, IsDigitsTest, numerals_by_value}
-use Rattle.line_text.specs.Lines.{is_line_feed}
-use Rattle.line_text.specs.Numerals.{number_of, is_number, value_of}
-use Rattle.line_text.specs.Words.{is_blank, is_word, AreWords}
+use Rattle.line_text.specs.Common.{is_line_feed, number_of, is_number, value_of, is_blank, is_word, AreWords}
 use Rattle.line_text.proofs.Digits.{digits-cons}
 
 -- the test for digits is std's

@@ -7,8 +7,7 @@ use Rattle.std.specs.Str.Parse.{digits_value_after}
 use Rattle.std.proofs.lemmas.Bool.Decides.{nat_tests}
 use Rattle.std.proofs.lemmas.Str.{digit_value_digit}
 use Rattle.std.specs.Borrow.{Bor}
-use Rattle.line_text.specs.Numerals.{number_of, is_number, numbers_of}
-use Rattle.line_text.specs.Words.{texts_of}
+use Rattle.line_text.specs.Common.{number_of, is_number, numbers_of, texts_of}
 use Rattle.std.proofs.lemmas.Bool.{and_right}
 use Rattle.std.proofs.Math.Nat.{mul-le-mul_right, mul-le-mul_left, pow-succ', mul_assoc}
 

@@ -2,10 +2,7 @@
 -- beginning is forced by the line, so an induction over the significant lines, for every state,
 -- leads from one to the other.
 use Rattle.std.proofs.Common.{◌≡◌, ◌⊎◌, inl, inr, ℕ, ◌+◌, List, [], ◌∷◌, ◌++◌, length, map, Option, Some, None, Result, Ok, Err, IfOk, IfErr, refl, sym, ◌∙◌, ap, subst}
-use Rattle.line_text.specs.Lines.{lines_of}
-use Rattle.line_text.specs.Words.{SignificantLine, significant_lines_of}
-use Rattle.line_text.specs.Format.{Rules, step, finish, Begins, Stands, FirstFault, StandsAlone, BreaksAlone}
-use Rattle.line_text.specs.Reading.{go_on, reading_from, reading_of, Reads, IsFirst, ReadingTells}
+use Rattle.line_text.specs.Common.{lines_of, SignificantLine, significant_lines_of, Rules, step, finish, Begins, Stands, FirstFault, StandsAlone, BreaksAlone, go_on, reading_from, reading_of, Reads, IsFirst, ReadingTells}
 use Rattle.line_text.specs.declared.format.LineFault.{LineFault}
 use Rattle.line_text.specs.declared.format.LineFault.TheVariants as fault
 

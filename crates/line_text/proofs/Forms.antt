@@ -5,7 +5,7 @@ use Rattle.std.specs.Borrow.{Bor}
 use Rattle.std.specs.List.{list_all, zip}
 use Rattle.std.specs.Str.{bytes_eq}
 use Rattle.std.proofs.lemmas.Bool.{and_right}
-use Rattle.line_text.specs.Words.{begin_with, texts_of}
+use Rattle.line_text.specs.Common.{begin_with, texts_of}
 
 pub begin_with-zip : (words keywords : List (Bor (List ℕ))) → length keywords ≤ length words → list_all (λ pair. bytes_eq pair.0.now pair.1.now) (zip words keywords) ≡ begin_with (texts_of words) (texts_of keywords)
 begin_with-zip [] [] enough = refl

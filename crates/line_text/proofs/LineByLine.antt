@@ -4,9 +4,7 @@ use Rattle.std.proofs.Common.{◌≡◌, ℕ, ◌+◌, List, [], ◌∷◌, Bool
 use Rattle.std.specs.Result.{result_map_both}
 use Rattle.line_text.specs.declared.format.Refusal.{Refusal}
 use Rattle.line_text.specs.declared.format.Refusal.TheVariants as refusal
-use Rattle.line_text.specs.Words.{words_of, is_skipped, significant_from}
-use Rattle.line_text.specs.Format.{Rules, step, finish}
-use Rattle.line_text.specs.Reading.{Refuses, Fails, state_after, placed, go_on, reading_from}
+use Rattle.line_text.specs.Common.{words_of, is_skipped, significant_from, Rules, step, finish, Refuses, Fails, state_after, placed, go_on, reading_from}
 
 -- a reader that places a rule's refusal names the fault that the rule gives
 pub Fails-placed : {Body Value Kind : Type 0} (number : ℕ) (refused : Refusal Kind) (given : Result Body Kind) (outcome : Result Value (ℕ × Kind)) → Refuses refused given → ((kind : Kind) → given ≡ Err kind → outcome ≡ Err (number, kind)) → Fails (placed number refused) outcome

@@ -1,14 +1,14 @@
 -- A text is cut into lines from the front: up to the first line feed stands the first line, after
 -- it the others. What stands after a line feed has parts of its own, so the part before it is a
 -- line, even an empty one.
-use Rattle.std.proofs.Common.{◌≡◌, inl, inr, ℕ, ◌+◌, ◌<◌, ◌≤◌, List, [], ◌∷◌, ◌++◌, length, position, unwrap_or, Bool, true, false, cond, refl, sym, ◌∙◌, ap, arith}
+use Rattle.std.proofs.Common.{◌≡◌, inl, inr, ℕ, ◌+◌, ◌<◌, ◌≤◌, List, [], ◌∷◌, ◌++◌, length, position, unwrap_or, Bool, true, false, cond, refl, sym, ◌∙◌, ap, arith, lt-ltb, take_all}
 use Rattle.std.specs.List.{slice_split, onto_first, position_or_len, before_first, after_first}
-use Rattle.std.proofs.lemmas.Bool.{cases_Bool, cases_lt, lt-ltb}
+use Rattle.std.proofs.lemmas.Bool.{cases_Bool, cases_lt}
 use Rattle.std.proofs.lemmas.Bool.Decides.{nat_tests}
-use Rattle.std.proofs.lemmas.List.{take_all, drop_all}
+use Rattle.std.proofs.lemmas.List.{drop_all}
 use Rattle.std.proofs.lemmas.List.Splits.{slice_split_first, slice_split-cons_no, slice_split-cons_yes}
 use Rattle.std.proofs.lemmas.List.Sums.{prefix_len-le-length}
-use Rattle.line_text.specs.Lines.{is_line_feed, lines_of, lines_of_parts}
+use Rattle.line_text.specs.Common.{is_line_feed, lines_of, lines_of_parts}
 
 -- some list begins with an element
 IsCons : {A : Type 0} → List A → Type 0

@@ -7,9 +7,7 @@ use Rattle.std.proofs.lemmas.Bool.{cases_Bool, and_parts, and_from, or_parts, no
 use Rattle.std.proofs.lemmas.List.Folds.{list_all-append}
 use Rattle.std.proofs.lemmas.List.Elements.{All-nil, All-cons}
 use Rattle.std.proofs.lemmas.List.Splits.{slice_split_at, slice_split_none}
-use Rattle.line_text.specs.Lines.{is_line_feed, lines_of, unlines, is_closed}
-use Rattle.line_text.specs.Words.{is_blank, words_of, unwords, is_word, AreWords, is_skipped, IsSignificant, IsComment, SignificantLine, significant_from, significant_lines_of, written, numbered_from}
-use Rattle.line_text.specs.Format.{Rules, Begins, finish, Stands}
+use Rattle.line_text.specs.Common.{is_line_feed, lines_of, unlines, is_closed, is_blank, words_of, unwords, is_word, AreWords, is_skipped, IsSignificant, IsComment, SignificantLine, significant_from, significant_lines_of, written, numbered_from, Rules, Begins, finish, Stands}
 use Rattle.line_text.proofs.LineCuts.{lines_of-nil, lines_of-feed, lines_of-byte, onto_first-lines_of}
 
 -- no byte of the line is a line feed

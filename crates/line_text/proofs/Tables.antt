@@ -3,7 +3,7 @@
 use Rattle.std.proofs.Common.{◌≡◌, List, [], ◌∷◌, Bool, true, false, if◌then◌else◌, Result, Ok, Err, refl, sym, ◌∙◌, ap}
 use Rattle.std.specs.List.{AllByRecursion}
 use Rattle.std.proofs.lemmas.Bool.{both_ways}
-use Rattle.line_text.specs.Format.{checked}
+use Rattle.line_text.specs.Common.{checked}
 
 -- the value of a table none of whose tests applies
 abbrev pub value_or : {A Kind : Type 0} → A → Result A Kind → A

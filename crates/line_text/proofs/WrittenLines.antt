@@ -1,9 +1,9 @@
 -- The text of a list of lines is that of the first and then that of the others, and a line is its
 -- first word and each further word after a space.
-use Rattle.std.proofs.Common.{◌≡◌, ◌+◌, ◌<◌, ℕ, suc, List, [], ◌∷◌, ◌++◌, length, get_or, map, take, refl, sym, ◌∙◌, ap, arith, append_assoc}
+use Rattle.std.proofs.Common.{◌≡◌, ◌+◌, ◌<◌, ℕ, suc, List, [], ◌∷◌, ◌++◌, length, get_or, map, take, refl, sym, ◌∙◌, ap, arith, append_assoc, append-nil}
 use Rattle.std.proofs.Math.Seq.{take-suc}
-use Rattle.std.proofs.lemmas.List.{append-nil, map-append}
-use Rattle.line_text.specs.Words.{unwords, written}
+use Rattle.std.proofs.lemmas.List.{map-append}
+use Rattle.line_text.specs.Common.{unwords, written}
 
 -- what is written of lines and further lines
 pub written-append : (lines more : List (List (List ℕ))) → written (lines ++ more) ≡ written lines ++ written more

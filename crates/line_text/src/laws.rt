@@ -3,11 +3,7 @@
 ghost use Rattle.std.specs.Prelude.{◌≡◌, ◌<◌, ◌⊎◌, ◌^◌, ℕ, List, ◌++◌, true, Option, Some, None, Ok};
 ghost use Rattle.std.specs.Fmt.{decimal};
 ghost use Rattle.std.specs.List.{AllByRecursion};
-ghost use Rattle.line_text.specs.Format.{Begins, finish, Stands, StandsAlone, BreaksAlone};
-ghost use Rattle.line_text.specs.Reading.{ReadingTells};
-ghost use Rattle.line_text.specs.Lines.{lines_of, is_closed};
-ghost use Rattle.line_text.specs.Numerals.{number_of};
-ghost use Rattle.line_text.specs.Words.{is_word, words_of, is_skipped, significant_lines_of, written, numbered_from, IsSignificant, IsComment};
+ghost use Rattle.line_text.specs.Common.{Begins, finish, Stands, StandsAlone, BreaksAlone, ReadingTells, lines_of, is_closed, number_of, is_word, words_of, is_skipped, significant_lines_of, written, numbered_from, IsSignificant, IsComment};
 
 use crate::format::LineFormat;
 

@@ -1,7 +1,7 @@
 //! The lines of a text: where each ends, and which of them are significant.
 ghost use Rattle.std.specs.Prelude.{◌≡◌, ◌<◌, ◌≤◌, ◌↔◌, ◌∷◌, [], length, IsNone, IfSome, position};
 ghost use Rattle.std.specs.List.{before_first, after_first, position_or_len};
-ghost use Rattle.line_text.specs.Lines.{is_line_feed, lines_of};
+ghost use Rattle.line_text.specs.Common.{is_line_feed, lines_of};
 
 // The place of the first line feed.
 fn first_line_feed(text: &[u8]) -> Option<usize>

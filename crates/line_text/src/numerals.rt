@@ -3,8 +3,7 @@ ghost use Rattle.std.specs.Prelude.{◌≡◌, ◌≤◌, true, length, IfOk, op
 ghost use Rattle.std.specs.Char.{is_ascii_digit};
 ghost use Rattle.std.specs.List.{list_all};
 ghost use Rattle.std.specs.Str.Parse.{digits_value};
-ghost use Rattle.line_text.specs.Numerals.{number_of, numbers_of};
-ghost use Rattle.line_text.specs.Words.{texts_of};
+ghost use Rattle.line_text.specs.Common.{number_of, numbers_of, texts_of};
 
 use std::alloc::{AllocError as Memory, Global};
 

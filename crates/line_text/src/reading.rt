@@ -2,9 +2,7 @@
 //! that the text stands for, or its first fault.
 ghost use Rattle.std.specs.Prelude.{◌≡◌, ◌<◌, ◌-◌, ◌^◌, ℕ, map, length, IfOk, IfErr, Ok, Err};
 ghost use Rattle.std.specs.Option.{option_map};
-ghost use Rattle.line_text.specs.Words.{words_of};
-ghost use Rattle.line_text.specs.Format.{finish, Stands, FirstFault};
-ghost use Rattle.line_text.specs.Reading.{Gives, Reads, state_after, reading_of, placed, IsFirst};
+ghost use Rattle.line_text.specs.Common.{words_of, finish, Stands, FirstFault, Gives, Reads, state_after, reading_of, placed, IsFirst};
 
 use crate::format::{LineFault, LineFormat, Refusal};
 use crate::lines::split_line;

@@ -2,7 +2,7 @@
 ghost use Rattle.std.specs.Prelude.{◌≡◌, IfOk};
 ghost use Rattle.std.specs.List.{list_all, zip};
 ghost use Rattle.std.specs.Str.{bytes_eq};
-ghost use Rattle.line_text.specs.Words.{is_blank, is_skipped, has_form, begin_with, word_at, words_of, texts_of};
+ghost use Rattle.line_text.specs.Common.{is_blank, is_skipped, has_form, begin_with, word_at, words_of, texts_of};
 
 use std::alloc::{AllocError as Memory, Global};
 

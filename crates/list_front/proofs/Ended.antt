@@ -1,18 +1,14 @@
 -- What an ending gives, if there is one, is what the run gives with the status of that ending.
 -- With no ending the words match no row, so there is no command and no file to speak of.
-use Rattle.std.proofs.Common.{◌≡◌, ◌∙◌, ℕ, List, refl, subst, sym}
+use Rattle.std.proofs.Common.{◌≡◌, ◌∙◌, ℕ, List, refl, subst, sym, ◌↔◌}
 use Rattle.std.proofs.lemmas.Option.{none-some}
-use Rattle.std.specs.Prelude.{◌↔◌}
 use Rattle.std.specs.declared.option.Option.{Option}
 use Rattle.std.specs.declared.option.Option.TheVariants.{Some, None}
 use Rattle.list_reader.specs.declared.ending.Ending.{Ending}
-use Rattle.list_reader.specs.Endings.{Appended, TellsList}
+use Rattle.list_reader.specs.Common.{Appended, TellsList}
 use Rattle.encoder.specs.Files.{Encodes}
 use Rattle.encoder.specs.Reads.{EncodesFile, ReadsFirst}
-use Rattle.list_top.specs.Commands.{ListCommand, MatchNone, command_of, encode_of}
-use Rattle.list_top.specs.Encodings.{EncodeOutcome, EncodesSome, ReadsFirstTo}
-use Rattle.list_top.specs.Listings.{TellsLineOf, IsBadLine, lacks_of}
-use Rattle.list_top.specs.Outcomes.{EndsWith, ListOutcome, Streams, StreamsTo, TellsSome}
+use Rattle.list_top.specs.Common.{ListCommand, MatchNone, command_of, encode_of, EncodeOutcome, EncodesSome, ReadsFirstTo, TellsLineOf, IsBadLine, lacks_of, EndsWith, ListOutcome, Streams, StreamsTo, TellsSome}
 use Rattle.list_top.specs.declared.status.ListStatus.{ListStatus}
 use Rattle.list_top.proofs.Ended.{appended_encoding, appended_outcome, encodes_some, tells_some}
 use Rattle.list_front.specs.Words.{status_in}

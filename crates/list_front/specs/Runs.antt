@@ -4,12 +4,9 @@
 use Rattle.std.specs.Prelude.{◌≡◌, ◌↔◌, ℕ, List}
 use Rattle.std.specs.declared.option.Option.{Option}
 use Rattle.std.specs.declared.option.Option.TheVariants.{Some}
-use Rattle.outside.specs.Faults.{Rose}
-use Rattle.list_reader.specs.Endings.{Appended, ReadsTold}
-use Rattle.list_top.specs.Commands.{ListCommand, MatchNone, command_of, encode_of}
-use Rattle.list_top.specs.Encodings.{EncodeOutcome, EncodesSome, ReadsFirstTo}
-use Rattle.list_top.specs.Listings.{TellsLineOf}
-use Rattle.list_top.specs.Outcomes.{ListOutcome, Streams, TellsSome}
+use Rattle.outside.specs.Common.{Rose}
+use Rattle.list_reader.specs.Common.{Appended, ReadsTold}
+use Rattle.list_top.specs.Common.{ListCommand, MatchNone, command_of, encode_of, EncodeOutcome, EncodesSome, ReadsFirstTo, TellsLineOf, ListOutcome, Streams, TellsSome}
 use Rattle.list_top.specs.declared.status.ListStatus.{ListStatus}
 use Rattle.list_top.specs.declared.status.ListStatus.TheVariants.{Usage, ReadFault, WriteFault}
 

@@ -4,15 +4,13 @@ use Rattle.std.specs.Prelude.{◌≡◌, ◌⊎◌, ℕ, List, Bool}
 use Rattle.std.specs.declared.option.Option.{Option}
 use Rattle.std.specs.declared.option.Option.TheVariants.{Some}
 use Rattle.std.specs.declared.result.Result.{Result}
-use Rattle.outside.specs.Faults.{Rose}
+use Rattle.outside.specs.Common.{Rose, appended}
 use Rattle.outside.specs.declared.explain.FailureReason.{FailureReason}
-use Rattle.outside.specs.Sink.{appended}
 use Rattle.outside.specs.declared.sink.SinkFailed.{SinkFailed}
 use Rattle.list_reader.specs.declared.ending.Ending.{Ending}
-use Rattle.list_reader.specs.Endings.{TellsList}
+use Rattle.list_reader.specs.Common.{TellsList}
 use Rattle.encoder.specs.Reads.{EncodesFile}
-use Rattle.list_top.specs.Commands.{ListCommand, command_of, encode_of, file_named_by}
-use Rattle.list_top.specs.Listings.{TellsLineOf, IsBadLine, lacks_of}
+use Rattle.list_top.specs.Common.{ListCommand, command_of, encode_of, file_named_by, TellsLineOf, IsBadLine, lacks_of}
 use Rattle.list_top.specs.declared.status.ListStatus.{ListStatus}
 use Rattle.list_top.specs.declared.status.ListStatus.TheVariants.{Done, WriteFault}
 use Rattle.front_words.specs.Saying.{IsBegun, Says}

@@ -4,11 +4,11 @@ use Rattle.std.specs.Prelude.{ℕ, List, [], codes, Bool, if◌then◌else◌}
 use Rattle.std.specs.declared.option.Option.{Option}
 use Rattle.std.specs.declared.option.Option.TheVariants.{Some, None}
 use Rattle.outside.specs.declared.explain.FailureReason.{FailureReason}
-use Rattle.text_faults.specs.Kinds.{kind_number}
+use Rattle.text_faults.specs.Common.{kind_number}
 use Rattle.list_reader.specs.declared.ending.BadLine.{BadLine}
 use Rattle.list_reader.specs.declared.ending.Ending.{Ending}
 use Rattle.list_reader.specs.declared.ending.Ending.TheVariants.{Done, Bad, ReadFault, WriteFault, Memory}
-use Rattle.list_top.specs.Statuses.{status_of}
+use Rattle.list_top.specs.Common.{status_of}
 use Rattle.list_top.specs.declared.status.ListStatus.{ListStatus}
 use Rattle.list_top.specs.declared.status.ListStatus.TheVariants.{Usage}
 use Rattle.front_words.specs.declared.faults.Role.TheVariants.{Graph}

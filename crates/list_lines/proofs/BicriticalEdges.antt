@@ -2,8 +2,8 @@
 -- the edge.
 use Rattle.std.proofs.Common.{◌≤◌, ◌==◌, ◌||◌, arith, refl}
 use Rattle.allowed_edges.proofs.ThroughEdges.{one_glued}
-use Rattle.counting.specs.Common.{Within, none, pair_set}
-use Rattle.graph_core.specs.Common.{Graph, IsBicritical, IsMultigraph, first_end, second_end, size}
+use Rattle.counting.proofs.Common.{Within, none, pair_set}
+use Rattle.graph_core.proofs.Common.{Graph, IsBicritical, IsMultigraph, first_end, second_end, size}
 use Rattle.list_lines.specs.Selecting.{IsBicriticalWithEdge}
 
 pub bicritical_with_edge : (g : Graph) → IsMultigraph g → 1 ≤ size g → IsBicritical g → IsBicriticalWithEdge g

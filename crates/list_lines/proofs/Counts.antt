@@ -1,13 +1,11 @@
 -- Each two derivations of a graph have as many leaves, as many bricks and as many braces, since
 -- their leaves are paired (Lovász 1987).
-use Rattle.std.proofs.Common.{List, [], ap, arith, get_or, inl, inr, length, not, subst, sym, ℕ, ◌-◌, ◌==◌, ◌∙◌, ◌≡◌}
-use Rattle.std.specs.Prelude.{count_by}
-use Rattle.counting.specs.Common.{Within, count}
-use Rattle.graph_core.specs.Common.{Graph, IsGraph}
-use Rattle.tree_core.proofs.DerivationLeaves.{partitions-leaves}
-use Rattle.tree_core.specs.Common.{IsDerivation, PlainLeafMap, leaf_at, map_at, leaves, Shape, AreLeafKinds, is_brick, kind_at, tally_of}
+use Rattle.std.proofs.Common.{List, [], ap, arith, get_or, inl, inr, length, not, subst, sym, ℕ, ◌-◌, ◌==◌, ◌∙◌, ◌≡◌, count_by}
+use Rattle.counting.proofs.Common.{Within, count}
+use Rattle.graph_core.proofs.Common.{Graph, IsGraph}
+use Rattle.tree_core.proofs.Common.{partitions-leaves, IsDerivation, PlainLeafMap, leaf_at, map_at, leaves, Shape, AreLeafKinds, is_brick, kind_at, tally_of}
 use Rattle.move_laws.proofs.Uniqueness.{pairing_law}
-use Rattle.move_laws.specs.Pairings.{IsPairing}
+use Rattle.move_laws.specs.Common.{IsPairing}
 use Rattle.tree_core.specs.declared.tallies.LeafKind.{LeafKind}
 use Rattle.tree_core.specs.declared.tallies.LeafKind.TheVariants.{Brick}
 use Rattle.tree_core.specs.declared.tallies.Tally.{Tally}

@@ -1,7 +1,7 @@
 -- The lines of the leaves from a place on are the line of the leaf there and those after it.
 use Rattle.std.proofs.Common.{List, [], ◌++◌, ap₂, get_or, length, drop, ℕ, ◌+◌, ◌<◌, ◌≡◌}
 use Rattle.std.proofs.lemmas.List.{drop_more}
-use Rattle.graph_core.specs.Common.{Graph}
+use Rattle.graph_core.proofs.Common.{Graph}
 use Rattle.tree_core.specs.declared.tallies.LeafKind.{LeafKind}
 use Rattle.tree_core.specs.declared.tallies.LeafKind.TheVariants.{Brick}
 use Rattle.list_lines.specs.LeafLines.{leaf_line, leaf_lines}

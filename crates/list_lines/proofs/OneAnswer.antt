@@ -2,13 +2,13 @@
 -- thing. The leaves are those of one tree, since the order picks one, with one list of kinds.
 use Rattle.std.proofs.Common.{◌≡◌, ◌∙◌, ℕ, List, Result, Ok, Err, inl, inr, sym, subst, ap}
 use Rattle.list_lines.proofs.OneTree.{kinds-once, named-once, picked-once}
-use Rattle.decomposer.specs.Orders.{NamedPicks}
+use Rattle.decomposer.specs.Common.{NamedPicks}
 use Rattle.decomposer.specs.declared.orders.NamedOrder.{NamedOrder}
-use Rattle.graph_core.specs.Common.{Graph, IsMultigraph, singles}
+use Rattle.graph_core.proofs.Common.{Graph, IsMultigraph, singles}
 use Rattle.list_lines.proofs.ReadMultigraphs.{read-multigraph}
-use Rattle.graph6_text.specs.Reading.{Fault, outcome_of}
+use Rattle.graph6_text.specs.Common.{Fault, outcome_of}
 use Rattle.text_faults.specs.declared.faults.FaultKind.{FaultKind}
-use Rattle.tree_core.specs.Common.{leaves, Shape}
+use Rattle.tree_core.proofs.Common.{leaves, Shape}
 use Rattle.tree_core.specs.declared.tallies.LeafKind.{LeafKind}
 use Rattle.list_lines.specs.KindLines.{IsKindLine, kind_line}
 use Rattle.list_lines.specs.LeafLines.{AreLeafLines, AreLinesOf, TellsLeaves, leaf_lines, line_front}

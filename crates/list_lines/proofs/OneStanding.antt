@@ -1,21 +1,18 @@
 -- The words on how a graph stands are one: its first reasons differ at most in the Berge set, no
 -- reason is one of a covered graph, a kind without its shore is one, and so are the numbers of
 -- bricks and braces.
-use Rattle.std.proofs.Common.{◌≡◌, ◌∙◌, List, ℕ, ◌++◌, Bool, refl, sym, ap}
-use Rattle.std.specs.Prelude.{codes}
+use Rattle.std.proofs.Common.{◌≡◌, ◌∙◌, List, ℕ, ◌++◌, Bool, refl, sym, ap, codes}
 use Rattle.std.specs.Fmt.{decimal}
-use Rattle.counting.proofs.Common.{same_tests}
-use Rattle.counting.specs.Common.{mem}
+use Rattle.counting.proofs.Common.{same_tests, mem}
 use Rattle.definition_laws.proofs.Reasons.{reason-one}
 use Rattle.definition_laws.specs.Words.{without_berge}
-use Rattle.graph_core.proofs.Common.{reason-uncovered}
-use Rattle.graph_core.specs.Common.{Graph, IsMultigraph, reason_of}
+use Rattle.graph_core.proofs.Common.{reason-uncovered, Graph, IsMultigraph, reason_of}
 use Rattle.graph_core.specs.declared.verdict.Kind.{Kind}
 use Rattle.graph_core.specs.declared.verdict.Kind.TheVariants.{Brace, Brick, Composite}
 use Rattle.graph_core.specs.declared.verdict.Reason.{Reason}
 use Rattle.graph_core.specs.declared.verdict.Reason.TheVariants.{Small, Parted, Unmatched, Unallowed}
 use Rattle.leaf_kinds.specs.LeafKinds.{IsKind}
-use Rattle.report_text.specs.Words.{kind_word, reason_word, yes_or_no}
+use Rattle.report_text.specs.Common.{kind_word, reason_word, yes_or_no}
 use Rattle.tree_core.specs.declared.tallies.Tally.{Tally}
 use Rattle.list_lines.specs.KindLines.{TellsStanding, standing_words}
 use Rattle.list_lines.specs.Standings.{IsStanding, IsStructured, Standing, Uncovered, Structured}

@@ -1,23 +1,17 @@
 -- How many trees can an order pick? One: at each node it picks one place, and there stands one
 -- candidate. The kinds of the leaves are determined, since a quotient is bipartite or not, and so
 -- are their counts.
-use Rattle.std.proofs.Common.{◌≡◌, ◌∙◌, ℕ, ◌+◌, ◌-◌, ◌<◌, List, length, map, Option, Some, None, inl, inr, refl, sym, subst, ap, arith, slice_get, option_map, suc, get_or}
-use Rattle.counting.proofs.Common.{cases_lt, length-map, none-some, same_Some}
-use Rattle.std.proofs.lemmas.List.{ext_get_or}
-use Rattle.counting.specs.Common.{Within}
+use Rattle.std.proofs.Common.{◌≡◌, ◌∙◌, ℕ, ◌+◌, ◌-◌, ◌<◌, List, length, map, Option, Some, None, inl, inr, refl, sym, subst, ap, arith, slice_get, option_map, suc, get_or, ext_get_or}
+use Rattle.counting.proofs.Common.{cases_lt, length-map, none-some, same_Some, Within}
 use Rattle.std.proofs.lemmas.Option.{slice_get-map}
-use Rattle.graph_core.specs.Common.{Graph}
-use Rattle.tight_cuts.specs.Candidates.{Candidate}
-use Rattle.tight_cuts.specs.CandidatesAt.{candidates_at}
-use Rattle.tight_cuts.specs.View.{candidate_of}
+use Rattle.graph_core.proofs.Common.{Graph}
+use Rattle.tight_cuts.specs.Common.{Candidate, candidates_at, candidate_of}
 use Rattle.tight_cuts.specs.declared.candidate.Candidate.{Candidate as StoredCandidate}
-use Rattle.decomposer.specs.Choices.{PicksBalanced, gap, gap_of}
-use Rattle.decomposer.specs.Picked.{IsPickedAt, PicksShore}
-use Rattle.tree_core.specs.Common.{kept_at, merged_at, leaf_at, Shape, leaf, cut, cut_count, AreLeafKinds, IsLeafKind, IsTally, kind_at, tally_of}
+use Rattle.decomposer.specs.Common.{PicksBalanced, gap, gap_of, IsPickedAt, PicksShore, NamedPicks, ScriptPicks}
+use Rattle.tree_core.proofs.Common.{kept_at, merged_at, leaf_at, Shape, leaf, cut, cut_count, AreLeafKinds, IsLeafKind, IsTally, kind_at, tally_of}
 use Rattle.tree_core.specs.declared.tallies.LeafKind.{LeafKind}
 use Rattle.tree_core.specs.declared.tallies.LeafKind.TheVariants.{Brick, Brace}
 use Rattle.tree_core.specs.declared.tallies.Tally.{Tally}
-use Rattle.decomposer.specs.Orders.{NamedPicks, ScriptPicks}
 use Rattle.decomposer.specs.declared.orders.NamedOrder.{NamedOrder}
 use Rattle.decomposer.specs.declared.orders.NamedOrder.TheVariants.{First, Last, Balanced}
 

@@ -1,11 +1,9 @@
 -- The graph that a graph6 text stands for is a multigraph: each edge is one of the pairs i < j of
 -- 1 to n.
 use Rattle.std.proofs.Common.{◌≡◌, ℕ, ◌-◌, ◌<◌, ◌≤◌, Bool, true, false, List, [], ◌∷◌, Ok, subst, arith}
-use Rattle.counting.specs.Common.{Within}
-use Rattle.graph_core.specs.Common.{Graph, IsMultigraph, first_end, second_end, size}
-use Rattle.graph6_text.specs.Digits.{bits_of}
-use Rattle.graph6_text.specs.Pairs.{chosen, column_pairs}
-use Rattle.graph6_text.specs.Reading.{body_of, data_of, graph_of, order_of, outcome_of}
+use Rattle.counting.proofs.Common.{Within}
+use Rattle.graph_core.proofs.Common.{Graph, IsMultigraph, first_end, second_end, size}
+use Rattle.graph6_text.specs.Common.{bits_of, chosen, column_pairs, body_of, data_of, graph_of, order_of, outcome_of}
 use Rattle.graph6_text.proofs.Canonical.{accepted}
 use Rattle.graph6_text.proofs.Columns.{each_column_pair}
 use Rattle.graph6_text.proofs.DistinctPairs.{Each, each_at}

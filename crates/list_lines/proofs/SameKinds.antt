@@ -1,10 +1,10 @@
 -- Two leaves that are the same by names of blocks are of one kind: the sides of the one are the
 -- images of those of the other.
 use Rattle.std.proofs.Common.{List, refl, sym, ℕ, ◌≡◌, ◌∙◌}
-use Rattle.graph_core.specs.Common.{Graph, IsBipartite, IsGraph, IsPartition, quotient}
+use Rattle.graph_core.proofs.Common.{Graph, IsBipartite, IsGraph, IsPartition, quotient}
 use Rattle.move_laws.proofs.CarryingLaws.{turned-leaf}
-use Rattle.move_laws.specs.SameLeaf.{IsSameLeaf, image, turned_names}
-use Rattle.tree_core.specs.Common.{IsLeafKind}
+use Rattle.move_laws.specs.Common.{IsSameLeaf, image, turned_names}
+use Rattle.tree_core.proofs.Common.{IsLeafKind}
 use Rattle.tree_core.specs.declared.tallies.LeafKind.{LeafKind}
 use Rattle.tree_core.specs.declared.tallies.LeafKind.TheVariants.{Brick, Brace}
 use Rattle.tight_cuts.proofs.QuotientSides.{parted, parts_from_sides, sides_from_parts}

@@ -1,9 +1,7 @@
 -- A quotient is a simple graph: its edges are pairs in rising order, and none of them stands twice.
 use Rattle.std.proofs.Common.{List, ap₂, arith, inl, inr, sym, subst, ℕ, ◌-◌, ◌≡◌}
-use Rattle.counting.proofs.Common.{cases_order}
-use Rattle.counting.specs.Common.{Within}
-use Rattle.graph_core.proofs.Common.{quotient_edge, has_ends-cases}
-use Rattle.graph_core.specs.Common.{Graph, first_end, second_end, size, contracted, quotient, IsSimple}
+use Rattle.counting.proofs.Common.{cases_order, Within}
+use Rattle.graph_core.proofs.Common.{quotient_edge, has_ends-cases, Graph, first_end, second_end, size, contracted, quotient, IsSimple}
 use Rattle.contraction.specs.Pairs.{EachOnce}
 use Rattle.contraction.proofs.JoinedPairs.{joined-once}
 use Rattle.contraction.proofs.QuotientValues.{joined-quotient}

@@ -1,13 +1,10 @@
 -- A covered graph without a nontrivial tight cut has the leaf as its derivation: so a brick has
 -- one brick as its only leaf, and a brace one brace.
 use Rattle.std.proofs.Common.{[], ◌∷◌, refl}
-use Rattle.graph_core.proofs.Common.{singles-partition, tight-singles}
-use Rattle.graph_core.specs.Common.{IsCovered, Graph, IsMultigraph, singles, HasOnlyTrivialTightCuts}
+use Rattle.graph_core.proofs.Common.{singles-partition, tight-singles, IsCovered, Graph, IsMultigraph, singles, HasOnlyTrivialTightCuts}
 use Rattle.graph_core.specs.declared.verdict.Kind.TheVariants.{Brace, Brick}
 use Rattle.leaf_kinds.specs.LeafKinds.{IsKind}
-use Rattle.tree_core.proofs.AddedKinds.{kinds-one}
-use Rattle.tree_core.proofs.DerivationShores.{nontrivial-vertices}
-use Rattle.tree_core.specs.Common.{IsLeafAt, leaf, IsLeafKind, tally_of}
+use Rattle.tree_core.proofs.Common.{kinds-one, nontrivial-vertices, IsLeafAt, leaf, IsLeafKind, tally_of}
 use Rattle.tree_core.specs.declared.tallies.LeafKind.{LeafKind}
 use Rattle.tree_core.specs.declared.tallies.LeafKind.TheVariants as of_leaf
 use Rattle.list_lines.specs.Standings.{IsCounted}

@@ -5,8 +5,8 @@
 use Rattle.std.specs.Prelude.{◌≡◌, ℕ, ◌++◌, List, codes}
 use Rattle.std.specs.Fmt.{decimal}
 use Rattle.graph_core.specs.Common.{Graph, size}
-use Rattle.graph6_text.specs.Writing.{graph6_of}
-use Rattle.report_text.specs.Words.{kind_word, reason_word, yes_or_no}
+use Rattle.graph6_text.specs.Common.{graph6_of}
+use Rattle.report_text.specs.Common.{kind_word, reason_word, yes_or_no}
 use Rattle.list_lines.specs.Standings.{IsStanding, Standing, Uncovered, Structured}
 
 -- the words on the standing of a graph

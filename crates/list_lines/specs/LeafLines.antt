@@ -5,11 +5,10 @@
 use Rattle.std.specs.Prelude.{◌≡◌, ℕ, ◌++◌, ◌⊎◌, List, [], ◌∷◌, codes}
 use Rattle.std.specs.Fmt.{decimal}
 use Rattle.graph_core.specs.Common.{IsCovered, Graph, quotient}
-use Rattle.graph6_text.specs.Writing.{graph6_of}
-use Rattle.report_text.specs.Words.{leaf_kind_word}
+use Rattle.graph6_text.specs.Common.{graph6_of}
+use Rattle.report_text.specs.Common.{leaf_kind_word}
 use Rattle.tree_core.specs.Common.{IsDerivation, leaves, Shape, AreLeafKinds}
-use Rattle.decomposer.specs.Orders.{NamedPicks}
-use Rattle.decomposer.specs.Picked.{IsPicked}
+use Rattle.decomposer.specs.Common.{NamedPicks, IsPicked}
 use Rattle.decomposer.specs.declared.orders.NamedOrder.{NamedOrder}
 use Rattle.tree_core.specs.declared.tallies.LeafKind.{LeafKind}
 

@@ -3,10 +3,8 @@
 use Rattle.std.specs.Prelude.{◌≡◌, ℕ, ◌||◌, nat_lt, if◌then◌else◌, List, Ok, Err}
 use Rattle.graph_core.specs.Common.{Graph, size}
 use Rattle.text_faults.specs.declared.faults.FaultKind.{FaultKind}
-use Rattle.graph6_text.specs.Reading.{outcome_of}
-use Rattle.graph_text.specs.VersionOne.{most_vertices, most_edges}
-use Rattle.graph_text.specs.Names.{plain_names}
-use Rattle.graph_text.specs.Writing.{graph_text, named_text}
+use Rattle.graph6_text.specs.Common.{outcome_of}
+use Rattle.graph_text.specs.Common.{most_vertices, most_edges, plain_names, graph_text, named_text}
 use Rattle.list_lines.specs.KindLines.{IsKindLine}
 use Rattle.list_lines.specs.LeafLines.{AreLeafLines}
 use Rattle.list_lines.specs.Selecting.{IsSelected}

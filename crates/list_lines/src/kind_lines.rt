@@ -1,6 +1,6 @@
 //! The line of `kinds`.
 ghost use Rattle.std.specs.Prelude.{◌≡◌, IfOk, Ok, string_bytes};
-ghost use Rattle.graph6_text.specs.Reading.{outcome_of};
+ghost use Rattle.graph6_text.specs.Common.{outcome_of};
 ghost use Rattle.list_lines.specs.KindLines.{IsKindLine, TellsStanding, standing_words, words_after};
 ghost use Rattle.list_lines.specs.Standings.{Structured, Uncovered};
 

@@ -1,7 +1,7 @@
 //! The numbers of bricks and braces of a covered graph.
 ghost use Rattle.std.specs.Prelude.{◌≡◌, IfOk, Some};
 ghost use Rattle.leaf_kinds.specs.LeafKinds.{IsKind, cut_of};
-ghost use Rattle.tight_cuts.specs.Candidates.{candidates, first_shore};
+ghost use Rattle.tight_cuts.specs.Common.{candidates, first_shore};
 ghost use Rattle.tree_core.specs.Common.{AreLeafKinds, IsDerivation, leaves, shape_of};
 ghost use Rattle.list_lines.specs.Standings.{IsCounted};
 

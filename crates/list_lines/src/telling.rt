@@ -1,9 +1,8 @@
 //! The answer to a line.
 ghost use Rattle.std.specs.Prelude.{◌≡◌, IfOk, Ok};
-ghost use Rattle.graph6_text.specs.Reading.{outcome_of};
+ghost use Rattle.graph6_text.specs.Common.{outcome_of};
 ghost use Rattle.graph_core.specs.Common.{IsSimple};
-ghost use Rattle.graph_text.specs.Names.{plain_names};
-ghost use Rattle.graph_text.specs.Writing.{named_text};
+ghost use Rattle.graph_text.specs.Common.{plain_names, named_text};
 ghost use Rattle.list_lines.specs.Telling.{IsAnswer, file_text};
 
 use crate::kind_lines::kind_line;

@@ -1,6 +1,5 @@
 -- The answers to some lines, and then to the lines after them, are the answer to all of them.
-use Rattle.std.proofs.Common.{◌≡◌, inl, inr, ℕ, suc, ◌+◌, List, [], ◌∷◌, ◌++◌, length, take, refl, sym, subst, ◌∙◌, ap, arith, append_assoc, length-append}
-use Rattle.std.proofs.lemmas.List.{append-nil}
+use Rattle.std.proofs.Common.{◌≡◌, inl, inr, ℕ, suc, ◌+◌, List, [], ◌∷◌, ◌++◌, length, take, refl, sym, subst, ◌∙◌, ap, arith, append_assoc, length-append, append-nil}
 use Rattle.std.specs.declared.option.Option.{Option}
 use Rattle.std.specs.declared.option.Option.TheVariants.{Some, None}
 use Rattle.text_faults.specs.declared.faults.FaultKind.{FaultKind}
@@ -8,10 +7,7 @@ use Rattle.list_reader.specs.declared.ending.BadLine.{BadLine}
 use Rattle.list_reader.specs.declared.ending.Ending.{Ending}
 use Rattle.list_reader.specs.declared.ending.Ending.TheVariants.{Done, Bad, ReadFault, WriteFault, Memory}
 use Rattle.list_reader.specs.declared.place.LinePlace.{LinePlace}
-use Rattle.list_reader.specs.Places.{place_after, place_behind}
-use Rattle.list_reader.specs.Told.{LineTold, NamesBad}
-use Rattle.list_reader.specs.Lists.{AllTold, BeginningTold, WholeTold, HasBadLine, LacksLine, ToldToBad, CutShort}
-use Rattle.list_reader.specs.Endings.{Gives}
+use Rattle.list_reader.specs.Common.{place_after, place_behind, LineTold, NamesBad, AllTold, BeginningTold, WholeTold, HasBadLine, LacksLine, ToldToBad, CutShort, Gives}
 
 pub place_behind-append : (n : LinePlace) (xs ys : List (List ℕ)) → place_behind n (xs ++ ys) ≡ place_behind (place_behind n xs) ys
 place_behind-append n [] ys = refl

@@ -1,16 +1,13 @@
 -- What is left of a source after bytes were read: what was left before is these bytes and what is
 -- left now. If a source makes nothing known, some list serves.
-use Rattle.std.proofs.Common.{◌≡◌, ℕ, List, [], ◌++◌, refl, sym, subst, ◌∙◌, ap, append_assoc}
-use Rattle.std.proofs.lemmas.List.{append-nil}
+use Rattle.std.proofs.Common.{◌≡◌, ℕ, List, [], ◌++◌, refl, sym, subst, ◌∙◌, ap, append_assoc, append-nil}
 use Rattle.std.specs.declared.option.Option.{Option}
 use Rattle.std.specs.declared.option.Option.TheVariants.{Some, None}
-use Rattle.outside.specs.Source.{prepended, IsEnd}
+use Rattle.outside.specs.Common.{prepended, IsEnd}
 use Rattle.text_faults.specs.declared.faults.FaultKind.{FaultKind}
 use Rattle.list_reader.specs.declared.ending.Ending.{Ending}
 use Rattle.list_reader.specs.declared.place.LinePlace.{LinePlace}
-use Rattle.list_reader.specs.Lines.{lines_of}
-use Rattle.list_reader.specs.Places.{first_place}
-use Rattle.list_reader.specs.Endings.{Gives, Appended, IsLeft, TellsList}
+use Rattle.list_reader.specs.Common.{lines_of, first_place, Gives, Appended, IsLeft, TellsList}
 
 pub prepended-nil : (left : Option (List ℕ)) → prepended [] left ≡ left
 prepended-nil None = refl

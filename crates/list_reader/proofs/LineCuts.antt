@@ -1,12 +1,11 @@
 -- A text is cut into lines from the front. A byte that is not a line feed is put onto the first
 -- line of what stands after it, a line feed is the end of a line: so the lines of a text that a
 -- line feed ends are followed by those of the text after it.
-use Rattle.std.proofs.Common.{◌≡◌, inl, inr, ℕ, suc, ◌+◌, ◌<◌, ◌≤◌, List, [], ◌∷◌, ◌++◌, length, take, drop, Some, None, position, true, false, refl, sym, subst, ◌∙◌, ap, arith, append_assoc}
+use Rattle.std.proofs.Common.{◌≡◌, inl, inr, ℕ, suc, ◌+◌, ◌<◌, ◌≤◌, List, [], ◌∷◌, ◌++◌, length, take, drop, Some, None, position, true, false, refl, sym, subst, ◌∙◌, ap, arith, append_assoc, lt-ltb, append-nil}
 use Rattle.std.specs.List.{onto_first, position_or_len}
-use Rattle.std.proofs.lemmas.Bool.{cases_Bool, cases_lt, lt-ltb}
+use Rattle.std.proofs.lemmas.Bool.{cases_Bool, cases_lt}
 use Rattle.std.proofs.lemmas.Bool.Decides.{nat_tests}
-use Rattle.std.proofs.lemmas.List.{append-nil}
-use Rattle.list_reader.specs.Lines.{is_line_feed, lines_of, HasNoFeed, IsClosed, IsFirstLine}
+use Rattle.list_reader.specs.Common.{is_line_feed, lines_of, HasNoFeed, IsClosed, IsFirstLine}
 
 pub lines_of-nil : lines_of [] ≡ []
 unfolding lines_of

@@ -1,8 +1,7 @@
 -- Where no line has both an output and a fault, a list that is told whole has no bad line, and
 -- the first bad line of any other is one: by induction on the lines before it. A header is short,
 -- so that it is not bad.
-use Rattle.std.proofs.Common.{◌≡◌, inl, inr, ℕ, ◌==◌, ◌≤◌, ◌||◌, Bool, true, false, List, [], ◌∷◌, ◌++◌, length, refl, sym, ◌∙◌, ap, ap₂, subst, arith, IsTrue}
-use Rattle.std.specs.Prelude.{codes}
+use Rattle.std.proofs.Common.{◌≡◌, inl, inr, ℕ, ◌==◌, ◌≤◌, ◌||◌, Bool, true, false, List, [], ◌∷◌, ◌++◌, length, refl, sym, ◌∙◌, ap, ap₂, subst, arith, IsTrue, codes}
 use Rattle.std.specs.Str.{bytes_eq}
 use Rattle.std.specs.declared.option.Option.{Option}
 use Rattle.std.proofs.lemmas.Bool.{and_parts}
@@ -11,10 +10,7 @@ use Rattle.std.proofs.lemmas.Slice.Eq.{bytes_eq-Decides}
 use Rattle.text_faults.specs.declared.faults.FaultKind.{FaultKind}
 use Rattle.list_reader.specs.declared.ending.BadLine.{BadLine}
 use Rattle.list_reader.specs.declared.place.LinePlace.{LinePlace}
-use Rattle.list_reader.specs.Headers.{is_header, is_header_line}
-use Rattle.list_reader.specs.Places.{place_after, place_behind}
-use Rattle.list_reader.specs.Told.{LineTold, LineBad, most_line}
-use Rattle.list_reader.specs.Lists.{AllTold, HasBadLine, HasOneFault, HasOneOutput, LacksLine, TellsApart, ToldToBad, WholeTold}
+use Rattle.list_reader.specs.Common.{is_header, is_header_line, place_after, place_behind, LineTold, LineBad, most_line, AllTold, HasBadLine, HasOneFault, HasOneOutput, LacksLine, TellsApart, ToldToBad, WholeTold}
 use Rattle.list_reader.proofs.OneOutput.{one_output}
 
 -- a header is one of three texts

@@ -2,9 +2,7 @@
 -- line is both header and not.
 use Rattle.std.proofs.Common.{◌≡◌, inl, inr, ℕ, List, [], ◌∷◌, sym, ◌∙◌}
 use Rattle.list_reader.specs.declared.place.LinePlace.{LinePlace}
-use Rattle.list_reader.specs.Places.{place_after}
-use Rattle.list_reader.specs.Told.{LineTold}
-use Rattle.list_reader.specs.Lists.{AllTold, HasOneOutput}
+use Rattle.list_reader.specs.Common.{place_after, LineTold, AllTold, HasOneOutput}
 
 one_line :
     (tells : LinePlace → List ℕ → List ℕ → Type 0) (place : LinePlace) (line a b : List ℕ) →

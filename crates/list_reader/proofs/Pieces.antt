@@ -1,7 +1,6 @@
 -- What the pieces of a text give together: the lines that are answered so far are whole, so what
 -- stands after them begins anew.
-use Rattle.std.proofs.Common.{◌≡◌, inl, inr, ℕ, ◌<◌, ◌≤◌, List, [], ◌∷◌, ◌++◌, length, refl, sym, subst, ◌∙◌, ap, arith, append_assoc, length-append, IsTrue, IsFalse}
-use Rattle.std.proofs.lemmas.List.{append-nil}
+use Rattle.std.proofs.Common.{◌≡◌, inl, inr, ℕ, ◌<◌, ◌≤◌, List, [], ◌∷◌, ◌++◌, length, refl, sym, subst, ◌∙◌, ap, arith, append_assoc, length-append, IsTrue, IsFalse, append-nil}
 use Rattle.std.specs.declared.option.Option.{Option}
 use Rattle.text_faults.specs.declared.faults.FaultKind.{FaultKind}
 use Rattle.text_faults.specs.declared.faults.FaultKind.TheVariants.{Limit}
@@ -10,12 +9,7 @@ use Rattle.list_reader.specs.declared.ending.Ending.TheVariants.{Bad}
 use Rattle.list_reader.specs.declared.ending.ListStop.{ListStop}
 use Rattle.list_reader.specs.declared.ending.ListStop.TheVariants as stop
 use Rattle.list_reader.specs.declared.place.LinePlace.{LinePlace}
-use Rattle.list_reader.specs.Headers.{is_header}
-use Rattle.list_reader.specs.Lines.{lines_of, HasNoFeed, IsFirstLine}
-use Rattle.list_reader.specs.Places.{place_after, place_behind}
-use Rattle.list_reader.specs.Told.{LineTold, NamesBad, IsFound, IfBad, most_line}
-use Rattle.list_reader.specs.Lists.{AllTold, BeginningTold, HasBadLine, ToldToBad}
-use Rattle.list_reader.specs.Endings.{Added, ToldThrough, StopsWith}
+use Rattle.list_reader.specs.Common.{is_header, lines_of, HasNoFeed, IsFirstLine, place_after, place_behind, LineTold, NamesBad, IsFound, IfBad, most_line, AllTold, BeginningTold, HasBadLine, ToldToBad, Added, ToldThrough, StopsWith}
 use Rattle.list_reader.proofs.LineCuts.{lines_of-nil, lines_of-closed, lines_of-last, lines_of-begun, IsClosed-append}
 use Rattle.list_reader.proofs.Joins.{place_behind-append, AllTold-append, AllTold-one, HasBadLine-first, HasBadLine-behind}
 

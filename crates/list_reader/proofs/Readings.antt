@@ -4,19 +4,13 @@
 use Rattle.std.proofs.Common.{◌≡◌, inl, ℕ, suc, ◌≤◌, List, [], ◌++◌, length, refl, sym, subst, ◌∙◌, ap, arith, append_assoc}
 use Rattle.std.specs.declared.option.Option.{Option}
 use Rattle.std.specs.declared.option.Option.TheVariants.{Some}
-use Rattle.outside.specs.Sink.{appended}
-use Rattle.outside.specs.Source.{prepended, IsEnd}
+use Rattle.outside.specs.Common.{appended, prepended, IsEnd}
 use Rattle.outside.proofs.Pieces.{appended-nil, appended-appended}
 use Rattle.text_faults.specs.declared.faults.FaultKind.{FaultKind}
 use Rattle.list_reader.specs.declared.ending.Ending.{Ending}
 use Rattle.list_reader.specs.declared.ending.Ending.TheVariants.{Memory}
 use Rattle.list_reader.specs.declared.place.LinePlace.{LinePlace}
-use Rattle.list_reader.specs.Lines.{lines_of, HasNoFeed, IsClosed}
-use Rattle.list_reader.specs.Lists.{AllTold, BeginningTold}
-use Rattle.list_reader.specs.Places.{first_place, place_behind}
-use Rattle.list_reader.specs.Told.{most_line}
-use Rattle.list_reader.specs.Endings.{Gives, Appended, ToldThrough, StopsWith, TellsList, ReadsTold, Wrote, WroteUpTo}
-use Rattle.list_reader.specs.Streams.{Steps}
+use Rattle.list_reader.specs.Common.{lines_of, HasNoFeed, IsClosed, AllTold, BeginningTold, first_place, place_behind, most_line, Gives, Appended, ToldThrough, StopsWith, TellsList, ReadsTold, Wrote, WroteUpTo, Steps}
 use Rattle.list_reader.proofs.LineCuts.{lines_of-nil, lines_of-closed, IsClosed-append}
 use Rattle.list_reader.proofs.Joins.{place_behind-append, AllTold-append, BeginningTold-none, Gives-behind}
 use Rattle.list_reader.proofs.Stages.{steps_more, wrote_appended}

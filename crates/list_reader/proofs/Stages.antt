@@ -7,8 +7,7 @@ use Rattle.text_faults.specs.declared.faults.FaultKind.{FaultKind}
 use Rattle.list_reader.specs.declared.ending.Ending.{Ending}
 use Rattle.list_reader.specs.declared.ending.Ending.TheVariants.{Done, Bad, ReadFault, WriteFault, Memory}
 use Rattle.list_reader.specs.declared.place.LinePlace.{LinePlace}
-use Rattle.list_reader.specs.Endings.{Appended, WroteUpTo}
-use Rattle.list_reader.specs.Streams.{Stage, Step, Steps, IsStream}
+use Rattle.list_reader.specs.Common.{Appended, WroteUpTo, Stage, Step, Steps, IsStream}
 
 -- one more step
 pub steps_more :

@@ -1,16 +1,12 @@
 -- The reads and writes of a list that is answered as it is read, joined to one stream: what the
 -- last piece gives is what the list gives there, whatever stands after it.
-use Rattle.std.proofs.Common.{◌≡◌, inl, ℕ, List, [], ◌++◌, sym, subst, ◌∙◌, ap, append_assoc}
-use Rattle.std.proofs.lemmas.List.{append-nil}
+use Rattle.std.proofs.Common.{◌≡◌, inl, ℕ, List, [], ◌++◌, sym, subst, ◌∙◌, ap, append_assoc, append-nil}
 use Rattle.std.specs.declared.option.Option.{Option}
 use Rattle.std.specs.declared.option.Option.TheVariants.{Some}
 use Rattle.text_faults.specs.declared.faults.FaultKind.{FaultKind}
 use Rattle.list_reader.specs.declared.ending.Ending.{Ending}
 use Rattle.list_reader.specs.declared.place.LinePlace.{LinePlace}
-use Rattle.list_reader.specs.Lines.{lines_of}
-use Rattle.list_reader.specs.Places.{first_place}
-use Rattle.list_reader.specs.Endings.{Gives, StopsWith, WroteUpTo}
-use Rattle.list_reader.specs.Streams.{Ends, IsStream, GivesAfter}
+use Rattle.list_reader.specs.Common.{lines_of, first_place, Gives, StopsWith, WroteUpTo, Ends, IsStream, GivesAfter}
 use Rattle.list_reader.proofs.Stages.{wrote_otherwise}
 use Rattle.list_reader.proofs.Readings.{SoFar, gives_behind}
 

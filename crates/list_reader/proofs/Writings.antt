@@ -2,10 +2,9 @@
 -- else a proper prefix of it.
 use Rattle.std.proofs.Common.{◌≡◌, ℕ, ◌<◌, List, [], ◌++◌, length, take, sym, subst, refl, ◌∙◌, ap}
 use Rattle.std.specs.declared.option.Option.{Option}
-use Rattle.outside.specs.Sink.{appended, IsCutOff}
+use Rattle.outside.specs.Common.{appended, IsCutOff}
 use Rattle.list_reader.specs.declared.place.LinePlace.{LinePlace}
-use Rattle.list_reader.specs.Lists.{BeginningTold, CutShort}
-use Rattle.list_reader.specs.Endings.{Added, WroteCut}
+use Rattle.list_reader.specs.Common.{BeginningTold, CutShort, Added, WroteCut}
 
 -- what was added to nothing is the whole output
 added_whole : (holds : List ℕ → Type 0) (start out : List ℕ) → Added holds start out → start ≡ [] → holds out

@@ -5,3 +5,4 @@ pub mod Told
 pub mod Lists
 pub mod Endings
 pub mod Streams
+pub mod Common

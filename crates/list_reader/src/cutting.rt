@@ -1,6 +1,6 @@
 //! Cutting a text into lines.
 ghost use Rattle.std.specs.Prelude.{◌≡◌, ◌<◌, IfNone, IfSome, length, position};
-ghost use Rattle.list_reader.specs.Lines.{is_line_feed, HasNoFeed, IsFirstLine};
+ghost use Rattle.list_reader.specs.Common.{is_line_feed, HasNoFeed, IsFirstLine};
 
 // The place of the first line feed.
 fn line_feed(text: &[u8]) -> Option<usize>

@@ -1,5 +1,5 @@
 //! How the answers to a list end.
-ghost use Rattle.list_reader.specs.Told.{IfBad, IsFound};
+ghost use Rattle.list_reader.specs.Common.{IfBad, IsFound};
 
 use std::alloc::Global;
 use text_faults::FaultKind;

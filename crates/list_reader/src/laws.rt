@@ -1,6 +1,6 @@
 //! The laws on lists. Each is the contract of a function that does nothing.
 ghost use Rattle.std.specs.Prelude.{◌≡◌, ℕ, List};
-ghost use Rattle.list_reader.specs.Lists.{AllTold, HasOneFault, HasOneOutput, TellsApart, ToldToBad, WholeTold};
+ghost use Rattle.list_reader.specs.Common.{AllTold, HasOneFault, HasOneOutput, TellsApart, ToldToBad, WholeTold};
 ghost use Rattle.list_reader.specs.declared.ending.BadLine.{BadLine};
 ghost use Rattle.list_reader.specs.declared.place.LinePlace.{LinePlace};
 

@@ -1,11 +1,7 @@
 //! A list that comes in pieces.
 ghost use Rattle.std.specs.Prelude.{◌≡◌, ◌≤◌, ◌++◌, IfErr, IfOk, OnOk, length};
 ghost use Rattle.list_reader.specs.declared.ending.Ending.TheVariants as ending;
-ghost use Rattle.list_reader.specs.Lines.{HasNoFeed, lines_of};
-ghost use Rattle.list_reader.specs.Lists.{AllTold, ToldToBad};
-ghost use Rattle.list_reader.specs.Places.{place_behind};
-ghost use Rattle.list_reader.specs.Told.{IfBad, most_line};
-ghost use Rattle.list_reader.specs.Endings.{Added, Gives, ToldThrough, StopsWith};
+ghost use Rattle.list_reader.specs.Common.{HasNoFeed, lines_of, AllTold, ToldToBad, place_behind, IfBad, most_line, Added, Gives, ToldThrough, StopsWith};
 
 use crate::ending::{ListStop, stop_at};
 use crate::place::{LinePlace, place_after};

@@ -1,7 +1,6 @@
 //! Where a line stands in a list.
 ghost use Rattle.std.specs.Prelude.{◌≡◌, ◌+◌, IfErr, IfOk};
-ghost use Rattle.list_reader.specs.Headers.{is_header, is_header_line};
-ghost use Rattle.list_reader.specs.Places.{first_place, place_after};
+ghost use Rattle.list_reader.specs.Common.{is_header, is_header_line, first_place, place_after};
 ghost use Rattle.list_reader.specs.declared.ending.ListStop.TheVariants.{Memory};
 
 use crate::ending::ListStop;

@@ -1,11 +1,7 @@
 //! Reading a list and answering its lines.
 ghost use Rattle.std.specs.Prelude.{◌≡◌, ◌≢◌, ◌≤◌, ◌<◌, ◌++◌, ℕ, List, OnOk, IfErr, Some, length};
-ghost use Rattle.outside.specs.Faults.{Rose};
-ghost use Rattle.list_reader.specs.Lines.{HasNoFeed, lines_of};
-ghost use Rattle.list_reader.specs.Places.{first_place};
-ghost use Rattle.list_reader.specs.Told.{most_line};
-ghost use Rattle.list_reader.specs.Endings.{Appended, Gives, ToldThrough, StopsWith, TellsList, ReadsTold, Wrote, WroteUpTo};
-ghost use Rattle.list_reader.specs.Streams.{IsStream};
+ghost use Rattle.outside.specs.Common.{Rose};
+ghost use Rattle.list_reader.specs.Common.{HasNoFeed, lines_of, first_place, most_line, Appended, Gives, ToldThrough, StopsWith, TellsList, ReadsTold, Wrote, WroteUpTo, IsStream};
 
 use crate::ending::{Ending, ListStop};
 use crate::listing::{Listing, add_end, add_piece};

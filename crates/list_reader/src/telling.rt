@@ -1,9 +1,7 @@
 //! Answering the lines of a text.
 ghost use Rattle.std.specs.Prelude.{◌≡◌, IfOk, IfErr, OnOk};
 ghost use Rattle.list_reader.specs.declared.ending.Ending.TheVariants as ending;
-ghost use Rattle.list_reader.specs.Told.{IfBad, LineTold, NamesBad};
-ghost use Rattle.list_reader.specs.Lines.{HasNoFeed};
-ghost use Rattle.list_reader.specs.Endings.{Added, ToldThrough, StopsWith};
+ghost use Rattle.list_reader.specs.Common.{IfBad, LineTold, NamesBad, HasNoFeed, Added, ToldThrough, StopsWith};
 
 use crate::cutting::first_line;
 use crate::ending::{ListStop, stop_at};

@@ -5,13 +5,10 @@ use Rattle.std.specs.declared.option.Option.{Option}
 use Rattle.list_lines.specs.declared.query.Query.{Query}
 use Rattle.list_reader.specs.declared.ending.Ending.{Ending}
 use Rattle.list_reader.specs.declared.ending.Ending.TheVariants.{Done, Bad, ReadFault, WriteFault, Memory}
-use Rattle.list_reader.specs.Endings.{Appended, TellsList}
-use Rattle.list_top.specs.Listings.{TellsLineOf, IsBadLine, lacks_of}
-use Rattle.list_top.specs.Outcomes.{EndsWith, ListOutcome, TellsSome}
-use Rattle.list_top.specs.Statuses.{status_of}
+use Rattle.list_reader.specs.Common.{Appended, TellsList}
+use Rattle.list_top.specs.Common.{TellsLineOf, IsBadLine, lacks_of, EndsWith, ListOutcome, TellsSome, status_of, EncodeOutcome, EncodesSome}
 use Rattle.encoder.specs.Files.{Encodes}
 use Rattle.encoder.specs.Reads.{EncodesFile}
-use Rattle.list_top.specs.Encodings.{EncodeOutcome, EncodesSome}
 
 outcome_of_ending :
     (query : Query) (bytes : List ℕ) (ending : Ending) (output : List ℕ) → EndsWith query bytes ending output →

@@ -6,13 +6,10 @@ use Rattle.list_lines.proofs.OneAnswer.{fault_once, output_once, output_or_fault
 use Rattle.list_lines.specs.declared.query.Query.{Query}
 use Rattle.list_reader.proofs.OneEnding.{stop_once, whole_not_bad}
 use Rattle.list_reader.proofs.OneOutput.{one_output}
-use Rattle.list_reader.specs.Lines.{lines_of}
-use Rattle.list_reader.specs.Lists.{HasOneFault, HasOneOutput, TellsApart, ToldToBad}
-use Rattle.list_reader.specs.Places.{first_place}
+use Rattle.list_reader.specs.Common.{lines_of, HasOneFault, HasOneOutput, TellsApart, ToldToBad, first_place}
 use Rattle.list_reader.specs.declared.ending.BadLine.{BadLine}
 use Rattle.list_reader.specs.declared.place.LinePlace.{LinePlace}
-use Rattle.list_top.specs.Listings.{IsBadLine, TellsLineOf, is_further, lacks_of}
-use Rattle.list_top.specs.Outcomes.{EndsWith, ListOutcome}
+use Rattle.list_top.specs.Common.{IsBadLine, TellsLineOf, is_further, lacks_of, EndsWith, ListOutcome}
 use Rattle.list_top.specs.declared.status.ListStatus.TheVariants.{BadInput, Done}
 
 pub one_output_each : (query : Query) → HasOneOutput (TellsLineOf query)

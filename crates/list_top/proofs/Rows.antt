@@ -1,13 +1,12 @@
 -- The rows of the table of words exclude each other: words that ask for the graph6 text of a graph
 -- file ask for nothing of a list. Idea: the first word is then `encode`, which no other row has.
-use Rattle.std.proofs.Common.{◌≡◌, ◌∙◌, ℕ, List, [], ◌∷◌, Bool, true, false, ap, refl, sym, codes}
+use Rattle.std.proofs.Common.{◌≡◌, ◌∙◌, ℕ, List, [], ◌∷◌, Bool, true, false, ap, refl, sym, codes, if◌then◌else◌}
 use Rattle.std.proofs.lemmas.Option.{none-some}
 use Rattle.std.proofs.lemmas.Slice.Eq.{bytes_eq-Decides}
 use Rattle.std.specs.declared.option.Option.{Option}
 use Rattle.std.specs.declared.option.Option.TheVariants.{Some, None}
-use Rattle.std.specs.Prelude.{if◌then◌else◌}
 use Rattle.std.specs.Str.{bytes_eq}
-use Rattle.list_top.specs.Commands.{ListCommand, command_of, encode_of, pair_command}
+use Rattle.list_top.specs.Common.{ListCommand, command_of, encode_of, pair_command}
 
 pub no_command : (words : List (List ℕ)) (name : List ℕ) → encode_of words ≡ Some name → command_of words ≡ None
 no_command [] name is = absurd (none-some name is)

@@ -7,7 +7,7 @@ use Rattle.std.specs.List.{starts_with}
 use Rattle.std.specs.Option.{option_map, option_or}
 use Rattle.std.specs.Str.{bytes_eq}
 use Rattle.line_text.specs.Common.{number_of}
-use Rattle.decomposer.specs.Orders.{order_named}
+use Rattle.decomposer.specs.Common.{order_named}
 use Rattle.decomposer.specs.declared.orders.NamedOrder.TheVariants.{First}
 use Rattle.list_lines.specs.declared.query.Property.{Property}
 use Rattle.list_lines.specs.declared.query.Property.TheVariants.{Covered, Uncovered, Brick, Brace, Bicritical, Composite, Bricks, Braces}

@@ -4,7 +4,7 @@ use Rattle.std.specs.Prelude.{◌≡◌, ℕ, ◌≤◌, List, [], length}
 use Rattle.std.specs.declared.option.Option.{Option}
 use Rattle.list_reader.specs.declared.ending.BadLine.{BadLine}
 use Rattle.list_reader.specs.declared.ending.Ending.{Ending}
-use Rattle.list_reader.specs.Endings.{Appended, IsLeft}
+use Rattle.list_reader.specs.Common.{Appended, IsLeft}
 use Rattle.encoder.specs.Files.{IsBadFile, IsCutShort, IsEncoded, most_bytes}
 use Rattle.encoder.specs.Reads.{ReadsFirst}
 use Rattle.list_top.specs.Statuses.{status_of}

@@ -4,3 +4,4 @@ pub mod Listings
 pub mod Statuses
 pub mod Outcomes
 pub mod Encodings
+pub mod Common

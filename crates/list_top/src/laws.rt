@@ -1,11 +1,10 @@
 //! The laws of what a list gives. Each is the contract of a function that does nothing.
 ghost use Rattle.std.specs.Prelude.{◌≡◌, List, ℕ};
 ghost use Rattle.list_lines.specs.declared.query.Query.{Query};
-ghost use Rattle.list_reader.specs.Lists.{HasOneFault, HasOneOutput, TellsApart};
+ghost use Rattle.list_reader.specs.Common.{HasOneFault, HasOneOutput, TellsApart};
 ghost use Rattle.list_reader.specs.declared.ending.BadLine.{BadLine};
 ghost use Rattle.list_reader.specs.declared.ending.Ending.TheVariants as ending;
-ghost use Rattle.list_top.specs.Listings.{IsBadLine, TellsLineOf};
-ghost use Rattle.list_top.specs.Outcomes.{EndsWith, ListOutcome};
+ghost use Rattle.list_top.specs.Common.{IsBadLine, TellsLineOf, EndsWith, ListOutcome};
 ghost use Rattle.list_top.specs.declared.status.ListStatus.TheVariants.{BadInput, Done};
 
 /// Whatever is asked of the graphs of a list, each line has one output, or it is bad with one

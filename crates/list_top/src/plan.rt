@@ -1,8 +1,7 @@
 //! Reading the words.
 ghost use Rattle.std.specs.Prelude.{◌≡◌, map, string_bytes};
 ghost use Rattle.std.specs.Option.{option_map};
-ghost use Rattle.list_top.specs.Commands.{command_of, encode_of, encode_pair, file_named_by, file_of, property_named, bricks_property, braces_property, counted_property, query_named, leaves_named, select_named, pair_named, pair_command, command_with};
-ghost use Rattle.list_top.specs.Asked.{asked, text_of};
+ghost use Rattle.list_top.specs.Common.{command_of, encode_of, encode_pair, file_named_by, file_of, property_named, bricks_property, braces_property, counted_property, query_named, leaves_named, select_named, pair_named, pair_command, command_with, asked, text_of};
 
 use crate::command::ListCommand;
 use decomposer::NamedOrder;

@@ -1,15 +1,12 @@
 //! The top call.
 ghost use Rattle.std.specs.Prelude.{◌≡◌, ◌↔◌, ℕ, List, map, string_bytes, Some, None};
-ghost use Rattle.outside.specs.Faults.{Rose};
+ghost use Rattle.outside.specs.Common.{Rose};
 ghost use Rattle.list_reader.specs.declared.ending.Ending.{Ending};
 ghost use Rattle.list_reader.specs.declared.ending.Ending.TheVariants as ending;
-ghost use Rattle.list_reader.specs.Endings.{Appended, ReadsTold, TellsList};
+ghost use Rattle.list_reader.specs.Common.{Appended, ReadsTold, TellsList};
 ghost use Rattle.encoder.specs.Files.{Encodes};
 ghost use Rattle.encoder.specs.Reads.{EncodesFile, ReadsFirst};
-ghost use Rattle.list_top.specs.Commands.{ListCommand, MatchNone, command_of, encode_of};
-ghost use Rattle.list_top.specs.Encodings.{EncodeOutcome, EncodesSome, ReadsFirstTo};
-ghost use Rattle.list_top.specs.Listings.{TellsLineOf, IsBadLine, lacks_of};
-ghost use Rattle.list_top.specs.Outcomes.{EndsWith, ListOutcome, Streams, StreamsTo, TellsSome};
+ghost use Rattle.list_top.specs.Common.{ListCommand, MatchNone, command_of, encode_of, EncodeOutcome, EncodesSome, ReadsFirstTo, TellsLineOf, IsBadLine, lacks_of, EndsWith, ListOutcome, Streams, StreamsTo, TellsSome};
 
 use crate::lister::Lister;
 use crate::plan::{encode_name, plan};

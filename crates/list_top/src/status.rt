@@ -1,6 +1,6 @@
 //! The statuses of a run.
 ghost use Rattle.std.specs.Prelude.{◌≡◌, ◌≢◌};
-ghost use Rattle.list_top.specs.Statuses.{code_of, status_of};
+ghost use Rattle.list_top.specs.Common.{code_of, status_of};
 
 use list_reader::Ending;
 

@@ -2,14 +2,9 @@
 -- vertices; perfect exactly where there is no outer vertex. A missed vertex is outer, and an
 -- outer vertex is missed by some matching as large.
 use Rattle.std.proofs.Common.{◌≡◌, ℕ, suc, zero, ◌≤◌, ◌<◌, ◌≢◌, Bool, true, false, ◌==◌, ◌↔◌, refl, sym, ap, ◌∙◌, arith, List, [], ◌∷◌, length, subst, inl, inr, eq-eqb}
-use Rattle.counting.proofs.Common.{both_ways, true≢false, false_from_ne_true, count_congr, mem-rising_list, set-narrower}
-use mathlib.Core.Path.{fun_ext}
-use Rattle.counting.specs.Common.{Within, count, is_odd, Set, none, mem, rising_list, IsRisingIn}
-use Rattle.graph_core.specs.Common.{Graph, IsGraph, degree, size, IsMatching, IsMaximum, IsPerfect, HasPerfect, Attains, InD, InA, joined}
-use Rattle.graph_core.proofs.Common.{degree_congr, edge_of, missed_edges, has_ends-from, perfect_matching, perfect_misses, missed_one, adjacent_from}
-use Rattle.match_search.specs.Frames.{Frame}
-use Rattle.match_search.specs.Rows.{marks}
-use Rattle.match_search.specs.Optimal.{IsBest}
+use Rattle.counting.proofs.Common.{both_ways, true≢false, false_from_ne_true, count_congr, mem-rising_list, set-narrower, fun_ext, Within, count, is_odd, Set, none, mem, rising_list, IsRisingIn}
+use Rattle.graph_core.proofs.Common.{Graph, IsGraph, degree, size, IsMatching, IsMaximum, IsPerfect, HasPerfect, Attains, InD, InA, joined, degree_congr, edge_of, missed_edges, has_ends-from, perfect_matching, perfect_misses, missed_one, adjacent_from}
+use Rattle.match_search.specs.Common.{Frame, marks, IsBest}
 use Rattle.match_search.specs.declared.best.Best.{Best}
 use Rattle.match_search.proofs.Alike.{matching_alike}
 use Rattle.match_search.proofs.Certificates.{certificate_bound}

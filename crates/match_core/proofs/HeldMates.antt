@@ -1,17 +1,13 @@
 -- An instance of a whole graph holds the mates of each of its matchings, and goes on to hold them
 -- when it is put back. What holds of each row of a list holds when a row is put at its end.
 use Rattle.std.proofs.Common.{◌≡◌, ℕ, ◌+◌, ◌-◌, ◌<◌, ◌++◌, ◌∷◌, [], ◌∙◌, ap, sym, subst, inl, inr, arith, List, length, suc, get_or}
-use Rattle.counting.proofs.Common.{cases_eq, get_or_append_left}
+use Rattle.counting.proofs.Common.{cases_eq, get_or_append_left, Within, item, Set}
 use Rattle.std.proofs.lemmas.List.{get_or_at}
-use Rattle.counting.specs.Common.{Within, item, Set}
-use Rattle.graph_core.specs.Common.{Graph}
-use Rattle.match_search.specs.Instances.{IsInstance}
-use Rattle.match_search.specs.Mates.{HasMates}
-use Rattle.match_search.specs.Rows.{numbers}
-use Rattle.match_search.specs.Shrinkings.{AreAlike}
+use Rattle.graph_core.proofs.Common.{Graph}
+use Rattle.match_search.specs.Common.{IsInstance, HasMates, numbers, AreAlike}
 use Rattle.match_search.specs.declared.instance.Instance.{Instance}
 use Rattle.match_search.proofs.Instances.{instance_alike}
-use Rattle.match_core.specs.HeldMates.{HoldsMates}
+use Rattle.match_core.specs.Common.{HoldsMates}
 
 pub first_mates : (g : Graph) (r : Set) (s : Instance) (mate : List ℕ) → IsInstance g r s → length mate ≡ g.order + 1 → (m : Set) × HasMates g r m (numbers mate) → HoldsMates g r s mate
 first_mates g r s mate is long has = record { m = has.0; held = record { instance_is = is; long = long ∙ one g.order; mates = has.1 } }

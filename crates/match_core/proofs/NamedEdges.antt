@@ -2,15 +2,12 @@
 -- tell? The other end of the edge at a vertex, that a perfect matching has one at each, and which
 -- vertices the matching misses.
 use Rattle.std.proofs.Common.{◌≡◌, ℕ, ◌-◌, ◌≢◌, Bool, true, false, cond, ◌==◌, ◌&&◌, not, refl, sym, ap, ◌∙◌, arith, List, [], length, subst, nat_lt, nat_le, lt-ltb}
-use Rattle.counting.proofs.Common.{le-leb, and_parts, total_none}
-use Rattle.counting.specs.Common.{Within, bit, Set, mem}
-use Rattle.graph_core.specs.Common.{graph_of, HasEnds, degree, size, IsPerfect, missed_count}
+use Rattle.counting.proofs.Common.{le-leb, and_parts, total_none, Within, bit, Set, mem}
+use Rattle.graph_core.proofs.Common.{graph_of, HasEnds, degree, size, IsPerfect, missed_count}
 use Rattle.graph_core.specs.declared.ends.Ends.{Ends}
-use Rattle.match_search.specs.GraphRows.{NamesEdges}
+use Rattle.match_search.specs.Common.{NamesEdges, numbers, end_a, end_b, Misses}
 use Rattle.match_search.proofs.LongerPaths.{ends_by}
 use Rattle.match_search.proofs.GraphRows.{free_degree, missed_degree, pair_is, partner}
-use Rattle.match_search.specs.Rows.{numbers, end_a, end_b}
-use Rattle.match_search.specs.RepairPaths.{Misses}
 
 -- the row of mates names an edge of the matching at a vertex, and the vertex at its other end
 pub mate_pair : (n : ℕ) (ends : List Ends) (m : Set) (at : List ℕ) → NamesEdges ends m at (length ends) → (v a w : ℕ) → a ≡ numbers at v → a ≢ 0 → w ≡ cond (end_a ends (a - 1) == v) (end_b ends (a - 1)) (end_a ends (a - 1)) →

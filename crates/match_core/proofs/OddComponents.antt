@@ -2,13 +2,11 @@
 -- Gallai-Edmonds sets. A class is a union of components, one of them odd; a matching of the
 -- certified size is tight at each vertex.
 use Rattle.std.proofs.Common.{◌≡◌, ℕ, suc, zero, ◌+◌, ◌*◌, ◌≤◌, ◌<◌, Bool, true, false, ◌==◌, refl, sym, ap, ◌∙◌, arith, ◌&&◌, eqb-true, ◌⊎◌, inl, inr, subst, nat_lt, List, [], ◌∷◌, ltb-true}
-use Rattle.counting.proofs.Common.{cases_Bool, both_ways, true≢false, false_from_ne_true, or_parts, or_from, odd_pos, odd_total, total_congr, total_le, total_mul, total_swap, total_ones, bit_times_le}
-use Rattle.counting.specs.Common.{Within, bit, count, is_odd, total, Set, complement, none, union}
-use Rattle.graph_core.proofs.Common.{joined_walk, one_leader, some_leader, none_matching, missed_edges, adjacent-edge, has_ends-cases, berge_bound}
-use Rattle.graph_core.specs.Common.{is_least, odd_component_count, Graph, IsGraph, degree, first_end, second_end, size, HasEnds, IsMatching, IsMaximum, missed_count, Joined, Walk, adjacent, joined}
+use Rattle.counting.proofs.Common.{cases_Bool, both_ways, true≢false, false_from_ne_true, or_parts, or_from, odd_pos, odd_total, total_congr, total_le, total_mul, total_swap, total_ones, bit_times_le, Within, bit, count, is_odd, total, Set, complement, none, union}
+use Rattle.graph_core.proofs.Common.{joined_walk, one_leader, some_leader, none_matching, missed_edges, adjacent-edge, has_ends-cases, berge_bound, is_least, odd_component_count, Graph, IsGraph, degree, first_end, second_end, size, HasEnds, IsMatching, IsMaximum, missed_count, Joined, Walk, adjacent, joined}
 use Rattle.match_search.proofs.Certificates.{class_sum, certificate_bound, certificate_tight}
 use Rattle.match_search.proofs.StepTheorem.{step}
-use Rattle.match_search.specs.Frames.{Frame, IsCertificate, IsOddLabelling}
+use Rattle.match_search.specs.Common.{Frame, IsCertificate, IsOddLabelling}
 
 module _ (g : Graph) (is : IsGraph g) (x : Set) (label : ℕ → ℕ) (p : ℕ) (labels : IsOddLabelling g x label p) where
   along_walk : (u v : ℕ) (ws : List ℕ) → Walk (adjacent g x) u ws v → label u ≡ label v

@@ -2,13 +2,11 @@
 -- components ranked by least vertex are a labelling; an even component put outside the classes
 -- leaves them odd.
 use Rattle.std.proofs.Common.{◌≡◌, ℕ, ◌+◌, ◌*◌, ◌≤◌, Bool, true, false, cond, ◌==◌, refl, sym, ap, ap₂, ◌∙◌, arith, ◌&&◌, not, eq-eqb, ne_eqb, inl, inr, nat_lt, [], ◌∷◌, le-ltb, zero-mul, one-mul}
-use Rattle.counting.proofs.Common.{cases_Bool, both_ways, true≢false, false_from_ne_true, and_parts, and_from, or_parts, bit_true, count_congr, only_one, odd-add, count_up, rank_once, member_ranked, some_term, total_add, total_at, total_congr, total_none, total_tight, bit_times_le}
-use Rattle.counting.specs.Common.{Within, bit, count, is_odd, total, Set, union, some}
-use Rattle.graph_core.proofs.Common.{joined_outside, joined_walk, one_leader, some_leader, walk_joined, adjacent_from, has_ends-back, has_ends-own, joined_back, joined_on, joined_self}
-use Rattle.graph_core.specs.Common.{is_least, odd_component_count, Graph, IsGraph, first_end, second_end, size, IsMatching, Joined, joined}
+use Rattle.counting.proofs.Common.{cases_Bool, both_ways, true≢false, false_from_ne_true, and_parts, and_from, or_parts, bit_true, count_congr, only_one, odd-add, count_up, rank_once, member_ranked, some_term, total_add, total_at, total_congr, total_none, total_tight, bit_times_le, Within, bit, count, is_odd, total, Set, union, some}
+use Rattle.graph_core.proofs.Common.{joined_outside, joined_walk, one_leader, some_leader, walk_joined, adjacent_from, has_ends-back, has_ends-own, joined_back, joined_on, joined_self, is_least, odd_component_count, Graph, IsGraph, first_end, second_end, size, IsMatching, Joined, joined}
 use Rattle.match_search.proofs.Certificates.{certificate_tight}
 use Rattle.match_core.proofs.OddComponents.{certificate_components, classes_leaders, outer_free, same_class}
-use Rattle.match_search.specs.Frames.{Frame, IsOddLabelling}
+use Rattle.match_search.specs.Common.{Frame, IsOddLabelling}
 
 module _ (g : Graph) (is : IsGraph g) (x : Set) where
   abbrev pub is_odd_least : Set

@@ -5,16 +5,10 @@
 -- perfect matching without two vertices misses just these, so where there are partners, a maximum
 -- matching misses none or two.
 use Rattle.std.proofs.Common.{◌≡◌, ◌≢◌, ℕ, zero, suc, ◌+◌, ◌-◌, ◌*◌, ◌≤◌, ◌↔◌, List, length, Bool, true, false, ◌==◌, ◌&&◌, ◌||◌, not, refl, sym, ap, ◌∙◌, arith, inl, inr, eq-eqb, eqb-true, ne_eqb}
-use Rattle.counting.proofs.Common.{or_false, both_ways, cases_Bool, cases_eq, false_from_ne_true, and_from, and_parts, not-true, or_left, or_right, count_complement, count_congr, count_le, count_le_one, only_one, count_mem_length, count_plus, set-narrower}
-use Rattle.counting.specs.Common.{Within, count, Set, complement, pair_set, singleton, union, item, mem, IsRisingIn}
-use Rattle.graph_core.specs.Common.{Graph, IsGraph, degree, size, HasPerfect, IsMatching, IsPerfect, has_perfect, missed_count}
-use Rattle.graph_core.proofs.Common.{has_perfect_found, has_perfect_says, missed_edges, missed_one, perfect_matching, perfect_misses}
-use mathlib.Core.Path.{fun_ext}
-use Rattle.match_search.specs.Frames.{Frame}
-use Rattle.match_search.specs.Missable.{IsMissableRow}
-use Rattle.match_search.specs.Optimal.{IsBest}
-use Rattle.match_core.specs.Partners.{AreEmptyRows, ArePartners, are_partners}
-use Rattle.match_search.specs.Rows.{marks}
+use Rattle.counting.proofs.Common.{or_false, both_ways, cases_Bool, cases_eq, false_from_ne_true, and_from, and_parts, not-true, or_left, or_right, count_complement, count_congr, count_le, count_le_one, only_one, count_mem_length, count_plus, set-narrower, Within, count, Set, complement, pair_set, singleton, union, item, mem, IsRisingIn, fun_ext}
+use Rattle.graph_core.proofs.Common.{Graph, IsGraph, degree, size, HasPerfect, IsMatching, IsPerfect, has_perfect, missed_count, has_perfect_found, has_perfect_says, missed_edges, missed_one, perfect_matching, perfect_misses}
+use Rattle.match_search.specs.Common.{Frame, IsMissableRow, IsBest, marks}
+use Rattle.match_core.specs.Common.{AreEmptyRows, ArePartners, are_partners}
 use Rattle.match_search.specs.declared.best.Best.{Best}
 use Rattle.match_core.proofs.OddComponents.{certificate_maximum, missable_outer, outer_missable}
 

@@ -2,18 +2,14 @@
 -- given one in turn, in rows: how does it go on, and where does it end? Each turn makes the path
 -- longer by two edges; where the given matching ends, the path is whole and repairs it.
 use Rattle.std.proofs.Common.{◌≡◌, ℕ, suc, zero, ◌+◌, ◌-◌, ◌<◌, ◌≢◌, Bool, true, false, ◌==◌, ◌&&◌, not, refl, sym, ap, ap₂, ◌∙◌, arith, List, [], ◌∷◌, ◌++◌, length, inl, inr, ◌⊎◌, subst}
-use Rattle.counting.proofs.Common.{cases_eq, cases_lt, cases_order, false_from_ne_true, and_right, length-append, two_le_total, total_add, total_congr, total_at}
+use Rattle.counting.proofs.Common.{cases_eq, cases_lt, cases_order, false_from_ne_true, and_right, length-append, two_le_total, total_add, total_congr, total_at, Within, bit, count, total, Set, put}
 use Rattle.std.proofs.Math.ListN.{get_or-append}
 use Rattle.std.proofs.lemmas.List.{get_or-append_right}
-use Rattle.counting.specs.Common.{Within, bit, count, total, Set, put}
 use Rattle.match_search.proofs.Forests.{met, turned}
-use Rattle.match_search.proofs.LongerPaths.{end_within}
-use Rattle.graph_core.specs.Common.{Graph, HasEnds, IsGraph, degree, size, IsMatching, IsPerfect, missed_count}
-use Rattle.match_search.specs.Forests.{flipped}
-use Rattle.match_search.specs.Rows.{numbers}
-use Rattle.match_search.specs.RepairPaths.{IsRepairRow, IsWalk, Misses}
+use Rattle.match_search.proofs.LongerPaths.{end_within, longer, longer_below, longer_at, longer_after}
+use Rattle.graph_core.proofs.Common.{Graph, HasEnds, IsGraph, degree, size, IsMatching, IsPerfect, missed_count}
+use Rattle.match_search.specs.Common.{flipped, numbers, IsRepairRow, IsWalk, Misses}
 use Rattle.match_search.proofs.Alike.{path_alike}
-use Rattle.match_search.proofs.LongerPaths.{longer, longer_below, longer_at, longer_after}
 use Rattle.match_search.proofs.SymmetricDifference.{further, further_other, m_a, mended, path_short, w_off}
 
 -- where two pass, a third does not

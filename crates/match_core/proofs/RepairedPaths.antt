@@ -1,16 +1,10 @@
 -- The given matching is exchanged along a whole row: how does the repaired one differ from it? By
 -- the path of the row, from one missed vertex to the other.
-use Rattle.std.proofs.Common.{◌≡◌, ℕ, suc, zero, ◌+◌, ◌-◌, ◌/◌, ◌≤◌, ◌<◌, ◌≢◌, Bool, true, false, cond, not, refl, sym, ap, ap₂, ◌∙◌, arith, List, length, inl, inr, subst, nat_lt, lt-ltb}
-use Rattle.std.proofs.lemmas.Bool.{le-ltb}
-use Rattle.counting.proofs.Common.{both_ways, cases_eq, cases_lt, odd-double}
-use mathlib.Core.Path.{fun_ext}
-use Rattle.counting.specs.Common.{Within, is_odd, Set, put}
+use Rattle.std.proofs.Common.{◌≡◌, ℕ, suc, zero, ◌+◌, ◌-◌, ◌/◌, ◌≤◌, ◌<◌, ◌≢◌, Bool, true, false, cond, not, refl, sym, ap, ap₂, ◌∙◌, arith, List, length, inl, inr, subst, nat_lt, lt-ltb, le-ltb}
+use Rattle.counting.proofs.Common.{both_ways, cases_eq, cases_lt, odd-double, fun_ext, Within, is_odd, Set, put}
 use Rattle.match_search.proofs.LongerPaths.{ends_by}
-use Rattle.graph_core.specs.Common.{Graph, HasEnds, IsGraph, size, IsMatching}
-use Rattle.match_search.specs.Forests.{IsAlternating, flipped}
-use Rattle.match_search.specs.OddCycles.{same_answer}
-use Rattle.match_search.specs.Rows.{numbers, part}
-use Rattle.match_search.specs.RepairPaths.{DiffersByPath, IsRepairRow, Misses, difference}
+use Rattle.graph_core.proofs.Common.{Graph, HasEnds, IsGraph, size, IsMatching}
+use Rattle.match_search.specs.Common.{IsAlternating, flipped, same_answer, numbers, part, DiffersByPath, IsRepairRow, Misses, difference}
 use Rattle.match_search.proofs.AlternatingPaths.{put_at, put_off, path_edges, flipped_off}
 use Rattle.match_search.proofs.OddCycles.{same_ends}
 use Rattle.match_search.proofs.StepTheorem.{on_path}

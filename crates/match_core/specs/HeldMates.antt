@@ -3,7 +3,7 @@
 use Rattle.std.specs.Prelude.{ℕ, List}
 use Rattle.counting.specs.Common.{Set}
 use Rattle.graph_core.specs.Common.{Graph}
-use Rattle.match_search.specs.AlternatingForests.{HoldsMatching}
+use Rattle.match_search.specs.Common.{HoldsMatching}
 use Rattle.match_search.specs.declared.instance.Instance.{Instance}
 
 -- the instance is g without r, and the mates are those of a matching m of it

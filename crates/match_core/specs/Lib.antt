@@ -2,3 +2,4 @@ pub mod HeldMates
 pub mod RepairWalks
 pub mod MatchingRows
 pub mod Partners
+pub mod Common

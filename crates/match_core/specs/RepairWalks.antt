@@ -4,8 +4,7 @@ use Rattle.std.specs.Prelude.{◌≡◌, ℕ, ◌+◌, List, length}
 use Rattle.counting.specs.Common.{Set}
 use Rattle.graph_core.specs.Common.{IsMatching, IsPerfect, missed_count, graph_of}
 use Rattle.graph_core.specs.declared.ends.Ends.{Ends}
-use Rattle.match_search.specs.GraphRows.{IsGraphRow, NamesEdges}
-use Rattle.match_search.specs.RepairPaths.{Misses}
+use Rattle.match_search.specs.Common.{IsGraphRow, NamesEdges, Misses}
 
 -- the matching m misses x and one vertex more, w is perfect, and for each vertex the rows name
 -- its edges of m and of w

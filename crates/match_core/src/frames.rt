@@ -2,7 +2,7 @@
 ghost use Rattle.std.specs.Prelude.{◌≡◌, ℕ, true, false, ◌↔◌, IfOk};
 ghost use Rattle.counting.specs.Common.{Within, count, is_odd, none, mem, IsRisingIn};
 ghost use Rattle.graph_core.specs.Common.{IsMaximum, Attains, InD, InA, joined};
-ghost use Rattle.match_core.specs.MatchingRows.{IsOf, edges_of};
+ghost use Rattle.match_core.specs.Common.{IsOf, edges_of};
 
 use crate::matching::{Matching, matching_of};
 use graph_core::MultiGraph;

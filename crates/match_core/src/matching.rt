@@ -2,8 +2,7 @@
 ghost use Rattle.std.specs.Prelude.{◌≡◌, ℕ, ◌+◌, ◌<◌, ◌≤◌, ◌==◌, ◌||◌, length, map, filter, slice_get, Some, IfOk, All};
 ghost use Rattle.counting.specs.Common.{Within, none, mem, rising_list};
 ghost use Rattle.graph_core.specs.Common.{Graph, size, degree, first_end, second_end, graph_of, IsMatching};
-ghost use Rattle.match_search.specs.Rows.{marks};
-ghost use Rattle.match_search.specs.GraphRows.{IsGraphRow};
+ghost use Rattle.match_search.specs.Common.{marks, IsGraphRow};
 ghost use Rattle.match_core.specs.MatchingRows.{KeepsMatching, IsOf, edges_of, is_clear, left_over, row_at};
 
 use graph_core::{Ends, MOST_EDGES, MultiGraph};

@@ -17,11 +17,8 @@ ghost use Rattle.counting.specs.Common.{Within, count, Set, none, item, mem};
 ghost use Rattle.graph_core.specs.Common.{size, IsMatching, missed_count};
 ghost use Rattle.match_core.specs.HeldMates.{HoldsMates};
 ghost use Rattle.match_core.specs.MatchingRows.{IsOf};
-ghost use Rattle.match_search.specs.Mates.{HasMates};
-ghost use Rattle.match_search.specs.Optimal.{IsBest};
+ghost use Rattle.match_search.specs.Common.{HasMates, IsBest, marks, numbers, AreAlike};
 ghost use Rattle.match_core.specs.Partners.{AreEmptyRows, ArePartners, are_partners};
-ghost use Rattle.match_search.specs.Rows.{marks, numbers};
-ghost use Rattle.match_search.specs.Shrinkings.{AreAlike};
 
 use crate::frames::maximum;
 use crate::matching::{Matching, matching_of};

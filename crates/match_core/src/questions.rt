@@ -2,9 +2,8 @@
 ghost use Rattle.std.specs.Prelude.{◌≡◌, ◌+◌, length, ◌↔◌, IfOk, Some, None, All};
 ghost use Rattle.counting.specs.Common.{Within, none, mem};
 ghost use Rattle.graph_core.specs.Common.{size, IsPerfect, HasPerfect};
-ghost use Rattle.match_search.specs.Rows.{marks};
-ghost use Rattle.match_core.specs.MatchingRows.{IsOf, edges_of};
-ghost use Rattle.match_search.specs.Questions.{HoldsAll, HasPerfectWith, MeetOnce};
+ghost use Rattle.match_search.specs.Common.{marks, HoldsAll, HasPerfectWith, MeetOnce};
+ghost use Rattle.match_core.specs.Common.{IsOf, edges_of};
 
 use crate::matching::{Matching, matching_of};
 use graph_core::{MultiGraph, Numbers};

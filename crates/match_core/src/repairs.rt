@@ -2,12 +2,8 @@
 ghost use Rattle.std.specs.Prelude.{◌≡◌, ℕ, ◌+◌, ◌-◌, ◌/◌, ◌≢◌, ◌==◌, ◌&&◌, not, nat_lt, nat_le, cond, true, ◌<◌, ◌≤◌, length, slice_index, ◌↔◌, IfOk, Some, None};
 ghost use Rattle.counting.specs.Common.{Within, mem, Set, put};
 ghost use Rattle.graph_core.specs.Common.{AreRows, graph_of, IsMatching, IsPerfect, HasPerfect, missed_count};
-ghost use Rattle.match_search.specs.Forests.{flipped};
-ghost use Rattle.match_search.specs.Rows.{marks, numbers, part, end_a, end_b};
-ghost use Rattle.match_search.specs.GraphRows.{IsGraphRow, NamesEdges};
-ghost use Rattle.match_core.specs.MatchingRows.{IsOf, edges_of};
-ghost use Rattle.match_search.specs.RepairPaths.{DiffersByPath, IsRepairRow, Misses};
-ghost use Rattle.match_core.specs.RepairWalks.{StartsWalk};
+ghost use Rattle.match_search.specs.Common.{flipped, marks, numbers, part, end_a, end_b, IsGraphRow, NamesEdges, DiffersByPath, IsRepairRow, Misses};
+ghost use Rattle.match_core.specs.Common.{IsOf, edges_of, StartsWalk};
 
 use crate::matching::{Matching, matching_of};
 use graph_core::{Ends, MultiGraph};

@@ -1,13 +1,11 @@
 -- Paths, forests, matchings and cycles are what stands at their places. Each condition speaks of
 -- places within range alone, so functions that agree there meet the same conditions.
 use Rattle.std.proofs.Common.{◌≡◌, ℕ, suc, ◌+◌, ◌≤◌, ◌<◌, true, sym, ap, ◌∙◌, arith, subst}
-use Rattle.counting.specs.Common.{Within, Set}
-use Rattle.graph_core.proofs.Common.{degree_congr}
-use Rattle.graph_core.specs.Common.{Graph, degree, first_end, second_end, size, IsMatching}
+use Rattle.counting.proofs.Common.{Within, Set}
+use Rattle.graph_core.proofs.Common.{degree_congr, Graph, degree, first_end, second_end, size, IsMatching}
 use Rattle.match_search.proofs.OddCycles.{next_in}
 use Rattle.match_search.proofs.LongerPaths.{ends_by}
-use Rattle.match_search.specs.OddCycles.{IsOddCycle, next}
-use Rattle.match_search.specs.Forests.{IsAlternating, IsForest}
+use Rattle.match_search.specs.Common.{IsOddCycle, next, IsAlternating, IsForest}
 
 -- a path is what stands at its places
 pub path_alike : (g : Graph) (r f : Set) (k : ℕ) (v e v' e' : ℕ → ℕ) → ((j : ℕ) → j ≤ k + k → v' j ≡ v j) → ((j : ℕ) → j < k + k → e' j ≡ e j) → IsAlternating g r f k v e → IsAlternating g r f k v' e'

@@ -1,21 +1,12 @@
 -- What an augmentation by mates hands on: its matching is held again, with fewer exposed
 -- vertices; and where it ends, the marks of a matching with its mates and its frame are the best.
 use Rattle.std.proofs.Common.{◌≡◌, ℕ, suc, ◌+◌, ◌<◌, ◌==◌, ◌&&◌, not, nat_lt, nat_le, sym, ap, ◌∙◌, subst, arith, lt-ltb, List, length}
-use Rattle.counting.proofs.Common.{and_from, le-leb, count_congr}
-use Rattle.counting.specs.Common.{count, Within, mem, Set}
-use Rattle.graph_core.specs.Common.{Graph, IsGraph, size}
-use Rattle.match_search.specs.AlternatingForests.{HoldsMatching}
-use Rattle.match_search.specs.Blossoms.{IsMateStep}
-use Rattle.match_search.specs.Frames.{Frame}
-use Rattle.match_search.specs.Instances.{IsInstance}
-use Rattle.match_search.specs.Mates.{HasMates}
-use Rattle.match_search.specs.Missable.{HasFrame}
-use Rattle.match_search.specs.Optimal.{IsBest}
-use Rattle.match_search.specs.Rows.{marks, numbers}
+use Rattle.counting.proofs.Common.{and_from, le-leb, count_congr, count, Within, mem, Set}
+use Rattle.graph_core.proofs.Common.{Graph, IsGraph, size}
+use Rattle.match_search.specs.Common.{HoldsMatching, IsMateStep, Frame, IsInstance, HasMates, HasFrame, IsBest, marks, numbers, AreAlike}
 use Rattle.match_search.specs.declared.best.Best.{Best}
 use Rattle.match_search.specs.declared.instance.Instance.{Instance}
 use Rattle.match_search.specs.declared.answer.Answer.TheVariants.{Grown}
-use Rattle.match_search.specs.Shrinkings.{AreAlike}
 use Rattle.match_search.proofs.Instances.{instance_alike}
 use Rattle.match_search.proofs.SameMates.{exposed_mates, same_mates_count}
 

@@ -2,15 +2,9 @@
 -- they in the graph? Where the base is exposed, a matching misses the blossom; where it has a
 -- mate, the edge between them can be put at a vertex of the blossom that the mate touches.
 use Rattle.std.proofs.Common.{◌≡◌, ◌≢◌, ℕ, suc, zero, ◌+◌, ◌*◌, ◌≤◌, ◌<◌, true, false, ◌==◌, refl, sym, ap, ◌∙◌, arith, eq-eqb, ne_eqb, eqb-true, inl, inr, not, ◌&&◌, ◌||◌, subst, List}
-use mathlib.Core.Path.{fun_ext}
-use Rattle.counting.proofs.Common.{cases_Bool, cases_eq, both_ways, not-true, false_from_ne_true, and_from, or_right, half, some_true, at_le_total}
-use Rattle.counting.specs.Common.{Within, bit, count, is_odd, Set, complement, minus, put, mem}
-use Rattle.graph_core.proofs.Common.{add_edge, ends_of_is}
-use Rattle.graph_core.specs.Common.{Graph, HasEnds, IsGraph, degree, size, with_ends, IsMatching}
-use Rattle.match_search.specs.Frames.{IsNearPerfect, IsShrunk, shrunk_removed}
-use Rattle.match_search.specs.Mates.{HasMates, with_mate, with_pair}
-use Rattle.match_search.specs.OddCycles.{IsOddCycle, every_other, listed, picked}
-use Rattle.match_search.specs.Steps.{IsOpened}
+use Rattle.counting.proofs.Common.{fun_ext, cases_Bool, cases_eq, both_ways, not-true, false_from_ne_true, and_from, or_right, half, some_true, at_le_total, Within, bit, count, is_odd, Set, complement, minus, put, mem}
+use Rattle.graph_core.proofs.Common.{add_edge, ends_of_is, Graph, HasEnds, IsGraph, degree, size, with_ends, IsMatching}
+use Rattle.match_search.specs.Common.{IsNearPerfect, IsShrunk, shrunk_removed, HasMates, with_mate, with_pair, IsOddCycle, every_other, listed, picked, IsOpened, IsInstance, Touches, shrunk_ends}
 use Rattle.match_search.proofs.ClosingPairs.{cycle_missed, degree_elsewhere, mates_alike}
 use Rattle.match_search.proofs.Forests.{met, turned}
 use Rattle.match_search.proofs.LongerPaths.{end_within}
@@ -22,9 +16,7 @@ use Rattle.match_search.proofs.ShrunkMatchings.{down}
 use Rattle.match_search.proofs.ShrunkFrames.{complement_size}
 use Rattle.match_search.proofs.ShrunkInstances.{edge_keeps, edge_stays, edge_was}
 use Rattle.match_search.proofs.Instances.{left_from}
-use Rattle.match_search.specs.Instances.{IsInstance, Touches}
 use Rattle.match_search.specs.declared.instance.Instance.{Instance}
-use Rattle.match_search.specs.Frames.{shrunk_ends}
 use Rattle.match_search.proofs.StepTheorem.{shrunk_ends_shrunk}
 
 module _ (g : Graph) (is : IsGraph g) (r f m : Set) (n : ℕ) (c e : ℕ → ℕ) (opened : IsOpened g r f m n c e) where

@@ -2,14 +2,9 @@
 -- smaller graph leaves the blossom at its base or at a neighbour of some vertex of it; it is
 -- completed there.
 use Rattle.std.proofs.Common.{◌≡◌, ◌≢◌, ℕ, ◌+◌, ◌≤◌, true, refl, sym, ap, ◌∙◌, arith, inl, inr, ◌||◌, subst, subst₂, List}
-use mathlib.Core.Path.{fun_ext}
-use Rattle.counting.proofs.Common.{or_cases, count_le}
-use Rattle.counting.specs.Common.{Within, count, Set, union, mem}
-use Rattle.graph_core.specs.Common.{Graph, HasEnds, IsGraph, degree, size, with_ends}
-use Rattle.match_search.specs.Frames.{Frame, shrunk_removed}
-use Rattle.match_search.specs.Mates.{HasMates, paired_round, with_mate, with_pair}
-use Rattle.match_search.specs.OddCycles.{IsOddCycle, every_other, listed, picked}
-use Rattle.match_search.specs.Steps.{IsOpened, IsWidened, StepAnswer}
+use Rattle.counting.proofs.Common.{fun_ext, or_cases, count_le, Within, count, Set, union, mem}
+use Rattle.graph_core.proofs.Common.{Graph, HasEnds, IsGraph, degree, size, with_ends}
+use Rattle.match_search.specs.Common.{Frame, shrunk_removed, HasMates, paired_round, with_mate, with_pair, IsOddCycle, every_other, listed, picked, IsOpened, IsWidened, StepAnswer, shrunk_ends}
 use Rattle.match_search.specs.declared.answer.Answer.{Answer}
 use Rattle.match_search.specs.declared.answer.Answer.TheVariants.{Grown, Final}
 use Rattle.match_search.proofs.ClosingPairs.{mates_alike}
@@ -17,7 +12,6 @@ use Rattle.match_search.proofs.OddCycles.{cycle_holds, cycle_size, every_other-n
 use Rattle.match_search.proofs.OpenedPairs.{full_count, full_pairs}
 use Rattle.match_search.proofs.NearPerfectSets.{near_perfect_count}
 use Rattle.match_search.proofs.ShrunkFrames.{frame_up}
-use Rattle.match_search.specs.Frames.{shrunk_ends}
 use Rattle.match_search.proofs.BlossomMates.{pulls, first_within, cr, cw, wz, cz, halves, near_sets, downs, same_size, blossom_missed, free_mates, moved, moved_mates, moved_missed, moved_count}
 
 module _ (g : Graph) (is : IsGraph g) (r f m : Set) (n : ℕ) (c e : ℕ → ℕ) (opened : IsOpened g r f m n c e) where

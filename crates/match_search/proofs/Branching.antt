@@ -2,12 +2,9 @@
 -- nor inner. The rows have room for the branch, the forest holds again, and the search is one
 -- step nearer to its end.
 use Rattle.std.proofs.Common.{◌≡◌, ◌≢◌, ℕ, ◌+◌, ◌-◌, ◌*◌, ◌≤◌, ◌<◌, true, false, ◌==◌, arith, not, ◌&&◌, ◌||◌, List, [], length}
-use Rattle.counting.proofs.Common.{both_ways, false_from_ne_true}
-use Rattle.counting.specs.Common.{Within, count, Set, mem}
-use Rattle.graph_core.specs.Common.{Graph}
-use Rattle.match_search.specs.AlternatingForests.{HasBranched, HoldsAlternating, HoldsMatching}
-use Rattle.match_search.specs.Instances.{AreNear, Touches}
-use Rattle.match_search.specs.Rows.{numbers}
+use Rattle.counting.proofs.Common.{both_ways, false_from_ne_true, Within, count, Set, mem}
+use Rattle.graph_core.proofs.Common.{Graph}
+use Rattle.match_search.specs.Common.{HasBranched, HoldsAlternating, HoldsMatching, AreNear, Touches, numbers}
 use Rattle.match_search.specs.declared.instance.Instance.{Instance}
 use Rattle.match_search.specs.declared.alternating.AlternatingForest.{AlternatingForest}
 use Rattle.match_search.proofs.Instances.{left_parts}

@@ -1,14 +1,9 @@
 -- The cycle of a blossom, as the code reads it off two closing paths, with its members and with the
 -- mates that are left. What is proved of the places on the paths is so said of the cycle.
 use Rattle.std.proofs.Common.{◌≡◌, ◌≢◌, ℕ, suc, ◌+◌, ◌-◌, ◌/◌, ◌≤◌, ◌<◌, ap, ap₂, ◌∙◌, arith, subst, length, List}
-use mathlib.Core.Path.{fun_ext}
-use Rattle.counting.specs.Common.{Within, Set, mem}
-use Rattle.graph_core.specs.Common.{Graph}
-use Rattle.match_search.specs.Blossoms.{AreClosingPaths, ExposesOnly, HoldsBlossom, second_start}
-use Rattle.match_search.specs.Mates.{cleared_mates, flipped_mates}
-use Rattle.match_search.specs.Meetings.{IsLastMeeting}
-use Rattle.match_search.specs.OddCycles.{listed}
-use Rattle.match_search.specs.Rows.{numbers, part}
+use Rattle.counting.proofs.Common.{fun_ext, Within, Set, mem}
+use Rattle.graph_core.proofs.Common.{Graph}
+use Rattle.match_search.specs.Common.{AreClosingPaths, ExposesOnly, HoldsBlossom, second_start, cleared_mates, flipped_mates, IsLastMeeting, listed, numbers, part}
 use Rattle.match_search.specs.declared.blossom.Blossom.{Blossom}
 use Rattle.match_search.specs.declared.cycle.Meeting.{Meeting}
 use Rattle.match_search.specs.declared.paths.Paths.{Paths}

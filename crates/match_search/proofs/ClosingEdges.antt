@@ -2,15 +2,13 @@
 -- which can be missed. The paths meet last at an outer vertex; from there along one path, over
 -- the edge and back along the other.
 use Rattle.std.proofs.Common.{◌≡◌, ℕ, suc, zero, ◌+◌, ◌-◌, ◌≤◌, ◌<◌, ◌≢◌, Bool, true, false, cond, ◌==◌, refl, sym, ap, ap₂, ◌∙◌, arith, ◌&&◌, ◌||◌, not, eq-eqb, ne_eqb, eqb-true, ◌⊎◌, inl, inr, subst, nat_lt, nat_le, le-ltb}
-use Rattle.counting.proofs.Common.{not_not, cases_eq, cases_Bool, cases_lt, cases_order, both_ways, true≢false, and_parts, le-leb, lt-leb, odd-add, odd-double, some_true}
-use Rattle.counting.specs.Common.{Within, count, is_odd, Set}
-use Rattle.graph_core.specs.Common.{Graph, degree, size, HasEnds, IsMatching}
+use Rattle.counting.proofs.Common.{not_not, cases_eq, cases_Bool, cases_lt, cases_order, both_ways, true≢false, and_parts, le-leb, lt-leb, odd-add, odd-double, some_true, Within, count, is_odd, Set}
+use Rattle.graph_core.proofs.Common.{Graph, degree, size, HasEnds, IsMatching}
 use Rattle.match_search.proofs.OddCycles.{next_in, same_ends}
 use Rattle.match_search.proofs.LongerPaths.{ends_by}
 use Rattle.match_search.proofs.Forests.{one_edge, turned}
 use Rattle.match_search.proofs.AlternatingPaths.{flipped_count, flipped_end, flipped_matching, flipped_off}
-use Rattle.match_search.specs.OddCycles.{IsOddCycle, same_answer, next, every_other, picked}
-use Rattle.match_search.specs.Forests.{IsAlternating, flipped}
+use Rattle.match_search.specs.Common.{IsOddCycle, same_answer, next, every_other, picked, IsAlternating, flipped}
 
 -- the summand of an even sum whose other summand is even
 even_part : (m j t : ℕ) → m + j ≡ t → is_odd j ≡ false → is_odd t ≡ false → is_odd m ≡ false

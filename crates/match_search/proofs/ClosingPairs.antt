@@ -2,18 +2,9 @@
 -- last vertices are a matching with one edge more; where they meet, the mates without the blossom
 -- are those of the opened matching.
 use Rattle.std.proofs.Common.{◌≡◌, ◌≢◌, ℕ, suc, ◌+◌, ◌-◌, ◌*◌, ◌/◌, ◌≤◌, ◌<◌, Bool, true, false, cond, ◌==◌, refl, sym, ap, ◌∙◌, arith, ne_eqb, inl, inr, subst, length, List, ◌&&◌, not}
-use mathlib.Core.Path.{fun_ext}
-use Rattle.counting.proofs.Common.{cases_Bool, cases_eq, both_ways, false_from_ne_true, half}
-use Rattle.counting.specs.Common.{Within, bit, count, Set, minus, put, mem}
-use Rattle.graph_core.proofs.Common.{degree_put, ends_of_is}
-use Rattle.graph_core.specs.Common.{Graph, HasEnds, degree, size, IsMatching}
-use Rattle.match_search.specs.Blossoms.{AreClosingPaths, ExposesOnly, HoldsBlossom, IsAugmented, second_start}
-use Rattle.match_search.specs.Forests.{IsAlternating, flipped}
-use Rattle.match_search.specs.Frames.{IsNearPerfect}
-use Rattle.match_search.specs.Mates.{HasMates, with_pair, flipped_mates, cleared_mates}
-use Rattle.match_search.specs.OddCycles.{IsOddCycle, every_other, listed, picked}
-use Rattle.match_search.specs.Rows.{numbers, part}
-use Rattle.match_search.specs.Steps.{IsOpened}
+use Rattle.counting.proofs.Common.{fun_ext, cases_Bool, cases_eq, both_ways, false_from_ne_true, half, Within, bit, count, Set, minus, put, mem}
+use Rattle.graph_core.proofs.Common.{degree_put, ends_of_is, Graph, HasEnds, degree, size, IsMatching}
+use Rattle.match_search.specs.Common.{AreClosingPaths, ExposesOnly, HoldsBlossom, IsAugmented, second_start, IsAlternating, flipped, IsNearPerfect, HasMates, with_pair, flipped_mates, cleared_mates, IsOddCycle, every_other, listed, picked, numbers, part, IsOpened}
 use Rattle.match_search.specs.declared.blossom.Blossom.{Blossom}
 use Rattle.match_search.specs.declared.paths.Paths.{Paths}
 use Rattle.match_search.proofs.Alike.{cycle_alike}

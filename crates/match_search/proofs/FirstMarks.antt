@@ -1,10 +1,8 @@
 -- The marks that the engine begins with, and the bound on its augmentations. An edge between two
 -- free vertices is added: it meets these two alone, so all other free vertices stay free.
 use Rattle.std.proofs.Common.{◌≡◌, ℕ, ◌+◌, ◌≢◌, Bool, true, false, ◌==◌, ◌||◌, ◌&&◌, not, sym, ap, ap₂, ◌∙◌, arith}
-use Rattle.counting.proofs.Common.{both_ways, or_left, or_right, false_from_ne_true, total_none}
-use Rattle.counting.specs.Common.{Within, bit, Set, put}
-use Rattle.graph_core.proofs.Common.{add_edge, degree_put, ends_of_is}
-use Rattle.graph_core.specs.Common.{Graph, HasEnds, degree, first_end, second_end, size, IsMatching}
+use Rattle.counting.proofs.Common.{both_ways, or_left, or_right, false_from_ne_true, total_none, Within, bit, Set, put}
+use Rattle.graph_core.proofs.Common.{add_edge, degree_put, ends_of_is, Graph, HasEnds, degree, first_end, second_end, size, IsMatching}
 
 -- no edge at all
 pub empty_degree : (g : Graph) (m : Set) → ((e : ℕ) → m e ≡ false) → (v : ℕ) → degree g m v ≡ 0

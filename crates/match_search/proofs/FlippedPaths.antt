@@ -1,9 +1,8 @@
 -- The pairs of a path exchanged from its end on. Each vertex of the path gets the next one, or the
 -- one before it, as the mate, whichever end the exchange begins at.
 use Rattle.std.proofs.Common.{◌≡◌, ◌≢◌, ℕ, zero, suc, ◌+◌, ◌≤◌, ◌<◌, true, refl, sym, ap, ◌∙◌, arith, inl, inr, ◌⊎◌}
-use Rattle.counting.proofs.Common.{cases_Bool, cases_eq, half, not-true}
-use Rattle.counting.specs.Common.{is_odd}
-use Rattle.match_search.specs.Mates.{flipped_mates, flipped_over, with_mate, with_pair}
+use Rattle.counting.proofs.Common.{cases_Bool, cases_eq, half, not-true, is_odd}
+use Rattle.match_search.specs.Common.{flipped_mates, flipped_over, with_mate, with_pair}
 use Rattle.match_search.proofs.MatePairs.{with_here, with_there}
 
 -- a pair leaves the other vertices alone, and pairs its own

@@ -1,14 +1,9 @@
 -- Walks up a forest: what a walk has met is the end of the path. An outer vertex on a path has its
 -- own path as the beginning of it.
 use Rattle.std.proofs.Common.{◌≡◌, ◌≢◌, ◌↔◌, ℕ, zero, suc, ◌+◌, ◌≤◌, true, false, refl, sym, ap, ap₂, ◌∙◌, arith, inl, inr, not, ◌||◌, ◌==◌, subst, eq-eqb, eqb-true, List}
-use mathlib.Core.Path.{fun_ext}
-use Rattle.counting.proofs.Common.{both_ways, cases_eq, cases_lt, odd-double, or_cases, or_left, or_right, true≢false}
-use Rattle.counting.specs.Common.{is_odd, Set, mem}
-use Rattle.graph_core.specs.Common.{Graph}
-use Rattle.match_search.specs.AlternatingForests.{HoldsAlternating}
-use Rattle.match_search.specs.Flowers.{GoesOver}
-use Rattle.match_search.specs.Mates.{flipped_over, with_pair}
-use Rattle.match_search.specs.Rows.{numbers}
+use Rattle.counting.proofs.Common.{fun_ext, both_ways, cases_eq, cases_lt, odd-double, or_cases, or_left, or_right, true≢false, is_odd, Set, mem}
+use Rattle.graph_core.proofs.Common.{Graph}
+use Rattle.match_search.specs.Common.{HoldsAlternating, GoesOver, flipped_over, with_pair, numbers}
 use Rattle.match_search.specs.declared.alternating.AlternatingForest.{AlternatingForest}
 use Rattle.match_search.proofs.ClosingEdges.{low}
 use Rattle.match_search.proofs.PathsUp.{grandparent, up_parts}

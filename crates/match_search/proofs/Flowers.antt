@@ -2,19 +2,9 @@
 -- blossom the base is. No step enlarges it, so two closing paths meet, and the frame of the shrunk
 -- graph is one of the graph with the blossom among the outer vertices.
 use Rattle.std.proofs.Common.{◌≡◌, ℕ, ◌<◌, Bool, true, false, refl, sym, ap, ap₂, ◌∙◌, arith, inl, inr, not, ◌&&◌, ◌||◌, ◌==◌, subst₂, eq-eqb, eqb-true, ne_eqb, List, [], ◌∷◌, length, None}
-use mathlib.Core.Path.{fun_ext}
-use Rattle.counting.proofs.Common.{and_from, and_parts, count_congr, count_of_one, cases_eq, false_from_ne_true, or_cases, only_one, or_false}
-use Rattle.counting.specs.Common.{Within, bit, count, Set, mem, union}
-use Rattle.graph_core.proofs.Common.{missed_edges}
-use Rattle.graph_core.specs.Common.{Graph, IsGraph, IsMatching, degree, size, missed_count}
-use Rattle.match_search.specs.AlternatingForests.{AreExposed, HoldsMatching, IsGrownForest}
-use Rattle.match_search.specs.Blossoms.{HoldsBlossom, IsAugmented, blossom_length}
-use Rattle.match_search.specs.Flowers.{HasOuter, HoldsFlower, HoldsRooted}
-use Rattle.match_search.specs.Frames.{Frame}
-use Rattle.match_search.specs.Missable.{IsMissableRow}
-use Rattle.match_search.specs.OddCycles.{listed}
-use Rattle.match_search.specs.Rows.{numbers}
-use Rattle.match_search.specs.Shrinkings.{IsShrinking}
+use Rattle.counting.proofs.Common.{fun_ext, and_from, and_parts, count_congr, count_of_one, cases_eq, false_from_ne_true, or_cases, only_one, or_false, Within, bit, count, Set, mem, union}
+use Rattle.graph_core.proofs.Common.{missed_edges, Graph, IsGraph, IsMatching, degree, size, missed_count}
+use Rattle.match_search.specs.Common.{AreExposed, HoldsMatching, IsGrownForest, HoldsBlossom, IsAugmented, blossom_length, HasOuter, HoldsFlower, HoldsRooted, Frame, IsMissableRow, listed, numbers, IsShrinking}
 use Rattle.match_search.specs.declared.blossom.Blossom.{Blossom}
 use Rattle.match_search.specs.declared.flower.Flower.{Flower}
 use Rattle.match_search.specs.declared.growing.GrownForest.{GrownForest}

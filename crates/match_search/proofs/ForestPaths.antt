@@ -1,11 +1,9 @@
 -- The paths to the two ends of a closing edge: they are paths of the forest, with outer and inner
 -- vertices in turn.
 use Rattle.std.proofs.Common.{◌≡◌, ℕ, suc, ◌+◌, ◌≤◌, ◌<◌, true, refl, sym, ap, ◌∙◌, arith, subst, length, List, get_or}
-use Rattle.counting.specs.Common.{is_odd, Set, mem}
-use Rattle.graph_core.specs.Common.{Graph}
-use Rattle.match_search.specs.Blossoms.{AreClosingPaths, ClosesForest, second_start}
-use Rattle.match_search.specs.Forests.{IsAlternating}
-use Rattle.match_search.specs.Rows.{numbers, part}
+use Rattle.counting.proofs.Common.{is_odd, Set, mem}
+use Rattle.graph_core.proofs.Common.{Graph}
+use Rattle.match_search.specs.Common.{AreClosingPaths, ClosesForest, second_start, IsAlternating, numbers, part}
 use Rattle.match_search.specs.declared.alternating.AlternatingForest.{AlternatingForest}
 use Rattle.match_search.specs.declared.growing.Adjacent.{Adjacent}
 use Rattle.match_search.specs.declared.paths.Paths.{Paths}

@@ -2,14 +2,12 @@
 -- this vertex. The new path is that of the outer vertex with two more edges; every other part of
 -- the forest stays.
 use Rattle.std.proofs.Common.{◌≡◌, ℕ, suc, ◌+◌, ◌≤◌, ◌≢◌, Bool, true, false, cond, ◌==◌, refl, sym, ap, ◌∙◌, arith, not, eq-eqb, eqb-true, inl, inr, subst}
-use Rattle.counting.proofs.Common.{cases_eq, both_ways, false_from_ne_true, count_put, odd-double}
-use Rattle.counting.specs.Common.{Within, bit, count, is_odd, Set, put}
-use Rattle.graph_core.proofs.Common.{edge_at, ends_le_degree, ends_of_is, bit_same}
-use Rattle.graph_core.specs.Common.{Graph, IsGraph, degree, first_end, second_end, size, HasEnds, IsMatching}
+use Rattle.counting.proofs.Common.{cases_eq, both_ways, false_from_ne_true, count_put, odd-double, Within, bit, count, is_odd, Set, put}
+use Rattle.graph_core.proofs.Common.{edge_at, ends_le_degree, ends_of_is, bit_same, Graph, IsGraph, degree, first_end, second_end, size, HasEnds, IsMatching}
 use Rattle.match_search.proofs.LongerPaths.{end_within, ends_by, longer_after, spots, extended, longer}
 use Rattle.match_search.proofs.Forests.{mates_of, met, one_edge, outer_edge, turned}
 use Rattle.match_search.proofs.AlternatingPaths.{put_at, put_off}
-use Rattle.match_search.specs.Forests.{IsAlternating, IsForest}
+use Rattle.match_search.specs.Common.{IsAlternating, IsForest}
 
 module _ (g : Graph) (is : IsGraph g) (r f : Set) (mm : IsMatching g r f) (outer inner : Set) (k : ℕ → ℕ) (v e : ℕ → ℕ → ℕ) (forest : IsForest g r f outer inner k v e) where
   -- a vertex outside the forest has an edge of f

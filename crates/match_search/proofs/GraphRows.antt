@@ -1,12 +1,10 @@
 -- What a row of ends says of the graph of these ends, and a row of edges of its vertices.
 -- Each fact about the ends at a place is carried to the edge one place on.
 use Rattle.std.proofs.Common.{◌≡◌, ℕ, suc, ◌+◌, ◌-◌, ◌<◌, ◌≤◌, ◌≢◌, Bool, true, false, cond, ◌==◌, refl, sym, ap, ap₂, ◌∙◌, arith, List, length, eq-eqb, ne_eqb, inl, inr, ◌&&◌}
-use Rattle.counting.proofs.Common.{cases_eq, get_or-map, length-map, total_none}
-use Rattle.counting.specs.Common.{bit, Within, Set}
-use Rattle.graph_core.specs.Common.{HasEnds, Graph, size, first_end, second_end, IsGraph, degree, graph_of}
+use Rattle.counting.proofs.Common.{cases_eq, get_or-map, length-map, total_none, bit, Within, Set}
+use Rattle.graph_core.proofs.Common.{HasEnds, Graph, size, first_end, second_end, IsGraph, degree, graph_of}
 use Rattle.match_search.proofs.Forests.{met}
-use Rattle.match_search.specs.Rows.{numbers, end_a, end_b}
-use Rattle.match_search.specs.GraphRows.{AreEnds, NamesEdges}
+use Rattle.match_search.specs.Common.{numbers, end_a, end_b, AreEnds, NamesEdges}
 use Rattle.graph_core.specs.declared.ends.Ends.{Ends}
 
 module _ (n : ℕ) (ends : List Ends) where

@@ -1,7 +1,6 @@
 -- A set with one member more.
 use Rattle.std.proofs.Common.{◌≡◌, ℕ, true, cond, ◌==◌, sym, ap, ◌∙◌, eq-eqb, ne_eqb, inl, inr, ◌||◌}
-use Rattle.counting.proofs.Common.{or_true, or_false, cases_eq}
-use Rattle.counting.specs.Common.{Set, put}
+use Rattle.counting.proofs.Common.{or_true, or_false, cases_eq, Set, put}
 
 -- a set with v added is the set put true at v
 pub with_put : (x : Set) (v w : ℕ) → (x w || (v == w)) ≡ put x v true w

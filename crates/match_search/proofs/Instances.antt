@@ -1,13 +1,9 @@
 -- What an instance tells of its graph, and the instance of a whole graph. A vertex that is left
 -- is near where its row holds it, or where it is a blossom with a member in the row.
-use Rattle.std.proofs.Common.{◌≡◌, ◌≢◌, ◌↔◌, ℕ, ◌≤◌, true, false, ◌==◌, refl, sym, ap, ◌∙◌, arith, eq-eqb, eqb-true, inl, inr, ◌⊎◌, not, ◌&&◌, ◌||◌, nat_lt, nat_le, lt-ltb, ltb-true, length, List, [], ◌∷◌}
-use Rattle.std.proofs.lemmas.Bool.{leb-true}
-use Rattle.counting.proofs.Common.{and_from, and_parts, both_ways, cases_Bool, false_from_ne_true, le-leb, not-true, or_cases, true≢false, cases_eq, true_some}
-use Rattle.counting.specs.Common.{Within, Set, none, mem, item}
-use Rattle.graph_core.proofs.Common.{has_ends-from, adjacent-edge, has_ends-cases}
-use Rattle.graph_core.specs.Common.{Graph, HasEnds, IsGraph, has_ends, size, AreRows}
-use Rattle.match_search.specs.Instances.{AreNear, IsInstance, Touches}
-use Rattle.match_search.specs.Shrinkings.{AreAlike, IsPutBack, IsShrinking, IsUnshrunk}
+use Rattle.std.proofs.Common.{◌≡◌, ◌≢◌, ◌↔◌, ℕ, ◌≤◌, true, false, ◌==◌, refl, sym, ap, ◌∙◌, arith, eq-eqb, eqb-true, inl, inr, ◌⊎◌, not, ◌&&◌, ◌||◌, nat_lt, nat_le, lt-ltb, ltb-true, length, List, [], ◌∷◌, leb-true}
+use Rattle.counting.proofs.Common.{and_from, and_parts, both_ways, cases_Bool, false_from_ne_true, le-leb, not-true, or_cases, true≢false, cases_eq, true_some, Within, Set, none, mem, item}
+use Rattle.graph_core.proofs.Common.{has_ends-from, adjacent-edge, has_ends-cases, Graph, HasEnds, IsGraph, has_ends, size, AreRows}
+use Rattle.match_search.specs.Common.{AreNear, IsInstance, Touches, AreAlike, IsPutBack, IsShrinking, IsUnshrunk}
 use Rattle.match_search.specs.declared.instance.Instance.{Instance}
 use Rattle.match_search.specs.declared.instance.Unshrunk.{Unshrunk}
 

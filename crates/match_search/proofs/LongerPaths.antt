@@ -1,10 +1,9 @@
 -- An alternating path with two more edges is an alternating path.
 -- Each place of the longer path is a place of the old one, or one of the two new vertices.
 use Rattle.std.proofs.Common.{nat_lt, ◌≡◌, ℕ, suc, ◌+◌, ◌≤◌, ◌<◌, ◌≢◌, true, false, cond, ◌==◌, sym, ap, ◌∙◌, arith, not, eq-eqb, ne_eqb, ◌⊎◌, inl, inr, subst, lt-ltb, le-ltb}
-use Rattle.counting.proofs.Common.{cases_order, odd-double}
-use Rattle.counting.specs.Common.{Within, is_odd, Set}
-use Rattle.graph_core.specs.Common.{Graph, IsGraph, degree, first_end, second_end, size, HasEnds}
-use Rattle.match_search.specs.Forests.{IsAlternating}
+use Rattle.counting.proofs.Common.{cases_order, odd-double, Within, is_odd, Set}
+use Rattle.graph_core.proofs.Common.{Graph, IsGraph, degree, first_end, second_end, size, HasEnds}
+use Rattle.match_search.specs.Common.{IsAlternating}
 
 -- v 0, .., up to v n, which is not one of them, and then w and x
 abbrev pub longer : ℕ → (ℕ → ℕ) → ℕ → ℕ → ℕ → ℕ

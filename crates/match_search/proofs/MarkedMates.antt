@@ -2,11 +2,9 @@
 -- so one of its ends is seen in the end; a marked edge joins mates, and the mate of a mate is the
 -- vertex itself, so that edge is the one of the pair.
 use Rattle.std.proofs.Common.{◌≡◌, ◌≢◌, ℕ, suc, ◌==◌, ◌||◌, ◌⊎◌, true, false, refl, sym, ap, ◌∙◌, arith, inl, inr, subst, eq-eqb, ne_eqb}
-use Rattle.counting.proofs.Common.{both_ways, cases_eq, cases_Bool, or_from, or_left, or_right}
-use Rattle.counting.specs.Common.{Within, bit, Set, none, put}
-use Rattle.graph_core.proofs.Common.{bit_same, ends_le_degree, ends_of_is}
-use Rattle.graph_core.specs.Common.{Graph, HasEnds, IsGraph, degree, first_end, second_end, size, IsMatching}
-use Rattle.match_search.specs.Mates.{HasMates, JoinsMates, MarksMates}
+use Rattle.counting.proofs.Common.{both_ways, cases_eq, cases_Bool, or_from, or_left, or_right, Within, bit, Set, none, put}
+use Rattle.graph_core.proofs.Common.{bit_same, ends_le_degree, ends_of_is, Graph, HasEnds, IsGraph, degree, first_end, second_end, size, IsMatching}
+use Rattle.match_search.specs.Common.{HasMates, JoinsMates, MarksMates}
 use Rattle.match_search.proofs.AlternatingPaths.{put_at, put_off}
 use Rattle.match_search.proofs.FirstMarks.{added_edge, empty_degree, empty_matching}
 use Rattle.match_search.proofs.Forests.{turned}

@@ -1,7 +1,6 @@
 -- Rows of marks: a new row marks nothing.
-use Rattle.std.proofs.Common.{◌≡◌, ℕ, suc, zero, false, refl}
-use Rattle.std.specs.Prelude.{replicate}
-use Rattle.match_search.specs.Rows.{marks}
+use Rattle.std.proofs.Common.{◌≡◌, ℕ, suc, zero, false, refl, replicate}
+use Rattle.match_search.specs.Common.{marks}
 
 -- no place of a new row is marked
 pub no-marks : (n e : ℕ) → marks (replicate n false) e ≡ false

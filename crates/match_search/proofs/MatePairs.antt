@@ -2,11 +2,9 @@
 -- exchanged by edges. Two edges of a matching at one vertex are one edge, so the mate of a mate
 -- is the vertex itself.
 use Rattle.std.proofs.Common.{◌≡◌, ◌≢◌, ℕ, zero, suc, ◌+◌, ◌≤◌, Bool, true, false, cond, ◌==◌, refl, sym, ap, ◌∙◌, arith, eq-eqb, ne_eqb, inl, inr, subst, ◌⊎◌}
-use Rattle.counting.proofs.Common.{cases_eq}
-use Rattle.counting.specs.Common.{Within, bit, Set, put}
-use Rattle.graph_core.specs.Common.{Graph, IsGraph, HasEnds, degree, size, IsMatching}
-use Rattle.match_search.specs.Forests.{IsAlternating, flipped}
-use Rattle.match_search.specs.Mates.{HasMates, with_mate, with_pair, flipped_mates}
+use Rattle.counting.proofs.Common.{cases_eq, Within, bit, Set, put}
+use Rattle.graph_core.proofs.Common.{Graph, IsGraph, HasEnds, degree, size, IsMatching}
+use Rattle.match_search.specs.Common.{IsAlternating, flipped, HasMates, with_mate, with_pair, flipped_mates}
 use Rattle.match_search.proofs.AlternatingPaths.{put_at, put_off, path_edges, flipped_degree, flipped_matching, flipped_end}
 use Rattle.match_search.proofs.Forests.{met, one_edge, turned}
 use Rattle.match_search.proofs.LongerPaths.{end_within}

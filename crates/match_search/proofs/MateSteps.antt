@@ -1,17 +1,8 @@
 -- One augmentation by mates: what its parts hand to one another.
 use Rattle.std.proofs.Common.{◌≡◌, ℕ, ◌<◌, refl, ap, ◌∙◌, arith, subst₂, length, List, get_or, not, ◌&&◌, nat_lt, nat_le, lt-ltb, Some, None, Bool, true, false, ◌==◌, ◌||◌, ◌⊎◌, sym, inl, inr, eq-eqb}
-use mathlib.Core.Path.{fun_ext}
-use Rattle.counting.proofs.Common.{and_from, le-leb, and_parts, or_left, or_right, true≢false, total_congr}
-use Rattle.std.proofs.lemmas.Grind.{get_or_default_zero}
-use Rattle.counting.specs.Common.{Within, bit, count, Set, complement, mem}
-use Rattle.graph_core.specs.Common.{Graph}
-use Rattle.match_search.specs.AlternatingForests.{AreExposed, HoldsMatching, IsGrownForest, MayBeExposed}
-use Rattle.match_search.specs.Blossoms.{ClosesForest, HoldsBlossom, IsCompleted, IsMateStep, MayOpen, blossom_length, removed_with, without_blossom}
-use Rattle.match_search.specs.Instances.{IsInstance}
-use Rattle.match_search.specs.OddCycles.{listed}
-use Rattle.match_search.specs.Rows.{numbers}
-use Rattle.match_search.specs.Shrinkings.{AreAlike, IsShrinking}
-use Rattle.match_search.specs.Steps.{IsWidened}
+use Rattle.counting.proofs.Common.{fun_ext, and_from, le-leb, and_parts, or_left, or_right, true≢false, total_congr, get_or_default_zero, Within, bit, count, Set, complement, mem}
+use Rattle.graph_core.proofs.Common.{Graph}
+use Rattle.match_search.specs.Common.{AreExposed, HoldsMatching, IsGrownForest, MayBeExposed, ClosesForest, HoldsBlossom, IsCompleted, IsMateStep, MayOpen, blossom_length, removed_with, without_blossom, IsInstance, listed, numbers, AreAlike, IsShrinking, IsWidened}
 use Rattle.match_search.specs.declared.blossom.Blossom.{Blossom}
 use Rattle.match_search.specs.declared.growing.Adjacent.{Adjacent}
 use Rattle.match_search.specs.declared.growing.GrownForest.{GrownForest}

@@ -1,15 +1,9 @@
 -- A vertex taken out of a graph with a matching. Its edge of the matching goes, so its mate is
 -- exposed, and nothing else of the matching changes; of the instance the vertex alone goes.
 use Rattle.std.proofs.Common.{◌≡◌, ◌≢◌, ℕ, zero, suc, ◌+◌, ◌-◌, ◌<◌, ◌≤◌, ◌==◌, ◌&&◌, ◌||◌, not, Bool, true, false, refl, sym, ap, ◌∙◌, arith, eq-eqb, ne_eqb, eqb-true, nat_lt, nat_le, inl, inr, ◌⊎◌, subst, List, [], length}
-use Rattle.counting.proofs.Common.{and_parts, and_from, both_ways, cases_eq, not-true, or_cases, total_congr}
-use Rattle.counting.specs.Common.{Within, bit, count, mem, Set, meet, singleton, union}
-use Rattle.graph_core.specs.Common.{Graph, IsGraph, HasEnds, degree, first_end, second_end, IsMatching, missed_count}
-use Rattle.graph_core.proofs.Common.{edge_at}
-use Rattle.match_search.specs.AlternatingForests.{HoldsMatching}
-use Rattle.match_search.specs.Instances.{IsInstance}
-use Rattle.match_search.specs.Mates.{HasMates, with_mate}
-use Rattle.match_search.specs.Missable.{HasFrame, IsMissableRow}
-use Rattle.match_search.specs.Rows.{numbers}
+use Rattle.counting.proofs.Common.{and_parts, and_from, both_ways, cases_eq, not-true, or_cases, total_congr, Within, bit, count, mem, Set, meet, singleton, union}
+use Rattle.graph_core.proofs.Common.{Graph, IsGraph, HasEnds, degree, first_end, second_end, IsMatching, missed_count, edge_at}
+use Rattle.match_search.specs.Common.{HoldsMatching, IsInstance, HasMates, with_mate, HasFrame, IsMissableRow, numbers}
 use Rattle.match_search.specs.declared.answer.FinalSets.{FinalSets}
 use Rattle.match_search.specs.declared.instance.Instance.{Instance}
 use Rattle.match_search.proofs.ClosingPairs.{mates_alike}

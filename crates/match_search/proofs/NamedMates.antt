@@ -1,10 +1,9 @@
 -- The mates that a pass over marked edges names are those of the matching.
 use Rattle.std.proofs.Common.{◌≡◌, ℕ, ◌+◌, ◌-◌, ap, ◌∙◌, arith, List, length, inl, inr}
-use Rattle.counting.specs.Common.{Set}
-use Rattle.graph_core.specs.Common.{IsMatching, graph_of}
+use Rattle.counting.proofs.Common.{Set}
+use Rattle.graph_core.proofs.Common.{IsMatching, graph_of}
 use Rattle.graph_core.specs.declared.ends.Ends.{Ends}
-use Rattle.match_search.specs.Mates.{HasMates, NamesMates}
-use Rattle.match_search.specs.Rows.{numbers, end_a, end_b}
+use Rattle.match_search.specs.Common.{HasMates, NamesMates, numbers, end_a, end_b}
 use Rattle.match_search.proofs.GraphRows.{far_is, near_is, size_is, unmet_degree}
 
 pub named_mates : (n : ℕ) (ends : List Ends) (m : Set) (mate : List ℕ) → NamesMates ends m mate (length ends) → (r : Set) → IsMatching (graph_of n ends) r m → HasMates (graph_of n ends) r m (numbers mate)

@@ -2,11 +2,9 @@
 -- many ends has it at each vertex, and how many edges? And how do the degrees add up where the
 -- edges of a set are those of two others?
 use Rattle.std.proofs.Common.{◌≡◌, ℕ, suc, ◌+◌, ◌*◌, ◌≤◌, ◌≢◌, Bool, true, false, cond, ◌==◌, refl, sym, ap, ap₂, ◌∙◌, arith, ◌&&◌, ◌||◌, not, eq-eqb, ne_eqb, inl, inr}
-use Rattle.counting.proofs.Common.{cases_Bool, true≢false, count_put, total_add, total_congr}
-use Rattle.counting.specs.Common.{Within, bit, count, total, Set, put}
-use Rattle.graph_core.proofs.Common.{degree_sum, ends_le_degree, ends_of, ends_of_is, sum_degrees}
-use Rattle.graph_core.specs.Common.{Graph, IsGraph, degree, first_end, second_end, size}
-use Rattle.match_search.specs.Frames.{IsNearPerfect}
+use Rattle.counting.proofs.Common.{cases_Bool, true≢false, count_put, total_add, total_congr, Within, bit, count, total, Set, put}
+use Rattle.graph_core.proofs.Common.{degree_sum, ends_le_degree, ends_of, ends_of_is, sum_degrees, Graph, IsGraph, degree, first_end, second_end, size}
+use Rattle.match_search.specs.Common.{IsNearPerfect}
 
 -- the edges of k are those of m and those of e
 pub count_split : (n : ℕ) (k m e : Set) → ((i : ℕ) → Within n i → bit (k i) ≡ bit (m i) + bit (e i)) → count n k ≡ count n m + count n e

@@ -2,12 +2,9 @@
 -- round. The two edges at a vertex have neighbouring places, of which exactly one is chosen
 -- unless the way starts there.
 use Rattle.std.proofs.Common.{◌≡◌, ℕ, suc, zero, ◌+◌, ◌*◌, ◌<◌, ◌≢◌, Bool, true, false, cond, ◌==◌, refl, sym, ap, ap₂, ◌∙◌, arith, ◌&&◌, ◌||◌, not, eq-eqb, ne_eqb, eqb-true, ◌⊎◌, inl, inr, nat_lt, lt-ltb, le-ltb, mul-add, subst}
-use Rattle.counting.proofs.Common.{cases_eq, cases_order, some_none, some_true, true_some, total_add, total_at, total_congr, total_none}
-use Rattle.counting.specs.Common.{Within, bit, count, is_odd, total, Set}
-use Rattle.graph_core.proofs.Common.{image, total_image, degree_sum, ends_of, ends_of_is}
-use Rattle.graph_core.specs.Common.{Graph, degree, size, HasEnds}
-use Rattle.match_search.specs.OddCycles.{IsOddCycle, same_answer, listed, next, every_other, picked}
-use Rattle.match_search.specs.Frames.{IsNearPerfect}
+use Rattle.counting.proofs.Common.{cases_eq, cases_order, some_none, some_true, true_some, total_add, total_at, total_congr, total_none, Within, bit, count, is_odd, total, Set}
+use Rattle.graph_core.proofs.Common.{image, total_image, degree_sum, ends_of, ends_of_is, Graph, degree, size, HasEnds}
+use Rattle.match_search.specs.Common.{IsOddCycle, same_answer, listed, next, every_other, picked, IsNearPerfect}
 
 -- a sum over an image without collisions is a sum over what it comes from
 pub total_picked : (k l : ℕ) (m : Set) (pick : ℕ → ℕ) (f : ℕ → ℕ) → ((e : ℕ) → Within k e → m e ≡ true → Within l (pick e)) → ((d e : ℕ) → Within k d → Within k e → m d ≡ true → m e ≡ true → pick d ≡ pick e → d ≡ e) →

@@ -2,13 +2,9 @@
 -- base is free, the cycle is paired round from it; else the mate of the base is near a vertex of
 -- the cycle, its tip.
 use Rattle.std.proofs.Common.{◌≡◌, ◌≢◌, ℕ, suc, ◌≤◌, ◌∙◌, true, arith, length, List, get_or}
-use Rattle.std.proofs.lemmas.Grind.{get_or_default_zero}
-use Rattle.counting.specs.Common.{Within, Set, mem}
-use Rattle.graph_core.specs.Common.{Graph}
-use Rattle.match_search.specs.Blossoms.{IsCompleted, MayOpen, blossom_length}
-use Rattle.match_search.specs.Instances.{Touches}
-use Rattle.match_search.specs.Mates.{paired_round, with_mate, with_pair}
-use Rattle.match_search.specs.Rows.{numbers}
+use Rattle.counting.proofs.Common.{get_or_default_zero, Within, Set, mem}
+use Rattle.graph_core.proofs.Common.{Graph}
+use Rattle.match_search.specs.Common.{IsCompleted, MayOpen, blossom_length, Touches, paired_round, with_mate, with_pair, numbers}
 use Rattle.match_search.specs.declared.blossom.Blossom.{Blossom}
 use Rattle.match_search.specs.declared.instance.Instance.{Instance}
 use Rattle.match_search.proofs.BlossomMates.{below_size, outside_edge, outside_near, outside_within}

@@ -1,15 +1,9 @@
 -- Forests by parents: the first one, one more branch, and the last one as a frame. The path of a
 -- new outer vertex is that of its grandparent, and on by its mate; all other paths stay.
-use Rattle.std.proofs.Common.{◌≡◌, ◌≢◌, ℕ, suc, ◌+◌, Bool, true, false, cond, ◌==◌, refl, sym, ap, ◌∙◌, arith, eq-eqb, eqb-true, ne_eqb, inl, inr, not, ◌&&◌, ◌||◌, nat_lt, nat_le, length, List}
-use Rattle.std.proofs.lemmas.Bool.{leb-true}
-use Rattle.counting.proofs.Common.{cases_Bool, cases_eq, both_ways, and_from, and_parts, false_from_ne_true}
-use Rattle.counting.specs.Common.{Within, count, Set, none, mem}
-use Rattle.graph_core.specs.Common.{Graph, HasEnds, IsGraph, degree, size}
-use Rattle.match_search.specs.Forests.{IsForest}
-use Rattle.match_search.specs.Frames.{Frame}
-use Rattle.match_search.specs.Instances.{Touches}
-use Rattle.match_search.specs.AlternatingForests.{HoldsMatching, HoldsAlternating, HasBranched, GoesUp, IsDone}
-use Rattle.match_search.specs.Rows.{numbers}
+use Rattle.std.proofs.Common.{◌≡◌, ◌≢◌, ℕ, suc, ◌+◌, Bool, true, false, cond, ◌==◌, refl, sym, ap, ◌∙◌, arith, eq-eqb, eqb-true, ne_eqb, inl, inr, not, ◌&&◌, ◌||◌, nat_lt, nat_le, length, List, leb-true}
+use Rattle.counting.proofs.Common.{cases_Bool, cases_eq, both_ways, and_from, and_parts, false_from_ne_true, Within, count, Set, none, mem}
+use Rattle.graph_core.proofs.Common.{Graph, HasEnds, IsGraph, degree, size}
+use Rattle.match_search.specs.Common.{IsForest, Frame, Touches, HoldsMatching, HoldsAlternating, HasBranched, GoesUp, IsDone, numbers}
 use Rattle.match_search.specs.declared.instance.Instance.{Instance}
 use Rattle.match_search.specs.declared.alternating.AlternatingForest.{AlternatingForest}
 use Rattle.match_search.proofs.Alike.{forest_alike}

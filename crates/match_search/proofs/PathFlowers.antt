@@ -1,17 +1,9 @@
 -- The blossom that two paths of a forest close. Two paths that meet are one up to the base, and
 -- the vertices on one of them alone are the others of the blossom.
 use Rattle.std.proofs.Common.{◌≡◌, ◌≢◌, ◌↔◌, ℕ, suc, ◌+◌, ◌-◌, ◌≤◌, ◌<◌, Bool, true, false, cond, refl, sym, ap, ◌∙◌, arith, inl, inr, ◌⊎◌, not, ◌&&◌, ◌||◌, ◌==◌, subst, eq-eqb, eqb-true, List}
-use Rattle.counting.proofs.Common.{and_from, both_ways, cases_Bool, cases_eq, cases_lt, false_from_ne_true, half, odd-double, only_one, or_cases, or_left, or_right, some_true, true_some, true≢false}
-use Rattle.counting.specs.Common.{Within, is_odd, Set, mem, minus}
-use Rattle.graph_core.specs.Common.{Graph, HasEnds, degree, missed_count}
-use Rattle.match_search.specs.AlternatingForests.{HoldsAlternating}
-use Rattle.match_search.specs.Blossoms.{ClosesForest}
-use Rattle.match_search.specs.Flowers.{GoesOver, HoldsFlower, IsLastIn, OnPath}
-use Rattle.match_search.specs.Forests.{IsAlternating, flipped}
-use Rattle.match_search.specs.Mates.{cleared_mates, flipped_mates, flipped_over}
-use Rattle.match_search.specs.OddCycles.{every_other, listed, picked}
-use Rattle.match_search.specs.Rows.{numbers}
-use Rattle.match_search.specs.Steps.{IsOpened}
+use Rattle.counting.proofs.Common.{and_from, both_ways, cases_Bool, cases_eq, cases_lt, false_from_ne_true, half, odd-double, only_one, or_cases, or_left, or_right, some_true, true_some, true≢false, Within, is_odd, Set, mem, minus}
+use Rattle.graph_core.proofs.Common.{Graph, HasEnds, degree, missed_count}
+use Rattle.match_search.specs.Common.{HoldsAlternating, ClosesForest, GoesOver, HoldsFlower, IsLastIn, OnPath, IsAlternating, flipped, cleared_mates, flipped_mates, flipped_over, every_other, listed, picked, numbers, IsOpened}
 use Rattle.match_search.specs.declared.alternating.AlternatingForest.{AlternatingForest}
 use Rattle.match_search.specs.declared.growing.Adjacent.{Adjacent}
 use Rattle.match_search.proofs.ClosingEdges.{around, cycle, edges_around, high, low, spot, stem_count, stem_free, stem_holds, stem_matching}

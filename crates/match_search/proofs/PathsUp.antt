@@ -1,12 +1,8 @@
 -- One step of the path up from an outer vertex: over its mate to its grandparent.
 use Rattle.std.proofs.Common.{◌≡◌, ◌≢◌, ℕ, suc, ◌+◌, ◌≤◌, ◌<◌, true, sym, ap, ◌∙◌, arith, inl, inr, subst, List, get_or}
-use Rattle.std.proofs.lemmas.Grind.{get_or_default_zero}
-use Rattle.counting.proofs.Common.{cases_eq}
-use Rattle.counting.specs.Common.{Within, Set, mem}
-use Rattle.graph_core.specs.Common.{Graph}
-use Rattle.match_search.specs.AlternatingForests.{HoldsAlternating}
-use Rattle.match_search.specs.Mates.{with_mate}
-use Rattle.match_search.specs.Rows.{numbers}
+use Rattle.counting.proofs.Common.{get_or_default_zero, cases_eq, Within, Set, mem}
+use Rattle.graph_core.proofs.Common.{Graph}
+use Rattle.match_search.specs.Common.{HoldsAlternating, with_mate, numbers}
 use Rattle.match_search.specs.declared.alternating.AlternatingForest.{AlternatingForest}
 use Rattle.match_search.proofs.MatePairs.{with_here, with_there}
 

@@ -1,13 +1,9 @@
 -- What the neighbours of an outer vertex that are left and not inner tell, and that a branch more
 -- is a step nearer to the end.
 use Rattle.std.proofs.Common.{◌≡◌, ◌≢◌, ℕ, suc, ◌+◌, ◌-◌, ◌*◌, ◌≤◌, ◌<◌, true, false, ◌==◌, sym, ap, ◌∙◌, arith, eq-eqb, ne_eqb, inl, inr, not, ◌&&◌, ◌||◌, List, []}
-use Rattle.counting.proofs.Common.{cases_Bool, both_ways, and_parts, and_from, not-true, false_from_ne_true, count_le}
-use Rattle.counting.specs.Common.{Within, count, Set, mem}
-use Rattle.graph_core.proofs.Common.{count_gained, count_lost}
-use Rattle.graph_core.specs.Common.{Graph}
-use Rattle.match_search.specs.AlternatingForests.{HoldsAlternating, IsDone, HasBranched}
-use Rattle.match_search.specs.Instances.{AreNear, Touches}
-use Rattle.match_search.specs.Rows.{numbers}
+use Rattle.counting.proofs.Common.{cases_Bool, both_ways, and_parts, and_from, not-true, false_from_ne_true, count_le, Within, count, Set, mem}
+use Rattle.graph_core.proofs.Common.{count_gained, count_lost, Graph}
+use Rattle.match_search.specs.Common.{HoldsAlternating, IsDone, HasBranched, AreNear, Touches, numbers}
 use Rattle.match_search.specs.declared.instance.Instance.{Instance}
 use Rattle.match_search.specs.declared.alternating.AlternatingForest.{AlternatingForest}
 use Rattle.match_search.proofs.SymmetricDifference.{path_short}

@@ -1,10 +1,8 @@
 -- Two matchings with the same mates have the same degrees, so they have as many edges.
 use Rattle.std.proofs.Common.{◌≡◌, ℕ, ◌+◌, ◌*◌, ◌==◌, Bool, true, false, refl, sym, ap, ◌∙◌, arith, inl, inr, not, ◌&&◌, eq-eqb, ne_eqb}
-use Rattle.counting.proofs.Common.{cases_eq, total_congr}
-use Rattle.counting.specs.Common.{Within, bit, count, Set, complement}
-use Rattle.graph_core.proofs.Common.{missed_edges}
-use Rattle.graph_core.specs.Common.{Graph, IsGraph, degree, size, missed_count}
-use Rattle.match_search.specs.Mates.{HasMates}
+use Rattle.counting.proofs.Common.{cases_eq, total_congr, Within, bit, count, Set, complement}
+use Rattle.graph_core.proofs.Common.{missed_edges, Graph, IsGraph, degree, size, missed_count}
+use Rattle.match_search.specs.Common.{HasMates}
 use Rattle.match_search.proofs.Forests.{met}
 
 -- a vertex has one edge of the matching if it has a mate, and none if it is exposed

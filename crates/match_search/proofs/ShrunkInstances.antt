@@ -2,12 +2,9 @@
 -- has the neighbours and the members of the blossom's vertices: what one of them touched it
 -- touches, and what touched one of them touches it.
 use Rattle.std.proofs.Common.{◌≡◌, ◌≢◌, ℕ, Bool, true, false, cond, ◌==◌, refl, sym, ap, ◌∙◌, arith, eq-eqb, eqb-true, ne_eqb, inl, inr, not, ◌&&◌, ◌||◌, List, subst, nat_lt, nat_le}
-use Rattle.counting.proofs.Common.{and_parts, cases_Bool, cases_eq, both_ways, or_cases, true≢false, false_from_ne_true}
-use Rattle.counting.specs.Common.{Within, Set, mem, item}
-use Rattle.graph_core.specs.Common.{Graph, HasEnds, IsGraph, first_end, second_end, size, with_ends}
-use Rattle.match_search.specs.Frames.{IsShrunk, shrunk_removed, shrunk_vertex}
-use Rattle.match_search.specs.Instances.{IsInstance, Touches}
-use Rattle.match_search.specs.Shrinkings.{IsShrinking}
+use Rattle.counting.proofs.Common.{and_parts, cases_Bool, cases_eq, both_ways, or_cases, true≢false, false_from_ne_true, Within, Set, mem, item}
+use Rattle.graph_core.proofs.Common.{Graph, HasEnds, IsGraph, first_end, second_end, size, with_ends}
+use Rattle.match_search.specs.Common.{IsShrunk, shrunk_removed, shrunk_vertex, IsInstance, Touches, IsShrinking}
 use Rattle.match_search.specs.declared.instance.Instance.{Instance}
 use Rattle.match_search.proofs.Forests.{turned}
 

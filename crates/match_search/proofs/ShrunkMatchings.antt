@@ -2,11 +2,9 @@
 -- it. Which matchings go down and up? Down goes one that misses z, without its edges in C; up
 -- goes each, with a near-perfect set of C for the end of its edge at z.
 use Rattle.std.proofs.Common.{◌≡◌, ℕ, suc, ◌+◌, ◌*◌, ◌≤◌, ◌≢◌, Bool, true, false, cond, ◌==◌, refl, sym, ap, ap₂, ◌∙◌, arith, ◌&&◌, not, eq-eqb, ne_eqb, inl, inr, List}
-use Rattle.counting.proofs.Common.{cases_eq, cases_Bool, both_ways, false_from_ne_true, total_at, total_congr, total_none}
-use Rattle.counting.specs.Common.{Within, bit, count, Set, minus, union}
-use Rattle.graph_core.proofs.Common.{ends_le_degree, ends_of_is}
-use Rattle.graph_core.specs.Common.{Graph, IsGraph, degree, first_end, second_end, size, with_ends, IsMatching, missed_count}
-use Rattle.match_search.specs.Frames.{IsNearPerfect, IsShrunk, shrunk_removed}
+use Rattle.counting.proofs.Common.{cases_eq, cases_Bool, both_ways, false_from_ne_true, total_at, total_congr, total_none, Within, bit, count, Set, minus, union}
+use Rattle.graph_core.proofs.Common.{ends_le_degree, ends_of_is, Graph, IsGraph, degree, first_end, second_end, size, with_ends, IsMatching, missed_count}
+use Rattle.match_search.specs.Common.{IsNearPerfect, IsShrunk, shrunk_removed}
 use Rattle.match_search.proofs.NearPerfectSets.{count_split, degree_split, bit_minus, bit_union, near_in, far_in, near_perfect_count, at_t, at_other, at_out}
 use Rattle.match_search.proofs.Shrinking.{over, degree_out, degree_in, degree_z, shut_z, shut_in, shut_out}
 

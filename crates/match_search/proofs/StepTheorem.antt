@@ -1,9 +1,8 @@
 -- A matching of G - R can be made larger by one edge, or has a frame. Induction on the vertices
 -- outside R and on the forest: a closing edge augments, or its cycle is shrunk.
 use Rattle.std.proofs.Common.{◌≡◌, ℕ, suc, zero, ◌+◌, ◌-◌, ◌≤◌, ◌<◌, ◌≢◌, Bool, true, false, ◌==◌, refl, sym, ap, ap₂, ◌∙◌, arith, ◌&&◌, not, eq-eqb, ne_eqb, eqb-true, ◌⊎◌, inl, inr, subst, List, length}
-use Rattle.counting.proofs.Common.{cases_eq, cases_Bool, both_ways, and_parts, and_from, not-true, get_or-map, length-map, count_le, scan, some_true, half}
-use Rattle.counting.specs.Common.{Within, count, is_odd, Set, complement, minus, none, union}
-use Rattle.graph_core.specs.Common.{Graph, IsGraph, degree, first_end, second_end, size, HasEnds, with_ends, IsMatching}
+use Rattle.counting.proofs.Common.{cases_eq, cases_Bool, both_ways, and_parts, and_from, not-true, get_or-map, length-map, count_le, scan, some_true, half, Within, count, is_odd, Set, complement, minus, none, union}
+use Rattle.graph_core.proofs.Common.{Graph, IsGraph, degree, first_end, second_end, size, HasEnds, with_ends, IsMatching}
 use Rattle.match_search.proofs.OddCycles.{cycle_holds, cycle_outside, cycle_size, every_other-near_perfect}
 use Rattle.match_search.proofs.LongerPaths.{end_within, ends_by}
 use Rattle.match_search.proofs.Forests.{first_outer, forest_start, outer_edge, turned, final_frame}
@@ -13,9 +12,7 @@ use Rattle.match_search.proofs.AlternatingPaths.{two_paths}
 use Rattle.match_search.proofs.Shrinking.{shrunk_graph, tip}
 use Rattle.match_search.proofs.ShrunkMatchings.{down, up}
 use Rattle.match_search.proofs.ShrunkFrames.{frame_up, complement_size}
-use Rattle.match_search.specs.OddCycles.{IsOddCycle, listed, every_other, picked}
-use Rattle.match_search.specs.Forests.{IsAlternating, IsForest}
-use Rattle.match_search.specs.Frames.{Frame, IsNearPerfect, IsShrunk, shrunk_ends, shrunk_vertex, shrunk_removed}
+use Rattle.match_search.specs.Common.{IsOddCycle, listed, every_other, picked, IsAlternating, IsForest, Frame, IsNearPerfect, IsShrunk, shrunk_ends, shrunk_vertex, shrunk_removed}
 
 pub shrunk_ends_shrunk : (g : Graph) (c : Set) (z : ℕ) → IsShrunk g c z (shrunk_ends g c z)
 shrunk_ends_shrunk g c z = record {

@@ -1,11 +1,10 @@
 -- The order and the ends of a graph, as the code reads them, make the graph again.
 -- What is proved of these ends is so said of the graph, by one equation.
 use Rattle.std.proofs.Common.{◌≡◌, ℕ, suc, ◌-◌, ◌<◌, List, length, sym, ap, ◌∙◌, arith, subst, inl}
-use Rattle.counting.specs.Common.{Within}
-use Rattle.graph_core.specs.Common.{Graph, HasEnds, IsGraph, first_end, second_end, size, AreRows, graph_of, IsWithinLimits}
+use Rattle.counting.proofs.Common.{Within}
+use Rattle.graph_core.proofs.Common.{Graph, HasEnds, IsGraph, first_end, second_end, size, AreRows, graph_of, IsWithinLimits}
 use Rattle.graph_core.specs.declared.ends.Ends.{Ends}
-use Rattle.match_search.specs.Rows.{end_a, end_b}
-use Rattle.match_search.specs.GraphRows.{AreEnds, IsGraphRow}
+use Rattle.match_search.specs.Common.{end_a, end_b, AreEnds, IsGraphRow}
 use Rattle.match_search.proofs.GraphRows.{size_is, near_is, far_is}
 
 module _ (g : Graph) (n : ℕ) (ends : List Ends) (order : n ≡ g.order) (same : graph_of g.order ends ≡ g) where

@@ -15,3 +15,4 @@ pub mod Optimal
 pub mod Questions
 pub mod Missable
 pub mod Flowers
+pub mod Common

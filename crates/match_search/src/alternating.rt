@@ -6,8 +6,7 @@
 //! parent, an outer neighbour.
 ghost use Rattle.std.specs.Prelude.{◌≡◌, ℕ, ◌+◌, ◌<◌, ◌≤◌, ◌==◌, ◌&&◌, true, false, length, suc, IfOk};
 ghost use Rattle.counting.specs.Common.{Within, mem};
-ghost use Rattle.match_search.specs.AlternatingForests.{AreExposed, HasBranched, IsSized, MayBeExposed};
-ghost use Rattle.match_search.specs.Rows.{numbers};
+ghost use Rattle.match_search.specs.Common.{AreExposed, HasBranched, IsSized, MayBeExposed, numbers};
 
 use std::alloc::{AllocError as Memory, Global};
 use vset_core::{MOST_VERTICES, VSet};

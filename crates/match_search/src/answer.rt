@@ -5,7 +5,7 @@
 //! ones form components of odd order, of which a matching can serve no more than there are inner
 //! vertices: it misses a vertex in each of the others, so none is larger.
 ghost use Rattle.counting.specs.Common.{mem};
-ghost use Rattle.match_search.specs.Steps.{IsWidened};
+ghost use Rattle.match_search.specs.Common.{IsWidened};
 
 use vset_core::VSet;
 

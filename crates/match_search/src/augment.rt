@@ -12,9 +12,7 @@
 ghost use Rattle.std.specs.Prelude.{◌≡◌, ◌<◌, length, IfOk, OnOk, Some};
 ghost use Rattle.counting.specs.Common.{Set};
 ghost use Rattle.graph_core.specs.Common.{Graph};
-ghost use Rattle.match_search.specs.AlternatingForests.{HoldsMatching, IsSized, MayBeExposed};
-ghost use Rattle.match_search.specs.Blossoms.{ClosesForest, ExposesOnly, IsClosed, IsMateStep};
-ghost use Rattle.match_search.specs.Shrinkings.{AreAlike};
+ghost use Rattle.match_search.specs.Common.{HoldsMatching, IsSized, MayBeExposed, ClosesForest, ExposesOnly, IsClosed, IsMateStep, AreAlike};
 
 use crate::alternating::{AlternatingForest, exposed_in};
 use crate::answer::{Answer, FinalSets, widen};

@@ -4,12 +4,7 @@
 ghost use Rattle.std.specs.Prelude.{◌≡◌, ◌+◌, ◌==◌, ◌&&◌, not, length, IfOk, OnOk};
 ghost use Rattle.counting.specs.Common.{Within, mem, Set};
 ghost use Rattle.graph_core.specs.Common.{Graph, AreRows, graph_of, IsMatching};
-ghost use Rattle.match_search.specs.AlternatingForests.{HoldsMatching};
-ghost use Rattle.match_search.specs.Rows.{marks};
-ghost use Rattle.match_search.specs.GraphRows.{IsGraphRow};
-ghost use Rattle.match_search.specs.Missable.{HasFrame};
-ghost use Rattle.match_search.specs.Optimal.{IsBest};
-ghost use Rattle.match_search.specs.Shrinkings.{AreAlike};
+ghost use Rattle.match_search.specs.Common.{HoldsMatching, marks, IsGraphRow, HasFrame, IsBest, AreAlike};
 
 use crate::alternating::AlternatingForest;
 use crate::answer::{Answer, FinalSets};

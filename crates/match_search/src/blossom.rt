@@ -5,9 +5,7 @@
 ghost use Rattle.std.specs.Prelude.{◌≡◌, ◌≢◌, ℕ, ◌+◌, ◌-◌, ◌<◌, ◌≤◌, true, length, suc, IfOk, Some};
 ghost use Rattle.counting.specs.Common.{Within, Set, mem};
 ghost use Rattle.graph_core.specs.Common.{Graph};
-ghost use Rattle.match_search.specs.Blossoms.{AreClosingPaths, ExposesOnly, HoldsBlossom, IsCompleted, MayOpen, IsAugmented, IsClosed, second_start};
-ghost use Rattle.match_search.specs.Meetings.{IsLastMeeting};
-ghost use Rattle.match_search.specs.Rows.{numbers, part};
+ghost use Rattle.match_search.specs.Common.{AreClosingPaths, ExposesOnly, HoldsBlossom, IsCompleted, MayOpen, IsAugmented, IsClosed, second_start, IsLastMeeting, numbers, part};
 
 use crate::cycle::{Meeting, cycle_vertices, last_meeting, members_of};
 use crate::instance::Instance;

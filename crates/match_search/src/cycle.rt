@@ -1,9 +1,7 @@
 //! The odd cycle that an edge between two outer vertices makes of their paths, which meet.
 ghost use Rattle.std.specs.Prelude.{◌≡◌, ◌≢◌, ℕ, ◌+◌, ◌-◌, ◌<◌, ◌≤◌, length, slice_index, IfOk, Some, None};
 ghost use Rattle.counting.specs.Common.{Within, is_odd, mem};
-ghost use Rattle.match_search.specs.OddCycles.{every_other, listed};
-ghost use Rattle.match_search.specs.Rows.{numbers};
-ghost use Rattle.match_search.specs.Meetings.{IsLastMeeting};
+ghost use Rattle.match_search.specs.Common.{every_other, listed, numbers, IsLastMeeting};
 
 use crate::rows::{find_in, push_part, push_part_back};
 use std::alloc::{AllocError as Memory, Global};

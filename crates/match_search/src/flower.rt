@@ -4,11 +4,7 @@
 ghost use Rattle.std.specs.Prelude.{◌≡◌, ◌↔◌, ℕ, ◌+◌, ◌<◌, ◌≤◌, true, false, cond, length};
 ghost use Rattle.counting.specs.Common.{Set, mem};
 ghost use Rattle.graph_core.specs.Common.{Graph, missed_count};
-ghost use Rattle.match_search.specs.AlternatingForests.{HoldsAlternating};
-ghost use Rattle.match_search.specs.Blossoms.{ClosesForest};
-ghost use Rattle.match_search.specs.Flowers.{GoesOver, HoldsFlower, HoldsForest, IsLastIn, OnPath};
-ghost use Rattle.match_search.specs.Mates.{flipped_over};
-ghost use Rattle.match_search.specs.Rows.{numbers};
+ghost use Rattle.match_search.specs.Common.{HoldsAlternating, ClosesForest, GoesOver, HoldsFlower, HoldsForest, IsLastIn, OnPath, flipped_over, numbers};
 
 use crate::alternating::AlternatingForest;
 use crate::growing::Adjacent;

@@ -5,8 +5,7 @@
 ghost use Rattle.std.specs.Prelude.{◌≡◌, ℕ, ◌+◌, ◌<◌, ◌≤◌, length, suc, IfOk, IfSome, IfNone, []};
 ghost use Rattle.counting.specs.Common.{Set, Within, mem};
 ghost use Rattle.graph_core.specs.Common.{Graph};
-ghost use Rattle.match_search.specs.AlternatingForests.{AreExposed, HoldsMatching, IsGrownForest, IsMember, IsSized};
-ghost use Rattle.match_search.specs.Rows.{numbers};
+ghost use Rattle.match_search.specs.Common.{AreExposed, HoldsMatching, IsGrownForest, IsMember, IsSized, numbers};
 
 use crate::alternating::AlternatingForest;
 use crate::instance::Instance;

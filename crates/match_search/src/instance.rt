@@ -10,8 +10,7 @@
 ghost use Rattle.std.specs.Prelude.{◌≡◌, ◌≢◌, ℕ, ◌+◌, ◌-◌, ◌<◌, ◌≤◌, true, false, length, IfOk, ◌∷◌, [], ◌↔◌};
 ghost use Rattle.counting.specs.Common.{Within, Set, mem, item};
 ghost use Rattle.graph_core.specs.Common.{Graph, IsGraph, AreRows};
-ghost use Rattle.match_search.specs.Instances.{AreNear, IsInstance};
-ghost use Rattle.match_search.specs.Shrinkings.{IsGathered, IsPutBack, IsShrinking, IsUnionOf, IsUnshrunk};
+ghost use Rattle.match_search.specs.Common.{AreNear, IsInstance, IsGathered, IsPutBack, IsShrinking, IsUnionOf, IsUnshrunk};
 
 use std::alloc::{AllocError as Memory, Global};
 use vset_core::{MOST_VERTICES, VSet};

@@ -3,9 +3,7 @@
 ghost use Rattle.std.specs.Prelude.{◌≡◌, ◌+◌, ◌<◌, ◌==◌, length, IfOk};
 ghost use Rattle.counting.specs.Common.{Set};
 ghost use Rattle.graph_core.specs.Common.{graph_of};
-ghost use Rattle.match_search.specs.Mates.{HasMates};
-ghost use Rattle.match_search.specs.Rows.{marks, numbers};
-ghost use Rattle.match_search.specs.GraphRows.{IsGraphRow};
+ghost use Rattle.match_search.specs.Common.{HasMates, marks, numbers, IsGraphRow};
 
 use crate::best::is_addable;
 use crate::rows::{falses, mark_place};

@@ -2,10 +2,7 @@
 ghost use Rattle.std.specs.Prelude.{◌≡◌, ℕ, ◌+◌, ◌-◌, ◌^◌, ◌<◌, ◌≤◌, cond, length, IfOk};
 ghost use Rattle.counting.specs.Common.{Within, Set};
 ghost use Rattle.graph_core.specs.Common.{IsMatching, graph_of};
-ghost use Rattle.match_search.specs.GraphRows.{AreEnds, IsGraphRow};
-ghost use Rattle.match_search.specs.OddCycles.{every_other, next};
-ghost use Rattle.match_search.specs.Mates.{HasMates, NamesMates, with_mate, with_pair, flipped_mates, cleared_mates, paired_round};
-ghost use Rattle.match_search.specs.Rows.{marks, numbers, part};
+ghost use Rattle.match_search.specs.Common.{AreEnds, IsGraphRow, every_other, next, HasMates, NamesMates, with_mate, with_pair, flipped_mates, cleared_mates, paired_round, marks, numbers, part};
 
 use crate::cycle::is_every_other;
 use graph_core::Ends;

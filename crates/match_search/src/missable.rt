@@ -5,11 +5,7 @@
 ghost use Rattle.std.specs.Prelude.{◌≡◌, ℕ, ◌+◌, ◌-◌, ◌<◌, ◌≤◌, ◌==◌, ◌&&◌, true, length, IfOk, OnOk, Some, ◌∷◌, []};
 ghost use Rattle.counting.specs.Common.{count, mem, Set, singleton, union};
 ghost use Rattle.graph_core.specs.Common.{Graph};
-ghost use Rattle.match_search.specs.AlternatingForests.{HoldsMatching};
-ghost use Rattle.match_search.specs.Mates.{with_mate};
-ghost use Rattle.match_search.specs.Missable.{IsMissableRow};
-ghost use Rattle.match_search.specs.Rows.{numbers};
-ghost use Rattle.match_search.specs.Shrinkings.{AreAlike};
+ghost use Rattle.match_search.specs.Common.{HoldsMatching, with_mate, IsMissableRow, numbers, AreAlike};
 
 use crate::alternating::{AlternatingForest, exposed_in};
 use crate::best::last_frame;

@@ -6,9 +6,7 @@
 ghost use Rattle.std.specs.Prelude.{◌≡◌, ◌≤◌, length};
 ghost use Rattle.counting.specs.Common.{Set};
 ghost use Rattle.graph_core.specs.Common.{Graph};
-ghost use Rattle.match_search.specs.AlternatingForests.{IsSized};
-ghost use Rattle.match_search.specs.Flowers.{HasOuter, HoldsRooted};
-ghost use Rattle.match_search.specs.Shrinkings.{AreAlike};
+ghost use Rattle.match_search.specs.Common.{IsSized, HasOuter, HoldsRooted, AreAlike};
 
 use crate::alternating::AlternatingForest;
 use crate::flower::{Flower, flower_of};

@@ -3,10 +3,7 @@
 ghost use Rattle.std.specs.Prelude.{◌≡◌, ℕ, ◌+◌, ◌<◌, ◌≤◌, true, length, suc, IfOk};
 ghost use Rattle.counting.specs.Common.{Set, mem};
 ghost use Rattle.graph_core.specs.Common.{Graph};
-ghost use Rattle.match_search.specs.AlternatingForests.{HoldsAlternating};
-ghost use Rattle.match_search.specs.Blossoms.{AreClosingPaths, ClosesForest};
-ghost use Rattle.match_search.specs.Mates.{with_mate};
-ghost use Rattle.match_search.specs.Rows.{numbers};
+ghost use Rattle.match_search.specs.Common.{HoldsAlternating, AreClosingPaths, ClosesForest, with_mate, numbers};
 
 use crate::alternating::AlternatingForest;
 use crate::growing::Adjacent;

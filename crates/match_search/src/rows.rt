@@ -2,7 +2,7 @@
 //! and marked places.
 ghost use Rattle.std.specs.Prelude.{◌≡◌, ◌≢◌, ℕ, ◌+◌, ◌-◌, ◌<◌, ◌≤◌, length, slice_index, IfOk, Some, None, All, ◌||◌, false, true};
 ghost use Rattle.counting.specs.Common.{mem, put};
-ghost use Rattle.match_search.specs.Rows.{marks};
+ghost use Rattle.match_search.specs.Common.{marks};
 
 use std::alloc::{AllocError as Memory, Global};
 

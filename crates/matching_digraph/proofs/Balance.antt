@@ -2,11 +2,9 @@
 -- more on the one side as edges leave it from there more than from the other. So a tight set has
 -- one vertex more of one side, and all edges of its cut leave it there.
 use Rattle.std.proofs.Common.{◌≡◌, ℕ, ◌+◌, Bool, true, false, refl, sym, ap, arith, ◌&&◌, ◌||◌, not, inl, inr}
-use Rattle.counting.proofs.Common.{cases_eq, true≢false, and_parts, count_zero, total_congr, total_add, total_none, and_fails_second}
-use Rattle.barrier_kit.proofs.Matched.{inner, loop_free}
-use Rattle.graph_core.specs.Common.{IsSide, IsCovered, Graph, size, first_end, second_end, IsGraph, connects, in_cut, edges_in_cut, IsPerfect, CutIsTight}
-use Rattle.counting.specs.Common.{bit, count, Within, Set, none, minus, meet, complement}
-use Rattle.graph_core.proofs.Common.{covered_perfect, parity}
+use Rattle.counting.proofs.Common.{cases_eq, true≢false, and_parts, count_zero, total_congr, total_add, total_none, and_fails_second, bit, count, Within, Set, none, minus, meet, complement}
+use Rattle.barrier_kit.proofs.Common.{inner, loop_free}
+use Rattle.graph_core.proofs.Common.{IsSide, IsCovered, Graph, size, first_end, second_end, IsGraph, connects, in_cut, edges_in_cut, IsPerfect, CutIsTight, covered_perfect, parity}
 
 module _ (g : Graph) (is : IsGraph g) where
   -- a perfect matching has no loop, so its edges cross

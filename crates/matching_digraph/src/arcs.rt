@@ -3,7 +3,7 @@ ghost use Rattle.std.specs.Prelude.{◌≡◌, ◌≤◌, ◌==◌, ◌&&◌, �
 ghost use Rattle.std.specs.List.{list_any};
 ghost use Rattle.counting.specs.Common.{Within, item, mem, none};
 ghost use Rattle.graph_core.specs.Common.{adjacent};
-ghost use Rattle.match_core.specs.MatchingRows.{IsOf, edges_of};
+ghost use Rattle.match_core.specs.Common.{IsOf, edges_of};
 ghost use Rattle.matching_digraph.specs.Digraph.{AreArcs};
 ghost use Rattle.matching_digraph.specs.MatchedPairs.{row_joins};
 

@@ -1,10 +1,8 @@
 -- Two lists side by side, and orders: lists of numbers that hold k + 1 to k + n once each and no
 -- other number.
-use Rattle.std.proofs.Common.{◌≡◌, ℕ, suc, zero, ◌+◌, ◌≤◌, ◌<◌, cond, List, [], ◌∷◌, ◌++◌, length, ◌⊎◌, inl, inr, refl, sym, ap, ap₂, ◌∙◌, arith, eq-eqb, ne_eqb}
-use Rattle.std.specs.Prelude.{slice_index, slice_index_or}
-use Rattle.counting.proofs.Common.{cases_lt}
-use Rattle.counting.specs.Common.{bit, times}
-use Rattle.tree_core.specs.Common.{numbers, position}
+use Rattle.std.proofs.Common.{◌≡◌, ℕ, suc, zero, ◌+◌, ◌≤◌, ◌<◌, cond, List, [], ◌∷◌, ◌++◌, length, ◌⊎◌, inl, inr, refl, sym, ap, ap₂, ◌∙◌, arith, eq-eqb, ne_eqb, slice_index, slice_index_or}
+use Rattle.counting.proofs.Common.{cases_lt, bit, times}
+use Rattle.tree_core.proofs.Common.{numbers, position}
 
 -- numbers and partitions side by side, each two related by R
 abbrev pub Aligned : (ℕ → List (List ℕ) → Type 0) → List ℕ → List (List (List ℕ)) → Type 0

@@ -1,19 +1,14 @@
 -- Carrying there and back: a tree whose shores are canonical unions of blocks is carried back to
 -- itself, so what is carried to a derivation was one.
 use Rattle.std.proofs.Common.{◌≡◌, ℕ, ◌-◌, Bool, true, false, not, List, refl, ap, ◌∙◌, arith, subst}
-use Rattle.counting.proofs.Common.{mem-within, member-of_set, mem-outside, mem-rising_list, rising_list-rises, same_rising_list, not_not}
-use Rattle.counting.specs.Common.{Within, IsRisingIn, mem, rising_list}
-use Rattle.graph_core.proofs.Common.{complement_of-rises, union-complement_of, closed_up, merged_merges}
-use Rattle.graph_core.specs.Common.{Graph, IsGraph, AreBlocks, IsPartition, complement_of, IsUnion}
-use Rattle.tree_core.proofs.DerivationStands.{partition-kept, partition-merged}
-use Rattle.tree_core.proofs.Shores.{complement-nonempty}
-use Rattle.tree_core.specs.Common.{IsDerivationAt, kept_at, merged_at, StandsAt, Fits, Shape, cut, leaf}
+use Rattle.counting.proofs.Common.{mem-within, member-of_set, mem-outside, mem-rising_list, rising_list-rises, same_rising_list, not_not, Within, IsRisingIn, mem, rising_list}
+use Rattle.graph_core.proofs.Common.{complement_of-rises, union-complement_of, closed_up, merged_merges, Graph, IsGraph, AreBlocks, IsPartition, complement_of, IsUnion}
+use Rattle.tree_core.proofs.Common.{partition-kept, partition-merged, complement-nonempty, IsDerivationAt, kept_at, merged_at, StandsAt, Fits, Shape, cut, leaf}
 use Rattle.move_laws.proofs.CarriedTrees.{carried_derives}
 use Rattle.move_laws.proofs.Images.{turned}
 use Rattle.move_laws.proofs.Rising.{rising-derivation_at}
 use Rattle.move_laws.proofs.Switches.{Each, each_up, same_cut}
-use Rattle.move_laws.specs.Isomorphisms.{Isomorphism, carry, carry_cut}
-use Rattle.move_laws.specs.Scripts.{AreRising}
+use Rattle.move_laws.specs.Common.{Isomorphism, carry, carry_cut, AreRising}
 
 -- where the shores of a tree stand, each is a canonical union of blocks of the partition at its
 -- root, and a rising list

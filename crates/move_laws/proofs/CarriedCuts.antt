@@ -2,14 +2,12 @@
 -- the image of a shore or the image's complement is a cut again, and each side of the cut at the
 -- one partition has its image as a side of that at the other.
 use Rattle.std.proofs.Common.{Bool, List, ap, arith, false, inl, inr, length, not, refl, sym, true, ℕ, ◌∙◌, ◌≡◌, ◌≤◌}
-use Rattle.counting.proofs.Common.{bit_true, mem-rising_list, rising_list-rises, some_term, not_not, not_not_back}
-use Rattle.counting.specs.Common.{Within, bit, IsRisingIn, mem, rising_list, Set, complement}
-use Rattle.graph_core.proofs.Common.{at_rep, block_count_congr, block_count_rest, rep, rep_in, tight_congr, tight_rest, union_congr, union_rest, complement_of-rises, mem-complement_of, Some, alike_down, alike_in, alike_up, merge_of, same_side, merged_merges}
-use Rattle.graph_core.specs.Common.{Graph, IsGraph, first_end, second_end, AreBlocks, IsMerge, complement_of, merged, place, IsTightAt, IsUnion, block_count, blocks_in, IsNontrivial}
-use Rattle.tree_core.specs.Common.{IsCutAt}
+use Rattle.counting.proofs.Common.{bit_true, mem-rising_list, rising_list-rises, some_term, not_not, not_not_back, Within, bit, IsRisingIn, mem, rising_list, Set, complement}
+use Rattle.graph_core.proofs.Common.{at_rep, block_count_congr, block_count_rest, rep, rep_in, tight_congr, tight_rest, union_congr, union_rest, complement_of-rises, mem-complement_of, Some, alike_down, alike_in, alike_up, merge_of, same_side, merged_merges, Graph, IsGraph, first_end, second_end, AreBlocks, IsMerge, complement_of, merged, place, IsTightAt, IsUnion, block_count, blocks_in, IsNontrivial}
+use Rattle.tree_core.proofs.Common.{IsCutAt}
 use Rattle.move_laws.proofs.Images.{image_at, image_nontrivial, image_tight}
 use Rattle.move_laws.proofs.Rising.{bounds}
-use Rattle.move_laws.specs.Isomorphisms.{Isomorphism, OneWay, pre}
+use Rattle.move_laws.specs.Common.{Isomorphism, OneWay, pre}
 
 -- one way of an isomorphism after merging x on one side and y, its image, on the other
 over_merge : (g : Graph) (is : IsGraph g) (p q r s : List (List ℕ)) (h k : ℕ → ℕ) (x y : Set) → AreBlocks g.order p → AreBlocks g.order q → IsUnion g.order p x → IsUnion g.order q y →

@@ -1,21 +1,15 @@
 -- The leaves of a carried tree: they are those of the tree, as same leaves by the names of the
 -- images of blocks, and two parts change their places where the complement of an image is taken.
-use Rattle.std.proofs.Common.{Bool, List, ap, arith, false, length, not, refl, sym, true, ℕ, ◌∙◌, ◌≡◌, cond, map, subst, ◌+◌, ◌-◌}
-use Rattle.counting.proofs.Common.{get_or-map, length-map, map-append}
-use Rattle.std.specs.Prelude.{[], ◌++◌}
-use Rattle.counting.specs.Common.{Within, mem, rising_list, last_of}
-use Rattle.graph_core.proofs.Common.{rep, merged_blocks, alike_up, covered_merged, Finer}
-use Rattle.graph_core.specs.Common.{IsCovered, Graph, IsGraph, AreBlocks, complement_of, contracted, merged, place, IsPartition, block}
-use Rattle.tree_core.proofs.Sizes.{length-leaves_at}
-use Rattle.tree_core.specs.Common.{IsCutAt, IsDerivationAt, kept_at, merged_at, numbers, leaves_at, Shape, cut, leaf, leaf_count}
+use Rattle.std.proofs.Common.{Bool, List, ap, arith, false, length, not, refl, sym, true, ℕ, ◌∙◌, ◌≡◌, cond, map, subst, ◌+◌, ◌-◌, [], ◌++◌}
+use Rattle.counting.proofs.Common.{get_or-map, length-map, map-append, Within, mem, rising_list, last_of}
+use Rattle.graph_core.proofs.Common.{rep, merged_blocks, alike_up, covered_merged, Finer, IsCovered, Graph, IsGraph, AreBlocks, complement_of, contracted, merged, place, IsPartition, block}
+use Rattle.tree_core.proofs.Common.{length-leaves_at, IsCutAt, IsDerivationAt, kept_at, merged_at, numbers, leaves_at, Shape, cut, leaf, leaf_count}
 use Rattle.move_laws.proofs.CarriedCuts.{IsImage, image-merges, image-merged, image-inside, image-outside, rest-inside, rest-outside}
 use Rattle.move_laws.proofs.Images.{move_is}
 use Rattle.move_laws.proofs.Parts.{Part, part-join, part-one, part-turn}
 use Rattle.move_laws.proofs.Rising.{bounds}
 use Rattle.move_laws.proofs.SameLeaves.{iso_same_leaf}
-use Rattle.move_laws.specs.SameLeaf.{IsSameLeaf}
-use Rattle.move_laws.specs.Isomorphisms.{Isomorphism, carry, carry_cut}
-use Rattle.move_laws.specs.Scripts.{AreRising}
+use Rattle.move_laws.specs.Common.{IsSameLeaf, Isomorphism, carry, carry_cut, AreRising}
 
 -- the old numbers of the leaves in the order of the carried tree, after k others
 abbrev pub carry_order : ℕ → (ℕ → ℕ) → ℕ → Shape → List ℕ

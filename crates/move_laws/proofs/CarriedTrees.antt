@@ -1,13 +1,12 @@
 -- The law of carrying: along an isomorphism of blocks a derivation at one partition is carried to
 -- a derivation at the other.
 use Rattle.std.proofs.Common.{Bool, List, false, not, refl, true, ℕ, ◌≡◌}
-use Rattle.counting.specs.Common.{mem, rising_list}
-use Rattle.graph_core.specs.Common.{Graph, IsGraph, AreBlocks, complement_of, merged}
-use Rattle.tree_core.specs.Common.{IsCutAt, IsDerivationAt, IsLeafAt, Shape, cut, leaf}
+use Rattle.counting.proofs.Common.{mem, rising_list}
+use Rattle.graph_core.proofs.Common.{Graph, IsGraph, AreBlocks, complement_of, merged}
+use Rattle.tree_core.proofs.Common.{IsCutAt, IsDerivationAt, IsLeafAt, Shape, cut, leaf}
 use Rattle.move_laws.proofs.CarriedCuts.{IsImage, image-merges, image-merged, image-cut, rest-cut, image-inside, image-outside, rest-inside, rest-outside}
 use Rattle.move_laws.proofs.Images.{image_nontrivial, image_tight, turned}
-use Rattle.move_laws.specs.Isomorphisms.{Isomorphism, carry, carry_cut, pre}
-use Rattle.move_laws.specs.Scripts.{AreRising}
+use Rattle.move_laws.specs.Common.{Isomorphism, carry, carry_cut, pre, AreRising}
 
 -- t is carried from each partition to each that is the same by h and k
 abbrev pub Carries : Graph → (h k : ℕ → ℕ) → Shape → Type 0

@@ -1,20 +1,16 @@
 -- What one leaf under names of blocks carries to the other: tight shores, derivations, merged
 -- partitions; and the names turned round.
 use Rattle.std.proofs.Common.{◌≡◌, ◌↔◌, ℕ, ◌-◌, ◌<◌, List, [], length, map, sym, ap, ◌∙◌, arith}
-use Rattle.counting.proofs.Common.{get_or-map, length-map, mem-within, member-of_set, mem-rising_list, rising_list-rises}
-use Rattle.counting.specs.Common.{Within, IsRisingIn, last_of, mem, Set}
-use Rattle.graph_core.proofs.Common.{rep, rep_in, rep_place, union_congr, Some, merged_merges}
-use Rattle.graph_core.specs.Common.{Graph, IsGraph, IsPartition, block, merged, place, IsTightAt, IsUnion, blocks_in, IsNontrivial}
-use Rattle.tree_core.proofs.DerivationStands.{stands-derivation_at}
-use Rattle.tree_core.specs.Common.{IsDerivationAt, position, StandsAt, Fits, Shape}
+use Rattle.counting.proofs.Common.{get_or-map, length-map, mem-within, member-of_set, mem-rising_list, rising_list-rises, Within, IsRisingIn, last_of, mem, Set}
+use Rattle.graph_core.proofs.Common.{rep, rep_in, rep_place, union_congr, Some, merged_merges, Graph, IsGraph, IsPartition, block, merged, place, IsTightAt, IsUnion, blocks_in, IsNontrivial}
+use Rattle.tree_core.proofs.Common.{stands-derivation_at, IsDerivationAt, position, StandsAt, Fits, Shape}
 use Rattle.move_laws.proofs.CarriedBack.{carried_back, carried_twice}
 use Rattle.move_laws.proofs.CarriedCuts.{iso_merged}
 use Rattle.move_laws.proofs.CarriedTrees.{carried_derives}
 use Rattle.move_laws.proofs.Images.{image_at, image_nontrivial, image_tight, image_union, move_is, nontrivial_image, tight_image, turned}
 use Rattle.move_laws.proofs.Rising.{rising-derivation_at}
 use Rattle.move_laws.proofs.SameLeaves.{from_name-own, iso_same_leaf, name_place, name_within, same_leaf_iso}
-use Rattle.move_laws.specs.Isomorphisms.{Isomorphism, carry, pre}
-use Rattle.move_laws.specs.SameLeaf.{IsSameLeaf, from_name, image_shore, merged_names, to_name, turned_names}
+use Rattle.move_laws.specs.Common.{Isomorphism, carry, pre, IsSameLeaf, from_name, image_shore, merged_names, to_name, turned_names}
 
 module _ (g : Graph) (p q : List (List ℕ)) (names : List ℕ) (is : IsGraph g) (pp : IsPartition g.order p) (qp : IsPartition g.order q) (same : IsSameLeaf g p q names) where
   iso : Isomorphism g p q (to_name p names) (from_name p q names)

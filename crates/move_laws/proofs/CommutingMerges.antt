@@ -1,10 +1,8 @@
 -- Merges of apart or nested unions of blocks commute: the order of the two changes no pair of
 -- vertices that share a block.
 use Rattle.std.proofs.Common.{Bool, List, false, inl, inr, refl, sym, true, ℕ, ◌∙◌, ◌≡◌}
-use Rattle.counting.proofs.Common.{both_ways, cases_Bool}
-use Rattle.counting.specs.Common.{Within, Set}
-use Rattle.graph_core.proofs.Common.{Below, alike_down, alike_in, alike_up, same_side, Finer}
-use Rattle.graph_core.specs.Common.{AreBlocks, IsMerge, place, IsUnion}
+use Rattle.counting.proofs.Common.{both_ways, cases_Bool, Within, Set}
+use Rattle.graph_core.proofs.Common.{Below, alike_down, alike_in, alike_up, same_side, Finer, AreBlocks, IsMerge, place, IsUnion}
 
 -- first x and then y gives no coarser blocks than first y and then x
 pub commute : (n : ℕ) (p r s t w : List (List ℕ)) (x y : Set) → AreBlocks n p → IsUnion n p x → IsUnion n p y → AreBlocks n r → IsUnion n r y → AreBlocks n t → IsUnion n t x →

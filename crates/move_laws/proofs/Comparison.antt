@@ -1,9 +1,9 @@
 -- Two derivations at one partition are turned into one another: the root shore of the second is
 -- exposed in the first, and then the same below it on both sides.
-use Rattle.tree_core.specs.Common.{below, IsDerivationAt, kept_at, merged_at, Shape, cut, cut_count, leaf}
-use Rattle.move_laws.specs.Scripts.{AreRising}
+use Rattle.tree_core.proofs.Common.{below, IsDerivationAt, kept_at, merged_at, Shape, cut, cut_count, leaf}
+use Rattle.move_laws.specs.Common.{AreRising}
 use Rattle.std.proofs.Common.{List, [], ap, arith, map, mul-add, mul_comm, refl, sym, ℕ, ◌*◌, ◌++◌, ◌+◌, ◌≡◌, ◌≤◌}
-use Rattle.graph_core.specs.Common.{Graph, complement_of}
+use Rattle.graph_core.proofs.Common.{Graph, complement_of}
 use Rattle.tree_core.specs.declared.path.Side.TheVariants.{Kept, Merged}
 use Rattle.move_laws.proofs.BigShores.{Stage, big_rest, cut_big, stage_merged}
 use Rattle.move_laws.proofs.NestedShores.{Compared, Crossed, expose, leaf_not}

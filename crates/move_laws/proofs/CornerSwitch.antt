@@ -1,19 +1,15 @@
 -- A Switch of the two corners of a crossing shore, each of which is one block: the shore, or its
 -- complement, becomes the root shore.
 use Rattle.std.proofs.Common.{Bool, List, None, Some, [], ap, ap₂, arith, false, if◌then◌else◌, inl, inr, not, refl, subst, sym, true, ℕ, ◌&&◌, ◌||◌, ◌∙◌, ◌∷◌, ◌≡◌, ◌⊎◌}
-use Rattle.counting.proofs.Common.{mem-rising_list, rising_list-rises, same_rising_list, true_all_in, all_in_false, nor_right, not_not}
-use Rattle.counting.specs.Common.{Within, IsRisingIn, is_subset, mem, complement, meet, union}
-use Rattle.graph_core.proofs.Common.{complement_of-rises, mem-complement_of}
-use Rattle.graph_core.specs.Common.{Graph, complement_of}
-use Rattle.tree_core.specs.Common.{IsDerivationAt, kept_at, merged_at, IsBlockOf, inner_rest, is_proper, kept_if_greatest_stays, kept_if_greatest_comes, merged_if_greatest_stays, merged_if_greatest_comes, outer_rest, switch_at, switch_result_at, union_list, meet_list, Shape, cut, cut_count}
+use Rattle.counting.proofs.Common.{mem-rising_list, rising_list-rises, same_rising_list, true_all_in, all_in_false, nor_right, not_not, Within, IsRisingIn, is_subset, mem, complement, meet, union}
+use Rattle.graph_core.proofs.Common.{complement_of-rises, mem-complement_of, Graph, complement_of}
+use Rattle.tree_core.proofs.Common.{IsDerivationAt, kept_at, merged_at, IsBlockOf, inner_rest, is_proper, kept_if_greatest_stays, kept_if_greatest_comes, merged_if_greatest_stays, merged_if_greatest_comes, outer_rest, switch_at, switch_result_at, union_list, meet_list, Shape, cut, cut_count}
 use Rattle.move_laws.proofs.BigShores.{Big, Stage, big_rest, big_some, stage_merged}
 use Rattle.move_laws.proofs.Corners.{Corners, corner_of, inner_mem, outer_mem}
 use Rattle.move_laws.proofs.Rising.{bounds}
 use Rattle.move_laws.proofs.Switches.{each_of, kept_greatest_stays, kept_greatest_comes, map_a, map_b, merged_greatest_stays, merged_greatest_comes, inner_rest-mem, outer_rest-mem, switch_greatest_stays, switch_greatest_comes}
 use Rattle.move_laws.proofs.TurningTests.{fits_carry, proper_test}
-use Rattle.move_laws.specs.Corners.{outer_of}
-use Rattle.move_laws.specs.Exchange.{Corner}
-use Rattle.move_laws.specs.Scripts.{AreRising, IsProperScript}
+use Rattle.move_laws.specs.Common.{outer_of, Corner, AreRising, IsProperScript}
 
 -- z is y, or its complement
 abbrev pub Kind : ℕ → (y z : List ℕ) → Type 0

@@ -2,16 +2,13 @@
 -- complement, such that x and z share an odd number of blocks; the inner corner is what they
 -- share and the outer corner is what is outside both.
 use Rattle.std.proofs.Common.{Bool, List, ap, ap₂, arith, false, inl, inr, length, not, subst, suc, sym, true, zero, ℕ, ◌&&◌, ◌||◌, ◌∙◌, ◌≡◌, ◌≤◌, ◌⊎◌}
-use Rattle.counting.proofs.Common.{true≢false, and_left, and_right, only_one, mem-rising_list, rising_list-rises, and_implied}
-use Rattle.counting.specs.Common.{Within, is_odd, IsRisingIn, mem, complement, meet, minus, union}
-use Rattle.graph_core.proofs.Common.{at_place, block_count_congr, block_count_parts, meet_tight_at, tight_congr, tight_rest, union_congr, union_meet, union_rest, union_tight_at, place_in, mem-complement_of, Apart, Below, alike_in, alike_up, block_count_new, block_count_outside, closed_apart, same_side}
-use Rattle.graph_core.specs.Common.{Graph, AreBlocks, complement_of, contracted, merged, place, IsTightAt, IsUnion, block_count, blocks_in}
-use Rattle.tree_core.specs.Common.{IsBlockOf, meet_list}
+use Rattle.counting.proofs.Common.{true≢false, and_left, and_right, only_one, mem-rising_list, rising_list-rises, and_implied, Within, is_odd, IsRisingIn, mem, complement, meet, minus, union}
+use Rattle.graph_core.proofs.Common.{at_place, block_count_congr, block_count_parts, meet_tight_at, tight_congr, tight_rest, union_congr, union_meet, union_rest, union_tight_at, place_in, mem-complement_of, Apart, Below, alike_in, alike_up, block_count_new, block_count_outside, closed_apart, same_side, Graph, AreBlocks, complement_of, contracted, merged, place, IsTightAt, IsUnion, block_count, blocks_in}
+use Rattle.tree_core.proofs.Common.{IsBlockOf, meet_list}
 use Rattle.move_laws.proofs.BigShores.{Big, Stage, big_merge, big_rest, big_some, rest_rest, stage_merged}
 use Rattle.move_laws.proofs.CarriedCuts.{some_of}
 use Rattle.move_laws.proofs.NestedShores.{stays_big}
-use Rattle.move_laws.specs.Exchange.{Corner}
-use Rattle.move_laws.specs.Corners.{outer_of}
+use Rattle.move_laws.specs.Common.{Corner, outer_of}
 
 pub record Corners (g : Graph) (p : List (List ℕ)) (x z : List ℕ) : Type 0 where
   pub stage : Stage g p

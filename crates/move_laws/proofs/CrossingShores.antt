@@ -2,19 +2,16 @@
 -- where they are no single blocks, a Switch exchanges them, and Rotate brings the shore back over
 -- both.
 use Rattle.std.proofs.Common.{Bool, List, None, Some, ap, arith, cond, false, if◌then◌else◌, inl, inr, not, refl, sym, true, ℕ, ◌&&◌, ◌∙◌, ◌≡◌, Option}
-use Rattle.counting.proofs.Common.{odd-add}
-use Rattle.counting.specs.Common.{Within, is_odd, IsRisingIn, mem, meet, minus}
-use Rattle.graph_core.proofs.Common.{block_count_congr, block_count_parts, union_minus, mem-complement_of}
-use Rattle.graph_core.specs.Common.{Graph, complement_of, contracted, block_count}
-use Rattle.tree_core.specs.Common.{IsDerivationAt, kept_at, merged_at, PlainMove, meet_list, Shape, cut}
+use Rattle.counting.proofs.Common.{odd-add, Within, is_odd, IsRisingIn, mem, meet, minus}
+use Rattle.graph_core.proofs.Common.{block_count_congr, block_count_parts, union_minus, mem-complement_of, Graph, complement_of, contracted, block_count}
+use Rattle.tree_core.proofs.Common.{IsDerivationAt, kept_at, merged_at, PlainMove, meet_list, Shape, cut}
 use Rattle.move_laws.proofs.BigShores.{Big, Stage, big_rest, big_some, cut_big, stage_merged}
 use Rattle.move_laws.proofs.CornerSwitch.{Kind}
 use Rattle.move_laws.proofs.Corners.{Corners, inner_single_or_big, outer_single_or_big}
 use Rattle.move_laws.proofs.NestedShores.{Cross, Crossed, Exposed, Exposes}
 use Rattle.move_laws.proofs.OverInnerCorner.{InnerTurned, inner_below, inner_canonical, outer_shore_big, over_inner_to}
 use Rattle.move_laws.proofs.OverOuterCorner.{OuterTurned}
-use Rattle.move_laws.specs.Corners.{outer_of, outer_shore, partner}
-use Rattle.move_laws.specs.Scripts.{AreRising}
+use Rattle.move_laws.specs.Common.{outer_of, outer_shore, partner, AreRising}
 
 -- the two corners exposed where they are big, and then over both
 over_inner_found : (g : Graph) (p : List (List ℕ)) (x z y : List ℕ) (c : Corners g p x z) → IsRisingIn g.order y → mem x g.order ≡ false → mem y g.order ≡ false → Kind g.order y z →

@@ -2,15 +2,12 @@
 -- tight, the four parts are regions as the exchange of blocks asks, so the partitions below the
 -- two shores are the same leaves.
 use Rattle.std.proofs.Common.{Bool, List, ap, arith, cond, false, inl, inr, length, not, refl, suc, sym, true, ℕ, ◌&&◌, ◌+◌, ◌||◌, ◌∙◌, ◌≡◌, ◌≢◌}
-use Rattle.counting.proofs.Common.{both_ways, cases_Bool, total_at}
-use Rattle.counting.specs.Common.{Within, bit, is_odd, Set, complement, meet, minus, union}
-use Rattle.graph_core.proofs.Common.{at_place, at_rep, block_count_congr, block_count_parts, no_edge_at, rep, rep_in, rep_place, union_meet, union_minus, union_rest, place_in}
-use Rattle.graph_core.specs.Common.{IsCovered, Graph, IsGraph, first_end, second_end, AreBlocks, IsMerge, contracted, place, IsUnion, block_count, blocks_in}
-use Rattle.tree_core.specs.Common.{IsBlockOf}
+use Rattle.counting.proofs.Common.{both_ways, cases_Bool, total_at, Within, bit, is_odd, Set, complement, meet, minus, union}
+use Rattle.graph_core.proofs.Common.{at_place, at_rep, block_count_congr, block_count_parts, no_edge_at, rep, rep_in, rep_place, union_meet, union_minus, union_rest, place_in, IsCovered, Graph, IsGraph, first_end, second_end, AreBlocks, IsMerge, contracted, place, IsUnion, block_count, blocks_in}
+use Rattle.tree_core.proofs.Common.{IsBlockOf}
 use Rattle.move_laws.proofs.ExchangedBlocks.{exchange, four_turned}
 use Rattle.move_laws.proofs.FourRegions.{FourRegions}
-use Rattle.move_laws.specs.Exchange.{Corner}
-use Rattle.move_laws.specs.Isomorphisms.{Isomorphism}
+use Rattle.move_laws.specs.Common.{Corner, Isomorphism}
 
 -- a block counts one
 pub block_count-one : (n : ℕ) (p : List (List ℕ)) → AreBlocks n p → (u : Set) (s : ℕ) → IsBlockOf n p u s → block_count p u ≡ 1

@@ -2,12 +2,10 @@
 -- partitions are the same leaf. The hard pair of blocks goes by parity, all others by a case
 -- split on the regions.
 use Rattle.std.proofs.Common.{Bool, List, ap, ap₂, arith, cond, false, inl, inr, refl, sym, true, ℕ, ◌&&◌, ◌+◌, ◌||◌, ◌∙◌, ◌≡◌, ◌≢◌}
-use Rattle.counting.proofs.Common.{and_parts, both_ways, cases_Bool, or_cases, or_fails_first}
-use Rattle.counting.specs.Common.{Within, bit, is_odd, Set, union}
-use Rattle.graph_core.proofs.Common.{union_join, alike_down, alike_in, alike_up, same_side}
-use Rattle.graph_core.specs.Common.{IsCovered, Graph, IsGraph, first_end, second_end, size, AreBlocks, IsMerge, contracted, place, IsUnion, block_count}
+use Rattle.counting.proofs.Common.{and_parts, both_ways, cases_Bool, or_cases, or_fails_first, Within, bit, is_odd, Set, union}
+use Rattle.graph_core.proofs.Common.{union_join, alike_down, alike_in, alike_up, same_side, IsCovered, Graph, IsGraph, first_end, second_end, size, AreBlocks, IsMerge, contracted, place, IsUnion, block_count}
 use Rattle.move_laws.proofs.FourRegions.{FourRegions, Link, hard_pair}
-use Rattle.move_laws.specs.Isomorphisms.{EndsAt, Isomorphism, OneWay}
+use Rattle.move_laws.specs.Common.{EndsAt, Isomorphism, OneWay}
 
 -- one way of the exchange
 exchange_over : (g : Graph) (is : IsGraph g) (p r q : List (List ℕ)) (a u b v : Set) (s t : ℕ) → AreBlocks g.order p → (four : FourRegions g p a u b v s t) → IsMerge g.order p (union b v) r → IsMerge g.order p (union b u) q →

@@ -1,18 +1,15 @@
 -- The exchange law by names: the two pairs of partitions are the same leaves by the names of the
 -- images.
 use Rattle.std.proofs.Common.{◌≡◌, ℕ, Bool, true, false, ◌||◌, ◌&&◌, not, List, map, sym, ap, ◌∙◌, arith}
-use Rattle.counting.proofs.Common.{or_right, mem-rising_list, rising_list-rises}
-use Rattle.counting.specs.Common.{Within, IsRisingIn, last_of, mem, union}
-use Rattle.graph_core.proofs.Common.{tight_congr, tight_rest, merged_blocks, Some, merge_of}
-use Rattle.graph_core.specs.Common.{IsCovered, Graph, IsGraph, IsPartition, contracted, merged, IsTightAt}
-use Rattle.tree_core.specs.Common.{kept_at, merged_at, kept_image, merged_image, inner_rest, outer_rest, union_list}
+use Rattle.counting.proofs.Common.{or_right, mem-rising_list, rising_list-rises, Within, IsRisingIn, last_of, mem, union}
+use Rattle.graph_core.proofs.Common.{tight_congr, tight_rest, merged_blocks, Some, merge_of, IsCovered, Graph, IsGraph, IsPartition, contracted, merged, IsTightAt}
+use Rattle.tree_core.proofs.Common.{kept_at, merged_at, kept_image, merged_image, inner_rest, outer_rest, union_list}
 use Rattle.move_laws.proofs.BigShores.{Stage}
 use Rattle.move_laws.proofs.Rising.{bounds}
 use Rattle.move_laws.proofs.CarriedLeaves.{images-same_leaf}
 use Rattle.move_laws.proofs.SwitchImages.{kept_names, merged_names}
 use Rattle.move_laws.proofs.ExchangedParts.{in_inner_rest, in_outer_rest, inner_rest-mem, iso_a, iso_b, kept_partition, merge_congr, merged_partition, outer_rest-mem}
-use Rattle.move_laws.specs.Exchange.{Corner}
-use Rattle.move_laws.specs.SameLeaf.{IsSameLeaf}
+use Rattle.move_laws.specs.Common.{Corner, IsSameLeaf}
 
 module _ (g : Graph) (p : List (List ℕ)) (x u v : List ℕ) (s t : ℕ) (is : IsGraph g) (list : IsPartition g.order p) (cov : IsCovered (contracted g p)) (sx : IsRisingIn g.order x) (su : IsRisingIn g.order u) (sv : IsRisingIn g.order v) (corner : Corner g p (mem x) (mem u) (mem v) s t) where
   stage : Stage g p

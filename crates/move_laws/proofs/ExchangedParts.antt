@@ -2,16 +2,13 @@
 -- outside, and u with the rest of the outside is tight too. Nothing more is asked of x: it may be
 -- trivial, and it may have the greatest vertex.
 use Rattle.std.proofs.Common.{List, ap, cond, not, ℕ, Bool, true, false, ◌&&◌, ◌||◌, ◌∙◌, ◌≡◌, arith}
-use Rattle.counting.proofs.Common.{mem-rising_list}
-use Rattle.counting.specs.Common.{Within, IsRisingIn, mem, Set, complement, minus, union}
-use Rattle.graph_core.proofs.Common.{complement_of-rises, mem-complement_of, union-complement_of, merged_blocks, Some, merged_merges}
-use Rattle.graph_core.specs.Common.{Graph, IsMerge, IsPartition, complement_of, IsUnion}
-use Rattle.tree_core.specs.Common.{kept_at, merged_at, inner_rest, outer_rest}
+use Rattle.counting.proofs.Common.{mem-rising_list, Within, IsRisingIn, mem, Set, complement, minus, union}
+use Rattle.graph_core.proofs.Common.{complement_of-rises, mem-complement_of, union-complement_of, merged_blocks, Some, merged_merges, Graph, IsMerge, IsPartition, complement_of, IsUnion}
+use Rattle.tree_core.proofs.Common.{kept_at, merged_at, inner_rest, outer_rest}
 use Rattle.move_laws.proofs.BigShores.{Stage}
 use Rattle.move_laws.proofs.Exchange.{exchange_kept, exchange_merged}
 use Rattle.move_laws.proofs.Rising.{bounds}
-use Rattle.move_laws.specs.Exchange.{Corner}
-use Rattle.move_laws.specs.Isomorphisms.{Isomorphism}
+use Rattle.move_laws.specs.Common.{Corner, Isomorphism}
 
 pub merge_congr : (n : ℕ) (p q : List (List ℕ)) (x y : Set) → ((v : ℕ) → Within n v → x v ≡ y v) → IsMerge n p x q → IsMerge n p y q
 merge_congr n p q x y h m = record {

@@ -1,11 +1,9 @@
 -- Images under an isomorphism of blocks: tight shores, their numbers of blocks and being covered
 -- go over, both ways.
 use Rattle.std.proofs.Common.{Bool, List, ap, arith, false, inl, inr, length, refl, subst₂, suc, sym, true, zero, ℕ, ◌∙◌, ◌≡◌, ◌≢◌}
-use Rattle.counting.proofs.Common.{both_ways, some_true, true_some}
-use Rattle.counting.specs.Common.{Within, count, is_odd, Set, complement, some}
-use Rattle.graph_core.proofs.Common.{Alike, has_ends-from, tight_back, at_place, at_rep, block_count_rest, count_over, place_rep, rep, rep_in, rep_place, tight_congr, union_rest, contracted-ends, contracted-graph, contracted-size, place_in, cut_congr, has_ends-back, has_ends-cases}
-use Rattle.graph_core.specs.Common.{Graph, IsGraph, first_end, has_ends, second_end, size, AreBlocks, contracted, place, IsTightAt, IsUnion, block_count, blocks_in, IsNontrivial}
-use Rattle.move_laws.specs.Isomorphisms.{Isomorphism, pre}
+use Rattle.counting.proofs.Common.{both_ways, some_true, true_some, Within, count, is_odd, Set, complement, some}
+use Rattle.graph_core.proofs.Common.{Alike, has_ends-from, tight_back, at_place, at_rep, block_count_rest, count_over, place_rep, rep, rep_in, rep_place, tight_congr, union_rest, contracted-ends, contracted-graph, contracted-size, place_in, cut_congr, has_ends-back, has_ends-cases, Graph, IsGraph, first_end, has_ends, second_end, size, AreBlocks, contracted, place, IsTightAt, IsUnion, block_count, blocks_in, IsNontrivial}
+use Rattle.move_laws.specs.Common.{Isomorphism, pre}
 
 pub turned : (g : Graph) (p q : List (List ℕ)) (h k : ℕ → ℕ) → Isomorphism g p q h k → Isomorphism g q p k h
 turned g p q h k i = record { there = i.back; back = i.there }

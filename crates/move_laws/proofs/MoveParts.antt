@@ -1,14 +1,11 @@
 -- The leaves under a move, down its path: below the node they are those that the move gives, and
 -- elsewhere they stay. So the maps of a proper move pair the leaves of a derivation with those of
 -- the next.
-use Rattle.move_laws.specs.Scripts.{AreRising}
+use Rattle.move_laws.specs.Common.{AreRising, IsPairing}
 use Rattle.std.proofs.Common.{◌≡◌, ℕ, ◌+◌, Bool, true, false, ◌&&◌, not, List, [], ◌∷◌, ◌++◌, length, map, Some, None, if◌then◌else◌, refl, sym, ap, ◌∙◌, arith, subst, subst₂}
-use Rattle.counting.proofs.Common.{length-append, map-append, none-some, same_Some, all_in_true}
-use Rattle.counting.specs.Common.{is_apart, is_subset, mem, everything, minus}
-use Rattle.graph_core.specs.Common.{Graph, IsGraph, IsPartition, complement_of, contracted, names_of, singles, IsCovered}
-use Rattle.tree_core.proofs.DerivationLeaves.{partitions-leaves_at}
-use Rattle.tree_core.proofs.Sizes.{length-leaves_at}
-use Rattle.tree_core.specs.Common.{IsCutAt, IsDerivationAt, kept_at, merged_at, move_maps, move_order, names_at, numbers, order_at, rotate_order, switch_names, switch_order, leaves, leaves_at, BlocksAt, IsProper, PlainMove, inner_rest, is_proper, kept_if_greatest_stays, kept_if_greatest_comes, merged_if_greatest_stays, merged_if_greatest_comes, outer_rest, union_list, last_step, move_result, parent_path, result_at, rotate_at, rotate_result_at, switch_at, switch_result_at, Shape, cut, leaf, leaf_count}
+use Rattle.counting.proofs.Common.{length-append, map-append, none-some, same_Some, all_in_true, is_apart, is_subset, mem, everything, minus}
+use Rattle.graph_core.proofs.Common.{Graph, IsGraph, IsPartition, complement_of, contracted, names_of, singles, IsCovered}
+use Rattle.tree_core.proofs.Common.{partitions-leaves_at, length-leaves_at, IsCutAt, IsDerivationAt, kept_at, merged_at, move_maps, move_order, names_at, numbers, order_at, rotate_order, switch_names, switch_order, leaves, leaves_at, BlocksAt, IsProper, PlainMove, inner_rest, is_proper, kept_if_greatest_stays, kept_if_greatest_comes, merged_if_greatest_stays, merged_if_greatest_comes, outer_rest, union_list, last_step, move_result, parent_path, result_at, rotate_at, rotate_result_at, switch_at, switch_result_at, Shape, cut, leaf, leaf_count}
 use Rattle.tree_core.specs.declared.path.Side.{Side}
 use Rattle.tree_core.specs.declared.path.Side.TheVariants.{Kept, Merged}
 use Rattle.move_laws.proofs.BigShores.{Stage, big_rest, cut_big, stage_merged}
@@ -16,7 +13,6 @@ use Rattle.move_laws.proofs.Parts.{Part, part-join, part-own, part-pairing, part
 use Rattle.move_laws.proofs.Rising.{rising-derivation_at}
 use Rattle.move_laws.proofs.Rotations.{append_join, mapped, row_apart, row_inside, row_kept}
 use Rattle.move_laws.proofs.SwitchParts.{switch_derives, switch_part}
-use Rattle.move_laws.specs.Pairings.{IsPairing}
 
 -- a derivation's leaves as they are
 pub own_part : (g : Graph) (p : List (List ℕ)) (k : ℕ) (t : Shape) → Stage g p → IsDerivationAt g p t → Part g k (leaves_at g.order p t) (leaves_at g.order p t) (numbers k (leaf_count t)) (map names_of (leaves_at g.order p t))

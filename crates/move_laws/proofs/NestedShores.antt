@@ -1,12 +1,10 @@
 -- Exposing a shore that is nested with the root shore or apart from it: it is exposed in the
 -- child that holds it, and Rotate brings it over the root shore.
-use Rattle.move_laws.specs.Scripts.{AreRising, IsProperScript}
+use Rattle.move_laws.specs.Common.{AreRising, IsProperScript}
 use Rattle.std.proofs.Common.{Bool, List, None, Some, [], ap, arith, cond, false, if◌then◌else◌, inl, inr, length, map, not, refl, subst, suc, sym, true, zero, ℕ, ◌&&◌, ◌*◌, ◌++◌, ◌+◌, ◌∙◌, ◌∷◌, ◌≡◌, ◌≤◌, ◌⊎◌}
-use Rattle.counting.proofs.Common.{and_parts, both_ways, cases_Bool, not-true, odd-add, same_rising_list, true_all_in, all_in_true, some_none, some_true, same_tests}
-use Rattle.counting.specs.Common.{Within, is_odd, is_apart, is_subset, mem, Set, everything, meet, minus, some}
-use Rattle.graph_core.proofs.Common.{block_count_some, union_minus, mem-complement_of, Apart, Below, tight_down_merged}
-use Rattle.graph_core.specs.Common.{Graph, complement_of, contracted, merged, block_count}
-use Rattle.tree_core.specs.Common.{IsDerivationAt, IsLeafAt, kept_at, merged_at, PlainMove, below, rotate_at, rotate_result_at, Shape, cut, cut_count, leaf}
+use Rattle.counting.proofs.Common.{and_parts, both_ways, cases_Bool, not-true, odd-add, same_rising_list, true_all_in, all_in_true, some_none, some_true, same_tests, Within, is_odd, is_apart, is_subset, mem, Set, everything, meet, minus, some}
+use Rattle.graph_core.proofs.Common.{block_count_some, union_minus, mem-complement_of, Apart, Below, tight_down_merged, Graph, complement_of, contracted, merged, block_count}
+use Rattle.tree_core.proofs.Common.{IsDerivationAt, IsLeafAt, kept_at, merged_at, PlainMove, below, rotate_at, rotate_result_at, Shape, cut, cut_count, leaf}
 use Rattle.tree_core.specs.declared.path.Side.TheVariants.{Kept, Merged}
 use Rattle.move_laws.proofs.BigShores.{Big, Stage, big_cut, big_rest, big_some, closed_y, cut_big, gap, gap_is, rest_after, rest_rest, same_number, stage_merged}
 use Rattle.move_laws.proofs.Rising.{bounds}

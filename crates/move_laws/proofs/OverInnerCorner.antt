@@ -1,11 +1,9 @@
 -- A crossing shore is brought over both corners: after the inner one was brought to the root of
 -- `kept`, over the outer one below it, and back.
 use Rattle.std.proofs.Common.{Bool, List, None, Some, [], ap, arith, false, if◌then◌else◌, inl, inr, length, map, not, refl, subst, sym, true, ℕ, ◌&&◌, ◌*◌, ◌++◌, ◌+◌, ◌||◌, ◌∙◌, ◌∷◌, ◌≡◌, ◌≤◌, Option, option_and_then}
-use Rattle.counting.proofs.Common.{and_left, and_right, not-true, rising_list-rises, true_all_in, all_in_false, and_second, nor_left, nor_right}
-use Rattle.counting.specs.Common.{Within, IsRisingIn, mem, meet}
-use Rattle.graph_core.proofs.Common.{mem-complement_of, Apart}
-use Rattle.graph_core.specs.Common.{Graph, complement_of, merged}
-use Rattle.tree_core.specs.Common.{IsDerivationAt, kept_at, merged_at, IsBlockOf, PlainMove, below, rotate_at, rotate_result_at, meet_list, Shape, cut, cut_count}
+use Rattle.counting.proofs.Common.{and_left, and_right, not-true, rising_list-rises, true_all_in, all_in_false, and_second, nor_left, nor_right, Within, IsRisingIn, mem, meet}
+use Rattle.graph_core.proofs.Common.{mem-complement_of, Apart, Graph, complement_of, merged}
+use Rattle.tree_core.proofs.Common.{IsDerivationAt, kept_at, merged_at, IsBlockOf, PlainMove, below, rotate_at, rotate_result_at, meet_list, Shape, cut, cut_count}
 use Rattle.tree_core.specs.declared.path.Side.TheVariants.{Kept, Merged}
 use Rattle.move_laws.proofs.BigShores.{Big, big_rest, big_some, rest_rest, stage_merged, same_number, swallowed}
 use Rattle.move_laws.proofs.CornerSwitch.{Kind}
@@ -16,9 +14,7 @@ use Rattle.move_laws.proofs.OverOuterCorner.{OuterTurned, TurnedTo, raised_merge
 use Rattle.move_laws.proofs.Rising.{bounds}
 use Rattle.move_laws.proofs.Scripts.{length_below, length_join, script_end, script_join, script_kept, script_merged}
 use Rattle.move_laws.proofs.TurningTests.{rotate-inside, rotate-apart, apart_test}
-use Rattle.move_laws.specs.Corners.{outer_of, outer_shore}
-use Rattle.move_laws.specs.Scripts.{AreRising, IsProperScript}
-use Rattle.move_laws.specs.Turning.{followed, over_inner, over_outer, raised_merged}
+use Rattle.move_laws.specs.Common.{outer_of, outer_shore, AreRising, IsProperScript, followed, over_inner, over_outer, raised_merged}
 
 -- the inner corner is one block, or was brought to the root of `kept`
 abbrev pub InnerTurned : Graph → List (List ℕ) → (x z : List ℕ) → Shape → Shape → Option (List PlainMove) → Type 0

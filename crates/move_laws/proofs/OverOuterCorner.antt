@@ -1,11 +1,9 @@
 -- A crossing shore is brought over the outer corner: where this is one block at once, and else
 -- after it was brought to the root of `merged`, and back over it.
 use Rattle.std.proofs.Common.{Bool, List, None, Some, [], ap, arith, false, if◌then◌else◌, inl, inr, length, map, not, refl, subst, sym, true, ℕ, ◌*◌, ◌++◌, ◌+◌, ◌||◌, ◌∙◌, ◌∷◌, ◌≡◌, ◌≤◌, Option, option_and_then, option_map}
-use Rattle.counting.proofs.Common.{rising_list-rises, true_all_in, all_in_false, nor_left, nor_right}
-use Rattle.counting.specs.Common.{Within, IsRisingIn, is_subset, mem, complement, union}
-use Rattle.graph_core.proofs.Common.{mem-complement_of, Apart}
-use Rattle.graph_core.specs.Common.{Graph, complement_of, merged}
-use Rattle.tree_core.specs.Common.{IsDerivationAt, kept_at, merged_at, IsBlockOf, PlainMove, below, rotate_at, rotate_result_at, switch_at, switch_result_at, meet_list, Shape, cut, cut_count}
+use Rattle.counting.proofs.Common.{rising_list-rises, true_all_in, all_in_false, nor_left, nor_right, Within, IsRisingIn, is_subset, mem, complement, union}
+use Rattle.graph_core.proofs.Common.{mem-complement_of, Apart, Graph, complement_of, merged}
+use Rattle.tree_core.proofs.Common.{IsDerivationAt, kept_at, merged_at, IsBlockOf, PlainMove, below, rotate_at, rotate_result_at, switch_at, switch_result_at, meet_list, Shape, cut, cut_count}
 use Rattle.tree_core.specs.declared.path.Side.{Side}
 use Rattle.tree_core.specs.declared.path.Side.TheVariants.{Kept, Merged}
 use Rattle.move_laws.proofs.BigShores.{Big, Stage, big_some, rest_rest}
@@ -14,9 +12,8 @@ use Rattle.move_laws.proofs.Corners.{Corners, merged_outer, outer_mem}
 use Rattle.move_laws.proofs.Rising.{bounds}
 use Rattle.move_laws.proofs.Scripts.{length_below, length_join, script_end, script_join, script_kept, script_merged, script_rotate}
 use Rattle.move_laws.proofs.TurningTests.{rotate-inside, rotate-apart, apart_test}
-use Rattle.move_laws.specs.Corners.{outer_of, outer_shore}
-use Rattle.move_laws.specs.Scripts.{AreRising, IsProperScript}
-use Rattle.move_laws.specs.Turning.{PlainTurned, followed, over_outer, raised_kept, raised_merged, switched as switched_to, switched_below}
+use Rattle.move_laws.specs.Common.{outer_of, outer_shore, AreRising, IsProperScript, PlainTurned, followed, over_outer, raised_kept, raised_merged, switched_below}
+use Rattle.move_laws.specs.Turning.{switched as switched_to}
 
 -- a script, one Rotate, and a script on
 pub script_then : (g : Graph) (p : List (List ℕ)) (s : Shape) (ms : List PlainMove) (t : Shape) (side : Side) (r : Shape) → Stage g p → IsDerivationAt g p s → AreRising g.order s → IsProperScript g p s ms t → rotate_result_at side t ≡ Some r → IsProperScript g p s (ms ++ rotate_at (side ∷ []) ∷ []) r

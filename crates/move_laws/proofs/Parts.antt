@@ -1,21 +1,15 @@
 -- A part of the leaves of a tree and what a move makes of it: the new leaves with the old numbers
 -- in their order, and for each old leaf the names that make it the same leaf as its partner.
 -- Parts are joined as trees are, and a whole one gives a pairing.
-use Rattle.std.proofs.Common.{◌≡◌, ℕ, suc, zero, ◌+◌, ◌-◌, ◌≤◌, ◌<◌, inl, ◌==◌, List, [], ◌∷◌, ◌++◌, length, map, refl, sym, ap, ◌∙◌, arith, eq-eqb, ne_eqb, subst, subst₂, All}
-use Rattle.std.specs.Prelude.{slice_index, slice_index_or}
-use Rattle.std.proofs.lemmas.List.{get_or-append-add}
-use Rattle.counting.proofs.Common.{get_or_append_left, get_or-map, length-append, length-map, times_mem, total_at}
-use Rattle.counting.specs.Common.{bit, Within, last_of}
-use Rattle.graph_core.proofs.Common.{rep_place}
-use Rattle.graph_core.specs.Common.{Graph, IsGraph, AreBlocks, IsPartition, block, names_of}
-use Rattle.tree_core.specs.Common.{PlainLeafMap, leaf_at, map_at, maps_from, numbers, position}
+use Rattle.std.proofs.Common.{◌≡◌, ℕ, suc, zero, ◌+◌, ◌-◌, ◌≤◌, ◌<◌, inl, ◌==◌, List, [], ◌∷◌, ◌++◌, length, map, refl, sym, ap, ◌∙◌, arith, eq-eqb, ne_eqb, subst, subst₂, All, slice_index, slice_index_or, get_or-append-add}
+use Rattle.counting.proofs.Common.{get_or_append_left, get_or-map, length-append, length-map, times_mem, total_at, bit, Within, last_of}
+use Rattle.graph_core.proofs.Common.{rep_place, Graph, IsGraph, AreBlocks, IsPartition, block, names_of}
+use Rattle.tree_core.proofs.Common.{PlainLeafMap, leaf_at, map_at, maps_from, numbers, position}
 use Rattle.move_laws.proofs.Alignments.{Aligned, IsOrder, aligned-at, aligned-join, aligned-length, aligned-map, numbers-split, order-few, order-join, order-one, order-turn, position-once}
 use Rattle.move_laws.proofs.Images.{move_is}
 use Rattle.move_laws.proofs.Positions.{position-item}
 use Rattle.move_laws.proofs.SameLeaves.{iso_same_leaf}
-use Rattle.move_laws.specs.Isomorphisms.{Isomorphism}
-use Rattle.move_laws.specs.Pairings.{IsPairing}
-use Rattle.move_laws.specs.SameLeaf.{IsSameLeaf}
+use Rattle.move_laws.specs.Common.{Isomorphism, IsPairing, IsSameLeaf}
 
 -- as many maps as lists of names
 pub length-maps_from : (o : List ℕ) (k : ℕ) (ns : List (List ℕ)) → length (maps_from o k ns) ≡ length ns

@@ -1,10 +1,8 @@
 -- The position of a number in a list: it is one where the number stands, and the only one where
 -- the list has no number twice.
-use Rattle.std.proofs.Common.{◌≡◌, ℕ, suc, zero, ◌+◌, ◌-◌, Bool, true, false, cond, ◌==◌, ◌||◌, List, [], ◌∷◌, length, refl, sym, ap, ◌∙◌, arith, eqb-true}
-use Rattle.std.specs.Prelude.{slice_index}
-use Rattle.counting.proofs.Common.{both_ways}
-use Rattle.counting.specs.Common.{Within, mem}
-use Rattle.tree_core.specs.Common.{position}
+use Rattle.std.proofs.Common.{◌≡◌, ℕ, suc, zero, ◌+◌, ◌-◌, Bool, true, false, cond, ◌==◌, ◌||◌, List, [], ◌∷◌, length, refl, sym, ap, ◌∙◌, arith, eqb-true, slice_index}
+use Rattle.counting.proofs.Common.{both_ways, Within, mem}
+use Rattle.tree_core.proofs.Common.{position}
 
 -- a number of the list stands at its place
 pub position-item : (xs : List ℕ) (j : ℕ) → mem xs j ≡ true → Within (length xs) (position xs j) × (slice_index xs (position xs j - 1) ≡ j)

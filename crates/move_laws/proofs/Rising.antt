@@ -1,10 +1,9 @@
 -- Shores as rising lists within 1 to n, at each node of a tree. A derivation has no others.
-use Rattle.move_laws.specs.Scripts.{AreRising}
+use Rattle.move_laws.specs.Common.{AreRising}
 use Rattle.std.proofs.Common.{List, true, ℕ, ◌≡◌}
-use Rattle.counting.proofs.Common.{mem-within}
-use Rattle.counting.specs.Common.{Within, IsRisingIn, mem}
-use Rattle.graph_core.specs.Common.{Graph}
-use Rattle.tree_core.specs.Common.{IsDerivationAt, kept_at, merged_at, Shape, cut, leaf}
+use Rattle.counting.proofs.Common.{mem-within, Within, IsRisingIn, mem}
+use Rattle.graph_core.proofs.Common.{Graph}
+use Rattle.tree_core.proofs.Common.{IsDerivationAt, kept_at, merged_at, Shape, cut, leaf}
 
 -- its numbers are 1 to n
 pub bounds : {n : ℕ} {x : List ℕ} → IsRisingIn n x → (v : ℕ) → mem x v ≡ true → Within n v

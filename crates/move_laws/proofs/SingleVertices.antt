@@ -1,7 +1,6 @@
 -- A matching covered graph at its single vertices is a stage from which trees are derived.
 use Rattle.std.proofs.Common.{subst, sym}
-use Rattle.graph_core.proofs.Common.{contracted-singles, singles-partition}
-use Rattle.graph_core.specs.Common.{IsCovered, Graph, IsGraph, singles}
+use Rattle.graph_core.proofs.Common.{contracted-singles, singles-partition, IsCovered, Graph, IsGraph, singles}
 use Rattle.move_laws.proofs.BigShores.{Stage}
 
 pub singles_stage : (g : Graph) → IsGraph g → IsCovered g → Stage g (singles g.order)

@@ -1,18 +1,15 @@
 -- The images of blocks under a Switch: the lists that the table of the maps gives are the blocks
 -- that the exchange of blocks takes them to, so their last numbers are the names of the images.
 use Rattle.std.proofs.Common.{◌≡◌, ℕ, Bool, true, false, cond, ◌||◌, ◌&&◌, not, List, length, refl, sym, ap, ap₂, ◌∙◌, arith}
-use Rattle.counting.proofs.Common.{same_tests, or_right, mem-rising_list, rising_list-rises, same_rising_list}
-use Rattle.counting.specs.Common.{Within, IsRisingIn, is_subset, last_of, mem, complement, meet, minus, union}
-use Rattle.graph_core.proofs.Common.{rep, rep_in, rep_place, place_in, place_is, mem-complement_of, alike_in, alike_up, block_has, block_rises}
-use Rattle.graph_core.specs.Common.{Graph, IsGraph, AreBlocks, block, complement_of, place, IsUnion}
-use Rattle.tree_core.specs.Common.{kept_at, merged_at, kept_image, merged_image, inner_rest, list_if, meet_list, outer_rest, union_list}
+use Rattle.counting.proofs.Common.{same_tests, or_right, mem-rising_list, rising_list-rises, same_rising_list, Within, IsRisingIn, is_subset, last_of, mem, complement, meet, minus, union}
+use Rattle.graph_core.proofs.Common.{rep, rep_in, rep_place, place_in, place_is, mem-complement_of, alike_in, alike_up, block_has, block_rises, Graph, IsGraph, AreBlocks, block, complement_of, place, IsUnion}
+use Rattle.tree_core.proofs.Common.{kept_at, merged_at, kept_image, merged_image, inner_rest, list_if, meet_list, outer_rest, union_list}
 use Rattle.move_laws.proofs.BigShores.{Stage}
 use Rattle.move_laws.proofs.CarriedLeaves.{NamesImages}
 use Rattle.move_laws.proofs.Rising.{bounds}
 use Rattle.move_laws.proofs.ExchangedParts.{in_inner_rest, in_outer_rest, inner_rest-mem, kept_merge, map_a, map_b, merged_merge, outer_rest-mem, rest-union}
 use Rattle.move_laws.proofs.Switches.{subset_test}
-use Rattle.move_laws.specs.Exchange.{Corner}
-use Rattle.move_laws.specs.Isomorphisms.{Isomorphism}
+use Rattle.move_laws.specs.Common.{Corner, Isomorphism}
 
 -- the image of a block has the vertices that the map back takes into the block
 image_block : (g : Graph) → IsGraph g → (r s : List (List ℕ)) (h f : ℕ → ℕ) → AreBlocks g.order r → AreBlocks g.order s → Isomorphism g r s h f → (i w : ℕ) → Within (length r) i → Within g.order w →

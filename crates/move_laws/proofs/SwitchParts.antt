@@ -1,13 +1,10 @@
 -- The leaves under a Switch, at its node: those of the two trees, in the order and by the names
 -- that the maps give.
-use Rattle.move_laws.specs.Scripts.{AreRising}
+use Rattle.move_laws.specs.Common.{AreRising, Corner, carry}
 use Rattle.std.proofs.Common.{◌≡◌, ℕ, ◌+◌, Bool, true, false, cond, ◌||◌, ◌&&◌, not, List, [], ◌++◌, map, if◌then◌else◌, refl, sym, ap, ap₂, ◌∙◌, arith, subst}
-use Rattle.counting.proofs.Common.{and_parts, not-true, mem-rising_list, all_in_true}
-use Rattle.counting.specs.Common.{Within, IsRisingIn, is_subset, last_of, mem, Set, complement, minus, union}
-use Rattle.graph_core.proofs.Common.{tight_congr, tight_rest, mem-complement_of}
-use Rattle.graph_core.specs.Common.{Graph, IsMerge, complement_of, IsTightAt, IsUnion}
-use Rattle.tree_core.proofs.Sizes.{length-leaves_at}
-use Rattle.tree_core.specs.Common.{IsCutAt, IsDerivationAt, kept_at, merged_at, kept_image, kept_order_if_greatest_stays, merged_image, numbers, switch_names, switch_order, leaves_at, IsBlockOf, inner_rest, is_proper, kept_if_greatest_stays, kept_if_greatest_comes, merged_if_greatest_stays, merged_if_greatest_comes, outer_rest, union_list, Shape, cut, leaf, leaf_count}
+use Rattle.counting.proofs.Common.{and_parts, not-true, mem-rising_list, all_in_true, Within, IsRisingIn, is_subset, last_of, mem, Set, complement, minus, union}
+use Rattle.graph_core.proofs.Common.{tight_congr, tight_rest, mem-complement_of, Graph, IsMerge, complement_of, IsTightAt, IsUnion}
+use Rattle.tree_core.proofs.Common.{length-leaves_at, IsCutAt, IsDerivationAt, kept_at, merged_at, kept_image, kept_order_if_greatest_stays, merged_image, numbers, switch_names, switch_order, leaves_at, IsBlockOf, inner_rest, is_proper, kept_if_greatest_stays, kept_if_greatest_comes, merged_if_greatest_stays, merged_if_greatest_comes, outer_rest, union_list, Shape, cut, leaf, leaf_count}
 use Rattle.move_laws.proofs.Alignments.{numbers-split}
 use Rattle.move_laws.proofs.BigShores.{Big, Stage, big_rest, cut_big, stage_merged}
 use Rattle.move_laws.proofs.CarriedLeaves.{carried_parts, carry_order}
@@ -15,8 +12,6 @@ use Rattle.move_laws.proofs.Parts.{Part, part-join, part-turn}
 use Rattle.move_laws.proofs.Rising.{bounds}
 use Rattle.move_laws.proofs.SwitchImages.{kept_names, merged_names, u_alike}
 use Rattle.move_laws.proofs.Switches.{Each, each_of, in_inner_rest, in_outer_rest, iso_a, iso_b, kept_greatest_stays, kept_greatest_comes, map_a, map_b, merged_greatest_stays, merged_greatest_comes, new_shore_comes, new_shore_stays, subset_test, switch_greatest_stays, switch_greatest_comes}
-use Rattle.move_laws.specs.Exchange.{Corner}
-use Rattle.move_laws.specs.Isomorphisms.{carry}
 
 -- where no complement is taken the order stays
 plain_order : (n : ℕ) (f : ℕ → ℕ) (q : List (List ℕ)) (t : Shape) → Each n q t → ((y : List ℕ) → mem y n ≡ false → IsUnion n q (mem y) → mem y (f n) ≡ false) → (k : ℕ) → carry_order n f k t ≡ numbers k (leaf_count t)

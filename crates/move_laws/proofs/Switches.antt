@@ -1,18 +1,14 @@
 -- A proper Switch keeps derivations: its four rules say how the exchange law carries the trees.
-use Rattle.move_laws.specs.Scripts.{AreRising}
+use Rattle.move_laws.specs.Common.{AreRising, Corner, Isomorphism, carry, carry_cut}
 use Rattle.std.proofs.Common.{Bool, List, ap, ap₂, arith, cond, false, if◌then◌else◌, inl, inr, not, refl, subst, sym, true, ℕ, ◌&&◌, ◌||◌, ◌∙◌, ◌≡◌}
-use Rattle.counting.proofs.Common.{both_ways, cases_Bool, mem-rising_list, rising_list-rises, same_rising_list, true_all_in, all_in_true}
-use Rattle.counting.specs.Common.{Within, IsRisingIn, all_in, is_subset, mem, rising_list, Set, minus, union}
-use Rattle.graph_core.proofs.Common.{mem-complement_of, alike_in, alike_up, closed_up}
-use Rattle.graph_core.specs.Common.{Graph, IsMerge, complement_of, merged, IsUnion}
-use Rattle.tree_core.specs.Common.{IsDerivationAt, kept_at, merged_at, inner_rest, kept_if_greatest_stays, kept_if_greatest_comes, list_if, merged_if_greatest_stays, merged_if_greatest_comes, merged_shore_if_greatest_stays, minus_list, outer_rest, union_list, Shape, cut, leaf}
+use Rattle.counting.proofs.Common.{both_ways, cases_Bool, mem-rising_list, rising_list-rises, same_rising_list, true_all_in, all_in_true, Within, IsRisingIn, all_in, is_subset, mem, rising_list, Set, minus, union}
+use Rattle.graph_core.proofs.Common.{mem-complement_of, alike_in, alike_up, closed_up, Graph, IsMerge, complement_of, merged, IsUnion}
+use Rattle.tree_core.proofs.Common.{IsDerivationAt, kept_at, merged_at, inner_rest, kept_if_greatest_stays, kept_if_greatest_comes, list_if, merged_if_greatest_stays, merged_if_greatest_comes, merged_shore_if_greatest_stays, minus_list, outer_rest, union_list, Shape, cut, leaf}
 use Rattle.move_laws.proofs.BigShores.{Big, Stage, big_cut, big_merge, big_rest, big_some, cut_big, stage_merged}
 use Rattle.move_laws.proofs.CarriedTrees.{carried_derives}
 use Rattle.move_laws.proofs.ExchangedParts
 use Rattle.move_laws.proofs.ExchangedParts.{merge_congr}
 use Rattle.move_laws.proofs.Rising.{bounds}
-use Rattle.move_laws.specs.Exchange.{Corner}
-use Rattle.move_laws.specs.Isomorphisms.{Isomorphism, carry, carry_cut}
 
 -- each shore of the tree is canonical and a union of blocks of q
 abbrev pub Each : ℕ → List (List ℕ) → Shape → Type 0

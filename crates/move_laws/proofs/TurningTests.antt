@@ -1,14 +1,12 @@
 -- What the steps of a turning ask of the tree: tests of two shores, the two forms of Rotate in
 -- `merged`, and the shape of a carried tree.
 use Rattle.std.proofs.Common.{Bool, List, None, Some, [], ap, arith, false, if◌then◌else◌, not, refl, true, ℕ, ◌&&◌, ◌∙◌, ◌≡◌}
-use Rattle.counting.proofs.Common.{rising_list-rises, true_all_in}
-use Rattle.counting.specs.Common.{IsRisingIn, is_apart, is_subset, mem, everything, minus}
+use Rattle.counting.proofs.Common.{rising_list-rises, true_all_in, IsRisingIn, is_apart, is_subset, mem, everything, minus}
 use Rattle.graph_core.proofs.Common.{Apart}
-use Rattle.tree_core.specs.Common.{is_proper, rotate_result_at, Shape, cut, cut_count, leaf}
+use Rattle.tree_core.proofs.Common.{is_proper, rotate_result_at, Shape, cut, cut_count, leaf}
 use Rattle.tree_core.specs.declared.path.Side.TheVariants.{Merged}
 use Rattle.move_laws.proofs.Rising.{bounds}
-use Rattle.move_laws.specs.Isomorphisms.{carry, carry_cut}
-use Rattle.move_laws.specs.Scripts.{AreRising}
+use Rattle.move_laws.specs.Common.{carry, carry_cut, AreRising}
 
 -- a carried tree has rising shores, and as many cuts
 pub fits_carry : (n : ℕ) (k : ℕ → ℕ) (t : Shape) → AreRising n (carry n k t) × (cut_count (carry n k t) ≡ cut_count t)

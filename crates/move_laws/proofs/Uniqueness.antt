@@ -1,22 +1,19 @@
 -- The laws in their last form: what a same leaf carries along, and that any two derivations of a
 -- graph are joined by few moves (Lovász 1987).
-use Rattle.move_laws.specs.Scripts.{AreRising, IsProperScript}
-use Rattle.std.proofs.Common.{List, [], length, ℕ, ◌*◌, ◌+◌, ◌∷◌, ◌≡◌, ◌≤◌}
-use Rattle.counting.specs.Common.{IsRisingIn}
-use Rattle.graph_core.specs.Common.{IsCovered, Graph, IsGraph, singles}
-use Rattle.tree_core.specs.Common.{IsCutAt, IsDerivation, IsDerivationAt, PlainMove, TurnsThrough, Shape, cut, cut_count, PlainLeafMap, move_maps, script_maps, leaves, IsProper, last_step, move_result, parent_path, rotate_result, rotate_result_at}
+use Rattle.move_laws.specs.Common.{AreRising, IsProperScript, IsPairing}
+use Rattle.std.proofs.Common.{List, [], length, ℕ, ◌*◌, ◌+◌, ◌∷◌, ◌≡◌, ◌≤◌, Some as Just}
+use Rattle.counting.proofs.Common.{IsRisingIn, none-some}
+use Rattle.graph_core.proofs.Common.{IsCovered, Graph, IsGraph, singles}
+use Rattle.tree_core.proofs.Common.{IsCutAt, IsDerivation, IsDerivationAt, PlainMove, TurnsThrough, Shape, cut, cut_count, PlainLeafMap, move_maps, script_maps, leaves, IsProper, last_step, move_result, parent_path, rotate_result, rotate_result_at}
 use Rattle.move_laws.proofs.BigShores.{Stage, cut_big}
 use Rattle.move_laws.proofs.Comparison.{compare}
 use Rattle.move_laws.proofs.CrossingShores.{crossed}
 use Rattle.move_laws.proofs.NestedShores.{Compared, Exposes, expose}
-use Rattle.std.proofs.Common.{Some as Just}
-use Rattle.counting.proofs.Common.{none-some}
 use Rattle.tree_core.specs.declared.path.Side.{Side}
 use Rattle.move_laws.proofs.MoveParts.{move_pairs}
 use Rattle.move_laws.proofs.Rising.{rising-derivation_at}
 use Rattle.move_laws.proofs.Rotations.{path_keeps, rotate_keeps}
 use Rattle.move_laws.proofs.ScriptPairs.{script_pairs}
-use Rattle.move_laws.specs.Pairings.{IsPairing}
 use Rattle.move_laws.proofs.SingleVertices.{singles_stage}
 
 -- expose: a script of at most 3 c − 2 moves through derivations, each Switch proper, whose last

@@ -5,3 +5,4 @@ pub mod SameLeaf
 pub mod Pairings
 pub mod Scripts
 pub mod Turning
+pub mod Common

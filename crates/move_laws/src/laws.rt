@@ -4,10 +4,7 @@ ghost use Rattle.counting.specs.Common.{Within, IsRisingIn, last_of, mem, Set};
 ghost use Rattle.graph_core.specs.Common.{IsCovered, Graph, IsGraph, IsPartition, contracted, merged, singles, IsTightAt, IsUnion, blocks_in, IsNontrivial};
 ghost use Rattle.tree_core.specs.Common.{IsCutAt, IsDerivation, IsDerivationAt, kept_at, merged_at, PlainLeafMap, kept_image, merged_image, move_maps, StandsAt, leaves, BlocksAt, IsProper, PlainMove, TurnsThrough, inner_rest, move_result, outer_rest, rotate_result, switch_result_at, union_list, Fits, Shape, cut, cut_count};
 ghost use Rattle.tree_core.specs.declared.path.Side.{Side};
-ghost use Rattle.move_laws.specs.Exchange.{Corner};
-ghost use Rattle.move_laws.specs.Isomorphisms.{carry, pre};
-ghost use Rattle.move_laws.specs.Pairings.{IsPairing};
-ghost use Rattle.move_laws.specs.SameLeaf.{IsSameLeaf, from_name, image_shore, merged_names, to_name, turned_names};
+ghost use Rattle.move_laws.specs.Common.{Corner, carry, pre, IsPairing, IsSameLeaf, from_name, image_shore, merged_names, to_name, turned_names};
 
 /// Exchange (Lovász 1987, in the form of two single blocks): let x be a tight shore at p, u a
 /// block inside and v a block outside, such that u with the rest of the outside is tight too.

@@ -1,10 +1,9 @@
 -- The word of a path writes this path, and the word of a set its vertices: what stands between
 -- two commas is the decimal of one vertex.
-use Rattle.std.proofs.Common.{◌≡◌, ◌≤◌, ◌<◌, ◌||◌, ◌^◌, not, nat_le, ℕ, suc, List, [], ◌∷◌, Bool, length, map, true, false, refl, ◌∙◌, ap, arith}
+use Rattle.std.proofs.Common.{◌≡◌, ◌≤◌, ◌<◌, ◌||◌, ◌^◌, not, nat_le, ℕ, suc, List, [], ◌∷◌, Bool, length, map, true, false, refl, ◌∙◌, ap, arith, All}
 use Rattle.std.specs.Fmt.{decimal}
-use Rattle.std.specs.List.{All as AllOf, list_all, slice_split}
-use Rattle.std.proofs.Common.{All}
-use Rattle.counting.proofs.Common.{and_from, and_parts, not-true, le-leb, nat_tests, length-map, length-append, append-nil, All-nil, All-cons}
+use Rattle.std.specs.List.{All as AllOf, slice_split}
+use Rattle.counting.proofs.Common.{list_all, and_from, and_parts, not-true, le-leb, nat_tests, length-map, length-append, append-nil, All-nil, All-cons}
 use Rattle.std.proofs.lemmas.Fmt.{decimal_nonempty}
 use Rattle.std.proofs.lemmas.List.Folds.{list_all-append}
 use Rattle.std.proofs.lemmas.List.Splits.{slice_split_at, slice_split_none}
@@ -12,8 +11,7 @@ use Rattle.line_text.specs.Common.{is_line_feed, is_blank, is_word}
 use Rattle.line_text.proofs.Decimals.{digits-decimal, is_word-decimal, list_all-digits, nonempty}
 use Rattle.tree_core.specs.declared.path.Side.{Side}
 use Rattle.tree_core.specs.declared.path.Side.TheVariants.{Kept, Merged}
-use Rattle.move_text.specs.MoveFormat.{is_step, side_of, is_path, path_of, is_comma, parts_of, most_steps}
-use Rattle.move_text.specs.Writing.{letter_of, path_word, behind_commas, set_word}
+use Rattle.move_text.specs.Common.{is_step, side_of, is_path, path_of, is_comma, parts_of, most_steps, letter_of, path_word, behind_commas, set_word}
 
 -- the letters of steps write these steps
 letters-steps : (path : List Side) → list_all is_step (map letter_of path) ≡ true

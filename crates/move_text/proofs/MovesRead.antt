@@ -2,20 +2,18 @@
 -- keep the limits, and their sets are nonempty and rise within 1 to n: each line keeps this,
 -- since it passed the tests of the table.
 use Rattle.std.proofs.Common.{◌≡◌, ◌≤◌, ◌<◌, ◌==◌, ◌&&◌, ◌||◌, ◌^◌, codes, not, nat_le, if◌then◌else◌, ℕ, List, [], ◌∷◌, ◌++◌, Bool, length, map, true, false, Option, Some, None, Result, Ok, Err, IfOk, refl, sym, ◌∙◌, ap, subst, arith}
-use Rattle.std.specs.List.{AllByRecursion, list_all, list_any}
+use Rattle.counting.proofs.Common.{AllByRecursion, list_all, list_any, and_parts, or_parts, not-false, nat_tests, length-map, length-append}
 use Rattle.std.specs.Str.{bytes_eq}
-use Rattle.counting.proofs.Common.{and_parts, or_parts, not-false, nat_tests, length-map, length-append}
 use Rattle.std.proofs.lemmas.List.Splits.{length-slice_split}
 use Rattle.line_text.specs.Common.{Begins, Stands, finish, has_form, word_at, is_number, value_of}
 use Rattle.line_text.proofs.Tables.{all_passed, no_value, value_or}
 use Rattle.text_faults.specs.declared.faults.FaultKind.{FaultKind}
 use Rattle.text_faults.specs.declared.faults.FaultKind.TheVariants as kind
-use Rattle.text_faults.specs.Ranges.{is_out_of_range}
-use Rattle.tree_core.specs.Common.{PlainMove, rotate_at, switch_at}
-use Rattle.tree_text.specs.TreeFormat.{is_rising}
+use Rattle.text_faults.specs.Common.{is_out_of_range}
+use Rattle.tree_core.proofs.Common.{PlainMove, rotate_at, switch_at}
+use Rattle.tree_text.specs.Common.{is_rising}
 use Rattle.tree_text.proofs.ShoreLists.{rising_read}
-use Rattle.move_text.specs.MoveFormat.{move_format, move_line, rotate_line, switch_line, is_rotate_line, is_switch_line, is_path, is_step, is_comma, side_of, path_of, parts_of, are_numbers, vertices_of, most_moves, most_steps}
-use Rattle.move_text.specs.Writing.{HasShortPath, HasSets, SetsRise, IsWritable}
+use Rattle.move_text.specs.Common.{move_format, move_line, rotate_line, switch_line, is_rotate_line, is_switch_line, is_path, is_step, is_comma, side_of, path_of, parts_of, are_numbers, vertices_of, most_moves, most_steps, HasShortPath, HasSets, SetsRise, IsWritable}
 
 -- what is said of the moves read so far
 record Keeps (n : ℕ) (moves : List PlainMove) : Type 0 where

@@ -1,10 +1,10 @@
 -- The text of moves grows by the line of the next move.
 use Rattle.std.proofs.Common.{◌≡◌, ◌+◌, ◌≤◌, ◌<◌, ℕ, zero, suc, List, [], ◌∷◌, get_or, length, map, take, take_all, refl, sym, ◌∙◌, ap, subst, arith}
-use Rattle.std.specs.List.{AllByRecursion}
+use Rattle.counting.proofs.Common.{AllByRecursion}
 use Rattle.line_text.specs.Common.{written}
 use Rattle.tree_core.specs.declared.moves.Move.{Move}
-use Rattle.tree_core.specs.Common.{PlainMove, move_of, moves_of}
-use Rattle.move_text.specs.Writing.{move_words, header_words, moves_text}
+use Rattle.tree_core.proofs.Common.{PlainMove, move_of, moves_of}
+use Rattle.move_text.specs.Common.{move_words, header_words, moves_text}
 
 -- all moves
 map-moves : (moves : List Move) → map (λ m. move_words (move_of m)) moves ≡ map move_words (moves_of moves)

@@ -1,2 +1,3 @@
 pub mod MoveFormat
 pub mod Writing
+pub mod Common

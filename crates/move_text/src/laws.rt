@@ -2,8 +2,7 @@
 ghost use Rattle.std.specs.Prelude.{◌<◌, ◌^◌, ℕ, List};
 ghost use Rattle.line_text.specs.Common.{Stands, StandsAlone};
 ghost use Rattle.tree_core.specs.Common.{PlainMove};
-ghost use Rattle.move_text.specs.MoveFormat.{move_format};
-ghost use Rattle.move_text.specs.Writing.{moves_text, IsWritable};
+ghost use Rattle.move_text.specs.Common.{move_format, moves_text, IsWritable};
 
 /// What is written of moves stands for these moves, for no others, and has no fault.
 pub fn written_moves_stand()

@@ -3,8 +3,7 @@ ghost use Rattle.std.specs.Prelude.{◌≡◌, ◌≤◌, ◌++◌, [], ◌∷�
 ghost use Rattle.std.specs.List.{AllByRecursion};
 ghost use Rattle.line_text.specs.Common.{Stands, StandsAlone, written};
 ghost use Rattle.tree_core.specs.Common.{move_of, moves_of, rotate_at, switch_at};
-ghost use Rattle.move_text.specs.MoveFormat.{move_format, most_moves};
-ghost use Rattle.move_text.specs.Writing.{letter_of, path_word, set_word, move_words, moves_text, HasShortPath, HasSets, SetsRise};
+ghost use Rattle.move_text.specs.Common.{move_format, most_moves, letter_of, path_word, set_word, move_words, moves_text, HasShortPath, HasSets, SetsRise};
 
 use std::alloc::{AllocError as Memory, Global};
 use tree_core::{Move, Moves, Path, Side};

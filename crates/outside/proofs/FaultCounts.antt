@@ -3,7 +3,7 @@
 -- on the counts.
 use Rattle.std.proofs.Common.{◌≡◌, ℕ, ◌<◌, arith}
 use Rattle.std.proofs.lemmas.Bool.Decides.{nat_tests}
-use Rattle.outside.specs.Faults.{Rose, next_fault, faults_after}
+use Rattle.outside.specs.Common.{Rose, next_fault, faults_after}
 
 -- after a count has gone up, it rose
 pub Rose-next_fault : (before now : ℕ) → now ≡ next_fault before → Rose before now

@@ -1,11 +1,10 @@
 -- What is written piece by piece is written as one: a piece after a piece is the two joined.
 -- The told case is the associativity of lists, the other computes.
-use Rattle.std.proofs.Common.{◌≡◌, ℕ, ◌+◌, ◌-◌, List, [], ◌++◌, length, take, drop, refl, ap, sym, subst, ◌∙◌, arith, append_assoc, length-drop}
-use Rattle.std.proofs.lemmas.List.{append-nil, take_all}
+use Rattle.std.proofs.Common.{◌≡◌, ℕ, ◌+◌, ◌-◌, List, [], ◌++◌, length, take, drop, refl, ap, sym, subst, ◌∙◌, arith, append_assoc, length-drop, append-nil, take_all}
 use Rattle.std.proofs.Math.Seq.{take-add}
 use Rattle.std.specs.declared.option.Option.{Option}
 use Rattle.std.specs.declared.option.Option.TheVariants.{Some, None}
-use Rattle.outside.specs.Sink.{appended}
+use Rattle.outside.specs.Common.{appended}
 
 pub appended-nil : (told : Option (List ℕ)) → appended told [] ≡ told
 appended-nil None = refl

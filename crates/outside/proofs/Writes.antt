@@ -1,8 +1,7 @@
 -- A chain of writes takes one more: the piece that is written is all that is left of the bytes,
 -- since nothing stands after it.
-use Rattle.std.proofs.Common.{◌≡◌, ℕ, suc, ◌+◌, ◌-◌, ◌<◌, List, length, take, drop, refl, subst, arith, length-drop}
-use Rattle.std.proofs.lemmas.List.{take_all}
-use Rattle.outside.specs.Sink.{WritesTake}
+use Rattle.std.proofs.Common.{◌≡◌, ℕ, suc, ◌+◌, ◌-◌, ◌<◌, List, length, take, drop, refl, subst, arith, length-drop, take_all}
+use Rattle.outside.specs.Common.{WritesTake}
 
 -- what is left, as a slice names it
 left_piece : (bytes : List ℕ) (done : ℕ) → take (length bytes - done) (drop done bytes) ≡ drop done bytes

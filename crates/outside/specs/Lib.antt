@@ -9,3 +9,4 @@ pub mod MemSource
 pub mod StoredFile
 pub mod DirShelf
 pub mod OutSink
+pub mod Common

@@ -1,7 +1,6 @@
 //! Writing a whole output.
 ghost use Rattle.std.specs.Prelude.{◌≡◌, ◌≤◌, ◌<◌, ℕ, length, take, OnOk, OnErr};
-ghost use Rattle.outside.specs.Faults.{Rose};
-ghost use Rattle.outside.specs.Sink.{appended, IsWritten, IsCutOff};
+ghost use Rattle.outside.specs.Common.{Rose, appended, IsWritten, IsCutOff};
 
 use crate::{Sink, SinkFailed};
 

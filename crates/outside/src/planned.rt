@@ -1,6 +1,6 @@
 //! The calls that are planned to fail: kept by their numbers, and counted with their faults.
 ghost use Rattle.std.specs.Prelude.{◌≡◌, ◌≤◌, ◌↔◌, ◌++◌, ◌∷◌, [], Contains, IsTrue, OnErr, OnOk, if◌then◌else◌};
-ghost use Rattle.outside.specs.Faults.{next_call, next_fault};
+ghost use Rattle.outside.specs.Common.{next_call, next_fault};
 
 use std::alloc::{AllocError as Memory, Global};
 

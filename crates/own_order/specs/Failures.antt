@@ -4,7 +4,7 @@ use Rattle.std.specs.Prelude.{ℕ, List}
 use Rattle.graph_core.specs.Common.{IsReason, reason_of}
 use Rattle.graph_core.specs.declared.verdict.Reason.{Reason}
 use Rattle.line_text.specs.Common.{Stands}
-use Rattle.graph_text.specs.EitherVersion.{NamedGraph, either_version}
+use Rattle.graph_text.specs.Common.{NamedGraph, either_version}
 
 -- the text stands for a graph that is not matching covered, for this reason
 pub record IsUncovered (text : List ℕ) (reason : Reason) : Type 0 where

@@ -3,8 +3,7 @@
 use Rattle.std.specs.Prelude.{◌≡◌, ℕ, ◌<◌, ◌≤◌, List, length, map, slice_get, Option, Some, None}
 use Rattle.counting.specs.Common.{count, mem}
 use Rattle.graph_core.specs.Common.{Graph, in_cut, size}
-use Rattle.tight_cuts.specs.Candidates.{Candidate}
-use Rattle.tight_cuts.specs.View.{candidate_of}
+use Rattle.tight_cuts.specs.Common.{Candidate, candidate_of}
 use Rattle.tight_cuts.specs.declared.candidate.Candidate.{Candidate as StoredCandidate}
 
 -- how many edges are in the cut of a candidate

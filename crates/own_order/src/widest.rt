@@ -4,11 +4,10 @@ ghost use Rattle.graph_core.specs.Common.{IsReason, reason_of};
 ghost use Rattle.text_faults.specs.declared.faults.TextFault.{TextFault};
 ghost use Rattle.graph_core.specs.declared.verdict.Reason.{Reason};
 ghost use Rattle.line_text.specs.Common.{Stands};
-ghost use Rattle.text_faults.specs.Readings.{IsFirstFault};
-ghost use Rattle.graph_text.specs.EitherVersion.{either_version};
-ghost use Rattle.graph_text.specs.SoFar.{named_graph};
+ghost use Rattle.text_faults.specs.Common.{IsFirstFault};
+ghost use Rattle.graph_text.specs.Common.{either_version, named_graph};
 ghost use Rattle.tree_core.specs.Common.{IsDerivation, shape_of};
-ghost use Rattle.decomposer.specs.Picked.{IsPicked};
+ghost use Rattle.decomposer.specs.Common.{IsPicked};
 ghost use Rattle.own_order.specs.Failures.{IsUncovered};
 ghost use Rattle.own_order.specs.WidestCuts.{PicksWidest};
 

@@ -1,9 +1,8 @@
 -- A graph whose edges are the first k pairs of a list: it is a multigraph within the limits, so
 -- each of these pairs is two different vertices, and they are no more than a graph may have.
-use Rattle.std.proofs.Common.{◌≡◌, ℕ, ◌-◌, ◌<◌, ◌≤◌, List, length, take, suc, sym, ap, ◌∙◌, subst, arith}
-use Rattle.std.proofs.lemmas.List.{get_or-take, length-take-le}
-use Rattle.counting.specs.Common.{Within}
-use Rattle.graph_core.specs.Common.{Graph, IsMultigraph, size, IsWithinLimits}
+use Rattle.std.proofs.Common.{◌≡◌, ℕ, ◌-◌, ◌<◌, ◌≤◌, List, length, take, suc, sym, ap, ◌∙◌, subst, arith, get_or-take, length-take-le}
+use Rattle.counting.proofs.Common.{Within}
+use Rattle.graph_core.proofs.Common.{Graph, IsMultigraph, size, IsWithinLimits}
 use Rattle.plain_graph.specs.EdgeFaults.{IsReached, JoinsTwo, pair_at}
 
 pub first_pairs-join : (n k : ℕ) (es : List (ℕ × ℕ)) → k ≤ length es → IsMultigraph (record { order = n; ends = take k es }) → (j : ℕ) → j < k → JoinsTwo n (pair_at es j)

@@ -1,12 +1,9 @@
 -- The vertices that a walk of one step more reaches, and those that a walk of as many steps as
 -- there are vertices reaches.
-use Rattle.std.proofs.Common.{◌≡◌, ℕ, suc, ◌+◌, ◌&&◌, ◌||◌, ◌==◌, not, true, false, ap, ap₂, sym, ◌∙◌, arith, List, [], length, Option, None, Some, unwrap_or, nat_lt, ltb-true, lt-ltb, eq-eqb, ne_eqb, inl, inr}
-use Rattle.std.specs.Prelude.{IfSome, IfNone}
+use Rattle.std.proofs.Common.{◌≡◌, ℕ, suc, ◌+◌, ◌&&◌, ◌||◌, ◌==◌, not, true, false, ap, ap₂, sym, ◌∙◌, arith, List, [], length, Option, None, Some, unwrap_or, nat_lt, ltb-true, lt-ltb, eq-eqb, ne_eqb, inl, inr, IfSome, IfNone}
 use Rattle.std.proofs.lemmas.Bool.{not_from_false}
-use Rattle.counting.proofs.Common.{and_from, and_parts, and_right, both_ways, cases_eq, cases_lt, false_from_ne_true, count_congr, count_mem_length, set-narrower, some_congr, some_true, true_some}
-use Rattle.counting.specs.Common.{Within, count, IsLeastOf, IsRisingIn, mem, Set, some}
-use Rattle.graph_core.specs.Common.{is_least, Graph, adjacent, joined, reaches}
-use Rattle.graph_core.proofs.Common.{flood_own}
+use Rattle.counting.proofs.Common.{and_from, and_parts, and_right, both_ways, cases_eq, cases_lt, false_from_ne_true, count_congr, count_mem_length, set-narrower, some_congr, some_true, true_some, Within, count, IsLeastOf, IsRisingIn, mem, Set, some}
+use Rattle.graph_core.proofs.Common.{is_least, Graph, adjacent, joined, reaches, flood_own}
 
 -- one step more
 pub reaches-step : (g : Graph) (s x : Set) (u k : ℕ) → ((v : ℕ) → Within g.order v → x v ≡ reaches g.order (adjacent g s) u k v) → (v : ℕ) → Within g.order v →

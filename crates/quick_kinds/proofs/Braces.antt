@@ -1,8 +1,8 @@
 -- Which bipartite covered graphs are braces? The theorem on braces: there is no nontrivial tight
 -- cut exactly when a perfect matching is left without any two vertices of each side.
 use Rattle.std.proofs.Common.{inl, inr, ◌↔◌}
-use Rattle.graph_core.specs.Common.{IsSide, IsCovered, Graph, IsGraph, IsTight, IsNontrivial}
-use Rattle.counting.specs.Common.{Set}
+use Rattle.graph_core.proofs.Common.{IsSide, IsCovered, Graph, IsGraph, IsTight, IsNontrivial}
+use Rattle.counting.proofs.Common.{Set}
 use Rattle.quick_kinds.specs.Braces.{AreFoursMatched}
 use Rattle.quick_kinds.proofs.MatchedFours.{no_tight}
 use Rattle.quick_kinds.proofs.UnmatchedFours.{matched_or_tight}

@@ -3,13 +3,11 @@
 -- leaves it from the other; so two of the larger side in it, and two of the other side outside
 -- it, leave no perfect matching.
 use Rattle.std.proofs.Common.{◌≡◌, ℕ, suc, zero, ◌+◌, ◌*◌, ◌≤◌, ◌≢◌, Bool, true, false, ◌==◌, refl, sym, ap, ◌∙◌, arith, ◌&&◌, ◌||◌, not, ne_eqb, eqb-true}
-use Rattle.counting.proofs.Common.{true≢false, and_parts, not-false, not-true, count_congr, count_minus, two_of, count_split, total_congr, total_le, and_comm}
-use Rattle.barrier_kit.proofs.Matched.{perfect_congr}
-use Rattle.graph_core.specs.Common.{IsSide, IsCovered, Graph, size, first_end, second_end, IsGraph, in_cut, degree, IsPerfect, IsTight, IsNontrivial}
-use Rattle.counting.specs.Common.{bit, count, Within, Set, minus, meet, complement, singleton}
+use Rattle.counting.proofs.Common.{true≢false, and_parts, not-false, not-true, count_congr, count_minus, two_of, count_split, total_congr, total_le, and_comm, bit, count, Within, Set, minus, meet, complement, singleton}
+use Rattle.barrier_kit.proofs.Common.{perfect_congr}
+use Rattle.graph_core.proofs.Common.{IsSide, IsCovered, Graph, size, first_end, second_end, IsGraph, in_cut, degree, IsPerfect, IsTight, IsNontrivial, covered_perfect, degrees, perfect_matching}
 use Rattle.matching_digraph.proofs.Balance.{balance, crossing, equal_sides, leaves_left, leaves_right, left_of, no_inner, none_right, other_side, right_of}
 use Rattle.quick_kinds.specs.Braces.{AreFoursMatched, four_set}
-use Rattle.graph_core.proofs.Common.{covered_perfect, degrees, perfect_matching}
 
 module _ (g : Graph) (is : IsGraph g) (cov : IsCovered g) where
   module _ (x : Set) (two : IsSide g x) where

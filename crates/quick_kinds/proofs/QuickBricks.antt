@@ -1,16 +1,12 @@
 -- The first cut that classes or cut pairs give. A graph without a cut of a class is bicritical,
 -- since a class of two vertices gives a cut; a bicritical graph without a cut of a cut pair has
 -- no cut pair.
-use Rattle.std.proofs.Common.{◌≡◌, ℕ, ◌≤◌, true, ◌==◌, refl, sym, ap, ◌∙◌, ◌⊎◌, inl, inr, List, [], ◌∷◌, ◌++◌, length, Option, Some, None, arith, eqb-true, subst, ◌↔◌}
-use Rattle.counting.proofs.Common.{none-some, same_Some, All-head}
-use Rattle.std.specs.Prelude.{All, slice_get}
-use Rattle.counting.specs.Common.{Set}
-use Rattle.graph_core.specs.Common.{IsCovered, Graph, IsBipartite, IsMultigraph, IsBicritical, IsCutPair, equivalent_pair, IsNontrivial, IsTight}
-use Rattle.barrier_kit.specs.BarrierShores.{barrier_cuts}
-use Rattle.barrier_kit.proofs.CriticalPairs.{four_vertices, no_sides}
-use Rattle.barrier_kit.proofs.ShoreFacts.{bicritical_no_cuts, some_cut}
+use Rattle.std.proofs.Common.{◌≡◌, ℕ, ◌≤◌, true, ◌==◌, refl, sym, ap, ◌∙◌, ◌⊎◌, inl, inr, List, [], ◌∷◌, ◌++◌, length, Option, Some, None, arith, eqb-true, subst, ◌↔◌, All, slice_get}
+use Rattle.counting.proofs.Common.{none-some, same_Some, All-head, Set}
+use Rattle.graph_core.proofs.Common.{IsCovered, Graph, IsBipartite, IsMultigraph, IsBicritical, IsCutPair, equivalent_pair, IsNontrivial, IsTight}
+use Rattle.barrier_kit.proofs.Common.{barrier_cuts, four_vertices, no_sides, bicritical_no_cuts, some_cut}
 use Rattle.brick_kit.proofs.Bricks.{brick_or_not}
-use Rattle.separation_kit.specs.SeparationShores.{separation_cuts}
+use Rattle.separation_kit.specs.Common.{separation_cuts}
 use Rattle.separation_kit.proofs.SeparationFacts.{cut_pair-none, no_pair_no_cuts, pair_some_cut, equivalent-none}
 
 -- the first of a list

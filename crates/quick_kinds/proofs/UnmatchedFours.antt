@@ -2,17 +2,11 @@
 -- perfect matching? Hall's condition fails for some vertices, and these with their neighbours are
 -- a nontrivial tight set.
 use Rattle.std.proofs.Common.{◌≡◌, ℕ, ◌+◌, ◌*◌, ◌≤◌, ◌<◌, ◌≢◌, Bool, true, false, ◌==◌, refl, sym, ap, ap₂, ◌∙◌, arith, ◌&&◌, ◌||◌, not, eq-eqb, ne_eqb, eqb-true, nat_lt, ltb-true, ltb-false, ◌⊎◌, inl, inr}
-use Rattle.counting.proofs.Common.{cases_Bool, true≢false, both_ways, and_parts, and_from, or_cases, Respects, choose_set, count_congr, count_minus, count_member, two_members, odd_three, count_singleton, some_true, true_some, some_congr, total_congr, total_add, total_le, total_at, bit_le_one, not_not, same_tests}
-use Rattle.barrier_kit.proofs.Families.{glue_family}
-use Rattle.barrier_kit.proofs.Hall.{hall, hits}
-use Rattle.barrier_kit.proofs.Joining.{cut_split}
-use Rattle.barrier_kit.proofs.Matched.{cut_matching, loop_free, perfect_congr}
-use Rattle.graph_core.specs.Common.{IsSide, IsCovered, Graph, size, first_end, second_end, IsGraph, degree, has_ends, edges_in_cut, IsPerfect, IsTight, IsNontrivial}
-use Rattle.barrier_kit.specs.Choices.{neighbours, Picks}
-use Rattle.counting.specs.Common.{bit, count, Within, Set, none, union, minus, meet, complement, singleton, some}
+use Rattle.counting.proofs.Common.{cases_Bool, true≢false, both_ways, and_parts, and_from, or_cases, Respects, choose_set, count_congr, count_minus, count_member, two_members, odd_three, count_singleton, some_true, true_some, some_congr, total_congr, total_add, total_le, total_at, bit_le_one, not_not, same_tests, bit, count, Within, Set, none, union, minus, meet, complement, singleton, some}
+use Rattle.barrier_kit.proofs.Common.{glue_family, hall, hits, cut_split, cut_matching, loop_free, perfect_congr, neighbours, Picks}
+use Rattle.graph_core.proofs.Common.{IsSide, IsCovered, Graph, size, first_end, second_end, IsGraph, degree, has_ends, edges_in_cut, IsPerfect, IsTight, IsNontrivial, tight_from_cut, covered_perfect, ends_of, degree_sum, ends_of_is, has_ends-cases, has_ends-own, has_ends-back}
 use Rattle.matching_digraph.proofs.Balance.{equal_sides, other_side, side_count}
 use Rattle.quick_kinds.specs.Braces.{four_set}
-use Rattle.graph_core.proofs.Common.{tight_from_cut, covered_perfect, ends_of, degree_sum, ends_of_is, has_ends-cases, has_ends-own, has_ends-back}
 
 -- a perfect matching of two vertices that an edge joins
 pub one_edge : (g : Graph) (e x y : ℕ) → Within (size g) e → has_ends g x y e ≡ true → x ≢ y → IsPerfect g (complement (union (singleton x) (singleton y))) (singleton e)

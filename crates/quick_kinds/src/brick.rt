@@ -1,8 +1,8 @@
 //! The quick test for bricks.
 ghost use Rattle.std.specs.Prelude.{◌≡◌, ◌↔◌, ◌++◌, ℕ, None, IfOk, IfSome, slice_get};
 ghost use Rattle.graph_core.specs.Common.{IsCovered, IsBipartite, IsBicritical, IsCutPair, HasOnlyTrivialTightCuts, IsCanonicalCut};
-ghost use Rattle.barrier_kit.specs.BarrierShores.{barrier_cuts};
-ghost use Rattle.separation_kit.specs.SeparationShores.{separation_cuts};
+ghost use Rattle.barrier_kit.specs.Common.{barrier_cuts};
+ghost use Rattle.separation_kit.specs.Common.{separation_cuts};
 
 use barrier_kit::barrier_cuts;
 use graph_core::MultiGraph;

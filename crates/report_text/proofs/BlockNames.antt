@@ -1,10 +1,9 @@
 -- The names of the first blocks of a partition, with one more.
 use Rattle.std.proofs.Common.{◌≡◌, ◌+◌, ℕ, suc, List, [], ◌∷◌, ◌++◌, Some, take, slice_get, ◌∙◌, ap, sym, arith}
 use Rattle.std.proofs.Math.Seq.{take-suc}
-use Rattle.counting.proofs.Common.{map-append, get_or_from_slice_get}
+use Rattle.counting.proofs.Common.{map-append, get_or_from_slice_get, last_of}
 use Rattle.std.proofs.lemmas.Option.{slice_get_within}
-use Rattle.counting.specs.Common.{last_of}
-use Rattle.graph_core.specs.Common.{names_of}
+use Rattle.graph_core.proofs.Common.{names_of}
 
 pub names-next : (p : List (List ℕ)) (i n : ℕ) (b : List ℕ) (now next : List ℕ) → slice_get p i ≡ Some b → now ≡ names_of (take i p) → n ≡ last_of b → next ≡ now ++ n ∷ [] → next ≡ names_of (take (i + 1) p)
 names-next p i n b now next is before name after =

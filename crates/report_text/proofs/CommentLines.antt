@@ -1,26 +1,19 @@
 -- The lines after the text of a decomposition, and those that name vertices after it, are
 -- comments: each is written of words, the first of which is `c`.
-use Rattle.std.proofs.Common.{◌≡◌, ◌∙◌, ℕ, zero, suc, ◌-◌, ◌<◌, ◌≤◌, ◌^◌, ◌==◌, not, Bool, true, List, [], ◌∷◌, ◌++◌, length, map, get_or, All, ap, refl, sym, subst, append_assoc, arith, inl, inr}
-use Rattle.std.specs.Prelude.{codes}
+use Rattle.std.proofs.Common.{◌≡◌, ◌∙◌, ℕ, zero, suc, ◌-◌, ◌<◌, ◌≤◌, ◌^◌, ◌==◌, not, Bool, true, List, [], ◌∷◌, ◌++◌, length, map, get_or, All, ap, refl, sym, subst, append_assoc, arith, inl, inr, codes, eq-eqb}
 use Rattle.std.specs.Fmt.{decimal}
-use Rattle.std.specs.List.{AllByRecursion}
-use Rattle.std.proofs.lemmas.Bool.{eq-eqb}
-use Rattle.counting.proofs.Common.{cases_lt, or_left, or_right, All-nil, rising_list-rises}
+use Rattle.counting.proofs.Common.{AllByRecursion, cases_lt, or_left, or_right, All-nil, rising_list-rises, Within, last_of, mem}
 use Rattle.std.proofs.lemmas.List.Elements.{All-get_or, All-from_get_or}
 use Rattle.std.proofs.lemmas.List.Sums.{count_by-le-length}
 use Rattle.std.proofs.Math.ListN.{get_or-eq_default}
-use Rattle.counting.specs.Common.{Within, last_of, mem}
-use Rattle.graph_core.specs.Common.{Graph, size, first_end, second_end, has_ends, IsPartition, block, contracted, quotient, remembered}
+use Rattle.graph_core.proofs.Common.{Graph, size, first_end, second_end, has_ends, IsPartition, block, contracted, quotient, remembered}
 use Rattle.graph_text.proofs.NamedReadBack.{is_word-name}
-use Rattle.graph_text.specs.Names.{AreNames, is_name}
+use Rattle.graph_text.specs.Common.{AreNames, is_name}
 use Rattle.line_text.specs.Common.{AreWords, is_word, unwords, written}
 use Rattle.line_text.proofs.Decimals.{is_word-decimal, words-decimal}
 use Rattle.line_text.proofs.WrittenLines.{spaced, unwords-spaced}
-use Rattle.report_text.specs.Comments.{HasFewLeaves, IsCommented}
-use Rattle.report_text.specs.Derivations.{adjacent_line, adjacent_lines, block_lines, derivation_text, leaf_line, leaf_lines, leaf_text, name_at, tally_line}
-use Rattle.report_text.specs.Words.{leaf_kind_word}
-use Rattle.report_text.specs.Reports.{list_line, name_line, name_lines, numbers_text, with_names_text}
-use Rattle.tree_core.specs.Common.{leaf_at, is_brick, kind_at, tally_of}
+use Rattle.report_text.specs.Common.{HasFewLeaves, IsCommented, adjacent_line, adjacent_lines, block_lines, derivation_text, leaf_line, leaf_lines, leaf_text, name_at, tally_line, leaf_kind_word, list_line, name_line, name_lines, numbers_text, with_names_text}
+use Rattle.tree_core.proofs.Common.{leaf_at, is_brick, kind_at, tally_of}
 use Rattle.tree_core.specs.declared.tallies.LeafKind.{LeafKind}
 use Rattle.tree_core.specs.declared.tallies.LeafKind.TheVariants.{Brick, Brace}
 use Rattle.tree_core.specs.declared.tallies.Tally.{Tally}

@@ -1,12 +1,11 @@
 -- Comments after a text: they join, a line of words that begin with `c` is one, and a text that
 -- stands for a value stands for it with comments after it.
 use Rattle.std.proofs.Common.{◌≡◌, ◌∙◌, ℕ, List, [], ◌∷◌, ◌++◌, true, ap, sym, subst, append_assoc}
-use Rattle.std.specs.List.{AllByRecursion}
-use Rattle.counting.proofs.Common.{append-nil}
+use Rattle.counting.proofs.Common.{AllByRecursion, append-nil}
 use Rattle.line_text.specs.Common.{Rules, Stands, is_closed, IsComment, written}
 use Rattle.line_text.proofs.ReadBack.{AreSkipped-written, Stands-comments}
 use Rattle.line_text.proofs.WrittenLines.{written-append}
-use Rattle.report_text.specs.Comments.{IsCommented}
+use Rattle.report_text.specs.Common.{IsCommented}
 
 -- comments, and further comments
 both : (lines more : List (List (List ℕ))) → AllByRecursion IsComment lines → AllByRecursion IsComment more → AllByRecursion IsComment (lines ++ more)

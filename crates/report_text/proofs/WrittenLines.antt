@@ -1,17 +1,14 @@
 -- Steps of the loops that write the lines of a leaf, and of the leaves: what is written and one
 -- more line are the lines with one more.
-use Rattle.std.proofs.Common.{◌≡◌, ℕ, suc, ◌-◌, ◌∙◌, List, [], ◌++◌, length, map, ap, sym, subst, append_assoc, slice_get, get_or, Some, arith}
+use Rattle.std.proofs.Common.{◌≡◌, ℕ, suc, ◌-◌, ◌∙◌, List, [], ◌++◌, length, map, ap, sym, subst, append_assoc, slice_get, get_or, Some, arith, codes}
 use Rattle.std.proofs.lemmas.Option.{slice_get-map}
-use Rattle.counting.proofs.Common.{get_or_from_slice_get}
-use Rattle.std.specs.Prelude.{codes}
+use Rattle.counting.proofs.Common.{get_or_from_slice_get, Within}
 use Rattle.std.specs.Option.{option_map}
-use Rattle.counting.specs.Common.{Within}
-use Rattle.graph_core.specs.Common.{Graph, first_end, second_end, size, quotient, remembered}
+use Rattle.graph_core.proofs.Common.{Graph, first_end, second_end, size, quotient, remembered}
 use Rattle.contraction.specs.Contracted.{ContractedValue, contraction}
 use Rattle.contraction.specs.Partition.{PartitionValue}
-use Rattle.report_text.specs.Reports.{list_line}
-use Rattle.report_text.specs.Derivations.{adjacent_line, adjacent_lines, block_lines, leaf_line, leaf_lines, leaf_text, name_at}
-use Rattle.tree_core.specs.Common.{leaf_at, kind_at}
+use Rattle.report_text.specs.Common.{list_line, adjacent_line, adjacent_lines, block_lines, leaf_line, leaf_lines, leaf_text, name_at}
+use Rattle.tree_core.proofs.Common.{leaf_at, kind_at}
 use Rattle.tree_core.specs.declared.tallies.LeafKind.{LeafKind}
 use Rattle.tree_core.specs.declared.tallies.LeafKind.TheVariants.{Brick}
 

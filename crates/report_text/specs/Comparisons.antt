@@ -6,7 +6,7 @@ use Rattle.std.specs.Prelude.{ℕ, List, [], ◌∷◌, ◌++◌, length, codes}
 use Rattle.std.specs.Fmt.{decimal}
 use Rattle.line_text.specs.Common.{written}
 use Rattle.tree_core.specs.Common.{PlainMove}
-use Rattle.move_text.specs.Writing.{move_words}
+use Rattle.move_text.specs.Common.{move_words}
 use Rattle.report_text.specs.declared.comparisons.MapLine.{MapLine}
 
 -- the line of the counts

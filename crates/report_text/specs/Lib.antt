@@ -9,3 +9,4 @@ pub mod EarReports
 pub mod Scripts
 pub mod Growths
 pub mod Comments
+pub mod Common

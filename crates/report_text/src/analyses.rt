@@ -1,7 +1,6 @@
 //! The report of `analyse`.
 ghost use Rattle.std.specs.Prelude.{◌≡◌, ◌++◌, [], codes, OnOk, IfOk, string_bytes};
-ghost use Rattle.report_text.specs.Analyses.{analysis_text, numbers_told, verdict_lines, with_structure, with_three_sets};
-ghost use Rattle.report_text.specs.Reports.{bipartite_line, count_line, graph_line};
+ghost use Rattle.report_text.specs.Common.{analysis_text, numbers_told, verdict_lines, with_structure, with_three_sets, bipartite_line, count_line, graph_line};
 
 use crate::numbers::{push_numbers_line, push_set_line};
 use crate::structures::{Structure, push_structure};

@@ -4,7 +4,7 @@ ghost use Rattle.counting.specs.Common.{Within};
 ghost use Rattle.contraction.specs.Contracted.{contraction};
 ghost use Rattle.graph_core.specs.Common.{Graph, size, quotient};
 ghost use Rattle.tree_core.specs.Common.{AreLeafKinds, IsKindOf, IsLeafKind, tally_of};
-ghost use Rattle.report_text.specs.Derivations.{adjacent_line, adjacent_lines, block_lines, derivation_text, leaf_line, leaf_lines, leaf_text, name_at, tally_line};
+ghost use Rattle.report_text.specs.Common.{adjacent_line, adjacent_lines, block_lines, derivation_text, leaf_line, leaf_lines, leaf_text, name_at, tally_line};
 ghost use Rattle.tree_core.specs.declared.tallies.LeafKind.{LeafKind};
 
 use crate::commenting::commented;

@@ -1,6 +1,6 @@
 //! The line that judges an ear list.
 ghost use Rattle.std.specs.Prelude.{◌≡◌, ◌++◌, OnOk, IfOk, string_bytes};
-ghost use Rattle.report_text.specs.Judgements.{ear_judgement_text, edge_text, refused_step_line, step_refusal_text};
+ghost use Rattle.report_text.specs.Common.{ear_judgement_text, edge_text, refused_step_line, step_refusal_text};
 
 use std::alloc::{AllocError as Memory, Global};
 

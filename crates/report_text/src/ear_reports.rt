@@ -1,6 +1,6 @@
 //! The report of an ear list that was built.
 ghost use Rattle.std.specs.Prelude.{◌≡◌, IfOk, string_bytes};
-ghost use Rattle.report_text.specs.EarReports.{ears_report_text, steps_line};
+ghost use Rattle.report_text.specs.Common.{ears_report_text, steps_line};
 
 use crate::commenting::commented;
 use std::alloc::{AllocError as Memory, Global};

@@ -1,6 +1,6 @@
 //! The report of a file that is outside its format.
 ghost use Rattle.std.specs.Prelude.{◌≡◌, IfOk, string_bytes};
-ghost use Rattle.report_text.specs.Reports.{bad_input_text};
+ghost use Rattle.report_text.specs.Common.{bad_input_text};
 
 use std::alloc::{AllocError as Memory, Global};
 

@@ -1,6 +1,6 @@
 //! The line of a graph6 text in a report.
 ghost use Rattle.std.specs.Prelude.{◌≡◌, IfOk};
-ghost use Rattle.report_text.specs.Reports.{graph6_line};
+ghost use Rattle.report_text.specs.Common.{graph6_line};
 
 use std::alloc::{AllocError as Memory, Global};
 

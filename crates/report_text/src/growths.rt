@@ -1,6 +1,6 @@
 //! The report of a graph that was grown.
 ghost use Rattle.std.specs.Prelude.{◌≡◌, ◌++◌, OnOk, IfOk, string_bytes};
-ghost use Rattle.report_text.specs.Growths.{grown_text, growth_lines, order_line, pairs_line};
+ghost use Rattle.report_text.specs.Common.{grown_text, growth_lines, order_line, pairs_line};
 
 use crate::commenting::commented;
 use crate::words::push_tally;

@@ -1,6 +1,6 @@
 //! The line that judges a tree of cuts.
 ghost use Rattle.std.specs.Prelude.{◌≡◌, ◌++◌, OnOk, IfOk, string_bytes};
-ghost use Rattle.report_text.specs.Judgements.{accepted_line, judgement_text, numbered, refused_line, shown_text};
+ghost use Rattle.report_text.specs.Common.{accepted_line, judgement_text, numbered, refused_line, shown_text};
 
 use crate::numbers::{push_numbers, push_set};
 use crate::words::push_tally;

@@ -2,9 +2,7 @@
 ghost use Rattle.std.specs.Prelude.{◌<◌, ◌^◌, ℕ, List, length, true};
 ghost use Rattle.line_text.specs.Common.{AreWords};
 ghost use Rattle.graph_core.specs.Common.{Graph};
-ghost use Rattle.report_text.specs.Comments.{HasFewLeaves, IsCommented};
-ghost use Rattle.report_text.specs.Derivations.{derivation_text};
-ghost use Rattle.report_text.specs.Reports.{with_names_text};
+ghost use Rattle.report_text.specs.Common.{HasFewLeaves, IsCommented, derivation_text, with_names_text};
 ghost use Rattle.tree_core.specs.declared.tallies.LeafKind.{LeafKind};
 
 /// What stands after the text in the report of a decomposition are comments, so that the report

@@ -1,7 +1,6 @@
 //! Reports that tell the names of vertices.
 ghost use Rattle.std.specs.Prelude.{◌≡◌, ◌++◌, OnOk, IfOk, true};
-ghost use Rattle.report_text.specs.Comments.{IsCommented};
-ghost use Rattle.report_text.specs.Reports.{name_line, with_names_text};
+ghost use Rattle.report_text.specs.Common.{IsCommented, name_line, with_names_text};
 
 use graph_text::Names;
 use std::alloc::{AllocError as Memory, Global};

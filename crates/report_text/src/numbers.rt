@@ -1,6 +1,6 @@
 //! Lists of numbers in a report.
 ghost use Rattle.std.specs.Prelude.{◌≡◌, ◌++◌, OnOk, string_bytes};
-ghost use Rattle.report_text.specs.Reports.{list_line, numbers_text};
+ghost use Rattle.report_text.specs.Common.{list_line, numbers_text};
 
 use graph_core::Numbers;
 use std::alloc::AllocError as Memory;

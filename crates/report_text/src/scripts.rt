@@ -1,6 +1,6 @@
 //! The reports on scripts of moves, made and replayed.
 ghost use Rattle.std.specs.Prelude.{◌≡◌, IfOk, string_bytes};
-ghost use Rattle.report_text.specs.Scripts.{moves_line, refused_move_text, replayed_text, script_line, script_report_text, stuck_text};
+ghost use Rattle.report_text.specs.Common.{moves_line, refused_move_text, replayed_text, script_line, script_report_text, stuck_text};
 
 use crate::commenting::commented;
 use crate::judgements::{Shown, push_refused};

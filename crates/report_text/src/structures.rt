@@ -1,7 +1,6 @@
 //! The lines on the structure of a matching covered graph.
 ghost use Rattle.std.specs.Prelude.{◌≡◌, ◌++◌, OnOk, string_bytes};
-ghost use Rattle.report_text.specs.Reports.{numbers_text};
-ghost use Rattle.report_text.specs.Structures.{class_lines, classes_lines, pair_line, bicritical_line, cut_pair_line, kind_line, shore_of, structure_text};
+ghost use Rattle.report_text.specs.Common.{numbers_text, class_lines, classes_lines, pair_line, bicritical_line, cut_pair_line, kind_line, shore_of, structure_text};
 
 use crate::numbers::{push_set, push_set_line};
 use crate::words::kind_word;

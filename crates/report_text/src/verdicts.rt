@@ -1,6 +1,6 @@
 //! The line of a verdict.
 ghost use Rattle.std.specs.Prelude.{◌≡◌, ◌++◌, codes, OnOk, IfOk, string_bytes};
-ghost use Rattle.report_text.specs.Reports.{numbers_text, reason_numbers, reason_text, verdict_text};
+ghost use Rattle.report_text.specs.Common.{numbers_text, reason_numbers, reason_text, verdict_text};
 
 use crate::numbers::{push_numbers, push_set};
 use crate::words::reason_word;

@@ -1,6 +1,6 @@
 //! Words that lines of several reports share.
 ghost use Rattle.std.specs.Prelude.{◌≡◌, ◌++◌, OnOk, string_bytes};
-ghost use Rattle.report_text.specs.Words.{kind_word, leaf_kind_word, reason_word, tally_end, yes_or_no};
+ghost use Rattle.report_text.specs.Common.{kind_word, leaf_kind_word, reason_word, tally_end, yes_or_no};
 
 use graph_core::{Kind, Reason};
 use std::alloc::AllocError as Memory;

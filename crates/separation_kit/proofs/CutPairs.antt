@@ -2,12 +2,10 @@
 -- four vertices, is bicritical and has no cut pair. Each fact of a brick is the tight cut that
 -- there would be else.
 use Rattle.std.proofs.Common.{◌≡◌, ℕ, ◌≤◌, false, arith}
-use Rattle.barrier_kit.proofs.BarrierCuts.{leads_out}
-use Rattle.graph_core.specs.Common.{IsSide, is_least, component_count, IsCovered, Graph, IsGraph, IsBicritical, IsCutPair, IsTight, IsNontrivial, joined}
-use Rattle.counting.proofs.Common.{count_member}
-use Rattle.counting.specs.Common.{Within, Set, pair_set, union, singleton}
+use Rattle.barrier_kit.proofs.Common.{leads_out, four_vertices, bicritical}
+use Rattle.graph_core.proofs.Common.{IsSide, is_least, component_count, IsCovered, Graph, IsGraph, IsBicritical, IsCutPair, IsTight, IsNontrivial, joined}
+use Rattle.counting.proofs.Common.{count_member, Within, Set, pair_set, union, singleton}
 use Rattle.separation_kit.proofs.Separations.{separation_tight, separation_nontrivial}
-use Rattle.barrier_kit.proofs.CriticalPairs.{four_vertices, bicritical}
 
 -- a vertex outside a cut pair
 pub beside_pair : (g : Graph) (u v : ℕ) → IsCutPair g u v → (a : ℕ) × Within g.order a × (pair_set u v a ≡ false)

@@ -1,13 +1,10 @@
 -- The first separation cut is the first cut at the first cut pair.
 -- The shores at that pair stand first, and one of them gives a cut.
-use Rattle.std.proofs.Common.{◌≡◌, ◌≢◌, ℕ, ◌<◌, ◌≤◌, Bool, true, false, ◌&&◌, cond, refl, sym, ap, ap₂, ◌∙◌, arith, List, [], ◌∷◌, ◌++◌, Some, None, filter, flat_map, fold, slice_get, leb-true, le-leb, subst}
-use Rattle.std.specs.Prelude.{All, find}
-use Rattle.counting.proofs.Common.{All-head, All-tail}
-use Rattle.counting.specs.Common.{Within, rising_pairs, pair_set}
-use Rattle.graph_core.specs.Common.{component_count, Graph, IsGraph, IsBicritical, IsCutPair, cut_pair, with_cut}
-use Rattle.barrier_kit.proofs.AllOf.{pairs_rise}
-use Rattle.barrier_kit.proofs.FirstCuts.{first-of_part}
-use Rattle.separation_kit.specs.SeparationShores.{is_cut_pair, separation_cuts, separation_shores, shores_at_pair}
+use Rattle.std.proofs.Common.{◌≡◌, ◌≢◌, ℕ, ◌<◌, ◌≤◌, Bool, true, false, ◌&&◌, cond, refl, sym, ap, ap₂, ◌∙◌, arith, List, [], ◌∷◌, ◌++◌, Some, None, filter, flat_map, fold, slice_get, leb-true, le-leb, subst, All, find}
+use Rattle.counting.proofs.Common.{All-head, All-tail, Within, rising_pairs, pair_set}
+use Rattle.graph_core.proofs.Common.{component_count, Graph, IsGraph, IsBicritical, IsCutPair, cut_pair, with_cut}
+use Rattle.barrier_kit.proofs.Common.{pairs_rise, first-of_part}
+use Rattle.separation_kit.specs.Common.{is_cut_pair, separation_cuts, separation_shores, shores_at_pair}
 use Rattle.separation_kit.proofs.PairShores.{bicritical-true}
 use Rattle.separation_kit.proofs.SeparationFacts.{no_pair_no_cuts, pair_own_cut}
 

@@ -1,19 +1,14 @@
 -- The shores of all cut pairs as the code goes through them: the pairs in order, and at each cut
 -- pair the components in order. A step of the loop is a step of the fold; where no cut pair is,
 -- nothing is added.
-use Rattle.std.proofs.Common.{◌≡◌, ℕ, ◌+◌, ◌<◌, ◌≤◌, true, false, ◌==◌, ◌||◌, ◌&&◌, cond, not, sym, ap, ap₂, ◌∙◌, arith, List, [], ◌∷◌, ◌++◌, map, flat_map, filter, fold, length, take, get_or, append-nil, inl, inr}
-use Rattle.std.specs.Prelude.{All, is_none}
-use Rattle.std.proofs.lemmas.Bool.{eqb-true}
-use Rattle.counting.proofs.Common.{le-leb, or_cases, get_or-map, length-map, map-append, take_all, take_more, All-map, mem-within, list-from_test, rising_list-rises, set-narrower}
+use Rattle.std.proofs.Common.{◌≡◌, ℕ, ◌+◌, ◌<◌, ◌≤◌, true, false, ◌==◌, ◌||◌, ◌&&◌, cond, not, sym, ap, ap₂, ◌∙◌, arith, List, [], ◌∷◌, ◌++◌, map, flat_map, filter, fold, length, take, get_or, append-nil, inl, inr, All, is_none, eqb-true}
+use Rattle.counting.proofs.Common.{le-leb, or_cases, get_or-map, length-map, map-append, take_all, take_more, All-map, mem-within, list-from_test, rising_list-rises, set-narrower, Within, IsRisingIn, mem, rising_list, rising_pairs, Set, pair_set, singleton, union}
 use Rattle.std.proofs.lemmas.Grind.{flat_map-append}
 use Rattle.std.proofs.lemmas.List.Elements.{filter-append}
 use Rattle.std.proofs.lemmas.List.Sums.{fold-append}
-use Rattle.counting.specs.Common.{Within, IsRisingIn, mem, rising_list, rising_pairs, Set, pair_set, singleton, union}
-use Rattle.graph_core.proofs.Common.{has_perfect_found}
-use Rattle.graph_core.specs.Common.{components, is_least, Graph, has_perfect, IsBicritical, is_bicritical, equivalent_pair, joined, with_cut}
-use Rattle.barrier_kit.proofs.AllOf.{all_rising, pairs_rise, unfound_all}
-use Rattle.separation_kit.specs.Pairs.{pair_of}
-use Rattle.separation_kit.specs.SeparationShores.{is_cut_pair, separation_cuts, separation_shores, shores_at_pair}
+use Rattle.graph_core.proofs.Common.{has_perfect_found, components, is_least, Graph, has_perfect, IsBicritical, is_bicritical, equivalent_pair, joined, with_cut}
+use Rattle.barrier_kit.proofs.Common.{all_rising, pairs_rise, unfound_all}
+use Rattle.separation_kit.specs.Common.{pair_of, is_cut_pair, separation_cuts, separation_shores, shores_at_pair}
 use Rattle.separation_kit.specs.declared.pair.Pair.{Pair}
 use Rattle.separation_kit.proofs.PairSearch.{pair_at}
 

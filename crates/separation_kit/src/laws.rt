@@ -2,7 +2,7 @@
 ghost use Rattle.std.specs.Prelude.{◌≡◌, ◌≢◌, ◌≤◌, ◌↔◌, ℕ, true, false, None, All, []};
 ghost use Rattle.counting.specs.Common.{Within, count, is_odd, mem, pair_set, singleton, union};
 ghost use Rattle.graph_core.specs.Common.{IsCovered, Graph, IsBipartite, IsGraph, IsMultigraph, HasPerfect, IsBicritical, IsCutPair, cut_pair, equivalent_pair, HasOnlyTrivialTightCuts, IsNontrivial, IsTight, joined, IsCanonicalCut};
-ghost use Rattle.separation_kit.specs.SeparationShores.{separation_cuts, separation_shores};
+ghost use Rattle.separation_kit.specs.Common.{separation_cuts, separation_shores};
 
 /// There is no first pair exactly when there is none: a graph is bicritical if no two vertices are
 /// equivalent, and no two vertices separate it where there is no cut pair.

@@ -1,7 +1,7 @@
 //! Pairs of vertices in lexicographic order.
 ghost use Rattle.std.specs.Prelude.{◌≡◌, ◌≤◌, ◌++◌, map, nat_lt, IfOk, OnOk};
 ghost use Rattle.counting.specs.Common.{Within, pair_with, rising_list, rising_pairs};
-ghost use Rattle.separation_kit.specs.Pairs.{pair_of};
+ghost use Rattle.separation_kit.specs.Common.{pair_of};
 
 use std::alloc::{AllocError as Memory, Global};
 use vset_core::MOST_VERTICES;

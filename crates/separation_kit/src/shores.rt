@@ -3,8 +3,7 @@ ghost use Rattle.std.specs.Prelude.{◌≡◌, ◌≤◌, fold, map, slice_get, 
 ghost use Rattle.std.specs.Option.{option_map};
 ghost use Rattle.counting.specs.Common.{Within, singleton, union, mem, rising_list, IsRisingIn};
 ghost use Rattle.graph_core.specs.Common.{IsCovered, IsBicritical, cut_pair, with_cut};
-ghost use Rattle.separation_kit.specs.Pairs.{pair_of};
-ghost use Rattle.separation_kit.specs.SeparationShores.{separation_cuts, shores_at_pair};
+ghost use Rattle.separation_kit.specs.Common.{pair_of, separation_cuts, shores_at_pair};
 
 use crate::critical::{is_cut_pair, parts_without};
 use crate::dominators::dominator_candidates;

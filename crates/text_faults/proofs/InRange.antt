@@ -1,9 +1,7 @@
 -- The test of a range says exactly that a number is in it, and so for all numbers of a list.
 use Rattle.std.proofs.Common.{◌≡◌, ◌||◌, ◌<◌, ◌^◌, ℕ, suc, List, [], ◌∷◌, All, false, refl, ap₂, arith}
-use Rattle.std.specs.List.{list_any}
-use Rattle.counting.proofs.Common.{or_parts, nat_tests, All-nil, All-cons}
-use Rattle.counting.specs.Common.{Within}
-use Rattle.text_faults.specs.Ranges.{is_out_of_range}
+use Rattle.counting.proofs.Common.{list_any, or_parts, nat_tests, All-nil, All-cons, Within}
+use Rattle.text_faults.specs.Common.{is_out_of_range}
 
 pub in_range : (n v : ℕ) → is_out_of_range n v ≡ false → Within n v
 in_range n v is = (grind (arith, nat_tests), grind (arith, nat_tests))

@@ -1,7 +1,7 @@
 //! Ranges of the numbers of a text.
 ghost use Rattle.std.specs.Prelude.{◌≡◌};
 ghost use Rattle.std.specs.List.{list_any};
-ghost use Rattle.text_faults.specs.Ranges.{is_out_of_range};
+ghost use Rattle.text_faults.specs.Common.{is_out_of_range};
 
 /// Whether a number is 0 or over `n`. Takes no memory.
 pub fn is_out_of_range(n: u32, v: u32) -> bool

@@ -2,13 +2,10 @@
 -- edge of a bicritical graph is in a perfect matching; two vertices of one side of a bipartite
 -- graph leave the sides unequal.
 use Rattle.std.proofs.Common.{◌≡◌, ℕ, ◌≤◌, Bool, true, ◌==◌, ◌&&◌, not, refl, sym, ap, ◌∙◌, arith, eqb-true, ◌↔◌, inl, inr}
-use Rattle.counting.proofs.Common.{or_cases, apart_denied, count_complement, count_congr, two_of, total_congr, total_none}
-use Rattle.barrier_kit.proofs.Barriers.{two_less}
-use Rattle.barrier_kit.proofs.CriticalPairs.{no_sides}
-use Rattle.graph_core.specs.Common.{IsSide, IsCovered, Graph, IsBipartite, IsMultigraph, edges_in_cut, first_end, second_end, size, IsBicritical, IsCutPair, HasOnlyTrivialTightCuts}
+use Rattle.counting.proofs.Common.{or_cases, apart_denied, count_complement, count_congr, two_of, total_congr, total_none, bit, count, Set, complement, minus, none, pair_set}
+use Rattle.barrier_kit.proofs.Common.{two_less, no_sides}
+use Rattle.graph_core.proofs.Common.{IsSide, IsCovered, Graph, IsBipartite, IsMultigraph, edges_in_cut, first_end, second_end, size, IsBicritical, IsCutPair, HasOnlyTrivialTightCuts, degrees}
 use Rattle.brick_kit.proofs.Bricks.{no_shore}
-use Rattle.counting.specs.Common.{bit, count, Set, complement, minus, none, pair_set}
-use Rattle.graph_core.proofs.Common.{degrees}
 use Rattle.matching_digraph.proofs.Balance.{equal_sides, no_inner, other_side}
 use Rattle.separation_kit.proofs.CutPairs.{brick_facts}
 use Rattle.theorems.proofs.AddedEdges.{allowed_from, degrees_outside}

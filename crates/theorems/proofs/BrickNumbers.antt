@@ -3,11 +3,9 @@
 -- with a given cut counts what the trees of the two sides count; and all leaves are bipartite if
 -- and only if the graph is, by induction on the tree.
 use Rattle.std.proofs.Common.{◌≡◌, ◌∙◌, ◌↔◌, ℕ, ◌+◌, ◌*◌, ◌≤◌, List, refl, sym, ap, arith}
-use Rattle.std.specs.List.{AllByRecursion}
+use Rattle.counting.proofs.Common.{AllByRecursion, mem}
 use Rattle.list_lines.proofs.Counts.{same_counts}
-use Rattle.counting.specs.Common.{mem}
-use Rattle.graph_core.proofs.Common.{complement_of-rises, mem-complement_of, complement-tight, singles-partition}
-use Rattle.graph_core.specs.Common.{IsCovered, Graph, IsBipartite, IsGraph, IsMultigraph, IsPartition, complement_of, singles, quotient}
+use Rattle.graph_core.proofs.Common.{complement_of-rises, mem-complement_of, complement-tight, singles-partition, IsCovered, Graph, IsBipartite, IsGraph, IsMultigraph, IsPartition, complement_of, singles, quotient}
 use Rattle.tight_cuts.proofs.QuotientSides.{bipartite_from_singles, singles_from_bipartite}
 use Rattle.list_lines.specs.Standings.{IsCounted}
 use Rattle.tree_core.specs.declared.tallies.Tally.{Tally}
@@ -17,11 +15,7 @@ use Rattle.theorems.proofs.PickedDerivations.{some-tree}
 use Rattle.theorems.proofs.QuotientCounts.{cut-counted, quotient-counts}
 use Rattle.theorems.proofs.SidesAcrossCuts.{shore-member, shore-merge, side-kept, sides-pasted}
 use Rattle.theorems.specs.Derivations.{IsCountedAt, both}
-use Rattle.tree_core.proofs.CutsBelow.{few-leaves, kept-covers, kept-partition, merged-covers, merged-partition, root-covered}
-use Rattle.tree_core.proofs.DerivationLeaves.{partitions-leaves}
-use Rattle.tree_core.proofs.DerivationShores.{shore-cut}
-use Rattle.tree_core.proofs.Sizes.{length-leaves_at}
-use Rattle.tree_core.specs.Common.{IsCutAt, IsDerivationAt, IsTightShore, kept_at, merged_at, leaves, leaves_at, Shape, cut, leaf}
+use Rattle.tree_core.proofs.Common.{few-leaves, kept-covers, kept-partition, merged-covers, merged-partition, root-covered, partitions-leaves, shore-cut, length-leaves_at, IsCutAt, IsDerivationAt, IsTightShore, kept_at, merged_at, leaves, leaves_at, Shape, cut, leaf}
 
 -- some derivation counts, and each other one counts the same
 pub one-count : (g : Graph) → IsGraph g → IsCovered g → (tally : Tally) × IsCounted g tally × ((other : Tally) → IsCounted g other → other ≡ tally)

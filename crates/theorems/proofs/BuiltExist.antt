@@ -6,36 +6,26 @@ use Rattle.std.specs.Option.{ForSome}
 use Rattle.contraction.specs.Partition.{PartitionValue}
 use Rattle.ear_core.proofs.Stepping.{covered-edge}
 use Rattle.ear_text.specs.Writing.{ears_text}
-use Rattle.graph_core.specs.Common.{IsCovered, Graph, IsGraph, IsMultigraph, size, IsWithinLimits}
+use Rattle.graph_core.proofs.Common.{IsCovered, Graph, IsGraph, IsMultigraph, size, IsWithinLimits}
 use Rattle.graph_text.proofs.NameLists.{AreNames-more}
 use Rattle.graph_text.proofs.NamedReadBack.{Stands-named_text}
 use Rattle.graph_text.proofs.PlainNames.{is_name-plain, length-plain_names, plain-fresh, plain_names-more, plain_names-none}
-use Rattle.graph_text.specs.EitherVersion.{NamedGraph}
-use Rattle.graph_text.specs.Names.{AreNames, plain_name, plain_names}
-use Rattle.graph_text.specs.Writing.{FitsNames, graph_text, named_text}
-use Rattle.bench_outcomes.proofs.GrownSizes.{sound-from}
+use Rattle.graph_text.specs.Common.{NamedGraph, AreNames, plain_name, plain_names, FitsNames, graph_text, named_text}
+use Rattle.bench_outcomes.proofs.GrownSizes.{sound-from, grown-multigraph}
 use Rattle.grow_gen.proofs.SoundGrowth.{IsSound, sound-first, sound-next}
-use Rattle.grow_gen.specs.Growth.{Growth, first_growth, grown, growth_from, with_piece}
-use Rattle.grow_gen.specs.Pieces.{further_piece}
+use Rattle.grow_gen.specs.Common.{Growth, first_growth, grown, growth_from, with_piece, further_piece}
 use Rattle.rand_pcg.specs.Lcg.{Lcg, increment_of, started}
 use Rattle.rand_pcg.specs.Pcg.{multiplier_64, pcg32}
 use Rattle.report_text.proofs.CommentLines.{given_names-commented}
 use Rattle.report_text.proofs.Comments.{commented-none}
-use Rattle.tree_core.proofs.FewLeaves.{blocks-of_leaves}
-use Rattle.report_text.specs.Comments.{IsCommented}
-use Rattle.report_text.specs.Derivations.{derivation_text}
-use Rattle.report_text.specs.EarReports.{ears_report_text}
-use Rattle.report_text.specs.Growths.{grown_text}
-use Rattle.report_text.specs.Reports.{with_names_text}
-use Rattle.tree_core.specs.Common.{AreLeafKinds, IsDerivation, leaves, partitions_of, Shape}
+use Rattle.tree_core.proofs.Common.{blocks-of_leaves, AreLeafKinds, IsDerivation, leaves, partitions_of, Shape, partitions-leaves}
+use Rattle.report_text.specs.Common.{IsCommented, derivation_text, ears_report_text, grown_text, with_names_text}
 use Rattle.tree_core.specs.declared.tallies.Tally.{Tally}
-use Rattle.tight_cuts.specs.Candidates.{Candidate}
-use Rattle.tree_core.proofs.DerivationLeaves.{partitions-leaves}
-use Rattle.tree_text.specs.Writing.{tree_text}
+use Rattle.tight_cuts.specs.Common.{Candidate}
+use Rattle.tree_text.specs.Common.{tree_text}
 use Rattle.bench_outcomes.proofs.DerivationTexts.{told}
-use Rattle.bench_outcomes.proofs.GrownSizes.{grown-multigraph}
 use Rattle.bench_outcomes.specs.Common.{EarsGives, double_count, single_count, Grown, IsCounted, Converted, DecomposeGives, TellsDerivation, given_or_plain, with_given_names}
-use Rattle.decomposer.specs.Orders.{NamedPicks}
+use Rattle.decomposer.specs.Common.{NamedPicks}
 use Rattle.bench_outcomes.specs.declared.status.Status.{Status}
 use Rattle.bench_outcomes.specs.declared.status.Status.TheVariants.{Done, Negative}
 use Rattle.decomposer.specs.declared.orders.NamedOrder.{NamedOrder}

@@ -3,13 +3,11 @@
 -- induction on the list.
 use Rattle.std.proofs.Common.{[], ◌≡◌, ℕ, zero, suc, ◌-◌, ◌<◌, ◌≤◌, ◌%◌, List, ◌∷◌, length, map, inl, inr, refl, ap, ap₂, arith, slice_index_or}
 use Rattle.counting.proofs.Common.{cases_lt, length-map}
-use Rattle.decomposer.specs.Orders.{NamedPicks, ScriptPicks, scripted_place}
+use Rattle.decomposer.specs.Common.{NamedPicks, ScriptPicks, scripted_place, IsBalanced, PicksBalanced, gap}
 use Rattle.decomposer.specs.declared.orders.NamedOrder.{NamedOrder}
 use Rattle.decomposer.specs.declared.orders.NamedOrder.TheVariants.{First, Last, Balanced}
-use Rattle.decomposer.specs.Choices.{IsBalanced, PicksBalanced, gap}
 use Rattle.theorems.proofs.PickedDerivations.{PicksSome}
-use Rattle.tight_cuts.specs.Candidates.{Barrier, Candidate, Flow, Origin, Separation}
-use Rattle.tight_cuts.specs.View.{candidate_of}
+use Rattle.tight_cuts.specs.Common.{Barrier, Candidate, Flow, Origin, Separation, candidate_of}
 use Rattle.tight_cuts.specs.declared.candidate.Candidate.{Candidate as StoredCandidate}
 use Rattle.tight_cuts.specs.declared.candidate.Origin.TheVariants.{Barrier as FromBarrier, Separation as FromSeparation, Flow as FromFlow}
 

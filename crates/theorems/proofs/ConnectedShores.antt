@@ -2,12 +2,9 @@
 -- other shore. Else it splits into a component C and the rest D, no edge joins the two, and
 -- perfect matchings make |C| both odd and even.
 use Rattle.std.proofs.Common.{◌≡◌, ℕ, ◌+◌, Bool, true, false, ◌&&◌, ◌||◌, not, refl, sym, ap, ◌∙◌, arith, inl, inr}
-use Rattle.counting.proofs.Common.{cases_Bool, true≢false, not-false, but_from, but_not, total_add, total_congr}
-use Rattle.barrier_kit.proofs.BarrierCuts.{part_step}
-use Rattle.barrier_kit.proofs.Matched.{cut_matching}
-use Rattle.counting.specs.Common.{Within, bit, Set, complement, minus}
-use Rattle.graph_core.proofs.Common.{joined_outside, joined_walk, walk_joined, parity, joined_self}
-use Rattle.graph_core.specs.Common.{IsCovered, Graph, IsGraph, edges_in_cut, first_end, in_cut, second_end, size, CutIsTight, Joined, joined}
+use Rattle.counting.proofs.Common.{cases_Bool, true≢false, not-false, but_from, but_not, total_add, total_congr, Within, bit, Set, complement, minus}
+use Rattle.barrier_kit.proofs.Common.{part_step, cut_matching}
+use Rattle.graph_core.proofs.Common.{joined_outside, joined_walk, walk_joined, parity, joined_self, IsCovered, Graph, IsGraph, edges_in_cut, first_end, in_cut, second_end, size, CutIsTight, Joined, joined}
 
 module _ (g : Graph) (x : Set) (u : ℕ) (is : IsGraph g) (wu : Within g.order u) (xu : x u ≡ true) where
   -- the component of u in the shore, and the rest of the shore

@@ -2,14 +2,10 @@
 -- ends of an edge, a set T with as many odd components; three edges leave each of them for T,
 -- which has an edge inside.
 use Rattle.std.proofs.Common.{◌≡◌, ◌≢◌, ℕ, suc, zero, ◌+◌, ◌*◌, ◌≤◌, Bool, true, false, ◌==◌, ◌&&◌, ◌||◌, not, refl, sym, ap, ◌∙◌, arith, eq-eqb, inl, inr}
-use Rattle.counting.proofs.Common.{and_parts, cases_eq, true≢false, or_left, or_right, count_congr, member_count, count_mono, total_le, total_mul, total_none}
-use Rattle.barrier_kit.proofs.BarrierCuts.{covers, covers_out, covers_step, cut_family}
-use Rattle.barrier_kit.proofs.Barriers.{two_less}
-use Rattle.barrier_kit.proofs.Enlarging.{same_parity}
-use Rattle.counting.specs.Common.{Within, bit, count, is_odd, Set, everything, none, union}
-use Rattle.graph_core.proofs.Common.{none_missed-perfect, joined_or_not, parted}
-use Rattle.graph_core.specs.Common.{IsConnected, is_least, odd_component_count, IsCovered, Graph, IsGraph, edges_in_cut, first_end, in_cut, inside, second_end, size, Allowed, missed_count, joined}
-use Rattle.grow_gen.specs.Cubic.{IsCubic}
+use Rattle.counting.proofs.Common.{and_parts, cases_eq, true≢false, or_left, or_right, count_congr, member_count, count_mono, total_le, total_mul, total_none, Within, bit, count, is_odd, Set, everything, none, union}
+use Rattle.barrier_kit.proofs.Common.{covers, covers_out, covers_step, cut_family, two_less, same_parity}
+use Rattle.graph_core.proofs.Common.{none_missed-perfect, joined_or_not, parted, IsConnected, is_least, odd_component_count, IsCovered, Graph, IsGraph, edges_in_cut, first_end, in_cut, inside, second_end, size, Allowed, missed_count, joined}
+use Rattle.grow_gen.specs.Common.{IsCubic}
 use Rattle.match_core.proofs.TutteBerge.{TutteBerge, tutte_berge}
 use Rattle.theorems.proofs.AddedEdges.{allowed_from, ends_set}
 use Rattle.theorems.proofs.CubicDegrees.{order_is_even, three_each, three_in_cut}

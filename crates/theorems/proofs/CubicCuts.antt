@@ -1,14 +1,11 @@
 -- A tight cut of a 2-edge-connected cubic graph has three edges. A perfect matching is heaviest
 -- for the weight "n, and one more in the cut", so a cover weighs as much; its inequality is
 -- summed over all edges.
-use Rattle.std.proofs.Common.{◌≡◌, ℕ, ◌+◌, ◌*◌, ◌/◌, ◌≤◌, true, List, [], ◌∷◌, refl, sym, ap, ◌∙◌, arith, mul-add, eqb-true}
-use Rattle.std.specs.Prelude.{All, ◌%◌}
-use Rattle.counting.proofs.Common.{All-head, All-tail, count_complement, is_odd_remainder, odd_pos, total_congr, total_mul, total_none}
+use Rattle.std.proofs.Common.{◌≡◌, ℕ, ◌+◌, ◌*◌, ◌/◌, ◌≤◌, true, List, [], ◌∷◌, refl, sym, ap, ◌∙◌, arith, mul-add, eqb-true, All, ◌%◌}
+use Rattle.counting.proofs.Common.{All-head, All-tail, count_complement, is_odd_remainder, odd_pos, total_congr, total_mul, total_none, bit, count, is_odd, total, Set, complement, everything, none}
 use Rattle.brick_kit.proofs.CutWeights.{cut_weight, perfect_heaviest}
-use Rattle.counting.specs.Common.{bit, count, is_odd, total, Set, complement, everything, none}
-use Rattle.graph_core.proofs.Common.{covered_perfect, missed_edges, perfect_matching, perfect_misses}
-use Rattle.graph_core.specs.Common.{Graph, IsGraph, degree, edges_in_cut, in_cut, size, IsPerfect, IsTight}
-use Rattle.grow_gen.specs.Cubic.{IsCubic}
+use Rattle.graph_core.proofs.Common.{covered_perfect, missed_edges, perfect_matching, perfect_misses, Graph, IsGraph, degree, edges_in_cut, in_cut, size, IsPerfect, IsTight}
+use Rattle.grow_gen.specs.Common.{IsCubic}
 use Rattle.theorems.proofs.CubicCovered.{cubic_covered}
 use Rattle.theorems.proofs.CubicDegrees.{all_edges, inner_size, three_each, three_in_cut}
 use Rattle.theorems.specs.CubicGraphs.{IsTwoEdgeConnected, cut_size}

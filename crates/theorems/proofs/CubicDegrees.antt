@@ -1,13 +1,10 @@
 -- Three times the vertices of a set of a cubic graph are the edges in its cut and twice those
 -- inside. So the order is even, and the number of edges in a cut is odd if the set is; in a
 -- 2-edge-connected graph it is then at least three.
-use Rattle.std.proofs.Common.{◌≡◌, ℕ, ◌+◌, ◌*◌, ◌≤◌, ◌==◌, true, false, ◌&&◌, refl, sym, ap, ◌∙◌, arith}
-use Rattle.std.specs.Prelude.{◌%◌}
-use Rattle.counting.proofs.Common.{not-true, count_complement, count_member, complement_odd, is_odd_remainder, odd_pos, odd_three, total_congr, total_mul, total_none}
-use Rattle.counting.specs.Common.{bit, count, is_odd, Set, complement, everything}
-use Rattle.graph_core.proofs.Common.{degrees}
-use Rattle.graph_core.specs.Common.{Graph, IsGraph, degree, inside, size}
-use Rattle.grow_gen.specs.Cubic.{IsCubic}
+use Rattle.std.proofs.Common.{◌≡◌, ℕ, ◌+◌, ◌*◌, ◌≤◌, ◌==◌, true, false, ◌&&◌, refl, sym, ap, ◌∙◌, arith, ◌%◌}
+use Rattle.counting.proofs.Common.{not-true, count_complement, count_member, complement_odd, is_odd_remainder, odd_pos, odd_three, total_congr, total_mul, total_none, bit, count, is_odd, Set, complement, everything}
+use Rattle.graph_core.proofs.Common.{degrees, Graph, IsGraph, degree, inside, size}
+use Rattle.grow_gen.specs.Common.{IsCubic}
 use Rattle.theorems.specs.CubicGraphs.{IsTwoEdgeConnected, cut_size}
 
 -- how many edges have both ends in x

@@ -2,11 +2,9 @@
 -- With P and Q the two parts of a set, 3|P| + R = 3|Q| + L, where L and R count the edges of the
 -- cut that leave at P and at Q.
 use Rattle.std.proofs.Common.{◌≡◌, ◌≢◌, ℕ, ◌+◌, ◌*◌, ◌≤◌, Bool, true, false, ◌&&◌, ◌||◌, not, refl, sym, ap, ◌∙◌, arith, ◌↔◌}
-use Rattle.counting.proofs.Common.{and_parts, true≢false, count_zero, complement_odd, count_mono, total_add, total_congr, total_none}
-use Rattle.graph_core.specs.Common.{IsSide, IsConnected, Graph, IsMultigraph, edges_in_cut, first_end, in_cut, second_end, size, CutIsTight, HasOnlyTrivialTightCuts, IsNontrivial, IsTight}
-use Rattle.counting.specs.Common.{Within, bit, count, is_odd, Set, meet, minus}
-use Rattle.graph_core.proofs.Common.{parted}
-use Rattle.grow_gen.specs.Cubic.{IsCubic}
+use Rattle.counting.proofs.Common.{and_parts, true≢false, count_zero, complement_odd, count_mono, total_add, total_congr, total_none, Within, bit, count, is_odd, Set, meet, minus}
+use Rattle.graph_core.proofs.Common.{IsSide, IsConnected, Graph, IsMultigraph, edges_in_cut, first_end, in_cut, second_end, size, CutIsTight, HasOnlyTrivialTightCuts, IsNontrivial, IsTight, parted}
+use Rattle.grow_gen.specs.Common.{IsCubic}
 use Rattle.matching_digraph.proofs.Balance.{balance, leaves_left, leaves_right}
 use Rattle.theorems.proofs.CubicCuts.{tight_three}
 use Rattle.theorems.proofs.CubicDegrees.{inner_size, odd_cut, order_is_even, three_each}

@@ -3,20 +3,15 @@
 -- the edges less the vertices grow by one, from one edge with two vertices to all edges with all
 -- vertices that they meet.
 use Rattle.std.proofs.Common.{[], ◌≡◌, ℕ, suc, ◌+◌, ◌≤◌, ◌≢◌, Bool, true, false, ◌==◌, ◌&&◌, ◌||◌, not, refl, sym, ap, ap₂, ◌∙◌, arith, eq-eqb, ne_eqb, eqb-true, inl, inr, List, ◌∷◌, length, ◌⊎◌, subst}
-use Rattle.counting.proofs.Common.{cases_eq, cases_Bool, both_ways, true≢false, or_left, or_right, count_congr, count_of_one, times_mem, total_add, total_congr, total_ones, total_zero}
-use Rattle.barrier_kit.proofs.Matched.{cut_edge}
-use Rattle.counting.specs.Common.{Within, bit, count, total, mem, times, Set, everything, singleton}
+use Rattle.counting.proofs.Common.{cases_eq, cases_Bool, both_ways, true≢false, or_left, or_right, count_congr, count_of_one, times_mem, total_add, total_congr, total_ones, total_zero, Within, bit, count, total, mem, times, Set, everything, singleton}
+use Rattle.barrier_kit.proofs.Common.{cut_edge}
 use Rattle.ear_core.proofs.AddedEars.{evens_at, new-met, odds_at}
 use Rattle.ear_core.proofs.EngineGraphs.{ends-met}
 use Rattle.ear_core.proofs.FirstStage.{one-ends}
 use Rattle.ear_core.proofs.NextStages.{met-within, second_ear}
 use Rattle.ear_core.proofs.TraceEdges.{degree_le, edges-within, ends_of-other_end, mem_odds, mem_times, met-some, some-met, trail_has, unmet}
-use Rattle.ear_core.specs.EarLists.{AreSteps, IsEarList, PlainEars, PlainStep, one, two}
-use Rattle.ear_core.specs.Ears.{Follow, IsEar, last_vertex, other_end, trail}
-use Rattle.ear_core.specs.NearlyStages.{odds}
-use Rattle.ear_core.specs.Stages.{is_met, with_edges}
-use Rattle.graph_core.proofs.Common.{degree_congr}
-use Rattle.graph_core.specs.Common.{IsCovered, Graph, IsGraph, IsMultigraph, first_end, second_end, size}
+use Rattle.ear_core.specs.Common.{AreSteps, IsEarList, PlainEars, PlainStep, one, two, Follow, IsEar, last_vertex, other_end, trail, odds, is_met, with_edges}
+use Rattle.graph_core.proofs.Common.{degree_congr, IsCovered, Graph, IsGraph, IsMultigraph, first_end, second_end, size}
 use Rattle.theorems.specs.Ears.{ear_count}
 
 -- how often the numbers of 1 to n stand in a list of such numbers

@@ -2,21 +2,16 @@
 -- Idea: from a vertex that the one matching leads out of the stage the two matchings are followed
 -- in turn; the vertices passed hold their mates, so a new one comes each time, and the path ends
 -- on the stage.
-use Rattle.std.proofs.Common.{[], ◌≡◌, ℕ, zero, suc, ◌+◌, ◌≤◌, ◌<◌, true, false, not, ◌&&◌, refl, sym, ap, ◌∙◌, arith, inl, inr, List, ◌∷◌, subst, not, Bool}
-use Rattle.counting.proofs.Common.{and_parts, both_ways, cases_Bool, cases_eq, false_from_ne_true, or_left, or_right, true≢false, count_more, count_member, count_zero, mem-rising_list}
-use Rattle.counting.specs.Common.{Within, count, mem, rising_list, Set, complement, none}
+use Rattle.std.proofs.Common.{[], ◌≡◌, ℕ, zero, suc, ◌+◌, ◌≤◌, ◌<◌, true, false, not, ◌&&◌, refl, sym, ap, ◌∙◌, arith, inl, inr, List, ◌∷◌, subst, Bool}
+use Rattle.counting.proofs.Common.{and_parts, both_ways, cases_Bool, cases_eq, false_from_ne_true, or_left, or_right, true≢false, count_more, count_member, count_zero, mem-rising_list, Within, count, mem, rising_list, Set, complement, none}
 use Rattle.ear_core.proofs.MatedPaths.{fewer_left, next_is_clear, next_within, passed_too, path_ends, path_goes_on}
 use Rattle.ear_core.proofs.Mates.{AreMates}
 use Rattle.ear_core.proofs.Rounds.{left-clear, none-left, one-more, passed-too, path-mated, with_trail}
 use Rattle.ear_core.proofs.TraceEdges.{start_mem}
-use Rattle.ear_core.specs.AlternatingEars.{AreMatedEars, HoldsMates, IsAlternating, IsClear, IsPerfectRows, KeepsMates, is_left, mate}
-use Rattle.ear_core.specs.EarLists.{PlainEar}
-use Rattle.ear_core.specs.Ears.{trail}
-use Rattle.ear_core.specs.Stages.{is_met}
-use Rattle.graph_core.proofs.Common.{degree_congr}
-use Rattle.graph_core.specs.Common.{Graph, IsGraph, degree, size, IsPerfect}
+use Rattle.ear_core.specs.Common.{AreMatedEars, HoldsMates, IsAlternating, IsClear, IsPerfectRows, KeepsMates, is_left, mate, PlainEar, trail, is_met}
+use Rattle.graph_core.proofs.Common.{degree_congr, Graph, IsGraph, degree, size, IsPerfect}
 use Rattle.match_core.proofs.MatchingEdges.{marked-edges, marked-of, marked_matching}
-use Rattle.match_core.specs.MatchingRows.{edges_of}
+use Rattle.match_core.specs.Common.{edges_of}
 
 -- a perfect matching as rows
 listed-perfect : (g : Graph) (m : Set) → IsPerfect g none m → IsPerfect g none (mem (rising_list (size g) m))

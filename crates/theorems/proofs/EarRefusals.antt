@@ -2,14 +2,10 @@
 -- tests compute, and whether the graph of a stage has a perfect matching with an edge is asked of
 -- the listed edges.
 use Rattle.std.proofs.Common.{◌≡◌, ◌⊎◌, ◌↔◌, ℕ, zero, suc, ◌+◌, ◌≤◌, true, List, [], ◌∷◌, Option, Some, None, refl, sym, subst, arith, inl, inr}
-use Rattle.counting.proofs.Common.{all_or_least, both_ways, cases_Bool, cases_eq}
-use Rattle.counting.specs.Common.{Within, Set, pair_set, singleton, IsLeastWithout}
-use Rattle.barrier_kit.proofs.ClassLaw.{perfect_or_not}
-use Rattle.graph_core.specs.Common.{Graph, IsMultigraph, first_end, second_end, size, HasPerfect}
-use Rattle.ear_core.specs.EarLists.{AreSteps, IsEarList, PlainEars, PlainStep, next_stage}
-use Rattle.ear_core.specs.EarTests.{PlainWhy, ends_early, stage_not_covered}
-use Rattle.ear_core.specs.Refusals.{IsFirstRefusal, IsLeastUnallowed, IsRefused, step_fault}
-use Rattle.ear_core.specs.Stages.{AllowedBy, IsStage}
+use Rattle.counting.proofs.Common.{all_or_least, both_ways, cases_Bool, cases_eq, Within, Set, pair_set, singleton, IsLeastWithout}
+use Rattle.barrier_kit.proofs.Common.{perfect_or_not}
+use Rattle.graph_core.proofs.Common.{Graph, IsMultigraph, first_end, second_end, size, HasPerfect}
+use Rattle.ear_core.specs.Common.{AreSteps, IsEarList, PlainEars, PlainStep, next_stage, PlainWhy, ends_early, stage_not_covered, IsFirstRefusal, IsLeastUnallowed, IsRefused, step_fault, AllowedBy, IsStage}
 use Rattle.ear_core.proofs.EngineGraphs.{edge_serves, served_listed}
 use Rattle.ear_core.proofs.FirstStage.{first-stage}
 use Rattle.ear_core.proofs.Refusing.{fine-stage, step-nearly, step-none, step_odds}

@@ -3,10 +3,8 @@
 -- Idea: one perfect matching is kept; another one that holds an edge leading out of the stage
 -- makes ears with it, of which one or two serve (the two-ear theorem).
 use Rattle.std.proofs.Common.{[], ◌≡◌, ℕ, zero, suc, ◌+◌, ◌<◌, ◌⊎◌, true, not, ◌&&◌, ◌||◌, refl, arith, inl, inr, List, ◌∷◌, false}
-use Rattle.counting.proofs.Common.{and_parts, cases_eq, not-true, count_member, count_zero}
-use Rattle.std.specs.List.{AllByRecursion}
-use Rattle.barrier_kit.proofs.ClassLaw.{perfect_or_not}
-use Rattle.counting.specs.Common.{Within, count, mem, Set, complement, none, singleton, union}
+use Rattle.counting.proofs.Common.{and_parts, cases_eq, not-true, count_member, count_zero, AllByRecursion, Within, count, mem, Set, complement, none, singleton, union}
+use Rattle.barrier_kit.proofs.Common.{perfect_or_not}
 use Rattle.ear_core.proofs.BipartiteStages.{bipartite-found}
 use Rattle.ear_core.proofs.EngineGraphs.{served_listed}
 use Rattle.ear_core.proofs.FirstStage.{first-stage}
@@ -16,15 +14,10 @@ use Rattle.ear_core.proofs.Mates.{rows-mates}
 use Rattle.ear_core.proofs.NeededPairs.{found-needed}
 use Rattle.ear_core.proofs.Searching.{beside-here, beside-later, found-one, found-two, never-none, no-two-later, none-beside-later, two-here, two-later}
 use Rattle.ear_core.proofs.Stepping.{all-on, covered-allowed, fewer-off, first-keeps, led-out, round-candidates, step-keeps}
-use Rattle.ear_core.specs.AlternatingEars.{AreCandidates, IsChosen, IsPerfectRows, KeepsMates, Serves, ends_of_ear, row_edge}
-use Rattle.ear_core.specs.Asking.{FindsBeside, FindsTwo, NoTwoServe, NoneServesBeside}
-use Rattle.ear_core.specs.EarLists.{AreForced, AreNeeded, AreSteps, IsEarList, IsForced, IsNeeded, IsSingle, IsStep, IsUnrefinable, PlainEar, PlainEars, PlainStep, TakesSingles, next_stage, one, two}
-use Rattle.ear_core.specs.LoneEars.{LeadsAtTwo}
-use Rattle.ear_core.specs.StageGraphs.{listed}
-use Rattle.ear_core.specs.Stages.{IsStage, is_met}
-use Rattle.graph_core.specs.Common.{IsCovered, Graph, IsBipartite, IsGraph, IsMultigraph, first_end, second_end, size, with_ends, IsPerfect}
+use Rattle.ear_core.specs.Common.{AreCandidates, IsChosen, IsPerfectRows, KeepsMates, Serves, ends_of_ear, row_edge, FindsBeside, FindsTwo, NoTwoServe, NoneServesBeside, AreForced, AreNeeded, AreSteps, IsEarList, IsForced, IsNeeded, IsSingle, IsStep, IsUnrefinable, PlainEar, PlainEars, PlainStep, TakesSingles, next_stage, one, two, LeadsAtTwo, listed, IsStage, is_met}
+use Rattle.graph_core.proofs.Common.{IsCovered, Graph, IsBipartite, IsGraph, IsMultigraph, first_end, second_end, size, with_ends, IsPerfect}
 use Rattle.match_core.proofs.MatchingEdges.{marked_matching}
-use Rattle.match_core.specs.MatchingRows.{MatchingValue, edges_of}
+use Rattle.match_core.specs.Common.{MatchingValue, edges_of}
 use Rattle.theorems.proofs.EarPaths.{perfect-rows, round-exists, rows-hold}
 use Rattle.theorems.proofs.LoneSteps.{lone-or, lone-rows}
 

@@ -2,10 +2,8 @@
 -- perfect matching and is 2-extendable. An edge of the matching has no end in common with a given
 -- edge, so that both lie in a perfect matching.
 use Rattle.std.proofs.Common.{◌≡◌, ℕ, ◌+◌, ◌≤◌, Bool, true, false, ◌==◌, ◌&&◌, ◌||◌, not, refl, sym, ◌∙◌, arith, eq-eqb, ◌↔◌, inl, inr}
-use Rattle.counting.proofs.Common.{both_ways, count_member, total_add, total_le}
-use Rattle.graph_core.specs.Common.{IsSide, IsConnected, IsCovered, Graph, IsMultigraph, first_end, second_end, size, HasPerfect, HasOnlyTrivialTightCuts}
-use Rattle.counting.specs.Common.{Within, bit, Set, none}
-use Rattle.graph_core.proofs.Common.{covered_perfect}
+use Rattle.counting.proofs.Common.{both_ways, count_member, total_add, total_le, Within, bit, Set, none}
+use Rattle.graph_core.proofs.Common.{IsSide, IsConnected, IsCovered, Graph, IsMultigraph, first_end, second_end, size, HasPerfect, HasOnlyTrivialTightCuts, covered_perfect}
 use Rattle.theorems.proofs.CubicCuts.{perfect_size}
 use Rattle.theorems.specs.Braces.{IsTwoExtendable}
 use Rattle.theorems.proofs.TwoExtendable.{AreApart, extendable, not_extendable}

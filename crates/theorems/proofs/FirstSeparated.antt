@@ -2,12 +2,11 @@
 -- takes the first pair of a list that passes its test, the list is in lexicographic order, and
 -- the test says what the words say.
 use Rattle.std.proofs.Common.{◌≡◌, ℕ, ◌⊎◌, true, Option, Some, None, refl, ap, ap₂, inl, inr, arith}
-use Rattle.counting.proofs.Common.{both_ways, cases_lt, false_from_ne_true}
-use Rattle.counting.specs.Common.{Within, ComesBefore}
-use Rattle.graph_core.specs.Common.{Graph, IsGraph, size}
+use Rattle.counting.proofs.Common.{both_ways, cases_lt, false_from_ne_true, Within, ComesBefore}
+use Rattle.graph_core.proofs.Common.{Graph, IsGraph, size}
 use Rattle.tight_cuts.proofs.EdgeLoop.{first_pair, no_pair}
 use Rattle.tight_cuts.proofs.FirstPairs.{before_first, no_first}
-use Rattle.tight_cuts.specs.Candidates.{first_separated, greater_end, is_separated, lesser_end}
+use Rattle.tight_cuts.specs.Common.{first_separated, greater_end, is_separated, lesser_end}
 use Rattle.theorems.proofs.Separated.{separated-words}
 use Rattle.theorems.specs.CutWords.{IsFirstSeparated, IsSeparated}
 

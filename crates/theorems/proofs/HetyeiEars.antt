@@ -1,11 +1,10 @@
 -- An ear whose ends lie on opposite sides of a bipartite stage serves.
 use Rattle.std.proofs.Common.{◌≡◌, ℕ, true, not, List}
-use Rattle.graph_core.specs.Common.{Graph, IsGraph, in_cut, size}
-use Rattle.counting.specs.Common.{Within, Set}
+use Rattle.graph_core.proofs.Common.{Graph, IsGraph, in_cut, size}
+use Rattle.counting.proofs.Common.{Within, Set}
 use Rattle.ear_core.proofs.OppositeEnds.{opposite-serve}
 use Rattle.ear_core.proofs.ServingEars.{one-serves}
-use Rattle.ear_core.specs.Ears.{IsEar, last_vertex}
-use Rattle.ear_core.specs.Stages.{IsStage, with_edges}
+use Rattle.ear_core.specs.Common.{IsEar, last_vertex, IsStage, with_edges}
 
 -- so the ear may be added
 pub opposite-ends : (g : Graph) (f a : Set) (v : ℕ) (es : List ℕ) → IsGraph g → IsStage g f → ((e : ℕ) → Within (size g) e → f e ≡ true → in_cut g a e ≡ true) → IsEar g f v es → a (last_vertex g v es) ≡ not (a v) → IsStage g (with_edges f es)

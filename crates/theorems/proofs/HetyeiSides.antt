@@ -2,14 +2,11 @@
 -- Idea: the vertices along the ear are put on the two sides in turn. Its length is odd, so its
 -- last vertex comes to the side where it stood.
 use Rattle.std.proofs.Common.{[], ◌≡◌, ◌∙◌, ℕ, ◌≤◌, Bool, true, false, cond, not, ◌&&◌, ◌||◌, ◌==◌, List, ◌∷◌, length, inl, inr, refl, sym, ap, ap₂, arith, subst, eq-eqb, ne_eqb, eqb-true}
-use Rattle.counting.proofs.Common.{cases_eq, or_cases, true≢false, not_not}
-use Rattle.counting.specs.Common.{Within, bit, is_odd, mem, times, Set}
+use Rattle.counting.proofs.Common.{cases_eq, or_cases, true≢false, not_not, Within, bit, is_odd, mem, times, Set}
 use Rattle.ear_core.proofs.EngineGraphs.{ends-met}
 use Rattle.ear_core.proofs.TraceEdges.{mem_times, start_mem, trail_has, two_less_odd}
-use Rattle.ear_core.specs.Ears.{Follow, IsEar, last_vertex, other_end, trail}
-use Rattle.ear_core.specs.Stages.{is_met, with_edges}
-use Rattle.graph_core.proofs.Common.{ends_of}
-use Rattle.graph_core.specs.Common.{Graph, first_end, in_cut, second_end, size}
+use Rattle.ear_core.specs.Common.{Follow, IsEar, last_vertex, other_end, trail, is_met, with_edges}
+use Rattle.graph_core.proofs.Common.{ends_of, Graph, first_end, in_cut, second_end, size}
 
 -- the vertices of the list on two sides in turn, the first on side c
 abbrev in_turn : Bool → List ℕ → Set

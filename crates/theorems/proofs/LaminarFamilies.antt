@@ -2,13 +2,9 @@
 -- of a derivation are such a family. By induction: the members inside a cut are such a family of
 -- its kept side, and those not inside it one of its merged side.
 use Rattle.std.proofs.Common.{◌≡◌, ◌⊎◌, ◌↔◌, ℕ, zero, suc, ◌≤◌, Bool, true, false, not, ◌&&◌, List, [], ◌∷◌, filter, length, refl, sym, ap, arith, inl, inr, subst}
-use Rattle.counting.proofs.Common.{and_parts, and_from, both_ways, cases_Bool, false_from_ne_true, all_in_true, true_all_in}
-use Rattle.counting.specs.Common.{Within, IsIn, is_subset, mem}
-use Rattle.graph_core.proofs.Common.{Apart, Below}
-use Rattle.graph_core.specs.Common.{IsCovered, Graph, IsGraph, singles}
-use Rattle.tree_core.proofs.CutsBelow.{kept-length, merged-length}
-use Rattle.tree_core.proofs.DerivationShores.{cut-shore, shore-cut}
-use Rattle.tree_core.specs.Common.{IsDerivation, IsDerivationAt, IsLeafAt, IsTightShore, kept_at, merged_at, Shape, cut, leaf, shores}
+use Rattle.counting.proofs.Common.{and_parts, and_from, both_ways, cases_Bool, false_from_ne_true, all_in_true, true_all_in, Within, IsIn, is_subset, mem}
+use Rattle.graph_core.proofs.Common.{Apart, Below, IsCovered, Graph, IsGraph, singles}
+use Rattle.tree_core.proofs.Common.{kept-length, merged-length, cut-shore, shore-cut, IsDerivation, IsDerivationAt, IsLeafAt, IsTightShore, kept_at, merged_at, Shape, cut, leaf, shores}
 use Rattle.move_laws.proofs.BigShores.{Stage, big_cut, big_some}
 use Rattle.move_laws.proofs.Rising.{bounds}
 use Rattle.move_laws.proofs.SingleVertices.{singles_stage}

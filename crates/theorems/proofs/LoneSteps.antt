@@ -1,17 +1,14 @@
 -- Whether a perfect matching leads out of a stage at two vertices alone is decided.
 -- Idea: for each two vertices the graph of the open edges has a perfect matching or none.
 use Rattle.std.proofs.Common.{◌≡◌, ◌≢◌, ℕ, zero, suc, ◌⊎◌, arith, inl, inr, true, subst}
-use Rattle.counting.proofs.Common.{both_ways, cases_Bool, cases_eq, rising_only}
-use Rattle.barrier_kit.proofs.ClassLaw.{perfect_or_not}
-use Rattle.counting.specs.Common.{Within, mem, Set, none}
+use Rattle.counting.proofs.Common.{both_ways, cases_Bool, cases_eq, rising_only, Within, mem, Set, none}
+use Rattle.barrier_kit.proofs.Common.{perfect_or_not}
 use Rattle.ear_core.proofs.MarkedMatchings.{marked-listed, marked-perfect}
 use Rattle.ear_core.proofs.NextStages.{met-within}
-use Rattle.ear_core.specs.LoneEars.{IsPerfectBy, LeadsAtTwo, is_open}
-use Rattle.ear_core.specs.StageGraphs.{by_rank, listed}
-use Rattle.ear_core.specs.Stages.{is_met}
-use Rattle.graph_core.specs.Common.{Graph, IsGraph, size, with_ends}
+use Rattle.ear_core.specs.Common.{IsPerfectBy, LeadsAtTwo, is_open, by_rank, listed, is_met}
+use Rattle.graph_core.proofs.Common.{Graph, IsGraph, size, with_ends}
 use Rattle.match_core.proofs.MatchingEdges.{marked-edges, marked_matching}
-use Rattle.match_core.specs.MatchingRows.{edges_of}
+use Rattle.match_core.specs.Common.{edges_of}
 use Rattle.theorems.proofs.EarPaths.{perfect-rows}
 
 -- where a property is decided at each number, so is whether it holds at one

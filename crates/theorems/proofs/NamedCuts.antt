@@ -2,15 +2,11 @@
 -- bicritical one has a cut pair, one that is neither bicritical nor bipartite a class, and of a
 -- bipartite one each tight cut is a barrier cut.
 use Rattle.std.proofs.Common.{ℕ, sym, ◌⊎◌, inl, inr}
-use Rattle.barrier_kit.proofs.ClassLaw.{class_barrier}
-use Rattle.barrier_kit.proofs.CriticalPairs.{class_cut, no_sides}
-use Rattle.barrier_kit.proofs.CutFacts.{nontrivial-turned, tight-turned}
-use Rattle.barrier_kit.specs.BarrierCuts.{BarrierCut}
+use Rattle.barrier_kit.proofs.Common.{class_barrier, class_cut, no_sides, nontrivial-turned, tight-turned, BarrierCut}
 use Rattle.brick_kit.proofs.Bricks.{shore_pair}
-use Rattle.counting.specs.Common.{Set, complement}
+use Rattle.counting.proofs.Common.{Set, complement}
 use Rattle.theorems.proofs.Quotients.{bipartite-or}
-use Rattle.graph_core.proofs.Common.{nontrivial-same, tight-same}
-use Rattle.graph_core.specs.Common.{IsCovered, Graph, IsGraph, IsMultigraph, IsBarrier, IsBicritical, IsCutPair, IsNontrivial, IsTight}
+use Rattle.graph_core.proofs.Common.{nontrivial-same, tight-same, IsCovered, Graph, IsGraph, IsMultigraph, IsBarrier, IsBicritical, IsCutPair, IsNontrivial, IsTight}
 use Rattle.quick_kinds.proofs.QuickBricks.{critical_or_not}
 use Rattle.separation_kit.proofs.CutPairs.{beside_pair, pair_cut}
 use Rattle.theorems.proofs.BarrierShores.{shore_barrier}

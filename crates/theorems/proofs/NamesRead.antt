@@ -1,20 +1,16 @@
 -- The names of a graph that a file gives differ, and there is one for each vertex. They do so from
 -- line to line: a further name has the form of one and is new, and at the end their number is that
 -- of the vertices.
-use Rattle.std.proofs.Common.{◌≡◌, ℕ, ◌+◌, ◌≤◌, ◌&&◌, ◌||◌, ◌==◌, nat_lt, Bool, true, false, cond, not, List, [], ◌∷◌, ◌++◌, length, Option, Some, None, Result, Ok, Err, refl, subst, arith}
-use Rattle.std.proofs.lemmas.Bool.{eqb-true, ltb-false, ltb-true}
+use Rattle.std.proofs.Common.{◌≡◌, ℕ, ◌+◌, ◌≤◌, ◌&&◌, ◌||◌, ◌==◌, nat_lt, Bool, true, false, cond, not, List, [], ◌∷◌, ◌++◌, length, Option, Some, None, Result, Ok, Err, refl, subst, arith, eqb-true, ltb-false, ltb-true, codes}
 use Rattle.counting.proofs.Common.{and_parts, not-false, or_parts, none-some, same_Some}
 use Rattle.std.specs.Option.{ForSome}
-use Rattle.std.specs.Prelude.{codes}
 use Rattle.std.specs.Result.{result_map_both}
 use Rattle.std.specs.Str.{bytes_eq}
-use Rattle.graph_core.specs.Common.{Graph, size, with_edge}
+use Rattle.graph_core.proofs.Common.{Graph, size, with_edge}
 use Rattle.text_faults.specs.declared.faults.FaultKind.{FaultKind}
 use Rattle.text_faults.specs.declared.faults.FaultKind.TheVariants as kind
 use Rattle.graph_text.proofs.NameLists.{AreNames-more}
-use Rattle.graph_text.specs.EitherVersion.{EitherSoFar, NamedGraph, either_header, either_version, end_behind, is_named_header, is_over, is_plain_header, line_behind, named_edge_line, vertex_line}
-use Rattle.graph_text.specs.GraphLines.{GraphSoFar, graph_end, graph_line}
-use Rattle.graph_text.specs.Names.{AreNames, is_among, is_name, vertex_of}
+use Rattle.graph_text.specs.Common.{EitherSoFar, NamedGraph, either_header, either_version, end_behind, is_named_header, is_over, is_plain_header, line_behind, named_edge_line, vertex_line, GraphSoFar, graph_end, graph_line, AreNames, is_among, is_name, vertex_of}
 use Rattle.line_text.specs.Common.{checked, finish, step, lines_of, is_number, value_of, go_on, reading_from, reading_of, SignificantLine, has_form, significant_lines_of, word_at}
 use Rattle.bench_top.proofs.ReadGraphs.{GoesOn}
 

@@ -2,10 +2,9 @@
 -- connected, and has no bridge if none has one. A set without an edge in its cut and one
 -- vertex more have three edges in their cut.
 use Rattle.std.proofs.Common.{◌≡◌, ◌≢◌, ℕ, suc, zero, ◌+◌, ◌*◌, ◌≤◌, Bool, true, false, ◌==◌, ◌&&◌, ◌||◌, not, refl, sym, ap, ◌∙◌, arith, eqb-true, inl, inr}
-use Rattle.counting.proofs.Common.{and_parts, cases_lt, true≢false, count_complement, count_congr, count_member, count_plus, count_zero, member_count, two_members, count_singleton, total_none}
-use Rattle.counting.specs.Common.{Within, bit, count, Set, complement, everything, singleton, union}
-use Rattle.graph_core.specs.Common.{Graph, IsMultigraph, first_end, in_cut, inside, second_end, size, HasOnlyTrivialTightCuts, IsNontrivial}
-use Rattle.grow_gen.specs.Cubic.{IsCubic}
+use Rattle.counting.proofs.Common.{and_parts, cases_lt, true≢false, count_complement, count_congr, count_member, count_plus, count_zero, member_count, two_members, count_singleton, total_none, Within, bit, count, Set, complement, everything, singleton, union}
+use Rattle.graph_core.proofs.Common.{Graph, IsMultigraph, first_end, in_cut, inside, second_end, size, HasOnlyTrivialTightCuts, IsNontrivial}
+use Rattle.grow_gen.specs.Common.{IsCubic}
 use Rattle.theorems.proofs.BrickFacts.{turned_cut}
 use Rattle.theorems.proofs.CubicCuts.{tight_three}
 use Rattle.theorems.proofs.CubicDegrees.{inner_size, three_each}

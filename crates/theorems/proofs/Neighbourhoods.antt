@@ -2,13 +2,9 @@
 -- edges in the cut of both together as there are neighbours more; and a nontrivial tight shore,
 -- or the other one, is a set on a side with one vertex more of its neighbours' side.
 use Rattle.std.proofs.Common.{◌≡◌, ℕ, suc, zero, ◌+◌, ◌≤◌, Bool, true, false, ◌&&◌, ◌||◌, not, refl, sym, ap, ◌∙◌, arith}
-use Rattle.counting.proofs.Common.{and_from, and_parts, both_ways, false_from_ne_true, not-true, true≢false, and_comm, count_congr, count_meet_union, count_split, some_true, true_some, total_none}
-use Rattle.barrier_kit.proofs.CutFacts.{nontrivial-turned, tight-turned}
-use Rattle.barrier_kit.proofs.Joining.{cut_split}
-use Rattle.barrier_kit.proofs.Matched.{cut_matching}
-use Rattle.graph_core.specs.Common.{IsSide, IsCovered, Graph, IsMultigraph, edges_in_cut, first_end, has_ends, second_end, size, IsPerfect, IsNontrivial, IsTight, adjacent}
-use Rattle.counting.specs.Common.{Within, bit, count, Set, complement, meet, minus, none, union}
-use Rattle.graph_core.proofs.Common.{covered_perfect, adjacent-edge, adjacent_from, has_ends-back, has_ends-own}
+use Rattle.counting.proofs.Common.{and_from, and_parts, both_ways, false_from_ne_true, not-true, true≢false, and_comm, count_congr, count_meet_union, count_split, some_true, true_some, total_none, Within, bit, count, Set, complement, meet, minus, none, union}
+use Rattle.barrier_kit.proofs.Common.{nontrivial-turned, tight-turned, cut_split, cut_matching}
+use Rattle.graph_core.proofs.Common.{IsSide, IsCovered, Graph, IsMultigraph, edges_in_cut, first_end, has_ends, second_end, size, IsPerfect, IsNontrivial, IsTight, adjacent, covered_perfect, adjacent-edge, adjacent_from, has_ends-back, has_ends-own}
 use Rattle.matching_digraph.proofs.Balance.{balance, equal_sides, leaves_left, leaves_right, none_right, other_side, side_count}
 use Rattle.matching_digraph.proofs.TightShores.{at_ends}
 use Rattle.theorems.specs.Braces.{neighbourhood}

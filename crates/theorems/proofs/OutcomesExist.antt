@@ -2,23 +2,23 @@
 -- that is missing. What a file is read as gives what the report asks of it: a graph file a graph
 -- within the limits, a tree file shores that are sets, an ear file an edge to begin with.
 use Rattle.std.proofs.Common.{◌≡◌, ◌⊎◌, ℕ, ◌≤◌, nat_lt, Bool, true, false, cond, List, length, Option, Some, None, Result, Ok, Err, refl, sym, ap, subst, inl, inr}
-use Rattle.outside.specs.Shelf.{NamedFile, file_named}
-use Rattle.counting.specs.Common.{Within}
-use Rattle.ear_core.specs.EarLists.{PlainEars}
+use Rattle.outside.specs.Common.{NamedFile, file_named}
+use Rattle.counting.proofs.Common.{Within}
+use Rattle.ear_core.specs.Common.{PlainEars}
 use Rattle.ear_text.proofs.EarsRead.{list-read}
 use Rattle.ear_text.specs.EarFormat.{ear_format}
-use Rattle.graph6_text.specs.Reading.{outcome_of}
-use Rattle.graph_core.specs.Common.{Graph, IsMultigraph, size}
+use Rattle.graph6_text.specs.Common.{outcome_of}
+use Rattle.graph_core.proofs.Common.{Graph, IsMultigraph, size}
 use Rattle.text_faults.specs.declared.faults.FaultKind.{FaultKind}
-use Rattle.graph_text.specs.EitherVersion.{NamedGraph, either_version}
+use Rattle.graph_text.specs.Common.{NamedGraph, either_version}
 use Rattle.line_text.proofs.ExactlyOne.{Stands-from_reading}
 use Rattle.line_text.specs.Common.{reading_of}
-use Rattle.report_text.specs.Reports.{bad_input_text}
-use Rattle.tree_check.specs.Refusals.{HasShores}
-use Rattle.tree_core.specs.Common.{PlainMove, Shape}
+use Rattle.report_text.specs.Common.{bad_input_text}
+use Rattle.tree_check.specs.Common.{HasShores}
+use Rattle.tree_core.proofs.Common.{PlainMove, Shape}
 use Rattle.tree_text.proofs.TreeRead.{tree_read}
-use Rattle.tree_text.specs.TreeFormat.{tree_format}
-use Rattle.decomposer.specs.Orders.{NamedPicks, ScriptPicks}
+use Rattle.tree_text.specs.Common.{tree_format}
+use Rattle.decomposer.specs.Common.{NamedPicks, ScriptPicks}
 use Rattle.bench_outcomes.specs.Common.{CommandGives, LoadedGives, Outcome, ResultOf}
 use Rattle.bench_outcomes.specs.declared.status.Status.{Status}
 use Rattle.bench_outcomes.specs.declared.status.Status.TheVariants.{BadInput}

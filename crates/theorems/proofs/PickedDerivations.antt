@@ -3,21 +3,15 @@
 -- both partitions below it have fewer blocks.
 use Rattle.std.proofs.Common.{[], ◌≡◌, ℕ, zero, suc, ◌+◌, ◌<◌, List, ◌∷◌, length, get_or, refl, ap, arith}
 use Rattle.std.proofs.lemmas.Option.{slice_get-get_or}
-use Rattle.counting.proofs.Common.{count_complement}
-use Rattle.counting.specs.Common.{mem}
+use Rattle.counting.proofs.Common.{count_complement, mem}
 use Rattle.decomposer.proofs.Picking.{blocks-beside, blocks-inside, cut-from_candidate}
-use Rattle.decomposer.specs.Orders.{NamedPicks}
-use Rattle.decomposer.specs.Picked.{IsPicked, IsPickedAt}
+use Rattle.decomposer.specs.Common.{NamedPicks, IsPicked, IsPickedAt}
 use Rattle.decomposer.specs.declared.orders.NamedOrder.TheVariants.{First}
-use Rattle.graph_core.proofs.Common.{singles-partition}
-use Rattle.graph_core.specs.Common.{IsCovered, Graph, IsGraph, IsPartition, singles, quotient, blocks_in}
+use Rattle.graph_core.proofs.Common.{singles-partition, IsCovered, Graph, IsGraph, IsPartition, singles, quotient, blocks_in}
 use Rattle.theorems.specs.Derivations.{ChoosesPlaces, PicksChosen}
 use Rattle.tight_cuts.proofs.PartitionCandidates.{found-at, none-at}
-use Rattle.tight_cuts.specs.Candidates.{Candidate}
-use Rattle.tight_cuts.specs.CandidatesAt.{candidates_at}
-use Rattle.tree_core.proofs.CutsBelow.{kept-covers, kept-length, kept-partition, merged-covers, merged-length, merged-partition, root-covered}
-use Rattle.tree_core.proofs.DerivationShores.{shore-cut}
-use Rattle.tree_core.specs.Common.{IsCutAt, IsDerivation, IsDerivationAt, IsLeafAt, IsTightShore, kept_at, merged_at, Shape, cut, cut_count, leaf}
+use Rattle.tight_cuts.specs.Common.{Candidate, candidates_at}
+use Rattle.tree_core.proofs.Common.{kept-covers, kept-length, kept-partition, merged-covers, merged-length, merged-partition, root-covered, shore-cut, IsCutAt, IsDerivation, IsDerivationAt, IsLeafAt, IsTightShore, kept_at, merged_at, Shape, cut, cut_count, leaf}
 
 -- of each nonempty list, whatever the number, the rule picks a place of the list
 abbrev pub PicksSome : (List Candidate → ℕ → ℕ → Type 0) → Type 0

@@ -1,16 +1,11 @@
 -- A leaf and its quotient: a set of blocks is the set of the vertices in them, so no set of
 -- blocks is tight and nontrivial in the quotient exactly when no union of blocks is at the
 -- partition. And each graph is bipartite or not, since its sets can be looked through.
-use Rattle.std.proofs.Common.{◌≡◌, ℕ, not, ◌&&◌, ◌||◌, List, length, sym, ap, ap₂, ◌∙◌, subst, inl, inr, ◌⊎◌}
-use Rattle.counting.proofs.Common.{both_ways, choose_set, every_congr, every_true, true_every}
-use Rattle.std.specs.Prelude.{All}
-use Rattle.counting.specs.Common.{Within, Set, every}
+use Rattle.std.proofs.Common.{◌≡◌, ℕ, not, ◌&&◌, ◌||◌, List, length, sym, ap, ap₂, ◌∙◌, subst, inl, inr, ◌⊎◌, All}
+use Rattle.counting.proofs.Common.{both_ways, choose_set, every_congr, every_true, true_every, Within, Set, every}
 use Rattle.contraction.proofs.QuotientLaws.{tight_at_down, tight_at_up}
-use Rattle.graph_core.proofs.Common.{at_rep, rep_place, quotient_graph, quotient-order, nontrivial-same, tight-same}
-use Rattle.graph_core.specs.Common.{IsCovered, Graph, IsBipartite, IsGraph, first_end, in_cut, second_end, size, AreBlocks, place, quotient, IsUnion, blocks_in, HasOnlyTrivialTightCuts, IsNontrivial}
-use Rattle.tree_core.proofs.CutsBelow.{covered-leaves}
-use Rattle.tree_core.proofs.DerivationLeaves.{partitions-leaves, uncut-leaves}
-use Rattle.tree_core.specs.Common.{IsDerivation, IsLeafAt, leaves, Shape}
+use Rattle.graph_core.proofs.Common.{at_rep, rep_place, quotient_graph, quotient-order, nontrivial-same, tight-same, IsCovered, Graph, IsBipartite, IsGraph, first_end, in_cut, second_end, size, AreBlocks, place, quotient, IsUnion, blocks_in, HasOnlyTrivialTightCuts, IsNontrivial}
+use Rattle.tree_core.proofs.Common.{covered-leaves, partitions-leaves, uncut-leaves, IsDerivation, IsLeafAt, leaves, Shape}
 use Rattle.theorems.specs.CutWords.{EndsInBrickOrBrace}
 
 module _ (g : Graph) (p : List (List ℕ)) (is : IsGraph g) (pp : AreBlocks g.order p) where

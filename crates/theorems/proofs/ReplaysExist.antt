@@ -2,27 +2,22 @@
 -- one of `script`. The moves are made one after another, up to the first without a result or with
 -- a result that is refused; the sets of a proper Switch are blocks, and so its text is read again.
 use Rattle.std.proofs.Common.{◌≡◌, ◌⊎◌, ◌+◌, ℕ, ◌<◌, ◌^◌, List, [], ◌∷◌, length, Option, Some, None, option_map, refl, arith, inl, inr}
-use Rattle.counting.proofs.Common.{none-some}
-use Rattle.std.specs.List.{AllByRecursion}
-use Rattle.graph_core.specs.Common.{Graph, IsGraph, IsMultigraph, singles, IsWithinLimits}
+use Rattle.counting.proofs.Common.{none-some, AllByRecursion}
+use Rattle.graph_core.proofs.Common.{Graph, IsGraph, IsMultigraph, singles, IsWithinLimits}
 use Rattle.line_text.specs.Common.{Stands}
 use Rattle.move_laws.proofs.Rising.{rising-derivation_at}
 use Rattle.move_laws.proofs.SingleVertices.{singles_stage}
 use Rattle.move_laws.proofs.Uniqueness.{compare_law, script_through}
-use Rattle.move_laws.specs.Scripts.{IsProperScript}
+use Rattle.move_laws.specs.Common.{IsProperScript}
 use Rattle.move_text.proofs.MovesReadBack.{Stands-moves_text}
-use Rattle.move_text.specs.MoveFormat.{move_format}
-use Rattle.move_text.specs.Writing.{SetsRise, moves_text}
-use Rattle.tree_core.proofs.FewLeaves.{few-nodes}
-use Rattle.report_text.specs.Scripts.{refused_move_text, replayed_text, script_report_text, stuck_text}
+use Rattle.move_text.specs.Common.{move_format, SetsRise, moves_text}
+use Rattle.tree_core.proofs.Common.{few-nodes, leaf_count-cuts, node_count-cuts, IsDerivation, kept_at, merged_at, BlocksAt, IsProper, PlainMove, TurnsThrough, move_result, result_at, rotate_at, switch_at, switch_result_at, Shape, cut, leaf, leaf_count}
+use Rattle.report_text.specs.Common.{refused_move_text, replayed_text, script_report_text, stuck_text}
 use Rattle.tree_check.proofs.FirstRefusals.{derived-or_refused}
-use Rattle.tree_check.specs.Refusals.{HasShores, Why, why_number}
-use Rattle.tree_check.specs.Replays.{IsRefusedMoveAt, IsStuckAt}
-use Rattle.tree_core.proofs.Sizes.{leaf_count-cuts, node_count-cuts}
-use Rattle.tree_core.specs.Common.{IsDerivation, kept_at, merged_at, BlocksAt, IsProper, PlainMove, TurnsThrough, move_result, result_at, rotate_at, switch_at, switch_result_at, Shape, cut, leaf, leaf_count}
+use Rattle.tree_check.specs.Common.{HasShores, Why, why_number, IsRefusedMoveAt, IsStuckAt}
 use Rattle.tree_core.specs.declared.path.Side.{Side}
 use Rattle.tree_core.specs.declared.path.Side.TheVariants.{Kept, Merged}
-use Rattle.tree_text.specs.Writing.{tree_text}
+use Rattle.tree_text.specs.Common.{tree_text}
 use Rattle.bench_outcomes.specs.Common.{shown_of, IsScript, ScriptGives, Scripted, MovesGive, ReplayGives}
 use Rattle.bench_outcomes.specs.declared.status.Status.{Status}
 use Rattle.bench_outcomes.specs.declared.status.Status.TheVariants.{Done, Negative}

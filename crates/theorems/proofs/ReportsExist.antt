@@ -2,25 +2,21 @@
 -- if the rules are not kept, and if they are, the leaves have kinds and a script leads from
 -- the first derivation to the second.
 use Rattle.std.proofs.Common.{◌≡◌, ◌⊎◌, ℕ, List, length, refl, subst, sym, inl, inr}
-use Rattle.counting.specs.Common.{Within}
+use Rattle.counting.proofs.Common.{Within}
 use Rattle.definition_laws.proofs.Reasons.{covered_or_reason}
-use Rattle.graph_core.proofs.Common.{reason-uncovered}
-use Rattle.graph_core.specs.Common.{IsCovered, IsReason, Reason, Small, Parted, Unmatched, Unallowed, Graph, IsGraph, IsMultigraph, size, singles, reason_of}
+use Rattle.graph_core.proofs.Common.{reason-uncovered, IsCovered, IsReason, Reason, Small, Parted, Unmatched, Unallowed, Graph, IsGraph, IsMultigraph, size, singles, reason_of}
 use Rattle.graph_core.specs.declared.verdict.Reason.{Reason as ToldReason}
 use Rattle.graph_core.specs.declared.verdict.Reason.TheVariants as told
 use Rattle.graph_core.specs.declared.verdict.Verdict.TheVariants.{NotCovered}
-use Rattle.ear_core.specs.EarLists.{PlainEars}
+use Rattle.ear_core.specs.Common.{PlainEars}
 use Rattle.move_laws.proofs.Rising.{rising-derivation_at}
 use Rattle.move_laws.proofs.ScriptPairs.{script_pairs}
 use Rattle.move_laws.proofs.SingleVertices.{singles_stage}
 use Rattle.move_laws.proofs.Uniqueness.{compare_law, script_through}
 use Rattle.tree_check.proofs.FirstRefusals.{derived-or_refused}
-use Rattle.tree_check.specs.Refusals.{HasShores, IsRefused, Why, why_number}
-use Rattle.tree_core.proofs.DerivationLeaves.{partitions-leaves}
-use Rattle.tree_core.specs.Common.{IsDerivation, script_maps, leaves, Shape}
-use Rattle.report_text.specs.Comparisons.{pairing_text}
-use Rattle.report_text.specs.Judgements.{ear_judgement_text, judgement_text}
-use Rattle.report_text.specs.Reports.{verdict_text}
+use Rattle.tree_check.specs.Common.{HasShores, IsRefused, Why, why_number}
+use Rattle.tree_core.proofs.Common.{partitions-leaves, IsDerivation, script_maps, leaves, Shape}
+use Rattle.report_text.specs.Common.{pairing_text, ear_judgement_text, judgement_text, verdict_text}
 use Rattle.report_text.specs.declared.ear_judgements.EarLine.TheVariants as ear_line
 use Rattle.report_text.specs.declared.judgements.TreeLine.TheVariants as line
 use Rattle.bench_outcomes.specs.Common.{CheckGives, RefusedTree, shown_of, CompareGives, Compared, RefusesPair, lines_of, EarCheckGives, double_count, named_edge, single_count, Uncovered}

@@ -2,15 +2,12 @@
 -- odd components of G - A. Each maximum matching attains the bound of Berge at A, and the
 -- components of G[D] are the odd components of G - A.
 use Rattle.std.proofs.Common.{◌≡◌, ◌↔◌, ℕ, ◌+◌, true, false, refl, sym, ap, ap₂, ◌∙◌, arith, ◌&&◌, not, subst, inl, inr, [], ◌∷◌, nat_lt}
-use Rattle.counting.proofs.Common.{cases_Bool, both_ways, false_from_ne_true, and_parts, and_from, not-false, same_tests, count_congr, some_congr}
-use mathlib.Core.Path.{fun_ext}
-use Rattle.counting.specs.Common.{Within, count, is_odd, Set, complement, none}
-use Rattle.barrier_kit.proofs.BarrierCuts.{leads_out}
-use Rattle.graph_core.proofs.Common.{has_ends-from, joined_outside, joined_walk, walk_joined, edge_of, IsClosed, Walk-stays, adjacent-edge, adjacent_from, adjacent_within, has_ends-cases, joined_on, joined_self}
-use Rattle.graph_core.specs.Common.{Attains, component_count, is_least, odd_component_count, InA, InD, Graph, HasEnds, IsGraph, first_end, second_end, size, IsMaximum, Joined, adjacent, joined}
+use Rattle.counting.proofs.Common.{cases_Bool, both_ways, false_from_ne_true, and_parts, and_from, not-false, same_tests, count_congr, some_congr, fun_ext, Within, count, is_odd, Set, complement, none}
+use Rattle.barrier_kit.proofs.Common.{leads_out}
+use Rattle.graph_core.proofs.Common.{has_ends-from, joined_outside, joined_walk, walk_joined, edge_of, IsClosed, Walk-stays, adjacent-edge, adjacent_from, adjacent_within, has_ends-cases, joined_on, joined_self, Attains, component_count, is_least, odd_component_count, InA, InD, Graph, HasEnds, IsGraph, first_end, second_end, size, IsMaximum, Joined, adjacent, joined}
 use Rattle.match_core.proofs.OddComponents.{Best, best, certificate_components, certificate_maximum, inner_next, missable_outer, next_inner, outer_free, outer_missable}
 use Rattle.match_core.proofs.OuterComponents.{odd_outer, outer_odd}
-use Rattle.match_search.specs.Frames.{Frame}
+use Rattle.match_search.specs.Common.{Frame}
 use Rattle.theorems.specs.Matchings.{AreThreeSets}
 
 -- the ends of an edge are vertices

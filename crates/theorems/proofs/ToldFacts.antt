@@ -1,27 +1,25 @@
 -- What an outcome of each command says, in the words of a textbook: its records give it, and
 -- if a task succeeds it is not refused. The files say what the command works on, and the
 -- outcome computes to the record of its task.
-use Rattle.std.proofs.Common.{◌≡◌, ◌∙◌, ◌↔◌, ℕ, List, [], ◌∷◌, Option, Some, None, option_map, refl, sym, ap, subst, inl, inr}
-use Rattle.std.specs.Prelude.{codes}
-use Rattle.outside.specs.Shelf.{NamedFile}
+use Rattle.std.proofs.Common.{◌≡◌, ◌∙◌, ◌↔◌, ℕ, List, [], ◌∷◌, Option, Some, None, option_map, refl, sym, ap, subst, inl, inr, codes}
+use Rattle.outside.specs.Common.{NamedFile}
 use Rattle.brick_kit.proofs.Bricks.{brick_or_not}
-use Rattle.counting.specs.Common.{mem}
+use Rattle.counting.proofs.Common.{mem}
 use Rattle.theorems.proofs.Quotients.{bricks-and_braces}
 use Rattle.ear_text.specs.EarFormat.{ear_format}
-use Rattle.graph_core.specs.Common.{IsCovered, Graph, IsBipartite, IsMultigraph, size, singles, HasOnlyTrivialTightCuts, IsNontrivial, IsTight, IsVerdict, reason_of}
+use Rattle.graph_core.proofs.Common.{IsCovered, Graph, IsBipartite, IsMultigraph, size, singles, HasOnlyTrivialTightCuts, IsNontrivial, IsTight, IsVerdict, reason_of, reason-uncovered}
 use Rattle.graph_core.specs.declared.verdict.Kind.{Kind}
 use Rattle.graph_core.specs.declared.verdict.Kind.TheVariants.{Brace, Brick, Composite}
 use Rattle.graph_core.specs.declared.verdict.Verdict.{Verdict}
 use Rattle.graph_core.specs.declared.verdict.Verdict.TheVariants.{Covered, NotCovered}
-use Rattle.graph_core.proofs.Common.{reason-uncovered}
-use Rattle.graph_text.specs.EitherVersion.{NamedGraph}
+use Rattle.graph_text.specs.Common.{NamedGraph}
 use Rattle.leaf_kinds.specs.LeafKinds.{IsKind}
 use Rattle.line_text.specs.Common.{Stands}
 use Rattle.move_laws.proofs.SingleVertices.{singles_stage}
 use Rattle.report_text.specs.declared.structures.Structure.{Structure}
-use Rattle.tight_cuts.specs.Candidates.{Candidate}
-use Rattle.tree_core.specs.Common.{IsDerivation, leaves, Shape}
-use Rattle.decomposer.specs.Orders.{order_named}
+use Rattle.tight_cuts.specs.Common.{Candidate}
+use Rattle.tree_core.proofs.Common.{IsDerivation, leaves, Shape}
+use Rattle.decomposer.specs.Common.{order_named}
 use Rattle.bench_tasks.specs.Common.{OnTrees, decompose_in, All, Loaded, and_then, graph_file, loaded_as, on_picks, on_trees, pick_file, picks_given, trees_given, Task}
 use Rattle.bench_tasks.specs.Tasks as task
 use Rattle.bench_tasks.specs.declared.verbs.GraphVerb.TheVariants.{Analyse, Decompose, Ears}

@@ -6,7 +6,7 @@ use Rattle.counting.specs.Common.{Within, ComesBefore, Set}
 use Rattle.graph_core.specs.Common.{IsCovered, Graph, quotient}
 use Rattle.graph_core.specs.declared.verdict.Kind.TheVariants as kind
 use Rattle.leaf_kinds.specs.LeafKinds.{IsKind}
-use Rattle.tight_cuts.specs.Pieces.{SeparatesTightly}
+use Rattle.tight_cuts.specs.Common.{SeparatesTightly}
 
 -- a brace: a bipartite matching covered graph without nontrivial tight cut
 abbrev pub IsBrace : Graph → Type 0

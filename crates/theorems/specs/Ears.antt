@@ -2,7 +2,7 @@
 -- Idea: a step adds one ear or two.
 -- Stated by: theorems.
 use Rattle.std.specs.Prelude.{ℕ, ◌+◌, List, [], ◌∷◌}
-use Rattle.ear_core.specs.EarLists.{PlainStep, one, two}
+use Rattle.ear_core.specs.Common.{PlainStep, one, two}
 
 -- how many ears the steps add
 abbrev pub ear_count : List PlainStep → ℕ

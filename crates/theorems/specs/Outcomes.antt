@@ -8,17 +8,15 @@ use Rattle.std.specs.Option.{ForSome}
 use Rattle.counting.specs.Common.{Lists, mem}
 use Rattle.graph_core.specs.Common.{InA, InC, InD, Graph, IsBipartite, size, singles, IsBicritical, IsCutPair, HasOnlyTrivialTightCuts, IsNontrivial, IsTight, IsWithinLimits}
 use Rattle.graph_core.specs.declared.verdict.Kind.TheVariants.{Brace, Brick, Composite}
-use Rattle.graph_text.specs.EitherVersion.{NamedGraph}
-use Rattle.graph_text.specs.Names.{AreNames}
+use Rattle.graph_text.specs.Common.{NamedGraph, AreNames}
 use Rattle.tree_core.specs.Common.{PlainLeafMap, leaf_at, map_at, leaves, PlainMove, TurnsThrough, Shape}
-use Rattle.tree_text.specs.TreeFormat.{tree_format}
+use Rattle.tree_text.specs.Common.{tree_format}
 use Rattle.line_text.specs.Common.{Stands}
-use Rattle.move_laws.specs.SameLeaf.{image}
-use Rattle.move_text.specs.MoveFormat.{move_format}
-use Rattle.ear_core.specs.EarLists.{IsEarList, IsSingle, IsUnrefinable, PlainEars, TakesSingles}
+use Rattle.move_laws.specs.Common.{image}
+use Rattle.move_text.specs.Common.{move_format}
+use Rattle.ear_core.specs.Common.{IsEarList, IsSingle, IsUnrefinable, PlainEars, TakesSingles}
 use Rattle.ear_text.specs.EarFormat.{ear_format}
-use Rattle.report_text.specs.Analyses.{analysis_text}
-use Rattle.report_text.specs.Comparisons.{pairing_text}
+use Rattle.report_text.specs.Common.{analysis_text, pairing_text}
 use Rattle.report_text.specs.declared.analyses.AnalysisLines.{AnalysisLines}
 use Rattle.report_text.specs.declared.structures.Structure.{Structure}
 use Rattle.bench_outcomes.specs.Common.{lines_of, with_given_names}

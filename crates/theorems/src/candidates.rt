@@ -3,8 +3,7 @@
 ghost use Rattle.std.specs.Prelude.{◌≡◌, ℕ, true, Some, None, ◌↔◌};
 ghost use Rattle.counting.specs.Common.{Within, Set};
 ghost use Rattle.graph_core.specs.Common.{Graph, IsGraph, size};
-ghost use Rattle.tight_cuts.specs.Candidates.{common_shore, first_separated, greater_end, is_separated, lesser_end, separates_tightly};
-ghost use Rattle.tight_cuts.specs.Pieces.{SeparatesTightly};
+ghost use Rattle.tight_cuts.specs.Common.{common_shore, first_separated, greater_end, is_separated, lesser_end, separates_tightly, SeparatesTightly};
 ghost use Rattle.theorems.specs.CutWords.{IsFirstSeparated, IsSeparated};
 
 /// The tests of the third part. A set separates two vertices x and y beside an edge from a to b

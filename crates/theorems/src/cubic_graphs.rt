@@ -5,7 +5,7 @@
 ghost use Rattle.std.specs.Prelude.{◌≡◌, ◌≢◌, ℕ, ◌≤◌, ◌↔◌};
 ghost use Rattle.counting.specs.Common.{Set};
 ghost use Rattle.graph_core.specs.Common.{IsConnected, IsCovered, Graph, IsMultigraph, HasOnlyTrivialTightCuts, IsNontrivial, IsTight, IsSide};
-ghost use Rattle.grow_gen.specs.Cubic.{IsCubic};
+ghost use Rattle.grow_gen.specs.Common.{IsCubic};
 ghost use Rattle.theorems.specs.CubicGraphs.{IsTwoEdgeConnected, cut_size};
 
 /// Cubic graphs: a 2-edge-connected cubic graph is matching covered (Petersen 1891; Schönberger

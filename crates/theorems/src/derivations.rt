@@ -1,14 +1,13 @@
 //! Tight cut decompositions: that there is one, in every order of choice, and that all have as
 //! many bricks and braces. Each theorem is the contract of a function that does nothing.
 ghost use Rattle.std.specs.Prelude.{◌≡◌, ◌+◌, ◌*◌, ◌≤◌, ◌↔◌, ℕ, List};
-ghost use Rattle.decomposer.specs.Orders.{NamedPicks, ScriptPicks};
+ghost use Rattle.decomposer.specs.Common.{NamedPicks, ScriptPicks, IsPicked};
 ghost use Rattle.decomposer.specs.declared.orders.NamedOrder.{NamedOrder};
-ghost use Rattle.decomposer.specs.Picked.{IsPicked};
 ghost use Rattle.graph_core.specs.Common.{IsCovered, Graph, IsBipartite, IsGraph, IsMultigraph, IsPartition, singles, quotient};
 ghost use Rattle.list_lines.specs.Standings.{IsCounted};
 ghost use Rattle.tree_core.specs.declared.tallies.Tally.{Tally};
 ghost use Rattle.theorems.specs.Derivations.{ChoosesPlaces, IsCountedAt, PicksChosen, both};
-ghost use Rattle.tight_cuts.specs.Candidates.{Candidate};
+ghost use Rattle.tight_cuts.specs.Common.{Candidate};
 ghost use Rattle.tree_core.specs.Common.{IsDerivation, IsTightShore, kept_at, merged_at, Shape, cut};
 
 /// Each matching covered graph has a tight cut decomposition: one for each rule that chooses the

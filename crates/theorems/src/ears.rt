@@ -3,9 +3,7 @@
 ghost use Rattle.std.specs.Prelude.{◌≡◌, ◌+◌, ℕ, true, not, List};
 ghost use Rattle.std.specs.List.{AllByRecursion};
 ghost use Rattle.counting.specs.Common.{Within, count, Set, everything};
-ghost use Rattle.ear_core.specs.EarLists.{IsEarList, IsSingle, IsUnrefinable, PlainEars, TakesSingles};
-ghost use Rattle.ear_core.specs.Ears.{IsEar, last_vertex};
-ghost use Rattle.ear_core.specs.Stages.{IsStage, is_met, with_edges};
+ghost use Rattle.ear_core.specs.Common.{IsEarList, IsSingle, IsUnrefinable, PlainEars, TakesSingles, IsEar, last_vertex, IsStage, is_met, with_edges};
 ghost use Rattle.graph_core.specs.Common.{IsCovered, Graph, IsBipartite, IsGraph, IsMultigraph, in_cut, size};
 ghost use Rattle.theorems.specs.Ears.{ear_count};
 

@@ -3,12 +3,12 @@
 //! Each law here is the contract of a function that does nothing.
 ghost use Rattle.std.specs.Prelude.{◌≡◌, ◌⊎◌, ℕ, List, [], ◌∷◌, Some, codes};
 ghost use Rattle.counting.specs.Common.{Within};
-ghost use Rattle.outside.specs.Shelf.{NamedFile};
+ghost use Rattle.outside.specs.Common.{NamedFile};
 ghost use Rattle.graph_core.specs.Common.{IsCovered, Graph, IsMultigraph, size};
-ghost use Rattle.graph_text.specs.EitherVersion.{NamedGraph};
+ghost use Rattle.graph_text.specs.Common.{NamedGraph};
 ghost use Rattle.tree_core.specs.Common.{IsDerivation, PlainMove, Shape};
-ghost use Rattle.tree_check.specs.Refusals.{HasShores};
-ghost use Rattle.ear_core.specs.EarLists.{PlainEars};
+ghost use Rattle.tree_check.specs.Common.{HasShores};
+ghost use Rattle.ear_core.specs.Common.{PlainEars};
 ghost use Rattle.bench_tasks.specs.Common.{Command, command_of, Absent, All, graph_file, loaded, pick_file, trees_given, Task};
 ghost use Rattle.bench_tasks.specs.Tasks.{OnEars, OnGraph, OnMoves, OnNumbers, OnPicks, OnSimpleGraph, OnTree, OnTrees};
 ghost use Rattle.bench_tasks.specs.declared.verbs.GraphVerb.TheVariants.{Analyse, Convert, Decompose, Ears};

@@ -2,22 +2,18 @@
 -- Idea: the least tight shore with an end of the edge and x, and without the other end, is the
 -- intersection of all; and a pair is separated by a nontrivial one alone.
 use Rattle.std.proofs.Common.{IfOk, Result, Ok, Err, ◌≡◌, ℕ, true, ◌==◌, sym, ap, ◌∙◌, List, Some, None, eq-eqb}
-use Rattle.counting.proofs.Common.{same_tests, both_ways, false_from_ne_true, or_left, or_right}
-use Rattle.counting.specs.Common.{Within, mem, pair_set}
-use Rattle.graph_core.specs.Common.{IsCovered, Graph, size, IsWithinLimits}
-use Rattle.match_core.specs.MatchingRows.{MatchingValue, edges_of}
+use Rattle.counting.proofs.Common.{same_tests, both_ways, false_from_ne_true, or_left, or_right, Within, mem, pair_set}
+use Rattle.graph_core.proofs.Common.{IsCovered, Graph, size, IsWithinLimits}
+use Rattle.match_core.specs.Common.{MatchingValue, edges_of}
 use Rattle.matching_digraph.proofs.TightShores.{mates_from}
 use Rattle.matching_digraph.specs.Digraph.{IsLeastShore, NoneParts, are_mates}
 use Rattle.matching_digraph.specs.Digraphs.{IsDigraphOf}
 use Rattle.matching_digraph.specs.declared.digraph.Digraph.{Digraph}
 use Rattle.tight_cuts.proofs.EdgeLoop.{ends_between}
-use Rattle.tight_cuts.specs.EdgeDigraphs.{IsDigraphAt}
+use Rattle.tight_cuts.specs.Common.{IsDigraphAt, common_shore, first_separated, greater_end, is_separated, lesser_end, IsCommonShore, IsShoreOfEdge, SeparatesTightly}
 use Rattle.tight_cuts.proofs.EdgeShores.{greater_within, lesser_within}
 use Rattle.tight_cuts.proofs.FirstPairs.{no_first}
 use Rattle.tight_cuts.proofs.LeastShores.{common_from, common_in, separated_says, parts_nontrivial}
-use Rattle.tight_cuts.specs.Candidates.{common_shore, first_separated, greater_end, is_separated, lesser_end}
-use Rattle.tight_cuts.specs.EdgeSearch.{IsCommonShore, IsShoreOfEdge}
-use Rattle.tight_cuts.specs.Pieces.{SeparatesTightly}
 
 module _ (g : Graph) (lim : IsWithinLimits g) (cov : IsCovered g) (e : ℕ) (we : Within (size g) e) where
   abbrev a : ℕ

@@ -1,20 +1,15 @@
 -- The candidates: none twice, each tight if the shores of the first two parts are, and each
 -- edge of a nontrivial tight cut in a candidate's cut.
-use Rattle.std.proofs.Common.{◌≡◌, ℕ, true, refl, sym, ap, ◌∙◌, arith, List, [], ◌∷◌, ◌↔◌, subst}
-use Rattle.counting.proofs.Common.{true≢false, not-true, All-map, All-nil, All-head, All-tail, count_member}
-use Rattle.std.specs.List.{AllPairs, list_any}
-use Rattle.std.specs.Prelude.{All, fold}
-use Rattle.tight_cuts.specs.Candidates.{ShoresDiffer, Barrier, Separation, cuts, front_candidates}
-use Rattle.barrier_kit.proofs.Matched.{cut_edge}
-use Rattle.barrier_kit.proofs.ShoreFacts.{barrier_shores-tight}
-use Rattle.barrier_kit.specs.BarrierShores.{barrier_shores}
-use Rattle.counting.specs.Common.{Within, mem, Set, complement}
-use Rattle.graph_core.specs.Common.{IsCovered, Graph, size, IsGraph, in_cut, IsTight, IsNontrivial}
+use Rattle.std.proofs.Common.{◌≡◌, ℕ, true, refl, sym, ap, ◌∙◌, arith, List, [], ◌∷◌, ◌↔◌, subst, All, fold}
+use Rattle.counting.proofs.Common.{true≢false, not-true, All-map, All-nil, All-head, All-tail, count_member, list_any, Within, mem, Set, complement}
+use Rattle.std.specs.List.{AllPairs}
+use Rattle.tight_cuts.specs.Common.{ShoresDiffer, Barrier, Separation, cuts, front_candidates, Origin, Candidate, with_list, candidates, shores_of, IsTightCandidate}
+use Rattle.barrier_kit.proofs.Common.{cut_edge, barrier_shores-tight, barrier_shores}
+use Rattle.graph_core.proofs.Common.{IsCovered, Graph, size, IsGraph, in_cut, IsTight, IsNontrivial}
 use Rattle.separation_kit.proofs.SeparationFacts.{separation_shores-tight}
-use Rattle.separation_kit.specs.SeparationShores.{separation_shores}
+use Rattle.separation_kit.specs.Common.{separation_shores}
 use Rattle.tight_cuts.proofs.EdgeLoop.{after_apart, after_found, after_covers}
 use Rattle.tight_cuts.proofs.Shores.{with_found, with_apart}
-use Rattle.tight_cuts.specs.Candidates.{Origin, Candidate, with_list, candidates, shores_of, IsTightCandidate}
 
 -- shores one after another
 lists_apart : (n : ℕ) (o : Origin) (shores : List (List ℕ)) (list : List Candidate) → AllPairs ShoresDiffer list → AllPairs ShoresDiffer (fold (with_list n o) list shores)

@@ -1,18 +1,15 @@
 -- What the search for two edges of a cut in one perfect matching shows: the matching that it
 -- finds is not a witness of tightness, and if it finds none, no two edges of the cut lie
 -- together, which makes an odd cut tight.
-use Rattle.std.proofs.Common.{◌≡◌, ℕ, ◌<◌, ◌&&◌, List, length, true, false, ap, ◌∙◌, arith, inl, inr, subst}
-use Rattle.std.specs.Prelude.{All}
+use Rattle.std.proofs.Common.{◌≡◌, ℕ, ◌<◌, ◌&&◌, List, length, true, false, ap, ◌∙◌, arith, inl, inr, subst, All}
 use Rattle.std.proofs.lemmas.List.Folds.{Any-from_list_any}
-use Rattle.counting.proofs.Common.{and_parts, cases_order, count_mem_length, complement_odd, false_from_ne_true, two_of}
-use Rattle.barrier_kit.proofs.Matched.{even_order}
-use Rattle.counting.specs.Common.{Within, count, is_odd, IsRisingIn, complement, mem, Set, none}
-use Rattle.graph_core.proofs.Common.{covered_perfect}
-use Rattle.graph_core.specs.Common.{IsCovered, Graph, IsGraph, edges_in_cut, in_cut, size, IsPerfect, IsTight}
+use Rattle.counting.proofs.Common.{and_parts, cases_order, count_mem_length, complement_odd, false_from_ne_true, two_of, Within, count, is_odd, IsRisingIn, complement, mem, Set, none}
+use Rattle.barrier_kit.proofs.Common.{even_order}
+use Rattle.graph_core.proofs.Common.{covered_perfect, IsCovered, Graph, IsGraph, edges_in_cut, in_cut, size, IsPerfect, IsTight}
 use Rattle.allowed_edges.specs.PairTables.{IsNew, PairsValue, edge_lists, holds_both}
-use Rattle.match_core.specs.MatchingRows.{IsOf, MatchingValue, edges_of}
+use Rattle.match_core.specs.Common.{IsOf, MatchingValue, edges_of}
 use Rattle.tight_cuts.proofs.PairsOfEdges.{alone_tight, two_in_cut}
-use Rattle.tight_cuts.specs.Tightness.{CrossesTwice, NoLaterWith}
+use Rattle.tight_cuts.specs.Common.{CrossesTwice, NoLaterWith}
 
 -- a perfect matching with two edges of the cut crosses it twice
 pub crosses_by_two : (g : Graph) (x : Set) (m : MatchingValue) (e f : ℕ) → Within (size g) e → Within (size g) f → e < f → IsOf g m → IsPerfect g none (mem (edges_of m)) →

@@ -1,20 +1,15 @@
 -- The loop over the edges. Idea: what an edge gives is tight, and if some nontrivial tight set
 -- has the edge in its cut, so has a candidate then.
-use Rattle.std.proofs.Common.{◌≡◌, ℕ, suc, zero, ◌≤◌, Bool, true, false, cond, ◌==◌, refl, sym, ap, ap₂, ◌∙◌, arith, ◌&&◌, ◌||◌, not, inl, inr, ◌⊎◌, List, [], ◌∷◌, subst, map, flat_map, Option, Some, None, eq-eqb, ne_eqb, eqb-true, min, max}
-use Rattle.counting.proofs.Common.{cases_eq, cases_lt, cases_Bool, and_parts, and_from, or_from, or_left, or_right, true≢false, both_ways, not-true, list_any-append, count_minus, count_member, some_true, some_none, some_congr, or_false}
+use Rattle.std.proofs.Common.{◌≡◌, ℕ, suc, zero, ◌≤◌, Bool, true, false, cond, ◌==◌, refl, sym, ap, ap₂, ◌∙◌, arith, ◌&&◌, ◌||◌, not, inl, inr, ◌⊎◌, List, [], ◌∷◌, subst, map, flat_map, Option, Some, None, eq-eqb, ne_eqb, eqb-true, min, max, All, if◌then◌else◌, find, fold}
+use Rattle.counting.proofs.Common.{cases_eq, cases_lt, cases_Bool, and_parts, and_from, or_from, or_left, or_right, true≢false, both_ways, not-true, list_any-append, count_minus, count_member, some_true, some_none, some_congr, or_false, list_any, Within, rising_list, ordered_pairs, pair_with, Set, complement, minus, singleton, everything, pair_set, some}
 use Rattle.std.proofs.lemmas.List.Sums.{fold_push}
-use Rattle.std.specs.List.{AllPairs, list_any}
-use Rattle.std.specs.Prelude.{All, if◌then◌else◌, find, fold}
-use Rattle.tight_cuts.specs.Candidates.{ShoresDiffer, Flow, cuts, lesser_end, greater_end, first_separated}
-use Rattle.counting.specs.Common.{Within, rising_list, ordered_pairs, pair_with, Set, complement, minus, singleton, everything, pair_set, some}
-use Rattle.graph_core.proofs.Common.{has_ends-cases}
-use Rattle.graph_core.specs.Common.{IsCovered, Graph, size, first_end, second_end, IsGraph, in_cut, has_ends, IsTight, IsNontrivial}
+use Rattle.std.specs.List.{AllPairs}
+use Rattle.tight_cuts.specs.Common.{ShoresDiffer, Flow, cuts, lesser_end, greater_end, first_separated, Candidate, is_separated, common_shore, with_pair, with_edge_cut, IsTightCandidate, SeparatesTightly}
+use Rattle.graph_core.proofs.Common.{has_ends-cases, IsCovered, Graph, size, first_end, second_end, IsGraph, in_cut, has_ends, IsTight, IsNontrivial}
 use Rattle.tight_cuts.proofs.LeastShores.{separated_says, separated_found, common_parts, parts_nontrivial}
 use Rattle.tight_cuts.proofs.PairsOfEdges.{cut_between}
 use Rattle.tight_cuts.proofs.Shores.{with_found, with_apart, with_grows, with_covers}
-use Rattle.tight_cuts.specs.Candidates.{Candidate, is_separated, common_shore, with_pair, with_edge_cut, IsTightCandidate}
-use Rattle.tight_cuts.specs.Pieces.{SeparatesTightly}
-use Rattle.barrier_kit.proofs.CutFacts.{nontrivial-turned, tight-turned}
+use Rattle.barrier_kit.proofs.Common.{nontrivial-turned, tight-turned}
 
 -- the first element that passes
 abbrev pub same_pair : ℕ × ℕ → ℕ × ℕ → Bool

@@ -1,12 +1,11 @@
 -- The network as the code makes it, edge by edge, is the contracted network of a pair list.
 -- Idea: one edge more is one arc more or none; equal rows give equal arcs.
 use Rattle.std.proofs.Common.{◌≡◌, ℕ, suc, zero, ◌+◌, ◌≤◌, ◌<◌, Bool, true, false, cond, ◌==◌, sym, ap, ap₂, ◌∙◌, arith, List, [], ◌∷◌, ◌++◌, sum_by, inl, inr}
-use Rattle.counting.proofs.Common.{cases_eq, sum_by-cons}
+use Rattle.counting.proofs.Common.{cases_eq, sum_by-cons, total}
 use Rattle.std.proofs.lemmas.List.Sums.{sum_by-append}
-use Rattle.counting.specs.Common.{total}
-use Rattle.flow_core.specs.Nets.{Arc}
-use Rattle.graph_core.specs.Common.{Graph, first_end, second_end}
-use Rattle.tight_cuts.specs.EdgeSearch.{arc_between, arcs_by, at_place}
+use Rattle.flow_core.specs.Common.{Arc}
+use Rattle.graph_core.proofs.Common.{Graph, first_end, second_end}
+use Rattle.tight_cuts.specs.Common.{arc_between, arcs_by, at_place}
 
 -- one edge more
 pub arcs-next : (g : Graph) (weights : List ℕ) (group : ℕ → ℕ) (k first second capacity : ℕ) → first ≡ group (first_end g (k + 1)) → second ≡ group (second_end g (k + 1)) → capacity ≡ at_place weights (k + 1) →

@@ -1,15 +1,13 @@
 -- The search over pairs in lexicographic order finds the first pair that is separated. Idea: a pair
 -- of which a vertex does not lead its piece is separated only if the earlier one of the leaders is.
 use Rattle.std.proofs.Common.{◌≡◌, ℕ, ◌+◌, ◌<◌, Bool, true, false, ◌==◌, refl, sym, ap, ap₂, ◌∙◌, arith, not, ◌&&◌, inl, inr, ◌⊎◌, List, Option, Some, None, subst, eq-eqb, eqb-true}
-use Rattle.counting.proofs.Common.{and_parts, cases_eq, cases_lt, not-true, true≢false, both_ways, false_from_ne_true}
-use Rattle.counting.specs.Common.{Within, mem, pair_set}
-use Rattle.graph_core.specs.Common.{IsCovered, Graph, size, IsWithinLimits}
+use Rattle.counting.proofs.Common.{and_parts, cases_eq, cases_lt, not-true, true≢false, both_ways, false_from_ne_true, Within, mem, pair_set}
+use Rattle.graph_core.proofs.Common.{IsCovered, Graph, size, IsWithinLimits}
 use Rattle.tight_cuts.proofs.EdgeLoop.{first_pair, no_pair, ends_between}
 use Rattle.tight_cuts.proofs.EdgeShores.{ends_apart, lesser_within, greater_within, least_leads}
 use Rattle.tight_cuts.proofs.FirstPairs.{before_first, first_leads, no_first}
 use Rattle.tight_cuts.proofs.LeastShores.{separated_says}
-use Rattle.tight_cuts.specs.Candidates.{lesser_end, greater_end, is_separated, first_separated}
-use Rattle.tight_cuts.specs.EdgeSearch.{AreLeaders, IsShoreOfEdge, IsShoreOfPair, Leads, NoneBefore, at_place}
+use Rattle.tight_cuts.specs.Common.{lesser_end, greater_end, is_separated, first_separated, AreLeaders, IsShoreOfEdge, IsShoreOfPair, Leads, NoneBefore, at_place}
 
 module _ (g : Graph) (lim : IsWithinLimits g) (cov : IsCovered g) (e : ℕ) (we : Within (size g) e) (leaders : List ℕ) (ld : AreLeaders g (lesser_end g e) (greater_end g e) e leaders) where
   abbrev separated : ℕ × ℕ → Bool

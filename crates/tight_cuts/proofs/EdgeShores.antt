@@ -1,28 +1,21 @@
 -- What the groups of two pieces, or of one, give as the code finds it: a least cut of their
 -- network within the number of listed matchings. Idea: the network of the rows is the contracted
 -- network of the list, and the leaders give its groups.
-use Rattle.std.proofs.Common.{◌≡◌, ℕ, suc, zero, ◌*◌, ◌≤◌, ◌<◌, ◌^◌, ◌≢◌, true, false, ◌==◌, ◌&&◌, ◌||◌, not, get_or, refl, sym, ap, ap₂, ◌∙◌, arith, inl, inr, List, [], ◌∷◌, ◌++◌, length, subst, subst₂, Option, Some, None, ◌↔◌}
-use Rattle.std.specs.Prelude.{All}
-use Rattle.counting.proofs.Common.{cases_lt, count_congr, false_from_ne_true, or_comm, sum_by-cons, bit_le_one}
-use Rattle.counting.specs.Common.{bit, complement, count, is_odd, Within, total, mem, Set, pair_set}
+use Rattle.std.proofs.Common.{◌≡◌, ℕ, suc, zero, ◌*◌, ◌≤◌, ◌<◌, ◌^◌, ◌≢◌, true, false, ◌==◌, ◌&&◌, ◌||◌, not, get_or, refl, sym, ap, ap₂, ◌∙◌, arith, inl, inr, List, [], ◌∷◌, ◌++◌, length, subst, subst₂, Option, Some, None, ◌↔◌, All}
+use Rattle.counting.proofs.Common.{cases_lt, count_congr, false_from_ne_true, or_comm, sum_by-cons, bit_le_one, bit, complement, count, is_odd, Within, total, mem, Set, pair_set}
 use Rattle.std.proofs.Math.Path.{fun_ext}
-use Rattle.graph_core.proofs.Common.{has_ends-cases, tight-same}
-use Rattle.flow_core.specs.Cuts.{IfCut, IsCut}
-use Rattle.flow_core.specs.Nets.{Net, HasCutWithin, IsLeastCut}
+use Rattle.graph_core.proofs.Common.{has_ends-cases, tight-same, components, is_least, IsCovered, Graph, size, edges_in_cut, first_end, second_end, has_ends, IsGraph, IsTight, Allowed, IsWithinLimits}
+use Rattle.flow_core.specs.Common.{IfCut, IsCut, Net, HasCutWithin, IsLeastCut}
 use Rattle.flow_core.specs.declared.cut.CutAnswer.{CutAnswer}
 use Rattle.flow_core.specs.declared.cut.CutAnswer.TheVariants.{Cut, Exceeds}
 use Rattle.flow_core.specs.declared.flow.Flow.{Flow}
-use Rattle.graph_core.specs.Common.{components, is_least, IsCovered, Graph, size, edges_in_cut, first_end, second_end, has_ends, IsGraph, IsTight, Allowed, IsWithinLimits}
 use Rattle.tight_cuts.proofs.LeanLists.{grown_length}
 use Rattle.tight_cuts.proofs.LeaderGroups.{leaders_group}
 use Rattle.tight_cuts.proofs.Leaders.{leader-least, leader-fixed}
 use Rattle.tight_cuts.proofs.LeastShores.{separated_found, separated_says}
 use Rattle.tight_cuts.proofs.Networks.{back, back_odd, least_back, least_common, least_once, parts_nodes}
 use Rattle.tight_cuts.proofs.PiecesOfEdges.{beside_graph}
-use Rattle.tight_cuts.specs.Candidates.{lesser_end, greater_end, is_separated, common_shore}
-use Rattle.tight_cuts.specs.EdgeSearch.{AreGroups, AreLeaders, AreLeadersAt, AreWeights, IsBeyond, IsCommonShore, IsCutOfGroups, IsShoreOfPair, Leads, arc_between, arcs_by, at_place, group_net, row_group}
-use Rattle.tight_cuts.specs.PairSums.{weight}
-use Rattle.tight_cuts.specs.Pieces.{SeparatesTightly, arcs_of, contracted_net, group_of, leader, IsGrouping}
+use Rattle.tight_cuts.specs.Common.{lesser_end, greater_end, is_separated, common_shore, AreGroups, AreLeaders, AreLeadersAt, AreWeights, IsBeyond, IsCommonShore, IsCutOfGroups, IsShoreOfPair, Leads, arc_between, arcs_by, at_place, group_net, row_group, weight, SeparatesTightly, arcs_of, contracted_net, group_of, leader, IsGrouping}
 
 -- a total of numbers up to 2048
 pub total_small : (n : ℕ) (f : ℕ → ℕ) → ((v : ℕ) → Within n v → f v ≤ 2048) → total n f ≤ 2048 * n

@@ -1,16 +1,12 @@
 -- The first candidate stays while edges add more, and edges in the cut of a candidate add none.
 -- Idea: an edge leaves the list or appends to it.
-use Rattle.std.proofs.Common.{◌≡◌, ℕ, suc, zero, ◌≤◌, Bool, true, false, refl, sym, ap, ◌∙◌, arith, List, [], ◌∷◌, ◌++◌, Option, Some, None, map, slice_get, inl, inr, ◌↔◌, subst, All}
-use Rattle.std.specs.Prelude.{if◌then◌else◌}
-use Rattle.std.specs.List.{list_any}
+use Rattle.std.proofs.Common.{◌≡◌, ℕ, suc, zero, ◌≤◌, Bool, true, false, refl, sym, ap, ◌∙◌, arith, List, [], ◌∷◌, ◌++◌, Option, Some, None, map, slice_get, inl, inr, ◌↔◌, subst, All, if◌then◌else◌}
+use Rattle.counting.proofs.Common.{list_any, cases_eq, All-head, Within, Set}
 use Rattle.std.specs.Option.{option_map}
-use Rattle.counting.proofs.Common.{cases_eq, All-head}
-use Rattle.counting.specs.Common.{Within, Set}
-use Rattle.graph_core.specs.Common.{Graph, size}
+use Rattle.graph_core.proofs.Common.{Graph, size}
 use Rattle.tight_cuts.proofs.EdgeLoop.{after_edges, after_suc}
 use Rattle.tight_cuts.proofs.FrontCandidates.{edge-known, edges-all}
-use Rattle.tight_cuts.specs.Candidates.{Candidate, Flow, Origin, candidates, common_shore, cuts, first_of, first_separated, front_candidates, greater_end, lesser_end, with_edge_cut, with_pair, with_shore}
-use Rattle.tight_cuts.specs.View.{candidate_of}
+use Rattle.tight_cuts.specs.Common.{Candidate, Flow, Origin, candidates, common_shore, cuts, first_of, first_separated, front_candidates, greater_end, lesser_end, with_edge_cut, with_pair, with_shore, candidate_of}
 use Rattle.tight_cuts.specs.declared.candidate.Candidate.{Candidate as StoredCandidate}
 
 -- the first candidate is that at place 0

@@ -1,22 +1,17 @@
 -- The first pair consists of least vertices of pieces.
 -- Idea: a pair is separated by its pieces alone, so an earlier pair would be found.
-use Rattle.std.proofs.Common.{◌≡◌, ℕ, suc, zero, ◌<◌, Bool, true, false, cond, refl, sym, ap, ◌∙◌, arith, ◌&&◌, not, inl, inr, ◌⊎◌, List, [], ◌∷◌, ◌++◌, map, flat_map, Option, Some, None, nat_lt}
-use Rattle.std.proofs.lemmas.Bool.{ltb-true}
-use Rattle.counting.proofs.Common.{cases_eq, cases_Bool, and_parts, and_from, both_ways, false_from_ne_true, some_true}
+use Rattle.std.proofs.Common.{◌≡◌, ℕ, suc, zero, ◌<◌, Bool, true, false, cond, refl, sym, ap, ◌∙◌, arith, ◌&&◌, not, inl, inr, ◌⊎◌, List, [], ◌∷◌, ◌++◌, map, flat_map, Option, Some, None, nat_lt, ltb-true, find}
+use Rattle.counting.proofs.Common.{cases_eq, cases_Bool, and_parts, and_from, both_ways, false_from_ne_true, some_true, Within, rising_list, ordered_pairs, pair_with, Set, everything, pair_set, some}
 use Rattle.std.proofs.lemmas.Grind.{flat_map-append}
 use Rattle.std.proofs.lemmas.List.Concat.{flat_map_single}
 use Rattle.std.proofs.lemmas.List.Folds.{find-append}
 use Rattle.std.specs.Option.{option_or}
-use Rattle.std.specs.Prelude.{find}
-use Rattle.counting.specs.Common.{Within, rising_list, ordered_pairs, pair_with, Set, everything, pair_set, some}
-use Rattle.graph_core.proofs.Common.{joined_outside, walk_joined, joined_self}
-use Rattle.graph_core.specs.Common.{is_least, Graph, size, IsGraph, has_ends, joined}
+use Rattle.graph_core.proofs.Common.{joined_outside, walk_joined, joined_self, is_least, Graph, size, IsGraph, has_ends, joined}
 use Rattle.tight_cuts.proofs.EdgeLoop.{first_pair}
 use Rattle.tight_cuts.proofs.LeastShores.{separated_says, separated_found}
 use Rattle.tight_cuts.proofs.PairsOfEdges.{cut_between}
 use Rattle.tight_cuts.proofs.PiecesOfEdges.{tight_piece, beside_graph}
-use Rattle.tight_cuts.specs.Candidates.{is_separated}
-use Rattle.tight_cuts.specs.Pieces.{SeparatesTightly, IsBeside}
+use Rattle.tight_cuts.specs.Common.{is_separated, SeparatesTightly, IsBeside}
 
 -- the row in which the first is found
 module _ (p : ℕ × ℕ → Bool) (f : ℕ → List (ℕ × ℕ)) where

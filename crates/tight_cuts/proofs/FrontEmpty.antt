@@ -2,19 +2,16 @@
 -- all. It is bicritical, since else a barrier gives a cut, and has no cut pair, since else a
 -- separation does; so by the theorem on bricks no nontrivial shore is tight.
 use Rattle.std.proofs.Common.{◌≡◌, ◌≤◌, ℕ, Option, Some, None, [], refl, sym, ◌∙◌, arith}
-use Rattle.barrier_kit.proofs.CriticalPairs.{no_sides}
-use Rattle.barrier_kit.proofs.ShoreFacts.{bicritical_no_cuts, some_cut}
-use Rattle.barrier_kit.specs.BarrierShores.{barrier_cuts}
+use Rattle.barrier_kit.proofs.Common.{no_sides, bicritical_no_cuts, some_cut, barrier_cuts}
 use Rattle.brick_kit.proofs.Bricks.{no_shore}
-use Rattle.counting.proofs.Common.{count_complement}
-use Rattle.counting.specs.Common.{Set}
-use Rattle.graph_core.specs.Common.{IsCovered, Graph, IsBipartite, IsMultigraph, IsBicritical, equivalent_pair, IsNontrivial, IsTight}
+use Rattle.counting.proofs.Common.{count_complement, Set}
+use Rattle.graph_core.proofs.Common.{IsCovered, Graph, IsBipartite, IsMultigraph, IsBicritical, equivalent_pair, IsNontrivial, IsTight}
 use Rattle.separation_kit.proofs.SeparationFacts.{pair_some_cut, equivalent-none}
-use Rattle.separation_kit.specs.SeparationShores.{separation_cuts}
+use Rattle.separation_kit.specs.Common.{separation_cuts}
 use Rattle.tight_cuts.proofs.Completeness.{candidates_none}
 use Rattle.tight_cuts.proofs.FrontCandidates.{front-barriers, front-separations, equivalent-some}
 use Rattle.tight_cuts.proofs.LiftedCandidates.{map-none}
-use Rattle.tight_cuts.specs.Candidates.{Barrier, Separation, candidate_at, candidates, front_candidates}
+use Rattle.tight_cuts.specs.Common.{Barrier, Separation, candidate_at, candidates, front_candidates}
 
 module _ (g : Graph) (is : IsMultigraph g) (cov : IsCovered g) (odd_cycle : IsBipartite g → ⊥) (front : front_candidates g ≡ []) where
   no_tight : (x : Set) → IsTight g x → IsNontrivial g.order x → ⊥

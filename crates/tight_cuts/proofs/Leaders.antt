@@ -1,14 +1,10 @@
 -- The leader of a vertex is the least vertex of its component. Idea: in the list of components
 -- one alone holds the vertex, and a component's list begins with its least vertex.
-use Rattle.std.proofs.Common.{◌≡◌, ℕ, ◌≤◌, Bool, true, false, cond, ◌==◌, refl, sym, ap, ◌∙◌, arith, ◌&&◌, not, inl, inr, ◌⊎◌, List, [], ◌∷◌, map, subst, eq-eqb, eqb-true, nat_lt}
-use Rattle.std.specs.Prelude.{All}
-use Rattle.std.proofs.lemmas.Bool.{lt-ltb}
-use Rattle.counting.proofs.Common.{cases_lt, cases_Bool, and_parts, or_cases, or_left, or_right, true≢false, both_ways, false_from_ne_true, not-true, All-head, All-tail, All-nil, All-cons, some_none, rising_holds, rising_only, mem-rising_list, rising_list-rises, first-least}
-use Rattle.counting.specs.Common.{Within, mem, rising_list, IsRisingIn, Set, some}
-use Rattle.graph_core.proofs.Common.{joined_outside, walk_joined, joined_self}
-use Rattle.graph_core.specs.Common.{is_least, components, Graph, IsGraph, joined}
-use Rattle.barrier_kit.proofs.BarrierCuts.{leader_of, leader_same, leads_out, part_same}
-use Rattle.tight_cuts.specs.Pieces.{head_or, leader}
+use Rattle.std.proofs.Common.{◌≡◌, ℕ, ◌≤◌, Bool, true, false, cond, ◌==◌, refl, sym, ap, ◌∙◌, arith, ◌&&◌, not, inl, inr, ◌⊎◌, List, [], ◌∷◌, map, subst, eq-eqb, eqb-true, nat_lt, All, lt-ltb}
+use Rattle.counting.proofs.Common.{cases_lt, cases_Bool, and_parts, or_cases, or_left, or_right, true≢false, both_ways, false_from_ne_true, not-true, All-head, All-tail, All-nil, All-cons, some_none, rising_holds, rising_only, mem-rising_list, rising_list-rises, first-least, Within, mem, rising_list, IsRisingIn, Set, some}
+use Rattle.graph_core.proofs.Common.{joined_outside, walk_joined, joined_self, is_least, components, Graph, IsGraph, joined}
+use Rattle.barrier_kit.proofs.Common.{leader_of, leader_same, leads_out, part_same}
+use Rattle.tight_cuts.specs.Common.{head_or, leader}
 
 -- a rising list begins with its least number
 head-least : (n : ℕ) (x : Set) (d u : ℕ) → Within n u → x u ≡ true → ((w : ℕ) → Within n w → x w ≡ true → u ≤ w) → head_or (rising_list n x) d ≡ u

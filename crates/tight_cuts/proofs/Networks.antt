@@ -1,19 +1,14 @@
 -- The contracted network.
 -- Idea: the value of a set of nodes is the sum over the listed matchings of the cut of its vertices.
-use Rattle.std.proofs.Common.{◌≡◌, ℕ, suc, zero, ◌+◌, ◌*◌, ◌≤◌, Bool, true, false, cond, ◌==◌, refl, sym, ap, ap₂, ◌∙◌, arith, ◌&&◌, ◌||◌, not, inl, inr, eq-eqb, ne_eqb, eqb-true, List, [], ◌∷◌, length, sum_by}
-use Rattle.std.specs.Prelude.{All}
-use Rattle.counting.proofs.Common.{same_tests, cases_eq, and_parts, and_from, or_cases, or_left, or_right, true≢false, sum_by-cons, some_true, true_some, total_congr, total_add, total_none}
+use Rattle.std.proofs.Common.{◌≡◌, ℕ, suc, zero, ◌+◌, ◌*◌, ◌≤◌, Bool, true, false, cond, ◌==◌, refl, sym, ap, ap₂, ◌∙◌, arith, ◌&&◌, ◌||◌, not, inl, inr, eq-eqb, ne_eqb, eqb-true, List, [], ◌∷◌, length, sum_by, All}
+use Rattle.counting.proofs.Common.{same_tests, cases_eq, and_parts, and_from, or_cases, or_left, or_right, true≢false, sum_by-cons, some_true, true_some, total_congr, total_add, total_none, bit, total, count, Within, is_odd, mem, none, Set, complement, pair_set, some}
 use Rattle.std.proofs.lemmas.List.Sums.{sum_by-append}
-use Rattle.counting.specs.Common.{bit, total, count, Within, is_odd, mem, none, Set, complement, pair_set, some}
-use Rattle.flow_core.specs.Nets.{leaves_set, value_of, Separates, IsLeastCut}
-use Rattle.graph_core.proofs.Common.{walk_joined, tight-same, joined_self}
-use Rattle.graph_core.specs.Common.{Graph, size, first_end, second_end, IsGraph, in_cut, edges_in_cut, has_ends, IsPerfect, IsTight, joined}
+use Rattle.flow_core.specs.Common.{leaves_set, value_of, Separates, IsLeastCut}
+use Rattle.graph_core.proofs.Common.{walk_joined, tight-same, joined_self, Graph, size, first_end, second_end, IsGraph, in_cut, edges_in_cut, has_ends, IsPerfect, IsTight, joined}
 use Rattle.tight_cuts.proofs.LeastShores.{common_in, common_from}
 use Rattle.tight_cuts.proofs.PairsOfEdges.{met_bound, met_once, tight_met, cut_between}
 use Rattle.tight_cuts.proofs.PiecesOfEdges.{pieces_odd, tight_piece, beside_graph}
-use Rattle.tight_cuts.specs.Candidates.{common_shore}
-use Rattle.tight_cuts.specs.PairSums.{weight, cut_sum}
-use Rattle.tight_cuts.specs.Pieces.{SeparatesTightly, IsBeside, arcs_of, contracted_net, with_piece, IsGrouping}
+use Rattle.tight_cuts.specs.Common.{common_shore, weight, cut_sum, SeparatesTightly, IsBeside, arcs_of, contracted_net, with_piece, IsGrouping}
 
 -- the weights in a cut are its edges in all the matchings
 pub weights_cut : (g : Graph) (ms : List (List ℕ)) (x : Set) → total (size g) (λ e. weight ms e * bit (in_cut g x e)) ≡ cut_sum g ms x

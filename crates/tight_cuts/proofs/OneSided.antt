@@ -1,16 +1,13 @@
 -- Vertices that edges lying together with e join are on one side of each tight set with e in its
 -- cut. If they are all vertices but the ends of e, no pair is separated at e.
 use Rattle.std.proofs.Common.{◌≡◌, ◌≢◌, ℕ, ◌<◌, Bool, true, false, ◌||◌, ◌&&◌, ◌⊎◌, not, ◌==◌, sym, ap, ◌∙◌, List, [], ◌∷◌, None, inl, inr, subst, eq-eqb, ne_eqb, eqb-true, refl, length}
-use Rattle.counting.proofs.Common.{and_from, both_ways, cases_eq, false_from_ne_true, or_cases, or_left, or_right, or_false}
-use Rattle.counting.specs.Common.{Within, mem, Set, pair_set}
-use Rattle.graph_core.specs.Common.{Graph, first_end, in_cut, second_end, size, Together, IsTight}
-use Rattle.graph_core.proofs.Common.{has_ends-cases}
+use Rattle.counting.proofs.Common.{and_from, both_ways, cases_eq, false_from_ne_true, or_cases, or_left, or_right, or_false, Within, mem, Set, pair_set}
+use Rattle.graph_core.proofs.Common.{Graph, first_end, in_cut, second_end, size, Together, IsTight, has_ends-cases}
 use Rattle.tight_cuts.proofs.EdgeLoop.{ends_between}
 use Rattle.tight_cuts.proofs.FirstPairs.{no_first}
 use Rattle.tight_cuts.proofs.LeastShores.{separated_says}
 use Rattle.tight_cuts.proofs.PairsOfEdges.{cut_between, others_stay}
-use Rattle.tight_cuts.specs.Candidates.{first_separated, greater_end, is_separated, lesser_end}
-use Rattle.tight_cuts.specs.QuietEdges.{IsOneSided}
+use Rattle.tight_cuts.specs.Common.{first_separated, greater_end, is_separated, lesser_end, IsOneSided}
 
 -- one vertex alone
 pub alone : (g : Graph) (e v : ℕ) (x : List ℕ) → x ≡ v ∷ [] → IsOneSided g e (mem x)

@@ -2,14 +2,11 @@
 -- nontrivial shore is tight. Idea: they are those of the graph itself, or those of the quotient
 -- led back. At single vertices of a covered graph they are its own.
 use Rattle.std.proofs.Common.{◌≡◌, ◌↔◌, All, List, [], length, sym, subst, inl, inr, ℕ}
-use Rattle.counting.proofs.Common.{cases_eq}
-use Rattle.counting.specs.Common.{Set}
-use Rattle.graph_core.proofs.Common.{quotient_graph, length-singles, singles-partition}
-use Rattle.graph_core.specs.Common.{IsCovered, Graph, IsGraph, IsPartition, singles, quotient, IsTightAt, blocks_in, IsNontrivial}
+use Rattle.counting.proofs.Common.{cases_eq, Set}
+use Rattle.graph_core.proofs.Common.{quotient_graph, length-singles, singles-partition, IsCovered, Graph, IsGraph, IsPartition, singles, quotient, IsTightAt, blocks_in, IsNontrivial}
 use Rattle.tight_cuts.proofs.Completeness.{candidates_found, candidates_none}
 use Rattle.tight_cuts.proofs.LiftedCandidates.{at-blocks, at-vertices, covered-single, quotient-found, quotient-none, singles-found, singles-none}
-use Rattle.tight_cuts.specs.Candidates.{Candidate, candidates}
-use Rattle.tight_cuts.specs.CandidatesAt.{IsCandidateAt, candidates_at}
+use Rattle.tight_cuts.specs.Common.{Candidate, candidates, IsCandidateAt, candidates_at}
 
 module _ (g : Graph) (p : List (List ℕ)) (is : IsGraph g) (pp : IsPartition g.order p) (covered : IsCovered (quotient g p)) where
   pub found-at : All (IsCandidateAt g p) (candidates_at g p)

@@ -1,21 +1,18 @@
 -- Counting how often the matchings of a list hold each edge, row by row.
 -- Idea: the edges of a matching rise, so the edge of a row is in no earlier row.
-use Rattle.std.proofs.Common.{◌≡◌, ℕ, suc, zero, ◌+◌, ◌≤◌, ◌<◌, true, false, ◌||◌, ◌==◌, List, [], ◌∷◌, length, map, take, refl, sym, ap, ◌∙◌, arith, inl, inr, eq-eqb, ne_eqb, get_or, get_or-set_same, get_or-set_other, rules}
+use Rattle.std.proofs.Common.{◌≡◌, ℕ, suc, zero, ◌+◌, ◌≤◌, ◌<◌, true, false, ◌||◌, ◌==◌, List, [], ◌∷◌, length, map, take, refl, sym, ap, ◌∙◌, arith, inl, inr, eq-eqb, ne_eqb, get_or, get_or-set_same, get_or-set_other, rules, Some, slice_get, slice_set}
 use Rattle.std.proofs.Math.ListN.{replicate}
 use Rattle.std.proofs.lemmas.Option.{slice_get_read}
-use Rattle.std.specs.Prelude.{Some, slice_get, slice_set}
-use Rattle.counting.proofs.Common.{cases_eq, or_left, or_right, or_from, both_ways, sum_by-cons, Rises, mem_low, rises-from_set, bit_le_one, or_false}
+use Rattle.counting.proofs.Common.{cases_eq, or_left, or_right, or_from, both_ways, sum_by-cons, Rises, mem_low, rises-from_set, bit_le_one, or_false, bit, mem}
 use Rattle.allowed_edges.proofs.Marking.{edges-more}
 use Rattle.allowed_edges.specs.PairTables.{AreGrown, PairsValue, edge_lists}
-use Rattle.counting.specs.Common.{bit, mem}
-use Rattle.graph_core.specs.Common.{Graph, size, IsWithinLimits}
+use Rattle.graph_core.proofs.Common.{Graph, size, IsWithinLimits}
 use Rattle.tight_cuts.proofs.EdgeShores.{total_small}
 use Rattle.tight_cuts.proofs.LeanLists.{grown_length}
 use Rattle.match_core.proofs.MatchingEdges.{edge_of}
-use Rattle.match_core.specs.MatchingRows.{KeepsMatching, MatchingValue, edges_of}
+use Rattle.match_core.specs.Common.{KeepsMatching, MatchingValue, edges_of}
 use Rattle.match_core.specs.declared.matching.MatchRow.{MatchRow}
-use Rattle.tight_cuts.specs.EdgeSearch.{at_place}
-use Rattle.tight_cuts.specs.PairSums.{weight}
+use Rattle.tight_cuts.specs.Common.{at_place, weight}
 
 -- the edge of a row is one of the edges
 row-held : (rows : List MatchRow) (i : ℕ) (row : MatchRow) → slice_get rows i ≡ Some row → mem (map edge_of rows) row.edge ≡ true

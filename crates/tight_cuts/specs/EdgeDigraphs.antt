@@ -4,7 +4,7 @@
 use Rattle.std.specs.Prelude.{◌≡◌, ℕ, List, true}
 use Rattle.graph_core.specs.Common.{IsSide, Graph, IsPerfect}
 use Rattle.counting.specs.Common.{mem, none}
-use Rattle.match_core.specs.MatchingRows.{IsOf, MatchingValue, edges_of}
+use Rattle.match_core.specs.Common.{IsOf, MatchingValue, edges_of}
 use Rattle.matching_digraph.specs.Digraph.{are_mates}
 use Rattle.matching_digraph.specs.Digraphs.{IsDigraphOf}
 use Rattle.matching_digraph.specs.declared.digraph.Digraph.{Digraph}

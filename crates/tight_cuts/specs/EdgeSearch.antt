@@ -2,10 +2,10 @@
 -- Stated by: tight_cuts.
 use Rattle.std.specs.Prelude.{◌≡◌, ◌≢◌, ℕ, zero, suc, ◌+◌, ◌<◌, ◌≤◌, ◌^◌, ◌⊎◌, ◌↔◌, false, true, List, [], ◌∷◌, ◌++◌, ◌==◌, Option, Some, None, cond, length, slice_index_or}
 use Rattle.allowed_edges.specs.PairTables.{AreGrown, PairsValue, SettlesEdges}
-use Rattle.match_core.specs.MatchingRows.{IsOf, MatchingValue, edges_of}
+use Rattle.match_core.specs.Common.{IsOf, MatchingValue, edges_of}
 use Rattle.counting.specs.Common.{Within, total, Set, none, pair_set, mem}
 use Rattle.graph_core.specs.Common.{components, IsCovered, Graph, size, first_end, second_end, has_ends, IsPerfect}
-use Rattle.flow_core.specs.Nets.{Arc, Net, HasCutWithin, IsLeastCut}
+use Rattle.flow_core.specs.Common.{Arc, Net, HasCutWithin, IsLeastCut}
 use Rattle.tight_cuts.specs.Candidates.{lesser_end, greater_end, is_separated, common_shore, first_separated}
 use Rattle.tight_cuts.specs.PairSums.{weight}
 use Rattle.tight_cuts.specs.Pieces.{IsBeside, SeparatesTightly, leader, group_of}

@@ -7,3 +7,4 @@ pub mod View
 pub mod CandidatesAt
 pub mod EdgeDigraphs
 pub mod QuietEdges
+pub mod Common

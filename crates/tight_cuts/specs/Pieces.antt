@@ -4,7 +4,7 @@
 use Rattle.std.specs.Prelude.{◌≡◌, ℕ, zero, suc, ◌≢◌, ◌⊎◌, true, false, List, [], ◌∷◌, ◌++◌, ◌==◌, ◌||◌, cond}
 use Rattle.counting.specs.Common.{Within, Set, none, pair_set, mem}
 use Rattle.graph_core.specs.Common.{Graph, size, first_end, second_end, IsPerfect, Together, IsTight, joined}
-use Rattle.flow_core.specs.Nets.{Arc, Net}
+use Rattle.flow_core.specs.Common.{Arc, Net}
 use Rattle.tight_cuts.specs.PairSums.{weight}
 
 -- z is a tight set with a and the first vertex of the pair, and with neither b nor the second

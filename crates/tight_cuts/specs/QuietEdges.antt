@@ -3,7 +3,7 @@
 use Rattle.std.specs.Prelude.{◌≡◌, ℕ, ◌+◌, true, Bool, List, None, length}
 use Rattle.counting.specs.Common.{Set}
 use Rattle.graph_core.specs.Common.{Graph, in_cut, size, IsTight}
-use Rattle.match_search.specs.Rows.{marks}
+use Rattle.match_search.specs.Common.{marks}
 use Rattle.tight_cuts.specs.Candidates.{first_separated}
 
 -- each tight set with edge e in its cut holds all of x or nothing of it

@@ -4,7 +4,7 @@
 use Rattle.std.specs.Prelude.{◌≡◌, ℕ, ◌<◌, ◌≤◌, true}
 use Rattle.counting.specs.Common.{Set, none, mem}
 use Rattle.graph_core.specs.Common.{Graph, edges_in_cut, in_cut, size, IsPerfect, Together, IsTight}
-use Rattle.match_core.specs.MatchingRows.{IsOf, MatchingValue, edges_of}
+use Rattle.match_core.specs.Common.{IsOf, MatchingValue, edges_of}
 use Rattle.tight_cuts.specs.declared.tightness.Tightness.{Tightness}
 use Rattle.tight_cuts.specs.declared.tightness.Tightness.TheVariants.{Tight, Crossed}
 

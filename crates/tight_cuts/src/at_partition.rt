@@ -4,9 +4,7 @@ ghost use Rattle.std.specs.Prelude.{◌≡◌, [], ◌↔◌, All, IfOk, IsTrue,
 ghost use Rattle.std.specs.Option.{option_map};
 ghost use Rattle.counting.specs.Common.{Set};
 ghost use Rattle.graph_core.specs.Common.{IsBipartite, IsCovered, Graph, singles, quotient, IsTightAt, blocks_in, IsNontrivial};
-ghost use Rattle.tight_cuts.specs.Candidates.{candidates, first_of};
-ghost use Rattle.tight_cuts.specs.CandidatesAt.{IsCandidateAt, candidates_at, lifted_candidate};
-ghost use Rattle.tight_cuts.specs.View.{candidate_of};
+ghost use Rattle.tight_cuts.specs.Common.{candidates, first_of, IsCandidateAt, candidates_at, lifted_candidate, candidate_of};
 
 use crate::candidate::{Candidate, CandidateList};
 use crate::finder::{first_candidate, listed};

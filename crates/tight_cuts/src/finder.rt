@@ -4,9 +4,7 @@ ghost use Rattle.std.specs.List.{AllPairs, list_any};
 ghost use Rattle.std.specs.Option.{option_map};
 ghost use Rattle.counting.specs.Common.{Within, mem, Set};
 ghost use Rattle.graph_core.specs.Common.{IsCovered, in_cut, size, HasOnlyTrivialTightCuts, IsNontrivial, IsTight};
-ghost use Rattle.tight_cuts.specs.EdgeDigraphs.{AreFloodsOf};
-ghost use Rattle.tight_cuts.specs.Candidates.{IsTightCandidate, ShoresDiffer, candidates, cuts, first_of, first_shore, front_candidates};
-ghost use Rattle.tight_cuts.specs.View.{candidate_of};
+ghost use Rattle.tight_cuts.specs.Common.{AreFloodsOf, IsTightCandidate, ShoresDiffer, candidates, cuts, first_of, first_shore, front_candidates, candidate_of};
 
 use crate::bipartite::FloodSearch;
 use crate::candidate::{Candidate, CandidateList, any_cuts};

@@ -2,10 +2,9 @@
 ghost use Rattle.std.specs.Prelude.{◌≡◌, ◌≤◌, IfOk, map, slice_get};
 ghost use Rattle.std.specs.Option.{option_map};
 ghost use Rattle.graph_core.specs.Common.{IsBicritical};
-ghost use Rattle.barrier_kit.specs.BarrierShores.{barrier_cuts};
-ghost use Rattle.separation_kit.specs.SeparationShores.{separation_cuts};
-ghost use Rattle.tight_cuts.specs.Candidates.{Barrier, Separation, candidate_at, first_of, front_candidates};
-ghost use Rattle.tight_cuts.specs.View.{candidate_of};
+ghost use Rattle.barrier_kit.specs.Common.{barrier_cuts};
+ghost use Rattle.separation_kit.specs.Common.{separation_cuts};
+ghost use Rattle.tight_cuts.specs.Common.{Barrier, Separation, candidate_at, first_of, front_candidates, candidate_of};
 
 use crate::candidate::{Candidate, CandidateList, Origin, candidates_of};
 use barrier_kit::{barrier_cuts_of, first_barrier_cut};

@@ -1,10 +1,9 @@
 //! The network of the pieces of an edge in groups, and its least minimum cut.
 ghost use Rattle.std.specs.Prelude.{◌≡◌, ◌≢◌, ℕ, ◌+◌, ◌<◌, ◌≤◌, ◌^◌, ◌++◌, length, IfOk, OnOk};
 ghost use Rattle.counting.specs.Common.{Within, total, mem};
-ghost use Rattle.flow_core.specs.Nets.{total_capacity, with_arc};
+ghost use Rattle.flow_core.specs.Common.{total_capacity, with_arc};
 ghost use Rattle.graph_core.specs.Common.{first_end, second_end, size};
-ghost use Rattle.tight_cuts.specs.EdgeSearch.{AreGroups, AreLeadersAt, AreMatchings, IsBeyond, IsCommonShore, IsCutOfGroups, Leads, arc_between, arcs_by, at_place, group_net, row_group};
-ghost use Rattle.tight_cuts.specs.Pieces.{group_of};
+ghost use Rattle.tight_cuts.specs.Common.{AreGroups, AreLeadersAt, AreMatchings, IsBeyond, IsCommonShore, IsCutOfGroups, Leads, arc_between, arcs_by, at_place, group_net, row_group, group_of};
 
 use crate::matchings::Matchings;
 use crate::pieces::{Weights, weights_of};

@@ -5,8 +5,7 @@
 //! the tight sets with a and without b are a alone and everything but b: no pair is separated.
 ghost use Rattle.std.specs.Prelude.{◌≡◌, true, IfOk, None};
 ghost use Rattle.graph_core.specs.Common.{size};
-ghost use Rattle.tight_cuts.specs.Candidates.{first_separated, greater_end, lesser_end};
-ghost use Rattle.tight_cuts.specs.EdgeSearch.{AreLeadersAt, AreMatchings, AreWhole, Leads};
+ghost use Rattle.tight_cuts.specs.Common.{first_separated, greater_end, lesser_end, AreLeadersAt, AreMatchings, AreWhole, Leads};
 
 use crate::edge_search::{first_lacking, leads};
 use crate::groups::{Grouping, common_shore};

@@ -2,9 +2,7 @@
 ghost use Rattle.std.specs.Prelude.{◌≡◌, ℕ, ◌+◌, length, IfOk};
 ghost use Rattle.counting.specs.Common.{Within, pair_set};
 ghost use Rattle.graph_core.specs.Common.{components, size, IsCovered};
-ghost use Rattle.tight_cuts.specs.Candidates.{greater_end, lesser_end};
-ghost use Rattle.tight_cuts.specs.EdgeSearch.{AreLeadersAt, AreMatchings, at_place};
-ghost use Rattle.tight_cuts.specs.Pieces.{leader};
+ghost use Rattle.tight_cuts.specs.Common.{greater_end, lesser_end, AreLeadersAt, AreMatchings, at_place, leader};
 
 use crate::matchings::Matchings;
 use crate::pieces::graph_beside;

@@ -1,6 +1,6 @@
 //! What the search at the edges of a graph that is not bipartite stands on: perfect matchings.
 ghost use Rattle.std.specs.Prelude.{IfOk};
-ghost use Rattle.tight_cuts.specs.EdgeSearch.{AreMatchings};
+ghost use Rattle.tight_cuts.specs.Common.{AreMatchings};
 
 use allowed_edges::{PairTable, no_pairs};
 use graph_facts::Covered;

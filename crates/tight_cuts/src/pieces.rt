@@ -3,11 +3,9 @@
 ghost use Rattle.std.specs.Prelude.{◌≡◌, ℕ, ◌+◌, ◌<◌, ◌≤◌, ◌-◌, ◌^◌, ◌↔◌, true, All, IfOk, length, map};
 ghost use Rattle.counting.specs.Common.{Within, bit, mem};
 ghost use Rattle.graph_core.specs.Common.{size};
-ghost use Rattle.match_core.specs.MatchingRows.{edges_of};
+ghost use Rattle.match_core.specs.Common.{edges_of};
 ghost use Rattle.allowed_edges.specs.PairTables.{SettlesEdges, edge_lists, holds_both};
-ghost use Rattle.tight_cuts.specs.EdgeSearch.{AreWeights, at_place};
-ghost use Rattle.tight_cuts.specs.PairSums.{weight};
-ghost use Rattle.tight_cuts.specs.Pieces.{IsBeside};
+ghost use Rattle.tight_cuts.specs.Common.{AreWeights, at_place, weight, IsBeside};
 
 use allowed_edges::PairTable;
 use graph_core::MultiGraph;

@@ -8,9 +8,7 @@ ghost use Rattle.std.specs.Prelude.{◌≡◌, ◌≢◌, ℕ, true, IfOk, None}
 ghost use Rattle.counting.specs.Common.{Within, mem};
 ghost use Rattle.graph_core.specs.Common.{first_end, second_end, size};
 ghost use Rattle.allowed_edges.specs.PairTables.{IsPerfectWith, SettlesEdges};
-ghost use Rattle.tight_cuts.specs.Candidates.{first_separated};
-ghost use Rattle.tight_cuts.specs.EdgeSearch.{AreMatchings};
-ghost use Rattle.tight_cuts.specs.QuietEdges.{IsOneSided};
+ghost use Rattle.tight_cuts.specs.Common.{first_separated, AreMatchings, IsOneSided};
 
 use crate::matchings::Matchings;
 use allowed_edges::{PairTable, base_with_edge, seek_pair, share_end};

@@ -2,10 +2,10 @@
 ghost use Rattle.std.specs.Prelude.{◌≡◌, ℕ, ◌+◌, ◌<◌, ◌||◌, ◌&&◌, ◌==◌, not, true, false, length, ◌↔◌, Some, None, IfOk};
 ghost use Rattle.counting.specs.Common.{Within, is_odd, none, mem, IsRisingIn};
 ghost use Rattle.graph_core.specs.Common.{IsCovered, in_cut, size, IsPerfect, Together};
-ghost use Rattle.match_core.specs.MatchingRows.{IsOf, edges_of};
+ghost use Rattle.match_core.specs.Common.{IsOf, edges_of};
 ghost use Rattle.allowed_edges.specs.Leaving.{share_end};
 ghost use Rattle.allowed_edges.specs.PairTables.{IsPerfectWith};
-ghost use Rattle.tight_cuts.specs.Tightness.{CrossesTwice, IsTightness, NoLaterWith};
+ghost use Rattle.tight_cuts.specs.Common.{CrossesTwice, IsTightness, NoLaterWith};
 
 use allowed_edges::{perfect_with_edge, perfect_with_pair, share_end};
 use graph_core::{MultiGraph, is_in_cut};

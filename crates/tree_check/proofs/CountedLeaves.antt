@@ -1,16 +1,13 @@
 -- The leaves of a derivation counted as the scan goes: the count of one leaf is told by its kind,
 -- and those of the two trees below a cut add up, since their kinds stand one after the other.
-use Rattle.std.proofs.Common.{◌≡◌, ℕ, ◌+◌, Bool, List, [], ◌∷◌, ◌++◌, cond, ap, ap₂, ◌∙◌}
+use Rattle.std.proofs.Common.{◌≡◌, ℕ, ◌+◌, Bool, List, [], ◌∷◌, ◌++◌, cond, ap, ap₂, ◌∙◌, count_by, not}
 use Rattle.std.proofs.lemmas.List.Sums.{sum_by-append}
-use Rattle.std.specs.Prelude.{count_by, not}
 use Rattle.counting.proofs.Common.{length-append}
-use Rattle.graph_core.specs.Common.{Graph, quotient}
-use Rattle.tree_core.proofs.AddedKinds.{kinds-both, kinds-one}
-use Rattle.tree_core.proofs.Sizes.{length-leaves_at}
-use Rattle.tree_core.specs.Common.{IsKindOf, IsTally, Shape, is_brick, leaf_count, leaves_at, tally_of}
+use Rattle.graph_core.proofs.Common.{Graph, quotient}
+use Rattle.tree_core.proofs.Common.{kinds-both, kinds-one, length-leaves_at, IsKindOf, IsTally, Shape, is_brick, leaf_count, leaves_at, tally_of}
 use Rattle.tree_core.specs.declared.tallies.LeafKind.{LeafKind}
 use Rattle.tree_core.specs.declared.tallies.Tally.{Tally}
-use Rattle.tree_check.specs.Scans.{sum_of}
+use Rattle.tree_check.specs.Common.{sum_of}
 
 -- how many items of two lists pass a test
 count_by-append : {X : Type 0} (f : X → Bool) (xs ys : List X) → count_by f (xs ++ ys) ≡ count_by f xs + count_by f ys

@@ -2,22 +2,18 @@
 -- the blocks in the shore: a cut that is tight there is tight at the partition, and a perfect
 -- matching with two edges in it is lifted to one at the partition.
 use Rattle.std.proofs.Common.{◌≡◌, ◌≢◌, ◌⊎◌, ◌↔◌, IsTrue, ◌%◌, ◌==◌, Option, Some, unwrap_or, ℕ, zero, suc, ◌+◌, ◌*◌, ◌-◌, ◌≤◌, ◌<◌, Bool, true, false, not, ◌&&◌, ◌||◌, List, length, refl, sym, ap, ap₂, ◌∙◌, arith, subst, inl, inr}
-use Rattle.std.specs.List.{list_all}
-use Rattle.counting.proofs.Common.{both_ways, cases_Bool, cases_lt, count_complement, count_congr, is_odd_remainder, odd-double, length-rising_list, mem-outside, mem-rising_list, rising_list-rises, set-wider}
-use Rattle.counting.specs.Common.{Within, count, is_odd, IsRisingIn, mem, rising_list, Set, complement, none}
+use Rattle.counting.proofs.Common.{list_all, both_ways, cases_Bool, cases_lt, count_complement, count_congr, is_odd_remainder, odd-double, length-rising_list, mem-outside, mem-rising_list, rising_list-rises, set-wider, Within, count, is_odd, IsRisingIn, mem, rising_list, Set, complement, none}
 use Rattle.contraction.proofs.BlockUnions.{in_or_apart, test-from_union, union-from_test}
 use Rattle.contraction.proofs.LiftedMatchings.{lifted-perfect, perfect-congr}
 use Rattle.contraction.proofs.ProjectedMatchings.{lifted-cut}
 use Rattle.contraction.proofs.QuotientLaws.{covered_down, tight_at_down}
 use Rattle.contraction.specs.Partition.{IsUnionAt, PartitionValue}
-use Rattle.graph_core.proofs.Common.{contracted-graph, contracted-order, contracted-size, tight_from_cut, covered_perfect, tight_or_not, parity, quotient_graph, quotient-order, tight-same, edges-in-cut-at}
-use Rattle.graph_core.specs.Common.{IsCovered, Graph, IsGraph, edges_in_cut, first_end, in_cut, inside, second_end, size, IsPerfect, AreBlocks, contracted, lifted, quotient, IsTightAt, IsUnion, block_count, blocks_in, IsNontrivial, IsTight}
-use Rattle.match_core.specs.MatchingRows.{MatchingValue, edges_of}
-use Rattle.tight_cuts.specs.Tightness.{CrossesTwice}
-use Rattle.tree_core.specs.Common.{IsCutAt}
-use Rattle.tree_check.specs.Judgements.{why_of}
+use Rattle.graph_core.proofs.Common.{contracted-graph, contracted-order, contracted-size, tight_from_cut, covered_perfect, tight_or_not, parity, quotient_graph, quotient-order, tight-same, edges-in-cut-at, IsCovered, Graph, IsGraph, edges_in_cut, first_end, in_cut, inside, second_end, size, IsPerfect, AreBlocks, contracted, lifted, quotient, IsTightAt, IsUnion, block_count, blocks_in, IsNontrivial, IsTight}
+use Rattle.match_core.specs.Common.{MatchingValue, edges_of}
+use Rattle.tight_cuts.specs.Common.{CrossesTwice}
+use Rattle.tree_core.proofs.Common.{IsCutAt}
+use Rattle.tree_check.specs.Common.{why_of, BreaksCut, CrossesAt, Why, not_blocks, even, trivial, not_tight, not_leaf, without_matching}
 use Rattle.tree_check.specs.declared.judgement.Why.{Why as StoredWhy}
-use Rattle.tree_check.specs.Refusals.{BreaksCut, CrossesAt, Why, not_blocks, even, trivial, not_tight, not_leaf, without_matching}
 
 -- and have as many edges in their cuts
 cut-same : (g : Graph) (m x y : Set) → IsGraph g → ((v : ℕ) → Within g.order v → x v ≡ y v) → edges_in_cut g m x ≡ edges_in_cut g m y

@@ -2,14 +2,12 @@
 -- of a tree agree, and a tree that is not a derivation has one. Below a kept cut the partitions are
 -- partitions again and their quotients are matching covered.
 use Rattle.std.proofs.Common.{◌≡◌, ◌⊎◌, ℕ, ◌+◌, List, refl, sym, ap, ◌∙◌, inl, inr}
-use Rattle.counting.specs.Common.{mem}
-use Rattle.graph_core.proofs.Common.{singles-partition}
-use Rattle.graph_core.specs.Common.{IsCovered, Graph, IsGraph, IsPartition, singles, quotient}
-use Rattle.tree_core.proofs.CutsBelow.{kept-covers, kept-partition, merged-covers, merged-partition, root-covered}
-use Rattle.tree_core.specs.Common.{IsDerivation, IsDerivationAt, kept_at, merged_at, Shape, leaf, cut, node_count}
+use Rattle.counting.proofs.Common.{mem}
+use Rattle.graph_core.proofs.Common.{singles-partition, IsCovered, Graph, IsGraph, IsPartition, singles, quotient}
+use Rattle.tree_core.proofs.Common.{kept-covers, kept-partition, merged-covers, merged-partition, root-covered, IsDerivation, IsDerivationAt, kept_at, merged_at, Shape, leaf, cut, node_count}
 use Rattle.tree_check.proofs.CutRules.{broken-not_cut, broken-once, cut-or_broken}
 use Rattle.tree_check.proofs.LeafRules.{broken-not_leaf, leaf-once, leaf-or_broken}
-use Rattle.tree_check.specs.Refusals.{HasShores, IsRefused, IsRefusedAt, Why, without_matching}
+use Rattle.tree_check.specs.Common.{HasShores, IsRefused, IsRefusedAt, Why, without_matching}
 
 module _ (g : Graph) (is : IsGraph g) where
   none-at : (p : List (List ℕ)) (t : Shape) (node : ℕ) (why : Why) → IsPartition g.order p → IsCovered (quotient g p) → IsDerivationAt g p t → IsRefusedAt g p t node why → ⊥

@@ -1,9 +1,8 @@
 -- The places of the blocks in a shore, found block by block.
 use Rattle.std.proofs.Common.{◌≡◌, ◌≢◌, ◌<◌, ◌≤◌, ℕ, ◌+◌, ◌-◌, true, false, ◌||◌, ◌==◌, List, [], get_or, length, sym, ap, ◌∙◌, arith, inl, inr, eq-eqb, eqb-true, ne_eqb, slice_get, Some}
-use Rattle.counting.proofs.Common.{cases_eq, false_from_ne_true, or_cases, or_right, get_or_from_slice_get, list-from_test, set-narrower, or_false}
-use Rattle.counting.specs.Common.{Within, IsRisingIn, is_subset, mem, rising_list}
+use Rattle.counting.proofs.Common.{cases_eq, false_from_ne_true, or_cases, or_right, get_or_from_slice_get, list-from_test, set-narrower, or_false, Within, IsRisingIn, is_subset, mem, rising_list}
 use Rattle.contraction.proofs.BlockLists.{length-partition}
-use Rattle.graph_core.specs.Common.{IsPartition, blocks_in}
+use Rattle.graph_core.proofs.Common.{IsPartition, blocks_in}
 
 -- the next place is that of a vertex
 pub room : (n : ℕ) (p : List (List ℕ)) (i all : ℕ) → IsPartition n p → n ≤ 128 → all ≡ length p → i < all → i < 128

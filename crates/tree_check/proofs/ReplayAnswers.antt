@@ -2,13 +2,11 @@
 -- result at most, so two replays go through the same trees, and a derivation has no refusal.
 use Rattle.std.proofs.Common.{◌≡◌, ◌↔◌, ◌+◌, ℕ, List, [], ◌∷◌, inl, inr, refl, sym, ◌∙◌, ap, subst, arith}
 use Rattle.counting.proofs.Common.{none-some, same_Some}
-use Rattle.graph_core.specs.Common.{Graph, IsGraph}
-use Rattle.tree_core.specs.Common.{IsDerivation, PlainMove, TurnsThrough, Shape, shape_of}
+use Rattle.graph_core.proofs.Common.{Graph, IsGraph}
+use Rattle.tree_core.proofs.Common.{IsDerivation, PlainMove, TurnsThrough, Shape, shape_of}
 use Rattle.tree_core.specs.declared.tree.Tree.{Tree}
 use Rattle.tree_check.proofs.FirstRefusals.{refused-not_derived, refused-once}
-use Rattle.tree_check.specs.Judgements.{why_of}
-use Rattle.tree_check.specs.Refusals.{Why, IsRefused, without_matching}
-use Rattle.tree_check.specs.Replays.{IsReplay, IsStuckAt, IsRefusedMoveAt}
+use Rattle.tree_check.specs.Common.{why_of, Why, IsRefused, without_matching, IsReplay, IsStuckAt, IsRefusedMoveAt}
 use Rattle.tree_check.specs.declared.judgement.Why.{Why as StoredWhy}
 use Rattle.tree_check.specs.declared.replaying.Replayed.{Replayed}
 use Rattle.tree_check.specs.declared.replaying.Replayed.TheVariants.{Done, Stuck, Refused}

@@ -2,11 +2,10 @@
 -- the tree that is reached. The next move goes on, or it is the first failing one.
 use Rattle.std.proofs.Common.{◌≡◌, ◌+◌, ℕ, zero, suc, List, [], ◌∷◌, slice_get, take, Some, None, refl, ◌∙◌, ap, subst, inl, inr, arith}
 use Rattle.counting.proofs.Common.{none-some, same_Some}
-use Rattle.graph_core.specs.Common.{Graph}
-use Rattle.tree_core.specs.Common.{IsDerivation, PlainMove, TurnsThrough, move_result, move_of, moves_of, Shape}
+use Rattle.graph_core.proofs.Common.{Graph}
+use Rattle.tree_core.proofs.Common.{IsDerivation, PlainMove, TurnsThrough, move_result, move_of, moves_of, Shape}
 use Rattle.tree_core.specs.declared.moves.Move.{Move}
-use Rattle.tree_check.specs.Refusals.{Why, IsRefused}
-use Rattle.tree_check.specs.Replays.{IsStuckAt, IsRefusedMoveAt}
+use Rattle.tree_check.specs.Common.{Why, IsRefused, IsStuckAt, IsRefusedMoveAt}
 
 -- the tree that is reached is a derivation
 pub reached-derivation : (g : Graph) (s t : Shape) (ms : List PlainMove) → IsDerivation g s → TurnsThrough g s ms t → IsDerivation g t

@@ -1,16 +1,12 @@
 -- Steps of the scan of a tree: what is found below a cut, said of the tree that the cut makes;
 -- and the numbers of its nodes and leaves, which stay below those of the blocks.
 use Rattle.std.proofs.Common.{◌≡◌, ℕ, ◌+◌, ◌*◌, ◌≤◌, List, length, refl, arith, subst, subst₂, inl, inr}
-use Rattle.counting.specs.Common.{count, mem}
-use Rattle.graph_core.specs.Common.{Graph, IsGraph, IsCovered, IsPartition, singles, blocks_in}
-use Rattle.tree_core.proofs.CutsBelow.{blocks-below, few-cuts_at, kept-length, kept-partition, merged-length, merged-partition}
-use Rattle.tree_core.proofs.Sizes.{leaf_count-cuts, node_count-cuts}
-use Rattle.tree_core.specs.Common.{IsCutAt, PlaceValue, kept_at, leaves_at, merged_at, Shape, cut, node_count}
+use Rattle.counting.proofs.Common.{count, mem}
+use Rattle.graph_core.proofs.Common.{Graph, IsGraph, IsCovered, IsPartition, singles, blocks_in}
+use Rattle.tree_core.proofs.Common.{blocks-below, few-cuts_at, kept-length, kept-partition, merged-length, merged-partition, leaf_count-cuts, node_count-cuts, IsCutAt, PlaceValue, kept_at, leaves_at, merged_at, Shape, cut, node_count}
 use Rattle.tree_core.specs.declared.tallies.Tally.{Tally}
 use Rattle.tree_check.proofs.CountedLeaves.{leaves-counted, tally-both}
-use Rattle.tree_check.specs.Judgements.{why_of}
-use Rattle.tree_check.specs.Scans.{IsScanned, IsScannedAt, sum_of}
-use Rattle.tree_check.specs.Refusals.{BreaksCut, IsRefusedAt}
+use Rattle.tree_check.specs.Common.{why_of, IsScanned, IsScannedAt, sum_of, BreaksCut, IsRefusedAt}
 use Rattle.tree_check.specs.declared.judgement.Why.{Why as StoredWhy}
 use Rattle.tree_check.specs.declared.judgement.Scanned.{Scanned}
 use Rattle.tree_check.specs.declared.judgement.Scanned.TheVariants as scanned

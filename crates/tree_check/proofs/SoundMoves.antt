@@ -1,17 +1,15 @@
 -- A Switch at the end of its path. The two sets are blocks if they are unions that count one block
 -- each, and then the law of the Switch says that its result is a derivation if its shore is a cut.
 use Rattle.std.proofs.Common.{◌≡◌, ℕ, List, [], ◌∷◌, length, Option, Some, None, option_map, refl, sym, ap, ◌∙◌, subst, subst₂, arith}
-use Rattle.counting.proofs.Common.{none-some, only_one}
-use Rattle.counting.specs.Common.{Set}
+use Rattle.counting.proofs.Common.{none-some, only_one, Set}
 use Rattle.contraction.proofs.QuotientLaws.{covered_down}
-use Rattle.graph_core.proofs.Common.{at_place, place_in}
-use Rattle.graph_core.specs.Common.{IsCovered, Graph, IsGraph, AreBlocks, IsPartition, place, quotient, IsUnion, block_count, blocks_in}
+use Rattle.graph_core.proofs.Common.{at_place, place_in, IsCovered, Graph, IsGraph, AreBlocks, IsPartition, place, quotient, IsUnion, block_count, blocks_in}
 use Rattle.move_laws.proofs.CarriedCuts.{some_of}
 use Rattle.move_laws.proofs.MoveParts.{switch_derives_law}
-use Rattle.tree_core.specs.Common.{IsCutAt, IsDerivationAt, IsBlockOf, kept_at, merged_at, switch_result, Shape, leaf, cut}
+use Rattle.tree_core.proofs.Common.{IsCutAt, IsDerivationAt, IsBlockOf, kept_at, merged_at, switch_result, Shape, leaf, cut}
 use Rattle.tree_core.specs.declared.path.Side.{Side}
 use Rattle.tree_core.specs.declared.path.Side.TheVariants.{Kept, Merged}
-use Rattle.tree_check.specs.SoundMoves.{IsBlock, IsSwitched}
+use Rattle.tree_check.specs.Common.{IsBlock, IsSwitched}
 
 -- a union of blocks that counts one is a block
 pub block-of_one : (n : ℕ) (p : List (List ℕ)) → AreBlocks n p → (u : Set) → IsUnion n p u → block_count p u ≡ 1 → (s : ℕ) × IsBlockOf n p u s

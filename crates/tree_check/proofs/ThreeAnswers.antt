@@ -1,13 +1,12 @@
 -- The three answers to a tree exclude one another: a graph with a reason is not matching covered,
 -- and a refused tree is not a derivation.
 use Rattle.std.proofs.Common.{◌≡◌, ◌↔◌, refl, arith}
-use Rattle.graph_core.proofs.Common.{covered_perfect}
+use Rattle.graph_core.proofs.Common.{covered_perfect, Graph, IsMultigraph, reason_of}
 use Rattle.graph_core.specs.Covered
-use Rattle.graph_core.specs.Common.{Graph, IsMultigraph, reason_of}
 use Rattle.graph_core.specs.declared.verdict.Reason.{Reason}
-use Rattle.tree_core.specs.Common.{IsDerivation, Shape}
+use Rattle.tree_core.proofs.Common.{IsDerivation, Shape}
 use Rattle.tree_check.proofs.FirstRefusals.{refused-not_derived}
-use Rattle.tree_check.specs.Judgements.{IsJudgement, why_of}
+use Rattle.tree_check.specs.Common.{IsJudgement, why_of}
 use Rattle.tree_check.specs.declared.judgement.Judgement.{Judgement}
 use Rattle.tree_check.specs.declared.judgement.Judgement.TheVariants.{Accepted, NotCovered, Refused}
 

@@ -5,3 +5,4 @@ pub mod KnownPlaces
 pub mod Scans
 pub mod SoundMoves
 pub mod Replays
+pub mod Common

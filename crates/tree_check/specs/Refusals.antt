@@ -6,8 +6,7 @@
 use Rattle.std.specs.Prelude.{◌≡◌, ◌⊎◌, ℕ, ◌+◌, ◌-◌, ◌≤◌, true, false, List, [], length, Some}
 use Rattle.counting.specs.Common.{is_odd, mem, IsRisingIn, Set}
 use Rattle.graph_core.specs.Common.{IsCovered, Graph, edges_in_cut, size, IsPerfectAt, singles, IsUnion, block_count, blocks_in, IsNontrivial}
-use Rattle.tight_cuts.specs.Candidates.{first_shore}
-use Rattle.tight_cuts.specs.CandidatesAt.{candidates_at}
+use Rattle.tight_cuts.specs.Common.{first_shore, candidates_at}
 use Rattle.tree_core.specs.Common.{IsCutAt, IsDerivationAt, kept_at, merged_at, Shape, leaf, cut, node_count}
 
 -- why a node is refused, with what shows it

@@ -4,14 +4,12 @@ ghost use Rattle.graph_core.specs.Common.{IsCovered, Graph, IsGraph, IsMultigrap
 ghost use Rattle.graph_core.specs.declared.verdict.Reason.{Reason};
 ghost use Rattle.tree_core.specs.Common.{Shape, IsDerivation, PlainMove, TurnsThrough};
 ghost use Rattle.tree_core.specs.declared.tree.Tree.{Tree};
-ghost use Rattle.tree_check.specs.Judgements.{IsJudgement};
+ghost use Rattle.tree_check.specs.Common.{IsJudgement, IsReplay, IsStuckAt, IsRefusedMoveAt, Why, HasShores, IsRefused, without_matching};
 ghost use Rattle.tree_check.specs.declared.judgement.Judgement.{Judgement};
 ghost use Rattle.tree_check.specs.declared.judgement.Judgement.TheVariants.{Accepted, NotCovered};
 ghost use Rattle.tree_check.specs.declared.judgement.Why.{Why as StoredWhy};
 ghost use Rattle.tree_check.specs.declared.replaying.Replayed.{Replayed};
 ghost use Rattle.tree_check.specs.declared.replaying.Replayed.TheVariants.{Done, Stuck, Refused};
-ghost use Rattle.tree_check.specs.Replays.{IsReplay, IsStuckAt, IsRefusedMoveAt};
-ghost use Rattle.tree_check.specs.Refusals.{Why, HasShores, IsRefused, without_matching};
 
 /// A derivation of a graph has no refusal, and each other tree of a matching covered graph has
 /// exactly one: the node and the reason are determined, and what the reason shows, but for the

@@ -3,12 +3,9 @@
 ghost use Rattle.std.specs.Prelude.{◌≡◌, ◌↔◌, ℕ, List, None, IsTrue, IfOk};
 ghost use Rattle.std.specs.Option.{option_map};
 ghost use Rattle.graph_core.specs.Common.{Graph, IsBipartite, quotient, singles};
-ghost use Rattle.tight_cuts.specs.Candidates.{first_of};
-ghost use Rattle.tight_cuts.specs.CandidatesAt.{candidates_at};
-ghost use Rattle.tight_cuts.specs.View.{candidate_of};
+ghost use Rattle.tight_cuts.specs.Common.{first_of, candidates_at, candidate_of};
 ghost use Rattle.tree_core.specs.Common.{IsLeafAt, leaf};
-ghost use Rattle.tree_check.specs.Leaves.{IsLeafJudgement, IsLeafOfKind};
-ghost use Rattle.tree_check.specs.Scans.{IsScannedAt};
+ghost use Rattle.tree_check.specs.Common.{IsLeafJudgement, IsLeafOfKind, IsScannedAt};
 
 use crate::judgement::{Scanned, Why};
 use crate::known_places::KnownPlaces;

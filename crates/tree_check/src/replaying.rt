@@ -1,7 +1,7 @@
 //! The replay of a script of moves, with each tree on the way judged.
 ghost use Rattle.std.specs.Prelude.{◌≡◌, ◌<◌, ◌-◌, ◌^◌, length, IfOk};
 ghost use Rattle.tree_core.specs.Common.{IsDerivation, move_of, moves_of, shape_of};
-ghost use Rattle.tree_check.specs.Replays.{IsReplay, IsMoved};
+ghost use Rattle.tree_check.specs.Common.{IsReplay, IsMoved};
 
 use crate::judgement::{Scanned, Why};
 use crate::scan::scan_covered;

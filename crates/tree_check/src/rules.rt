@@ -4,8 +4,7 @@ ghost use Rattle.contraction.specs.Contracted.{contraction};
 ghost use Rattle.counting.specs.Common.{Within, is_odd, mem, rising_list};
 ghost use Rattle.graph_core.specs.Common.{IsTightAt, IsUnion, block_count, blocks_in};
 ghost use Rattle.tree_core.specs.Common.{IsCutAt};
-ghost use Rattle.tree_check.specs.Judgements.{why_of};
-ghost use Rattle.tree_check.specs.Refusals.{BreaksCut, CrossesAt};
+ghost use Rattle.tree_check.specs.Common.{why_of, BreaksCut, CrossesAt};
 
 use crate::judgement::Why;
 use crate::known_places::KnownPlaces;

@@ -2,8 +2,7 @@
 ghost use Rattle.std.specs.Prelude.{◌≡◌, ◌≤◌, ◌<◌, ◌+◌, ◌^◌, length, IfOk};
 ghost use Rattle.graph_core.specs.Common.{singles};
 ghost use Rattle.tree_core.specs.Common.{Fits, cut, shape_of};
-ghost use Rattle.tree_check.specs.Judgements.{IsJudgement};
-ghost use Rattle.tree_check.specs.Scans.{HasFewKinds, IsScanned, IsScannedAt, sum_of};
+ghost use Rattle.tree_check.specs.Common.{IsJudgement, HasFewKinds, IsScanned, IsScannedAt, sum_of};
 
 use crate::judgement::{Judgement, Scanned};
 use crate::known_places::KnownPlaces;

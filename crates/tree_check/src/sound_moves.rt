@@ -6,7 +6,7 @@
 ghost use Rattle.std.specs.Prelude.{◌≡◌, ◌-◌, IfOk, IsTrue, All};
 ghost use Rattle.counting.specs.Common.{Within};
 ghost use Rattle.tree_core.specs.Common.{IsCutAt, IsDerivation, IsDerivationAt, move_of, Fits, shape_of};
-ghost use Rattle.tree_check.specs.SoundMoves.{IsBlock, IsMadeBy, IsSwitched};
+ghost use Rattle.tree_check.specs.Common.{IsBlock, IsMadeBy, IsSwitched};
 
 use crate::known_places::KnownPlaces;
 use crate::rules::cut_fault;

@@ -4,9 +4,8 @@ use Rattle.std.proofs.Common.{◌≡◌, ℕ, ◌-◌, List, [], ◌∷◌, ◌+
 use Rattle.std.proofs.Math.ListN.{get_or-append}
 use Rattle.std.proofs.Math.Seq.{get_or-append_right}
 use Rattle.counting.proofs.Common.{cases_lt, length-append}
-use Rattle.graph_core.specs.Common.{Graph}
-use Rattle.tree_core.specs.LeafMaps.{leaf_at}
-use Rattle.tree_core.specs.Tallies.{AddsKinds, AreLeafKinds, IsLeafKind, kind_at}
+use Rattle.graph_core.proofs.Common.{Graph}
+use Rattle.tree_core.specs.Common.{leaf_at, AddsKinds, AreLeafKinds, IsLeafKind, kind_at}
 use Rattle.tree_core.specs.declared.tallies.LeafKind.{LeafKind}
 use Rattle.tree_core.specs.declared.tallies.LeafKind.TheVariants.{Brick}
 

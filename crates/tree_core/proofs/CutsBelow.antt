@@ -3,15 +3,11 @@
 -- other side. So a tree of cuts has few leaves, by induction.
 use Rattle.std.proofs.lemmas.List.Elements.{All-append}
 use Rattle.std.proofs.Common.{◌≡◌, ℕ, zero, suc, ◌+◌, ◌*◌, ◌≤◌, List, length, All, subst, refl, sym, ◌∙◌, arith}
-use Rattle.counting.proofs.Common.{count_congr, count_complement, mem-within, member-of_set, true_all_in}
-use Rattle.counting.specs.Common.{count, mem, IsRisingIn, complement, everything}
-use Rattle.graph_core.proofs.Common.{block_count_congr, block_count_rest, union_rest, complement_of-rises, mem-complement_of, block_count_around, merge_of, complement-tight, shore-some, contracted-singles, length-singles, singles-partition}
-use Rattle.graph_core.specs.Common.{IsCovered, Graph, IsGraph, IsPartition, block, complement_of, merged, singles, quotient, IsTightAt, block_count, blocks_in}
+use Rattle.counting.proofs.Common.{count_congr, count_complement, mem-within, member-of_set, true_all_in, count, mem, IsRisingIn, complement, everything}
+use Rattle.graph_core.proofs.Common.{block_count_congr, block_count_rest, union_rest, complement_of-rises, mem-complement_of, block_count_around, merge_of, complement-tight, shore-some, contracted-singles, length-singles, singles-partition, IsCovered, Graph, IsGraph, IsPartition, block, complement_of, merged, singles, quotient, IsTightAt, block_count, blocks_in}
 use Rattle.contraction.proofs.MergedQuotients.{merged-covered}
 use Rattle.contraction.proofs.QuotientLaws.{covered_up}
-use Rattle.tree_core.specs.Shapes.{Shape, leaf, cut, cut_count, leaf_count}
-use Rattle.tree_core.specs.Derivations.{IsCutAt, IsDerivation, IsDerivationAt, kept_at, merged_at}
-use Rattle.tree_core.specs.Leaves.{leaves, leaves_at}
+use Rattle.tree_core.specs.Common.{Shape, leaf, cut, cut_count, leaf_count, IsCutAt, IsDerivation, IsDerivationAt, kept_at, merged_at, leaves, leaves_at}
 use Rattle.tree_core.proofs.DerivationLeaves.{all-one}
 use Rattle.tree_core.proofs.Sizes.{leaf_count-cuts}
 use Rattle.tree_core.proofs.DerivationStands.{cut-below, cut-nonempty, partition-kept, partition-merged}

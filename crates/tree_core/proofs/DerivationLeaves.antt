@@ -2,11 +2,8 @@
 -- merging keeps partitions, and no nontrivial shore is tight there.
 use Rattle.std.proofs.Common.{ℕ, List, [], ◌∷◌, All, zero, suc, arith}
 use Rattle.std.proofs.lemmas.List.Elements.{All-append}
-use Rattle.graph_core.specs.Common.{Graph, IsPartition, singles}
-use Rattle.graph_core.proofs.Common.{singles-partition}
-use Rattle.tree_core.specs.Shapes.{Shape, leaf, cut}
-use Rattle.tree_core.specs.Derivations.{IsDerivationAt, IsDerivation, IsLeafAt, kept_at, merged_at}
-use Rattle.tree_core.specs.Leaves.{leaves_at, leaves}
+use Rattle.graph_core.proofs.Common.{Graph, IsPartition, singles, singles-partition}
+use Rattle.tree_core.specs.Common.{Shape, leaf, cut, IsDerivationAt, IsDerivation, IsLeafAt, kept_at, merged_at, leaves_at, leaves}
 use Rattle.tree_core.proofs.DerivationStands.{cut-nonempty, cut-below, partition-merged, partition-kept}
 
 -- of the one item of a list

@@ -2,16 +2,13 @@
 -- merged partition was tight before, so down the tree each tight shore is tight in the graph; and
 -- a union of blocks has at least as many vertices as blocks.
 use Rattle.std.proofs.Common.{◌≡◌, ℕ, ◌≤◌, ◌&&◌, ◌==◌, not, List, [], ◌∷◌, ◌++◌, length, All, refl, subst, sym, ap, ◌∙◌, arith, eq-eqb, eqb-true}
-use Rattle.counting.proofs.Common.{and_from, and_parts, count_congr, count_mono}
+use Rattle.counting.proofs.Common.{and_from, and_parts, count_congr, count_mono, count, mem, Set, complement}
 use Rattle.std.proofs.lemmas.List.Elements.{All-append}
-use Rattle.counting.specs.Common.{count, mem, Set, complement}
-use Rattle.graph_core.proofs.Common.{at_rep, at_place, block_count_rest, count_over, rep, rep_in, rep_place, union_rest, place_in, complement_of-rises, complement-tight, blocks-singles, singles-tight, tight-singles, length-singles, singles-partition}
-use Rattle.graph_core.specs.Common.{IsCovered, Graph, IsGraph, AreBlocks, IsPartition, complement_of, place, singles, quotient, IsTightAt, IsUnion, block_count, blocks_in, IsNontrivial, IsTight}
+use Rattle.graph_core.proofs.Common.{at_rep, at_place, block_count_rest, count_over, rep, rep_in, rep_place, union_rest, place_in, complement_of-rises, complement-tight, blocks-singles, singles-tight, tight-singles, length-singles, singles-partition, IsCovered, Graph, IsGraph, AreBlocks, IsPartition, complement_of, place, singles, quotient, IsTightAt, IsUnion, block_count, blocks_in, IsNontrivial, IsTight}
 use Rattle.contraction.proofs.MergedQuotients.{tight-before}
 use Rattle.tree_core.proofs.CutsBelow.{kept-covers, kept-partition, merged-covers, merged-partition, root-covered}
 use Rattle.tree_core.proofs.DerivationLeaves.{all-one}
-use Rattle.tree_core.specs.Derivations.{IsCutAt, IsDerivation, IsDerivationAt, IsTightShore, kept_at, merged_at}
-use Rattle.tree_core.specs.Shapes.{Shape, leaf, cut, shores}
+use Rattle.tree_core.specs.Common.{IsCutAt, IsDerivation, IsDerivationAt, IsTightShore, kept_at, merged_at, Shape, leaf, cut, shores}
 
 -- a union of blocks has at least as many vertices as blocks: each block has a first vertex
 pub blocks-few : (n : ℕ) (p : List (List ℕ)) → AreBlocks n p → (x : Set) → IsUnion n p x → block_count p x ≤ count n x

@@ -2,13 +2,9 @@
 -- that a nontrivial shore is a nonempty union of blocks, and merging it or its complement leaves
 -- a partition again. By induction down the tree.
 use Rattle.std.proofs.Common.{◌≡◌, ℕ, ◌-◌, ◌<◌, List, [], ◌∷◌, length, All, arith, refl, ◌∙◌}
-use Rattle.counting.specs.Common.{Within, bit, count, none, mem, IsRisingIn}
-use Rattle.counting.proofs.Common.{mem-within, member-of_set, count_congr, total_none}
-use Rattle.graph_core.specs.Common.{Graph, IsPartition, complement_of, merged, singles, IsUnion, blocks_in}
-use Rattle.graph_core.proofs.Common.{in_union, complement_of-rises, union-complement_of, merged_blocks, singles-partition}
-use Rattle.tree_core.specs.Shapes.{Shape, leaf, cut, Fits}
-use Rattle.tree_core.specs.Derivations.{IsCutAt, IsDerivationAt, IsDerivation, kept_at, merged_at}
-use Rattle.tree_core.specs.Leaves.{StandsAt}
+use Rattle.counting.proofs.Common.{Within, bit, count, none, mem, IsRisingIn, mem-within, member-of_set, count_congr, total_none}
+use Rattle.graph_core.proofs.Common.{Graph, IsPartition, complement_of, merged, singles, IsUnion, blocks_in, in_union, complement_of-rises, union-complement_of, merged_blocks, singles-partition}
+use Rattle.tree_core.specs.Common.{Shape, leaf, cut, Fits, IsCutAt, IsDerivationAt, IsDerivation, kept_at, merged_at, StandsAt}
 use Rattle.tree_core.proofs.Shores.{below-without_greatest, complement-nonempty}
 
 -- no block is in the empty set

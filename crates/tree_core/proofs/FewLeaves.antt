@@ -2,14 +2,10 @@
 -- where the graph has at least four vertices, and no cut where it has fewer. Its leaves are
 -- partitions of the graph's vertices.
 use Rattle.std.proofs.Common.{◌≡◌, ℕ, ◌≤◌, ◌<◌, List, [], ◌∷◌, length, map, All, ap, refl, arith, zero, suc, inl, inr}
-use Rattle.counting.proofs.Common.{cases_lt, count_complement}
-use Rattle.counting.specs.Common.{mem}
-use Rattle.graph_core.specs.Common.{Graph, IsGraph, singles, blocks_in}
-use Rattle.graph_core.proofs.Common.{length-singles}
+use Rattle.counting.proofs.Common.{cases_lt, count_complement, mem}
+use Rattle.graph_core.proofs.Common.{Graph, IsGraph, singles, blocks_in, length-singles}
 use Rattle.contraction.specs.Partition.{PartitionValue}
-use Rattle.tree_core.specs.Derivations.{IsDerivation, IsDerivationAt}
-use Rattle.tree_core.specs.Leaves.{leaves, partitions_of}
-use Rattle.tree_core.specs.Shapes.{Shape, leaf, cut, node_count}
+use Rattle.tree_core.specs.Common.{IsDerivation, IsDerivationAt, leaves, partitions_of, Shape, leaf, cut, node_count}
 use Rattle.tree_core.proofs.CutsBelow.{few-leaves}
 use Rattle.tree_core.proofs.Sizes.{leaf_count-cuts, node_count-cuts, length-leaves_at}
 

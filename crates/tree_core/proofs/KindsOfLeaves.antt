@@ -2,15 +2,12 @@
 -- What stands at the places before stays where an item is appended; the new one comes next.
 use Rattle.std.proofs.Common.{◌≡◌, ℕ, ◌+◌, ◌-◌, List, [], ◌∷◌, ◌++◌, length, map, ap, subst, subst₂, sym, ◌∙◌, get_or, slice_get, Some, inl, inr, arith}
 use Rattle.std.proofs.Math.ListN.{get_or-append}
-use Rattle.std.proofs.Math.Seq.{get_or-append_seam}
-use Rattle.counting.proofs.Common.{cases_lt, length-append, length-map, get_or_from_slice_get}
+use Rattle.counting.proofs.Common.{get_or-append_seam, cases_lt, length-append, length-map, get_or_from_slice_get, Within}
 use Rattle.std.proofs.lemmas.Option.{slice_get-map}
 use Rattle.std.specs.Option.{option_map}
-use Rattle.counting.specs.Common.{Within}
 use Rattle.contraction.specs.Partition.{PartitionValue}
-use Rattle.graph_core.specs.Common.{Graph}
-use Rattle.tree_core.specs.LeafMaps.{leaf_at}
-use Rattle.tree_core.specs.Tallies.{AreLeafKinds, IsLeafKind, kind_at}
+use Rattle.graph_core.proofs.Common.{Graph}
+use Rattle.tree_core.specs.Common.{leaf_at, AreLeafKinds, IsLeafKind, kind_at}
 use Rattle.tree_core.specs.declared.tallies.LeafKind.{LeafKind}
 use Rattle.tree_core.specs.declared.tallies.LeafKind.TheVariants.{Brick}
 

@@ -10,3 +10,4 @@ pub mod SwitchSets
 pub mod FewLeaves
 pub mod KindsOfLeaves
 pub mod AddedKinds
+pub mod Common

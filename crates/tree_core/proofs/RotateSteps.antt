@@ -1,11 +1,8 @@
 -- Rotate at the end of a path, and the test of two sets with no common vertex.
 use Rattle.std.proofs.Common.{◌≡◌, ℕ, not, ◌&&◌, List, [], ◌∷◌, ◌++◌, length, None, refl, sym, ap, ap₂, ◌∙◌, arith}
-use Rattle.counting.proofs.Common.{same_tests, and_from, and_parts, all_in_true, true_all_in}
-use Rattle.counting.specs.Common.{mem, is_apart, is_subset, everything, minus}
-use Rattle.tree_core.specs.Moves.{last_step, parent_path, result_at, rotate_result, rotate_result_at}
-use Rattle.tree_core.specs.Shapes.{Fits, Shape}
+use Rattle.counting.proofs.Common.{same_tests, and_from, and_parts, all_in_true, true_all_in, mem, is_apart, is_subset, everything, minus}
+use Rattle.tree_core.specs.Common.{last_step, parent_path, result_at, rotate_result, rotate_result_at, Fits, Shape, MayTurn}
 use Rattle.tree_core.specs.declared.path.Side.{Side}
-use Rattle.tree_core.specs.Turns.{MayTurn}
 use Rattle.tree_core.specs.declared.turns.Turn.{Turn}
 use Rattle.tree_core.specs.declared.turns.Turn.TheVariants.{Rotate, Switch}
 

@@ -2,9 +2,7 @@
 -- deeper child has no more levels than nodes.
 use Rattle.std.proofs.Common.{◌≡◌, ℕ, ◌+◌, ◌*◌, ◌≤◌, List, length, arith}
 use Rattle.counting.proofs.Common.{length-append}
-use Rattle.tree_core.specs.Shapes.{Shape, leaf, cut, cut_count, leaf_count, node_count, depth}
-use Rattle.tree_core.specs.Derivations.{kept_at, merged_at}
-use Rattle.tree_core.specs.Leaves.{leaves_at}
+use Rattle.tree_core.specs.Common.{Shape, leaf, cut, cut_count, leaf_count, node_count, depth, kept_at, merged_at, leaves_at}
 
 pub depth_at_most_nodes : (t : Shape) → depth t ≤ node_count t
 depth_at_most_nodes leaf = omega arith

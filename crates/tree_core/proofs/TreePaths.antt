@@ -1,10 +1,7 @@
 -- What a tree has, by the paths from its root: by induction along the path, or down the tree.
-use Rattle.std.proofs.Common.{◌≡◌, ℕ, zero, suc, ◌+◌, ◌≤◌, ◌<◌, List, [], ◌∷◌, ◌++◌, length, refl, sym, ap, subst, arith, inl, inr, ◌⊎◌}
+use Rattle.std.proofs.Common.{◌≡◌, ℕ, zero, suc, ◌+◌, ◌≤◌, ◌<◌, List, [], ◌∷◌, ◌++◌, length, refl, sym, ap, subst, arith, inl, inr, ◌⊎◌, Any, slice_index_or}
 use Rattle.counting.proofs.Common.{cases_lt}
-use Rattle.std.specs.Prelude.{Any, slice_index_or}
-use Rattle.tree_core.specs.Derivations.{kept_at, merged_at}
-use Rattle.tree_core.specs.Leaves.{LeadsTo, leaves_at}
-use Rattle.tree_core.specs.Shapes.{Shape, cut, depth, leaf, shores}
+use Rattle.tree_core.specs.Common.{kept_at, merged_at, LeadsTo, leaves_at, Shape, cut, depth, leaf, shores}
 use Rattle.tree_core.specs.declared.path.Side.{Side}
 use Rattle.tree_core.specs.declared.path.Side.TheVariants.{Kept, Merged}
 

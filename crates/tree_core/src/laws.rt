@@ -1,9 +1,7 @@
 //! Laws of derivations and of plain trees. Each is the contract of a function that does nothing.
 ghost use Rattle.std.specs.Prelude.{◌≡◌, ◌+◌, ◌*◌, ◌≤◌, ◌↔◌, ℕ, length, List, All, Any};
 ghost use Rattle.graph_core.specs.Common.{IsCovered, Graph, IsGraph, IsPartition, singles, quotient};
-ghost use Rattle.tree_core.specs.Shapes.{Shape, Fits, cut, cut_count, depth, leaf, leaf_count, node_count, shores};
-ghost use Rattle.tree_core.specs.Derivations.{IsCutAt, IsDerivation, IsLeafAt, IsTightShore};
-ghost use Rattle.tree_core.specs.Leaves.{LeadsTo, StandsAt, leaves};
+ghost use Rattle.tree_core.specs.Common.{Shape, Fits, cut, cut_count, depth, leaf, leaf_count, node_count, shores, IsCutAt, IsDerivation, IsLeafAt, IsTightShore, LeadsTo, StandsAt, leaves};
 ghost use Rattle.tree_core.specs.declared.path.Side.{Side};
 
 /// A derivation of a graph fits the graph's order, and each of its shores is a nonempty union of

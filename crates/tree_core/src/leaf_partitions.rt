@@ -3,9 +3,7 @@ ghost use Rattle.std.specs.Prelude.{◌≡◌, ◌≤◌, ◌<◌, ◌-◌, ◌+
 ghost use Rattle.counting.specs.Common.{Within};
 ghost use Rattle.graph_core.specs.Common.{complement_of, singles};
 ghost use Rattle.contraction.specs.Partition.{IsUnionAt};
-ghost use Rattle.tree_core.specs.Shapes.{Fits};
-ghost use Rattle.tree_core.specs.Leaves.{leaves, leaves_at, partitions_of, StandsAt};
-ghost use Rattle.tree_core.specs.View.{shape_of};
+ghost use Rattle.tree_core.specs.Common.{Fits, leaves, leaves_at, partitions_of, StandsAt, shape_of};
 
 use crate::partitions::Partitions;
 use crate::tree::Tree;

@@ -1,9 +1,6 @@
 //! Moves on trees of cuts.
 ghost use Rattle.std.specs.Prelude.{◌≡◌, Some, None, IfOk, IfErr};
-ghost use Rattle.tree_core.specs.MoveView.{move_of};
-ghost use Rattle.tree_core.specs.Moves.{below, move_result};
-ghost use Rattle.tree_core.specs.Shapes.{Fits};
-ghost use Rattle.tree_core.specs.View.{shape_of};
+ghost use Rattle.tree_core.specs.Common.{move_of, below, move_result, Fits, shape_of};
 
 use crate::path::{Path, Side, path_below};
 use crate::rotation::rotate;

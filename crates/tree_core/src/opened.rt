@@ -1,8 +1,6 @@
 //! Cuts whose child on one side is taken out, changed and put back.
 ghost use Rattle.std.specs.Prelude.{◌≡◌, ℕ};
-ghost use Rattle.tree_core.specs.Moves.{with_child};
-ghost use Rattle.tree_core.specs.Shapes.{Fits, cut};
-ghost use Rattle.tree_core.specs.View.{shape_of};
+ghost use Rattle.tree_core.specs.Common.{with_child, Fits, cut, shape_of};
 
 use crate::path::Side;
 use crate::tree::Tree;

@@ -1,10 +1,7 @@
 //! Rotate: a cut is brought over its parent.
 ghost use Rattle.std.specs.Prelude.{◌≡◌, Some, None, IfOk, IfErr};
 ghost use Rattle.counting.specs.Common.{is_apart};
-ghost use Rattle.tree_core.specs.Moves.{rotate_result, rotate_result_at, with_child};
-ghost use Rattle.tree_core.specs.Shapes.{Shape, cut};
-ghost use Rattle.tree_core.specs.Turns.{IsAnswer};
-ghost use Rattle.tree_core.specs.View.{shape_of};
+ghost use Rattle.tree_core.specs.Common.{rotate_result, rotate_result_at, with_child, Shape, cut, IsAnswer, shape_of};
 
 use crate::moves::Stuck;
 use crate::opened::{Opened, open};

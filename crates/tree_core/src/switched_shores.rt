@@ -2,7 +2,7 @@
 ghost use Rattle.std.specs.Prelude.{◌≡◌, ◌-◌, ◌&&◌, ℕ, true, not, min, All};
 ghost use Rattle.counting.specs.Common.{Within, mem, is_subset, rising_list, IsRisingIn, everything};
 ghost use Rattle.graph_core.specs.Common.{complement_of};
-ghost use Rattle.tree_core.specs.Moves.{is_proper, list_if, minus_list, outer_rest, union_list};
+ghost use Rattle.tree_core.specs.Common.{is_proper, list_if, minus_list, outer_rest, union_list};
 
 use vset_core::{MOST_VERTICES, VSet};
 

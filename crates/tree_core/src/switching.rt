@@ -1,11 +1,7 @@
 //! Switch: two sets are exchanged between a shore and its complement, and the shores below follow.
 ghost use Rattle.std.specs.Prelude.{◌≡◌, ◌-◌, Some, None, IfOk, IfErr, All, true, false};
 ghost use Rattle.counting.specs.Common.{Within, mem};
-ghost use Rattle.tree_core.specs.Exchanges.{IsExchange, cut_after, is_turned, shore_after, tree_after};
-ghost use Rattle.tree_core.specs.Moves.{merged_shore_if_greatest_stays, switch_result, switch_result_at};
-ghost use Rattle.tree_core.specs.Shapes.{Fits};
-ghost use Rattle.tree_core.specs.Turns.{IsAnswer};
-ghost use Rattle.tree_core.specs.View.{shape_of};
+ghost use Rattle.tree_core.specs.Common.{IsExchange, cut_after, is_turned, shore_after, tree_after, merged_shore_if_greatest_stays, switch_result, switch_result_at, Fits, IsAnswer, shape_of};
 
 use crate::moves::Stuck;
 use crate::path::{Path, Side};

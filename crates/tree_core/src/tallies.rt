@@ -1,10 +1,7 @@
 //! The kinds of the leaves of a decomposition, and their numbers.
 ghost use Rattle.std.specs.Prelude.{◌≡◌, ◌↔◌, ◌<◌, ◌^◌, length, map, count_by, not, IfOk, IsTrue, All};
 ghost use Rattle.graph_core.specs.Common.{Graph, IsBipartite};
-ghost use Rattle.tree_core.specs.Derivations.{IsDerivation};
-ghost use Rattle.tree_core.specs.Leaves.{leaves};
-ghost use Rattle.tree_core.specs.View.{shape_of};
-ghost use Rattle.tree_core.specs.Tallies.{AreLeafKinds, IsKindOf, IsLeafKind, IsTally, is_brick, tally_of};
+ghost use Rattle.tree_core.specs.Common.{IsDerivation, leaves, shape_of, AreLeafKinds, IsKindOf, IsLeafKind, IsTally, is_brick, tally_of};
 
 use crate::leaf_partitions::leaves;
 use crate::partitions::Partitions;

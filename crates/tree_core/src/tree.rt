@@ -1,8 +1,7 @@
 //! Trees of cuts.
 ghost use Rattle.std.specs.Prelude.{◌≡◌, ◌≤◌, ◌-◌, ◌↔◌, IfOk, IsTrue, All};
 ghost use Rattle.counting.specs.Common.{Within};
-ghost use Rattle.tree_core.specs.Shapes.{Fits, node_count, depth};
-ghost use Rattle.tree_core.specs.View.{shape_of};
+ghost use Rattle.tree_core.specs.Common.{Fits, node_count, depth, shape_of};
 
 use std::alloc::{AllocError as Memory, Global};
 use vset_core::VSet;

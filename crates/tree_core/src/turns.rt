@@ -1,7 +1,5 @@
 //! What a move does at the end of its path.
-ghost use Rattle.tree_core.specs.Moves.{result_at};
-ghost use Rattle.tree_core.specs.Turns.{IsAnswer, MayTurn, turn_result};
-ghost use Rattle.tree_core.specs.View.{shape_of};
+ghost use Rattle.tree_core.specs.Common.{result_at, IsAnswer, MayTurn, turn_result, shape_of};
 
 use crate::opened::open;
 use crate::path::Side;

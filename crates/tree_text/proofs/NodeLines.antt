@@ -1,12 +1,10 @@
 -- The line of a node that is one of the words of a node, and not one too many, is told by the
 -- tests of its vertices.
-use Rattle.std.proofs.Common.{◌≡◌, ◌<◌, ◌+◌, ℕ, Bool, true, false, not, nat_le, List, ap₂, arith, Err}
-use Rattle.std.specs.Prelude.{if◌then◌else◌}
+use Rattle.std.proofs.Common.{◌≡◌, ◌<◌, ◌+◌, ℕ, Bool, true, false, not, nat_le, List, ap₂, arith, Err, if◌then◌else◌}
 use Rattle.counting.proofs.Common.{nat_tests}
 use Rattle.line_text.specs.Common.{checked}
 use Rattle.text_faults.specs.declared.faults.FaultKind.TheVariants as kind
-use Rattle.tree_text.specs.Places.{Place}
-use Rattle.tree_text.specs.TreeFormat.{TreeSoFar, is_leaf_line, is_node_line, most_nodes, node_line, shore_tests, shore_told, with_node}
+use Rattle.tree_text.specs.Common.{Place, TreeSoFar, is_leaf_line, is_node_line, most_nodes, node_line, shore_tests, shore_told, with_node}
 
 -- what is read after a node
 abbrev pub behind_node : ℕ → Place → List (List ℕ) → TreeSoFar

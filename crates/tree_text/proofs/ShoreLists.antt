@@ -2,12 +2,10 @@
 -- and a set with the numbers of a rising list is this list. A list that passes the tests of the
 -- format rises and lies in range.
 use Rattle.std.proofs.Common.{◌≡◌, ◌||◌, ◌==◌, ◌+◌, ◌≤◌, ◌<◌, ℕ, suc, List, [], ◌∷◌, All, Bool, true, false, length, nat_lt, refl, sym, ◌∙◌, ap, subst, arith}
-use Rattle.std.specs.List.{list_any}
-use Rattle.counting.proofs.Common.{and_parts, or_parts, nat_tests, Rises, same_rising_list, set-from_rises, set-wider, or_false}
-use Rattle.counting.specs.Common.{Within, mem, IsRisingIn}
-use Rattle.text_faults.specs.Ranges.{is_out_of_range}
+use Rattle.counting.proofs.Common.{list_any, and_parts, or_parts, nat_tests, Rises, same_rising_list, set-from_rises, set-wider, or_false, Within, mem, IsRisingIn}
+use Rattle.text_faults.specs.Common.{is_out_of_range}
 use Rattle.text_faults.proofs.InRange.{in_range}
-use Rattle.tree_text.specs.TreeFormat.{is_rising}
+use Rattle.tree_text.specs.Common.{is_rising}
 
 or-moves : (a b c : Bool) → (a || (b || c)) ≡ ((a || b) || c)
 or-moves true b c = refl

@@ -4,8 +4,8 @@ use Rattle.counting.proofs.Common.{append-nil}
 use Rattle.std.specs.Fmt.{decimal}
 use Rattle.line_text.specs.Common.{unwords, written}
 use Rattle.line_text.proofs.WrittenLines.{spaced, unwords-spaced, written-append}
-use Rattle.tree_core.specs.Common.{Shape, cut}
-use Rattle.tree_text.specs.Writing.{cut_words, header_words, node_words, tree_text}
+use Rattle.tree_core.proofs.Common.{Shape, cut}
+use Rattle.tree_text.specs.Common.{cut_words, header_words, node_words, tree_text}
 
 -- the line of a cut is whole when no vertex is left
 pub cut_line : (old text new : List ℕ) (shore rest : List ℕ) → rest ≡ [] → old ++ (codes "cut" ++ spaced (map decimal shore)) ≡ text ++ spaced (map decimal rest) → new ≡ text ++ 10 ∷ [] → new ≡ old ++ written (cut_words shore ∷ [])

@@ -2,20 +2,15 @@
 -- are nonempty, rise and lie below n, and the nodes are counted: each line keeps this, since it
 -- passed the tests of the table, and so does a tree put at a place.
 use Rattle.std.proofs.Common.{◌≡◌, ◌+◌, ◌-◌, ◌≤◌, ◌<◌, ◌==◌, codes, ◌||◌, ◌^◌, not, nat_le, if◌then◌else◌, ℕ, List, [], ◌∷◌, All, Bool, length, map, true, false, Option, Some, None, Result, Ok, Err, IfOk, refl, sym, ◌∙◌, ap, subst, arith}
-use Rattle.std.specs.List.{list_all, list_any}
+use Rattle.counting.proofs.Common.{list_all, list_any, and_parts, both_ways, not-false, nat_tests, Within, mem}
 use Rattle.std.specs.List.Sorted.{IsStrictlyIncreasing}
-use Rattle.counting.proofs.Common.{and_parts, both_ways, not-false, nat_tests}
-use Rattle.counting.specs.Common.{Within, mem}
 use Rattle.line_text.specs.Common.{Begins, Stands, finish, has_form, word_at, is_number, value_of}
 use Rattle.line_text.proofs.Tables.{all_passed, no_value, value_or}
 use Rattle.text_faults.specs.declared.faults.FaultKind.{FaultKind}
 use Rattle.text_faults.specs.declared.faults.FaultKind.TheVariants as kind
-use Rattle.tree_core.specs.Common.{Shape, leaf, cut, Fits, node_count}
-use Rattle.tree_core.proofs.Shores.{below-without_greatest}
-use Rattle.tree_text.specs.Places.{Place, root, in_kept, in_merged, Reading, wanted, whole, put}
-use Rattle.text_faults.specs.Ranges.{is_out_of_range}
-use Rattle.tree_text.specs.TreeFormat.{TreeSoFar, tree_format, node_line, line_behind, tree_end, behind_first, is_rising, is_leaf_line, is_cut_line, most_nodes}
-use Rattle.tree_text.specs.Writing.{HasVertices, ShoresRise, IsWritable}
+use Rattle.tree_core.proofs.Common.{Shape, leaf, cut, Fits, node_count, below-without_greatest}
+use Rattle.tree_text.specs.Common.{Place, root, in_kept, in_merged, Reading, wanted, whole, put, TreeSoFar, tree_format, node_line, line_behind, tree_end, behind_first, is_rising, is_leaf_line, is_cut_line, most_nodes, HasVertices, ShoresRise, IsWritable}
+use Rattle.text_faults.specs.Common.{is_out_of_range}
 use Rattle.tree_text.proofs.ShoreLists.{rising_read}
 
 -- a nonempty rising list below n

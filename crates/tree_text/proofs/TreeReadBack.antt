@@ -4,19 +4,15 @@
 -- there makes the cut whole. No test of the table applies.
 use Rattle.std.proofs.Common.{◌≡◌, ◌+◌, ◌-◌, ◌≤◌, ◌<◌, ◌==◌, ◌&&◌, ◌^◌, nat_lt, ℕ, suc, List, [], ◌∷◌, ◌++◌, All, Bool, length, map, get_or, codes, true, false, Some, Ok, refl, sym, subst, arith}
 use Rattle.std.specs.Fmt.{decimal}
-use Rattle.std.specs.List.{AllByRecursion, list_all, list_any}
+use Rattle.counting.proofs.Common.{AllByRecursion, list_all, list_any, length-map, and_from, false_from_ne_true, nat_tests, mem-within, Within, mem}
 use Rattle.std.specs.List.Sorted.{IsStrictlyIncreasing}
-use Rattle.counting.proofs.Common.{length-map, and_from, false_from_ne_true, nat_tests, mem-within}
-use Rattle.counting.specs.Common.{Within, mem}
 use Rattle.line_text.specs.Common.{Begins, Stands, has_form, words_of, unwords, is_skipped, IsSignificant, lines_of, is_number, value_of}
 use Rattle.line_text.proofs.Decimals.{number_of-decimal, is_word-decimal, numbers-decimal, values-decimal, words-decimal}
 use Rattle.text_faults.proofs.InRange.{in_range-tests}
 use Rattle.line_text.proofs.ReadBack.{Stands-written, Stands-comments, is_closed-unlines, Begins-append, significant-append}
-use Rattle.tree_core.specs.Common.{Shape, leaf, cut, Fits, node_count}
-use Rattle.tree_text.specs.Places.{Place, root, in_kept, in_merged, Reading, wanted, whole, put}
-use Rattle.text_faults.specs.Ranges.{is_out_of_range}
-use Rattle.tree_text.specs.TreeFormat.{TreeSoFar, tree_format, is_rising, is_leaf_line, is_cut_line, most_nodes}
-use Rattle.tree_text.specs.Writing.{header_words, cut_words, node_words, tree_text, HasVertices, ShoresRise, IsWritable}
+use Rattle.tree_core.proofs.Common.{Shape, leaf, cut, Fits, node_count}
+use Rattle.tree_text.specs.Common.{Place, root, in_kept, in_merged, Reading, wanted, whole, put, TreeSoFar, tree_format, is_rising, is_leaf_line, is_cut_line, most_nodes, header_words, cut_words, node_words, tree_text, HasVertices, ShoresRise, IsWritable}
+use Rattle.text_faults.specs.Common.{is_out_of_range}
 
 -- so many nodes read, and what they say
 abbrev at : ℕ → Reading → TreeSoFar

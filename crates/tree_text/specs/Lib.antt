@@ -3,3 +3,4 @@ pub mod TreeFormat
 pub mod PickFormat
 pub mod Writing
 pub mod SoFar
+pub mod Common

@@ -3,8 +3,7 @@ ghost use Rattle.std.specs.Prelude.{◌≡◌, ◌<◌, ◌^◌, ℕ, List, ◌+
 ghost use Rattle.std.specs.List.{AllByRecursion};
 ghost use Rattle.line_text.specs.Common.{Stands, StandsAlone, lines_of, words_of, is_skipped};
 ghost use Rattle.tree_core.specs.Common.{Shape};
-ghost use Rattle.tree_text.specs.TreeFormat.{tree_format};
-ghost use Rattle.tree_text.specs.Writing.{tree_text, IsWritable};
+ghost use Rattle.tree_text.specs.Common.{tree_format, tree_text, IsWritable};
 
 /// What is written of a tree stands for this tree, for no other, and has no fault.
 pub fn written_tree_stands()

@@ -1,7 +1,7 @@
 //! The pick format.
 ghost use Rattle.std.specs.Prelude.{◌≡◌, ◌<◌, ◌≤◌, ◌-◌, ◌^◌, ℕ, List, length, IfOk, IfErr, Ok, Err};
 ghost use Rattle.line_text.specs.Common.{Gives, Stands, FirstFault, texts_of};
-ghost use Rattle.text_faults.specs.Readings.{IsFirstFault, ReadsText};
+ghost use Rattle.text_faults.specs.Common.{IsFirstFault, ReadsText};
 ghost use Rattle.text_faults.specs.declared.faults.FaultKind.{FaultKind};
 ghost use Rattle.tree_text.specs.PickFormat.{PicksSoFar, pick_header, pick_line, pick_end, pick_format};
 ghost use Rattle.tree_text.specs.SoFar.{picks_so_far};

@@ -1,8 +1,7 @@
 //! Where the next node of a text stands.
 ghost use Rattle.std.specs.Prelude.{◌≡◌, IfOk};
 ghost use Rattle.tree_core.specs.Common.{shape_of};
-ghost use Rattle.tree_text.specs.Places.{put};
-ghost use Rattle.tree_text.specs.SoFar.{place_of, progress_of};
+ghost use Rattle.tree_text.specs.Common.{put, place_of, progress_of};
 
 use std::alloc::{AllocError as Memory, Global};
 use tree_core::Tree;

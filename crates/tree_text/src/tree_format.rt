@@ -1,7 +1,7 @@
 //! The derivation format.
 ghost use Rattle.std.specs.Prelude.{◌≡◌, ◌<◌, ◌≤◌, ◌-◌, ◌^◌, ℕ, length, map, IfOk, IfErr, Ok, Err};
 ghost use Rattle.line_text.specs.Common.{Gives, Stands, FirstFault, checked, texts_of};
-ghost use Rattle.text_faults.specs.Readings.{IsFirstFault, ReadsText};
+ghost use Rattle.text_faults.specs.Common.{IsFirstFault, ReadsText};
 ghost use Rattle.text_faults.specs.declared.faults.FaultKind.{FaultKind};
 ghost use Rattle.tree_core.specs.Common.{Shape, shape_of};
 ghost use Rattle.tree_text.specs.TreeFormat.{TreeSoFar, tree_header, node_line, line_behind, tree_end, tree_format, behind_first, is_cut_line, is_node_line, most_nodes, shore_told, shore_tests, with_node};

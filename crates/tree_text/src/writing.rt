@@ -2,8 +2,7 @@
 ghost use Rattle.std.specs.Prelude.{◌≡◌, ◌≤◌, ◌++◌, [], ◌∷◌, OnOk, IfOk, string_bytes};
 ghost use Rattle.line_text.specs.Common.{Stands, StandsAlone, written};
 ghost use Rattle.tree_core.specs.Common.{Fits, node_count, shape_of};
-ghost use Rattle.tree_text.specs.TreeFormat.{tree_format, most_nodes};
-ghost use Rattle.tree_text.specs.Writing.{cut_words, node_words, tree_text, HasVertices, ShoresRise};
+ghost use Rattle.tree_text.specs.Common.{tree_format, most_nodes, cut_words, node_words, tree_text, HasVertices, ShoresRise};
 
 use std::alloc::{AllocError as Memory, Global};
 use tree_core::Tree;

@@ -2,11 +2,9 @@
 -- matching has one edge that leaves it. A part of a barrier leaves no more components than it has
 -- vertices, and parts that leave as many have such a meet.
 use Rattle.std.proofs.Common.{◌≡◌, ℕ, suc, zero, ◌+◌, ◌*◌, ◌≤◌, ◌≢◌, Bool, true, false, refl, sym, ap, ◌∙◌, arith, ◌&&◌, ◌||◌, not, inl, inr, nat_lt, lt-ltb, List}
-use Rattle.counting.proofs.Common.{same_tests, cases_Bool, and_parts, and_from, both_ways, true≢false, false_from_ne_true, not-true, count_meet_union, bit_true, count_congr, count_le_one, some_none, some_true, at_le_total, total_add, total_congr, total_le, total_mul, total_none, total_tight}
-use Rattle.barrier_kit.proofs.Matched.{cut_edge, crosses_apart, loop_free}
-use Rattle.counting.specs.Common.{Within, bit, count, is_odd, Set, meet, none, singleton, union, some}
-use Rattle.graph_core.proofs.Common.{joined_outside, walk_joined}
-use Rattle.graph_core.specs.Common.{component_count, is_least, odd_component_count, IsCovered, Graph, IsGraph, edges_in_cut, first_end, in_cut, inside, second_end, size, with_ends, Allowed, IsPerfect, IsBarrier, Joined, joined}
+use Rattle.counting.proofs.Common.{same_tests, cases_Bool, and_parts, and_from, both_ways, true≢false, false_from_ne_true, not-true, count_meet_union, bit_true, count_congr, count_le_one, some_none, some_true, at_le_total, total_add, total_congr, total_le, total_mul, total_none, total_tight, Within, bit, count, is_odd, Set, meet, none, singleton, union, some}
+use Rattle.barrier_kit.proofs.Common.{cut_edge, crosses_apart, loop_free}
+use Rattle.graph_core.proofs.Common.{joined_outside, walk_joined, component_count, is_least, odd_component_count, IsCovered, Graph, IsGraph, edges_in_cut, first_end, in_cut, inside, second_end, size, with_ends, Allowed, IsPerfect, IsBarrier, Joined, joined}
 use Rattle.two_ears.proofs.ComponentCuts.{arms, component_out, count_in, cut_sum, odd_at_most, odd_leaving, odd_needs, weighted_cut}
 use Rattle.two_ears.proofs.JoinedClasses.{adjacent_joined, keeps-itself, joined_equivalence, joined_more, submodular}
 use Rattle.two_ears.specs.AddedEdges.{KeepsEdges}

@@ -1,10 +1,8 @@
 -- The two-ear theorem for edges: of further edges that keep a covered graph covered one does, or
 -- two do. Take a perfect matching that holds one of them.
 use Rattle.std.proofs.Common.{◌≡◌, ℕ, suc, zero, ◌+◌, ◌*◌, ◌≤◌, ◌≢◌, Bool, true, false, cond, ◌==◌, refl, sym, ap, ap₂, ◌∙◌, arith, ◌&&◌, ◌||◌, not, eqb-true, ◌⊎◌, inl, inr, nat_lt, lt-ltb, le-ltb, subst, [], ◌∷◌, List, length}
-use Rattle.counting.proofs.Common.{cases_eq, cases_Bool, cases_lt, and_from, true≢false, not-false, or_right, or_cases, or_parts, but_not}
-use Rattle.counting.specs.Common.{Within, bit, Set, none, union, IsIn}
-use Rattle.graph_core.proofs.Common.{joined_walk, walk_joined, degree_congr}
-use Rattle.graph_core.specs.Common.{IsCovered, Graph, IsGraph, degree, first_end, second_end, size, with_ends, Allowed, IsPerfect, Joined}
+use Rattle.counting.proofs.Common.{cases_eq, cases_Bool, cases_lt, and_from, true≢false, not-false, or_right, or_cases, or_parts, but_not, Within, bit, Set, none, union, IsIn}
+use Rattle.graph_core.proofs.Common.{joined_walk, walk_joined, degree_congr, IsCovered, Graph, IsGraph, degree, first_end, second_end, size, with_ends, Allowed, IsPerfect, Joined}
 use Rattle.two_ears.proofs.AddedEdges.{degree-added, degree-with_pairs, second_end-new, second_end-old, keeps-with_pairs, first_end-new, first_end-old, with_pairs-longer, size-added, with_new}
 use Rattle.two_ears.proofs.JoinedClasses.{keeps-itself, joined_more}
 use Rattle.two_ears.proofs.TwoEars.{ends_of_one, two_ears}

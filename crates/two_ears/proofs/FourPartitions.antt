@@ -3,7 +3,7 @@
 -- finer one becomes the first of the two by merging one pair after another; each merge takes one
 -- class from it, and at most one from the second, which is merged along.
 use Rattle.std.proofs.Common.{◌≡◌, ℕ, suc, zero, ◌+◌, ◌≤◌, arith, inl, inr}
-use Rattle.counting.specs.Common.{Within, count}
+use Rattle.counting.proofs.Common.{Within, count}
 use Rattle.two_ears.proofs.Labels.{used, IsLabel, Finer, finer_used, merge, merge_finer, merge_joins, merge_in, merge_label, merge_used, parted_pair, merge_most}
 
 -- four partitions: f0 in f and in h, and r in each that holds f and h

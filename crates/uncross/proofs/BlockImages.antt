@@ -1,12 +1,11 @@
 -- The images of blocks: what of a set lies in 1 to n is the list of its test, and from such lists
 -- the names of images are made.
 use Rattle.std.proofs.Common.{◌≡◌, ◌↔◌, ◌<◌, ◌+◌, ℕ, Bool, true, ◌&&◌, List, [], ◌∷◌, ◌++◌, Some, length, map, take, get_or, slice_get, ap, sym, ◌∙◌}
-use Rattle.counting.proofs.Common.{and_parts, map-append, take_more, get_or_from_slice_get, list-from_test, set-narrower, and_true}
-use Rattle.counting.specs.Common.{Within, IsRisingIn, is_subset, last_of, mem, rising_list}
-use Rattle.tree_core.specs.Common.{inner_rest, list_if, meet_list, outer_rest, union_list}
+use Rattle.counting.proofs.Common.{and_parts, map-append, take_more, get_or_from_slice_get, list-from_test, set-narrower, and_true, Within, IsRisingIn, is_subset, last_of, mem, rising_list}
+use Rattle.tree_core.proofs.Common.{inner_rest, list_if, meet_list, outer_rest, union_list}
 use Rattle.uncross.specs.declared.block_images.Images.{Images}
 use Rattle.uncross.specs.declared.block_images.Images.TheVariants.{Moved}
-use Rattle.uncross.specs.MapView.{image_name, kept_images}
+use Rattle.uncross.specs.Common.{image_name, kept_images}
 
 -- what a set shares with 1 to n
 pub part-is : (n : ℕ) (x full part : List ℕ) → ((v : ℕ) → (mem full v ≡ true) ↔ Within n v) → IsRisingIn 128 part → ((v : ℕ) → mem part v ≡ (mem x v && mem full v)) → part ≡ rising_list n (mem x)

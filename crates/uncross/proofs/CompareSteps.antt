@@ -1,8 +1,8 @@
 -- The steps of turning a derivation into another, as the code takes them: what its two calls
 -- below the root may ask, and that the whole is a script of few moves.
 use Rattle.std.proofs.Common.{◌≡◌, ℕ, ◌+◌, ◌*◌, ◌≤◌, List, ◌++◌, length, map, sym, arith, subst}
-use Rattle.graph_core.specs.Common.{IsCovered, Graph, IsGraph, IsPartition, quotient}
-use Rattle.tree_core.specs.Common.{IsDerivationAt, kept_at, merged_at, PlainMove, below, Shape, cut, cut_count, leaf}
+use Rattle.graph_core.proofs.Common.{IsCovered, Graph, IsGraph, IsPartition, quotient}
+use Rattle.tree_core.proofs.Common.{IsDerivationAt, kept_at, merged_at, PlainMove, below, Shape, cut, cut_count, leaf}
 use Rattle.tree_core.specs.declared.path.Side.TheVariants.{Kept, Merged}
 use Rattle.move_laws.proofs.BigShores.{cut_big}
 use Rattle.move_laws.proofs.Comparison.{square}
@@ -10,8 +10,8 @@ use Rattle.uncross.proofs.ExposeSteps.{stage_of}
 use Rattle.move_laws.proofs.NestedShores.{leaf_not}
 use Rattle.move_laws.proofs.Rising.{rising-derivation_at}
 use Rattle.move_laws.proofs.Scripts.{length_below, length_join, script_end, script_join, script_kept, script_merged}
-use Rattle.uncross.specs.Below.{IsBrought}
-use Rattle.move_laws.specs.Scripts.{AreRising, IsProperScript}
+use Rattle.uncross.specs.Common.{IsBrought}
+use Rattle.move_laws.specs.Common.{AreRising, IsProperScript}
 
 -- a derivation where another is a leaf is a leaf
 pub both_leaves : (g : Graph) (n : ℕ) (p : List (List ℕ)) (s t : Shape) → IsGraph g → n ≡ g.order → IsPartition n p → IsCovered (quotient g p) → t ≡ leaf → IsDerivationAt g p s → IsDerivationAt g p t → s ≡ t

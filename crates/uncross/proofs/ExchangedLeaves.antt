@@ -1,14 +1,11 @@
 -- The names of images under a Switch, leaf by leaf: below its node they are those of the images
 -- there, and elsewhere each block is its own image. The leaf maps of a move are made of them.
-use Rattle.std.proofs.Common.{◌≡◌, ℕ, zero, suc, ◌+◌, ◌≤◌, ◌<◌, Bool, true, false, ◌⊎◌, inl, inr, if◌then◌else◌, nat_lt, List, [], ◌∷◌, ◌++◌, length, map, get_or, refl, ap, ap₂, ◌∙◌, arith}
-use Rattle.std.proofs.lemmas.Bool.{le-ltb, lt-ltb}
-use Rattle.graph_core.specs.Common.{names_of}
-use Rattle.tree_core.proofs.Sizes.{length-leaves_at}
-use Rattle.tree_core.specs.Common.{kept_at, merged_at, PlainLeafMap, maps_from, names_at, position, leaves_at, Shape, cut, leaf, leaf_count}
+use Rattle.std.proofs.Common.{◌≡◌, ℕ, zero, suc, ◌+◌, ◌≤◌, ◌<◌, Bool, true, false, ◌⊎◌, inl, inr, if◌then◌else◌, nat_lt, List, [], ◌∷◌, ◌++◌, length, map, get_or, refl, ap, ap₂, ◌∙◌, arith, le-ltb, lt-ltb}
+use Rattle.graph_core.proofs.Common.{names_of}
+use Rattle.tree_core.proofs.Common.{length-leaves_at, kept_at, merged_at, PlainLeafMap, maps_from, names_at, position, leaves_at, Shape, cut, leaf, leaf_count}
 use Rattle.tree_core.specs.declared.path.Side.{Side}
 use Rattle.tree_core.specs.declared.path.Side.TheVariants.{Kept, Merged}
-use Rattle.uncross.specs.Exchanges.{exchange_at, images_at}
-use Rattle.uncross.specs.MapView.{image_name}
+use Rattle.uncross.specs.Common.{exchange_at, images_at, image_name}
 use Rattle.uncross.specs.declared.block_images.Images.{Images}
 use Rattle.uncross.specs.declared.block_images.Images.TheVariants.{Own}
 use Rattle.uncross.specs.declared.exchanges.Exchange.{Exchange}

@@ -2,16 +2,15 @@
 -- root may ask, that what comes back fits, and that the whole is exposed.
 use Rattle.std.proofs.Common.{◌≡◌, ℕ, List, Option, Some, None, sym, ap, ◌∙◌, subst}
 use Rattle.contraction.proofs.QuotientLaws.{covered_down}
-use Rattle.graph_core.specs.Common.{IsCovered, Graph, IsGraph, IsPartition, complement_of, quotient}
-use Rattle.tree_core.proofs.DerivationStands.{cut-below, stands-derivation_at}
-use Rattle.tree_core.specs.Common.{IsCutAt, IsDerivationAt, kept_at, merged_at, PlainMove, Fits, Shape, cut, leaf}
+use Rattle.graph_core.proofs.Common.{IsCovered, Graph, IsGraph, IsPartition, complement_of, quotient}
+use Rattle.tree_core.proofs.Common.{cut-below, stands-derivation_at, IsCutAt, IsDerivationAt, kept_at, merged_at, PlainMove, Fits, Shape, cut, leaf}
 use Rattle.move_laws.proofs.BigShores.{Big, Stage, big_rest, cut_big, stage_merged}
 use Rattle.move_laws.proofs.NestedShores.{leaf_not}
 use Rattle.uncross.proofs.Planned.{first_is_cut, plan_done, second_is_cut}
 use Rattle.move_laws.proofs.Rising.{rising-derivation_at}
 use Rattle.move_laws.proofs.Scripts.{script_end}
-use Rattle.uncross.specs.Plans.{CutIf, IsExposed, IsPlan, PlainPlan, first_shore, plan_result, second_shore}
-use Rattle.move_laws.specs.Turning.{PlainTurned}
+use Rattle.uncross.specs.Common.{CutIf, IsExposed, IsPlan, PlainPlan, first_shore, plan_result, second_shore}
+use Rattle.move_laws.specs.Common.{PlainTurned}
 
 -- a partition of the graph whose quotient is covered
 pub stage_of : (g : Graph) (n : ℕ) (p : List (List ℕ)) → IsGraph g → n ≡ g.order → IsPartition n p → IsCovered (quotient g p) → Stage g p

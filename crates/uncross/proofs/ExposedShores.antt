@@ -1,12 +1,11 @@
 -- What exposing a shore in a derivation of a graph gives: a script of few moves to a derivation
 -- with the shore at its root.
 use Rattle.std.proofs.Common.{List, [], None, Option, Some, ap, arith, option_map, subst, subst₂, sym, unwrap_or, ℕ, ◌≡◌, ◌∙◌}
-use Rattle.graph_core.specs.Common.{Graph, singles}
-use Rattle.tree_core.specs.Common.{moves_of, Shape, cut, cut_count, leaf}
+use Rattle.graph_core.proofs.Common.{Graph, singles}
+use Rattle.tree_core.proofs.Common.{moves_of, Shape, cut, cut_count, leaf}
 use Rattle.tree_core.specs.declared.moves.Move.{Move}
-use Rattle.uncross.specs.Below.{IsBrought, IsRaised}
-use Rattle.uncross.specs.Plans.{IsExposed}
-use Rattle.move_laws.specs.Scripts.{IsProperScript}
+use Rattle.uncross.specs.Common.{IsBrought, IsRaised, IsExposed}
+use Rattle.move_laws.specs.Common.{IsProperScript}
 
 -- if a shore is exposed, there are moves, whatever would stand for none
 pub raised : (g : Graph) (p : List (List ℕ)) (s : Shape) (y : List ℕ) (t : Shape) (found : Option (List Move)) (other : List Move) → IsExposed g p s (Some y) t (option_map moves_of found) → IsRaised g p s y t (moves_of (unwrap_or found other))

@@ -1,23 +1,19 @@
 -- The maps so far, followed by the map of a move: each leads to a leaf by names of its blocks,
 -- which the move gives the names of their images.
 use Rattle.std.proofs.Common.{All, List, Option, Some, None, [], ◌∙◌, ◌∷◌, ap, ap₂, arith, get_or, length, map, refl, subst, suc, sym, ℕ, ◌+◌, ◌-◌, ◌≡◌, ◌≤◌}
-use Rattle.counting.proofs.Common.{get_or-map}
+use Rattle.counting.proofs.Common.{get_or-map, Within}
 use Rattle.std.proofs.lemmas.List.Elements.{All-from_get_or}
 use Rattle.contraction.specs.Partition.{PartitionValue}
-use Rattle.counting.specs.Common.{Within}
-use Rattle.graph_core.specs.Common.{Graph, IsPartition, place, singles}
-use Rattle.tree_core.specs.Common.{PlainLeafMap, leaf_at, map_at, maps_from, move_maps, move_order, name, position, then_map, leaves, partitions_of, PlainMove, rotate_at, switch_at, Shape}
+use Rattle.graph_core.proofs.Common.{Graph, IsPartition, place, singles}
+use Rattle.tree_core.proofs.Common.{PlainLeafMap, leaf_at, map_at, maps_from, move_maps, move_order, name, position, then_map, leaves, partitions_of, PlainMove, rotate_at, switch_at, Shape}
 use Rattle.move_laws.proofs.SameLeaves.{name_within}
 use Rattle.uncross.proofs.ExchangedLeaves.{exchanged, maps_by-at, names_by, names_nowhere, nowhere, nowhere-own}
-use Rattle.uncross.specs.Exchanges.{exchange_at, images_at}
-use Rattle.uncross.specs.Following.{IsMapInto, IsMapIntoIf, IsNameIn, IsSwitched, blocks_of, led_on, map_after, names_after}
-use Rattle.uncross.specs.MapView.{image_name}
+use Rattle.uncross.specs.Common.{exchange_at, images_at, IsMapInto, IsMapIntoIf, IsNameIn, IsSwitched, blocks_of, led_on, map_after, names_after, image_name}
 use Rattle.uncross.specs.declared.block_images.Images.{Images}
 use Rattle.uncross.specs.declared.block_images.Images.TheVariants.{Own}
 use Rattle.uncross.specs.declared.exchanges.Exchange.{Exchange}
 use Rattle.uncross.specs.declared.leaf_maps.Switched.{Switched}
-use Rattle.move_laws.specs.Pairings.{IsPairing}
-use Rattle.move_laws.specs.SameLeaf.{IsSameLeaf, image}
+use Rattle.move_laws.specs.Common.{IsPairing, IsSameLeaf, image}
 
 -- a place counted from 0, counted from 1 and back
 back : (k : ℕ) → k + 1 - 1 ≡ k

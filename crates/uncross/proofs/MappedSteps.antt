@@ -1,7 +1,6 @@
 -- A list made of another, item by item from its front: what is made so far, followed by what the
 -- rest gives, is the whole.
-use Rattle.std.proofs.Common.{All, List, [], ap, map, sym, ◌++◌, ◌∙◌, ◌∷◌, ◌≡◌}
-use Rattle.std.proofs.lemmas.List.{append_assoc}
+use Rattle.std.proofs.Common.{All, List, [], ap, map, sym, ◌++◌, ◌∙◌, ◌∷◌, ◌≡◌, append_assoc}
 use Rattle.std.proofs.lemmas.List.Elements.{All-rest}
 
 -- so far, and each item of the rest may be taken

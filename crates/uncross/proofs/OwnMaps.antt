@@ -3,13 +3,11 @@
 use Rattle.std.proofs.Common.{◌≡◌, ℕ, zero, suc, ◌+◌, ◌<◌, List, [], ◌∷◌, ◌++◌, append_assoc, cond, length, map, sym, ap, ap₂, ◌∙◌, arith, eq-eqb, ne_eqb}
 use Rattle.counting.proofs.Common.{length-map, map-append}
 use Rattle.contraction.specs.Partition.{PartitionValue}
-use Rattle.graph_core.specs.Common.{names_of, singles}
+use Rattle.graph_core.proofs.Common.{names_of, singles}
 use Rattle.move_laws.proofs.Alignments.{numbers-split}
-use Rattle.tree_core.proofs.Sizes.{length-leaves_at}
-use Rattle.tree_core.specs.Common.{PlainLeafMap, maps_from, numbers, own_maps, position, leaves, partitions_of, Shape, leaf_count}
+use Rattle.tree_core.proofs.Common.{length-leaves_at, PlainLeafMap, maps_from, numbers, own_maps, position, leaves, partitions_of, Shape, leaf_count}
 use Rattle.uncross.proofs.FollowedMaps.{blocks-partitions}
-use Rattle.uncross.specs.Following.{blocks_of}
-use Rattle.uncross.specs.MapView.{map_of, maps_of}
+use Rattle.uncross.specs.Common.{blocks_of, map_of, maps_of}
 use Rattle.uncross.specs.declared.leaf_maps.LeafMap.{LeafMap}
 
 numbers-front : (k n : ℕ) → numbers k (suc n) ≡ (k + 1) ∷ numbers (k + 1) n

@@ -1,8 +1,7 @@
 -- The order of the leaves under a Rotate: its path taken apart before the last step, where the
 -- path of the parent ends.
 use Rattle.std.proofs.Common.{◌≡◌, ℕ, List, [], ◌∷◌, ◌++◌, ap, ap₂, refl, ◌∙◌}
-use Rattle.tree_core.proofs.RotateSteps.{last_step-end, parent_path-end}
-use Rattle.tree_core.specs.Common.{move_order, order_at, rotate_order, rotate_at, Shape}
+use Rattle.tree_core.proofs.Common.{last_step-end, parent_path-end, move_order, order_at, rotate_order, rotate_at, Shape}
 use Rattle.tree_core.specs.declared.path.Side.{Side}
 
 order-end : (n : ℕ) (parents : List Side) (last : Side) (t : Shape) → move_order n (rotate_at (parents ++ last ∷ [])) t ≡ order_at (rotate_order last) parents 0 t

@@ -1,12 +1,10 @@
 -- The place of a vertex among the blocks from one on: the first of them if it holds the
 -- vertex, and else one more than among the rest.
-use Rattle.std.proofs.Common.{Bool, List, Some, [], ap, arith, cond, drop, false, get_or, sym, true, ℕ, ◌+◌, ◌-◌, ◌∙◌, ◌≡◌}
+use Rattle.std.proofs.Common.{Bool, List, Some, [], ap, arith, cond, drop, false, get_or, sym, true, ℕ, ◌+◌, ◌-◌, ◌∙◌, ◌≡◌, slice_get}
 use Rattle.std.proofs.lemmas.List.{at_drop_more}
 use Rattle.std.proofs.lemmas.Option.{slice_get_within}
-use Rattle.counting.proofs.Common.{get_or_from_slice_get}
-use Rattle.std.specs.Prelude.{slice_get}
-use Rattle.counting.specs.Common.{mem}
-use Rattle.graph_core.specs.Common.{block, place}
+use Rattle.counting.proofs.Common.{get_or_from_slice_get, mem}
+use Rattle.graph_core.proofs.Common.{block, place}
 
 -- by the block at place i, counted from 0
 place-next : (p : List (List ℕ)) (i v : ℕ) (b : List ℕ) → slice_get p i ≡ Some b → place (drop i p) v ≡ cond (mem b v) 1 (place (drop (i + 1) p) v + 1)

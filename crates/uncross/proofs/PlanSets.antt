@@ -1,10 +1,8 @@
 -- The sets of a plan as lists: corners, complements, and equal shores.
 use Rattle.std.proofs.Common.{◌≡◌, ◌↔◌, ℕ, true, ◌&&◌, ◌||◌, not, List, sym, ap₂, ◌∙◌}
-use Rattle.counting.proofs.Common.{same_tests, and_parts, mem-within, all_in_true, list-from_test, same_rising_list, set-narrower}
-use Rattle.counting.specs.Common.{Within, IsRisingIn, is_subset, mem, complement, meet, union}
-use Rattle.tree_core.proofs.SwitchSets.{list-of}
-use Rattle.tree_core.specs.Common.{meet_list}
-use Rattle.move_laws.specs.Corners.{outer_of}
+use Rattle.counting.proofs.Common.{same_tests, and_parts, mem-within, all_in_true, list-from_test, same_rising_list, set-narrower, Within, IsRisingIn, is_subset, mem, complement, meet, union}
+use Rattle.tree_core.proofs.Common.{list-of, meet_list}
+use Rattle.move_laws.specs.Common.{outer_of}
 
 pub inner-is : (n : ℕ) (x y r : List ℕ) → IsRisingIn n x → IsRisingIn 128 r → ((v : ℕ) → mem r v ≡ (mem x v && mem y v)) → r ≡ meet_list n x y
 inner-is n x y r rx rr tells = list-of n r (meet (mem x) (mem y)) rr tells (λ v m. (mem-within n x rx v (and_parts (mem x v) (mem y v) (sym (tells v) ∙ m)).0).1)

@@ -1,13 +1,11 @@
 -- The plan for exposing a shore is carried out: what is exposed first in the two trees is a cut
 -- there, and then the root is the shore.
 use Rattle.std.proofs.Common.{◌≡◌, ℕ, ◌≤◌, ◌<◌, Bool, true, false, not, ◌&&◌, List, [], ◌∷◌, ◌++◌, map, Option, Some, None, ◌⊎◌, inl, inr, if◌then◌else◌, nat_lt, refl, sym, ap, ap₂, ◌∙◌, arith, subst}
-use Rattle.counting.proofs.Common.{nat_tests, not-true, false_all_in, all_in_true}
-use Rattle.counting.specs.Common.{Within, is_apart, is_subset, mem, everything, minus}
-use Rattle.graph_core.proofs.Common.{mem-complement_of, Apart, Below}
-use Rattle.graph_core.specs.Common.{Graph, complement_of, merged, block_count}
-use Rattle.tree_core.specs.Common.{IsCutAt, IsDerivationAt, kept_at, merged_at, IsBlockOf, PlainMove, below, rotate_at, meet_list, Shape, cut}
+use Rattle.counting.proofs.Common.{nat_tests, not-true, false_all_in, all_in_true, Within, is_apart, is_subset, mem, everything, minus}
+use Rattle.graph_core.proofs.Common.{mem-complement_of, Apart, Below, Graph, complement_of, merged, block_count}
+use Rattle.tree_core.proofs.Common.{IsCutAt, IsDerivationAt, kept_at, merged_at, IsBlockOf, PlainMove, below, rotate_at, meet_list, Shape, cut}
 use Rattle.tree_core.specs.declared.path.Side.TheVariants.{Kept, Merged}
-use Rattle.move_laws.proofs.BigShores.{Big, Stage, big_cut, big_rest, big_some, stage_merged}
+use Rattle.move_laws.proofs.BigShores.{Big, Stage, big_cut, big_rest, big_some, stage_merged, rest_rest}
 use Rattle.move_laws.proofs.Exchange.{block_count-one}
 use Rattle.move_laws.proofs.Corners.{Corners, inner_single_or_big, outer_single_or_big}
 use Rattle.move_laws.proofs.CornerSwitch.{Kind}
@@ -15,13 +13,10 @@ use Rattle.move_laws.proofs.CrossingShores.{corners_of}
 use Rattle.move_laws.proofs.OverInnerCorner.{InnerTurned, inner_below, inner_canonical, outer_shore_big, over_inner_to}
 use Rattle.move_laws.proofs.OverOuterCorner.{OuterTurned, raised_merged_is}
 use Rattle.move_laws.proofs.NestedShores.{Cross, raised, stays_big}
-use Rattle.move_laws.proofs.BigShores.{rest_rest}
 use Rattle.move_laws.proofs.Scripts.{length_below, length_join, script_end, script_join, script_kept, script_merged, script_rotate}
 use Rattle.move_laws.proofs.Rising.{bounds}
-use Rattle.move_laws.specs.Corners.{outer_of, outer_shore, partner}
-use Rattle.uncross.specs.Plans.{CutIf, IsExposed, IsPlan, PlainPlan, crossing, first_shore, here, if_big, in_kept, in_merged, plan_result, second_shore}
-use Rattle.move_laws.specs.Turning.{PlainTurned, over_inner}
-use Rattle.move_laws.specs.Scripts.{AreRising}
+use Rattle.move_laws.specs.Common.{outer_of, outer_shore, partner, PlainTurned, over_inner, AreRising}
+use Rattle.uncross.specs.Common.{CutIf, IsExposed, IsPlan, PlainPlan, crossing, first_shore, here, if_big, in_kept, in_merged, plan_result, second_shore}
 
 -- a root shore and another, at a stage
 module _ (g : Graph) (p : List (List ℕ)) (st : Stage g p) (x y : List ℕ) (bx : Big g p x) (by : Big g p y) (nx : mem x g.order ≡ false) (ny : mem y g.order ≡ false) where

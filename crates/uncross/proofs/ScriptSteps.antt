@@ -1,22 +1,16 @@
 -- The maps of a script, move by move: what holds if some of its moves are made.
 use Rattle.std.proofs.Common.{All, List, Some, ap, arith, length, map, refl, subst, subst₂, sym, unwrap_or, ℕ, ◌∙◌, ◌∷◌, ◌≡◌, ◌≤◌}
-use Rattle.counting.proofs.Common.{count_complement}
-use Rattle.graph_core.proofs.Common.{length-singles}
-use Rattle.graph_core.specs.Common.{Graph, IsGraph, singles, blocks_in}
-use Rattle.counting.specs.Common.{mem}
-use Rattle.tree_core.proofs.CutsBelow.{few-leaves}
-use Rattle.tree_core.proofs.DerivationLeaves.{partitions-leaves}
-use Rattle.tree_core.proofs.DerivationStands.{fits-derivation, stands-derivation}
-use Rattle.tree_core.specs.Common.{IsDerivation, PlainLeafMap, maps_after, move_maps, own_maps, script_maps, then_map, StandsAt, leaves, PlainMove, move_result, Fits, Shape, cut, leaf, leaf_count}
+use Rattle.counting.proofs.Common.{count_complement, mem}
+use Rattle.graph_core.proofs.Common.{length-singles, Graph, IsGraph, singles, blocks_in}
+use Rattle.tree_core.proofs.Common.{few-leaves, partitions-leaves, fits-derivation, stands-derivation, IsDerivation, PlainLeafMap, maps_after, move_maps, own_maps, script_maps, then_map, StandsAt, leaves, PlainMove, move_result, Fits, Shape, cut, leaf, leaf_count}
 use Rattle.uncross.proofs.FollowedMaps.{paired_into}
 use Rattle.move_laws.proofs.MoveParts.{move_pairs}
 use Rattle.move_laws.proofs.Rising.{rising-derivation_at}
 use Rattle.move_laws.proofs.ScriptPairs.{own_pairs, pairing-then, script_pairs}
 use Rattle.move_laws.proofs.Scripts.{script_end}
 use Rattle.move_laws.proofs.SingleVertices.{singles_stage}
-use Rattle.uncross.specs.Following.{IsMapInto, led_on}
-use Rattle.move_laws.specs.Pairings.{IsPairing}
-use Rattle.move_laws.specs.Scripts.{IsProperScript}
+use Rattle.uncross.specs.Common.{IsMapInto, led_on}
+use Rattle.move_laws.specs.Common.{IsPairing, IsProperScript}
 
 -- a derivation of a graph of at most 128 vertices has few leaves
 pub leaves-few : (g : Graph) (t : Shape) → IsGraph g → g.order ≤ 128 → IsDerivation g t → leaf_count t ≤ 255

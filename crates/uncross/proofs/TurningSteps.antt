@@ -1,9 +1,9 @@
 -- Steps of the turning of trees: what the code has made is what the partial functions give.
 use Rattle.std.proofs.Common.{◌≡◌, List, [], ◌++◌, Option, Some, None, option_and_then, refl, ap, ap₂, ◌∙◌}
 use Rattle.counting.proofs.Common.{none-some}
-use Rattle.tree_core.specs.Common.{PlainMove, Shape}
-use Rattle.move_laws.specs.Turning.{PlainTurned, followed}
-use Rattle.uncross.specs.TurnedView.{IsMade}
+use Rattle.tree_core.proofs.Common.{PlainMove, Shape}
+use Rattle.move_laws.specs.Common.{PlainTurned, followed}
+use Rattle.uncross.specs.Common.{IsMade}
 
 -- what follows a raised root
 pub after_raised : (f : Shape → Option PlainTurned) (o : Option PlainTurned) (up : Shape) (after before : List PlainMove) → before ≡ [] → ((s : PlainTurned) → o ≡ Some s → IsMade up after before s) → (s : PlainTurned) → option_and_then (λ r. followed r.moves (f r.tree)) o ≡ Some s → followed after (f up) ≡ Some s

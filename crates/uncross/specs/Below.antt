@@ -3,7 +3,7 @@
 use Rattle.std.specs.Prelude.{◌≡◌, ◌+◌, ◌*◌, ◌≤◌, ℕ, List, length}
 use Rattle.graph_core.specs.Common.{Graph}
 use Rattle.tree_core.specs.Common.{PlaceValue, PlainMove, Shape, cut, cut_count}
-use Rattle.move_laws.specs.Scripts.{IsProperScript}
+use Rattle.move_laws.specs.Common.{IsProperScript}
 
 -- q is the place of the graph at p
 pub record IsPlaceBelow (g : Graph) (p : List (List ℕ)) (q : PlaceValue) : Type 0 where

@@ -6,3 +6,4 @@ pub mod Following
 pub mod Exchanges
 pub mod Changes
 pub mod Below
+pub mod Common

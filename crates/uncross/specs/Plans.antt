@@ -5,9 +5,7 @@ use Rattle.std.specs.Prelude.{◌≡◌, ◌+◌, ◌*◌, ◌≤◌, ℕ, true,
 use Rattle.counting.specs.Common.{is_apart, is_subset, mem}
 use Rattle.graph_core.specs.Common.{Graph, block_count}
 use Rattle.tree_core.specs.Common.{IsCutAt, PlainMove, meet_list, Shape, cut, cut_count}
-use Rattle.move_laws.specs.Corners.{outer_of, outer_shore, partner}
-use Rattle.move_laws.specs.Scripts.{IsProperScript}
-use Rattle.move_laws.specs.Turning.{PlainTurned, over_inner, raised_kept, raised_merged}
+use Rattle.move_laws.specs.Common.{outer_of, outer_shore, partner, IsProperScript, PlainTurned, over_inner, raised_kept, raised_merged}
 
 -- y is the root shore; or it is exposed in `kept` or in `merged` first; or it crosses the root
 -- shore with the corners u and v, of which those with three blocks or more are exposed first, as

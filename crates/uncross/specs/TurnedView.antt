@@ -2,7 +2,7 @@
 -- Stated by: uncross.
 use Rattle.std.specs.Prelude.{◌≡◌, ◌++◌, List}
 use Rattle.tree_core.specs.Common.{PlainMove, moves_of, Shape, shape_of}
-use Rattle.move_laws.specs.Turning.{PlainTurned}
+use Rattle.move_laws.specs.Common.{PlainTurned}
 use Rattle.uncross.specs.declared.turning.Turned.{Turned}
 
 -- the tree and the moves

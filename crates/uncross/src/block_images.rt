@@ -2,7 +2,7 @@
 ghost use Rattle.std.specs.Prelude.{◌≡◌, ◌≤◌, IfOk, map};
 ghost use Rattle.counting.specs.Common.{mem, rising_list};
 ghost use Rattle.tree_core.specs.Common.{list_if, meet_list, minus_list, union_list};
-ghost use Rattle.uncross.specs.MapView.{image_name, kept_images, merged_images};
+ghost use Rattle.uncross.specs.Common.{image_name, kept_images, merged_images};
 
 use crate::plans::complement;
 use contraction::{Partition, name_of};

@@ -2,10 +2,8 @@
 ghost use Rattle.std.specs.Prelude.{◌≡◌, ◌++◌, ◌*◌, ◌≤◌, IfOk, length, map};
 ghost use Rattle.graph_core.specs.Common.{singles};
 ghost use Rattle.tree_core.specs.Common.{IsCutAt, IsDerivation, IsDerivationAt, kept_at, merged_at, script_maps, leaves, moves_of, TurnsThrough, below, cut_count, shape_of};
-ghost use Rattle.move_laws.specs.Pairings.{IsPairing};
-ghost use Rattle.move_laws.specs.Scripts.{IsProperScript};
-ghost use Rattle.uncross.specs.Below.{IsBrought, IsPlaceBelow};
-ghost use Rattle.uncross.specs.MapView.{maps_of};
+ghost use Rattle.move_laws.specs.Common.{IsPairing, IsProperScript};
+ghost use Rattle.uncross.specs.Common.{IsBrought, IsPlaceBelow, maps_of};
 
 use crate::exposing::{Exposure, expose_at};
 use crate::leaf_maps::LeafMaps;

@@ -2,7 +2,7 @@
 //! blocks go over to blocks of their partners.
 ghost use Rattle.std.specs.Prelude.{◌≡◌, ◌≤◌, ◌+◌};
 ghost use Rattle.tree_core.specs.Common.{leaf_count, shape_of};
-ghost use Rattle.uncross.specs.Exchanges.{exchange_at, images_at};
+ghost use Rattle.uncross.specs.Common.{exchange_at, images_at};
 
 use crate::block_images::{Images, kept_images, merged_images};
 use crate::leaf_orders::count_leaves;

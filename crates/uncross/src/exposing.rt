@@ -2,13 +2,8 @@
 ghost use Rattle.std.specs.Prelude.{◌≡◌, List, Some, IfOk, map, option_map, ◌*◌, ◌≤◌, length};
 ghost use Rattle.graph_core.specs.Common.{singles};
 ghost use Rattle.tree_core.specs.Common.{IsCutAt, IsDerivation, IsDerivationAt, script_maps, leaves, moves_of, PlainMove, TurnsThrough, below, Fits, Shape, cut, cut_count, shape_of};
-ghost use Rattle.move_laws.specs.Pairings.{IsPairing};
-ghost use Rattle.move_laws.specs.Turning.{PlainTurned, followed, raised};
-ghost use Rattle.uncross.specs.Below.{IsRaised};
-ghost use Rattle.uncross.specs.MapView.{maps_of};
-ghost use Rattle.uncross.specs.PlanView.{plan_of};
-ghost use Rattle.uncross.specs.Plans.{CutIf, IsExposed, IsPlan, plan_result};
-ghost use Rattle.uncross.specs.TurnedView.{turned_of};
+ghost use Rattle.move_laws.specs.Common.{IsPairing, PlainTurned, followed, raised};
+ghost use Rattle.uncross.specs.Common.{IsRaised, maps_of, plan_of, CutIf, IsExposed, IsPlan, plan_result, turned_of};
 
 use crate::leaf_maps::LeafMaps;
 use crate::move_maps::script_maps;

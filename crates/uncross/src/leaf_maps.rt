@@ -3,9 +3,7 @@ ghost use Rattle.std.specs.Prelude.{◌≡◌, ◌≤◌, ◌+◌, List, ℕ, le
 ghost use Rattle.counting.specs.Common.{Within};
 ghost use Rattle.graph_core.specs.Common.{place};
 ghost use Rattle.tree_core.specs.Common.{PlainLeafMap, leaf_at, position};
-ghost use Rattle.uncross.specs.Following.{IsMapInto, IsMapIntoIf, IsNameIn, blocks_of, map_after, names_after};
-ghost use Rattle.uncross.specs.Exchanges.{images_at};
-ghost use Rattle.uncross.specs.MapView.{map_of, maps_of};
+ghost use Rattle.uncross.specs.Common.{IsMapInto, IsMapIntoIf, IsNameIn, blocks_of, map_after, names_after, images_at, map_of, maps_of};
 
 use crate::block_images::{Images, image_name};
 use crate::exchanges::Exchange;

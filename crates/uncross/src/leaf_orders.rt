@@ -3,7 +3,7 @@
 ghost use Rattle.std.specs.Prelude.{◌≡◌, ◌≤◌, ◌+◌, ◌++◌, IfOk, OnOk, length};
 ghost use Rattle.tree_core.specs.Common.{kept_order_if_greatest_stays, move_order, numbers, order_at, rotate_order, switch_order, move_of, cut, leaf_count, shape_of};
 ghost use Rattle.tree_core.specs.declared.path.Side.TheVariants.{Merged};
-ghost use Rattle.uncross.specs.Changes.{changed_order};
+ghost use Rattle.uncross.specs.Common.{changed_order};
 
 use graph_core::Numbers;
 use std::alloc::{AllocError as Memory, Global};

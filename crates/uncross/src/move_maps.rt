@@ -2,9 +2,8 @@
 ghost use Rattle.std.specs.Prelude.{◌≡◌, ◌≤◌, Some, All, IfOk};
 ghost use Rattle.graph_core.specs.Common.{singles};
 ghost use Rattle.tree_core.specs.Common.{IsDerivation, own_maps, script_maps, StandsAt, leaves, move_of, moves_of, move_result, Fits, Shape, leaf_count, shape_of};
-ghost use Rattle.move_laws.specs.Scripts.{IsProperScript};
-ghost use Rattle.uncross.specs.Following.{IsMapInto, IsSwitched, led_on};
-ghost use Rattle.uncross.specs.MapView.{maps_of};
+ghost use Rattle.move_laws.specs.Common.{IsProperScript};
+ghost use Rattle.uncross.specs.Common.{IsMapInto, IsSwitched, led_on, maps_of};
 
 use crate::block_images::{Images, image_names};
 use crate::exchanges::exchange_at;

@@ -1,7 +1,7 @@
 //! The places at the two trees below the root of a derivation.
 ghost use Rattle.std.specs.Prelude.{◌≡◌, IfOk};
 ghost use Rattle.tree_core.specs.Common.{IsCutAt, kept_at, merged_at};
-ghost use Rattle.uncross.specs.Below.{IsPlaceBelow};
+ghost use Rattle.uncross.specs.Common.{IsPlaceBelow};
 
 use std::alloc::{AllocError as Memory, Global};
 use tree_core::Place;

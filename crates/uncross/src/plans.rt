@@ -3,9 +3,8 @@ ghost use Rattle.std.specs.Prelude.{◌≡◌, ◌≤◌};
 ghost use Rattle.counting.specs.Common.{is_odd, IsRisingIn, mem, meet};
 ghost use Rattle.graph_core.specs.Common.{complement_of, block_count};
 ghost use Rattle.tree_core.specs.Common.{meet_list};
-ghost use Rattle.move_laws.specs.Corners.{outer_of, outer_shore, partner};
-ghost use Rattle.uncross.specs.PlanView.{plan_of};
-ghost use Rattle.uncross.specs.Plans.{IsPlan, first_shore, if_big, second_shore};
+ghost use Rattle.move_laws.specs.Common.{outer_of, outer_shore, partner};
+ghost use Rattle.uncross.specs.Common.{plan_of, IsPlan, first_shore, if_big, second_shore};
 
 use contraction::Partition;
 use tree_core::are_apart;

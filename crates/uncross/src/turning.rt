@@ -2,8 +2,8 @@
 ghost use Rattle.std.specs.Prelude.{◌≡◌, ◌++◌, ◌∷◌, ◌-◌, ℕ, [], Some, IfOk, OnOk, map, option_map, All};
 ghost use Rattle.counting.specs.Common.{Within};
 ghost use Rattle.tree_core.specs.Common.{moves_of, below, switch_at, with_child, Fits, cut, shape_of};
-ghost use Rattle.move_laws.specs.Turning.{PlainTurned, followed, outer_below, over_inner, over_outer, raised, switched, switched_below};
-ghost use Rattle.uncross.specs.TurnedView.{IsMade, turned_of};
+ghost use Rattle.move_laws.specs.Common.{PlainTurned, followed, outer_below, over_inner, over_outer, raised, switched, switched_below};
+ghost use Rattle.uncross.specs.Common.{IsMade, turned_of};
 
 use std::alloc::{AllocError as Memory, Global};
 use tree_core::{Move, Moves, Opened, Path, Side, Tree, open, rotate, switch};

@@ -1,13 +1,12 @@
 -- The least and the greatest member, and the least above a number, by the places of ones in the
 -- word: a one with zeros before it, a one with nothing above it, and the lowest one after a
 -- shift. The word of all numbers 1 to n has ones below n.
-use Rattle.std.proofs.Common.{◌≡◌, ℕ, zero, suc, ◌+◌, ◌-◌, ◌*◌, ◌/◌, ◌%◌, ◌^◌, ◌≤◌, ◌<◌, List, [], ◌↔◌, refl, sym, ◌∙◌, ap, arith, true, false, subst, inl, inr}
+use Rattle.std.proofs.Common.{◌≡◌, ℕ, zero, suc, ◌+◌, ◌-◌, ◌*◌, ◌/◌, ◌%◌, ◌^◌, ◌≤◌, ◌<◌, List, [], ◌↔◌, refl, sym, ◌∙◌, ap, arith, true, false, subst, inl, inr, pow_pos, shr-shr}
 use Rattle.std.specs.Int.{bit_at, w128, trailing_zeros}
 use Rattle.std.specs.Int.Count.{count_leading_zeros}
-use Rattle.counting.proofs.Common.{cases_lt, mem-all, mem-outside, mem-rising_list, rising_list-rises, same_rising_list, set-wider}
-use Rattle.std.proofs.lemmas.Nat.{leading_top, mod_below, pow_below, pow_pos, shr-shr, shr_le, shr_split}
+use Rattle.counting.proofs.Common.{cases_lt, mem-all, mem-outside, mem-rising_list, rising_list-rises, same_rising_list, set-wider, Within, IsGreatestOf, IsLeastOf, IsNextAfter, mem, rising_list, everything}
+use Rattle.std.proofs.lemmas.Nat.{leading_top, mod_below, pow_below, shr_le, shr_split}
 use Rattle.std.proofs.lemmas.Nat.Bits.{bit_at-trailing_zeros, bit_at_above, bit_at_cat_high, bit_at_ones, bit_at_ones_above, ones_shr}
-use Rattle.counting.specs.Common.{Within, IsGreatestOf, IsLeastOf, IsNextAfter, mem, rising_list, everything}
 use Rattle.vset_core.specs.Words.{in_word, members}
 use Rattle.vset_core.specs.WordLaws.{members-rise, mem-members}
 use Rattle.vset_core.proofs.Words.{members-zero, seen}

@@ -1,6 +1,7 @@
 -- The fields of a set come back from its members.
 -- Stated by: vset_core.
-use Rattle.std.proofs.Common.{◌≡◌, ℕ, ◌<◌, ◌^◌, ap}
+use Rattle.std.specs.Prelude.{◌≡◌, ℕ, ◌<◌, ◌^◌}
+use Rattle.std.proofs.Common.{ap}
 use Rattle.vset_core.specs.Words.{members, word_of_list}
 use Rattle.vset_core.specs.WordLaws.{word_of_list-members}
 use Rattle.vset_core.specs.declared.vertex_set.VSet.TheInside.{Inside}

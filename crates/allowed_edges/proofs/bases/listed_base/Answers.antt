@@ -1,6 +1,6 @@
 use Rattle.std.proofs.Common.{◌<◌, List, sym, ap, ◌∙◌, arith, subst, length, get_or}
 use Rattle.counting.proofs.Common.{same_Some}
-use Rattle.match_core.specs.MatchingRows.{MatchingValue}
+use Rattle.match_core.specs.Common.{MatchingValue}
 use Rattle.allowed_edges.specs.PairTables.{IsPerfectWith}
 use Rattle.allowed_edges.proofs.ListedBases.{listed_with}
 use Rattle.allowed_edges.proofs.bases.listed_base.Goals as goal

@@ -1,6 +1,6 @@
 use Rattle.std.proofs.Common.{◌≡◌, ap, ◌∙◌, arith}
-use Rattle.counting.specs.Common.{rising_list}
-use Rattle.graph_core.specs.Common.{size, is_allowed}
+use Rattle.counting.proofs.Common.{rising_list}
+use Rattle.graph_core.proofs.Common.{size, is_allowed}
 use Rattle.allowed_edges.proofs.AllowedPartners.{listed-allowed}
 use Rattle.allowed_edges.proofs.edges.partnered.Goals as goal
 

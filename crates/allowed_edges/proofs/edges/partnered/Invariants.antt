@@ -1,6 +1,6 @@
 use Rattle.std.proofs.Common.{◌≡◌}
-use Rattle.counting.specs.Common.{rising_list}
-use Rattle.graph_core.specs.Common.{is_allowed}
+use Rattle.counting.proofs.Common.{rising_list}
+use Rattle.graph_core.proofs.Common.{is_allowed}
 use Rattle.allowed_edges.proofs.edges.partnered.Given as goal
 
 abbrev pub invariant-loop-k : goal.invariant-loop-k

@@ -1,7 +1,7 @@
 use Rattle.std.proofs.Common.{sym, subst}
-use Rattle.counting.specs.Common.{mem}
-use Rattle.graph_core.specs.Common.{HasPerfect, IsPerfect}
-use Rattle.match_core.specs.MatchingRows.{edges_of}
+use Rattle.counting.proofs.Common.{mem}
+use Rattle.graph_core.proofs.Common.{HasPerfect, IsPerfect}
+use Rattle.match_core.specs.Common.{edges_of}
 use Rattle.allowed_edges.proofs.PairSteps.{settles_unmatched}
 use Rattle.allowed_edges.proofs.pairs.complete_pairs.Goals as goal
 

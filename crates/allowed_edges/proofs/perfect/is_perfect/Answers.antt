@@ -1,7 +1,7 @@
 use Rattle.std.proofs.Common.{◌==◌, ℕ, List, ap, ◌∙◌, sym, eq-eqb, eqb-true}
-use Rattle.counting.specs.Common.{mem, none}
-use Rattle.graph_core.specs.Common.{missed_count}
-use Rattle.match_core.specs.MatchingRows.{edges_of}
+use Rattle.counting.proofs.Common.{mem, none}
+use Rattle.graph_core.proofs.Common.{missed_count}
+use Rattle.match_core.specs.Common.{edges_of}
 use Rattle.allowed_edges.proofs.AllowedPartners.{maximum-perfect}
 use Rattle.allowed_edges.proofs.perfect.is_perfect.Goals as goal
 

@@ -1,6 +1,6 @@
 use Rattle.std.proofs.Common.{List, ℕ, subst}
-use Rattle.counting.specs.Common.{mem}
-use Rattle.match_core.specs.Partners.{ArePartners}
+use Rattle.counting.proofs.Common.{mem}
+use Rattle.match_core.specs.Common.{ArePartners}
 use Rattle.allowed_edges.proofs.perfect.partners_where_perfect.Goals as goal
 
 pub returns-then-is_perfect-clause-table : goal.returns-then-is_perfect-clause-table

@@ -1,7 +1,7 @@
 use Rattle.std.proofs.Common.{◌+◌, ◌*◌, arith}
-use Rattle.counting.specs.Common.{mem}
-use Rattle.graph_core.specs.Common.{missed_count}
-use Rattle.match_core.specs.MatchingRows.{edges_of}
+use Rattle.counting.proofs.Common.{mem}
+use Rattle.graph_core.proofs.Common.{missed_count}
+use Rattle.match_core.specs.Common.{edges_of}
 use Rattle.allowed_edges.proofs.ShortPaths.{off_size, same_zero}
 use Rattle.allowed_edges.proofs.questions.misses_none.Goals as goal
 

@@ -1,8 +1,7 @@
 use Rattle.std.proofs.Common.{◌≡◌, sym, ◌∙◌, subst, eqb-true}
-use Rattle.counting.specs.Common.{mem}
-use Rattle.graph_core.specs.Common.{IsPerfect, missed_count}
-use Rattle.graph_core.proofs.Common.{none_missed-perfect}
-use Rattle.match_core.specs.MatchingRows.{IsOf, MatchingValue, edges_of}
+use Rattle.counting.proofs.Common.{mem}
+use Rattle.graph_core.proofs.Common.{IsPerfect, missed_count, none_missed-perfect}
+use Rattle.match_core.specs.Common.{IsOf, MatchingValue, edges_of}
 use Rattle.allowed_edges.proofs.questions.perfect_off.Goals as goal
 
 pub misses_none-requires : goal.misses_none-requires

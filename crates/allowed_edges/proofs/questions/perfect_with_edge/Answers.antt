@@ -1,8 +1,7 @@
 use Rattle.std.proofs.Common.{◌≡◌, ◌==◌, ap, ◌∙◌, subst, refl, eq-eqb}
-use Rattle.counting.proofs.Common.{both_ways, or_right}
-use Rattle.counting.specs.Common.{mem, none}
-use Rattle.graph_core.specs.Common.{IsPerfect}
-use Rattle.match_core.specs.MatchingRows.{MatchingValue, edges_of}
+use Rattle.counting.proofs.Common.{both_ways, or_right, mem, none}
+use Rattle.graph_core.proofs.Common.{IsPerfect}
+use Rattle.match_core.specs.Common.{MatchingValue, edges_of}
 use Rattle.allowed_edges.proofs.ThroughEdges.{edge_free, ends_within, one_cut, one_glued, one_leaves}
 use Rattle.allowed_edges.proofs.questions.perfect_with_edge.Goals as goal
 

@@ -1,8 +1,7 @@
 use Rattle.std.proofs.Common.{◌≡◌, ℕ, ◌==◌, ◌||◌, ap, ◌∙◌, subst, refl, eq-eqb}
-use Rattle.counting.proofs.Common.{both_ways, or_left, or_right}
-use Rattle.counting.specs.Common.{mem, none}
-use Rattle.graph_core.specs.Common.{first_end, second_end, IsPerfect}
-use Rattle.match_core.specs.MatchingRows.{MatchingValue, edges_of}
+use Rattle.counting.proofs.Common.{both_ways, or_left, or_right, mem, none}
+use Rattle.graph_core.proofs.Common.{first_end, second_end, IsPerfect}
+use Rattle.match_core.specs.Common.{MatchingValue, edges_of}
 use Rattle.allowed_edges.proofs.ThroughEdges.{edge_free, ends_within, second_free, two_cut, two_glued, two_leave}
 use Rattle.allowed_edges.proofs.questions.perfect_with_pair.Goals as goal
 

@@ -1,6 +1,5 @@
 use Rattle.std.proofs.Common.{◌≡◌, ◌==◌, sym, ap, ◌∙◌, arith, inl, inr, eq-eqb, slice_get}
-use Rattle.counting.proofs.Common.{cases_eq, or_left, or_right}
-use Rattle.counting.specs.Common.{mem}
+use Rattle.counting.proofs.Common.{cases_eq, or_left, or_right, mem}
 use Rattle.match_core.specs.declared.matching.MatchRow.{MatchRow}
 use Rattle.allowed_edges.proofs.ShortPaths.{ends_outside, get_below, some_inj}
 use Rattle.allowed_edges.proofs.short_paths.met_vertices.Goals as goal

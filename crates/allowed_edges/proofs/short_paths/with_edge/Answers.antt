@@ -1,8 +1,7 @@
 use Rattle.std.proofs.Common.{◌≡◌, ◌∙◌, ap, sym, subst}
-use Rattle.counting.proofs.Common.{or_parts}
-use Rattle.counting.specs.Common.{mem}
-use Rattle.graph_core.specs.Common.{degree}
-use Rattle.match_core.specs.MatchingRows.{edges_of, ends_at}
+use Rattle.counting.proofs.Common.{or_parts, mem}
+use Rattle.graph_core.proofs.Common.{degree}
+use Rattle.match_core.specs.Common.{edges_of, ends_at}
 use Rattle.allowed_edges.specs.Leaving.{IsMatchingOff}
 use Rattle.allowed_edges.proofs.ShortPaths.{longer_matching, no_edge}
 use Rattle.allowed_edges.proofs.short_paths.with_edge.Goals as goal

@@ -1,8 +1,7 @@
 use Rattle.std.proofs.Common.{◌≡◌, ◌∙◌, sym, subst, eqb-true}
-use Rattle.counting.specs.Common.{mem}
-use Rattle.graph_core.specs.Common.{missed_count}
-use Rattle.graph_core.proofs.Common.{none_missed-perfect}
-use Rattle.match_core.specs.MatchingRows.{edges_of}
+use Rattle.counting.proofs.Common.{mem}
+use Rattle.graph_core.proofs.Common.{missed_count, none_missed-perfect}
+use Rattle.match_core.specs.Common.{edges_of}
 use Rattle.allowed_edges.specs.Leaving.{IsPerfectOff}
 use Rattle.allowed_edges.proofs.short_paths.with_one.Goals as goal
 

@@ -1,6 +1,6 @@
 use Rattle.std.proofs.Common.{◌∙◌}
-use Rattle.counting.specs.Common.{mem}
-use Rattle.match_core.specs.MatchingRows.{edges_of}
+use Rattle.counting.proofs.Common.{mem}
+use Rattle.match_core.specs.Common.{edges_of}
 use Rattle.allowed_edges.proofs.MarkedPairs.{pairs_more, square_more}
 use Rattle.allowed_edges.proofs.table.mark_pairs.Goals as goal
 

@@ -1,7 +1,7 @@
 use Rattle.std.proofs.Common.{◌≡◌, ℕ, ◌&&◌, ◌||◌, length, map, take}
-use Rattle.counting.specs.Common.{mem, row_of}
-use Rattle.match_core.specs.MatchingRows.{edges_of}
-use Rattle.match_search.specs.Rows.{marks}
+use Rattle.counting.proofs.Common.{mem, row_of}
+use Rattle.match_core.specs.Common.{edges_of}
+use Rattle.match_search.specs.Common.{marks}
 use Rattle.match_core.proofs.MatchingEdges.{edge_of}
 use Rattle.allowed_edges.specs.EdgeTables.{IsSquare}
 use Rattle.allowed_edges.proofs.table.mark_pairs.Given as goal

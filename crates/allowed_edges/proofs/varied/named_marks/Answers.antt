@@ -2,7 +2,7 @@ use Rattle.std.proofs.Common.{◌+◌, ◌∙◌, ap, arith, length, false}
 use Rattle.counting.proofs.Common.{both_ways}
 use Rattle.std.proofs.lemmas.List.{length-replicate}
 use Rattle.match_search.proofs.Marks.{no-marks}
-use Rattle.match_search.specs.Rows.{marks}
+use Rattle.match_search.specs.Common.{marks}
 use Rattle.allowed_edges.proofs.TwiceNamed.{length_tested, named_more}
 use Rattle.allowed_edges.proofs.varied.named_marks.Goals as goal
 

@@ -1,5 +1,5 @@
 use Rattle.std.proofs.Common.{◌∙◌, ap, sym}
-use Rattle.match_search.specs.Rows.{marks}
+use Rattle.match_search.specs.Common.{marks}
 use Rattle.allowed_edges.proofs.TwiceNamed.{named_matching}
 use Rattle.allowed_edges.proofs.varied.perfect_from.Goals as goal
 

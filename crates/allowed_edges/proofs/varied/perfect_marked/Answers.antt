@@ -1,7 +1,7 @@
 use Rattle.std.proofs.Common.{◌≡◌, ◌∙◌, ap, sym, subst, eqb-true}
-use Rattle.counting.specs.Common.{mem}
-use Rattle.graph_core.specs.Common.{missed_count}
-use Rattle.match_core.specs.MatchingRows.{MatchingValue, edges_of}
+use Rattle.counting.proofs.Common.{mem}
+use Rattle.graph_core.proofs.Common.{missed_count}
+use Rattle.match_core.specs.Common.{MatchingValue, edges_of}
 use Rattle.allowed_edges.specs.PairTables.{IsPerfectWith}
 use Rattle.allowed_edges.proofs.TwiceNamed.{listed_holds, listed_off, listed_perfect}
 use Rattle.allowed_edges.proofs.varied.perfect_marked.Goals as goal

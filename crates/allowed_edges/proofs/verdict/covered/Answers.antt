@@ -1,6 +1,6 @@
 use Rattle.std.proofs.Common.{List, ℕ, ap, ◌∙◌}
-use Rattle.counting.specs.Common.{mem}
-use Rattle.graph_core.specs.Common.{components}
+use Rattle.counting.proofs.Common.{mem}
+use Rattle.graph_core.proofs.Common.{components}
 use Rattle.allowed_edges.proofs.verdict.covered.Goals as goal
 
 pub verdict_in-requires-clause-parts : goal.verdict_in-requires-clause-parts

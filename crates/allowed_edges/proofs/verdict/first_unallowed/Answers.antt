@@ -1,7 +1,6 @@
 use Rattle.std.proofs.Common.{◌∙◌, arith, subst, sym, inl, inr}
 use Rattle.counting.proofs.Common.{both_ways, cases_eq}
-use Rattle.graph_core.specs.Common.{Allowed, is_allowed}
-use Rattle.graph_core.proofs.Common.{is_allowed_found, is_allowed_says}
+use Rattle.graph_core.proofs.Common.{Allowed, is_allowed, is_allowed_found, is_allowed_says}
 use Rattle.allowed_edges.proofs.verdict.first_unallowed.Goals as goal
 
 pub returns-then-not-is_allowed_in-clause-some : goal.returns-then-not-is_allowed_in-clause-some

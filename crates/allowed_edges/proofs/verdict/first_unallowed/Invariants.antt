@@ -1,6 +1,6 @@
 use Rattle.std.proofs.Common.{ℕ, ◌-◌}
-use Rattle.counting.specs.Common.{Within}
-use Rattle.graph_core.specs.Common.{Allowed}
+use Rattle.counting.proofs.Common.{Within}
+use Rattle.graph_core.proofs.Common.{Allowed}
 use Rattle.allowed_edges.proofs.verdict.first_unallowed.Given as goal
 
 abbrev pub invariant-loop-e : goal.invariant-loop-e

@@ -1,7 +1,6 @@
-use Rattle.std.proofs.Common.{Option, ℕ, subst}
-use Rattle.std.specs.Prelude.{IfSome}
-use Rattle.counting.specs.Common.{IsLeastWithout}
-use Rattle.graph_core.specs.Common.{size, Allowed}
+use Rattle.std.proofs.Common.{Option, ℕ, subst, IfSome}
+use Rattle.counting.proofs.Common.{IsLeastWithout}
+use Rattle.graph_core.proofs.Common.{size, Allowed}
 use Rattle.allowed_edges.proofs.AllowedPartners.{perfect_unless_none}
 use Rattle.allowed_edges.proofs.verdict.matched.Goals as goal
 

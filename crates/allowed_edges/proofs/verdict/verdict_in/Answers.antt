@@ -1,7 +1,6 @@
-use Rattle.std.proofs.Common.{Option, ℕ, refl, subst, arith}
-use Rattle.std.specs.Prelude.{IfSome}
-use Rattle.counting.specs.Common.{none, IsLeastWithout}
-use Rattle.graph_core.specs.Common.{Joined}
+use Rattle.std.proofs.Common.{Option, ℕ, refl, subst, arith, IfSome}
+use Rattle.counting.proofs.Common.{none, IsLeastWithout}
+use Rattle.graph_core.proofs.Common.{Joined}
 use Rattle.allowed_edges.proofs.verdict.verdict_in.Goals as goal
 
 pub returns-in-Some : goal.returns-in-Some

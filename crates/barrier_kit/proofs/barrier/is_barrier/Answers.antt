@@ -1,7 +1,5 @@
-use Rattle.std.proofs.Common.{ap, sym, ◌∙◌, eq-eqb, eqb-true, length}
-use Rattle.std.specs.Prelude.{count_by}
-use Rattle.counting.specs.Common.{is_odd, mem}
-use Rattle.counting.proofs.Common.{count_mem_length}
+use Rattle.std.proofs.Common.{ap, sym, ◌∙◌, eq-eqb, eqb-true, length, count_by}
+use Rattle.counting.proofs.Common.{is_odd, mem, count_mem_length}
 use Rattle.barrier_kit.proofs.CutLists.{odd_parts-counted}
 use Rattle.barrier_kit.proofs.barrier.is_barrier.Goals as goal
 

@@ -1,5 +1,5 @@
 use Rattle.std.proofs.Common.{◌≡◌, ◌∙◌, ◌↔◌, ℕ, ap, subst, true}
-use Rattle.counting.specs.Common.{Within, mem}
+use Rattle.counting.proofs.Common.{Within, mem}
 use Rattle.barrier_kit.proofs.ListedClasses.{class-row}
 use Rattle.barrier_kit.proofs.canonical_partition.class_of.Goals as goal
 

@@ -1,8 +1,7 @@
-use Rattle.std.proofs.Common.{ap, ◌∙◌, List, ℕ}
-use Rattle.std.specs.Prelude.{fold}
+use Rattle.std.proofs.Common.{ap, ◌∙◌, List, ℕ, fold}
 use Rattle.std.proofs.lemmas.Result.{on_ok_weaker}
-use Rattle.counting.specs.Common.{mem}
-use Rattle.graph_core.specs.Common.{components, Graph, with_cut}
+use Rattle.counting.proofs.Common.{mem}
+use Rattle.graph_core.proofs.Common.{components, Graph, with_cut}
 use Rattle.barrier_kit.proofs.shores.add_class_cuts.Goals as goal
 
 pub returns : goal.returns

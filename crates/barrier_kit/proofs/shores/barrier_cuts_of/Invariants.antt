@@ -1,6 +1,6 @@
 use Rattle.std.proofs.Common.{◌≡◌, [], fold, flat_map, take}
-use Rattle.counting.specs.Common.{mem}
-use Rattle.graph_core.specs.Common.{components, with_cut}
+use Rattle.counting.proofs.Common.{mem}
+use Rattle.graph_core.proofs.Common.{components, with_cut}
 use Rattle.barrier_kit.proofs.shores.barrier_cuts_of.Given as goal
 
 abbrev pub invariant-loop-class : goal.invariant-loop-class

@@ -1,6 +1,6 @@
 use Rattle.std.proofs.Common.{◌≡◌, ℕ, refl, subst₂}
-use Rattle.tree_check.specs.Judgements.{why_of}
-use Rattle.report_text.specs.Judgements.{judgement_text}
+use Rattle.tree_check.specs.Common.{why_of}
+use Rattle.report_text.specs.Common.{judgement_text}
 use Rattle.report_text.specs.declared.judgements.Shown.{Shown}
 use Rattle.report_text.specs.declared.judgements.TreeLine.TheVariants as line
 use Rattle.bench_reports.proofs.checking.refused_report.Goals as goal

@@ -1,14 +1,12 @@
 use Rattle.std.proofs.Common.{◌≡◌, ◌∙◌, ℕ, List, length, map, ap, refl, sym, subst, arith}
 use Rattle.counting.proofs.Common.{length-map}
 use Rattle.contraction.specs.Partition.{PartitionValue}
-use Rattle.graph_core.specs.Common.{singles}
-use Rattle.tree_core.specs.Common.{StandsAt, leaves, moves_of, Fits, shape_of}
-use Rattle.tree_core.proofs.DerivationStands.{fits-derivation, stands-derivation}
-use Rattle.report_text.specs.Comparisons.{pairing_text}
+use Rattle.graph_core.proofs.Common.{singles}
+use Rattle.tree_core.proofs.Common.{StandsAt, leaves, moves_of, Fits, shape_of, fits-derivation, stands-derivation, blocks-of_leaves, few-leaves_listed, few-nodes}
+use Rattle.report_text.specs.Common.{pairing_text}
 use Rattle.report_text.specs.declared.comparisons.MapLine.{MapLine}
-use Rattle.uncross.specs.MapView.{map_of, maps_of}
+use Rattle.uncross.specs.Common.{map_of, maps_of}
 use Rattle.bench_outcomes.specs.Common.{lines_of}
-use Rattle.tree_core.proofs.FewLeaves.{blocks-of_leaves, few-leaves_listed, few-nodes}
 use Rattle.bench_reports.proofs.comparing.compare_report.Goals as goal
 
 pub leaves-requires-clause-fits : goal.leaves-requires-clause-fits

@@ -5,7 +5,7 @@ use Rattle.counting.proofs.Common.{append-nil, length-map}
 use Rattle.std.proofs.lemmas.Option.{slice_get-map}
 use Rattle.contraction.specs.Partition.{PartitionValue}
 use Rattle.report_text.specs.declared.comparisons.MapLine.{MapLine}
-use Rattle.uncross.specs.MapView.{map_of, maps_of}
+use Rattle.uncross.specs.Common.{map_of, maps_of}
 use Rattle.bench_outcomes.specs.Common.{lines_of}
 use Rattle.bench_reports.proofs.PairLines.{lines-more, lines-none}
 use Rattle.bench_reports.proofs.comparing.lines_of.Goals as goal

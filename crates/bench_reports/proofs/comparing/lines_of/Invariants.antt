@@ -1,6 +1,6 @@
 use Rattle.std.proofs.Common.{◌≡◌, ◌+◌, ◌++◌, length, map, drop}
 use Rattle.std.specs.Vec.Iter.{into_iter_items, into_iter_len}
-use Rattle.uncross.specs.MapView.{maps_of}
+use Rattle.uncross.specs.Common.{maps_of}
 use Rattle.bench_outcomes.specs.Common.{lines_of}
 use Rattle.bench_reports.proofs.comparing.lines_of.Given as goal
 

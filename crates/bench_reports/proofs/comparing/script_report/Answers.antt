@@ -1,10 +1,7 @@
 use Rattle.std.proofs.Common.{ℕ, length, sym, subst, arith}
-use Rattle.std.specs.List.{AllByRecursion}
-use Rattle.counting.proofs.Common.{length-map}
-use Rattle.tree_core.specs.Common.{move_of, moves_of, shape_of}
-use Rattle.tree_core.proofs.Sizes.{leaf_count-cuts, node_count-cuts}
-use Rattle.move_text.specs.Writing.{HasSets}
-use Rattle.tree_core.proofs.FewLeaves.{few-nodes}
+use Rattle.counting.proofs.Common.{AllByRecursion, length-map}
+use Rattle.tree_core.proofs.Common.{move_of, moves_of, shape_of, leaf_count-cuts, node_count-cuts, few-nodes}
+use Rattle.move_text.specs.Common.{HasSets}
 use Rattle.bench_reports.proofs.ScriptMoves.{few-moves, script-paths, script-sets}
 use Rattle.bench_reports.proofs.ScriptTexts.{scripted}
 use Rattle.bench_reports.proofs.comparing.script_report.Goals as goal

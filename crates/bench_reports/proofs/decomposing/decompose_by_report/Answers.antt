@@ -1,6 +1,6 @@
 use Rattle.std.proofs.Common.{IfOk, List, ℕ, subst}
-use Rattle.graph_text.specs.SoFar.{named_graph}
-use Rattle.decomposer.specs.Orders.{ScriptPicks}
+use Rattle.graph_text.specs.Common.{named_graph}
+use Rattle.decomposer.specs.Common.{ScriptPicks}
 use Rattle.bench_outcomes.specs.Common.{DecomposeGives}
 use Rattle.bench_reports.proofs.decomposing.decompose_by_report.Goals as goal
 

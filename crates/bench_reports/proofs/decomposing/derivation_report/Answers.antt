@@ -1,10 +1,8 @@
 use Rattle.std.proofs.Common.{ℕ, All, ◌≡◌, ap, refl, sym, subst, arith, length}
 use Rattle.contraction.specs.Partition.{PartitionValue}
-use Rattle.graph_text.specs.SoFar.{named_graph}
-use Rattle.tree_core.specs.Common.{StandsAt, leaves, partitions_of, Fits, shape_of}
-use Rattle.graph_core.specs.Common.{singles}
-use Rattle.tree_core.proofs.DerivationStands.{fits-derivation, stands-derivation}
-use Rattle.tree_core.proofs.FewLeaves.{few-leaves_listed, few-nodes, orders-of_leaves}
+use Rattle.graph_text.specs.Common.{named_graph}
+use Rattle.tree_core.proofs.Common.{StandsAt, leaves, partitions_of, Fits, shape_of, fits-derivation, stands-derivation, few-leaves_listed, few-nodes, orders-of_leaves}
+use Rattle.graph_core.proofs.Common.{singles}
 use Rattle.bench_outcomes.proofs.DerivationTexts.{has-vertices, told}
 use Rattle.bench_reports.proofs.decomposing.derivation_report.Goals as goal
 

@@ -1,8 +1,7 @@
 use Rattle.std.proofs.Common.{ℕ, ap, arith, length, subst₂, sym}
 use Rattle.counting.proofs.Common.{length-map}
 use Rattle.ear_core.proofs.Stepping.{list-fits, list-filled}
-use Rattle.ear_core.specs.EarLists.{FitsEars}
-use Rattle.ear_core.specs.View.{ears_of, step_of}
+use Rattle.ear_core.specs.Common.{FitsEars, ears_of, step_of}
 use Rattle.bench_outcomes.proofs.EarSteps.{few-steps}
 use Rattle.bench_reports.proofs.ear_checking.built_report.Goals as goal
 

@@ -1,7 +1,7 @@
 use Rattle.std.proofs.Common.{◌≡◌, ℕ, refl, subst₂}
 use Rattle.std.specs.declared.option.Option.{Option}
-use Rattle.ear_core.specs.View.{why_of}
-use Rattle.report_text.specs.Judgements.{ear_judgement_text}
+use Rattle.ear_core.specs.Common.{why_of}
+use Rattle.report_text.specs.Common.{ear_judgement_text}
 use Rattle.report_text.specs.declared.ear_judgements.EarLine.TheVariants as line
 use Rattle.bench_reports.proofs.ear_checking.refused_report.Goals as goal
 

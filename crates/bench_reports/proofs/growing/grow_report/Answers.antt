@@ -1,16 +1,14 @@
 use Rattle.std.proofs.Common.{◌∙◌, ℕ, ◌≤◌, List, ap, refl, sym, subst, arith}
 use Rattle.counting.proofs.Common.{length-map}
-use Rattle.graph_core.specs.Common.{Graph, size, singles}
-use Rattle.graph_text.specs.Writing.{graph_text}
-use Rattle.tree_core.specs.Common.{IsDerivation, leaves, shape_of}
-use Rattle.tree_core.proofs.Sizes.{leaf_count-cuts, length-leaves_at, node_count-cuts}
-use Rattle.uncross.specs.MapView.{map_of, maps_of}
-use Rattle.report_text.specs.Growths.{grown_text}
-use Rattle.move_laws.specs.Pairings.{IsPairing}
+use Rattle.graph_core.proofs.Common.{Graph, size, singles}
+use Rattle.graph_text.specs.Common.{graph_text}
+use Rattle.tree_core.proofs.Common.{IsDerivation, leaves, shape_of, leaf_count-cuts, length-leaves_at, node_count-cuts, few-nodes}
+use Rattle.uncross.specs.Common.{map_of, maps_of}
+use Rattle.report_text.specs.Common.{grown_text}
+use Rattle.move_laws.specs.Common.{IsPairing}
 use Rattle.bench_outcomes.specs.Common.{IsCounted}
-use Rattle.decomposer.specs.Orders.{NamedPicks}
+use Rattle.decomposer.specs.Common.{NamedPicks}
 use Rattle.decomposer.specs.declared.orders.NamedOrder.TheVariants.{First, Last}
-use Rattle.tree_core.proofs.FewLeaves.{few-nodes}
 use Rattle.bench_outcomes.proofs.GrownSizes.{few-edges, few-vertices}
 use Rattle.bench_reports.proofs.growing.grow_report.Goals as goal
 

@@ -1,7 +1,7 @@
 use Rattle.std.proofs.Common.{subst}
 use Rattle.counting.proofs.Common.{IfOk-weaker}
 use Rattle.bench_outcomes.specs.Common.{IsAnalysis}
-use Rattle.graph_core.specs.Common.{Graph}
+use Rattle.graph_core.proofs.Common.{Graph}
 use Rattle.report_text.specs.declared.analyses.AnalysisLines.{AnalysisLines}
 use Rattle.bench_reports.proofs.judging.analysis_lines.Goals as goal
 

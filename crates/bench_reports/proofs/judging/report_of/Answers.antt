@@ -1,7 +1,7 @@
 use Rattle.std.proofs.Math.Logic.{∥∥₁_elim}
-use Rattle.graph_core.specs.Common.{size}
-use Rattle.tree_core.specs.Common.{shape_of}
-use Rattle.ear_core.specs.View.{ears_of}
+use Rattle.graph_core.proofs.Common.{size}
+use Rattle.tree_core.proofs.Common.{shape_of}
+use Rattle.ear_core.specs.Common.{ears_of}
 use Rattle.bench_reports.proofs.GivenFacts.{ears-fit_prop, tree-fits_prop}
 use Rattle.bench_reports.proofs.judging.report_of.Goals as goal
 

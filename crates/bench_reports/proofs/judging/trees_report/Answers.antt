@@ -1,5 +1,5 @@
 use Rattle.std.proofs.Math.Logic.{∥∥₁_elim}
-use Rattle.tree_core.specs.Common.{shape_of}
+use Rattle.tree_core.proofs.Common.{shape_of}
 use Rattle.bench_reports.proofs.GivenFacts.{tree-fits_prop}
 use Rattle.bench_reports.proofs.judging.trees_report.Goals as goal
 

@@ -1,8 +1,6 @@
 use Rattle.std.proofs.Common.{ℕ, subst, sym}
-use Rattle.graph_core.specs.Common.{singles}
-use Rattle.tree_core.specs.Common.{Fits, shape_of}
-use Rattle.tree_core.proofs.DerivationStands.{fits-derivation, stands-derivation}
-use Rattle.tree_core.proofs.FewLeaves.{few-nodes}
+use Rattle.graph_core.proofs.Common.{singles}
+use Rattle.tree_core.proofs.Common.{Fits, shape_of, fits-derivation, stands-derivation, few-nodes}
 use Rattle.bench_outcomes.proofs.DerivationTexts.{has-vertices}
 use Rattle.bench_reports.proofs.replaying.last_tree_report.Goals as goal
 

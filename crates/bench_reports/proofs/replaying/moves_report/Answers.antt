@@ -1,7 +1,7 @@
 use Rattle.std.proofs.Common.{subst, sym}
-use Rattle.graph_core.specs.Common.{Graph}
-use Rattle.tree_core.specs.Common.{IsDerivation, moves_of, shape_of}
-use Rattle.tree_check.specs.Replays.{IsReplay}
+use Rattle.graph_core.proofs.Common.{Graph}
+use Rattle.tree_core.proofs.Common.{IsDerivation, moves_of, shape_of}
+use Rattle.tree_check.specs.Common.{IsReplay}
 use Rattle.tree_check.proofs.ReplaySteps.{reached-derivation}
 use Rattle.bench_reports.proofs.replaying.moves_report.Goals as goal
 

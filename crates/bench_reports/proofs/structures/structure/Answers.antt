@@ -1,7 +1,7 @@
 use Rattle.std.proofs.Common.{◌∙◌, ap, subst}
-use Rattle.graph_core.specs.Common.{Graph, cut_pair, equivalent_pair}
+use Rattle.graph_core.proofs.Common.{Graph, cut_pair, equivalent_pair}
 use Rattle.leaf_kinds.specs.LeafKinds.{IsKind}
-use Rattle.tight_cuts.specs.Candidates.{candidates, first_shore}
+use Rattle.tight_cuts.specs.Common.{candidates, first_shore}
 use Rattle.bench_reports.proofs.structures.structure.Goals as goal
 
 pub returns : goal.returns

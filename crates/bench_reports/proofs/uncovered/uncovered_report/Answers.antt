@@ -1,6 +1,5 @@
 use Rattle.std.proofs.Common.{refl}
-use Rattle.graph_core.proofs.Common.{reason-uncovered}
-use Rattle.graph_core.specs.Common.{reason_of}
+use Rattle.graph_core.proofs.Common.{reason-uncovered, reason_of}
 use Rattle.bench_reports.proofs.uncovered.uncovered_report.Goals as goal
 
 pub returns : goal.returns

@@ -1,12 +1,8 @@
 -- What the files of each set hold is made a task, and so are the answers of their reads; from
 -- these follow the reads.
 use Rattle.std.proofs.Common.{◌≡◌, [], ◌∷◌, rules}
-use Rattle.graph_text.specs.SoFar.{named_graph}
-use Rattle.bench_tasks.specs.Answered.{place_name}
-use Rattle.bench_tasks.specs.Asked.{asked}
-use Rattle.bench_tasks.specs.Commands.{OnEars, OnGraph, OnMoves, OnPicks, OnSimpleGraph, OnTree, OnTrees}
-use Rattle.bench_tasks.specs.Loading.{ears_given, graph6_file, graph_file, moves_given, on_ears, on_moves, on_picks, on_tree, on_trees, picks_given, tree_given, trees_given}
-use Rattle.bench_tasks.specs.Loads.{given_ears, given_moves, given_picks, given_tree, given_trees, graph_in, task_of}
+use Rattle.graph_text.specs.Common.{named_graph}
+use Rattle.bench_tasks.specs.Common.{place_name, asked, OnEars, OnGraph, OnMoves, OnPicks, OnSimpleGraph, OnTree, OnTrees, ears_given, graph6_file, graph_file, moves_given, on_ears, on_moves, on_picks, on_tree, on_trees, picks_given, tree_given, trees_given, given_ears, given_moves, given_picks, given_tree, given_trees, graph_in, task_of}
 use Rattle.bench_tasks.specs.Tasks as task
 use Rattle.bench_tasks.proofs.AnswersMade.{IsMade, answered-mapped, gathered-as}
 use Rattle.bench_tasks.proofs.gathering.gather.Goals as goal

@@ -1,10 +1,8 @@
 use Rattle.std.proofs.Common.{[], ◌∷◌, refl}
 use Rattle.counting.proofs.Common.{err_from_is_err_and}
-use Rattle.graph_text.specs.SoFar.{named_graph}
-use Rattle.ear_core.specs.View.{ears_of}
-use Rattle.bench_tasks.specs.Loading.{graph_file, loaded_as, ear_file}
-use Rattle.bench_tasks.specs.Answered.{place_name}
-use Rattle.bench_tasks.specs.Loads.{given_ears}
+use Rattle.graph_text.specs.Common.{named_graph}
+use Rattle.ear_core.specs.Common.{ears_of}
+use Rattle.bench_tasks.specs.Common.{graph_file, loaded_as, ear_file, place_name, given_ears}
 use Rattle.bench_tasks.proofs.AnswersMade.{answered-both, answered-stopped, answered-stopped-second}
 use Rattle.bench_tasks.proofs.LoadsMade.{loads-both, loads-stopped, loads-stopped-second}
 use Rattle.bench_tasks.proofs.loading.load_ears.Goals as goal

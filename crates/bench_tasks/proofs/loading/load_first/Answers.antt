@@ -1,6 +1,5 @@
-use Rattle.outside.specs.Shelf.{file_named}
-use Rattle.bench_tasks.specs.Answered.{place_name}
-use Rattle.bench_tasks.specs.Loading.{file_read}
+use Rattle.outside.specs.Common.{file_named}
+use Rattle.bench_tasks.specs.Common.{place_name, file_read}
 use Rattle.bench_tasks.proofs.AnswersMade.{answered-first}
 use Rattle.bench_tasks.proofs.loading.load_first.Goals as goal
 

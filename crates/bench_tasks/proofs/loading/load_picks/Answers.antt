@@ -1,9 +1,7 @@
 use Rattle.std.proofs.Common.{[], ◌∷◌, refl}
 use Rattle.counting.proofs.Common.{err_from_is_err_and}
-use Rattle.graph_text.specs.SoFar.{named_graph}
-use Rattle.bench_tasks.specs.Loading.{graph_file, loaded_as, pick_file}
-use Rattle.bench_tasks.specs.Answered.{place_name}
-use Rattle.bench_tasks.specs.Loads.{given_picks}
+use Rattle.graph_text.specs.Common.{named_graph}
+use Rattle.bench_tasks.specs.Common.{graph_file, loaded_as, pick_file, place_name, given_picks}
 use Rattle.bench_tasks.proofs.AnswersMade.{answered-both, answered-stopped, answered-stopped-second}
 use Rattle.bench_tasks.proofs.LoadsMade.{loads-both, loads-stopped, loads-stopped-second}
 use Rattle.bench_tasks.proofs.loading.load_picks.Goals as goal

@@ -1,10 +1,8 @@
 use Rattle.std.proofs.Common.{[], ◌∷◌, refl}
 use Rattle.counting.proofs.Common.{err_from_is_err_and}
-use Rattle.graph_text.specs.SoFar.{named_graph}
-use Rattle.tree_core.specs.Common.{shape_of}
-use Rattle.bench_tasks.specs.Loading.{graph_file, loaded_as, tree_file}
-use Rattle.bench_tasks.specs.Answered.{place_name}
-use Rattle.bench_tasks.specs.Loads.{given_tree}
+use Rattle.graph_text.specs.Common.{named_graph}
+use Rattle.tree_core.proofs.Common.{shape_of}
+use Rattle.bench_tasks.specs.Common.{graph_file, loaded_as, tree_file, place_name, given_tree}
 use Rattle.bench_tasks.proofs.AnswersMade.{answered-both, answered-stopped, answered-stopped-second}
 use Rattle.bench_tasks.proofs.LoadsMade.{loads-both, loads-stopped, loads-stopped-second}
 use Rattle.bench_tasks.proofs.loading.load_tree.Goals as goal

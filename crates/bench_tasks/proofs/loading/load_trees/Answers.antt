@@ -1,9 +1,7 @@
 use Rattle.std.proofs.Common.{[], ◌∷◌, refl}
 use Rattle.counting.proofs.Common.{err_from_is_err_and}
-use Rattle.tree_core.specs.Common.{shape_of}
-use Rattle.bench_tasks.specs.Loading.{loaded_as, tree_file, tree_given}
-use Rattle.bench_tasks.specs.Answered.{place_name}
-use Rattle.bench_tasks.specs.Loads.{given_tree, given_trees}
+use Rattle.tree_core.proofs.Common.{shape_of}
+use Rattle.bench_tasks.specs.Common.{loaded_as, tree_file, tree_given, place_name, given_tree, given_trees}
 use Rattle.bench_tasks.proofs.AnswersMade.{answered-both, answered-stopped, answered-stopped-second}
 use Rattle.bench_tasks.proofs.LoadsMade.{loads-both, loads-stopped, loads-stopped-second}
 use Rattle.bench_tasks.proofs.loading.load_trees.Goals as goal

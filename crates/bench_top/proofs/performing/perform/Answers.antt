@@ -1,5 +1,5 @@
 use Rattle.std.proofs.Common.{List, ℕ, ◌≡◌, length, take, subst, ap, Err, ◌<◌}
-use Rattle.outside.specs.Sink.{IsCutOff, IsWritten, appended}
+use Rattle.outside.specs.Common.{IsCutOff, IsWritten, appended}
 use Rattle.bench_tasks.specs.Common.{asked, loaded, file_names, task_of}
 use Rattle.bench_top.proofs.GivenFiles.{given-outcome}
 use Rattle.bench_top.proofs.ReadsMade.{absent-fault, first-reads}

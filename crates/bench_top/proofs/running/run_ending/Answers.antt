@@ -1,12 +1,11 @@
-use Rattle.std.proofs.Common.{◌≡◌, ◌∙◌, [], map, Option, None, Some, refl, ap, inl, inr, rules, subst, sym}
+use Rattle.std.proofs.Common.{◌≡◌, ◌∙◌, [], map, Option, None, Some, refl, ap, inl, inr, rules, subst, sym, string_bytes}
 use Rattle.counting.proofs.Common.{same_Some}
-use Rattle.std.specs.Prelude.{string_bytes}
 use Rattle.bench_tasks.specs.Common.{asked, Command, command_of, All, Absent, loaded, names_in}
 use Rattle.bench_outcomes.specs.Common.{CommandGives, CutShort, MayRefuse}
 use Rattle.bench_top.specs.Endings.{IsStopOf, StopsAfter}
 use Rattle.bench_outcomes.specs.declared.status.Status.TheVariants.{Usage}
 use Rattle.bench_top.specs.Given.{GivenOutcome}
-use Rattle.outside.specs.Shelf.{ReadsFirst}
+use Rattle.outside.specs.Common.{ReadsFirst}
 use Rattle.bench_top.specs.Writes.{GivesTold, WritesAs}
 use Rattle.bench_top.proofs.Completeness.{done-given, done-or_memory}
 use Rattle.bench_top.proofs.running.run_ending.Goals as goal

@@ -1,6 +1,6 @@
 use Rattle.std.proofs.Common.{◌≡◌}
-use Rattle.counting.specs.Common.{rising_list}
-use Rattle.graph_core.specs.Common.{has_ends, graph_of}
+use Rattle.counting.proofs.Common.{rising_list}
+use Rattle.graph_core.proofs.Common.{has_ends, graph_of}
 use Rattle.contraction.proofs.contracted.edges_with.Given as goal
 
 abbrev pub invariant-loop-k : goal.invariant-loop-k

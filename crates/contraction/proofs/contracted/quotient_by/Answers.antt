@@ -1,5 +1,5 @@
 use Rattle.std.proofs.Common.{◌≡◌, ap, sym, ◌∙◌, arith, subst}
-use Rattle.graph_core.specs.Common.{Graph, IsPartition, IsWithinLimits}
+use Rattle.graph_core.proofs.Common.{Graph, IsPartition, IsWithinLimits}
 use Rattle.contraction.specs.Contracted.{ContractedValue, KeepsContraction, contraction}
 use Rattle.contraction.specs.Partition.{KeepsPartition, PartitionValue}
 use Rattle.contraction.proofs.QuotientValues.{contraction-same, few-blocks, length-ends, pairs-limits, pairs-once}

@@ -1,6 +1,6 @@
 use Rattle.std.proofs.Common.{ℕ, length, Vec, Global}
-use Rattle.counting.specs.Common.{rising_list}
-use Rattle.graph_core.specs.Common.{has_ends, graph_of}
+use Rattle.counting.proofs.Common.{rising_list}
+use Rattle.graph_core.proofs.Common.{has_ends, graph_of}
 use Rattle.contraction.proofs.PairLists.{kept-more}
 use Rattle.contraction.proofs.contracted.remember.Goals as goal
 

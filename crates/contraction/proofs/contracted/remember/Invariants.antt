@@ -1,6 +1,6 @@
 use Rattle.std.proofs.Common.{◌≡◌, ℕ, length, map, take}
-use Rattle.counting.specs.Common.{rising_list}
-use Rattle.graph_core.specs.Common.{has_ends, graph_of, pair_of}
+use Rattle.counting.proofs.Common.{rising_list}
+use Rattle.graph_core.proofs.Common.{has_ends, graph_of, pair_of}
 use Rattle.indexmap.specs.IndexMap.{keys}
 use Rattle.contraction.proofs.contracted.remember.Given as goal
 

@@ -1,6 +1,6 @@
 use Rattle.std.proofs.Common.{◌≡◌, ◌∙◌, List, ap, arith, map}
 use Rattle.counting.proofs.Common.{IfOk-weaker}
-use Rattle.graph_core.specs.Common.{Graph, graph_of, pair_of, quotient}
+use Rattle.graph_core.proofs.Common.{Graph, graph_of, pair_of, quotient}
 use Rattle.graph_core.specs.declared.ends.Ends.{Ends}
 use Rattle.contraction.proofs.QuotientValues.{few-blocks, pairs-limits, pairs-quotient}
 use Rattle.contraction.proofs.graph_alone.quotient_graph.Goals as goal

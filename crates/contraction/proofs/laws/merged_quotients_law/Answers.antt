@@ -1,5 +1,4 @@
-use Rattle.graph_core.proofs.Common.{complement_of-rises, complement-tight}
-use Rattle.graph_core.specs.Common.{complement_of}
+use Rattle.graph_core.proofs.Common.{complement_of-rises, complement-tight, complement_of}
 use Rattle.contraction.proofs.MergedQuotients.{merged-blocks, merged-covered, tight-after, tight-before}
 use Rattle.contraction.proofs.laws.merged_quotients_law.Goals as goal
 

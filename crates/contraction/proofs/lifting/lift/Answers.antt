@@ -1,12 +1,9 @@
-use Rattle.std.proofs.Common.{◌≡◌, ℕ, Bool, false, ◌||◌, ◌==◌, List, ap, ap₂, ◌∙◌, subst, sym}
-use Rattle.std.specs.Prelude.{All}
-use Rattle.std.specs.List.{list_any}
-use Rattle.counting.proofs.Common.{IfOk-weaker}
-use Rattle.counting.specs.Common.{Within, mem, rising_list}
-use Rattle.graph_core.specs.Common.{size, IsPerfectAt, lifted}
+use Rattle.std.proofs.Common.{◌≡◌, ℕ, Bool, false, ◌||◌, ◌==◌, List, ap, ap₂, ◌∙◌, subst, sym, All}
+use Rattle.counting.proofs.Common.{list_any, IfOk-weaker, Within, mem, rising_list}
+use Rattle.graph_core.proofs.Common.{size, IsPerfectAt, lifted}
 use Rattle.match_search.proofs.Marks.{no-marks}
-use Rattle.match_core.specs.MatchingRows.{edges_of}
-use Rattle.match_search.specs.Rows.{marks}
+use Rattle.match_core.specs.Common.{edges_of}
+use Rattle.match_search.specs.Common.{marks}
 use Rattle.match_core.specs.declared.matching.MatchRow.{MatchRow}
 use Rattle.contraction.specs.LeastEdges.{least_at}
 use Rattle.contraction.proofs.LeastEdges.{blocks-of, marked-lifted}

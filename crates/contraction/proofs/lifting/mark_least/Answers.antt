@@ -1,7 +1,6 @@
 use Rattle.std.proofs.Common.{ℕ, ◌||◌, ◌==◌, sym, ap, ◌∙◌, take}
-use Rattle.counting.proofs.Common.{or_assoc}
-use Rattle.std.specs.List.{list_any}
-use Rattle.match_search.specs.Rows.{marks}
+use Rattle.counting.proofs.Common.{or_assoc, list_any}
+use Rattle.match_search.specs.Common.{marks}
 use Rattle.match_core.specs.declared.matching.MatchRow.{MatchRow}
 use Rattle.match_search.proofs.GrownRows.{with_put}
 use Rattle.contraction.specs.LeastEdges.{least_at}

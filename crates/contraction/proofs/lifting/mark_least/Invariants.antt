@@ -1,6 +1,6 @@
 use Rattle.std.proofs.Common.{◌≡◌, ℕ, ◌==◌, ◌||◌, length, take}
-use Rattle.std.specs.List.{list_any}
-use Rattle.match_search.specs.Rows.{marks}
+use Rattle.counting.proofs.Common.{list_any}
+use Rattle.match_search.specs.Common.{marks}
 use Rattle.match_core.specs.declared.matching.MatchRow.{MatchRow}
 use Rattle.contraction.specs.LeastEdges.{least_at}
 use Rattle.contraction.proofs.lifting.mark_least.Given as goal

@@ -1,6 +1,6 @@
 use Rattle.std.proofs.Common.{◌≡◌}
-use Rattle.counting.specs.Common.{rising_list}
-use Rattle.match_search.specs.Rows.{marks}
+use Rattle.counting.proofs.Common.{rising_list}
+use Rattle.match_search.specs.Common.{marks}
 use Rattle.contraction.proofs.lifting.marked_numbers.Given as goal
 
 abbrev pub invariant-loop-i : goal.invariant-loop-i

@@ -3,7 +3,7 @@ use Rattle.std.proofs.Common.{rules, ℕ, List, Bool}
 use Rattle.std.proofs.lemmas.Iterator.{YieldsList-from_slice}
 use Rattle.std.proofs.lemmas.Iterator.Consumers.{YieldsList-from_copied}
 use Rattle.itertools.proofs.ConsumerLemmas.{find_at-of-run}
-use Rattle.counting.specs.Common.{mem}
+use Rattle.counting.proofs.Common.{mem}
 use Rattle.contraction.proofs.partition.first_holding.Goals as goal
 
 pub returns : goal.returns

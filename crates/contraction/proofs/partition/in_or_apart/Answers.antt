@@ -1,5 +1,5 @@
 use Rattle.std.proofs.Common.{ap, sym, ◌∙◌, ◌||◌, ◌==◌}
-use Rattle.counting.specs.Common.{is_apart}
+use Rattle.counting.proofs.Common.{is_apart}
 use Rattle.contraction.proofs.BlockUnions.{apart-met}
 use Rattle.contraction.proofs.partition.in_or_apart.Goals as goal
 

@@ -1,5 +1,5 @@
 use Rattle.std.proofs.Common.{◌≡◌, ◌+◌, ◌++◌, ◌∷◌, [], ap, ap₂, sym, ◌∙◌, arith, suc}
-use Rattle.graph_core.specs.Common.{singles}
+use Rattle.graph_core.proofs.Common.{singles}
 use Rattle.contraction.proofs.partition.single_vertices.Goals as goal
 
 pub loop-v-preserved : goal.loop-v-preserved

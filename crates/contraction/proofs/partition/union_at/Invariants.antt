@@ -1,6 +1,6 @@
 use Rattle.std.proofs.Common.{◌≡◌, ℕ, ◌&&◌}
-use Rattle.counting.specs.Common.{mem, some}
-use Rattle.graph_core.specs.Common.{block}
+use Rattle.counting.proofs.Common.{mem, some}
+use Rattle.graph_core.proofs.Common.{block}
 use Rattle.contraction.proofs.partition.union_at.Given as goal
 
 abbrev pub invariant-loop-i : goal.invariant-loop-i

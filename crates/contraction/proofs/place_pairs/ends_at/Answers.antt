@@ -1,7 +1,6 @@
 use Rattle.std.proofs.Common.{◌≡◌, arith, ap, ◌∙◌, length, take, map, take_all}
-use Rattle.graph_core.specs.Common.{place}
+use Rattle.graph_core.proofs.Common.{place, ends_within}
 use Rattle.graph_core.specs.declared.ends.Ends.{Ends}
-use Rattle.graph_core.proofs.Common.{ends_within}
 use Rattle.contraction.proofs.QuotientPairs.{ends-contracted}
 use Rattle.contraction.proofs.place_pairs.ends_at.Goals as goal
 

@@ -1,5 +1,5 @@
 use Rattle.std.proofs.Common.{◌≡◌, take, map}
-use Rattle.graph_core.specs.Common.{place, pair_of}
+use Rattle.graph_core.proofs.Common.{place, pair_of}
 use Rattle.graph_core.specs.declared.ends.Ends.{Ends}
 use Rattle.contraction.proofs.place_pairs.ends_at.Given as goal
 

@@ -1,6 +1,5 @@
 use Rattle.std.proofs.Common.{ap, arith}
-use Rattle.graph_core.specs.Common.{Graph}
-use Rattle.graph_core.proofs.Common.{ends_within}
+use Rattle.graph_core.proofs.Common.{Graph, ends_within}
 use Rattle.contraction.proofs.QuotientPairs.{ends_differ}
 use Rattle.contraction.proofs.place_pairs.graph_with.Goals as goal
 

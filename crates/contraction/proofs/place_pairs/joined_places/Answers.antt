@@ -1,5 +1,5 @@
 use Rattle.std.proofs.Common.{arith, subst}
-use Rattle.graph_core.specs.Common.{IsPartition}
+use Rattle.graph_core.proofs.Common.{IsPartition}
 use Rattle.contraction.proofs.QuotientValues.{ends-at, ends-graph, few-blocks}
 use Rattle.contraction.proofs.place_pairs.joined_places.Goals as goal
 

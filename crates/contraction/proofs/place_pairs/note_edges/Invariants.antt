@@ -1,7 +1,6 @@
 use Rattle.std.proofs.Common.{◌≡◌, ℕ, length, take, nat_lt, ◌&&◌}
-use Rattle.std.specs.List.{list_any}
-use Rattle.counting.specs.Common.{Within, mem, item}
-use Rattle.graph_core.specs.Common.{are_ends}
+use Rattle.counting.proofs.Common.{list_any, Within, mem, item}
+use Rattle.graph_core.proofs.Common.{are_ends}
 use Rattle.contraction.proofs.place_pairs.note_edges.Given as goal
 
 abbrev pub invariant-loop-edge : goal.invariant-loop-edge

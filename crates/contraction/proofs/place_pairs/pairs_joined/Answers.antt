@@ -1,5 +1,5 @@
 use Rattle.std.proofs.Common.{ap, ◌∙◌, arith, Result, Ok, Err, IfOk, OnOk, List, ℕ, length}
-use Rattle.counting.specs.Common.{item, mem}
+use Rattle.counting.proofs.Common.{item, mem}
 use Rattle.contraction.proofs.JoinedPairs.{rows-joined}
 use Rattle.contraction.proofs.place_pairs.pairs_joined.Goals as goal
 

@@ -1,6 +1,6 @@
 use Rattle.std.proofs.Common.{◌≡◌, ◌++◌, map}
-use Rattle.counting.specs.Common.{pair_with}
-use Rattle.graph_core.specs.Common.{pair_of}
+use Rattle.counting.proofs.Common.{pair_with}
+use Rattle.graph_core.proofs.Common.{pair_of}
 use Rattle.contraction.proofs.place_pairs.push_row.Given as goal
 
 abbrev pub invariant-loop-b : goal.invariant-loop-b

@@ -1,6 +1,6 @@
 use Rattle.std.proofs.Common.{◌≡◌, ℕ, map, flat_map}
-use Rattle.counting.specs.Common.{Within, IsRisingIn, item, pair_with, rising_list, everything}
-use Rattle.graph_core.specs.Common.{pair_of}
+use Rattle.counting.proofs.Common.{Within, IsRisingIn, item, pair_with, rising_list, everything}
+use Rattle.graph_core.proofs.Common.{pair_of}
 use Rattle.contraction.proofs.place_pairs.row_pairs.Given as goal
 
 abbrev pub invariant-loop-i : goal.invariant-loop-i

@@ -1,8 +1,6 @@
 use Rattle.std.proofs.Common.{ap, arith, length, ◌∙◌}
-use Rattle.graph_core.specs.Common.{singles}
-use Rattle.tree_core.proofs.FewLeaves.{few-nodes}
-use Rattle.tree_core.proofs.Sizes.{leaf_count-cuts, length-leaves_at, node_count-cuts}
-use Rattle.tree_core.specs.Common.{shape_of, tally_of}
+use Rattle.graph_core.proofs.Common.{singles}
+use Rattle.tree_core.proofs.Common.{few-nodes, leaf_count-cuts, length-leaves_at, node_count-cuts, shape_of, tally_of}
 use Rattle.decomposer.proofs.counting_leaves.tally_of_kinds.Goals as goal
 
 pub tallied-requires : goal.tallied-requires

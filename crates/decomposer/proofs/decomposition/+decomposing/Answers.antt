@@ -1,9 +1,7 @@
 use Rattle.std.proofs.Common.{◌+◌, ◌≤◌, ap, length, arith, rules}
-use Rattle.counting.proofs.Common.{IfOk-weaker, count_complement}
-use Rattle.counting.specs.Common.{mem}
-use Rattle.graph_core.specs.Common.{blocks_in}
-use Rattle.tree_core.specs.Common.{cut_count, shape_of}
-use Rattle.tree_core.proofs.CutsBelow.{blocks-below}
+use Rattle.counting.proofs.Common.{IfOk-weaker, count_complement, mem}
+use Rattle.graph_core.proofs.Common.{blocks_in}
+use Rattle.tree_core.proofs.Common.{cut_count, shape_of, blocks-below}
 use Rattle.decomposer.proofs.Picking.{cut-decomposes}
 use Rattle.decomposer.proofs.decomposition.+decomposing.Goals as goal
 

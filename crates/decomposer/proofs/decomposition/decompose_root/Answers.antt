@@ -1,10 +1,9 @@
 use Rattle.std.proofs.Common.{◌≡◌, List, subst, sym}
-use Rattle.graph_core.specs.Common.{singles}
-use Rattle.tight_cuts.specs.CandidatesAt.{candidates_at}
-use Rattle.tree_core.proofs.AddedKinds.{adds-all}
-use Rattle.tree_core.specs.Common.{AddsKinds, IsCutAt, IsDerivationAt, PlaceValue, leaves_at, shape_of}
+use Rattle.graph_core.proofs.Common.{singles}
+use Rattle.tight_cuts.specs.Common.{candidates_at}
+use Rattle.tree_core.proofs.Common.{adds-all, AddsKinds, IsCutAt, IsDerivationAt, PlaceValue, leaves_at, shape_of}
 use Rattle.tree_core.specs.declared.tallies.LeafKind.{LeafKind}
-use Rattle.decomposer.specs.Picked.{IsPickedAt, PicksShore}
+use Rattle.decomposer.specs.Common.{IsPickedAt, PicksShore}
 use Rattle.decomposer.proofs.decomposition.decompose_root.Goals as goal
 
 pub decompose_cut-requires-clause-cut : goal.decompose_cut-requires-clause-cut

@@ -1,10 +1,9 @@
 use Rattle.std.proofs.Common.{List, [], ◌∷◌, ◌++◌, ◌∙◌, ap, subst}
-use Rattle.graph_core.specs.Common.{Graph, singles}
-use Rattle.tight_cuts.specs.CandidatesAt.{candidates_at}
-use Rattle.tree_core.proofs.AddedKinds.{adds-all, adds-one}
-use Rattle.tree_core.specs.Common.{IsCutAt, IsLeafKind}
+use Rattle.graph_core.proofs.Common.{Graph, singles}
+use Rattle.tight_cuts.specs.Common.{candidates_at}
+use Rattle.tree_core.proofs.Common.{adds-all, adds-one, IsCutAt, IsLeafKind}
 use Rattle.tree_core.specs.declared.tallies.LeafKind.{LeafKind}
-use Rattle.decomposer.specs.Picked.{PicksShore}
+use Rattle.decomposer.specs.Common.{PicksShore}
 use Rattle.decomposer.proofs.decomposition.decompose_with_kinds.Goals as goal
 
 pub decompose_root-requires-clause-cut : goal.decompose_root-requires-clause-cut

@@ -1,10 +1,8 @@
 use Rattle.std.proofs.Common.{ℕ, All, List, [], ap, sym, subst, ◌∙◌, slice_get, unwrap_or, Option, length, eqb-true}
 use Rattle.std.proofs.lemmas.List.{nil_from_length}
 use Rattle.counting.proofs.Common.{none-some}
-use Rattle.tight_cuts.specs.Candidates.{Candidate}
-use Rattle.tight_cuts.specs.CandidatesAt.{IsCandidateAt}
-use Rattle.tight_cuts.specs.View.{candidate_of}
-use Rattle.tree_core.specs.Common.{IsCutAt}
+use Rattle.tight_cuts.specs.Common.{Candidate, IsCandidateAt, candidate_of}
+use Rattle.tree_core.proofs.Common.{IsCutAt}
 use Rattle.decomposer.proofs.Picking.{picked-shore, some-stored, stored-length}
 use Rattle.decomposer.proofs.shores.listed_shore.Goals as goal
 

@@ -1,7 +1,7 @@
 use Rattle.std.proofs.Common.{List, ℕ, IsTrue, ◌↔◌, ◌∙◌, ap, rules, subst, subst₂, sym}
-use Rattle.graph_core.specs.Common.{Graph, IsBipartite, IsCovered, quotient}
-use Rattle.tree_core.specs.Common.{IsLeafAt}
-use Rattle.decomposer.specs.Picked.{AreCandidatesAt, IsFirstAt}
+use Rattle.graph_core.proofs.Common.{Graph, IsBipartite, IsCovered, quotient}
+use Rattle.tree_core.proofs.Common.{IsLeafAt}
+use Rattle.decomposer.specs.Common.{AreCandidatesAt, IsFirstAt}
 use Rattle.decomposer.proofs.Picking.{first-picked}
 use Rattle.decomposer.proofs.shores.picked_at.Goals as goal
 

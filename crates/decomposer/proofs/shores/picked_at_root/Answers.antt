@@ -1,4 +1,4 @@
-use Rattle.graph_core.specs.Common.{quotient, singles}
+use Rattle.graph_core.proofs.Common.{quotient, singles}
 use Rattle.tight_cuts.proofs.QuotientSides.{bipartite_from_singles, singles_from_bipartite}
 use Rattle.decomposer.proofs.shores.picked_at_root.Goals as goal
 

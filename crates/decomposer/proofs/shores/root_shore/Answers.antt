@@ -1,6 +1,6 @@
 use Rattle.std.proofs.Common.{rules}
-use Rattle.graph_core.specs.Common.{singles}
-use Rattle.tree_core.specs.Common.{IsLeafAt}
+use Rattle.graph_core.proofs.Common.{singles}
+use Rattle.tree_core.proofs.Common.{IsLeafAt}
 use Rattle.decomposer.proofs.Picking.{first-picked}
 use Rattle.decomposer.proofs.shores.root_shore.Goals as goal
 

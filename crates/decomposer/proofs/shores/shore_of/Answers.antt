@@ -1,9 +1,8 @@
 use Rattle.std.proofs.Common.{List, Option, [], ℕ, ap, refl, sym, subst, ◌∙◌, unwrap_or}
 use Rattle.counting.proofs.Common.{none-some}
 use Rattle.std.specs.Option.{option_map}
-use Rattle.tight_cuts.specs.CandidatesAt.{candidates_at}
-use Rattle.tight_cuts.specs.View.{candidate_of}
-use Rattle.tree_core.specs.Common.{IsCutAt}
+use Rattle.tight_cuts.specs.Common.{candidates_at, candidate_of}
+use Rattle.tree_core.proofs.Common.{IsCutAt}
 use Rattle.tight_cuts.proofs.FirstCandidates.{first-nil, first-place}
 use Rattle.decomposer.proofs.Picking.{cut-from_candidate}
 use Rattle.decomposer.proofs.shores.shore_of.Goals as goal

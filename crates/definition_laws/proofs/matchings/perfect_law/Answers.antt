@@ -1,6 +1,6 @@
 use Rattle.graph_core.proofs.Common.{is_perfect_true, true_is_perfect}
 use Rattle.definition_laws.proofs.MatchingWords.{avoids_none, meets-perfect, perfect-avoids, perfect-meets, perfect-no_loop}
-use Rattle.counting.specs.Common.{none}
+use Rattle.counting.proofs.Common.{none}
 use Rattle.definition_laws.proofs.matchings.perfect_law.Goals as goal
 
 pub returns-clause-test : goal.returns-clause-test

@@ -1,6 +1,5 @@
 use Rattle.std.proofs.Common.{le-leb, leb-true, nat_le}
-use Rattle.counting.proofs.Common.{and_from, and_parts}
-use Rattle.counting.specs.Common.{count, complement}
+use Rattle.counting.proofs.Common.{and_from, and_parts, count, complement}
 use Rattle.graph_core.proofs.Common.{is_allowed_found, is_allowed_says, is_tight_found, is_tight_says}
 use Rattle.definition_laws.proofs.matchings.tight_law.Goals as goal
 

@@ -1,7 +1,7 @@
 use Rattle.std.proofs.Common.{◌≡◌, ◌≤◌}
-use Rattle.graph_core.specs.Common.{size, with_ends}
-use Rattle.match_search.specs.Rows.{marks}
-use Rattle.ear_core.specs.StageGraphs.{listed}
+use Rattle.graph_core.proofs.Common.{size, with_ends}
+use Rattle.match_search.specs.Common.{marks}
+use Rattle.ear_core.specs.Common.{listed}
 use Rattle.ear_core.proofs.asking.marked_graph.Given as goal
 
 -- the marked edges so far

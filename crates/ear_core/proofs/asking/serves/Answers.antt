@@ -1,7 +1,6 @@
 use Rattle.std.proofs.Common.{rules}
-use Rattle.counting.proofs.Common.{true≢false}
-use Rattle.counting.specs.Common.{mem}
-use Rattle.match_core.specs.MatchingRows.{edges_of}
+use Rattle.counting.proofs.Common.{true≢false, mem}
+use Rattle.match_core.specs.Common.{edges_of}
 use Rattle.ear_core.proofs.Searching.{asked-serves}
 use Rattle.ear_core.proofs.asking.serves.Goals as goal
 

@@ -1,8 +1,7 @@
 use Rattle.std.proofs.Common.{subst, IfOk}
-use Rattle.std.specs.List.{AllByRecursion}
-use Rattle.graph_core.specs.Common.{Graph, IsBipartite}
-use Rattle.ear_core.specs.EarLists.{IsSingle}
-use Rattle.ear_core.specs.View.{ears_of}
+use Rattle.counting.proofs.Common.{AllByRecursion}
+use Rattle.graph_core.proofs.Common.{Graph, IsBipartite}
+use Rattle.ear_core.specs.Common.{IsSingle, ears_of}
 use Rattle.ear_core.proofs.building.build_ears.Goals as goal
 
 pub returns-clause-single : goal.returns-clause-single

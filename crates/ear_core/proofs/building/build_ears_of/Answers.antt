@@ -1,8 +1,6 @@
 use Rattle.std.proofs.Common.{subst, sym}
-use Rattle.graph_core.specs.Common.{Graph}
-use Rattle.ear_core.specs.AlternatingEars.{IsPerfectRows}
-use Rattle.ear_core.specs.EarLists.{IsBuilt}
-use Rattle.ear_core.specs.View.{ears_of}
+use Rattle.graph_core.proofs.Common.{Graph}
+use Rattle.ear_core.specs.Common.{IsPerfectRows, IsBuilt, ears_of}
 use Rattle.ear_core.proofs.building.build_ears_of.Goals.{In_ok-list}
 use Rattle.ear_core.proofs.building.build_ears_of.Goals as goal
 

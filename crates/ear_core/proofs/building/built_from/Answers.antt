@@ -1,13 +1,8 @@
-use Rattle.std.proofs.Common.{rules, ◌≡◌, ◌<◌, length, map, refl, subst, sym, ℕ}
+use Rattle.std.proofs.Common.{rules, ◌≡◌, ◌<◌, length, map, refl, subst, sym, ℕ, slice_set, true}
 use Rattle.std.proofs.Math.Path.{fun_ext}
-use Rattle.counting.specs.Common.{Set, singleton}
-use Rattle.match_search.specs.Rows.{marks}
-use Rattle.std.specs.Prelude.{slice_set}
-use Rattle.std.proofs.Common.{true}
-use Rattle.ear_core.specs.AlternatingEars.{row_edge, KeepsMates}
-use Rattle.ear_core.specs.EarLists.{AreForced, AreNeeded, AreSteps, IsEarList, PlainEars}
-use Rattle.ear_core.specs.Stages.{is_met}
-use Rattle.ear_core.specs.View.{ears_of, step_of}
+use Rattle.counting.proofs.Common.{Set, singleton}
+use Rattle.match_search.specs.Common.{marks}
+use Rattle.ear_core.specs.Common.{row_edge, KeepsMates, AreForced, AreNeeded, AreSteps, IsEarList, PlainEars, is_met, ears_of, step_of}
 use Rattle.ear_core.proofs.FirstStage.{first-stage}
 use Rattle.ear_core.proofs.Judging.{one-marked, one-stage}
 use Rattle.ear_core.proofs.Stepping.{first-keeps, list-fits, list-filled}

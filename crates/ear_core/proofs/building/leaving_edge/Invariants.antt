@@ -1,8 +1,8 @@
 use Rattle.std.proofs.Common.{◌≡◌, ◌&&◌, ◌||◌, ℕ, false, not}
-use Rattle.counting.specs.Common.{Within}
-use Rattle.graph_core.specs.Common.{first_end, second_end}
-use Rattle.match_search.specs.Rows.{marks}
-use Rattle.ear_core.specs.Stages.{is_met}
+use Rattle.counting.proofs.Common.{Within}
+use Rattle.graph_core.proofs.Common.{first_end, second_end}
+use Rattle.match_search.specs.Common.{marks}
+use Rattle.ear_core.specs.Common.{is_met}
 use Rattle.ear_core.proofs.building.leaving_edge.Given as goal
 
 -- no edge so far leads out

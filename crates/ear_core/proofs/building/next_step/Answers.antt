@@ -1,11 +1,7 @@
-use Rattle.counting.proofs.Common.{IfOk-weaker}
-use Rattle.counting.specs.Common.{mem, Set}
-use Rattle.match_core.specs.MatchingRows.{edges_of}
-use Rattle.match_search.specs.Rows.{marks}
-use Rattle.ear_core.specs.AlternatingEars.{IsPerfectRows}
-use Rattle.ear_core.specs.EarLists.{IsForced, IsSingle}
-use Rattle.ear_core.specs.LoneEars.{LeadsAtTwo}
-use Rattle.ear_core.specs.View.{step_of}
+use Rattle.counting.proofs.Common.{IfOk-weaker, mem, Set}
+use Rattle.match_core.specs.Common.{edges_of}
+use Rattle.match_search.specs.Common.{marks}
+use Rattle.ear_core.specs.Common.{IsPerfectRows, IsForced, IsSingle, LeadsAtTwo, step_of}
 use Rattle.ear_core.proofs.LoneLeads.{lone-leads}
 use Rattle.ear_core.proofs.LoneMatchings.{none-forced, single-forced}
 use Rattle.ear_core.proofs.Searching.{at-none, at-some}

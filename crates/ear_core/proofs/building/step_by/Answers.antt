@@ -1,12 +1,8 @@
 use Rattle.std.proofs.Common.{ap, subst, sym, map, List, IfOk}
-use Rattle.counting.proofs.Common.{IfOk-weaker}
-use Rattle.counting.specs.Common.{none}
-use Rattle.graph_core.specs.Common.{size}
-use Rattle.match_search.specs.Rows.{marks}
-use Rattle.ear_core.specs.AlternatingEars.{AreCandidates, AreMatedEars, IsChosen, KeepsMates, row_edge}
-use Rattle.ear_core.specs.EarLists.{FitsStep, IsNeeded, IsSingle, IsStep, next_stage}
-use Rattle.ear_core.specs.Stages.{is_met}
-use Rattle.ear_core.specs.View.{ear_of, step_of}
+use Rattle.counting.proofs.Common.{IfOk-weaker, none}
+use Rattle.graph_core.proofs.Common.{size}
+use Rattle.match_search.specs.Common.{marks}
+use Rattle.ear_core.specs.Common.{AreCandidates, AreMatedEars, IsChosen, KeepsMates, row_edge, FitsStep, IsNeeded, IsSingle, IsStep, next_stage, is_met, ear_of, step_of}
 use Rattle.ear_core.specs.declared.ears.Ear.{Ear}
 use Rattle.ear_core.proofs.LoneLeads.{lone-single}
 use Rattle.ear_core.proofs.Stepping.{both-ok, round-candidates, round-ears, step-fits, step-keeps}

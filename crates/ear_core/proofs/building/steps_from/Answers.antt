@@ -1,13 +1,8 @@
 use Rattle.std.proofs.Common.{rules, ◌≡◌, ◌∙◌, ◌++◌, ◌∷◌, ◌&&◌, ◌||◌, [], ap, arith, append-nil, subst, sym, map, not, List, All, Bool, false, IfSome, ℕ}
-use Rattle.std.specs.List.{AllByRecursion}
-use Rattle.counting.proofs.Common.{map-append}
-use Rattle.counting.specs.Common.{Within}
-use Rattle.graph_core.specs.Common.{size, first_end, second_end}
-use Rattle.match_search.specs.Rows.{marks}
-use Rattle.ear_core.specs.AlternatingEars.{row_edge, KeepsMates}
-use Rattle.ear_core.specs.EarLists.{PlainStep, AreForced, AreNeeded, AreSteps, IsForced, IsNeeded, IsSingle, IsStep, next_stage}
-use Rattle.ear_core.specs.Stages.{is_met, IsStage}
-use Rattle.ear_core.specs.View.{step_of}
+use Rattle.counting.proofs.Common.{AllByRecursion, map-append, Within}
+use Rattle.graph_core.proofs.Common.{size, first_end, second_end}
+use Rattle.match_search.specs.Common.{marks}
+use Rattle.ear_core.specs.Common.{row_edge, KeepsMates, PlainStep, AreForced, AreNeeded, AreSteps, IsForced, IsNeeded, IsSingle, IsStep, next_stage, is_met, IsStage, step_of}
 use Rattle.ear_core.proofs.NeededPairs.{each-go_on}
 use Rattle.ear_core.proofs.Taking.{second_fits}
 use Rattle.ear_core.proofs.Searching.{at-none}

@@ -1,12 +1,8 @@
 use Rattle.std.proofs.Common.{◌≡◌, ◌+◌, ◌++◌, List, map, length}
-use Rattle.std.specs.List.{AllByRecursion}
-use Rattle.counting.specs.Common.{count, complement}
-use Rattle.graph_core.specs.Common.{size, IsBipartite}
-use Rattle.match_search.specs.Rows.{marks}
-use Rattle.ear_core.specs.AlternatingEars.{KeepsMates, row_edge}
-use Rattle.ear_core.specs.EarLists.{PlainStep, AreForced, AreNeeded, AreSteps, IsSingle}
-use Rattle.ear_core.specs.Stages.{is_met, IsStage}
-use Rattle.ear_core.specs.View.{step_of}
+use Rattle.counting.proofs.Common.{AllByRecursion, count, complement}
+use Rattle.graph_core.proofs.Common.{size, IsBipartite}
+use Rattle.match_search.specs.Common.{marks}
+use Rattle.ear_core.specs.Common.{KeepsMates, row_edge, PlainStep, AreForced, AreNeeded, AreSteps, IsSingle, is_met, IsStage, step_of}
 use Rattle.ear_core.proofs.building.steps_from.Given as goal
 
 -- steps that go on from the stage make an ear list together with those so far

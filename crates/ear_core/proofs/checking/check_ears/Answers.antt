@@ -1,8 +1,7 @@
-use Rattle.std.proofs.Common.{rules, ◌≡◌, ◌<◌, ap, map, length, true, ℕ}
-use Rattle.std.specs.Prelude.{slice_set}
-use Rattle.counting.specs.Common.{singleton}
-use Rattle.match_search.specs.Rows.{marks}
-use Rattle.ear_core.specs.View.{step_of, ears_of}
+use Rattle.std.proofs.Common.{rules, ◌≡◌, ◌<◌, ap, map, length, true, ℕ, slice_set}
+use Rattle.counting.proofs.Common.{singleton}
+use Rattle.match_search.specs.Common.{marks}
+use Rattle.ear_core.specs.Common.{step_of, ears_of}
 use Rattle.ear_core.proofs.Judging.{one-marked, one-stage, judged-accepted, judged-refused}
 use Rattle.ear_core.proofs.checking.check_ears.Goals as goal
 use Rattle.ear_core.proofs.checking.check_ears.Goals.{After-as_slice}

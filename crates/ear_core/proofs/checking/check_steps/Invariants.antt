@@ -1,13 +1,8 @@
 use Rattle.std.proofs.Common.{◌≡◌, ◌+◌, ◌≤◌, ℕ, length, map, Option}
-use Rattle.std.specs.List.{AllByRecursion}
-use Rattle.counting.specs.Common.{count}
-use Rattle.graph_core.specs.Common.{size}
-use Rattle.match_search.specs.Rows.{marks}
-use Rattle.ear_core.specs.EarLists.{FitsStep}
-use Rattle.ear_core.specs.EarTests.{PlainWhy}
-use Rattle.ear_core.specs.Refusals.{IsJudged}
-use Rattle.ear_core.specs.Stages.{IsStage}
-use Rattle.ear_core.specs.View.{step_of}
+use Rattle.counting.proofs.Common.{AllByRecursion, count}
+use Rattle.graph_core.proofs.Common.{size}
+use Rattle.match_search.specs.Common.{marks}
+use Rattle.ear_core.specs.Common.{FitsStep, PlainWhy, IsJudged, IsStage, step_of}
 use Rattle.ear_core.proofs.checking.check_steps.Given as goal
 
 -- what is answered of the steps that are left is answered of all; each step so far has marked an

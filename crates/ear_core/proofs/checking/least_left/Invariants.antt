@@ -1,6 +1,6 @@
 use Rattle.std.proofs.Common.{◌≡◌, ℕ, true}
-use Rattle.counting.specs.Common.{Within}
-use Rattle.match_search.specs.Rows.{marks}
+use Rattle.counting.proofs.Common.{Within}
+use Rattle.match_search.specs.Common.{marks}
 use Rattle.ear_core.proofs.checking.least_left.Given as goal
 
 -- the edges so far are marked

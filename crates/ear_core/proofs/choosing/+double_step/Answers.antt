@@ -1,8 +1,5 @@
 use Rattle.std.proofs.Common.{rules, ap, map}
-use Rattle.ear_core.specs.AlternatingEars.{ends_of_ear}
-use Rattle.ear_core.specs.Asking.{FindsBeside, FindsTwo, NoTwoServe, NoneServesBeside}
-use Rattle.ear_core.specs.EarLists.{PlainEar, two}
-use Rattle.ear_core.specs.View.{ear_of, step_of}
+use Rattle.ear_core.specs.Common.{ends_of_ear, FindsBeside, FindsTwo, NoTwoServe, NoneServesBeside, PlainEar, two, ear_of, step_of}
 use Rattle.ear_core.proofs.Searching.{none-carried, no-two-later, some-carried, two-here, two-later, at-none, at-some}
 use Rattle.ear_core.proofs.choosing.+double_step.Goals as goal
 

@@ -1,8 +1,6 @@
 use Rattle.std.proofs.Common.{rules, ◌≡◌, ◌∙◌, ap, ap₂, map, sym, ◌||◌, ℕ}
-use Rattle.counting.specs.Common.{mem, union}
-use Rattle.ear_core.specs.AlternatingEars.{ends_of_ear}
-use Rattle.ear_core.specs.Asking.{FindsBeside, NoneServesBeside}
-use Rattle.ear_core.specs.View.{ear_of}
+use Rattle.counting.proofs.Common.{mem, union}
+use Rattle.ear_core.specs.Common.{ends_of_ear, FindsBeside, NoneServesBeside, ear_of}
 use Rattle.ear_core.proofs.Searching.{serves-same, some-carried, none-carried, beside-here, beside-later, none-beside-later}
 use Rattle.ear_core.proofs.choosing.+first_serving.Goals as goal
 

@@ -1,11 +1,7 @@
 use Rattle.std.proofs.Common.{rules, ap, map, [], ℕ, List}
-use Rattle.counting.specs.Common.{mem}
-use Rattle.match_search.specs.Rows.{marks}
-use Rattle.ear_core.specs.AlternatingEars.{IsChosen}
-use Rattle.ear_core.specs.Asking.{FindsBeside, FindsTwo, NoneServes, NoTwoServe}
-use Rattle.ear_core.specs.EarLists.{IsStep, next_stage, one}
-use Rattle.ear_core.specs.Stages.{IsStage}
-use Rattle.ear_core.specs.View.{ear_of, step_of}
+use Rattle.counting.proofs.Common.{mem}
+use Rattle.match_search.specs.Common.{marks}
+use Rattle.ear_core.specs.Common.{IsChosen, FindsBeside, FindsTwo, NoneServes, NoTwoServe, IsStep, next_stage, one, IsStage, ear_of, step_of}
 use Rattle.ear_core.proofs.BipartiteStages.{bipartite-found}
 use Rattle.ear_core.proofs.NeededPairs.{found-needed}
 use Rattle.ear_core.proofs.Searching.{at-none, at-some, ears-fit, found-one, found-two, never-none}

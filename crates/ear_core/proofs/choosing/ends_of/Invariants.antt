@@ -1,7 +1,7 @@
 use Rattle.std.proofs.Common.{◌≡◌, All, length}
-use Rattle.counting.specs.Common.{Within}
-use Rattle.graph_core.specs.Common.{size}
-use Rattle.ear_core.specs.Ears.{last_vertex}
+use Rattle.counting.proofs.Common.{Within}
+use Rattle.graph_core.proofs.Common.{size}
+use Rattle.ear_core.specs.Common.{last_vertex}
 use Rattle.ear_core.proofs.choosing.ends_of.Given as goal
 
 -- what is left of the ear leads to its last vertex

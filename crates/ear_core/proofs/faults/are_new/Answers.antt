@@ -1,5 +1,5 @@
 use Rattle.std.proofs.Common.{◌<◌, rules, ◌∙◌, length}
-use Rattle.match_search.specs.Rows.{marks}
+use Rattle.match_search.specs.Common.{marks}
 use Rattle.ear_core.proofs.FirstFaults.{new-behind, items-behind}
 use Rattle.ear_core.proofs.faults.are_new.Goals as goal
 

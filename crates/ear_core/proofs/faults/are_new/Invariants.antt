@@ -1,6 +1,6 @@
 use Rattle.std.proofs.Common.{◌≡◌, ◌<◌, length, All}
-use Rattle.match_search.specs.Rows.{marks}
-use Rattle.ear_core.specs.EarTests.{has_new_edges}
+use Rattle.match_search.specs.Common.{marks}
+use Rattle.ear_core.specs.Common.{has_new_edges}
 use Rattle.ear_core.proofs.faults.are_new.Given as goal
 
 -- the edges that are left decide

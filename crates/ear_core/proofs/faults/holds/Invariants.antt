@@ -1,5 +1,5 @@
 use Rattle.std.proofs.Common.{◌≡◌, length}
-use Rattle.counting.specs.Common.{mem}
+use Rattle.counting.proofs.Common.{mem}
 use Rattle.ear_core.proofs.faults.holds.Given as goal
 
 abbrev pub invariant-numbers : goal.invariant-numbers

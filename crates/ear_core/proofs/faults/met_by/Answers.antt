@@ -1,7 +1,7 @@
 use Rattle.std.proofs.Common.{rules, ◌≡◌, ◌∙◌, ◌&&◌, ◌||◌, ◌==◌, ap}
-use Rattle.counting.specs.Common.{some}
-use Rattle.graph_core.specs.Common.{size, first_end, second_end}
-use Rattle.match_search.specs.Rows.{marks}
+use Rattle.counting.proofs.Common.{some}
+use Rattle.graph_core.proofs.Common.{size, first_end, second_end}
+use Rattle.match_search.specs.Common.{marks}
 use Rattle.ear_core.proofs.FirstFaults.{met-ends}
 use Rattle.ear_core.proofs.faults.met_by.Goals as goal
 

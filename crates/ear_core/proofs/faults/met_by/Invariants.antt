@@ -1,7 +1,7 @@
 use Rattle.std.proofs.Common.{◌≡◌, ◌||◌, ◌==◌, ◌&&◌, ℕ}
-use Rattle.counting.specs.Common.{mem, some}
-use Rattle.graph_core.specs.Common.{first_end, second_end}
-use Rattle.match_search.specs.Rows.{marks}
+use Rattle.counting.proofs.Common.{mem, some}
+use Rattle.graph_core.proofs.Common.{first_end, second_end}
+use Rattle.match_search.specs.Common.{marks}
 use Rattle.ear_core.proofs.faults.met_by.Given as goal
 
 -- the vertices that the marked edges so far meet

@@ -1,5 +1,5 @@
 use Rattle.ear_core.proofs.Refusing.{step-none, none-step, step_odds, step-nearly, fine-stage}
-use Rattle.ear_core.specs.EarLists.{next_stage}
+use Rattle.ear_core.specs.Common.{next_stage}
 use Rattle.ear_core.proofs.laws.new_stage_law.Goals as goal
 
 pub returns : goal.returns

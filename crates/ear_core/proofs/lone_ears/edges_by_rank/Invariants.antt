@@ -1,8 +1,8 @@
 use Rattle.std.proofs.Common.{◌≡◌, ◌≤◌}
-use Rattle.counting.specs.Common.{count, mem, rising_list}
-use Rattle.match_search.specs.Rows.{marks}
-use Rattle.match_core.specs.MatchingRows.{edges_of}
-use Rattle.ear_core.specs.StageGraphs.{by_rank}
+use Rattle.counting.proofs.Common.{count, mem, rising_list}
+use Rattle.match_search.specs.Common.{marks}
+use Rattle.match_core.specs.Common.{edges_of}
+use Rattle.ear_core.specs.Common.{by_rank}
 use Rattle.ear_core.proofs.lone_ears.edges_by_rank.Given as goal
 
 -- the edges so far, and how many edges so far are marked

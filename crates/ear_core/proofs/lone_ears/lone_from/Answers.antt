@@ -1,8 +1,7 @@
 use Rattle.std.proofs.Common.{◌≡◌, ◌+◌, arith, ap, inl, inr, subst, sym, ◌∙◌, List, Bool}
-use Rattle.counting.proofs.Common.{cases_lt, both_ways}
-use Rattle.counting.specs.Common.{mem, Set}
-use Rattle.match_search.specs.Rows.{marks}
-use Rattle.ear_core.specs.LoneEars.{IsPerfectBy, is_open}
+use Rattle.counting.proofs.Common.{cases_lt, both_ways, mem, Set}
+use Rattle.match_search.specs.Common.{marks}
+use Rattle.ear_core.specs.Common.{IsPerfectBy, is_open}
 use Rattle.ear_core.proofs.LoneMatchings.{pair-is, same-by}
 use Rattle.ear_core.proofs.Searching.{at-none}
 use Rattle.ear_core.proofs.lone_ears.lone_from.Goals as goal

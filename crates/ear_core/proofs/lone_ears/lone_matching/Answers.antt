@@ -1,7 +1,7 @@
 use Rattle.std.proofs.Common.{rules, ◌≡◌, subst, sym}
-use Rattle.match_search.specs.Rows.{marks}
+use Rattle.match_search.specs.Common.{marks}
 use Rattle.ear_core.proofs.LoneMatchings.{none-lone}
-use Rattle.counting.specs.Common.{Within, mem}
+use Rattle.counting.proofs.Common.{Within, mem}
 use Rattle.ear_core.proofs.lone_ears.lone_matching.Goals as goal
 
 pub returns-clause-none : goal.returns-clause-none

@@ -1,7 +1,7 @@
 use Rattle.std.proofs.Common.{◌≡◌, ◌<◌, ℕ, true}
-use Rattle.counting.specs.Common.{Within, mem, Set}
-use Rattle.match_search.specs.Rows.{marks}
-use Rattle.ear_core.specs.LoneEars.{IsPerfectBy, is_open}
+use Rattle.counting.proofs.Common.{Within, mem, Set}
+use Rattle.match_search.specs.Common.{marks}
+use Rattle.ear_core.specs.Common.{IsPerfectBy, is_open}
 use Rattle.ear_core.proofs.lone_ears.lone_matching.Given as goal
 
 -- no such matching for the vertices so far and those after them

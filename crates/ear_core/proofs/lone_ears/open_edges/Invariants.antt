@@ -1,9 +1,8 @@
 use Rattle.std.proofs.Common.{◌≡◌, ◌+◌, ℕ, length}
-use Rattle.counting.specs.Common.{Within, mem, pair_set}
-use Rattle.graph_core.specs.Common.{size}
-use Rattle.match_search.specs.Rows.{marks}
-use Rattle.ear_core.specs.LoneEars.{is_open}
-use Rattle.ear_core.specs.Stages.{is_met}
+use Rattle.counting.proofs.Common.{Within, mem, pair_set}
+use Rattle.graph_core.proofs.Common.{size}
+use Rattle.match_search.specs.Common.{marks}
+use Rattle.ear_core.specs.Common.{is_open, is_met}
 use Rattle.ear_core.proofs.lone_ears.open_edges.Given as goal
 
 -- the edges so far are marked right

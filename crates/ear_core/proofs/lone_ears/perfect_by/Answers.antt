@@ -1,10 +1,9 @@
 use Rattle.std.proofs.Common.{subst, sym, List, All, ℕ}
-use Rattle.counting.specs.Common.{Within, mem, none}
-use Rattle.graph_core.specs.Common.{Graph, size, with_ends, HasPerfect, IsPerfect}
-use Rattle.match_core.specs.MatchingRows.{edges_of}
-use Rattle.match_search.specs.Questions.{HasPerfectWith, HoldsAll}
-use Rattle.match_search.specs.Rows.{marks}
-use Rattle.ear_core.specs.StageGraphs.{listed}
+use Rattle.counting.proofs.Common.{Within, mem, none}
+use Rattle.graph_core.proofs.Common.{Graph, size, with_ends, HasPerfect, IsPerfect}
+use Rattle.match_core.specs.Common.{edges_of}
+use Rattle.match_search.specs.Common.{HasPerfectWith, HoldsAll, marks}
+use Rattle.ear_core.specs.Common.{listed}
 use Rattle.ear_core.proofs.MarkedMatchings.{held-marked, listed-found, listed-within, marked-listed}
 use Rattle.ear_core.proofs.lone_ears.perfect_by.Goals as goal
 use Rattle.ear_core.proofs.lone_ears.perfect_by.Goals.{In-Some}

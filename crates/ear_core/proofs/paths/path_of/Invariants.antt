@@ -1,8 +1,7 @@
 use Rattle.std.proofs.Common.{◌≡◌, ◌||◌, ℕ, All, length}
-use Rattle.counting.specs.Common.{Within, mem}
-use Rattle.graph_core.specs.Common.{size}
-use Rattle.ear_core.specs.Ears.{last_vertex}
-use Rattle.ear_core.specs.EarTests.{is_path, inner_vertices}
+use Rattle.counting.proofs.Common.{Within, mem}
+use Rattle.graph_core.proofs.Common.{size}
+use Rattle.ear_core.specs.Common.{last_vertex, is_path, inner_vertices}
 use Rattle.ear_core.proofs.Walking.{goes_on}
 use Rattle.ear_core.proofs.paths.path_of.Given as goal
 

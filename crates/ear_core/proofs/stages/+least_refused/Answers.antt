@@ -1,8 +1,7 @@
 use Rattle.std.proofs.Common.{rules, arith, ◌≡◌, true}
-use Rattle.counting.specs.Common.{Within}
-use Rattle.graph_core.specs.Common.{size}
-use Rattle.ear_core.specs.Stages.{with_edges}
-use Rattle.ear_core.specs.StageGraphs.{asked_too}
+use Rattle.counting.proofs.Common.{Within}
+use Rattle.graph_core.proofs.Common.{size}
+use Rattle.ear_core.specs.Common.{with_edges, asked_too}
 use Rattle.ear_core.proofs.FirstFaults.{first-item, items-behind}
 use Rattle.ear_core.proofs.Settling.{settled-result, asked-edges}
 use Rattle.ear_core.proofs.stages.+least_refused.Goals as goal

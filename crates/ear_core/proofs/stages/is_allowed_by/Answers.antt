@@ -1,8 +1,6 @@
-use Rattle.counting.proofs.Common.{IfOk-weaker}
+use Rattle.counting.proofs.Common.{IfOk-weaker, mem}
 use Rattle.std.proofs.Common.{◌≡◌, false, true}
-use Rattle.counting.specs.Common.{mem}
-use Rattle.ear_core.specs.AlternatingEars.{Serves}
-use Rattle.ear_core.specs.Stages.{AllowedBy}
+use Rattle.ear_core.specs.Common.{Serves, AllowedBy}
 use Rattle.ear_core.proofs.Settling.{ends-serve}
 use Rattle.ear_core.proofs.stages.is_allowed_by.Goals as goal
 

@@ -1,6 +1,6 @@
 use Rattle.std.proofs.Common.{◌∙◌, ◌<◌, length, subst, sym}
-use Rattle.counting.specs.Common.{mem}
-use Rattle.match_search.specs.Rows.{marks}
+use Rattle.counting.proofs.Common.{mem}
+use Rattle.match_search.specs.Common.{marks}
 use Rattle.allowed_edges.proofs.Marking.{length-marked}
 use Rattle.ear_core.proofs.FirstFaults.{first-item, items-behind}
 use Rattle.ear_core.proofs.Marking.{marked-more}

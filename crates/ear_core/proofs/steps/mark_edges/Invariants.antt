@@ -1,6 +1,6 @@
 use Rattle.std.proofs.Common.{◌≡◌, ◌||◌, ◌<◌, ℕ, All, length}
-use Rattle.counting.specs.Common.{mem}
-use Rattle.match_search.specs.Rows.{marks}
+use Rattle.counting.proofs.Common.{mem}
+use Rattle.match_search.specs.Common.{marks}
 use Rattle.ear_core.proofs.steps.mark_edges.Given as goal
 
 -- the edges marked and those left are all

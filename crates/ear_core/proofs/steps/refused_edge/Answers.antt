@@ -1,11 +1,8 @@
 use Rattle.std.proofs.Common.{◌≡◌, ◌∙◌, All, ap, ap₂, subst, sym, true, List, ℕ}
-use Rattle.counting.specs.Common.{none}
-use Rattle.match_search.specs.Rows.{marks}
-use Rattle.ear_core.specs.EarLists.{next_stage}
-use Rattle.ear_core.specs.Stages.{with_edges}
-use Rattle.ear_core.specs.View.{ear_of, plain_step, step_of}
+use Rattle.counting.proofs.Common.{none}
+use Rattle.match_search.specs.Common.{marks}
+use Rattle.ear_core.specs.Common.{next_stage, with_edges, ear_of, plain_step, step_of, Settled}
 use Rattle.ear_core.specs.declared.ears.Ear.{Ear}
-use Rattle.ear_core.specs.StageGraphs.{Settled}
 use Rattle.ear_core.proofs.Searching.{at-some}
 use Rattle.ear_core.proofs.Settling.{settled-none, settled-same, settled-result}
 use Rattle.ear_core.proofs.steps.refused_edge.Goals as goal

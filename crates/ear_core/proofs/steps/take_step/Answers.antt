@@ -1,11 +1,8 @@
 use Rattle.std.proofs.Common.{rules, ◌≡◌, ◌∙◌, ap, subst, refl, sym, List, Bool, ℕ, All, IfSome, Option, Some, None, inl, inr}
-use Rattle.counting.specs.Common.{Within, none}
-use Rattle.graph_core.specs.Common.{size}
-use Rattle.match_search.specs.Rows.{marks}
-use Rattle.ear_core.specs.EarLists.{next_stage}
-use Rattle.ear_core.specs.Refusals.{step_fault}
-use Rattle.ear_core.specs.StageGraphs.{Settled}
-use Rattle.ear_core.specs.View.{step_of, why_of}
+use Rattle.counting.proofs.Common.{Within, none}
+use Rattle.graph_core.proofs.Common.{size}
+use Rattle.match_search.specs.Common.{marks}
+use Rattle.ear_core.specs.Common.{next_stage, step_fault, Settled, step_of, why_of}
 use Rattle.ear_core.proofs.Taking.{first_fits, second_fits, first_marked, second_marked, step-taken, step-refused}
 use Rattle.ear_core.proofs.steps.take_step.Goals as goal
 use Rattle.ear_core.proofs.steps.take_step.Goals.{After-deref-2}

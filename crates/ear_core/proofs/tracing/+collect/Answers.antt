@@ -1,10 +1,7 @@
 use Rattle.std.proofs.Common.{rules, ◌≡◌, ◌∙◌, ◌++◌, ◌∷◌, [], ap, arith, sym, subst, true, false, map, List, ℕ, append-nil}
-use Rattle.counting.proofs.Common.{IfOk-weaker, map-append}
-use Rattle.counting.specs.Common.{Within, mem}
-use Rattle.match_search.specs.Rows.{marks}
-use Rattle.ear_core.specs.AlternatingEars.{row_edge, is_left, AreMatedEars, IsTraced}
-use Rattle.ear_core.specs.EarLists.{PlainEar}
-use Rattle.ear_core.specs.View.{ear_of}
+use Rattle.counting.proofs.Common.{IfOk-weaker, map-append, Within, mem}
+use Rattle.match_search.specs.Common.{marks}
+use Rattle.ear_core.specs.Common.{row_edge, is_left, AreMatedEars, IsTraced, PlainEar, ear_of}
 use Rattle.ear_core.proofs.Following.{IsMade, collected-none, ear-made, ears-more}
 use Rattle.ear_core.proofs.tracing.+collect.Goals as goal
 use Rattle.ear_core.proofs.tracing.+collect.Goals.{In_ok-after}

@@ -1,4 +1,4 @@
-use Rattle.counting.specs.Common.{count, mem, complement}
+use Rattle.counting.proofs.Common.{count, mem, complement}
 use Rattle.ear_core.proofs.tracing.+collect.Given as goal
 
 -- fewer vertices are not used

@@ -1,7 +1,6 @@
 use Rattle.std.proofs.Common.{rules, ◌≡◌, ◌∙◌, ◌++◌, ◌∷◌, [], ap, arith, true, false, List, ℕ}
-use Rattle.counting.proofs.Common.{IfOk-weaker}
-use Rattle.counting.specs.Common.{mem}
-use Rattle.ear_core.specs.AlternatingEars.{row_edge, IsTraced}
+use Rattle.counting.proofs.Common.{IfOk-weaker, mem}
+use Rattle.ear_core.specs.Common.{row_edge, IsTraced}
 use Rattle.ear_core.proofs.Mates.{rows-mates}
 use Rattle.ear_core.proofs.Following.{GoesOn, goes-on, passed-by, traced-short}
 use Rattle.ear_core.proofs.tracing.+trace.Goals as goal

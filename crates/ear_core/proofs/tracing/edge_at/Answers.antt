@@ -1,5 +1,5 @@
 use Rattle.std.proofs.Common.{rules, ◌≡◌, ◌∙◌, ◌+◌, ◌||◌, ◌==◌, ap, cond, drop, true, false, sym}
-use Rattle.ear_core.specs.AlternatingEars.{row_edge}
+use Rattle.ear_core.specs.Common.{row_edge}
 use Rattle.ear_core.proofs.Following.{row-at}
 use Rattle.ear_core.proofs.tracing.edge_at.Goals as goal
 

@@ -1,5 +1,5 @@
 use Rattle.std.proofs.Common.{◌≡◌, drop}
-use Rattle.ear_core.specs.AlternatingEars.{row_edge}
+use Rattle.ear_core.specs.Common.{row_edge}
 use Rattle.ear_core.proofs.tracing.edge_at.Given as goal
 
 -- the rows that are left decide

@@ -1,7 +1,7 @@
 use Rattle.std.proofs.Common.{◌≡◌, ℕ, false}
-use Rattle.counting.specs.Common.{Within, mem}
-use Rattle.match_search.specs.Rows.{marks}
-use Rattle.ear_core.specs.AlternatingEars.{is_left, row_edge}
+use Rattle.counting.proofs.Common.{Within, mem}
+use Rattle.match_search.specs.Common.{marks}
+use Rattle.ear_core.specs.Common.{is_left, row_edge}
 use Rattle.ear_core.proofs.tracing.left_vertex.Given as goal
 
 -- no vertex so far is left

@@ -1,6 +1,6 @@
 use Rattle.std.proofs.Common.{sym, subst}
-use Rattle.counting.specs.Common.{Within}
-use Rattle.graph_core.specs.Common.{size}
+use Rattle.counting.proofs.Common.{Within}
+use Rattle.graph_core.proofs.Common.{size}
 use Rattle.ear_core.proofs.Mates.{rows-mates, other_end-within}
 use Rattle.ear_core.proofs.tracing.mate_of.Goals as goal
 

@@ -2,8 +2,7 @@ use Rattle.std.proofs.Common.{◌≡◌, ◌∙◌, true, Bool, Result, Ok, map,
 use Rattle.std.specs.Option.{option_map}
 use Rattle.line_text.specs.Common.{Refuses, texts_of}
 use Rattle.text_faults.specs.declared.faults.FaultKind.{FaultKind}
-use Rattle.ear_core.specs.EarLists.{PlainEar}
-use Rattle.ear_core.specs.View.{ear_of, step_of}
+use Rattle.ear_core.specs.Common.{PlainEar, ear_of, step_of}
 use Rattle.ear_text.specs.EarFormat.{EarsSoFar, is_either_ear_line, with_ear}
 use Rattle.ear_text.proofs.EarLines.{behind_ear, ear_line-tests}
 use Rattle.ear_text.proofs.ear_format.read_ear.Goals as goal

@@ -1,4 +1,4 @@
-use Rattle.ear_core.specs.View.{ears_of}
+use Rattle.ear_core.specs.Common.{ears_of}
 use Rattle.ear_text.proofs.EarsRead.{fits-read, filled-read}
 use Rattle.ear_text.proofs.ear_format.read_ears.Goals as goal
 

@@ -1,7 +1,7 @@
 use Rattle.std.proofs.Common.{◌∙◌, ap, subst, sym, string_bytes, Vec, ℕ, Global, map, arith}
 use Rattle.line_text.specs.Common.{Stands}
 use Rattle.line_text.proofs.ExactlyOne.{StandsAlone-stands}
-use Rattle.ear_core.specs.View.{ears_of, step_of}
+use Rattle.ear_core.specs.Common.{ears_of, step_of}
 use Rattle.ear_text.specs.EarFormat.{ear_format}
 use Rattle.ear_text.specs.Writing.{IsWritable}
 use Rattle.ear_text.proofs.TextSoFar.{ears_text-lines}

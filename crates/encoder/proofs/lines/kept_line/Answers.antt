@@ -1,5 +1,4 @@
-use Rattle.std.proofs.Common.{◌≡◌, ◌∙◌, [], refl, ap, sym}
-use Rattle.std.specs.Prelude.{slice_index_or}
+use Rattle.std.proofs.Common.{◌≡◌, ◌∙◌, [], refl, ap, sym, slice_index_or}
 use Rattle.line_text.specs.Common.{lines_of}
 use Rattle.line_text.proofs.LineCuts.{lines_of-nil}
 use Rattle.encoder.proofs.lines.kept_line.Goals as goal

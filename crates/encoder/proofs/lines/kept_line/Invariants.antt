@@ -1,5 +1,4 @@
-use Rattle.std.proofs.Common.{◌≡◌, ◌-◌, [], length}
-use Rattle.std.specs.Prelude.{slice_index_or}
+use Rattle.std.proofs.Common.{◌≡◌, ◌-◌, [], length, slice_index_or}
 use Rattle.line_text.specs.Common.{lines_of}
 use Rattle.encoder.proofs.lines.kept_line.Given as goal
 

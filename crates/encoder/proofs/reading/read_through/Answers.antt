@@ -1,6 +1,6 @@
 use Rattle.std.proofs.Common.{◌≡◌, ◌≤◌, [], length, take, rules, arith}
 use Rattle.std.specs.declared.option.Option.TheVariants.{Some, None}
-use Rattle.outside.specs.Source.{prepended, IsEnd}
+use Rattle.outside.specs.Common.{prepended, IsEnd}
 use Rattle.encoder.specs.Files.{most_bytes}
 use Rattle.encoder.proofs.ReadsSoFar.{left_past, left_whole, read_past, read_torn, read_whole, so_far_none, so_far_piece}
 use Rattle.encoder.proofs.reading.read_through.Goals as goal

@@ -1,5 +1,5 @@
 use Rattle.std.proofs.Common.{◌≡◌, ◌≤◌}
-use Rattle.graph_core.specs.Common.{size}
+use Rattle.graph_core.proofs.Common.{size}
 use Rattle.encoder.proofs.Beneath.{KeepsFirst}
 use Rattle.encoder.proofs.simple.simple_beneath.Given as goal
 

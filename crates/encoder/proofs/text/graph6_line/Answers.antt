@@ -1,5 +1,5 @@
 use Rattle.graph6_text.proofs.ReadBack.{reads_back}
-use Rattle.graph_text.specs.SoFar.{named_graph}
+use Rattle.graph_text.specs.Common.{named_graph}
 use Rattle.encoder.proofs.text.graph6_line.Goals as goal
 
 pub returns-in-Ok-line_of-clause-line : goal.returns-in-Ok-line_of-clause-line

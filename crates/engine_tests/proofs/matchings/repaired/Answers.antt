@@ -1,7 +1,7 @@
 use Rattle.std.proofs.Common.{sym, subst}
-use Rattle.counting.specs.Common.{mem}
-use Rattle.graph_core.specs.Common.{IsMatching}
-use Rattle.match_core.specs.MatchingRows.{edges_of}
+use Rattle.counting.proofs.Common.{mem}
+use Rattle.graph_core.proofs.Common.{IsMatching}
+use Rattle.match_core.specs.Common.{edges_of}
 use Rattle.match_core.proofs.MatchingEdges.{rows-matching}
 use Rattle.engine_tests.proofs.matchings.repaired.Goals as goal
 

@@ -1,6 +1,5 @@
 use Rattle.std.proofs.Common.{sym, ◌∙◌, arith}
-use Rattle.counting.specs.Common.{is_subset, mem}
-use Rattle.counting.proofs.Common.{all_in_true, set-narrower}
+use Rattle.counting.proofs.Common.{is_subset, mem, all_in_true, set-narrower}
 use Rattle.engine_tests.proofs.worked.vertices.Goals as goal
 
 pub returns-then-is_subset : goal.returns-then-is_subset

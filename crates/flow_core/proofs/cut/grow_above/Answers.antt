@@ -1,9 +1,6 @@
 -- Where the search closes, the nodes that it has reached are the least minimum cut.
 use Rattle.std.proofs.Common.{◌≡◌, ◌≤◌, ◌∙◌, List, ℕ, ap, subst, arith}
-use Rattle.flow_core.specs.Flows.{IsFlow}
-use Rattle.flow_core.specs.Nets.{IsLeastCut}
-use Rattle.flow_core.specs.Outcomes.{IsOutcome}
-use Rattle.flow_core.specs.Search.{first_node, last_node}
+use Rattle.flow_core.specs.Common.{IsFlow, IsLeastCut, IsOutcome, first_node, last_node}
 use Rattle.flow_core.proofs.Duality.{flow-le-total, reached_least}
 use Rattle.flow_core.proofs.cut.grow_above.Goals as goal
 

@@ -1,6 +1,5 @@
 use Rattle.std.proofs.Common.{◌-◌}
-use Rattle.flow_core.specs.Nets.{total_capacity}
-use Rattle.flow_core.specs.Flows.{IsFlow}
+use Rattle.flow_core.specs.Common.{total_capacity, IsFlow}
 use Rattle.flow_core.proofs.cut.grow_above.Given as goal
 
 abbrev pub invariant-growing : goal.invariant-growing

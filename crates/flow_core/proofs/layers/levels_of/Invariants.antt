@@ -1,5 +1,5 @@
 use Rattle.std.proofs.Common.{◌≡◌, suc, length, slice_index}
-use Rattle.flow_core.specs.Search.{first_node}
+use Rattle.flow_core.specs.Common.{first_node}
 use Rattle.flow_core.proofs.layers.levels_of.Given as goal
 
 abbrev pub invariant-loop-j : goal.invariant-loop-j

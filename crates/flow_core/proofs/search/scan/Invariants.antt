@@ -1,5 +1,5 @@
 use Rattle.std.proofs.Common.{◌≡◌}
-use Rattle.flow_core.specs.Search.{first_node}
+use Rattle.flow_core.specs.Common.{first_node}
 use Rattle.flow_core.proofs.Scanning.{IsScanning}
 use Rattle.flow_core.proofs.search.scan.Given as goal
 

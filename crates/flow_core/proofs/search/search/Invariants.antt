@@ -1,5 +1,5 @@
 use Rattle.std.proofs.Common.{◌≡◌, ◌-◌}
-use Rattle.flow_core.specs.Search.{node_at, IsSearch}
+use Rattle.flow_core.specs.Common.{node_at, IsSearch}
 use Rattle.flow_core.proofs.search.search.Given as goal
 
 abbrev pub invariant-scanning : goal.invariant-scanning

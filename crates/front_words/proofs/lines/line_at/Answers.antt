@@ -1,5 +1,4 @@
-use Rattle.std.proofs.Common.{◌≡◌, ◌∙◌, [], refl, ap, sym}
-use Rattle.std.specs.Prelude.{slice_get}
+use Rattle.std.proofs.Common.{◌≡◌, ◌∙◌, [], refl, ap, sym, slice_get}
 use Rattle.line_text.specs.Common.{lines_of}
 use Rattle.line_text.proofs.LineCuts.{lines_of-nil}
 use Rattle.front_words.proofs.lines.line_at.Goals as goal

@@ -1,5 +1,4 @@
-use Rattle.std.proofs.Common.{◌≡◌, ◌-◌, length}
-use Rattle.std.specs.Prelude.{slice_get}
+use Rattle.std.proofs.Common.{◌≡◌, ◌-◌, length, slice_get}
 use Rattle.line_text.specs.Common.{lines_of}
 use Rattle.front_words.proofs.lines.line_at.Given as goal
 

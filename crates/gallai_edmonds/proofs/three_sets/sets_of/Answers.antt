@@ -1,7 +1,6 @@
 use Rattle.std.proofs.Common.{sym, subst, ap, ◌∙◌, List, ℕ, Bool, not, ◌&&◌}
-use Rattle.counting.specs.Common.{Within, everything, mem, IsRisingIn}
-use Rattle.counting.proofs.Common.{rising_list-rises}
-use Rattle.graph_core.specs.Common.{InD, InA}
+use Rattle.counting.proofs.Common.{Within, everything, mem, IsRisingIn, rising_list-rises}
+use Rattle.graph_core.proofs.Common.{InD, InA}
 use Rattle.gallai_edmonds.proofs.ThreeParts.{listed, rest_listed}
 use Rattle.gallai_edmonds.proofs.three_sets.sets_of.Goals as goal
 

@@ -1,5 +1,5 @@
 use Rattle.std.proofs.Common.{◌≡◌, ◌++◌, drop}
-use Rattle.graph6_text.specs.Digits.{bits_of}
+use Rattle.graph6_text.specs.Common.{bits_of}
 use Rattle.graph6_text.proofs.digits.to_bits.Given as goal
 
 abbrev pub invariant-loop-byte : goal.invariant-loop-byte

@@ -1,6 +1,6 @@
 use Rattle.std.proofs.Common.{◌≡◌, ◌++◌}
 use Rattle.std.specs.Slice.Iter.{chunks_rest, chunks_size}
-use Rattle.graph6_text.specs.Digits.{bytes_of}
+use Rattle.graph6_text.specs.Common.{bytes_of}
 use Rattle.graph6_text.proofs.digits.to_bytes.Given as goal
 
 abbrev pub invariant-loop-six : goal.invariant-loop-six

@@ -1,5 +1,5 @@
 use Rattle.std.proofs.Common.{◌≡◌, ◌+◌, ◌<◌, drop}
-use Rattle.graph6_text.specs.Digits.{weights, weight_of, digit_of_bits}
+use Rattle.graph6_text.specs.Common.{weights, weight_of, digit_of_bits}
 use Rattle.graph6_text.proofs.digits.to_digit.Given as goal
 
 abbrev pub invariant-loop-i : goal.invariant-loop-i

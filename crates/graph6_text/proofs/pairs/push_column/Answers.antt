@@ -1,7 +1,7 @@
 use Rattle.std.proofs.Common.{◌≡◌, ◌++◌, ◌∷◌, ◌∙◌, ◌+◌, ◌-◌, ap, arith, map, [], ℕ, sym}
 use Rattle.counting.proofs.Common.{map-append}
-use Rattle.graph_core.specs.Common.{pair_of}
-use Rattle.graph6_text.specs.Pairs.{column}
+use Rattle.graph_core.proofs.Common.{pair_of}
+use Rattle.graph6_text.specs.Common.{column}
 use Rattle.graph6_text.proofs.Columns.{column_more}
 use Rattle.graph6_text.proofs.pairs.push_column.Goals as goal
 

@@ -1,6 +1,6 @@
 use Rattle.std.proofs.Common.{◌≡◌, ◌-◌, ◌++◌, map}
-use Rattle.graph_core.specs.Common.{pair_of}
-use Rattle.graph6_text.specs.Pairs.{column}
+use Rattle.graph_core.proofs.Common.{pair_of}
+use Rattle.graph6_text.specs.Common.{column}
 use Rattle.graph6_text.proofs.pairs.push_column.Given as goal
 
 abbrev pub invariant-loop-a : goal.invariant-loop-a

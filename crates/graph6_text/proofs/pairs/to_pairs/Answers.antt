@@ -1,6 +1,6 @@
 use Rattle.std.proofs.Common.{◌≡◌, ◌∙◌, ◌+◌, ◌-◌, ap, arith, map, sym}
-use Rattle.graph_core.specs.Common.{pair_of}
-use Rattle.graph6_text.specs.Pairs.{column_pairs}
+use Rattle.graph_core.proofs.Common.{pair_of}
+use Rattle.graph6_text.specs.Common.{column_pairs}
 use Rattle.graph6_text.proofs.Columns.{column_pairs-zero, columns_more, columns_all, columns_end}
 use Rattle.graph6_text.proofs.pairs.to_pairs.Goals as goal
 use Rattle.graph6_text.proofs.pairs.to_pairs.Goals.{else-loop-b-test, then-loop-b-test+in_ok-push_column+else-b-n}

@@ -1,6 +1,6 @@
 use Rattle.std.proofs.Common.{◌≡◌, ◌+◌, ◌-◌, ◌≤◌, map}
-use Rattle.graph_core.specs.Common.{pair_of}
-use Rattle.graph6_text.specs.Pairs.{column_pairs}
+use Rattle.graph_core.proofs.Common.{pair_of}
+use Rattle.graph6_text.specs.Common.{column_pairs}
 use Rattle.graph6_text.proofs.pairs.to_pairs.Given as goal
 
 abbrev pub invariant-loop-b : goal.invariant-loop-b

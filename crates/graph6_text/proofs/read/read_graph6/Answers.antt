@@ -2,10 +2,9 @@ use Rattle.std.proofs.Common.{◌≡◌, ◌∙◌, ap, sym, subst, take, drop, 
 use Rattle.std.proofs.lemmas.Result.{IfErr-weaker}
 use Rattle.counting.proofs.Common.{err_from_is_err_and, IfOk-weaker}
 use Rattle.std.specs.Result.{IfOk, OnOk}
-use Rattle.graph_core.specs.Common.{Graph, IsSimple}
+use Rattle.graph_core.proofs.Common.{Graph, IsSimple}
 use Rattle.graph6_text.proofs.Canonical.{simple-graph_of}
-use Rattle.graph6_text.specs.Checks.{IsFirstFault}
-use Rattle.graph6_text.specs.Reading.{faults_of, first_fault, graph_of, outcome_of}
+use Rattle.graph6_text.specs.Common.{IsFirstFault, faults_of, first_fault, graph_of, outcome_of}
 use Rattle.graph6_text.proofs.Passing.{outcome-fault, outcome-graph, is_first-front, is_first-behind, first_fault-append}
 use Rattle.graph6_text.proofs.read.read_graph6.Goals as goal
 

@@ -1,11 +1,8 @@
 use Rattle.std.proofs.Common.{◌≡◌, ◌∙◌, ◌++◌, drop, length, map, ap, arith, subst, None}
 use Rattle.counting.proofs.Common.{length-map, err_from_is_err_and, IfOk-weaker}
 use Rattle.std.proofs.lemmas.Result.{IfErr-weaker, on_ok_weaker}
-use Rattle.graph_core.specs.Common.{pair_of}
-use Rattle.graph6_text.specs.Digits.{bits_of}
-use Rattle.graph6_text.specs.Pairs.{chosen, column_pairs}
-use Rattle.graph6_text.specs.Checks.{IsFirstFault, limit_row}
-use Rattle.graph6_text.specs.Reading.{faults_of, first_fault}
+use Rattle.graph_core.proofs.Common.{pair_of}
+use Rattle.graph6_text.specs.Common.{bits_of, chosen, column_pairs, IsFirstFault, limit_row, faults_of, first_fault}
 use Rattle.graph6_text.proofs.Passing.{formed, digits-data, enough_bits, padding_row, last_rows, graph-from_bits, is_first-front, is_first-behind, first_fault-append}
 use Rattle.graph6_text.proofs.read.to_graph.Goals as goal
 

@@ -1,9 +1,8 @@
-use Rattle.std.proofs.Common.{◌≤◌, length, map, inl, inr, subst, refl}
-use Rattle.std.proofs.lemmas.Bool.{le-ltb}
+use Rattle.std.proofs.Common.{◌≤◌, length, map, inl, inr, subst, refl, le-ltb}
 use Rattle.std.specs.Iterator.Adapters.{zip_first, zip_second}
 use Rattle.std.specs.Slice.Iter.{iter_rest}
-use Rattle.graph_core.specs.Common.{Graph, size, pair_of}
-use Rattle.graph6_text.specs.Pairs.{chosen}
+use Rattle.graph_core.proofs.Common.{Graph, size, pair_of}
+use Rattle.graph6_text.specs.Common.{chosen}
 use Rattle.graph6_text.proofs.Choosing.{edges_all}
 use Rattle.graph6_text.proofs.read.with_edges.Goals as goal
 

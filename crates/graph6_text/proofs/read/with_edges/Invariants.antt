@@ -1,8 +1,8 @@
 use Rattle.std.proofs.Common.{◌≡◌, ◌≤◌, ◌++◌, map}
 use Rattle.std.specs.Iterator.Adapters.{zip_first, zip_second}
 use Rattle.std.specs.Slice.Iter.{iter_rest}
-use Rattle.graph_core.specs.Common.{size, pair_of}
-use Rattle.graph6_text.specs.Pairs.{chosen}
+use Rattle.graph_core.proofs.Common.{size, pair_of}
+use Rattle.graph6_text.specs.Common.{chosen}
 use Rattle.graph6_text.proofs.read.with_edges.Given as goal
 
 abbrev pub invariant-loop-pair : goal.invariant-loop-pair

@@ -1,8 +1,8 @@
 use Rattle.std.proofs.Common.{◌∙◌, ℕ, List, map, take_all, ap, arith}
-use Rattle.counting.specs.Common.{none}
-use Rattle.graph_core.specs.Common.{pair_of, adjacent}
+use Rattle.counting.proofs.Common.{none}
+use Rattle.graph_core.proofs.Common.{pair_of, adjacent}
 use Rattle.graph_core.specs.declared.ends.Ends.{Ends}
-use Rattle.graph6_text.specs.Writing.{adjacency_bits}
+use Rattle.graph6_text.specs.Common.{adjacency_bits}
 use Rattle.graph6_text.proofs.Columns.{pair_within}
 use Rattle.graph6_text.proofs.write.to_adjacency_bits.Goals as goal
 

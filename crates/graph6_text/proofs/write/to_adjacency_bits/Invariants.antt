@@ -1,7 +1,7 @@
 use Rattle.std.proofs.Common.{◌≡◌, map, take}
-use Rattle.counting.specs.Common.{none}
-use Rattle.graph_core.specs.Common.{pair_of, adjacent}
-use Rattle.graph6_text.specs.Pairs.{column_pairs}
+use Rattle.counting.proofs.Common.{none}
+use Rattle.graph_core.proofs.Common.{pair_of, adjacent}
+use Rattle.graph6_text.specs.Common.{column_pairs}
 use Rattle.graph6_text.proofs.write.to_adjacency_bits.Given as goal
 
 abbrev pub invariant-loop-pair : goal.invariant-loop-pair

@@ -1,6 +1,5 @@
 use Rattle.std.proofs.Common.{◌∙◌, ◌++◌, ap, ap₂, sym, subst, List, ℕ}
-use Rattle.graph6_text.specs.Digits.{bytes_of}
-use Rattle.graph6_text.specs.Writing.{size_of, graph6_of, ReadsBack}
+use Rattle.graph6_text.specs.Common.{bytes_of, size_of, graph6_of, ReadsBack}
 use Rattle.graph6_text.proofs.ReadBack.{reads_back}
 use Rattle.graph6_text.proofs.write.write_graph6.Goals as goal
 

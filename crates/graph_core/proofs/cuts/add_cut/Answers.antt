@@ -1,5 +1,5 @@
 use Rattle.std.proofs.Common.{sym, ap, ◌∙◌}
-use Rattle.graph_core.specs.CanonicalCuts.{is_listed}
+use Rattle.graph_core.specs.Common.{is_listed}
 use Rattle.graph_core.proofs.CutLists.{canonical-rises, cut-known, cut-narrow, cut-taken}
 use Rattle.graph_core.proofs.cuts.add_cut.Goals.{else-is_nontrivial-via-then-is_nontrivial+else-not-holds, else-is_nontrivial-via-else-is_nontrivial}
 use Rattle.graph_core.proofs.cuts.add_cut.Goals as goal

@@ -1,5 +1,5 @@
 use Rattle.std.proofs.Common.{◌≡◌, fold, take}
-use Rattle.graph_core.specs.CanonicalCuts.{with_cut}
+use Rattle.graph_core.specs.Common.{with_cut}
 use Rattle.graph_core.proofs.cuts.add_cuts.Given as goal
 
 abbrev pub invariant-loop-shore : goal.invariant-loop-shore

@@ -1,8 +1,8 @@
 use Rattle.std.proofs.Common.{subst, sym}
-use Rattle.counting.specs.Common.{none}
+use Rattle.counting.proofs.Common.{none}
 use Rattle.graph_core.proofs.SingleBlocks.{contracted-singles, singles-tight, tight-singles}
 use Rattle.graph_core.proofs.Singles.{singles-partition}
-use Rattle.graph_core.specs.Matchings.{IsPerfect}
+use Rattle.graph_core.specs.Common.{IsPerfect}
 use Rattle.graph_core.proofs.laws.singles_law.Goals as goal
 
 pub returns-clause-partition : goal.returns-clause-partition

@@ -1,9 +1,6 @@
 use Rattle.std.proofs.Common.{◌≡◌, ℕ, length, true, ◌==◌, ap, sym, ◌∙◌, arith, List}
-use Rattle.counting.proofs.Common.{both_ways, false_from_ne_true, or_false}
-use Rattle.counting.specs.Common.{Within, mem}
-use Rattle.graph_core.specs.Graph.{Graph}
-use Rattle.graph_core.specs.FoundVertices.{IsGrowth}
-use Rattle.graph_core.specs.Nodes.{parent_at, depth_at}
+use Rattle.counting.proofs.Common.{both_ways, false_from_ne_true, or_false, Within, mem}
+use Rattle.graph_core.specs.Common.{Graph, IsGrowth, parent_at, depth_at}
 use Rattle.graph_core.specs.declared.tree.TreeNode.{TreeNode}
 use Rattle.graph_core.proofs.OneVertexLess.{count_lost, count_gained}
 use Rattle.graph_core.proofs.FoundVertices.{growth_start, growth_step, growth_drop, growth_end}

@@ -1,9 +1,6 @@
 use Rattle.std.proofs.Common.{◌≡◌, ◌+◌, ◌*◌, ℕ, length, false}
-use Rattle.counting.specs.Common.{Within, count, mem}
-use Rattle.graph_core.specs.Graph.{Graph, IsGraph}
-use Rattle.graph_core.specs.FoundVertices.{IsGrowth}
-use Rattle.graph_core.specs.Nodes.{node_at, parent_at, depth_at}
-use Rattle.graph_core.specs.Rows.{AreRows}
+use Rattle.counting.proofs.Common.{Within, count, mem}
+use Rattle.graph_core.specs.Common.{Graph, IsGraph, IsGrowth, node_at, parent_at, depth_at, AreRows}
 use Rattle.graph_core.proofs.search.grow.Given as goal
 
 abbrev pub invariant-growing : goal.invariant-growing

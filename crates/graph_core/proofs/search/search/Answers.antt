@@ -1,9 +1,7 @@
 use Rattle.std.proofs.Common.{◌<◌, not, ap, sym, ◌∙◌, subst, arith}
 use Rattle.std.proofs.lemmas.Bool.{not_from_false}
-use Rattle.counting.proofs.Common.{and_from, and_parts, not-true, set-narrower}
-use Rattle.counting.specs.Common.{count, mem}
-use Rattle.graph_core.specs.FoundVertices.{IsStage}
-use Rattle.graph_core.specs.Nodes.{parent_at, depth_at}
+use Rattle.counting.proofs.Common.{and_from, and_parts, not-true, set-narrower, count, mem}
+use Rattle.graph_core.specs.Common.{IsStage, parent_at, depth_at}
 use Rattle.graph_core.specs.declared.tree.TreeNode.{TreeNode}
 use Rattle.graph_core.proofs.FoundVertices.{grown_less}
 use Rattle.graph_core.proofs.FoundComponents.{stage_start, stage_step, stage_end}

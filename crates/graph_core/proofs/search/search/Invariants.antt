@@ -1,9 +1,6 @@
 use Rattle.std.proofs.Common.{length}
-use Rattle.counting.specs.Common.{count, mem}
-use Rattle.graph_core.specs.Graph.{Graph, IsGraph}
-use Rattle.graph_core.specs.FoundVertices.{IsStage}
-use Rattle.graph_core.specs.Nodes.{parent_at, depth_at}
-use Rattle.graph_core.specs.Rows.{AreRows}
+use Rattle.counting.proofs.Common.{count, mem}
+use Rattle.graph_core.specs.Common.{Graph, IsGraph, IsStage, parent_at, depth_at, AreRows}
 use Rattle.graph_core.proofs.search.search.Given as goal
 
 abbrev pub invariant-searching : goal.invariant-searching

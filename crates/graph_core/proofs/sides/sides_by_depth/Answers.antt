@@ -1,13 +1,6 @@
-use Rattle.std.proofs.Common.{◌≡◌, ◌∷◌, ◌++◌, sym, length, subst, not, List, refl}
-use Rattle.std.specs.Prelude.{All, Contains}
-use Rattle.counting.specs.Common.{is_odd, rising_list, none}
-use Rattle.graph_core.specs.Components.{is_least}
-use Rattle.graph_core.specs.Graph.{IsGraph}
-use Rattle.graph_core.specs.Nodes.{depth_at, is_even_at, parent_at}
-use Rattle.graph_core.specs.Sides.{IsLeftSide}
-use Rattle.graph_core.specs.Trees.{IsForest, way_down, way_up}
-use Rattle.graph_core.specs.View.{graph_of}
-use Rattle.graph_core.specs.Walks.{IsOddClosedWalk}
+use Rattle.std.proofs.Common.{◌≡◌, ◌∷◌, ◌++◌, sym, length, subst, not, List, refl, All, Contains}
+use Rattle.counting.proofs.Common.{is_odd, rising_list, none}
+use Rattle.graph_core.specs.Common.{is_least, IsGraph, depth_at, is_even_at, parent_at, IsLeftSide, IsForest, way_down, way_up, graph_of, IsOddClosedWalk}
 use Rattle.graph_core.specs.declared.ends.Ends.{Ends}
 use Rattle.graph_core.specs.declared.tree.TreeNode.{TreeNode}
 use Rattle.graph_core.proofs.TwoSides.{even_side, forest_rooted, left_bipartite, odd_walk, odd_walk_excludes}

@@ -1,6 +1,5 @@
 use Rattle.std.proofs.Common.{◌++◌, sym, ap, ◌∙◌, append_assoc, ◌∷◌, []}
-use Rattle.graph_core.specs.Nodes.{parent_at, depth_at}
-use Rattle.graph_core.specs.Trees.{way_down}
+use Rattle.graph_core.specs.Common.{parent_at, depth_at, way_down}
 use Rattle.graph_core.proofs.Trees.{way_down-step}
 use Rattle.graph_core.proofs.tree.+descend.Goals as goal
 

@@ -1,4 +1,4 @@
-use Rattle.graph_core.specs.Nodes.{depth_at}
+use Rattle.graph_core.specs.Common.{depth_at}
 use Rattle.graph_core.proofs.tree.+descend.Given as goal
 
 abbrev pub decreases-descend : goal.decreases-descend

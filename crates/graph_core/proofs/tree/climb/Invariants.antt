@@ -1,7 +1,6 @@
 use Rattle.std.proofs.Common.{◌≡◌, ◌++◌, length}
-use Rattle.counting.specs.Common.{Within}
-use Rattle.graph_core.specs.Nodes.{parent_at, depth_at}
-use Rattle.graph_core.specs.Trees.{way_up}
+use Rattle.counting.proofs.Common.{Within}
+use Rattle.graph_core.specs.Common.{parent_at, depth_at, way_up}
 use Rattle.graph_core.proofs.tree.climb.Given as goal
 
 abbrev pub invariant-climbing : goal.invariant-climbing

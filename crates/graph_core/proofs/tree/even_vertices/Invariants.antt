@@ -1,6 +1,6 @@
 use Rattle.std.proofs.Common.{◌≡◌}
-use Rattle.counting.specs.Common.{rising_list}
-use Rattle.graph_core.specs.Nodes.{is_even_at}
+use Rattle.counting.proofs.Common.{rising_list}
+use Rattle.graph_core.specs.Common.{is_even_at}
 use Rattle.graph_core.proofs.tree.even_vertices.Given as goal
 
 abbrev pub invariant-loop-i : goal.invariant-loop-i

@@ -1,6 +1,5 @@
 use Rattle.line_text.proofs.ExactlyOne.{StandsAlone-stands}
-use Rattle.graph_text.specs.VersionOne.{version_one}
-use Rattle.graph_text.specs.Writing.{graph_text}
+use Rattle.graph_text.specs.Common.{version_one, graph_text}
 use Rattle.graph_text.proofs.VersionOneReadBack.{Stands-graph_text}
 use Rattle.graph_text.proofs.laws.written_graph_stands.Goals as goal
 

@@ -1,5 +1,5 @@
 use Rattle.std.proofs.Common.{◌≡◌, ◌+◌, suc, ◌∷◌, ◌++◌, [], List, ℕ, length, sym, ◌∙◌, ap, arith}
-use Rattle.graph_text.specs.Names.{is_among, plain_name, plain_names}
+use Rattle.graph_text.specs.Common.{is_among, plain_name, plain_names}
 use Rattle.graph_text.proofs.PlainNames.{plain-fresh, length-plain_names, plain_names-none, plain_names-more}
 use Rattle.graph_text.proofs.names.plain_names.Goals as goal
 

@@ -1,5 +1,5 @@
 use Rattle.std.proofs.Common.{◌≡◌}
-use Rattle.graph_text.specs.Names.{plain_names}
+use Rattle.graph_text.specs.Common.{plain_names}
 use Rattle.graph_text.proofs.names.plain_names.Given as goal
 
 -- the names of the first vertices

@@ -1,5 +1,5 @@
 use Rattle.std.proofs.Common.{ap, ◌∙◌}
-use Rattle.graph_text.specs.Names.{is_name, is_among}
+use Rattle.graph_text.specs.Common.{is_name, is_among}
 use Rattle.graph_text.proofs.PlainNames.{is_name-plain}
 use Rattle.graph_text.proofs.names.push_plain.Goals as goal
 

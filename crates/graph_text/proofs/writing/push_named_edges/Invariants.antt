@@ -1,6 +1,6 @@
 use Rattle.std.proofs.Common.{◌≡◌, ◌++◌, map, take, string_bytes}
 use Rattle.line_text.specs.Common.{written}
-use Rattle.graph_text.specs.Writing.{named_edge_words}
+use Rattle.graph_text.specs.Common.{named_edge_words}
 use Rattle.graph_text.proofs.writing.push_named_edges.Given as goal
 
 -- the lines of the first edges are written

@@ -1,6 +1,6 @@
 use Rattle.std.proofs.Common.{◌++◌, [], ◌∷◌, ap, string_bytes, arith, ◌∙◌}
 use Rattle.line_text.specs.Common.{written}
-use Rattle.graph_text.specs.Writing.{name_words}
+use Rattle.graph_text.specs.Common.{name_words}
 use Rattle.graph_text.proofs.TextSoFar.{lines-all, lines-more}
 use Rattle.graph_text.proofs.writing.push_names.Goals as goal
 

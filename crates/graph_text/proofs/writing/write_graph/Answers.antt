@@ -1,6 +1,6 @@
 use Rattle.std.proofs.Common.{subst, sym, ◌∙◌, ap, string_bytes, Vec, ℕ, Global}
 use Rattle.line_text.specs.Common.{Stands}
-use Rattle.graph_text.specs.VersionOne.{version_one, FitsVersionOne}
+use Rattle.graph_text.specs.Common.{version_one, FitsVersionOne}
 use Rattle.line_text.proofs.ExactlyOne.{StandsAlone-stands}
 use Rattle.graph_text.proofs.TextSoFar.{graph_text-lines}
 use Rattle.graph_text.proofs.VersionOneReadBack.{Stands-graph_text}

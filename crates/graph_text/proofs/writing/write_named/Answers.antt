@@ -1,7 +1,6 @@
 use Rattle.std.proofs.Common.{subst, sym, ◌∙◌, ap, string_bytes, Vec, ℕ, Global, Some}
 use Rattle.line_text.specs.Common.{Stands}
-use Rattle.graph_text.specs.EitherVersion.{either_version}
-use Rattle.graph_text.specs.Writing.{FitsNames}
+use Rattle.graph_text.specs.Common.{either_version, FitsNames}
 use Rattle.line_text.proofs.ExactlyOne.{StandsAlone-stands}
 use Rattle.graph_text.proofs.TextSoFar.{named_text-lines}
 use Rattle.graph_text.proofs.NamedReadBack.{Stands-named_text}

@@ -2,11 +2,8 @@ use Rattle.std.proofs.Common.{◌≡◌, ℕ, suc, ◌+◌, ◌-◌, ◌≤◌, 
 use Rattle.counting.proofs.Common.{IfOk-weaker}
 use Rattle.rand_pcg.specs.Lcg.{Lcg, started, increment_of}
 use Rattle.rand_pcg.specs.Pcg.{multiplier_64, pcg32}
-use Rattle.grow_gen.specs.Pieces.{further_piece}
-use Rattle.grow_gen.specs.Growing.{growth_of}
-use Rattle.grow_gen.specs.Growth.{Growth, MayTake, first_growth, growth_from, grown, with_piece}
-use Rattle.graph_core.specs.Common.{IsSimple}
-use Rattle.grow_gen.specs.Cubic.{IsCubic}
+use Rattle.grow_gen.specs.Common.{further_piece, growth_of, Growth, MayTake, first_growth, growth_from, grown, with_piece, IsCubic}
+use Rattle.graph_core.proofs.Common.{IsSimple}
 use Rattle.grow_gen.proofs.SoundGrowth.{IsSound, sound-first, sound-next, may-take}
 use Rattle.grow_gen.proofs.generator.grow.Goals as goal
 

@@ -1,8 +1,7 @@
 use Rattle.std.proofs.Common.{◌≡◌, ◌-◌}
 use Rattle.rand_pcg.specs.Lcg.{started, increment_of}
 use Rattle.rand_pcg.specs.Pcg.{multiplier_64}
-use Rattle.grow_gen.specs.Growing.{growth_of}
-use Rattle.grow_gen.specs.Growth.{first_growth, growth_from}
+use Rattle.grow_gen.specs.Common.{growth_of, first_growth, growth_from}
 use Rattle.grow_gen.proofs.SoundGrowth.{IsSound}
 use Rattle.grow_gen.proofs.generator.grow.Given as goal
 

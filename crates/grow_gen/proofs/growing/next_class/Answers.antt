@@ -1,8 +1,6 @@
 use Rattle.std.proofs.Common.{◌≡◌, ◌==◌, ◌&&◌, ◌||◌, not, map, take, ap, ap₂, ◌∙◌, arith}
-use Rattle.counting.proofs.Common.{take_all}
-use Rattle.counting.specs.Common.{mem}
-use Rattle.grow_gen.specs.Pieces.{side}
-use Rattle.grow_gen.specs.Splices.{new_number}
+use Rattle.counting.proofs.Common.{take_all, mem}
+use Rattle.grow_gen.specs.Common.{side, new_number}
 use Rattle.grow_gen.proofs.Skeleton.{next_class-rising, mem-image_more}
 use Rattle.grow_gen.proofs.growing.next_class.Goals as goal
 

@@ -1,6 +1,6 @@
 use Rattle.std.proofs.Common.{◌≡◌, ℕ, ◌==◌, ◌&&◌, ◌||◌, not, take, map}
-use Rattle.counting.specs.Common.{mem}
-use Rattle.grow_gen.specs.Splices.{new_number}
+use Rattle.counting.proofs.Common.{mem}
+use Rattle.grow_gen.specs.Common.{new_number}
 use Rattle.grow_gen.proofs.growing.next_class.Given as goal
 
 abbrev pub invariant-loop-x : goal.invariant-loop-x

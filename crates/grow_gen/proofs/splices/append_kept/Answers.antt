@@ -1,9 +1,9 @@
 use Rattle.std.proofs.Common.{◌≡◌, ◌∙◌, ◌+◌, ◌<◌, ◌++◌, ◌∷◌, ◌==◌, ◌||◌, [], ℕ, true, false, not, cond, List, Vec, Global, length, map, filter, take, get_or, ap, ap₂, sym, append_assoc, append-nil, eq-eqb, ne_eqb}
 use Rattle.counting.proofs.Common.{or_left, or_right, map-append}
 use Rattle.std.proofs.lemmas.List.Elements.{filter_more}
-use Rattle.graph_core.specs.Common.{pair_of}
+use Rattle.graph_core.proofs.Common.{pair_of}
 use Rattle.graph_core.specs.declared.ends.Ends.{Ends}
-use Rattle.grow_gen.specs.Splices.{is_at, renumbered_edge}
+use Rattle.grow_gen.specs.Common.{is_at, renumbered_edge}
 use Rattle.grow_gen.proofs.splices.append_kept.Goals.{then-a-ne1+then-b-ne1+in_ok-push, else-a-ne1, else-a-ne1-via-then-a-ne1+else-b-ne1, else-a-ne1-via-else-a-ne1}
 use Rattle.grow_gen.proofs.splices.append_kept.Goals as goal
 

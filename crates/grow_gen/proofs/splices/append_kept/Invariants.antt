@@ -1,6 +1,6 @@
 use Rattle.std.proofs.Common.{◌≡◌, ◌++◌, map, filter, not, take}
-use Rattle.graph_core.specs.Common.{pair_of}
-use Rattle.grow_gen.specs.Splices.{is_at, renumbered_edge}
+use Rattle.graph_core.proofs.Common.{pair_of}
+use Rattle.grow_gen.specs.Common.{is_at, renumbered_edge}
 use Rattle.grow_gen.proofs.splices.append_kept.Given as goal
 
 abbrev pub invariant-loop-a : goal.invariant-loop-a

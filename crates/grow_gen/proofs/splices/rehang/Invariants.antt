@@ -1,6 +1,6 @@
 use Rattle.std.proofs.Common.{◌≡◌, ◌≤◌, map, length, drop}
-use Rattle.graph_core.specs.Common.{pair_of}
-use Rattle.grow_gen.specs.Splices.{rehung_edges}
+use Rattle.graph_core.proofs.Common.{pair_of}
+use Rattle.grow_gen.specs.Common.{rehung_edges}
 use Rattle.grow_gen.proofs.RehangSteps.{Halfway}
 use Rattle.grow_gen.proofs.splices.rehang.Given as goal
 

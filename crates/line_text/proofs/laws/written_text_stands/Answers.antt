@@ -1,5 +1,5 @@
 use Rattle.std.proofs.Common.{map}
-use Rattle.line_text.specs.Words.{unwords, written}
+use Rattle.line_text.specs.Common.{unwords, written}
 use Rattle.line_text.proofs.ReadBack.{Stands-written, Stands-comments, is_closed-unlines, AreSkipped-written}
 use Rattle.line_text.proofs.laws.written_text_stands.Goals as goal
 

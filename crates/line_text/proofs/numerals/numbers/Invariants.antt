@@ -1,7 +1,6 @@
 use Rattle.std.proofs.Common.{◌≡◌, map, take, true}
 use Rattle.std.specs.List.{list_all}
-use Rattle.line_text.specs.Numerals.{is_number, value_of}
-use Rattle.line_text.specs.Words.{texts_of}
+use Rattle.line_text.specs.Common.{is_number, value_of, texts_of}
 use Rattle.line_text.proofs.numerals.numbers.Given as goal
 
 -- the words so far are numbers, and these are their values

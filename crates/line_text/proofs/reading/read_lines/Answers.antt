@@ -1,9 +1,6 @@
 use Rattle.std.proofs.Common.{arith, ◌≡◌, ◌+◌, ◌∙◌, ap, sym, refl, length, ℕ, [], Err}
 use Rattle.std.specs.Option.{option_map}
-use Rattle.line_text.specs.Lines.{lines_of}
-use Rattle.line_text.specs.Words.{words_of}
-use Rattle.line_text.specs.Format.{finish}
-use Rattle.line_text.specs.Reading.{state_after, reading_of}
+use Rattle.line_text.specs.Common.{lines_of, words_of, finish, state_after, reading_of}
 use Rattle.line_text.proofs.LineByLine.{reading_from-taken, reading_from-broken, reading_from-value, reading_from-ended, Fails-placed}
 use Rattle.line_text.proofs.LineCuts.{lines_of-nil}
 use Rattle.line_text.proofs.reading.read_lines.Goals as goal

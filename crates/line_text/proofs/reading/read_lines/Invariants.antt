@@ -1,8 +1,6 @@
 use Rattle.std.proofs.Common.{◌≡◌, ◌+◌, ◌≤◌, length}
 use Rattle.std.specs.Option.{option_map}
-use Rattle.line_text.specs.Lines.{lines_of}
-use Rattle.line_text.specs.Words.{significant_from}
-use Rattle.line_text.specs.Reading.{reading_from, reading_of}
+use Rattle.line_text.specs.Common.{lines_of, significant_from, reading_from, reading_of}
 use Rattle.line_text.proofs.reading.read_lines.Given as goal
 
 -- what comes of the lines that are left is what comes of the whole text

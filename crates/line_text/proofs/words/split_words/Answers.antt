@@ -2,7 +2,7 @@ use Rattle.std.proofs.Common.{rules, not, length, ◌==◌}
 use Rattle.std.proofs.lemmas.Iterator.Consumers.{map_from_collect, YieldsList-from_filter}
 use Rattle.std.proofs.lemmas.Iterator.Splits.{YieldsList-from_slice_split}
 use borrow.Author.Tests.{tests}
-use Rattle.line_text.specs.Words.{is_blank, words_of}
+use Rattle.line_text.specs.Common.{is_blank, words_of}
 use Rattle.line_text.proofs.words.split_words.Goals as goal
 
 pub returns : goal.returns

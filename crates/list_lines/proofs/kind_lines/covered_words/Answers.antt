@@ -1,9 +1,8 @@
-use Rattle.std.proofs.Common.{◌↔◌, ap, subst, ◌∙◌}
-use Rattle.std.specs.Prelude.{IsTrue}
+use Rattle.std.proofs.Common.{◌↔◌, ap, subst, ◌∙◌, IsTrue}
 use Rattle.counting.proofs.Common.{IfOk-weaker}
-use Rattle.graph_core.specs.Common.{Graph, IsBicritical}
+use Rattle.graph_core.proofs.Common.{Graph, IsBicritical}
 use Rattle.leaf_kinds.specs.LeafKinds.{IsKind}
-use Rattle.tight_cuts.specs.Candidates.{candidates, first_shore}
+use Rattle.tight_cuts.specs.Common.{candidates, first_shore}
 use Rattle.list_lines.specs.Standings.{Structured}
 use Rattle.list_lines.proofs.kind_lines.covered_words.Goals as goal
 

@@ -1,4 +1,4 @@
-use Rattle.tree_core.specs.Common.{shape_of}
+use Rattle.tree_core.proofs.Common.{shape_of}
 use Rattle.list_lines.proofs.leaf_counts.counted_leaves.Goals as goal
 
 pub returns : goal.returns

@@ -2,7 +2,7 @@ use Rattle.std.proofs.Common.{List, ap, append_assoc, arith, drop, get_or, lengt
 use Rattle.std.proofs.lemmas.List.{drop_all}
 use Rattle.counting.proofs.Common.{append-nil, length-map}
 use Rattle.contraction.specs.Partition.{PartitionValue}
-use Rattle.tree_core.proofs.KindsOfLeaves.{blocks-at}
+use Rattle.tree_core.proofs.Common.{blocks-at}
 use Rattle.tree_core.specs.declared.tallies.LeafKind.TheVariants.{Brick}
 use Rattle.list_lines.specs.LeafLines.{leaf_line, leaf_lines}
 use Rattle.list_lines.proofs.LeafTexts.{lines_next}

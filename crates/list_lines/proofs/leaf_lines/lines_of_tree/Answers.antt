@@ -1,11 +1,9 @@
 use Rattle.std.proofs.Common.{ℕ, All, length, ◌≡◌, ◌∙◌, ap, sym, subst, map}
 use Rattle.counting.proofs.Common.{IfOk-weaker, length-map}
 use Rattle.contraction.specs.Partition.{PartitionValue}
-use Rattle.graph_core.specs.Common.{singles}
-use Rattle.tree_core.specs.Common.{StandsAt, leaves, partitions_of, Fits, shape_of}
-use Rattle.tree_core.proofs.DerivationStands.{fits-derivation, stands-derivation}
+use Rattle.graph_core.proofs.Common.{singles}
+use Rattle.tree_core.proofs.Common.{StandsAt, leaves, partitions_of, Fits, shape_of, fits-derivation, stands-derivation, blocks-of_leaves, orders-of_leaves}
 use Rattle.list_lines.specs.LeafLines.{leaf_lines, line_front}
-use Rattle.tree_core.proofs.FewLeaves.{blocks-of_leaves, orders-of_leaves}
 use Rattle.list_lines.proofs.leaf_lines.lines_of_tree.Goals as goal
 
 pub leaves-requires-clause-fits : goal.leaves-requires-clause-fits

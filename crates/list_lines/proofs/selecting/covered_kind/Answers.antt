@@ -1,5 +1,5 @@
 use Rattle.std.proofs.Common.{subst}
-use Rattle.graph_core.specs.Common.{Graph}
+use Rattle.graph_core.proofs.Common.{Graph}
 use Rattle.leaf_kinds.specs.LeafKinds.{IsKind}
 use Rattle.list_lines.proofs.selecting.covered_kind.Goals as goal
 

@@ -1,6 +1,5 @@
-use Rattle.std.proofs.Common.{◌≡◌, subst}
-use Rattle.std.specs.Prelude.{IfOk}
-use Rattle.graph_core.specs.Common.{IsCovered, Graph}
+use Rattle.std.proofs.Common.{◌≡◌, subst, IfOk}
+use Rattle.graph_core.proofs.Common.{IsCovered, Graph}
 use Rattle.leaf_kinds.specs.LeafKinds.{IsKind}
 use Rattle.list_lines.proofs.selecting.kind_if_covered.Goals as goal
 

@@ -1,6 +1,5 @@
-use Rattle.std.proofs.Common.{◌≡◌, subst}
-use Rattle.std.specs.Prelude.{IfOk}
-use Rattle.graph_core.specs.Common.{Graph}
+use Rattle.std.proofs.Common.{◌≡◌, subst, IfOk}
+use Rattle.graph_core.proofs.Common.{Graph}
 use Rattle.list_lines.specs.Standings.{IsCounted}
 use Rattle.list_lines.proofs.selecting.tally_if_covered.Goals as goal
 

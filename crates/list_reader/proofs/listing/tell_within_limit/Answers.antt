@@ -1,7 +1,5 @@
 use Rattle.std.proofs.Common.{◌<◌, length, rules, arith}
-use Rattle.list_reader.specs.Lines.{HasNoFeed}
-use Rattle.list_reader.specs.Told.{most_line}
-use Rattle.list_reader.specs.Endings.{Added, ToldThrough}
+use Rattle.list_reader.specs.Common.{HasNoFeed, most_line, Added, ToldThrough}
 use Rattle.list_reader.proofs.Pieces.{through_long}
 use Rattle.list_reader.proofs.listing.tell_within_limit.Goals as goal
 

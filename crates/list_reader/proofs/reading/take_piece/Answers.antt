@@ -1,7 +1,6 @@
 use Rattle.std.proofs.Common.{◌++◌}
 use Rattle.list_reader.specs.declared.ending.Ending.TheVariants.{WriteFault}
-use Rattle.list_reader.specs.Endings.{ToldThrough, StopsWith}
-use Rattle.list_reader.specs.Lines.{lines_of}
+use Rattle.list_reader.specs.Common.{ToldThrough, StopsWith, lines_of}
 use Rattle.list_reader.proofs.Pieces.{through_begins}
 use Rattle.list_reader.proofs.Writings.{wrote_cut, begun_cut}
 use Rattle.list_reader.proofs.reading.take_piece.Goals as goal

@@ -1,6 +1,6 @@
 use Rattle.std.proofs.Common.{◌≡◌, [], inl, inr, refl, take, rules, arith}
 use Rattle.std.specs.declared.option.Option.TheVariants.{Some, None}
-use Rattle.outside.specs.Source.{prepended, IsEnd}
+use Rattle.outside.specs.Common.{prepended, IsEnd}
 use Rattle.list_reader.specs.declared.ending.Ending.TheVariants.{ReadFault, Memory}
 use Rattle.list_reader.proofs.Readings.{so_far_none, so_far_piece, so_far_stops, so_far_end, so_far_begun, so_far_torn}
 use Rattle.list_reader.proofs.Streaming.{stream_stops, stream_end, stream_begun}

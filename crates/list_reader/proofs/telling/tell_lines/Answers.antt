@@ -1,5 +1,5 @@
 use Rattle.std.proofs.Common.{rules}
-use Rattle.list_reader.specs.Lines.{IsFirstLine}
+use Rattle.list_reader.specs.Common.{IsFirstLine}
 use Rattle.list_reader.proofs.Pieces.{through_none, through_more, through_stopped}
 use Rattle.list_reader.proofs.telling.tell_lines.Goals as goal
 

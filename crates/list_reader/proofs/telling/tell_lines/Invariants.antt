@@ -1,5 +1,5 @@
 use Rattle.std.proofs.Common.{length}
-use Rattle.list_reader.specs.Endings.{Added, ToldThrough}
+use Rattle.list_reader.specs.Common.{Added, ToldThrough}
 use Rattle.list_reader.proofs.telling.tell_lines.Given as goal
 
 abbrev pub invariant-telling : goal.invariant-telling

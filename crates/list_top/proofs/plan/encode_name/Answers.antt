@@ -1,7 +1,7 @@
 use Rattle.std.proofs.Common.{◌≡◌, ◌≤◌, ℕ, List, [], ◌∷◌, length, map, string_bytes, refl, sym, arith}
 use Rattle.std.proofs.lemmas.List.{length-map}
 use Rattle.std.specs.declared.option.Option.TheVariants.{None}
-use Rattle.list_top.specs.Commands.{encode_of}
+use Rattle.list_top.specs.Common.{encode_of}
 use Rattle.list_top.proofs.plan.encode_name.Goals as goal
 
 -- three words and more do not match the row

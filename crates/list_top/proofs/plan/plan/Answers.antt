@@ -1,7 +1,7 @@
 use Rattle.std.proofs.Common.{◌≡◌, ◌≤◌, ℕ, List, [], ◌∷◌, length, map, string_bytes, refl, sym, arith}
 use Rattle.std.proofs.lemmas.List.{length-map}
 use Rattle.std.specs.declared.option.Option.TheVariants.{None}
-use Rattle.list_top.specs.Commands.{command_of}
+use Rattle.list_top.specs.Common.{command_of}
 use Rattle.list_top.proofs.plan.plan.Goals as goal
 
 -- four words and more match no row

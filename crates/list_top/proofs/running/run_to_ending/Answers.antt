@@ -1,7 +1,7 @@
 use Rattle.std.proofs.Common.{◌≡◌, ◌∙◌, map, string_bytes, sym, subst}
 use Rattle.std.proofs.lemmas.Option.{none-some, same_Some}
 use Rattle.list_reader.specs.declared.ending.Ending.{Ending}
-use Rattle.list_reader.specs.Endings.{Appended}
+use Rattle.list_reader.specs.Common.{Appended}
 use Rattle.encoder.specs.Files.{Encodes}
 use Rattle.encoder.specs.Reads.{EncodesFile, ReadsFirst}
 use Rattle.list_top.proofs.Rows.{not_both}

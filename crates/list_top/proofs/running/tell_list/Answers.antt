@@ -2,11 +2,8 @@ use Rattle.std.proofs.Common.{◌≡◌, ◌∙◌, ap, subst}
 use Rattle.std.proofs.lemmas.Option.{same_Some}
 use Rattle.list_lines.specs.declared.query.Query.{Query}
 use Rattle.list_reader.specs.declared.ending.Ending.{Ending}
-use Rattle.list_reader.specs.Endings.{Appended, ReadsTold, TellsList}
-use Rattle.list_top.specs.Asked.{asked}
-use Rattle.list_top.specs.Commands.{ListCommand}
-use Rattle.list_top.specs.Listings.{TellsLineOf, IsBadLine, lacks_of}
-use Rattle.list_top.specs.Outcomes.{EndsWith, StreamsTo}
+use Rattle.list_reader.specs.Common.{Appended, ReadsTold, TellsList}
+use Rattle.list_top.specs.Common.{asked, ListCommand, TellsLineOf, IsBadLine, lacks_of, EndsWith, StreamsTo}
 use Rattle.list_top.proofs.running.tell_list.Goals as goal
 
 pub returns-in-Some-clause-outcome : goal.returns-in-Some-clause-outcome

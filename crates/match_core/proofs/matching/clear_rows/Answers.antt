@@ -1,7 +1,7 @@
 use Rattle.std.proofs.Common.{◌≡◌, ◌∙◌, ◌++◌, ◌∷◌, [], ◌&&◌, false, not, cond, Vec, Global, filter, take, get_or, ap, ap₂, sym, append-nil}
 use Rattle.std.proofs.lemmas.List.Elements.{filter_more}
-use Rattle.counting.specs.Common.{mem}
-use Rattle.match_core.specs.MatchingRows.{is_clear}
+use Rattle.counting.proofs.Common.{mem}
+use Rattle.match_core.specs.Common.{is_clear}
 use Rattle.match_core.specs.declared.matching.MatchRow.{MatchRow}
 use Rattle.match_core.proofs.matching.clear_rows.Goals.{then-not-contains+then-not-contains-2+in_ok-push, else-not-contains, else-not-contains-via-then-not-contains+else-not-contains-2, else-not-contains-via-else-not-contains}
 use Rattle.match_core.proofs.matching.clear_rows.Goals as goal

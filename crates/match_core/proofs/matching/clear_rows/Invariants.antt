@@ -1,6 +1,6 @@
 use Rattle.std.proofs.Common.{◌≡◌, take, filter}
-use Rattle.counting.specs.Common.{mem}
-use Rattle.match_core.specs.MatchingRows.{is_clear}
+use Rattle.counting.proofs.Common.{mem}
+use Rattle.match_core.specs.Common.{is_clear}
 use Rattle.match_core.proofs.matching.clear_rows.Given as goal
 
 abbrev pub invariant-loop-row : goal.invariant-loop-row

@@ -1,7 +1,6 @@
 use Rattle.std.proofs.Common.{◌≡◌, Bool, true, false, ◌||◌, ◌==◌, ◌∷◌, [], sym, ap, ◌∙◌, refl, get_or, take, map}
-use Rattle.counting.proofs.Common.{take_more, map-append, mem-append}
-use Rattle.counting.specs.Common.{mem}
-use Rattle.match_search.specs.Rows.{marks}
+use Rattle.counting.proofs.Common.{take_more, map-append, mem-append, mem}
+use Rattle.match_search.specs.Common.{marks}
 use Rattle.match_core.specs.declared.matching.MatchRow.{MatchRow}
 use Rattle.match_search.proofs.GrownRows.{with_put}
 use Rattle.match_core.proofs.MatchingEdges.{edge_of}

@@ -1,8 +1,8 @@
 use Rattle.std.proofs.Common.{◌≡◌, ℕ, suc, ◌+◌, ◌++◌, ◌∷◌, [], true, sym, ap, ◌∙◌, map, arith}
-use Rattle.counting.specs.Common.{rising_list}
-use Rattle.graph_core.specs.Common.{graph_of}
-use Rattle.match_search.specs.Rows.{marks, end_a, end_b}
-use Rattle.match_core.specs.MatchingRows.{row_at}
+use Rattle.counting.proofs.Common.{rising_list}
+use Rattle.graph_core.proofs.Common.{graph_of}
+use Rattle.match_search.specs.Common.{marks, end_a, end_b}
+use Rattle.match_core.specs.Common.{row_at}
 use Rattle.match_core.specs.declared.matching.MatchRow.{MatchRow}
 use Rattle.match_search.proofs.GraphRows.{ends_here}
 use Rattle.match_core.proofs.MatchingEdges.{marked_more, marked_none}

@@ -1,8 +1,8 @@
 use Rattle.std.proofs.Common.{◌≡◌, map}
-use Rattle.counting.specs.Common.{rising_list}
-use Rattle.graph_core.specs.Common.{graph_of}
-use Rattle.match_search.specs.Rows.{marks}
-use Rattle.match_core.specs.MatchingRows.{row_at}
+use Rattle.counting.proofs.Common.{rising_list}
+use Rattle.graph_core.proofs.Common.{graph_of}
+use Rattle.match_search.specs.Common.{marks}
+use Rattle.match_core.specs.Common.{row_at}
 use Rattle.match_core.proofs.matching.marked_rows.Given as goal
 
 abbrev pub invariant-loop-k : goal.invariant-loop-k

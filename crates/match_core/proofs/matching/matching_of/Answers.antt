@@ -1,9 +1,8 @@
 use Rattle.std.proofs.Common.{sym, ap, ◌∙◌, subst}
-use Rattle.match_search.specs.Rows.{marks}
-use Rattle.match_core.specs.MatchingRows.{KeepsMatching, IsOf, edges_of}
-use Rattle.match_core.proofs.MatchingEdges.{marked-keeps, marked-of, marked-edges}
+use Rattle.match_search.specs.Common.{marks}
+use Rattle.match_core.specs.Common.{KeepsMatching, IsOf, edges_of}
+use Rattle.match_core.proofs.MatchingEdges.{marked-keeps, marked-of, marked-edges, whole_marked}
 use Rattle.match_search.proofs.WholeGraphs.{limits_row}
-use Rattle.match_core.proofs.MatchingEdges.{whole_marked}
 use Rattle.match_core.proofs.matching.matching_of.Goals as goal
 
 pub marked_rows-requires-clause-row : goal.marked_rows-requires-clause-row

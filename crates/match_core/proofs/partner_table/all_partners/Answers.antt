@@ -1,7 +1,6 @@
 use Rattle.std.proofs.Common.{List, ℕ, subst}
-use Rattle.counting.proofs.Common.{IfOk-weaker}
-use Rattle.counting.specs.Common.{mem, none}
-use Rattle.match_core.specs.Partners.{ArePartners}
+use Rattle.counting.proofs.Common.{IfOk-weaker, mem, none}
+use Rattle.match_core.specs.Common.{ArePartners}
 use Rattle.match_core.proofs.partner_table.all_partners.Goals as goal
 
 pub returns : goal.returns

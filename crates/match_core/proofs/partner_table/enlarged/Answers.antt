@@ -1,11 +1,8 @@
-use Rattle.std.proofs.Common.{◌≡◌, ap, sym, ◌∙◌, subst, subst₂, arith}
-use Rattle.std.specs.Prelude.{IfOk}
-use mathlib.Core.Path.{fun_ext}
-use Rattle.counting.specs.Common.{mem, Set}
-use Rattle.graph_core.specs.Common.{Graph, IsMatching}
-use Rattle.match_core.specs.MatchingRows.{edges_of}
-use Rattle.match_search.specs.Optimal.{IsBest}
-use Rattle.match_search.specs.Rows.{marks}
+use Rattle.std.proofs.Common.{◌≡◌, ap, sym, ◌∙◌, subst, subst₂, arith, IfOk}
+use Rattle.counting.proofs.Common.{fun_ext, mem, Set}
+use Rattle.graph_core.proofs.Common.{Graph, IsMatching}
+use Rattle.match_core.specs.Common.{edges_of}
+use Rattle.match_search.specs.Common.{IsBest, marks}
 use Rattle.match_search.proofs.WholeGraphs.{ends_rows, limits_row, whole_graph}
 use Rattle.match_core.proofs.partner_table.enlarged.Goals as goal
 

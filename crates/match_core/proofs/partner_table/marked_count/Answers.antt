@@ -1,6 +1,6 @@
 use Rattle.std.proofs.Common.{◌-◌, arith}
 use Rattle.counting.proofs.Common.{count_le}
-use Rattle.match_search.specs.Rows.{marks}
+use Rattle.match_search.specs.Common.{marks}
 use Rattle.match_core.proofs.partner_table.marked_count.Goals as goal
 
 pub overflow_add-found : goal.overflow_add-found

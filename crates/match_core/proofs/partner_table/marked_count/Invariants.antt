@@ -1,6 +1,6 @@
 use Rattle.std.proofs.Common.{◌≡◌, ◌-◌}
-use Rattle.counting.specs.Common.{count}
-use Rattle.match_search.specs.Rows.{marks}
+use Rattle.counting.proofs.Common.{count}
+use Rattle.match_search.specs.Common.{marks}
 use Rattle.match_core.proofs.partner_table.marked_count.Given as goal
 
 abbrev pub invariant-loop-k : goal.invariant-loop-k

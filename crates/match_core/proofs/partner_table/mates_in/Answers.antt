@@ -1,9 +1,7 @@
 use Rattle.std.proofs.Common.{◌≡◌, sym, subst}
-use Rattle.counting.proofs.Common.{IfOk-weaker}
-use Rattle.counting.specs.Common.{mem, Set}
-use Rattle.graph_core.specs.Common.{Graph, IsMatching, graph_of}
-use Rattle.match_search.specs.Mates.{HasMates}
-use Rattle.match_search.specs.Rows.{marks, numbers}
+use Rattle.counting.proofs.Common.{IfOk-weaker, mem, Set}
+use Rattle.graph_core.proofs.Common.{Graph, IsMatching, graph_of}
+use Rattle.match_search.specs.Common.{HasMates, marks, numbers}
 use Rattle.match_search.proofs.WholeGraphs.{limits_row, whole_graph}
 use Rattle.match_core.proofs.partner_table.mates_in.Goals as goal
 

@@ -1,7 +1,6 @@
 use Rattle.std.proofs.Common.{sym, ◌∙◌}
-use Rattle.counting.proofs.Common.{IfOk-weaker}
-use Rattle.counting.specs.Common.{mem}
-use Rattle.match_core.specs.Partners.{AreEmptyRows, ArePartners}
+use Rattle.counting.proofs.Common.{IfOk-weaker, mem}
+use Rattle.match_core.specs.Common.{AreEmptyRows, ArePartners}
 use Rattle.match_core.proofs.PartnerRows.{empty-partners}
 use Rattle.match_core.proofs.partner_table.partners.Goals as goal
 

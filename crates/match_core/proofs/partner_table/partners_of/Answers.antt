@@ -1,8 +1,7 @@
 use Rattle.std.proofs.Common.{◌≡◌, ℕ, true, sym, ◌∙◌}
-use Rattle.counting.proofs.Common.{IfOk-weaker}
-use Rattle.counting.specs.Common.{Within, mem, singleton, union}
-use Rattle.match_core.specs.Partners.{are_partners}
-use Rattle.match_search.specs.Missable.{IsMissableRow}
+use Rattle.counting.proofs.Common.{IfOk-weaker, Within, mem, singleton, union}
+use Rattle.match_core.specs.Common.{are_partners}
+use Rattle.match_search.specs.Common.{IsMissableRow}
 use Rattle.match_search.proofs.Instances.{left_from}
 use Rattle.match_core.proofs.PartnerRows.{missable-partners}
 use Rattle.match_core.proofs.partner_table.partners_of.Goals as goal

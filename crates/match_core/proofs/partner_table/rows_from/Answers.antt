@@ -1,6 +1,6 @@
 use Rattle.std.proofs.Common.{◌≡◌, ℕ, true, rules}
-use Rattle.counting.specs.Common.{Within, mem}
-use Rattle.match_core.specs.Partners.{are_partners}
+use Rattle.counting.proofs.Common.{Within, mem}
+use Rattle.match_core.specs.Common.{are_partners}
 use Rattle.match_core.proofs.HeldMates.{each_more, mates_alike}
 use Rattle.match_core.proofs.partner_table.rows_from.Goals as goal
 

@@ -1,7 +1,6 @@
 use Rattle.std.proofs.Common.{◌≡◌, ℕ, true, length}
-use Rattle.counting.specs.Common.{Within, item, mem}
-use Rattle.match_core.specs.HeldMates.{HoldsMates}
-use Rattle.match_core.specs.Partners.{are_partners}
+use Rattle.counting.proofs.Common.{Within, item, mem}
+use Rattle.match_core.specs.Common.{HoldsMates, are_partners}
 use Rattle.match_core.proofs.partner_table.rows_from.Given as goal
 
 abbrev pub invariant-loop-k : goal.invariant-loop-k

@@ -1,11 +1,7 @@
 use Rattle.std.proofs.Common.{◌≡◌, ◌-◌, ◌==◌, ◌||◌, Bool, true, false, refl, sym, subst, ap, ◌∙◌, arith, eq-eqb, length, Vec, Global, get_or, take}
-use Rattle.counting.proofs.Common.{both_ways, mem-item}
-use mathlib.Core.Path.{fun_ext}
-use Rattle.counting.specs.Common.{bit, Set, none, put, mem}
-use Rattle.graph_core.specs.Common.{degree}
-use Rattle.graph_core.proofs.Common.{perfect_matching}
-use Rattle.match_search.specs.Rows.{marks, end_a, end_b}
-use Rattle.match_search.specs.Questions.{MeetOnce}
+use Rattle.counting.proofs.Common.{both_ways, mem-item, fun_ext, bit, Set, none, put, mem}
+use Rattle.graph_core.proofs.Common.{degree, perfect_matching}
+use Rattle.match_search.specs.Common.{marks, end_a, end_b, MeetOnce}
 use Rattle.match_search.proofs.GrownRows.{with_put}
 use Rattle.match_search.proofs.FirstMarks.{addable, empty_degree}
 use Rattle.match_search.proofs.Gluing.{meet_more, meet_none, mem-more, mem-take, mem-again, mem-take_all}

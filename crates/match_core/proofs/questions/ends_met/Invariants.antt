@@ -1,7 +1,6 @@
 use Rattle.std.proofs.Common.{◌≡◌, ℕ, ◌+◌, length, take}
-use Rattle.counting.specs.Common.{mem}
-use Rattle.match_search.specs.Rows.{marks}
-use Rattle.match_search.specs.Questions.{MeetOnce}
+use Rattle.counting.proofs.Common.{mem}
+use Rattle.match_search.specs.Common.{marks, MeetOnce}
 use Rattle.match_core.proofs.questions.ends_met.Given as goal
 
 abbrev pub invariant-loop-edge : goal.invariant-loop-edge

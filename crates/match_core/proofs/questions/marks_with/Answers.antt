@@ -1,9 +1,7 @@
 use Rattle.std.proofs.Common.{◌≡◌, Bool, Vec, Global, sym, subst, ◌∙◌, refl}
-use Rattle.counting.proofs.Common.{or_right}
-use mathlib.Core.Path.{fun_ext}
-use Rattle.counting.specs.Common.{Set, none, minus, union, mem}
-use Rattle.graph_core.specs.Common.{IsPerfect}
-use Rattle.match_search.specs.Rows.{marks}
+use Rattle.counting.proofs.Common.{or_right, fun_ext, Set, none, minus, union, mem}
+use Rattle.graph_core.proofs.Common.{IsPerfect}
+use Rattle.match_search.specs.Common.{marks}
 use Rattle.match_search.proofs.Gluing.{glued, cut_off}
 use Rattle.match_core.proofs.questions.marks_with.Goals as goal
 

@@ -1,7 +1,7 @@
 use Rattle.std.proofs.Common.{◌≡◌, Bool, Vec, Global, sym, ◌∙◌, subst, refl}
-use Rattle.counting.specs.Common.{mem}
-use Rattle.graph_core.specs.Common.{IsPerfect}
-use Rattle.match_search.specs.Rows.{marks}
+use Rattle.counting.proofs.Common.{mem}
+use Rattle.graph_core.proofs.Common.{IsPerfect}
+use Rattle.match_search.specs.Common.{marks}
 use Rattle.match_core.proofs.FrameFacts.{no_outer-best_perfect, outer-none_perfect}
 use Rattle.match_core.proofs.questions.perfect_marks.Goals as goal
 

@@ -1,9 +1,8 @@
 use Rattle.std.proofs.Common.{◌≡◌, sym, ap, ◌∙◌, subst}
-use Rattle.counting.specs.Common.{mem, Within, none}
-use Rattle.counting.proofs.Common.{rising_holds}
-use Rattle.graph_core.specs.Common.{size, IsPerfect}
-use Rattle.match_search.specs.Rows.{marks}
-use Rattle.match_core.specs.MatchingRows.{edges_of, MatchingValue}
+use Rattle.counting.proofs.Common.{mem, Within, none, rising_holds}
+use Rattle.graph_core.proofs.Common.{size, IsPerfect}
+use Rattle.match_search.specs.Common.{marks}
+use Rattle.match_core.specs.Common.{edges_of, MatchingValue}
 use Rattle.match_core.proofs.FrameFacts.{passed_matching, listed_perfect}
 use Rattle.match_search.proofs.Gluing.{mem-holds}
 use Rattle.match_core.proofs.questions.perfect_with.Goals as goal

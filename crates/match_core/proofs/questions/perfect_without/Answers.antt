@@ -1,7 +1,7 @@
 use Rattle.std.proofs.Common.{◌≡◌, subst}
-use Rattle.counting.specs.Common.{mem}
-use Rattle.graph_core.specs.Common.{IsPerfect}
-use Rattle.match_core.specs.MatchingRows.{edges_of, MatchingValue}
+use Rattle.counting.proofs.Common.{mem}
+use Rattle.graph_core.proofs.Common.{IsPerfect}
+use Rattle.match_core.specs.Common.{edges_of, MatchingValue}
 use Rattle.match_core.proofs.FrameFacts.{passed_matching, listed_perfect}
 use Rattle.match_core.proofs.questions.perfect_without.Goals as goal
 

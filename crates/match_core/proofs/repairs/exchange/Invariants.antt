@@ -1,6 +1,5 @@
 use Rattle.std.proofs.Common.{◌≡◌, ℕ, length}
-use Rattle.match_search.specs.Forests.{flipped}
-use Rattle.match_search.specs.Rows.{marks, part}
+use Rattle.match_search.specs.Common.{flipped, marks, part}
 use Rattle.match_core.proofs.repairs.exchange.Given as goal
 
 abbrev pub invariant-loop-i : goal.invariant-loop-i

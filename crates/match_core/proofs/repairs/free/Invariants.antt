@@ -1,6 +1,6 @@
 use Rattle.std.proofs.Common.{◌≡◌, ℕ, ◌&&◌, ◌==◌, not, nat_lt, nat_le}
-use Rattle.counting.specs.Common.{mem}
-use Rattle.match_search.specs.Rows.{numbers}
+use Rattle.counting.proofs.Common.{mem}
+use Rattle.match_search.specs.Common.{numbers}
 use Rattle.match_core.proofs.repairs.free.Given as goal
 
 abbrev pub invariant-loop-i : goal.invariant-loop-i

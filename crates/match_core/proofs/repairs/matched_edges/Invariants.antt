@@ -1,6 +1,5 @@
 use Rattle.std.proofs.Common.{◌≡◌, ◌+◌, length}
-use Rattle.match_search.specs.Rows.{marks}
-use Rattle.match_search.specs.GraphRows.{NamesEdges}
+use Rattle.match_search.specs.Common.{marks, NamesEdges}
 use Rattle.match_core.proofs.repairs.matched_edges.Given as goal
 
 abbrev pub invariant-loop-k : goal.invariant-loop-k

@@ -1,10 +1,8 @@
 use Rattle.std.proofs.Common.{◌≡◌, sym, ap, ◌∙◌, subst, subst₂, refl, arith}
-use mathlib.Core.Path.{fun_ext}
-use Rattle.counting.specs.Common.{mem, Set}
-use Rattle.graph_core.specs.Common.{Graph, HasPerfect, IsMatching, IsPerfect, missed_count}
-use Rattle.match_search.specs.Rows.{marks}
-use Rattle.match_core.specs.MatchingRows.{edges_of, MatchingValue}
-use Rattle.match_search.specs.RepairPaths.{DiffersByPath}
+use Rattle.counting.proofs.Common.{fun_ext, mem, Set}
+use Rattle.graph_core.proofs.Common.{Graph, HasPerfect, IsMatching, IsPerfect, missed_count}
+use Rattle.match_search.specs.Common.{marks, DiffersByPath}
+use Rattle.match_core.specs.Common.{edges_of, MatchingValue}
 use Rattle.match_core.proofs.FrameFacts.{listed_marks, listed_perfect, passed_matching}
 use Rattle.match_core.proofs.RepairedPaths.{differs_alike}
 use Rattle.match_search.proofs.WholeGraphs.{ends_rows, limits_row, whole_graph, whole_size}

@@ -1,11 +1,8 @@
 use Rattle.std.proofs.Common.{ℕ, ◌==◌, ◌&&◌, not, nat_lt, nat_le, List, length, sym, ap, ◌∙◌, subst, arith}
-use Rattle.counting.proofs.Common.{IfOk-weaker}
-use Rattle.counting.specs.Common.{mem, Set}
-use Rattle.graph_core.specs.Common.{graph_of}
-use Rattle.match_search.specs.GraphRows.{NamesEdges}
-use Rattle.match_search.specs.Rows.{marks, numbers}
-use Rattle.match_search.specs.RepairPaths.{IsRepairRow, Misses}
-use Rattle.match_core.specs.RepairWalks.{StartsWalk}
+use Rattle.counting.proofs.Common.{IfOk-weaker, mem, Set}
+use Rattle.graph_core.proofs.Common.{graph_of}
+use Rattle.match_search.specs.Common.{NamesEdges, marks, numbers, IsRepairRow, Misses}
+use Rattle.match_core.specs.Common.{StartsWalk}
 use Rattle.match_core.proofs.NamedEdges.{free_misses, none_free}
 use Rattle.match_core.proofs.repairs.repair_path.Goals as goal
 

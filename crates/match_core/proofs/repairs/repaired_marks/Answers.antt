@@ -1,10 +1,7 @@
 use Rattle.std.proofs.Common.{◌≡◌, ℕ, ◌+◌, ◌-◌, ◌/◌, ◌<◌, Bool, true, List, Vec, Global, length, sym, ap, ◌∙◌, subst, refl, arith}
-use mathlib.Core.Path.{fun_ext}
-use Rattle.counting.specs.Common.{Set, put, mem}
-use Rattle.graph_core.specs.Common.{IsMatching, IsPerfect, graph_of}
-use Rattle.match_search.specs.Forests.{flipped}
-use Rattle.match_search.specs.Rows.{marks, numbers, part}
-use Rattle.match_search.specs.RepairPaths.{DiffersByPath, IsRepairRow, Misses}
+use Rattle.counting.proofs.Common.{fun_ext, Set, put, mem}
+use Rattle.graph_core.proofs.Common.{IsMatching, IsPerfect, graph_of}
+use Rattle.match_search.specs.Common.{flipped, marks, numbers, part, DiffersByPath, IsRepairRow, Misses}
 use Rattle.match_core.proofs.FrameFacts.{no_outer-best_perfect, outer-none_perfect}
 use Rattle.match_search.proofs.GraphRows.{row_graph, size_is}
 use Rattle.match_core.proofs.RepairedPaths.{row_real, flipped_row, repaired_path}

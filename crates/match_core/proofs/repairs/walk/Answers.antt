@@ -1,6 +1,6 @@
 use Rattle.std.proofs.Common.{◌≡◌, ℕ, List, [], ◌++◌, ◌∷◌, length, sym, ap, ◌∙◌, subst, arith}
-use Rattle.graph_core.specs.Common.{graph_of}
-use Rattle.match_search.specs.RepairPaths.{IsWalk, IsRepairRow, Misses}
+use Rattle.graph_core.proofs.Common.{graph_of}
+use Rattle.match_search.specs.Common.{IsWalk, IsRepairRow, Misses}
 use Rattle.match_search.proofs.GraphRows.{row_graph, missed_degree}
 use Rattle.match_core.proofs.RepairWalks.{walk_start, walk_within, walk_outside, walk_short, walk_more, walk_end, next_within, next_outside, appended_length}
 use Rattle.match_core.proofs.NamedEdges.{mate_pair, perfect_named}

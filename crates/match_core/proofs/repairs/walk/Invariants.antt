@@ -1,8 +1,8 @@
 use Rattle.std.proofs.Common.{ℕ, ◌+◌, ◌-◌, length}
-use Rattle.counting.specs.Common.{Set}
-use Rattle.graph_core.specs.Common.{graph_of}
-use Rattle.match_search.specs.RepairPaths.{IsWalk}
-use Rattle.match_core.specs.RepairWalks.{StartsWalk}
+use Rattle.counting.proofs.Common.{Set}
+use Rattle.graph_core.proofs.Common.{graph_of}
+use Rattle.match_search.specs.Common.{IsWalk}
+use Rattle.match_core.specs.Common.{StartsWalk}
 use Rattle.match_core.proofs.repairs.walk.Given as goal
 
 abbrev pub invariant-walking : goal.invariant-walking

@@ -1,6 +1,5 @@
 use Rattle.std.proofs.Common.{ℕ, sym, ap, ◌∙◌, inl, inr, List}
-use Rattle.counting.proofs.Common.{true≢false}
-use Rattle.counting.specs.Common.{mem}
+use Rattle.counting.proofs.Common.{true≢false, mem}
 use Rattle.match_search.proofs.Instances.{first_in}
 use Rattle.match_search.proofs.ParentForests.{exposed_is_both}
 use Rattle.match_search.proofs.alternating.exposed_in.Goals as goal

@@ -1,6 +1,6 @@
 use Rattle.std.proofs.Common.{◌≡◌, ℕ, true, ◌⊎◌, length}
-use Rattle.counting.specs.Common.{mem}
-use Rattle.match_search.specs.Rows.{numbers}
+use Rattle.counting.proofs.Common.{mem}
+use Rattle.match_search.specs.Common.{numbers}
 use Rattle.match_search.proofs.alternating.exposed_in.Given as goal
 
 abbrev pub invariant-looking : goal.invariant-looking

@@ -1,6 +1,6 @@
 use Rattle.std.proofs.Common.{◌≡◌, ℕ, true, ◌⊎◌, length}
-use Rattle.counting.specs.Common.{mem}
-use Rattle.match_search.specs.Rows.{numbers}
+use Rattle.counting.proofs.Common.{mem}
+use Rattle.match_search.specs.Common.{numbers}
 use Rattle.match_search.proofs.alternating.write_zeros.Given as goal
 
 abbrev pub invariant-writing : goal.invariant-writing

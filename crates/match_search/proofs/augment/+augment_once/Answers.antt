@@ -1,7 +1,6 @@
 use Rattle.std.proofs.Common.{◌-◌, ◌∙◌, sym, rules, arith, subst, length}
-use Rattle.counting.specs.Common.{mem}
-use Rattle.match_search.specs.Blossoms.{IsClosed, removed_with, without_blossom}
-use Rattle.match_search.specs.Rows.{numbers}
+use Rattle.counting.proofs.Common.{mem}
+use Rattle.match_search.specs.Common.{IsClosed, removed_with, without_blossom, numbers}
 use Rattle.match_search.proofs.BlossomMates.{cw}
 use Rattle.match_search.proofs.Instances.{alike_self, left_parts, put_back}
 use Rattle.match_search.proofs.MateSteps.{base_read, base_within, below_holds, below_less, candidates_below, roots_exposed, growth_closes, growth_final, may_open, may_open_alike, step_completed}

@@ -1,7 +1,6 @@
-use Rattle.counting.proofs.Common.{IfOk-weaker}
-use Rattle.counting.specs.Common.{Set}
-use Rattle.graph_core.specs.Common.{Graph}
-use Rattle.match_search.specs.Blossoms.{AreClosingPaths, ClosesForest, IsClosed}
+use Rattle.counting.proofs.Common.{IfOk-weaker, Set}
+use Rattle.graph_core.proofs.Common.{Graph}
+use Rattle.match_search.specs.Common.{AreClosingPaths, ClosesForest, IsClosed}
 use Rattle.match_search.proofs.augment.close_bridge.Goals as goal
 
 pub returns-clause-closed : goal.returns-clause-closed

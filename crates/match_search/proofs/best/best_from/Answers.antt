@@ -1,10 +1,7 @@
 use Rattle.std.proofs.Common.{arith}
-use Rattle.counting.proofs.Common.{IfOk-weaker}
-use Rattle.counting.specs.Common.{mem, Set}
-use Rattle.graph_core.specs.Common.{graph_of}
-use Rattle.match_search.specs.AlternatingForests.{HoldsMatching}
-use Rattle.match_search.specs.Optimal.{IsBest}
-use Rattle.match_search.specs.Rows.{marks}
+use Rattle.counting.proofs.Common.{IfOk-weaker, mem, Set}
+use Rattle.graph_core.proofs.Common.{graph_of}
+use Rattle.match_search.specs.Common.{HoldsMatching, IsBest, marks}
 use Rattle.match_search.proofs.AugmentedMates.{first_held}
 use Rattle.match_search.proofs.GraphRows.{row_graph}
 use Rattle.match_search.proofs.best.best_from.Goals as goal

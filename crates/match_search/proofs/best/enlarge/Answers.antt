@@ -1,5 +1,5 @@
 use Rattle.std.proofs.Common.{arith, sym, ap, ◌+◌, ◌∙◌}
-use Rattle.graph_core.specs.Common.{graph_of}
+use Rattle.graph_core.proofs.Common.{graph_of}
 use Rattle.match_search.proofs.AugmentedMates.{framed_best}
 use Rattle.match_search.proofs.GraphRows.{row_graph, size_is}
 use Rattle.match_search.proofs.best.enlarge.Goals as goal

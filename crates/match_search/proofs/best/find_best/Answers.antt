@@ -1,8 +1,7 @@
-use Rattle.std.proofs.Common.{subst}
-use Rattle.std.specs.Prelude.{IfOk}
-use Rattle.counting.specs.Common.{mem}
-use Rattle.graph_core.specs.Common.{Graph}
-use Rattle.match_search.specs.Optimal.{IsBest}
+use Rattle.std.proofs.Common.{subst, IfOk}
+use Rattle.counting.proofs.Common.{mem}
+use Rattle.graph_core.proofs.Common.{Graph}
+use Rattle.match_search.specs.Common.{IsBest}
 use Rattle.match_search.proofs.WholeGraphs.{ends_rows, limits_row, whole_graph}
 use Rattle.match_search.proofs.best.find_best.Goals as goal
 

@@ -1,9 +1,7 @@
 use Rattle.std.proofs.Common.{◌≡◌, ℕ, suc, ◌+◌, ◌==◌, ◌||◌, Bool, true, false, sym, subst, ap, ◌∙◌, arith, inl, eq-eqb, length, Vec, Global}
-use Rattle.counting.proofs.Common.{both_ways}
-use mathlib.Core.Path.{fun_ext}
-use Rattle.counting.specs.Common.{Set, put, Within, mem}
-use Rattle.graph_core.specs.Common.{degree, first_end, second_end, IsMatching, graph_of}
-use Rattle.match_search.specs.Rows.{marks, end_a, end_b}
+use Rattle.counting.proofs.Common.{both_ways, fun_ext, Set, put, Within, mem}
+use Rattle.graph_core.proofs.Common.{degree, first_end, second_end, IsMatching, graph_of}
+use Rattle.match_search.specs.Common.{marks, end_a, end_b}
 use Rattle.match_search.proofs.GraphRows.{size_is, ends_here}
 use Rattle.match_search.proofs.FirstMarks.{addable, empty_matching, empty_degree, added_edge}
 use Rattle.match_search.proofs.best.first_marks.Goals as goal

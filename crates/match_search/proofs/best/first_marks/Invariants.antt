@@ -1,7 +1,7 @@
 use Rattle.std.proofs.Common.{◌≡◌, ℕ, ◌+◌, false, length}
-use Rattle.counting.specs.Common.{Within, mem}
-use Rattle.graph_core.specs.Common.{degree, IsMatching, graph_of}
-use Rattle.match_search.specs.Rows.{marks}
+use Rattle.counting.proofs.Common.{Within, mem}
+use Rattle.graph_core.proofs.Common.{degree, IsMatching, graph_of}
+use Rattle.match_search.specs.Common.{marks}
 use Rattle.match_search.proofs.best.first_marks.Given as goal
 
 abbrev pub invariant-loop-k : goal.invariant-loop-k

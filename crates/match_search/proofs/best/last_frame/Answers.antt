@@ -1,9 +1,6 @@
 use Rattle.std.proofs.Common.{◌<◌, ◌==◌, ◌&&◌, arith, sym, subst}
-use Rattle.counting.specs.Common.{count, mem}
-use Rattle.match_search.specs.AlternatingForests.{IsSized}
-use Rattle.match_search.specs.Blossoms.{IsMateStep}
-use Rattle.match_search.specs.Frames.{Frame}
-use Rattle.match_search.specs.Rows.{numbers}
+use Rattle.counting.proofs.Common.{count, mem}
+use Rattle.match_search.specs.Common.{IsSized, IsMateStep, Frame, numbers}
 use Rattle.match_search.proofs.AugmentedMates.{fewer_left, held_again, left_is}
 use Rattle.match_search.proofs.Instances.{alike_self, alike_then}
 use Rattle.match_search.proofs.best.last_frame.Goals as goal

@@ -1,9 +1,7 @@
 use Rattle.std.proofs.Common.{◌==◌, ◌&&◌, length}
-use Rattle.counting.specs.Common.{count, mem, Set}
-use Rattle.graph_core.specs.Common.{Graph}
-use Rattle.match_search.specs.AlternatingForests.{HoldsMatching}
-use Rattle.match_search.specs.Rows.{numbers}
-use Rattle.match_search.specs.Shrinkings.{AreAlike}
+use Rattle.counting.proofs.Common.{count, mem, Set}
+use Rattle.graph_core.proofs.Common.{Graph}
+use Rattle.match_search.specs.Common.{HoldsMatching, numbers, AreAlike}
 use Rattle.match_search.proofs.best.last_frame.Given as goal
 
 abbrev pub invariant-augmenting : goal.invariant-augmenting

@@ -1,9 +1,6 @@
 use Rattle.std.proofs.Common.{◌≡◌, ℕ, suc, ◌+◌, ◌<◌, sym, ap, ap₂, ◌∙◌, arith, subst, length, List}
-use mathlib.Core.Path.{fun_ext}
-use Rattle.std.proofs.lemmas.Grind.{get_or_default_zero}
-use Rattle.match_search.specs.Blossoms.{second_start}
-use Rattle.match_search.specs.Mates.{with_pair, flipped_mates}
-use Rattle.match_search.specs.Rows.{numbers, part}
+use Rattle.counting.proofs.Common.{fun_ext, get_or_default_zero}
+use Rattle.match_search.specs.Common.{second_start, with_pair, flipped_mates, numbers, part}
 use Rattle.match_search.proofs.ClosingPairs.{pairs_augmented, second_in}
 use Rattle.match_search.proofs.blossom.augment.Goals as goal
 

@@ -1,6 +1,6 @@
 use Rattle.std.proofs.Common.{◌≡◌, ℕ, suc, ◌+◌, ◌-◌, ◌<◌, refl, sym, ap, arith, subst, length, List}
-use Rattle.counting.specs.Common.{Within}
-use Rattle.match_search.specs.Rows.{numbers}
+use Rattle.counting.proofs.Common.{Within}
+use Rattle.match_search.specs.Common.{numbers}
 use Rattle.match_search.proofs.ClosedCycles.{cycle_exposes, blossom_cycle_holds, cycle_within, stem_half}
 use Rattle.match_search.proofs.ClosingPairs.{second_in}
 use Rattle.match_search.proofs.blossom.blossom_of.Goals as goal

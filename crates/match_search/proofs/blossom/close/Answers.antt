@@ -1,6 +1,5 @@
 use Rattle.std.proofs.Common.{◌≡◌, ◌≢◌, ℕ, suc, ◌+◌, refl, arith, subst, List}
-use Rattle.match_search.specs.Meetings.{IsLastMeeting}
-use Rattle.match_search.specs.Rows.{numbers}
+use Rattle.match_search.specs.Common.{IsLastMeeting, numbers}
 use Rattle.match_search.proofs.blossom.close.Goals as goal
 
 pub augment-requires-clause-apart : goal.augment-requires-clause-apart

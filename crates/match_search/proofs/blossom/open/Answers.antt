@@ -1,11 +1,6 @@
 use Rattle.std.proofs.Common.{◌≡◌, ◌≢◌, ℕ, ◌-◌, true, sym, ap, ap₂, ◌∙◌, arith, subst, length, List}
-use mathlib.Core.Path.{fun_ext}
-use Rattle.std.proofs.lemmas.Grind.{get_or_default_zero}
-use Rattle.counting.specs.Common.{Within, mem}
-use Rattle.match_search.specs.Blossoms.{blossom_length}
-use Rattle.match_search.specs.Instances.{Touches}
-use Rattle.match_search.specs.Mates.{paired_round, with_mate, with_pair}
-use Rattle.match_search.specs.Rows.{numbers}
+use Rattle.counting.proofs.Common.{fun_ext, get_or_default_zero, Within, mem}
+use Rattle.match_search.specs.Common.{blossom_length, Touches, paired_round, with_mate, with_pair, numbers}
 use Rattle.match_search.proofs.Opening.{mate_near, mate_within, opened_base, opened_tip, small_cycle}
 use Rattle.match_search.proofs.blossom.open.Goals as goal
 

@@ -1,6 +1,6 @@
 use Rattle.std.proofs.Common.{◌≡◌, ℕ, false}
-use Rattle.counting.specs.Common.{Within, mem}
-use Rattle.match_search.specs.Rows.{numbers}
+use Rattle.counting.proofs.Common.{Within, mem}
+use Rattle.match_search.specs.Common.{numbers}
 use Rattle.match_search.proofs.blossom.place_in.Given as goal
 
 abbrev pub invariant-loop-i : goal.invariant-loop-i

@@ -1,5 +1,5 @@
 use Rattle.std.proofs.Common.{arith, ◌≡◌, ◌-◌, subst, sym}
-use Rattle.match_search.specs.Meetings.{IsLastMeeting}
+use Rattle.match_search.specs.Common.{IsLastMeeting}
 use Rattle.match_search.specs.declared.cycle.Meeting.{Meeting}
 use Rattle.match_search.proofs.cycle.last_meeting.Goals as goal
 

@@ -1,7 +1,6 @@
 use Rattle.std.proofs.Common.{◌≡◌, ℕ}
-use Rattle.counting.specs.Common.{mem}
-use Rattle.match_search.specs.OddCycles.{listed}
-use Rattle.match_search.specs.Rows.{numbers}
+use Rattle.counting.proofs.Common.{mem}
+use Rattle.match_search.specs.Common.{listed, numbers}
 use Rattle.match_search.proofs.cycle.members_of.Given as goal
 
 abbrev pub invariant-loop-i : goal.invariant-loop-i

@@ -1,7 +1,6 @@
 use Rattle.std.proofs.Common.{◌≡◌, ℕ, Bool, true, false, cond, refl, sym, ap, ◌∙◌, arith, inl, inr, ◌⊎◌, List}
-use Rattle.counting.proofs.Common.{true≢false}
-use Rattle.counting.specs.Common.{mem}
-use Rattle.match_search.specs.Rows.{numbers}
+use Rattle.counting.proofs.Common.{true≢false, mem}
+use Rattle.match_search.specs.Common.{numbers}
 use Rattle.match_search.proofs.Instances.{first_in}
 use Rattle.match_search.proofs.flower.expose_all.Goals as goal
 

@@ -1,8 +1,6 @@
 use Rattle.std.proofs.Common.{◌≡◌, ◌≢◌, ◌↔◌, ℕ, suc, ◌+◌, ◌-◌, ◌<◌, ◌≤◌, ◌||◌, ◌==◌, true, false, refl, sym, ap, ap₂, ◌∙◌, arith, inl, inr, subst, length, List}
-use Rattle.std.proofs.lemmas.Grind.{get_or_default_zero}
-use Rattle.counting.specs.Common.{mem}
-use Rattle.match_search.specs.Mates.{flipped_over}
-use Rattle.match_search.specs.Rows.{numbers}
+use Rattle.counting.proofs.Common.{get_or_default_zero, mem}
+use Rattle.match_search.specs.Common.{flipped_over, numbers}
 use Rattle.match_search.proofs.FlippedPaths.{over_off}
 use Rattle.match_search.proofs.FlowerPaths.{flip_more, up_at, up_inner, up_outer, up_over, up_pairs}
 use Rattle.match_search.proofs.PathsUp.{pairs_read, up_within}

@@ -1,10 +1,7 @@
 use Rattle.std.proofs.Common.{◌≡◌, ℕ, ◌+◌, true, length}
-use Rattle.counting.specs.Common.{Set, mem}
-use Rattle.graph_core.specs.Common.{Graph}
-use Rattle.match_search.specs.AlternatingForests.{HoldsAlternating}
-use Rattle.match_search.specs.Flowers.{GoesOver}
-use Rattle.match_search.specs.Mates.{flipped_over}
-use Rattle.match_search.specs.Rows.{numbers}
+use Rattle.counting.proofs.Common.{Set, mem}
+use Rattle.graph_core.proofs.Common.{Graph}
+use Rattle.match_search.specs.Common.{HoldsAlternating, GoesOver, flipped_over, numbers}
 use Rattle.match_search.proofs.flower.flip_path.Given as goal
 
 abbrev pub invariant-loop-i : goal.invariant-loop-i

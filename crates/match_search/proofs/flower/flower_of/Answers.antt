@@ -1,5 +1,5 @@
 use Rattle.std.proofs.Common.{◌≡◌, ℕ, ◌==◌, ◌||◌, ◌&&◌, not, ap, ap₂, ◌∙◌, arith}
-use Rattle.counting.specs.Common.{mem}
+use Rattle.counting.proofs.Common.{mem}
 use Rattle.match_search.proofs.PathFlowers.{flower_holds, members_within}
 use Rattle.match_search.proofs.flower.flower_of.Goals as goal
 use Rattle.match_search.proofs.flower.flower_of.Goals.{After-with-members}

@@ -1,8 +1,6 @@
 use Rattle.std.proofs.Common.{◌≡◌, ◌≢◌, ℕ, ◌+◌, sym, ap, ◌∙◌, arith, inl, inr}
-use Rattle.counting.proofs.Common.{cases_eq}
-use Rattle.std.proofs.lemmas.Grind.{get_or_default_zero}
-use Rattle.counting.specs.Common.{mem}
-use Rattle.match_search.specs.Rows.{numbers}
+use Rattle.counting.proofs.Common.{cases_eq, get_or_default_zero, mem}
+use Rattle.match_search.specs.Common.{numbers}
 use Rattle.match_search.proofs.FlowerPaths.{up_outer, up_over, up_pairs}
 use Rattle.match_search.proofs.PathsUp.{pairs_read, up_within}
 use Rattle.match_search.proofs.flower.last_in.Goals as goal

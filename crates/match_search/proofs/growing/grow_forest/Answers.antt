@@ -1,13 +1,11 @@
 use Rattle.std.proofs.Common.{◌≡◌, ◌≢◌, ℕ, suc, ◌+◌, ◌-◌, ◌*◌, ◌<◌, ◌≤◌, Bool, true, false, ◌==◌, refl, sym, ap, ◌∙◌, arith, inl, inr, subst, length, List, [], None, Some, ◌&&◌, ◌||◌, not}
-use Rattle.counting.proofs.Common.{both_ways, cases_eq, and_parts, and_from, false_from_ne_true, or_cases, or_left, or_right}
-use Rattle.counting.specs.Common.{count, mem}
-use Rattle.match_search.specs.AlternatingForests.{IsDone, IsClosingPair}
+use Rattle.counting.proofs.Common.{both_ways, cases_eq, and_parts, and_from, false_from_ne_true, or_cases, or_left, or_right, count, mem}
+use Rattle.match_search.specs.Common.{IsDone, IsClosingPair, numbers}
 use Rattle.match_search.specs.declared.growing.Adjacent.{Adjacent}
 use Rattle.match_search.proofs.Instances.{left_parts}
 use Rattle.match_search.proofs.Branching.{fits_branch, holds_branched, nearer_end}
 use Rattle.match_search.proofs.ParentForests.{roots_hold}
 use Rattle.match_search.proofs.Reaching.{done_stays, drop_less, none_reached, reach_parts}
-use Rattle.match_search.specs.Rows.{numbers}
 use Rattle.match_search.proofs.growing.grow_forest.Goals as goal
 
 or_false_parts : (a b : Bool) → (a || b) ≡ false → (a ≡ false) × (b ≡ false)

@@ -1,7 +1,7 @@
 use Rattle.std.proofs.Common.{◌≡◌, ℕ, ◌+◌, ◌-◌, ◌*◌, true, false, length}
-use Rattle.counting.specs.Common.{count, Set, mem}
-use Rattle.graph_core.specs.Common.{Graph}
-use Rattle.match_search.specs.AlternatingForests.{HoldsMatching, HoldsAlternating, IsDone}
+use Rattle.counting.proofs.Common.{count, Set, mem}
+use Rattle.graph_core.proofs.Common.{Graph}
+use Rattle.match_search.specs.Common.{HoldsMatching, HoldsAlternating, IsDone}
 use Rattle.match_search.proofs.growing.grow_forest.Given as goal
 
 abbrev pub invariant-growing : goal.invariant-growing

@@ -1,6 +1,6 @@
 use Rattle.std.proofs.Common.{sym, subst}
-use Rattle.counting.specs.Common.{mem}
-use Rattle.match_search.specs.Shrinkings.{IsUnionOf}
+use Rattle.counting.proofs.Common.{mem}
+use Rattle.match_search.specs.Common.{IsUnionOf}
 use Rattle.match_search.proofs.instance.gather.Goals as goal
 
 pub returns-clause-gathered : goal.returns-clause-gathered

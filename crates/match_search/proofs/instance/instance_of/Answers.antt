@@ -1,6 +1,6 @@
 use Rattle.std.proofs.Common.{◌≡◌, ℕ, sym, ◌∙◌, arith, length, subst, not, ◌&&◌, nat_lt, nat_le}
-use Rattle.counting.specs.Common.{mem}
-use Rattle.graph_core.specs.Common.{AreRows}
+use Rattle.counting.proofs.Common.{mem}
+use Rattle.graph_core.proofs.Common.{AreRows}
 use Rattle.match_search.proofs.Instances.{full_left, whole_instance}
 use Rattle.match_search.proofs.instance.instance_of.Goals as goal
 

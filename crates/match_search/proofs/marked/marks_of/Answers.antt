@@ -1,10 +1,7 @@
 use Rattle.std.proofs.Common.{◌≡◌, ℕ, suc, ◌+◌, ◌==◌, ◌&&◌, ◌||◌, ◌⊎◌, not, Bool, true, false, refl, sym, subst, subst₂, ap, ap₂, ◌∙◌, arith, inl, inr, eq-eqb, eqb-true, ne_eqb, length, List, Vec, Global}
-use Rattle.counting.proofs.Common.{both_ways, true≢false}
-use mathlib.Core.Path.{fun_ext}
-use Rattle.counting.specs.Common.{Within, Set, put, mem}
-use Rattle.graph_core.specs.Common.{graph_of}
-use Rattle.match_search.specs.Mates.{MarksMates}
-use Rattle.match_search.specs.Rows.{marks, numbers, end_a, end_b}
+use Rattle.counting.proofs.Common.{both_ways, true≢false, fun_ext, Within, Set, put, mem}
+use Rattle.graph_core.proofs.Common.{graph_of}
+use Rattle.match_search.specs.Common.{MarksMates, marks, numbers, end_a, end_b}
 use Rattle.match_search.proofs.GraphRows.{ends_here, row_graph, size_is}
 use Rattle.match_search.proofs.MarkedMates.{marked_mates, marks_more, marks_none, marks_passed}
 use Rattle.match_search.proofs.marked.marks_of.Goals as goal

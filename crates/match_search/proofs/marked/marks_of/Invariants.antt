@@ -1,8 +1,7 @@
 use Rattle.std.proofs.Common.{◌≡◌, ◌+◌, length}
-use Rattle.counting.specs.Common.{mem}
-use Rattle.graph_core.specs.Common.{graph_of}
-use Rattle.match_search.specs.Mates.{MarksMates}
-use Rattle.match_search.specs.Rows.{marks, numbers}
+use Rattle.counting.proofs.Common.{mem}
+use Rattle.graph_core.proofs.Common.{graph_of}
+use Rattle.match_search.specs.Common.{MarksMates, marks, numbers}
 use Rattle.match_search.proofs.marked.marks_of.Given as goal
 
 abbrev pub invariant-loop-k : goal.invariant-loop-k

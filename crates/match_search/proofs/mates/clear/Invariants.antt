@@ -1,6 +1,5 @@
 use Rattle.std.proofs.Common.{◌≡◌, ℕ, length}
-use Rattle.match_search.specs.Mates.{cleared_mates}
-use Rattle.match_search.specs.Rows.{numbers}
+use Rattle.match_search.specs.Common.{cleared_mates, numbers}
 use Rattle.match_search.proofs.mates.clear.Given as goal
 
 abbrev pub invariant-loop-i : goal.invariant-loop-i

@@ -1,6 +1,5 @@
 use Rattle.std.proofs.Common.{◌≡◌, ℕ, length}
-use Rattle.match_search.specs.Mates.{flipped_mates}
-use Rattle.match_search.specs.Rows.{numbers, part}
+use Rattle.match_search.specs.Common.{flipped_mates, numbers, part}
 use Rattle.match_search.proofs.mates.flip.Given as goal
 
 abbrev pub invariant-loop-i : goal.invariant-loop-i

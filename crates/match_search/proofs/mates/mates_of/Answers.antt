@@ -1,8 +1,7 @@
 use Rattle.std.proofs.Common.{ℕ, sym, ap, ◌∙◌, subst, length, List}
 use Rattle.std.proofs.lemmas.List.{with_items_is}
-use Rattle.graph_core.specs.Common.{graph_of}
-use Rattle.match_search.specs.Mates.{HasMates}
-use Rattle.match_search.specs.Rows.{marks, numbers}
+use Rattle.graph_core.proofs.Common.{graph_of}
+use Rattle.match_search.specs.Common.{HasMates, marks, numbers}
 use Rattle.match_search.proofs.NamedMates.{named_mates}
 use Rattle.match_search.proofs.mates.mates_of.Goals as goal
 

@@ -1,8 +1,6 @@
 use Rattle.std.proofs.Common.{◌≡◌, ℕ, suc, ◌+◌, ◌-◌, ap, ◌∙◌, arith, cond, length}
-use mathlib.Core.Path.{fun_ext}
-use Rattle.match_search.specs.Mates.{paired_round, with_pair}
-use Rattle.match_search.specs.OddCycles.{every_other, next}
-use Rattle.match_search.specs.Rows.{numbers}
+use Rattle.counting.proofs.Common.{fun_ext}
+use Rattle.match_search.specs.Common.{paired_round, with_pair, every_other, next, numbers}
 use Rattle.match_search.proofs.mates.pair_round.Goals as goal
 
 pub loop-i-preserved : goal.loop-i-preserved

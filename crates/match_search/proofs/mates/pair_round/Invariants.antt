@@ -1,6 +1,5 @@
 use Rattle.std.proofs.Common.{◌≡◌, ℕ, ◌-◌, length}
-use Rattle.match_search.specs.Mates.{paired_round}
-use Rattle.match_search.specs.Rows.{numbers}
+use Rattle.match_search.specs.Common.{paired_round, numbers}
 use Rattle.match_search.proofs.mates.pair_round.Given as goal
 
 abbrev pub invariant-loop-i : goal.invariant-loop-i

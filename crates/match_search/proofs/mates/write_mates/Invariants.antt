@@ -1,6 +1,5 @@
 use Rattle.std.proofs.Common.{◌≡◌, length}
-use Rattle.match_search.specs.Mates.{NamesMates}
-use Rattle.match_search.specs.Rows.{marks}
+use Rattle.match_search.specs.Common.{NamesMates, marks}
 use Rattle.match_search.proofs.mates.write_mates.Given as goal
 
 abbrev pub invariant-loop-k : goal.invariant-loop-k

@@ -1,7 +1,6 @@
 use Rattle.std.proofs.Common.{◌-◌, ◌==◌, ◌&&◌, arith}
-use Rattle.counting.proofs.Common.{count_le}
-use Rattle.counting.specs.Common.{mem}
-use Rattle.match_search.specs.Rows.{numbers}
+use Rattle.counting.proofs.Common.{count_le, mem}
+use Rattle.match_search.specs.Common.{numbers}
 use Rattle.match_search.proofs.missable.exposed_count.Goals as goal
 
 pub overflow_add-found : goal.overflow_add-found

@@ -1,6 +1,6 @@
 use Rattle.std.proofs.Common.{◌≡◌, ◌-◌, ◌==◌, ◌&&◌}
-use Rattle.counting.specs.Common.{count, mem}
-use Rattle.match_search.specs.Rows.{numbers}
+use Rattle.counting.proofs.Common.{count, mem}
+use Rattle.match_search.specs.Common.{numbers}
 use Rattle.match_search.proofs.missable.exposed_count.Given as goal
 
 abbrev pub invariant-loop-v : goal.invariant-loop-v

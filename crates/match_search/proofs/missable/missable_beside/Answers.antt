@@ -1,6 +1,6 @@
 use Rattle.std.proofs.Common.{List, ℕ, sym, subst}
-use Rattle.counting.specs.Common.{singleton, union}
-use Rattle.match_search.specs.AlternatingForests.{HoldsMatching}
+use Rattle.counting.proofs.Common.{singleton, union}
+use Rattle.match_search.specs.Common.{HoldsMatching}
 use Rattle.match_search.proofs.Instances.{left_parts}
 use Rattle.match_search.proofs.MissableRows.{held_without}
 use Rattle.match_search.proofs.missable.missable_beside.Goals as goal

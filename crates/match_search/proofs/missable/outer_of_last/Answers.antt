@@ -1,6 +1,5 @@
 use Rattle.std.proofs.Common.{ℕ, List, refl, sym, ap, ◌∙◌}
-use Rattle.counting.proofs.Common.{true≢false}
-use Rattle.counting.specs.Common.{mem}
+use Rattle.counting.proofs.Common.{true≢false, mem}
 use Rattle.match_search.proofs.AugmentedMates.{left_is}
 use Rattle.match_search.proofs.MissableRows.{missable_row}
 use Rattle.match_search.proofs.missable.outer_of_last.Goals as goal

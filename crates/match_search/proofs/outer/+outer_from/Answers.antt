@@ -1,5 +1,5 @@
 use Rattle.std.proofs.Common.{arith, rules}
-use Rattle.counting.specs.Common.{mem}
+use Rattle.counting.proofs.Common.{mem}
 use Rattle.match_search.proofs.Flowers.{base_within, below_rooted, flower_less, flower_within, outer_final, outer_up, root_exposed, root_within, shrunk_graph_of, shrunk_out}
 use Rattle.match_search.proofs.Instances.{alike_self, put_back}
 use Rattle.match_search.proofs.MateSteps.{growth_closes}

@@ -1,5 +1,5 @@
 use Rattle.std.proofs.Common.{length}
-use Rattle.counting.specs.Common.{count, mem}
+use Rattle.counting.proofs.Common.{count, mem}
 use Rattle.match_search.proofs.outer.+outer_from.Given as goal
 
 abbrev pub decreases-outer_from : goal.decreases-outer_from

@@ -1,6 +1,6 @@
 use Rattle.std.proofs.Common.{◌≡◌, ℕ, suc, ◌+◌, sym, ap, ◌∙◌, arith, length, List}
 use Rattle.std.proofs.lemmas.List.{with_items_is}
-use Rattle.match_search.specs.Rows.{numbers}
+use Rattle.match_search.specs.Common.{numbers}
 use Rattle.match_search.proofs.ForestPaths.{forest_paths, short_paths}
 use Rattle.match_search.proofs.paths.paths_to.Goals as goal
 

@@ -1,9 +1,6 @@
-use Rattle.std.proofs.Common.{◌≡◌, ◌≢◌, ℕ, ◌+◌, ◌-◌, ◌<◌, sym, ap, ◌∙◌, arith, inl, inr, length, List, slice_set}
-use Rattle.counting.proofs.Common.{cases_eq}
-use Rattle.std.proofs.lemmas.List.{get_or-set_same, get_or-set_other}
-use Rattle.std.proofs.lemmas.Grind.{get_or_default_zero}
-use Rattle.counting.specs.Common.{mem}
-use Rattle.match_search.specs.Rows.{numbers}
+use Rattle.std.proofs.Common.{◌≡◌, ◌≢◌, ℕ, ◌+◌, ◌-◌, ◌<◌, sym, ap, ◌∙◌, arith, inl, inr, length, List, slice_set, get_or-set_same, get_or-set_other}
+use Rattle.counting.proofs.Common.{cases_eq, get_or_default_zero, mem}
+use Rattle.match_search.specs.Common.{numbers}
 use Rattle.match_search.proofs.PathsUp.{pairs_read, unwritten, up_parts, up_within, path_written}
 use Rattle.match_search.proofs.paths.write_path.Goals as goal
 

@@ -1,8 +1,7 @@
 use Rattle.std.proofs.Common.{◌≡◌, ℕ, ◌+◌, ◌<◌, ◌≤◌, true, length}
-use Rattle.counting.specs.Common.{Set, mem}
-use Rattle.graph_core.specs.Common.{Graph}
-use Rattle.match_search.specs.AlternatingForests.{HoldsAlternating}
-use Rattle.match_search.specs.Rows.{numbers}
+use Rattle.counting.proofs.Common.{Set, mem}
+use Rattle.graph_core.proofs.Common.{Graph}
+use Rattle.match_search.specs.Common.{HoldsAlternating, numbers}
 use Rattle.match_search.proofs.paths.write_path.Given as goal
 
 -- the path from v down to x is written

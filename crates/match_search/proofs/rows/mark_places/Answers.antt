@@ -1,7 +1,6 @@
 use Rattle.std.proofs.Common.{◌||◌, ◌==◌, sym, ap, ◌∙◌, get_or, take}
-use Rattle.counting.specs.Common.{mem}
-use Rattle.counting.proofs.Common.{or_assoc}
-use Rattle.match_search.specs.Rows.{marks}
+use Rattle.counting.proofs.Common.{mem, or_assoc}
+use Rattle.match_search.specs.Common.{marks}
 use Rattle.match_search.proofs.GrownRows.{with_put}
 use Rattle.match_search.proofs.Gluing.{mem-more}
 use Rattle.match_search.proofs.rows.mark_places.Goals as goal

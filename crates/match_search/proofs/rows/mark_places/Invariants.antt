@@ -1,6 +1,6 @@
 use Rattle.std.proofs.Common.{◌≡◌, ℕ, length, take, ◌||◌}
-use Rattle.counting.specs.Common.{mem}
-use Rattle.match_search.specs.Rows.{marks}
+use Rattle.counting.proofs.Common.{mem}
+use Rattle.match_search.specs.Common.{marks}
 use Rattle.match_search.proofs.rows.mark_places.Given as goal
 
 abbrev pub invariant-loop-place : goal.invariant-loop-place

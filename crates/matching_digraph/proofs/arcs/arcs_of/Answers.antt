@@ -1,7 +1,7 @@
 use Rattle.std.proofs.Common.{◌≡◌, ℕ, ◌∙◌, ◌++◌, ◌||◌, List, length, take, drop, sym, ap, ap₂, subst, arith}
 use Rattle.std.proofs.Math.Seq.{take-append_seam}
-use Rattle.counting.specs.Common.{item, mem}
-use Rattle.match_core.specs.MatchingRows.{edges_of}
+use Rattle.counting.proofs.Common.{item, mem}
+use Rattle.match_core.specs.Common.{edges_of}
 use Rattle.matching_digraph.proofs.MatchedArcs.{arcs_from, list_any-mates}
 use Rattle.matching_digraph.specs.Digraph.{AreArcs}
 use Rattle.matching_digraph.proofs.arcs.arcs_of.Goals as goal

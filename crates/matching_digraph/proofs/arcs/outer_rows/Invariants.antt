@@ -1,6 +1,6 @@
 use Rattle.std.proofs.Common.{◌≡◌, ◌&&◌, not, ℕ, length}
-use Rattle.counting.specs.Common.{Within, item, mem, none}
-use Rattle.graph_core.specs.Common.{adjacent}
+use Rattle.counting.proofs.Common.{Within, item, mem, none}
+use Rattle.graph_core.proofs.Common.{adjacent}
 use Rattle.matching_digraph.proofs.arcs.outer_rows.Given as goal
 
 abbrev pub invariant-loop-k : goal.invariant-loop-k

@@ -1,6 +1,5 @@
 use Rattle.line_text.proofs.ExactlyOne.{StandsAlone-stands}
-use Rattle.move_text.specs.MoveFormat.{move_format}
-use Rattle.move_text.specs.Writing.{moves_text}
+use Rattle.move_text.specs.Common.{move_format, moves_text}
 use Rattle.move_text.proofs.MovesReadBack.{Stands-moves_text}
 use Rattle.move_text.proofs.laws.written_moves_stand.Goals as goal
 

@@ -1,6 +1,6 @@
 use Rattle.std.proofs.Common.{◌≡◌, ◌++◌, ◌∷◌, [], ◌∙◌, List, Ok, ap, sym}
 use Rattle.counting.proofs.Common.{map-append}
-use Rattle.tree_core.specs.Common.{PlainMove, switch_at, move_of, moves_of}
+use Rattle.tree_core.proofs.Common.{PlainMove, switch_at, move_of, moves_of}
 use Rattle.tree_core.specs.declared.moves.Move.{Move}
 use Rattle.tree_core.specs.declared.path.Side.{Side}
 use Rattle.move_text.proofs.move_format.read_switch.Goals as goal

@@ -1,5 +1,5 @@
 use Rattle.std.proofs.Common.{◌≡◌, ◌++◌, length, map}
-use Rattle.move_text.specs.MoveFormat.{side_of}
+use Rattle.move_text.specs.Common.{side_of}
 use Rattle.move_text.proofs.move_words.read_steps.Given as goal
 
 -- the steps read and those that the letters left write are all steps

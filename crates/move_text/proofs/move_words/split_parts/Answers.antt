@@ -2,7 +2,7 @@ use Rattle.std.proofs.Common.{rules}
 use Rattle.std.proofs.lemmas.Iterator.Consumers.{map_from_collect}
 use Rattle.std.proofs.lemmas.Iterator.Splits.{YieldsList-from_slice_split}
 use borrow.Author.Tests.{tests}
-use Rattle.move_text.specs.MoveFormat.{is_comma}
+use Rattle.move_text.specs.Common.{is_comma}
 use Rattle.move_text.proofs.move_words.split_parts.Goals as goal
 
 pub returns : goal.returns

@@ -1,5 +1,5 @@
 use Rattle.std.proofs.Common.{◌≡◌, ◌++◌, length, string_bytes}
-use Rattle.move_text.specs.Writing.{behind_commas, set_word}
+use Rattle.move_text.specs.Common.{behind_commas, set_word}
 use Rattle.move_text.proofs.writing.push_set.Given as goal
 
 -- what is written and the vertices left, each after a comma, make the whole word

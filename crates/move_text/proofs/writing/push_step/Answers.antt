@@ -1,6 +1,6 @@
 use Rattle.std.proofs.Common.{◌≡◌, ◌++◌, ◌∷◌, [], OnOk, string_bytes, subst, sym}
 use Rattle.tree_core.specs.declared.path.Side.{Side}
-use Rattle.move_text.specs.Writing.{letter_of}
+use Rattle.move_text.specs.Common.{letter_of}
 use Rattle.move_text.proofs.writing.push_step.Goals as goal
 
 pub returns-in-Kept : goal.returns-in-Kept

@@ -1,5 +1,5 @@
 use Rattle.std.proofs.Common.{◌≡◌, ◌++◌, length, map, string_bytes}
-use Rattle.move_text.specs.Writing.{letter_of}
+use Rattle.move_text.specs.Common.{letter_of}
 use Rattle.move_text.proofs.writing.push_steps.Given as goal
 
 -- what is written and the letters of the steps left make the whole word

@@ -1,13 +1,11 @@
 use Rattle.std.proofs.Common.{◌≡◌, ◌<◌, ◌≤◌, ◌^◌, [], ◌∷◌, ◌++◌, ℕ, List, length, get_or, take, take_all, subst, sym, ◌∙◌, ap, ap₂, arith, Vec, Global}
-use Rattle.std.specs.List.{AllByRecursion}
-use Rattle.counting.proofs.Common.{length-map, get_or_from_slice_get}
+use Rattle.counting.proofs.Common.{AllByRecursion, length-map, get_or_from_slice_get}
 use Rattle.line_text.specs.Common.{Stands, written}
 use Rattle.line_text.proofs.ExactlyOne.{StandsAlone-stands}
 use Rattle.line_text.proofs.WrittenLines.{written-more}
 use Rattle.tree_core.specs.declared.moves.Move.{Move}
-use Rattle.tree_core.specs.Common.{move_of, moves_of}
-use Rattle.move_text.specs.MoveFormat.{move_format, most_moves}
-use Rattle.move_text.specs.Writing.{header_words, move_words, HasShortPath, HasSets, SetsRise, IsWritable}
+use Rattle.tree_core.proofs.Common.{move_of, moves_of}
+use Rattle.move_text.specs.Common.{move_format, most_moves, header_words, move_words, HasShortPath, HasSets, SetsRise, IsWritable}
 use Rattle.move_text.proofs.MovesReadBack.{Stands-moves_text}
 use Rattle.move_text.proofs.TextSoFar.{all-next, moves_text-by_moves}
 use Rattle.move_text.proofs.writing.write_moves.Goals as goal

@@ -1,8 +1,8 @@
 use Rattle.std.proofs.Common.{◌≡◌, ◌∷◌, map, take, string_bytes}
-use Rattle.std.specs.List.{AllByRecursion}
+use Rattle.counting.proofs.Common.{AllByRecursion}
 use Rattle.line_text.specs.Common.{written}
-use Rattle.tree_core.specs.Common.{move_of, moves_of}
-use Rattle.move_text.specs.Writing.{header_words, move_words, SetsRise}
+use Rattle.tree_core.proofs.Common.{move_of, moves_of}
+use Rattle.move_text.specs.Common.{header_words, move_words, SetsRise}
 use Rattle.move_text.proofs.writing.write_moves.Given as goal
 
 -- the header and the lines of the first moves are written, and the sets of these moves rise

@@ -1,5 +1,5 @@
 use Rattle.std.proofs.Common.{◌≡◌, ◌≤◌, ◌-◌, ℕ, length, take}
-use Rattle.outside.specs.Sink.{appended, WritesTake}
+use Rattle.outside.specs.Common.{appended, WritesTake}
 use Rattle.outside.proofs.emitting.emit.Given as goal
 
 abbrev pub invariant-writing : goal.invariant-writing

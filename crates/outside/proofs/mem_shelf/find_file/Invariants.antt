@@ -1,6 +1,5 @@
 use Rattle.std.proofs.Common.{◌≡◌, length}
-use Rattle.outside.specs.Shelf.{file_named}
-use Rattle.outside.specs.StoredFile.{named_files}
+use Rattle.outside.specs.Common.{file_named, named_files}
 use Rattle.outside.proofs.mem_shelf.find_file.Given as goal
 
 abbrev pub invariant-looking : goal.invariant-looking

@@ -1,5 +1,4 @@
-use Rattle.tree_core.specs.Common.{shape_of}
-use Rattle.tree_core.proofs.DerivationStands.{fits-derivation}
+use Rattle.tree_core.proofs.Common.{shape_of, fits-derivation}
 use Rattle.tree_check.proofs.ThreeAnswers.{accepted-exactly}
 use Rattle.own_order.proofs.widest.decompose_widest.Goals as goal
 

@@ -1,7 +1,6 @@
 use Rattle.std.proofs.Common.{refl, subst, false}
 use Rattle.counting.proofs.Common.{both_ways}
-use Rattle.graph_core.proofs.Common.{reason-uncovered}
-use Rattle.graph_core.specs.Common.{IsVerdict, reason_of}
+use Rattle.graph_core.proofs.Common.{reason-uncovered, IsVerdict, reason_of}
 use Rattle.plain_graph.proofs.asked.is_covered.Goals as goal
 
 pub returns-in-NotCovered : goal.returns-in-NotCovered

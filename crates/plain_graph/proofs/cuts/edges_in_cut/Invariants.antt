@@ -1,6 +1,6 @@
 use Rattle.std.proofs.Common.{◌≡◌, ◌≤◌, ◌&&◌}
-use Rattle.counting.specs.Common.{count, mem}
-use Rattle.graph_core.specs.Common.{in_cut}
+use Rattle.counting.proofs.Common.{count, mem}
+use Rattle.graph_core.proofs.Common.{in_cut}
 use Rattle.plain_graph.proofs.cuts.edges_in_cut.Given as goal
 
 abbrev pub invariant-loop-i : goal.invariant-loop-i

@@ -1,7 +1,6 @@
 use Rattle.std.proofs.Common.{ℕ, List, ◌==◌, ◌&&◌, ap, sym, ◌∙◌}
-use Rattle.std.specs.List.{list_all}
-use Rattle.counting.specs.Common.{mem, none}
-use Rattle.graph_core.specs.Common.{edges_in_cut}
+use Rattle.counting.proofs.Common.{list_all, mem, none}
+use Rattle.graph_core.proofs.Common.{edges_in_cut}
 use Rattle.plain_graph.specs.Subsets.{perfect_matchings_of}
 use Rattle.plain_graph.proofs.Tries.{is_tight-list}
 use Rattle.plain_graph.proofs.cuts.is_tight.Goals.{then-has_odd_sides, else-has_odd_sides}

@@ -1,6 +1,6 @@
 use Rattle.std.proofs.Common.{◌≡◌, ◌≤◌, ◌+◌, ◌*◌, ◌==◌, ◌&&◌}
-use Rattle.counting.specs.Common.{count, mem}
-use Rattle.graph_core.specs.Common.{first_end, second_end}
+use Rattle.counting.proofs.Common.{count, mem}
+use Rattle.graph_core.proofs.Common.{first_end, second_end}
 use Rattle.plain_graph.proofs.degrees.degree.Given as goal
 
 abbrev pub invariant-loop-i : goal.invariant-loop-i

@@ -1,7 +1,6 @@
 use Rattle.std.proofs.Common.{◌<◌, ◌+◌, cond, sym, arith}
-use Rattle.counting.proofs.Common.{lt-leb}
-use Rattle.counting.specs.Common.{mem}
-use Rattle.graph_core.specs.Common.{degree, fits_at}
+use Rattle.counting.proofs.Common.{lt-leb, mem}
+use Rattle.graph_core.proofs.Common.{degree, fits_at}
 use Rattle.plain_graph.proofs.Tries.{every_not}
 use Rattle.plain_graph.proofs.degrees.is_matching.Goals as goal
 

@@ -1,6 +1,6 @@
 use Rattle.std.proofs.Common.{◌≡◌, true}
-use Rattle.counting.specs.Common.{mem, every}
-use Rattle.graph_core.specs.Common.{fits_at}
+use Rattle.counting.proofs.Common.{mem, every}
+use Rattle.graph_core.proofs.Common.{fits_at}
 use Rattle.plain_graph.proofs.degrees.is_matching.Given as goal
 
 abbrev pub invariant-loop-i : goal.invariant-loop-i

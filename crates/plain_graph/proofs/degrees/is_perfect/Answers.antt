@@ -1,6 +1,6 @@
 use Rattle.std.proofs.Common.{◌+◌, sym, ◌∙◌, arith, ne_eqb}
-use Rattle.counting.specs.Common.{mem}
-use Rattle.graph_core.specs.Common.{right_degree}
+use Rattle.counting.proofs.Common.{mem}
+use Rattle.graph_core.proofs.Common.{right_degree}
 use Rattle.plain_graph.proofs.Tries.{every_not}
 use Rattle.plain_graph.proofs.degrees.is_perfect.Goals as goal
 

@@ -1,6 +1,5 @@
-use Rattle.std.proofs.Common.{sym, subst}
-use Rattle.std.specs.Prelude.{All}
-use Rattle.counting.specs.Common.{IsRisingIn}
+use Rattle.std.proofs.Common.{sym, subst, All}
+use Rattle.counting.proofs.Common.{IsRisingIn}
 use Rattle.plain_graph.proofs.Subsets.{subsets-rising}
 use Rattle.plain_graph.proofs.edge_sets.edge_sets.Goals as goal
 

@@ -1,6 +1,6 @@
 use Rattle.std.proofs.Common.{◌+◌, max, ap, sym, ◌∙◌, arith, subst}
-use Rattle.counting.specs.Common.{IsRisingIn, mem}
-use Rattle.graph_core.specs.Common.{size}
+use Rattle.counting.proofs.Common.{IsRisingIn, mem}
+use Rattle.graph_core.proofs.Common.{size}
 use Rattle.plain_graph.proofs.Tries.{IsGreatestSoFar, greatest-longer, greatest-same, matching_of-none}
 use Rattle.plain_graph.proofs.matchings.greatest_among.Goals as goal
 use Rattle.plain_graph.proofs.matchings.greatest_among.Goals.{then-is_matching, else-is_matching}

@@ -1,7 +1,6 @@
-use Rattle.std.proofs.Common.{◌≡◌, ℕ, ◌≤◌, List, length, true, ap, sym, ◌∙◌, subst}
-use Rattle.std.specs.Prelude.{All}
-use Rattle.counting.specs.Common.{IsRisingIn, mem}
-use Rattle.graph_core.specs.Common.{size, is_matching}
+use Rattle.std.proofs.Common.{◌≡◌, ℕ, ◌≤◌, List, length, true, ap, sym, ◌∙◌, subst, All}
+use Rattle.counting.proofs.Common.{IsRisingIn, mem}
+use Rattle.graph_core.proofs.Common.{size, is_matching}
 use Rattle.plain_graph.specs.Subsets.{subsets}
 use Rattle.plain_graph.proofs.Subsets.{subsets-rising}
 use Rattle.plain_graph.proofs.Tries.{greatest-list}

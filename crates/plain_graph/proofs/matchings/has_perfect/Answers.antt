@@ -1,5 +1,5 @@
 use Rattle.std.proofs.Common.{ℕ, List, length, ◌==◌, not, ap, ◌∙◌}
-use Rattle.counting.specs.Common.{mem}
+use Rattle.counting.proofs.Common.{mem}
 use Rattle.plain_graph.proofs.Tries.{has_perfect-list}
 use Rattle.plain_graph.proofs.matchings.has_perfect.Goals as goal
 

@@ -1,6 +1,5 @@
 use Rattle.std.proofs.Common.{ℕ, List, ap, ◌∙◌}
-use Rattle.std.specs.List.{list_any}
-use Rattle.counting.specs.Common.{mem}
+use Rattle.counting.proofs.Common.{list_any, mem}
 use Rattle.plain_graph.specs.Subsets.{perfect_matchings_of}
 use Rattle.plain_graph.proofs.Tries.{is_allowed-list}
 use Rattle.plain_graph.proofs.matchings.is_allowed.Goals as goal

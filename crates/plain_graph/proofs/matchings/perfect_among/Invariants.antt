@@ -1,6 +1,6 @@
 use Rattle.std.proofs.Common.{◌≡◌, filter, take, List, ℕ}
-use Rattle.counting.specs.Common.{mem}
-use Rattle.graph_core.specs.Common.{is_perfect}
+use Rattle.counting.proofs.Common.{mem}
+use Rattle.graph_core.proofs.Common.{is_perfect}
 use Rattle.plain_graph.proofs.matchings.perfect_among.Given as goal
 
 abbrev pub invariant-loop-edges : goal.invariant-loop-edges

@@ -1,7 +1,6 @@
-use Rattle.std.proofs.Common.{◌≡◌, ℕ, List, filter, ap, sym, ◌∙◌, subst}
-use Rattle.std.specs.Prelude.{All, Contains}
-use Rattle.counting.specs.Common.{IsRisingIn, mem, rising_list, Set}
-use Rattle.graph_core.specs.Common.{Graph, size, IsPerfect, is_perfect}
+use Rattle.std.proofs.Common.{◌≡◌, ℕ, List, filter, ap, sym, ◌∙◌, subst, All, Contains}
+use Rattle.counting.proofs.Common.{IsRisingIn, mem, rising_list, Set}
+use Rattle.graph_core.proofs.Common.{Graph, size, IsPerfect, is_perfect}
 use Rattle.plain_graph.specs.Subsets.{perfect_matchings_of, subsets}
 use Rattle.plain_graph.proofs.Tries.{perfect_matchings-all, perfect_matchings-perfect}
 use Rattle.plain_graph.proofs.matchings.perfect_matchings.Goals as goal

@@ -1,7 +1,6 @@
 use Rattle.std.proofs.Common.{sym, ap, ◌∙◌}
-use Rattle.counting.specs.Common.{is_odd, mem}
-use Rattle.counting.proofs.Common.{is_odd_remainder}
-use Rattle.graph_core.specs.Common.{joined}
+use Rattle.counting.proofs.Common.{is_odd, mem, is_odd_remainder}
+use Rattle.graph_core.proofs.Common.{joined}
 use Rattle.plain_graph.proofs.Reaching.{length-part}
 use Rattle.plain_graph.proofs.parts.is_in_odd_part.Goals as goal
 

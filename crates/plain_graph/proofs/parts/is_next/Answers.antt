@@ -1,7 +1,6 @@
 use Rattle.std.proofs.Common.{◌+◌, ◌&&◌, sym, arith}
-use Rattle.counting.proofs.Common.{and_from, true_some}
-use Rattle.counting.specs.Common.{mem}
-use Rattle.graph_core.specs.Common.{adjacent}
+use Rattle.counting.proofs.Common.{and_from, true_some, mem}
+use Rattle.graph_core.proofs.Common.{adjacent}
 use Rattle.plain_graph.proofs.parts.is_next.Goals as goal
 
 pub returns-then-is_step : goal.returns-then-is_step

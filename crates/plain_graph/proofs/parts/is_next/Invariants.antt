@@ -1,6 +1,6 @@
 use Rattle.std.proofs.Common.{◌≡◌, ◌&&◌, false}
-use Rattle.counting.specs.Common.{mem, some}
-use Rattle.graph_core.specs.Common.{adjacent}
+use Rattle.counting.proofs.Common.{mem, some}
+use Rattle.graph_core.proofs.Common.{adjacent}
 use Rattle.plain_graph.proofs.parts.is_next.Given as goal
 
 abbrev pub invariant-loop-i : goal.invariant-loop-i

@@ -1,5 +1,5 @@
 use Rattle.std.proofs.Common.{◌∙◌, sym, arith}
-use Rattle.counting.specs.Common.{mem}
+use Rattle.counting.proofs.Common.{mem}
 use Rattle.plain_graph.proofs.Reaching.{reaches-all, reaches-step}
 use Rattle.plain_graph.proofs.parts.joined_to.Goals as goal
 

@@ -1,6 +1,6 @@
 use Rattle.std.proofs.Common.{◌≡◌, ℕ, true}
-use Rattle.counting.specs.Common.{Within, mem}
-use Rattle.graph_core.specs.Common.{adjacent, reaches}
+use Rattle.counting.proofs.Common.{Within, mem}
+use Rattle.graph_core.proofs.Common.{adjacent, reaches}
 use Rattle.plain_graph.proofs.parts.joined_to.Given as goal
 
 abbrev pub invariant-loop-step : goal.invariant-loop-step

@@ -1,6 +1,6 @@
 use Rattle.std.proofs.Common.{◌≡◌, ◌<◌, ◌&&◌, ◌||◌, ℕ, true}
-use Rattle.counting.specs.Common.{Within, mem, some}
-use Rattle.graph_core.specs.Common.{adjacent}
+use Rattle.counting.proofs.Common.{Within, mem, some}
+use Rattle.graph_core.proofs.Common.{adjacent}
 use Rattle.plain_graph.proofs.parts.one_step_more.Given as goal
 
 abbrev pub invariant-loop-i : goal.invariant-loop-i

@@ -1,9 +1,7 @@
-use Rattle.std.proofs.Common.{ap, sym, ◌∙◌, refl, Some}
-use Rattle.std.specs.Prelude.{slice_get}
-use Rattle.barrier_kit.specs.BarrierShores.{barrier_cuts}
-use Rattle.graph_core.specs.Common.{IsCanonicalCut}
-use Rattle.barrier_kit.proofs.ShoreFacts.{barrier_cuts-canonical}
-use Rattle.separation_kit.specs.SeparationShores.{separation_cuts}
+use Rattle.std.proofs.Common.{ap, sym, ◌∙◌, refl, Some, slice_get}
+use Rattle.barrier_kit.proofs.Common.{barrier_cuts, barrier_cuts-canonical}
+use Rattle.graph_core.proofs.Common.{IsCanonicalCut}
+use Rattle.separation_kit.specs.Common.{separation_cuts}
 use Rattle.separation_kit.proofs.SeparationFacts.{separation_cuts-canonical}
 use Rattle.quick_kinds.proofs.QuickBricks.{at_least_four, class-none, empty-list, first-left, first-of, first-right, no_cut-pair, no_cuts-bicritical, none-brick, pair-none}
 use Rattle.quick_kinds.proofs.brick.quick_brick.Goals as goal

@@ -1,5 +1,5 @@
 use Rattle.std.proofs.Common.{◌≡◌, take}
-use Rattle.graph_core.specs.Common.{names_of}
+use Rattle.graph_core.proofs.Common.{names_of}
 use Rattle.report_text.proofs.comparisons.block_names.Given as goal
 
 -- the first blocks are named

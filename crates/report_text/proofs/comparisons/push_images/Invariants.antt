@@ -1,5 +1,5 @@
 use Rattle.std.proofs.Common.{◌≡◌, ◌++◌, length, string_bytes}
-use Rattle.report_text.specs.Comparisons.{image_lines}
+use Rattle.report_text.specs.Common.{image_lines}
 use Rattle.report_text.proofs.comparisons.push_images.Given as goal
 
 abbrev pub invariant-writing : goal.invariant-writing

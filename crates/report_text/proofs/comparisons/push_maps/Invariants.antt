@@ -1,5 +1,5 @@
 use Rattle.std.proofs.Common.{◌≡◌, ◌++◌, length, string_bytes}
-use Rattle.report_text.specs.Comparisons.{map_texts}
+use Rattle.report_text.specs.Common.{map_texts}
 use Rattle.report_text.proofs.comparisons.push_maps.Given as goal
 
 abbrev pub invariant-writing : goal.invariant-writing

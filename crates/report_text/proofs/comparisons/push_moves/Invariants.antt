@@ -1,6 +1,6 @@
 use Rattle.std.proofs.Common.{◌≡◌, ◌++◌, length, string_bytes}
-use Rattle.tree_core.specs.Common.{moves_of}
-use Rattle.report_text.specs.Comparisons.{move_lines}
+use Rattle.tree_core.proofs.Common.{moves_of}
+use Rattle.report_text.specs.Common.{move_lines}
 use Rattle.report_text.proofs.comparisons.push_moves.Given as goal
 
 abbrev pub invariant-writing : goal.invariant-writing

@@ -1,5 +1,5 @@
 use Rattle.std.proofs.Common.{◌≡◌, ◌++◌, string_bytes}
-use Rattle.report_text.specs.Derivations.{block_lines}
+use Rattle.report_text.specs.Common.{block_lines}
 use Rattle.report_text.proofs.derivations.push_blocks.Given as goal
 
 -- the lines of the first blocks are written

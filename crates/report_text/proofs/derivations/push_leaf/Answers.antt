@@ -1,6 +1,6 @@
 use Rattle.std.proofs.Common.{IfOk, subst}
 use Rattle.contraction.specs.Contracted.{ContractedValue}
-use Rattle.tree_core.specs.Common.{IsKindOf}
+use Rattle.tree_core.proofs.Common.{IsKindOf}
 use Rattle.report_text.proofs.derivations.push_leaf.Goals as goal
 
 pub returns-clause-kind : goal.returns-clause-kind

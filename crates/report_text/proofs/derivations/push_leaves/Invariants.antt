@@ -1,7 +1,7 @@
 use Rattle.std.proofs.Common.{◌≡◌, ◌++◌, ℕ, length, map, string_bytes}
-use Rattle.counting.specs.Common.{Within}
-use Rattle.tree_core.specs.Common.{leaf_at, IsLeafKind, kind_at}
-use Rattle.report_text.specs.Derivations.{leaf_lines}
+use Rattle.counting.proofs.Common.{Within}
+use Rattle.tree_core.proofs.Common.{leaf_at, IsLeafKind, kind_at}
+use Rattle.report_text.specs.Common.{leaf_lines}
 use Rattle.report_text.proofs.derivations.push_leaves.Given as goal
 
 -- the lines of the first leaves are written, and their kinds are known

@@ -1,7 +1,7 @@
 use Rattle.std.proofs.Common.{◌≡◌, ◌++◌, ℕ, add-one, ap, arith, string_bytes, subst, ◌∙◌}
 use Rattle.contraction.specs.Contracted.{ContractedValue}
-use Rattle.graph_core.specs.Common.{size}
-use Rattle.report_text.specs.Derivations.{adjacent_lines}
+use Rattle.graph_core.proofs.Common.{size}
+use Rattle.report_text.specs.Common.{adjacent_lines}
 use Rattle.report_text.proofs.WrittenLines.{adjacent-written, within-blocks}
 use Rattle.report_text.proofs.derivations.push_pairs.Goals as goal
 

@@ -1,7 +1,7 @@
 use Rattle.std.proofs.Common.{◌≡◌, ◌++◌, string_bytes}
 use Rattle.contraction.specs.Contracted.{contraction}
-use Rattle.graph_core.specs.Common.{Graph}
-use Rattle.report_text.specs.Derivations.{adjacent_lines}
+use Rattle.graph_core.proofs.Common.{Graph}
+use Rattle.report_text.specs.Common.{adjacent_lines}
 use Rattle.report_text.proofs.derivations.push_pairs.Given as goal
 
 -- the lines of the first edges of the quotient are written

@@ -1,6 +1,5 @@
-use Rattle.std.proofs.Common.{List, ℕ, ◌++◌, ap, append_assoc, ◌∙◌}
-use Rattle.std.specs.Prelude.{codes}
-use Rattle.report_text.specs.Judgements.{edge_text}
+use Rattle.std.proofs.Common.{List, ℕ, ◌++◌, ap, append_assoc, ◌∙◌, codes}
+use Rattle.report_text.specs.Common.{edge_text}
 use Rattle.report_text.proofs.ear_judgements.push_refused.Goals as goal
 
 pub returns : goal.returns

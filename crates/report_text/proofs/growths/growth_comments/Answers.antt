@@ -1,6 +1,5 @@
-use Rattle.std.proofs.Common.{List, ℕ, ◌++◌, ap, ◌∙◌}
-use Rattle.std.specs.Prelude.{codes}
-use Rattle.report_text.specs.Growths.{order_line, pairs_line}
+use Rattle.std.proofs.Common.{List, ℕ, ◌++◌, ap, ◌∙◌, codes}
+use Rattle.report_text.specs.Common.{order_line, pairs_line}
 use Rattle.report_text.proofs.growths.growth_comments.Goals as goal
 
 pub returns : goal.returns

@@ -1,5 +1,5 @@
 use Rattle.std.proofs.Common.{add-one, ap, arith, suc, [], ◌+◌, ◌++◌, ◌∙◌, slice_index_or}
-use Rattle.report_text.specs.Reports.{name_line, name_lines}
+use Rattle.report_text.specs.Common.{name_line, name_lines}
 use Rattle.report_text.proofs.CommentLines.{given_names-commented}
 use Rattle.report_text.proofs.WrittenLines.{one-more}
 use Rattle.report_text.proofs.names.with_names.Goals as goal

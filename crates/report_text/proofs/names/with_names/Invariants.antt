@@ -1,5 +1,5 @@
 use Rattle.std.proofs.Common.{◌≡◌, ◌++◌}
-use Rattle.report_text.specs.Reports.{name_lines}
+use Rattle.report_text.specs.Common.{name_lines}
 use Rattle.report_text.proofs.names.with_names.Given as goal
 
 -- the report and the lines of the first names are written

@@ -1,5 +1,5 @@
 use Rattle.std.proofs.Common.{◌≡◌, ◌++◌, length, string_bytes}
-use Rattle.report_text.specs.Reports.{numbers_text}
+use Rattle.report_text.specs.Common.{numbers_text}
 use Rattle.report_text.proofs.numbers.push_set.Given as goal
 
 abbrev pub invariant-writing : goal.invariant-writing

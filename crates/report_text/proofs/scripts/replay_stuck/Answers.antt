@@ -1,5 +1,5 @@
 use Rattle.std.proofs.Common.{append_assoc, ap, ◌∙◌, Vec, ℕ, Global}
-use Rattle.report_text.specs.Scripts.{stuck_text}
+use Rattle.report_text.specs.Common.{stuck_text}
 use Rattle.report_text.proofs.scripts.replay_stuck.Goals as goal
 
 pub returns : goal.returns

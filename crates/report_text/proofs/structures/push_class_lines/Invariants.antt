@@ -1,5 +1,5 @@
 use Rattle.std.proofs.Common.{◌≡◌, ◌++◌, length, string_bytes}
-use Rattle.report_text.specs.Structures.{class_lines}
+use Rattle.report_text.specs.Common.{class_lines}
 use Rattle.report_text.proofs.structures.push_class_lines.Given as goal
 
 abbrev pub invariant-writing : goal.invariant-writing

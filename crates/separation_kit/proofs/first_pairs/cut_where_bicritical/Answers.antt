@@ -1,6 +1,6 @@
 use Rattle.std.proofs.Common.{◌∙◌, ap, sym}
 use Rattle.std.specs.Option.{option_map}
-use Rattle.separation_kit.specs.Pairs.{pair_of}
+use Rattle.separation_kit.specs.Common.{pair_of}
 use Rattle.separation_kit.proofs.SeparationFacts.{equivalent-none}
 use Rattle.separation_kit.proofs.first_pairs.cut_where_bicritical.Goals as goal
 

@@ -1,4 +1,4 @@
-use Rattle.barrier_kit.proofs.CriticalPairs.{bicritical, four_vertices, no_sides}
+use Rattle.barrier_kit.proofs.Common.{bicritical, four_vertices, no_sides}
 use Rattle.separation_kit.proofs.CutPairs.{no_cut_pair}
 use Rattle.separation_kit.proofs.laws.brick_law.Goals as goal
 

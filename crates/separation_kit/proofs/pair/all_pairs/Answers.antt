@@ -1,6 +1,6 @@
 use Rattle.std.proofs.Common.{◌≡◌, ◌+◌, ◌++◌, ◌∷◌, [], ℕ, List, ap, sym, ◌∙◌, map, flat_map, arith, suc, append-nil, nat_lt}
 use Rattle.std.proofs.lemmas.Grind.{flat_map-append}
-use Rattle.counting.specs.Common.{pair_with, rising_list, everything}
+use Rattle.counting.proofs.Common.{pair_with, rising_list, everything}
 use Rattle.separation_kit.proofs.pair.all_pairs.Goals as goal
 
 -- one row more

@@ -1,6 +1,6 @@
 use Rattle.std.proofs.Common.{◌≡◌, flat_map, map, nat_lt}
-use Rattle.counting.specs.Common.{pair_with, rising_list, everything}
-use Rattle.separation_kit.specs.Pairs.{pair_of}
+use Rattle.counting.proofs.Common.{pair_with, rising_list, everything}
+use Rattle.separation_kit.specs.Common.{pair_of}
 use Rattle.separation_kit.proofs.pair.all_pairs.Given as goal
 
 abbrev pub invariant-loop-i : goal.invariant-loop-i

@@ -1,5 +1,5 @@
 use Rattle.std.proofs.Common.{arith, map}
-use Rattle.separation_kit.specs.Pairs.{pair_of}
+use Rattle.separation_kit.specs.Common.{pair_of}
 use Rattle.separation_kit.proofs.PairSearch.{first_row}
 use Rattle.separation_kit.proofs.pair.push_pairs.Goals as goal
 

@@ -1,6 +1,6 @@
 use Rattle.std.proofs.Common.{◌≡◌, ◌++◌, ◌≤◌, map, nat_lt}
-use Rattle.counting.specs.Common.{pair_with, rising_list}
-use Rattle.separation_kit.specs.Pairs.{pair_of}
+use Rattle.counting.proofs.Common.{pair_with, rising_list}
+use Rattle.separation_kit.specs.Common.{pair_of}
 use Rattle.separation_kit.proofs.pair.push_pairs.Given as goal
 
 abbrev pub invariant-loop-k : goal.invariant-loop-k

@@ -1,7 +1,6 @@
-use Rattle.std.proofs.Common.{ap, sym, subst, ◌∙◌, map, fold}
-use Rattle.std.specs.Prelude.{All}
-use Rattle.counting.specs.Common.{Within, IsRisingIn, mem, rising_list, pair_set, singleton, union}
-use Rattle.graph_core.specs.Common.{with_cut}
+use Rattle.std.proofs.Common.{ap, sym, subst, ◌∙◌, map, fold, All}
+use Rattle.counting.proofs.Common.{Within, IsRisingIn, mem, rising_list, pair_set, singleton, union}
+use Rattle.graph_core.proofs.Common.{with_cut}
 use Rattle.separation_kit.proofs.PairShores.{components-rise}
 use Rattle.separation_kit.proofs.shores.add_pair_cuts.Goals as goal
 

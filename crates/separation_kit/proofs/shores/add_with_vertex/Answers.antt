@@ -1,6 +1,5 @@
-use Rattle.std.proofs.Common.{◌<◌, ap, sym, ◌∙◌, get_or, length, subst}
-use Rattle.std.specs.Prelude.{All}
-use Rattle.counting.specs.Common.{IsRisingIn, mem, rising_list, singleton, union}
+use Rattle.std.proofs.Common.{◌<◌, ap, sym, ◌∙◌, get_or, length, subst, All}
+use Rattle.counting.proofs.Common.{IsRisingIn, mem, rising_list, singleton, union}
 use Rattle.separation_kit.proofs.PairShores.{fold-map_more}
 use Rattle.separation_kit.proofs.shores.add_with_vertex.Goals as goal
 

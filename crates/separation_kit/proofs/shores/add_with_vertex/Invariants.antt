@@ -1,6 +1,6 @@
 use Rattle.std.proofs.Common.{◌≡◌, fold, map, take}
-use Rattle.counting.specs.Common.{mem, rising_list, singleton, union}
-use Rattle.graph_core.specs.Common.{with_cut}
+use Rattle.counting.proofs.Common.{mem, rising_list, singleton, union}
+use Rattle.graph_core.proofs.Common.{with_cut}
 use Rattle.separation_kit.proofs.shores.add_with_vertex.Given as goal
 
 abbrev pub invariant-loop-part : goal.invariant-loop-part

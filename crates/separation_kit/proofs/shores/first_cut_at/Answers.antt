@@ -1,9 +1,8 @@
 use Rattle.std.proofs.Common.{ap, sym, ◌∙◌, eqb-true, length, fold}
 use Rattle.std.specs.Option.{option_map}
 use Rattle.std.proofs.lemmas.List.{nil_from_length}
-use Rattle.graph_core.specs.Common.{with_cut}
-use Rattle.separation_kit.specs.Pairs.{pair_of}
-use Rattle.separation_kit.specs.SeparationShores.{shores_at_pair}
+use Rattle.graph_core.proofs.Common.{with_cut}
+use Rattle.separation_kit.specs.Common.{pair_of, shores_at_pair}
 use Rattle.separation_kit.proofs.FirstSeparations.{first_pair, first_separation, no_first, some_first}
 use Rattle.separation_kit.proofs.shores.first_cut_at.Goals as goal
 

@@ -1,5 +1,5 @@
 use Rattle.std.proofs.Common.{◌∙◌, subst, sym}
-use Rattle.graph_core.specs.Common.{Graph, IsBicritical}
+use Rattle.graph_core.proofs.Common.{Graph, IsBicritical}
 use Rattle.separation_kit.proofs.shores.first_separation_cut.Goals as goal
 
 pub first_cut_at-requires-clause-bicritical : goal.first_cut_at-requires-clause-bicritical

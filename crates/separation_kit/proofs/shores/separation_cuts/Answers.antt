@@ -1,6 +1,6 @@
 use Rattle.std.proofs.Common.{ap, sym, ◌∙◌, map}
-use Rattle.counting.specs.Common.{rising_pairs}
-use Rattle.separation_kit.specs.Pairs.{pair_of}
+use Rattle.counting.proofs.Common.{rising_pairs}
+use Rattle.separation_kit.specs.Common.{pair_of}
 use Rattle.separation_kit.proofs.PairSearch.{pair_within}
 use Rattle.separation_kit.proofs.PairShores.{shores-all, shores-passed, shores-taken}
 use Rattle.separation_kit.proofs.shores.separation_cuts.Goals.{then-is_cut_pair+in_ok-add_pair_cuts, else-is_cut_pair}

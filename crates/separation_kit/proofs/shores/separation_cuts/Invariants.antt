@@ -1,7 +1,6 @@
 use Rattle.std.proofs.Common.{◌≡◌, [], filter, flat_map, fold, map, take}
-use Rattle.graph_core.specs.Common.{with_cut}
-use Rattle.separation_kit.specs.Pairs.{pair_of}
-use Rattle.separation_kit.specs.SeparationShores.{is_cut_pair, shores_at_pair}
+use Rattle.graph_core.proofs.Common.{with_cut}
+use Rattle.separation_kit.specs.Common.{pair_of, is_cut_pair, shores_at_pair}
 use Rattle.separation_kit.proofs.shores.separation_cuts.Given as goal
 
 abbrev pub invariant-loop-pair : goal.invariant-loop-pair

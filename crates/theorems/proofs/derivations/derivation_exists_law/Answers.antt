@@ -1,4 +1,4 @@
-use Rattle.decomposer.specs.Orders.{NamedPicks, ScriptPicks}
+use Rattle.decomposer.specs.Common.{NamedPicks, ScriptPicks}
 use Rattle.theorems.proofs.CommandOrders.{named-some, script-some}
 use Rattle.theorems.proofs.PickedDerivations.{chosen-tree, first-tree, picked-tree, some-tree}
 use Rattle.theorems.proofs.derivations.derivation_exists_law.Goals as goal

@@ -1,4 +1,4 @@
-use Rattle.graph_core.specs.Common.{singles}
+use Rattle.graph_core.proofs.Common.{singles}
 use Rattle.theorems.proofs.TreeNodes.{cut_paths, cut_paths-lists, cut_paths-shores, leaf_paths, leaf_paths-leaves, leaf_paths-lists, length-cut_paths, length-leaf_paths, length-node_paths, node_paths, node_paths-lists}
 use Rattle.theorems.proofs.trees.tree_nodes_law.Goals as goal
 

@@ -1,8 +1,7 @@
 use Rattle.std.proofs.Common.{◌≡◌, List, IsTrue, length, map, ◌∙◌, sym, ap, subst, ◌↔◌}
 use Rattle.counting.proofs.Common.{IfOk-weaker}
-use Rattle.graph_core.specs.Common.{IsBipartite, IsPartition, quotient}
-use Rattle.tight_cuts.specs.Candidates.{candidates}
-use Rattle.tight_cuts.specs.CandidatesAt.{candidates_at, lifted_candidate}
+use Rattle.graph_core.proofs.Common.{IsBipartite, IsPartition, quotient}
+use Rattle.tight_cuts.specs.Common.{candidates, candidates_at, lifted_candidate}
 use Rattle.tight_cuts.specs.declared.at_partition.AllAt.{AllAt}
 use Rattle.tight_cuts.proofs.LiftedCandidates.{at-blocks, at-vertices, covered-single}
 use Rattle.tight_cuts.proofs.QuotientSides.{sides-at_vertices}

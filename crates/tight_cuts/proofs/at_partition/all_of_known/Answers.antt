@@ -1,5 +1,5 @@
 use Rattle.std.proofs.Common.{IsTrue, ◌↔◌, ◌∙◌, subst}
-use Rattle.graph_core.specs.Common.{Graph, IsBipartite}
+use Rattle.graph_core.proofs.Common.{Graph, IsBipartite}
 use Rattle.tight_cuts.proofs.at_partition.all_of_known.Goals as goal
 
 pub returns-clause-side : goal.returns-clause-side

@@ -1,8 +1,7 @@
 use Rattle.std.proofs.Common.{◌≡◌, ◌↔◌, All, List, [], length, sym, subst}
-use Rattle.counting.specs.Common.{Set}
-use Rattle.graph_core.specs.Common.{IsPartition, IsTightAt, blocks_in, IsNontrivial}
-use Rattle.tight_cuts.specs.Candidates.{Candidate}
-use Rattle.tight_cuts.specs.CandidatesAt.{IsCandidateAt}
+use Rattle.counting.proofs.Common.{Set}
+use Rattle.graph_core.proofs.Common.{IsPartition, IsTightAt, blocks_in, IsNontrivial}
+use Rattle.tight_cuts.specs.Common.{Candidate, IsCandidateAt}
 use Rattle.tight_cuts.proofs.PartitionCandidates.{found-at, none-at}
 use Rattle.tight_cuts.proofs.at_partition.candidates_at.Goals as goal
 

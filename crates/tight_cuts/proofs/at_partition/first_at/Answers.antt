@@ -1,8 +1,7 @@
 use Rattle.std.proofs.Common.{◌∙◌, ap, sym, subst}
 use Rattle.std.specs.Option.{option_map}
-use Rattle.graph_core.specs.Common.{IsPartition}
-use Rattle.tight_cuts.specs.CandidatesAt.{IsCandidateAt, candidates_at}
-use Rattle.tight_cuts.specs.View.{candidate_of}
+use Rattle.graph_core.proofs.Common.{IsPartition}
+use Rattle.tight_cuts.specs.Common.{IsCandidateAt, candidates_at, candidate_of}
 use Rattle.tight_cuts.proofs.FirstCandidates.{first-empty, first-one}
 use Rattle.tight_cuts.proofs.PartitionCandidates.{found-at, none-at}
 use Rattle.tight_cuts.proofs.at_partition.first_at.Goals as goal

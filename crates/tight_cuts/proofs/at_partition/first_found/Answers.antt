@@ -1,10 +1,8 @@
 use Rattle.std.proofs.Common.{IsTrue, ◌≡◌, ◌↔◌, ◌∙◌, length, sym, ap, subst}
 use Rattle.counting.proofs.Common.{IfOk-weaker}
 use Rattle.std.specs.Option.{option_map}
-use Rattle.graph_core.specs.Common.{IsBipartite, IsPartition, quotient}
-use Rattle.tight_cuts.specs.Candidates.{candidates, first_of}
-use Rattle.tight_cuts.specs.CandidatesAt.{candidates_at, lifted_candidate}
-use Rattle.tight_cuts.specs.View.{candidate_of}
+use Rattle.graph_core.proofs.Common.{IsBipartite, IsPartition, quotient}
+use Rattle.tight_cuts.specs.Common.{candidates, first_of, candidates_at, lifted_candidate, candidate_of}
 use Rattle.tight_cuts.specs.declared.at_partition.FirstAt.{FirstAt}
 use Rattle.tight_cuts.proofs.FirstCandidates.{first-lifted}
 use Rattle.tight_cuts.proofs.LiftedCandidates.{at-blocks, at-vertices, covered-single}

@@ -1,9 +1,7 @@
 use Rattle.std.proofs.Common.{◌∙◌, ap, sym}
 use Rattle.std.specs.Option.{option_map}
-use Rattle.graph_core.specs.Common.{singles}
-use Rattle.tight_cuts.specs.Candidates.{first_of}
-use Rattle.tight_cuts.specs.CandidatesAt.{IsCandidateAt, candidates_at}
-use Rattle.tight_cuts.specs.View.{candidate_of}
+use Rattle.graph_core.proofs.Common.{singles}
+use Rattle.tight_cuts.specs.Common.{first_of, IsCandidateAt, candidates_at, candidate_of}
 use Rattle.tight_cuts.proofs.FirstCandidates.{first-empty, first-one}
 use Rattle.tight_cuts.proofs.PartitionCandidates.{found-root, none-root, root-candidates}
 use Rattle.tight_cuts.proofs.at_partition.first_of_root.Goals as goal

@@ -1,7 +1,6 @@
 use Rattle.std.proofs.Common.{subst}
-use Rattle.graph_core.specs.Common.{Graph, singles}
-use Rattle.tight_cuts.specs.CandidatesAt.{IsCandidateAt}
-use Rattle.tight_cuts.specs.View.{candidate_of}
+use Rattle.graph_core.proofs.Common.{Graph, singles}
+use Rattle.tight_cuts.specs.Common.{IsCandidateAt, candidate_of}
 use Rattle.tight_cuts.proofs.at_partition.first_root_candidate.Goals as goal
 
 pub returns-clause-some : goal.returns-clause-some

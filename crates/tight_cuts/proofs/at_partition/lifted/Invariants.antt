@@ -1,8 +1,7 @@
 -- So far the list is the candidates before the place, taken to the graph.
 use Rattle.std.proofs.Common.{◌≡◌, map, take}
-use Rattle.graph_core.specs.Common.{Graph}
-use Rattle.tight_cuts.specs.CandidatesAt.{lifted_candidate}
-use Rattle.tight_cuts.specs.View.{candidate_of}
+use Rattle.graph_core.proofs.Common.{Graph}
+use Rattle.tight_cuts.specs.Common.{lifted_candidate, candidate_of}
 use Rattle.tight_cuts.proofs.at_partition.lifted.Given as goal
 
 abbrev pub invariant-loop-candidate : goal.invariant-loop-candidate

@@ -1,5 +1,5 @@
 use Rattle.std.proofs.Common.{ℕ, List, ap}
-use Rattle.tight_cuts.specs.View.{candidate_of}
+use Rattle.tight_cuts.specs.Common.{candidate_of}
 use Rattle.tight_cuts.proofs.at_partition.lifted_one.Goals as goal
 
 pub returns : goal.returns

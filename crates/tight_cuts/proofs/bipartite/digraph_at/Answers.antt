@@ -1,5 +1,5 @@
 use Rattle.std.proofs.Common.{◌∙◌, ap, ap₂, min, subst, sym}
-use Rattle.counting.specs.Common.{Within, mem}
+use Rattle.counting.proofs.Common.{Within, mem}
 use Rattle.tight_cuts.proofs.BipartiteShores.{digraph_found}
 use Rattle.tight_cuts.proofs.EdgeShores.{lesser_within}
 use Rattle.tight_cuts.proofs.bipartite.digraph_at.Goals as goal

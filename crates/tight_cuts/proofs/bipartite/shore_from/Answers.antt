@@ -1,8 +1,7 @@
 use Rattle.std.proofs.Common.{◌≡◌, ◌∙◌, ◌==◌, ap₂, false, max, min, ne_eqb, refl, subst, sym}
-use Rattle.counting.proofs.Common.{or_from}
-use Rattle.counting.specs.Common.{Within, mem, pair_set}
+use Rattle.counting.proofs.Common.{or_from, Within, mem, pair_set}
 use Rattle.matching_digraph.specs.Digraph.{IsLeastShore}
-use Rattle.tight_cuts.specs.Candidates.{greater_end, lesser_end}
+use Rattle.tight_cuts.specs.Common.{greater_end, lesser_end}
 use Rattle.tight_cuts.proofs.BipartiteShores.{least_common}
 use Rattle.tight_cuts.proofs.EdgePieces.{first_done, piece_found, piece_full}
 use Rattle.tight_cuts.proofs.bipartite.shore_from.Goals as goal

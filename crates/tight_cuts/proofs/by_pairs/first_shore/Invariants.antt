@@ -1,5 +1,5 @@
 use Rattle.std.proofs.Common.{◌+◌}
-use Rattle.tight_cuts.specs.EdgeSearch.{AreMatchings, NoneBefore}
+use Rattle.tight_cuts.specs.Common.{AreMatchings, NoneBefore}
 use Rattle.tight_cuts.proofs.by_pairs.first_shore.Given as goal
 
 abbrev pub invariant-loop-k : goal.invariant-loop-k

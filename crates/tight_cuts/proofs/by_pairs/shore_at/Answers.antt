@@ -1,7 +1,6 @@
 use Rattle.std.proofs.Common.{◌≡◌, ◌+◌, ℕ, List, Option, Some, None, inl, sym, ◌∙◌, subst}
 use Rattle.counting.proofs.Common.{both_ways, IfOk-weaker}
-use Rattle.tight_cuts.specs.Candidates.{greater_end, lesser_end}
-use Rattle.tight_cuts.specs.EdgeSearch.{IsCommonShore, IsShoreOfEdge, NoneBefore}
+use Rattle.tight_cuts.specs.Common.{greater_end, lesser_end, IsCommonShore, IsShoreOfEdge, NoneBefore}
 use Rattle.tight_cuts.proofs.EdgePairs.{found_shore, leads-found, leads-test, pair_not, skip_second}
 use Rattle.tight_cuts.proofs.EdgeShores.{named_leaders, named_leads, named_shore, pair-from_common}
 use Rattle.tight_cuts.proofs.by_pairs.shore_at.Goals as goal

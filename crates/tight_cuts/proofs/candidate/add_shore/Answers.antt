@@ -1,6 +1,6 @@
 use Rattle.std.proofs.Common.{sym, ap, ◌∙◌, ◌++◌, ◌∷◌, []}
 use Rattle.graph_core.proofs.Common.{canonical-rises}
-use Rattle.tight_cuts.specs.View.{origin_of}
+use Rattle.tight_cuts.specs.Common.{origin_of}
 use Rattle.tight_cuts.proofs.CandidateLists.{shore-known, shore-narrow, shore-taken}
 use Rattle.tight_cuts.proofs.candidate.add_shore.Goals as goal
 

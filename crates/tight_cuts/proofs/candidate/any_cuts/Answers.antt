@@ -1,8 +1,7 @@
 use Rattle.std.proofs.Common.{sym, ap, ◌∙◌}
-use Rattle.std.specs.List.{list_any}
-use Rattle.counting.specs.Common.{mem}
-use Rattle.graph_core.specs.Common.{in_cut}
-use Rattle.tight_cuts.specs.Candidates.{cuts}
+use Rattle.counting.proofs.Common.{list_any, mem}
+use Rattle.graph_core.proofs.Common.{in_cut}
+use Rattle.tight_cuts.specs.Common.{cuts}
 use Rattle.tight_cuts.specs.declared.candidate.Candidate.{Candidate}
 use Rattle.tight_cuts.proofs.CandidateLists.{cuts-items}
 use Rattle.tight_cuts.proofs.candidate.any_cuts.Goals as goal

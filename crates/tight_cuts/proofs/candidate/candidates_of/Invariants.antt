@@ -1,6 +1,5 @@
 use Rattle.std.proofs.Common.{◌≡◌, map, take}
-use Rattle.tight_cuts.specs.Candidates.{candidate_at}
-use Rattle.tight_cuts.specs.View.{origin_of}
+use Rattle.tight_cuts.specs.Common.{candidate_at, origin_of}
 use Rattle.tight_cuts.proofs.candidate.candidates_of.Given as goal
 
 abbrev pub invariant-loop-shore : goal.invariant-loop-shore

@@ -1,6 +1,5 @@
 use Rattle.std.proofs.Common.{sym, ap, subst, ◌∙◌, arith}
-use Rattle.tight_cuts.specs.Candidates.{Flow, with_list}
-use Rattle.tight_cuts.specs.EdgeSearch.{IsShoreOfEdge}
+use Rattle.tight_cuts.specs.Common.{Flow, with_list, IsShoreOfEdge}
 use Rattle.tight_cuts.proofs.FrontCandidates.{edge-known, edge-shore}
 use Rattle.tight_cuts.proofs.edge_cuts.add_edge_cut.Goals as goal
 

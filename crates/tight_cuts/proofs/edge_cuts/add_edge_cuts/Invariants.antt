@@ -1,5 +1,5 @@
 use Rattle.std.proofs.Common.{◌≡◌}
-use Rattle.tight_cuts.specs.Candidates.{front_candidates}
+use Rattle.tight_cuts.specs.Common.{front_candidates}
 use Rattle.tight_cuts.proofs.EdgeLoop.{after_edges}
 use Rattle.tight_cuts.proofs.edge_cuts.add_edge_cuts.Given as goal
 

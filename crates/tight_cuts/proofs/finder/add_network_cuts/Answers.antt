@@ -1,6 +1,6 @@
 use Rattle.std.proofs.Common.{◌≡◌, ◌∙◌, ap, sym, subst}
-use Rattle.graph_core.specs.Common.{Graph}
-use Rattle.tight_cuts.specs.Candidates.{candidates, front_candidates}
+use Rattle.graph_core.proofs.Common.{Graph}
+use Rattle.tight_cuts.specs.Common.{candidates, front_candidates}
 use Rattle.tight_cuts.proofs.EdgeLoop.{after_edges}
 use Rattle.tight_cuts.proofs.FirstCandidates.{edges-known}
 use Rattle.tight_cuts.proofs.FrontCandidates.{edges-all}

@@ -1,6 +1,6 @@
 use Rattle.std.proofs.Common.{◌∙◌, ap}
-use Rattle.graph_core.specs.Common.{Graph}
-use Rattle.tight_cuts.specs.Candidates.{candidates}
+use Rattle.graph_core.proofs.Common.{Graph}
+use Rattle.tight_cuts.specs.Common.{candidates}
 use Rattle.tight_cuts.proofs.Completeness.{listed-apart, listed-cover, listed-none, listed-tight}
 use Rattle.tight_cuts.proofs.finder.candidates.Goals as goal
 

@@ -1,7 +1,6 @@
 use Rattle.std.proofs.Common.{◌≡◌, ◌↔◌, ◌∙◌, List, None, Option, Some, subst, ℕ}
-use Rattle.counting.proofs.Common.{IfOk-weaker}
-use Rattle.counting.specs.Common.{mem}
-use Rattle.graph_core.specs.Common.{Graph, HasOnlyTrivialTightCuts, IsNontrivial, IsTight}
+use Rattle.counting.proofs.Common.{IfOk-weaker, mem}
+use Rattle.graph_core.proofs.Common.{Graph, HasOnlyTrivialTightCuts, IsNontrivial, IsTight}
 use Rattle.tight_cuts.proofs.finder.find_any.Goals as goal
 
 pub returns-clause-some : goal.returns-clause-some

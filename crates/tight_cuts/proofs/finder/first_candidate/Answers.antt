@@ -1,8 +1,7 @@
 use Rattle.std.proofs.Common.{◌∙◌, ap, sym}
 use Rattle.std.specs.Option.{option_map}
-use Rattle.graph_core.specs.Common.{Graph}
-use Rattle.tight_cuts.specs.Candidates.{IsTightCandidate, candidates, first_of}
-use Rattle.tight_cuts.specs.View.{candidate_of}
+use Rattle.graph_core.proofs.Common.{Graph}
+use Rattle.tight_cuts.specs.Common.{IsTightCandidate, candidates, first_of, candidate_of}
 use Rattle.tight_cuts.proofs.Completeness.{candidates_found, candidates_none}
 use Rattle.tight_cuts.proofs.FirstCandidates.{first-empty, first-one}
 use Rattle.tight_cuts.proofs.finder.first_candidate.Goals as goal

@@ -1,9 +1,8 @@
 use Rattle.std.proofs.Common.{◌≡◌, ℕ, ap, sym, ◌∙◌, List, [], ◌∷◌, Option, Some, subst, unwrap_or}
 use Rattle.std.specs.Option.{option_map}
-use Rattle.counting.specs.Common.{mem}
-use Rattle.graph_core.specs.Common.{IsNontrivial, IsTight}
-use Rattle.tight_cuts.specs.Candidates.{Candidate, candidates, first_of, first_shore}
-use Rattle.tight_cuts.specs.View.{candidate_of}
+use Rattle.counting.proofs.Common.{mem}
+use Rattle.graph_core.proofs.Common.{IsNontrivial, IsTight}
+use Rattle.tight_cuts.specs.Common.{Candidate, candidates, first_of, first_shore, candidate_of}
 use Rattle.tight_cuts.proofs.finder.first_cut.Goals as goal
 
 pub returns-in-Some-clause-some : goal.returns-in-Some-clause-some

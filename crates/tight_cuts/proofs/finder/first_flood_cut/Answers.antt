@@ -1,5 +1,5 @@
 use Rattle.std.proofs.Common.{◌+◌, sym, arith}
-use Rattle.tight_cuts.specs.View.{candidate_of}
+use Rattle.tight_cuts.specs.Common.{candidate_of}
 use Rattle.tight_cuts.proofs.FirstCandidates.{first-candidates, first-none}
 use Rattle.tight_cuts.proofs.FrontCandidates.{edges-more}
 use Rattle.tight_cuts.proofs.finder.first_flood_cut.Goals as goal

@@ -1,6 +1,5 @@
 use Rattle.std.proofs.Common.{◌≡◌, []}
-use Rattle.tight_cuts.specs.Candidates.{front_candidates}
-use Rattle.tight_cuts.specs.EdgeDigraphs.{AreFloodsOf}
+use Rattle.tight_cuts.specs.Common.{front_candidates, AreFloodsOf}
 use Rattle.tight_cuts.proofs.EdgeLoop.{after_edges}
 use Rattle.tight_cuts.proofs.finder.first_flood_cut.Given as goal
 

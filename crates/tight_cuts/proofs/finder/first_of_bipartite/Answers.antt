@@ -1,5 +1,5 @@
 use Rattle.std.proofs.Common.{ap, sym}
-use Rattle.tight_cuts.specs.Candidates.{first_of}
+use Rattle.tight_cuts.specs.Common.{first_of}
 use Rattle.tight_cuts.proofs.Completeness.{candidates_none}
 use Rattle.tight_cuts.proofs.finder.first_of_bipartite.Goals as goal
 

@@ -1,8 +1,7 @@
-use Rattle.std.proofs.Common.{sym, subst}
-use Rattle.std.specs.Prelude.{All}
-use Rattle.barrier_kit.proofs.ShoreFacts.{barrier_cuts-canonical}
-use Rattle.graph_core.specs.Common.{IsCanonicalCut}
-use Rattle.counting.specs.Common.{IsRisingIn}
+use Rattle.std.proofs.Common.{sym, subst, All}
+use Rattle.barrier_kit.proofs.Common.{barrier_cuts-canonical}
+use Rattle.graph_core.proofs.Common.{IsCanonicalCut}
+use Rattle.counting.proofs.Common.{IsRisingIn}
 use Rattle.tight_cuts.proofs.FrontCandidates.{canonical-rising}
 use Rattle.tight_cuts.proofs.front.barrier_candidates.Goals as goal
 

@@ -1,9 +1,7 @@
 use Rattle.std.proofs.Common.{None, sym, ap, ◌∙◌, subst}
-use Rattle.counting.specs.Common.{IsRisingIn}
-use Rattle.barrier_kit.proofs.ShoreFacts.{barrier_cuts-canonical}
-use Rattle.barrier_kit.specs.BarrierShores.{barrier_cuts}
-use Rattle.tight_cuts.specs.Candidates.{Barrier, candidate_at}
-use Rattle.tight_cuts.specs.View.{candidate_of}
+use Rattle.counting.proofs.Common.{IsRisingIn}
+use Rattle.barrier_kit.proofs.Common.{barrier_cuts-canonical, barrier_cuts}
+use Rattle.tight_cuts.specs.Common.{Barrier, candidate_at, candidate_of}
 use Rattle.tight_cuts.proofs.FrontCandidates.{canonical-rising, first-candidate_at, first-rises, first-some}
 use Rattle.tight_cuts.proofs.front.first_barrier_candidate.Goals as goal
 

@@ -1,9 +1,8 @@
 use Rattle.std.proofs.Common.{None, sym, ap, ◌∙◌, subst}
-use Rattle.counting.specs.Common.{IsRisingIn}
+use Rattle.counting.proofs.Common.{IsRisingIn}
 use Rattle.separation_kit.proofs.SeparationFacts.{separation_cuts-canonical}
-use Rattle.separation_kit.specs.SeparationShores.{separation_cuts}
-use Rattle.tight_cuts.specs.Candidates.{Separation, candidate_at}
-use Rattle.tight_cuts.specs.View.{candidate_of}
+use Rattle.separation_kit.specs.Common.{separation_cuts}
+use Rattle.tight_cuts.specs.Common.{Separation, candidate_at, candidate_of}
 use Rattle.tight_cuts.proofs.FrontCandidates.{canonical-rising, first-candidate_at, first-rises, first-some}
 use Rattle.tight_cuts.proofs.front.first_separation_candidate.Goals as goal
 

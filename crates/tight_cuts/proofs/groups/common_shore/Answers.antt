@@ -1,5 +1,5 @@
 use Rattle.std.proofs.Common.{◌+◌, ◌∷◌, [], ap, arith, length, length-append}
-use Rattle.counting.specs.Common.{mem}
+use Rattle.counting.proofs.Common.{mem}
 use Rattle.allowed_edges.specs.PairTables.{edge_lists}
 use Rattle.tight_cuts.proofs.CrossingMatchings.{crosses_new, later_tight}
 use Rattle.tight_cuts.proofs.EdgeShores.{cut-shore, group_facts, none-common, tight-common}

@@ -1,5 +1,5 @@
 use Rattle.std.proofs.Common.{◌≤◌, length}
-use Rattle.tight_cuts.specs.EdgeSearch.{AreMatchings}
+use Rattle.tight_cuts.specs.Common.{AreMatchings}
 use Rattle.tight_cuts.proofs.groups.common_shore.Given as goal
 
 abbrev pub invariant-loop-listed : goal.invariant-loop-listed

@@ -1,6 +1,6 @@
 use Rattle.std.proofs.Common.{◌∙◌, ap, sym, subst}
-use Rattle.counting.specs.Common.{Within}
-use Rattle.tight_cuts.specs.EdgeSearch.{group_net, row_group}
+use Rattle.counting.proofs.Common.{Within}
+use Rattle.tight_cuts.specs.Common.{group_net, row_group}
 use Rattle.tight_cuts.proofs.EdgeShores.{cut_answer, flow_answer}
 use Rattle.tight_cuts.proofs.groups.cut_of_groups.Goals as goal
 

@@ -1,7 +1,7 @@
 use Rattle.std.proofs.Common.{◌+◌, ◌++◌, ◌∙◌, refl, ap, arith}
-use Rattle.flow_core.specs.Nets.{Net, total_capacity}
-use Rattle.graph_core.specs.Common.{size}
-use Rattle.tight_cuts.specs.EdgeSearch.{arc_between, at_place, row_group}
+use Rattle.flow_core.specs.Common.{Net, total_capacity}
+use Rattle.graph_core.proofs.Common.{size}
+use Rattle.tight_cuts.specs.Common.{arc_between, at_place, row_group}
 use Rattle.tight_cuts.proofs.EdgeNetworks.{arcs-next, capacity-next, total-room}
 use Rattle.tight_cuts.proofs.groups.network.Goals as goal
 

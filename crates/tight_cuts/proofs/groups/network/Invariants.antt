@@ -1,7 +1,7 @@
 use Rattle.std.proofs.Common.{◌≡◌, ◌≤◌}
-use Rattle.counting.specs.Common.{total}
-use Rattle.flow_core.specs.Nets.{total_capacity}
-use Rattle.tight_cuts.specs.EdgeSearch.{arcs_by, at_place, row_group}
+use Rattle.counting.proofs.Common.{total}
+use Rattle.flow_core.specs.Common.{total_capacity}
+use Rattle.tight_cuts.specs.Common.{arcs_by, at_place, row_group}
 use Rattle.tight_cuts.proofs.groups.network.Given as goal
 
 abbrev pub invariant-loop-k : goal.invariant-loop-k

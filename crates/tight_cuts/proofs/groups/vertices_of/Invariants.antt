@@ -1,6 +1,6 @@
 use Rattle.std.proofs.Common.{◌≡◌, ◌<◌, ℕ, false}
-use Rattle.counting.specs.Common.{Within, mem}
-use Rattle.tight_cuts.specs.EdgeSearch.{row_group}
+use Rattle.counting.proofs.Common.{Within, mem}
+use Rattle.tight_cuts.specs.Common.{row_group}
 use Rattle.tight_cuts.proofs.groups.vertices_of.Given as goal
 
 abbrev pub invariant-loop-k : goal.invariant-loop-k

@@ -1,7 +1,6 @@
 use Rattle.std.proofs.Common.{◌∙◌, ap, subst, sym}
-use Rattle.counting.proofs.Common.{same_Some}
-use Rattle.counting.specs.Common.{Within, mem}
-use Rattle.tight_cuts.specs.EdgeSearch.{IsCommonShore}
+use Rattle.counting.proofs.Common.{same_Some, Within, mem}
+use Rattle.tight_cuts.specs.Common.{IsCommonShore}
 use Rattle.tight_cuts.proofs.EdgePieces.{whole_shore}
 use Rattle.tight_cuts.proofs.EdgeShores.{ends_within}
 use Rattle.tight_cuts.proofs.inseparable.are_whole.Goals as goal

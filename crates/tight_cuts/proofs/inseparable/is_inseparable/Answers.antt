@@ -1,7 +1,6 @@
 use Rattle.std.proofs.Common.{◌≡◌, ◌∙◌, Bool, None, ap₂, max, min, subst₂, true}
 use Rattle.counting.proofs.Common.{IfOk-weaker}
-use Rattle.tight_cuts.specs.Candidates.{first_separated, greater_end, lesser_end}
-use Rattle.tight_cuts.specs.EdgeSearch.{AreWhole}
+use Rattle.tight_cuts.specs.Common.{first_separated, greater_end, lesser_end, AreWhole}
 use Rattle.tight_cuts.proofs.EdgePieces.{inseparable}
 use Rattle.tight_cuts.proofs.EdgeShores.{leaders_turned, named_leaders}
 use Rattle.tight_cuts.proofs.inseparable.is_inseparable.Goals as goal

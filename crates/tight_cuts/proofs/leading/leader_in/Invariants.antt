@@ -1,5 +1,5 @@
 use Rattle.std.proofs.Common.{◌≡◌, length}
-use Rattle.tight_cuts.specs.Pieces.{leader}
+use Rattle.tight_cuts.specs.Common.{leader}
 use Rattle.tight_cuts.proofs.leading.leader_in.Given as goal
 
 abbrev pub invariant-loop-piece : goal.invariant-loop-piece

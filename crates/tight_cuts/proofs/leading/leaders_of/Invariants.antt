@@ -1,7 +1,6 @@
 use Rattle.std.proofs.Common.{◌≡◌, ℕ, ◌+◌, length}
-use Rattle.counting.specs.Common.{Within}
-use Rattle.tight_cuts.specs.EdgeSearch.{at_place}
-use Rattle.tight_cuts.specs.Pieces.{leader}
+use Rattle.counting.proofs.Common.{Within}
+use Rattle.tight_cuts.specs.Common.{at_place, leader}
 use Rattle.tight_cuts.proofs.leading.leaders_of.Given as goal
 
 abbrev pub invariant-loop-k : goal.invariant-loop-k

@@ -1,11 +1,10 @@
 use Rattle.std.proofs.Common.{◌≡◌, ◌+◌, ◌<◌, ◌∙◌, ℕ, List, All, length, ap, arith, get_or, map, subst, sym}
 use Rattle.std.proofs.lemmas.List.{length-replicate}
-use Rattle.counting.specs.Common.{bit, mem}
-use Rattle.graph_core.specs.Common.{Graph, size}
-use Rattle.match_core.specs.MatchingRows.{IsOf, MatchingValue, edges_of}
+use Rattle.counting.proofs.Common.{bit, mem}
+use Rattle.graph_core.proofs.Common.{Graph, size}
+use Rattle.match_core.specs.Common.{IsOf, MatchingValue, edges_of}
 use Rattle.match_core.specs.declared.matching.MatchRow.{MatchRow}
-use Rattle.tight_cuts.specs.EdgeSearch.{at_place}
-use Rattle.tight_cuts.specs.PairSums.{weight}
+use Rattle.tight_cuts.specs.Common.{at_place, weight}
 use Rattle.tight_cuts.proofs.Weighing.{list-small, map-length, take-whole, weight-next, weight-taken, zeros}
 use Rattle.tight_cuts.proofs.pieces.weights_of.Goals as goal
 

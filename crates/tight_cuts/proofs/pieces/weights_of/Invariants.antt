@@ -1,8 +1,7 @@
 use Rattle.std.proofs.Common.{◌≡◌, ℕ, ◌+◌, length, take, map}
-use Rattle.graph_core.specs.Common.{size}
-use Rattle.match_core.specs.MatchingRows.{edges_of}
-use Rattle.tight_cuts.specs.EdgeSearch.{at_place}
-use Rattle.tight_cuts.specs.PairSums.{weight}
+use Rattle.graph_core.proofs.Common.{size}
+use Rattle.match_core.specs.Common.{edges_of}
+use Rattle.tight_cuts.specs.Common.{at_place, weight}
 use Rattle.tight_cuts.proofs.pieces.weights_of.Given as goal
 
 abbrev pub invariant-loop-i : goal.invariant-loop-i

@@ -1,6 +1,6 @@
-use Rattle.counting.specs.Common.{mem}
+use Rattle.counting.proofs.Common.{mem}
 use Rattle.allowed_edges.specs.PairTables.{IsPerfectWith, SettlesEdges}
-use Rattle.tight_cuts.specs.QuietEdges.{IsOneSided}
+use Rattle.tight_cuts.specs.Common.{IsOneSided}
 use Rattle.tight_cuts.proofs.quiet_edges.reach_of.Given as goal
 
 abbrev pub invariant-loop-round : goal.invariant-loop-round

@@ -1,5 +1,5 @@
-use Rattle.counting.specs.Common.{mem}
-use Rattle.tight_cuts.specs.QuietEdges.{IsOneSided}
+use Rattle.counting.proofs.Common.{mem}
+use Rattle.tight_cuts.specs.Common.{IsOneSided}
 use Rattle.tight_cuts.proofs.quiet_edges.widened.Given as goal
 
 abbrev pub invariant-loop-round : goal.invariant-loop-round

@@ -1,6 +1,6 @@
 use Rattle.std.proofs.Common.{◌∙◌, ◌||◌, ◌==◌, sym, ap}
-use Rattle.counting.specs.Common.{mem}
-use Rattle.graph_core.specs.Common.{first_end}
+use Rattle.counting.proofs.Common.{mem}
+use Rattle.graph_core.proofs.Common.{first_end}
 use Rattle.allowed_edges.proofs.PairSteps.{held_together}
 use Rattle.tight_cuts.proofs.OneSided.{both_ends}
 use Rattle.tight_cuts.proofs.quiet_edges.widened_by.Goals as goal

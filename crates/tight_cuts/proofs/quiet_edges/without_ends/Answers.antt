@@ -1,5 +1,5 @@
 use Rattle.std.proofs.Common.{◌∙◌, sym, subst}
-use Rattle.counting.specs.Common.{Within, mem}
+use Rattle.counting.proofs.Common.{Within, mem}
 use Rattle.tight_cuts.proofs.OneSided.{other_vertex}
 use Rattle.tight_cuts.proofs.quiet_edges.without_ends.Goals as goal
 

@@ -1,7 +1,7 @@
 use Rattle.std.proofs.Common.{◌≡◌, ℕ, true}
-use Rattle.counting.specs.Common.{Within, mem}
-use Rattle.graph_core.specs.Common.{in_cut}
-use Rattle.tight_cuts.specs.Tightness.{NoLaterWith}
+use Rattle.counting.proofs.Common.{Within, mem}
+use Rattle.graph_core.proofs.Common.{in_cut}
+use Rattle.tight_cuts.specs.Common.{NoLaterWith}
 use Rattle.tight_cuts.proofs.tightness.crossing.Given as goal
 
 abbrev pub invariant-loop-k : goal.invariant-loop-k

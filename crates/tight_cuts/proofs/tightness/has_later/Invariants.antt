@@ -1,6 +1,6 @@
 use Rattle.std.proofs.Common.{◌≡◌, ℕ, ◌<◌, ◌≤◌, true}
-use Rattle.counting.specs.Common.{mem}
-use Rattle.graph_core.specs.Common.{in_cut, Together}
+use Rattle.counting.proofs.Common.{mem}
+use Rattle.graph_core.proofs.Common.{in_cut, Together}
 use Rattle.tight_cuts.proofs.tightness.has_later.Given as goal
 
 abbrev pub invariant-loop-k : goal.invariant-loop-k

@@ -1,8 +1,7 @@
 use Rattle.std.proofs.Common.{ℕ, List, subst, sym}
-use Rattle.counting.specs.Common.{mem}
-use Rattle.graph_core.proofs.Common.{covered_perfect}
-use Rattle.graph_core.specs.Common.{HasPerfect, IsPerfect}
-use Rattle.match_core.specs.MatchingRows.{edges_of}
+use Rattle.counting.proofs.Common.{mem}
+use Rattle.graph_core.proofs.Common.{covered_perfect, HasPerfect, IsPerfect}
+use Rattle.match_core.specs.Common.{edges_of}
 use Rattle.tight_cuts.proofs.CrossingMatchings.{crossed_not_tight, uncrossed_tight}
 use Rattle.tight_cuts.proofs.tightness.is_tight.Goals as goal
 

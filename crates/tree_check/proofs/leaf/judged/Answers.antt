@@ -1,4 +1,4 @@
-use Rattle.graph_core.specs.Common.{quotient}
+use Rattle.graph_core.proofs.Common.{quotient}
 use Rattle.tree_check.proofs.leaf.judged.Goals as goal
 
 pub returns-in-None : goal.returns-in-None

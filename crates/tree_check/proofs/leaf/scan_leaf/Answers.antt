@@ -1,7 +1,7 @@
 use Rattle.std.proofs.Common.{List, ℕ, subst₂, sym}
-use Rattle.graph_core.specs.Common.{Graph}
-use Rattle.tree_core.specs.Common.{IsLeafAt}
-use Rattle.tree_check.specs.Leaves.{IsLeafJudgement, IsLeafOfKind}
+use Rattle.graph_core.proofs.Common.{Graph}
+use Rattle.tree_core.proofs.Common.{IsLeafAt}
+use Rattle.tree_check.specs.Common.{IsLeafJudgement, IsLeafOfKind}
 use Rattle.tree_check.proofs.leaf.scan_leaf.Goals as goal
 
 pub returns-in-Some-clause-scanned : goal.returns-in-Some-clause-scanned

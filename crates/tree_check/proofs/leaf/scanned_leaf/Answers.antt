@@ -1,5 +1,5 @@
 use Rattle.std.proofs.Common.{subst}
-use Rattle.tree_check.specs.Leaves.{IsLeafJudgement}
+use Rattle.tree_check.specs.Common.{IsLeafJudgement}
 use Rattle.tree_check.proofs.leaf.scanned_leaf.Goals as goal
 
 pub returns-in_ok-add_leaf-in-Ok-clause-scanned : goal.returns-in_ok-add_leaf-in-Ok-clause-scanned

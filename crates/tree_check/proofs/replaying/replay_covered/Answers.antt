@@ -1,8 +1,7 @@
 use Rattle.std.proofs.Common.{◌+◌, take, refl, subst}
-use Rattle.tree_core.specs.Common.{move_of, moves_of, shape_of}
+use Rattle.tree_core.proofs.Common.{move_of, moves_of, shape_of}
 use Rattle.tree_check.proofs.ReplaySteps.{reached-derivation, refused_move-next, stuck-next, turns-next}
-use Rattle.tree_check.specs.Judgements.{why_of}
-use Rattle.tree_check.specs.Replays.{IsMoved}
+use Rattle.tree_check.specs.Common.{why_of, IsMoved}
 use Rattle.tree_check.proofs.replaying.replay_covered.Goals as goal
 
 pub step-requires : goal.step-requires

@@ -1,8 +1,7 @@
 use Rattle.std.proofs.Common.{◌≡◌, Some, sym, subst}
-use Rattle.tree_core.proofs.DerivationStands.{fits-derivation}
-use Rattle.tree_core.specs.Common.{move_result, move_of, Fits, shape_of}
+use Rattle.tree_core.proofs.Common.{fits-derivation, move_result, move_of, Fits, shape_of}
 use Rattle.tree_check.proofs.MovesFit.{move-fits}
-use Rattle.tree_check.specs.Scans.{IsScanned}
+use Rattle.tree_check.specs.Common.{IsScanned}
 use Rattle.tree_check.proofs.replaying.step.Goals as goal
 
 pub apply-requires : goal.apply-requires

@@ -1,7 +1,7 @@
 use Rattle.std.proofs.Common.{ℕ, List, [], length, Option, unwrap_or, sym, ap, ◌∙◌, subst}
-use Rattle.counting.specs.Common.{is_odd, IsRisingIn, mem, rising_list}
-use Rattle.graph_core.specs.Common.{Graph, quotient, blocks_in, IsTight}
-use Rattle.tight_cuts.specs.Tightness.{CrossesTwice, IsTightness}
+use Rattle.counting.proofs.Common.{is_odd, IsRisingIn, mem, rising_list}
+use Rattle.graph_core.proofs.Common.{Graph, quotient, blocks_in, IsTight}
+use Rattle.tight_cuts.specs.Common.{CrossesTwice, IsTightness}
 use Rattle.tree_check.proofs.CutRules.{crossing-shown, places-odd, places-rise, tight-shown}
 use Rattle.tree_check.proofs.rules.crossing_by.Goals as goal
 

@@ -1,7 +1,6 @@
 use Rattle.std.proofs.Common.{List, ℕ, length, arith, sym, ap, ◌∙◌}
-use Rattle.counting.proofs.Common.{none-some, count_complement}
-use Rattle.counting.specs.Common.{mem}
-use Rattle.graph_core.specs.Common.{block_count, blocks_in}
+use Rattle.counting.proofs.Common.{none-some, count_complement, mem}
+use Rattle.graph_core.proofs.Common.{block_count, blocks_in}
 use Rattle.tree_check.proofs.CutRules.{breaks-some, even-count, is-cut, no_union-at, nontrivial-shown, odd-count, union-at}
 use Rattle.tree_check.specs.declared.judgement.Why.TheVariants.{NotBlocks, Even, Trivial, NotTight}
 use Rattle.tree_check.proofs.rules.cut_fault.Goals.{then-inside-lt3-via-then-inside-lt3, then-inside-lt3-via-else-inside-lt3+then-len-inside}

@@ -1,6 +1,6 @@
 use Rattle.std.proofs.Common.{◌≡◌, ℕ, ◌+◌, ◌==◌, ◌||◌, true, List, sym, ◌∙◌, subst, arith}
-use Rattle.counting.specs.Common.{mem}
-use Rattle.graph_core.specs.Common.{blocks_in}
+use Rattle.counting.proofs.Common.{mem}
+use Rattle.graph_core.proofs.Common.{blocks_in}
 use Rattle.tree_check.proofs.PlacesInside.{added-members, added-within, all-places, left-members, left-within, room}
 use Rattle.tree_check.proofs.rules.places_in.Goals.{then-is_subset, else-is_subset}
 use Rattle.tree_check.proofs.rules.places_in.Goals as goal

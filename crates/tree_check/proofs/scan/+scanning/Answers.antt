@@ -1,8 +1,8 @@
 use Rattle.std.proofs.Common.{ℕ, rules, arith, ◌+◌, ◌*◌, ◌≤◌, ◌≡◌, ◌∙◌, length, sym, subst}
-use Rattle.graph_core.specs.Common.{Graph}
-use Rattle.tree_core.specs.Common.{Fits, IsCutAt, cut, kept_at, merged_at, shape_of}
+use Rattle.graph_core.proofs.Common.{Graph}
+use Rattle.tree_core.proofs.Common.{Fits, IsCutAt, cut, kept_at, merged_at, shape_of}
 use Rattle.tree_core.specs.declared.tallies.Tally.{Tally}
-use Rattle.tree_check.specs.Scans.{IsScannedAt}
+use Rattle.tree_check.specs.Common.{IsScannedAt}
 use Rattle.tree_check.specs.declared.judgement.Scanned.{Scanned}
 use Rattle.tree_check.specs.declared.judgement.Scanned.TheVariants as scanned
 use Rattle.tree_check.proofs.Scanning.{few-beside, few-kept, few-merged, found-at, passed-both, refused-kept, refused-merged}

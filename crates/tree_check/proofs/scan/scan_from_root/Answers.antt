@@ -1,5 +1,4 @@
-use Rattle.std.proofs.Common.{◌∙◌, ap, length, arith}
-use Rattle.std.specs.Prelude.{List, ℕ}
+use Rattle.std.proofs.Common.{◌∙◌, ap, length, arith, List, ℕ}
 use Rattle.graph_core.proofs.Common.{length-singles}
 use Rattle.tree_check.proofs.scan.scan_from_root.Goals as goal
 

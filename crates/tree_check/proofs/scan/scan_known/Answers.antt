@@ -1,6 +1,6 @@
 use Rattle.std.proofs.Common.{subst}
-use Rattle.graph_core.specs.Common.{IsCovered}
-use Rattle.tree_core.specs.Common.{shape_of}
+use Rattle.graph_core.proofs.Common.{IsCovered}
+use Rattle.tree_core.proofs.Common.{shape_of}
 use Rattle.tree_check.proofs.Scanning.{scanned-root}
 use Rattle.tree_check.proofs.scan.scan_known.Goals as goal
 

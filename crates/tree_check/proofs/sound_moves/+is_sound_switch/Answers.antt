@@ -1,11 +1,11 @@
 use Rattle.std.proofs.Common.{IsTrue, List, ◌∷◌, ◌∙◌, ℕ, ap, arith, rules, subst, subst₂, sym}
 use Rattle.counting.proofs.Common.{IfOk-weaker}
-use Rattle.graph_core.specs.Common.{Graph}
-use Rattle.tree_core.specs.Common.{Fits, IsCutAt, IsDerivationAt, Shape, shape_of}
+use Rattle.graph_core.proofs.Common.{Graph}
+use Rattle.tree_core.proofs.Common.{Fits, IsCutAt, IsDerivationAt, Shape, shape_of}
 use Rattle.tree_core.specs.declared.path.Side.{Side}
 use Rattle.tree_core.specs.declared.tree.Tree.{Tree}
 use Rattle.tree_check.proofs.SoundMoves.{switched-here, switched-kept, switched-merged}
-use Rattle.tree_check.specs.SoundMoves.{IsBlock, IsSwitched}
+use Rattle.tree_check.specs.Common.{IsBlock, IsSwitched}
 use Rattle.tree_check.proofs.sound_moves.+is_sound_switch.Goals as goal
 
 pub returns-in-None : goal.returns-in-None

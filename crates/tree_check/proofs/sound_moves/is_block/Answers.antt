@@ -1,5 +1,5 @@
 use Rattle.std.proofs.Common.{eqb-true, sym, ◌∙◌}
-use Rattle.counting.specs.Common.{mem}
+use Rattle.counting.proofs.Common.{mem}
 use Rattle.tree_check.proofs.SoundMoves.{block-of_one}
 use Rattle.tree_check.proofs.sound_moves.is_block.Goals as goal
 

@@ -1,8 +1,7 @@
 use Rattle.std.proofs.Common.{Some, subst, sym, ◌≡◌}
-use Rattle.graph_core.specs.Common.{Graph}
+use Rattle.graph_core.proofs.Common.{Graph}
 use Rattle.move_laws.proofs.Uniqueness.{rotate_derives_law}
-use Rattle.tree_core.proofs.DerivationStands.{fits-derivation}
-use Rattle.tree_core.specs.Common.{Fits, move_of, move_result, shape_of}
+use Rattle.tree_core.proofs.Common.{fits-derivation, Fits, move_of, move_result, shape_of}
 use Rattle.tree_core.specs.declared.moves.Move.{Move}
 use Rattle.tree_check.proofs.MovesFit.{move-fits}
 use Rattle.tree_check.proofs.sound_moves.is_sound.Goals as goal

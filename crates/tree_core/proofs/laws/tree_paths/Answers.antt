@@ -1,4 +1,4 @@
-use Rattle.graph_core.specs.Common.{singles}
+use Rattle.graph_core.proofs.Common.{singles}
 use Rattle.tree_core.proofs.TreePaths.{deepest-path, leaf-path, path-leaf, path-shore, shore-path, within-depth}
 use Rattle.tree_core.proofs.laws.tree_paths.Goals as goal
 

@@ -1,4 +1,4 @@
-use Rattle.graph_core.specs.Common.{singles}
+use Rattle.graph_core.proofs.Common.{singles}
 use Rattle.tree_core.proofs.Sizes.{leaf_count-cuts, node_count-cuts, length-leaves_at}
 use Rattle.tree_core.proofs.laws.tree_sizes.Goals as goal
 

@@ -1,6 +1,5 @@
 use Rattle.std.proofs.Common.{ap, ap₂, ◌∙◌, ◌++◌, List, ℕ}
-use Rattle.tree_core.specs.Leaves.{leaves_at, partitions_of}
-use Rattle.tree_core.specs.View.{shape_of}
+use Rattle.tree_core.specs.Common.{leaves_at, partitions_of, shape_of}
 use Rattle.tree_core.proofs.leaf_partitions.leaves.Goals as goal
 
 pub returns : goal.returns

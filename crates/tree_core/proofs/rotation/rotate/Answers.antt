@@ -1,6 +1,5 @@
 use Rattle.std.proofs.Common.{rules, sym, ap, ◌∙◌, List}
-use Rattle.tree_core.specs.Moves.{rotate_result}
-use Rattle.tree_core.specs.View.{shape_of}
+use Rattle.tree_core.specs.Common.{rotate_result, shape_of}
 use Rattle.tree_core.specs.declared.path.Side.{Side}
 use Rattle.tree_core.proofs.RotateSteps.{rotate-end, rotate-nowhere}
 use Rattle.tree_core.proofs.rotation.rotate.Goals as goal

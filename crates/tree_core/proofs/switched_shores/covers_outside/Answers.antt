@@ -1,5 +1,5 @@
 use Rattle.std.proofs.Common.{◌≤◌, ℕ, List, ap, sym, ◌∙◌, arith}
-use Rattle.counting.specs.Common.{is_subset}
+use Rattle.counting.proofs.Common.{is_subset}
 use Rattle.tree_core.proofs.SwitchSets.{not-covered, outside-is}
 use Rattle.tree_core.proofs.switched_shores.covers_outside.Goals as goal
 

@@ -1,5 +1,5 @@
 use Rattle.std.proofs.Common.{ap, ap₂, ◌∙◌, Bool, List, ℕ}
-use Rattle.tree_core.specs.Moves.{list_if, minus_list, union_list}
+use Rattle.tree_core.specs.Common.{list_if, minus_list, union_list}
 use Rattle.tree_core.proofs.switching.merged_shore_greatest_stays.Goals as goal
 
 pub returns : goal.returns

@@ -1,6 +1,5 @@
 use Rattle.std.proofs.Common.{sym, subst}
-use Rattle.tree_core.specs.Shapes.{Fits}
-use Rattle.tree_core.specs.View.{shape_of}
+use Rattle.tree_core.specs.Common.{Fits, shape_of}
 use Rattle.tree_core.specs.declared.tree.Tree.{Tree}
 use Rattle.tree_core.proofs.SwitchSets.{all_wider, proper_outside-within, proper_part-within}
 use Rattle.tree_core.proofs.switching.switch_here.Goals as goal

@@ -1,7 +1,6 @@
 use Rattle.std.proofs.Common.{◌≡◌, ℕ, length, map}
-use Rattle.counting.specs.Common.{Within}
-use Rattle.tree_core.specs.LeafMaps.{leaf_at}
-use Rattle.tree_core.specs.Tallies.{IsLeafKind, kind_at}
+use Rattle.counting.proofs.Common.{Within}
+use Rattle.tree_core.specs.Common.{leaf_at, IsLeafKind, kind_at}
 use Rattle.tree_core.proofs.tallies.leaf_kinds.Given as goal
 
 -- the kinds of the first leaves are known

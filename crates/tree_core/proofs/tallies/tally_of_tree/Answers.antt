@@ -1,11 +1,8 @@
 use Rattle.std.proofs.Common.{ℕ, List, All, ◌≡◌, ◌∙◌, ap, sym, subst, arith, length, map}
 use Rattle.contraction.specs.Partition.{PartitionValue}
-use Rattle.graph_core.specs.Common.{singles}
-use Rattle.tree_core.specs.Leaves.{StandsAt, leaves, partitions_of}
-use Rattle.tree_core.specs.Shapes.{Fits}
-use Rattle.tree_core.specs.View.{shape_of}
+use Rattle.graph_core.proofs.Common.{singles}
+use Rattle.tree_core.specs.Common.{StandsAt, leaves, partitions_of, Fits, shape_of, IsTally}
 use Rattle.tree_core.proofs.DerivationStands.{fits-derivation, stands-derivation}
-use Rattle.tree_core.specs.Tallies.{IsTally}
 use Rattle.tree_core.proofs.FewLeaves.{blocks-of_leaves, few-leaves_listed, few-nodes, orders-of_leaves}
 use Rattle.tree_core.proofs.tallies.tally_of_tree.Goals as goal
 

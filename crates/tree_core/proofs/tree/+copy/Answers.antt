@@ -1,6 +1,5 @@
 use Rattle.std.proofs.Common.{ap, ap₂, sym, ◌∙◌}
-use Rattle.tree_core.specs.Shapes.{cut}
-use Rattle.tree_core.specs.View.{shape_of}
+use Rattle.tree_core.specs.Common.{cut, shape_of}
 use Rattle.tree_core.proofs.tree.+copy.Goals as goal
 
 pub returns-in_ok-merged-in-Cut : goal.returns-in_ok-merged-in-Cut

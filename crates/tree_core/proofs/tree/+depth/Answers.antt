@@ -1,6 +1,5 @@
 use Rattle.std.proofs.Common.{ℕ, ◌+◌, max, ap, ap₂, sym, ◌∙◌}
-use Rattle.tree_core.specs.Shapes.{depth}
-use Rattle.tree_core.specs.View.{shape_of}
+use Rattle.tree_core.specs.Common.{depth, shape_of}
 use Rattle.tree_core.specs.declared.tree.Tree.{Tree}
 use Rattle.tree_core.proofs.tree.+depth.Goals as goal
 

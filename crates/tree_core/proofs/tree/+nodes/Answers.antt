@@ -1,6 +1,5 @@
 use Rattle.std.proofs.Common.{ℕ, ◌+◌, ap, ap₂, sym, ◌∙◌}
-use Rattle.tree_core.specs.Shapes.{node_count}
-use Rattle.tree_core.specs.View.{shape_of}
+use Rattle.tree_core.specs.Common.{node_count, shape_of}
 use Rattle.tree_core.specs.declared.tree.Tree.{Tree}
 use Rattle.tree_core.proofs.tree.+nodes.Goals as goal
 

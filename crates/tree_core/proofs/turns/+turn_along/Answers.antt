@@ -1,8 +1,6 @@
 use Rattle.std.proofs.Common.{ap, arith, length, subst}
 use Rattle.tree_core.proofs.RotateSteps.{may_turn-below}
-use Rattle.tree_core.specs.Shapes.{cut}
-use Rattle.tree_core.specs.Turns.{MayTurn}
-use Rattle.tree_core.specs.View.{shape_of}
+use Rattle.tree_core.specs.Common.{cut, MayTurn, shape_of}
 use Rattle.tree_core.specs.declared.tree.Tree.{Tree}
 use Rattle.tree_core.specs.declared.turns.Turn.{Turn}
 use Rattle.tree_core.proofs.turns.+turn_along.Goals as goal

@@ -1,6 +1,5 @@
 use Rattle.line_text.proofs.ExactlyOne.{StandsAlone-stands}
-use Rattle.tree_text.specs.TreeFormat.{tree_format}
-use Rattle.tree_text.specs.Writing.{tree_text}
+use Rattle.tree_text.specs.Common.{tree_format, tree_text}
 use Rattle.tree_text.proofs.TreeReadBack.{Stands-tree_text}
 use Rattle.tree_text.proofs.laws.written_tree_stands.Goals as goal
 

@@ -1,5 +1,5 @@
 use Rattle.std.proofs.Common.{◌≡◌, ◌∷◌, length}
-use Rattle.tree_text.specs.TreeFormat.{is_rising}
+use Rattle.tree_text.specs.Common.{is_rising}
 use Rattle.tree_text.proofs.shores.rise.Given as goal
 
 -- all numbers rise exactly when the last one seen and those left do

@@ -1,5 +1,5 @@
 use Rattle.std.proofs.Common.{◌≡◌, ◌||◌, ℕ, length, All}
-use Rattle.counting.specs.Common.{Within, mem}
+use Rattle.counting.proofs.Common.{Within, mem}
 use Rattle.tree_text.proofs.shores.shore_of.Given as goal
 
 -- the numbers are those in the set and those left

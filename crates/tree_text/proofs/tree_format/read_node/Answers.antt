@@ -1,9 +1,7 @@
 use Rattle.std.proofs.Common.{◌≡◌, ◌+◌, ◌∙◌, true, Bool, List, ℕ, Result, Ok, subst, sym, ap, ap₂, arith, rules}
 use Rattle.line_text.specs.Common.{Refuses, texts_of}
 use Rattle.text_faults.specs.declared.faults.FaultKind.{FaultKind}
-use Rattle.tree_text.specs.Places.{Reading}
-use Rattle.tree_text.specs.SoFar.{place_of}
-use Rattle.tree_text.specs.TreeFormat.{TreeSoFar, is_node_line, with_node}
+use Rattle.tree_text.specs.Common.{Reading, place_of, TreeSoFar, is_node_line, with_node}
 use Rattle.tree_text.proofs.NodeLines.{behind_node, node_line-tests}
 use Rattle.tree_text.proofs.tree_format.read_node.Goals as goal
 

@@ -1,4 +1,4 @@
-use Rattle.tree_core.specs.Common.{shape_of}
+use Rattle.tree_core.proofs.Common.{shape_of}
 use Rattle.tree_text.proofs.TreeRead.{all-read}
 use Rattle.tree_text.proofs.tree_format.read_tree.Goals as goal
 

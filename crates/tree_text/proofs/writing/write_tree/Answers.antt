@@ -1,9 +1,8 @@
 use Rattle.std.proofs.Common.{◌∙◌, ℕ, ap, subst, sym, string_bytes, Vec, Global, arith}
 use Rattle.line_text.specs.Common.{Stands}
 use Rattle.line_text.proofs.ExactlyOne.{StandsAlone-stands}
-use Rattle.tree_core.specs.Common.{shape_of}
-use Rattle.tree_text.specs.TreeFormat.{tree_format}
-use Rattle.tree_text.specs.Writing.{IsWritable}
+use Rattle.tree_core.proofs.Common.{shape_of}
+use Rattle.tree_text.specs.Common.{tree_format, IsWritable}
 use Rattle.tree_text.proofs.TextSoFar.{tree_text-lines}
 use Rattle.tree_text.proofs.TreeReadBack.{Stands-tree_text}
 use Rattle.tree_text.proofs.writing.write_tree.Goals as goal

@@ -1,5 +1,5 @@
 use Rattle.std.proofs.Common.{◌<◌, ℕ, ap, ◌∙◌, arith, length}
-use Rattle.uncross.specs.MapView.{image_name}
+use Rattle.uncross.specs.Common.{image_name}
 use Rattle.uncross.proofs.BlockImages.{named-more}
 use Rattle.uncross.proofs.block_images.image_names.Goals as goal
 

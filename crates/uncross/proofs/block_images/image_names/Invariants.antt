@@ -1,5 +1,5 @@
 use Rattle.std.proofs.Common.{◌≡◌, map, take}
-use Rattle.uncross.specs.MapView.{image_name}
+use Rattle.uncross.specs.Common.{image_name}
 use Rattle.uncross.proofs.block_images.image_names.Given as goal
 
 abbrev pub invariant-loop-i : goal.invariant-loop-i

@@ -1,5 +1,5 @@
 use Rattle.std.proofs.Common.{List, ℕ, ap, ◌∙◌}
-use Rattle.tree_core.specs.Common.{minus_list}
+use Rattle.tree_core.proofs.Common.{minus_list}
 use Rattle.uncross.proofs.BlockImages.{kept-is}
 use Rattle.uncross.proofs.block_images.kept_images.Goals as goal
 

@@ -1,6 +1,5 @@
-use mathlib.Core.Path.{fun_ext}
+use Rattle.counting.proofs.Common.{fun_ext, rising_list}
 use Rattle.std.proofs.Common.{ap, ◌∙◌}
-use Rattle.counting.specs.Common.{rising_list}
 use Rattle.uncross.proofs.block_images.minus_of.Goals as goal
 
 pub returns : goal.returns

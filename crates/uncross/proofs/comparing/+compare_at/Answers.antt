@@ -1,10 +1,10 @@
 use Rattle.std.proofs.Common.{◌*◌, ◌≤◌, List, ap, arith, length, refl, subst, sym, ℕ}
-use Rattle.graph_core.specs.Common.{Graph}
-use Rattle.tree_core.specs.Common.{IsDerivationAt, moves_of, cut_count, node_count, shape_of}
+use Rattle.graph_core.proofs.Common.{Graph}
+use Rattle.tree_core.proofs.Common.{IsDerivationAt, moves_of, cut_count, node_count, shape_of}
 use Rattle.tree_core.specs.declared.moves.Move.{Move}
 use Rattle.tree_core.specs.declared.tree.Tree.{Tree}
 use Rattle.uncross.proofs.CompareSteps.{IsCompared, both_leaves, compared}
-use Rattle.move_laws.specs.Scripts.{IsProperScript}
+use Rattle.move_laws.specs.Common.{IsProperScript}
 use Rattle.uncross.proofs.comparing.+compare_at.Goals as goal
 use Rattle.uncross.proofs.comparing.+compare_at.Goals.{In_ok-brought-in-Cut, In_ok-moves-in-Cut}
 

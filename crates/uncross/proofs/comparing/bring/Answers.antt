@@ -1,5 +1,5 @@
 use Rattle.std.proofs.Common.{◌∙◌, ap, ap₂, sym}
-use Rattle.tree_core.specs.Common.{cut, shape_of}
+use Rattle.tree_core.proofs.Common.{cut, shape_of}
 use Rattle.tree_core.specs.declared.tree.Tree.{Tree}
 use Rattle.uncross.proofs.ExposedShores.{brought, brought_no_leaf}
 use Rattle.uncross.proofs.comparing.bring.Goals as goal

@@ -1,9 +1,8 @@
 use Rattle.std.proofs.Common.{ap, subst, sym, ◌∙◌}
-use Rattle.graph_core.specs.Common.{Graph, singles}
-use Rattle.tree_core.specs.Common.{leaves, moves_of, script_maps, shape_of}
+use Rattle.graph_core.proofs.Common.{Graph, singles}
+use Rattle.tree_core.proofs.Common.{leaves, moves_of, script_maps, shape_of}
 use Rattle.uncross.proofs.ScriptSteps.{derivation_script_pairs}
-use Rattle.move_laws.specs.Pairings.{IsPairing}
-use Rattle.move_laws.specs.Scripts.{IsProperScript}
+use Rattle.move_laws.specs.Common.{IsPairing, IsProperScript}
 use Rattle.uncross.proofs.comparing.compare_covered.Goals as goal
 
 pub script_maps-requires-clause-script : goal.script_maps-requires-clause-script

@@ -1,8 +1,8 @@
 use Rattle.std.proofs.Common.{List, ℕ, subst, subst₂, sym}
-use Rattle.graph_core.specs.Common.{Graph, singles}
-use Rattle.tree_core.specs.Common.{IsDerivationAt, moves_of, Shape, shape_of}
+use Rattle.graph_core.proofs.Common.{Graph, singles}
+use Rattle.tree_core.proofs.Common.{IsDerivationAt, moves_of, Shape, shape_of}
 use Rattle.move_laws.proofs.Uniqueness.{script_through}
-use Rattle.move_laws.specs.Scripts.{IsProperScript}
+use Rattle.move_laws.specs.Common.{IsProperScript}
 use Rattle.uncross.proofs.comparing.moves_between_covered.Goals as goal
 
 pub compare_at-requires-clause-first : goal.compare_at-requires-clause-first

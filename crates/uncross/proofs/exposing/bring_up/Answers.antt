@@ -1,8 +1,8 @@
 use Rattle.std.proofs.Common.{List, Some, option_map, subst, subst₂, sym, ◌∙◌, ap, ℕ}
-use Rattle.graph_core.specs.Common.{Graph, singles}
-use Rattle.tree_core.specs.Common.{IsDerivationAt, moves_of, shape_of}
+use Rattle.graph_core.proofs.Common.{Graph, singles}
+use Rattle.tree_core.proofs.Common.{IsDerivationAt, moves_of, shape_of}
 use Rattle.uncross.proofs.ExposedShores.{raised_at_singles}
-use Rattle.uncross.specs.Plans.{CutIf, IsExposed}
+use Rattle.uncross.specs.Common.{CutIf, IsExposed}
 use Rattle.uncross.proofs.exposing.bring_up.Goals as goal
 
 pub expose_at-requires-clause-derives : goal.expose_at-requires-clause-derives

@@ -1,10 +1,9 @@
 use Rattle.std.proofs.Common.{ap, arith, subst, sym, ◌∙◌}
-use Rattle.graph_core.specs.Common.{singles}
-use Rattle.tree_core.specs.Common.{IsDerivation, script_maps, leaves, moves_of, Shape, shape_of}
+use Rattle.graph_core.proofs.Common.{singles}
+use Rattle.tree_core.proofs.Common.{IsDerivation, script_maps, leaves, moves_of, Shape, shape_of}
 use Rattle.uncross.proofs.ScriptSteps.{script_derives, derivation_script_pairs}
 use Rattle.move_laws.proofs.Uniqueness.{script_through}
-use Rattle.move_laws.specs.Pairings.{IsPairing}
-use Rattle.move_laws.specs.Scripts.{IsProperScript}
+use Rattle.move_laws.specs.Common.{IsPairing, IsProperScript}
 use Rattle.uncross.proofs.exposing.expose.Goals as goal
 
 pub script_maps-requires-clause-derives : goal.script_maps-requires-clause-derives

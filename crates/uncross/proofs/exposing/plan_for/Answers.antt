@@ -1,7 +1,6 @@
 use Rattle.std.proofs.Common.{List, ℕ, subst, subst₂, sym}
-use Rattle.counting.specs.Common.{IsRisingIn}
-use Rattle.uncross.specs.PlanView.{plan_of}
-use Rattle.uncross.specs.Plans.{IsPlan}
+use Rattle.counting.proofs.Common.{IsRisingIn}
+use Rattle.uncross.specs.Common.{plan_of, IsPlan}
 use Rattle.uncross.proofs.exposing.plan_for.Goals as goal
 
 pub plan_at-requires-clause-root : goal.plan_at-requires-clause-root

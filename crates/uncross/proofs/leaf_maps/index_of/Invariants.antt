@@ -1,7 +1,7 @@
 -- The blocks passed do not hold v: its place among the rest of the blocks, with as many before,
 -- is its place.
 use Rattle.std.proofs.Common.{◌≡◌, ◌+◌, drop}
-use Rattle.graph_core.specs.Common.{place}
+use Rattle.graph_core.proofs.Common.{place}
 use Rattle.uncross.proofs.leaf_maps.index_of.Given as goal
 
 abbrev pub invariant-loop-i : goal.invariant-loop-i

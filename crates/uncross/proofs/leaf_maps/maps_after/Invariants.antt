@@ -2,8 +2,7 @@
 use Rattle.std.proofs.Common.{length, map}
 use Rattle.std.specs.Vec.Iter.{into_iter_items}
 use Rattle.uncross.proofs.MappedSteps.{IsMadeOf}
-use Rattle.uncross.specs.Following.{IsMapIntoIf, map_after}
-use Rattle.uncross.specs.MapView.{maps_of}
+use Rattle.uncross.specs.Common.{IsMapIntoIf, map_after, maps_of}
 use Rattle.uncross.proofs.leaf_maps.maps_after.Given as goal
 
 abbrev pub invariant-maps : goal.invariant-maps

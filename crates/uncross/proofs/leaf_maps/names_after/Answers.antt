@@ -1,9 +1,8 @@
 use Rattle.std.proofs.Common.{ap, ℕ, ◌∙◌}
-use Rattle.graph_core.specs.Common.{block, place}
+use Rattle.graph_core.proofs.Common.{block, place}
 use Rattle.uncross.proofs.MappedSteps.{made-next}
 use Rattle.uncross.proofs.PlaceSteps.{block-at}
-use Rattle.uncross.specs.Following.{IsNameIn, names_after}
-use Rattle.uncross.specs.MapView.{image_name}
+use Rattle.uncross.specs.Common.{IsNameIn, names_after, image_name}
 use Rattle.uncross.proofs.leaf_maps.names_after.Goals as goal
 
 pub names-preserved : goal.names-preserved

@@ -1,10 +1,9 @@
 -- The names so far, followed by those of the rest, are all of them; and the rest are names of
 -- blocks.
 use Rattle.std.proofs.Common.{length, ℕ}
-use Rattle.graph_core.specs.Common.{block, place}
+use Rattle.graph_core.proofs.Common.{block, place}
 use Rattle.uncross.proofs.MappedSteps.{IsMadeOf}
-use Rattle.uncross.specs.Following.{IsNameIn, names_after}
-use Rattle.uncross.specs.MapView.{image_name}
+use Rattle.uncross.specs.Common.{IsNameIn, names_after, image_name}
 use Rattle.uncross.proofs.leaf_maps.names_after.Given as goal
 
 abbrev pub invariant-names : goal.invariant-names

@@ -1,6 +1,6 @@
 use Rattle.std.proofs.Common.{ap, sym, ◌∙◌, ◌++◌, List, ℕ}
 use Rattle.std.proofs.lemmas.Result.{on_ok_weaker}
-use Rattle.tree_core.specs.Common.{move_order, move_of, shape_of}
+use Rattle.tree_core.proofs.Common.{move_order, move_of, shape_of}
 use Rattle.tree_core.specs.declared.moves.Move.{Move}
 use Rattle.uncross.proofs.ParentPaths.{rotated-order}
 use Rattle.uncross.proofs.leaf_orders.push_move_order.Goals as goal

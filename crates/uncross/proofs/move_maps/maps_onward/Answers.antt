@@ -1,8 +1,7 @@
 use Rattle.std.proofs.Common.{List, ap, map, ℕ, ◌∙◌}
-use Rattle.tree_core.specs.Common.{move_of, shape_of}
+use Rattle.tree_core.proofs.Common.{move_of, shape_of}
 use Rattle.uncross.proofs.FollowedMaps.{into_if, led}
-use Rattle.uncross.specs.Following.{map_after}
-use Rattle.uncross.specs.MapView.{maps_of}
+use Rattle.uncross.specs.Common.{map_after, maps_of}
 use Rattle.uncross.proofs.move_maps.maps_onward.Goals as goal
 
 pub maps_after-requires-clause-leads : goal.maps_after-requires-clause-leads

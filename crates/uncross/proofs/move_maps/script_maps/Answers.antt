@@ -1,7 +1,7 @@
 use Rattle.std.proofs.Common.{ap}
-use Rattle.tree_core.specs.Common.{move_of, moves_of, shape_of}
+use Rattle.tree_core.proofs.Common.{move_of, moves_of, shape_of}
 use Rattle.uncross.proofs.ScriptSteps.{fits, leads, leaves-few, stands, start, step}
-use Rattle.uncross.specs.MapView.{maps_of}
+use Rattle.uncross.specs.Common.{maps_of}
 use Rattle.uncross.proofs.move_maps.script_maps.Goals as goal
 
 pub own_maps-requires-clause-fits : goal.own_maps-requires-clause-fits

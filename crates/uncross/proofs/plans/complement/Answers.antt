@@ -1,7 +1,7 @@
 use Rattle.std.proofs.Common.{refl, subst, sym}
-use Rattle.counting.specs.Common.{IsRisingIn}
+use Rattle.counting.proofs.Common.{IsRisingIn}
 use Rattle.graph_core.proofs.Common.{complement_of-rises}
-use Rattle.tree_core.proofs.Shores.{is-complement}
+use Rattle.tree_core.proofs.Common.{is-complement}
 use Rattle.uncross.proofs.plans.complement.Goals as goal
 
 pub returns-clause-list : goal.returns-clause-list

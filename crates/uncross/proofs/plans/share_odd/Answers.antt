@@ -1,8 +1,6 @@
-use mathlib.Core.Path.{fun_ext}
+use Rattle.counting.proofs.Common.{fun_ext, odd_remainder, is_odd}
 use Rattle.std.proofs.Common.{ap, ◌∙◌}
-use Rattle.counting.proofs.Common.{odd_remainder}
-use Rattle.counting.specs.Common.{is_odd}
-use Rattle.graph_core.specs.Common.{block_count}
+use Rattle.graph_core.proofs.Common.{block_count}
 use Rattle.uncross.proofs.plans.share_odd.Goals as goal
 
 pub returns : goal.returns

@@ -1,7 +1,7 @@
 use Rattle.std.proofs.Common.{◌||◌, List, Bool, length, sym, ap, ◌∙◌}
-use Rattle.counting.specs.Common.{mem, row_of}
-use Rattle.match_core.specs.MatchingRows.{edges_of}
-use Rattle.match_search.specs.Rows.{marks}
+use Rattle.counting.proofs.Common.{mem, row_of}
+use Rattle.match_core.specs.Common.{edges_of}
+use Rattle.match_search.specs.Common.{marks}
 use Rattle.allowed_edges.proofs.MarkedPairs.{row_elsewhere, row_here, row_read, row_written}
 use Rattle.allowed_edges.proofs.table.EdgeTable.mark_row.Goals as goal
 

@@ -1,5 +1,4 @@
-use Rattle.std.proofs.Common.{◌≡◌, ◌+◌, Bool, false, vec_len}
-use Rattle.std.specs.Prelude.{All, replicate}
+use Rattle.std.proofs.Common.{◌≡◌, ◌+◌, Bool, false, vec_len, All, replicate}
 use Rattle.std.specs.Global.{Vec}
 use Rattle.allowed_edges.proofs.table.EdgeTable.new.Given as goal
 

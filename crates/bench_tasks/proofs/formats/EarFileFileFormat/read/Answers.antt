@@ -1,8 +1,7 @@
 use Rattle.std.proofs.Common.{ℕ, IfOk, subst₂}
-use Rattle.text_faults.specs.Readings.{ReadsText}
+use Rattle.text_faults.specs.Common.{ReadsText}
 use Rattle.line_text.specs.Common.{reading_of}
-use Rattle.ear_core.specs.EarLists.{FitsEars}
-use Rattle.ear_core.specs.View.{ears_of}
+use Rattle.ear_core.specs.Common.{FitsEars, ears_of}
 use Rattle.ear_text.specs.EarFormat.{ear_format}
 use Rattle.bench_tasks.proofs.TextReads.{ReadsText-reading_of}
 use Rattle.bench_tasks.proofs.formats.EarFileFileFormat.read.Goals as goal

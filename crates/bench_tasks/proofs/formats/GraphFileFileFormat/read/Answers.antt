@@ -1,5 +1,4 @@
-use Rattle.graph_text.specs.EitherVersion.{either_version}
-use Rattle.graph_text.specs.SoFar.{named_graph}
+use Rattle.graph_text.specs.Common.{either_version, named_graph}
 use Rattle.bench_tasks.proofs.TextReads.{ReadsText-reading_of}
 use Rattle.bench_tasks.proofs.formats.GraphFileFileFormat.read.Goals as goal
 

@@ -1,9 +1,9 @@
 use Rattle.std.proofs.Common.{ℕ, ◌≤◌, length, subst}
 use Rattle.counting.proofs.Common.{length-map, IfOk-weaker}
-use Rattle.text_faults.specs.Readings.{ReadsText}
+use Rattle.text_faults.specs.Common.{ReadsText}
 use Rattle.line_text.specs.Common.{reading_of}
-use Rattle.tree_core.specs.Common.{move_of, moves_of}
-use Rattle.move_text.specs.MoveFormat.{most_moves, move_format}
+use Rattle.tree_core.proofs.Common.{move_of, moves_of}
+use Rattle.move_text.specs.Common.{most_moves, move_format}
 use Rattle.bench_tasks.proofs.TextReads.{ReadsText-reading_of}
 use Rattle.bench_tasks.proofs.formats.MoveFileFileFormat.read.Goals as goal
 

@@ -1,8 +1,8 @@
 use Rattle.std.proofs.Common.{ℕ, subst}
-use Rattle.text_faults.specs.Readings.{ReadsText}
+use Rattle.text_faults.specs.Common.{ReadsText}
 use Rattle.line_text.specs.Common.{reading_of}
-use Rattle.tree_core.specs.Common.{shape_of}
-use Rattle.tree_text.specs.TreeFormat.{tree_format}
+use Rattle.tree_core.proofs.Common.{shape_of}
+use Rattle.tree_text.specs.Common.{tree_format}
 use Rattle.bench_tasks.proofs.TextReads.{ReadsText-reading_of}
 use Rattle.bench_tasks.proofs.formats.TreeFileFileFormat.read.Goals as goal
 

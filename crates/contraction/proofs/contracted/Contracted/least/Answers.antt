@@ -1,6 +1,5 @@
-use Rattle.std.proofs.Common.{ℕ, ◌<◌, List, ap, length, subst, sym}
-use Rattle.std.specs.Prelude.{slice_index}
-use Rattle.counting.specs.Common.{Within}
+use Rattle.std.proofs.Common.{ℕ, ◌<◌, List, ap, length, subst, sym, slice_index}
+use Rattle.counting.proofs.Common.{Within}
 use Rattle.contraction.proofs.LeastEdges.{least-within, some-least}
 use Rattle.contraction.proofs.contracted.Contracted.least.Goals as goal
 

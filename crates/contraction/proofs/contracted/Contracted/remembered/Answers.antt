@@ -1,6 +1,5 @@
 use Rattle.std.proofs.Common.{ap, ◌∙◌, arith, ℕ, length, subst, Vec, Global}
-use Rattle.counting.proofs.Common.{length-map}
-use Rattle.counting.specs.Common.{item}
+use Rattle.counting.proofs.Common.{length-map, item}
 use Rattle.contraction.specs.Contracted.{ContractedValue, KeepsContraction}
 use Rattle.contraction.proofs.ContractedValues.{item-remembered, one-each}
 use Rattle.contraction.proofs.contracted.Contracted.remembered.Goals as goal

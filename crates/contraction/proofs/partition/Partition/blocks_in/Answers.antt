@@ -1,7 +1,7 @@
 use Rattle.std.proofs.Common.{◌≡◌, ◌<◌, ◌^◌, ap, sym, ◌∙◌, arith, length, ℕ, List, count_by}
 use Rattle.std.proofs.lemmas.List.Sums.{count_by-le-length}
-use Rattle.counting.specs.Common.{is_subset, mem}
-use Rattle.graph_core.specs.Common.{block_count}
+use Rattle.counting.proofs.Common.{is_subset, mem}
+use Rattle.graph_core.proofs.Common.{block_count}
 use Rattle.contraction.specs.Partition.{PartitionValue, KeepsPartition}
 use Rattle.contraction.proofs.BlockLists.{count-along, length-partition}
 use Rattle.contraction.proofs.partition.Partition.blocks_in.Goals as goal

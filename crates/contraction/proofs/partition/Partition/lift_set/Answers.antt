@@ -1,6 +1,6 @@
 use Rattle.std.proofs.Common.{ap, ◌∙◌, arith, ℕ, List, length, ◌&&◌}
-use Rattle.counting.specs.Common.{mem, some}
-use Rattle.graph_core.specs.Common.{block}
+use Rattle.counting.proofs.Common.{mem, some}
+use Rattle.graph_core.proofs.Common.{block}
 use Rattle.contraction.specs.Partition.{PartitionValue}
 use Rattle.contraction.proofs.ContractedValues.{union-listed}
 use Rattle.contraction.proofs.QuotientValues.{few-blocks}

@@ -1,6 +1,6 @@
 use Rattle.std.proofs.Common.{◌≡◌, ap, sym, ◌∙◌, subst, ℕ, List, filter, not}
-use Rattle.counting.specs.Common.{is_subset}
-use Rattle.graph_core.specs.Common.{insert_block, merged}
+use Rattle.counting.proofs.Common.{is_subset}
+use Rattle.graph_core.proofs.Common.{insert_block, merged}
 use Rattle.contraction.specs.Partition.{IsUnionAt, KeepsPartition, PartitionValue}
 use Rattle.contraction.proofs.BlockUnions.{keeps-merged, merged-outside}
 use Rattle.contraction.proofs.partition.Partition.merge.Goals as goal

@@ -1,5 +1,5 @@
 use Rattle.std.proofs.Common.{◌≡◌, ◌<◌, ◌^◌, ℕ, List, ap, ◌∙◌, arith, length}
-use Rattle.graph_core.specs.Common.{place}
+use Rattle.graph_core.proofs.Common.{place}
 use Rattle.contraction.specs.Partition.{PartitionValue, KeepsPartition}
 use Rattle.contraction.proofs.BlockLists.{place-le, length-partition}
 use Rattle.contraction.proofs.partition.Partition.place.Goals as goal

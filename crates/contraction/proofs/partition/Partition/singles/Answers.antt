@@ -1,6 +1,5 @@
 use Rattle.std.proofs.Common.{sym, subst}
-use Rattle.graph_core.specs.Common.{IsPartition}
-use Rattle.graph_core.proofs.Common.{singles-partition}
+use Rattle.graph_core.proofs.Common.{IsPartition, singles-partition}
 use Rattle.contraction.proofs.partition.Partition.singles.Goals as goal
 
 pub invariant_of-result : goal.invariant_of-result

@@ -1,9 +1,7 @@
 -- Each step back along the path keeps what `IsPushed` says, by the lemmas on pushing.
-use Rattle.std.proofs.Common.{◌+◌, ◌-◌, List, length, set, sym, subst, ap, ◌∙◌, arith, w64}
-use Rattle.std.specs.Prelude.{ℤ}
+use Rattle.std.proofs.Common.{◌+◌, ◌-◌, List, length, set, sym, subst, ap, ◌∙◌, arith, w64, ℤ}
 use Rattle.std.proofs.lemmas.Int.{to_z-of_z}
-use Rattle.flow_core.specs.Flows.{IsFlow}
-use Rattle.flow_core.specs.Search.{visit_at, first_node, last_node}
+use Rattle.flow_core.specs.Common.{IsFlow, visit_at, first_node, last_node}
 use Rattle.flow_core.proofs.Duality.{Fits-length}
 use Rattle.flow_core.proofs.SearchTrees.{room-some, room-below}
 use Rattle.flow_core.proofs.Pushing.{IsPushed, push-within, IsPushed-step, pushed-flow, flow-below}

@@ -1,6 +1,5 @@
-use Rattle.std.proofs.Common.{List, sym, subst, ap, ◌∙◌}
-use Rattle.std.specs.Prelude.{ℤ, pos, replicate}
-use Rattle.flow_core.specs.Flows.{IsFlow}
+use Rattle.std.proofs.Common.{List, sym, subst, ap, ◌∙◌, ℤ, pos, replicate}
+use Rattle.flow_core.specs.Common.{IsFlow}
 use Rattle.flow_core.proofs.Pushing.{IsFlow-zeros}
 use Rattle.flow_core.proofs.flow.Flow.zero.Goals as goal
 

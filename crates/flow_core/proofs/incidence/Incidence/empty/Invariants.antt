@@ -1,5 +1,4 @@
-use Rattle.std.proofs.Common.{◌≡◌, ℕ, [], vec_len}
-use Rattle.std.specs.Prelude.{All}
+use Rattle.std.proofs.Common.{◌≡◌, ℕ, [], vec_len, All}
 use Rattle.std.specs.Global.{Vec}
 use Rattle.flow_core.proofs.incidence.Incidence.empty.Given as goal
 

@@ -1,7 +1,5 @@
 use Rattle.std.proofs.Common.{◌≡◌, ℕ, ◌+◌, List, sym, ap, ◌∙◌, subst, arith}
-use Rattle.flow_core.specs.Nets.{Arc}
-use Rattle.flow_core.specs.Residual.{arc_at}
-use Rattle.flow_core.specs.Incidence.{ListsArcs}
+use Rattle.flow_core.specs.Common.{Arc, arc_at, ListsArcs}
 use Rattle.flow_core.proofs.Reading.{IsNet-at}
 use Rattle.flow_core.proofs.ArcRows.{with_place, ListsArcs-more}
 use Rattle.flow_core.proofs.incidence.Incidence.new.Goals as goal

@@ -1,4 +1,4 @@
-use Rattle.flow_core.specs.Incidence.{ListsArcs}
+use Rattle.flow_core.specs.Common.{ListsArcs}
 use Rattle.flow_core.proofs.incidence.Incidence.new.Given as goal
 
 abbrev pub invariant-loop-i : goal.invariant-loop-i

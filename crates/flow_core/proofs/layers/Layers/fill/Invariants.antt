@@ -1,8 +1,5 @@
 use Rattle.std.proofs.Common.{◌≡◌, ◌+◌, ◌-◌, ◌*◌, ◌≤◌}
-use Rattle.flow_core.specs.Nets.{total_capacity}
-use Rattle.flow_core.specs.Flows.{IsFlow}
-use Rattle.flow_core.specs.Search.{first_node}
-use Rattle.flow_core.specs.Layers.{IsLaid, work_left}
+use Rattle.flow_core.specs.Common.{total_capacity, IsFlow, first_node, IsLaid, work_left}
 use Rattle.flow_core.proofs.layers.Layers.fill.Given as goal
 
 abbrev pub invariant-filling : goal.invariant-filling

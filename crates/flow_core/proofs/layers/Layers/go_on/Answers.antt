@@ -1,8 +1,7 @@
 -- Each turn goes back, goes on or passes an arc over, by the lemmas on a path that is laid.
 use Rattle.std.proofs.Common.{◌≡◌, ◌+◌, ◌-◌, ◌<◌, ◌++◌, ◌∷◌, [], ℕ, List, length, get_or, set, min, sym, ◌∙◌, ap, subst, arith, slice_index}
 use Rattle.counting.proofs.Common.{get_or_read}
-use Rattle.flow_core.specs.Search.{node_at}
-use Rattle.flow_core.specs.Layers.{IsLaid, work_left}
+use Rattle.flow_core.specs.Common.{node_at, IsLaid, work_left}
 use Rattle.flow_core.proofs.Scanning.{Leads-read, taken}
 use Rattle.flow_core.proofs.Laying.{IsLaid-push, last-read, work-back, work-pass}
 use Rattle.flow_core.proofs.layers.Layers.go_on.Goals as goal

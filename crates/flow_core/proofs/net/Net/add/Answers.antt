@@ -1,7 +1,6 @@
 use Rattle.std.proofs.Common.{◌≡◌, ◌∙◌, ◌++◌, ◌∷◌, [], ℕ, List, map, ap}
 use Rattle.counting.proofs.Common.{map-append}
-use Rattle.flow_core.specs.Nets.{Arc, Net, with_arc}
-use Rattle.flow_core.specs.View.{arc_of, net_of}
+use Rattle.flow_core.specs.Common.{Arc, Net, with_arc, arc_of, net_of}
 use Rattle.flow_core.specs.declared.arc.Arc.{Arc as StoredArc}
 use Rattle.flow_core.proofs.net.Net.add.Goals as goal
 

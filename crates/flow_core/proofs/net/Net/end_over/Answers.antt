@@ -1,7 +1,5 @@
 use Rattle.std.proofs.Common.{arith, subst, sym}
-use Rattle.flow_core.specs.Incidence.{HasEnd}
-use Rattle.flow_core.specs.Nets.{Arc}
-use Rattle.flow_core.specs.Residual.{Joins, arc_at}
+use Rattle.flow_core.specs.Common.{HasEnd, Arc, Joins, arc_at}
 use Rattle.flow_core.proofs.Reading.{IsNet-at}
 use Rattle.flow_core.proofs.Scanning.{end_within}
 use Rattle.flow_core.proofs.net.Net.end_over.Goals as goal

@@ -1,8 +1,5 @@
-use Rattle.std.proofs.Common.{ap, ap₂, ◌∙◌, arith, w64, to_z, of_z}
-use Rattle.std.specs.Prelude.{ℤ}
-use Rattle.flow_core.specs.Nets.{Arc}
-use Rattle.flow_core.specs.Residual.{room_from}
-use Rattle.flow_core.specs.View.{arc_of}
+use Rattle.std.proofs.Common.{ap, ap₂, ◌∙◌, arith, w64, to_z, of_z, ℤ}
+use Rattle.flow_core.specs.Common.{Arc, room_from, arc_of}
 use Rattle.flow_core.proofs.Duality.{Fits-length}
 use Rattle.flow_core.proofs.Reading.{amount-fits, amount-read, capacity-below}
 use Rattle.flow_core.proofs.net.Net.room_over.Goals as goal

@@ -1,9 +1,6 @@
-use Rattle.std.proofs.Common.{ap, ap₂, ◌∙◌, arith, subst, sym, w64, to_z, of_z}
-use Rattle.std.specs.Prelude.{ℤ, pos, ◌≤ℤ◌}
+use Rattle.std.proofs.Common.{ap, ap₂, ◌∙◌, arith, subst, sym, w64, to_z, of_z, ℤ, pos, ◌≤ℤ◌}
 use Rattle.std.proofs.lemmas.Int.{to_z-of_z}
-use Rattle.flow_core.specs.Nets.{Arc}
-use Rattle.flow_core.specs.Residual.{room_from, sent_amount}
-use Rattle.flow_core.specs.View.{arc_of}
+use Rattle.flow_core.specs.Common.{Arc, room_from, sent_amount, arc_of}
 use Rattle.flow_core.proofs.Duality.{Fits-length}
 use Rattle.flow_core.proofs.Reading.{amount-fits, amount-read, capacity-below}
 use Rattle.flow_core.proofs.net.Net.sent_over.Goals as goal

@@ -1,5 +1,5 @@
 use Rattle.std.proofs.Common.{◌==◌, ◌||◌, ap, ◌∙◌, arith}
-use Rattle.counting.specs.Common.{mem}
+use Rattle.counting.proofs.Common.{mem}
 use Rattle.flow_core.proofs.SearchTrees.{IsTree-root, IsSeen-root}
 use Rattle.flow_core.proofs.search.Reached.from_source.Goals as goal
 

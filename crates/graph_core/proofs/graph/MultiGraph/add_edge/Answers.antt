@@ -1,9 +1,7 @@
 use Rattle.std.proofs.Common.{rules, ◌≡◌, ◌<◌, ◌∙◌, refl, ◌++◌, ◌∷◌, [], ℕ, List, length, map, drop, take, ap, arith, subst, sym}
 use Rattle.counting.proofs.Common.{map-append}
 use Rattle.std.proofs.Math.Seq.{take-append_seam}
-use Rattle.graph_core.specs.Graph.{Graph, with_edge}
-use Rattle.graph_core.specs.Rows.{AreRows}
-use Rattle.graph_core.specs.View.{graph_of, pair_of, IsWithinLimits}
+use Rattle.graph_core.specs.Common.{Graph, with_edge, AreRows, graph_of, pair_of, IsWithinLimits}
 use Rattle.graph_core.specs.declared.ends.Ends.{Ends}
 use Rattle.graph_core.proofs.OneMoreEdge.{limits-with_edge}
 use Rattle.graph_core.proofs.View.{size-graph_of}

@@ -1,8 +1,6 @@
 use Rattle.std.proofs.Common.{ap, ◌∙◌, arith}
-use Rattle.counting.specs.Common.{none}
-use Rattle.graph_core.specs.Graph.{Graph}
-use Rattle.graph_core.specs.View.{graph_of}
-use Rattle.graph_core.specs.Walks.{adjacent}
+use Rattle.counting.proofs.Common.{none}
+use Rattle.graph_core.specs.Common.{Graph, graph_of, adjacent}
 use Rattle.graph_core.proofs.Rows.{row-adjacent}
 use Rattle.graph_core.proofs.graph.MultiGraph.adjacent.Goals as goal
 

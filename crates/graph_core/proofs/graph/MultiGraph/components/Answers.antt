@@ -1,9 +1,6 @@
 use Rattle.std.proofs.Common.{◌≡◌, ℕ, ap, sym, subst, ◌∙◌, length, List, [], arith}
-use Rattle.counting.specs.Common.{mem, none}
-use Rattle.graph_core.specs.Components.{component_count, components}
-use Rattle.graph_core.specs.Graph.{Graph, IsGraph}
-use Rattle.graph_core.specs.Rows.{AreRows}
-use Rattle.graph_core.specs.View.{graph_of}
+use Rattle.counting.proofs.Common.{mem, none}
+use Rattle.graph_core.specs.Common.{component_count, components, Graph, IsGraph, AreRows, graph_of}
 use Rattle.graph_core.proofs.Components.{component_count_le, length-components}
 use Rattle.graph_core.proofs.graph.MultiGraph.components.Goals as goal
 

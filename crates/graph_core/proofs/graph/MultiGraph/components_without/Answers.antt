@@ -1,9 +1,6 @@
 use Rattle.std.proofs.Common.{◌≡◌, List, ℕ, ap, sym, subst, ◌∙◌}
-use Rattle.counting.specs.Common.{mem}
-use Rattle.graph_core.specs.Components.{components}
-use Rattle.graph_core.specs.Graph.{Graph, IsGraph}
-use Rattle.graph_core.specs.Rows.{AreRows}
-use Rattle.graph_core.specs.View.{graph_of}
+use Rattle.counting.proofs.Common.{mem}
+use Rattle.graph_core.specs.Common.{components, Graph, IsGraph, AreRows, graph_of}
 use Rattle.graph_core.proofs.graph.MultiGraph.components_without.Goals as goal
 
 -- the parts of the rows that are kept are the components

@@ -1,6 +1,5 @@
 use Rattle.std.proofs.Common.{◌≡◌, ℕ, ◌∙◌}
-use Rattle.graph_core.specs.Graph.{Graph, first_end, second_end, has_ends}
-use Rattle.graph_core.specs.View.{are_ends}
+use Rattle.graph_core.specs.Common.{Graph, first_end, second_end, has_ends, are_ends}
 use Rattle.graph_core.specs.declared.ends.Ends.{Ends}
 use Rattle.graph_core.proofs.graph.MultiGraph.joins_same.Goals as goal
 

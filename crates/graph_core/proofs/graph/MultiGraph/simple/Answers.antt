@@ -1,7 +1,6 @@
 use Rattle.std.proofs.Common.{◌≡◌, ℕ, ◌-◌, arith, sym, subst, false, refl, inl, inr}
 use Rattle.std.proofs.lemmas.Bool.{false≢true}
-use Rattle.counting.proofs.Common.{cases_eq}
-use Rattle.counting.specs.Common.{some}
+use Rattle.counting.proofs.Common.{cases_eq, some}
 use Rattle.graph_core.proofs.Simplicity.{repeats, simple_from_no_repeat, no_repeat_from_simple}
 use Rattle.graph_core.proofs.graph.MultiGraph.simple.Goals as goal
 

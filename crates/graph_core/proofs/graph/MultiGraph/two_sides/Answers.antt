@@ -1,8 +1,6 @@
 use Rattle.std.proofs.Common.{◌≡◌, ◌∙◌, ℕ, List, [], length, ap, subst, sym}
-use Rattle.counting.specs.Common.{mem, none}
-use Rattle.graph_core.specs.Nodes.{AreTrees}
-use Rattle.graph_core.specs.Rows.{AreRows}
-use Rattle.graph_core.specs.View.{graph_of}
+use Rattle.counting.proofs.Common.{mem, none}
+use Rattle.graph_core.specs.Common.{AreTrees, AreRows, graph_of}
 use Rattle.graph_core.specs.declared.ends.Ends.{Ends}
 use Rattle.graph_core.specs.declared.tree.TreeNode.{TreeNode}
 use Rattle.graph_core.proofs.graph.MultiGraph.two_sides.Goals as goal

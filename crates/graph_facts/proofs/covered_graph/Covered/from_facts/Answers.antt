@@ -1,10 +1,7 @@
-use Rattle.std.proofs.Common.{Option, List, ℕ, subst, sym}
-use Rattle.std.specs.Prelude.{IfSome}
-use Rattle.counting.specs.Common.{mem, none}
-use Rattle.graph_core.specs.Common.{Graph, IsCovered, IsGraph}
-use Rattle.graph_core.proofs.Common.{covered_perfect}
-use Rattle.match_core.specs.MatchingRows.{edges_of}
-use Rattle.match_core.specs.Partners.{ArePartners}
+use Rattle.std.proofs.Common.{Option, List, ℕ, subst, sym, IfSome}
+use Rattle.counting.proofs.Common.{mem, none}
+use Rattle.graph_core.proofs.Common.{Graph, IsCovered, IsGraph, covered_perfect}
+use Rattle.match_core.specs.Common.{edges_of, ArePartners}
 use Rattle.graph_facts.proofs.CoveredFacts.{maximum_is_perfect}
 use Rattle.graph_facts.proofs.covered_graph.Covered.from_facts.Goals as goal
 

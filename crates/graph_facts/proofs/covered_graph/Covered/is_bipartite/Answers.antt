@@ -1,6 +1,6 @@
 use Rattle.std.proofs.Common.{refl, subst}
-use Rattle.counting.specs.Common.{mem}
-use Rattle.graph_core.specs.Common.{Graph, IsBipartite}
+use Rattle.counting.proofs.Common.{mem}
+use Rattle.graph_core.proofs.Common.{Graph, IsBipartite}
 use Rattle.graph_facts.proofs.covered_graph.Covered.is_bipartite.Goals as goal
 
 pub returns-in-Some : goal.returns-in-Some

@@ -1,10 +1,7 @@
-use Rattle.std.proofs.Common.{Option, List, ℕ, subst}
-use Rattle.std.specs.Prelude.{IfSome}
-use Rattle.counting.specs.Common.{IsLeastWithout, mem, none}
-use Rattle.graph_core.specs.Common.{Allowed, HasPerfect, size}
-use Rattle.graph_core.proofs.Common.{covered_perfect}
-use Rattle.match_core.specs.MatchingRows.{edges_of}
-use Rattle.match_core.specs.Partners.{ArePartners}
+use Rattle.std.proofs.Common.{Option, List, ℕ, subst, IfSome}
+use Rattle.counting.proofs.Common.{IsLeastWithout, mem, none}
+use Rattle.graph_core.proofs.Common.{Allowed, HasPerfect, size, covered_perfect}
+use Rattle.match_core.specs.Common.{edges_of, ArePartners}
 use Rattle.allowed_edges.proofs.AllowedPartners.{perfect_unless_none}
 use Rattle.graph_facts.proofs.CoveredFacts.{maximum_is_perfect, told_reason}
 use Rattle.graph_facts.proofs.covered_graph.Covered.of_connected.Goals.{In-Some}

@@ -1,7 +1,7 @@
 use Rattle.std.proofs.Common.{◌≡◌, ◌&&◌, true, Bool, ap, ◌∙◌, ℕ, List, arith}
-use Rattle.counting.specs.Common.{mem}
+use Rattle.counting.proofs.Common.{mem}
 use Rattle.graph_core.proofs.Common.{degree_congr}
-use Rattle.match_core.specs.MatchingRows.{edges_of, left_over}
+use Rattle.match_core.specs.Common.{edges_of, left_over}
 use Rattle.graph_facts.proofs.covered_graph.Covered.own_matching.Goals as goal
 
 and_true : (b : Bool) → (b && true) ≡ b

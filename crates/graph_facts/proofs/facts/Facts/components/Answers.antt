@@ -1,7 +1,6 @@
 use Rattle.std.proofs.Common.{ap, ◌∙◌, length, arith}
-use Rattle.counting.specs.Common.{none}
-use Rattle.graph_core.specs.Common.{component_count, Graph}
-use Rattle.graph_core.proofs.Common.{component_count_le, length-components}
+use Rattle.counting.proofs.Common.{none}
+use Rattle.graph_core.proofs.Common.{component_count, Graph, component_count_le, length-components}
 use Rattle.graph_facts.proofs.facts.Facts.components.Goals as goal
 
 pub overflow_cast-result : goal.overflow_cast-result

@@ -1,6 +1,6 @@
 use Rattle.std.proofs.Common.{ap, ◌∙◌, List, ℕ}
-use Rattle.counting.specs.Common.{mem}
-use Rattle.graph_core.specs.Common.{components}
+use Rattle.counting.proofs.Common.{mem}
+use Rattle.graph_core.proofs.Common.{components}
 use Rattle.graph_facts.proofs.facts.Facts.of.Goals as goal
 
 pub invariant_of-result : goal.invariant_of-result

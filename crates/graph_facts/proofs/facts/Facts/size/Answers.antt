@@ -1,5 +1,5 @@
 use Rattle.std.proofs.Common.{subst}
-use Rattle.graph_core.specs.Common.{Graph, IsWithinLimits}
+use Rattle.graph_core.proofs.Common.{Graph, IsWithinLimits}
 use Rattle.graph_facts.proofs.facts.Facts.size.Goals as goal
 
 pub returns-clause-limits : goal.returns-clause-limits

@@ -1,6 +1,6 @@
 use Rattle.std.proofs.Common.{◌≡◌, []}
-use Rattle.counting.specs.Common.{mem}
-use Rattle.graph_core.specs.Common.{IsConnected}
+use Rattle.counting.proofs.Common.{mem}
+use Rattle.graph_core.proofs.Common.{IsConnected}
 use Rattle.allowed_edges.proofs.FirstComponent.{none_weaker}
 use Rattle.graph_facts.proofs.Parities.{none_apart}
 use Rattle.graph_facts.proofs.layers.Layers.first_apart.Goals as goal

@@ -1,8 +1,6 @@
 use Rattle.std.proofs.Common.{◌≡◌, ◌==◌, ◌&&◌, ◌||◌, ◌∙◌, ap, arith, not, refl, subst, sym, true, List, ℕ}
-use Rattle.counting.specs.Common.{Within, mem}
-use Rattle.counting.proofs.Common.{or_false}
-use Rattle.graph_core.specs.Common.{adjacent}
-use Rattle.graph_core.proofs.Common.{row-adjacent}
+use Rattle.counting.proofs.Common.{Within, mem, or_false}
+use Rattle.graph_core.proofs.Common.{adjacent, row-adjacent}
 use Rattle.graph_facts.proofs.Parities.{flood_end, flood_less, flood_start, flood_step}
 use Rattle.graph_facts.proofs.layers.Layers.of.Goals as goal
 

@@ -1,5 +1,5 @@
 use Rattle.std.proofs.Common.{◌&&◌, ◌||◌, not}
-use Rattle.counting.specs.Common.{count, mem}
+use Rattle.counting.proofs.Common.{count, mem}
 use Rattle.graph_facts.specs.Layers.{IsFlood}
 use Rattle.graph_facts.proofs.layers.Layers.of.Given as goal
 

@@ -1,7 +1,6 @@
 use Rattle.std.proofs.Common.{◌≡◌, ◌∙◌, ap, refl, sym, subst, List, ℕ}
-use Rattle.counting.specs.Common.{mem}
-use Rattle.counting.proofs.Common.{and_parts}
-use Rattle.graph_core.specs.Common.{IsSide}
+use Rattle.counting.proofs.Common.{mem, and_parts}
+use Rattle.graph_core.proofs.Common.{IsSide}
 use Rattle.graph_facts.proofs.Parities.{even_side, no_side}
 use Rattle.graph_facts.proofs.layers.Layers.side.Goals.{In-None}
 use Rattle.graph_facts.proofs.layers.Layers.side.Goals as goal

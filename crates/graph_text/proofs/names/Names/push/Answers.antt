@@ -1,7 +1,7 @@
 use Rattle.std.proofs.Common.{rules, map, refl, sym, subst, ap, false, ◌≡◌, ◌∙◌, ◌<◌, [], ◌∷◌, ◌++◌, length, OnOk}
 use Rattle.std.specs.String.{string_bytes}
 use Rattle.std.specs.Str.{bytes_eq}
-use Rattle.graph_text.specs.Names.{is_among}
+use Rattle.graph_text.specs.Common.{is_among}
 use Rattle.graph_text.proofs.NameLists.{AreNames-inserted, keys-inserted}
 use Rattle.graph_text.proofs.names.Names.push.Goals as goal
 use Rattle.graph_text.proofs.names.Names.push.Goals.{in-Ok, in-Err}

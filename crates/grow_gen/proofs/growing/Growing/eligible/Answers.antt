@@ -1,5 +1,5 @@
 use Rattle.std.proofs.Common.{ap, sym, ◌∙◌, arith, cond}
-use Rattle.counting.specs.Common.{union, mem, rising_list}
+use Rattle.counting.proofs.Common.{union, mem, rising_list}
 use Rattle.grow_gen.proofs.PieceFacts.{piece-two}
 use Rattle.grow_gen.proofs.Skeleton.{union-rising}
 use Rattle.grow_gen.proofs.growing.Growing.eligible.Goals as goal

@@ -1,8 +1,7 @@
 use Rattle.std.proofs.Common.{◌≡◌, ℕ, ◌∷◌, [], Bool, true, false, ◌==◌, ◌||◌, map, ap, ap₂, ◌∙◌, arith, refl, List}
-use Rattle.counting.proofs.Common.{take_all, same_rising_list, rising_list-rises, set-wider}
-use Rattle.counting.specs.Common.{mem}
-use Rattle.graph_core.specs.Common.{pair_of}
-use Rattle.grow_gen.specs.Growth.{Growth}
+use Rattle.counting.proofs.Common.{take_all, same_rising_list, rising_list-rises, set-wider, mem}
+use Rattle.graph_core.proofs.Common.{pair_of}
+use Rattle.grow_gen.specs.Common.{Growth}
 use Rattle.grow_gen.proofs.growing.Growing.first.Goals as goal
 
 pub returns : goal.returns

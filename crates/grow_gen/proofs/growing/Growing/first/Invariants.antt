@@ -1,5 +1,5 @@
 use Rattle.std.proofs.Common.{◌≡◌, map, take}
-use Rattle.graph_core.specs.Common.{pair_of}
+use Rattle.graph_core.proofs.Common.{pair_of}
 use Rattle.grow_gen.proofs.growing.Growing.first.Given as goal
 
 abbrev pub invariant-loop-a : goal.invariant-loop-a

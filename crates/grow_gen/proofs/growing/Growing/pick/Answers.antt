@@ -1,9 +1,7 @@
-use Rattle.std.proofs.Common.{◌≡◌, ◌%◌, length, ap, ap₂, sym, ◌∙◌, subst}
-use Rattle.std.specs.Prelude.{slice_index}
+use Rattle.std.proofs.Common.{◌≡◌, ◌%◌, length, ap, ap₂, sym, ◌∙◌, subst, slice_index}
 use Rattle.std.proofs.lemmas.Nat.{mod_below}
-use Rattle.counting.specs.Common.{Within}
-use Rattle.grow_gen.specs.Growth.{eligible}
-use Rattle.grow_gen.specs.Growing.{growth_of}
+use Rattle.counting.proofs.Common.{Within}
+use Rattle.grow_gen.specs.Common.{eligible, growth_of}
 use Rattle.grow_gen.proofs.Skeleton.{eligible-within}
 use Rattle.grow_gen.proofs.growing.Growing.pick.Goals as goal
 

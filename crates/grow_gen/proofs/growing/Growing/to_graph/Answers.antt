@@ -1,6 +1,6 @@
 use Rattle.std.proofs.Common.{ap, sym, subst, get_or}
-use Rattle.counting.specs.Common.{Within}
-use Rattle.graph_core.specs.Common.{graph_of, Graph, IsMultigraph}
+use Rattle.counting.proofs.Common.{Within}
+use Rattle.graph_core.proofs.Common.{graph_of, Graph, IsMultigraph}
 use Rattle.graph_core.specs.declared.ends.Ends.{Ends}
 use Rattle.grow_gen.proofs.OnePiece.{edge-ends}
 use Rattle.grow_gen.proofs.growing.Growing.to_graph.Goals as goal

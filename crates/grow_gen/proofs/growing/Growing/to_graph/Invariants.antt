@@ -1,5 +1,5 @@
 use Rattle.std.proofs.Common.{◌≡◌, take}
-use Rattle.graph_core.specs.Common.{graph_of}
+use Rattle.graph_core.proofs.Common.{graph_of}
 use Rattle.grow_gen.proofs.growing.Growing.to_graph.Given as goal
 
 abbrev pub invariant-loop-edge : goal.invariant-loop-edge

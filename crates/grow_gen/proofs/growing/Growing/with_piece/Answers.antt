@@ -1,8 +1,6 @@
 use Rattle.std.proofs.Common.{◌-◌, ◌+◌, ◌++◌, map, filter, not, ap, ◌∙◌}
-use Rattle.graph_core.specs.Common.{pair_of}
-use Rattle.grow_gen.specs.Growing.{growth_of}
-use Rattle.grow_gen.specs.Pieces.{piece_ends}
-use Rattle.grow_gen.specs.Splices.{is_at, renumbered_edge, rehung_edges}
+use Rattle.graph_core.proofs.Common.{pair_of}
+use Rattle.grow_gen.specs.Common.{growth_of, piece_ends, is_at, renumbered_edge, rehung_edges}
 use Rattle.grow_gen.proofs.OnePiece.{with_piece-parts}
 use Rattle.grow_gen.proofs.growing.Growing.with_piece.Goals as goal
 

@@ -1,7 +1,7 @@
 use Rattle.std.proofs.Common.{◌≡◌, List, sym, subst, ap, ◌∙◌, filter}
-use Rattle.counting.specs.Common.{mem}
-use Rattle.graph_core.specs.Common.{IsMatching}
-use Rattle.match_core.specs.MatchingRows.{KeepsMatching, IsOf, MatchingValue, edges_of, is_clear}
+use Rattle.counting.proofs.Common.{mem}
+use Rattle.graph_core.proofs.Common.{IsMatching}
+use Rattle.match_core.specs.Common.{KeepsMatching, IsOf, MatchingValue, edges_of, is_clear}
 use Rattle.match_core.specs.declared.matching.MatchRow.{MatchRow}
 use Rattle.match_core.proofs.ClearedMatchings.{cleared, cleared_edges, cleared_matching, cleared_of}
 use Rattle.match_core.proofs.MatchingEdges.{keeps-filter}

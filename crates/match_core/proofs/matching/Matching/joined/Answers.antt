@@ -1,11 +1,8 @@
 use Rattle.std.proofs.Common.{◌≡◌, ℕ, true, ◌||◌, ◌==◌, sym, ap, ◌∙◌, subst, refl, inl}
-use Rattle.counting.proofs.Common.{IfOk-weaker}
-use mathlib.Core.Path.{fun_ext}
-use Rattle.counting.specs.Common.{Set, none, put, mem, rising_list}
-use Rattle.graph_core.specs.Common.{size, first_end, second_end, IsMatching}
-use Rattle.graph_core.proofs.Common.{add_edge}
-use Rattle.match_search.specs.Rows.{marks}
-use Rattle.match_core.specs.MatchingRows.{MatchingValue, edges_of}
+use Rattle.counting.proofs.Common.{IfOk-weaker, fun_ext, Set, none, put, mem, rising_list}
+use Rattle.graph_core.proofs.Common.{size, first_end, second_end, IsMatching, add_edge}
+use Rattle.match_search.specs.Common.{marks}
+use Rattle.match_core.specs.Common.{MatchingValue, edges_of}
 use Rattle.match_search.proofs.GrownRows.{with_put}
 use Rattle.match_core.proofs.MatchingEdges.{rows-matching, rows-rise, joined_edges}
 use Rattle.match_core.proofs.matching.Matching.joined.Goals as goal

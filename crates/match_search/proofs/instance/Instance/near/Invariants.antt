@@ -1,5 +1,5 @@
 use Rattle.std.proofs.Common.{◌≡◌, ℕ, true, length, ◌⊎◌}
-use Rattle.counting.specs.Common.{mem, item}
+use Rattle.counting.proofs.Common.{mem, item}
 use Rattle.match_search.proofs.instance.Instance.near.Given as goal
 
 abbrev pub invariant-blossoms : goal.invariant-blossoms

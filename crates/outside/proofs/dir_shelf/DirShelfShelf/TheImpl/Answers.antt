@@ -2,9 +2,7 @@
 use Rattle.std.proofs.Common.{◌≡◌, ◌⊎◌, ◌+◌, ℕ, Result, Ok, Err, IfOk, IsErrOf, length, inl, inr, refl, rules, arith}
 use Rattle.std.specs.Global.{Vec}
 use Rattle.std.proofs.lemmas.Result.{IfOk-weaker}
-use Rattle.outside.specs.DirShelf.{IsOpened, OpenState}
-use Rattle.outside.specs.Faults.{next_fault}
-use Rattle.outside.specs.Shelf.{answer_of}
+use Rattle.outside.specs.Common.{IsOpened, OpenState, next_fault, answer_of}
 use Rattle.outside.specs.declared.shelf.ShelfFault.{ShelfFault}
 use Rattle.outside.specs.declared.shelf.ShelfFault.TheVariants.{Failed, TooLong, Memory}
 use Rattle.outside.proofs.FaultCounts.{Rose-next_fault}

@@ -1,7 +1,7 @@
 -- Where the number of the call is kept, the next read fails; of a file that is given the bytes
 -- are counted.
 use Rattle.std.proofs.Common.{arith, inl, refl}
-use Rattle.outside.specs.MemShelf.{FailsNext}
+use Rattle.outside.specs.Common.{FailsNext}
 use Rattle.outside.proofs.mem_shelf.MemShelfShelf.read.Goals as goal
 
 kept : (c : goal.Then-fails_next) → FailsNext c.args.self.now c.args.name.now

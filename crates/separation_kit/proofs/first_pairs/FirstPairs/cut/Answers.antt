@@ -1,5 +1,5 @@
 use Rattle.std.proofs.Common.{◌∙◌, ap, subst, sym}
-use Rattle.graph_core.specs.Common.{Graph, IsBicritical, cut_pair}
+use Rattle.graph_core.proofs.Common.{Graph, IsBicritical, cut_pair}
 use Rattle.separation_kit.proofs.first_pairs.FirstPairs.cut.Goals as goal
 
 pub returns : goal.returns

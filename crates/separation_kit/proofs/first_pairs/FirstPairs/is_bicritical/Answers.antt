@@ -1,8 +1,8 @@
 use Rattle.std.proofs.Common.{◌∙◌, None, ap, refl, subst, sym}
 use Rattle.std.specs.Option.{option_map}
 use Rattle.counting.proofs.Common.{both_ways}
-use Rattle.graph_core.specs.Common.{Graph, IsBicritical}
-use Rattle.separation_kit.specs.Pairs.{pair_of}
+use Rattle.graph_core.proofs.Common.{Graph, IsBicritical}
+use Rattle.separation_kit.specs.Common.{pair_of}
 use Rattle.separation_kit.proofs.SeparationFacts.{equivalent-none}
 use Rattle.separation_kit.proofs.first_pairs.FirstPairs.is_bicritical.Goals as goal
 

@@ -1,5 +1,5 @@
 use Rattle.graph_core.proofs.Common.{length-in}
-use Rattle.tight_cuts.specs.View.{origin_of}
+use Rattle.tight_cuts.specs.Common.{origin_of}
 use Rattle.tight_cuts.proofs.CandidateLists.{candidate-length}
 use Rattle.tight_cuts.proofs.candidate.Candidate.new.Goals as goal
 

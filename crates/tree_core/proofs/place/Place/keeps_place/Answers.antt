@@ -1,6 +1,6 @@
 use Rattle.std.proofs.Common.{ap, length, arith}
 use Rattle.contraction.proofs.BlockLists.{length-partition}
-use Rattle.tree_core.specs.Places.{PlaceValue}
+use Rattle.tree_core.specs.Common.{PlaceValue}
 use Rattle.tree_core.proofs.place.Place.keeps_place.Goals as goal
 
 pub returns-clause-few : goal.returns-clause-few

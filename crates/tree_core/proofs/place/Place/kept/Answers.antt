@@ -1,8 +1,7 @@
 use Rattle.std.proofs.Common.{◌≡◌, ◌∙◌, ℕ, ◌+◌, ◌-◌, List, All, ap, length, sym, subst, subst₂}
-use Rattle.counting.specs.Common.{Within, complement, count, mem}
-use Rattle.graph_core.specs.Common.{Graph, IsCovered, blocks_in, complement_of, merged, quotient}
-use Rattle.tree_core.specs.Derivations.{kept_at}
-use Rattle.tree_core.specs.Places.{PlaceValue}
+use Rattle.counting.proofs.Common.{Within, complement, count, mem}
+use Rattle.graph_core.proofs.Common.{Graph, IsCovered, blocks_in, complement_of, merged, quotient}
+use Rattle.tree_core.specs.Common.{kept_at, PlaceValue}
 use Rattle.tree_core.proofs.CutsBelow.{kept-covers, kept-length}
 use Rattle.tree_core.proofs.DerivationStands.{cut-below, cut-nonempty}
 use Rattle.tree_core.proofs.place.Place.kept.Goals as goal

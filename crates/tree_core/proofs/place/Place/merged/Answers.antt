@@ -1,7 +1,7 @@
 use Rattle.std.proofs.Common.{◌∙◌, ℕ, ◌+◌, List, ap, length, sym, subst₂}
-use Rattle.counting.specs.Common.{count, mem}
-use Rattle.graph_core.specs.Common.{Graph, IsCovered, blocks_in, merged, quotient}
-use Rattle.tree_core.specs.Places.{PlaceValue}
+use Rattle.counting.proofs.Common.{count, mem}
+use Rattle.graph_core.proofs.Common.{Graph, IsCovered, blocks_in, merged, quotient}
+use Rattle.tree_core.specs.Common.{PlaceValue}
 use Rattle.tree_core.proofs.CutsBelow.{merged-covers, merged-length}
 use Rattle.tree_core.proofs.DerivationStands.{cut-nonempty}
 use Rattle.tree_core.proofs.place.Place.merged.Goals as goal

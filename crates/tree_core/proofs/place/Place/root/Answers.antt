@@ -1,5 +1,5 @@
 use Rattle.std.proofs.Common.{◌∙◌, ap, sym, subst}
-use Rattle.graph_core.specs.Common.{Graph, IsCovered, IsGraph, singles}
+use Rattle.graph_core.proofs.Common.{Graph, IsCovered, IsGraph, singles}
 use Rattle.tree_core.proofs.CutsBelow.{root-covered}
 use Rattle.tree_core.proofs.place.Place.root.Goals as goal
 
