@@ -7,8 +7,8 @@ ghost use Rattle.bench_outcomes.specs.Common.{Compared, RefusesPair, RefusesPair
 use crate::checking::refusal_where_covered;
 use crate::uncovered::uncovered_report;
 use bench_outcomes::{Report, Status};
+use bench_tasks::GivenTrees;
 use contraction::Partition;
-use graph_core::MultiGraph;
 use graph_facts::Covered;
 use move_text::write_moves;
 use report_text::{MapLine, MapLines, block_names, pairing};
@@ -41,24 +41,21 @@ fn refusal_of_covered(
 /// once, and so is what is known of a partition that both trees have.
 pub fn derivations<'g>(
     alloc: Global,
-    g: &'g MultiGraph,
-    first: &Tree,
-    second: &Tree,
+    given: &'g GivenTrees,
 ) -> Result<Result<Covered<'g>, Report>, Memory>
-    requires first { Fits g.now.order (shape_of first.now) }
-    requires second { Fits g.now.order (shape_of second.now) }
-    ensures covered { IfOk result (λ r. IfOk r (λ c. c ≡ g.now)) }
-    ensures first { IfOk result (λ r. IfOk r (λ c. IsDerivation g.now (shape_of first.now))) }
-    ensures second { IfOk result (λ r. IfOk r (λ c. IsDerivation g.now (shape_of second.now))) }
+    ensures covered { IfOk result (λ r. IfOk r (λ c. c ≡ given.now.named.graph)) }
+    ensures derivations { IfOk result (λ r. IfOk r (λ c. IsDerivation c (shape_of given.now.first) ×
+        IsDerivation c (shape_of given.now.second))) }
     ensures refused { IfOk result (λ r. (report : _) → r ≡ Err report →
-        RefusesPair g.now (shape_of first.now) (shape_of second.now) report.status
-        report.bytes.items) }
+        RefusesPair given.now.named.graph (shape_of given.now.first) (shape_of given.now.second)
+        report.status report.bytes.items) }
 {
+    let g = &given.named.graph;
     let covered = match Covered::of(alloc, g)? {
         Ok(covered) => covered,
         Err(reason) => return Ok(Err(uncovered_report(alloc, g, reason)?)),
     };
-    match refusal_of_covered(alloc, &covered, first, second)? {
+    match refusal_of_covered(alloc, &covered, &given.first, &given.second)? {
         Some(report) => Ok(Err(report)),
         None => Ok(Ok(covered)),
     }
@@ -96,22 +93,17 @@ fn lines_of(alloc: Global, found: &Partitions, maps: LeafMaps) -> Result<MapLine
 
 /// The report on two derivations: the moves that turn the first into the second, and how their
 /// leaves are paired.
-pub fn compare_report(
-    alloc: Global,
-    c: &Covered,
-    first: &Tree,
-    second: &Tree,
-) -> Result<Report, Memory>
-    requires first { IsDerivation c.now (shape_of first.now) }
-    requires second { IsDerivation c.now (shape_of second.now) }
+pub fn compare_report(alloc: Global, c: &Covered, given: &GivenTrees) -> Result<Report, Memory>
+    requires first { IsDerivation c.now (shape_of given.now.first) }
+    requires second { IsDerivation c.now (shape_of given.now.second) }
     ensures { IfOk result
-        (λ report. Compared c.now (shape_of first.now) (shape_of second.now) report.status
+        (λ report. Compared c.now (shape_of given.now.first) (shape_of given.now.second) report.status
         report.bytes.items) }
 {
     c.keeps_covered();
     let n = c.order();
-    let found = leaves(alloc, first, n)?;
-    let pairs = compare_covered(alloc, c, first, second)?;
+    let found = leaves(alloc, &given.first, n)?;
+    let pairs = compare_covered(alloc, c, &given.first, &given.second)?;
     let lines = lines_of(alloc, &found, pairs.maps)?;
     Ok(Report {
         status: Status::Done,
@@ -121,23 +113,18 @@ pub fn compare_report(
 
 /// The text of a script that turns the first of two derivations into the second, and then the
 /// numbers of leaves and of moves.
-pub fn script_report(
-    alloc: Global,
-    c: &Covered,
-    first: &Tree,
-    second: &Tree,
-) -> Result<Report, Memory>
-    requires first { IsDerivation c.now (shape_of first.now) }
-    requires second { IsDerivation c.now (shape_of second.now) }
+pub fn script_report(alloc: Global, c: &Covered, given: &GivenTrees) -> Result<Report, Memory>
+    requires first { IsDerivation c.now (shape_of given.now.first) }
+    requires second { IsDerivation c.now (shape_of given.now.second) }
     ensures { IfOk result
-        (λ report. Scripted c.now (shape_of first.now) (shape_of second.now) report.status
+        (λ report. Scripted c.now (shape_of given.now.first) (shape_of given.now.second) report.status
         report.bytes.items) }
 {
     c.keeps_covered();
-    let moves = moves_between_covered(alloc, c, first, second)?;
+    let moves = moves_between_covered(alloc, c, &given.first, &given.second)?;
     let n = c.order();
     let text = write_moves(alloc, &moves, n)?;
-    let leaves = nodes(first) / 2 + 1;
+    let leaves = nodes(&given.first) / 2 + 1;
     Ok(Report {
         status: Status::Done,
         bytes: report_text::script_report(alloc, &text, leaves as u32, moves.len() as u32)?,

@@ -134,12 +134,11 @@ fn trees_report(alloc: Global, verb: TreesVerb, given: &GivenTrees) -> Result<Re
         (λ report. ResultOf (on_trees verb (given_trees given.now)) report.status
         report.bytes.items) }
 {
-    let g = &given.named.graph;
-    match derivations(alloc, g, &given.first, &given.second)? {
+    match derivations(alloc, given)? {
         Err(report) => Ok(report),
         Ok(covered) => match verb {
-            TreesVerb::Compare => compare_report(alloc, &covered, &given.first, &given.second),
-            TreesVerb::Script => script_report(alloc, &covered, &given.first, &given.second),
+            TreesVerb::Compare => compare_report(alloc, &covered, given),
+            TreesVerb::Script => script_report(alloc, &covered, given),
         },
     }
 }

@@ -11,31 +11,31 @@ use Rattle.bench_reports.proofs.comparing.compare_report.Goals as goal
 
 pub leaves-requires-clause-fits : goal.leaves-requires-clause-fits
 leaves-requires-clause-fits c =
-    subst (λ (n : ℕ). Fits n (shape_of c.args.first.now)) (sym c.order-n.ensures.is) (fits-derivation c.args.c.now (shape_of c.args.first.now) c.requires.first)
+    subst (λ (n : ℕ). Fits n (shape_of c.args.given.now.first)) (sym c.order-n.ensures.is) (fits-derivation c.args.c.now (shape_of c.args.given.now.first) c.requires.first)
 
 pub leaves-requires-clause-stands : goal.leaves-requires-clause-stands
 leaves-requires-clause-stands c =
-    subst (λ (n : ℕ). StandsAt n (singles n) (shape_of c.args.first.now)) (sym c.order-n.ensures.is) (stands-derivation c.args.c.now (shape_of c.args.first.now) c.requires.first)
+    subst (λ (n : ℕ). StandsAt n (singles n) (shape_of c.args.given.now.first)) (sym c.order-n.ensures.is) (stands-derivation c.args.c.now (shape_of c.args.given.now.first) c.requires.first)
 
 pub lines_of-requires-clause-one_each : goal.lines_of-requires-clause-one_each
 lines_of-requires-clause-one_each c =
     let n = c.order-n.result in
-    let t = shape_of c.args.first.now in
+    let t = shape_of c.args.given.now.first in
     let blocks : map (λ (p : PartitionValue). p.blocks) c.in_ok-found.found ≡ leaves c.args.c.now.order t =
     ap (map (λ (p : PartitionValue). p.blocks)) c.in_ok-found.ensures ∙ blocks-of_leaves n (leaves n t) ∙ ap (λ (k : ℕ). leaves k t) c.order-n.ensures.is in
     sym (length-map c.in_ok-pairs.pairs.maps map_of) ∙ c.in_ok-pairs.ensures.paired.one_each ∙ sym (ap length blocks) ∙ length-map c.in_ok-found.found (λ (p : PartitionValue). p.blocks)
 
 pub lines_of-requires-clause-few : goal.lines_of-requires-clause-few
 lines_of-requires-clause-few c =
-    let nodes = few-nodes c.args.c.now (shape_of c.args.first.now) c.keeps_covered.ensures.limits.multigraph.ends c.keeps_covered.ensures.limits.vertices c.requires.first in
-    let listed = few-leaves_listed c.order-n.result (shape_of c.args.first.now) nodes in
+    let nodes = few-nodes c.args.c.now (shape_of c.args.given.now.first) c.keeps_covered.ensures.limits.multigraph.ends c.keeps_covered.ensures.limits.vertices c.requires.first in
+    let listed = few-leaves_listed c.order-n.result (shape_of c.args.given.now.first) nodes in
     let same = ap length c.in_ok-found.ensures in
     omega arith
 
 pub returns : goal.returns
 returns c =
     let n = c.order-n.result in
-    let t = shape_of c.args.first.now in
+    let t = shape_of c.args.given.now.first in
     let blocks : map (λ (p : PartitionValue). p.blocks) c.in_ok-found.found ≡ leaves c.args.c.now.order t =
     ap (map (λ (p : PartitionValue). p.blocks)) c.in_ok-found.ensures ∙ blocks-of_leaves n (leaves n t) ∙ ap (λ (k : ℕ). leaves k t) c.order-n.ensures.is in
     record {

@@ -9,37 +9,37 @@ use Rattle.bench_reports.proofs.comparing.script_report.Goals as goal
 pub write_moves-requires-clause-few : goal.write_moves-requires-clause-few
 write_moves-requires-clause-few c =
     let same = length-map c.in_ok-moves.moves move_of in
-    let few = few-moves c.args.c.now (shape_of c.args.first.now) (length (moves_of c.in_ok-moves.moves)) c.keeps_covered.ensures.limits.multigraph.ends c.keeps_covered.ensures.limits.vertices c.requires.first c.in_ok-moves.ensures.few in
+    let few = few-moves c.args.c.now (shape_of c.args.given.now.first) (length (moves_of c.in_ok-moves.moves)) c.keeps_covered.ensures.limits.multigraph.ends c.keeps_covered.ensures.limits.vertices c.requires.first c.in_ok-moves.ensures.few in
     omega arith
 
 pub write_moves-requires-clause-paths : goal.write_moves-requires-clause-paths
 write_moves-requires-clause-paths c =
-    script-paths c.args.c.now (shape_of c.args.first.now) (shape_of c.args.second.now) (moves_of c.in_ok-moves.moves) c.keeps_covered.ensures.limits.multigraph.ends c.keeps_covered.ensures.limits.vertices c.requires.first c.in_ok-moves.ensures.through
+    script-paths c.args.c.now (shape_of c.args.given.now.first) (shape_of c.args.given.now.second) (moves_of c.in_ok-moves.moves) c.keeps_covered.ensures.limits.multigraph.ends c.keeps_covered.ensures.limits.vertices c.requires.first c.in_ok-moves.ensures.through
 
 pub write_moves-requires-clause-sets : goal.write_moves-requires-clause-sets
 write_moves-requires-clause-sets c =
     subst (λ (n : ℕ). AllByRecursion (HasSets n) (moves_of c.in_ok-moves.moves)) (sym c.order-n.ensures.is)
-    (script-sets c.args.c.now (shape_of c.args.first.now) (shape_of c.args.second.now) (moves_of c.in_ok-moves.moves) c.requires.first c.in_ok-moves.ensures.through)
+    (script-sets c.args.c.now (shape_of c.args.given.now.first) (shape_of c.args.given.now.second) (moves_of c.in_ok-moves.moves) c.requires.first c.in_ok-moves.ensures.through)
 
 pub nodes-requires : goal.nodes-requires
-nodes-requires c = let few = few-nodes c.args.c.now (shape_of c.args.first.now) c.keeps_covered.ensures.limits.multigraph.ends c.keeps_covered.ensures.limits.vertices c.requires.first in omega arith
+nodes-requires c = let few = few-nodes c.args.c.now (shape_of c.args.given.now.first) c.keeps_covered.ensures.limits.multigraph.ends c.keeps_covered.ensures.limits.vertices c.requires.first in omega arith
 
 pub overflow_cast-leaves : goal.overflow_cast-leaves
 overflow_cast-leaves c =
-    let few = few-nodes c.args.c.now (shape_of c.args.first.now) c.keeps_covered.ensures.limits.multigraph.ends c.keeps_covered.ensures.limits.vertices c.requires.first in
+    let few = few-nodes c.args.c.now (shape_of c.args.given.now.first) c.keeps_covered.ensures.limits.multigraph.ends c.keeps_covered.ensures.limits.vertices c.requires.first in
     let found = c.nodes.ensures in
     omega arith
 
 pub overflow_cast-len : goal.overflow_cast-len
 overflow_cast-len c =
     let same = length-map c.in_ok-moves.moves move_of in
-    let few = few-moves c.args.c.now (shape_of c.args.first.now) (length (moves_of c.in_ok-moves.moves)) c.keeps_covered.ensures.limits.multigraph.ends c.keeps_covered.ensures.limits.vertices c.requires.first c.in_ok-moves.ensures.few in
+    let few = few-moves c.args.c.now (shape_of c.args.given.now.first) (length (moves_of c.in_ok-moves.moves)) c.keeps_covered.ensures.limits.multigraph.ends c.keeps_covered.ensures.limits.vertices c.requires.first c.in_ok-moves.ensures.few in
     let all = c.len.ensures in
     omega arith
 
 pub returns : goal.returns
 returns c =
-    let t = shape_of c.args.first.now in
+    let t = shape_of c.args.given.now.first in
     let moves = moves_of c.in_ok-moves.moves in
     let few = few-nodes c.args.c.now t c.keeps_covered.ensures.limits.multigraph.ends c.keeps_covered.ensures.limits.vertices c.requires.first in
     let nodes = node_count-cuts t in
@@ -48,6 +48,6 @@ returns c =
     let same = length-map c.in_ok-moves.moves move_of in
     let count = few-moves c.args.c.now t (length moves) c.keeps_covered.ensures.limits.multigraph.ends c.keeps_covered.ensures.limits.vertices c.requires.first c.in_ok-moves.ensures.few in
     let all = c.len.ensures in
-    scripted c.args.c.now t (shape_of c.args.second.now) moves c.order-n.result _ _ c.in_ok-text.text.items c.deref.result.now c.in_ok-script_report.field-0.items
+    scripted c.args.c.now t (shape_of c.args.given.now.second) moves c.order-n.result _ _ c.in_ok-text.text.items c.deref.result.now c.in_ok-script_report.field-0.items
     (record { first = c.requires.first; second = c.requires.second; turns = c.in_ok-moves.ensures.through; few = c.in_ok-moves.ensures.few })
     (omega arith) (omega arith) c.order-n.ensures.is (omega arith) (omega arith) c.in_ok-text.ensures.text c.deref.ensures.value c.in_ok-text.ensures.stands c.in_ok-script_report.ensures
