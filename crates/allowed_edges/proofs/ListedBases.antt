@@ -1,12 +1,12 @@
 -- A listed matching that holds an edge. It is one of the list, so it is perfect; and a row with the
 -- edge is a place of it in the list of its edges.
-use Rattle.std.proofs.Common.{◌≡◌, ℕ, suc, zero, ◌<◌, true, ◌||◌, ◌==◌, List, [], ◌∷◌, length, get_or, map, sym, ap, ◌∙◌, arith, eq-eqb, subst, Some, slice_get}
+use Rattle.std.proofs.Common.{◌≡◌, ℕ, suc, zero, ◌<◌, true, ◌==◌, List, [], ◌∷◌, length, get_or, map, sym, ap, ◌∙◌, arith, eq-eqb, subst, Some, slice_get}
 use Rattle.counting.proofs.Common.{get_or-map, length-map, or_left, or_right, mem, none}
 use Rattle.graph_core.proofs.Common.{Graph, IsPerfect}
 use Rattle.match_core.specs.Common.{IsOf, MatchingValue, edges_of}
 use Rattle.match_core.specs.declared.matching.MatchRow.{MatchRow}
 use Rattle.match_core.proofs.MatchingEdges.{edge_of}
-use Rattle.allowed_edges.specs.PairTables.{IsPerfectWith, PairsValue, SettlesEdges, edge_lists}
+use Rattle.allowed_edges.specs.PairTables.{IsPerfectWith, PairsValue, SettlesEdges}
 
 -- the edge of a row is one of the matching's
 pub edge_held : (rows : List MatchRow) (i : ℕ) (row : MatchRow) (e : ℕ) → slice_get rows i ≡ Some row → row.edge ≡ e → mem (map edge_of rows) e ≡ true

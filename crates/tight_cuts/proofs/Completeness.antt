@@ -1,9 +1,9 @@
 -- The candidates: none twice, each tight if the shores of the first two parts are, and each
 -- edge of a nontrivial tight cut in a candidate's cut.
 use Rattle.std.proofs.Common.{◌≡◌, ℕ, true, refl, sym, ap, ◌∙◌, arith, List, [], ◌∷◌, ◌↔◌, subst, All, fold}
-use Rattle.counting.proofs.Common.{true≢false, not-true, All-map, All-nil, All-head, All-tail, count_member, list_any, Within, mem, Set, complement}
+use Rattle.counting.proofs.Common.{true≢false, not-true, All-nil, All-head, All-tail, count_member, list_any, Within, mem, Set, complement}
 use Rattle.std.specs.List.{AllPairs}
-use Rattle.tight_cuts.specs.Common.{ShoresDiffer, Barrier, Separation, cuts, front_candidates, Origin, Candidate, with_list, candidates, shores_of, IsTightCandidate}
+use Rattle.tight_cuts.specs.Common.{ShoresDiffer, Barrier, Separation, cuts, front_candidates, Origin, Candidate, with_list, candidates, IsTightCandidate}
 use Rattle.barrier_kit.proofs.Common.{cut_edge, barrier_shores-tight, barrier_shores}
 use Rattle.graph_core.proofs.Common.{IsCovered, Graph, size, IsGraph, in_cut, IsTight, IsNontrivial}
 use Rattle.separation_kit.proofs.SeparationFacts.{separation_shores-tight}
@@ -35,9 +35,6 @@ unfolding front_candidates
 front_found g is cov =
     lists_found g Separation is (separation_shores g) (fold (with_list g.order Barrier) [] (barrier_shores g)) (separation_shores-tight g is)
     (lists_found g Barrier is (barrier_shores g) [] (barrier_shores-tight g is cov) (All-nil (IsTightCandidate g)))
-
-pub front_tight : (g : Graph) → IsGraph g → IsCovered g → All (λ s. IsTight g (mem s)) (shores_of (front_candidates g))
-front_tight g is cov = All-map (λ s. IsTight g (mem s)) (λ (c : Candidate). c.shore) (front_candidates g) (λ k d l. (front_found g is cov k d l).tight)
 
 pub candidates_found : (g : Graph) → IsGraph g → IsCovered g → All (IsTightCandidate g) (candidates g)
 unfolding candidates

@@ -107,8 +107,8 @@ module _ (g : Graph) (lim : IsWithinLimits g) (cov : IsCovered g) (e : ℕ) (we 
 
 -- a common shore that is everything but b, or none, says so of each such set
 pub whole_shore : (g : Graph) → IsGraph g → (a b x : ℕ) → Within g.order a → Within g.order b → Within g.order x → (answer : Option (List ℕ)) → IsCommonShore g a b (x, b) answer → ((s : List ℕ) → answer ≡ Some s → (y : ℕ) → Within g.order y → y ≢ b → mem s y ≡ true) → AreWhole g a b x
-whole_shore g is a b x wa wb wx None common full z p v w d = absurd (common.none refl z p)
-whole_shore g is a b x wa wb wx (Some s) common full z p v w d = common_in g is a b (x, b) wa wb wx wb v w (sym ((common.some s refl).1 v w) ∙ full s refl v w d) z p
+whole_shore g isg a b x va vb vx None common full z p v w d = absurd (common.none refl z p)
+whole_shore g isg a b x va vb vx (Some s) common full z p v w d = common_in g isg a b (x, b) va vb vx vb v w (sym ((common.some s refl).1 v w) ∙ full s refl v w d) z p
 
 -- if the sets on either side of x are so, no pair is separated
 pub inseparable : (g : Graph) (e x : ℕ) → AreWhole g (lesser_end g e) (greater_end g e) x → AreWhole g (greater_end g e) (lesser_end g e) x → first_separated g e ≡ None

@@ -244,9 +244,6 @@ leaders_turned g a b e leaders at = record {
   };
 }
 
-pub leads_turned : (g : Graph) (a b : ℕ) (leaders : List ℕ) (x : ℕ) → Leads g a b leaders x → Leads g b a leaders x
-leads_turned g a b leaders x l = record { within = l.within; outside = sym (ap (λ s. s x) (pair_turned a b)) ∙ l.outside; itself = l.itself }
-
 -- the common shore of two pieces is what their pair gives
 pub pair-from_common : (g : Graph) (e : ℕ) (leaders : List ℕ) (x y : ℕ) → IsWithinLimits g → IsCovered g → Within (size g) e → Leads g (lesser_end g e) (greater_end g e) leaders x → Leads g (lesser_end g e) (greater_end g e) leaders y → (answer : Option (List ℕ)) → IsCommonShore g (lesser_end g e) (greater_end g e) (x, y) answer → IsShoreOfPair g e (x, y) answer
 pair-from_common g e leaders x y lim cov we lx ly answer h = record {

@@ -1,7 +1,7 @@
 -- Vertices that edges lying together with e join are on one side of each tight set with e in its
 -- cut. If they are all vertices but the ends of e, no pair is separated at e.
-use Rattle.std.proofs.Common.{◌≡◌, ◌≢◌, ℕ, ◌<◌, Bool, true, false, ◌||◌, ◌&&◌, ◌⊎◌, not, ◌==◌, sym, ap, ◌∙◌, List, [], ◌∷◌, None, inl, inr, subst, eq-eqb, ne_eqb, eqb-true, refl, length}
-use Rattle.counting.proofs.Common.{and_from, both_ways, cases_eq, false_from_ne_true, or_cases, or_left, or_right, or_false, Within, mem, Set, pair_set}
+use Rattle.std.proofs.Common.{◌≡◌, ◌≢◌, ℕ, Bool, true, false, ◌||◌, ◌&&◌, ◌⊎◌, not, ◌==◌, sym, ap, ◌∙◌, List, [], ◌∷◌, None, inl, inr, eq-eqb, ne_eqb, eqb-true, refl}
+use Rattle.counting.proofs.Common.{and_from, both_ways, false_from_ne_true, or_cases, or_left, or_right, or_false, Within, mem, Set, pair_set}
 use Rattle.graph_core.proofs.Common.{Graph, first_end, in_cut, second_end, size, Together, IsTight, has_ends-cases}
 use Rattle.tight_cuts.proofs.EdgeLoop.{ends_between}
 use Rattle.tight_cuts.proofs.FirstPairs.{no_first}

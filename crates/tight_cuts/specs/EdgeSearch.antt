@@ -1,6 +1,6 @@
 -- What the search at one edge keeps in rows, and what it answers.
 -- Stated by: tight_cuts.
-use Rattle.std.specs.Prelude.{◌≡◌, ◌≢◌, ℕ, zero, suc, ◌+◌, ◌<◌, ◌≤◌, ◌^◌, ◌⊎◌, ◌↔◌, false, true, List, [], ◌∷◌, ◌++◌, ◌==◌, Option, Some, None, cond, length, slice_index_or}
+use Rattle.std.specs.Prelude.{◌≡◌, ◌≢◌, ℕ, zero, suc, ◌+◌, ◌<◌, ◌≤◌, ◌^◌, ◌⊎◌, false, true, List, [], ◌∷◌, ◌++◌, ◌==◌, Option, Some, None, cond, length, slice_index_or}
 use Rattle.allowed_edges.specs.PairTables.{AreGrown, PairsValue, SettlesEdges}
 use Rattle.match_core.specs.Common.{IsOf, MatchingValue, edges_of}
 use Rattle.counting.specs.Common.{Within, total, Set, none, pair_set, mem}

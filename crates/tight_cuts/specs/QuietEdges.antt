@@ -1,10 +1,8 @@
 -- What shows that at an edge no pair of vertices is separated.
 -- Stated by: tight_cuts.
-use Rattle.std.specs.Prelude.{◌≡◌, ℕ, ◌+◌, true, Bool, List, None, length}
+use Rattle.std.specs.Prelude.{◌≡◌, ℕ, true}
 use Rattle.counting.specs.Common.{Set}
-use Rattle.graph_core.specs.Common.{Graph, in_cut, size, IsTight}
-use Rattle.match_search.specs.Common.{marks}
-use Rattle.tight_cuts.specs.Candidates.{first_separated}
+use Rattle.graph_core.specs.Common.{Graph, in_cut, IsTight}
 
 -- each tight set with edge e in its cut holds all of x or nothing of it
 abbrev pub IsOneSided : Graph → ℕ → Set → Type 0

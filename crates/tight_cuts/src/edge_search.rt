@@ -5,7 +5,7 @@
 //! least minimum cut of a and the piece of x against b. A pair (x, y) is separated exactly when
 //! S(x) is there and lacks y; S(x) is then the common shore of all that separate it. Hence the
 //! first pair is the first x whose S(x) is there and is not everything but b, with the least y that
-//! S(x) lacks (Picard and Queyranne 1980).
+//! S(x) lacks (Picard and Queyranne 1980). Mostly there is no such x, and two cuts show it.
 ghost use Rattle.std.specs.Prelude.{◌≡◌, ◌≢◌, ℕ, ◌+◌, ◌<◌, ◌≤◌, ◌==◌, ◌&&◌, ◌↔◌, All, not, true, false, length, Some, None, IfNone, IfOk, IfSome};
 ghost use Rattle.counting.specs.Common.{Within, mem, pair_set};
 ghost use Rattle.tight_cuts.specs.Candidates.{first_separated, greater_end, lesser_end};

@@ -13,14 +13,16 @@
 //! What is searched: a graph that is not bipartite and has no cut of a barrier or a separation
 //! has no tight cut at all (`FrontEmpty`). In a bipartite graph floods in the digraph of a
 //! perfect matching decide what an edge gives (`BipartiteShores`). Elsewhere a tight set through an
-//! edge is a union of the edge's pieces beside one of its ends (`Pieces`); over a pair list each
-//! odd set is met at least as often as the list is long, and exactly so often if it is tight
-//! (`PairSums`); so the least minimum cut of the network of the pieces is the intersection of all
-//! tight sets that have a piece (`Networks`), and one cut for each piece decides what the edge
-//! gives (`EdgePieces`). The pair list is made only if a few perfect matchings do not show that no
-//! edge gives anything (`QuietEdges`). `candidates_by_pairs` answers the same by a cut for each
-//! pair of pieces, and only tests call it. One walk over the edges, `add_edge_cuts`, asks any of
-//! the three (the trait `EdgeSearch`).
+//! edge is a union of the edge's pieces beside one of its ends (`Pieces`). A list of perfect
+//! matchings meets each odd set at least as often as it is long, and exactly so often if the set is
+//! tight (`PairSums`). So the least minimum cut of the network of the pieces lies in each tight set
+//! that has a piece (`Networks`). It is tested: if it is tight it is the intersection of all these
+//! sets, and if a perfect matching crosses it twice, that one is listed and the next cut is made.
+//! Two cuts decide whether the edge gives anything, and one for each piece what it gives
+//! (`EdgePieces`). Before that the listed matchings and a few more may show that the edge gives
+//! nothing (`QuietEdges`). `candidates_by_pairs` answers the same by a cut for each pair of pieces,
+//! and only tests call it. One walk over the edges, `add_edge_cuts`, asks any of the three (the
+//! trait `EdgeSearch`).
 //!
 //! `candidates_at` lists the candidates at a partition of the vertices into blocks: those of the
 //! quotient, led back to vertices of the graph (`IsCandidateAt`); `first_at` answers the first.

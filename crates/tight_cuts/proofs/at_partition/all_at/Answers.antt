@@ -1,4 +1,4 @@
-use Rattle.std.proofs.Common.{◌≡◌, List, IsTrue, length, map, ◌∙◌, sym, ap, subst, ◌↔◌}
+use Rattle.std.proofs.Common.{◌≡◌, IsTrue, length, map, ◌∙◌, sym, ap, subst, ◌↔◌}
 use Rattle.counting.proofs.Common.{IfOk-weaker}
 use Rattle.graph_core.proofs.Common.{IsBipartite, IsPartition, quotient}
 use Rattle.tight_cuts.specs.Common.{candidates, candidates_at, lifted_candidate}

@@ -1,5 +1,5 @@
-use Rattle.std.proofs.Common.{◌∙◌, sym, arith, ap, not}
-use Rattle.counting.proofs.Common.{not-false, mem}
+use Rattle.std.proofs.Common.{◌∙◌, sym, arith}
+use Rattle.counting.proofs.Common.{not-false}
 use Rattle.allowed_edges.proofs.PairSteps.{apart_shared, share_some}
 use Rattle.tight_cuts.proofs.tightness.is_to_ask.Goals as goal
 
