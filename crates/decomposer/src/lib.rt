@@ -6,10 +6,10 @@
 //! (`ByFunction`), or any type with an `impl Order`. The tree is a derivation of the graph
 //! (`IsDerivation` of `tree_core`) and exactly one that the order picks (`IsPicked` of
 //! `specs/Picked`), with cuts counted in preorder. `decompose_covered` takes a covered graph of
-//! which the facts are at hand (`Covered` of `graph_facts`), and `decompose_from_first` one of
-//! which the first cut is at hand too. `decompose_with_kinds` and
-//! `decompose_with_kinds_from_first` answer the kinds of the leaves beside the tree, which the
-//! search knows; `tally_of_kinds` counts them.
+//! which the facts are at hand (`Covered` of `graph_facts`). `decompose_with_kinds` answers the
+//! kinds of the leaves beside the tree, which the search knows, and so does
+//! `decompose_with_kinds_from_first` where the first cut is at hand too; `tally_of_kinds` counts
+//! them.
 //!
 //! Stands on `tight_cuts` for the candidates at a partition and on `tree_core` for trees. Source:
 //! Lovász, "Matching structure and the matching lattice" (1987); Lucchesi and Murty, "Perfect
@@ -27,4 +27,4 @@ pub use by_function::{ByFunction, Function};
 pub use counting_leaves::tally_of_kinds;
 pub use decomposition::{TreeWithKinds, decompose_with_kinds, decompose_with_kinds_from_first};
 pub use orders::{NamedOrder, Order, Scripted};
-pub use trees::{Refused, decompose, decompose_covered, decompose_from_first};
+pub use trees::{Refused, decompose, decompose_covered};

@@ -1,17 +1,15 @@
 //! The trees of decompositions, without the kinds of their leaves.
-ghost use Rattle.std.specs.Prelude.{◌≡◌, IfOk, Err, Some};
+ghost use Rattle.std.specs.Prelude.{◌≡◌, IfOk, Err};
 ghost use Rattle.graph_core.specs.Common.{IsCovered, IsReason, reason_of};
-ghost use Rattle.tight_cuts.specs.Common.{candidates, first_shore};
 ghost use Rattle.tree_core.specs.Common.{IsDerivation, shape_of};
-ghost use Rattle.decomposer.specs.Common.{NamedPicks, IsPicked};
+ghost use Rattle.decomposer.specs.Common.{IsPicked};
 
-use crate::decomposition::{decompose_with_kinds, decompose_with_kinds_from_first};
-use crate::orders::{NamedOrder, Order};
+use crate::decomposition::decompose_with_kinds;
+use crate::orders::Order;
 use graph_core::{MultiGraph, Reason};
 use graph_facts::Covered;
 use std::alloc::{AllocError, Global};
 use tree_core::Tree;
-use vset_core::VSet;
 
 /// Why there is no decomposition.
 #[derive(Clone, Copy, PartialEq, Eq)]
@@ -54,17 +52,5 @@ pub fn decompose_covered<O: Order>(
     ensures picked { IfOk result (λ tree. IsPicked (O.picks order.now) c.now (shape_of tree)) }
 {
     let found = decompose_with_kinds(alloc, c, order)?;
-    Ok(found.tree)
-}
-
-/// The tree that `decompose` answers in the order `First`, of a covered graph of which the shore of
-/// the first candidate is at hand. What is known of the graph is not sought again.
-pub fn decompose_from_first(alloc: Global, c: &Covered, cut: VSet) -> Result<Tree, AllocError>
-    requires { first_shore (candidates c.now) ≡ Some cut }
-    ensures derivation { IfOk result (λ tree. IsDerivation c.now (shape_of tree)) }
-    ensures picked { IfOk result
-        (λ tree. IsPicked (NamedPicks NamedOrder.First) c.now (shape_of tree)) }
-{
-    let found = decompose_with_kinds_from_first(alloc, c, cut)?;
     Ok(found.tree)
 }

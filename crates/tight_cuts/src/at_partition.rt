@@ -149,26 +149,6 @@ pub fn first_at(alloc: Global, g: &MultiGraph, p: &Partition) -> Result<FirstAt,
     Ok(found)
 }
 
-/// The candidate that `first_at` answers.
-pub fn first_candidate_at(
-    alloc: Global,
-    g: &MultiGraph,
-    p: &Partition,
-) -> Result<Option<Candidate>, Memory>
-    requires order { p.now.order ≡ g.now.order }
-    requires covered { IsCovered (quotient g.now p.now.blocks) }
-    ensures first { IfOk result
-        (λ found. option_map candidate_of found ≡ first_of (candidates_at g.now p.now.blocks)) }
-    ensures some { IfOk result
-        (λ found. (c : _) → found ≡ Some c → IsCandidateAt g.now p.now.blocks (candidate_of c)) }
-    ensures none { IfOk result (λ found. (found ≡ None) ↔
-        ((x : Set) → IsTightAt g.now p.now.blocks x →
-        IsNontrivial (length p.now.blocks) (blocks_in p.now.blocks x) → ⊥)) }
-{
-    let found = first_at(alloc, g, p)?;
-    Ok(found.candidate)
-}
-
 /// The candidates at the partition into single vertices of a covered graph with its first pairs.
 pub fn root_candidates(alloc: Global, pairs: &FirstPairs) -> Result<CandidateList, Memory>
     ensures list { IfOk result (λ list. list ≡ candidates_at pairs.now (singles pairs.now.order)) }

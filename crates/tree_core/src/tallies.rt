@@ -1,11 +1,9 @@
 //! The kinds of the leaves of a decomposition, and their numbers.
 ghost use Rattle.std.specs.Prelude.{◌≡◌, ◌↔◌, ◌<◌, ◌^◌, length, map, count_by, not, IfOk, IsTrue, All};
 ghost use Rattle.graph_core.specs.Common.{Graph, IsBipartite};
-ghost use Rattle.tree_core.specs.Common.{IsDerivation, leaves, shape_of, AreLeafKinds, IsKindOf, IsLeafKind, IsTally, is_brick, tally_of};
+ghost use Rattle.tree_core.specs.Common.{AreLeafKinds, IsKindOf, IsLeafKind, IsTally, is_brick, tally_of};
 
-use crate::leaf_partitions::leaves;
 use crate::partitions::Partitions;
-use crate::tree::Tree;
 use contraction::{Partition, quotient_graph};
 use graph_core::{MultiGraph, Sides};
 use std::alloc::{AllocError as Memory, Global};
@@ -116,16 +114,4 @@ pub fn count_leaves(alloc: Global, g: &MultiGraph, leaves: &Partitions) -> Resul
 {
     let kinds = leaf_kinds(alloc, g, leaves)?;
     Ok(tallied(&kinds))
-}
-
-/// Counts the leaves of a derivation of `g`.
-pub fn tally_of_tree(alloc: Global, g: &MultiGraph, tree: &Tree) -> Result<Tally, Memory>
-    requires { IsDerivation g.now (shape_of tree.now) }
-    ensures { IfOk result (IsTally g.now (leaves g.now.order (shape_of tree.now))) }
-{
-    g.keeps_limits();
-    let n = g.order();
-    let found = leaves(alloc, tree, n)?;
-    let tally = count_leaves(alloc, g, &found)?;
-    Ok(tally)
 }

@@ -103,31 +103,9 @@ pub fn compare_at(alloc: Global, p: &Place, first: Tree, second: &Tree) -> Resul
     }
 }
 
-/// The moves that turn the first derivation of the graph into the second, in order and with paths
+/// The moves that turn the first derivation of a covered graph into the second, in order and with paths
 /// from the root of the whole tree. Each Switch among them is proper, and each tree between is a
 /// derivation of the graph. There are at most 5 c * c moves for a tree of c cuts.
-pub fn moves_between(
-    alloc: Global,
-    g: &MultiGraph,
-    first: &Tree,
-    second: &Tree,
-) -> Result<Moves, Memory>
-    requires first { IsDerivation g.now (shape_of first.now) }
-    requires second { IsDerivation g.now (shape_of second.now) }
-    ensures through { IfOk result
-        (λ ms. TurnsThrough g.now (shape_of first.now) (moves_of ms) (shape_of second.now)) }
-    ensures script { IfOk result
-        (λ ms. IsProperScript g.now (singles g.now.order) (shape_of first.now) (moves_of ms)
-        (shape_of second.now)) }
-    ensures few { IfOk result
-        (λ ms. length (moves_of ms) ≤
-        5 * (cut_count (shape_of first.now) * cut_count (shape_of first.now))) }
-{
-    let covered = Covered::known(alloc, g)?;
-    moves_between_covered(alloc, &covered, first, second)
-}
-
-/// The moves that `moves_between` answers for a covered graph.
 pub fn moves_between_covered(
     alloc: Global,
     c: &Covered,

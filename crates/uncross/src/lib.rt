@@ -5,9 +5,8 @@
 //! Rotate and Switch of `tree_core`, through derivations alone, and answers the maps of this
 //! script (`specs/LeafMaps` of `tree_core`), which pair the leaves (`IsPairing` of `move_laws`),
 //! each with its partner the same leaf by names of blocks (`IsSameLeaf` of `move_laws`).
-//! `moves_between` answers the script alone. `compare_covered` and `moves_between_covered` answer the
-//! same of a `Covered`. `expose` brings a given shore to the root of a
-//! derivation, and answers the same of its moves.
+//! `compare_covered` answers the same of a `Covered`, and `moves_between_covered` the script alone.
+//! `expose` brings a given shore to the root of a derivation, and answers the same of its moves.
 //!
 //! How: the root shore of the second derivation is exposed in the first, and then the same is
 //! done in the two trees below (`comparing`). If the shore to be exposed crosses the root
@@ -31,6 +30,6 @@ mod places_below;
 mod plans;
 mod turning;
 
-pub use comparing::{Pairing, compare, compare_covered, moves_between, moves_between_covered};
+pub use comparing::{Pairing, compare, compare_covered, moves_between_covered};
 pub use exposing::{Exposed, expose};
 pub use leaf_maps::{LeafMap, LeafMaps};
