@@ -53,8 +53,7 @@ mod quiet_edges;
 mod tightness;
 
 pub use at_partition::{
-    AllAt, FirstAt, candidates_at, first_at, first_of_root, first_root_candidate,
-    root_candidates,
+    AllAt, FirstAt, candidates_at, first_at, first_of_root, first_root_candidate, root_candidates,
 };
 pub use by_pairs::candidates_by_pairs;
 pub use candidate::{Candidate, CandidateList, Origin};
