@@ -33,7 +33,7 @@ fn edges_cut(list: &CandidateList, g: &MultiGraph) -> u32
     g.size()
 }
 
-// Adds what the edges of any graph give. Nothing is made for it if each is in the cut of a candidate.
+// Adds what the edges of any graph give. Nothing is made if each is in the cut of a candidate.
 fn add_network_cuts(alloc: Global, c: &Covered, list: &mut CandidateList) -> Result<(), Memory>
     requires { list.old ≡ front_candidates c.now }
     ensures { OnOk result (list.new ≡ candidates c.now) }

@@ -103,9 +103,9 @@ pub fn compare_at(alloc: Global, p: &Place, first: Tree, second: &Tree) -> Resul
     }
 }
 
-/// The moves that turn the first derivation of a covered graph into the second, in order and with paths
-/// from the root of the whole tree. Each Switch among them is proper, and each tree between is a
-/// derivation of the graph. There are at most 5 c * c moves for a tree of c cuts.
+/// The moves that turn the first derivation of a covered graph into the second, in order and with
+/// paths from the root of the whole tree. Each Switch among them is proper, and each tree between
+/// is a derivation of the graph. There are at most 5 c * c moves for a tree of c cuts.
 pub fn moves_between_covered(
     alloc: Global,
     c: &Covered,
