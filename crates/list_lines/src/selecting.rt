@@ -1,16 +1,18 @@
 //! Whether a graph has a property.
-ghost use Rattle.std.specs.Prelude.{◌≡◌, ◌↔◌, Some, IfOk, IsTrue};
+ghost use Rattle.std.specs.Prelude.{◌≡◌, ◌↔◌, true, Some, IfOk, IsTrue};
 ghost use Rattle.graph_core.specs.Common.{IsBicritical};
-ghost use Rattle.list_lines.specs.Selecting.{Decides, IsSelected, TellsKind, TellsTally};
+ghost use Rattle.list_lines.specs.Selecting.{Decides, IsBicriticalWithEdge, IsSelected, TellsKind, TellsTally};
 
 use crate::leaf_counts::counted;
 use crate::query::Property;
 use graph_core::{Kind, MultiGraph};
 use graph_facts::Covered;
 use leaf_kinds::kind_of;
+use match_core::perfect_without;
 use separation_kit::{FirstPairs, first_pairs_law, not_bicritical};
 use std::alloc::{AllocError as Memory, Global};
 use tree_core::Tally;
+use vset_core::VSet;
 
 /// The line itself if its graph has the property, and nothing if it has not.
 pub fn selected(
@@ -66,6 +68,14 @@ fn is_critical(alloc: Global, g: &MultiGraph) -> Result<bool, Memory>
     }
 }
 
+// Whether it is seen that the graph is not bicritical, since it has no perfect matching.
+fn is_unmatched(alloc: Global, g: &MultiGraph) -> Result<bool, Memory>
+    ensures { IfOk result (λ unmatched. unmatched ≡ true → IsBicriticalWithEdge g.now → ⊥) }
+{
+    let found = perfect_without(alloc, g, VSet::empty())?;
+    Ok(found.is_none())
+}
+
 // Whether the graph is bicritical. A perfect matching without the ends of an edge makes one with
 // the edge.
 fn is_bicritical(alloc: Global, g: &MultiGraph) -> Result<bool, Memory>
@@ -75,7 +85,9 @@ fn is_bicritical(alloc: Global, g: &MultiGraph) -> Result<bool, Memory>
     if g.size() == 0 {
         return Ok(false);
     }
-    if is_critical(alloc, g)? {
+    if is_unmatched(alloc, g)? {
+        Ok(false)
+    } else if is_critical(alloc, g)? {
         Ok(true)
     } else {
         Ok(false)
