@@ -1,17 +1,16 @@
 -- A matching covered graph has a derivation, whatever rule picks the cuts.
 -- Idea: if no candidate is left, the node is a leaf; else the picked candidate is a cut, and
 -- both partitions below it have fewer blocks.
-use Rattle.std.proofs.Common.{[], ◌≡◌, ℕ, zero, suc, ◌+◌, ◌<◌, List, ◌∷◌, length, get_or, refl, ap, arith}
+use Rattle.std.proofs.Common.{[], ◌≡◌, ℕ, zero, suc, ◌+◌, ◌<◌, ◌≤◌, List, ◌∷◌, length, get_or, refl, ap, arith}
 use Rattle.std.proofs.lemmas.Option.{slice_get-get_or}
-use Rattle.counting.proofs.Common.{count_complement, mem}
-use Rattle.decomposer.proofs.Picking.{blocks-beside, blocks-inside, cut-from_candidate}
+use Rattle.decomposer.proofs.Picking.{cut-from_candidate}
 use Rattle.decomposer.specs.Common.{NamedPicks, IsPicked, IsPickedAt}
 use Rattle.decomposer.specs.declared.orders.NamedOrder.TheVariants.{First}
-use Rattle.graph_core.proofs.Common.{singles-partition, IsCovered, Graph, IsGraph, IsPartition, singles, quotient, blocks_in}
+use Rattle.graph_core.proofs.Common.{singles-partition, IsCovered, Graph, IsGraph, IsPartition, singles, quotient}
 use Rattle.theorems.specs.Derivations.{ChoosesPlaces, PicksChosen}
 use Rattle.tight_cuts.proofs.PartitionCandidates.{found-at, none-at}
 use Rattle.tight_cuts.specs.Common.{Candidate, candidates_at}
-use Rattle.tree_core.proofs.Common.{kept-covers, kept-length, kept-partition, merged-covers, merged-length, merged-partition, root-covered, shore-cut, IsCutAt, IsDerivation, IsDerivationAt, IsLeafAt, IsTightShore, kept_at, merged_at, Shape, cut, cut_count, leaf}
+use Rattle.tree_core.proofs.Common.{blocks-below, kept-covers, kept-length, kept-partition, merged-covers, merged-length, merged-partition, root-covered, shore-cut, IsCutAt, IsDerivation, IsDerivationAt, IsLeafAt, IsTightShore, kept_at, merged_at, Shape, cut, cut_count, leaf}
 
 -- of each nonempty list, whatever the number, the rule picks a place of the list
 abbrev pub PicksSome : (List Candidate → ℕ → ℕ → Type 0) → Type 0
@@ -24,18 +23,14 @@ uncut g p is pp covered none = (none-at g p is pp covered).0 none
 
 -- the partitions below a cut have fewer blocks
 module _ (g : Graph) (p : List (List ℕ)) (x : List ℕ) (is : IsGraph g) (pp : IsPartition g.order p) (cuts : IsCutAt g p x) where
+  room : (4 ≤ length (kept_at g.order p x)) × (4 ≤ length (merged_at g.order p x)) × (length (kept_at g.order p x) + length (merged_at g.order p x) ≡ length p + 2)
+  room = blocks-below g p x _ _ cuts (kept-length g p x is pp cuts) (merged-length g p x is pp cuts)
+
   pub kept-fewer : length (kept_at g.order p x) < length p
-  kept-fewer =
-      let a = kept-length g p x is pp cuts in
-      let b = blocks-beside g p x cuts in
-      let s = count_complement (length p) (blocks_in p (mem x)) in
-      omega arith
+  kept-fewer = let some = room.1 in let sum = room.2 in omega arith
 
   pub merged-fewer : length (merged_at g.order p x) < length p
-  merged-fewer =
-      let a = merged-length g p x is pp cuts in
-      let b = blocks-inside g p x cuts in
-      omega arith
+  merged-fewer = let some = room.0 in let sum = room.2 in omega arith
 
 module _ (picks : List Candidate → ℕ → ℕ → Type 0) (some : PicksSome picks) (g : Graph) (is : IsGraph g) where
   pub picked_at : (fuel : ℕ) (p : List (List ℕ)) (k : ℕ) → IsPartition g.order p → IsCovered (quotient g p) → length p < fuel → (t : Shape) × IsDerivationAt g p t × IsPickedAt picks g p k t
