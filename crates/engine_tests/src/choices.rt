@@ -1,15 +1,12 @@
-//! Decompositions in several orders, and the graphs of their leaves, for the tests that need a
-//! derivation.
+//! Decompositions in several orders, for the tests that need a derivation.
 ghost use Rattle.std.specs.Prelude.{◌≡◌, ◌<◌, ℕ, length, IfOk, Some};
 ghost use Rattle.tree_core.specs.Common.{IsDerivation, shape_of};
 
-use contraction::{Contracted, quotient};
 use decomposer::{ByFunction, NamedOrder, Refused, Scripted, decompose};
 use graph_core::MultiGraph;
 use std::alloc::{AllocError as Memory, Global};
 use tight_cuts::Candidate;
-use tree_core::laws::derivation_stands;
-use tree_core::{Tree, leaves};
+use tree_core::Tree;
 
 /// An order of choice.
 #[derive(Clone, Copy)]
@@ -59,32 +56,4 @@ pub fn derived(alloc: Global, g: &MultiGraph, choice: Choice) -> Result<Option<T
         Err(Refused::NotCovered(_)) => Ok(None),
         Err(Refused::Memory) => Err(Memory),
     }
-}
-
-/// The graphs of the leaves of a decomposition; none if the graph is refused.
-pub fn leaf_graphs(
-    alloc: Global,
-    g: &MultiGraph,
-    choice: Choice,
-) -> Result<Vec<Contracted>, Memory> {
-    match derived(alloc, g, choice)? {
-        Some(tree) => graphs_of_leaves(alloc, g, &tree),
-        None => Ok(Vec::new(alloc)),
-    }
-}
-
-// The graphs of the leaves of a derivation.
-fn graphs_of_leaves(alloc: Global, g: &MultiGraph, tree: &Tree) -> Result<Vec<Contracted>, Memory>
-    requires { IsDerivation g.now (shape_of tree.now) }
-{
-    derivation_stands();
-    let partitions = leaves(alloc, tree, g.order())?;
-    let mut graphs = Vec::new(alloc);
-    for i in 0..partitions.len() {
-        let leaf = partitions.get(i);
-        if leaf.order() == g.order() {
-            graphs.push(quotient(alloc, g, leaf)?)?;
-        }
-    }
-    Ok(graphs)
 }

@@ -1,56 +1,8 @@
-//! Generated graphs and the leaves of their decomposition: the quick tests beside the plain way by
-//! pairs, and their ear lists.
-use crate::choices::{FIRST, leaf_graphs};
+//! Generated graphs: their ear lists, and the table of pairs of a large one.
 use allowed_edges::together;
 use ear_core::{EarJudgement, build_ears, check_ears};
-use graph_core::MultiGraph;
 use grow_gen::grow;
-use plain_graph::{is_bipartite, is_covered};
-use quick_kinds::{quick_brace, quick_brick};
 use std::alloc::{AllocError as Memory, Global};
-use tight_cuts::candidates_by_pairs;
-
-// Whether the graph is covered, and the quick test for its sort finds a nontrivial tight cut if and
-// only if the plain way by pairs does, which asks no quick test.
-fn agrees(alloc: Global, g: &MultiGraph) -> Result<bool, Memory> {
-    if !is_covered(alloc, g)? {
-        return Ok(false);
-    }
-    let is_whole = candidates_by_pairs(alloc, g)?.is_empty();
-    if is_bipartite(alloc, g)? {
-        if g.order() < 4 {
-            return Ok(is_whole);
-        }
-        return Ok(quick_brace(alloc, g)? == is_whole);
-    }
-    Ok(quick_brick(alloc, g)?.is_none() == is_whole)
-}
-
-// Whether each of the leaves of the graph's decomposition, as many as asked for, agrees.
-fn leaves_agree(alloc: Global, g: &MultiGraph, many: usize) -> Result<bool, Memory> {
-    let pieces = leaf_graphs(alloc, g, FIRST)?;
-    for piece in &pieces {
-        if !agrees(alloc, piece.graph())? {
-            return Ok(false);
-        }
-    }
-    Ok(pieces.len() == many)
-}
-
-fn number_agrees(alloc: Global, number: u64) -> Result<bool, Memory> {
-    let g = grow(alloc, number, 6)?;
-    Ok(agrees(alloc, &g)? && leaves_agree(alloc, &g, 6)?)
-}
-
-#[test]
-fn quick_tests_agree_with_the_way_by_pairs(rt: HostRuntime) -> Result<(), Memory> {
-    let mut agree = true;
-    for number in 1..21u64 {
-        agree = agree && number_agrees(rt.alloc(), number)?;
-    }
-    assert!(rt; agree);
-    Ok(())
-}
 
 // Whether the ear list that is built of a grown graph is accepted.
 fn ears_are_accepted(alloc: Global, number: u64) -> Result<bool, Memory> {

@@ -21,22 +21,16 @@
 //! `worked`: each call of `barrier_kit`, `separation_kit` and `quick_kinds` on graphs of the
 //! literature.
 //!
-//! `grown`: on generated graphs and on the leaves of their decomposition the quick tests of
-//! `quick_kinds` agree with the plain way by pairs, the ear lists that are built are accepted,
-//! and the table of pairs of a large graph ends.
+//! `grown`: the ear lists that are built of generated graphs are accepted, and the table of pairs
+//! of a large graph ends.
 //!
-//! `quick_lists`: on worked and generated graphs and their leaves, wheels, prisms and Möbius
-//! ladders `tight_cuts::candidates` answers what the plain search by pairs does, and
-//! `first_candidate` the first of it.
+//! `enumerated`: `quick_brace` and `quick_brick` find no nontrivial tight cut if and only if going
+//! through all perfect matchings and all odd sets finds none, on all matching covered simple graphs
+//! of 4 and 6 vertices, all bipartite ones of 8 vertices but the cycle, and some others of 8.
+//! `numbered` and `shapes` make graphs. A test that must find something says how much it found.
 //!
-//! Whole families of graphs on which two searches must agree. `enumerated`: `quick_brace` and
-//! `quick_brick` find no nontrivial tight cut if and only if going through all perfect matchings
-//! and all odd sets finds none, on all matching covered simple graphs of 4 and 6 vertices, all
-//! bipartite ones of 8 vertices but the cycle, and some others of 8. `by_pairs`: `candidates` and
-//! `first_candidate` answer what the plain search by pairs does, on generated graphs, bipartite
-//! cubic graphs, and barriers and separations with several parts. Both searches begin with the cuts
-//! of barriers and separations, by the same calls; they differ in the search at the edges.
-//! `numbered` and `shapes` make the graphs. A test that must find something says how much it found.
+//! `candidate_counts`: how many candidates bipartite cubic graphs have, barriers with several odd
+//! parts, and pairs of vertices with several parts.
 //!
 //! `compared`: two derivations of the cycle of eight are compared, the moves lead from the one to
 //! the other, and a shore is exposed. `worked_pairings`: all moves and all maps of the worked pairs
@@ -49,7 +43,7 @@
 #[cfg(test)]
 mod built_trees;
 #[cfg(test)]
-mod by_pairs;
+mod candidate_counts;
 #[cfg(test)]
 mod choices;
 #[cfg(test)]
@@ -86,8 +80,6 @@ mod orders;
 mod pairs;
 #[cfg(test)]
 mod premises;
-#[cfg(test)]
-mod quick_lists;
 #[cfg(test)]
 mod quotients;
 #[cfg(test)]

@@ -20,9 +20,8 @@
 //! sets, and if a perfect matching crosses it twice, that one is listed and the next cut is made.
 //! Two cuts decide whether the edge gives anything, and one for each piece what it gives
 //! (`EdgePieces`). Before that the listed matchings and a few more may show that the edge gives
-//! nothing (`QuietEdges`). `candidates_by_pairs` answers the same by a cut for each pair of pieces,
-//! and only tests call it. One walk over the edges, `add_edge_cuts`, asks any of the three (the
-//! trait `EdgeSearch`).
+//! nothing (`QuietEdges`). One walk over the edges, `add_edge_cuts`, asks either search (the trait
+//! `EdgeSearch`).
 //!
 //! `candidates_at` lists the candidates at a partition of the vertices into blocks: those of the
 //! quotient, led back to vertices of the graph (`IsCandidateAt`); `first_at` answers the first.
@@ -38,7 +37,6 @@
 
 mod at_partition;
 mod bipartite;
-mod by_pairs;
 mod candidate;
 mod edge_cuts;
 mod edge_search;
@@ -55,7 +53,6 @@ mod tightness;
 pub use at_partition::{
     AllAt, FirstAt, candidates_at, first_at, first_of_root, first_root_candidate, root_candidates,
 };
-pub use by_pairs::candidates_by_pairs;
 pub use candidate::{Candidate, CandidateList, Origin};
 pub use finder::{candidates, find_any, first_candidate, first_cut};
 pub use tightness::{Tightness, is_tight};

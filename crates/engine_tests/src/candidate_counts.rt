@@ -1,40 +1,27 @@
-//! The candidates beside those of the plain search by pairs: the same list in the same order, and
-//! its first.
+//! How many candidates graphs have of which the tight cuts are known.
 
 use crate::shapes::{TWO_K33, chordal_ring, pages, three_parts};
 use graph_core::MultiGraph;
 use graph_facts::Covered;
-use grow_gen::grow;
 use plain_graph::{graph_with, is_covered};
 use separation_kit::FirstPairs;
 use std::alloc::{AllocError as Memory, Global};
 use std::test::Fail;
-use tight_cuts::{candidates, candidates_by_pairs, first_candidate};
+use tight_cuts::{candidates, first_candidate};
 
-// The number of candidates; none if the graph is not covered, or the list or its first is not that
-// of the plain search.
-fn agreed(alloc: Global, g: &MultiGraph) -> Result<Option<usize>, Memory> {
+// The number of candidates; none if the graph is not covered, or `first_candidate` answers another
+// one than the first of them.
+fn candidates_of(alloc: Global, g: &MultiGraph) -> Result<Option<usize>, Memory> {
     if !is_covered(alloc, g)? {
         return Ok(None);
     }
-    let plain = candidates_by_pairs(alloc, g)?;
-    let quick = candidates(alloc, g)?;
+    let list = candidates(alloc, g)?;
     let covered = Covered::known(alloc, g)?;
     let first = first_candidate(alloc, &FirstPairs::of(&covered))?;
-    if quick.as_slice() == plain.as_slice() && first == plain.as_slice().first().copied() {
-        return Ok(Some(plain.len()));
+    if first == list.as_slice().first().copied() {
+        return Ok(Some(list.len()));
     }
     Ok(None)
-}
-
-#[test]
-fn grown_graphs(rt: HostRuntime) -> Result<(), Memory> {
-    for number in 11..21u64 {
-        let g = grow(rt.alloc(), number, 5)?;
-        let many = agreed(rt.alloc(), &g)?;
-        assert!(rt; many.is_some() && many != Some(0));
-    }
-    Ok(())
 }
 
 // Half the number of vertices, the length of a chord, and the number of candidates.
@@ -54,10 +41,10 @@ fn bipartite_cubic_graphs(rt: HostRuntime) -> Result<(), Fail> {
     for (half, jump, many) in &RINGS {
         assert!(rt; 3 <= *half && *half <= 50 && *jump <= 50);
         let g = chordal_ring(rt.alloc(), *half, *jump)?;
-        assert!(rt; agreed(rt.alloc(), &g)? == Some(*many));
+        assert!(rt; candidates_of(rt.alloc(), &g)? == Some(*many));
     }
     let spliced = graph_with(rt.alloc(), 10, &TWO_K33)?;
-    assert!(rt; agreed(rt.alloc(), &spliced)? == Some(1));
+    assert!(rt; candidates_of(rt.alloc(), &spliced)? == Some(1));
     Ok(())
 }
 
@@ -70,7 +57,7 @@ fn barriers_of_three_with_three_odd_parts(rt: HostRuntime) -> Result<(), Fail> {
     for many in &PARTS {
         assert!(rt; fives <= 3);
         let g = three_parts(rt.alloc(), fives)?;
-        assert!(rt; agreed(rt.alloc(), &g)? == Some(*many));
+        assert!(rt; candidates_of(rt.alloc(), &g)? == Some(*many));
         fives += 1;
     }
     Ok(())
@@ -84,9 +71,9 @@ fn pairs_with_several_parts(rt: HostRuntime) -> Result<(), Fail> {
     for (pages_in, many) in &PAGES {
         assert!(rt; *pages_in <= 50);
         let with_spine = pages(rt.alloc(), *pages_in, true)?;
-        assert!(rt; agreed(rt.alloc(), &with_spine)? == Some(*many));
+        assert!(rt; candidates_of(rt.alloc(), &with_spine)? == Some(*many));
         let without = pages(rt.alloc(), *pages_in, false)?;
-        assert!(rt; agreed(rt.alloc(), &without)? == Some(*many));
+        assert!(rt; candidates_of(rt.alloc(), &without)? == Some(*many));
     }
     Ok(())
 }
