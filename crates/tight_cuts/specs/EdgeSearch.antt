@@ -94,11 +94,6 @@ pub record IsCommonShore (g : Graph) (a b : ℕ) (k : ℕ × ℕ) (answer : Opti
 abbrev pub AreWhole : Graph → (a b : ℕ) → ℕ → Type 0
 AreWhole g a b x = (z : Set) → SeparatesTightly g a b (x, b) z → (v : ℕ) → Within g.order v → v ≢ b → z v ≡ true
 
--- what a pair gives at edge e: the common shore if the pair is separated, and nothing if it is not
-pub record IsShoreOfPair (g : Graph) (e : ℕ) (k : ℕ × ℕ) (answer : Option (List ℕ)) : Type 0 where
-  pub some : (s : List ℕ) → answer ≡ Some s → (is_separated g (lesser_end g e) (greater_end g e) k ≡ true) × ((v : ℕ) → Within g.order v → mem s v ≡ common_shore g (lesser_end g e) (greater_end g e) k v)
-  pub none : answer ≡ None → is_separated g (lesser_end g e) (greater_end g e) k ≡ false
-
 -- what edge e gives: the common shore of the first pair that is separated, and nothing if there is
 -- none
 pub record IsShoreOfEdge (g : Graph) (e : ℕ) (answer : Option (List ℕ)) : Type 0 where

@@ -35,7 +35,7 @@
 --   where x is in s: u in place of x
 -- Stated by: tree_core, move_laws, tree_check, uncross, move_text, bench_tasks, theorems.
 -- Rests on it: report_text, bench_outcomes, bench_reports, bench_top.
-use Rattle.std.specs.Prelude.{◌≡◌, ℕ, Bool, true, List, [], ◌∷◌, ◌&&◌, not, cond, Option, Some, None, option_map, option_and_then, if◌then◌else◌}
+use Rattle.std.specs.Prelude.{◌≡◌, ℕ, Bool, true, List, [], ◌∷◌, ◌&&◌, not, cond, Option, Some, None, option_map, if◌then◌else◌}
 use Rattle.counting.specs.Common.{Within, Set, union, meet, minus, mem, rising_list, is_subset, is_apart, IsRisingIn}
 use Rattle.graph_core.specs.Common.{Graph, place, complement_of, IsUnion}
 use Rattle.tree_core.specs.Shapes.{Shape, leaf, cut}
@@ -175,11 +175,6 @@ switch_result n path u v t = result_at (switch_result_at n u v) path t
 abbrev pub move_result : ℕ → Shape → PlainMove → Option Shape
 move_result n t (rotate_at path) = rotate_result path t
 move_result n t (switch_at path u v) = switch_result n path u v t
-
--- what a script makes of a tree: its moves applied in order
-abbrev pub script_result : ℕ → Shape → List PlainMove → Option Shape
-script_result n s [] = Some s
-script_result n s (m ∷ ms) = option_and_then (λ t. script_result n t ms) (move_result n s m)
 
 -- the script turns s into t, and each tree that it makes is a derivation of g
 abbrev pub TurnsThrough : Graph → Shape → List PlainMove → Shape → Type 0
