@@ -1,4 +1,4 @@
-use Rattle.std.proofs.Common.{rules, ◌≡◌, ◌<◌, length, map, refl, subst, sym, ℕ, slice_set, true}
+use Rattle.std.proofs.Common.{rules, ◌≡◌, ◌<◌, length, map, refl, subst, sym, ℕ, slice_set, true, arith}
 use Rattle.std.proofs.Math.Path.{fun_ext}
 use Rattle.counting.proofs.Common.{Set, singleton}
 use Rattle.match_search.specs.Common.{marks}
@@ -37,12 +37,4 @@ returns c =
       first_stage = first-stage g c.keeps_limits.ensures.multigraph 1 c.in_ok-kept.ensures.edge;
       steps = subst (λ (f : Set). AreSteps g f (map step_of steps)) (fun_ext same) c.in_ok-steps.ensures.steps;
     } in
-    record {
-      ears = ears;
-      first = refl;
-      fits = list-fits g c.keeps_limits.ensures.multigraph.ends list ears;
-      filled = list-filled g list ears;
-      unrefinable = subst (λ (f : Set). AreNeeded g f (map step_of steps)) (fun_ext same) c.in_ok-steps.ensures.needed;
-      singles = subst (λ (f : Set). AreForced g f (map step_of steps)) (fun_ext same) c.in_ok-steps.ensures.forced;
-      single = c.in_ok-steps.ensures.single;
-    }
+    search (rules, list-fits g c.keeps_limits.ensures.multigraph.ends list ears, list-filled g list ears, fun_ext same)

@@ -10,9 +10,7 @@ use Rattle.ear_core.proofs.Stepping.{all-on, stage-there, mates-there, fewer-off
 use Rattle.ear_core.proofs.building.steps_from.Goals as goal
 
 pub mark_step-requires-clause-second : goal.mark_step-requires-clause-second
-mark_step-requires-clause-second c =
-    let step = c.in_ok-step.step in
-    subst (λ n. IfSome step.second (λ ear. All (Within n) ear.edges)) (sym c.size.ensures.is) (second_fits c.args.g.now.order (size c.args.g.now) step.first step.second c.in_ok-step.ensures.fits)
+mark_step-requires-clause-second c = grind (arith, second_fits c.args.g.now.order (size c.args.g.now))
 
 pub stages-preserved : goal.stages-preserved
 stages-preserved c =
@@ -60,11 +58,7 @@ returns-clause-steps c =
     (c.stages.invariant.so_far [] (all-on g c.keeps_limits.ensures.multigraph.ends c.requires.covered f c.stages.invariant.stage nothing))
 
 pub returns-clause-needed : goal.returns-clause-needed
-returns-clause-needed c =
-    let g = c.args.g.now in
-    subst (λ (steps : List PlainStep). AreNeeded g (marks c.args.mark.now.items) steps) (append-nil (map step_of c.stages.steps)) (c.stages.invariant.needed [] tt)
+returns-clause-needed c = grind (arith, append-nil (map step_of c.stages.steps))
 
 pub returns-clause-forced : goal.returns-clause-forced
-returns-clause-forced c =
-    let g = c.args.g.now in
-    subst (λ (steps : List PlainStep). AreForced g (marks c.args.mark.now.items) steps) (append-nil (map step_of c.stages.steps)) (c.stages.invariant.forced [] tt)
+returns-clause-forced c = grind (arith, append-nil (map step_of c.stages.steps))
