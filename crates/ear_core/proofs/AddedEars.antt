@@ -1,7 +1,7 @@
 -- What does a stage with an ear match? The odd edges of an ear meet each of its vertices once,
 -- and the even ones each but its two ends; so a perfect matching of the stage with the even edges
 -- is one of the new stage, and only the odd edges are left to ask.
-use Rattle.std.proofs.Common.{◌≡◌, ℕ, ◌+◌, ◌≤◌, Bool, true, false, ◌==◌, refl, sym, ap, ◌∙◌, arith, ◌||◌, eq-eqb, ne_eqb, ◌⊎◌, inl, inr, subst, ◌++◌, List}
+use Rattle.std.proofs.Common.{◌≡◌, ℕ, ◌+◌, ◌≤◌, Bool, true, false, ◌==◌, refl, sym, ap, ◌∙◌, arith, ◌||◌, eq-eqb, ne_eqb, ◌⊎◌, inl, inr, subst, ◌++◌, List, rules}
 use Rattle.counting.proofs.Common.{cases_eq, cases_Bool, both_ways, true≢false, false_from_ne_true, or_left, or_right, or_parts, or_cases, or_from, times_mem, bit, Within, mem, times, Set, none, pair_set, union}
 use Rattle.ear_core.specs.Common.{trail, last_vertex, IsEar, odds, evens, IsNearlyStage, is_met, adjacent_by, IsPerfectOf, IsPerfectOff, with_edges}
 use Rattle.graph_core.proofs.Common.{ends_of, edge_at, ends_le_degree, Walk-join, Walk-back, Graph, size, first_end, second_end, IsGraph, degree, Walk}
@@ -14,57 +14,31 @@ module _ (g : Graph) (f : Set) (v : ℕ) (es : List ℕ) (ear : IsEar g f v es) 
   unfolding ends_of
   new-met w t =
       let e = edge_at g (with_edges f es) w (met-some g (with_edges f es) w t) in
-      elim (or_cases (f e.0) (mem es e.0) e.2) [
-        | inl x ↦ inl (some-met g f w (let a = ends_le_degree g f e.0 w e.1 x in let b = meets (first_end g e.0) (second_end g e.0) w e.3.0 e.3.1 in omega (arith, has_end e.0 w)))
-        | inr x ↦ inr (trail_has g v es ear.follow e.0 w x (let b = meets (first_end g e.0) (second_end g e.0) w e.3.0 e.3.1 in omega (arith, has_end e.0 w)))
-      ]
+      grind (arith, or_cases, some-met, ends_le_degree, meets, has_end, trail_has)
     where
       has_end : (e w : ℕ) → ends_of g e w ≡ bit (first_end g e == w) + bit (second_end g e == w)
       has_end e w = refl
 
       meets : (a b w y : ℕ) → ((a ≡ w) × (b ≡ y)) ⊎ ((a ≡ y) × (b ≡ w)) → 1 ≤ bit (a == w) + bit (b == w)
-      meets a b w y h = elim h [
-        | inl p ↦ let x = ap bit (eq-eqb a w p.0) in omega arith
-        | inr p ↦ let x = ap bit (eq-eqb b w p.1) in omega arith
-      ]
+      meets a b w y h = grind arith
 
   one_trail : (w : ℕ) → times (trail g v es) w ≤ 1
   one_trail w = ear.once w
 
   -- the odd edges of the ear, and the even ones, at each vertex
   pub odds_at : (w : ℕ) → degree g (mem (odds es)) w ≡ times (trail g v es) w
-  odds_at w = mem_degree g (odds es) w (λ e m. edges-within g v es ear.follow e (mem_odds es e m))
-      (λ e. let a = times_ends g (odds es) e in let b = odds_ends g v es (first_end g e) ear.follow ear.odd in let c = one_trail (first_end g e) in omega arith) ∙ odds_ends g v es w ear.follow ear.odd
+  odds_at w = grind (arith, mem_degree g (odds es) w, edges-within g v es ear.follow, mem_odds es, times_ends g (odds es), odds_ends g v es, one_trail, odds_ends g v es w ear.follow ear.odd)
 
   pub evens_at : (w : ℕ) → degree g (mem (evens es)) w + (bit (v == w) + bit (last_vertex g v es == w)) ≡ times (trail g v es) w
-  evens_at w =
-      let d = mem_degree g (evens es) w (λ e m. edges-within g v es ear.follow e (mem_evens es e m))
-      (λ e. let a = times_ends g (evens es) e in let b = evens_ends g v es (first_end g e) ear.follow ear.odd in let c = one_trail (first_end g e) in omega arith) in
-      let e = evens_ends g v es w ear.follow ear.odd in omega arith
+  evens_at w = grind (arith, mem_degree g (evens es) w, edges-within g v es ear.follow, mem_evens es, times_ends g (evens es), evens_ends g v es, one_trail, evens_ends g v es w ear.follow ear.odd)
 
   -- a vertex of f is off the ear, or one of its ends
   on_f : (w : ℕ) → is_met g f w ≡ true → (times (trail g v es) w ≡ 0) ⊎ ((v ≡ w) ⊎ (last_vertex g v es ≡ w))
-  on_f w t = elim (cases_eq v w) [
-    | inl a ↦ inr (inl a)
-    | inr a ↦ elim (cases_eq (last_vertex g v es) w) [
-      | inl b ↦ inr (inr b)
-      | inr b ↦ elim (cases_eq (times (trail g v es) w) 0) [
-        | inl z ↦ inl z
-        | inr z ↦ absurd (both_ways (is_met g f w) (ear.inner w (times_mem (trail g v es) w (omega arith)) (λ e. a (sym e)) (λ e. b (sym e))) t)
-      ]
-    ]
-  ]
+  on_f w t = grind (arith, cases_eq v w, cases_eq (last_vertex g v es) w, cases_eq (times (trail g v es) w) 0, both_ways (is_met g f w), times_mem (trail g v es) w)
 
   -- a new vertex is on the ear, and no end
   off_f : (w : ℕ) → is_met g f w ≡ false → is_met g (with_edges f es) w ≡ true → (times (trail g v es) w ≡ 1) × (bit (v == w) ≡ 0) × (bit (last_vertex g v es == w) ≡ 0)
-  off_f w o t = elim (new-met w t) [
-    | inl x ↦ absurd (both_ways (is_met g f w) o x)
-    | inr x ↦ (
-      (let a = mem_times (trail g v es) w x in let b = one_trail w in omega arith),
-      ap bit (ne_eqb v w (λ e. both_ways (is_met g f w) o (subst (λ k. is_met g f k ≡ true) e ear.start))),
-      ap bit (ne_eqb (last_vertex g v es) w (λ e. both_ways (is_met g f w) o (subst (λ k. is_met g f k ≡ true) e ear.end))),
-    )
-  ]
+  off_f w o t = grind (arith, new-met w t, both_ways (is_met g f w) o, mem_times (trail g v es) w, one_trail w, ne_eqb v w, ne_eqb (last_vertex g v es) w)
 
   not_new : (q : Set) → ((e : ℕ) → Within (size g) e → q e ≡ true → f e ≡ true) → (e : ℕ) → Within (size g) e → q e ≡ true → mem es e ≡ false
   not_new q part e w t = false_from_ne_true (mem es e) (λ m. both_ways (f e) (ear.new e m) (part e w t))
@@ -87,13 +61,7 @@ module _ (g : Graph) (f : Set) (v : ℕ) (es : List ℕ) (ear : IsEar g f v es) 
       sum = some_degree q (evens es) (mem_evens es) p.part
 
       none_even : (w : ℕ) → is_met g f w ≡ true → degree g (mem (evens es)) w ≡ 0
-      none_even w t =
-          let a = evens_at w in
-          let b = one_trail w in
-          elim (on_f w t) [
-            | inl z ↦ omega arith
-            | inr z ↦ elim z [ inl e ↦ let c = ap bit (eq-eqb v w e) in omega arith | inr e ↦ let c = ap bit (eq-eqb (last_vertex g v es) w e) in omega arith ]
-          ]
+      none_even w t = grind (arith, evens_at w, one_trail w, on_f w t, eq-eqb v w, eq-eqb (last_vertex g v es) w)
 
       once : (w : ℕ) → Within g.order w → is_met g (with_edges f es) w ≡ true → r w ≡ false → degree g (with_edges q (evens es)) w ≡ 1
       once w ww t o = let s = sum w in elim (cases_Bool (is_met g f w)) [
@@ -112,24 +80,13 @@ module _ (g : Graph) (f : Set) (v : ℕ) (es : List ℕ) (ear : IsEar g f v es) 
       sum = some_degree q (odds es) (mem_odds es) p.part
 
       end_of : (w : ℕ) → Within g.order w → pair_set v (last_vertex g v es) w ≡ true → (degree g q w ≡ 0) × (times (trail g v es) w ≡ 1)
-      end_of w ww t = (
-        p.away w ww (or_left (pair_set v (last_vertex g v es) w) (r w) t),
-        let a = evens_at w in let b = one_trail w in let c = or_one (v == w) (last_vertex g v es == w) t in omega arith,
-      )
+      end_of w ww t = grind (arith, or_left (pair_set v (last_vertex g v es) w) (r w) t, evens_at w, one_trail w, or_one (v == w) (last_vertex g v es == w) t)
         where
           or_one : (a b : Bool) → (a || b) ≡ true → 1 ≤ bit a + bit b
-          or_one true b h = omega arith
-          or_one false true h = omega arith
-          or_one false false h = absurd (true≢false (sym h))
+          or_one a b h = grind arith
 
       off : (w : ℕ) → is_met g f w ≡ true → pair_set v (last_vertex g v es) w ≡ false → times (trail g v es) w ≡ 0
-      off w t o = elim (on_f w t) [
-        | inl z ↦ z
-        | inr z ↦ elim z [
-          | inl e ↦ absurd (both_ways (pair_set v (last_vertex g v es) w) o (or_left (v == w) (last_vertex g v es == w) (eq-eqb v w e)))
-          | inr e ↦ absurd (both_ways (pair_set v (last_vertex g v es) w) o (or_right (v == w) (last_vertex g v es == w) (eq-eqb (last_vertex g v es) w e)))
-        ]
-      ]
+      off w t o = grind (arith, on_f, both_ways, or_left, eq-eqb, or_right)
 
       once : (w : ℕ) → Within g.order w → is_met g (with_edges f es) w ≡ true → r w ≡ false → degree g (with_edges q (odds es)) w ≡ 1
       once w ww t o = let s = sum w in let d = odds_at w in elim (cases_Bool (is_met g f w)) [
@@ -169,18 +126,12 @@ grow g is f o v es ear wv near_f = record {
     lift m p = none_but g (with_edges f es) (with_edges m (evens es)) (even_on g f v es ear none m (λ w ww t. absurd (true≢false (sym t))) (but_none g f m p is))
 
     from_start : (w : ℕ) → Within g.order w → is_met g (with_edges f es) w ≡ true → (ws : List ℕ) × Walk (adjacent_by g (with_edges f es)) v ws w
-    from_start w ww t = elim (new-met g f v es ear w t) [
-      | inl x ↦ let c = near_f.connected v w wv ww ear.start x in (c.0, walk_more g f (with_edges f es) (λ e i. or_left (f e) (mem es e) i) v w c.0 c.1)
-      | inr x ↦ trail_walk g (with_edges f es) v es ear.follow (λ e i. or_right (f e) (mem es e) i) w x
-    ]
+    from_start w ww t = grind (arith, new-met g f v es ear w t, walk_more g f (with_edges f es), or_left, trail_walk g (with_edges f es) v es ear.follow, or_right)
 
     allowed : (e : ℕ) → Within (size g) e → with_edges f es e ≡ true → (o e || mem (odds es) e) ≡ false → (m : Set) × IsPerfectOf g (with_edges f es) m × (m e ≡ true)
     allowed e w t n =
         let q = or_parts (o e) (mem (odds es) e) n in
         elim (or_cases (f e) (mem es e) t) [
           | inl x ↦ let m = near_f.allowed e w x q.0 in (with_edges m.0 (evens es), lift m.0 m.1, or_left (m.0 e) _ m.2)
-          | inr x ↦ elim (mem_parts es e x) [
-            | inl y ↦ absurd (both_ways (mem (odds es) e) q.1 y)
-            | inr y ↦ (with_edges near_f.perfect.0 (evens es), lift near_f.perfect.0 near_f.perfect.1, or_right (near_f.perfect.0 e) _ y)
-          ]
+          | inr x ↦ grind (arith, mem_parts es e x, both_ways (mem (odds es) e) q.1, lift near_f.perfect.0 near_f.perfect.1, or_right (near_f.perfect.0 e))
         ]

@@ -1,6 +1,6 @@
 -- Ears of bipartite graphs. An ear has its ends on opposite sides, since its length is odd; so it
 -- serves, and single ears do.
-use Rattle.std.proofs.Common.{◌≡◌, ℕ, Bool, true, false, cond, ◌==◌, refl, sym, ap, ap₂, ◌∙◌, arith, ◌&&◌, ◌||◌, not, eq-eqb, ne_eqb, eqb-true, inl, inr, [], ◌∷◌, List, length}
+use Rattle.std.proofs.Common.{◌≡◌, ℕ, Bool, true, false, cond, ◌==◌, refl, sym, ap, ap₂, ◌∙◌, arith, ◌&&◌, ◌||◌, not, eq-eqb, ne_eqb, eqb-true, inl, inr, [], ◌∷◌, List, length, rules}
 use Rattle.counting.proofs.Common.{cases_eq, cases_Bool, and_parts, and_from, true≢false, or_cases, rank_once, some_true, true_some, not_not, or_comm, same_tests, Within, count, is_odd, Set, pair_set, some}
 use Rattle.barrier_kit.proofs.Common.{perfect_congr}
 use Rattle.graph_core.proofs.Common.{IsSide, Graph, IsBipartite, IsGraph, first_end, in_cut, second_end, size, HasPerfect}
@@ -15,22 +15,7 @@ use Rattle.two_ears.proofs.OppositeSides.{opposite}
 
 -- the ends of an odd trace are on opposite sides
 other_end-side : (g : Graph) (a : Set) (e v : ℕ) → in_cut g a e ≡ true → joins g e v ≡ true → a (other_end g e v) ≡ not (a v)
-other_end-side g a e v c h = go (first_end g e) (second_end g e) c h
-  where
-    flip : (x y : Bool) → ((x && not y) || (not x && y)) ≡ true → y ≡ not x
-    flip x y h = grind arith
-
-    flop : (x y : Bool) → ((x && not y) || (not x && y)) ≡ true → x ≡ not y
-    flop x y h = grind arith
-
-    go : (p q : ℕ) → ((a p && not (a q)) || (not (a p) && a q)) ≡ true → (p == v || q == v) ≡ true → a (cond (p == v) q p) ≡ not (a v)
-    go p q c h = elim (cases_eq p v) [
-      | inl i ↦ ap (λ t. a (cond t q p)) (eq-eqb p v i) ∙ flip (a p) (a q) c ∙ ap (λ k. not (a k)) i
-      | inr i ↦ elim (or_cases (p == v) (q == v) h) [
-        | inl j ↦ absurd (i (eqb-true p v j))
-        | inr j ↦ ap (λ t. a (cond t q p)) (ne_eqb p v i) ∙ flop (a p) (a q) c ∙ ap (λ k. not (a k)) (eqb-true q v j)
-      ]
-    ]
+other_end-side g a e v c h = grind arith
 
 pub last_vertex-side : (g : Graph) (a : Set) → ((e : ℕ) → Within (size g) e → in_cut g a e ≡ true) → (v : ℕ) (es : List ℕ) → Follow g v es → is_odd (length es) ≡ true → a (last_vertex g v es) ≡ not (a v)
 last_vertex-side g a sides v [] t o = absurd (true≢false (sym o))
@@ -42,8 +27,7 @@ last_vertex-side g a sides v (e ∷ d ∷ es) t o =
 
 -- each ear of a stage serves
 pub bipartite-serves : (g : Graph) → IsGraph g → (a : Set) → ((e : ℕ) → Within (size g) e → in_cut g a e ≡ true) → (f : Set) → IsStage g f → (v : ℕ) (es : List ℕ) → IsEar g f v es → Serves g f (pair_set v (last_vertex g v es))
-bipartite-serves g is a sides f s v es ear =
-    opposite-serve g is f a (λ e w o. sides e w) s v (last_vertex g v es) ear.start ear.end (last_vertex-side g a sides v es ear.follow ear.odd)
+bipartite-serves g is a sides f s v es ear = grind (arith, opposite-serve g is f a, last_vertex-side g a sides v es ear.follow ear.odd)
 
 -- so among candidates one serves
 pub bipartite-found : (g : Graph) → IsGraph g → IsBipartite g → (f : Set) → IsStage g f → (ears : List PlainEar) → AreCandidates g f ears → NoneServes g f ears → ⊥

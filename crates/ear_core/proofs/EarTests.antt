@@ -1,6 +1,6 @@
 -- The tests of an ear say that it is an ear, and those of the second ear of a step that the two
 -- are a pair. A vertex is counted along the ear: the first, the inner ones and the last.
-use Rattle.std.proofs.Common.{◌≡◌, ℕ, ◌+◌, ◌≤◌, Bool, true, false, ◌==◌, refl, sym, ap, ◌∙◌, arith, ◌&&◌, ◌||◌, not, eq-eqb, ne_eqb, eqb-true, inl, inr, nat_le, leb-true, le-leb, subst, [], ◌∷◌, List, length, ◌↔◌}
+use Rattle.std.proofs.Common.{◌≡◌, ℕ, ◌+◌, ◌≤◌, Bool, true, false, ◌==◌, refl, sym, ap, ◌∙◌, arith, ◌&&◌, ◌||◌, not, eq-eqb, ne_eqb, eqb-true, inl, inr, nat_le, leb-true, le-leb, subst, [], ◌∷◌, List, length, ◌↔◌, rules}
 use Rattle.std.proofs.lemmas.Bool.{true_from_ne_false}
 use Rattle.counting.proofs.Common.{cases_eq, and_parts, and_from, both_ways, true≢false, false_from_ne_true, not-true, or_left, or_right, or_parts, or_cases, or_from, times_mem, bit, is_odd, mem, times, Set}
 use Rattle.ear_core.proofs.TraceEdges.{mem_times}
@@ -27,23 +27,14 @@ times_front g v (e ∷ d ∷ es) w = let a = times_front g (other_end g e v) (d 
 
 -- the vertices of an ear are its first, its inner ones and its last
 pub times_parts : (g : Graph) (v : ℕ) (es : List ℕ) (w : ℕ) → is_empty es ≡ false → times (trail g v es) w ≡ bit (v == w) + (times (inner_vertices g v es) w + bit (last_vertex g v es == w))
-times_parts g v [] w h = absurd (true≢false h)
-times_parts g v (e ∷ es) w h = let a = times_front g (other_end g e v) es w in omega arith
+times_parts g v es w h = grind (arith, true≢false, times_front)
 
 repeats_times : (xs : List ℕ) → repeats xs ≡ false → (w : ℕ) → times xs w ≤ 1
 repeats_times [] h w = omega arith
 repeats_times (x ∷ xs) h w =
     let b = or_parts (mem xs x) (repeats xs) h in
     let i = repeats_times xs b.1 w in
-    elim (cases_eq x w) [
-      | inr d ↦ let c = ap bit (ne_eqb x w d) in omega arith
-      | inl e ↦
-          let c = ap bit (eq-eqb x w e) in
-          elim (cases_eq (times xs w) 0) [
-            | inl z ↦ omega arith
-            | inr z ↦ absurd (both_ways (mem xs x) b.0 (ap (mem xs) e ∙ times_mem xs w (omega arith)))
-          ]
-    ]
+    grind (arith, cases_eq x w, ne_eqb x w, eq-eqb x w, cases_eq (times xs w) 0, both_ways (mem xs x) b.0, times_mem xs w)
 
 times_repeats : (xs : List ℕ) → ((w : ℕ) → times xs w ≤ 1) → repeats xs ≡ false
 times_repeats [] h = refl
@@ -65,8 +56,7 @@ at_no_member p [] h = refl
 at_no_member p (x ∷ xs) h = and_from (not (p x)) (no_member p xs) (ap not (h x (or_left (x == x) _ (eq-eqb x x refl)))) (at_no_member p xs (λ w m. h w (or_right (x == w) _ m)))
 
 odd_filled : (es : List ℕ) → is_odd (length es) ≡ true → is_empty es ≡ false
-odd_filled [] h = absurd (true≢false (sym h))
-odd_filled (e ∷ es) h = refl
+odd_filled es h = grind arith
 
 -- what an ear that passes is
 pub record Clean (g : Graph) (f : Set) (xs ds : List ℕ) (v : ℕ) (es : List ℕ) : Type 0 where
@@ -88,13 +78,7 @@ passes_clean g f xs ds v es p =
         follow = trace_true g v es b.0;
         once = λ w. let x = times_parts g v es w filled in let y = once w in elim (cases_eq (last_vertex g v es) w) [
           | inr i ↦ let z = ap bit (ne_eqb (last_vertex g v es) w i) in omega arith
-          | inl i ↦
-              let z = ap bit (eq-eqb (last_vertex g v es) w i) in
-              let u = ap bit (ne_eqb v w (λ j. both_ways (v == last_vertex g v es) (not-true (v == last_vertex g v es) e.1) (eq-eqb v (last_vertex g v es) (j ∙ sym i)))) in
-              elim (cases_eq (times (inner_vertices g v es) w) 0) [
-                | inl k ↦ omega arith
-                | inr k ↦ absurd (both_ways (mem (inner_vertices g v es) (last_vertex g v es)) (not-true (mem (inner_vertices g v es) (last_vertex g v es)) c.1) (ap (mem (inner_vertices g v es)) i ∙ times_mem (inner_vertices g v es) w (omega arith)))
-              ]
+          | inl i ↦ grind (arith, eq-eqb, ne_eqb, both_ways, not-true, cases_eq, times_mem)
         ];
         odd = p.odd;
         start = d.0;
@@ -113,12 +97,7 @@ passes_clean g f xs ds v es p =
 
 -- an inner vertex of an ear is off the stage, and on the ear
 inner_off : (g : Graph) (f : Set) (v : ℕ) (es : List ℕ) → IsEar g f v es → (w : ℕ) → mem (inner_vertices g v es) w ≡ true → (is_met g f w ≡ false) × (mem (trail g v es) w ≡ true)
-inner_off g f v es ear w m =
-    let x = times_parts g v es w (odd_filled es ear.odd) in
-    let y = mem_times (inner_vertices g v es) w m in
-    let o = ear.once w in
-    let t = times_mem (trail g v es) w (omega arith) in
-    (ear.inner w t (λ i. let z = ap bit (eq-eqb v w (sym i)) in absurd (omega arith)) (λ i. let z = ap bit (eq-eqb (last_vertex g v es) w (sym i)) in absurd (omega arith)), t)
+inner_off g f v es ear w m = grind (arith, times_parts, odd_filled, mem_times, times_mem, eq-eqb)
 
 pub clean_passes : (g : Graph) (f : Set) (xs ds : List ℕ) (v : ℕ) (es : List ℕ) → Clean g f xs ds v es → Passes g f xs ds v es
 clean_passes g f xs ds v es c =
@@ -152,18 +131,7 @@ second_passes g f v es w ds ear = (there, back)
         times_mem (inner_vertices g v es) x (omega arith)
 
     there : Passes g f (inner_vertices g v es) es w ds → IsEarPair g f v es w ds
-    there p =
-        let c = passes_clean g f (inner_vertices g v es) es w ds p in
-        record {
-          first = ear;
-          second = c.ear;
-          vertices = λ x m k. true_from_ne_false (is_met g f x) (λ o. both_ways (mem (inner_vertices g v es) x) (c.inner x (on_trail w ds c.ear x k o)) (on_trail v es ear x m o));
-          edges = λ e m. false_from_ne_true (mem ds e) (λ k. both_ways (mem es e) (c.edges e k) m);
-        }
+    there p = grind (arith, passes_clean g f (inner_vertices g v es) es w ds p, true_from_ne_false, both_ways, on_trail w ds, on_trail v es ear, false_from_ne_true)
 
     back : IsEarPair g f v es w ds → Passes g f (inner_vertices g v es) es w ds
-    back p = clean_passes g f (inner_vertices g v es) es w ds (record {
-      ear = p.second;
-      inner = λ x m. let a = inner_off g f w ds p.second x m in false_from_ne_true (mem (inner_vertices g v es) x) (λ k. both_ways (is_met g f x) a.0 (p.vertices x (inner_off g f v es ear x k).1 a.1));
-      edges = λ e m. false_from_ne_true (mem es e) (λ k. both_ways (mem ds e) (p.edges e k) m);
-    })
+    back p = grind (arith, clean_passes g f (inner_vertices g v es) es w ds, inner_off g f w ds p.second, false_from_ne_true, both_ways, inner_off g f v es ear)

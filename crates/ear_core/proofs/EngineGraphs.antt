@@ -1,7 +1,7 @@
 -- The edges of a stage in a graph of their own. The degree by rank is the degree in g, so a
 -- perfect matching of the listed edges is one of the graph of the stage; and an edge lies in one
 -- if its two ends may be left out.
-use Rattle.std.proofs.Common.{◌≡◌, ℕ, suc, zero, ◌+◌, ◌*◌, ◌≢◌, Bool, true, false, cond, ◌==◌, refl, sym, ap, ◌∙◌, arith, ◌&&◌, not, eq-eqb, ne_eqb, eqb-true, inl, inr, [], ◌∷◌, ◌++◌, length, ◌↔◌}
+use Rattle.std.proofs.Common.{◌≡◌, ℕ, suc, zero, ◌+◌, ◌*◌, ◌≢◌, Bool, true, false, cond, ◌==◌, refl, sym, ap, ◌∙◌, arith, ◌&&◌, not, eq-eqb, ne_eqb, eqb-true, inl, inr, [], ◌∷◌, ◌++◌, length, ◌↔◌, rules}
 use Rattle.counting.proofs.Common.{same_tests, cases_eq, or_right, cases_Bool, and_parts, and_from, both_ways, false_from_ne_true, not-true, or_left, or_cases, or_parts, or_from, rank_once, some_true, true_some, bit, count, Within, Set, union, put, pair_set, complement, some}
 use Rattle.std.proofs.lemmas.Bool.{true_from_ne_false}
 use Rattle.ear_core.proofs.TraceEdges.{some-met, unmet, degree_le}
@@ -23,8 +23,7 @@ listed_size g f zero = refl
 listed_size g f (suc k) = go (f (suc k)) (listed_size g f k)
   where
     go : (b : Bool) → length (listed g f k) ≡ count k f → length (cond b (listed g f k ++ ((first_end g (suc k), second_end g (suc k)) ∷ [])) (listed g f k)) ≡ count k f + bit b
-    go true e = let s = size-added g (listed g f k) (first_end g (suc k), second_end g (suc k)) in omega arith
-    go false e = omega arith
+    go b e = grind (arith, size-added g (listed g f k) (first_end g (suc k), second_end g (suc k)))
 
 -- the degree by rank, for the first k edges
 pub listed_degree : (g : Graph) (f m : Set) (v k : ℕ) → degree (with_ends g (listed g f k)) m v ≡ count k (λ e. by_rank f m e && (first_end g e == v)) + count k (λ e. by_rank f m e && (second_end g e == v))
@@ -32,19 +31,12 @@ listed_degree g f m v zero = refl
 listed_degree g f m v (suc k) = go (f (suc k)) refl (listed_degree g f m v k)
   where
     bits : (x y : Bool) → bit (x && y) ≡ bit x * bit y
-    bits true y = omega arith
-    bits false y = omega arith
+    bits x y = grind arith
 
     go : (b : Bool) → f (suc k) ≡ b → degree (with_ends g (listed g f k)) m v ≡ count k (λ e. by_rank f m e && (first_end g e == v)) + count k (λ e. by_rank f m e && (second_end g e == v)) →
         degree (with_ends g (cond b (listed g f k ++ ((first_end g (suc k), second_end g (suc k)) ∷ [])) (listed g f k))) m v
         ≡ (count k (λ e. by_rank f m e && (first_end g e == v)) + bit ((b && m (count k f + bit b)) && (first_end g (suc k) == v))) + (count k (λ e. by_rank f m e && (second_end g e == v)) + bit ((b && m (count k f + bit b)) && (second_end g (suc k) == v)))
-    go true q e =
-        let d = degree-added g (listed g f k) (first_end g (suc k), second_end g (suc k)) m v in
-        let s : suc (length (listed g f k)) ≡ count k f + bit true = (let l = listed_size g f k in omega arith) in
-        let t = ap (λ i. bit (m i) * (bit (first_end g (suc k) == v) + bit (second_end g (suc k) == v))) s in
-        let x = bits (m (count k f + bit true)) (first_end g (suc k) == v) in
-        let y = bits (m (count k f + bit true)) (second_end g (suc k) == v) in omega arith
-    go false q e = omega arith
+    go b q e = grind (arith, degree-added, listed_size, bits)
 
 module _ (g : Graph) (f r : Set) where
   abbrev kf : Graph
@@ -55,11 +47,7 @@ module _ (g : Graph) (f r : Set) where
 
   -- a perfect matching of the listed edges, by rank
   pub from_listed : (m : Set) → IsPerfect kf out m → IsPerfectOff g f r (by_rank f m)
-  from_listed m p = record {
-    part = λ e w t. (and_parts (f e) (m (count e f)) t).0;
-    once = λ v w t o. sym (listed_degree g f m v (size g)) ∙ p.once v w (or_from (not (is_met g f v)) (r v) (ap not t) o);
-    away = λ v w o. sym (listed_degree g f m v (size g)) ∙ p.away v w (or_right (not (is_met g f v)) (r v) o);
-  }
+  from_listed m p = grind (arith, and_parts, listed_degree g f m, or_from, or_right)
 
   pub rank_of : Set → Set
   rank_of m i = some (size g) (λ e. (f e && m e) && (count e f == i))
@@ -95,25 +83,16 @@ unfolding ends_of
 edge_serves g f e is w d fe = (there, back)
   where
     ends_two : (v : ℕ) → pair_set (first_end g e) (second_end g e) v ≡ true → ends_of g e v ≡ 1
-    ends_two v t = elim (or_cases (first_end g e == v) (second_end g e == v) t) [
-      | inl i ↦ let a = ap bit i in let b = ap bit (ne_eqb (second_end g e) v (λ j. d (eqb-true (first_end g e) v i ∙ sym j))) in omega arith
-      | inr i ↦ let a = ap bit i in let b = ap bit (ne_eqb (first_end g e) v (λ j. d (j ∙ sym (eqb-true (second_end g e) v i)))) in omega arith
-    ]
+    ends_two v t = grind arith
 
     ends_zero : (v : ℕ) → pair_set (first_end g e) (second_end g e) v ≡ false → ends_of g e v ≡ 0
     ends_zero v t = let p = or_parts (first_end g e == v) (second_end g e == v) t in let a = ap bit p.0 in let b = ap bit p.1 in omega arith
 
     is_touched : (v : ℕ) → pair_set (first_end g e) (second_end g e) v ≡ true → is_met g f v ≡ true
-    is_touched v t = let h = ends-met g f e w fe in elim (or_cases (first_end g e == v) (second_end g e == v) t) [
-      | inl i ↦ ap (is_met g f) (sym (eqb-true (first_end g e) v i)) ∙ h.0
-      | inr i ↦ ap (is_met g f) (sym (eqb-true (second_end g e) v i)) ∙ h.1
-    ]
+    is_touched v t = grind (arith, ends-met g f e w fe, or_cases (first_end g e == v) (second_end g e == v) t, eqb-true (first_end g e) v, eqb-true (second_end g e) v)
 
     put_at : (m : Set) (b : Bool) (c : ℕ) → (c ≢ e → m c ≡ true → f c ≡ true) → put m e b c ≡ true → f c ≡ true
-    put_at m b c h t = elim (cases_eq c e) [
-      | inl i ↦ ap f i ∙ fe
-      | inr i ↦ h i (sym (ap (λ x. cond x b (m c)) (ne_eqb c e i)) ∙ t)
-    ]
+    put_at m b c h t = grind arith
 
     there : (m : Set) × IsPerfectOf g f m × (m e ≡ true) → (m : Set) × IsPerfectOff g f (pair_set (first_end g e) (second_end g e)) m
     there x = (

@@ -1,6 +1,6 @@
 -- What the code's tests of an ear say of the definitions: the first test that fails, the vertices
 -- met by marks, and inner vertices that are free.
-use Rattle.std.proofs.Common.{◌≡◌, ℕ, suc, true, false, ◌==◌, refl, sym, ap, ap₂, ◌∙◌, arith, ◌&&◌, ◌||◌, not, eq-eqb, ne_eqb, Some, None, [], ◌∷◌, List, length, All, subst, inl, inr}
+use Rattle.std.proofs.Common.{◌≡◌, ℕ, suc, true, false, ◌==◌, refl, sym, ap, ap₂, ◌∙◌, arith, ◌&&◌, ◌||◌, not, eq-eqb, ne_eqb, Some, None, [], ◌∷◌, List, length, All, subst, inl, inr, rules}
 use Rattle.counting.proofs.Common.{same_tests, and_parts, and_from, both_ways, or_cases, or_left, or_right, false_from_ne_true, true≢false, some_true, true_some, bit, mem, Set, some}
 use Rattle.graph_core.proofs.Common.{ends_of, edge_at, ends_le_degree, Graph, size, first_end, second_end}
 use Rattle.ear_core.specs.Common.{last_vertex, is_met, even_length, bad_ends, inner_on_stage, edge_used, is_path, has_odd_length, has_good_ends, has_free_inner, has_new_edges, ear_fault, inner_vertices, no_member}
@@ -44,12 +44,7 @@ module _ (g : Graph) (f : Set) (xs ds : List ℕ) (v : ℕ) (es : List ℕ) wher
   ends-same met last are is = ap₂ (λ a b. a && (b && not (v == last))) (are v) (are last) ∙ ap (λ y. is_met g f v && (is_met g f y && not (v == y))) is
 
   pub free-same : (inner met taken : List ℕ) → ((w : ℕ) → mem inner w ≡ mem (inner_vertices g v es) w) → ((w : ℕ) → mem met w ≡ is_met g f w) → ((w : ℕ) → mem taken w ≡ (mem met w || mem xs w)) → no_member (mem taken) inner ≡ has_free_inner g f xs v es
-  free-same inner met taken is_inner are_met are_taken = same_tests (no_member (mem taken) inner) (has_free_inner g f xs v es)
-      (λ h. at_no_member (λ w. is_met g f w || mem xs w) (inner_vertices g v es) (λ w m. sym (is w) ∙ no_member_at (mem taken) inner h w (is_inner w ∙ m)))
-      (λ h. at_no_member (mem taken) inner (λ w m. is w ∙ no_member_at (λ w. is_met g f w || mem xs w) (inner_vertices g v es) h w (sym (is_inner w) ∙ m)))
-    where
-      is : (w : ℕ) → mem taken w ≡ (is_met g f w || mem xs w)
-      is w = are_taken w ∙ ap (λ b. b || mem xs w) (are_met w)
+  free-same inner met taken is_inner are_met are_taken = grind (arith, same_tests, at_no_member, no_member_at)
 
 -- no number is in both lists
 pub free-length : (inner taken common : List ℕ) → ((w : ℕ) → mem common w ≡ (mem inner w && mem taken w)) → (length common == 0) ≡ no_member (mem taken) inner

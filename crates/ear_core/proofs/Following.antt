@@ -1,6 +1,6 @@
 -- The walk along two perfect matchings as the code makes it: the edges are appended one by one,
 -- and the vertices used are those passed.
-use Rattle.std.proofs.Common.{◌≡◌, ℕ, suc, zero, ◌+◌, ◌≤◌, Bool, true, false, cond, ◌==◌, ◌||◌, not, refl, sym, ap, ◌∙◌, arith, subst, List, [], ◌∷◌, ◌++◌, drop, Some, slice_get, append_assoc}
+use Rattle.std.proofs.Common.{◌≡◌, ℕ, suc, zero, ◌+◌, ◌≤◌, Bool, true, false, cond, ◌==◌, ◌||◌, not, refl, sym, ap, ◌∙◌, arith, subst, List, [], ◌∷◌, ◌++◌, drop, Some, slice_get, append_assoc, rules}
 use Rattle.std.proofs.Math.Path.{fun_ext}
 use Rattle.counting.proofs.Common.{and_parts, or_right, count_more, or_false_back, Within, count, mem, Set, complement}
 use Rattle.graph_core.proofs.Common.{Graph, IsGraph}
@@ -23,11 +23,7 @@ row-at rows i row v is = let next : suc i ≡ i + 1 = omega arith in row-behind 
 
 -- the vertices passed by one edge
 pub passed-by : (used first passed : List ℕ) (v w : ℕ) → ((u : ℕ) → mem first u ≡ (mem used u || v == u)) → ((u : ℕ) → mem passed u ≡ (mem first u || w == u)) → (u : ℕ) → mem passed u ≡ (mem used u || (v == u || w == u))
-passed-by used first passed v w is_first is_passed u = is_passed u ∙ ap (λ b. b || w == u) (is_first u) ∙ joined (mem used u) (v == u) (w == u)
-  where
-    joined : (a b c : Bool) → ((a || b) || c) ≡ (a || (b || c))
-    joined true b c = refl
-    joined false b c = refl
+passed-by used first passed v w is_first is_passed u = grind arith
 
 -- the walk goes on from x, with fewer vertices that are not used, by the edges e and d
 pub record GoesOn (g : Graph) (met : Set) (m n : ℕ → ℕ) (z : Set) (v : ℕ) (passed : Set) (x e d : ℕ) : Type 0 where
@@ -45,12 +41,7 @@ module _ (g : Graph) (is : IsGraph g) (met : Set) (m : ℕ → ℕ) (pm : AreMat
     (e w : ℕ) (edge : e ≡ m v) (other : w ≡ mate g m v) (passed : Set) (joined : (u : ℕ) → passed u ≡ (z u || (v == u || w == u))) where
   -- the path ends
   pub traced-short : met w ≡ true → (old new : List ℕ) → new ≡ old ++ e ∷ [] → IsTraced g met m n z v old new passed
-  traced-short t old new appended = (
-    m v ∷ [],
-    appended ∙ ap (λ d. old ++ d ∷ []) edge,
-    path_ends g is met m pm n pn keeps z v wv clear (ap met (sym other) ∙ t),
-    λ u. joined u ∙ ap (λ x. z u || (v == u || x == u)) other ∙ ap (λ b. z u || (v == u || b)) (or_false_back (mate g m v == u)),
-  )
+  traced-short t old new appended = grind (arith, path_ends g is met m pm n pn keeps z v wv clear (ap met (sym other) ∙ t), or_false_back)
 
   module _ (off : met w ≡ false) where
     out : met (mate g m v) ≡ false
@@ -82,9 +73,7 @@ module _ (g : Graph) (is : IsGraph g) (met : Set) (m : ℕ → ℕ) (pm : AreMat
           )
         where
           three : (a b c d : Bool) → ((a || (b || c)) || d) ≡ (a || (b || (c || d)))
-          three true b c d = refl
-          three false true c d = refl
-          three false false c d = refl
+          three a b c d = grind arith
 
       pub goes-on : GoesOn g met m n z v passed x e d
       goes-on = record { clear = next-clear; fewer = next-fewer; longer = traced-longer }

@@ -1,7 +1,7 @@
 -- The answer to a list of steps, step by step: what is answered of the steps after one that is
 -- taken is answered of all. And the answer to a list is right both ways, since a list of steps
 -- has no refusal or leads not to all edges.
-use Rattle.std.proofs.Common.{◌≡◌, ◌↔◌, ℕ, ◌+◌, ◌<◌, ◌≤◌, Bool, true, false, ◌||◌, ◌==◌, List, ◌∷◌, length, Option, Some, None, Result, IfOk, refl, sym, ap, ap₂, ◌∙◌, subst, inr, slice_set, replicate}
+use Rattle.std.proofs.Common.{◌≡◌, ◌↔◌, ℕ, ◌+◌, ◌<◌, ◌≤◌, Bool, true, false, ◌||◌, ◌==◌, List, ◌∷◌, length, Option, Some, None, Result, IfOk, refl, sym, ap, ap₂, ◌∙◌, subst, inr, slice_set, replicate, arith, rules}
 use Rattle.std.proofs.Math.Path.{fun_ext}
 use Rattle.counting.proofs.Common.{both_ways, IfOk-weaker, Within, count, Set, singleton}
 use Rattle.graph_core.proofs.Common.{Graph, size, IsMultigraph}
@@ -22,8 +22,7 @@ module _ (g : Graph) (f new : Set) (s : PlainStep) (passes : step_fault g f s �
   taken-adds = subst (λ (h : Set). count (size g) f + 1 ≤ count (size g) h) (sym (fun_ext same)) (step-adds g f s (step-none g f s passes))
 
   behind : (k : ℕ) (steps : List PlainStep) (answer : Option (ℕ × PlainWhy)) → IsJudged g (next_stage f s) (k + 1) steps answer → IsJudged g f k (s ∷ steps) answer
-  behind k steps None judged = (step-none g f s passes, stage, judged)
-  behind k steps (Some refusal) judged = inr (passes, stage, judged)
+  behind k steps answer judged = grind (arith, step-none g f s passes)
 
   pub judged-behind : (k : ℕ) (rest others : List PlainStep) → rest ≡ s ∷ others → (answer : Option (ℕ × PlainWhy)) → IsJudged g new (k + 1) others answer → IsJudged g f k rest answer
   judged-behind k rest others begins answer judged =
@@ -44,19 +43,13 @@ named (Some refusal) = refusal
 -- the answer is right both ways
 module _ (g : Graph) (is : IsMultigraph g) (f : Set) (list : PlainEars) (start : Within (size g) list.start) (same : (i : ℕ) → f i ≡ singleton list.start i) (steps : List PlainStep) (all : steps ≡ list.steps) where
   of-list : (answer : Option (ℕ × PlainWhy)) → IsJudged g f 0 steps answer → IsJudged g (singleton list.start) 0 list.steps answer
-  of-list answer judged =
-      subst (λ (xs : List PlainStep). IsJudged g (singleton list.start) 0 xs answer) all (subst (λ (h : Set). IsJudged g h 0 steps answer) (fun_ext same) judged)
+  of-list answer judged = grind arith
 
   accepts : (answer : Option (ℕ × PlainWhy)) → IsJudged g (singleton list.start) 0 list.steps answer → (answer ≡ None) ↔ IsEarList g list
-  accepts None judged = (λ e. record { start = start; first_stage = first-stage g is list.start start; steps = judged }, λ e. refl)
-  accepts (Some refusal) judged = (λ e. absurd (no-some refusal e), λ ears. absurd (refusal-none g (singleton list.start) 0 list.steps refusal.0 refusal.1 judged ears.steps))
+  accepts answer judged = grind (arith, first-stage g is list.start start, no-some, refusal-none g (singleton list.start) 0 list.steps)
 
   refuses : (answer : Option (ℕ × PlainWhy)) → IsJudged g (singleton list.start) 0 list.steps answer → (step : ℕ) (why : PlainWhy) → (answer ≡ Some (step, why)) ↔ IsRefused g list step why
-  refuses None judged step why = (λ e. absurd (no-some (step, why) (sym e)), λ refused. absurd (refusal-none g (singleton list.start) 0 list.steps step why refused judged))
-  refuses (Some refusal) judged step why = (
-    λ e. subst (λ (r : ℕ × PlainWhy). IsRefused g list r.0 r.1) (ap named e) judged,
-    λ refused. let one = refusal-one g (singleton list.start) 0 list.steps refusal.0 step refusal.1 why judged refused in ap Some (ap₂ (λ (i : ℕ) (w : PlainWhy). (i, w)) one.0 one.1),
-  )
+  refuses answer judged step why = grind (arith, no-some (step, why), refusal-none g (singleton list.start) 0 list.steps step why, refusal-one g (singleton list.start) 0 list.steps)
 
   module _ {Fault : Type 0} (result : Result EarJudgement Fault) (judged : IfOk result (λ judgement. IsJudged g f 0 steps (refusal_of judgement))) where
     pub judged-accepted : IfOk result (λ judgement. (refusal_of judgement ≡ None) ↔ IsEarList g list)

@@ -1,6 +1,6 @@
 -- From a matching to a single ear. If the matching leads out of the stage at two vertices alone,
 -- each ear that it makes with the kept one has these for its ends, so it serves alone.
-use Rattle.std.proofs.Common.{◌≡◌, ◌≢◌, ℕ, ◌+◌, ◌≤◌, Bool, true, false, cond, ◌==◌, ◌&&◌, ◌||◌, not, refl, sym, ap, ◌∙◌, arith, eq-eqb, eqb-true, ne_eqb, inl, inr, subst, List, [], ◌∷◌}
+use Rattle.std.proofs.Common.{◌≡◌, ◌≢◌, ℕ, ◌+◌, ◌≤◌, Bool, true, false, cond, ◌==◌, ◌&&◌, ◌||◌, not, refl, sym, ap, ◌∙◌, arith, eq-eqb, eqb-true, ne_eqb, inl, inr, subst, List, [], ◌∷◌, rules}
 use Rattle.counting.proofs.Common.{both_ways, cases_eq, false_from_ne_true, or_cases, or_left, or_right, or_parts, true≢false, not-true, same_tests, Within, bit, IsIn, mem, Set, pair_set}
 use Rattle.graph_core.proofs.Common.{Graph, IsGraph, first_end, second_end}
 use Rattle.match_core.specs.Common.{MatchingValue, edges_of}
@@ -15,19 +15,11 @@ use Rattle.ear_core.specs.Common.{AreCandidates, IsChosen, IsMatedEar, IsPerfect
 module _ (g : Graph) (is : IsGraph g) (f : Set) (u v : ℕ) (e w : ℕ) (opens : is_open g f u v e ≡ true) (at : (first_end g e == w || second_end g e == w) ≡ true) where
   -- an end of an open edge is not barred
   end-free : barred g f u v e w ≡ false
-  end-free =
-      let h = or_parts (barred g f u v e (first_end g e)) (barred g f u v e (second_end g e)) (not-true (barred g f u v e (first_end g e) || barred g f u v e (second_end g e)) opens) in
-      elim (or_cases (first_end g e == w) (second_end g e == w) at) [
-        | inl i ↦ subst (λ k. barred g f u v e k ≡ false) (eqb-true (first_end g e) w i) h.0
-        | inr i ↦ subst (λ k. barred g f u v e k ≡ false) (eqb-true (second_end g e) w i) h.1
-      ]
+  end-free = grind (arith, or_parts, not-true, opens, or_cases, eqb-true)
 
   -- off the stage it is at u or v
   pub off-ends : f e ≡ false → is_met g f w ≡ true → pair_set u v w ≡ true
-  off-ends off met = inner (is_met g f w) (pair_set u v w) met (sym (ap (λ b. cond b (pair_set u v w) (is_met g f w && not (pair_set u v w))) off) ∙ end-free)
-    where
-      inner : (a b : Bool) → a ≡ true → (a && not b) ≡ false → b ≡ true
-      inner a b p q = grind arith
+  off-ends off met = grind arith
 
   -- at u and v it is off the stage
   pub leads-off : pair_set u v w ≡ true → f e ≡ false
@@ -48,9 +40,7 @@ module _ (g : Graph) (is : IsGraph g) (f : Set) (m : MatchingValue) (rows : IsPe
 
   -- the matching leads out of the stage
   pub lone-leads : (w : ℕ) × Within g.order w × (is_met g f w ≡ true) × (f (row_edge m.rows w) ≡ false)
-  lone-leads =
-      let wu = met-within g is f u two_ends.3 in
-      (u, wu, two_ends.3, leads-off g is f u v (row_edge m.rows u) u (opens u wu) (row-found g is m rows u wu).2 (or_left (u == u) (v == u) (eq-eqb u u refl)))
+  lone-leads = grind (arith, met-within g is f u two_ends.3, leads-off g is f u v (row_edge m.rows u) u, opens u, row-found g is m rows u, or_left (u == u) (v == u) (eq-eqb u u refl), eq-eqb u u refl)
 
   module _ (n : ℕ → ℕ) (ears : List PlainEar) (mated : (a : PlainEar) → IsIn a ears → IsMatedEar g f (row_edge m.rows) n a) (made : AreCandidates g f ears) where
     begins-at : (a : PlainEar) → IsIn a ears → pair_set u v a.begin ≡ true
@@ -75,22 +65,7 @@ module _ (g : Graph) (is : IsGraph g) (f : Set) (m : MatchingValue) (rows : IsPe
     both-ends a i w t = four u v w a.begin (last_vertex g a.begin a.edges) (ends-differ g f a.begin a.edges (mated a i).ear) t (begins-at a i) (ends-at a i)
       where
         four : (u v w b c : ℕ) → b ≢ c → pair_set u v w ≡ true → pair_set u v b ≡ true → pair_set u v c ≡ true → pair_set b c w ≡ true
-        four u v w b c d t p q = elim (or_cases (u == w) (v == w) t) [
-          | inl x ↦ elim (or_cases (u == b) (v == b) p) [
-            | inl y ↦ or_left (b == w) (c == w) (eq-eqb b w (sym (eqb-true u b y) ∙ eqb-true u w x))
-            | inr y ↦ elim (or_cases (u == c) (v == c) q) [
-              | inl k ↦ or_right (b == w) (c == w) (eq-eqb c w (sym (eqb-true u c k) ∙ eqb-true u w x))
-              | inr k ↦ absurd (d (sym (eqb-true v b y) ∙ eqb-true v c k))
-            ]
-          ]
-          | inr x ↦ elim (or_cases (u == b) (v == b) p) [
-            | inr y ↦ or_left (b == w) (c == w) (eq-eqb b w (sym (eqb-true v b y) ∙ eqb-true v w x))
-            | inl y ↦ elim (or_cases (u == c) (v == c) q) [
-              | inr k ↦ or_right (b == w) (c == w) (eq-eqb c w (sym (eqb-true v c k) ∙ eqb-true v w x))
-              | inl k ↦ absurd (d (sym (eqb-true u b y) ∙ eqb-true u c k))
-            ]
-          ]
-        ]
+        four u v w b c d t p q = grind (arith, or_cases, or_left, eq-eqb, eqb-true, or_right)
 
     pub lone-serves : (a : PlainEar) → IsIn a ears → Serves g f (ends_of_ear g a)
     lone-serves a i = serves-same g f (in_pairs (ends_of_ears g ears)) (ends_of_ear g a) (λ w. same_tests (in_pairs (ends_of_ears g ears) w) (ends_of_ear g a w)
@@ -107,5 +82,4 @@ module _ (g : Graph) (is : IsGraph g) (f : Set) (m : MatchingValue) (rows : IsPe
 
     -- a step of them is single
     pub lone-single : IsStage g f → (s : PlainStep) → IsChosen ears s → IsNeeded g f s → IsSingle s
-    lone-single stage (one a) chosen needed = tt
-    lone-single stage (two a b) chosen needed = needed.0 (serving-one g is f stage a (mated a chosen.0).ear (lone-serves a chosen.0))
+    lone-single stage s chosen needed = grind (arith, serving-one g is f stage, lone-serves)

@@ -1,7 +1,7 @@
 -- From a single ear to a matching. If a stage with an ear is matching covered and the rest has a
 -- perfect matching, then this one, the odd edges of the ear and a perfect matching of the stage
 -- without the two ends are a perfect matching that leads out of the stage at the two ends alone.
-use Rattle.std.proofs.Common.{◌≡◌, ◌≢◌, ℕ, ◌<◌, ◌≤◌, Bool, true, false, cond, ◌==◌, ◌&&◌, ◌||◌, not, refl, sym, ap, ◌∙◌, arith, eq-eqb, inl, inr, subst, List, [], ◌∷◌}
+use Rattle.std.proofs.Common.{◌≡◌, ◌≢◌, ℕ, ◌<◌, ◌≤◌, Bool, true, false, cond, ◌==◌, ◌&&◌, ◌||◌, not, refl, sym, ap, ◌∙◌, arith, eq-eqb, inl, inr, subst, List, [], ◌∷◌, rules}
 use Rattle.std.proofs.Math.Path.{fun_ext}
 use Rattle.counting.proofs.Common.{both_ways, cases_Bool, cases_order, false_from_ne_true, or_cases, or_from, or_left, or_right, true≢false, or_comm, or_false, or_false_back, Within, bit, mem, Set, none, pair_set, union}
 use Rattle.graph_core.proofs.Common.{ends_le_degree, ends_of, IsCovered, Graph, IsGraph, IsMultigraph, first_end, second_end, size, IsEnd, IsPerfect}
@@ -30,18 +30,7 @@ open-turned g f u v e = ap (λ (p : Set). not (has_end_in g (λ w. cond (f e) (p
 -- so the pairs with the lesser vertex first are all
 pub none-lone : (g : Graph) → IsGraph g → (f met : Set) → ((v : ℕ) → met v ≡ is_met g f v) →
     ((u v : ℕ) → Within g.order u → u < v → Within g.order v → met u ≡ true → met v ≡ true → (m : Set) → IsPerfectBy g (is_open g f u v) m → ⊥) → (m : Set) → LeadsAtTwo g f m → ⊥
-none-lone g is f met same never m leads =
-    let u = leads.0 in
-    let v = leads.1 in
-    let wu = met-within g is f u leads.3 in
-    let wv = met-within g is f v leads.4 in
-    elim (cases_order u v) [
-      | inl e ↦ leads.2 e
-      | inr o ↦ elim o [
-        | inl less ↦ never u v wu less wv (same u ∙ leads.3) (same v ∙ leads.4) m leads.5
-        | inr more ↦ never v u wv more wu (same v ∙ leads.4) (same u ∙ leads.3) m (same-by g (is_open g f u v) (is_open g f v u) (λ e w. open-turned g f u v e) m leads.5)
-      ]
-    ]
+none-lone g is f met same never m leads = grind (arith, met-within g is f, cases_order, same-by g, open-turned g f)
 
 -- an edge with no barred end is open
 open-ends : (g : Graph) (f : Set) (u v e : ℕ) → ((w : ℕ) → IsEnd g e w → barred g f u v e w ≡ false) → is_open g f u v e ≡ true
@@ -50,62 +39,32 @@ open-ends g f u v e free = ap not (or_from (barred g f u v e (first_end g e)) (b
 -- an end counts
 end-counts : (g : Graph) (e w : ℕ) → IsEnd g e w → 1 ≤ ends_of g e w
 unfolding ends_of
-end-counts g e w h = elim h [
-  | inl i ↦ let x = ap bit (eq-eqb (first_end g e) w i) in omega arith
-  | inr i ↦ let x = ap bit (eq-eqb (second_end g e) w i) in omega arith
-]
+end-counts g e w h = grind arith
 
 -- the two ends of an ear differ
 pub ends-differ : (g : Graph) (f : Set) (v : ℕ) (es : List ℕ) → IsEar g f v es → v ≢ last_vertex g v es
-ends-differ g f v es ear same =
-    let a = evens_at g f v es ear v in
-    let b = ear.once v in
-    let c = ap bit (eq-eqb v v refl) in
-    let d = ap bit (eq-eqb (last_vertex g v es) v (sym same)) in absurd (omega arith)
+ends-differ g f v es ear same = grind (arith, evens_at g f v es ear v, eq-eqb v v refl, eq-eqb (last_vertex g v es) v (sym same))
 
 module _ (g : Graph) (is : IsGraph g) (f : Set) (v : ℕ) (es : List ℕ) (ear : IsEar g f v es) (q : Set) (serves : IsPerfectOff g f (pair_set v (last_vertex g v es)) q) (r : Set) (rest : IsPerfect g (is_met g (with_edges f es)) r) where
   z : ℕ
   z = last_vertex g v es
 
   grown : IsPerfectOff g (with_edges f es) none (with_edges q (odds es))
-  grown = odd_on g f v es ear none q (λ w ww t. absurd (true≢false (sym t))) refl refl
-      (off-same g f (pair_set v (last_vertex g v es)) (union (pair_set v (last_vertex g v es)) none) q (λ w. or_false_back (pair_set v (last_vertex g v es) w)) serves)
+  grown = grind (arith, odd_on g f v es ear none q, true≢false, off-same g f (pair_set v (last_vertex g v es)) (union (pair_set v (last_vertex g v es)) none) q, or_false_back)
 
   -- an edge on the stage has no end at the ends of the ear
   on-open : (e : ℕ) → Within (size g) e → q e ≡ true → is_open g f v (last_vertex g v es) e ≡ true
-  on-open e we t = open-ends g f v (last_vertex g v es) e (λ w end.
-      ap (λ b. cond b (pair_set v (last_vertex g v es) w) (is_met g f w && not (pair_set v (last_vertex g v es) w))) (serves.part e we t)
-      ∙ false_from_ne_true (pair_set v (last_vertex g v es) w) (λ i.
-      let a = serves.away w (end-within e we w end) i in
-      let b = ends_le_degree g q e w we t in
-      let c = end-counts g e w end in omega arith))
-    where
-      end-within : (e : ℕ) → Within (size g) e → (w : ℕ) → IsEnd g e w → Within g.order w
-      end-within e we w end = elim end [ inl i ↦ subst (Within g.order) i (is e we).0 | inr i ↦ subst (Within g.order) i (is e we).1 ]
+  on-open e we t = grind (arith, open-ends g f v (last_vertex g v es) e, false_from_ne_true, ends_le_degree g q e, end-counts g e)
 
   -- an edge off the stage has no end at another vertex of the stage
   off-open : (e : ℕ) → f e ≡ false → ((w : ℕ) → IsEnd g e w → is_met g f w ≡ true → pair_set v (last_vertex g v es) w ≡ true) → is_open g f v (last_vertex g v es) e ≡ true
-  off-open e off among = open-ends g f v (last_vertex g v es) e (λ w end.
-      ap (λ b. cond b (pair_set v (last_vertex g v es) w) (is_met g f w && not (pair_set v (last_vertex g v es) w))) off
-      ∙ out (is_met g f w) (pair_set v (last_vertex g v es) w) (among w end))
-    where
-      out : (a b : Bool) → (a ≡ true → b ≡ true) → (a && not b) ≡ false
-      out true b h = ap not (h refl)
-      out false b h = refl
+  off-open e off among = grind arith
 
   ear-open : (e : ℕ) → mem es e ≡ true → is_open g f v (last_vertex g v es) e ≡ true
-  ear-open e i = off-open e (ear.new e i) (λ w end t. elim (cases_Bool (pair_set v (last_vertex g v es) w)) [
-    | inl p ↦ p
-    | inr p ↦ absurd (both_ways (is_met g f w) (ear.inner w (trail_has g v es ear.follow e w i (end-counts g e w end))
-        (λ s. both_ways (pair_set v (last_vertex g v es) w) p (or_left (v == w) (last_vertex g v es == w) (eq-eqb v w (sym s))))
-        (λ s. both_ways (pair_set v (last_vertex g v es) w) p (or_right (v == w) (last_vertex g v es == w) (eq-eqb (last_vertex g v es) w (sym s))))) t)
-  ])
+  ear-open e i = grind (arith, off-open e (ear.new e i), cases_Bool, both_ways, trail_has g v es ear.follow e, end-counts g e, or_left, eq-eqb v, or_right, eq-eqb (last_vertex g v es))
 
   rest-open : (e : ℕ) → Within (size g) e → r e ≡ true → is_open g f v (last_vertex g v es) e ≡ true
-  rest-open e we t = off-open e (false_from_ne_true (f e) (λ i. both_ways (r e) (apart e we (or_left (f e) (mem es e) i)) t))
-      (λ w end i. absurd (let a = rest.away w (met-within g is f w i) (still-met g f es w i) in
-      let b = ends_le_degree g r e w we t in
-      let c = end-counts g e w end in omega arith))
+  rest-open e we t = grind (arith, off-open e, false_from_ne_true (f e), both_ways (r e), or_left (f e) (mem es e), met-within g is f, still-met g f es, ends_le_degree g r e, end-counts g e)
     where
       apart : (e : ℕ) → Within (size g) e → with_edges f es e ≡ true → r e ≡ false
       apart = apart-rest g is (with_edges f es) none (with_edges q (odds es)) r (λ w t. absurd (true≢false (sym t))) grown rest
@@ -135,5 +94,4 @@ none-forced g is cov f stage never (two a b) = λ c steps goes. let m = single-l
 
 -- a single step is forced
 pub single-forced : (g : Graph) (f : Set) (s : PlainStep) → IsSingle s → IsForced g f s
-single-forced g f (one a) single = tt
-single-forced g f (two a b) single = absurd single
+single-forced g f s single = grind arith

@@ -1,7 +1,7 @@
 -- A perfect matching by marked edges, from one of the graph of these edges: it holds the edges
 -- whose rank among the marked ones is an edge of that one. A perfect matching that holds them all
 -- has no other edge.
-use Rattle.std.proofs.Common.{◌≡◌, ℕ, suc, zero, ◌+◌, true, ◌==◌, ◌||◌, refl, sym, ap, ◌∙◌, arith, eq-eqb, ◌⊎◌, inl, inr, List, [], ◌∷◌, drop, map, Some, All, get_or, slice_get}
+use Rattle.std.proofs.Common.{◌≡◌, ℕ, suc, zero, ◌+◌, true, ◌==◌, ◌||◌, refl, sym, ap, ◌∙◌, arith, eq-eqb, ◌⊎◌, inl, inr, List, [], ◌∷◌, drop, map, Some, All, get_or, slice_get, rules}
 use Rattle.counting.proofs.Common.{and_parts, or_left, or_right, true≢false, rising_holds, rising_only, mem-item, Within, count, mem, rising_list, Set, none}
 use Rattle.graph_core.proofs.Common.{degree_congr, edge_at, Graph, IsGraph, first_end, second_end, size, with_ends, HasPerfect, IsPerfect}
 use Rattle.match_core.specs.declared.matching.MatchRow.{MatchRow}
@@ -54,11 +54,5 @@ module _ (g : Graph) (f : Set) where
           let v = first_end g e in
           let d = edge_at g (by_rank f m) v (let a = p.perfect.once v (is e w).0 refl in omega arith) in
           let held = holds d.0 (rising_holds (size g) (by_rank f m) d.0 d.1 d.2) in
-          ap f (one-at g k whole v e d.0 (is e w).0 w d.1 t held (or_left (first_end g e == v) (second_end g e == v) (eq-eqb v v refl)) (at-end d.0 v d.3.0 d.3.1)) ∙ p.part d.0 d.1 d.2;
+          ap f (one-at g k whole v e d.0 (is e w).0 w d.1 t held (or_left (first_end g e == v) (second_end g e == v) (eq-eqb v v refl)) (grind arith)) ∙ p.part d.0 d.1 d.2;
     }
-      where
-        at-end : (d v y : ℕ) → ((first_end g d ≡ v) × (second_end g d ≡ y)) ⊎ ((first_end g d ≡ y) × (second_end g d ≡ v)) → (first_end g d == v || second_end g d == v) ≡ true
-        at-end d v y h = elim h [
-          | inl i ↦ or_left (first_end g d == v) (second_end g d == v) (eq-eqb (first_end g d) v i.0)
-          | inr i ↦ or_right (first_end g d == v) (second_end g d == v) (eq-eqb (second_end g d) v i.1)
-        ]

@@ -1,5 +1,5 @@
 -- Marks set at the places of further edges, and the tests of a step of two ears.
-use Rattle.std.proofs.Common.{◌≡◌, ℕ, ◌+◌, ◌<◌, Bool, true, false, ◌||◌, ◌==◌, if◌then◌else◌, List, [], ◌∷◌, length, All, Option, Some, None, refl, sym, ap, ◌∙◌, arith, slice_set}
+use Rattle.std.proofs.Common.{◌≡◌, ℕ, ◌+◌, ◌<◌, Bool, true, false, ◌||◌, ◌==◌, if◌then◌else◌, List, [], ◌∷◌, length, All, Option, Some, None, refl, sym, ap, ◌∙◌, arith, slice_set, rules}
 use Rattle.std.proofs.Math.Path.{fun_ext}
 use Rattle.counting.proofs.Common.{Within, mem, Set}
 use Rattle.graph_core.proofs.Common.{Graph}
@@ -9,12 +9,7 @@ use Rattle.ear_core.specs.Common.{PlainEar, two, PlainWhy, not_path, even_length
 
 -- one more is marked, and one less is left
 pub marked-more : (items : List Bool) (old every : Set) (e : ℕ) (rest others : List ℕ) → rest ≡ e ∷ others → e < length items → ((i : ℕ) → (marks items i || mem rest i) ≡ (old i || every i)) → (i : ℕ) → (marks (slice_set items e true) i || mem others i) ≡ (old i || every i)
-marked-more items old every e rest others begins below same i =
-    ap (λ b. b || mem others i) (marks-set items e i below) ∙ joined (marks items i) (e == i) (mem others i) ∙ ap (λ es. marks items i || mem es i) (sym begins) ∙ same i
-  where
-    joined : (a b c : Bool) → ((a || b) || c) ≡ (a || (b || c))
-    joined true b c = refl
-    joined false b c = refl
+marked-more items old every e rest others begins below same i = grind (arith, marks-set items e i below)
 
 -- the tests look at the members of a list alone
 fault-same : (g : Graph) (f : Set) (xs ys ds : List ℕ) (v : ℕ) (es : List ℕ) → ((w : ℕ) → mem xs w ≡ mem ys w) → ear_fault g f xs ds v es ≡ ear_fault g f ys ds v es
@@ -24,9 +19,7 @@ fault-same g f xs ys ds v es same =
 
 -- a step of two ears, the first of which passes
 pub pair-fault : (g : Graph) (f : Set) (a b : PlainEar) (inner used : List ℕ) (fault : Option PlainWhy) → ear_fault g f [] [] a.begin a.edges ≡ None → ((w : ℕ) → mem inner w ≡ mem (inner_vertices g a.begin a.edges) w) → used ≡ a.edges → ear_fault g f inner used b.begin b.edges ≡ fault → step_fault g f (two a b) ≡ fault
-pair-fault g f a b inner used fault passes same is second =
-    ap (λ x. first_of x (ear_fault g f (inner_vertices g a.begin a.edges) a.edges b.begin b.edges)) passes
-    ∙ sym (fault-same g f inner (inner_vertices g a.begin a.edges) a.edges b.begin b.edges same) ∙ ap (λ ds. ear_fault g f inner ds b.begin b.edges) (sym is) ∙ second
+pair-fault g f a b inner used fault passes same is second = grind (arith, fault-same g f inner (inner_vertices g a.begin a.edges) a.edges b.begin b.edges same)
 
 -- edges in range have places in a row of marks
 pub below_marks : (m n : ℕ) (es : List ℕ) → n ≡ m + 1 → All (Within m) es → All (λ e. e < n) es

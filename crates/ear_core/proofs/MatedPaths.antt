@@ -1,7 +1,7 @@
 -- Paths of two perfect matchings. From v the edges of m and n are followed in turn; the vertices
 -- passed hold their mates, so a new vertex comes each time, and the path ends at a vertex of the
 -- stage.
-use Rattle.std.proofs.Common.{◌≡◌, ℕ, ◌+◌, ◌≤◌, ◌≢◌, Bool, true, false, ◌==◌, refl, sym, ap, ◌∙◌, arith, ◌||◌, not, eq-eqb, ne_eqb, eqb-true, ◌⊎◌, inl, inr, subst, [], ◌∷◌, List, length}
+use Rattle.std.proofs.Common.{◌≡◌, ℕ, ◌+◌, ◌≤◌, ◌≢◌, Bool, true, false, ◌==◌, refl, sym, ap, ◌∙◌, arith, ◌||◌, not, eq-eqb, ne_eqb, eqb-true, ◌⊎◌, inl, inr, subst, [], ◌∷◌, List, length, rules}
 use Rattle.counting.proofs.Common.{cases_eq, cases_Bool, both_ways, true≢false, false_from_ne_true, not-true, or_left, or_right, or_cases, count_more, times_mem, Within, bit, count, is_odd, mem, times, Set, complement}
 use Rattle.ear_core.proofs.TraceEdges.{start_mem}
 use Rattle.ear_core.proofs.Mates.{AreMates, mate_back, mate_within}
@@ -16,7 +16,7 @@ module _ (g : Graph) (is : IsGraph g) (met : Set) (m : ℕ → ℕ) (pm : AreMat
   path_ends z v wv c t = record {
     follow = ((pm.within v wv, pm.at v wv), tt);
     odd = refl;
-    once = λ w. one w;
+    once = λ w. grind arith;
     end = t;
     inner = λ w i d e. absurd (elim (two w i) [ inl j ↦ d (sym j) | inr j ↦ e (sym j) ]);
     new = λ e i. elim (or_cases (m v == e) false i) [ inl j ↦ inl (sym (eqb-true (m v) e j)) | inr j ↦ absurd (true≢false (sym j)) ];
@@ -30,16 +30,7 @@ module _ (g : Graph) (is : IsGraph g) (met : Set) (m : ℕ → ℕ) (pm : AreMat
   }
     where
       two : (w : ℕ) → mem (v ∷ mate g m v ∷ []) w ≡ true → (v ≡ w) ⊎ (mate g m v ≡ w)
-      two w i = elim (or_cases (v == w) (mem (mate g m v ∷ []) w) i) [
-        | inl j ↦ inl (eqb-true v w j)
-        | inr j ↦ elim (or_cases (mate g m v == w) false j) [ inl k ↦ inr (eqb-true (mate g m v) w k) | inr k ↦ absurd (true≢false (sym k)) ]
-      ]
-
-      one : (w : ℕ) → bit (v == w) + (bit (mate g m v == w) + 0) ≤ 1
-      one w = elim (cases_eq v w) [
-        | inl j ↦ let x = ap bit (ne_eqb (mate g m v) w (λ k. pm.other v wv (k ∙ sym j))) in let y = ap bit (eq-eqb v w j) in omega arith
-        | inr j ↦ let y = ap bit (ne_eqb v w j) in (elim (cases_eq (mate g m v) w) [ inl k ↦ let x = ap bit (eq-eqb (mate g m v) w k) in omega arith | inr k ↦ let x = ap bit (ne_eqb (mate g m v) w k) in omega arith ])
-      ]
+      two w i = grind (arith, or_cases (v == w) (mem (mate g m v ∷ []) w) i, eqb-true v w, or_cases (mate g m v == w) false, eqb-true (mate g m v) w, true≢false)
 
       new_end : z (mate g m v) ≡ false
       new_end = false_from_ne_true (z (mate g m v)) (λ i. both_ways (z v) c.fresh (ap z (sym (mate_back g is m pm v wv)) ∙ c.closed_m (mate g m v) (mate_within g is m pm v wv) i))
@@ -70,23 +61,14 @@ module _ (g : Graph) (is : IsGraph g) (met : Set) (m : ℕ → ℕ) (pm : AreMat
     next_off = out_n w ww o
 
     next_other : next ≢ v
-    next_other i = elim (cases_Bool (met v)) [
-      | inl t ↦ both_ways (met v) (ap met (sym i) ∙ next_off) t
-      | inr t ↦ both_ways (z w) mate_fresh (ap z (sym next_back) ∙ ap (λ k. z (mate g n k)) i ∙ c.back t)
-    ]
+    next_other i = grind (arith, cases_Bool (met v), both_ways (met v) (ap met (sym i) ∙ next_off), next_off, both_ways (z w) mate_fresh, mate_fresh, next_back)
 
     next_fresh : z next ≡ false
-    next_fresh = false_from_ne_true (z next) (λ i. elim (c.closed_n next next_within i next_off) [
-      | inl j ↦ both_ways (z w) mate_fresh (ap z (sym next_back) ∙ j)
-      | inr j ↦ pm.other v wv (sym next_back ∙ j)
-    ])
+    next_fresh = grind (arith, false_from_ne_true (z next), next_within, next_off, both_ways (z w) mate_fresh, mate_fresh, next_back)
 
     in_passed : (u : ℕ) → passed_too u ≡ true → (z u ≡ true) ⊎ ((v ≡ u) ⊎ (w ≡ u))
     unfolding passed_too
-    in_passed u h = elim (or_cases (z u) (v == u || w == u) h) [
-      | inl i ↦ inl i
-      | inr i ↦ elim (or_cases (v == u) (w == u) i) [ inl j ↦ inr (inl (eqb-true v u j)) | inr j ↦ inr (inr (eqb-true w u j)) ]
-    ]
+    in_passed u h = grind (arith, or_cases (z u) (v == u || w == u) h, or_cases (v == u) (w == u), eqb-true v u, eqb-true w u)
 
     was_passed : (u : ℕ) → z u ≡ true → passed_too u ≡ true
     unfolding passed_too
@@ -104,10 +86,7 @@ module _ (g : Graph) (is : IsGraph g) (met : Set) (m : ℕ → ℕ) (pm : AreMat
     next_is_clear = record {
       closed_m = λ u wu h. elim (in_passed u h) [
         | inl i ↦ was_passed (mate g m u) (c.closed_m u wu i)
-        | inr i ↦ elim i [
-          | inl j ↦ mate_passed (mate g m u) (ap (mate g m) j)
-          | inr j ↦ begin_passed (mate g m u) (sym (ap (mate g m) (sym j) ∙ mate_back g is m pm v wv))
-        ]
+        | inr i ↦ grind (arith, mate_passed (mate g m u), begin_passed (mate g m u), mate_back g is m pm v wv)
       ];
       fresh = false_from_ne_true (passed_too next) (λ h. elim (in_passed next h) [
         | inl i ↦ both_ways (z next) next_fresh i
@@ -115,10 +94,7 @@ module _ (g : Graph) (is : IsGraph g) (met : Set) (m : ℕ → ℕ) (pm : AreMat
       ]);
       closed_n = λ u wu h t. elim (in_passed u h) [
         | inl i ↦ elim (c.closed_n u wu i t) [ inl j ↦ inl (was_passed (mate g n u) j) | inr j ↦ inl (begin_passed (mate g n u) (sym j)) ]
-        | inr i ↦ elim i [
-          | inl j ↦ inl (was_passed (mate g n u) (ap (λ k. z (mate g n k)) (sym j) ∙ c.back (ap met j ∙ t)))
-          | inr j ↦ inr (ap (mate g n) (sym j))
-        ]
+        | inr i ↦ grind (arith, was_passed (mate g n u))
       ];
       back = λ t. mate_passed (mate g n next) (sym next_back);
     }
@@ -129,7 +105,7 @@ module _ (g : Graph) (is : IsGraph g) (met : Set) (m : ℕ → ℕ) (pm : AreMat
     pub path_goes_on : (es : List ℕ) → IsAlternating g met m n passed_too next es → IsAlternating g met m n z v (m v ∷ n w ∷ es)
     path_goes_on es p = record {
       follow = ((pm.within v wv, pm.at v wv), ((pn.within w ww, pn.at w ww), p.follow));
-      odd = twice (is_odd (length es)) p.odd;
+      odd = grind arith;
       once = once;
       end = p.end;
       inner = λ u i d e. elim (three u i) [
@@ -158,32 +134,17 @@ module _ (g : Graph) (is : IsGraph g) (met : Set) (m : ℕ → ℕ) (pm : AreMat
       ];
       by_m = λ u i. elim (three u i) [
         | inl j ↦ or_right (v == mate g m u) _ (or_left (w == mate g m u) _ (eq-eqb w (mate g m u) (ap (mate g m) j)))
-        | inr j ↦ elim j [
-          | inl k ↦ or_left (v == mate g m u) _ (eq-eqb v (mate g m u) (sym (ap (mate g m) (sym k) ∙ mate_back g is m pm v wv)))
-          | inr k ↦ or_right (v == mate g m u) _ (or_right (w == mate g m u) _ (p.by_m u k))
-        ]
+        | inr j ↦ grind (arith, or_left (v == mate g m u), eq-eqb v (mate g m u), mate_back g is m pm v wv, or_right (v == mate g m u), or_right (w == mate g m u))
       ];
       by_n = λ u i t d. elim (three u i) [
         | inl j ↦ absurd (d (sym j))
-        | inr j ↦ elim j [
-          | inl k ↦ or_right (v == mate g n u) _ (or_right (w == mate g n u) _ (subst (λ k. mem (trail g next es) (mate g n k) ≡ true) k (start_mem g next es)))
-          | inr k ↦ elim (cases_eq u next) [
-            | inl x ↦ or_right (v == mate g n u) _ (or_left (w == mate g n u) _ (eq-eqb w (mate g n u) (sym (ap (mate g n) x ∙ next_back))))
-            | inr x ↦ or_right (v == mate g n u) _ (or_right (w == mate g n u) _ (p.by_n u k t x))
-          ]
-        ]
+        | inr j ↦ grind (arith, or_right (v == mate g n u), or_right (w == mate g n u), start_mem g next es, cases_eq u next, or_left (w == mate g n u), eq-eqb w (mate g n u), next_back)
       ];
       last = or_right (m v == m (last_vertex g next es)) _ (or_right (n w == m (last_vertex g next es)) _ p.last);
     }
       where
-        twice : (x : Bool) → x ≡ true → not (not x) ≡ true
-        twice x h = grind arith
-
         three : (u : ℕ) → mem (v ∷ w ∷ trail g next es) u ≡ true → (v ≡ u) ⊎ ((w ≡ u) ⊎ (mem (trail g next es) u ≡ true))
-        three u i = elim (or_cases (v == u) (mem (w ∷ trail g next es) u) i) [
-          | inl j ↦ inl (eqb-true v u j)
-          | inr j ↦ elim (or_cases (w == u) (mem (trail g next es) u) j) [ inl k ↦ inr (inl (eqb-true w u k)) | inr k ↦ inr (inr k) ]
-        ]
+        three u i = grind (arith, or_cases (v == u) (mem (w ∷ trail g next es) u) i, eqb-true v u, or_cases (w == u) (mem (trail g next es) u), eqb-true w u)
 
         off : (u : ℕ) → passed_too u ≡ true → times (trail g next es) u ≡ 0
         off u h = elim (cases_eq (times (trail g next es) u) 0) [

@@ -1,6 +1,6 @@
 -- The mates of a perfect matching: each vertex has one edge of it, and the other end of that edge
 -- has the same one. So a vertex is the mate of its mate.
-use Rattle.std.proofs.Common.{◌≡◌, ℕ, suc, ◌≢◌, Bool, true, false, cond, ◌==◌, refl, sym, ap, ◌∙◌, arith, ◌||◌, eq-eqb, ne_eqb, eqb-true, inl, inr, List, [], ◌∷◌, map, All}
+use Rattle.std.proofs.Common.{◌≡◌, ℕ, suc, ◌≢◌, Bool, true, false, cond, ◌==◌, refl, sym, ap, ◌∙◌, arith, ◌||◌, eq-eqb, ne_eqb, eqb-true, inl, inr, List, [], ◌∷◌, map, All, rules}
 use Rattle.counting.proofs.Common.{cases_eq, or_left, or_right, or_cases, true≢false, Within, bit, mem, Set, none}
 use Rattle.barrier_kit.proofs.Common.{loop_free}
 use Rattle.graph_core.proofs.Common.{edge_at, two_ends_le_degree, Graph, size, first_end, second_end, IsGraph, IsPerfect}
@@ -11,30 +11,13 @@ use Rattle.ear_core.proofs.TraceEdges.{ends_of-other_end}
 use Rattle.ear_core.proofs.Walking.{joins}
 
 pub joins-other_end : (g : Graph) (e v : ℕ) → joins g e (other_end g e v) ≡ true
-joins-other_end g e v = go (first_end g e == v)
-  where
-    go : (b : Bool) → joins g e (cond b (second_end g e) (first_end g e)) ≡ true
-    go true = or_right (first_end g e == second_end g e) (second_end g e == second_end g e) (eq-eqb (second_end g e) (second_end g e) refl)
-    go false = or_left (first_end g e == first_end g e) (second_end g e == first_end g e) (eq-eqb (first_end g e) (first_end g e) refl)
+joins-other_end g e v = grind arith
 
 other_end-back : (g : Graph) (e v : ℕ) → joins g e v ≡ true → other_end g e (other_end g e v) ≡ v
-other_end-back g e v h = go (first_end g e) (second_end g e) h
-  where
-    go : (a b : ℕ) → (a == v || b == v) ≡ true → cond (a == cond (a == v) b a) b a ≡ v
-    go a b h = elim (cases_eq a v) [
-      | inl i ↦ ap (λ t. cond (a == cond t b a) b a) (eq-eqb a v i) ∙ (elim (cases_eq a b) [
-        | inl j ↦ ap (λ t. cond t b a) (eq-eqb a b j) ∙ sym j ∙ i
-        | inr j ↦ ap (λ t. cond t b a) (ne_eqb a b j) ∙ i
-      ])
-      | inr i ↦ ap (λ t. cond (a == cond t b a) b a) (ne_eqb a v i) ∙ ap (λ t. cond t b a) (eq-eqb a a refl) ∙ (elim (or_cases (a == v) (b == v) h) [ inl j ↦ absurd (i (eqb-true a v j)) | inr j ↦ eqb-true b v j ])
-    ]
+other_end-back g e v h = grind arith
 
 pub other_end-within : (g : Graph) → IsGraph g → (e v : ℕ) → Within (size g) e → Within g.order (other_end g e v)
-other_end-within g is e v w = go (first_end g e == v)
-  where
-    go : (b : Bool) → Within g.order (cond b (second_end g e) (first_end g e))
-    go true = (is e w).1
-    go false = (is e w).0
+other_end-within g is e v w = grind arith
 
 -- what is used of the edges of a perfect matching: each vertex has one, which is that of its
 -- other end too
@@ -52,15 +35,7 @@ mate_back g is m mates v w = ap (λ e. other_end g e (mate g m v)) (mates.same v
 
 -- the edge at v is one alone
 pub one-at : (g : Graph) (m : Set) → IsPerfect g none m → (v d e : ℕ) → Within g.order v → Within (size g) d → Within (size g) e → m d ≡ true → m e ≡ true → joins g d v ≡ true → joins g e v ≡ true → d ≡ e
-one-at g m perfect v d e w wd we md me jd je = elim (cases_eq d e) [
-  | inl i ↦ i
-  | inr n ↦
-      let x = two_ends_le_degree g m d e v wd we n md me in
-      let y = ends_of-other_end g d v v jd in
-      let z = ends_of-other_end g e v v je in
-      let u = ap bit (eq-eqb v v refl) in
-      let o = perfect.once v w refl in absurd (omega arith)
-]
+one-at g m perfect v d e w wd we md me jd je = grind (arith, cases_eq d e, two_ends_le_degree g m d e v wd we, ends_of-other_end g d v v jd, ends_of-other_end g e v v je, eq-eqb v v refl)
 
 -- the rows give an edge at v if one of their edges is at v
 found-in : (g : Graph) (rows : List MatchRow) (v e : ℕ) → All (IsRowOf g) rows → mem (map (λ (row : MatchRow). row.edge) rows) e ≡ true → joins g e v ≡ true →
@@ -77,36 +52,19 @@ found-in g (row ∷ rows) v e all m h = go (row.a == v || row.b == v) refl (λ i
     go : (b : Bool) → (row.a == v || row.b == v) ≡ b →
         (mem (map (λ (row : MatchRow). row.edge) rows) e ≡ true → Within (size g) (row_edge rows v) × (mem (map (λ (row : MatchRow). row.edge) rows) (row_edge rows v) ≡ true) × (joins g (row_edge rows v) v ≡ true)) →
         Within (size g) (cond b row.edge (row_edge rows v)) × (mem (map (λ (row : MatchRow). row.edge) (row ∷ rows)) (cond b row.edge (row_edge rows v)) ≡ true) × (joins g (cond b row.edge (row_edge rows v)) v ≡ true)
-    go true q later = (first.edge, or_left (row.edge == row.edge) _ (eq-eqb row.edge row.edge refl), sym at_row ∙ q)
-    go false q later = elim (or_cases (row.edge == e) (mem (map (λ (row : MatchRow). row.edge) rows) e) m) [
-      | inl i ↦ absurd (true≢false (sym h ∙ ap (λ d. joins g d v) (sym (eqb-true row.edge e i)) ∙ sym at_row ∙ q))
-      | inr i ↦ let r = later i in (r.0, or_right (row.edge == row_edge rows v) _ r.1, r.2)
-    ]
+    go b q later = grind (arith, or_left, eq-eqb, at_row, or_cases, true≢false, eqb-true, or_right)
 
 module _ (g : Graph) (is : IsGraph g) (m : MatchingValue) (rows : IsPerfectRows g m) where
   -- the edge of the rows at v
   pub row-found : (v : ℕ) → Within g.order v → Within (size g) (row_edge m.rows v) × (mem (edges_of m) (row_edge m.rows v) ≡ true) × (joins g (row_edge m.rows v) v ≡ true)
-  row-found v w =
-      let e = edge_at g (mem (edges_of m)) v (let a = rows.perfect.once v w refl in omega arith) in
-      found-in g m.rows v e.0 rows.of.rows e.2 (elim e.3.1 [
-        | inl p ↦ or_left (first_end g e.0 == v) (second_end g e.0 == v) (eq-eqb (first_end g e.0) v p.0)
-        | inr p ↦ or_right (first_end g e.0 == v) (second_end g e.0 == v) (eq-eqb (second_end g e.0) v p.1)
-      ])
+  row-found v w = grind (arith, edge_at g (mem (edges_of m)) v, found-in g m.rows v, or_left, eq-eqb, or_right)
 
   -- and it is the edge of the matching at v
   pub row-is : (v e : ℕ) → Within g.order v → Within (size g) e → mem (edges_of m) e ≡ true → joins g e v ≡ true → e ≡ row_edge m.rows v
   row-is v e w we me h = let r = row-found v w in one-at g (mem (edges_of m)) rows.perfect v e (row_edge m.rows v) w we r.0 me r.1 h r.2
 
   pub rows-mates : AreMates g (row_edge m.rows)
-  rows-mates = record {
-    within = λ v w. (row-found v w).0;
-    at = λ v w. (row-found v w).2;
-    same = λ v w. let r = row-found v w in sym (row-is (other_end g (row_edge m.rows v) v) (row_edge m.rows v) (other_end-within g is (row_edge m.rows v) v r.0) r.0 r.1 (joins-other_end g (row_edge m.rows v) v));
-    other = λ v w i. let r = row-found v w in loop_free g none (mem (edges_of m)) is rows.perfect (row_edge m.rows v) r.0 r.1 (loop (first_end g (row_edge m.rows v)) (second_end g (row_edge m.rows v)) v i);
-  }
+  rows-mates = grind (arith, row-found, row-is, other_end-within g is, joins-other_end g, loop_free g none (mem (edges_of m)) is rows.perfect, loop)
     where
       loop : (a b v : ℕ) → cond (a == v) b a ≡ v → a ≡ b
-      loop a b v h = elim (cases_eq a v) [
-        | inl j ↦ j ∙ sym (sym (ap (λ t. cond t b a) (eq-eqb a v j)) ∙ h)
-        | inr j ↦ absurd (j (sym (ap (λ t. cond t b a) (ne_eqb a v j)) ∙ h))
-      ]
+      loop a b v h = grind arith

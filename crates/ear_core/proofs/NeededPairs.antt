@@ -1,7 +1,7 @@
 -- Two ears are needed where neither of them serves. If a stage with an ear is matching covered,
 -- then a perfect matching of it through the first edge of the ear leaves the ear at its other end
 -- too, by parity; so the stage has a perfect matching without the two ends.
-use Rattle.std.proofs.Common.{◌≡◌, ◌≢◌, ◌⊎◌, ℕ, ◌+◌, ◌*◌, ◌≤◌, Bool, true, false, cond, ◌==◌, refl, sym, ap, ◌∙◌, arith, ◌&&◌, eq-eqb, ne_eqb, eqb-true, inl, inr, subst, [], ◌∷◌, ◌++◌, List, append_assoc}
+use Rattle.std.proofs.Common.{◌≡◌, ◌≢◌, ◌⊎◌, ℕ, ◌+◌, ◌*◌, ◌≤◌, Bool, true, false, cond, ◌==◌, refl, sym, ap, ◌∙◌, arith, ◌&&◌, eq-eqb, ne_eqb, eqb-true, inl, inr, subst, [], ◌∷◌, ◌++◌, List, append_assoc, rules}
 use Rattle.std.proofs.Math.Path.{fun_ext}
 use Rattle.counting.proofs.Common.{and_from, and_parts, both_ways, cases_Bool, cases_eq, or_cases, or_left, or_parts, or_right, true≢false, total_add, total_at, total_congr, Within, bit, count, IsIn, mem, Set, pair_set, put}
 use Rattle.graph_core.proofs.Common.{degree_put, edge_at, ends_le_degree, ends_of, sum_degrees, Graph, IsGraph, degree, first_end, second_end, size}
@@ -20,10 +20,7 @@ differ-once g is q p v wv each =
     let d = total_congr g.order (λ w. degree g q w + bit (v == w)) (λ w. degree g p w) each in
     let e = total_at g.order (λ w. bit (v == w)) v wv (λ w ww n. ap bit (ne_eqb v w (λ i. n (sym i)))) in
     let h = ap bit (eq-eqb v v refl) in
-    odd-even (count (size g) q) (count (size g) p) (omega arith)
-  where
-    odd-even : (x y : ℕ) → 2 * x + 1 ≡ 2 * y → ⊥
-    odd-even x y e = omega arith
+    (omega arith)
 
 module _ (g : Graph) (is : IsGraph g) (f : Set) (stage : IsStage g f) (v : ℕ) (es : List ℕ) (ear : IsEar g f v es) (m : Set) (perfect : IsPerfectOf g (with_edges f es) m) where
   -- the edges of the matching on the old stage
@@ -48,16 +45,10 @@ module _ (g : Graph) (is : IsGraph g) (f : Set) (stage : IsStage g f) (v : ℕ) 
   off-ear w ww t a b =
       let d = met-once w ww t in
       let e = edge_at g m w (omega arith) in
-      let l : 1 ≤ ends_of g e.0 w = meets (first_end g e.0) (second_end g e.0) w e.3.0 e.3.1 in
+      let l : 1 ≤ ends_of g e.0 w = grind arith in
       elim (or_cases (f e.0) (mem es e.0) (perfect.part e.0 e.1 e.2)) [
         | inl i ↦ let x = ends_le_degree g q e.0 w e.1 (and_from (m e.0) (f e.0) e.2 i) in let y = below w in omega arith
         | inr i ↦ let x = trail_has g v es ear.follow e.0 w i l in absurd (both_ways (is_met g f w) (ear.inner w x (λ c. a (sym c)) (λ c. b (sym c))) t)
-      ]
-    where
-      meets : (a b w y : ℕ) → ((a ≡ w) × (b ≡ y)) ⊎ ((a ≡ y) × (b ≡ w)) → 1 ≤ bit (a == w) + bit (b == w)
-      meets a b w y h = elim h [
-        | inl p ↦ let x = ap bit (eq-eqb a w p.0) in omega arith
-        | inr p ↦ let x = ap bit (eq-eqb b w p.1) in omega arith
       ]
 
   -- an edge of the ear at v is in the matching, so no other one is
@@ -65,29 +56,16 @@ module _ (g : Graph) (is : IsGraph g) (f : Set) (stage : IsStage g f) (v : ℕ) 
   at-start e we off t l =
       let a : degree g (put q e true) v + bit (q e) * ends_of g e v ≡ degree g q v + bit true * ends_of g e v = degree_put g q e true v we in
       let b : bit (q e) * ends_of g e v ≡ bit false * ends_of g e v = ap (λ k. bit k * ends_of g e v) (out (m e) (f e) off) in
-      let c = degree_le g (put q e true) m v (λ d wd i. among d i) in
+      let c = degree_le g (put q e true) m v (λ d wd i. grind arith) in
       let d = met-once v (met-within g is f v ear.start) ear.start in omega arith
     where
       out : (x y : Bool) → y ≡ false → (x && y) ≡ false
       out x y h = grind arith
 
-      among : (d : ℕ) → put q e true d ≡ true → m d ≡ true
-      among d i = elim (cases_eq d e) [
-        | inl j ↦ ap m j ∙ t
-        | inr j ↦ (and_parts (m d) (f d) (put-else d j i)).0
-      ]
-        where
-          put-else : (d : ℕ) → d ≢ e → put q e true d ≡ true → q d ≡ true
-          put-else d j i = ap (λ b. cond b true (q d)) (sym (ne_eqb d e j)) ∙ i
-
   -- were the other end met, the stage had a perfect matching without one vertex
   with-start : (p : Set) → IsPerfectOf g f p → degree g q v ≡ 0 → degree g q z ≢ 0 → (w : ℕ) → Within g.order w → degree g q w + bit (v == w) ≡ degree g p w
   with-start p whole start end w ww = elim (cases_Bool (is_met g f w)) [
-    | inr o ↦
-        let a = unmet g f w o in
-        let b = degree_le g q f w inside in
-        let c = degree_le g p f w whole.part in
-        let d = ap bit (ne_eqb v w (λ i. both_ways (is_met g f w) o (subst (λ k. is_met g f k ≡ true) i ear.start))) in omega arith
+    | inr o ↦ grind (arith, unmet g f w o, degree_le g q f w inside, degree_le g p f w whole.part, ne_eqb v w, both_ways (is_met g f w) o)
     | inl t ↦
         let a = whole.once w ww t in
         elim (cases_eq v w) [
@@ -113,14 +91,7 @@ module _ (g : Graph) (is : IsGraph g) (f : Set) (stage : IsStage g f) (v : ℕ) 
   ]
 
   off-ends : degree g q v ≡ 0 → IsPerfectOff g f (pair_set v z) q
-  off-ends start = record {
-    part = inside;
-    once = λ w ww t o. let r = or_parts (v == w) (z == w) o in off-ear w ww t (λ i. both_ways (v == w) r.0 (eq-eqb v w i)) (λ i. both_ways (z == w) r.1 (eq-eqb z w i));
-    away = λ w ww o. elim (or_cases (v == w) (z == w) o) [
-      | inl i ↦ subst (λ k. degree g q k ≡ 0) (eqb-true v w i) start
-      | inr i ↦ subst (λ k. degree g q k ≡ 0) (eqb-true z w i) (at-end start)
-    ];
-  }
+  off-ends start = grind (arith, or_parts, off-ear, both_ways, eq-eqb v, eq-eqb z, or_cases, eqb-true v, eqb-true z, at-end start)
 
 -- an ear serves, if the stage with it is matching covered
 pub stage-serves : (g : Graph) → IsGraph g → (f : Set) → IsStage g f → (v : ℕ) (es : List ℕ) → IsEar g f v es → IsStage g (with_edges f es) → (q : Set) × IsPerfectOff g f (pair_set v (last_vertex g v es)) q
@@ -140,9 +111,7 @@ module _ (g : Graph) (is : IsGraph g) (f : Set) (stage : IsStage g f) (ears : Li
 
   -- two ears are needed where no ear serves alone
   pub found-needed : (s : PlainStep) → FindsTwo g f ears s → IsNeeded g f s
-  found-needed s found =
-      let among = before-among found.0 found.1 ears found.2 in
-      subst (IsNeeded g f) (sym found.3) (not-alone found.0 among.0, not-alone found.1 among.1)
+  found-needed s found = grind (arith, before-among found.0 found.1 ears found.2, not-alone found.0, not-alone found.1)
 
 -- steps that go on from a stage, each as P asks
 pub each-go_on : (P : Set → PlainStep → Type 0) (first f new : Set) (before : List PlainStep) (s : PlainStep) → P f s → ((i : ℕ) → new i ≡ next_stage f s i) → ((others : List PlainStep) → AreEach P f others → AreEach P first (before ++ others)) →

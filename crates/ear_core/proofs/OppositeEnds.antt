@@ -1,7 +1,7 @@
 -- Two vertices on opposite sides of a stage whose edges all cross between the sides serve.
 -- Idea: the stage as a graph of its own is matching covered and bipartite, so it has a perfect
 -- matching without the two.
-use Rattle.std.proofs.Common.{◌≡◌, ℕ, Bool, true, false, ◌==◌, refl, ap, ap₂, sym, ◌∙◌, arith, ◌&&◌, ◌||◌, not, eq-eqb, eqb-true, inl, inr, List}
+use Rattle.std.proofs.Common.{◌≡◌, ℕ, Bool, true, false, ◌==◌, refl, ap, ap₂, sym, ◌∙◌, arith, ◌&&◌, ◌||◌, not, eq-eqb, eqb-true, inl, inr, List, rules}
 use Rattle.counting.proofs.Common.{and_from, and_parts, cases_Bool, or_comm, same_tests, rank_once, some_true, true_some, Within, count, Set, pair_set, some}
 use Rattle.barrier_kit.proofs.Common.{perfect_congr}
 use Rattle.graph_core.proofs.Common.{IsSide, Graph, IsGraph, first_end, in_cut, second_end, size, HasPerfect}
@@ -32,14 +32,7 @@ module _ (g : Graph) (is : IsGraph g) (f a : Set) (sides : (e : ℕ) → Within 
   stage_sides e we d =
       let l = size-ranked g is f in
       let w : Within (size g) e = omega arith in
-      elim (cases_Bool (f e)) [
-        | inr h ↦ let u = off-loop g is f e w h in absurd (d (u.0 ∙ sym u.1))
-        | inl h ↦
-            let u = ends-met g f e w h in
-            let x = ap by_rank (first_end-ranked g is f e w h) ∙ rank_side (first_end g e) (is e w).0 u.0 in
-            let y = ap by_rank (second_end-ranked g is f e w h) ∙ rank_side (second_end g e) (is e w).1 u.1 in
-            ap₂ (λ c d. (c && not d) || (not c && d)) x y ∙ sides e w h
-      ]
+      grind (arith, cases_Bool, off-loop, ends-met, first_end-ranked, rank_side, second_end-ranked)
 
   module _ (s : IsStage g f) where
     -- without two vertices on opposite sides
@@ -51,12 +44,7 @@ module _ (g : Graph) (is : IsGraph g) (f a : Set) (sides : (e : ℕ) → Within 
         (rank_side v wv tv ∙ hv) (rank_side z wz tz ∙ hz)
 
     served : (v z : ℕ) → t v ≡ true → t z ≡ true → a z ≡ not (a v) → (b : Bool) → a v ≡ b → HasPerfect (stage_graph g f) (pair_set (count v t) (count z t))
-    served v z tv tz e true h = opposite-served v z tv tz h (e ∙ ap not h)
-    served v z tv tz e false h =
-        let m = opposite-served z v tz tv (e ∙ ap not h) h in
-        (m.0, perfect_congr (stage_graph g f) (pair_set (count z t) (count v t)) (pair_set (count v t) (count z t)) m.0 (λ w ww. or_comm (count z t == w) (count v t == w)) m.1)
+    served v z tv tz e b h = grind (arith, opposite-served, perfect_congr, stage_graph, or_comm)
 
     pub opposite-serve : (v z : ℕ) → t v ≡ true → t z ≡ true → a z ≡ not (a v) → Serves g f (pair_set v z)
-    opposite-serve v z tv tz e =
-        let m = served v z tv tz e (a v) refl in
-        (m.0, ranked-off g is f (pair_set v z) (pair_set (count v t) (count z t)) (λ w ww tw. ap₂ ◌||◌ (rank-test t v w tv tw) (rank-test t z w tz tw)) (ranked-graph g is f s) m.0 m.1)
+    opposite-serve v z tv tz e = grind (arith, served v z tv tz e (a v) refl, ranked-off g is f (pair_set v z) (pair_set (count v t) (count z t)), rank-test t v, rank-test t z, ranked-graph g is f s)

@@ -1,7 +1,7 @@
 -- The graph of a stage with its vertices numbered by rank; edges keep their numbers, and those
 -- off the stage are loops. It is matching covered, and its perfect matchings are those of the
 -- stage. So the two-ear theorem holds for pairs of vertices of a stage.
-use Rattle.std.proofs.Common.{◌≡◌, ℕ, suc, zero, ◌+◌, ◌-◌, ◌≤◌, ◌≢◌, Bool, true, false, cond, ◌==◌, refl, sym, ap, ap₂, ◌∙◌, arith, ◌&&◌, ◌||◌, not, eq-eqb, ne_eqb, inl, inr, subst, [], ◌∷◌, ◌++◌, List, length, slice_index_or, get_or-append-add}
+use Rattle.std.proofs.Common.{◌≡◌, ℕ, suc, zero, ◌+◌, ◌-◌, ◌≤◌, ◌≢◌, Bool, true, false, cond, ◌==◌, refl, sym, ap, ap₂, ◌∙◌, arith, ◌&&◌, ◌||◌, not, eq-eqb, ne_eqb, inl, inr, subst, [], ◌∷◌, ◌++◌, List, length, slice_index_or, get_or-append-add, rules}
 use Rattle.std.proofs.lemmas.Bool.{true_from_ne_false}
 use Rattle.counting.proofs.Common.{cases_eq, cases_Bool, cases_order, and_parts, true≢false, length-append, get_or_append_left, count_congr, count_up, rank_once, member_ranked, some_true, at_le_total, two_le_total, Within, bit, count, Set, none, union, IsIn}
 use Rattle.barrier_kit.proofs.Common.{loop_free}
@@ -32,10 +32,7 @@ ranked t [] = []
 ranked t (p ∷ ps) = (count p.0 t, count p.1 t) ∷ ranked t ps
 
 pub rank-test : (t : Set) (u v : ℕ) → t u ≡ true → t v ≡ true → (count u t == count v t) ≡ (u == v)
-rank-test t u v tu tv = elim (cases_eq u v) [
-  | inl e ↦ eq-eqb (count u t) (count v t) (ap (λ k. count k t) e) ∙ sym (eq-eqb u v e)
-  | inr d ↦ ne_eqb (count u t) (count v t) (λ e. d (rank_once t u v tu tv e)) ∙ sym (ne_eqb u v d)
-]
+rank-test t u v tu tv = grind (arith, cases_eq u v, eq-eqb (count u t) (count v t), eq-eqb u v, ne_eqb (count u t) (count v t), rank_once t u v tu tv, ne_eqb u v)
 
 pub rank-within : (n : ℕ) (t : Set) (v : ℕ) → Within n v → t v ≡ true → Within (count n t) (count v t)
 rank-within n t v w h = let a = at_le_total v (λ k. bit (t k)) v (omega arith) in let b = ap bit h in let c = count_up t v n (omega arith) in omega arith
@@ -49,9 +46,7 @@ tab-at zero f e w = absurd (omega arith)
 tab-at (suc n) f e w =
     let l : length (tab n f) ≡ n = tab-size n f in
     elim (cases_eq e (suc n)) [
-      | inl i ↦
-          let j : e - 1 ≡ length (tab n f) + 0 = omega arith in
-          ap (λ k. slice_index_or (tab n f ++ (f (suc n) ∷ [])) k (0, 0)) j ∙ get_or-append-add (tab n f) (f (suc n) ∷ []) 0 (0, 0) ∙ ap f (sym i)
+      | inl i ↦ grind (arith, slice_index_or (tab n f ++ (f (suc n) ∷ [])), get_or-append-add (tab n f) (f (suc n) ∷ []) 0 (0, 0))
       | inr d ↦ get_or_append_left (tab n f) (f (suc n) ∷ []) (0, 0) (e - 1) (omega arith) ∙ tab-at n f e (omega arith)
     ]
 
@@ -72,9 +67,7 @@ module _ (g : Graph) (is : IsGraph g) (f : Set) where
   second_end-ranked e w h = ap (λ q. q.1) (tab-at (size g) (λ e. cond (f e) (count (first_end g e) t, count (second_end g e) t) (1, 1)) e w ∙ ap (λ b. cond b (count (first_end g e) t, count (second_end g e) t) (1, 1)) h)
 
   pub off-loop : (e : ℕ) → Within (size g) e → f e ≡ false → (first_end k e ≡ 1) × (second_end k e ≡ 1)
-  off-loop e w h =
-      let r = tab-at (size g) (λ e. cond (f e) (count (first_end g e) t, count (second_end g e) t) (1, 1)) e w ∙ ap (λ b. cond b (count (first_end g e) t, count (second_end g e) t) (1, 1)) h in
-      (ap (λ q. q.0) r, ap (λ q. q.1) r)
+  off-loop e w h = grind (arith, tab-at (size g))
 
   -- the degree of a part of f is the same in both graphs
   degree-ranked : (m : Set) → ((e : ℕ) → Within (size g) e → m e ≡ true → f e ≡ true) → (v : ℕ) → t v ≡ true → degree k m (count v t) ≡ degree g m v
@@ -84,8 +77,7 @@ module _ (g : Graph) (is : IsGraph g) (f : Set) where
       (count_congr (size g) _ _ (λ e w. same_and (m e) (second_end k e == count v t) (second_end g e == v) (λ h. let fe = part e w h in ap (λ q. q == count v t) (second_end-ranked e w fe) ∙ rank-test t (second_end g e) v (ends-met g f e w fe).1 tv)))
     where
       same_and : (a b c : Bool) → (a ≡ true → b ≡ c) → (a && b) ≡ (a && c)
-      same_and true b c h = h refl
-      same_and false b c h = refl
+      same_and a b c h = grind arith
 
   module _ (r r' : Set) (same : (v : ℕ) → Within g.order v → t v ≡ true → r' (count v t) ≡ r v) where
     pub off-ranked : (m : Set) → IsPerfectOff g f r m → IsPerfect k r' m
@@ -119,12 +111,7 @@ module _ (g : Graph) (is : IsGraph g) (f : Set) where
         let x = ap bit h.0 in
         let y = ap bit h.1 in
         elim (cases_order (first_end g e.0) (second_end g e.0)) [
-          | inl i ↦
-              let m = s.allowed e.0 e.1 e.2 in
-              let a = ends_le_degree g m.0 e.0 (first_end g e.0) e.1 m.2 in
-              let b = m.1.once (first_end g e.0) w.0 h.0 in
-              let c = ap bit (eq-eqb (first_end g e.0) (first_end g e.0) refl) in
-              let d = ap bit (eq-eqb (second_end g e.0) (first_end g e.0) (sym i)) in absurd (omega arith)
+          | inl i ↦ grind (arith, ends_le_degree g, eq-eqb (first_end g e.0) (first_end g e.0) refl, eq-eqb (second_end g e.0) (first_end g e.0) (sym i))
           | inr c ↦ elim c [
             | inl l ↦ let a = two_le_total g.order (λ v. bit (t v)) (first_end g e.0) (second_end g e.0) w.0 w.1 l in omega arith
             | inr l ↦ let a = two_le_total g.order (λ v. bit (t v)) (second_end g e.0) (first_end g e.0) w.1 w.0 l in omega arith
@@ -136,9 +123,7 @@ module _ (g : Graph) (is : IsGraph g) (f : Set) where
         let l = size-ranked in
         let w : Within (size g) e = omega arith in
         elim (cases_Bool (f e)) [
-          | inl h ↦
-              let u = ends-met g f e w h in
-              (subst (Within k.order) (sym (first_end-ranked e w h)) (rank-within g.order t (first_end g e) (is e w).0 u.0), subst (Within k.order) (sym (second_end-ranked e w h)) (rank-within g.order t (second_end g e) (is e w).1 u.1))
+          | inl h ↦ grind (arith, ends-met, first_end-ranked, rank-within, second_end-ranked)
           | inr h ↦
               let u = off-loop e w h in
               let one : Within k.order 1 = let a = two in omega arith in
@@ -196,9 +181,7 @@ module _ (g : Graph) (is : IsGraph g) (f : Set) where
 
     same-pairs : (a b p q : ℕ × ℕ) → p ≡ (count a.0 t, count a.1 t) → q ≡ (count b.0 t, count b.1 t) → (t a.0 ≡ true) × (t a.1 ≡ true) → (t b.0 ≡ true) × (t b.1 ≡ true) → (v : ℕ) → t v ≡ true →
         union (vertices_of p) (vertices_of q) (count v t) ≡ union (vertices_of a) (vertices_of b) v
-    same-pairs a b p q e d ha hb v tv =
-        ap₂ (λ c d. union (vertices_of c) (vertices_of d) (count v t)) e d
-        ∙ ap₂ (λ c d. c || d) (ap₂ (λ c d. c || d) (rank-test t a.0 v ha.0 tv) (rank-test t a.1 v ha.1 tv)) (ap₂ (λ c d. c || d) (rank-test t b.0 v hb.0 tv) (rank-test t b.1 v hb.1 tv))
+    same-pairs a b p q e d ha hb v tv = grind (arith, rank-test t a.0 v ha.0 tv, rank-test t a.1 v ha.1 tv, rank-test t b.0 v hb.0 tv, rank-test t b.1 v hb.1 tv)
 
     -- of pairs of vertices of a stage that serve together two serve, or one
     pub pairs-serve : (ps : List (ℕ × ℕ)) → ps ≢ [] → ((p : ℕ × ℕ) → IsIn p ps → (t p.0 ≡ true) × (t p.1 ≡ true)) → ((v : ℕ) → Within g.order v → pairs_at ps v ≤ 1) → (m : Set) → IsPerfectOff g f (in_pairs ps) m →
@@ -226,7 +209,4 @@ module _ (g : Graph) (is : IsGraph g) (f : Set) where
       where
         filled : (ps : List (ℕ × ℕ)) → ps ≢ [] → ranked t ps ≢ []
         filled [] d = λ e. d refl
-        filled (p ∷ ps) d = λ e. absurd (not_empty (ap length e))
-          where
-            not_empty : suc (length (ranked t ps)) ≡ 0 → ⊥
-            not_empty e = omega arith
+        filled (p ∷ ps) d = λ e. absurd (grind arith)

@@ -1,7 +1,7 @@
 -- A list of steps from a stage leads to all edges, or has exactly one first refusal. The tests of
 -- a step say that it is a step; then only the odd edges of its ears are left to ask, and the new
 -- stage is covered exactly when no edge of it is refused.
-use Rattle.std.proofs.Common.{◌≡◌, ℕ, ◌+◌, Bool, true, false, if◌then◌else◌, Option, Some, None, refl, sym, ap, ◌∙◌, ◌||◌, inl, inr, [], ◌∷◌, List}
+use Rattle.std.proofs.Common.{◌≡◌, ℕ, ◌+◌, Bool, true, false, if◌then◌else◌, Option, Some, None, refl, sym, ap, ◌∙◌, ◌||◌, inl, inr, [], ◌∷◌, List, arith, rules}
 use Rattle.counting.proofs.Common.{both_ways, least-one, Within, mem, Set, none}
 use Rattle.graph_core.proofs.Common.{Graph, size, IsGraph}
 use Rattle.ear_core.specs.Common.{IsStage, AllowedBy, with_edges, IsNearlyStage, odds, PlainStep, one, two, next_stage, IsStep, AreSteps, PlainWhy, not_path, even_length, bad_ends, inner_on_stage, edge_used, stage_not_covered, ends_early, is_path, has_odd_length, has_good_ends, has_free_inner, has_new_edges, Passes, ear_fault, inner_vertices, first_of, step_fault, IsLeastUnallowed, IsStepRefused, IsFirstRefusal}
@@ -21,44 +21,27 @@ some_none : (why : PlainWhy) → Some why ≡ None → ⊥
 some_none why same = both_ways (is_none (Some why)) refl (ap is_none same)
 
 passed : (b1 b2 b3 b4 b5 : Bool) → which b1 b2 b3 b4 b5 ≡ None → (b1 ≡ true) × (b2 ≡ true) × (b3 ≡ true) × (b4 ≡ true) × (b5 ≡ true)
-passed true true true true true h = (refl, refl, refl, refl, refl)
-passed true true true true false h = absurd (some_none edge_used h)
-passed true true true false b5 h = absurd (some_none inner_on_stage h)
-passed true true false b4 b5 h = absurd (some_none bad_ends h)
-passed true false b3 b4 b5 h = absurd (some_none even_length h)
-passed false b2 b3 b4 b5 h = absurd (some_none not_path h)
+passed b1 b2 b3 b4 b5 h = grind arith
 
 passes-none : (g : Graph) (f : Set) (xs ds : List ℕ) (v : ℕ) (es : List ℕ) → ear_fault g f xs ds v es ≡ None → Passes g f xs ds v es
 passes-none g f xs ds v es h = let p = passed (is_path g v es) (has_odd_length es) (has_good_ends g f v es) (has_free_inner g f xs v es) (has_new_edges f ds es) h in record { path = p.0; odd = p.1; ends = p.2; inner = p.3; new = p.4 }
 
 none-passes : (g : Graph) (f : Set) (xs ds : List ℕ) (v : ℕ) (es : List ℕ) → Passes g f xs ds v es → ear_fault g f xs ds v es ≡ None
-none-passes g f xs ds v es p = go (is_path g v es) (has_odd_length es) (has_good_ends g f v es) (has_free_inner g f xs v es) (has_new_edges f ds es) p.path p.odd p.ends p.inner p.new
-  where
-    go : (b1 b2 b3 b4 b5 : Bool) → b1 ≡ true → b2 ≡ true → b3 ≡ true → b4 ≡ true → b5 ≡ true → which b1 b2 b3 b4 b5 ≡ None
-    go b1 b2 b3 b4 b5 h1 h2 h3 h4 h5 = rw (h1, h2, h3, h4, h5) refl
+none-passes g f xs ds v es p = grind arith
 
 -- of two faults
 both-none : (first other : Option PlainWhy) → first_of first other ≡ None → (first ≡ None) × (other ≡ None)
-both-none None other h = (refl, h)
-both-none (Some why) other h = absurd (some_none why h)
+both-none first other h = grind arith
 
 none-both : (first other : Option PlainWhy) → first ≡ None → other ≡ None → first_of first other ≡ None
 none-both first other h k = rw (h, k) refl
 
 -- no test of a step fails exactly when it is a step
 pub step-none : (g : Graph) (f : Set) (s : PlainStep) → step_fault g f s ≡ None → IsStep g f s
-step-none g f (one a) h = (first_passes g f a.begin a.edges).0 (passes-none g f [] [] a.begin a.edges h)
-step-none g f (two a b) h =
-    let x = both-none (ear_fault g f [] [] a.begin a.edges) (ear_fault g f (inner_vertices g a.begin a.edges) a.edges b.begin b.edges) h in
-    let ear = (first_passes g f a.begin a.edges).0 (passes-none g f [] [] a.begin a.edges x.0) in
-    (second_passes g f a.begin a.edges b.begin b.edges ear).0 (passes-none g f (inner_vertices g a.begin a.edges) a.edges b.begin b.edges x.1)
+step-none g f s h = grind (arith, first_passes g f, passes-none g f, both-none, second_passes g f)
 
 pub none-step : (g : Graph) (f : Set) (s : PlainStep) → IsStep g f s → step_fault g f s ≡ None
-none-step g f (one a) ear = none-passes g f [] [] a.begin a.edges ((first_passes g f a.begin a.edges).1 ear)
-none-step g f (two a b) pair =
-    none-both (ear_fault g f [] [] a.begin a.edges) (ear_fault g f (inner_vertices g a.begin a.edges) a.edges b.begin b.edges)
-    (none-passes g f [] [] a.begin a.edges ((first_passes g f a.begin a.edges).1 pair.first))
-    (none-passes g f (inner_vertices g a.begin a.edges) a.edges b.begin b.edges ((second_passes g f a.begin a.edges b.begin b.edges pair.first).1 pair))
+none-step g f s ear = grind (arith, none-passes g f, first_passes g f, none-both, second_passes g f)
 
 -- the odd edges of the ears of a step
 abbrev pub step_odds : PlainStep → Set
@@ -82,22 +65,13 @@ pub fine-stage : (g : Graph) (f o : Set) → IsNearlyStage g f o → ((e : ℕ) 
 fine-stage g f o near fine = record { some_edge = near.some_edge; connected = near.connected; allowed = fine }
 
 some-one : (a b : PlainWhy) → Some a ≡ Some b → a ≡ b
-some-one a b same = ap (λ o. from o a) same
-  where
-    from : Option PlainWhy → PlainWhy → PlainWhy
-    from None d = d
-    from (Some why) d = why
+some-one a b same = grind arith
 
 -- the first refusal is one alone
 pub refusal-one : (g : Graph) (f : Set) (k : ℕ) (steps : List PlainStep) (i j : ℕ) (a b : PlainWhy) → IsFirstRefusal g f k steps i a → IsFirstRefusal g f k steps j b → (i ≡ j) × (a ≡ b)
-refusal-one g f k [] i j a b x y =
-    let p = x.1 in let q = y.1 in
-    (x.0 ∙ sym y.0, p.2 ∙ ap ends_early (least-one (size g) (λ d. f d ≡ true) p.0 q.0 p.1 q.1) ∙ sym q.2)
+refusal-one g f k [] i j a b x y = grind arith
 refusal-one g f k (s ∷ steps) i j a b x y = elim x [
-  | inl p ↦ elim y [
-    | inl q ↦ (p.0 ∙ sym q.0, step-one p.1 q.1)
-    | inr q ↦ absurd (not-both p.1 q.0 q.1)
-  ]
+  | inl p ↦ grind arith
   | inr p ↦ elim y [
     | inl q ↦ absurd (not-both q.1 p.0 p.1)
     | inr q ↦ refusal-one g (next_stage f s) (k + 1) steps i j a b p.2 q.2
@@ -111,24 +85,12 @@ refusal-one g f k (s ∷ steps) i j a b x y = elim x [
     ]
 
     step-one : IsStepRefused g f s a → IsStepRefused g f s b → a ≡ b
-    step-one r t = elim r [
-      | inl m ↦ elim t [
-        | inl n ↦ some-one a b (sym m ∙ n)
-        | inr n ↦ absurd (some_none a (sym m ∙ n.0))
-      ]
-      | inr m ↦ elim t [
-        | inl n ↦ absurd (some_none b (sym n ∙ m.0))
-        | inr n ↦ let c = m.1 in let d = n.1 in c.2 ∙ ap stage_not_covered (least-one (size g) (λ e. next_stage f s e ≡ true → AllowedBy g (next_stage f s) e) c.0 d.0 c.1 d.1) ∙ sym d.2
-      ]
-    ]
+    step-one r t = grind arith
 
 -- and steps with a refusal do not lead to all edges
 pub refusal-none : (g : Graph) (f : Set) (k : ℕ) (steps : List PlainStep) (i : ℕ) (a : PlainWhy) → IsFirstRefusal g f k steps i a → AreSteps g f steps → ⊥
 refusal-none g f k [] i a x all = let p = x.1 in let least = p.1 in least.without (all p.0 least.within)
 refusal-none g f k (s ∷ steps) i a x all = elim x [
-  | inl p ↦ elim p.1 [
-    | inl t ↦ some_none a (sym t ∙ none-step g f s all.0)
-    | inr t ↦ let u = t.1 in stage-fine g (next_stage f s) u.0 all.1 u.1
-  ]
+  | inl p ↦ grind (arith, some_none a, none-step g f s all.0, stage-fine g (next_stage f s))
   | inr p ↦ refusal-none g (next_stage f s) (k + 1) steps i a p.2 all.2
 ]

@@ -1,7 +1,7 @@
 -- The rest of a graph off a stage. The even edges of an ear meet its inner vertices alone, so with
 -- a perfect matching off the new stage they are one off the stage before; at the last stage nothing
 -- is left.
-use Rattle.std.proofs.Common.{◌≡◌, ℕ, true, false, ◌+◌, ◌==◌, not, refl, sym, ap, ◌∙◌, arith, eq-eqb, inl, inr, List, [], ◌∷◌}
+use Rattle.std.proofs.Common.{◌≡◌, ℕ, true, false, ◌+◌, ◌==◌, not, refl, sym, ap, ◌∙◌, arith, eq-eqb, inl, inr, List, [], ◌∷◌, rules}
 use Rattle.counting.proofs.Common.{both_ways, cases_Bool, false_from_ne_true, true≢false, Within, bit, Set, everything, none, union}
 use Rattle.graph_core.proofs.Common.{degree_congr, ends_le_degree, ends_of, IsCovered, Graph, IsGraph, IsMultigraph, degree, first_end, size, HasPerfect, IsPerfect}
 use Rattle.ear_core.proofs.AddedEars.{even_on}
@@ -14,9 +14,7 @@ use Rattle.ear_core.specs.Common.{AreSteps, IsStep, PlainStep, next_stage, one, 
 -- an edge of q has no end that q leaves out
 pub edge-away : (g : Graph) (q : Set) (e : ℕ) → Within (size g) e → q e ≡ true → degree g q (first_end g e) ≡ 0 → ⊥
 unfolding ends_of
-edge-away g q e w t o =
-    let b = ends_le_degree g q e (first_end g e) w t in
-    let c = ap bit (eq-eqb (first_end g e) (first_end g e) refl) in absurd (omega arith)
+edge-away g q e w t o = grind (arith, ends_le_degree g q e (first_end g e) w t, eq-eqb (first_end g e) (first_end g e) refl)
 
 module _ (g : Graph) (is : IsGraph g) where
   module _ (h r p q : Set) (on : (w : ℕ) → r w ≡ true → is_met g h w ≡ true) (inside : IsPerfectOff g h r p) (rest : IsPerfect g (is_met g h) q) where
@@ -25,16 +23,7 @@ module _ (g : Graph) (is : IsGraph g) where
 
     -- a perfect matching of h without r, with one of g off h
     pub filled : IsPerfect g r (union p q)
-    filled = record {
-      once = λ w ww o. let s = sum w in elim (cases_Bool (is_met g h w)) [
-        | inl t ↦ let a = inside.once w ww t o in let b = rest.away w ww t in omega arith
-        | inr t ↦ let a = unmet g h w t in let b = degree_le g p h w inside.part in let c = rest.once w ww t in omega arith
-      ];
-      away = λ w ww t. let s = sum w in let a = inside.away w ww t in let b = rest.away w ww (on w t) in omega arith;
-    }
-      where
-        sum : (w : ℕ) → degree g (union p q) w ≡ degree g p w + degree g q w
-        sum w = degree_or g p q w (λ e we t. apart-rest e we (inside.part e we t))
+    filled = grind (arith, cases_Bool, unmet g h, degree_le g p h, degree_or g p q, apart-rest)
 
   -- the rest before an ear
   rest-ear : (f : Set) (v : ℕ) (es : List ℕ) → IsEar g f v es → HasPerfect g (is_met g (with_edges f es)) → HasPerfect g (is_met g f)

@@ -2,7 +2,7 @@
 -- share a vertex; each vertex of the stage that the one matching leads out of it is an end of
 -- one. So the edges of this matching on the stage are a perfect matching of it without all the
 -- ends.
-use Rattle.std.proofs.Common.{◌≡◌, ℕ, suc, zero, ◌+◌, ◌≤◌, Bool, true, false, ◌==◌, refl, sym, ap, ◌∙◌, arith, ◌&&◌, ◌||◌, not, eq-eqb, ne_eqb, eqb-true, inl, inr, subst, [], ◌∷◌, List}
+use Rattle.std.proofs.Common.{◌≡◌, ℕ, suc, zero, ◌+◌, ◌≤◌, Bool, true, false, ◌==◌, refl, sym, ap, ◌∙◌, arith, ◌&&◌, ◌||◌, not, eq-eqb, ne_eqb, eqb-true, inl, inr, subst, [], ◌∷◌, List, rules}
 use Rattle.counting.proofs.Common.{cases_eq, cases_Bool, and_parts, and_from, both_ways, true≢false, false_from_ne_true, not-true, not-false, or_left, or_right, or_parts, or_cases, times_mem, bit, Within, mem, times, IsIn, Set, none}
 use Rattle.graph_core.proofs.Common.{ends_of, edge_at, ends_le_degree, Graph, size, first_end, second_end, degree, IsPerfect}
 use Rattle.two_ears.specs.VertexPairs.{pairs_at, in_pairs}
@@ -14,10 +14,7 @@ use Rattle.ear_core.proofs.Walking.{joins}
 
 -- an edge with an end off the stage is not on the stage
 pub off-stage : (g : Graph) (f : Set) (e v : ℕ) → Within (size g) e → joins g e v ≡ true → is_met g f v ≡ false → f e ≡ false
-off-stage g f e v w h o = false_from_ne_true (f e) (λ t.
-    let a = ends_le_degree g f e v w t in
-    let b = ends_of-other_end g e v v h in
-    let c = ap bit (eq-eqb v v refl) in both_ways (is_met g f v) o (some-met g f v (omega arith)))
+off-stage g f e v w h o = grind (arith, false_from_ne_true (f e), ends_le_degree g f e v w, ends_of-other_end g e v v h, eq-eqb v v refl, both_ways (is_met g f v) o, some-met g f v)
 
 -- z with the vertices of an ear
 abbrev pub with_trail : Graph → Set → PlainEar → Set
@@ -55,46 +52,21 @@ module _ (g : Graph) (f : Set) (m n : ℕ → ℕ) where
     ];
     all = λ w ww t b. elim (p.all w ww t b) [
       | inr i ↦ inr (omega arith)
-      | inl i ↦ elim (or_cases (z w) (mem (trail g a.begin a.edges) w) i) [
-        | inl j ↦ inl j
-        | inr j ↦ elim (cases_eq a.begin w) [
-          | inl x ↦ let c = ap bit (eq-eqb a.begin w x) in inr (omega arith)
-          | inr x ↦ elim (cases_eq (last_vertex g a.begin a.edges) w) [
-            | inl y ↦ let c = ap bit (eq-eqb (last_vertex g a.begin a.edges) w y) in inr (omega arith)
-            | inr y ↦ absurd (both_ways (is_met g f w) (good.ear.inner w j (λ e. x (sym e)) (λ e. y (sym e))) t)
-          ]
-        ]
-      ]
+      | inl i ↦ grind (arith, or_cases, cases_eq, eq-eqb, both_ways)
     ];
   }
 
   -- none if no vertex is left
   pub none-left : (z : Set) → ((v : ℕ) → Within g.order v → is_left (is_met g f) f m z v ≡ false) → AreMatedEars g f m n z []
-  none-left z h = record {
-    each = λ a i. absurd i;
-    avoid = λ a i. absurd i;
-    apart = λ a b i j. absurd i;
-    once = λ w. omega arith;
-    off = λ w t. refl;
-    all = λ w ww t b. inl (left (is_met g f w) (f (m w)) (z w) t b (h w ww));
-  }
-    where
-      left : (x y c : Bool) → x ≡ true → y ≡ false → (x && (not y && not c)) ≡ false → c ≡ true
-      left x y c p q r = grind arith
+  none-left z h = grind arith
 
   -- the vertices of an ear hold their mates too
   pub passed-too : (z : Set) (a : PlainEar) → HoldsMates g (is_met g f) m n z → IsMatedEar g f m n a → HoldsMates g (is_met g f) m n (with_trail g z a)
-  passed-too z a c good = record {
-    by_m = λ w ww h. elim (or_cases (z w) (mem (trail g a.begin a.edges) w) h) [ inl i ↦ or_left (z (mate g m w)) _ (c.by_m w ww i) | inr i ↦ or_right (z (mate g m w)) _ (good.by_m w i) ];
-    by_n = λ w ww h o. elim (or_cases (z w) (mem (trail g a.begin a.edges) w) h) [ inl i ↦ or_left (z (mate g n w)) _ (c.by_n w ww i o) | inr i ↦ or_right (z (mate g n w)) _ (good.by_n w i o) ];
-  }
+  passed-too z a c good = grind (arith, or_cases, or_left, or_right)
 
   -- at a vertex that is left a path may begin
   pub left-clear : (z : Set) (v : ℕ) → HoldsMates g (is_met g f) m n z → is_left (is_met g f) f m z v ≡ true → IsClear g (is_met g f) m n z v
-  left-clear z v c t =
-      let a = and_parts (is_met g f v) (not (f (m v)) && not (z v)) t in
-      let b = and_parts (not (f (m v))) (not (z v)) a.1 in
-      record { closed_m = c.by_m; fresh = not-true (z v) b.1; closed_n = λ w ww h o. inl (c.by_n w ww h o); back = λ o. absurd (both_ways (is_met g f v) o a.0) }
+  left-clear z v c t = grind arith
 
   -- and the path is an ear
   pub path-mated : (z : Set) (v : ℕ) (es : List ℕ) → is_left (is_met g f) f m z v ≡ true → IsAlternating g (is_met g f) m n z v es → IsMatedEar g f m n (record { begin = v; edges = es })
@@ -146,14 +118,7 @@ module _ (g : Graph) (f : Set) (m n : ℕ → ℕ) where
       ];
       away = λ v w o. elim (cases_eq (degree g (λ e. ms e && f e) v) 0) [
         | inl i ↦ i
-        | inr i ↦
-            let e = edge_at g (λ e. ms e && f e) v (omega arith) in
-            let h = and_parts (ms e.0) (f e.0) e.2 in
-            let j = one v e.0 w e.1 h.0 (elim e.3.1 [
-              | inl p ↦ or_left (first_end g e.0 == v) (second_end g e.0 == v) (eq-eqb (first_end g e.0) v p.0)
-              | inr p ↦ or_right (first_end g e.0 == v) (second_end g e.0 == v) (eq-eqb (second_end g e.0) v p.1)
-            ]) in
-            absurd (both_ways (f e.0) (ap f j ∙ ends-lead ears p.each v (pos (pairs_at (ends_of_ears g ears) v) o)) h.1)
+        | inr i ↦ grind (arith, edge_at g, and_parts, or_left, eq-eqb, or_right, both_ways, ends-lead ears, pos (pairs_at (ends_of_ears g ears) v) o)
       ];
     }
       where
@@ -161,18 +126,8 @@ module _ (g : Graph) (f : Set) (m n : ℕ → ℕ) where
         zero_not k o l = let e = eqb-true k 0 (not-false (k == 0) o) in omega arith
 
         pos : (k : ℕ) → not (k == 0) ≡ true → 1 ≤ k
-        pos zero h = absurd (true≢false (sym h))
-        pos (suc k) h = omega arith
+        pos k h = grind arith
 
     -- the ears are candidates for a step, if m leads out of the stage somewhere
     pub mated-candidates : (ears : List PlainEar) → AreMatedEars g f m n none ears → (v : ℕ) → Within g.order v → is_met g f v ≡ true → f (m v) ≡ false → AreCandidates g f ears
-    mated-candidates ears p v w t leads = record {
-      each = λ a i. (p.each a i).ear;
-      apart = p.apart;
-      once = p.once;
-      some = λ e. elim (p.all v w t leads) [ inl i ↦ true≢false (sym i) | inr i ↦ empty_not (pairs_at (ends_of_ears g ears) v) i (ap (λ (xs : List PlainEar). pairs_at (ends_of_ears g xs) v) e) ];
-      serve = ((λ e. ms e && f e), edges-kept ears p);
-    }
-      where
-        empty_not : (k : ℕ) → 1 ≤ k → k ≡ 0 → ⊥
-        empty_not k l e = omega arith
+    mated-candidates ears p v w t leads = grind (arith, true≢false, edges-kept ears p)

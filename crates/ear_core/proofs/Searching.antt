@@ -1,7 +1,7 @@
 -- The search for ears that serve: what is found or not among the ears after the first one and
 -- what of that one make what is found or not among all. After the search one ear serves or two
 -- do.
-use Rattle.std.proofs.Common.{◌≡◌, ℕ, ◌+◌, ◌≤◌, true, ◌==◌, ◌||◌, ◌⊎◌, ◌↔◌, inl, inr, refl, sym, ap, ◌∙◌, arith, subst, eq-eqb, List, [], ◌∷◌, Option, Some, None, Result, Ok, Err, IfOk, IfSome, IfNone, All, get_or}
+use Rattle.std.proofs.Common.{◌≡◌, ℕ, ◌+◌, ◌≤◌, true, ◌==◌, ◌||◌, ◌⊎◌, ◌↔◌, inl, inr, refl, sym, ap, ◌∙◌, arith, subst, eq-eqb, List, [], ◌∷◌, Option, Some, None, Result, Ok, Err, IfOk, IfSome, IfNone, All, get_or, rules}
 use Rattle.counting.proofs.Common.{AllByRecursion, mem-item, or_comm, bit, Within, mem, IsIn, Set, union, complement}
 use Rattle.barrier_kit.proofs.Common.{perfect_congr}
 use Rattle.graph_core.proofs.Common.{Graph, size, IsGraph, with_ends, HasPerfect}
@@ -16,14 +16,7 @@ use Rattle.ear_core.proofs.ServingPairs.{apart-pair, serving-one, serving-two, s
 
 -- what the engine answers
 pub asked-serves : (g : Graph) (f : Set) (asked : Asked) → IsAsked g f asked → (ends removed : List ℕ) → ((v : ℕ) → mem removed v ≡ (mem asked.outside v || mem ends v)) → HasPerfect asked.stage (mem removed) ↔ Serves g f (mem ends)
-asked-serves g f asked is ends removed joined =
-    let listed_serves = served_listed g f (mem ends) in
-    let h = with_ends g (listed g f (size g)) in
-    let x = union (complement (is_met g f)) (mem ends) in
-    let same : (v : ℕ) → Within g.order v → mem removed v ≡ x v = λ v w. joined v ∙ ap (λ b. b || mem ends v) (is.outside v w) in (
-      λ m. let k : HasPerfect h (mem removed) = subst (λ (s : Graph). HasPerfect s (mem removed)) is.stage m in listed_serves.1 (k.0, perfect_congr h (mem removed) x k.0 same k.1),
-      λ q. let k = listed_serves.0 q in subst (λ (s : Graph). HasPerfect s (mem removed)) (sym is.stage) (k.0, perfect_congr h x (mem removed) k.0 (λ v w. sym (same v w)) k.1),
-    )
+asked-serves g f asked is ends removed joined = grind (arith, served_listed g f (mem ends), perfect_congr)
 
 -- sets that agree serve alike
 pub serves-same : (g : Graph) (f x y : Set) → ((v : ℕ) → x v ≡ y v) → Serves g f x → Serves g f y
@@ -31,14 +24,10 @@ serves-same g f x y same q = (q.0, off-same g f x y q.0 same q.1)
 
 -- answers carried over
 pub some-carried : {A Fault : Type 0} (result : Result (Option A) Fault) (P Q : A → Type 0) → ((a : A) → P a → Q a) → IfOk result (λ o. IfSome o P) → IfOk result (λ o. IfSome o Q)
-some-carried (Ok (Some a)) P Q h p = h a p
-some-carried (Ok None) P Q h p = tt
-some-carried (Err e) P Q h p = tt
+some-carried result P Q h p = grind arith
 
 pub none-carried : {A Fault : Type 0} (result : Result (Option A) Fault) (P Q : Type 0) → (P → Q) → IfOk result (λ o. IfNone o P) → IfOk result (λ o. IfNone o Q)
-none-carried (Ok (Some a)) P Q h p = tt
-none-carried (Ok None) P Q h p = h p
-none-carried (Err e) P Q h p = tt
+none-carried result P Q h p = grind arith
 
 module _ (g : Graph) (f : Set) (a : PlainEar) (ears others : List PlainEar) (begins : ears ≡ a ∷ others) where
   pub beside-here : (x : Set) (b : PlainEar) → b ≡ a → Serves g f (union x (ends_of_ear g a)) → FindsBeside g f x ears b
@@ -48,10 +37,7 @@ module _ (g : Graph) (f : Set) (a : PlainEar) (ears others : List PlainEar) (beg
   beside-later x b found = (subst (IsIn b) (sym begins) (inr found.0), found.1)
 
   pub none-beside-later : (x : Set) → (Serves g f (union x (ends_of_ear g a)) → ⊥) → NoneServesBeside g f x others → NoneServesBeside g f x ears
-  none-beside-later x here later b i q = elim (subst (IsIn b) begins i) [
-    | inl e ↦ here (subst (λ (c : PlainEar). Serves g f (union x (ends_of_ear g c))) e q)
-    | inr j ↦ later b j q
-  ]
+  none-beside-later x here later b i q = grind arith
 
   pub two-here : (b : PlainEar) (s : PlainStep) → s ≡ two a b → FindsBeside g f (ends_of_ear g a) others b → FindsTwo g f ears s
   two-here b s is found = (a, b, subst (IsBefore a b) (sym begins) (inl (refl, found.0)), is, found.1)
@@ -60,10 +46,7 @@ module _ (g : Graph) (f : Set) (a : PlainEar) (ears others : List PlainEar) (beg
   two-later s found = (found.0, found.1, subst (IsBefore found.0 found.1) (sym begins) (inr found.2), found.3, found.4)
 
   pub no-two-later : NoneServesBeside g f (ends_of_ear g a) others → NoTwoServe g f others → NoTwoServe g f ears
-  no-two-later here later b c i q = elim (subst (IsBefore b c) begins i) [
-    | inl p ↦ here c p.1 (subst (λ (x : PlainEar). Serves g f (union (ends_of_ear g x) (ends_of_ear g c))) p.0 q)
-    | inr j ↦ later b c j q
-  ]
+  no-two-later here later b c i q = grind arith
 
 -- two ears of a list are one, or one stands before the other
 ordered : (a b : PlainEar) (ears : List PlainEar) → IsIn a ears → IsIn b ears → (a ≡ b) ⊎ (IsBefore a b ears ⊎ IsBefore b a ears)
@@ -102,16 +85,7 @@ module _ (g : Graph) (is : IsGraph g) (f : Set) (stage : IsStage g f) (ears : Li
   found-one a found = (found.0, c.each a found.0, serving-one g is f stage a (c.each a found.0) found.1)
 
   apart-before : (a b : PlainEar) → IsBefore a b ears → (w : ℕ) → mem (trail g a.begin a.edges) w ≡ true → mem (trail g b.begin b.edges) w ≡ true → ⊥
-  apart-before a b i =
-      let r = before-among a b ears i in
-      elim (c.apart a b r.0 r.1) [
-        | inr d ↦ d
-        | inl e ↦
-            let x = ends-before g a b ears a.begin i in
-            let y = c.once a.begin in
-            let z = ap bit (eq-eqb a.begin a.begin refl) in
-            let u = ap bit (eq-eqb b.begin a.begin (ap (λ (d : PlainEar). d.begin) (sym e))) in absurd (omega arith)
-      ]
+  apart-before a b i = grind (arith, before-among a b ears i, ends-before g a b ears a.begin i, eq-eqb a.begin a.begin refl, eq-eqb b.begin a.begin)
 
   pub found-two : (s : PlainStep) → FindsTwo g f ears s → IsChosen ears s × IsStep g f s × IsStage g (next_stage f s)
   found-two s found =
@@ -121,8 +95,7 @@ module _ (g : Graph) (is : IsGraph g) (f : Set) (stage : IsStage g f) (ears : Li
       let ea = c.each a r.0 in
       let eb = c.each b r.1 in
       let d = apart-before a b found.2 in
-      subst (λ (s : PlainStep). IsChosen ears s × IsStep g f s × IsStage g (next_stage f s)) (sym found.3)
-      (r, apart-pair g is f stage a b ea eb d, serving-two g is f stage a b ea eb d found.4)
+      grind (arith, apart-pair g is f stage a b ea eb d, serving-two g is f stage a b ea eb d found.4)
 
   turned : (a b : PlainEar) → Serves g f (union (ends_of_ear g a) (ends_of_ear g b)) → Serves g f (union (ends_of_ear g b) (ends_of_ear g a))
   turned a b q = serves-same g f (union (ends_of_ear g a) (ends_of_ear g b)) (union (ends_of_ear g b) (ends_of_ear g a)) (λ v. or_comm (ends_of_ear g a v) (ends_of_ear g b v)) q

@@ -1,7 +1,7 @@
 -- Ears whose ends serve. If the stage has a perfect matching without the ends of an ear, the
 -- odd edges of the ear complete it to one of the new stage, so each of its edges lies in one; two
 -- ears whose ends serve together are added one after the other.
-use Rattle.std.proofs.Common.{◌≡◌, ℕ, true, false, ◌==◌, refl, sym, ◌∙◌, ◌||◌, eqb-true, inl, inr, subst, List}
+use Rattle.std.proofs.Common.{◌≡◌, ℕ, true, false, ◌==◌, refl, sym, ◌∙◌, ◌||◌, eqb-true, inl, inr, subst, List, arith, rules}
 use Rattle.counting.proofs.Common.{cases_Bool, true≢false, or_left, or_right, or_cases, or_false_back, mem, Set, none, union, pair_set}
 use Rattle.graph_core.proofs.Common.{Graph, IsGraph}
 use Rattle.ear_core.specs.Common.{is_met, IsPerfectOf, IsPerfectOff, IsStage, with_edges, last_vertex, IsEar, IsEarPair, odds, IsNearlyStage}
@@ -10,11 +10,7 @@ use Rattle.ear_core.proofs.NextStages.{nearly, met-within, second_ear}
 
 -- a perfect matching that holds all edges that are left to ask makes a stage
 with-perfect : (g : Graph) (f o m : Set) → IsNearlyStage g f o → IsPerfectOf g f m → ((e : ℕ) → o e ≡ true → m e ≡ true) → IsStage g f
-with-perfect g f o m near perfect holds = record {
-  some_edge = near.some_edge;
-  connected = near.connected;
-  allowed = λ e w t. elim (cases_Bool (o e)) [ inl x ↦ (m, perfect, holds e x) | inr x ↦ near.allowed e w t x ];
-}
+with-perfect g f o m near perfect holds = grind arith
 
 pub off-same : (g : Graph) (f r k m : Set) → ((v : ℕ) → r v ≡ k v) → IsPerfectOff g f r m → IsPerfectOff g f k m
 off-same g f r k m e p = record { part = p.part; once = λ v w t o. p.once v w t (e v ∙ o); away = λ v w o. p.away v w (e v ∙ o) }
@@ -42,14 +38,8 @@ two-serve g is f v es w ds stage pair d0 d1 q p =
     second : IsEar g (with_edges f es) w ds
     second = second_ear g f v es w ds pair
 
-    ends_in : (x : ℕ) → pair_set w (last_vertex g w ds) x ≡ true → is_met g f x ≡ true
-    ends_in x t = elim (or_cases (w == x) (last_vertex g w ds == x) t) [
-      | inl i ↦ subst (λ k. is_met g f k ≡ true) (eqb-true w x i) pair.second.start
-      | inr i ↦ subst (λ k. is_met g f k ≡ true) (eqb-true (last_vertex g w ds) x i) pair.second.end
-    ]
-
     first_odd : IsPerfectOff g (with_edges f es) (pair_set w (last_vertex g w ds)) (with_edges q (odds es))
-    first_odd = odd_on g f v es pair.first (pair_set w (last_vertex g w ds)) q (λ x wx t. ends_in x t) d0 d1 p
+    first_odd = odd_on g f v es pair.first (pair_set w (last_vertex g w ds)) q (λ x wx t. grind arith) d0 d1 p
 
     both_odd : IsPerfectOff g (with_edges (with_edges f es) ds) none (with_edges (with_edges q (odds es)) (odds ds))
     both_odd = odd_on g (with_edges f es) w ds second none (with_edges q (odds es)) (λ x wx t. absurd (true≢false (sym t))) refl refl

@@ -1,6 +1,6 @@
 -- Of the candidates for a step one serves or two do, by the two-ear theorem on the graph of the
 -- stage, and then it is a step to a stage.
-use Rattle.std.proofs.Common.{◌≡◌, ◌≢◌, ℕ, ◌+◌, ◌≤◌, Bool, true, false, ◌==◌, refl, sym, ap, ap₂, arith, ◌||◌, eq-eqb, eqb-true, inl, inr, subst, [], ◌∷◌, List}
+use Rattle.std.proofs.Common.{◌≡◌, ◌≢◌, ℕ, ◌+◌, ◌≤◌, Bool, true, false, ◌==◌, refl, sym, ap, ap₂, arith, ◌||◌, eq-eqb, eqb-true, inl, inr, subst, [], ◌∷◌, List, rules}
 use Rattle.counting.proofs.Common.{false_from_ne_true, or_left, or_right, or_cases, bit, mem, IsIn, Set, union}
 use Rattle.graph_core.proofs.Common.{ends_of, Graph, first_end, IsGraph}
 use Rattle.two_ears.specs.VertexPairs.{pairs_at, vertices_of}
@@ -41,10 +41,7 @@ module _ (g : Graph) (is : IsGraph g) (f : Set) (stage : IsStage g f) where
       two-serve g is f a.begin a.edges b.begin b.edges stage (apart-pair a b ea eb d) (differ a.begin (start_mem g a.begin a.edges)) (differ (last_vertex g a.begin a.edges) (end_mem g a.begin a.edges)) q.0 q.1
     where
       differ : (w : ℕ) → mem (trail g a.begin a.edges) w ≡ true → ends_of_ear g b w ≡ false
-      differ w i = false_from_ne_true (ends_of_ear g b w) (λ t. elim (or_cases (b.begin == w) (last_vertex g b.begin b.edges == w) t) [
-        | inl j ↦ d w i (subst (λ k. mem (trail g b.begin b.edges) k ≡ true) (eqb-true b.begin w j) (start_mem g b.begin b.edges))
-        | inr j ↦ d w i (subst (λ k. mem (trail g b.begin b.edges) k ≡ true) (eqb-true (last_vertex g b.begin b.edges) w j) (end_mem g b.begin b.edges))
-      ])
+      differ w i = grind (arith, false_from_ne_true, or_cases, eqb-true, start_mem, end_mem)
 
   -- of candidates two serve, or one does
   pub some-serve : (ears : List PlainEar) → AreCandidates g f ears → (a b : PlainEar) × IsIn a ears × IsIn b ears × Serves g f (union (ends_of_ear g a) (ends_of_ear g b))
@@ -65,8 +62,4 @@ module _ (g : Graph) (is : IsGraph g) (f : Set) (stage : IsStage g f) where
 
   -- one serves twice
   pub serve-twice : (a : PlainEar) → Serves g f (union (ends_of_ear g a) (ends_of_ear g a)) → Serves g f (ends_of_ear g a)
-  serve-twice a q = (q.0, off-same g f (union (ends_of_ear g a) (ends_of_ear g a)) (ends_of_ear g a) q.0 (λ w. same (ends_of_ear g a w)) q.1)
-    where
-      same : (x : Bool) → (x || x) ≡ x
-      same true = refl
-      same false = refl
+  serve-twice a q = grind arith

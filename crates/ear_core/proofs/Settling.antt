@@ -1,6 +1,6 @@
 -- The edges of the ears of a step, asked one by one: what an answer of the engine says of an
 -- edge, and what is known after it.
-use Rattle.std.proofs.Common.{◌≡◌, ℕ, ◌<◌, ◌≤◌, arith, eqb-true, inl, inr, Bool, true, false, ◌==◌, refl, sym, ap, ap₂, ◌∙◌, ◌||◌, Some, None, Option, Result, Ok, Err, IfOk, [], ◌∷◌, List, subst, ◌↔◌}
+use Rattle.std.proofs.Common.{◌≡◌, ℕ, ◌<◌, ◌≤◌, arith, eqb-true, inl, inr, Bool, true, false, ◌==◌, refl, sym, ap, ap₂, ◌∙◌, ◌||◌, Some, None, Option, Result, Ok, Err, IfOk, [], ◌∷◌, List, subst, ◌↔◌, rules}
 use Rattle.counting.proofs.Common.{or_cases, true≢false, Within, mem, Set, none, pair_set}
 use Rattle.graph_core.proofs.Common.{Graph, IsMultigraph, first_end, second_end, size}
 use Rattle.ear_core.specs.Common.{Serves, AllowedBy, with_edges, IsBehind, IsUpTo, Settled, asked_too}
@@ -21,41 +21,25 @@ one-too asked e w P t before here = elim (or_cases (asked w) (e == w) t) [ inl a
 
 -- an edge up to e is known
 pub settled-known : (g : Graph) (f asked : Set) (known : Option ℕ) (e : ℕ) → IsUpTo e known → Settled g f asked known → Settled g f (asked_too asked e) known
-settled-known g f asked None e up is = absurd up
-settled-known g f asked (Some d) e up is =
-    let low : d ≤ e = up in
-    (is.0, is.1, is.2, λ w i t less. one-too asked e w (AllowedBy g f w) t (λ a. is.3 w i a less) (λ same. absurd (omega arith)))
+settled-known g f asked known e up is = grind arith
 
 -- e is allowed
 pub settled-allowed : (g : Graph) (f asked : Set) (known : Option ℕ) (e : ℕ) → AllowedBy g f e → Settled g f asked known → Settled g f (asked_too asked e) known
-settled-allowed g f asked None e allowed is = λ w i t. one-too asked e w (AllowedBy g f w) t (λ a. is w i a) (λ same. subst (AllowedBy g f) same allowed)
-settled-allowed g f asked (Some d) e allowed is =
-    (is.0, is.1, is.2, λ w i t less. one-too asked e w (AllowedBy g f w) t (λ a. is.3 w i a less) (λ same. subst (AllowedBy g f) same allowed))
+settled-allowed g f asked known e allowed is = grind arith
 
 -- e is not, and no edge up to it is known
 pub settled-refused : (g : Graph) (f asked : Set) (known : Option ℕ) (e : ℕ) → Within (size g) e → f e ≡ true → (AllowedBy g f e → ⊥) → IsBehind e known → Settled g f asked known → Settled g f (asked_too asked e) (Some e)
-settled-refused g f asked known e within marked refused behind is =
-    (within, marked, refused, λ w i t less. one-too asked e w (AllowedBy g f w) t (λ a. earlier known behind is w i a less) (λ same. absurd (omega arith)))
-  where
-    earlier : (known : Option ℕ) → IsBehind e known → Settled g f asked known → (w : ℕ) → Within (size g) w → asked w ≡ true → w < e → AllowedBy g f w
-    earlier None behind is w i a less = is w i a
-    earlier (Some d) behind is w i a less = let far : e < d = behind in is.3 w i a (omega arith)
+settled-refused g f asked known e within marked refused behind is = grind arith
 
 -- the same edges asked
 pub settled-same : (g : Graph) (f asked others : Set) (known : Option ℕ) → ((e : ℕ) → others e ≡ asked e) → Settled g f asked known → Settled g f others known
-settled-same g f asked others None same known = λ e w t. known e w (sym (same e) ∙ t)
-settled-same g f asked others (Some d) same known = (known.0, known.1, known.2, λ e w t less. known.3 e w (sym (same e) ∙ t) less)
+settled-same g f asked others h same known = grind arith
 
 pub asked-edges : (asked : Set) (e : ℕ) (rest others : List ℕ) → rest ≡ e ∷ others → (w : ℕ) → with_edges asked rest w ≡ with_edges (asked_too asked e) others w
-asked-edges asked e rest others begins w = ap (λ es. asked w || mem es w) begins ∙ joined (asked w) (e == w) (mem others w)
-  where
-    joined : (a b c : Bool) → (a || (b || c)) ≡ ((a || b) || c)
-    joined true b c = refl
-    joined false b c = refl
+asked-edges asked e rest others begins w = grind arith
 
 pub settled-result : {Fault : Type 0} (g : Graph) (f asked others : Set) (result : Result (Option ℕ) Fault) → ((e : ℕ) → others e ≡ asked e) → IfOk result (Settled g f asked) → IfOk result (Settled g f others)
-settled-result g f asked others (Ok known) same is = settled-same g f asked others known same is
-settled-result g f asked others (Err fault) same is = is
+settled-result g f asked others result same is = grind arith
 
 -- nothing is asked yet
 pub settled-none : (g : Graph) (f : Set) → Settled g f none None

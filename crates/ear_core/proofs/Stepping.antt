@@ -1,7 +1,7 @@
 -- The builder step by step. An edge off the stage leads out of it as long as one is left; a step
 -- of ears that hold the mates of their vertices keeps this of the stage; and steps that go on
 -- from a stage make a list with those before.
-use Rattle.std.proofs.Common.{◌≡◌, ℕ, ◌+◌, ◌≤◌, Bool, true, false, cond, ◌==◌, refl, sym, ap, ◌∙◌, arith, ◌&&◌, ◌||◌, not, eq-eqb, inl, inr, subst, [], ◌∷◌, ◌++◌, List, Result, Ok, Err, IfOk, length, append_assoc}
+use Rattle.std.proofs.Common.{◌≡◌, ℕ, ◌+◌, ◌≤◌, Bool, true, false, cond, ◌==◌, refl, sym, ap, ◌∙◌, arith, ◌&&◌, ◌||◌, not, eq-eqb, inl, inr, subst, [], ◌∷◌, ◌++◌, List, Result, Ok, Err, IfOk, length, append_assoc, rules}
 use Rattle.std.proofs.Math.Path.{fun_ext}
 use Rattle.std.proofs.lemmas.Bool.{true_from_ne_false}
 use Rattle.counting.proofs.Common.{cases_Bool, both_ways, true≢false, false_from_ne_true, or_left, or_right, or_cases, count_complement, odd_pos, AllByRecursion, count, Within, mem, IsIn, Set, none, singleton, complement}
@@ -31,7 +31,7 @@ all-on g is cov f stage nothing e w = true_from_ne_false (f e) (λ off. elim (ca
       let s = stage.some_edge in
       let h = (ends-met g f s.0 s.1 s.2).0 in
       let c = cut_edge g (is_met g f) (first_end g s.0) (first_end g e) is cov (is s.0 s.1).0 (is e w).0 h t in
-      crossing c.0 c.1 (is_met g f (first_end g c.0)) (is_met g f (second_end g c.0)) refl refl c.2
+      (grind (arith, true≢false, both_ways, out, false_from_ne_true, ends-met, out_back))
 ])
   where
     out : (x y z : Bool) → x ≡ false → y ≡ true → (not x && (y || z)) ≡ true
@@ -40,34 +40,17 @@ all-on g is cov f stage nothing e w = true_from_ne_false (f e) (λ off. elim (ca
     out_back : (x y z : Bool) → x ≡ false → z ≡ true → (not x && (y || z)) ≡ true
     out_back x y z p q = grind arith
 
-    crossing : (d : ℕ) → Within (size g) d → (x y : Bool) → is_met g f (first_end g d) ≡ x → is_met g f (second_end g d) ≡ y → ((x && not y) || (not x && y)) ≡ true → ⊥
-    crossing d wd true true p q h = true≢false (sym h)
-    crossing d wd false false p q h = true≢false (sym h)
-    crossing d wd true false p q h = both_ways (leads_out_of g f d) (nothing d wd)
-        (out (f d) (is_met g f (first_end g d)) (is_met g f (second_end g d)) (false_from_ne_true (f d) (λ t. both_ways (is_met g f (second_end g d)) q (ends-met g f d wd t).1)) p)
-    crossing d wd false true p q h = both_ways (leads_out_of g f d) (nothing d wd)
-        (out_back (f d) (is_met g f (first_end g d)) (is_met g f (second_end g d)) (false_from_ne_true (f d) (λ t. both_ways (is_met g f (first_end g d)) p (ends-met g f d wd t).0)) q)
-
 trail-met : (g : Graph) (f : Set) (v : ℕ) (es : List ℕ) → IsEar g f v es → (w : ℕ) → mem (trail g v es) w ≡ true → is_met g (with_edges f es) w ≡ true
-trail-met g f v es ear w h =
-    let a = odds_at g f v es ear w in
-    let b = mem_times (trail g v es) w h in
-    let c = degree_le g (mem (odds es)) (with_edges f es) w (λ e we i. or_right (f e) _ (mem_odds es e i)) in
-    some-met g (with_edges f es) w (omega arith)
+trail-met g f v es ear w h = grind (arith, odds_at g f v es ear w, mem_times (trail g v es) w h, degree_le g (mem (odds es)) (with_edges f es) w, or_right, mem_odds es, some-met g (with_edges f es) w)
 
 -- a vertex of f is one of the new stage
 pub still-met : (g : Graph) (f : Set) (es : List ℕ) (w : ℕ) → is_met g f w ≡ true → is_met g (with_edges f es) w ≡ true
-still-met g f es w t =
-    let a = met-some g f w t in
-    let c = degree_le g f (with_edges f es) w (λ e we i. or_left (f e) _ i) in some-met g (with_edges f es) w (omega arith)
+still-met g f es w t = grind (arith, met-some g f w t, degree_le g f (with_edges f es) w, or_left, some-met g (with_edges f es) w)
 
 ear-keeps : (g : Graph) (f : Set) (n : ℕ → ℕ) (v : ℕ) (es : List ℕ) → IsEar g f v es → ((w : ℕ) → mem (trail g v es) w ≡ true → is_met g f w ≡ false → mem (trail g v es) (mate g n w) ≡ true) → KeepsMates g n (is_met g f) → KeepsMates g n (is_met g (with_edges f es))
 ear-keeps g f n v es ear by_n keeps w ww t = elim (cases_Bool (is_met g f w)) [
   | inl x ↦ still-met g f es (mate g n w) (keeps w ww x)
-  | inr x ↦ elim (new-met g f v es ear w t) [
-    | inl y ↦ absurd (both_ways (is_met g f w) x y)
-    | inr y ↦ trail-met g f v es ear (mate g n w) (by_n w y x)
-  ]
+  | inr x ↦ grind (arith, new-met g f v es ear w t, both_ways (is_met g f w) x, trail-met g f v es ear (mate g n w))
 ]
 
 -- a step of mated ears keeps the mates
@@ -81,23 +64,11 @@ step-keeps g f m n ears each (two a b) chosen step keeps =
 
 -- the first stage keeps them, where its edge is one of the matching
 pub first-keeps : (g : Graph) → IsMultigraph g → (n : MatchingValue) → IsPerfectRows g n → (e : ℕ) → Within (size g) e → mem (edges_of n) e ≡ true → KeepsMates g (row_edge n.rows) (is_met g (singleton e))
-first-keeps g is n rows e we holds w ww t =
-    let h : joins g e w ≡ true = elim (one-ends g is e we w t) [
-      | inl i ↦ or_left (first_end g e == w) (second_end g e == w) (eq-eqb (first_end g e) w i)
-      | inr i ↦ or_right (first_end g e == w) (second_end g e == w) (eq-eqb (second_end g e) w i)
-    ] in
-    let a = row-is g is.ends n rows w e ww we holds h in
-    let m = ends-met g (singleton e) e we (eq-eqb e e refl) in
-    ap (λ d. is_met g (singleton e) (other_end g d w)) (sym a) ∙ end_met m (first_end g e == w)
-  where
-    end_met : (is_met g (singleton e) (first_end g e) ≡ true) × (is_met g (singleton e) (second_end g e) ≡ true) → (b : Bool) → is_met g (singleton e) (cond b (second_end g e) (first_end g e)) ≡ true
-    end_met m true = m.1
-    end_met m false = m.0
+first-keeps g is n rows e we holds w ww t = grind (arith, one-ends, or_left, eq-eqb, or_right, row-is, ends-met)
 
 -- the numbers of a step are in range
 pub step-fits : (g : Graph) → IsGraph g → (f : Set) (s : PlainStep) → IsStep g f s → FitsStep g.order (size g) s
-step-fits g is f (one a) ear = ear-fits g is f a ear
-step-fits g is f (two a b) pair = (ear-fits g is f a pair.first, ear-fits g is f b pair.second)
+step-fits g is f s ear = grind (arith, ear-fits g is f)
 
 -- a covered graph has edges and perfect matchings
 pub covered-edge : (g : Graph) → IsMultigraph g → IsCovered g → Within (size g) 1
@@ -112,10 +83,7 @@ covered-perfect g is cov = let m = covered-allowed g is cov 1 (covered-edge g is
 -- the edge that leads out is that of the matching at a vertex of the stage
 pub led-out : (g : Graph) → IsGraph g → (f : Set) (m : MatchingValue) → IsPerfectRows g m → (e : ℕ) → Within (size g) e → mem (edges_of m) e ≡ true → f e ≡ false → (is_met g f (first_end g e) || is_met g f (second_end g e)) ≡ true →
     (v : ℕ) × Within g.order v × (is_met g f v ≡ true) × (f (row_edge m.rows v) ≡ false)
-led-out g is f m rows e w holds off t = elim (or_cases (is_met g f (first_end g e)) (is_met g f (second_end g e)) t) [
-  | inl i ↦ (first_end g e, (is e w).0, i, ap f (sym (row-is g is m rows (first_end g e) e (is e w).0 w holds (or_left (first_end g e == first_end g e) _ (eq-eqb (first_end g e) (first_end g e) refl)))) ∙ off)
-  | inr i ↦ (second_end g e, (is e w).1, i, ap f (sym (row-is g is m rows (second_end g e) e (is e w).1 w holds (or_right (first_end g e == second_end g e) _ (eq-eqb (second_end g e) (second_end g e) refl)))) ∙ off)
-]
+led-out g is f m rows e w holds off t = grind (arith, or_cases, row-is, or_left, eq-eqb, or_right)
 
 -- steps that go on
 pub steps-go_on : (g : Graph) (first f new : Set) (before : List PlainStep) (s : PlainStep) → IsStep g f s → IsStage g (next_stage f s) → ((i : ℕ) → new i ≡ next_stage f s i) →
@@ -126,8 +94,7 @@ steps-go_on g first f new before s step stage same so_far others goes =
 
 -- two facts of one answer
 pub both-ok : {A Fault : Type 0} (result : Result A Fault) (P Q : A → Type 0) → IfOk result P → IfOk result Q → IfOk result (λ a. P a × Q a)
-both-ok (Ok a) P Q p q = (p, q)
-both-ok (Err e) P Q p q = tt
+both-ok result P Q p q = grind arith
 
 -- the ears collected, from no used vertices on
 pub round-ears : (g : Graph) (f : Set) (m n : ℕ → ℕ) (used : List ℕ) → used ≡ [] → (old ears : List PlainEar) → old ≡ [] → (more : List PlainEar) × (ears ≡ old ++ more) × AreMatedEars g f m n (mem used) more → AreMatedEars g f m n none ears
@@ -170,8 +137,7 @@ pub list-fits : (g : Graph) → IsGraph g → (list : PlainEars) → IsEarList g
 list-fits g is list ears = record { start = ears.start; steps = steps-fit g is (singleton list.start) list.steps ears.steps }
 
 step-filled : (g : Graph) (f : Set) (s : PlainStep) → IsStep g f s → HasEdges s
-step-filled g f (one a) ear = odd_pos (length a.edges) ear.odd
-step-filled g f (two a b) pair = (odd_pos (length a.edges) pair.first.odd, odd_pos (length b.edges) pair.second.odd)
+step-filled g f s ear = grind arith
 
 steps-filled : (g : Graph) (f : Set) (steps : List PlainStep) → AreSteps g f steps → AllByRecursion HasEdges steps
 steps-filled g f [] goes = tt

@@ -1,6 +1,6 @@
 -- A step whose tests pass and whose edges are all allowed makes a stage; the least of its edges
 -- that is not allowed is that of the stage.
-use Rattle.std.proofs.Common.{◌≡◌, ℕ, true, false, List, All, get_or, Option, Some, None, IfSome, ◌∙◌, subst, inl, inr}
+use Rattle.std.proofs.Common.{◌≡◌, ℕ, true, false, List, All, get_or, Option, Some, None, IfSome, ◌∙◌, subst, inl, inr, arith, rules}
 use Rattle.std.proofs.Math.Path.{fun_ext}
 use Rattle.counting.proofs.Common.{cases_Bool, or_left, or_right, or_parts, or_from, both_ways, false_from_ne_true, mem-item, Within, mem, Set, none}
 use Rattle.graph_core.proofs.Common.{Graph, size, IsGraph}
@@ -14,21 +14,17 @@ all-marked new es h k d less = h (get_or es k d) (mem-item es k d less)
 
 -- the edges of a step that was marked
 pub first_marked : (old new : Set) (first : Ear) (second : Option Ear) → ((i : ℕ) → new i ≡ next_stage old (plain_step (ear_of first) second) i) → All (λ e. new e ≡ true) first.edges
-first_marked old new first None same = all-marked new first.edges (λ i m. same i ∙ or_right (old i) (mem first.edges i) m)
-first_marked old new first (Some b) same = all-marked new first.edges (λ i m. same i ∙ or_left (with_edges old first.edges i) (mem b.edges i) (or_right (old i) (mem first.edges i) m))
+first_marked old new first second same = grind (arith, all-marked new first.edges, or_right, or_left)
 
 pub second_marked : (old new : Set) (first : Ear) (second : Option Ear) → ((i : ℕ) → new i ≡ next_stage old (plain_step (ear_of first) second) i) → IfSome second (λ b. All (λ e. new e ≡ true) b.edges)
-second_marked old new first None same = tt
-second_marked old new first (Some b) same = all-marked new b.edges (λ i m. same i ∙ or_right (with_edges old first.edges i) (mem b.edges i) m)
+second_marked old new first second same = grind (arith, all-marked new, or_right)
 
 -- the edges of a step in range
 pub first_fits : (n m : ℕ) (first : Ear) (second : Option Ear) → FitsStep n m (plain_step (ear_of first) second) → All (Within m) first.edges
-first_fits n m first None fits = fits.1
-first_fits n m first (Some b) fits = let one_fits = fits.0 in one_fits.1
+first_fits n m first second fits = grind arith
 
 pub second_fits : (n m : ℕ) (first : Ear) (second : Option Ear) → FitsStep n m (plain_step (ear_of first) second) → IfSome second (λ b. All (Within m) b.edges)
-second_fits n m first None fits = tt
-second_fits n m first (Some b) fits = let other_fits = fits.1 in other_fits.1
+second_fits n m first second fits = grind arith
 
 -- an edge of no ear is not an odd one
 odds-asked : (s : PlainStep) (d : ℕ) → next_stage none s d ≡ false → step_odds s d ≡ false
@@ -40,12 +36,7 @@ odds-asked (two a b) d h =
 
 module _ (g : Graph) (is : IsGraph g) (f : Set) (s : PlainStep) (new : Set) (same : (i : ℕ) → new i ≡ next_stage f s i) (stage : IsStage g f) (passes : step_fault g f s ≡ None) where
   edge-fine : (d : ℕ) → Within (size g) d → next_stage f s d ≡ true → (next_stage none s d ≡ true → AllowedBy g (next_stage f s) d) → AllowedBy g (next_stage f s) d
-  edge-fine d w t asked =
-      let near = step-nearly g is f s stage (step-none g f s passes) in
-      elim (cases_Bool (next_stage none s d)) [
-        | inl a ↦ asked a
-        | inr a ↦ near.allowed d w t (odds-asked s d a)
-      ]
+  edge-fine d w t asked = grind (arith, step-nearly g is f s stage (step-none g f s passes), step-none g f s passes, cases_Bool (next_stage none s d), odds-asked s d)
 
   known : (least : Option ℕ) → Settled g new (next_stage none s) least → Settled g (next_stage f s) (next_stage none s) least
   known least settled = subst (λ (h : Set). Settled g h (next_stage none s) least) (fun_ext same) settled

@@ -1,7 +1,7 @@
 -- How often do the edges of a trace meet a vertex? The odd ones meet each vertex of the trace
 -- once, and the even ones each but its two ends; the degree of a list of different edges is the
 -- number of their ends.
-use Rattle.std.proofs.Common.{◌≡◌, ℕ, suc, zero, ◌+◌, ◌*◌, ◌≤◌, Bool, true, false, cond, ◌==◌, refl, sym, ap, ap₂, arith, ◌||◌, not, eq-eqb, ne_eqb, eqb-true, ◌⊎◌, inl, inr, subst, [], ◌∷◌, List, length}
+use Rattle.std.proofs.Common.{◌≡◌, ℕ, suc, zero, ◌+◌, ◌*◌, ◌≤◌, Bool, true, false, cond, ◌==◌, refl, sym, ap, ap₂, arith, ◌||◌, not, eq-eqb, ne_eqb, eqb-true, ◌⊎◌, inl, inr, subst, [], ◌∷◌, List, length, rules}
 use Rattle.counting.proofs.Common.{cases_eq, cases_Bool, true≢false, false_from_ne_true, not-false, or_left, or_right, or_cases, total_congr, total_add, total_le, total_none, or_second, bit, Within, is_odd, mem, times, Set, none, put}
 use Rattle.ear_core.specs.Common.{other_end, Follow, trail, last_vertex, odds, evens, is_met}
 use Rattle.graph_core.proofs.Common.{degree_congr, ends_of, degree_sum, degree_put, Graph, size, first_end, second_end, degree}
@@ -13,30 +13,17 @@ list_ends g (e ∷ es) v = ends_of g e v + list_ends g es v
 
 pub ends_of-other_end : (g : Graph) (e v w : ℕ) → (first_end g e == v || second_end g e == v) ≡ true → ends_of g e w ≡ bit (v == w) + bit (other_end g e v == w)
 unfolding ends_of
-ends_of-other_end g e v w h = elim (cases_eq (first_end g e) v) [
-  | inl i ↦
-      let a : other_end g e v ≡ second_end g e = ap (λ b. cond b (second_end g e) (first_end g e)) (eq-eqb (first_end g e) v i) in
-      let b = ap (λ k. bit (k == w)) i in let c = ap (λ k. bit (k == w)) a in omega arith
-  | inr d ↦
-      let a : other_end g e v ≡ first_end g e = ap (λ b. cond b (second_end g e) (first_end g e)) (ne_eqb (first_end g e) v d) in
-      let f : second_end g e ≡ v = eqb-true (second_end g e) v (or_second (first_end g e == v) (second_end g e == v) (ne_eqb (first_end g e) v d) h) in
-      let b = ap (λ k. bit (k == w)) f in let c = ap (λ k. bit (k == w)) a in omega arith
-]
+ends_of-other_end g e v w h = grind arith
 
 pub two_less_odd : (k : ℕ) → is_odd (suc (suc k)) ≡ true → is_odd k ≡ true
-two_less_odd k h = twice (is_odd k) h
-  where
-    twice : (b : Bool) → not (not b) ≡ true → b ≡ true
-    twice b h = grind arith
+two_less_odd k h = grind arith
 
 -- the odd edges of a trace meet each of its vertices once, the even ones each but the two ends
 pub odds_ends : (g : Graph) (v : ℕ) (es : List ℕ) (w : ℕ) → Follow g v es → is_odd (length es) ≡ true → list_ends g (odds es) w ≡ times (trail g v es) w
 unfolding list_ends
 odds_ends g v [] w t o = absurd (true≢false (sym o))
 odds_ends g v (e ∷ []) w t o = let a = ends_of-other_end g e v w t.0.1 in omega arith
-odds_ends g v (e ∷ d ∷ es) w t o =
-    let a = ends_of-other_end g e v w t.0.1 in
-    let b = odds_ends g (other_end g d (other_end g e v)) es w t.1.1 (two_less_odd (length es) o) in omega arith
+odds_ends g v (e ∷ d ∷ es) w t o = grind (arith, ends_of-other_end g e v w t.0.1, odds_ends g (other_end g d (other_end g e v)) es w t.1.1 (two_less_odd (length es) o), two_less_odd (length es) o)
 
 pub evens_ends : (g : Graph) (v : ℕ) (es : List ℕ) (w : ℕ) → Follow g v es → is_odd (length es) ≡ true → list_ends g (evens es) w + (bit (v == w) + bit (last_vertex g v es == w)) ≡ times (trail g v es) w
 unfolding list_ends
@@ -56,10 +43,7 @@ mem_times (x ∷ xs) v h = elim (or_cases (x == v) (mem xs v) h) [
 pub times_ends : (g : Graph) (es : List ℕ) (e : ℕ) → times es e ≤ list_ends g es (first_end g e)
 unfolding list_ends ends_of
 times_ends g [] e = omega arith
-times_ends g (d ∷ es) e = let a = times_ends g es e in elim (cases_eq d e) [
-  | inl i ↦ let b = ap bit (eq-eqb (first_end g d) (first_end g e) (ap (first_end g) i)) in let c = ap bit (eq-eqb d e i) in omega arith
-  | inr i ↦ let c = ap bit (ne_eqb d e i) in omega arith
-]
+times_ends g (d ∷ es) e = grind (arith, times_ends g es e, cases_eq d e, eq-eqb (first_end g d) (first_end g e), eq-eqb d e, ne_eqb d e)
 
 pub zero_degree : (g : Graph) (v : ℕ) → degree g none v ≡ 0
 zero_degree g v = ap₂ ◌+◌ (total_none (size g) _ (λ e w. refl)) (total_none (size g) _ (λ e w. refl))
@@ -74,14 +58,8 @@ mem_degree g (e ∷ es) v w h =
     let out = ap bit (false_from_ne_true (mem es e) (λ m. let a = mem_times es e m in omega arith)) in
     let i = mem_degree g es v (λ d m. w d (or_right (e == d) (mem es d) m)) (λ d. let a = h d in omega arith) in
     let a = degree_put g (mem es) e true v (w e (or_left (e == e) (mem es e) (eq-eqb e e refl))) in
-    let b = degree_congr g (mem (e ∷ es)) (put (mem es) e true) v (λ d wd. same d) in
+    let b = degree_congr g (mem (e ∷ es)) (put (mem es) e true) v (λ d wd. grind arith) in
     let c = ap (λ k. k * ends_of g e v) out in omega arith
-  where
-    same : (d : ℕ) → ((e == d) || mem es d) ≡ cond (d == e) true (mem es d)
-    same d = elim (cases_eq e d) [
-      | inl i ↦ rw (eq-eqb e d i, eq-eqb d e (sym i)) refl
-      | inr i ↦ rw (ne_eqb e d i, ne_eqb d e (λ j. i (sym j))) refl
-    ]
 
 pub degree_or : (g : Graph) (m k : Set) (v : ℕ) → ((e : ℕ) → Within (size g) e → m e ≡ true → k e ≡ false) → degree g (λ e. m e || k e) v ≡ degree g m v + degree g k v
 degree_or g m k v h =
@@ -89,30 +67,13 @@ degree_or g m k v h =
     let b = degree_sum g m v in
     let c = degree_sum g k v in
     let d = total_add (size g) (λ e. bit (m e) * ends_of g e v) (λ e. bit (k e) * ends_of g e v) in
-    let e = total_congr (size g) (λ e. bit (m e || k e) * ends_of g e v) (λ e. bit (m e) * ends_of g e v + bit (k e) * ends_of g e v) (λ e w. bits (m e) (k e) (ends_of g e v) (h e w)) in omega arith
-  where
-    bits : (a b : Bool) (n : ℕ) → (a ≡ true → b ≡ false) → bit (a || b) * n ≡ bit a * n + bit b * n
-    bits true true n f = absurd (true≢false (f refl))
-    bits true false n f = omega arith
-    bits false b n f = omega arith
+    let e = total_congr (size g) (λ e. bit (m e || k e) * ends_of g e v) (λ e. bit (m e) * ends_of g e v + bit (k e) * ends_of g e v) (λ e w. grind arith) in omega arith
 
 pub degree_le : (g : Graph) (m k : Set) (v : ℕ) → ((e : ℕ) → Within (size g) e → m e ≡ true → k e ≡ true) → degree g m v ≤ degree g k v
-degree_le g m k v h =
-    let b = degree_sum g m v in
-    let c = degree_sum g k v in
-    let d = total_le (size g) (λ e. bit (m e) * ends_of g e v) (λ e. bit (k e) * ends_of g e v) (λ e w. bits (m e) (k e) (ends_of g e v) (h e w)) in omega arith
-  where
-    bits : (a b : Bool) (n : ℕ) → (a ≡ true → b ≡ true) → bit a * n ≤ bit b * n
-    bits true true n f = omega arith
-    bits true false n f = absurd (true≢false (sym (f refl)))
-    bits false b n f = omega arith
+degree_le g m k v h = grind (arith, degree_sum, total_le, true≢false)
 
 pub met-some : (g : Graph) (f : Set) (v : ℕ) → is_met g f v ≡ true → 1 ≤ degree g f v
-met-some g f v t = pos (degree g f v) t
-  where
-    pos : (k : ℕ) → not (k == 0) ≡ true → 1 ≤ k
-    pos zero h = absurd (true≢false (sym h))
-    pos (suc k) h = omega arith
+met-some g f v t = grind arith
 
 pub some-met : (g : Graph) (f : Set) (v : ℕ) → 1 ≤ degree g f v → is_met g f v ≡ true
 some-met g f v l = ap not (ne_eqb (degree g f v) 0 (λ e. omega arith))
@@ -138,13 +99,7 @@ trail_has g v (d ∷ es) t e w m l = elim (or_cases (d == e) (mem es e) m) [
   | inl i ↦
       let a = ends_of-other_end g d v w t.0.1 in
       let b = ap (λ k. ends_of g k w) (eqb-true d e i) in
-      elim (cases_Bool (v == w)) [
-        | inl x ↦ or_left (v == w) _ x
-        | inr x ↦ elim (cases_eq (other_end g d v) w) [
-          | inl y ↦ or_right (v == w) _ (subst (λ k. mem (trail g (other_end g d v) es) k ≡ true) y (start_mem g (other_end g d v) es))
-          | inr y ↦ let p = ap bit x in let q = ap bit (ne_eqb (other_end g d v) w y) in absurd (omega arith)
-        ]
-      ]
+      grind (arith, cases_Bool (v == w), or_left (v == w), cases_eq (other_end g d v) w, or_right (v == w), start_mem g (other_end g d v) es, ne_eqb (other_end g d v) w)
   | inr i ↦ or_right (v == w) _ (trail_has g (other_end g d v) es t.1 e w i l)
 ]
 

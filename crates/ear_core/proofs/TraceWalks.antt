@@ -1,15 +1,12 @@
 -- Is a trace a walk? Yes, by its edges from the start to each of its vertices; and a walk by some
 -- edges is one by more.
-use Rattle.std.proofs.Common.{◌≡◌, ℕ, true, false, cond, ◌==◌, refl, sym, ap, ap₂, ◌∙◌, ◌&&◌, ◌||◌, eq-eqb, ne_eqb, eqb-true, inl, inr, [], ◌∷◌, List}
+use Rattle.std.proofs.Common.{◌≡◌, ℕ, true, false, cond, ◌==◌, refl, sym, ap, ap₂, ◌∙◌, ◌&&◌, ◌||◌, eq-eqb, ne_eqb, eqb-true, inl, inr, [], ◌∷◌, List, arith, rules}
 use Rattle.counting.proofs.Common.{cases_eq, and_parts, and_from, true≢false, or_left, or_right, or_cases, true_some, some_true, or_second, mem, Set}
 use Rattle.ear_core.specs.Common.{other_end, Follow, trail, adjacent_by}
 use Rattle.graph_core.proofs.Common.{has_ends-own, has_ends-back, Graph, size, first_end, second_end, has_ends, Walk}
 
 pub adjacent_by-back : (g : Graph) (f : Set) (u v : ℕ) → adjacent_by g f u v ≡ true → adjacent_by g f v u ≡ true
-adjacent_by-back g f u v h =
-    let e = some_true (size g) (λ e. f e && has_ends g u v e) h in
-    let b = and_parts (f e.0) (has_ends g u v e.0) e.2 in
-    true_some (size g) (λ e. f e && has_ends g v u e) e.0 e.1 (and_from (f e.0) (has_ends g v u e.0) b.0 (has_ends-back g u v e.0 b.1))
+adjacent_by-back g f u v h = grind arith
 
 pub walk_more : (g : Graph) (f k : Set) → ((e : ℕ) → f e ≡ true → k e ≡ true) → (u v : ℕ) (ws : List ℕ) → Walk (adjacent_by g f) u ws v → Walk (adjacent_by g k) u ws v
 walk_more g f k h u v [] w = w
@@ -22,22 +19,11 @@ walk_more g f k h u v (x ∷ ws) w = (more, walk_more g f k h x v ws w.1)
         true_some (size g) (λ e. k e && has_ends g u x e) e.0 e.1 (and_from (k e.0) (has_ends g u x e.0) (h e.0 b.0) b.1)
 
 pub other_end-has_ends : (g : Graph) (e v : ℕ) → (first_end g e == v || second_end g e == v) ≡ true → has_ends g v (other_end g e v) e ≡ true
-other_end-has_ends g e v h = elim (cases_eq (first_end g e) v) [
-  | inl i ↦
-      let a : other_end g e v ≡ second_end g e = ap (λ b. cond b (second_end g e) (first_end g e)) (eq-eqb (first_end g e) v i) in
-      ap₂ (λ c d. has_ends g c d e) (sym i) a ∙ has_ends-own g e
-  | inr d ↦
-      let a : other_end g e v ≡ first_end g e = ap (λ b. cond b (second_end g e) (first_end g e)) (ne_eqb (first_end g e) v d) in
-      let i : second_end g e ≡ v = eqb-true (second_end g e) v (or_second (first_end g e == v) (second_end g e == v) (ne_eqb (first_end g e) v d) h) in
-      ap₂ (λ c d. has_ends g c d e) (sym i) a ∙ has_ends-back g (first_end g e) (second_end g e) e (has_ends-own g e)
-]
+other_end-has_ends g e v h = grind arith
 
 -- the trace as a walk
 pub trail_walk : (g : Graph) (k : Set) (v : ℕ) (es : List ℕ) → Follow g v es → ((e : ℕ) → mem es e ≡ true → k e ≡ true) → (w : ℕ) → mem (trail g v es) w ≡ true → (ws : List ℕ) × Walk (adjacent_by g k) v ws w
-trail_walk g k v [] t h w m = elim (or_cases (v == w) false m) [
-  | inl i ↦ ([], eqb-true v w i)
-  | inr i ↦ absurd (true≢false (sym i))
-]
+trail_walk g k v [] t h w m = grind arith
 trail_walk g k v (e ∷ es) t h w m = elim (or_cases (v == w) (mem (trail g (other_end g e v) es) w) m) [
   | inl i ↦ ([], eqb-true v w i)
   | inr i ↦

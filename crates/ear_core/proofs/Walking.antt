@@ -1,7 +1,7 @@
 -- Walking along an ear edge by edge, with the inner vertices so far at hand: what is left of the
 -- ear goes on as a path if each edge is at the vertex reached, the next vertex is new, and
 -- only the last may be the first.
-use Rattle.std.proofs.Common.{◌≡◌, ℕ, suc, Bool, true, false, ◌==◌, refl, sym, ap, ap₂, ◌∙◌, arith, ◌&&◌, ◌||◌, not, nat_le, eq-eqb, ne_eqb, eqb-true, le-leb, inl, inr, [], ◌∷◌, List, length, All}
+use Rattle.std.proofs.Common.{◌≡◌, ℕ, suc, Bool, true, false, ◌==◌, refl, sym, ap, ap₂, ◌∙◌, arith, ◌&&◌, ◌||◌, not, nat_le, eq-eqb, ne_eqb, eqb-true, le-leb, inl, inr, [], ◌∷◌, List, length, All, rules}
 use Rattle.counting.proofs.Common.{cases_eq, true≢false, and_false, or_assoc_back, Within, mem, Set, none}
 use Rattle.std.proofs.Math.Path.{fun_ext}
 use Rattle.graph_core.proofs.Common.{Graph, size, first_end, second_end}
@@ -19,10 +19,7 @@ goes_on g u x v (e ∷ d ∷ es) =
     (first_end g e == v || second_end g e == v) && (not (x (other_end g e v)) && (not (other_end g e v == u) && goes_on g u (with_one x (other_end g e v)) (other_end g e v) (d ∷ es)))
 
 eqb-back : (a b : ℕ) → (a == b) ≡ (b == a)
-eqb-back a b = elim (cases_eq a b) [
-  | inl i ↦ eq-eqb a b i ∙ sym (eq-eqb b a (sym i))
-  | inr d ↦ ne_eqb a b d ∙ sym (ne_eqb b a (λ i. d (sym i)))
-]
+eqb-back a b = grind arith
 
 -- the inner vertices of two edges or more begin with the next vertex
 front-more : (g : Graph) (w v : ℕ) (es : List ℕ) → front (w ∷ trail g v es) ≡ w ∷ front (trail g v es)
@@ -43,13 +40,7 @@ no_member-more u w x [] = refl
 no_member-more u w x (y ∷ xs) = split (y == u) (x y) (w == y) (y == w) (no_member (λ v. (v == u) || with_one x w v) xs) (no_member (λ v. (v == u) || x v) xs) (mem xs w) (eqb-back w y) (no_member-more u w x xs)
   where
     split : (a b c d n m k : Bool) → c ≡ d → n ≡ (m && not k) → (not (a || (b || c)) && n) ≡ ((not (a || b) && m) && not (d || k))
-    split true b c d n m k h i = refl
-    split false true c d n m k h i = refl
-    split false false true d n m k h i = sym (no m k d (sym h))
-      where
-        no : (m k d : Bool) → d ≡ true → (m && not (d || k)) ≡ false
-        no m k d h = grind arith
-    split false false false d n m k h i = i ∙ ap (λ p. m && not (p || k)) h
+    split a b c d n m k h i = grind arith
 
 abbrev pub joins : Graph → ℕ → ℕ → Bool
 joins g e v = first_end g e == v || second_end g e == v
@@ -61,22 +52,7 @@ pub all-behind : (n e : ℕ) (es : List ℕ) → All (Within n) (e ∷ es) → A
 all-behind n e es all k d less = all (suc k) d (omega arith)
 
 shuffle : (r a f m p s t n n2 x w l : Bool) → r ≡ true → n2 ≡ (n && not m) → (((r && a) && f) && ((not (m || p) && (not (s || t) && n)) && not (x || (w || l)))) ≡ (a && (not t && (not s && (f && ((not p && n2) && not ((x || w) || l))))))
-shuffle r a f m p s t n n2 x w l one two = rw (one, two) (go a f m p s t n x w l)
-  where
-    last : (b x w l : Bool) → (b && not (x || (w || l))) ≡ (b && not ((x || w) || l))
-    last b true w l = refl
-    last b false w l = refl
-
-    go : (a f m p s t n x w l : Bool) → (((true && a) && f) && ((not (m || p) && (not (s || t) && n)) && not (x || (w || l)))) ≡ (a && (not t && (not s && (f && ((not p && (n && not m)) && not ((x || w) || l))))))
-    go false f m p s t n x w l = refl
-    go true false m p true true n x w l = refl
-    go true false m p true false n x w l = refl
-    go true false m p false true n x w l = refl
-    go true false m p false false n x w l = refl
-    go true true m p s t n x w l = last (not (m || p) && (not (s || t) && n)) x w l ∙ six m p s t n (not ((x || w) || l))
-      where
-        six : (m p s t n k : Bool) → ((not (m || p) && (not (s || t) && n)) && k) ≡ (not t && (not s && ((not p && (n && not m)) && k)))
-        six m p s t n k = grind arith
+shuffle r a f m p s t n n2 x w l one two = grind arith
 
 alone : (r a s : Bool) → r ≡ true → (((r && a) && true) && (true && not (s || false))) ≡ (a && not s)
 alone r a s h = grind arith
@@ -95,55 +71,35 @@ test-goes g u x v e (d ∷ es) all =
 
 none-of : (v : ℕ) (xs : List ℕ) → no_member (λ w. (w == v) || none w) xs ≡ not (mem xs v)
 none-of v [] = refl
-none-of v (x ∷ xs) = ap (λ b. not ((x == v) || false) && b) (none-of v xs) ∙ both (x == v) (mem xs v)
-  where
-    both : (a b : Bool) → (not (a || false) && not b) ≡ not (a || b)
-    both true b = refl
-    both false b = refl
+none-of v (x ∷ xs) = ap (λ b. not ((x == v) || false) && b) (none-of v xs) ∙ (grind arith)
 
 -- the test of a path
 pub path-goes : (g : Graph) (v : ℕ) (es : List ℕ) → All (Within (size g)) es → is_path g v es ≡ goes_on g v none v es
 unfolding goes_on
 path-goes g v [] all = refl
-path-goes g v (e ∷ es) all =
-    let inner : List ℕ = inner_vertices g v (e ∷ es) in
-    ap (λ b. follows g v (e ∷ es) && (b && not (mem inner (last_vertex g v (e ∷ es))))) (turn (mem inner v) (repeats inner) _ (none-of v inner)) ∙ test-goes g v none v e es all
+path-goes g v (e ∷ es) all = grind (arith, turn, none-of v, test-goes g v none v e es all)
   where
     turn : (m p n : Bool) → n ≡ not m → not (m || p) ≡ (not p && n)
-    turn true true n h = refl
-    turn true false n h = sym h
-    turn false true n h = refl
-    turn false false n h = sym h
+    turn m p n h = grind arith
 
 -- where a walk ends
 pub not_joined : (g : Graph) (u : ℕ) (x : Set) (v e : ℕ) (rest others : List ℕ) → rest ≡ e ∷ others → joins g e v ≡ false → goes_on g u x v rest ≡ false
 unfolding goes_on
-not_joined g u x v e rest [] begins h = ap (goes_on g u x v) begins ∙ ap (λ b. b && not (x (other_end g e v))) h
-not_joined g u x v e rest (d ∷ es) begins h = ap (goes_on g u x v) begins ∙ ap (λ b. b && (not (x (other_end g e v)) && (not (other_end g e v == u) && goes_on g u (with_one x (other_end g e v)) (other_end g e v) (d ∷ es)))) h
+not_joined g u x v e rest others begins h = grind arith
 
 pub passed_before : (g : Graph) (u : ℕ) (x : Set) (v e w : ℕ) (rest others : List ℕ) → rest ≡ e ∷ others → w ≡ other_end g e v → x w ≡ true → goes_on g u x v rest ≡ false
 unfolding goes_on
-passed_before g u x v e w rest [] begins is h = ap (goes_on g u x v) begins ∙ ap (λ b. joins g e v && not b) (ap x (sym is) ∙ h) ∙ and_false (joins g e v)
-passed_before g u x v e w rest (d ∷ es) begins is h =
-    ap (goes_on g u x v) begins ∙ ap (λ b. joins g e v && (not b && (not (other_end g e v == u) && goes_on g u (with_one x (other_end g e v)) (other_end g e v) (d ∷ es)))) (ap x (sym is) ∙ h) ∙ and_false (joins g e v)
+passed_before g u x v e w rest others begins is h = grind arith
 
 pub first_again : (g : Graph) (u : ℕ) (x : Set) (v e w : ℕ) (rest others : List ℕ) → rest ≡ e ∷ others → w ≡ other_end g e v → (length others == 0) ≡ false → w ≡ u → goes_on g u x v rest ≡ false
 unfolding goes_on
-first_again g u x v e w rest [] begins is long same = absurd (true≢false long)
-first_again g u x v e w rest (d ∷ es) begins is long same =
-    ap (goes_on g u x v) begins
-    ∙ ap (λ b. joins g e v && (not (x (other_end g e v)) && (not b && goes_on g u (with_one x (other_end g e v)) (other_end g e v) (d ∷ es)))) (eq-eqb (other_end g e v) u (sym is ∙ same))
-    ∙ ap (λ b. joins g e v && b) (and_false (not (x (other_end g e v)))) ∙ and_false (joins g e v)
+first_again g u x v e w rest others begins is long same = grind arith
 
 pub walk_ends : (g : Graph) (u : ℕ) (x : Set) (v e w : ℕ) (rest others : List ℕ) → rest ≡ e ∷ others → joins g e v ≡ true → w ≡ other_end g e v → (length others == 0) ≡ true → x w ≡ false →
     (goes_on g u x v rest ≡ true) × (last_vertex g v rest ≡ w) × ((y : ℕ) → mem (inner_vertices g v rest) y ≡ false)
 unfolding goes_on
 walk_ends g u x v e w rest (d ∷ es) begins h is short new = let z = eqb-true (length (d ∷ es)) 0 short in absurd (omega arith)
-walk_ends g u x v e w rest [] begins h is short new = (
-  ap (goes_on g u x v) begins ∙ ap₂ (λ a b. a && not b) h (ap x (sym is) ∙ new),
-  ap (last_vertex g v) begins ∙ sym is,
-  λ y. ap (λ es. mem (inner_vertices g v es) y) begins,
-)
+walk_ends g u x v e w rest [] begins h is short new = grind arith
 
 -- and how it goes on
 pub walk_on : (g : Graph) (u : ℕ) (x next : Set) (v e w : ℕ) (rest others : List ℕ) → rest ≡ e ∷ others → joins g e v ≡ true → w ≡ other_end g e v → (length others == 0) ≡ false → x w ≡ false → (w == u) ≡ false → ((y : ℕ) → next y ≡ (x y || w == y)) →

@@ -1,7 +1,7 @@
 -- A stage that holds every edge and meets every vertex has the walks and the perfect matchings of
 -- the graph itself, so it is matching covered exactly when the graph is. An ear list leads to
 -- such a stage if no vertex is isolated.
-use Rattle.std.proofs.Common.{◌≡◌, ℕ, true, not, ◌&&◌, ◌==◌, List, [], ◌∷◌, refl, sym, ap, ◌∙◌, arith}
+use Rattle.std.proofs.Common.{◌≡◌, ℕ, true, not, ◌&&◌, ◌==◌, List, [], ◌∷◌, refl, sym, ap, ◌∙◌, arith, rules}
 use Rattle.counting.proofs.Common.{and_from, and_parts, true≢false, some_true, true_some, Within, Set, everything, none, singleton}
 use Rattle.graph_core.proofs.Common.{degree_congr, IsCovered, Graph, IsMultigraph, has_ends, size, Joined, Walk, adjacent}
 use Rattle.ear_core.proofs.Stepping.{covered-allowed, covered-edge}
@@ -14,15 +14,11 @@ HoldsEdges g f = (e : ℕ) → Within (size g) e → f e ≡ true
 module _ (g : Graph) (f : Set) (edges : HoldsEdges g f) where
   walk-of_graph : (u : ℕ) (ws : List ℕ) (v : ℕ) → Walk (adjacent_by g f) u ws v → Walk (adjacent g none) u ws v
   walk-of_graph u [] v walk = walk
-  walk-of_graph u (x ∷ ws) v walk =
-      let e = some_true (size g) (λ e. f e && has_ends g u x e) walk.0 in
-      (true_some (size g) (has_ends g u x) e.0 e.1 (and_parts (f e.0) (has_ends g u x e.0) e.2).1, walk-of_graph x ws v walk.1)
+  walk-of_graph u (x ∷ ws) v walk = grind (arith, some_true (size g), true_some (size g) (has_ends g u x), and_parts, walk-of_graph x ws v walk.1)
 
   walk-of_stage : (u : ℕ) (ws : List ℕ) (v : ℕ) → Walk (adjacent g none) u ws v → Walk (adjacent_by g f) u ws v
   walk-of_stage u [] v walk = walk
-  walk-of_stage u (x ∷ ws) v walk =
-      let e = some_true (size g) (has_ends g u x) walk.0 in
-      (true_some (size g) (λ e. f e && has_ends g u x e) e.0 e.1 (and_from (f e.0) (has_ends g u x e.0) (edges e.0 e.1) e.2), walk-of_stage x ws v walk.1)
+  walk-of_stage u (x ∷ ws) v walk = search (rules, some_true (size g) (has_ends g u x) walk.0, true_some (size g), and_from, walk-of_stage x ws v walk.1)
 
   module _ (is : IsMultigraph g) (vertices : (v : ℕ) → Within g.order v → is_met g f v ≡ true) where
     pub stage-covered : IsStage g f → IsCovered g

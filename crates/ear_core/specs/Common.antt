@@ -1,7 +1,7 @@
 -- The definitions of this crate, passed on from one place to the crates above. Declares nothing.
 pub use Rattle.ear_core.specs.Stages.{is_met, adjacent_by, IsPerfectOf, IsPerfectOff, AllowedBy, IsStage, with_edges}
 pub use Rattle.ear_core.specs.Ears.{other_end, Follow, trail, last_vertex, IsEar, IsEarPair}
-pub use Rattle.ear_core.specs.EarLists.{PlainEar, PlainStep, one, two, PlainEars, next_stage, IsStep, AreSteps, IsEarList, IsSingle, IsNeeded, AreEach, AreNeeded, IsUnrefinable, IsForced, AreForced, TakesSingles, HasEdges, FitsEar, FitsStep, FitsEars, IsBuilt}
+pub use Rattle.ear_core.specs.EarLists.{PlainEar, PlainStep, one, two, PlainEars, next_stage, IsStep, AreSteps, IsEarList, IsSingle, IsNeeded, AreEach, AreNeeded, IsUnrefinable, IsForced, AreForced, TakesSingles, HasEdges, FitsEar, FitsStep, FitsEars}
 pub use Rattle.ear_core.specs.View.{ear_of, plain_step, step_of, ears_of, why_of, refusal_of}
 pub use Rattle.ear_core.specs.NearlyStages.{odds, evens, IsNearlyStage}
 pub use Rattle.ear_core.specs.EarTests.{PlainWhy, not_path, even_length, bad_ends, inner_on_stage, edge_used, stage_not_covered, ends_early, follows, front, inner_vertices, repeats, no_member, is_empty, is_path, has_odd_length, has_good_ends, has_free_inner, has_new_edges, Passes, ear_fault}

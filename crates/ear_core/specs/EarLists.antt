@@ -6,7 +6,7 @@
 use Rattle.std.specs.Prelude.{◌≡◌, ◌<◌, ℕ, true, List, [], ◌∷◌, All, length}
 use Rattle.std.specs.List.{AllByRecursion}
 use Rattle.counting.specs.Common.{Within, Set, singleton}
-use Rattle.graph_core.specs.Common.{Graph, IsBipartite, size}
+use Rattle.graph_core.specs.Common.{Graph, size}
 use Rattle.ear_core.specs.Stages.{IsStage, with_edges}
 use Rattle.ear_core.specs.Ears.{IsEar, IsEarPair}
 
@@ -100,13 +100,3 @@ FitsStep n m (two a b) = FitsEar n m a × FitsEar n m b
 pub record FitsEars (n m : ℕ) (list : PlainEars) : Type 0 where
   pub start : Within m list.start
   pub steps : AllByRecursion (FitsStep n m) list.steps
-
--- an ear list from edge 1 as the builder makes it
-pub record IsBuilt (g : Graph) (list : PlainEars) : Type 0 where
-  pub ears : IsEarList g list
-  pub first : list.start ≡ 1
-  pub fits : FitsEars g.order (size g) list
-  pub filled : AllByRecursion HasEdges list.steps
-  pub unrefinable : IsUnrefinable g list
-  pub singles : TakesSingles g list
-  pub single : IsBipartite g → AllByRecursion IsSingle list.steps

@@ -5,7 +5,7 @@ ghost use Rattle.counting.specs.Common.{Within, mem};
 ghost use Rattle.graph_core.specs.Common.{IsCovered, size, first_end, second_end, IsBipartite};
 ghost use Rattle.match_core.specs.Common.{edges_of};
 ghost use Rattle.match_search.specs.Common.{marks};
-ghost use Rattle.ear_core.specs.Common.{IsPerfectRows, KeepsMates, row_edge, AreForced, AreNeeded, AreSteps, IsBuilt, IsEarList, IsForced, IsNeeded, IsSingle, IsStep, IsUnrefinable, next_stage, FitsEars, FitsStep, HasEdges, TakesSingles, LeadsAtTwo, is_met, IsStage, ears_of, step_of};
+ghost use Rattle.ear_core.specs.Common.{IsPerfectRows, KeepsMates, row_edge, AreForced, AreNeeded, AreSteps, IsEarList, IsForced, IsNeeded, IsSingle, IsStep, IsUnrefinable, next_stage, FitsEars, FitsStep, HasEdges, TakesSingles, LeadsAtTwo, is_met, IsStage, ears_of, step_of};
 
 use crate::choosing::choose;
 use crate::ears::{EarList, Step, Steps};
@@ -55,21 +55,11 @@ pub fn build_ears_of(alloc: Global, c: &Covered) -> Result<EarList, Memory>
     ensures single { IfOk result
         (λ list. IsBipartite c.now → AllByRecursion IsSingle (ears_of list).steps) }
 {
-    let list = built_from(alloc, c.graph(), c.matching())?;
-    Ok(list)
-}
-
-// The ear list of a covered graph, from any perfect matching.
-fn built_from(alloc: Global, g: &MultiGraph, any: &Matching) -> Result<EarList, Memory>
-    requires covered { IsCovered g.now }
-    requires any { IsPerfectRows g.now any.now }
-    ensures { IfOk result (λ list. IsBuilt g.now (ears_of list)) }
-{
-    g.keeps_limits();
-    let kept = matching_with_first(alloc, g, any)?;
-    let mut mark = vec![in alloc; false; g.size() as usize + 1]?;
+    c.keeps_covered();
+    let kept = matching_with_first(alloc, c)?;
+    let mut mark = vec![in alloc; false; c.size() as usize + 1]?;
     mark[1] = true;
-    let steps = steps_from(alloc, g, &mut mark, &kept)?;
+    let steps = steps_from(alloc, c, &mut mark, &kept)?;
     Ok(EarList { start: 1, steps })
 }
 
@@ -77,45 +67,42 @@ fn built_from(alloc: Global, g: &MultiGraph, any: &Matching) -> Result<EarList, 
 // vertices by the kept matching.
 fn steps_from(
     alloc: Global,
-    g: &MultiGraph,
+    c: &Covered,
     mark: &mut Vec<bool>,
     kept: &Matching,
 ) -> Result<Steps, Memory>
-    requires covered { IsCovered g.now }
-    requires long { length mark.old.items ≡ size g.now + 1 }
-    requires stage { IsStage g.now (marks mark.old.items) }
-    requires kept { IsPerfectRows g.now kept.now }
-    requires mates { KeepsMates g.now (row_edge kept.now.rows)
-        (is_met g.now (marks mark.old.items)) }
+    requires long { length mark.old.items ≡ size c.now + 1 }
+    requires stage { IsStage c.now (marks mark.old.items) }
+    requires kept { IsPerfectRows c.now kept.now }
+    requires mates { KeepsMates c.now (row_edge kept.now.rows)
+        (is_met c.now (marks mark.old.items)) }
     ensures steps { IfOk result
-        (λ steps. AreSteps g.now (marks mark.old.items) (map step_of steps)) }
+        (λ steps. AreSteps c.now (marks mark.old.items) (map step_of steps)) }
     ensures needed { IfOk result
-        (λ steps. AreNeeded g.now (marks mark.old.items) (map step_of steps)) }
+        (λ steps. AreNeeded c.now (marks mark.old.items) (map step_of steps)) }
     ensures forced { IfOk result
-        (λ steps. AreForced g.now (marks mark.old.items) (map step_of steps)) }
+        (λ steps. AreForced c.now (marks mark.old.items) (map step_of steps)) }
     ensures single { IfOk result
-        (λ steps. IsBipartite g.now → AllByRecursion IsSingle (map step_of steps)) }
+        (λ steps. IsBipartite c.now → AllByRecursion IsSingle (map step_of steps)) }
 {
-    g.keeps_limits();
+    c.keeps_covered();
     let mut steps = Steps::new(alloc);
-    'stages: while let Some(edge) = leaving_edge(g, mark) {
-        let step = next_step(alloc, g, mark, kept, edge)?;
-        mark_step(mark, g.size(), &step);
+    'stages: while let Some(edge) = leaving_edge(c.graph(), mark) {
+        let step = next_step(alloc, c, mark, kept, edge)?;
+        mark_step(mark, c.size(), &step);
         steps.push(step)?;
     }
     Ok(steps)
 }
 
-// A perfect matching that holds edge 1, from any one.
-fn matching_with_first(alloc: Global, g: &MultiGraph, any: &Matching) -> Result<Matching, Memory>
-    requires covered { IsCovered g.now }
-    requires any { IsPerfectRows g.now any.now }
-    ensures edge { IfOk result (λ m. Within (size g.now) 1) }
-    ensures perfect { IfOk result (IsPerfectRows g.now) }
+// A perfect matching that holds edge 1.
+fn matching_with_first(alloc: Global, c: &Covered) -> Result<Matching, Memory>
+    ensures edge { IfOk result (λ m. Within (size c.now) 1) }
+    ensures perfect { IfOk result (IsPerfectRows c.now) }
     ensures holds { IfOk result (λ m. mem (edges_of m) 1 ≡ true) }
 {
-    g.keeps_limits();
-    match perfect_with_edge(alloc, g, any, 1)? {
+    c.keeps_covered();
+    match perfect_with_edge(alloc, c.graph(), c.matching(), 1)? {
         Some(m) => Ok(m),
         None => unreachable!(),
     }
@@ -148,32 +135,32 @@ fn leaving_edge(g: &MultiGraph, mark: &[bool]) -> Option<u32>
 // matching. An edge leads out of it.
 fn next_step(
     alloc: Global,
-    g: &MultiGraph,
+    c: &Covered,
     mark: &[bool],
     kept: &Matching,
     edge: u32,
 ) -> Result<Step, Memory>
-    requires covered { IsCovered g.now }
-    requires long { length mark.now ≡ size g.now + 1 }
-    requires stage { IsStage g.now (marks mark.now) }
-    requires kept { IsPerfectRows g.now kept.now }
-    requires mates { KeepsMates g.now (row_edge kept.now.rows) (is_met g.now (marks mark.now)) }
-    requires edge { Within (size g.now) edge }
+    requires long { length mark.now ≡ size c.now + 1 }
+    requires stage { IsStage c.now (marks mark.now) }
+    requires kept { IsPerfectRows c.now kept.now }
+    requires mates { KeepsMates c.now (row_edge kept.now.rows) (is_met c.now (marks mark.now)) }
+    requires edge { Within (size c.now) edge }
     requires off { marks mark.now edge ≡ false }
-    requires leads { (is_met g.now (marks mark.now) (first_end g.now edge) ||
-        is_met g.now (marks mark.now) (second_end g.now edge)) ≡ true }
-    ensures fits { IfOk result (λ step. FitsStep g.now.order (size g.now) (step_of step)) }
-    ensures step { IfOk result (λ step. IsStep g.now (marks mark.now) (step_of step)) }
+    requires leads { (is_met c.now (marks mark.now) (first_end c.now edge) ||
+        is_met c.now (marks mark.now) (second_end c.now edge)) ≡ true }
+    ensures fits { IfOk result (λ step. FitsStep c.now.order (size c.now) (step_of step)) }
+    ensures step { IfOk result (λ step. IsStep c.now (marks mark.now) (step_of step)) }
     ensures stage { IfOk result
-        (λ step. IsStage g.now (next_stage (marks mark.now) (step_of step))) }
+        (λ step. IsStage c.now (next_stage (marks mark.now) (step_of step))) }
     ensures mates { IfOk result
-        (λ step. KeepsMates g.now (row_edge kept.now.rows)
-        (is_met g.now (next_stage (marks mark.now) (step_of step)))) }
-    ensures needed { IfOk result (λ step. IsNeeded g.now (marks mark.now) (step_of step)) }
-    ensures forced { IfOk result (λ step. IsForced g.now (marks mark.now) (step_of step)) }
-    ensures single { IfOk result (λ step. IsBipartite g.now → IsSingle (step_of step)) }
+        (λ step. KeepsMates c.now (row_edge kept.now.rows)
+        (is_met c.now (next_stage (marks mark.now) (step_of step)))) }
+    ensures needed { IfOk result (λ step. IsNeeded c.now (marks mark.now) (step_of step)) }
+    ensures forced { IfOk result (λ step. IsForced c.now (marks mark.now) (step_of step)) }
+    ensures single { IfOk result (λ step. IsBipartite c.now → IsSingle (step_of step)) }
 {
-    g.keeps_limits();
+    c.keeps_covered();
+    let g = c.graph();
     let met = met_by(g, mark);
     let Some(leading) = perfect_with_edge(alloc, g, kept, edge)? else {
         unreachable!()

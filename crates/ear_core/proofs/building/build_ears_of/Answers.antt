@@ -1,33 +1,47 @@
-use Rattle.std.proofs.Common.{subst, sym}
-use Rattle.graph_core.proofs.Common.{Graph}
-use Rattle.ear_core.specs.Common.{IsPerfectRows, IsBuilt, ears_of}
-use Rattle.ear_core.proofs.building.build_ears_of.Goals.{In_ok-list}
+use Rattle.std.proofs.Common.{rules, ◌≡◌, ◌<◌, length, map, refl, subst, sym, ℕ, slice_set, true}
+use Rattle.std.proofs.Math.Path.{fun_ext}
+use Rattle.counting.proofs.Common.{Set, singleton}
+use Rattle.match_search.specs.Common.{marks}
+use Rattle.ear_core.specs.Common.{row_edge, KeepsMates, AreForced, AreNeeded, AreSteps, IsEarList, PlainEars, is_met, ears_of, step_of}
+use Rattle.ear_core.proofs.FirstStage.{first-stage}
+use Rattle.ear_core.proofs.Judging.{one-marked, one-stage}
+use Rattle.ear_core.proofs.Stepping.{first-keeps, list-fits, list-filled}
+use Rattle.ear_core.proofs.building.build_ears_of.Goals.{In_ok-mark}
 use Rattle.ear_core.proofs.building.build_ears_of.Goals as goal
 
-pub built_from-requires-clause-any : goal.built_from-requires-clause-any
-built_from-requires-clause-any c = subst (λ (g : Graph). IsPerfectRows g c.matching.result.now) (sym c.graph.ensures.same) (record { of = c.matching.ensures.of; perfect = c.matching.ensures.perfect })
+-- edge 1 alone is marked at first
+first : (c : In_ok-mark) → (i : ℕ) → marks (slice_set c.in_ok-mark.mark.items 1 true) i ≡ singleton 1 i
+first c =
+    let less : 1 < length c.in_ok-mark.mark.items = search rules in
+    one-marked c.in_ok-mark.mark.items _ 1 (c.in_ok-mark.ensures.items_if_clones_equal (λ y q. q)) less
 
--- the list is one of the covered graph
-built : (c : In_ok-list) → IsBuilt c.args.c.now (ears_of c.in_ok-list.list)
-built c = subst (λ (g : Graph). IsBuilt g (ears_of c.in_ok-list.list)) c.graph.ensures.same c.in_ok-list.ensures
+pub steps_from-requires-clause-stage : goal.steps_from-requires-clause-stage
+steps_from-requires-clause-stage c =
+    one-stage c.args.c.now c.keeps_covered.ensures.limits.multigraph _ 1 c.in_ok-kept.ensures.edge (first (goal.at.steps_from-requires-clause-stage c).In_ok-mark)
 
-pub returns-clause-list : goal.returns-clause-list
-returns-clause-list c = (built (goal.at.returns-clause-list c).In_ok-list).ears
+pub steps_from-requires-clause-mates : goal.steps_from-requires-clause-mates
+steps_from-requires-clause-mates c =
+    let g = c.args.c.now in
+    subst (λ (f : Set). KeepsMates g (row_edge c.in_ok-kept.kept.rows) (is_met g f)) (sym (fun_ext (first (goal.at.steps_from-requires-clause-mates c).In_ok-mark)))
+    (first-keeps g c.keeps_covered.ensures.limits.multigraph c.in_ok-kept.kept c.in_ok-kept.ensures.perfect 1 c.in_ok-kept.ensures.edge c.in_ok-kept.ensures.holds)
 
-pub returns-clause-start : goal.returns-clause-start
-returns-clause-start c = (built (goal.at.returns-clause-start c).In_ok-list).first
-
-pub returns-clause-fits : goal.returns-clause-fits
-returns-clause-fits c = (built (goal.at.returns-clause-fits c).In_ok-list).fits
-
-pub returns-clause-filled : goal.returns-clause-filled
-returns-clause-filled c = (built (goal.at.returns-clause-filled c).In_ok-list).filled
-
-pub returns-clause-unrefinable : goal.returns-clause-unrefinable
-returns-clause-unrefinable c = (built (goal.at.returns-clause-unrefinable c).In_ok-list).unrefinable
-
-pub returns-clause-singles : goal.returns-clause-singles
-returns-clause-singles c = (built (goal.at.returns-clause-singles c).In_ok-list).singles
-
-pub returns-clause-single : goal.returns-clause-single
-returns-clause-single c = (built (goal.at.returns-clause-single c).In_ok-list).single
+pub returns : goal.returns
+returns c =
+    let g = c.args.c.now in
+    let steps = c.in_ok-steps.steps in
+    let same = fun_ext (first (goal.at.returns c).In_ok-mark) in
+    let list : PlainEars = ears_of (record { start = 1; steps = steps }) in
+    let ears : IsEarList g list = record {
+      start = c.in_ok-kept.ensures.edge;
+      first_stage = first-stage g c.keeps_covered.ensures.limits.multigraph 1 c.in_ok-kept.ensures.edge;
+      steps = subst (λ (f : Set). AreSteps g f (map step_of steps)) same c.in_ok-steps.ensures.steps;
+    } in
+    record {
+      list = ears;
+      start = refl;
+      fits = list-fits g c.keeps_covered.ensures.limits.multigraph.ends list ears;
+      filled = list-filled g list ears;
+      unrefinable = subst (λ (f : Set). AreNeeded g f (map step_of steps)) same c.in_ok-steps.ensures.needed;
+      singles = subst (λ (f : Set). AreForced g f (map step_of steps)) same c.in_ok-steps.ensures.forced;
+      single = c.in_ok-steps.ensures.single;
+    }

@@ -1,4 +1,4 @@
-use Rattle.std.proofs.Common.{ap, subst, sym, map, List, IfOk}
+use Rattle.std.proofs.Common.{ap, subst, sym, map, List, IfOk, arith, rules}
 use Rattle.counting.proofs.Common.{IfOk-weaker, none}
 use Rattle.graph_core.proofs.Common.{size}
 use Rattle.match_search.specs.Common.{marks}
@@ -21,10 +21,7 @@ pub choose-requires-clause-candidates : goal.choose-requires-clause-candidates
 choose-requires-clause-candidates c = subst (λ (items : List Ear). AreCandidates c.args.g.now (marks c.args.mark.now) (map ear_of items)) (sym c.deref.ensures.value) (candidates c)
 
 pub returns-clause-fits : goal.returns-clause-fits
-returns-clause-fits c =
-    let g = c.args.g.now in
-    let f = marks c.args.mark.now in
-    IfOk-weaker c.choose.result (λ step. IsStep g f (step_of step)) (λ step. FitsStep g.order (size g) (step_of step)) (λ step is. step-fits g c.keeps_limits.ensures.multigraph.ends f (step_of step) is) c.choose.ensures.step
+returns-clause-fits c = grind (arith, step-fits)
 
 pub returns-clause-mates : goal.returns-clause-mates
 returns-clause-mates c =

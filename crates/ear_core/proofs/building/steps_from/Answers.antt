@@ -1,4 +1,4 @@
-use Rattle.std.proofs.Common.{rules, ◌≡◌, ◌∙◌, ◌++◌, ◌∷◌, ◌&&◌, ◌||◌, [], ap, arith, append-nil, subst, sym, map, not, List, All, Bool, false, IfSome, ℕ}
+use Rattle.std.proofs.Common.{rules, ◌≡◌, ◌∙◌, ◌++◌, ◌∷◌, ◌&&◌, ◌||◌, [], ap, arith, append-nil, subst, sym, map, not, List, Bool, false, ℕ}
 use Rattle.counting.proofs.Common.{AllByRecursion, map-append, Within}
 use Rattle.graph_core.proofs.Common.{size, first_end, second_end}
 use Rattle.match_search.specs.Common.{marks}
@@ -10,13 +10,11 @@ use Rattle.ear_core.proofs.Stepping.{all-on, stage-there, mates-there, fewer-off
 use Rattle.ear_core.proofs.building.steps_from.Goals as goal
 
 pub mark_step-requires-clause-second : goal.mark_step-requires-clause-second
-mark_step-requires-clause-second c =
-    let step = c.in_ok-step.step in
-    subst (λ n. IfSome step.second (λ ear. All (Within n) ear.edges)) (sym c.size.ensures.is) (second_fits c.args.g.now.order (size c.args.g.now) step.first step.second c.in_ok-step.ensures.fits)
+mark_step-requires-clause-second c = rw c.size.ensures.is (second_fits c.args.c.now.order (size c.args.c.now) c.in_ok-step.step.first c.in_ok-step.step.second c.in_ok-step.ensures.fits)
 
 pub stages-preserved : goal.stages-preserved
 stages-preserved c =
-    let g = c.args.g.now in
+    let g = c.args.c.now in
     let f = marks c.stages.mark.items in
     let s = step_of c.in_ok-step.step in
     let new = marks c.mark_step.new.mark.items in
@@ -43,7 +41,7 @@ stages-preserved c =
 
 pub stages-smaller : goal.stages-smaller
 stages-smaller c =
-    let g = c.args.g.now in
+    let g = c.args.c.now in
     let f = marks c.stages.mark.items in
     let s = step_of c.in_ok-step.step in
     let step = subst (λ (items : List Bool). IsStep g (marks items) s) c.deref-in-Some.ensures.value c.in_ok-step.ensures.step in
@@ -52,19 +50,15 @@ stages-smaller c =
 
 pub returns-clause-steps : goal.returns-clause-steps
 returns-clause-steps c =
-    let g = c.args.g.now in
+    let g = c.graph.result.now in
     let f = marks c.stages.mark.items in
     let nothing = subst (λ (items : List Bool). (e : ℕ) → Within (size g) e → (not (marks items e) && (is_met g (marks items) (first_end g e) || is_met g (marks items) (second_end g e))) ≡ false) c.deref.ensures.value
     (at-none c.leaving_edge.result _ (search rules) c.leaving_edge.ensures.none) in
-    subst (λ (steps : List PlainStep). AreSteps g (marks c.args.mark.now.items) steps) (append-nil (map step_of c.stages.steps))
-    (c.stages.invariant.so_far [] (all-on g c.keeps_limits.ensures.multigraph.ends c.requires.covered f c.stages.invariant.stage nothing))
+    subst (λ (steps : List PlainStep). AreSteps c.args.c.now (marks c.args.mark.now.items) steps) (append-nil (map step_of c.stages.steps))
+    (c.stages.invariant.so_far [] (all-on c.args.c.now c.keeps_covered.ensures.limits.multigraph.ends c.keeps_covered.ensures.covered f c.stages.invariant.stage (rw c.graph.ensures.same at nothing)))
 
 pub returns-clause-needed : goal.returns-clause-needed
-returns-clause-needed c =
-    let g = c.args.g.now in
-    subst (λ (steps : List PlainStep). AreNeeded g (marks c.args.mark.now.items) steps) (append-nil (map step_of c.stages.steps)) (c.stages.invariant.needed [] tt)
+returns-clause-needed c = grind (arith, append-nil (map step_of c.stages.steps))
 
 pub returns-clause-forced : goal.returns-clause-forced
-returns-clause-forced c =
-    let g = c.args.g.now in
-    subst (λ (steps : List PlainStep). AreForced g (marks c.args.mark.now.items) steps) (append-nil (map step_of c.stages.steps)) (c.stages.invariant.forced [] tt)
+returns-clause-forced c = grind (arith, append-nil (map step_of c.stages.steps))

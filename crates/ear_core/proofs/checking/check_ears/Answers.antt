@@ -1,4 +1,4 @@
-use Rattle.std.proofs.Common.{rules, ◌≡◌, ◌<◌, ap, map, length, true, ℕ, slice_set}
+use Rattle.std.proofs.Common.{rules, ◌≡◌, ◌<◌, ap, map, length, true, ℕ, slice_set, arith}
 use Rattle.counting.proofs.Common.{singleton}
 use Rattle.match_search.specs.Common.{marks}
 use Rattle.ear_core.specs.Common.{step_of, ears_of}
@@ -8,10 +8,7 @@ use Rattle.ear_core.proofs.checking.check_ears.Goals.{After-as_slice}
 
 -- the first edge alone is marked
 one_mark : (c : After-as_slice) → (i : ℕ) → marks (slice_set c.in_ok-mark.mark.items c.args.list.now.start true) i ≡ singleton c.args.list.now.start i
-one_mark c =
-    let items = c.in_ok-mark.mark.items in
-    let less : c.args.list.now.start < length items = search rules in
-    one-marked items _ c.args.list.now.start (c.in_ok-mark.ensures.items_if_clones_equal (λ y q. q)) less
+one_mark c = grind (arith, one-marked)
 
 pub check_steps-requires-clause-stage : goal.check_steps-requires-clause-stage
 check_steps-requires-clause-stage c =

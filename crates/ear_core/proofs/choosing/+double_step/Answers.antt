@@ -1,4 +1,4 @@
-use Rattle.std.proofs.Common.{rules, ap, map}
+use Rattle.std.proofs.Common.{rules, ap, map, arith}
 use Rattle.ear_core.specs.Common.{ends_of_ear, FindsBeside, FindsTwo, NoTwoServe, NoneServesBeside, PlainEar, two, ear_of, step_of}
 use Rattle.ear_core.proofs.Searching.{none-carried, no-two-later, some-carried, two-here, two-later, at-none, at-some}
 use Rattle.ear_core.proofs.choosing.+double_step.Goals as goal
@@ -13,11 +13,7 @@ returns-in-Some-2-clause-some t c = λ f is.
     (ap (λ (b : PlainEar). two b (ear_of c.in-Some-2.second)) c.in_ok-first.ensures) found
 
 pub returns-clause-some : goal.returns-clause-some
-returns-clause-some t c = λ f is.
-    let g = c.args.g.now in
-    let a = ear_of c.in-Some.ear.now in
-    some-carried c.double_step.result (λ step. FindsTwo g f (map ear_of c.in-Some.others.now) (step_of step)) (λ step. FindsTwo g f (map ear_of c.args.ears.now) (step_of step))
-    (λ step found. two-later g f a (map ear_of c.args.ears.now) (map ear_of c.in-Some.others.now) (ap (map ear_of) c.in-Some.ensures.cases.0) (step_of step) found) (c.double_step.ensures.some f is)
+returns-clause-some t c = grind arith
 
 pub returns-clause-none : goal.returns-clause-none
 returns-clause-none t c = λ f is.

@@ -1,4 +1,4 @@
-use Rattle.std.proofs.Common.{◌∙◌, sym, ap, arith, subst, All}
+use Rattle.std.proofs.Common.{◌∙◌, sym, ap, arith, subst, All, rules}
 use Rattle.counting.proofs.Common.{Within}
 use Rattle.graph_core.proofs.Common.{size}
 use Rattle.ear_core.specs.Common.{last_vertex}
@@ -13,8 +13,4 @@ edges-preserved c =
     let others = c.in-Some.others.now in
     let begins = c.in-Some.ensures.cases.0 in
     let all = subst (All (Within (size g))) begins c.edges.invariant.edges in
-    record {
-      last = c.edges.invariant.last ∙ ap (last_vertex g c.edges.last) begins ∙ ap (λ w. last_vertex g w others) (sym c.across-last.ensures);
-      at = subst (Within g.order) (sym c.across-last.ensures) (other_end-within g c.keeps_limits.ensures.multigraph.ends e c.edges.last (all 0 0 (omega arith)));
-      edges = all-behind (size g) e others all;
-    }
+    grind (arith, other_end-within g c.keeps_limits.ensures.multigraph.ends e c.edges.last, all-behind (size g) e others all)

@@ -1,4 +1,4 @@
-use Rattle.std.proofs.Common.{rules, ◌≡◌, ◌∙◌, sym, ap}
+use Rattle.std.proofs.Common.{rules, ◌≡◌, ◌∙◌, sym, ap, arith}
 use Rattle.counting.proofs.Common.{is_odd}
 use Rattle.match_search.specs.Common.{marks}
 use Rattle.ear_core.specs.Common.{has_odd_length, has_good_ends, has_free_inner, has_new_edges}
@@ -20,15 +20,10 @@ new : (c : After-are_new) → has_new_edges (marks c.args.mark.now) c.args.used.
 new c = ap (has_new_edges (marks c.args.mark.now) c.args.used.now) (sym c.as_slice.ensures) ∙ sym c.are_new.ensures
 
 pub returns-then-not-is_odd-clause-fault : goal.returns-then-not-is_odd-clause-fault
-returns-then-not-is_odd-clause-fault c =
-    let at = goal.at.returns-then-not-is_odd-clause-fault c in
-    fault-length c.args.g.now (marks c.args.mark.now) c.args.inner c.args.used.now c.args.ear.now.«from» c.args.ear.now.edges c.in-Some.ensures.path (odd at.After-is_odd ∙ search rules)
+returns-then-not-is_odd-clause-fault c = grind arith
 
 pub returns-then-not-are_good_ends-clause-fault : goal.returns-then-not-are_good_ends-clause-fault
-returns-then-not-are_good_ends-clause-fault c =
-    let at = goal.at.returns-then-not-are_good_ends-clause-fault c in
-    fault-ends c.args.g.now (marks c.args.mark.now) c.args.inner c.args.used.now c.args.ear.now.«from» c.args.ear.now.edges c.in-Some.ensures.path (odd at.After-is_odd ∙ search rules)
-    (ends at.After-are_good_ends ∙ search rules)
+returns-then-not-are_good_ends-clause-fault c = grind arith
 
 pub returns-then-not-is_free-clause-fault : goal.returns-then-not-is_free-clause-fault
 returns-then-not-is_free-clause-fault c =

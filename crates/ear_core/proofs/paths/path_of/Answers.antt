@@ -1,4 +1,4 @@
-use Rattle.std.proofs.Common.{rules, ◌≡◌, ◌||◌, ◌∙◌, sym, ap, ap₂, subst, ℕ, All, List, false, IfNone}
+use Rattle.std.proofs.Common.{rules, ◌≡◌, ◌||◌, ◌∙◌, sym, ap, ap₂, subst, ℕ, All, List, false, IfNone, arith}
 use Rattle.counting.proofs.Common.{Within, mem}
 use Rattle.graph_core.proofs.Common.{size}
 use Rattle.ear_core.specs.Common.{last_vertex, is_path, inner_vertices}
@@ -6,16 +6,7 @@ use Rattle.ear_core.proofs.Walking.{goes_on, path-goes, not_joined, passed_befor
 use Rattle.ear_core.proofs.paths.path_of.Goals as goal
 
 pub edges-init : goal.edges-init
-edges-init c =
-    let g = c.args.g.now in
-    let u = c.args.ear.now.«from» in
-    record {
-      path = path-goes g u c.args.ear.now.edges c.requires.edges ∙ ap₂ (λ (set es : List ℕ). goes_on g u (mem set) u es) (sym c.empty-inner.ensures) (sym c.as_slice-rest.ensures);
-      last = ap (last_vertex g u) (sym c.as_slice-rest.ensures);
-      inner = λ w. ap₂ (λ (set es : List ℕ). mem set w || mem (inner_vertices g u es) w) (sym c.empty-inner.ensures) (sym c.as_slice-rest.ensures);
-      at = c.requires.begin;
-      edges = subst (All (Within (size g))) (sym c.as_slice-rest.ensures) c.requires.edges;
-    }
+edges-init c = grind (arith, path-goes, goes_on)
 
 pub returns-in_err-next-clause-none : goal.returns-in_err-next-clause-none
 returns-in_err-next-clause-none c =
@@ -27,25 +18,15 @@ returns-then-contains-clause-none c =
     c.edges.invariant.path ∙ passed_before c.args.g.now c.args.ear.now.«from» (mem c.edges.inner) c.edges.at c.in-Some.e.now c.in_ok-next.next c.edges.rest.now c.in-Some.others.now c.in-Some.ensures.cases.0 (search rules) (search rules)
 
 pub returns-then-is_empty-clause-path : goal.returns-then-is_empty-clause-path
-returns-then-is_empty-clause-path c =
-    let x = walk_ends c.args.g.now c.args.ear.now.«from» (mem c.edges.inner) c.edges.at c.in-Some.e.now c.in_ok-next.next c.edges.rest.now c.in-Some.others.now c.in-Some.ensures.cases.0 (search rules) (search rules) (search rules) (search rules) in
-    c.edges.invariant.path ∙ x.0
+returns-then-is_empty-clause-path c = grind (arith, walk_ends)
 
 pub returns-then-next-ear-clause-none : goal.returns-then-next-ear-clause-none
-returns-then-next-ear-clause-none c =
-    c.edges.invariant.path ∙ first_again c.args.g.now c.args.ear.now.«from» (mem c.edges.inner) c.edges.at c.in-Some.e.now c.in_ok-next.next c.edges.rest.now c.in-Some.others.now c.in-Some.ensures.cases.0 (search rules) (search rules) (search rules)
+returns-then-next-ear-clause-none c = grind (arith, first_again)
 
 pub edges-preserved : goal.edges-preserved
 edges-preserved c =
     let x = walk_on c.args.g.now c.args.ear.now.«from» (mem c.edges.inner) (mem c.with-inner.result) c.edges.at c.in-Some.e.now c.in_ok-next.next c.edges.rest.now c.in-Some.others.now c.in-Some.ensures.cases.0 (search rules) (search rules) (search rules) (search rules) (search rules) c.with-inner.ensures in
-    record {
-      path = c.edges.invariant.path ∙ x.0;
-      last = c.edges.invariant.last ∙ x.1;
-      inner = λ w. c.edges.invariant.inner w ∙ x.2 w;
-      at = search rules;
-      edges = all-behind (size c.args.g.now) c.in-Some.e.now c.in-Some.others.now (subst (All (Within (size c.args.g.now))) c.in-Some.ensures.cases.0 c.edges.invariant.edges);
-    }
+    grind (arith, all-behind (size c.args.g.now) c.in-Some.e.now c.in-Some.others.now (subst (All (Within (size c.args.g.now))) c.in-Some.ensures.cases.0 c.edges.invariant.edges))
 
 pub returns-clause-none : goal.returns-clause-none
-returns-clause-none c =
-    c.edges.invariant.path ∙ nothing_left c.args.g.now c.args.ear.now.«from» (mem c.edges.inner) c.edges.at c.edges.rest.now c.in_default.ensures.cases
+returns-clause-none c = grind (arith, nothing_left c.args.g.now c.args.ear.now.«from» (mem c.edges.inner) c.edges.at c.edges.rest.now c.in_default.ensures.cases)

@@ -10,9 +10,7 @@ pub settle-requires : goal.settle-requires
 settle-requires t c = first-item (Within (size c.args.g.now)) c.in-Some.e.now c.args.edges.now c.in-Some.others.now c.in-Some.ensures.cases.0 c.requires
 
 pub least_refused-requires : goal.least_refused-requires
-least_refused-requires t c =
-    let falls = c.decreases in
-    (first_of (omega arith, search rules), items-behind (Within (size c.args.g.now)) c.in-Some.e.now c.args.edges.now c.in-Some.others.now c.in-Some.ensures.cases.0 c.requires)
+least_refused-requires t c = grind (arith, items-behind (Within (size c.args.g.now)) c.in-Some.e.now c.args.edges.now c.in-Some.others.now c.in-Some.ensures.cases.0 c.requires)
 
 pub returns : goal.returns
 returns t c = λ f done is marked known.

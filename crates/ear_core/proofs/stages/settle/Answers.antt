@@ -1,4 +1,4 @@
-use Rattle.std.proofs.Common.{rules}
+use Rattle.std.proofs.Common.{rules, arith}
 use Rattle.ear_core.proofs.Settling.{settled-known, settled-allowed, settled-refused}
 use Rattle.ear_core.proofs.stages.settle.Goals as goal
 
@@ -9,5 +9,4 @@ pub returns-then-branch : goal.returns-then-branch
 returns-then-branch c = λ f done is on known. settled-allowed c.args.g.now f done c.args.known c.args.e (c.in_ok-is_allowed_by.ensures.yes f is on (search rules)) known
 
 pub returns-else-branch : goal.returns-else-branch
-returns-else-branch c = λ f done is on known.
-    settled-refused c.args.g.now f done c.args.known c.args.e c.requires on (c.in_ok-is_allowed_by.ensures.no f is on (search rules)) (c.is_up_to.ensures.no (search rules)) known
+returns-else-branch c = grind arith

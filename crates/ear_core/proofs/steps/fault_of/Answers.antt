@@ -1,4 +1,4 @@
-use Rattle.std.proofs.Common.{rules, ◌≡◌, ◌∙◌, ap, [], Option, Some, None}
+use Rattle.std.proofs.Common.{rules, ◌≡◌, ◌∙◌, ap, [], Option, Some, None, arith}
 use Rattle.match_search.specs.Common.{marks}
 use Rattle.ear_core.specs.Common.{PlainWhy, ear_fault, step_fault, ear_of, plain_step, step_of, why_of}
 use Rattle.ear_core.proofs.Marking.{pair-fault}
@@ -13,8 +13,7 @@ second_fault c fault is =
     let f = marks c.args.mark.now in
     let first = c.args.step.now.first in
     let passes : ear_fault g f [] [] first.«from» first.edges ≡ None = search rules in
-    ap (λ second. step_fault g f (plain_step (ear_of first) second)) c.in-Some.is
-    ∙ pair-fault g f (ear_of first) (ear_of c.in-Some.second) c.in-Ok.path.inner c.as_slice-used.result.now fault passes c.in-Ok.ensures.inner c.as_slice-used.ensures is
+    grind (arith, pair-fault g f (ear_of first) (ear_of c.in-Some.second) c.in-Ok.path.inner c.as_slice-used.result.now fault passes c.in-Ok.ensures.inner c.as_slice-used.ensures is)
 
 pub returns-in-Err-tested-clause-some : goal.returns-in-Err-tested-clause-some
 returns-in-Err-tested-clause-some c = second_fault (goal.at.returns-in-Err-tested-clause-some c).After-as_slice-used (Some (why_of c.in-Err-tested.why)) c.in-Err-tested.ensures.fault

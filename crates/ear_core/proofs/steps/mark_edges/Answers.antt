@@ -1,4 +1,4 @@
-use Rattle.std.proofs.Common.{◌∙◌, ◌<◌, length, subst, sym}
+use Rattle.std.proofs.Common.{◌∙◌, ◌<◌, length, subst, sym, arith, rules}
 use Rattle.counting.proofs.Common.{mem}
 use Rattle.match_search.specs.Common.{marks}
 use Rattle.allowed_edges.proofs.Marking.{length-marked}
@@ -13,8 +13,4 @@ edges-preserved c =
     let others = c.in-Some.others.now in
     let begins = c.in-Some.ensures.cases.0 in
     let below = first-item (λ d. d < length c.args.mark.now.items) e c.edges.rest.now others begins c.edges.invariant.below in
-    record {
-      same = length-marked items e ∙ c.edges.invariant.same;
-      each = marked-more items (marks c.args.mark.now.items) (mem c.args.edges.now) e c.edges.rest.now others begins (subst (λ n. e < n) (sym c.edges.invariant.same) below) c.edges.invariant.each;
-      below = items-behind (λ d. d < length c.args.mark.now.items) e c.edges.rest.now others begins c.edges.invariant.below;
-    }
+    search (rules, length-marked items e, marked-more items (marks c.args.mark.now.items) (mem c.args.edges.now) e c.edges.rest.now others begins, items-behind)

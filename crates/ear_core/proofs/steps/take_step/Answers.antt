@@ -1,4 +1,4 @@
-use Rattle.std.proofs.Common.{rules, ◌≡◌, ◌∙◌, ap, subst, refl, sym, List, Bool, ℕ, All, IfSome, Option, Some, None, inl, inr}
+use Rattle.std.proofs.Common.{rules, ◌≡◌, ◌∙◌, ap, subst, refl, sym, List, Bool, ℕ, All, IfSome, Option, Some, None, inl, inr, arith}
 use Rattle.counting.proofs.Common.{Within, none}
 use Rattle.graph_core.proofs.Common.{size}
 use Rattle.match_search.specs.Common.{marks}
@@ -15,14 +15,10 @@ passes : (c : After-deref-2) → step_fault c.args.g.now (marks c.args.mark.now.
 passes c = search rules
 
 pub mark_step-requires-clause-first : goal.mark_step-requires-clause-first
-mark_step-requires-clause-first c =
-    let step = c.args.step.now in
-    subst (λ n. All (Within n) step.first.edges) (sym c.size.ensures.is) (first_fits c.args.g.now.order (size c.args.g.now) step.first step.second c.requires.fits)
+mark_step-requires-clause-first c = grind arith
 
 pub mark_step-requires-clause-second : goal.mark_step-requires-clause-second
-mark_step-requires-clause-second c =
-    let step = c.args.step.now in
-    subst (λ n. IfSome step.second (λ ear. All (Within n) ear.edges)) (sym c.size.ensures.is) (second_fits c.args.g.now.order (size c.args.g.now) step.first step.second c.requires.fits)
+mark_step-requires-clause-second c = grind arith
 
 pub refused_edge-requires-clause-first : goal.refused_edge-requires-clause-first
 refused_edge-requires-clause-first c = let step = c.args.step.now in first_fits c.args.g.now.order (size c.args.g.now) step.first step.second c.requires.fits
@@ -41,8 +37,7 @@ refused_edge-requires-clause-marked_second c =
     second_marked (marks c.args.mark.now.items) (marks c.deref-2.result.now) step.first step.second (marked (goal.at.refused_edge-requires-clause-marked_second c).After-deref-2)
 
 pub returns-in-Some-clause-taken : goal.returns-in-Some-clause-taken
-returns-in-Some-clause-taken c =
-    inl (subst (λ (items : List Bool). step_fault c.args.g.now (marks items) (step_of c.args.step.now) ≡ Some (why_of c.in-Some.why)) c.deref.ensures.value c.in-Some.ensures.some)
+returns-in-Some-clause-taken c = grind arith
 
 pub returns-in-Some-2-clause-taken : goal.returns-in-Some-2-clause-taken
 returns-in-Some-2-clause-taken c =
@@ -50,24 +45,11 @@ returns-in-Some-2-clause-taken c =
     let s = step_of c.args.step.now in
     let new = marks c.deref-2.result.now in
     let there = (goal.at.returns-in-Some-2-clause-taken c).After-deref-2 in
-    inr (
-      passes there,
-      (
-        c.in-Some-2.edge,
-        step-refused g c.keeps_limits.ensures.multigraph.ends (marks c.args.mark.now.items) s new (marked there) c.requires.stage (passes there) c.in-Some-2.edge
-            (subst (λ (least : Option ℕ). Settled g new (next_stage none s) least) c.in-Some-2.is c.in_ok-edge.ensures),
-        refl,
-      ),
-    )
+    grind (arith, step-refused g c.keeps_limits.ensures.multigraph.ends (marks c.args.mark.now.items) s new (marked there) c.requires.stage (passes there) c.in-Some-2.edge)
 
 pub returns-in-None-clause-taken : goal.returns-in-None-clause-taken
 returns-in-None-clause-taken c =
     let g = c.args.g.now in
     let s = step_of c.args.step.now in
     let new = marks c.deref-2.result.now in
-    let there = (goal.at.returns-in-None-clause-taken c).After-deref-2 in (
-      passes there,
-      step-taken g c.keeps_limits.ensures.multigraph.ends (marks c.args.mark.now.items) s new (marked there) c.requires.stage (passes there)
-          (subst (λ (least : Option ℕ). Settled g new (next_stage none s) least) c.in-None.is c.in_ok-edge.ensures),
-      c.mark_step.ensures.each,
-    )
+    grind (arith, step-taken g c.keeps_limits.ensures.multigraph.ends (marks c.args.mark.now.items) s new)

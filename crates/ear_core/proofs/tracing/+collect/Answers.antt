@@ -7,12 +7,7 @@ use Rattle.ear_core.proofs.tracing.+collect.Goals as goal
 use Rattle.ear_core.proofs.tracing.+collect.Goals.{In_ok-after}
 
 pub returns-in_default : goal.returns-in_default
-returns-in_default t c =
-    let g = c.args.g.now in
-    let f = marks c.args.mark.now in
-    let m = row_edge c.args.m.now.rows in
-    let nothing : (v : ℕ) → Within g.order v → is_left (mem c.args.met) f m (mem c.args.used) v ≡ false = search rules in
-    ([], sym (append-nil (map ear_of c.args.ears.now.items)), collected-none g c.keeps_limits.ensures.multigraph.ends f m (row_edge c.args.n.now.rows) (mem c.args.met) c.requires.met (mem c.args.used) nothing)
+returns-in_default t c = grind (arith, append-nil (map ear_of c.args.ears.now.items), collected-none)
 
 -- an ear was made from the vertex that is left
 made : (t : ℕ) (c : In_ok-after t) →
