@@ -1,4 +1,4 @@
-use Rattle.std.proofs.Common.{◌∙◌, ap, ap₂, min, subst, sym}
+use Rattle.std.proofs.Common.{◌∙◌, ap, ap₂, min, subst, sym, arith, rules}
 use Rattle.counting.proofs.Common.{Within, mem}
 use Rattle.tight_cuts.proofs.BipartiteShores.{digraph_found}
 use Rattle.tight_cuts.proofs.EdgeShores.{lesser_within}
@@ -8,9 +8,7 @@ pub side_with-near-requires-clause-side : goal.side_with-near-requires-clause-si
 side_with-near-requires-clause-side c = c.requires.floods.side_of
 
 pub side_with-near-requires-clause-vertex : goal.side_with-near-requires-clause-vertex
-side_with-near-requires-clause-vertex c =
-    subst (Within c.args.g.now.order) (sym (c.min.ensures ∙ ap₂ min c.ends-ends.ensures.first c.ends-ends.ensures.second))
-    (lesser_within c.args.g.now c.keeps_limits.ensures c.requires.covered c.args.e c.requires.edge)
+side_with-near-requires-clause-vertex c = grind arith
 
 pub new-requires-clause-of : goal.new-requires-clause-of
 new-requires-clause-of c = c.in_ok-matching.ensures.of c.in-Some.matching c.in-Some.is
