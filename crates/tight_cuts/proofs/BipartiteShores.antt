@@ -1,16 +1,16 @@
 -- What an edge of a bipartite graph gives, by the digraph of a perfect matching that holds it.
 -- Idea: the least tight shore with an end of the edge and x, and without the other end, is the
 -- intersection of all; and a pair is separated by a nontrivial one alone.
-use Rattle.std.proofs.Common.{IfOk, Result, Ok, Err, ◌≡◌, ℕ, true, ◌==◌, sym, ap, ◌∙◌, List, Some, None, eq-eqb, arith, rules}
+use Rattle.std.proofs.Common.{IfOk, Result, ◌≡◌, ℕ, true, ◌==◌, List, max, min, Some, None, eq-eqb, arith}
 use Rattle.counting.proofs.Common.{same_tests, both_ways, false_from_ne_true, or_left, or_right, Within, mem, pair_set}
-use Rattle.graph_core.proofs.Common.{IsCovered, Graph, size, IsWithinLimits}
+use Rattle.graph_core.proofs.Common.{IsCovered, Graph, first_end, second_end, size, IsWithinLimits}
 use Rattle.match_core.specs.Common.{MatchingValue, edges_of}
 use Rattle.matching_digraph.proofs.TightShores.{mates_from}
-use Rattle.matching_digraph.specs.Digraph.{IsLeastShore, NoneParts, are_mates}
+use Rattle.matching_digraph.specs.Digraph.{IsLeastShore, NoneParts}
 use Rattle.matching_digraph.specs.Digraphs.{IsDigraphOf}
 use Rattle.matching_digraph.specs.declared.digraph.Digraph.{Digraph}
 use Rattle.tight_cuts.proofs.EdgeLoop.{ends_between}
-use Rattle.tight_cuts.specs.Common.{IsDigraphAt, common_shore, first_separated, greater_end, is_separated, lesser_end, IsCommonShore, IsShoreOfEdge, SeparatesTightly}
+use Rattle.tight_cuts.specs.Common.{IsDigraphAt, first_separated, greater_end, is_separated, lesser_end, IsCommonShore, IsShoreOfEdge}
 use Rattle.tight_cuts.proofs.EdgeShores.{greater_within, lesser_within}
 use Rattle.tight_cuts.proofs.FirstPairs.{no_first}
 use Rattle.tight_cuts.proofs.LeastShores.{common_from, common_in, separated_says, parts_nontrivial}
@@ -22,9 +22,9 @@ module _ (g : Graph) (lim : IsWithinLimits g) (cov : IsCovered g) (e : ℕ) (we 
   abbrev b : ℕ
   b = greater_end g e
 
-  -- the least shore with x is the common shore of x and the greater end
-  pub least_common : (x : ℕ) → Within g.order x → (z : List ℕ) → IsLeastShore g a b x (mem z) → IsCommonShore g a b (x, b) (Some z)
-  least_common x wx z least = grind (arith, same_tests, common_from, common_in, lesser_within, greater_within)
+  -- the least shore with x, in the same graph as h, is the common shore of x and the greater end
+  pub least_common : (x : ℕ) → Within g.order x → (h : Graph) (i j : ℕ) (z : List ℕ) → h ≡ g → i ≡ min (first_end h e) (second_end h e) → j ≡ max (first_end h e) (second_end h e) → IsLeastShore h i j x (mem z) → IsCommonShore g a b (x, b) (Some z)
+  least_common x wx h i j z same first second least = grind (arith, same_tests, common_from, common_in, lesser_within, greater_within)
 
   -- if no nontrivial tight shore has the lesser end and not the greater, no pair is separated
   pub inseparable_none : NoneParts g a b → first_separated g e ≡ None

@@ -1,7 +1,6 @@
-use Rattle.std.proofs.Common.{arith, inl, rules}
+use Rattle.std.proofs.Common.{arith}
 use Rattle.tight_cuts.proofs.BipartiteShores.{nothing_at}
 use Rattle.tight_cuts.proofs.FirstPairs.{no_first}
-use Rattle.tight_cuts.specs.Common.{greater_end, is_separated, lesser_end}
 use Rattle.tight_cuts.proofs.bipartite.first_shore.Goals as goal
 
 pub returns : goal.returns

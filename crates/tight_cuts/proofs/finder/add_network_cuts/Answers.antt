@@ -1,6 +1,4 @@
-use Rattle.std.proofs.Common.{◌≡◌, ◌∙◌, ap, sym, subst, arith, rules}
-use Rattle.graph_core.proofs.Common.{Graph}
-use Rattle.tight_cuts.specs.Common.{candidates, front_candidates}
+use Rattle.std.proofs.Common.{arith}
 use Rattle.tight_cuts.proofs.EdgeLoop.{after_edges}
 use Rattle.tight_cuts.proofs.FirstCandidates.{edges-known}
 use Rattle.tight_cuts.proofs.FrontCandidates.{edges-all}

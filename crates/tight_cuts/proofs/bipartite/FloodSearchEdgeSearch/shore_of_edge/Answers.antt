@@ -1,7 +1,5 @@
-use Rattle.std.proofs.Common.{◌≡◌, ◌∙◌, ap₂, max, min, subst, arith, rules}
-use Rattle.matching_digraph.specs.Digraph.{NoneParts}
+use Rattle.std.proofs.Common.{arith}
 use Rattle.tight_cuts.proofs.BipartiteShores.{nothing_at, inseparable_none}
-use Rattle.tight_cuts.specs.Common.{greater_end, lesser_end}
 use Rattle.tight_cuts.proofs.bipartite.FloodSearchEdgeSearch.shore_of_edge.Goals as goal
 
 pub returns-then-is_inseparable-clause-shore : goal.returns-then-is_inseparable-clause-shore
