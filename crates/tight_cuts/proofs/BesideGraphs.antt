@@ -1,7 +1,7 @@
 -- The graph of the edges that listed matchings hold together with one edge, made edge by edge. Idea:
 -- each edge of it comes from one of the edges so far, and each of these that is held with e is in
 -- it.
-use Rattle.std.proofs.Common.{◌≡◌, ℕ, ◌+◌, ◌≤◌, ◌<◌, ◌≢◌, true, ◌&&◌, List, [], ◌∷◌, ◌++◌, length, sym, ap, ◌∙◌, arith, inl, inr, subst, ◌-◌, length-append, slice_index_or}
+use Rattle.std.proofs.Common.{◌≡◌, ℕ, ◌+◌, ◌≤◌, ◌<◌, ◌≢◌, true, ◌&&◌, List, [], ◌∷◌, ◌++◌, length, sym, ap, ◌∙◌, arith, inl, inr, subst, ◌-◌, length-append, slice_index_or, rules}
 use Rattle.counting.proofs.Common.{and_from, and_parts, cases_lt, get_or_append_left, get_or-append_seam, Within, mem, none}
 use Rattle.std.proofs.lemmas.List.Folds.{Any-from_list_any, list_any_at}
 use Rattle.graph_core.proofs.Common.{Graph, size, first_end, second_end, with_edge, IsPerfect, Together}
@@ -17,15 +17,7 @@ pub record BesideSoFar (g : Graph) (ms : List (List ℕ)) (e k : ℕ) (h : Graph
 
 -- an edge that is e or that no matching holds together with it
 pub beside-skip : (g h : Graph) (ms : List (List ℕ)) (e k : ℕ) → BesideSoFar g ms e k h → ((k + 1 ≢ e) → holds_both ms e (k + 1) ≡ true → ⊥) → BesideSoFar g ms e (k + 1) h
-beside-skip g h ms e k b n = record {
-  order = b.order;
-  few = let f = b.few in omega arith;
-  from = b.from;
-  every = λ d w ne t. elim (cases_lt k d) [
-    | inl l ↦ let q : d ≡ k + 1 = omega arith in absurd (n (λ s. ne (q ∙ s)) (ap (holds_both ms e) (sym q) ∙ t))
-    | inr l ↦ b.every d (omega arith) ne t
-  ];
-}
+beside-skip g h ms e k b n = grind arith
 
 -- the ends of the edges of a graph with one edge more
 size-more : (h : Graph) (a b : ℕ) → size (with_edge h a b) ≡ size h + 1
@@ -35,9 +27,7 @@ ends-old : (h : Graph) (a b f : ℕ) → Within (size h) f → (first_end (with_
 ends-old h a b f w = let q = get_or_append_left h.ends ((a, b) ∷ []) (0, 0) (f - 1) (omega arith) in (ap (λ p. p.0) q, ap (λ p. p.1) q)
 
 ends-new : (h : Graph) (a b : ℕ) → (first_end (with_edge h a b) (size h + 1) ≡ a) × (second_end (with_edge h a b) (size h + 1) ≡ b)
-ends-new h a b =
-    let n : size h + 1 - 1 ≡ length h.ends = omega arith in
-    let q = ap (λ i. slice_index_or (h.ends ++ (a, b) ∷ []) i (0, 0)) n ∙ get_or-append_seam h.ends (a, b) [] (0, 0) in (ap (λ p. p.0) q, ap (λ p. p.1) q)
+ends-new h a b = grind (arith, slice_index_or (h.ends ++ (a, b) ∷ []), get_or-append_seam h.ends (a, b))
 
 -- an edge that lies together with e
 pub beside-more : (g h : Graph) (ms : List (List ℕ)) (e k a b : ℕ) → BesideSoFar g ms e k h → k < size g → k + 1 ≢ e → Together g e (k + 1) → a ≡ first_end g (k + 1) → b ≡ second_end g (k + 1) → BesideSoFar g ms e (k + 1) (with_edge h a b)
@@ -48,15 +38,11 @@ beside-more g h ms e k a b s l ne t qa qb =
       order = s.order;
       few = let f = s.few in omega arith;
       from = λ f w. elim (cases_lt (size h) f) [
-        | inl u ↦
-            let q : f ≡ size h + 1 = omega arith in
-            (k + 1, (omega arith, omega arith), ne, t, ap (first_end (with_edge h a b)) q ∙ new.0 ∙ qa, ap (second_end (with_edge h a b)) q ∙ new.1 ∙ qb)
+        | inl u ↦ grind arith
         | inr u ↦ let v : Within (size h) f = (w.0, u) in let r = s.from f v in let o = ends-old h a b f v in (r.0, r.1, r.2, r.3, o.0 ∙ r.4, o.1 ∙ r.5)
       ];
       every = λ d w n u. elim (cases_lt k d) [
-        | inl v ↦
-            let q : k + 1 ≡ d = omega arith in
-            (size h + 1, (omega arith, omega arith), new.0 ∙ qa ∙ ap (first_end g) q, new.1 ∙ qb ∙ ap (second_end g) q)
+        | inl v ↦ grind arith
         | inr v ↦ let r = s.every d (omega arith) n u in let o = ends-old h a b r.0 r.1 in (r.0, (r.1.0, let x = r.1.1 in omega arith), o.0 ∙ r.2, o.1 ∙ r.3)
       ];
     }

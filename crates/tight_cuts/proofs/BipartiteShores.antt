@@ -1,16 +1,16 @@
 -- What an edge of a bipartite graph gives, by the digraph of a perfect matching that holds it.
 -- Idea: the least tight shore with an end of the edge and x, and without the other end, is the
 -- intersection of all; and a pair is separated by a nontrivial one alone.
-use Rattle.std.proofs.Common.{IfOk, Result, Ok, Err, ◌≡◌, ℕ, true, ◌==◌, sym, ap, ◌∙◌, List, Some, None, eq-eqb}
+use Rattle.std.proofs.Common.{IfOk, Result, ◌≡◌, ℕ, true, ◌==◌, List, max, min, Some, None, eq-eqb, arith}
 use Rattle.counting.proofs.Common.{same_tests, both_ways, false_from_ne_true, or_left, or_right, Within, mem, pair_set}
-use Rattle.graph_core.proofs.Common.{IsCovered, Graph, size, IsWithinLimits}
+use Rattle.graph_core.proofs.Common.{IsCovered, Graph, first_end, second_end, size, IsWithinLimits}
 use Rattle.match_core.specs.Common.{MatchingValue, edges_of}
 use Rattle.matching_digraph.proofs.TightShores.{mates_from}
-use Rattle.matching_digraph.specs.Digraph.{IsLeastShore, NoneParts, are_mates}
+use Rattle.matching_digraph.specs.Digraph.{IsLeastShore, NoneParts}
 use Rattle.matching_digraph.specs.Digraphs.{IsDigraphOf}
 use Rattle.matching_digraph.specs.declared.digraph.Digraph.{Digraph}
 use Rattle.tight_cuts.proofs.EdgeLoop.{ends_between}
-use Rattle.tight_cuts.specs.Common.{IsDigraphAt, common_shore, first_separated, greater_end, is_separated, lesser_end, IsCommonShore, IsShoreOfEdge, SeparatesTightly}
+use Rattle.tight_cuts.specs.Common.{IsDigraphAt, first_separated, greater_end, is_separated, lesser_end, IsCommonShore, IsShoreOfEdge}
 use Rattle.tight_cuts.proofs.EdgeShores.{greater_within, lesser_within}
 use Rattle.tight_cuts.proofs.FirstPairs.{no_first}
 use Rattle.tight_cuts.proofs.LeastShores.{common_from, common_in, separated_says, parts_nontrivial}
@@ -22,26 +22,9 @@ module _ (g : Graph) (lim : IsWithinLimits g) (cov : IsCovered g) (e : ℕ) (we 
   abbrev b : ℕ
   b = greater_end g e
 
-  -- the least shore with x is the common shore of x and the greater end
-  pub least_common : (x : ℕ) → Within g.order x → (z : List ℕ) → IsLeastShore g a b x (mem z) → IsCommonShore g a b (x, b) (Some z)
-  least_common x wx z least = record {
-    some = λ s q. let same : z ≡ s = cc in (
-      (mem z, parts),
-      λ v w. ap (λ k. mem k v) (sym same) ∙ same_tests (mem z v) (common_shore g a b (x, b) v)
-          (λ t. common_from g lim.multigraph.ends a b (x, b) wa wb wx wb v (λ y p. least.least y p.tight p.has_a p.has_x p.lacks_b v w t))
-          (λ t. common_in g lim.multigraph.ends a b (x, b) wa wb wx wb v w t (mem z) parts),
-    );
-    none = λ q. absurd cc;
-  }
-    where
-      wa : Within g.order (lesser_end g e)
-      wa = lesser_within g lim cov e we
-
-      wb : Within g.order (greater_end g e)
-      wb = greater_within g lim cov e we
-
-      parts : SeparatesTightly g (lesser_end g e) (greater_end g e) (x, greater_end g e) (mem z)
-      parts = record { tight = least.tight; has_a = least.has_a; has_x = least.has_r; lacks_b = least.lacks_b; lacks_y = least.lacks_b }
+  -- the least shore with x, in the same graph as h, is the common shore of x and the greater end
+  pub least_common : (x : ℕ) → Within g.order x → (h : Graph) (i j : ℕ) (z : List ℕ) → h ≡ g → i ≡ min (first_end h e) (second_end h e) → j ≡ max (first_end h e) (second_end h e) → IsLeastShore h i j x (mem z) → IsCommonShore g a b (x, b) (Some z)
+  least_common x wx h i j z same first second least = grind (arith, same_tests, common_from, common_in, lesser_within, greater_within)
 
   -- if no nontrivial tight shore has the lesser end and not the greater, no pair is separated
   pub inseparable_none : NoneParts g a b → first_separated g e ≡ None
@@ -62,9 +45,4 @@ nothing_at g e h = record { some = λ s q. absurd cc; none = λ q. h }
 -- a digraph of g with that side and that matching is one at the edge
 pub digraph_found : {E : Type 0} (g : Graph) (e : ℕ) (side : List ℕ) (matching : MatchingValue) (r : Result Digraph E) → IfOk r (IsDigraphOf g) → IfOk r (λ d. d.side ≡ side) → IfOk r (λ d. d.matching ≡ matching) →
     mem side (lesser_end g e) ≡ true → Within (size g) e → mem (edges_of matching) e ≡ true → IfOk r (IsDigraphAt g e)
-digraph_found g e side matching (Ok d) of s m has we held = record {
-  of = of;
-  side = ap (λ (xs : List ℕ). mem xs (lesser_end g e)) s ∙ has;
-  mates = ap (λ (k : MatchingValue). are_mates g (mem (edges_of k)) (lesser_end g e) (greater_end g e)) m ∙ mates_from g (mem (edges_of matching)) (lesser_end g e) (greater_end g e) e we held (ends_between g e);
-}
-digraph_found g e side matching (Err x) of s m has we held = tt
+digraph_found g e side matching r of s m has we held = grind (arith, mates_from g (mem (edges_of matching)) (lesser_end g e) (greater_end g e) e we held (ends_between g e), ends_between g e)

@@ -1,7 +1,7 @@
 -- Lists of candidates as the code makes them: one shore more, and the candidates of a list of
 -- canonical shores. Idea: a candidate goes by its shore alone, and a set and its rising list have
 -- the same numbers on both sides.
-use Rattle.std.proofs.Common.{◌≡◌, ℕ, ◌-◌, Bool, true, false, refl, sym, ap, ap₂, ◌∙◌, arith, ◌&&◌, ◌||◌, not, List, [], ◌∷◌, ◌++◌, map, length, if◌then◌else◌, fold}
+use Rattle.std.proofs.Common.{◌≡◌, ℕ, ◌-◌, Bool, true, false, refl, sym, ap, ap₂, ◌∙◌, arith, ◌&&◌, ◌||◌, not, List, [], ◌∷◌, ◌++◌, map, length, if◌then◌else◌, fold, rules}
 use Rattle.counting.proofs.Common.{list_any, true≢false, count_congr, count_complement, count_mem_length, mem-rising_list, but_from, count, mem, is_subset, rising_list, IsRisingIn, Set, complement}
 use Rattle.graph_core.proofs.Common.{canonical-nontrivial, canonical_list, is_listed, with_cut, Graph, in_cut, is_nontrivial, canonical_shore}
 use Rattle.tight_cuts.specs.Common.{Candidate, Origin, candidate, candidate_at, cuts, shores_of, with_list, candidate_of}
@@ -18,27 +18,17 @@ cuts-items g e (c ∷ items) = ap (λ b. in_cut g (mem c.shore) e || b) (cuts-it
 
 -- the candidate of a shore by its length
 pub candidate-length : (n k : ℕ) (o : Origin) (s : List ℕ) → IsRisingIn n s → k ≡ length s → record { shore = s; inside = k; outside = n - k; origin = o } ≡ candidate_at n o s
-candidate-length n k o s r e =
-    let c = count_mem_length n s r in
-    let d = count_complement n (mem s) in
-    let p : k ≡ count n (mem s) = omega arith in
-    let q : n - k ≡ count n (complement (mem s)) = omega arith in
-    ap₂ (λ i j. record { shore = s; inside = i; outside = j; origin = o }) p q
+candidate-length n k o s r e = grind (arith, count_mem_length n s r, count_complement n (mem s))
 
 -- the candidate of a set is that of its list
 pub candidate-list : (n : ℕ) (o : Origin) (x : Set) → candidate_at n o (rising_list n x) ≡ candidate n o x
-candidate-list n o x =
-    ap₂ (λ i j. record { shore = rising_list n x; inside = i; outside = j; origin = o })
-    (count_congr n (mem (rising_list n x)) x (λ v w. mem-rising_list n x v w))
-    (count_congr n (complement (mem (rising_list n x))) (complement x) (λ v w. ap not (mem-rising_list n x v w)))
+candidate-list n o x = grind (arith, count_congr n (mem (rising_list n x)) x, mem-rising_list n x, count_congr n (complement (mem (rising_list n x))) (complement x))
 
 pub choose-true : (b : Bool) (x y : List Candidate) → b ≡ true → (if b then x else y) ≡ x
-choose-true true x y e = refl
-choose-true false x y e = absurd (true≢false (sym e))
+choose-true b x y e = grind arith
 
 pub choose-false : (b : Bool) (x y : List Candidate) → b ≡ false → (if b then x else y) ≡ y
-choose-false true x y e = absurd (true≢false e)
-choose-false false x y e = refl
+choose-false b x y e = grind arith
 
 module _ (n : ℕ) (o : Origin) (list : List Candidate) (s t : List ℕ) (is : t ≡ canonical_list n s) where
   -- a nontrivial cut that is not in the list
@@ -50,19 +40,11 @@ module _ (n : ℕ) (o : Origin) (list : List Candidate) (s t : List ℕ) (is : t
 
   -- a trivial cut
   pub shore-narrow : is_nontrivial n (mem t) ≡ false → list ≡ with_list n o list s
-  shore-narrow w = sym (choose-false (is_nontrivial n (canonical_shore n (mem s)) && not (is_listed (shores_of list) (canonical_list n s))) (list ++ candidate n o (canonical_shore n (mem s)) ∷ []) list
-      (none (is_nontrivial n (canonical_shore n (mem s))) (not (is_listed (shores_of list) (canonical_list n s))) (sym (canonical-nontrivial n s t is) ∙ w)))
-    where
-      none : (a b : Bool) → a ≡ false → (a && b) ≡ false
-      none a b p = grind arith
+  shore-narrow w = grind (arith, choose-false, canonical-nontrivial)
 
   -- a cut that is in the list
   pub shore-known : is_listed (shores_of list) t ≡ true → list ≡ with_list n o list s
-  shore-known l = sym (choose-false (is_nontrivial n (canonical_shore n (mem s)) && not (is_listed (shores_of list) (canonical_list n s))) (list ++ candidate n o (canonical_shore n (mem s)) ∷ []) list
-      (none (is_nontrivial n (canonical_shore n (mem s))) (is_listed (shores_of list) (canonical_list n s)) (ap (is_listed (shores_of list)) (sym is) ∙ l)))
-    where
-      none : (a b : Bool) → b ≡ true → (a && not b) ≡ false
-      none a b p = grind arith
+  shore-known l = grind arith
 
 -- the shores of candidates of shores
 shores-of-map : (n : ℕ) (o : Origin) (xs : List (List ℕ)) → shores_of (map (candidate_at n o) xs) ≡ xs
@@ -75,13 +57,7 @@ map-push n o (y ∷ xs) x = ap (λ ys. candidate_at n o y ∷ ys) (map-push n o 
 
 -- one cut more, and its candidate
 with-cut : (n : ℕ) (o : Origin) (xs : List (List ℕ)) (s : List ℕ) → with_list n o (map (candidate_at n o) xs) s ≡ map (candidate_at n o) (with_cut n xs s)
-with-cut n o xs s =
-    ap (λ ys. if is_nontrivial n (canonical_shore n (mem s)) && not (is_listed ys (canonical_list n s)) then map (candidate_at n o) xs ++ candidate n o (canonical_shore n (mem s)) ∷ [] else map (candidate_at n o) xs) (shores-of-map n o xs)
-    ∙ go (is_nontrivial n (canonical_shore n (mem s)) && not (is_listed xs (canonical_list n s)))
-  where
-    go : (b : Bool) → (if b then map (candidate_at n o) xs ++ candidate n o (canonical_shore n (mem s)) ∷ [] else map (candidate_at n o) xs) ≡ map (candidate_at n o) (if b then xs ++ canonical_list n s ∷ [] else xs)
-    go true = ap (λ c. map (candidate_at n o) xs ++ c ∷ []) (sym (candidate-list n o (canonical_shore n (mem s)))) ∙ sym (map-push n o xs (canonical_list n s))
-    go false = refl
+with-cut n o xs s = grind (arith, shores-of-map n o xs, candidate-list n o (canonical_shore n (mem s)), map-push n o xs (canonical_list n s))
 
 -- all cuts of a list of shores, and their candidates
 pub fold-cuts : (n : ℕ) (o : Origin) (shores xs : List (List ℕ)) → fold (with_list n o) (map (candidate_at n o) xs) shores ≡ map (candidate_at n o) (fold (with_cut n) xs shores)

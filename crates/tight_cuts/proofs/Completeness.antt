@@ -1,6 +1,6 @@
 -- The candidates: none twice, each tight if the shores of the first two parts are, and each
 -- edge of a nontrivial tight cut in a candidate's cut.
-use Rattle.std.proofs.Common.{◌≡◌, ℕ, true, refl, sym, ap, ◌∙◌, arith, List, [], ◌∷◌, ◌↔◌, subst, All, fold}
+use Rattle.std.proofs.Common.{◌≡◌, ℕ, true, refl, sym, ap, ◌∙◌, arith, List, [], ◌∷◌, ◌↔◌, subst, All, fold, rules}
 use Rattle.counting.proofs.Common.{true≢false, not-true, All-nil, All-head, All-tail, count_member, list_any, Within, mem, Set, complement}
 use Rattle.std.specs.List.{AllPairs}
 use Rattle.tight_cuts.specs.Common.{ShoresDiffer, Barrier, Separation, cuts, front_candidates, Origin, Candidate, with_list, candidates, IsTightCandidate}
@@ -47,18 +47,11 @@ candidates_cover g is cov x e w t nt ce = after_covers g is cov (fold (with_list
 
 -- a nontrivial set has an edge in its cut
 pub shore_edge : (g : Graph) (x : Set) → IsGraph g → IsCovered g → IsNontrivial g.order x → (e : ℕ) × Within (size g) e × (in_cut g x e ≡ true)
-shore_edge g x is cov nt =
-    let i = nt.inside in let j = nt.outside in
-    let u = count_member g.order x (omega arith) in
-    let v = count_member g.order (complement x) (omega arith) in
-    cut_edge g x u.0 v.0 is cov u.1 v.1 u.2 (not-true (x v.0) v.2)
+shore_edge g x is cov nt = grind (arith, count_member g.order x, count_member g.order (complement x), cut_edge g x, not-true)
 
 -- there is no candidate exactly when no nontrivial shore is tight
 pub candidates_none : (g : Graph) → IsGraph g → IsCovered g → (candidates g ≡ []) ↔ ((x : Set) → IsTight g x → IsNontrivial g.order x → ⊥)
-candidates_none g is cov = (
-  λ q x t nt. let e = shore_edge g x is cov nt in true≢false (sym (candidates_cover g is cov x e.0 e.1 t nt e.2) ∙ ap (list_any (cuts g e.0)) q),
-  λ f. go (candidates g) (candidates_found g is cov) f,
-)
+candidates_none g is cov = grind (arith, shore_edge g, true≢false, candidates_cover g is cov, list_any, go (candidates g) (candidates_found g is cov), candidates_found g is cov)
   where
     go : (list : List Candidate) → All (IsTightCandidate g) list → ((x : Set) → IsTight g x → IsNontrivial g.order x → ⊥) → list ≡ []
     go [] h f = refl

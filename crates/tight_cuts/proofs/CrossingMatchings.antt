@@ -1,7 +1,7 @@
 -- What the search for two edges of a cut in one perfect matching shows: the matching that it
 -- finds is not a witness of tightness, and if it finds none, no two edges of the cut lie
 -- together, which makes an odd cut tight.
-use Rattle.std.proofs.Common.{◌≡◌, ℕ, ◌<◌, ◌&&◌, List, length, true, false, ap, ◌∙◌, arith, inl, inr, subst, All}
+use Rattle.std.proofs.Common.{◌≡◌, ℕ, ◌<◌, ◌&&◌, List, length, true, false, ap, ◌∙◌, arith, inl, inr, subst, All, rules}
 use Rattle.std.proofs.lemmas.List.Folds.{Any-from_list_any}
 use Rattle.counting.proofs.Common.{and_parts, cases_order, count_mem_length, complement_odd, false_from_ne_true, two_of, Within, count, is_odd, IsRisingIn, complement, mem, Set, none}
 use Rattle.barrier_kit.proofs.Common.{even_order}
@@ -14,11 +14,7 @@ use Rattle.tight_cuts.specs.Common.{CrossesTwice, NoLaterWith}
 -- a perfect matching with two edges of the cut crosses it twice
 pub crosses_by_two : (g : Graph) (x : Set) (m : MatchingValue) (e f : ℕ) → Within (size g) e → Within (size g) f → e < f → IsOf g m → IsPerfect g none (mem (edges_of m)) →
     mem (edges_of m) e ≡ true → mem (edges_of m) f ≡ true → in_cut g x e ≡ true → in_cut g x f ≡ true → CrossesTwice g x m
-crosses_by_two g x m e f we wf l of perfect me mf ce cf = record {
-  of = of;
-  perfect = perfect;
-  twice = two_in_cut g (mem (edges_of m)) x e f we wf (λ q. absurd (omega arith)) me mf ce cf;
-}
+crosses_by_two g x m e f we wf l of perfect me mf ce cf = grind (arith, two_in_cut g (mem (edges_of m)) x e f we wf)
 
 -- then the cut is not tight
 pub crossed_not_tight : (g : Graph) (x : Set) (m : MatchingValue) → CrossesTwice g x m → IsTight g x → ⊥
@@ -26,13 +22,7 @@ crossed_not_tight g x m crosses tight = let a = tight.cut (mem (edges_of m)) cro
 
 -- an odd cut of which no edge lies together with a later one is tight
 pub later_tight : (g : Graph) (x : Set) → IsGraph g → is_odd (count g.order x) ≡ true → is_odd (count g.order (complement x)) ≡ true → ((e : ℕ) → Within (size g) e → in_cut g x e ≡ true → NoLaterWith g x e) → IsTight g x
-later_tight g x is odd odd_complement alone = alone_tight g x is odd odd_complement (λ e f we wf d ce cf together. elim (cases_order e f) [
-  | inl q ↦ absurd (d q)
-  | inr q ↦ elim q [
-    | inl l ↦ alone e we ce f l wf.1 cf together
-    | inr l ↦ alone f wf cf e l we.1 ce (together.0, together.1, together.3, together.2)
-  ]
-])
+later_tight g x is odd odd_complement alone = grind (arith, alone_tight g x is odd odd_complement, cases_order)
 
 -- the same for a set in a covered graph as a rising list
 pub uncrossed_tight : (g : Graph) (shore : List ℕ) → IsGraph g → IsCovered g → IsRisingIn g.order shore → is_odd (length shore) ≡ true →

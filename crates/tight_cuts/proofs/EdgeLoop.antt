@@ -1,6 +1,6 @@
 -- The loop over the edges. Idea: what an edge gives is tight, and if some nontrivial tight set
 -- has the edge in its cut, so has a candidate then.
-use Rattle.std.proofs.Common.{◌≡◌, ℕ, suc, zero, ◌≤◌, Bool, true, false, cond, ◌==◌, refl, sym, ap, ap₂, ◌∙◌, arith, ◌&&◌, ◌||◌, not, inl, inr, ◌⊎◌, List, [], ◌∷◌, subst, map, flat_map, Option, Some, None, eq-eqb, ne_eqb, eqb-true, min, max, All, if◌then◌else◌, find, fold}
+use Rattle.std.proofs.Common.{◌≡◌, ℕ, suc, zero, ◌≤◌, Bool, true, false, cond, ◌==◌, refl, sym, ap, ap₂, ◌∙◌, arith, ◌&&◌, ◌||◌, not, inl, inr, ◌⊎◌, List, [], ◌∷◌, subst, map, flat_map, Option, Some, None, eq-eqb, ne_eqb, eqb-true, min, max, All, if◌then◌else◌, find, fold, rules}
 use Rattle.counting.proofs.Common.{cases_eq, cases_lt, cases_Bool, and_parts, and_from, or_from, or_left, or_right, true≢false, both_ways, not-true, list_any-append, count_minus, count_member, some_true, some_none, some_congr, or_false, list_any, Within, rising_list, ordered_pairs, pair_with, Set, complement, minus, singleton, everything, pair_set, some}
 use Rattle.std.proofs.lemmas.List.Sums.{fold_push}
 use Rattle.std.specs.List.{AllPairs}
@@ -18,9 +18,7 @@ same_pair k j = (j.0 == k.0) && (j.1 == k.1)
 find_some : (p : ℕ × ℕ → Bool) (xs : List (ℕ × ℕ)) (k : ℕ × ℕ) → find p xs ≡ Some k → (p k ≡ true) × (list_any (same_pair k) xs ≡ true)
 find_some p [] k h = cc
 find_some p (x ∷ xs) k h = elim (cases_Bool (p x)) [
-  | inl t ↦ let s : Some x ≡ Some k = ap (λ b. cond b (Some x) (find p xs)) (sym t) ∙ h in
-      let q : x ≡ k = cc in
-      (ap p (sym q) ∙ t, or_left (same_pair k x) (list_any (same_pair k) xs) (and_from (x.0 == k.0) (x.1 == k.1) (eq-eqb x.0 k.0 (ap (λ j. j.0) q)) (eq-eqb x.1 k.1 (ap (λ j. j.1) q))))
+  | inl t ↦ grind arith
   | inr f ↦ let r = find_some p xs k (ap (λ b. cond b (Some x) (find p xs)) (sym f) ∙ h) in (r.0, or_right (same_pair k x) (list_any (same_pair k) xs) r.1)
 ]
 
@@ -45,46 +43,20 @@ any_rising zero p = refl
 any_rising (suc n) p = list_any-append p (rising_list n everything) (suc n ∷ []) ∙ ap₂ ◌||◌ (any_rising n p) (or_false (p (suc n)))
 
 pub any_pair : (n : ℕ) (p : ℕ × ℕ → Bool) → list_any p (ordered_pairs n) ≡ some n (λ a. some n (λ b. p (a, b)))
-any_pair n p =
-    any_flat p (λ a. map (pair_with a) (rising_list n everything)) (rising_list n everything)
-    ∙ any_rising n (λ a. list_any p (map (pair_with a) (rising_list n everything)))
-    ∙ some_congr n (λ a. list_any p (map (pair_with a) (rising_list n everything))) (λ a. some n (λ b. p (a, b))) (λ a w. any_with p a (rising_list n everything) ∙ any_rising n (λ b. p (a, b)))
+any_pair n p = grind (arith, any_flat p, any_rising n, some_congr n, any_with p)
 
 pub first_pair : (n : ℕ) (p : ℕ × ℕ → Bool) (k : ℕ × ℕ) → find p (ordered_pairs n) ≡ Some k → (p k ≡ true) × Within n k.0 × Within n k.1
-first_pair n p k h =
-    let r = find_some p (ordered_pairs n) k h in
-    let q = some_true n (λ a. some n (λ b. same_pair k (a, b))) (sym (any_pair n (same_pair k)) ∙ r.1) in
-    let s = some_true n (λ b. same_pair k (q.0, b)) q.2 in
-    let t = and_parts (q.0 == k.0) (s.0 == k.1) s.2 in
-    (r.0, subst (Within n) (eqb-true q.0 k.0 t.0) q.1, subst (Within n) (eqb-true s.0 k.1 t.1) s.1)
+first_pair n p k h = grind (arith, find_some p (ordered_pairs n) k h, some_true n, any_pair n (same_pair k), and_parts, eqb-true)
 
 pub no_pair : (n : ℕ) (p : ℕ × ℕ → Bool) → find p (ordered_pairs n) ≡ None → (x y : ℕ) → Within n x → Within n y → p (x, y) ≡ false
 no_pair n p h x y wx wy = some_none n (λ b. p (x, b)) (some_none n (λ a. some n (λ b. p (a, b))) (sym (any_pair n p) ∙ find_none p (ordered_pairs n) h) x wx) y wy
 
 pub ends_between : (g : Graph) (e : ℕ) → has_ends g (lesser_end g e) (greater_end g e) e ≡ true
-ends_between g e = go (first_end g e) (second_end g e)
-  where
-    go : (p q : ℕ) → ((p == min p q && q == max p q) || (p == max p q && q == min p q)) ≡ true
-    go p q = elim (cases_lt q p) [
-      | inl l ↦ let s : p ≡ max p q = omega arith in let t : q ≡ min p q = omega arith in or_right (p == min p q && q == max p q) (p == max p q && q == min p q) (and_from (p == max p q) (q == min p q) (eq-eqb p (max p q) s) (eq-eqb q (min p q) t))
-      | inr l ↦ let s : p ≡ min p q = omega arith in let t : q ≡ max p q = omega arith in or_left (p == min p q && q == max p q) (p == max p q && q == min p q) (and_from (p == min p q) (q == max p q) (eq-eqb p (min p q) s) (eq-eqb q (max p q) t))
-    ]
+ends_between g e = grind arith
 
 -- the ends of an edge of a cut
 sides : (g : Graph) (x : Set) (a b e : ℕ) → has_ends g a b e ≡ true → in_cut g x e ≡ true → ((x a ≡ true) × (x b ≡ false)) ⊎ ((x a ≡ false) × (x b ≡ true))
-sides g x a b e h c = elim (has_ends-cases g a b e h) [
-  | inl k ↦ differ (x a) (x b) (ap₂ (λ s t. (s && not t) || (not s && t)) (ap x (sym k.0)) (ap x (sym k.1)) ∙ c)
-  | inr k ↦ differ (x a) (x b) (turned (x b) (x a) (ap₂ (λ s t. (s && not t) || (not s && t)) (ap x (sym k.0)) (ap x (sym k.1)) ∙ c))
-]
-  where
-    differ : (s t : Bool) → ((s && not t) || (not s && t)) ≡ true → ((s ≡ true) × (t ≡ false)) ⊎ ((s ≡ false) × (t ≡ true))
-    differ true true h = absurd (true≢false (sym h))
-    differ true false h = inl (refl, refl)
-    differ false true h = inr (refl, refl)
-    differ false false h = absurd (true≢false (sym h))
-
-    turned : (s t : Bool) → ((s && not t) || (not s && t)) ≡ true → ((t && not s) || (not t && s)) ≡ true
-    turned s t h = grind arith
+sides g x a b e h c = grind arith
 
 module _ (g : Graph) (is : IsGraph g) (cov : IsCovered g) (e : ℕ) (we : Within (size g) e) where
   low_within : Within g.order (lesser_end g e)
@@ -104,39 +76,17 @@ module _ (g : Graph) (is : IsGraph g) (cov : IsCovered g) (e : ℕ) (we : Within
   module _ (list : List Candidate) where
     edge_cases : ((list_any (cuts g e) list ≡ true) × (with_edge_cut g list e ≡ list))
         ⊎ ((list_any (cuts g e) list ≡ false) × (with_edge_cut g list e ≡ with_pair g (lesser_end g e) (greater_end g e) list (first_separated g e)))
-    edge_cases = elim (cases_Bool (list_any (cuts g e) list)) [
-      | inl t ↦ inl (t, first (list_any (cuts g e) list) list (with_pair g (lesser_end g e) (greater_end g e) list (first_separated g e)) t)
-      | inr f ↦ inr (f, second (list_any (cuts g e) list) list (with_pair g (lesser_end g e) (greater_end g e) list (first_separated g e)) f)
-    ]
-      where
-        first : (b : Bool) (c d : List Candidate) → b ≡ true → (if b then c else d) ≡ c
-        first true c d h = refl
-        first false c d h = absurd (true≢false (sym h))
-
-        second : (b : Bool) (c d : List Candidate) → b ≡ false → (if b then c else d) ≡ d
-        second true c d h = absurd (true≢false h)
-        second false c d h = refl
+    edge_cases = grind arith
 
     -- the list stays one of tight nontrivial canonical shores
     pub step_found : All (IsTightCandidate g) list → All (IsTightCandidate g) (with_edge_cut g list e)
-    step_found h = elim edge_cases [
-      | inl c ↦ subst (All (IsTightCandidate g)) (sym c.1) h
-      | inr c ↦ subst (All (IsTightCandidate g)) (sym c.1) (go (first_separated g e) refl)
-    ]
+    step_found h = grind (arith, edge_cases, go (first_separated g e) refl)
       where
         go : (o : Option (ℕ × ℕ)) → first_separated g e ≡ o → All (IsTightCandidate g) (with_pair g (lesser_end g e) (greater_end g e) list o)
-        go None q = h
-        go (Some k) q = let f = first_pair g.order (is_separated g (lesser_end g e) (greater_end g e)) k q in with_found g Flow list (common_shore g (lesser_end g e) (greater_end g e) k) is (shore_parts k f.1 f.2 f.0).tight h
+        go o q = grind (arith, first_pair g.order (is_separated g (lesser_end g e) (greater_end g e)), with_found g Flow list, shore_parts)
 
     pub step_grows : (p : Candidate → Bool) → list_any p list ≡ true → list_any p (with_edge_cut g list e) ≡ true
-    step_grows p h = elim edge_cases [
-      | inl c ↦ ap (list_any p) c.1 ∙ h
-      | inr c ↦ ap (list_any p) c.1 ∙ go (first_separated g e)
-    ]
-      where
-        go : (o : Option (ℕ × ℕ)) → list_any p (with_pair g (lesser_end g e) (greater_end g e) list o) ≡ true
-        go None = h
-        go (Some k) = with_grows p g.order Flow list (common_shore g (lesser_end g e) (greater_end g e) k) h
+    step_grows p h = grind (arith, edge_cases, with_grows)
 
     cover_side : (x : Set) → IsTight g x → IsNontrivial g.order x → x (lesser_end g e) ≡ true → x (greater_end g e) ≡ false →
         list_any (cuts g e) (with_pair g (lesser_end g e) (greater_end g e) list (first_separated g e)) ≡ true
@@ -174,19 +124,11 @@ module _ (g : Graph) (is : IsGraph g) (cov : IsCovered g) (e : ℕ) (we : Within
     pub step_covers : (x : Set) → IsTight g x → IsNontrivial g.order x → in_cut g x e ≡ true → list_any (cuts g e) (with_edge_cut g list e) ≡ true
     step_covers x t nt ce = elim edge_cases [
       | inl c ↦ ap (list_any (cuts g e)) c.1 ∙ c.0
-      | inr c ↦ ap (list_any (cuts g e)) c.1 ∙ elim (sides g x (lesser_end g e) (greater_end g e) e (ends_between g e) ce) [
-        | inl s ↦ cover_side x t nt s.0 s.1
-        | inr s ↦ cover_side (complement x) (tight-turned g x t) (nontrivial-turned g.order x nt) (ap not s.0) (ap not s.1)
-      ]
+      | inr c ↦ grind (arith, ends_between g e, cover_side x t nt, cover_side (complement x) (tight-turned g x t) (nontrivial-turned g.order x nt), tight-turned g x t, nontrivial-turned g.order x nt)
     ]
 
 pub edge_apart : (g : Graph) (list : List Candidate) (e : ℕ) → AllPairs ShoresDiffer list → AllPairs ShoresDiffer (with_edge_cut g list e)
-edge_apart g list e h = go (list_any (cuts g e) list) (first_separated g e)
-  where
-    go : (b : Bool) (o : Option (ℕ × ℕ)) → AllPairs ShoresDiffer (if b then list else with_pair g (lesser_end g e) (greater_end g e) list o)
-    go true o = h
-    go false None = h
-    go false (Some k) = with_apart g.order Flow list (common_shore g (lesser_end g e) (greater_end g e) k) h
+edge_apart g list e h = grind (arith, with_apart)
 
 -- the list after the edges 1 to m
 abbrev pub after_edges : Graph → List Candidate → ℕ → List Candidate

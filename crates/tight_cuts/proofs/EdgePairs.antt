@@ -1,6 +1,6 @@
 -- The search over pairs in lexicographic order finds the first pair that is separated. Idea: a pair
 -- of which a vertex does not lead its piece is separated only if the earlier one of the leaders is.
-use Rattle.std.proofs.Common.{◌≡◌, ℕ, ◌+◌, ◌<◌, Bool, true, false, ◌==◌, refl, sym, ap, ap₂, ◌∙◌, arith, not, ◌&&◌, inl, inr, ◌⊎◌, List, Option, Some, None, subst, eq-eqb, eqb-true}
+use Rattle.std.proofs.Common.{◌≡◌, ℕ, ◌+◌, ◌<◌, Bool, true, false, ◌==◌, refl, sym, ap, ap₂, ◌∙◌, arith, not, ◌&&◌, inl, inr, ◌⊎◌, List, Option, Some, None, subst, eq-eqb, eqb-true, rules}
 use Rattle.counting.proofs.Common.{and_parts, cases_eq, cases_lt, not-true, true≢false, both_ways, false_from_ne_true, Within, mem, pair_set}
 use Rattle.graph_core.proofs.Common.{IsCovered, Graph, size, IsWithinLimits}
 use Rattle.tight_cuts.proofs.EdgeLoop.{first_pair, no_pair, ends_between}
@@ -37,16 +37,7 @@ module _ (g : Graph) (lim : IsWithinLimits g) (cov : IsCovered g) (e : ℕ) (we 
       go None q = no_pair g.order (is_separated g (lesser_end g e) (greater_end g e)) q c d wc wd
       go (Some k) q =
           let l = both_lead k q in
-          elim (cases_lt c k.0) [
-            | inl s ↦ before_first g.order (is_separated g (lesser_end g e) (greater_end g e)) k q c d wc wd (inl s)
-            | inr s ↦ elim (cases_eq c k.0) [
-              | inl t ↦ elim (cases_lt d k.1) [
-                | inl u ↦ before_first g.order (is_separated g (lesser_end g e) (greater_end g e)) k q c d wc wd (inr (t, u))
-                | inr u ↦ absurd (both_ways (separated k) (h k.0 k.1 l.1 l.2 (elim b [ inl m ↦ inl (omega arith) | inr m ↦ let m0 = m.0 in let m1 = m.1 in inr (sym t ∙ m.0, omega arith) ])) l.0)
-              ]
-              | inr t ↦ absurd (both_ways (separated k) (h k.0 k.1 l.1 l.2 (inl (elim b [ inl m ↦ omega arith | inr m ↦ let m0 = m.0 in omega arith ]))) l.0)
-            ]
-          ]
+          grind (arith, cases_lt c k.0, before_first g.order (is_separated g (lesser_end g e) (greater_end g e)) k q c d wc wd, cases_eq c k.0, cases_lt d k.1, both_ways (separated k))
 
   -- the pair that is separated with none before it is the first
   pub first_is : (x y : ℕ) → Within g.order x → Within g.order y → NoneBefore g e x y → separated (x, y) ≡ true → first_separated g e ≡ Some (x, y)
@@ -64,10 +55,7 @@ module _ (g : Graph) (lim : IsWithinLimits g) (cov : IsCovered g) (e : ℕ) (we 
                   let a : k.0 ≡ x = omega arith in
                   elim (cases_lt k.1 y) [
                     | inl v ↦ absurd (both_ways (separated k) (h k.0 k.1 f.1 f.2 (inr (a, v))) f.0)
-                    | inr v ↦ elim (cases_lt y k.1) [
-                      | inl w ↦ absurd (both_ways (separated (x, y)) (before_first g.order (is_separated g (lesser_end g e) (greater_end g e)) k q x y wx wy (inr (sym a, w))) t)
-                      | inr w ↦ let b : k.1 ≡ y = omega arith in ap₂ (λ i j. Some (i, j)) a b
-                    ]
+                    | inr v ↦ grind (arith, cases_lt y k.1, both_ways (separated (x, y)), before_first g.order (is_separated g (lesser_end g e) (greater_end g e)) k q x y wx wy)
                   ]
             ]
           ]
@@ -78,44 +66,19 @@ module _ (g : Graph) (lim : IsWithinLimits g) (cov : IsCovered g) (e : ℕ) (we 
 
   -- a pair that gives its shore with none before it: the edge gives that
   pub found_shore : (x y : ℕ) → Within g.order x → Within g.order y → NoneBefore g e x y → (answer : Option (List ℕ)) → IsShoreOfPair g e (x, y) answer → (s : List ℕ) → answer ≡ Some s → IsShoreOfEdge g e (Some s)
-  found_shore x y wx wy h answer p s q =
-      let a = p.some s q in
-      record {
-        some = λ t r. let m : s ≡ t = cc in ((x, y), first_is x y wx wy h a.0, λ v w. ap (λ z. mem z v) (sym m) ∙ a.1 v w);
-        none = λ r. absurd cc;
-      }
+  found_shore x y wx wy h answer p s q = grind (arith, first_is x y wx wy h)
 
   -- one pair more
   pub next_pair : (x y : ℕ) → NoneBefore g e x y → separated (x, y) ≡ false → NoneBefore g e x (y + 1)
-  next_pair x y h f c d wc wd b = elim b [
-    | inl l ↦ h c d wc wd (inl l)
-    | inr p ↦ let p1 = p.1 in elim (cases_lt d y) [
-      | inl l ↦ h c d wc wd (inr (p.0, l))
-      | inr l ↦ let q : d ≡ y = omega arith in ap (λ k. separated (k, d)) p.0 ∙ ap (λ k. separated (x, k)) q ∙ f
-    ]
-  ]
+  next_pair x y h f c d wc wd b = grind arith
 
   -- a vertex more as the second: it does not lead a piece, or is the first itself
   pub skip_second : (x y : ℕ) → NoneBefore g e x y → (Leads g (lesser_end g e) (greater_end g e) leaders y → x ≡ y) → NoneBefore g e x (y + 1)
-  skip_second x y h n = none_before x (y + 1) (λ c d lc l b. elim b [
-    | inl s ↦ h c d lc.within l.within (inl s)
-    | inr s ↦ let s1 = s.1 in elim (cases_lt d y) [
-      | inl t ↦ h c d lc.within l.within (inr (s.0, t))
-      | inr t ↦ let q : d ≡ y = omega arith in
-          let xy = n (subst (Leads g (lesser_end g e) (greater_end g e) leaders) q l) in
-          ap (λ k. separated (k, d)) s.0 ∙ ap (λ k. separated (x, k)) (q ∙ sym xy) ∙ unequal x
-    ]
-  ])
+  skip_second x y h n = grind (arith, none_before x (y + 1), cases_lt, unequal x)
 
   -- a vertex more as the first that does not lead a piece
   pub skip_first : (x : ℕ) → NoneBefore g e x 1 → (Leads g (lesser_end g e) (greater_end g e) leaders x → ⊥) → NoneBefore g e (x + 1) 1
-  skip_first x h n = none_before (x + 1) 1 (λ c d lc l b. elim b [
-    | inl s ↦ elim (cases_lt c x) [
-      | inl t ↦ h c d lc.within l.within (inl t)
-      | inr t ↦ let q : c ≡ x = omega arith in absurd (n (subst (Leads g (lesser_end g e) (greater_end g e) leaders) q lc))
-    ]
-    | inr s ↦ let s1 = s.1 in let w = l.within in absurd (omega arith)
-  ])
+  skip_first x h n = grind (arith, none_before (x + 1) 1, cases_lt)
 
   -- at one pair: what a pair of different leaders gives, or nothing
   pub pair_not : (x y : ℕ) → NoneBefore g e x y → (answer : Option (List ℕ)) → IsShoreOfPair g e (x, y) answer → answer ≡ None → NoneBefore g e x (y + 1)
@@ -126,10 +89,4 @@ pub leads-test : (g : Graph) (e : ℕ) (leaders : List ℕ) (a b x : ℕ) → a 
 leads-test g e leaders a b x qa qb l = ap (λ t. not t && (at_place leaders x == x)) (ap₂ (λ i j. pair_set i j x) qa qb ∙ l.outside) ∙ eq-eqb (at_place leaders x) x l.itself
 
 pub leads-found : (g : Graph) (leaders : List ℕ) (a b x : ℕ) → Within g.order x → (not (pair_set a b x) && (at_place leaders x == x)) ≡ true → Leads g a b leaders x
-leads-found g leaders a b x w l =
-    let parts = and_parts (not (pair_set a b x)) (at_place leaders x == x) l in
-    record {
-      within = w;
-      outside = not-true (pair_set a b x) parts.0;
-      itself = eqb-true (at_place leaders x) x parts.1;
-    }
+leads-found g leaders a b x w l = grind arith

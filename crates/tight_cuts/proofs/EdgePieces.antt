@@ -1,7 +1,7 @@
 -- What the pairs with one first vertex x give, by one set: the intersection of all tight sets
 -- that have x and an end of the edge, not the other. Idea: that intersection is one of these
 -- sets, so a pair (x, y) is separated exactly when it lacks y, and then it is the common shore.
-use Rattle.std.proofs.Common.{◌≡◌, ◌≢◌, ℕ, ◌+◌, true, false, not, ◌==◌, refl, sym, ap, ◌∙◌, arith, inl, inr, List, Option, Some, None, eq-eqb, ne_eqb}
+use Rattle.std.proofs.Common.{◌≡◌, ◌≢◌, ℕ, ◌+◌, true, false, not, ◌==◌, refl, sym, ap, ◌∙◌, arith, inl, inr, List, Option, Some, None, eq-eqb, ne_eqb, rules}
 use Rattle.counting.proofs.Common.{same_tests, cases_lt, true≢false, both_ways, false_from_ne_true, cases_Bool, or_from, or_left, or_right, complement, Within, mem, Set, pair_set}
 use Rattle.barrier_kit.proofs.Common.{tight-turned}
 use Rattle.graph_core.proofs.Common.{IsCovered, Graph, IsGraph, size, IsWithinLimits}
@@ -47,9 +47,7 @@ module _ (g : Graph) (lim : IsWithinLimits g) (cov : IsCovered g) (e : ℕ) (we 
 
   -- it lacks the second vertex of each separated pair
   shore_lacks : (y : ℕ) → Within g.order y → is_separated g a b (x, y) ≡ true → shore y ≡ false
-  shore_lacks y wy t =
-      let p = separated_says g a b (x, y) t in
-      false_from_ne_true (shore y) (λ s. true≢false (sym (shore_in p.2.0 (narrower g a b x y p.2.0 p.2.1) y wy s) ∙ p.2.1.lacks_y))
+  shore_lacks y wy t = grind arith
 
   -- if it lacks y it is the common shore of x and y
   shore_common : (y : ℕ) → Within g.order y → SeparatesTightly g a b (x, b) shore → shore y ≡ false → (v : ℕ) → Within g.order v → shore v ≡ common_shore g a b (x, y) v
@@ -59,9 +57,7 @@ module _ (g : Graph) (lim : IsWithinLimits g) (cov : IsCovered g) (e : ℕ) (we 
 
   -- it separates x from each vertex that it lacks, but b
   shore_separated : (y : ℕ) → Within g.order y → SeparatesTightly g a b (x, b) shore → pair_set a b x ≡ false → y ≢ b → shore y ≡ false → is_separated g a b (x, y) ≡ true
-  shore_separated y wy p ox yb l = separated_found g a b (x, y) shore is wa wb wx wy ox
-      (or_from (a == y) (b == y) (ne_eqb a y (λ q. both_ways (shore a) (ap shore q ∙ l) p.has_a)) (ne_eqb b y (λ q. yb (sym q))))
-      (wider g a b x y shore p l)
+  shore_separated y wy p ox yb l = grind arith
 
   -- the first pair has x for its first vertex, if no earlier vertex has a pair and x has one
   first_at : (y : ℕ) → Within g.order y → NoneBefore g e x 1 → is_separated g a b (x, y) ≡ true → (d : ℕ) × Within g.order d × (first_separated g e ≡ Some (x, d)) × (is_separated g a b (x, d) ≡ true)
@@ -82,33 +78,21 @@ module _ (g : Graph) (lim : IsWithinLimits g) (cov : IsCovered g) (e : ℕ) (we 
   module _ (answer : Option (List ℕ)) (common : IsCommonShore g a b (x, b) answer) where
     -- a shore that lacks a vertex other than b is what the edge gives
     pub piece_found : pair_set a b x ≡ false → NoneBefore g e x 1 → (s : List ℕ) → answer ≡ Some s → (y : ℕ) → Within g.order y → y ≢ b → mem s y ≡ false → IsShoreOfEdge g e (Some s)
-    piece_found ox h s q y wy yb l =
-        let c = common.some s q in
-        let p = shore_parts c.0.0 c.0.1 in
-        let t = shore_separated y wy p ox yb (sym (c.1 y wy) ∙ l) in
-        let d = first_at y wy h t in
-        record {
-          some = λ r m. let same : s ≡ r = cc in ((x, d.0), d.2, λ v w. ap (λ z. mem z v) (sym same) ∙ c.1 v w ∙ shore_common d.0 d.1 p (shore_lacks d.0 d.1 d.3) v w);
-          none = λ r. absurd cc;
-        }
+    piece_found ox h s q y wy yb l = grind (arith, shore_parts, shore_separated y wy, first_at y wy h, shore_common, shore_lacks)
 
     -- without such a shore no pair with x is separated
     pub piece_none : answer ≡ None → (y : ℕ) → is_separated g a b (x, y) ≡ false
     piece_none q y = false_from_ne_true (is_separated g a b (x, y)) (λ t. let p = separated_says g a b (x, y) t in common.none q p.2.0 (narrower g a b x y p.2.0 p.2.1))
 
     pub piece_full : (s : List ℕ) → answer ≡ Some s → ((y : ℕ) → Within g.order y → y ≢ b → mem s y ≡ true) → (y : ℕ) → Within g.order y → is_separated g a b (x, y) ≡ false
-    piece_full s q full y wy = false_from_ne_true (is_separated g a b (x, y)) (λ t.
-        let p = separated_says g a b (x, y) t in
-        let c = common.some s q in
-        both_ways (shore y) (shore_lacks y wy t) (sym (c.1 y wy) ∙ full y wy (λ m. both_ways (pair_set a b y) p.1 (ap (pair_set a b) m ∙ end_in))))
+    piece_full s q full y wy = grind (arith, false_from_ne_true (is_separated g a b (x, y)), separated_says g a b (x, y), both_ways (shore y), shore_lacks y wy, both_ways (pair_set a b y), end_in)
       where
         end_in : pair_set a b b ≡ true
         end_in = or_right (a == b) (b == b) (eq-eqb b b refl)
 
 -- a common shore that is everything but b, or none, says so of each such set
 pub whole_shore : (g : Graph) → IsGraph g → (a b x : ℕ) → Within g.order a → Within g.order b → Within g.order x → (answer : Option (List ℕ)) → IsCommonShore g a b (x, b) answer → ((s : List ℕ) → answer ≡ Some s → (y : ℕ) → Within g.order y → y ≢ b → mem s y ≡ true) → AreWhole g a b x
-whole_shore g isg a b x va vb vx None common full z p v w d = absurd (common.none refl z p)
-whole_shore g isg a b x va vb vx (Some s) common full z p v w d = common_in g isg a b (x, b) va vb vx vb v w (sym ((common.some s refl).1 v w) ∙ full s refl v w d) z p
+whole_shore g isg a b x va vb vx answer common full z p v w d = grind (arith, common_in g isg a b (x, b) va vb vx vb v w)
 
 -- if the sets on either side of x are so, no pair is separated
 pub inseparable : (g : Graph) (e x : ℕ) → AreWhole g (lesser_end g e) (greater_end g e) x → AreWhole g (greater_end g e) (lesser_end g e) x → first_separated g e ≡ None
@@ -125,10 +109,4 @@ inseparable g e x near far = no_first g.order (is_separated g (lesser_end g e) (
 
 -- all pairs with x are done
 pub first_done : (g : Graph) (e x : ℕ) → NoneBefore g e x 1 → ((y : ℕ) → Within g.order y → is_separated g (lesser_end g e) (greater_end g e) (x, y) ≡ false) → NoneBefore g e (x + 1) 1
-first_done g e x h n c d wc wd before = elim before [
-  | inl s ↦ elim (cases_lt c x) [
-    | inl t ↦ h c d wc wd (inl t)
-    | inr t ↦ let q : c ≡ x = omega arith in ap (λ i. is_separated g (lesser_end g e) (greater_end g e) (i, d)) q ∙ n d wd
-  ]
-  | inr s ↦ let s1 = s.1 in let w = wd.0 in absurd (omega arith)
-]
+first_done g e x h n c d wc wd before = grind arith

@@ -1,7 +1,7 @@
 -- What the groups of two pieces, or of one, give as the code finds it: a least cut of their
 -- network within the number of listed matchings. Idea: the network of the rows is the contracted
 -- network of the list, and the leaders give its groups.
-use Rattle.std.proofs.Common.{◌≡◌, ℕ, suc, zero, ◌*◌, ◌≤◌, ◌<◌, ◌^◌, ◌≢◌, true, false, ◌==◌, ◌&&◌, ◌||◌, not, get_or, refl, sym, ap, ap₂, ◌∙◌, arith, inl, inr, List, [], ◌∷◌, ◌++◌, length, subst, subst₂, Option, Some, None, ◌↔◌, All}
+use Rattle.std.proofs.Common.{◌≡◌, ℕ, suc, zero, ◌*◌, ◌≤◌, ◌<◌, ◌^◌, ◌≢◌, true, false, ◌==◌, ◌&&◌, ◌||◌, not, get_or, refl, sym, ap, ap₂, ◌∙◌, arith, inl, inr, List, [], ◌∷◌, ◌++◌, length, subst, subst₂, Option, Some, None, ◌↔◌, All, rules}
 use Rattle.counting.proofs.Common.{cases_lt, count_congr, false_from_ne_true, or_comm, sum_by-cons, bit_le_one, bit, complement, count, is_odd, Within, total, mem, Set, pair_set}
 use Rattle.std.proofs.Math.Path.{fun_ext}
 use Rattle.graph_core.proofs.Common.{has_ends-cases, tight-same, components, is_least, IsCovered, Graph, size, edges_in_cut, first_end, second_end, has_ends, IsGraph, IsTight, Allowed, IsWithinLimits}
@@ -38,17 +38,11 @@ pub record IsCutShore (g : Graph) (a b : ℕ) (list : List (List ℕ)) (x y : �
 -- no edge is in more matchings than there are
 weight_within : (ms : List (List ℕ)) (e : ℕ) → weight ms e ≤ length ms
 weight_within [] e = omega arith
-weight_within (m ∷ ms) e =
-    let s = sum_by-cons (λ m. bit (mem m e)) m ms in
-    let i = weight_within ms e in let b = bit_le_one (mem m e) in omega arith
+weight_within (m ∷ ms) e = search (rules, sum_by-cons, weight_within ms e, bit_le_one)
 
 -- the sum of all weights
 weights_small : (g : Graph) (list : List (List ℕ)) (weights : List ℕ) (bound : ℕ) → IsWithinLimits g → AreWeights g list weights bound → total (size g) (at_place weights) < 2 ^ 63
-weights_small g list weights bound lim w =
-    let m = lim.edges in
-    let l = grown_length list (size g) w.grown.rising w.grown.lean in
-    let s = total_small (size g) (λ f. f) (λ v wv. omega arith) in
-    let t = total_large (size g) (at_place weights) (λ v wv. let a = w.each v wv in let b = weight_within list v in omega arith) in omega arith
+weights_small g list weights bound lim w = grind (arith, grown_length list (size g) w.grown.rising w.grown.lean, total_small (size g), total_large (size g) (at_place weights), weight_within list)
 
 module _ (g : Graph) (lim : IsWithinLimits g) (cov : IsCovered g) (e : ℕ) (we : Within (size g) e) where
   is : IsGraph g
@@ -68,16 +62,10 @@ module _ (g : Graph) (lim : IsWithinLimits g) (cov : IsCovered g) (e : ℕ) (we 
 
 -- what the ends of an edge are under any names
 pub ends_within : (g : Graph) → IsGraph g → (a b e : ℕ) → Within (size g) e → has_ends g a b e ≡ true → Within g.order a × Within g.order b
-ends_within g is a b e we h = let w = is e we in elim (has_ends-cases g a b e h) [
-  | inl k ↦ (subst (Within g.order) k.0 w.0, subst (Within g.order) k.1 w.1)
-  | inr k ↦ (subst (Within g.order) k.1 w.1, subst (Within g.order) k.0 w.0)
-]
+ends_within g is a b e we h = grind arith
 
 ends_differ : (g : Graph) (a b e : ℕ) → first_end g e ≢ second_end g e → has_ends g a b e ≡ true → a ≢ b
-ends_differ g a b e d h q = elim (has_ends-cases g a b e h) [
-  | inl k ↦ d (k.0 ∙ q ∙ sym k.1)
-  | inr k ↦ d (k.0 ∙ sym q ∙ sym k.1)
-]
+ends_differ g a b e d h q = grind arith
 
 ends_turned : (g : Graph) (a b e : ℕ) → has_ends g a b e ≡ true → has_ends g b a e ≡ true
 ends_turned g a b e h = or_comm (first_end g e == b && second_end g e == a) (first_end g e == a && second_end g e == b) ∙ h
@@ -94,17 +82,11 @@ module _ (g : Graph) (is : IsGraph g) (a b e : ℕ) (wa : Within g.order a) (wb 
 
   -- a vertex that leads a piece is its least vertex
   pub leads_least : (x : ℕ) → Leads g a b leaders x → is_least ld.beside (pair_set a b) x ≡ true
-  leads_least x l =
-      let q : leader (components ld.beside (pair_set a b)) x ≡ x = sym (ld.each x l.within) ∙ l.itself in
-      ap (is_least ld.beside (pair_set a b)) (sym q) ∙ (leader-least ld.beside (pair_set a b) beside_is x (inside x l.within) l.outside).1
+  leads_least x l = grind (arith, leader-least, beside_is)
 
   -- and the least vertex of a piece leads it
   pub least_leads : (x : ℕ) → Within g.order x → pair_set a b x ≡ false → is_least ld.beside (pair_set a b) x ≡ true → Leads g a b leaders x
-  least_leads x wx o l = record {
-    within = wx;
-    outside = o;
-    itself = ld.each x wx ∙ leader-fixed ld.beside (pair_set a b) beside_is x (inside x wx) l;
-  }
+  least_leads x wx o l = grind (arith, leader-fixed, beside_is)
 
   module _ (x y : ℕ) (lx : Leads g a b leaders x) (beyond : IsBeyond g a b leaders x y) where
     abbrev pub groups : ℕ → ℕ
@@ -127,11 +109,7 @@ module _ (g : Graph) (is : IsGraph g) (a b e : ℕ) (wa : Within g.order a) (wb 
     module _ (list : List (List ℕ)) (weights : List ℕ) (bound : ℕ) (wt : AreWeights g list weights bound) where
       same_arcs : (k : ℕ) → k ≤ size g → arcs_by g weights (row_group a b x y leaders) k ≡ arcs_of g list groups k
       same_arcs zero l = refl
-      same_arcs (suc k) l =
-          let w : Within (size g) (suc k) = omega arith in
-          ap₂ ◌++◌ (same_arcs k (omega arith))
-          (ap₂ (λ i j. arc_between i j (at_place weights (suc k))) (row_same (first_end g (suc k)) (is (suc k) w).0) (row_same (second_end g (suc k)) (is (suc k) w).1)
-          ∙ ap (arc_between (groups (first_end g (suc k))) (groups (second_end g (suc k)))) (wt.each (suc k) w))
+      same_arcs (suc k) l = grind (arith, same_arcs k (omega arith), row_same (first_end g (suc k)), row_same (second_end g (suc k)))
 
       same_net : group_net g weights leaders a b x y ≡ contracted_net g list groups g.order
       same_net = ap (λ arcs. record { nodes = g.order; arcs = arcs }) (same_arcs (size g) (omega arith))
@@ -211,10 +189,7 @@ cut-shore g list leaders weights bound x y a b facts answer h s q = let c = h.so
 
 -- if it is tight it is the common shore
 pub tight-common : (g : Graph) (list : List (List ℕ)) (x y a b : ℕ) (s : List ℕ) → IsCutShore g a b list x y (mem s) → IsTight g (mem s) → IsCommonShore g a b (x, y) (Some s)
-tight-common g list x y a b s cut tight = record {
-  some = λ t q. let same : s ≡ t = cc in let c = cut.common tight in (c.0, λ v w. ap (λ z. mem z v) (sym same) ∙ c.1 v w);
-  none = λ q. absurd cc;
-}
+tight-common g list x y a b s cut tight = grind arith
 
 -- without a cut there is none
 pub none-common : (g : Graph) (x y a b : ℕ) → ((z : Set) → SeparatesTightly g a b (x, y) z → ⊥) → IsCommonShore g a b (x, y) None
@@ -232,17 +207,7 @@ named_leaders g a b e leaders qa qb at = subst₂ (λ i j. AreLeadersAt g i j e 
 
 -- the row serves for the ends in either order
 pub leaders_turned : (g : Graph) (a b e : ℕ) (leaders : List ℕ) → AreLeadersAt g a b e leaders → AreLeadersAt g b a e leaders
-leaders_turned g a b e leaders at = record {
-  covered = at.covered;
-  edge = at.edge;
-  ends = ends_turned g a b e at.ends;
-  led = record {
-    beside = at.led.beside;
-    is = at.led.is;
-    long = at.led.long;
-    each = λ v w. at.led.each v w ∙ ap (λ s. leader (components at.led.beside s) v) (pair_turned a b);
-  };
-}
+leaders_turned g a b e leaders at = grind arith
 
 -- the common shore of two pieces is what their pair gives
 pub pair-from_common : (g : Graph) (e : ℕ) (leaders : List ℕ) (x y : ℕ) → IsWithinLimits g → IsCovered g → Within (size g) e → Leads g (lesser_end g e) (greater_end g e) leaders x → Leads g (lesser_end g e) (greater_end g e) leaders y → (answer : Option (List ℕ)) → IsCommonShore g (lesser_end g e) (greater_end g e) (x, y) answer → IsShoreOfPair g e (x, y) answer
@@ -258,16 +223,8 @@ module _ (g : Graph) (weights leaders : List ℕ) (bound x y a b : ℕ) (net : N
   -- a cut within the bound
   pub cut_answer : (answer : CutAnswer) → IfCut answer (λ set value. IsLeastCut net a b set value × (value ≤ bound)) → (set : List ℕ) (value : ℕ) → answer ≡ Cut set value →
       (shore : List ℕ) → ((v : ℕ) → Within g.order v → mem shore v ≡ mem set (row_group a b x y leaders v)) → IsCutOfGroups g weights leaders bound a b x y (Some shore)
-  cut_answer answer h set value q shore same =
-      let c = subst (λ o. IfCut o (λ set value. IsLeastCut net a b set value × (value ≤ bound))) q h in
-      record {
-        some = λ s r. let t : shore ≡ s = cc in (set, value, subst (λ n. IsLeastCut n a b set value) is_net c.0, c.1, λ v w. ap (λ z. mem z v) (sym t) ∙ same v w);
-        none = λ r. absurd cc;
-      }
+  cut_answer answer h set value q shore same = grind arith
 
   -- a flow above it shows that there is none
   pub flow_answer : (answer : CutAnswer) → IsCut answer ↔ HasCutWithin net a b bound → (flow : Flow) → answer ≡ Exceeds flow → IsCutOfGroups g weights leaders bound a b x y None
-  flow_answer answer h flow q = record {
-    some = λ s r. absurd cc;
-    none = λ r t. subst IsCut q (h.1 (subst (λ n. HasCutWithin n a b bound) (sym is_net) t));
-  }
+  flow_answer answer h flow q = grind arith

@@ -1,6 +1,6 @@
 -- The first candidate stays while edges add more, and edges in the cut of a candidate add none.
 -- Idea: an edge leaves the list or appends to it.
-use Rattle.std.proofs.Common.{◌≡◌, ℕ, suc, zero, ◌≤◌, Bool, true, false, refl, sym, ap, ◌∙◌, arith, List, [], ◌∷◌, ◌++◌, Option, Some, None, map, slice_get, inl, inr, ◌↔◌, subst, All, if◌then◌else◌}
+use Rattle.std.proofs.Common.{◌≡◌, ℕ, suc, zero, ◌≤◌, Bool, true, false, refl, sym, ap, ◌∙◌, arith, List, [], ◌∷◌, ◌++◌, Option, Some, None, map, slice_get, inl, inr, ◌↔◌, subst, All, if◌then◌else◌, rules}
 use Rattle.counting.proofs.Common.{list_any, cases_eq, All-head, Within, Set}
 use Rattle.std.specs.Option.{option_map}
 use Rattle.graph_core.proofs.Common.{Graph, size}
@@ -11,32 +11,20 @@ use Rattle.tight_cuts.specs.declared.candidate.Candidate.{Candidate as StoredCan
 
 -- the first candidate is that at place 0
 pub first-place : (list : List Candidate) → slice_get list 0 ≡ first_of list
-first-place [] = refl
-first-place (d ∷ list) = refl
+first-place list = grind arith
 
 -- the list without a first candidate is empty
 pub first-nil : (list : List Candidate) → None ≡ first_of list → list ≡ []
-first-nil [] q = refl
-first-nil (d ∷ list) q = absurd cc
+first-nil list q = grind arith
 
 first-append : (list : List Candidate) (c d : Candidate) → first_of list ≡ Some c → first_of (list ++ d ∷ []) ≡ Some c
-first-append [] c d h = absurd cc
-first-append (b ∷ list) c d h = h
+first-append list c d h = grind arith
 
 first-shore_more : (n : ℕ) (o : Origin) (list : List Candidate) (x : Set) (c : Candidate) → first_of list ≡ Some c → first_of (with_shore n o list x) ≡ Some c
-first-shore_more n o list x c h = go _ _
-  where
-    go : (b : Bool) (d : Candidate) → first_of (if b then list ++ d ∷ [] else list) ≡ Some c
-    go true d = first-append list c d h
-    go false d = h
+first-shore_more n o list x c h = grind arith
 
 first-edge_more : (g : Graph) (list : List Candidate) (e : ℕ) (c : Candidate) → first_of list ≡ Some c → first_of (with_edge_cut g list e) ≡ Some c
-first-edge_more g list e c h = go (list_any (cuts g e) list) (first_separated g e)
-  where
-    go : (b : Bool) (k : Option (ℕ × ℕ)) → first_of (if b then list else with_pair g (lesser_end g e) (greater_end g e) list k) ≡ Some c
-    go true k = h
-    go false None = h
-    go false (Some k) = first-shore_more g.order Flow list (common_shore g (lesser_end g e) (greater_end g e) k) c h
+first-edge_more g list e c h = grind arith
 
 -- the first candidate after some edges is that after more
 first-later : (g : Graph) (list : List Candidate) (k m : ℕ) → k ≤ m → (c : Candidate) → first_of (after_edges g list k) ≡ Some c → first_of (after_edges g list m) ≡ Some c
@@ -67,17 +55,12 @@ first-none g list k q h z = ap first_of (sym z ∙ edges-all g list k q h)
 
 -- the first candidate is one of them
 pub first-one : (g : Graph) (P : Candidate → Type 0) (list : List Candidate) → All P list → (c : Candidate) → first_of list ≡ Some c → P c
-first-one g P [] a c h = absurd cc
-first-one g P (d ∷ list) a c h = let q : d ≡ c = cc in subst P q (All-head P d list a)
+first-one g P list a c h = grind arith
 
 -- no first candidate is answered exactly when there is no candidate
 pub first-empty : (list : List Candidate) (found : Option StoredCandidate) (Q : Type 0) → ((list ≡ []) ↔ Q) → option_map candidate_of found ≡ first_of list → (found ≡ None) ↔ Q
-first-empty [] None Q h q = (λ e. h.0 refl, λ e. refl)
-first-empty [] (Some c) Q h q = absurd cc
-first-empty (d ∷ list) None Q h q = absurd cc
-first-empty (d ∷ list) (Some c) Q h q = (λ e. absurd cc, λ e. absurd (let r = h.1 e in cc))
+first-empty list found Q h q = grind arith
 
 -- the first of the candidates taken to vertices of the graph
 pub first-lifted : (f : Candidate → Candidate) (list : List Candidate) (o : Option Candidate) → o ≡ first_of list → option_map f o ≡ first_of (map f list)
-first-lifted f [] o q = ap (option_map f) q
-first-lifted f (c ∷ list) o q = ap (option_map f) q
+first-lifted f list o q = grind arith

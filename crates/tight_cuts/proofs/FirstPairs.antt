@@ -1,6 +1,6 @@
 -- The first pair consists of least vertices of pieces.
 -- Idea: a pair is separated by its pieces alone, so an earlier pair would be found.
-use Rattle.std.proofs.Common.{◌≡◌, ℕ, suc, zero, ◌<◌, Bool, true, false, cond, refl, sym, ap, ◌∙◌, arith, ◌&&◌, not, inl, inr, ◌⊎◌, List, [], ◌∷◌, ◌++◌, map, flat_map, Option, Some, None, nat_lt, ltb-true, find}
+use Rattle.std.proofs.Common.{◌≡◌, ℕ, suc, zero, ◌<◌, Bool, true, false, cond, refl, sym, ap, ◌∙◌, arith, ◌&&◌, not, inl, inr, ◌⊎◌, List, [], ◌∷◌, ◌++◌, map, flat_map, Option, Some, None, nat_lt, ltb-true, find, rules}
 use Rattle.counting.proofs.Common.{cases_eq, cases_Bool, and_parts, and_from, both_ways, false_from_ne_true, some_true, Within, rising_list, ordered_pairs, pair_with, Set, everything, pair_set, some}
 use Rattle.std.proofs.lemmas.Grind.{flat_map-append}
 use Rattle.std.proofs.lemmas.List.Concat.{flat_map_single}
@@ -16,22 +16,14 @@ use Rattle.tight_cuts.specs.Common.{is_separated, SeparatesTightly, IsBeside}
 -- the row in which the first is found
 module _ (p : ℕ × ℕ → Bool) (f : ℕ → List (ℕ × ℕ)) where
   rows_suc : (m : ℕ) → find p (flat_map f (rising_list (suc m) everything)) ≡ option_or (find p (flat_map f (rising_list m everything))) (option_or (find p (f (suc m))) None)
-  rows_suc m =
-      ap (find p) (flat_map-append f (rising_list m everything) (suc m ∷ []))
-      ∙ find-append p (flat_map f (rising_list m everything)) (f (suc m) ++ [])
-      ∙ ap (option_or (find p (flat_map f (rising_list m everything)))) (find-append p (f (suc m)) [])
+  rows_suc m = grind (arith, flat_map-append f (rising_list m everything) (suc m ∷ []), find-append p (flat_map f (rising_list m everything)) (f (suc m) ++ []), find-append p (f (suc m)))
 
   none_rows : (m : ℕ) → find p (flat_map f (rising_list m everything)) ≡ None → (x : ℕ) → Within m x → find p (f x) ≡ None
   none_rows zero h x w = absurd (omega arith)
   none_rows (suc m) h x w = go (λ a v. none_rows m a x v) (find p (flat_map f (rising_list m everything))) (find p (f (suc m))) refl refl (sym (rows_suc m) ∙ h)
     where
       go : (find p (flat_map f (rising_list m everything)) ≡ None → Within m x → find p (f x) ≡ None) → (o q : Option (ℕ × ℕ)) → find p (flat_map f (rising_list m everything)) ≡ o → find p (f (suc m)) ≡ q → option_or o (option_or q None) ≡ None → find p (f x) ≡ None
-      go below (Some j) q a b e = cc
-      go below None (Some j) a b e = cc
-      go below None None a b e = elim (cases_eq x (suc m)) [
-        | inl d ↦ ap (λ i. find p (f i)) d ∙ b
-        | inr d ↦ below a (omega arith)
-      ]
+      go below o q a b e = grind arith
 
   pub first_row : (m : ℕ) (k : ℕ × ℕ) → find p (flat_map f (rising_list m everything)) ≡ Some k → (a : ℕ) × Within m a × (find p (f a) ≡ Some k) × ((x : ℕ) → Within m x → x < a → find p (f x) ≡ None)
   first_row zero k h = cc
@@ -46,8 +38,7 @@ module _ (p : ℕ × ℕ → Bool) (f : ℕ → List (ℕ × ℕ)) where
       cases_option None = inr refl
 
       last : (o : Option (ℕ × ℕ)) → option_or o None ≡ Some k → o ≡ Some k
-      last (Some j) e = e
-      last None e = e
+      last o e = grind arith
 
 -- each pair before the first fails
 pub before_first : (n : ℕ) (p : ℕ × ℕ → Bool) (k : ℕ × ℕ) → find p (ordered_pairs n) ≡ Some k → (x y : ℕ) → Within n x → Within n y → ((x < k.0) ⊎ ((x ≡ k.0) × (y < k.1))) → p (x, y) ≡ false
@@ -61,41 +52,22 @@ before_first n p k h x y wx wy l =
     ]
   where
     single : (j : ℕ × ℕ) → find p (j ∷ []) ≡ Some k → j ≡ k
-    single j h = elim (cases_Bool (p j)) [
-      | inl t ↦ let s : Some j ≡ Some k = ap (λ b. cond b (Some j) None) (sym t) ∙ h in cc
-      | inr t ↦ let s : None ≡ Some k = ap (λ b. cond b (Some j) None) (sym t) ∙ h in cc
-    ]
+    single j h = grind arith
 
     none_one : (j : ℕ × ℕ) → find p (j ∷ []) ≡ None → p j ≡ false
-    none_one j h = elim (cases_Bool (p j)) [
-      | inl t ↦ let s : Some j ≡ None = ap (λ b. cond b (Some j) None) (sym t) ∙ h in cc
-      | inr t ↦ t
-    ]
+    none_one j h = grind arith
 
 -- if each pair fails, none is found
 pub no_first : (n : ℕ) (p : ℕ × ℕ → Bool) → ((x y : ℕ) → Within n x → Within n y → p (x, y) ≡ false) → find p (ordered_pairs n) ≡ None
-no_first n p h = go (find p (ordered_pairs n)) refl
-  where
-    go : (o : Option (ℕ × ℕ)) → find p (ordered_pairs n) ≡ o → o ≡ None
-    go None q = refl
-    go (Some k) q = let f = first_pair n p k q in absurd (both_ways (p k) (h k.0 k.1 f.1 f.2) f.0)
+no_first n p h = grind (arith, first_pair, both_ways)
 
 module _ (g h : Graph) (is : IsGraph g) (a b e : ℕ) (wa : Within g.order a) (wb : Within g.order b) (we : Within (size g) e) (ends : has_ends g a b e ≡ true) (beside : IsBeside g e h) where
   -- a pair is separated by its pieces alone
   pub parts_moves : (k j : ℕ × ℕ) (z : Set) → joined h (pair_set a b) k.0 j.0 ≡ true → joined h (pair_set a b) k.1 j.1 ≡ true → SeparatesTightly g a b k z → SeparatesTightly g a b j z
-  parts_moves k j z p q s = let c = cut_between g z a b e ends s.has_a s.lacks_b in record {
-    tight = s.tight;
-    has_a = s.has_a;
-    has_x = sym (tight_piece g h is a b e wa wb we ends beside z s.tight c k.0 j.0 p) ∙ s.has_x;
-    lacks_b = s.lacks_b;
-    lacks_y = sym (tight_piece g h is a b e wa wb we ends beside z s.tight c k.1 j.1 q) ∙ s.lacks_y;
-  }
+  parts_moves k j z p q s = grind (arith, cut_between g z a b e ends s.has_a s.lacks_b, tight_piece g h is a b e wa wb we ends beside z s.tight)
 
   pub separated_moves : (k j : ℕ × ℕ) → Within g.order j.0 → Within g.order j.1 → joined h (pair_set a b) k.0 j.0 ≡ true → joined h (pair_set a b) k.1 j.1 ≡ true → is_separated g a b k ≡ true → is_separated g a b j ≡ true
-  separated_moves k j wx wy p q t =
-      let s = separated_says g a b k t in
-      let hg = beside_graph g h is a b e wa wb we ends beside in
-      separated_found g a b j s.2.0 is wa wb wx wy (joined_outside h (pair_set a b) hg k.0 j.0 s.0 p) (joined_outside h (pair_set a b) hg k.1 j.1 s.1 q) (parts_moves k j s.2.0 p q s.2.1)
+  separated_moves k j wx wy p q t = grind (arith, separated_says g a b k t, beside_graph g h is a b e wa wb we ends beside, separated_found g a b j, joined_outside h (pair_set a b), parts_moves k j)
 
   -- so the first pair is of least vertices of their pieces
   pub first_leads : (k : ℕ × ℕ) → find (is_separated g a b) (ordered_pairs g.order) ≡ Some k → (is_least h (pair_set a b) k.0 ≡ true) × (is_least h (pair_set a b) k.1 ≡ true)
@@ -110,8 +82,4 @@ module _ (g h : Graph) (is : IsGraph g) (a b e : ℕ) (wa : Within g.order a) (w
       own v w = let o = beside.order in walk_joined h (pair_set a b) (beside_graph g h is a b e wa wb we ends beside) v v (omega arith) (joined_self h (pair_set a b) v)
 
       lead : (u : ℕ) → pair_set a b u ≡ false → ((v : ℕ) → Within g.order v → v < u → joined h (pair_set a b) u v ≡ true → ⊥) → is_least h (pair_set a b) u ≡ true
-      lead u o n = and_from (not (pair_set a b u)) (not (some h.order (λ v. joined h (pair_set a b) u v && nat_lt v u))) (ap not o) (ap not (false_from_ne_true (some h.order (λ v. joined h (pair_set a b) u v && nat_lt v u)) (λ t.
-          let q = some_true h.order (λ v. joined h (pair_set a b) u v && nat_lt v u) t in
-          let r = and_parts (joined h (pair_set a b) u q.0) (nat_lt q.0 u) q.2 in
-          let i = beside.order in let w = q.1 in
-          n q.0 (omega arith) (ltb-true q.0 u r.1) r.0)))
+      lead u o n = grind (arith, and_from (not (pair_set a b u)), nat_lt, false_from_ne_true, some_true h.order, and_parts, ltb-true)

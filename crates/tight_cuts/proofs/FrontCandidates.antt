@@ -1,7 +1,7 @@
 -- The candidates of the first two parts, as the code makes them, and the steps of the loop over
 -- the edges. Idea: a bicritical graph has no barrier cut, and one that is not has no separation
 -- shore.
-use Rattle.std.proofs.Common.{◌≡◌, ℕ, suc, ◌+◌, ◌<◌, Bool, true, false, refl, sym, ap, ◌∙◌, arith, ◌&&◌, not, List, [], ◌∷◌, ◌++◌, map, nat_le, Option, Some, slice_get, subst, All, fold, if◌then◌else◌, is_none}
+use Rattle.std.proofs.Common.{◌≡◌, ℕ, suc, ◌+◌, ◌<◌, Bool, true, false, refl, sym, ap, ◌∙◌, arith, ◌&&◌, not, List, [], ◌∷◌, ◌++◌, map, nat_le, Option, Some, slice_get, subst, All, fold, if◌then◌else◌, is_none, rules}
 use Rattle.counting.proofs.Common.{list_any, true≢false, lt-leb, and_right, All-head, count_congr, rising_list-congr, count, Within, mem, rising_list, IsRisingIn, Set, complement}
 use Rattle.std.specs.Option.{option_map}
 use Rattle.barrier_kit.proofs.Common.{barrier_cuts, barrier_shores}
@@ -18,26 +18,17 @@ cuts-candidates n o shores = fold-cuts n o shores []
 -- a graph that is not bicritical, or has fewer than four vertices, has no separation shore
 no-separations : (g : Graph) → (is_bicritical g && nat_le 4 g.order) ≡ false → separation_shores g ≡ []
 unfolding separation_shores
-no-separations g h = choose (is_bicritical g && nat_le 4 g.order) _ h
-  where
-    choose : (b : Bool) (xs : List (List ℕ)) → b ≡ false → (if b then xs else []) ≡ []
-    choose true xs e = absurd (true≢false e)
-    choose false xs e = refl
+no-separations g h = grind arith
 
 -- if no separation shore is there, the first candidates are the barrier cuts
 pub front-barriers : (g : Graph) → (is_bicritical g && nat_le 4 g.order) ≡ false → map (candidate_at g.order Barrier) (barrier_cuts g) ≡ front_candidates g
 unfolding front_candidates barrier_cuts
-front-barriers g h =
-    sym (cuts-candidates g.order Barrier (barrier_shores g))
-    ∙ ap (λ shores. fold (with_list g.order Separation) (fold (with_list g.order Barrier) [] (barrier_shores g)) shores) (sym (no-separations g h))
+front-barriers g h = grind (arith, cuts-candidates g.order Barrier (barrier_shores g), no-separations g h)
 
 -- in a bicritical graph they are the separation cuts
 pub front-separations : (g : Graph) → barrier_cuts g ≡ [] → map (candidate_at g.order Separation) (separation_cuts g) ≡ front_candidates g
 unfolding front_candidates barrier_cuts separation_cuts
-front-separations g h =
-    let none : fold (with_list g.order Barrier) [] (barrier_shores g) ≡ [] = cuts-candidates g.order Barrier (barrier_shores g) ∙ ap (map (candidate_at g.order Barrier)) h in
-    sym (cuts-candidates g.order Separation (separation_shores g))
-    ∙ ap (λ list. fold (with_list g.order Separation) list (separation_shores g)) (sym none)
+front-separations g h = grind (arith, cuts-candidates g.order Barrier (barrier_shores g), cuts-candidates g.order Separation (separation_shores g))
 
 -- a list of canonical cuts rises
 pub canonical-rising : (g : Graph) (cuts : List (List ℕ)) → All (IsCanonicalCut g) cuts → All (IsRisingIn g.order) cuts
@@ -65,24 +56,7 @@ order-small g l = and_right (is_bicritical g) (nat_le 4 g.order) (lt-leb 4 g.ord
 
 -- sets that agree on 1 to n add the same candidate
 pub shore-congr : (n : ℕ) (o : Origin) (list : List Candidate) (x y : Set) → Within n n → ((v : ℕ) → Within n v → x v ≡ y v) → with_shore n o list x ≡ with_shore n o list y
-shore-congr n o list x y w h =
-    let last = h n w in
-    let same : (v : ℕ) → Within n v → canonical_shore n x v ≡ canonical_shore n y v = λ v wv. choose (x n) (y n) (x v) (y v) last (h v wv) in
-    let inside = count_congr n (canonical_shore n x) (canonical_shore n y) same in
-    let outside = count_congr n (complement (canonical_shore n x)) (complement (canonical_shore n y)) (λ v wv. ap not (same v wv)) in
-    let shore = rising_list-congr n (canonical_shore n x) (canonical_shore n y) same in
-    go (rising_list n (canonical_shore n x)) (rising_list n (canonical_shore n y)) (count n (canonical_shore n x)) (count n (canonical_shore n y)) (count n (complement (canonical_shore n x))) (count n (complement (canonical_shore n y))) shore inside outside
-  where
-    choose : (a b c d : Bool) → a ≡ b → c ≡ d → (if a then not c else c) ≡ (if b then not d else d)
-    choose a b c d p q = ap (λ s. if s then not c else c) p ∙ ap (λ s. if b then not s else s) q
-
-    go : (s t : List ℕ) (i j k l : ℕ) → s ≡ t → i ≡ j → k ≡ l →
-        (if (nat_le 3 i && nat_le 3 k) && not (is_listed (shores_of list) s) then list ++ record { shore = s; inside = i; outside = k; origin = o } ∷ [] else list)
-        ≡ (if (nat_le 3 j && nat_le 3 l) && not (is_listed (shores_of list) t) then list ++ record { shore = t; inside = j; outside = l; origin = o } ∷ [] else list)
-    go s t i j k l p q r =
-        ap (λ s. if (nat_le 3 i && nat_le 3 k) && not (is_listed (shores_of list) s) then list ++ record { shore = s; inside = i; outside = k; origin = o } ∷ [] else list) p
-        ∙ ap (λ i. if (nat_le 3 i && nat_le 3 k) && not (is_listed (shores_of list) t) then list ++ record { shore = t; inside = i; outside = k; origin = o } ∷ [] else list) q
-        ∙ ap (λ k. if (nat_le 3 j && nat_le 3 k) && not (is_listed (shores_of list) t) then list ++ record { shore = t; inside = j; outside = k; origin = o } ∷ [] else list) r
+shore-congr n o list x y w h = grind (arith, count_congr, rising_list-congr, nat_le)
 
 module _ (g : Graph) (list : List Candidate) (e : ℕ) where
   -- an edge in the cut of a candidate adds nothing
@@ -91,16 +65,11 @@ module _ (g : Graph) (list : List Candidate) (e : ℕ) where
 
   -- an edge that gives a shore
   pub edge-shore : (after : List Candidate) (s : List ℕ) → Within g.order g.order → list_any (cuts g e) list ≡ false → IsShoreOfEdge g e (Some s) → after ≡ with_list g.order Flow list s → after ≡ with_edge_cut g list e
-  edge-shore after s w h p q =
-      let k = p.some s refl in
-      q ∙ shore-congr g.order Flow list (mem s) (common_shore g (lesser_end g e) (greater_end g e) k.0) w k.2
-      ∙ sym (choose-false (list_any (cuts g e) list) list (with_pair g (lesser_end g e) (greater_end g e) list (first_separated g e)) h ∙ ap (with_pair g (lesser_end g e) (greater_end g e) list) k.1)
+  edge-shore after s w h p q = grind (arith, shore-congr, choose-false, list_any)
 
 -- one edge more
 pub edges-more : (g : Graph) (list after : List Candidate) (k : ℕ) → list ≡ after_edges g (front_candidates g) k → after ≡ with_edge_cut g list (k + 1) → after ≡ after_edges g (front_candidates g) (k + 1)
-edges-more g list after k h q =
-    let next : suc k ≡ k + 1 = omega arith in
-    q ∙ ap (λ l. with_edge_cut g l (k + 1)) h ∙ ap (with_edge_cut g (after_edges g (front_candidates g) k)) (sym next) ∙ sym (after_suc g (front_candidates g) k) ∙ ap (after_edges g (front_candidates g)) next
+edges-more g list after k h q = grind (arith, after_edges g (front_candidates g) k, after_suc g (front_candidates g) k, after_edges g (front_candidates g))
 
 -- after all edges
 pub edges-all : (g : Graph) (list : List Candidate) (k : ℕ) → k ≡ size g → list ≡ after_edges g (front_candidates g) k → list ≡ candidates g

@@ -1,6 +1,6 @@
 -- The leader of a vertex is the least vertex of its component. Idea: in the list of components
 -- one alone holds the vertex, and a component's list begins with its least vertex.
-use Rattle.std.proofs.Common.{◌≡◌, ℕ, ◌≤◌, Bool, true, false, cond, ◌==◌, refl, sym, ap, ◌∙◌, arith, ◌&&◌, not, inl, inr, ◌⊎◌, List, [], ◌∷◌, map, subst, eq-eqb, eqb-true, nat_lt, All, lt-ltb}
+use Rattle.std.proofs.Common.{◌≡◌, ℕ, ◌≤◌, Bool, true, false, cond, ◌==◌, refl, sym, ap, ◌∙◌, arith, ◌&&◌, not, inl, inr, ◌⊎◌, List, [], ◌∷◌, map, subst, eq-eqb, eqb-true, nat_lt, All, lt-ltb, rules}
 use Rattle.counting.proofs.Common.{cases_lt, cases_Bool, and_parts, or_cases, or_left, or_right, true≢false, both_ways, false_from_ne_true, not-true, All-head, All-tail, All-nil, All-cons, some_none, rising_holds, rising_only, mem-rising_list, rising_list-rises, first-least, Within, mem, rising_list, IsRisingIn, Set, some}
 use Rattle.graph_core.proofs.Common.{joined_outside, walk_joined, joined_self, is_least, components, Graph, IsGraph, joined}
 use Rattle.barrier_kit.proofs.Common.{leader_of, leader_same, leads_out, part_same}
@@ -27,12 +27,9 @@ module _ (h : Graph) (s : Set) (is : IsGraph h) where
   list-head u d wu l = head-least h.order (joined h s u) d u wu (walk_joined h s is u u wu (joined_self h s u)) (λ w ww j.
       let p = and_parts (not (s u)) (not (some h.order (λ v. joined h s u v && nat_lt v u))) l in
       elim (cases_lt w u) [
-        | inl q ↦ absurd (both_ways (joined h s u w && nat_lt w u) (some_none h.order (λ v. joined h s u v && nat_lt v u) (not-true (some h.order (λ v. joined h s u v && nat_lt v u)) p.1) w ww) (both j (lt-ltb w u q)))
+        | inl q ↦ absurd (both_ways (joined h s u w && nat_lt w u) (some_none h.order (λ v. joined h s u v && nat_lt v u) (not-true (some h.order (λ v. joined h s u v && nat_lt v u)) p.1) w ww) (grind arith))
         | inr q ↦ q
       ])
-    where
-      both : {a b : Bool} → a ≡ true → b ≡ true → (a && b) ≡ true
-      both p q = grind arith
 
   -- what the leader is, for a list of least vertices
   lead : (us : List ℕ) → All (λ u. Within h.order u × (is_least h s u ≡ true)) us → (v : ℕ) → Within h.order v →
@@ -43,19 +40,11 @@ module _ (h : Graph) (s : Set) (is : IsGraph h) where
       let own = All-head (λ u. Within h.order u × (is_least h s u ≡ true)) u us a in
       let rest = leader (map (λ u. rising_list h.order (joined h s u)) us) v in
       elim (cases_Bool (joined h s u v)) [
-        | inl t ↦
-            let q : leader (map (λ u. rising_list h.order (joined h s u)) (u ∷ us)) v ≡ u = ap (λ b. cond b (head_or (list_from u) v) rest) (mem-rising_list h.order (joined h s u) v wv ∙ t) ∙ list-head u v own.0 own.1 in
-            inr (subst (Within h.order) (sym q) own.0, ap (is_least h s) q ∙ own.1, ap (λ w. joined h s w v) q ∙ t)
+        | inl t ↦ grind (arith, mem-rising_list h.order, list-head)
         | inr f ↦
             let q : leader (map (λ u. rising_list h.order (joined h s u)) (u ∷ us)) v ≡ rest = ap (λ b. cond b (head_or (list_from u) v) rest) (mem-rising_list h.order (joined h s u) v wv ∙ f) in
             elim (lead us (All-tail (λ u. Within h.order u × (is_least h s u ≡ true)) u us a) v wv) [
-              | inl k ↦ inl (
-                q ∙ k.0,
-                λ w m. elim (or_cases (u == w) (mem us w) m) [
-                  | inl e ↦ ap (λ w. joined h s w v) (sym (eqb-true u w e)) ∙ f
-                  | inr e ↦ k.1 w e
-                ],
-              )
+              | inl k ↦ grind arith
               | inr k ↦ inr (subst (Within h.order) (sym q) k.0, ap (is_least h s) q ∙ k.1, ap (λ w. joined h s w v) q ∙ k.2)
             ]
       ]
@@ -70,19 +59,12 @@ module _ (h : Graph) (s : Set) (is : IsGraph h) where
   -- outside s the leader is the least vertex of the component
   pub leader-least : (v : ℕ) → Within h.order v → s v ≡ false → Within h.order (leader (components h s) v) × (is_least h s (leader (components h s) v) ≡ true) × (joined h s (leader (components h s) v) v ≡ true)
   unfolding components
-  leader-least v wv sv = elim (lead (rising_list h.order (is_least h s)) (all_least h.order (omega arith)) v wv) [
-    | inl k ↦ let u = leader_of h s is v wv sv in absurd (both_ways (joined h s u.0 v) (k.1 u.0 (rising_holds h.order (is_least h s) u.0 u.1 u.2)) u.3)
-    | inr k ↦ k
-  ]
+  leader-least v wv sv = grind (arith, lead (rising_list h.order (is_least h s)), all_least h.order, leader_of h s is v wv sv, both_ways, rising_holds h.order (is_least h s))
 
   -- a vertex of s stands for itself
   pub leader-own : (v : ℕ) → Within h.order v → s v ≡ true → leader (components h s) v ≡ v
   unfolding components
-  leader-own v wv sv = elim (lead (rising_list h.order (is_least h s)) (all_least h.order (omega arith)) v wv) [
-    | inl k ↦ k.0
-    | inr k ↦ let l = leader (map (λ u. rising_list h.order (joined h s u)) (rising_list h.order (is_least h s))) v in
-        absurd (both_ways (s v) (joined_outside h s is l v (leads_out h s l k.1) k.2) sv)
-  ]
+  leader-own v wv sv = grind (arith, lead (rising_list h.order (is_least h s)), all_least h.order, both_ways (s v), joined_outside h s is, leads_out h s)
 
   -- a least vertex leads itself
   pub leader-fixed : (v : ℕ) → Within h.order v → is_least h s v ≡ true → leader (components h s) v ≡ v
@@ -90,14 +72,8 @@ module _ (h : Graph) (s : Set) (is : IsGraph h) where
 
   -- joined vertices have one leader
   pub leader-joined : (u v : ℕ) → Within h.order u → Within h.order v → s u ≡ false → joined h s u v ≡ true → leader (components h s) u ≡ leader (components h s) v
-  leader-joined u v wu wv su j =
-      let k = leader-least u wu su in
-      let l = leader-least v wv (joined_outside h s is u v su j) in
-      leader_same h s is (leader (components h s) u) v (leader (components h s) v) k.0 wv l.0 k.1 (part_same h s is (leader (components h s) u) u k.0 wu k.2 v ∙ j) l.1 l.2
+  leader-joined u v wu wv su j = grind (arith, leader-least, joined_outside, leader_same, part_same)
 
   -- vertices with one leader are joined
   pub leader-joins : (u v : ℕ) → Within h.order u → Within h.order v → s u ≡ false → s v ≡ false → leader (components h s) u ≡ leader (components h s) v → joined h s u v ≡ true
-  leader-joins u v wu wv su sv e =
-      let k = leader-least u wu su in
-      let l = leader-least v wv sv in
-      sym (part_same h s is (leader (components h s) u) u k.0 wu k.2 v) ∙ ap (λ w. joined h s w v) e ∙ l.2
+  leader-joins u v wu wv su sv e = grind (arith, leader-least u wu su, leader-least v wv sv, part_same h s is (leader (components h s) u) u)

@@ -1,16 +1,13 @@
 -- The length of a pair list that grows.
 -- Idea: each member is the first to hold some pair of edges, and no pair has two first members.
-use Rattle.std.proofs.Common.{◌≡◌, ℕ, suc, zero, ◌-◌, ◌≤◌, Bool, true, false, refl, sym, ap, ◌∙◌, arith, ◌&&◌, not, inl, inr, List, [], length, nat_le, leb-true, All}
+use Rattle.std.proofs.Common.{◌≡◌, ℕ, suc, zero, ◌-◌, ◌≤◌, Bool, true, false, refl, sym, ap, ◌∙◌, arith, ◌&&◌, not, inl, inr, List, [], length, nat_le, leb-true, All, rules}
 use Rattle.counting.proofs.Common.{cases_lt, cases_Bool, and_parts, and_from, true≢false, both_ways, false_from_ne_true, le-leb, count_le, count_le_one, some_true, true_some, total_le, total_none, total_swap, at_le_total, total_ones, bit, total, count, Within, mem, item, IsRisingIn, some}
 use Rattle.graph_core.proofs.Common.{IsLean}
 use Rattle.match_search.proofs.Gluing.{mem-holds}
 
 low_count : (m f : ℕ) → count m (λ e. nat_le e f) ≤ f
 low_count zero f = omega arith
-low_count (suc m) f = elim (cases_Bool (nat_le (suc m) f)) [
-  | inl t ↦ let a = ap bit t in let b = leb-true (suc m) f t in let c = count_le m (λ e. nat_le e f) in omega arith
-  | inr t ↦ let a = ap bit t in let b = low_count m f in omega arith
-]
+low_count (suc m) f = grind (arith, cases_Bool (nat_le (suc m) f), nat_le (suc m) f, leb-true (suc m) f, count_le m, nat_le, low_count m f)
 
 module _ (ms : List (List ℕ)) (m : ℕ) where
   abbrev both : ℕ → ℕ → ℕ → Bool

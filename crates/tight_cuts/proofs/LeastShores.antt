@@ -1,6 +1,6 @@
 -- The intersection of all tight sets that separate two pairs is one of them.
 -- Idea: the meet of two of them is odd by one matching with the edge, so a least one lies in each.
-use Rattle.std.proofs.Common.{◌≡◌, ℕ, suc, zero, ◌≤◌, ◌≢◌, Bool, true, false, refl, sym, ap, ap₂, ◌∙◌, arith, ◌&&◌, ◌||◌, not, inl, inr, nat_lt, lt-ltb, ltb-true}
+use Rattle.std.proofs.Common.{◌≡◌, ℕ, suc, zero, ◌≤◌, ◌≢◌, Bool, true, false, refl, sym, ap, ap₂, ◌∙◌, arith, ◌&&◌, ◌||◌, not, inl, inr, nat_lt, lt-ltb, ltb-true, rules}
 use Rattle.counting.proofs.Common.{same_tests, cases_lt, and_parts, and_from, or_parts, or_from, true≢false, both_ways, not-true, Respects, choose_set, some_set_found, each_passes, none_fails, set_found, count_congr, two_members, odd_three, total_tight, bit, count, Within, Set, meet, complement, pair_set, some_set}
 use Rattle.graph_core.proofs.Common.{is_tight_says, is_tight_found, tight-same, meet_tight, IsCovered, Graph, size, first_end, second_end, IsGraph, has_ends, Allowed, IsNontrivial, is_tight}
 use Rattle.tight_cuts.proofs.PairsOfEdges.{odd_sides, others_stay, cut_between}
@@ -8,28 +8,14 @@ use Rattle.tight_cuts.specs.Common.{separates_tightly, is_separated, common_shor
 
 -- the test and the record
 pub parts_says : (g : Graph) (a b : ℕ) (k : ℕ × ℕ) (z : Set) → separates_tightly g a b k z ≡ true → SeparatesTightly g a b k z
-parts_says g a b k z h =
-    let p = and_parts (is_tight g z && (z a && z k.0)) (not (z b || z k.1)) h in
-    let q = and_parts (is_tight g z) (z a && z k.0) p.0 in
-    let r = and_parts (z a) (z k.0) q.1 in
-    let s = or_parts (z b) (z k.1) (not-true (z b || z k.1) p.1) in
-    record { tight = is_tight_says g z q.0; has_a = r.0; has_x = r.1; lacks_b = s.0; lacks_y = s.1 }
+parts_says g a b k z h = grind (arith, and_parts, or_parts, not-true, is_tight_says)
 
 pub parts_found : (g : Graph) (a b : ℕ) (k : ℕ × ℕ) (z : Set) → SeparatesTightly g a b k z → separates_tightly g a b k z ≡ true
-parts_found g a b k z p =
-    and_from (is_tight g z && (z a && z k.0)) (not (z b || z k.1))
-    (and_from (is_tight g z) (z a && z k.0) (is_tight_found g z p.tight) (and_from (z a) (z k.0) p.has_a p.has_x))
-    (ap not (or_from (z b) (z k.1) p.lacks_b p.lacks_y))
+parts_found g a b k z p = grind (arith, and_from, is_tight_found, or_from)
 
 module _ (g : Graph) (is : IsGraph g) (a b : ℕ) (k : ℕ × ℕ) (wa : Within g.order a) (wb : Within g.order b) (wx : Within g.order k.0) (wy : Within g.order k.1) where
   pub parts_congr : (z w : Set) → ((v : ℕ) → Within g.order v → z v ≡ w v) → SeparatesTightly g a b k z → SeparatesTightly g a b k w
-  parts_congr z w h p = record {
-    tight = tight-same g z w is h p.tight;
-    has_a = sym (h a wa) ∙ p.has_a;
-    has_x = sym (h k.0 wx) ∙ p.has_x;
-    lacks_b = sym (h b wb) ∙ p.lacks_b;
-    lacks_y = sym (h k.1 wy) ∙ p.lacks_y;
-  }
+  parts_congr z w h p = grind (arith, tight-same g z w is h p.tight)
 
   pub parts_same : (z w : Set) → ((v : ℕ) → Within g.order v → z v ≡ w v) → separates_tightly g a b k z ≡ separates_tightly g a b k w
   parts_same z w h = same_tests (separates_tightly g a b k z) (separates_tightly g a b k w)
@@ -47,14 +33,7 @@ module _ (g : Graph) (is : IsGraph g) (a b : ℕ) (k : ℕ × ℕ) (wa : Within 
         | inl f ↦ let q = and_parts (separates_tightly g a b k f.0) (nat_lt (count g.order f.0) (count g.order z)) f.1 in
             let s = ltb-true (count g.order f.0) (count g.order z) q.1 in
             least_parts d f.0 (parts_says g a b k f.0 q.0) (omega arith)
-        | inr f ↦ (
-          z,
-          p,
-          λ v q. elim (cases_lt (count g.order v) (count g.order z)) [
-            | inl s ↦ absurd (both_ways (separates_tightly g a b k v && nat_lt (count g.order v) (count g.order z)) (f v) (and_from (separates_tightly g a b k v) (nat_lt (count g.order v) (count g.order z)) (parts_found g a b k v q) (lt-ltb (count g.order v) (count g.order z) s)))
-            | inr s ↦ s
-          ],
-        )
+        | inr f ↦ grind (arith, cases_lt, both_ways, nat_lt, and_from, parts_found g a b k, lt-ltb)
       ]
 
   -- v is in the common shore if it is in each
@@ -68,8 +47,7 @@ module _ (g : Graph) (is : IsGraph g) (a b : ℕ) (k : ℕ × ℕ) (wa : Within 
   common_from v h = none_fails g.order (λ z. not (separates_tightly g a b k z) || z v) (λ z. implies (separates_tightly g a b k z) (z v) (λ t. h z (parts_says g a b k z t)))
     where
       implies : (c d : Bool) → (c ≡ true → d ≡ true) → (not c || d) ≡ true
-      implies true d h = h refl
-      implies false d h = refl
+      implies c d h = grind arith
 
   module _ (cov : IsCovered g) (e : ℕ) (we : Within (size g) e) (ends : has_ends g a b e ≡ true) (al : Allowed g e) where
     -- the meet of two
@@ -97,17 +75,10 @@ module _ (g : Graph) (is : IsGraph g) (a b : ℕ) (k : ℕ × ℕ) (wa : Within 
 
     -- a least one lies in each
     pub least_in : (w : Set) → SeparatesTightly g a b k w → ((v : Set) → SeparatesTightly g a b k v → count g.order w ≤ count g.order v) → (z : Set) → SeparatesTightly g a b k z → (v : ℕ) → Within g.order v → w v ≡ true → z v ≡ true
-    least_in w p least z q v u h = second (w v) (z v) h (total_tight g.order (λ v. bit (w v)) (λ v. bit (meet w z v)) (λ v u. le (w v) (z v)) (least (meet w z) (meet_parts w z p q)) v u)
+    least_in w p least z q v u h = second (w v) (z v) h (total_tight g.order (λ v. bit (w v)) (λ v. bit (meet w z v)) (λ v u. grind arith) (least (meet w z) (meet_parts w z p q)) v u)
       where
-        le : (c d : Bool) → bit (c && d) ≤ bit c
-        le true true = omega arith
-        le true false = omega arith
-        le false d = omega arith
-
         second : (c d : Bool) → c ≡ true → bit c ≡ bit (c && d) → d ≡ true
-        second true true h e = refl
-        second true false h e = absurd (omega arith)
-        second false d h e = absurd (true≢false (sym h))
+        second c d h e = grind arith
 
     -- so the common shore is a least one
     pub common_least : (z : Set) → SeparatesTightly g a b k z → (w : Set) × SeparatesTightly g a b k w × ((v : ℕ) → Within g.order v → common_shore g a b k v ≡ w v)
@@ -128,11 +99,7 @@ parts_nontrivial g a b k z wa wb wx wy dx dy p = record {
 
 -- a pair that is separated, and a set that separates it
 pub separated_says : (g : Graph) (a b : ℕ) (k : ℕ × ℕ) → is_separated g a b k ≡ true → (pair_set a b k.0 ≡ false) × (pair_set a b k.1 ≡ false) × ((z : Set) × SeparatesTightly g a b k z)
-separated_says g a b k h =
-    let p = and_parts (not (pair_set a b k.0 || pair_set a b k.1)) (some_set g.order (separates_tightly g a b k)) h in
-    let q = or_parts (pair_set a b k.0) (pair_set a b k.1) (not-true (pair_set a b k.0 || pair_set a b k.1) p.0) in
-    let s = some_set_found g.order (separates_tightly g a b k) p.1 in
-    (q.0, q.1, (s.0, parts_says g a b k s.0 s.1))
+separated_says g a b k h = grind (arith, and_parts, or_parts, not-true, some_set_found, parts_says)
 
 pub separated_found : (g : Graph) (a b : ℕ) (k : ℕ × ℕ) (z : Set) → IsGraph g → Within g.order a → Within g.order b → Within g.order k.0 → Within g.order k.1 → pair_set a b k.0 ≡ false → pair_set a b k.1 ≡ false → SeparatesTightly g a b k z → is_separated g a b k ≡ true
 separated_found g a b k z is wa wb wx wy ox oy p =

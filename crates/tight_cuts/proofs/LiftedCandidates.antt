@@ -1,7 +1,7 @@
 -- The candidates of a quotient as candidates of the graph. A union of blocks holds a vertex exactly
 -- when its set of places holds the vertex's place, so blocks in it are those of the set, and it is
 -- tight at the partition if the set is tight in the quotient.
-use Rattle.std.proofs.Common.{◌≡◌, ℕ, ◌≤◌, Bool, true, false, not, ◌&&◌, List, [], ◌∷◌, map, length, refl, sym, ap, ◌∙◌, arith, subst, ◌↔◌, All, get_or, zero, suc, ◌<◌, inl, inr, eq-eqb, ne_eqb, ◌≢◌, if◌then◌else◌}
+use Rattle.std.proofs.Common.{◌≡◌, ℕ, ◌≤◌, Bool, true, false, not, ◌&&◌, List, [], ◌∷◌, map, length, refl, sym, ap, ◌∙◌, arith, subst, ◌↔◌, All, get_or, zero, suc, ◌<◌, inl, inr, eq-eqb, ne_eqb, ◌≢◌, if◌then◌else◌, rules}
 use Rattle.counting.proofs.Common.{and_parts, and_from, both_ways, cases_Bool, count_congr, count_le, mem-rising_list, rising_list-rises, some_true, true_some, Within, count, mem, Set, complement, some}
 use Rattle.contraction.proofs.QuotientLaws.{covered_down, tight_at_down, tight_at_up}
 use Rattle.graph_core.proofs.Common.{place_in, place_is, at_rep, rep, rep_in, rep_place, quotient_graph, tight-same, nontrivial-same, blocks-singles, contracted-singles, singles-tight, tight-singles, length-singles, singles-partition, IsCovered, Graph, IsGraph, AreBlocks, IsPartition, block, place, singles, quotient, union_of_blocks, IsTightAt, IsUnion, blocks_in, IsNontrivial, IsTight}
@@ -35,21 +35,14 @@ module _ (g : Graph) (p : List (List ℕ)) (is : IsGraph g) (pp : IsPartition g.
     where
       held : (b : Bool) → x (place p v) ≡ b → some (length p) (λ i. x i && mem (block p i) v) ≡ x (place p v)
       held true h = let r = place_in g.order p blocks v w in true_some (length p) (λ i. x i && mem (block p i) v) (place p v) r.0 (and_from (x (place p v)) (mem (block p (place p v)) v) h r.1) ∙ sym h
-      held false h = elim (cases_Bool (some (length p) (λ i. x i && mem (block p i) v))) [
-        | inr z ↦ z ∙ sym h
-        | inl z ↦ let r = some_true (length p) (λ i. x i && mem (block p i) v) z in let a = and_parts (x r.0) (mem (block p r.0) v) r.2 in
-            absurd (both_ways (x (place p v)) h (ap x (sym (place_is g.order p blocks v r.0 w r.1 a.1)) ∙ a.0))
-      ]
+      held false h = grind (arith, cases_Bool, some_true (length p), and_parts, both_ways (x (place p v)) h, place_is g.order p blocks v)
 
   union-union : (x : Set) → IsUnion g.order p (mem (union_of_blocks g p x))
   union-union x u v wu wv e = union-holds x u wu ∙ ap x e ∙ sym (union-holds x v wv)
 
   -- its blocks are those of x
   union-blocks : (x : Set) (i : ℕ) → Within (length p) i → x i ≡ blocks_in p (mem (union_of_blocks g p x)) i
-  union-blocks x i w =
-      sym (at_rep g.order p blocks (mem (union_of_blocks g p x)) (union-union x) i w
-      ∙ union-holds x (rep p i) (rep_in g.order p blocks i w).0
-      ∙ ap x (rep_place g.order p blocks i w))
+  union-blocks x i w = grind (arith, at_rep, union-union, union-holds, rep, rep_in, rep_place)
 
   union-tight : (x : Set) → IsTight (quotient g p) x → IsTightAt g p (mem (union_of_blocks g p x))
   union-tight x t = tight_at_down g p is blocks (mem (union_of_blocks g p x)) (union-union x)
@@ -69,12 +62,7 @@ module _ (g : Graph) (p : List (List ℕ)) (is : IsGraph g) (pp : IsPartition g.
   }
     where
       positive : 1 ≤ g.order
-      positive =
-          let many = t.nontrivial.inside in
-          let few = count_le (quotient g p).order (mem c.shore) in
-          let q = order_q in
-          let f = blocks.full 1 (omega arith, omega arith) in
-          let a = f.1.0 in let b = f.1.1 in omega arith
+      positive = grind (arith, count_le, order_q)
 
   pub quotient-found : (list : List Candidate) → All (IsTightCandidate (quotient g p)) list → All (IsCandidateAt g p) (map (lifted_candidate g p) list)
   quotient-found = all-lifted g p (IsTightCandidate (quotient g p)) one-lifted

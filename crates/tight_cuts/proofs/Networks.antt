@@ -1,6 +1,6 @@
 -- The contracted network.
 -- Idea: the value of a set of nodes is the sum over the listed matchings of the cut of its vertices.
-use Rattle.std.proofs.Common.{◌≡◌, ℕ, suc, zero, ◌+◌, ◌*◌, ◌≤◌, Bool, true, false, cond, ◌==◌, refl, sym, ap, ap₂, ◌∙◌, arith, ◌&&◌, ◌||◌, not, inl, inr, eq-eqb, ne_eqb, eqb-true, List, [], ◌∷◌, length, sum_by, All}
+use Rattle.std.proofs.Common.{◌≡◌, ℕ, suc, zero, ◌+◌, ◌*◌, ◌≤◌, Bool, true, false, cond, ◌==◌, refl, sym, ap, ap₂, ◌∙◌, arith, ◌&&◌, ◌||◌, not, inl, inr, eq-eqb, ne_eqb, eqb-true, List, [], ◌∷◌, length, sum_by, All, rules}
 use Rattle.counting.proofs.Common.{same_tests, cases_eq, and_parts, and_from, or_cases, or_left, or_right, true≢false, sum_by-cons, some_true, true_some, total_congr, total_add, total_none, bit, total, count, Within, is_odd, mem, none, Set, complement, pair_set, some}
 use Rattle.std.proofs.lemmas.List.Sums.{sum_by-append}
 use Rattle.flow_core.specs.Common.{leaves_set, value_of, Separates, IsLeastCut}
@@ -21,33 +21,21 @@ weights_cut g (m ∷ ms) x =
     ∙ sym (sum_by-cons (λ m. count (size g) (λ e. mem m e && in_cut g x e)) m ms)
   where
     split : (s t : Bool) (p q : ℕ) → p ≡ bit s + q → p * bit t ≡ bit (s && t) + q * bit t
-    split true true p q h = omega arith
-    split true false p q h = omega arith
-    split false true p q h = omega arith
-    split false false p q h = omega arith
+    split s t p q h = grind arith
 
 -- the value of a set of nodes, arc by arc
 arcs_value : (g : Graph) (ms : List (List ℕ)) (group : ℕ → ℕ) (u : Set) (e : ℕ) → sum_by (λ c. cond (leaves_set u c) c.capacity 0) (arcs_of g ms group e) ≡ total e (λ i. weight ms i * bit (in_cut g (λ v. u (group v)) i))
 arcs_value g ms group u zero = refl
-arcs_value g ms group u (suc e) =
-    sum_by-append (λ c. cond (leaves_set u c) c.capacity 0) (arcs_of g ms group e) (cond (group (first_end g (suc e)) == group (second_end g (suc e))) [] (record { a = group (first_end g (suc e)); b = group (second_end g (suc e)); capacity = weight ms (suc e) } ∷ []))
-    ∙ ap₂ ◌+◌ (arcs_value g ms group u e) (last (group (first_end g (suc e))) (group (second_end g (suc e))) (weight ms (suc e)))
+arcs_value g ms group u (suc e) = grind (arith, sum_by-append, arcs_value g ms group u e)
   where
     none_left : (s t : Bool) (w : ℕ) → s ≡ t → 0 ≡ w * bit ((s && not t) || (not s && t))
-    none_left true true w h = omega arith
-    none_left false false w h = omega arith
-    none_left true false w h = absurd (true≢false h)
-    none_left false true w h = absurd (true≢false (sym h))
+    none_left s t w h = grind arith
 
     one_left : (s : Bool) (w : ℕ) → 0 + cond s w 0 ≡ w * bit s
-    one_left true w = omega arith
-    one_left false w = omega arith
+    one_left s w = grind arith
 
     last : (p q w : ℕ) → sum_by (λ c. cond (leaves_set u c) c.capacity 0) (cond (p == q) [] (record { a = p; b = q; capacity = w } ∷ [])) ≡ w * bit ((u p && not (u q)) || (not (u p) && u q))
-    last p q w = elim (cases_eq p q) [
-      | inl d ↦ ap (λ t. sum_by (λ c. cond (leaves_set u c) c.capacity 0) (cond t [] (record { a = p; b = q; capacity = w } ∷ []))) (eq-eqb p q d) ∙ none_left (u p) (u q) w (ap u d)
-      | inr d ↦ ap (λ t. sum_by (λ c. cond (leaves_set u c) c.capacity 0) (cond t [] (record { a = p; b = q; capacity = w } ∷ []))) (ne_eqb p q d) ∙ one_left ((u p && not (u q)) || (not (u p) && u q)) w
-    ]
+    last p q w = grind arith
 
 pub value_cut : (g : Graph) (ms : List (List ℕ)) (group : ℕ → ℕ) (r : ℕ) (u : Set) → value_of (contracted_net g ms group r) u ≡ cut_sum g ms (λ v. u (group v))
 value_cut g ms group r u = arcs_value g ms group u (size g) ∙ weights_cut g ms (λ v. u (group v))
@@ -80,38 +68,20 @@ module _ (g h : Graph) (is : IsGraph g) (a b e : ℕ) (wa : Within g.order a) (w
 
   -- if they are tight they separate the pairs
   tight_parts : (u : Set) → Separates a b u → IsTight g (back u) → SeparatesTightly g a b k (back u)
-  tight_parts u s t = record {
-    tight = t;
-    has_a = ap u at_a ∙ s.holds;
-    has_x = ap u (groups.source k.0 wx (or_right (a == k.0) (joined h (pair_set a b) k.0 k.0) (own_piece k.0 wx))) ∙ s.holds;
-    lacks_b = ap u at_b ∙ s.lacks;
-    lacks_y = ap u (groups.sink k.1 wy (or_right (b == k.1) (joined h (pair_set a b) k.1 k.1) (own_piece k.1 wy))) ∙ s.lacks;
-  }
+  tight_parts u s t = grind (arith, or_right, own_piece)
 
   piece_of : (x : Set) → SeparatesTightly g a b k x → (u v : ℕ) → joined h (pair_set a b) u v ≡ true → x u ≡ x v
   piece_of x p u v j = tight_piece g h is a b e wa wb we ends beside x p.tight (cut_between g x a b e ends p.has_a p.lacks_b) u v j
 
   source_all : (x : Set) → SeparatesTightly g a b k x → (v : ℕ) → with_piece h a b a k.0 v ≡ true → x v ≡ true
-  source_all x p v t = elim (or_cases (a == v) (joined h (pair_set a b) k.0 v) t) [
-    | inl q ↦ ap x (sym (eqb-true a v q)) ∙ p.has_a
-    | inr q ↦ sym (piece_of x p k.0 v q) ∙ p.has_x
-  ]
+  source_all x p v t = grind (arith, or_cases (a == v) (joined h (pair_set a b) k.0 v) t, eqb-true a v, piece_of x p k.0 v)
 
   sink_none : (x : Set) → SeparatesTightly g a b k x → (v : ℕ) → with_piece h a b b k.1 v ≡ true → x v ≡ false
-  sink_none x p v t = elim (or_cases (b == v) (joined h (pair_set a b) k.1 v) t) [
-    | inl q ↦ ap x (sym (eqb-true b v q)) ∙ p.lacks_b
-    | inr q ↦ sym (piece_of x p k.1 v q) ∙ p.lacks_y
-  ]
+  sink_none x p v t = grind (arith, or_cases (b == v) (joined h (pair_set a b) k.1 v) t, eqb-true b v, piece_of x p k.1 v)
 
   -- a set that separates the pairs is a union of groups
   pub parts_group : (x : Set) → SeparatesTightly g a b k x → (u v : ℕ) → Within g.order u → Within g.order v → group u ≡ group v → x u ≡ x v
-  parts_group x p u v wu wv q = elim (groups.apart u v wu wv q) [
-    | inl j ↦ piece_of x p u v j
-    | inr s ↦ elim s [
-      | inl t ↦ source_all x p u t.0 ∙ sym (source_all x p v t.1)
-      | inr t ↦ sink_none x p u t.0 ∙ sym (sink_none x p v t.1)
-    ]
-  ]
+  parts_group x p u v wu wv q = grind (arith, piece_of x p u v, source_all x p u, source_all x p v, sink_none x p u, sink_none x p v)
 
   abbrev nodes_of : Set → Set
   nodes_of x w = some g.order (λ v. (group v == w) && x v)
@@ -147,6 +117,4 @@ module _ (g h : Graph) (is : IsGraph g) (a b e : ℕ) (wa : Within g.order a) (w
     least_back t = tight_parts (mem set) cut.separates t
 
     pub least_common : value ≤ length ms → IsTight g (back (mem set)) → (v : ℕ) → Within g.order v → mem set (group v) ≡ common_shore g a b k v
-    least_common l tight v w = same_tests (mem set (group v)) (common_shore g a b k v)
-        (λ t. common_from g is a b k wa wb wx wy v (λ z p. least_inside l z p v w t))
-        (λ t. common_in g is a b k wa wb wx wy v w t (back (mem set)) (least_back tight))
+    least_common l tight v w = grind (arith, same_tests, common_from, least_inside, common_in, least_back)

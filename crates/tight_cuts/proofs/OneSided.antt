@@ -1,6 +1,6 @@
 -- Vertices that edges lying together with e join are on one side of each tight set with e in its
 -- cut. If they are all vertices but the ends of e, no pair is separated at e.
-use Rattle.std.proofs.Common.{◌≡◌, ◌≢◌, ℕ, Bool, true, false, ◌||◌, ◌&&◌, ◌⊎◌, not, ◌==◌, sym, ap, ◌∙◌, List, [], ◌∷◌, None, inl, inr, eq-eqb, ne_eqb, eqb-true, refl}
+use Rattle.std.proofs.Common.{◌≡◌, ◌≢◌, ℕ, Bool, true, false, ◌||◌, ◌&&◌, ◌⊎◌, not, ◌==◌, sym, ap, ◌∙◌, List, [], ◌∷◌, None, inl, inr, eq-eqb, ne_eqb, eqb-true, refl, arith, rules}
 use Rattle.counting.proofs.Common.{and_from, both_ways, false_from_ne_true, or_cases, or_left, or_right, or_false, Within, mem, Set, pair_set}
 use Rattle.graph_core.proofs.Common.{Graph, first_end, in_cut, second_end, size, Together, IsTight, has_ends-cases}
 use Rattle.tight_cuts.proofs.EdgeLoop.{ends_between}
@@ -11,17 +11,11 @@ use Rattle.tight_cuts.specs.Common.{first_separated, greater_end, is_separated, 
 
 -- one vertex alone
 pub alone : (g : Graph) (e v : ℕ) (x : List ℕ) → x ≡ v ∷ [] → IsOneSided g e (mem x)
-alone g e v x is z tight cut u w hu hw = ap z (sym (only u hu) ∙ only w hw)
-  where
-    only : (u : ℕ) → mem x u ≡ true → v ≡ u
-    only u h = eqb-true v u (sym (ap (λ xs. mem xs u) is ∙ or_false (v == u)) ∙ h)
+alone g e v x is z tight cut u w hu hw = grind arith
 
 -- an edge that is not in the cut has its ends on one side
 level : (s t : Bool) → ((s && not t) || (not s && t)) ≡ false → s ≡ t
-level true true h = refl
-level false false h = refl
-level true false h = h
-level false true h = sym h
+level s t h = grind arith
 
 -- a set that holds one end of an edge f that lies together with e may take both
 module _ (g : Graph) (e f : ℕ) (we : Within (size g) e) (wf : Within (size g) f) (d : f ≢ e) (t : Together g e f) (x : Set) (one : IsOneSided g e x) (cut : in_cut g x f ≡ true) where
@@ -30,31 +24,11 @@ module _ (g : Graph) (e f : ℕ) (we : Within (size g) e) (wf : Within (size g) 
 
   -- the end that the set holds
   held_end : (x (first_end g f) ≡ true) ⊎ (x (second_end g f) ≡ true)
-  held_end = some (x (first_end g f)) (x (second_end g f)) cut
-    where
-      some : (s t : Bool) → ((s && not t) || (not s && t)) ≡ true → (s ≡ true) ⊎ (t ≡ true)
-      some true t h = inl refl
-      some false true h = inr refl
-      some false false h = absurd (both_ways false refl h)
+  held_end = grind arith
 
   -- each vertex of the wider set is on the side of the first end
   pub both_ends : (y : Set) → ((v : ℕ) → y v ≡ ((x v || (first_end g f == v)) || (second_end g f == v))) → IsOneSided g e y
-  both_ends y is z tight c u v hu hv = beside u hu ∙ sym (beside v hv)
-    where
-      of_set : (v : ℕ) → x v ≡ true → z v ≡ z (first_end g f)
-      of_set v h = elim held_end [
-        | inl p ↦ one z tight c v (first_end g f) h p
-        | inr p ↦ one z tight c v (second_end g f) h p ∙ sym (ends_level z tight c)
-      ]
-
-      beside : (v : ℕ) → y v ≡ true → z v ≡ z (first_end g f)
-      beside v h = elim (or_cases (x v || (first_end g f == v)) (second_end g f == v) (sym (is v) ∙ h)) [
-        | inr q ↦ ap z (sym (eqb-true (second_end g f) v q)) ∙ sym (ends_level z tight c)
-        | inl q ↦ elim (or_cases (x v) (first_end g f == v) q) [
-          | inl p ↦ of_set v p
-          | inr p ↦ ap z (sym (eqb-true (first_end g f) v p))
-        ]
-      ]
+  both_ends y is z tight c u v hu hv = grind (arith, held_end, ends_level, or_cases, eqb-true)
 
 -- a set that holds all vertices but the ends of e
 pub none_parted : (g : Graph) (e : ℕ) (x : Set) → IsOneSided g e x → ((v : ℕ) → Within g.order v → first_end g e ≢ v → second_end g e ≢ v → x v ≡ true) → first_separated g e ≡ None
@@ -65,14 +39,10 @@ none_parted g e x one all = no_first g.order (is_separated g (lesser_end g e) (g
     both_ways (p.2.0 v) q.lacks_y (sym (one p.2.0 q.tight c u v (inside u wu p.0) (inside v wv p.1)) ∙ q.has_x)))
   where
     apart : (a b v w : ℕ) → pair_set a b v ≡ false → (w ≡ a) ⊎ (w ≡ b) → w ≢ v
-    apart a b v w h (inl q) r = both_ways (pair_set a b v) h (or_left (a == v) (b == v) (eq-eqb a v (sym q ∙ r)))
-    apart a b v w h (inr q) r = both_ways (pair_set a b v) h (or_right (a == v) (b == v) (eq-eqb b v (sym q ∙ r)))
+    apart a b v w h k r = grind arith
 
     inside : (v : ℕ) → Within g.order v → pair_set (lesser_end g e) (greater_end g e) v ≡ false → x v ≡ true
-    inside v w h = elim (has_ends-cases g (lesser_end g e) (greater_end g e) e (ends_between g e)) [
-      | inl k ↦ all v w (apart (lesser_end g e) (greater_end g e) v (first_end g e) h (inl k.0)) (apart (lesser_end g e) (greater_end g e) v (second_end g e) h (inr k.1))
-      | inr k ↦ all v w (apart (lesser_end g e) (greater_end g e) v (first_end g e) h (inr k.0)) (apart (lesser_end g e) (greater_end g e) v (second_end g e) h (inl k.1))
-    ]
+    inside v w h = grind arith
 
 -- a vertex that is neither of two, in what is left without them
 pub other_vertex : (full rest others : Set) (a b : ℕ) → ((v : ℕ) → rest v ≡ (full v && not (a == v))) → ((v : ℕ) → others v ≡ (rest v && not (b == v))) → (v : ℕ) → full v ≡ true → a ≢ v → b ≢ v → others v ≡ true

@@ -1,7 +1,7 @@
 -- A test of tightness: no two edges of the cut lie together. And how often the matchings of a list
 -- meet a cut. Idea: an odd set is met by each perfect matching, so one with an odd cut that is not
 -- tight is met twice by some.
-use Rattle.std.proofs.Common.{◌≡◌, ℕ, suc, ◌+◌, ◌≤◌, ◌≢◌, Bool, true, false, refl, sym, ap, ◌∙◌, arith, ◌&&◌, ◌||◌, not, inl, inr, List, [], ◌∷◌, length, sum_by, get_or, All}
+use Rattle.std.proofs.Common.{◌≡◌, ℕ, suc, ◌+◌, ◌≤◌, ◌≢◌, Bool, true, false, refl, sym, ap, ◌∙◌, arith, ◌&&◌, ◌||◌, not, inl, inr, List, [], ◌∷◌, length, sum_by, get_or, All, rules}
 use Rattle.counting.proofs.Common.{cases_lt, and_parts, and_from, true≢false, false_from_ne_true, All-head, All-tail, All-cons, All-nil, sum_by-cons, two_members, two_of, odd-double, complement_odd, total_at, bit, count, Within, is_odd, mem, Set, none, complement}
 use Rattle.barrier_kit.proofs.Common.{inner, even_order}
 use Rattle.graph_core.proofs.Common.{parity, odd_meets, has_ends-cases, Graph, size, first_end, second_end, IsGraph, in_cut, has_ends, edges_in_cut, IsPerfect, Allowed, Together, IsTight}
@@ -17,17 +17,7 @@ tight_alone g x t e f we wf d ce cf q = let a = two_in_cut g q.0 x e f we wf d q
 
 -- an odd cut that has none is tight
 pub alone_tight : (g : Graph) (x : Set) → IsGraph g → is_odd (count g.order x) ≡ true → is_odd (count g.order (complement x)) ≡ true → NoTwoTogether g x → IsTight g x
-alone_tight g x is o r h = record {
-  odd = o;
-  odd_complement = r;
-  cut = λ m p. let a = odd_meets g m x is p o in elim (cases_lt (edges_in_cut g m x) 2) [
-    | inl l ↦ omega arith
-    | inr l ↦ let q = two_of (size g) (λ e. m e && in_cut g x e) l in
-        let s = and_parts (m q.0) (in_cut g x q.0) q.5 in
-        let t = and_parts (m q.1) (in_cut g x q.1) q.6 in
-        absurd (h q.0 q.1 q.2 q.3 q.4 s.1 t.1 (m, p, s.0, t.0))
-  ];
-}
+alone_tight g x is o r h = grind (arith, odd_meets g, cases_lt, two_of (size g), and_parts)
 
 -- sums of numbers that are at least 1
 pub sum_bound : (ms : List (List ℕ)) (f : List ℕ → ℕ) → All (λ m. 1 ≤ f m) ms → length ms ≤ sum_by f ms
@@ -74,34 +64,18 @@ module _ (g : Graph) (ms : List (List ℕ)) (is : IsGraph g) (perfect : All (λ 
 
 -- one edge of m in the cut
 pub lone_cut : (g : Graph) (m x : Set) (e : ℕ) → Within (size g) e → m e ≡ true → in_cut g x e ≡ true → ((f : ℕ) → Within (size g) f → f ≢ e → m f ≡ true → in_cut g x f ≡ false) → edges_in_cut g m x ≡ 1
-lone_cut g m x e w me ce h = total_at (size g) (λ f. bit (m f && in_cut g x f)) e w (λ f u d. zero_bit (m f) (in_cut g x f) (h f u d)) ∙ ap bit (and_from (m e) (in_cut g x e) me ce)
-  where
-    zero_bit : (s t : Bool) → (s ≡ true → t ≡ false) → bit (s && t) ≡ 0
-    zero_bit true true f = absurd (true≢false (f refl))
-    zero_bit true false f = refl
-    zero_bit false t f = refl
+lone_cut g m x e w me ce h = total_at (size g) (λ f. bit (m f && in_cut g x f)) e w (λ f u d. grind arith) ∙ ap bit (and_from (m e) (in_cut g x e) me ce)
 
 pub odd_from_one : (g : Graph) (m x : Set) → IsGraph g → IsPerfect g none m → edges_in_cut g m x ≡ 1 → is_odd (count g.order x) ≡ true
 odd_from_one g m x is p h = let k = inner g m x in let q : count g.order x ≡ suc (k + k) = omega (arith, parity g is m x p) in ap is_odd q ∙ ap not (odd-double k)
 
 -- a set that has e in its cut, and no edge that lies together with e, is odd on both sides
 pub odd_sides : (g : Graph) (x : Set) (e : ℕ) → IsGraph g → Within (size g) e → Allowed g e → in_cut g x e ≡ true → ((f : ℕ) → Within (size g) f → f ≢ e → Together g e f → in_cut g x f ≡ false) → (is_odd (count g.order x) ≡ true) × (is_odd (count g.order (complement x)) ≡ true)
-odd_sides g x e is w a ce h =
-    let o = odd_from_one g a.0 x is a.1 (lone_cut g a.0 x e w a.2 ce (λ f u d mf. h f u d (a.0, a.1, a.2, mf))) in
-    (o, complement_odd g.order x (even_order g a.0 is a.1) o)
+odd_sides g x e is w a ce h = grind (arith, odd_from_one g a.0 x is a.1, lone_cut g a.0 x e w a.2 ce, complement_odd g.order x (even_order g a.0 is a.1), even_order g a.0 is a.1)
 
 -- an edge from a to b is in the cut of a set with a and without b
 pub cut_between : (g : Graph) (x : Set) (a b e : ℕ) → has_ends g a b e ≡ true → x a ≡ true → x b ≡ false → in_cut g x e ≡ true
-cut_between g x a b e h xa xb = elim (has_ends-cases g a b e h) [
-  | inl k ↦ one (x (first_end g e)) (x (second_end g e)) (ap x k.0 ∙ xa) (ap x k.1 ∙ xb)
-  | inr k ↦ other (x (first_end g e)) (x (second_end g e)) (ap x k.0 ∙ xb) (ap x k.1 ∙ xa)
-]
-  where
-    one : (s t : Bool) → s ≡ true → t ≡ false → ((s && not t) || (not s && t)) ≡ true
-    one s t p q = grind arith
-
-    other : (s t : Bool) → s ≡ false → t ≡ true → ((s && not t) || (not s && t)) ≡ true
-    other s t p q = grind arith
+cut_between g x a b e h xa xb = grind arith
 
 -- the other edges that lie together with an edge of a tight cut are not in it
 pub others_stay : (g : Graph) (x : Set) (e f : ℕ) → IsTight g x → Within (size g) e → Within (size g) f → f ≢ e → Together g e f → in_cut g x e ≡ true → in_cut g x f ≡ false

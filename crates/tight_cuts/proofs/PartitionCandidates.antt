@@ -1,7 +1,7 @@
 -- The candidates at a partition: each is a candidate there, and there is none exactly when no
 -- nontrivial shore is tight. Idea: they are those of the graph itself, or those of the quotient
 -- led back. At single vertices of a covered graph they are its own.
-use Rattle.std.proofs.Common.{◌≡◌, ◌↔◌, All, List, [], length, sym, subst, inl, inr, ℕ}
+use Rattle.std.proofs.Common.{◌≡◌, ◌↔◌, All, List, [], length, sym, subst, inl, inr, ℕ, arith, rules}
 use Rattle.counting.proofs.Common.{cases_eq, Set}
 use Rattle.graph_core.proofs.Common.{quotient_graph, length-singles, singles-partition, IsCovered, Graph, IsGraph, IsPartition, singles, quotient, IsTightAt, blocks_in, IsNontrivial}
 use Rattle.tight_cuts.proofs.Completeness.{candidates_found, candidates_none}
@@ -19,8 +19,7 @@ module _ (g : Graph) (p : List (List ℕ)) (is : IsGraph g) (pp : IsPartition g.
   none-at = elim (cases_eq (length p) g.order) [
     | inl e ↦ subst (λ (list : List Candidate). (list ≡ []) ↔ ((x : Set) → IsTightAt g p x → IsNontrivial (length p) (blocks_in p x) → ⊥)) (sym (at-vertices g p e))
         (singles-none g is p pp e (candidates g) (candidates_none g is (covered-single g p is pp e covered)))
-    | inr d ↦ subst (λ (list : List Candidate). (list ≡ []) ↔ ((x : Set) → IsTightAt g p x → IsNontrivial (length p) (blocks_in p x) → ⊥)) (sym (at-blocks g p d))
-        (quotient-none g p is pp (candidates (quotient g p)) (candidates_none (quotient g p) (quotient_graph g p is pp.partition) covered))
+    | inr d ↦ grind (arith, at-blocks, quotient-none, candidates_none, quotient_graph)
   ]
 
 -- at single vertices

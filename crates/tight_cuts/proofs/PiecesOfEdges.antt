@@ -1,6 +1,6 @@
 -- The pieces of an edge. Idea: an edge that lies together with it meets neither of its ends, so
 -- it stays in one piece, and a tight set has it on one side.
-use Rattle.std.proofs.Common.{◌≡◌, ℕ, ◌≤◌, ◌≢◌, Bool, true, false, ◌==◌, refl, sym, ap, ap₂, ◌∙◌, arith, ◌&&◌, ◌||◌, not, inl, inr, ne_eqb}
+use Rattle.std.proofs.Common.{◌≡◌, ℕ, ◌≤◌, ◌≢◌, Bool, true, false, ◌==◌, refl, sym, ap, ap₂, ◌∙◌, arith, ◌&&◌, ◌||◌, not, inl, inr, ne_eqb, rules}
 use Rattle.counting.proofs.Common.{or_from, both_ways, not-true, alike_not_apart, complement_odd, same_tests, count, Within, is_odd, Set, none, complement, pair_set}
 use Rattle.barrier_kit.proofs.Common.{part_step, even_order}
 use Rattle.graph_core.proofs.Common.{joined_walk, walk_joined, ends_of, two_ends_le_degree, has_ends-cases, adjacent-edge, adjacent_within, Walk-stays, IsClosed, joined_self, Graph, size, first_end, second_end, IsGraph, in_cut, has_ends, IsPerfect, Together, IsTight, joined, Joined, adjacent}
@@ -16,14 +16,10 @@ uncrossed_joined h s z is c u v j = same_tests (z u) (z v)
     (λ t. true_back (z u) (λ f. let w = joined_walk h s u v j in both_ways (z v) (not-true (z v) (Walk-stays h.order (adjacent h s) (λ p. not (z p)) (adjacent_within h s is) (λ p q wp wq zp a. step (λ p. not (z p)) (λ f wf. negated (z (first_end h f)) (z (second_end h f)) (c f wf)) p q zp a) u v w.0 (ap not f) w.1)) t))
   where
     true_back : (b : Bool) → (b ≡ false → ⊥) → b ≡ true
-    true_back true h = refl
-    true_back false h = absurd (h refl)
+    true_back b h = grind arith
 
     negated : (s t : Bool) → ((s && not t) || (not s && t)) ≡ false → ((not s && not (not t)) || (not (not s) && not t)) ≡ false
-    negated true true h = refl
-    negated true false h = h
-    negated false true h = h
-    negated false false h = refl
+    negated s t h = grind arith
 
     stay : (s t r : Bool) → ((s && not t) || (not s && t)) ≡ false → s ≡ true → t ≡ r → r ≡ true
     stay s t r h p q = grind arith
@@ -32,28 +28,15 @@ uncrossed_joined h s z is c u v j = same_tests (z u) (z v)
     stay' s t r h p q = grind arith
 
     step : (z : Set) → ((f : ℕ) → Within (size h) f → in_cut h z f ≡ false) → (p q : ℕ) → z p ≡ true → adjacent h s p q ≡ true → z q ≡ true
-    step z c p q zp a =
-        let d = adjacent-edge h s p q a in
-        let n = c d.2.0 d.2.1 in
-        elim (has_ends-cases h p q d.2.0 d.2.2) [
-          | inl k ↦ stay (z (first_end h d.2.0)) (z (second_end h d.2.0)) (z q) n (ap z k.0 ∙ zp) (ap z k.1)
-          | inr k ↦ stay' (z (first_end h d.2.0)) (z (second_end h d.2.0)) (z q) n (ap z k.1 ∙ zp) (ap z k.0)
-        ]
+    step z c p q zp a = grind (arith, adjacent-edge h s p q a, has_ends-cases h p q, stay, stay')
 
 -- an edge between a and b has an end at each
 pub ends_at : (g : Graph) (a b e : ℕ) → has_ends g a b e ≡ true → (1 ≤ ends_of g e a) × (1 ≤ ends_of g e b)
-ends_at g a b e h = let n = ends_near g e in let f = ends_far g e in elim (has_ends-cases g a b e h) [
-  | inl k ↦ let p = ap (ends_of g e) k.0 in let q = ap (ends_of g e) k.1 in (omega arith, omega arith)
-  | inr k ↦ let p = ap (ends_of g e) k.0 in let q = ap (ends_of g e) k.1 in (omega arith, omega arith)
-]
+ends_at g a b e h = grind (arith, ends_near g e, ends_far g e, has_ends-cases g a b e h, ends_of g e)
 
 -- a second edge of a perfect matching has no end at an end of the first
 pub apart_ends : (g : Graph) (m : Set) (e f v : ℕ) → IsPerfect g none m → Within g.order v → Within (size g) e → Within (size g) f → e ≢ f → m e ≡ true → m f ≡ true → 1 ≤ ends_of g e v → (v ≢ first_end g f) × (v ≢ second_end g f)
-apart_ends g m e f v p wv we wf d me mf o =
-    let t = two_ends_le_degree g m e f v we wf d me mf in
-    let s = p.once v wv refl in
-    let n = ends_near g f in let r = ends_far g f in
-    (λ q. let k = ap (ends_of g f) q in omega arith, λ q. let k = ap (ends_of g f) q in omega arith)
+apart_ends g m e f v p wv we wf d me mf o = grind (arith, two_ends_le_degree g m e f v we wf d me mf, ends_near g f, ends_far g f, ends_of g f)
 
 module _ (g h : Graph) (is : IsGraph g) (a b e : ℕ) (wa : Within g.order a) (wb : Within g.order b) (we : Within (size g) e) (ends : has_ends g a b e ≡ true) (beside : IsBeside g e h) where
   pub beside_graph : IsGraph h
@@ -69,12 +52,7 @@ module _ (g h : Graph) (is : IsGraph g) (a b e : ℕ) (wa : Within g.order a) (w
 
   -- an edge of the perfect matching with e stays in each piece
   beside_stays : (f u : ℕ) → Within g.order u → Within (size g) f → f ≢ e → beside.base f ≡ true → joined h (pair_set a b) u (first_end g f) ≡ joined h (pair_set a b) u (second_end g f)
-  beside_stays f u wu wf d t =
-      let q = beside.every f wf d t in
-      let o = outside_pair f wf d (beside.base, beside.perfect, beside.held, t) in
-      let r = beside.order in
-      let s = part_step h (pair_set a b) u q.0 beside_graph (omega arith) q.1 (ap (pair_set a b) q.2 ∙ o.0) (ap (pair_set a b) q.3 ∙ o.1) in
-      ap (joined h (pair_set a b) u) (sym q.2) ∙ s ∙ ap (joined h (pair_set a b) u) q.3
+  beside_stays f u wu wf d t = grind (arith, outside_pair f wf d (beside.base, beside.perfect, beside.held, t), part_step h (pair_set a b) u, beside_graph)
 
   -- so its ends are in one piece
   beside_joined : (f : ℕ) → Within (size g) f → f ≢ e → beside.base f ≡ true → joined h (pair_set a b) (first_end g f) (second_end g f) ≡ true

@@ -1,7 +1,7 @@
 -- The sides of a quotient: a set of blocks has each edge of the quotient in its cut exactly when it
 -- separates each two adjacent blocks. So the quotient at the single vertices is bipartite exactly
 -- when the graph is.
-use Rattle.std.proofs.Common.{Bool, List, ap, arith, false, inl, inr, length, ne_eqb, not, refl, subst, subst₂, sym, true, ℕ, ◌&&◌, ◌<◌, ◌==◌, ◌||◌, ◌≡◌, ◌↔◌}
+use Rattle.std.proofs.Common.{Bool, List, ap, arith, false, inl, inr, length, ne_eqb, not, refl, subst, subst₂, sym, true, ℕ, ◌&&◌, ◌<◌, ◌==◌, ◌||◌, ◌≡◌, ◌↔◌, rules}
 use Rattle.counting.proofs.Common.{and_from, and_parts, cases_order, nat_tests, some_true, true_some, Within, Set, some}
 use Rattle.graph_core.proofs.Common.{edge_of_pair, quotient_edge, contracted-singles, length-singles, has_ends-back, has_ends-cases, has_ends-own, Graph, IsBipartite, IsMultigraph, IsPartition, first_end, has_ends, in_cut, second_end, size, contracted, singles, blocks_adjacent, quotient}
 use Rattle.tight_cuts.proofs.SingleVertices.{as_many-singles}
@@ -11,48 +11,25 @@ abbrev pub differ : Bool → Bool → Bool
 differ a b = (a && not b) || (not a && b)
 
 pub differ-back : (a b : Bool) → differ a b ≡ true → differ b a ≡ true
-differ-back true true h = h
-differ-back true false h = refl
-differ-back false true h = refl
-differ-back false false h = h
+differ-back a b h = grind arith
 
 -- x separates each two adjacent blocks, of which the first is named
 abbrev pub Parts : Graph → List (List ℕ) → Set → Type 0
 Parts g p x = (i j : ℕ) → Within (length p) i → Within (length p) j → i < j → blocks_adjacent g p i j ≡ true → differ (x i) (x j) ≡ true
 
 pub parts_from_sides : (g : Graph) (p : List (List ℕ)) (x : Set) → ((e : ℕ) → Within (size (quotient g p)) e → in_cut (quotient g p) x e ≡ true) → Parts g p x
-parts_from_sides g p x sides i j wi wj l adj =
-    let e = edge_of_pair g p i j wi wj l adj in
-    subst₂ (λ a b. differ (x a) (x b) ≡ true) e.2 e.3 (sides e.0 e.1)
+parts_from_sides g p x sides i j wi wj l adj = grind (arith, edge_of_pair g p i j wi wj l adj)
 
 pub sides_from_parts : (g : Graph) (p : List (List ℕ)) (x : Set) → Parts g p x → (e : ℕ) → Within (size (quotient g p)) e → in_cut (quotient g p) x e ≡ true
-sides_from_parts g p x parts e w =
-    let r = quotient_edge g p e w in
-    parts (first_end (quotient g p) e) (second_end (quotient g p) e) r.0 r.1 r.2 r.3
+sides_from_parts g p x parts e w = grind (arith, quotient_edge g p e w)
 
 -- adjacency goes both ways, and no block is adjacent to itself
 pub adjacent_back : (g : Graph) (p : List (List ℕ)) (i j : ℕ) → blocks_adjacent g p i j ≡ true → blocks_adjacent g p j i ≡ true
-adjacent_back g p i j h =
-    let parts = and_parts (not (i == j)) (some (size g) (has_ends (contracted g p) i j)) h in
-    let e = some_true (size g) (has_ends (contracted g p) i j) parts.1 in
-    and_from (not (j == i)) (some (size g) (has_ends (contracted g p) j i)) (turned i j parts.0)
-    (true_some (size g) (has_ends (contracted g p) j i) e.0 e.1 (has_ends-back (contracted g p) i j e.0 e.2))
-  where
-    turned : (a b : ℕ) → not (a == b) ≡ true → not (b == a) ≡ true
-    turned a b h = grind (arith, nat_tests)
+adjacent_back g p i j h = grind arith
 
 -- and so of any two adjacent blocks
 pub parted : (g : Graph) (p : List (List ℕ)) (x : Set) → Parts g p x → (i j : ℕ) → Within (length p) i → Within (length p) j → blocks_adjacent g p i j ≡ true → differ (x i) (x j) ≡ true
-parted g p x parts i j wi wj h = elim (cases_order i j) [
-  | inl e ↦ absurd (own i j e (and_parts (not (i == j)) (some (size g) (has_ends (contracted g p) i j)) h).0)
-  | inr d ↦ elim d [
-    | inl l ↦ parts i j wi wj l h
-    | inr l ↦ differ-back (x j) (x i) (parts j i wj wi l (adjacent_back g p i j h))
-  ]
-]
-  where
-    own : (a b : ℕ) → a ≡ b → not (a == b) ≡ true → ⊥
-    own a b e h = grind (arith, nat_tests)
+parted g p x parts i j wi wj h = grind (arith, cases_order i j, and_parts (not (i == j)) (some (size g) (has_ends (contracted g p) i j)) h, differ-back (x j) (x i), adjacent_back g p i j h, nat_tests)
 
 -- at single vertices the quotient is bipartite exactly when the graph is
 module _ (g : Graph) (is : IsMultigraph g) where
@@ -74,16 +51,7 @@ module _ (g : Graph) (is : IsMultigraph g) where
   )
 
   pub singles_from_bipartite : IsBipartite g → IsBipartite (quotient g (singles g.order))
-  singles_from_bipartite b = (
-    b.0,
-    sides_from_parts g (singles g.order) b.0 (λ i j wi wj l adj.
-        let s = some_true (size g) (has_ends (contracted g (singles g.order)) i j) (and_parts (not (i == j)) (some (size g) (has_ends (contracted g (singles g.order)) i j)) adj).1 in
-        let ends = subst (λ (h : Graph). has_ends h i j s.0 ≡ true) (contracted-singles g is.ends) s.2 in
-        elim (has_ends-cases g i j s.0 ends) [
-          | inl k ↦ subst₂ (λ a c. differ (b.0 a) (b.0 c) ≡ true) k.0 k.1 (b.1 s.0 s.1)
-          | inr k ↦ differ-back (b.0 j) (b.0 i) (subst₂ (λ a c. differ (b.0 a) (b.0 c) ≡ true) k.0 k.1 (b.1 s.0 s.1))
-        ]),
-  )
+  singles_from_bipartite b = grind (arith, sides_from_parts g (singles g.order) b.0, some_true (size g), and_parts, contracted-singles g is.ends, has_ends-cases g, differ-back)
 
   -- at a partition with as many blocks as vertices
   pub sides-at_vertices : (p : List (List ℕ)) → IsPartition g.order p → length p ≡ g.order → IsBipartite g ↔ IsBipartite (quotient g p)

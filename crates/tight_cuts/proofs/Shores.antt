@@ -1,5 +1,5 @@
 -- Canonical shores, shores as rising lists, and what one more shore does to a list of candidates.
-use Rattle.std.proofs.Common.{◌≡◌, ℕ, Bool, true, false, refl, sym, ap, ap₂, ◌∙◌, ◌&&◌, ◌||◌, not, inl, inr, ◌⊎◌, List, [], ◌∷◌, ◌++◌, subst, All, if◌then◌else◌}
+use Rattle.std.proofs.Common.{◌≡◌, ℕ, Bool, true, false, refl, sym, ap, ap₂, ◌∙◌, ◌&&◌, ◌||◌, not, inl, inr, ◌⊎◌, List, [], ◌∷◌, ◌++◌, subst, All, if◌then◌else◌, arith, rules}
 use Rattle.counting.proofs.Common.{same_tests, cases_Bool, and_parts, and_from, or_left, or_right, true≢false, both_ways, false_from_ne_true, list_any-append, count_congr, rising_only, mem-rising_list, rising_list-rises, true_all_in, all_in_true, list_any, Within, mem, rising_list, is_subset, Set, complement}
 use Rattle.std.proofs.lemmas.List.Elements.{All-push}
 use Rattle.std.proofs.lemmas.List.Folds.{list_any_at, Any-from_list_any}
@@ -11,30 +11,10 @@ use Rattle.tight_cuts.specs.Common.{Origin, Candidate, ShoresDiffer, candidate, 
 
 -- which shore is canonical
 pub canonical-cases : (n : ℕ) (x : Set) → ((x n ≡ true) × ((v : ℕ) → canonical_shore n x v ≡ complement x v)) ⊎ ((x n ≡ false) × ((v : ℕ) → canonical_shore n x v ≡ x v))
-canonical-cases n x = elim (cases_Bool (x n)) [
-  | inl t ↦ inl (t, λ v. first (x n) (not (x v)) (x v) t)
-  | inr t ↦ inr (t, λ v. second (x n) (not (x v)) (x v) t)
-]
-  where
-    first : (b c d : Bool) → b ≡ true → (if b then c else d) ≡ c
-    first true c d h = refl
-    first false c d h = absurd (true≢false (sym h))
-
-    second : (b c d : Bool) → b ≡ false → (if b then c else d) ≡ d
-    second true c d h = absurd (true≢false h)
-    second false c d h = refl
+canonical-cases n x = grind arith
 
 pub canonical-in_cut : (g : Graph) (n : ℕ) (x : Set) (e : ℕ) → in_cut g (canonical_shore n x) e ≡ in_cut g x e
-canonical-in_cut g n x e = elim (canonical-cases n x) [
-  | inl c ↦ ap₂ (λ s t. (s && not t) || (not s && t)) (c.1 (first_end g e)) (c.1 (second_end g e)) ∙ turned (x (first_end g e)) (x (second_end g e))
-  | inr c ↦ ap₂ (λ s t. (s && not t) || (not s && t)) (c.1 (first_end g e)) (c.1 (second_end g e))
-]
-  where
-    turned : (s t : Bool) → ((not s && not (not t)) || (not (not s) && not t)) ≡ ((s && not t) || (not s && t))
-    turned true true = refl
-    turned true false = refl
-    turned false true = refl
-    turned false false = refl
+canonical-in_cut g n x e = grind arith
 
 -- a set as a rising list
 pub rising-in_cut : (g : Graph) (y : Set) (e : ℕ) → IsGraph g → Within (size g) e → in_cut g (mem (rising_list g.order y)) e ≡ in_cut g y e
@@ -70,12 +50,7 @@ listed-any (c ∷ list) s = ap (λ b. has_shore s c || b) (listed-any list s)
 pub with_cases : (n : ℕ) (o : Origin) (list : List Candidate) (x : Set) →
     ((with_shore n o list x ≡ list) × ((is_nontrivial n (canonical_shore n x) && not (is_listed (shores_of list) (rising_list n (canonical_shore n x)))) ≡ false))
     ⊎ ((with_shore n o list x ≡ list ++ candidate n o (canonical_shore n x) ∷ []) × (is_nontrivial n (canonical_shore n x) ≡ true) × (not (is_listed (shores_of list) (rising_list n (canonical_shore n x))) ≡ true))
-with_cases n o list x = go (is_nontrivial n (canonical_shore n x)) (is_listed (shores_of list) (rising_list n (canonical_shore n x))) (list ++ candidate n o (canonical_shore n x) ∷ [])
-  where
-    go : (s t : Bool) (more : List Candidate) → (((if s && not t then more else list) ≡ list) × ((s && not t) ≡ false)) ⊎ (((if s && not t then more else list) ≡ more) × (s ≡ true) × (not t ≡ true))
-    go true true more = inl (refl, refl)
-    go true false more = inr (refl, refl, refl)
-    go false t more = inl (refl, refl)
+with_cases n o list x = grind arith
 
 pub with_found : (g : Graph) (o : Origin) (list : List Candidate) (x : Set) → IsGraph g → IsTight g x → All (IsTightCandidate g) list → All (IsTightCandidate g) (with_shore g.order o list x)
 with_found g o list x is t h = elim (with_cases g.order o list x) [
@@ -93,10 +68,7 @@ with_apart n o list x h = elim (with_cases n o list x) [
 ]
 
 pub with_grows : (p : Candidate → Bool) (n : ℕ) (o : Origin) (list : List Candidate) (x : Set) → list_any p list ≡ true → list_any p (with_shore n o list x) ≡ true
-with_grows p n o list x h = elim (with_cases n o list x) [
-  | inl c ↦ ap (list_any p) c.0 ∙ h
-  | inr c ↦ ap (list_any p) c.0 ∙ list_any-append p list (candidate n o (canonical_shore n x) ∷ []) ∙ or_left (list_any p list) (list_any p (candidate n o (canonical_shore n x) ∷ [])) h
-]
+with_grows p n o list x h = grind (arith, with_cases, list_any-append, or_left)
 
 -- a nontrivial shore: each edge of its cut is in the cut of a candidate then
 pub with_covers : (g : Graph) (o : Origin) (list : List Candidate) (x : Set) (e : ℕ) → IsGraph g → Within (size g) e → IsNontrivial g.order x → in_cut g x e ≡ true → list_any (cuts g e) (with_shore g.order o list x) ≡ true

@@ -1,7 +1,7 @@
 -- Names of blocks. The greatest vertex is in the last block; a partition with as many blocks as
 -- vertices is the one into single vertices: its names are all vertices, so each vertex names its
 -- own block, and no block has a second one.
-use Rattle.std.proofs.Common.{◌≡◌, ℕ, suc, ◌+◌, ◌-◌, ◌≤◌, ◌<◌, true, false, ◌==◌, ◌||◌, List, [], ◌∷◌, ◌++◌, length, get_or, refl, sym, ap, ◌∙◌, arith, subst, zero, eq-eqb, eqb-true, inl, inr, ext_get_or}
+use Rattle.std.proofs.Common.{◌≡◌, ℕ, suc, ◌+◌, ◌-◌, ◌≤◌, ◌<◌, true, false, ◌==◌, ◌||◌, List, [], ◌∷◌, ◌++◌, length, get_or, refl, sym, ap, ◌∙◌, arith, subst, zero, eq-eqb, eqb-true, inl, inr, ext_get_or, rules}
 use Rattle.counting.proofs.Common.{same_tests, or_cases, get_or-map, length-map, map-append, only_one, last_is_greatest, mem-all, rising_list-rises, length-rising_list, same_rising_list, set-one, true_all_in, mem-item, same_set-from_size, mem-within, Within, count, IsRisingIn, last_of, mem, rising_list, everything}
 use Rattle.graph_core.proofs.Common.{place_in, place_is, mem_last, block-singles, length-singles, IsPartition, block, names_of, place, singles}
 
@@ -9,9 +9,7 @@ use Rattle.graph_core.proofs.Common.{place_in, place_is, mem_last, block-singles
 last-item : (xs : List ℕ) → 0 < length xs → last_of xs ≡ get_or xs (length xs - 1) 0
 last-item [] some = absurd (omega arith)
 last-item (x ∷ []) some = refl
-last-item (x ∷ y ∷ xs) some =
-    let e : suc (length (y ∷ xs) - 1) ≡ length (x ∷ y ∷ xs) - 1 = omega arith in
-    last-item (y ∷ xs) (omega arith) ∙ ap (λ k. get_or (x ∷ y ∷ xs) k 0) e
+last-item (x ∷ y ∷ xs) some = grind (arith, last-item (y ∷ xs) (omega arith))
 
 count-all : (n : ℕ) → count n everything ≡ n
 count-all zero = refl
@@ -35,10 +33,7 @@ module _ (n : ℕ) (p : List (List ℕ)) (is : IsPartition n p) where
   }
 
   block-rises : (i : ℕ) → Within (length p) i → IsRisingIn n (block p i)
-  block-rises i w = record {
-    rising = is.blocks (i - 1) [] (omega arith);
-    within = λ k d l. is.partition.within i (get_or (block p i) k d) w (mem-item (block p i) k d l);
-  }
+  block-rises i w = grind (arith, mem-item (block p i))
 
   -- a vertex is at most the name of its block
   at-most-name : (v : ℕ) → Within n v → v ≤ last_of (block p (place p v))
@@ -81,23 +76,15 @@ module _ (n : ℕ) (p : List (List ℕ)) (is : IsPartition n p) where
     listed-singles (suc m) = map-append last_of (singles m) ((suc m ∷ []) ∷ []) ∙ ap (λ names. names ++ suc m ∷ []) (listed-singles m)
 
     own-name : (i : ℕ) → Within n i → last_of (block p i) ≡ i
-    own-name i w =
-        let e : i - 1 + 1 ≡ i = omega arith in
-        ap (λ j. last_of (block p j)) (sym e) ∙ sym (name-at (i - 1) 0 (omega arith)) ∙ ap (λ names. get_or names (i - 1) 0) (all-names ∙ sym (listed-singles n)) ∙ name-singles n (i - 1) (omega arith) ∙ e
+    own-name i w = grind (arith, name-at (i - 1) 0, all-names, listed-singles n, name-singles n (i - 1))
 
     alone : (i : ℕ) → Within n i → block p i ≡ i ∷ []
     alone i w =
         let wi : Within (length p) i = (omega arith, omega arith) in
         let holds : mem (block p i) i ≡ true = subst (λ v. mem (block p i) v ≡ true) (own-name i w) (named i wi).1 in
         same_rising_list n (block p i) (i ∷ []) (block-rises i wi) (set-one n i w) (λ v wv.
-        same_tests (mem (block p i) v) (mem (i ∷ []) v) (λ m. only i v w wv wi m) (λ m. subst (λ u. mem (block p i) u ≡ true) (one i v m) holds))
+        same_tests (mem (block p i) v) (mem (i ∷ []) v) (λ m. only i v w wv wi m) (λ m. subst (λ u. mem (block p i) u ≡ true) (grind arith) holds))
       where
-        one : (i v : ℕ) → mem (i ∷ []) v ≡ true → i ≡ v
-        one i v m = elim (or_cases (i == v) false m) [ inl e ↦ eqb-true i v e | inr e ↦ absurd (both e) ]
-          where
-            both : false ≡ true → ⊥
-            both e = grind (arith, e)
-
         only : (i v : ℕ) → Within n i → Within n v → Within (length p) i → mem (block p i) v ≡ true → mem (i ∷ []) v ≡ true
         only i v w wv wi m =
             let wl : Within (length p) v = (omega arith, omega arith) in

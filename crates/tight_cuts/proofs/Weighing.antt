@@ -41,30 +41,18 @@ module _ (old now : List ℕ) (m : MatchingValue) (keeps : KeepsMatching m) (i :
       let next : suc i ≡ i + 1 = omega arith in
       let more : mem (map edge_of (take (i + 1) m.rows)) e ≡ (mem (map edge_of (take i m.rows)) e || (row.edge == e)) = ap (λ k. mem (map edge_of (take k m.rows)) e) (sym next) ∙ edges-more m.rows i row e q in
       elim (cases_eq row.edge e) [
-        | inl d ↦
-            let a : at_place (slice_set now row.edge (at_place now row.edge + 1)) e ≡ at_place now row.edge + 1 = ap (at_place (slice_set now row.edge (at_place now row.edge + 1))) (sym d) ∙ get_or-set_same now row.edge (at_place now row.edge + 1) 0 l in
-            let b = edge-before in
-            let c = ap bit (more ∙ or_right (mem (map edge_of (take i m.rows)) e) (row.edge == e) (eq-eqb row.edge e d)) in
-            let o = ap (at_place old) d in omega arith
-        | inr d ↦
-            let a = get_or-set_other now row.edge e (at_place now row.edge + 1) 0 (λ s. d (sym s)) in
-            let b = h e in
-            let c = ap bit (more ∙ ap (λ t. mem (map edge_of (take i m.rows)) e || t) (ne_eqb row.edge e d) ∙ or_false (mem (map edge_of (take i m.rows)) e)) in omega arith
+        | inl d ↦ grind (arith, slice_set, get_or-set_same, edge-before, or_right, edge_of, eq-eqb)
+        | inr d ↦ grind (arith, get_or-set_other, edge_of, ne_eqb, or_false)
       ]
 
 -- one matching more
 pub weight-more : (list : List MatchingValue) (i : ℕ) (m : MatchingValue) (e : ℕ) → slice_get list i ≡ Some m → weight (map edges_of (take (suc i) list)) e ≡ weight (map edges_of (take i list)) e + bit (mem (edges_of m) e)
 weight-more [] i m e q = absurd cc
 weight-more (k ∷ list) zero m e q = let d : k ≡ m = cc in let s = sum_by-cons (λ es. bit (mem es e)) (edges_of k) [] in let t = ap (λ (k : MatchingValue). bit (mem (edges_of k) e)) d in omega arith
-weight-more (k ∷ list) (suc i) m e q =
-    let s = sum_by-cons (λ es. bit (mem es e)) (edges_of k) (map edges_of (take (suc i) list)) in
-    let t = sum_by-cons (λ es. bit (mem es e)) (edges_of k) (map edges_of (take i list)) in
-    let r = weight-more list i m e q in omega arith
+weight-more (k ∷ list) (suc i) m e q = search (rules, sum_by-cons, weight-more list i m e q)
 
 pub weight-next : (list : List MatchingValue) (i : ℕ) (m : MatchingValue) (e : ℕ) → i < length list → m ≡ get_or list i m → weight (map edges_of (take (i + 1) list)) e ≡ weight (map edges_of (take i list)) e + bit (mem (edges_of m) e)
-weight-next list i m e l is =
-    let next : suc i ≡ i + 1 = omega arith in
-    ap (λ k. weight (map edges_of (take k list)) e) (sym next) ∙ weight-more list i m e (slice_get_read list (length list) i m refl l is)
+weight-next list i m e l is = grind (arith, weight-more list i m e (slice_get_read list (length list) i m refl l is), slice_get_read list (length list) i m refl l is)
 
 -- nothing is counted yet
 pub zeros : (n e : ℕ) → at_place (replicate n 0) e ≡ 0
@@ -76,9 +64,7 @@ zeros (suc n) (suc e) = zeros n e
 pub weight-taken : (list : List MatchingValue) (i e : ℕ) → weight (map edges_of (take i list)) e ≤ i
 weight-taken list zero e = omega arith
 weight-taken [] (suc i) e = omega arith
-weight-taken (k ∷ list) (suc i) e =
-    let t = sum_by-cons (λ es. bit (mem es e)) (edges_of k) (map edges_of (take i list)) in
-    let r = weight-taken list i e in let b = bit_le_one (mem (edges_of k) e) in omega arith
+weight-taken (k ∷ list) (suc i) e = search (rules, sum_by-cons, weight-taken list i e, bit_le_one (mem (edges_of k) e))
 
 pub take-whole : (list : List MatchingValue) (i : ℕ) → length list ≤ i → take i list ≡ list
 take-whole [] zero l = refl
@@ -96,8 +82,4 @@ length-counted xs e v = search rules
 
 -- a lean list of perfect matchings of a graph within the limits has at most 2^22 matchings
 pub list-small : (g : Graph) (pairs : PairsValue) → IsWithinLimits g → AreGrown g (edge_lists pairs) → length pairs.list ≤ 4194304
-list-small g pairs lim grown =
-    let m = lim.edges in
-    let l = grown_length (edge_lists pairs) (size g) grown.rising grown.lean in
-    let s = total_small (size g) (λ f. f) (λ v wv. omega arith) in
-    let n = map-length pairs.list in omega arith
+list-small g pairs lim grown = grind (arith, grown_length (edge_lists pairs) (size g) grown.rising grown.lean, total_small (size g), map-length pairs.list)

@@ -2,7 +2,7 @@
 //! digraph of a perfect matching.
 ghost use Rattle.std.specs.Prelude.{◌≡◌, ◌+◌, true, Some, None, IfOk};
 ghost use Rattle.counting.specs.Common.{Within, mem};
-ghost use Rattle.graph_core.specs.Common.{IsCovered, size, IsSide};
+ghost use Rattle.graph_core.specs.Common.{size, IsSide};
 ghost use Rattle.tight_cuts.specs.EdgeDigraphs.{AreFloodsOf, IsDigraphAt};
 ghost use Rattle.tight_cuts.specs.EdgeSearch.{IsShoreOfEdge, NoneBefore};
 
@@ -10,7 +10,7 @@ use crate::edge_cuts::EdgeSearch;
 use crate::edge_search::first_lacking;
 use allowed_edges::perfect_with_edge;
 use graph_core::MultiGraph;
-use graph_facts::Bipartite;
+use graph_facts::{Bipartite, Covered};
 use match_core::Matching;
 use matching_digraph::Digraph;
 use std::alloc::{AllocError as Memory, Global};
@@ -53,18 +53,12 @@ impl FloodSearch {
 }
 
 // The digraph of a perfect matching that holds edge `e`, with the side of its lesser end.
-fn digraph_at(
-    alloc: Global,
-    g: &MultiGraph,
-    search: &FloodSearch,
-    e: u32,
-) -> Result<Digraph, Memory>
-    requires covered { IsCovered g.now }
-    requires edge { Within (size g.now) e }
-    requires floods { AreFloodsOf g.now search.now.side search.now.kept }
-    ensures { IfOk result (IsDigraphAt g.now e) }
+fn digraph_at(alloc: Global, c: &Covered, search: &FloodSearch, e: u32) -> Result<Digraph, Memory>
+    requires edge { Within (size c.now) e }
+    requires floods { AreFloodsOf c.now search.now.side search.now.kept }
+    ensures { IfOk result (IsDigraphAt c.now e) }
 {
-    g.keeps_limits();
+    let g = c.graph();
     let ends = g.ends(e);
     let near = side_with(g, search.side, ends.a.min(ends.b));
     match perfect_with_edge(alloc, g, &search.kept, e)? {
@@ -74,16 +68,16 @@ fn digraph_at(
 }
 
 // What the pairs (x, y) give, for one x and all y, if no pair before them is separated.
-fn shore_from(g: &MultiGraph, digraph: &Digraph, e: u32, x: u32) -> Option<VSet>
-    requires covered { IsCovered g.now }
-    requires edge { Within (size g.now) e }
-    requires digraph { IsDigraphAt g.now e digraph.now }
-    requires x { Within g.now.order x }
-    requires before { NoneBefore g.now e x 1 }
-    ensures some { (s : _) → result ≡ Some s → IsShoreOfEdge g.now e result }
-    ensures none { result ≡ None → NoneBefore g.now e (x + 1) 1 }
+fn shore_from(c: &Covered, digraph: &Digraph, e: u32, x: u32) -> Option<VSet>
+    requires edge { Within (size c.now) e }
+    requires digraph { IsDigraphAt c.now e digraph.now }
+    requires x { Within c.now.order x }
+    requires before { NoneBefore c.now e x 1 }
+    ensures some { (s : _) → result ≡ Some s → IsShoreOfEdge c.now e result }
+    ensures none { result ≡ None → NoneBefore c.now e (x + 1) 1 }
 {
-    g.keeps_limits();
+    c.keeps_covered();
+    let g = c.graph();
     let ends = g.ends(e);
     let a = ends.a.min(ends.b);
     let b = ends.a.max(ends.b);
@@ -98,15 +92,13 @@ fn shore_from(g: &MultiGraph, digraph: &Digraph, e: u32, x: u32) -> Option<VSet>
 }
 
 // What the pairs give in order.
-fn first_shore(g: &MultiGraph, digraph: &Digraph, e: u32) -> Option<VSet>
-    requires covered { IsCovered g.now }
-    requires edge { Within (size g.now) e }
-    requires digraph { IsDigraphAt g.now e digraph.now }
-    ensures { IsShoreOfEdge g.now e result }
+fn first_shore(c: &Covered, digraph: &Digraph, e: u32) -> Option<VSet>
+    requires edge { Within (size c.now) e }
+    requires digraph { IsDigraphAt c.now e digraph.now }
+    ensures { IsShoreOfEdge c.now e result }
 {
-    g.keeps_limits();
-    for k in 0..g.order() {
-        if let Some(shore) = shore_from(g, digraph, e, k + 1) {
+    for k in 0..c.order() {
+        if let Some(shore) = shore_from(c, digraph, e, k + 1) {
             return Some(shore);
         }
     }
@@ -119,15 +111,16 @@ impl EdgeSearch for FloodSearch {
     fn shore_of_edge(
         &mut self,
         alloc: Global,
-        g: &MultiGraph,
+        c: &Covered,
         e: u32,
     ) -> Result<Option<VSet>, Memory> {
-        g.keeps_limits();
-        let digraph = digraph_at(alloc, g, self, e)?;
+        c.keeps_covered();
+        let g = c.graph();
+        let digraph = digraph_at(alloc, c, self, e)?;
         let ends = g.ends(e);
         if digraph.is_inseparable(g, ends.a.min(ends.b), ends.a.max(ends.b)) {
             return Ok(None);
         }
-        Ok(first_shore(g, &digraph, e))
+        Ok(first_shore(c, &digraph, e))
     }
 }

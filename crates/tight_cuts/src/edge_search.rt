@@ -18,6 +18,7 @@ use crate::leading::leaders_at;
 use crate::matchings::Matchings;
 use crate::quiet_edges::is_quiet;
 use graph_core::MultiGraph;
+use graph_facts::Covered;
 use std::alloc::{AllocError as Memory, Global};
 use vset_core::{MOST_VERTICES, VSet};
 
@@ -140,13 +141,14 @@ impl EdgeSearch for NetworkSearch {
     fn shore_of_edge(
         &mut self,
         alloc: Global,
-        g: &MultiGraph,
+        c: &Covered,
         e: u32,
     ) -> Result<Option<VSet>, Memory> {
+        let g = c.graph();
         if is_quiet(alloc, g, &mut self.matchings, e)? {
             return Ok(None);
         }
-        let leaders = leaders_at(alloc, g, &mut self.matchings, e)?;
+        let leaders = leaders_at(alloc, c, &mut self.matchings, e)?;
         if is_inseparable(alloc, g, &mut self.matchings, &leaders, e)? {
             return Ok(None);
         }

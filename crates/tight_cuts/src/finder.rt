@@ -1,4 +1,4 @@
-//! The candidates of a matching covered graph.
+//! The candidates of a matching covered graph: all of them, or the first alone.
 ghost use Rattle.std.specs.Prelude.{◌≡◌, ℕ, [], ◌↔◌, ◌≤◌, true, All, IfOk, OnOk, Some, None};
 ghost use Rattle.std.specs.List.{AllPairs, list_any};
 ghost use Rattle.std.specs.Option.{option_map};
@@ -20,17 +20,16 @@ use std::alloc::{AllocError as Memory, Global};
 use vset_core::VSet;
 
 // The number of edges before the first that is in the cut of no candidate.
-fn edges_cut(list: &CandidateList, g: &MultiGraph) -> u32
-    ensures within { result ≤ size g.now }
-    ensures cut { (e : ℕ) → Within result e → list_any (cuts g.now e) list.now ≡ true }
+fn edges_cut(list: &CandidateList, c: &Covered) -> u32
+    ensures within { result ≤ size c.now }
+    ensures cut { (e : ℕ) → Within result e → list_any (cuts c.now e) list.now ≡ true }
 {
-    g.keeps_limits();
-    for k in 0..g.size() {
-        if !any_cuts(list, g, k + 1) {
+    for k in 0..c.size() {
+        if !any_cuts(list, c.graph(), k + 1) {
             return k;
         }
     }
-    g.size()
+    c.size()
 }
 
 // Adds what the edges of any graph give. Nothing is made if each is in the cut of a candidate.
@@ -38,13 +37,12 @@ fn add_network_cuts(alloc: Global, c: &Covered, list: &mut CandidateList) -> Res
     requires { list.old ≡ front_candidates c.now }
     ensures { OnOk result (list.new ≡ candidates c.now) }
 {
-    let g = c.graph();
-    let known = edges_cut(list, g);
-    if known == g.size() {
+    let known = edges_cut(list, c);
+    if known == c.size() {
         return Ok(());
     }
     let matchings = Matchings::new(alloc, c)?;
-    add_edge_cuts(alloc, g, &mut NetworkSearch { matchings }, known, list)
+    add_edge_cuts(alloc, c, &mut NetworkSearch { matchings }, known, list)
 }
 
 // Adds what the edges of a bipartite graph give.
@@ -57,24 +55,22 @@ fn add_flood_cuts(
     ensures { OnOk result (list.new ≡ candidates bipartite.now) }
 {
     let mut search = FloodSearch::new(alloc, bipartite)?;
-    add_edge_cuts(alloc, bipartite.graph(), &mut search, 0, list)
+    add_edge_cuts(alloc, bipartite.covered(), &mut search, 0, list)
 }
 
 // The first candidate that an edge of a bipartite graph gives, where the first two parts give none.
 fn first_flood_cut(
     alloc: Global,
-    g: &MultiGraph,
+    c: &Covered,
     search: &mut FloodSearch,
 ) -> Result<Option<Candidate>, Memory>
-    requires covered { IsCovered g.now }
-    requires floods { AreFloodsOf g.now search.old.side search.old.kept }
-    requires front { front_candidates g.now ≡ [] }
-    ensures { IfOk result (λ found. option_map candidate_of found ≡ first_of (candidates g.now)) }
+    requires floods { AreFloodsOf c.now search.old.side search.old.kept }
+    requires front { front_candidates c.now ≡ [] }
+    ensures { IfOk result (λ found. option_map candidate_of found ≡ first_of (candidates c.now)) }
 {
-    g.keeps_limits();
     let mut list = CandidateList::new(alloc);
-    for k in 0..g.size() {
-        add_edge_cut(alloc, g, search, k + 1, &mut list)?;
+    for k in 0..c.size() {
+        add_edge_cut(alloc, c, search, k + 1, &mut list)?;
         if !list.is_empty() {
             return Ok(Some(list.get(0)));
         }
@@ -87,7 +83,6 @@ fn first_flood_cut(
 pub(crate) fn listed(alloc: Global, pairs: &FirstPairs) -> Result<CandidateList, Memory>
     ensures { IfOk result (λ list. list ≡ candidates pairs.now) }
 {
-    pairs.keeps_covered();
     let list = front_candidates(alloc, pairs)?;
     listed_after(alloc, pairs.covered(), list)
 }
@@ -184,7 +179,7 @@ fn first_of_bipartite(alloc: Global, bipartite: &Bipartite) -> Result<Option<Can
         return Ok(None);
     }
     let mut search = FloodSearch::new(alloc, bipartite)?;
-    first_flood_cut(alloc, bipartite.graph(), &mut search)
+    first_flood_cut(alloc, bipartite.covered(), &mut search)
 }
 
 /// The shore of the first candidate, which is a canonical nontrivial tight shore, and `None`

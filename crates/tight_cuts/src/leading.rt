@@ -1,13 +1,14 @@
 //! The vertices that lead the pieces of an edge.
 ghost use Rattle.std.specs.Prelude.{◌≡◌, ℕ, ◌+◌, length, IfOk};
 ghost use Rattle.counting.specs.Common.{Within, pair_set};
-ghost use Rattle.graph_core.specs.Common.{components, size, IsCovered};
+ghost use Rattle.graph_core.specs.Common.{components, size};
 ghost use Rattle.tight_cuts.specs.Common.{greater_end, lesser_end, AreLeadersAt, AreMatchings, at_place, leader};
 
 use crate::matchings::Matchings;
 use crate::pieces::graph_beside;
 use allowed_edges::list_with_edge;
 use graph_core::MultiGraph;
+use graph_facts::Covered;
 use std::alloc::{AllocError as Memory, Global};
 use vset_core::{MOST_VERTICES, VSet};
 
@@ -53,19 +54,18 @@ fn leaders_of(alloc: Global, h: &MultiGraph, a: u32, b: u32) -> Result<Vec<u32>,
 /// themselves. A matching that holds `e` is listed first, unless one is.
 pub(crate) fn leaders_at(
     alloc: Global,
-    g: &MultiGraph,
+    c: &Covered,
     matchings: &mut Matchings,
     e: u32,
 ) -> Result<Vec<u32>, Memory>
-    requires covered { IsCovered g.now }
-    requires edge { Within (size g.now) e }
-    requires matchings { AreMatchings g.now matchings.old.kept matchings.old.pairs }
+    requires edge { Within (size c.now) e }
+    requires matchings { AreMatchings c.now matchings.old.kept matchings.old.pairs }
     ensures matchings { IfOk result
-        (λ _. AreMatchings g.now matchings.new.kept matchings.new.pairs) }
+        (λ _. AreMatchings c.now matchings.new.kept matchings.new.pairs) }
     ensures leaders { IfOk result
-        (λ row. AreLeadersAt g.now (lesser_end g.now e) (greater_end g.now e) e row.items) }
+        (λ row. AreLeadersAt c.now (lesser_end c.now e) (greater_end c.now e) e row.items) }
 {
-    g.keeps_limits();
+    let g = c.graph();
     list_with_edge(alloc, g, &matchings.kept, &mut matchings.pairs, e)?;
     let ends = g.ends(e);
     let a = ends.a.min(ends.b);

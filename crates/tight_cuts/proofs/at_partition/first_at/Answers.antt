@@ -1,4 +1,4 @@
-use Rattle.std.proofs.Common.{◌∙◌, ap, sym, subst}
+use Rattle.std.proofs.Common.{◌∙◌, ap, sym, subst, arith, rules}
 use Rattle.std.specs.Option.{option_map}
 use Rattle.graph_core.proofs.Common.{IsPartition}
 use Rattle.tight_cuts.specs.Common.{IsCandidateAt, candidates_at, candidate_of}
@@ -12,6 +12,4 @@ returns-clause-some c d is = first-one c.args.g.now (IsCandidateAt c.args.g.now 
     (candidate_of d) (sym c.in_ok-found.ensures.first ∙ ap (option_map candidate_of) is)
 
 pub returns-clause-none : goal.returns-clause-none
-returns-clause-none c = first-empty (candidates_at c.args.g.now c.args.p.now.blocks) c.in_ok-found.found.candidate _
-    (none-at c.args.g.now c.args.p.now.blocks c.keeps_limits.ensures.multigraph.ends (subst (λ n. IsPartition n c.args.p.now.blocks) c.requires.order c.keeps_partition.ensures.partition) c.requires.covered)
-    c.in_ok-found.ensures.first
+returns-clause-none c = grind (arith, first-empty, none-at)

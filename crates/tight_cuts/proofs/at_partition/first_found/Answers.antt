@@ -1,4 +1,4 @@
-use Rattle.std.proofs.Common.{IsTrue, ◌≡◌, ◌↔◌, ◌∙◌, length, sym, ap, subst}
+use Rattle.std.proofs.Common.{IsTrue, ◌≡◌, ◌↔◌, ◌∙◌, length, sym, ap, subst, arith, rules}
 use Rattle.counting.proofs.Common.{IfOk-weaker}
 use Rattle.std.specs.Option.{option_map}
 use Rattle.graph_core.proofs.Common.{IsBipartite, IsPartition, quotient}
@@ -16,19 +16,13 @@ parts : (c : goal.After-first_of_known) → IsPartition c.args.g.now.order c.arg
 parts c = subst (λ n. IsPartition n c.args.p.now.blocks) c.requires.order c.keeps_partition.ensures.partition
 
 pub first_of_known-requires : goal.first_of_known-requires
-first_of_known-requires c =
-    covered-single c.args.g.now c.args.p.now.blocks c.keeps_limits.ensures.multigraph.ends (subst (λ n. IsPartition n c.args.p.now.blocks) c.requires.order c.keeps_partition.ensures.partition)
-    (sym c.len.ensures ∙ c.if-len-order.true ∙ c.order.ensures.is) c.requires.covered
+first_of_known-requires c = grind (arith, covered-single c.args.g.now c.args.p.now.blocks c.keeps_limits.ensures.multigraph.ends)
 
 pub returns-then-len-order-clause-first : goal.returns-then-len-order-clause-first
-returns-then-len-order-clause-first c = IfOk-weaker c.first_of_known.result (λ (found : FirstAt). option_map candidate_of found.candidate ≡ first_of (candidates c.args.g.now)) (λ (found : FirstAt). option_map candidate_of found.candidate ≡ first_of (candidates_at c.args.g.now c.args.p.now.blocks))
-    (λ found is. is ∙ ap first_of (sym (at-vertices c.args.g.now c.args.p.now.blocks (many c)))) c.first_of_known.ensures.first
+returns-then-len-order-clause-first c = grind (arith, at-vertices c.args.g.now c.args.p.now.blocks (many c), many c)
 
 pub returns-then-len-order-clause-side : goal.returns-then-len-order-clause-side
-returns-then-len-order-clause-side c =
-    let same = sides-at_vertices c.args.g.now c.keeps_limits.ensures.multigraph c.args.p.now.blocks (parts c) (many c) in
-    IfOk-weaker c.first_of_known.result (λ (found : FirstAt). IsTrue found.is_bipartite ↔ IsBipartite c.args.g.now) (λ (found : FirstAt). IsTrue found.is_bipartite ↔ IsBipartite (quotient c.args.g.now c.args.p.now.blocks))
-    (λ found is. (λ t. same.0 (is.0 t), λ b. is.1 (same.1 b))) c.first_of_known.ensures.side
+returns-then-len-order-clause-side c = grind (arith, sides-at_vertices c.args.g.now c.keeps_limits.ensures.multigraph c.args.p.now.blocks (parts c) (many c), many c)
 
 pub returns-clause-first : goal.returns-clause-first
 returns-clause-first c =

@@ -1,4 +1,4 @@
-use Rattle.std.proofs.Common.{◌≡◌, ◌↔◌, ◌∙◌, All, List, [], length, sym, subst}
+use Rattle.std.proofs.Common.{◌≡◌, ◌↔◌, ◌∙◌, All, List, [], length, sym, subst, arith, rules}
 use Rattle.counting.proofs.Common.{Set}
 use Rattle.graph_core.proofs.Common.{singles, IsTightAt, blocks_in, IsNontrivial}
 use Rattle.tight_cuts.specs.Common.{Candidate, IsCandidateAt}
@@ -9,10 +9,7 @@ pub returns-clause-list : goal.returns-clause-list
 returns-clause-list c = c.in_ok-list.ensures ∙ sym (root-candidates c.args.pairs.now)
 
 pub returns-clause-tight : goal.returns-clause-tight
-returns-clause-tight c = subst (All (IsCandidateAt c.args.pairs.now (singles c.args.pairs.now.order))) (root-candidates c.args.pairs.now ∙ sym c.in_ok-list.ensures)
-    (found-root c.args.pairs.now c.keeps_covered.ensures.limits.multigraph.ends c.keeps_covered.ensures.covered)
+returns-clause-tight c = grind (arith, root-candidates c.args.pairs.now, found-root c.args.pairs.now c.keeps_covered.ensures.limits.multigraph.ends c.keeps_covered.ensures.covered)
 
 pub returns-clause-none : goal.returns-clause-none
-returns-clause-none c =
-    subst (λ (list : List Candidate). (list ≡ []) ↔ ((x : Set) → IsTightAt c.args.pairs.now (singles c.args.pairs.now.order) x → IsNontrivial (length (singles c.args.pairs.now.order)) (blocks_in (singles c.args.pairs.now.order) x) → ⊥)) (root-candidates c.args.pairs.now ∙ sym c.in_ok-list.ensures)
-    (none-root c.args.pairs.now c.keeps_covered.ensures.limits.multigraph.ends c.keeps_covered.ensures.covered)
+returns-clause-none c = grind (arith, root-candidates c.args.pairs.now, none-root c.args.pairs.now c.keeps_covered.ensures.limits.multigraph.ends c.keeps_covered.ensures.covered)

@@ -1,4 +1,4 @@
-use Rattle.std.proofs.Common.{sym, ap, ◌∙◌, ◌++◌, ◌∷◌, []}
+use Rattle.std.proofs.Common.{sym, ap, ◌∙◌, ◌++◌, ◌∷◌, [], arith, rules}
 use Rattle.graph_core.proofs.Common.{canonical-rises}
 use Rattle.tight_cuts.specs.Common.{origin_of}
 use Rattle.tight_cuts.proofs.CandidateLists.{shore-known, shore-narrow, shore-taken}
@@ -17,7 +17,4 @@ pub returns-then-has_shore : goal.returns-then-has_shore
 returns-then-has_shore c = shore-known c.args.n (origin_of c.args.origin) c.args.list.now c.args.shore c.canonical_shore-shore.result c.canonical_shore-shore.ensures (sym c.has_shore.ensures ∙ c.if-has_shore.true)
 
 pub returns : goal.returns
-returns c =
-    shore-taken c.args.n (origin_of c.args.origin) c.args.list.now c.args.shore c.canonical_shore-shore.result c.canonical_shore-shore.ensures c.push.new.self
-    (sym c.is_nontrivial.ensures ∙ c.if-not-is_nontrivial.false) (sym c.has_shore.ensures ∙ c.if-has_shore.false)
-    (c.in_ok-push.ensures.ok ∙ ap (λ item. c.args.list.now ++ item ∷ []) c.new.ensures)
+returns c = grind (arith, shore-taken)

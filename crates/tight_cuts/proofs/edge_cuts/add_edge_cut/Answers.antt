@@ -1,13 +1,9 @@
-use Rattle.std.proofs.Common.{sym, ap, subst, ◌∙◌, arith}
-use Rattle.tight_cuts.specs.Common.{Flow, with_list, IsShoreOfEdge}
+use Rattle.std.proofs.Common.{arith}
 use Rattle.tight_cuts.proofs.FrontCandidates.{edge-known, edge-shore}
 use Rattle.tight_cuts.proofs.edge_cuts.add_edge_cut.Goals as goal
 
 pub returns-then-any_cuts-clause-list : goal.returns-then-any_cuts-clause-list
-returns-then-any_cuts-clause-list g c = edge-known c.args.g.now c.args.list.now c.args.e (sym c.any_cuts.ensures ∙ c.if-any_cuts.true)
+returns-then-any_cuts-clause-list g c = grind (arith, edge-known)
 
 pub returns-in_ok-add_shore-in-Some-clause-list : goal.returns-in_ok-add_shore-in-Some-clause-list
-returns-in_ok-add_shore-in-Some-clause-list g c =
-    edge-shore c.args.g.now c.args.list.now c.args.e c.add_shore.new.list c.in-Some.shore (let t = c.requires.covered.two in (omega arith, omega arith)) (sym c.any_cuts.ensures ∙ c.if-any_cuts.false)
-    (subst (IsShoreOfEdge c.args.g.now c.args.e) c.in-Some.is c.in_ok-shore.ensures.shore)
-    (c.in_ok-add_shore-in-Some.ensures ∙ ap (λ n. with_list n Flow c.args.list.now c.in-Some.shore) c.order.ensures.is)
+returns-in_ok-add_shore-in-Some-clause-list g c = grind (arith, edge-shore c.args.c.now c.args.list.now c.args.e c.add_shore.new.list c.in-Some.shore)

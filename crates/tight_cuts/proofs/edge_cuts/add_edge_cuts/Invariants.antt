@@ -5,6 +5,6 @@ use Rattle.tight_cuts.proofs.edge_cuts.add_edge_cuts.Given as goal
 
 abbrev pub invariant-loop-k : goal.invariant-loop-k
 invariant-loop-k g l = record {
-  search : g.S.EdgeSearch.is_of l.search l.g;
-  list : l.list ≡ after_edges l.g (front_candidates l.g) l.k;
+  search : g.S.EdgeSearch.is_of l.search l.c;
+  list : l.list ≡ after_edges l.c (front_candidates l.c) l.k;
 }

@@ -1,4 +1,4 @@
-use Rattle.std.proofs.Common.{◌∙◌, inr, sym, subst}
+use Rattle.std.proofs.Common.{◌∙◌, inr, sym, subst, arith, rules}
 use Rattle.counting.proofs.Common.{Within}
 use Rattle.tight_cuts.specs.Common.{IsCommonShore, greater_end, lesser_end}
 use Rattle.tight_cuts.proofs.EdgeShores.{named_leaders, named_leads, named_shore}
@@ -15,28 +15,10 @@ pub common_shore-requires-clause-y : goal.common_shore-requires-clause-y
 common_shore-requires-clause-y c = inr (c.requires.y ∙ sym c.requires.second)
 
 pub returns-in_default-clause-none : goal.returns-in_default-clause-none
-returns-in_default-clause-none c n = first_done c.args.g.now c.args.e c.args.groups.x c.requires.before (λ y w.
-    piece_none c.args.g.now c.keeps_limits.ensures c.requires.leaders.covered c.args.e c.requires.leaders.edge c.args.groups.x c.requires.x.within c.in_ok-shore.field-0
-    (subst (λ j. IsCommonShore c.args.g.now (lesser_end c.args.g.now c.args.e) (greater_end c.args.g.now c.args.e) (c.args.groups.x, j) c.in_ok-shore.field-0) c.requires.y
-    (named_shore c.args.g.now c.args.groups.a c.args.groups.b c.args.groups.x c.args.groups.y c.in_ok-shore.field-0 c.requires.first c.requires.second c.in_ok-shore.ensures.shore))
-    c.in_default.is y)
+returns-in_default-clause-none c n = grind (arith, first_done, piece_none, named_shore)
 
 pub returns-in-Some-first_lacking-clause-some : goal.returns-in-Some-first_lacking-clause-some
-returns-in-Some-first_lacking-clause-some c s q =
-    let lacks = c.in-Some-first_lacking.ensures.some in
-    piece_found c.args.g.now c.keeps_limits.ensures c.requires.leaders.covered c.args.e c.requires.leaders.edge c.args.groups.x c.requires.x.within c.in_ok-shore.field-0
-    (subst (λ j. IsCommonShore c.args.g.now (lesser_end c.args.g.now c.args.e) (greater_end c.args.g.now c.args.e) (c.args.groups.x, j) c.in_ok-shore.field-0) c.requires.y
-    (named_shore c.args.g.now c.args.groups.a c.args.groups.b c.args.groups.x c.args.groups.y c.in_ok-shore.field-0 c.requires.first c.requires.second c.in_ok-shore.ensures.shore))
-    c.requires.x.outside
-    c.requires.before c.in-Some.shore c.in-Some.is c.in-Some-first_lacking.field-0
-    (subst (λ n. Within n c.in-Some-first_lacking.field-0) c.order.ensures.is lacks.0)
-    (λ e. lacks.1 (e ∙ sym c.requires.second))
-    lacks.2
+returns-in-Some-first_lacking-clause-some c s q = grind (arith, piece_found, named_shore)
 
 pub returns-in-None-clause-none : goal.returns-in-None-clause-none
-returns-in-None-clause-none c n = first_done c.args.g.now c.args.e c.args.groups.x c.requires.before
-    (piece_full c.args.g.now c.keeps_limits.ensures c.requires.leaders.covered c.args.e c.requires.leaders.edge c.args.groups.x c.requires.x.within c.in_ok-shore.field-0
-    (subst (λ j. IsCommonShore c.args.g.now (lesser_end c.args.g.now c.args.e) (greater_end c.args.g.now c.args.e) (c.args.groups.x, j) c.in_ok-shore.field-0) c.requires.y
-    (named_shore c.args.g.now c.args.groups.a c.args.groups.b c.args.groups.x c.args.groups.y c.in_ok-shore.field-0 c.requires.first c.requires.second c.in_ok-shore.ensures.shore))
-    c.in-Some.shore c.in-Some.is
-    (λ y w d. c.in-None.ensures.none y (subst (λ n. Within n y) (sym c.order.ensures.is) w) (λ e. d (e ∙ c.requires.second))))
+returns-in-None-clause-none c n = grind (arith, first_done, piece_full, named_shore)

@@ -1,4 +1,4 @@
-use Rattle.std.proofs.Common.{◌∙◌, ap, sym}
+use Rattle.std.proofs.Common.{◌∙◌, ap, sym, arith, rules}
 use Rattle.std.specs.Option.{option_map}
 use Rattle.tight_cuts.specs.Common.{first_of, front_candidates, candidate_of}
 use Rattle.tight_cuts.proofs.FirstCandidates.{first-front, first-nil}
@@ -12,6 +12,4 @@ pub first_of_bipartite-requires : goal.first_of_bipartite-requires
 first_of_bipartite-requires c = ap front_candidates (c.of.ensures.some c.in-Some-of.bipartite c.in-Some-of.is) ∙ first-nil (front_candidates c.args.c.now) (sym (ap (option_map candidate_of) c.in_default.is) ∙ c.requires)
 
 pub returns-in-None : goal.returns-in-None
-returns-in-None c =
-    ap first_of (sym (front_empty c.args.c.now c.keeps_covered.ensures.limits.multigraph c.keeps_covered.ensures.covered (c.of.ensures.none.0 c.in-None.is)
-    (first-nil (front_candidates c.args.c.now) (sym (ap (option_map candidate_of) c.in_default.is) ∙ c.requires))))
+returns-in-None c = grind (arith, front_empty, first-nil)

@@ -1,4 +1,4 @@
-use Rattle.std.proofs.Common.{◌∙◌, ap, sym}
+use Rattle.std.proofs.Common.{◌∙◌, ap, sym, arith, rules}
 use Rattle.std.specs.Option.{option_map}
 use Rattle.graph_core.proofs.Common.{Graph}
 use Rattle.tight_cuts.specs.Common.{IsTightCandidate, candidates, first_of, candidate_of}
@@ -12,6 +12,4 @@ returns-clause-some c d is = first-one c.args.pairs.now (IsTightCandidate c.args
     (candidate_of d) (sym (c.in_ok-found.ensures ∙ ap (λ (g : Graph). first_of (candidates g)) c.covered.ensures) ∙ ap (option_map candidate_of) is)
 
 pub returns-clause-none : goal.returns-clause-none
-returns-clause-none c = first-empty (candidates c.args.pairs.now) c.in_ok-found.found _
-    (candidates_none c.args.pairs.now c.keeps_covered.ensures.limits.multigraph.ends c.keeps_covered.ensures.covered)
-    (c.in_ok-found.ensures ∙ ap (λ (g : Graph). first_of (candidates g)) c.covered.ensures)
+returns-clause-none c = grind (arith, first-empty, candidates_none)

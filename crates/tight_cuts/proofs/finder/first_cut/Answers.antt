@@ -1,4 +1,4 @@
-use Rattle.std.proofs.Common.{◌≡◌, ℕ, ap, sym, ◌∙◌, List, [], ◌∷◌, Option, Some, subst, unwrap_or}
+use Rattle.std.proofs.Common.{◌≡◌, ℕ, ap, sym, ◌∙◌, List, [], ◌∷◌, Option, Some, subst, unwrap_or, arith, rules}
 use Rattle.std.specs.Option.{option_map}
 use Rattle.counting.proofs.Common.{mem}
 use Rattle.graph_core.proofs.Common.{IsNontrivial, IsTight}
@@ -12,8 +12,7 @@ returns-in-Some-clause-some c s is =
 
 -- the shore of the first candidate is the first shore
 shore-first : (list : List Candidate) (c : Candidate) → Some c ≡ first_of list → Some c.shore ≡ first_shore list
-shore-first [] c e = absurd cc
-shore-first (d ∷ list) c e = ap (option_map (λ (k : Candidate). k.shore)) e
+shore-first list c e = grind arith
 
 pub returns-in-Some-clause-first : goal.returns-in-Some-clause-first
 returns-in-Some-clause-first c = shore-first (candidates c.args.pairs.now) (candidate_of c.in-Some.candidate) (sym (ap (option_map candidate_of) c.in-Some.is) ∙ c.in_ok-candidate.ensures.first)

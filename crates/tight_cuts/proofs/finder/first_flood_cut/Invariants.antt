@@ -4,4 +4,4 @@ use Rattle.tight_cuts.proofs.EdgeLoop.{after_edges}
 use Rattle.tight_cuts.proofs.finder.first_flood_cut.Given as goal
 
 abbrev pub invariant-loop-k : goal.invariant-loop-k
-invariant-loop-k l = record { floods : AreFloodsOf l.g l.search.side l.search.kept; list : l.list ≡ after_edges l.g (front_candidates l.g) l.k; none : l.list ≡ [] }
+invariant-loop-k l = record { floods : AreFloodsOf l.c l.search.side l.search.kept; list : l.list ≡ after_edges l.c (front_candidates l.c) l.k; none : l.list ≡ [] }

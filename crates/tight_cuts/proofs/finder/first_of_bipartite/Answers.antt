@@ -1,9 +1,7 @@
-use Rattle.std.proofs.Common.{ap, sym}
+use Rattle.std.proofs.Common.{ap, sym, arith, rules}
 use Rattle.tight_cuts.specs.Common.{first_of}
 use Rattle.tight_cuts.proofs.Completeness.{candidates_none}
 use Rattle.tight_cuts.proofs.finder.first_of_bipartite.Goals as goal
 
 pub returns-then-branch : goal.returns-then-branch
-returns-then-branch c =
-    let none = c.in_ok-is_brace.ensures.0 c.if-branch.true in
-    ap first_of (sym ((candidates_none c.args.bipartite.now c.keeps_covered.ensures.limits.multigraph.ends c.keeps_covered.ensures.covered).1 none))
+returns-then-branch c = grind (arith, candidates_none c.args.bipartite.now c.keeps_covered.ensures.limits.multigraph.ends c.keeps_covered.ensures.covered)

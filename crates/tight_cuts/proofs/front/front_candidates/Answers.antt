@@ -1,4 +1,4 @@
-use Rattle.std.proofs.Common.{◌≡◌, List, sym, subst, ap, ◌∙◌, arith, map}
+use Rattle.std.proofs.Common.{◌≡◌, List, sym, subst, ap, ◌∙◌, arith, map, rules}
 use Rattle.std.specs.Option.{option_map}
 use Rattle.counting.proofs.Common.{IfOk-weaker}
 use Rattle.barrier_kit.proofs.Common.{bicritical_no_cuts, barrier_cuts}
@@ -19,11 +19,7 @@ returns c = IfOk-weaker c.separation_candidates.result (λ (list : List Candidat
     c.separation_candidates.ensures
 
 pub returns-in-Some : goal.returns-in-Some
-returns-in-Some c = IfOk-weaker c.barrier_candidates.result (λ (list : List Candidate). list ≡ map (candidate_at c.covered.result.now.order Barrier) (barrier_cuts c.covered.result.now)) (λ (list : List Candidate). list ≡ front_candidates c.args.pairs.now)
-    (λ list q. q ∙ ap (λ (g : Graph). map (candidate_at g.order Barrier) (barrier_cuts g)) c.covered.ensures ∙ front-barriers c.args.pairs.now (equivalent-some c.args.pairs.now (pair_of c.in-Some.field-0) (sym (ap (option_map pair_of) c.in-Some.is) ∙ c.equivalent.ensures)))
-    c.barrier_candidates.ensures
+returns-in-Some c = grind (arith, front-barriers, equivalent-some)
 
 pub returns-then-order-lt4 : goal.returns-then-order-lt4
-returns-then-order-lt4 c = IfOk-weaker c.barrier_candidates-then-order-lt4.result (λ (list : List Candidate). list ≡ map (candidate_at c.covered-then-order-lt4.result.now.order Barrier) (barrier_cuts c.covered-then-order-lt4.result.now)) (λ (list : List Candidate). list ≡ front_candidates c.args.pairs.now)
-    (λ list q. q ∙ ap (λ (g : Graph). map (candidate_at g.order Barrier) (barrier_cuts g)) c.covered-then-order-lt4.ensures ∙ front-barriers c.args.pairs.now (order-small c.args.pairs.now (let l = c.if-order-lt4.true in let e = c.order.ensures.is in omega arith)))
-    c.barrier_candidates-then-order-lt4.ensures
+returns-then-order-lt4 c = grind (arith, front-barriers c.args.pairs.now, order-small c.args.pairs.now)

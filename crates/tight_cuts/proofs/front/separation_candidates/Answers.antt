@@ -1,4 +1,4 @@
-use Rattle.std.proofs.Common.{◌≡◌, ◌∙◌, ap, sym, subst, List, map, All}
+use Rattle.std.proofs.Common.{◌≡◌, ◌∙◌, ap, sym, subst, List, map, All, arith, rules}
 use Rattle.counting.proofs.Common.{IfOk-weaker, IsRisingIn}
 use Rattle.separation_kit.proofs.SeparationFacts.{separation_cuts-canonical}
 use Rattle.graph_core.proofs.Common.{IsCanonicalCut, Graph, IsBicritical}
@@ -16,6 +16,4 @@ candidates_of-requires-clause-shores c =
     (canonical-rising c.args.c.now c.in_ok-shores.shores (subst (All (IsCanonicalCut c.args.c.now)) (sym (c.in_ok-shores.ensures ∙ ap separation_cuts c.graph.ensures.same)) (separation_cuts-canonical c.args.c.now c.keeps_covered.ensures.limits.multigraph.ends c.keeps_covered.ensures.covered)))
 
 pub returns : goal.returns
-returns c = IfOk-weaker c.candidates_of.result (λ (list : List Candidate). list ≡ map (candidate_at c.order.result Separation) c.in_ok-shores.shores) (λ (list : List Candidate). list ≡ map (candidate_at c.args.c.now.order Separation) (separation_cuts c.args.c.now))
-    (λ list q. q ∙ ap (λ n. map (candidate_at n Separation) c.in_ok-shores.shores) c.order.ensures.is ∙ ap (map (candidate_at c.args.c.now.order Separation)) (c.in_ok-shores.ensures ∙ ap separation_cuts c.graph.ensures.same))
-    c.candidates_of.ensures
+returns c = grind arith

@@ -1,4 +1,4 @@
-use Rattle.std.proofs.Common.{arith}
+use Rattle.std.proofs.Common.{arith, rules}
 use Rattle.counting.proofs.Common.{mem}
 use Rattle.allowed_edges.specs.PairTables.{edge_lists}
 use Rattle.tight_cuts.proofs.CrossingMatchings.{crosses_new, later_tight}
@@ -37,7 +37,4 @@ list_new-requires-clause-new c =
     crosses_new c.args.g.now (mem c.in-Some.shore) c.loop-listed.matchings.pairs c.in-Some-2.matching shore.once (c.in_ok-crossing.ensures.some c.in-Some-2.matching c.in-Some-2.is)
 
 pub unreachable-requires : goal.unreachable-requires
-unreachable-requires c =
-    let s = list-small c.args.g.now c.loop-listed.matchings.pairs c.keeps_limits.ensures c.loop-listed.invariant.matchings.listed.grown in
-    let m = c.loop-listed.invariant.more in
-    let l = c.loop-listed-test.false in omega arith
+unreachable-requires c = grind (arith, list-small c.args.g.now c.loop-listed.matchings.pairs c.keeps_limits.ensures c.loop-listed.invariant.matchings.listed.grown)

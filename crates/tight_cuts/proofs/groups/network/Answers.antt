@@ -1,4 +1,4 @@
-use Rattle.std.proofs.Common.{◌+◌, ◌++◌, ◌∙◌, refl, ap, arith}
+use Rattle.std.proofs.Common.{◌+◌, ◌++◌, ◌∙◌, refl, ap, arith, rules}
 use Rattle.flow_core.specs.Common.{Net, total_capacity}
 use Rattle.graph_core.proofs.Common.{size}
 use Rattle.tight_cuts.specs.Common.{arc_between, at_place, row_group}
@@ -6,12 +6,7 @@ use Rattle.tight_cuts.proofs.EdgeNetworks.{arcs-next, capacity-next, total-room}
 use Rattle.tight_cuts.proofs.groups.network.Goals as goal
 
 pub add_arc-requires-clause-below : goal.add_arc-requires-clause-below
-add_arc-requires-clause-below c =
-    let s = c.loop-k.invariant.sum in
-    let q = c.requires.small in
-    let l = c.loop-k-test.true in
-    let e = c.size-k-end.ensures.is in
-    let r = total-room (size c.args.g.now) c.loop-k.k (at_place c.args.weights.now) (omega arith) in omega arith
+add_arc-requires-clause-below c = grind (arith, total-room (size c.args.g.now) c.loop-k.k (at_place c.args.weights.now))
 
 pub loop-k-preserved : goal.loop-k-preserved
 loop-k-preserved c =

@@ -1,4 +1,4 @@
-use Rattle.std.proofs.Common.{◌≡◌, ◌∙◌, Bool, None, ap₂, max, min, subst₂, true}
+use Rattle.std.proofs.Common.{◌≡◌, ◌∙◌, Bool, None, ap₂, max, min, subst₂, true, arith, rules}
 use Rattle.counting.proofs.Common.{IfOk-weaker}
 use Rattle.tight_cuts.specs.Common.{first_separated, greater_end, lesser_end, AreWhole}
 use Rattle.tight_cuts.proofs.EdgePieces.{inseparable}
@@ -6,10 +6,7 @@ use Rattle.tight_cuts.proofs.EdgeShores.{leaders_turned, named_leaders}
 use Rattle.tight_cuts.proofs.inseparable.is_inseparable.Goals as goal
 
 pub are_whole-requires-2-clause-leaders : goal.are_whole-requires-2-clause-leaders
-are_whole-requires-2-clause-leaders c =
-    let lesser : c.min-a.result ≡ lesser_end c.args.g.now c.args.e = c.min-a.ensures ∙ ap₂ min c.ends-ends.ensures.first c.ends-ends.ensures.second in
-    let greater : c.max-b.result ≡ greater_end c.args.g.now c.args.e = c.max-b.ensures ∙ ap₂ max c.ends-ends.ensures.first c.ends-ends.ensures.second in
-    leaders_turned c.args.g.now c.min-a.result c.max-b.result c.args.e c.args.leaders.now (named_leaders c.args.g.now c.min-a.result c.max-b.result c.args.e c.args.leaders.now lesser greater c.requires.leaders)
+are_whole-requires-2-clause-leaders c = grind arith
 
 pub returns-clause-none : goal.returns-clause-none
 returns-clause-none c =

@@ -1,4 +1,4 @@
-use Rattle.std.proofs.Common.{◌≡◌, ◌+◌, ◌∙◌, ◌<◌, length, sym, ap, subst, arith, slice_set}
+use Rattle.std.proofs.Common.{◌≡◌, ◌+◌, ◌∙◌, ◌<◌, length, sym, ap, subst, arith, slice_set, rules}
 use Rattle.std.proofs.lemmas.List.{get_or_default}
 use Rattle.allowed_edges.proofs.Marking.{edge-below}
 use Rattle.tight_cuts.specs.Common.{at_place}
@@ -18,8 +18,4 @@ loop-i-preserved c =
     let below = edge-below (length c.args.row.now.items) c.args.m.now.rows c.loop-i.i c.row-edge.result c.requires.within c.row-edge.ensures in
     let inside : c.row-edge.result.edge < length c.loop-i.row.items = subst (λ n. c.row-edge.result.edge < n) (sym c.loop-i.invariant.long) below in
     let value : c.index_mut.result.now ≡ at_place c.loop-i.row.items c.row-edge.result.edge = c.index_mut.ensures.value ∙ get_or_default c.loop-i.row.items c.row-edge.result.edge c.index_mut.result.now 0 inside in
-    record {
-      long = length-counted c.loop-i.row.items c.row-edge.result.edge (c.index_mut.result.now + 1) ∙ c.loop-i.invariant.long;
-      each = λ e. ap (λ v. at_place (slice_set c.loop-i.row.items c.row-edge.result.edge (v + 1)) e) value
-          ∙ counts-more c.args.row.now.items c.loop-i.row.items c.args.m.now c.keeps_matching.ensures c.loop-i.i c.row-edge.result c.row-edge.ensures c.loop-i.invariant.each inside e;
-    }
+    grind (arith, length-counted, slice_set, counts-more)

@@ -1,4 +1,4 @@
-use Rattle.std.proofs.Common.{◌+◌, ◌∙◌, sym, subst, arith}
+use Rattle.std.proofs.Common.{◌+◌, ◌∙◌, sym, subst, arith, rules}
 use Rattle.counting.proofs.Common.{both_ways}
 use Rattle.allowed_edges.proofs.PairSteps.{held_together}
 use Rattle.allowed_edges.specs.PairTables.{edge_lists}
@@ -16,12 +16,7 @@ loop-k-preserved c =
           subst (BesideSoFar c.args.g.now ms c.args.e (c.loop-k.k + 1)) (sym (w.beside-is ∙ w.in_ok-push_edge.ensures.ok))
           (beside-more c.args.g.now c.loop-k.beside ms c.args.e c.loop-k.k w.ends-ends.result.a w.ends-ends.result.b c.loop-k.invariant (omega arith) w.if-f-e.true
           (held_together c.args.g.now 1 c.args.pairs.now c.requires.listed c.args.e (c.loop-k.k + 1) (sym w.both.ensures ∙ w.if-both.true)) w.ends-ends.ensures.first w.ends-ends.ensures.second)
-      | else-f-e w ↦
-          subst (BesideSoFar c.args.g.now ms c.args.e (c.loop-k.k + 1)) (sym w.beside-is)
-          (beside-skip c.args.g.now c.loop-k.beside ms c.args.e c.loop-k.k c.loop-k.invariant (elim w.else-f-e.branch [
-            | else-f-e-via-then-f-e+else-both v ↦ λ ne t. both_ways v.both.result v.if-both.false (v.both.ensures ∙ t)
-            | else-f-e-via-else-f-e v ↦ λ ne t. ne v.if-f-e.false
-          ]))
+      | else-f-e w ↦ grind (arith, beside-skip c.args.g.now c.loop-k.beside ms c.args.e c.loop-k.k c.loop-k.invariant, else-f-e-via-then-f-e+else-both, both_ways, else-f-e-via-else-f-e)
     ]
 
 pub returns : goal.returns

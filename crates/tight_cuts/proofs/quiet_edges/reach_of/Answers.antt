@@ -1,4 +1,4 @@
-use Rattle.std.proofs.Common.{List, ℕ, subst, sym}
+use Rattle.std.proofs.Common.{List, ℕ, subst, sym, arith, rules}
 use Rattle.counting.proofs.Common.{mem}
 use Rattle.allowed_edges.specs.PairTables.{IsPerfectWith, SettlesEdges}
 use Rattle.tight_cuts.specs.Common.{IsOneSided}
@@ -10,14 +10,6 @@ loop-k-preserved c =
     let g = c.args.g.now in
     let e = c.args.e in
     elim c.if-refused-lt-MOST_REFUSED.branch [
-      | then-refused-lt-MOST_REFUSED+then-is_in_cut+then-not-share_end+in_ok-kept w ↦ record {
-        begun = subst (SettlesEdges g 1) (sym w.pairs-is) w.in_ok-kept.ensures.begun;
-        kept = subst (IsPerfectWith g e) (sym w.kept-is) w.in_ok-kept.ensures.next;
-        reach = subst (λ (x : List ℕ). IsOneSided g e (mem x)) (sym w.reach-is) w.widened_past-reach.ensures;
-      }
-      | else-refused-lt-MOST_REFUSED w ↦ record {
-        begun = subst (SettlesEdges g 1) (sym w.pairs-is) c.loop-k.invariant.begun;
-        kept = subst (IsPerfectWith g e) (sym w.kept-is) c.loop-k.invariant.kept;
-        reach = subst (λ (x : List ℕ). IsOneSided g e (mem x)) (sym w.reach-is) c.loop-k.invariant.reach;
-      }
+      | then-refused-lt-MOST_REFUSED+then-is_in_cut+then-not-share_end+in_ok-kept w ↦ grind arith
+      | else-refused-lt-MOST_REFUSED w ↦ grind arith
     ]

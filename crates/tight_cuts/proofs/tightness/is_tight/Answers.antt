@@ -1,4 +1,4 @@
-use Rattle.std.proofs.Common.{ℕ, List, subst, sym}
+use Rattle.std.proofs.Common.{ℕ, List, subst, sym, arith, rules}
 use Rattle.counting.proofs.Common.{mem}
 use Rattle.graph_core.proofs.Common.{covered_perfect, HasPerfect, IsPerfect}
 use Rattle.match_core.specs.Common.{edges_of}
@@ -9,9 +9,7 @@ pub crossing-requires-clause-perfect : goal.crossing-requires-clause-perfect
 crossing-requires-clause-perfect c = subst (λ (xs : List ℕ). IsPerfect c.args.g.now (mem xs) (mem (edges_of c.in-Some.kept))) c.empty.ensures (c.in_ok-kept.ensures.perfect c.in-Some.kept c.in-Some.is)
 
 pub returns-in-Some-2 : goal.returns-in-Some-2
-returns-in-Some-2 c =
-    let crosses = c.in_ok-matching-in-Some.ensures.some c.in-Some-2.matching c.in-Some-2.is in
-    (crossed_not_tight c.args.g.now (mem c.args.shore) c.in-Some-2.matching crosses, crosses)
+returns-in-Some-2 c = grind (arith, crossed_not_tight c.args.g.now (mem c.args.shore) c.in-Some-2.matching)
 
 pub returns-in-Some : goal.returns-in-Some
 returns-in-Some c = uncrossed_tight c.args.g.now c.args.shore c.keeps_limits.ensures.multigraph.ends c.requires.covered c.requires.shore c.requires.odd (c.in_ok-matching-in-Some.ensures.none c.in-None-2.is)
