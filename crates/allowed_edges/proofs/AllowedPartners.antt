@@ -1,7 +1,7 @@
 -- An edge is allowed exactly when its ends are partners; the list of the allowed edges, the least
 -- edge that is none, and whether a maximum matching is perfect. A perfect matching with the edge,
 -- less the edge, is perfect without its ends, and back. A perfect matching is as large as any.
-use Rattle.std.proofs.Common.{◌≡◌, ◌↔◌, ℕ, ◌==◌, ◌&&◌, ◌||◌, not, Bool, true, false, List, refl, sym, ap, ◌∙◌, arith, subst, ne_eqb, eq-eqb, inl, inr}
+use Rattle.std.proofs.Common.{◌≡◌, ◌↔◌, ℕ, ◌==◌, ◌||◌, List, refl, ◌∙◌, arith, eq-eqb, inl, inr}
 use Rattle.counting.proofs.Common.{same_tests, both_ways, cases_Bool, or_right, rising_only, mem-rising_list, rising_list-rises, Within, Lists, item, mem, rising_list, Set, none, pair_set}
 use Rattle.graph_core.proofs.Common.{Graph, IsGraph, IsMultigraph, first_end, second_end, size, Allowed, HasPerfect, IsMaximum, has_perfect, is_allowed, missed_count, has_perfect_found, has_perfect_says, is_allowed_found, is_allowed_says, missed_edges, none_missed-perfect, perfect_matching, perfect_misses}
 use Rattle.match_core.specs.Common.{ArePartners, are_partners}
@@ -21,39 +21,22 @@ module _ (g : Graph) (is : IsMultigraph g) (e : ℕ) (we : Within (size g) e) wh
   )
 
   pub partners-allowed : are_partners g none (first_end g e) (second_end g e) ≡ is_allowed g e
-  partners-allowed = without_itself (first_end g e == second_end g e) (has_perfect g (pair_set (first_end g e) (second_end g e))) (ne_eqb (first_end g e) (second_end g e) (is.no_loop e we))
+  partners-allowed = grind arith
       ∙ same_tests _ _
       (λ t. is_allowed_found g e we (perfect-allowed (has_perfect_says g (pair_set (first_end g e) (second_end g e)) t)))
       (λ t. has_perfect_found g (pair_set (first_end g e) (second_end g e)) (allowed-perfect (is_allowed_says g e t)))
-    where
-      without_itself : (d p : Bool) → d ≡ false → (true && true && not d && p) ≡ p
-      without_itself d p h = grind arith
 
 -- the row of one end tells whether the edge is allowed
 pub row-allowed : (g : Graph) (table : List (List ℕ)) (row : List ℕ) (e a b : ℕ) → IsMultigraph g → Within (size g) e → ArePartners g none table → row ≡ item table a → a ≡ first_end g e → b ≡ second_end g e → mem row b ≡ is_allowed g e
-row-allowed g table row e a b is we are row_is first second =
-    let w = is.ends e we in
-    ap (λ xs. mem xs b) (row_is ∙ ap (item table) first) ∙ ap (mem (item table (first_end g e))) second
-    ∙ are.partner_is (first_end g e) (second_end g e) w.0 w.1 ∙ partners-allowed g is e we
+row-allowed g table row e a b is we are row_is first second = grind (arith, partners-allowed g is e we)
 
 -- the allowed edges as a list
 pub listed-allowed : (g : Graph) (es : List ℕ) → es ≡ rising_list (size g) (is_allowed g) → Lists (size g) es (Allowed g)
-listed-allowed g es q = subst (λ xs. Lists (size g) xs (Allowed g)) (sym q) (record {
-  rising = rising_list-rises (size g) (is_allowed g);
-  sound = λ e m. let r = rising_only (size g) (is_allowed g) e m in is_allowed_says g e r.1;
-  complete = λ e w a. mem-rising_list (size g) (is_allowed g) e w ∙ is_allowed_found g e w a;
-})
+listed-allowed g es q = grind (arith, rising_list-rises (size g) (is_allowed g), rising_only (size g) (is_allowed g), is_allowed_says g, mem-rising_list (size g) (is_allowed g), is_allowed_found g)
 
 -- a maximum matching misses no vertex exactly when there is a perfect matching
 pub maximum-perfect : (g : Graph) (m : Set) → IsGraph g → IsMaximum g none m → (missed_count g none m ≡ 0) ↔ HasPerfect g none
-maximum-perfect g m is max = (
-  λ z. (m, none_missed-perfect g none m max.is z),
-  λ p.
-      let most = max.most p.0 (perfect_matching g none p.0 p.1) in
-      let own = missed_edges g none m is max.is in
-      let all = missed_edges g none p.0 is (perfect_matching g none p.0 p.1) in
-      let misses = perfect_misses g none p.0 p.1 in omega arith,
-)
+maximum-perfect g m is max = grind (arith, none_missed-perfect g none m max.is, perfect_matching g none, missed_edges g none m is max.is, missed_edges g none, perfect_misses g none)
 
 -- where a perfect matching is not excluded, there is one: whether there is one is decided
 pub perfect_unless_none : (g : Graph) → ¬ (¬ (HasPerfect g none)) → HasPerfect g none

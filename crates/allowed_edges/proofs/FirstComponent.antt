@@ -1,7 +1,7 @@
 -- The first of the components is that of vertex 1, since no vertex is less; a graph is connected
 -- where it holds all vertices. A walk from one vertex to another leads over 1.
-use Rattle.std.proofs.Common.{◌≡◌, ℕ, suc, zero, ◌≤◌, ◌<◌, true, false, not, ◌&&◌, ◌↔◌, List, [], ◌∷◌, ◌++◌, map, length, cond, sym, ap, ◌∙◌, arith, subst, nat_lt, ltb-true, IfNone, IfSome, None, Option, Some, slice_get}
-use Rattle.counting.proofs.Common.{both_ways, and_parts, false_from_ne_true, mem-rising_list, some_true, but_fails_second, Within, IsLeastOf, mem, rising_list, Set, none, IsLeastWithout, some}
+use Rattle.std.proofs.Common.{◌≡◌, ℕ, suc, zero, ◌≤◌, ◌<◌, true, false, not, ◌&&◌, ◌↔◌, List, [], ◌∷◌, ◌++◌, length, cond, sym, ap, ◌∙◌, arith, subst, nat_lt, ltb-true, IfNone, IfSome, Option, Some, slice_get}
+use Rattle.counting.proofs.Common.{both_ways, and_parts, false_from_ne_true, mem-rising_list, some_true, but_fails_second, Within, IsLeastOf, mem, rising_list, Set, none, IsLeastWithout}
 use Rattle.graph_core.proofs.Common.{IsConnected, components, is_least, Graph, IsGraph, Joined, joined, joined_walk, walk_joined, joined_back, joined_on}
 
 -- a rising list that may begin with 1 does
@@ -15,26 +15,17 @@ begins_with_one (suc (suc n)) x l h =
 
 -- 1 is the least vertex of its component
 one_is_least : (g : Graph) → is_least g none 1 ≡ true
-one_is_least g = ap not (false_from_ne_true (some g.order (λ v. joined g none 1 v && nat_lt v 1)) (λ t.
-    let r = some_true g.order (λ v. joined g none 1 v && nat_lt v 1) t in
-    let b = and_parts (joined g none 1 r.0) (nat_lt r.0 1) r.2 in
-    let l = ltb-true r.0 1 b.1 in let w = r.1 in absurd (omega arith)))
+one_is_least g = grind (arith, false_from_ne_true, nat_lt, some_true g.order, and_parts, ltb-true)
 
 -- the first component is that of 1
 first_component : (g : Graph) (part : List ℕ) → 1 ≤ g.order → slice_get (components g none) 0 ≡ Some part → part ≡ rising_list g.order (joined g none 1)
 unfolding components
-first_component g part l h =
-    let r = begins_with_one g.order (is_least g none) l (one_is_least g) in
-    let first : slice_get (map (λ u. rising_list g.order (joined g none u)) (rising_list g.order (is_least g none))) 0 ≡ Some (rising_list g.order (joined g none 1)) = ap (λ us. slice_get (map (λ u. rising_list g.order (joined g none u)) us) 0) r.1 in
-    cc
+first_component g part l h = grind (arith, begins_with_one g.order (is_least g none) l (one_is_least g), one_is_least g, slice_get)
 
 -- there is a component where there is a vertex
 pub some_component : (g : Graph) → 1 ≤ g.order → 0 < length (components g none)
 unfolding components
-some_component g l =
-    let r = begins_with_one g.order (is_least g none) l (one_is_least g) in
-    let long : length (map (λ u. rising_list g.order (joined g none u)) (rising_list g.order (is_least g none))) ≡ length (map (λ u. rising_list g.order (joined g none u)) (1 ∷ r.0)) = ap (λ us. length (map (λ u. rising_list g.order (joined g none u)) us)) r.1 in
-    omega arith
+some_component g l = grind (arith, begins_with_one g.order (is_least g none) l (one_is_least g), one_is_least g)
 
 -- a vertex is in this list exactly when a walk joins it to 1
 in_first : (g : Graph) → IsGraph g → 1 ≤ g.order → (v : ℕ) → Within g.order v → mem (rising_list g.order (joined g none 1)) v ≡ true → Joined g none 1 v
@@ -77,9 +68,7 @@ module _ (g : Graph) (is : IsGraph g) (l : 1 ≤ g.order) (nothing : List ℕ) (
 
 -- what is said of the value in an option, and of there being none
 pub some_weaker : (o : Option ℕ) (P Q : ℕ → Type 0) → ((v : ℕ) → P v → Q v) → IfSome o P → IfSome o Q
-some_weaker None P Q f h = tt
-some_weaker (Some v) P Q f h = f v h
+some_weaker o P Q f h = grind arith
 
 pub none_weaker : (o : Option ℕ) (P Q : Type 0) → (P → Q) → IfNone o P → IfNone o Q
-none_weaker None P Q f h = f h
-none_weaker (Some v) P Q f h = tt
+none_weaker o P Q f h = grind arith

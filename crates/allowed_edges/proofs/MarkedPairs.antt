@@ -1,8 +1,8 @@
 -- Marks set in a square table row by row, for all pairs of edges of a matching. A row that is
 -- written has the new marks and every other row stays; by cases on the row that is asked for.
-use Rattle.std.proofs.Common.{◌≡◌, ◌≢◌, ℕ, suc, zero, ◌+◌, ◌<◌, Bool, true, false, ◌&&◌, ◌||◌, ◌==◌, List, [], ◌∷◌, length, get_or, set, map, take, refl, sym, ap, ◌∙◌, arith, inl, inr, eq-eqb, ne_eqb, All, Some, replicate, slice_get, get_or-set_same, get_or-set_other}
+use Rattle.std.proofs.Common.{◌≡◌, ◌≢◌, ℕ, suc, zero, ◌+◌, ◌<◌, Bool, true, false, ◌&&◌, ◌||◌, ◌==◌, List, [], ◌∷◌, length, get_or, set, map, take, refl, sym, ap, ◌∙◌, arith, inl, inr, eq-eqb, All, Some, replicate, slice_get, get_or-set_same, get_or-set_other}
 use Rattle.std.specs.Global.{Vec}
-use Rattle.counting.proofs.Common.{cases_eq, get_or-map, length-map, All-head, All-tail, or_false, mem, row_of}
+use Rattle.counting.proofs.Common.{cases_eq, get_or-map, length-map, All-head, All-tail, mem, row_of}
 use Rattle.std.proofs.lemmas.List.{map-set}
 use Rattle.match_search.proofs.Marks.{no-marks}
 use Rattle.match_search.specs.Common.{marks}
@@ -20,9 +20,7 @@ row_written rows view is e new = map-set marks_in rows e new ∙ ap (λ (xs : Li
 
 -- the row that was read
 pub row_read : (rows : List (Vec Bool)) (view : List (List Bool)) → rows_of rows ≡ view → (e : ℕ) → e < length view → (row : Vec Bool) → row ≡ get_or rows e row → row_of view e ≡ row.items
-row_read rows view is e l row read =
-    let at : e < length rows = let m = length-map rows marks_in in let n = ap length is in omega arith in
-    ap (λ (xs : List (List Bool)). row_of xs e) (sym is) ∙ get_or-map marks_in rows e row [] at ∙ ap marks_in (sym read)
+row_read rows view is e l row read = grind (arith, length-map rows marks_in, get_or-map marks_in rows e row)
 
 pub row_here : (view : List (List Bool)) (e : ℕ) (new : List Bool) → e < length view → row_of (set view e new) e ≡ new
 row_here view e new l = get_or-set_same view e new [] l
@@ -50,10 +48,7 @@ blank_square n rows all long e l = let m = length-map rows marks_in in blank_len
 -- one row more is marked
 module _ (old now after : List (List Bool)) (rows : List MatchRow) (i : ℕ) (row : MatchRow) (m : ℕ → Bool) (read : slice_get rows i ≡ Some row) (others : (d : ℕ) → d ≢ row.edge → row_of after d ≡ row_of now d) where
   pub square_more : length after ≡ length now → length (row_of after row.edge) ≡ length (row_of now row.edge) → IsSquare now → IsSquare after
-  square_more long same square e l = elim (cases_eq e row.edge) [
-    | inl q ↦ ap (λ d. length (row_of after d)) q ∙ same ∙ square row.edge (let k = q in omega arith) ∙ sym long
-    | inr d ↦ ap length (others e d) ∙ square e (omega arith) ∙ sym long
-  ]
+  square_more long same square e l = grind arith
 
   pub pairs_more : ((f : ℕ) → marks (row_of after row.edge) f ≡ (marks (row_of now row.edge) f || m f)) →
       ((e f : ℕ) → marks (row_of now e) f ≡ (marks (row_of old e) f || (mem (map edge_of (take i rows)) e && m f))) →
@@ -62,14 +57,9 @@ module _ (old now after : List (List Bool)) (rows : List MatchRow) (i : ℕ) (ro
       let next : suc i ≡ i + 1 = omega arith in
       let taken : mem (map edge_of (take (i + 1) rows)) e ≡ (mem (map edge_of (take i rows)) e || (row.edge == e)) = ap (λ k. mem (map edge_of (take k rows)) e) (sym next) ∙ edges-more rows i row e read in
       elim (cases_eq e row.edge) [
-        | inl q ↦ ap (λ d. marks (row_of after d) f) q ∙ marked f ∙ ap (λ d. marks (row_of now d) f || m f) (sym q) ∙ ap (λ b. b || m f) (before e f)
-            ∙ with_it (marks (row_of old e) f) (mem (map edge_of (take i rows)) e) (m f) ∙ sym (ap (λ b. marks (row_of old e) f || (b && m f)) (taken ∙ ap (λ b. mem (map edge_of (take i rows)) e || b) (eq-eqb row.edge e (sym q))))
-        | inr d ↦ ap (λ (r : List Bool). marks r f) (others e d) ∙ before e f
-            ∙ ap (λ b. marks (row_of old e) f || (b && m f)) (sym (or_false (mem (map edge_of (take i rows)) e)) ∙ ap (λ b. mem (map edge_of (take i rows)) e || b) (sym (ne_eqb row.edge e (λ q. d (sym q)))) ∙ sym taken)
+        | inl q ↦ grind (arith, with_it, edge_of, eq-eqb)
+        | inr d ↦ grind arith
       ]
     where
       with_it : (a t b : Bool) → ((a || (t && b)) || b) ≡ (a || ((t || true) && b))
-      with_it true t b = refl
-      with_it false true true = refl
-      with_it false true false = refl
-      with_it false false b = refl
+      with_it a t b = grind arith

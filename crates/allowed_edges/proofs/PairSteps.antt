@@ -2,7 +2,7 @@
 -- list settles. What a list holds it still holds when it is longer; the new matching holds a pair
 -- that no listed one holds.
 use Rattle.std.proofs.Common.{◌≡◌, ◌≢◌, ℕ, ◌+◌, ◌-◌, ◌<◌, true, false, ◌&&◌, ◌||◌, ◌==◌, ◌↔◌, List, [], ◌∷◌, ◌++◌, length, get_or, map, filter, refl, sym, ap, ap₂, ◌∙◌, arith, inl, inr, subst, eqb-true, length-append, All, Any}
-use Rattle.counting.proofs.Common.{and_from, and_parts, both_ways, cases_eq, cases_order, false_from_ne_true, or_cases, or_left, or_right, get_or_append_left, map-append, list_any-append, and_comm, or_false, get_or-append_seam, Within, IsRisingIn, mem, none}
+use Rattle.counting.proofs.Common.{and_from, and_parts, both_ways, cases_eq, cases_order, false_from_ne_true, or_cases, or_left, or_right, get_or_append_left, map-append, list_any-append, or_false, get_or-append_seam, Within, IsRisingIn, mem, none}
 use Rattle.std.proofs.lemmas.List.Elements.{All-push}
 use Rattle.std.proofs.lemmas.List.Folds.{Any-from_list_any, list_any_at}
 use Rattle.graph_core.proofs.Common.{Graph, IsGraph, first_end, second_end, size, HasPerfect, IsEnd, IsPerfect, Together, IsLean, IsPairList, two_ends_le_degree}
@@ -41,12 +41,7 @@ lean_more ms es e f lean he hf new k w = elim (cases_eq k (length ms + 1)) [
       let l : k - 1 < length ms = omega arith in
       let old = lean k (w.0, omega arith) in
       let here = get_or_append_left ms (es ∷ []) [] (k - 1) l in
-      record {
-        one = old.one;
-        other = old.other;
-        holds = (ap (λ m. mem m old.one) here ∙ old.holds.0, ap (λ m. mem m old.other) here ∙ old.holds.1);
-        new = λ j wj. ap (λ m. mem m old.one && mem m old.other) (get_or_append_left ms (es ∷ []) [] (j - 1) (omega arith)) ∙ old.new j wj;
-      }
+      grind (arith, get_or_append_left ms (es ∷ []))
 ]
   where
     last : k ≡ length ms + 1 → get_or (ms ++ es ∷ []) (k - 1) [] ≡ es
@@ -75,13 +70,7 @@ settles_more g e p q m a b s same list of keeps perfect ha hb new = record {
 
 -- one pair more that is held, or that does not lie together
 pub settles_pair : (g : Graph) (e f : ℕ) (p : PairsValue) → SettlesPairs g e f p → (Together g e f → holds_both (edge_lists p) e f ≡ true) → SettlesPairs g e (f + 1) p
-settles_pair g e f p s h = record {
-  edges = s.edges;
-  done = λ b wb above below t. elim (cases_eq b f) [
-    | inl q ↦ ap (holds_both (edge_lists p) e) q ∙ h (subst (Together g e) q t)
-    | inr d ↦ s.done b wb above (omega arith) t
-  ];
-}
+settles_pair g e f p s h = grind arith
 
 pub settles_found : (g : Graph) (e f : ℕ) (p q : PairsValue) (m : MatchingValue) → SettlesPairs g e f p → q.size ≡ p.size → q.list ≡ p.list ++ m ∷ [] → IsOf g m → KeepsMatching m → IsPerfect g none (mem (edges_of m)) →
     mem (edges_of m) e ≡ true → mem (edges_of m) f ≡ true → holds_both (edge_lists p) e f ≡ false → SettlesPairs g e (f + 1) q
@@ -92,48 +81,22 @@ settles_found g e f p q m s same list of keeps perfect he hf new = settles_pair 
 
 -- seeking a pair settles no less, and that pair
 pub settles_sought : (g : Graph) (e a b : ℕ) (p q : PairsValue) → SettlesEdges g e p → holds_both (edge_lists p) a b ≡ false → Sought g a b p q → SettlesEdges g e q
-settles_sought g e a b p q s new (inl m) = settles_more g e p q m.added a b s m.edge_count m.list m.with.of m.keeps m.with.perfect m.with.held m.held new
-settles_sought g e a b p q s new (inr n) = subst (SettlesEdges g e) (sym n.0) s
+settles_sought g e a b p q s new h = grind (arith, settles_more g e p q)
 
 pub settles_sought_pair : (g : Graph) (e f : ℕ) (p q : PairsValue) → SettlesPairs g e f p → holds_both (edge_lists p) e f ≡ false → Sought g e f p q → SettlesPairs g e (f + 1) q
-settles_sought_pair g e f p q s new (inl m) = settles_found g e f p q m.added s m.edge_count m.list m.with.of m.keeps m.with.perfect m.with.held m.held new
-settles_sought_pair g e f p q s new (inr n) = subst (SettlesPairs g e (f + 1)) (sym n.0) (settles_pair g e f p s (λ t. absurd (n.1 t)))
+settles_sought_pair g e f p q s new h = grind (arith, settles_found g e f p q, settles_pair g e f p s)
 
 -- without a matching nothing before edge 1 is to be settled
 pub settles_nothing : (g : Graph) (p : PairsValue) → p.size ≡ size g → p.list ≡ [] → SettlesEdges g 1 p
-settles_nothing g p same empty = record {
-  edge_count = same;
-  of = subst (All (IsOf g)) (sym empty) (none_of (IsOf g));
-  grown = subst (λ (ms : List MatchingValue). AreGrown g (map edges_of ms)) (sym empty) (record { rising = none_of (IsRisingIn (size g)); perfect = none_of (λ (m : List ℕ). IsPerfect g none (mem m)); lean = λ k w. absurd (let l = w.0 in let r = w.1 in omega arith) });
-  done = λ a b wa wb l k t. absurd (let w = wa.0 in omega arith);
-}
-  where
-    none_of : {A : Type 0} (P : A → Type 0) → All P []
-    none_of P i x l = absurd (omega arith)
+settles_nothing g p same empty = grind arith
 
 -- in a graph without a perfect matching all is settled
 pub settles_unmatched : (g : Graph) (p : PairsValue) → SettlesEdges g 1 p → (HasPerfect g none → ⊥) → SettlesEdges g (size g + 1) p
-settles_unmatched g p s h = record {
-  edge_count = s.edge_count;
-  of = s.of;
-  grown = s.grown;
-  done = λ a b wa wb l k t. absurd (h (t.0, t.1));
-}
+settles_unmatched g p s h = grind arith
 
 -- an edge with all its pairs
 pub settles_edge : (g : Graph) (e : ℕ) (p : PairsValue) → SettlesPairs g e (size g + 1) p → (Together g e e → holds_both (edge_lists p) e e ≡ true) → SettlesEdges g (e + 1) p
-settles_edge g e p s h = record {
-  edge_count = s.edges.edge_count;
-  of = s.edges.of;
-  grown = s.edges.grown;
-  done = λ a b wa wb l k t. elim (cases_eq a e) [
-    | inr d ↦ s.edges.done a b wa wb (omega arith) k t
-    | inl q ↦ elim (cases_eq b e) [
-      | inl r ↦ ap (λ x. holds_both (edge_lists p) x b) q ∙ ap (holds_both (edge_lists p) e) r ∙ h (subst (Together g e) r (subst (λ x. Together g x b) q t))
-      | inr r ↦ ap (λ x. holds_both (edge_lists p) x b) q ∙ s.done b wb (omega arith) (omega arith) (subst (λ x. Together g x b) q t)
-    ]
-  ];
-}
+settles_edge g e p s h = grind arith
 
 pub settles_last : (g : Graph) (e : ℕ) (p q : PairsValue) (m : MatchingValue) → SettlesPairs g e (size g + 1) p → q.size ≡ p.size → q.list ≡ p.list ++ m ∷ [] → IsOf g m → KeepsMatching m → IsPerfect g none (mem (edges_of m)) →
     mem (edges_of m) e ≡ true → holds_both (edge_lists p) e e ≡ false → SettlesEdges g (e + 1) q
@@ -157,20 +120,14 @@ share_some g e f is we t = elim (or_cases (((first_end g e == first_end g f) || 
 
 -- two edges with a common end do not lie together
 pub apart_shared : (g : Graph) (e f v : ℕ) → e ≢ f → Within (size g) e → Within (size g) f → Within g.order v → IsEnd g e v → IsEnd g f v → Together g e f → ⊥
-apart_shared g e f v d we wf wv pe pf t =
-    let two = two_ends_le_degree g t.0 e f v we wf d t.2 t.3 in
-    let a = end_at g e v pe in
-    let b = end_at g f v pf in
-    let o = t.1.once v wv refl in
-    absurd (omega arith)
+apart_shared g e f v d we wf wv pe pf t = grind (arith, two_ends_le_degree g t.0 e f v we wf d t.2 t.3, end_at g e v pe, end_at g f v pf)
 
 -- lying together does not depend on the order
 turned : (g : Graph) (e f : ℕ) → Together g e f → Together g f e
 turned g e f t = (t.0, t.1, t.3, t.2)
 
 held_turned : (ms : List (List ℕ)) (e f : ℕ) → holds_both ms e f ≡ holds_both ms f e
-held_turned [] e f = refl
-held_turned (m ∷ ms) e f = ap (λ b. b || holds_both ms e f) (and_comm (mem m e) (mem m f)) ∙ ap (λ b. (mem m f && mem m e) || b) (held_turned ms e f)
+held_turned ms e f = grind arith
 
 -- some listed matching has both
 one_holds : (p : PairsValue) (e f : ℕ) → holds_both (edge_lists p) e f ≡ true → Any (λ (m : List ℕ). (mem m e ≡ true) × (mem m f ≡ true)) (edge_lists p)
@@ -185,20 +142,10 @@ held_together g k p s e f h = let a = one_holds p e f h in (mem a.1, subst (λ (
 -- all edges
 module _ (g : Graph) (p : PairsValue) (s : SettlesEdges g (size g + 1) p) where
   together_held : (e f : ℕ) → Within (size g) e → Within (size g) f → Together g e f → holds_both (edge_lists p) e f ≡ true
-  together_held e f we wf t = elim (cases_order e f) [
-    | inl q ↦ s.done e f we wf (omega arith) (omega arith) t
-    | inr r ↦ elim r [
-      | inl l ↦ s.done e f we wf (omega arith) (omega arith) t
-      | inr l ↦ held_turned (edge_lists p) e f ∙ s.done f e wf we (omega arith) (omega arith) (turned g e f t)
-    ]
-  ]
+  together_held e f we wf t = grind (arith, cases_order e f, held_turned (edge_lists p) e f, turned g e f t)
 
   pub settled_pairs : IsPairList g (edge_lists p)
-  settled_pairs = record {
-    rising = s.grown.rising;
-    perfect = s.grown.perfect;
-    both = λ e f we wf t. one_holds p e f (together_held e f we wf t);
-  }
+  settled_pairs = grind (arith, one_holds p, together_held)
 
   pub settled_both : (e f : ℕ) → Within (size g) e → Within (size g) f → (holds_both (edge_lists p) e f ≡ true) ↔ Together g e f
   settled_both e f we wf = (held_together g (size g + 1) p s e f, together_held e f we wf)

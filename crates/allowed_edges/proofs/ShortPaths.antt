@@ -1,6 +1,6 @@
 -- A matching with an edge more, between two vertices that it does not meet, and what a row that
 -- was read says of a matching's ends.
-use Rattle.std.proofs.Common.{◌≡◌, ℕ, suc, zero, ◌+◌, ◌*◌, ◌<◌, true, false, ◌==◌, ◌||◌, refl, sym, ap, ◌∙◌, arith, List, [], ◌∷◌, inl, eq-eqb, ne_eqb, Some, Option, length, slice_get}
+use Rattle.std.proofs.Common.{◌≡◌, ℕ, suc, zero, ◌+◌, ◌*◌, ◌<◌, true, false, ◌==◌, ◌||◌, refl, sym, ap, ◌∙◌, arith, List, [], ◌∷◌, inl, ne_eqb, Some, length, slice_get}
 use Rattle.counting.proofs.Common.{both_ways, set-narrower, Within, bit, Set, put, IsRisingIn, mem}
 use Rattle.graph_core.proofs.Common.{Graph, IsGraph, IsMultigraph, degree, first_end, second_end, size, IsMatching, missed_count, add_edge}
 use Rattle.match_core.specs.Common.{IsOf, KeepsMatching, MatchingValue, edges_of, ends_at}
@@ -26,8 +26,7 @@ ends_outside x (row ∷ rows) ends v out =
 
 -- a test of a sum is one of its part
 pub same_zero : (k a o : ℕ) → k + a ≡ o → (a == o) ≡ (k == 0)
-same_zero zero a o h = eq-eqb a o (omega arith)
-same_zero (suc k) a o h = ne_eqb a o (λ q. absurd (omega arith)) ∙ sym (ne_eqb (suc k) 0 (λ q. absurd (omega arith)))
+same_zero k a o h = grind arith
 
 module _ (g : Graph) (m : MatchingValue) (of : IsOf g m) (keeps : KeepsMatching m) where
   -- a vertex at which no row is has no edge
@@ -54,6 +53,3 @@ pub get_below : (rows : List MatchRow) (i : ℕ) (row : MatchRow) → slice_get 
 get_below [] i row h = cc
 get_below (r ∷ rows) zero row h = omega arith
 get_below (r ∷ rows) (suc i) row h = let b = get_below rows i row h in omega arith
-
-pub some_inj : (r s : MatchRow) → ◌≡◌ {A = Option MatchRow} (Some r) (Some s) → r ≡ s
-some_inj r s h = cc

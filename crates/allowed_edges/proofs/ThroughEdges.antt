@@ -2,8 +2,8 @@
 -- ends and back. The edges meet their ends once, so they are glued to the one and cut off the
 -- other; and a perfect matching leaves few vertices missed when the edges at these ends are taken
 -- out.
-use Rattle.std.proofs.Common.{◌≡◌, ℕ, ◌*◌, ◌≢◌, Bool, true, false, ◌==◌, ◌||◌, ◌⊎◌, refl, sym, ap, ◌∙◌, arith, inl, inr, eqb-true, eq-eqb, ne_eqb, subst}
-use Rattle.counting.proofs.Common.{or_true, or_false, both_ways, cases_eq, false_from_ne_true, true≢false, or_cases, Within, bit, Set, none, put, union, minus, everything}
+use Rattle.std.proofs.Common.{◌≡◌, ℕ, ◌*◌, ◌≢◌, true, false, ◌==◌, ◌||◌, ◌⊎◌, refl, sym, ap, ◌∙◌, arith, inl, inr, eqb-true, ne_eqb}
+use Rattle.counting.proofs.Common.{both_ways, cases_eq, false_from_ne_true, true≢false, or_cases, Within, bit, Set, none, put, union, minus, everything}
 use Rattle.graph_core.proofs.Common.{Graph, IsGraph, IsMultigraph, degree, first_end, second_end, size, Allowed, HasPerfect, IsPerfect, Together, degree_congr, none_matching, degree_put, ends_of}
 use Rattle.match_search.proofs.AlternatingPaths.{put_off, put_at}
 use Rattle.match_search.specs.Common.{MeetOnce}
@@ -13,23 +13,14 @@ use Rattle.allowed_edges.specs.Leaving.{LeavesFew, ShareNone}
 
 -- a perfect matching is what it answers at the edges
 pub perfect_alike : (g : Graph) (r m n : Set) → ((e : ℕ) → n e ≡ m e) → IsPerfect g r m → IsPerfect g r n
-perfect_alike g r m n h p = record {
-  once = λ v w rv. degree_congr g n m v (λ e we. h e) ∙ p.once v w rv;
-  away = λ v w rv. degree_congr g n m v (λ e we. h e) ∙ p.away v w rv;
-}
+perfect_alike g r m n h p = grind arith
 
 -- the sets with the ends of an edge, and of another
 abbrev pub AddsEnds : Graph → ℕ → Set → Set → Type 0
 AddsEnds g e x y = (v : ℕ) → y v ≡ ((x v || (first_end g e == v)) || (second_end g e == v))
 
 pub ends_within : (g : Graph) (e : ℕ) (x y : Set) → IsGraph g → Within (size g) e → AddsEnds g e x y → ((v : ℕ) → x v ≡ true → Within g.order v) → (v : ℕ) → y v ≡ true → Within g.order v
-ends_within g e x y is we adds before v t = elim (or_cases (x v || (first_end g e == v)) (second_end g e == v) (sym (adds v) ∙ t)) [
-  | inl p ↦ elim (or_cases (x v) (first_end g e == v) p) [
-    | inl q ↦ before v q
-    | inr q ↦ subst (Within g.order) (eqb-true (first_end g e) v q) (is e we).0
-  ]
-  | inr p ↦ subst (Within g.order) (eqb-true (second_end g e) v p) (is e we).1
-]
+ends_within g e x y is we adds before v t = grind arith
 
 -- nothing meets nothing
 pub none_meets : (g : Graph) (x : Set) → ((v : ℕ) → x v ≡ false) → MeetOnce g none x
@@ -63,16 +54,9 @@ pub ends_none : (g : Graph) (e v : ℕ) → ((first_end g e ≡ v) ⊎ (second_e
 unfolding ends_of
 ends_none g e v h = let a = ap bit (ne_eqb (first_end g e) v (λ q. h (inl q))) in let b = ap bit (ne_eqb (second_end g e) v (λ q. h (inr q))) in omega arith
 
-pub or_mid : (a b : Bool) → ((a || true) || b) ≡ true
-or_mid true b = refl
-or_mid false b = refl
-
 -- the edge e alone
 pub only_one : (e i : ℕ) → (e == i) ≡ put none e true i
-only_one e i = elim (cases_eq i e) [
-  | inl s ↦ eq-eqb e i (sym s) ∙ sym (ap (put none e true) s ∙ put_at none e true)
-  | inr s ↦ ne_eqb e i (λ t. s (sym t)) ∙ sym (put_off none e true i s)
-]
+only_one e i = grind arith
 
 -- two edges that share no end are two
 pub apart_differ : (g : Graph) (e f : ℕ) → ShareNone g e f → f ≢ e
@@ -91,20 +75,11 @@ module _ (g : Graph) (is : IsMultigraph g) (e : ℕ) (we : Within (size g) e) (x
   one_glued q m perfect h = perfect_alike g none (union q (put none e true)) m (λ i. h i ∙ ap (λ b. q i || b) (only_one e i)) (glued g (put none e true) y q is.ends (one_meets g is e x y we empty first) perfect)
 
   pub one_cut : Allowed g e → HasPerfect g y
-  one_cut t = (
-    minus t.0 (put none e true),
-    cut_off g (put none e true) y t.0 (one_meets g is e x y we empty first) t.1 (λ i ci. elim (put_only none e i ci) [
-      | inl q ↦ ap t.0 q ∙ t.2
-      | inr q ↦ absurd (true≢false (sym q))
-    ]),
-  )
+  one_cut t = grind (arith, cut_off g (put none e true) y t.0 (one_meets g is e x y we empty first) t.1, one_meets g is e x y we empty first, put_only none e, true≢false)
 
   -- the edge can be joined to it
   pub edge_free : (r q : Set) → IsPerfect g r q → ((v : ℕ) → y v ≡ true → r v ≡ true) → (degree g q (first_end g e) ≡ 0) × (degree g q (second_end g e) ≡ 0)
-  edge_free r q perfect in_r = (
-    perfect.away (first_end g e) (is.ends e we).0 (in_r (first_end g e) (first (first_end g e) ∙ ap (λ b. (x (first_end g e) || b) || (second_end g e == first_end g e)) (eq-eqb (first_end g e) (first_end g e) refl) ∙ or_mid (x (first_end g e)) (second_end g e == first_end g e))),
-    perfect.away (second_end g e) (is.ends e we).1 (in_r (second_end g e) (first (second_end g e) ∙ ap (λ b. (x (second_end g e) || (first_end g e == second_end g e)) || b) (eq-eqb (second_end g e) (second_end g e) refl) ∙ or_true (x (second_end g e) || (first_end g e == second_end g e)))),
-  )
+  edge_free r q perfect in_r = grind arith
 
 module _ (g : Graph) (is : IsMultigraph g) (e f : ℕ) (we : Within (size g) e) (wf : Within (size g) f) (apart : ShareNone g e f) (x y z : Set) (empty : (v : ℕ) → x v ≡ false) (first : AddsEnds g e x y) (second : AddsEnds g f y z) where
   abbrev pub pair : Set
@@ -125,13 +100,7 @@ module _ (g : Graph) (is : IsMultigraph g) (e f : ℕ) (we : Within (size g) e) 
 
   -- from a perfect matching without the ends to one with both edges, and back
   pub two_glued : (q m : Set) → IsPerfect g z q → ((i : ℕ) → m i ≡ ((q i || (e == i)) || (f == i))) → IsPerfect g none m
-  two_glued q m perfect h = perfect_alike g none (union q pair) m (λ i. h i ∙ together i) (glued g pair z q is.ends two_meet perfect)
-    where
-      together : (i : ℕ) → ((q i || (e == i)) || (f == i)) ≡ union q pair i
-      together i = elim (cases_eq i f) [
-        | inl s ↦ ap (λ b. (q i || (e == i)) || b) (eq-eqb f i (sym s)) ∙ or_true (q i || (e == i)) ∙ sym (ap (λ b. q i || b) (ap pair s ∙ put_at (put none e true) f true) ∙ or_true (q i))
-        | inr s ↦ ap (λ b. (q i || (e == i)) || b) (ne_eqb f i (λ t. s (sym t))) ∙ or_false (q i || (e == i)) ∙ ap (λ b. q i || b) (only_one e i ∙ sym (put_off (put none e true) f true i s))
-      ]
+  two_glued q m perfect h = perfect_alike g none (union q pair) m (λ i. h i ∙ (grind arith)) (glued g pair z q is.ends two_meet perfect)
 
   pub two_cut : Together g e f → HasPerfect g z
   two_cut t = (
@@ -146,15 +115,9 @@ module _ (g : Graph) (is : IsMultigraph g) (e f : ℕ) (we : Within (size g) e) 
   pub second_free : (q m : Set) → IsPerfect g z q → ((i : ℕ) → m i ≡ (q i || (e == i))) → (degree g m (first_end g f) ≡ 0) × (degree g m (second_end g f) ≡ 0)
   second_free q m perfect h = (at (first_end g f) (is.ends f wf).0 (inl refl), at (second_end g f) (is.ends f wf).1 (inr refl))
     where
-      z_ends : (v : ℕ) → (first_end g f ≡ v) ⊎ (second_end g f ≡ v) → z v ≡ true
-      z_ends v h = elim h [
-        | inl s ↦ second v ∙ ap (λ b. (y v || b) || (second_end g f == v)) (eq-eqb (first_end g f) v s) ∙ or_mid (y v) (second_end g f == v)
-        | inr s ↦ second v ∙ ap (λ b. (y v || (first_end g f == v)) || b) (eq-eqb (second_end g f) v s) ∙ or_true (y v || (first_end g f == v))
-      ]
-
       at : (v : ℕ) → Within g.order v → (first_end g f ≡ v) ⊎ (second_end g f ≡ v) → degree g m v ≡ 0
       at v wv end =
-          let a = perfect.away v wv (z_ends v end) in
+          let a = perfect.away v wv (grind arith) in
           let s = degree_congr g m (put q e true) v (λ i wi. h i ∙ Rattle.match_search.proofs.GrownRows.with_put q e i) in
           let p = degree_put g q e true v we in
           let n = ap (λ k. bit (q e) * k) (ends_none g e v (λ s. apart v s end)) in

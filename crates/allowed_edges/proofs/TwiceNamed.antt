@@ -1,6 +1,6 @@
 -- The edges that a row names at both of their ends are a matching. Idea: two of them at one vertex
 -- are both the edge that the row names there.
-use Rattle.std.proofs.Common.{◌≡◌, ℕ, ◌<◌, Bool, true, sym, ap, ◌∙◌, List, [], length, inl, inr, subst, false, get_or-set_same, get_or-set_other, rules, slice_set}
+use Rattle.std.proofs.Common.{◌≡◌, ℕ, ◌<◌, Bool, true, sym, ap, ◌∙◌, List, [], length, false, get_or-set_same, get_or-set_other, rules, slice_set, arith}
 use Rattle.counting.proofs.Common.{both_ways, cases_eq, rising_holds, mem-rising_list, Within, mem, rising_list, Set, none}
 use Rattle.graph_core.proofs.Common.{Graph, IsMultigraph, size, IsEnd, IsMatching, IsPerfect, missed_count, none_missed-perfect, apart_matching}
 use Rattle.match_core.specs.Common.{IsOf, MatchingValue, edges_of}
@@ -11,12 +11,10 @@ use Rattle.allowed_edges.specs.PairTables.{NamesEdge}
 
 -- the row names such an edge at each of its ends
 named_there : (g : Graph) (at : List ℕ) (e v : ℕ) → NamesEdge g at e → IsEnd g e v → numbers at v ≡ e
-named_there g at e v n (inl p) = ap (numbers at) (sym p) ∙ n.first
-named_there g at e v n (inr p) = ap (numbers at) (sym p) ∙ n.second
+named_there g at e v n h = grind arith
 
 pub named_matching : (g : Graph) (at : List ℕ) (m : Set) → IsMultigraph g → ((k : ℕ) → m k ≡ true → NamesEdge g at k) → IsMatching g none m
-named_matching g at m is names = apart_matching g m is.ends is.no_loop (λ e f v we wf wv me mf pe pf.
-    sym (named_there g at e v (names e me) pe) ∙ named_there g at f v (names f mf) pf)
+named_matching g at m is names = grind (arith, apart_matching g m is.ends is.no_loop, named_there g at)
 
 -- as many marks as before
 pub length_tested : (mark : List Bool) (e : ℕ) (b : Bool) → length (slice_set mark e b) ≡ length mark
@@ -24,10 +22,7 @@ length_tested mark e b = search rules
 
 -- one edge more is tested
 pub named_more : (g : Graph) (at : List ℕ) (mark : List Bool) (e : ℕ) (b : Bool) → e < length mark → ((k : ℕ) → marks mark k ≡ true → NamesEdge g at k) → (b ≡ true → NamesEdge g at e) → (k : ℕ) → marks (slice_set mark e b) k ≡ true → NamesEdge g at k
-named_more g at mark e b l before here k t = elim (cases_eq e k) [
-  | inl q ↦ subst (NamesEdge g at) q (here (sym (get_or-set_same mark e b false l) ∙ ap (marks (slice_set mark e b)) q ∙ t))
-  | inr d ↦ before k (sym (get_or-set_other mark e k b false (λ q. d (sym q))) ∙ t)
-]
+named_more g at mark e b l before here k t = grind (arith, cases_eq e k, get_or-set_same mark e b false l, slice_set mark e b, get_or-set_other mark e k b false)
 
 -- the matching that is listed of such marks, off no vertex
 module _ (g : Graph) (m : MatchingValue) (mark : List Bool) (is : IsMatching g none (marks mark)) (of : IsOf g m) (edges : edges_of m ≡ rising_list (size g) (marks mark)) where
@@ -35,11 +30,7 @@ module _ (g : Graph) (m : MatchingValue) (mark : List Bool) (is : IsMatching g n
   listed_matching = matching_alike g none (marks mark) (mem (edges_of m)) (λ e we. ap (λ xs. mem xs e) edges ∙ mem-rising_list (size g) (marks mark) e we) is
 
   pub listed_off : (met : List ℕ) → met ≡ [] → IsMatchingOff g met m
-  listed_off met empty = record {
-    of = of;
-    within = λ v t. absurd (both_ways (mem met v) (ap (λ xs. mem xs v) empty) t);
-    matching = subst (λ xs. IsMatching g (mem xs) (mem (edges_of m))) (sym empty) listed_matching;
-  }
+  listed_off met empty = grind (arith, both_ways, listed_matching)
 
   pub listed_perfect : (met : List ℕ) → met ≡ [] → missed_count g (mem met) (mem (edges_of m)) ≡ 0 → IsPerfect g none (mem (edges_of m))
   listed_perfect met empty z = none_missed-perfect g none (mem (edges_of m)) listed_matching (ap (λ xs. missed_count g (mem xs) (mem (edges_of m))) (sym empty) ∙ z)

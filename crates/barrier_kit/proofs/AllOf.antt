@@ -7,11 +7,7 @@ use Rattle.std.proofs.lemmas.List.Elements.{All-append}
 -- the items of a rising list
 pub all_rising : (n : ℕ) (x : Set) (P : ℕ → Type 0) → ((v : ℕ) → Within n v → x v ≡ true → P v) → All P (rising_list n x)
 all_rising zero x P h = All-nil P
-all_rising (suc n) x P h = All-append P (rising_list n x) (cond (x (suc n)) (suc n ∷ []) []) (all_rising n x P (λ v w t. h v (omega arith) t)) (last (x (suc n)) refl)
-  where
-    last : (b : Bool) → x (suc n) ≡ b → All P (cond b (suc n ∷ []) [])
-    last true e = All-cons P (suc n) [] (h (suc n) (omega arith) e) (All-nil P)
-    last false e = All-nil P
+all_rising (suc n) x P h = All-append P (rising_list n x) (cond (x (suc n)) (suc n ∷ []) []) (all_rising n x P (λ v w t. h v (omega arith) t)) (grind arith)
 
 -- the lists that a flattened list is made of
 pub all_flat : {X A : Type 0} (P : A → Type 0) (f : X → List A) (xs : List X) → All (λ x. All P (f x)) xs → All P (flat_map f xs)
@@ -23,8 +19,7 @@ all_passing p P [] h = All-nil P
 all_passing p P (x ∷ xs) h = go (p x) refl (all_passing p P xs (All-tail (λ x. p x ≡ true → P x) x xs h))
   where
     go : (b : Bool) → p x ≡ b → All P (filter p xs) → All P (cond b (x ∷ filter p xs) (filter p xs))
-    go true e r = All-cons P x (filter p xs) (All-head (λ x. p x ≡ true → P x) x xs h e) r
-    go false e r = r
+    go b e r = grind arith
 
 -- what is left by a search that found nothing
 pub all_unfound : {X : Type 0} (p : X → Bool) (xs : List X) → find p xs ≡ None → All (λ k. p k ≡ false) xs

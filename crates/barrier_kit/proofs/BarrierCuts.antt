@@ -2,7 +2,7 @@
 -- a tight cut. Each odd component is left by at least one edge of a perfect matching, and the
 -- barrier meets no more of them than it has vertices.
 use Rattle.std.proofs.Common.{◌≡◌, ℕ, ◌*◌, ◌≤◌, ◌≢◌, Bool, true, false, refl, sym, ap, ap₂, ◌∙◌, arith, ◌&&◌, ◌||◌, not, inl, inr, nat_lt, [], ◌∷◌}
-use Rattle.counting.proofs.Common.{cases_Bool, true≢false, false_from_ne_true, both_ways, and_parts, and_from, not-true, count_zero, some_count, bit_true, count_congr, only_one, complement_odd, some_true, true_some, some_term, total_congr, total_le, total_mul, total_none, total_swap, total_tight, and_fails_second, same_tests, Within, bit, count, is_odd, total, Set, complement, none, some}
+use Rattle.counting.proofs.Common.{cases_Bool, false_from_ne_true, both_ways, and_parts, and_from, not-true, count_zero, some_count, bit_true, count_congr, only_one, complement_odd, some_true, true_some, some_term, total_congr, total_le, total_mul, total_none, total_swap, total_tight, and_fails_second, same_tests, Within, bit, count, is_odd, total, Set, complement, none, some}
 use Rattle.barrier_kit.proofs.Matched.{cut_matching, even_order, inner}
 use Rattle.graph_core.proofs.Common.{covered_perfect, joined_outside, joined_walk, one_leader, some_leader, walk_joined, parity, tight-same, odd_meets, adjacent_from, has_ends-own, joined_back, joined_on, joined_self, component_count, is_least, odd_component_count, IsCovered, Graph, IsGraph, edges_in_cut, first_end, in_cut, inside, second_end, size, IsPerfect, IsBarrier, IsTight, Joined, joined}
 
@@ -33,30 +33,17 @@ module _ (g : Graph) (is : IsGraph g) (s c : Set) (lead : (u : ℕ) → c u ≡ 
   cover_in u v w h j = true_some g.order (λ u. c u && joined g s u v) u w (and_from (c u) (joined g s u v) h j)
 
   pub cover_one : (v : ℕ) → Within g.order v → count g.order (λ u. c u && joined g s u v) ≤ 1
-  cover_one v w = let a = one_leader g s is v w in let b = total_le g.order (λ u. bit (c u && joined g s u v)) (λ u. bit (is_least g s u && joined g s u v)) (λ u x. le (c u) (is_least g s u) (joined g s u v) (lead u)) in omega arith
-    where
-      le : (a b d : Bool) → (a ≡ true → b ≡ true) → bit (a && d) ≤ bit (b && d)
-      le false b d h = omega arith
-      le true true d h = omega arith
-      le true false d h = absurd (true≢false (sym (h refl)))
+  cover_one v w = let a = one_leader g s is v w in let b = total_le g.order (λ u. bit (c u && joined g s u v)) (λ u. bit (is_least g s u && joined g s u v)) (λ u x. grind arith) in omega arith
 
   pub cover_count : (v : ℕ) → Within g.order v → bit (covers v) ≡ count g.order (λ u. c u && joined g s u v)
   unfolding covers
   cover_count v w = some_count g.order (λ u. c u && joined g s u v) (cover_one v w)
 
   pub cover_out : (v : ℕ) → s v ≡ true → (u : ℕ) → (c u && joined g s u v) ≡ false
-  cover_out v h u = go (c u) refl
-    where
-      go : (b : Bool) → c u ≡ b → (b && joined g s u v) ≡ false
-      go false e = refl
-      go true e = part_out g s u v is (leads_out g s u (lead u e)) h
+  cover_out v h u = grind (arith, part_out, leads_out)
 
   pub covers_out : (v : ℕ) → Within g.order v → s v ≡ true → covers v ≡ false
-  covers_out v w h = zero (covers v) (cover_count v w ∙ total_none g.order _ (λ u x. ap bit (cover_out v h u)))
-    where
-      zero : (b : Bool) → bit b ≡ 0 → b ≡ false
-      zero false e = refl
-      zero true e = absurd (omega arith)
+  covers_out v w h = grind (arith, cover_count v w, total_none g.order, cover_out v h)
 
   pub covers_step : (e : ℕ) → Within (size g) e → s (first_end g e) ≡ false → s (second_end g e) ≡ false → covers (first_end g e) ≡ covers (second_end g e)
   unfolding covers
@@ -80,47 +67,19 @@ module _ (g : Graph) (is : IsGraph g) (s c : Set) (lead : (u : ℕ) → c u ≡ 
           x = first_end g e
 
           both_out : (a b d k : Bool) → (a && b) ≡ false → (a && d) ≡ false → bit a * bit (k && ((b && not d) || (not b && d))) ≡ 0
-          both_out true b d k p q = ap (λ t. 1 * bit t) (no b d k p q) ∙ omega arith
-            where
-              no : (b d k : Bool) → (true && b) ≡ false → (true && d) ≡ false → (k && ((b && not d) || (not b && d))) ≡ false
-              no b d k p q = grind arith
-          both_out false b d k p q = omega arith
-
-          alike : (b d k : Bool) → b ≡ d → (k && ((b && not d) || (not b && d))) ≡ false
-          alike b d k p = grind arith
-
-          right : (a b d : Bool) → (a && b) ≡ false → bit a * bit ((b && not d) || (not b && d)) ≡ bit (a && d)
-          right false b d h = omega arith
-          right true true d h = absurd (true≢false h)
-          right true false true h = refl
-          right true false false h = refl
+          both_out a b d k p q = grind arith
 
           left : (a b d : Bool) → (a && d) ≡ false → bit a * bit ((b && not d) || (not b && d)) ≡ bit (a && b)
-          left false b d h = omega arith
-          left true b true h = absurd (true≢false h)
-          left true true false h = refl
-          left true false false h = refl
-
-          other : (b d : Bool) → b ≡ false → bit d ≡ bit ((b && not d) || (not b && d))
-          other b d h = ap bit (flip b d h)
-            where
-              flip : (b d : Bool) → b ≡ false → d ≡ ((b && not d) || (not b && d))
-              flip b d h = grind arith
+          left a b d h = grind arith
 
           other' : (b d : Bool) → d ≡ false → bit b ≡ bit ((b && not d) || (not b && d))
-          other' b d h = ap bit (flip b d h)
-            where
-              flip : (b d : Bool) → d ≡ false → b ≡ ((b && not d) || (not b && d))
-              flip b d h = grind arith
+          other' b d h = grind arith
 
           go : (k a b : Bool) → m e ≡ k → s (first_end g e) ≡ a → s (second_end g e) ≡ b → total g.order (λ u. bit (c u) * bit (m e && in_cut g (joined g s u) e)) ≡ bit (m e && in_cut g covers e)
           go false a b t p q = rw t (total_none g.order (λ u. bit (c u) * 0) (λ u x. omega arith))
-          go true true true t p q = total_none g.order _ (λ u x. both_out (c u) (joined g s u (first_end g e)) (joined g s u (second_end g e)) (m e) (cover_out (first_end g e) p u) (cover_out (second_end g e) q u))
-              ∙ sym (ap bit (alike (covers (first_end g e)) (covers (second_end g e)) (m e) (covers_out (first_end g e) (is e w).0 p ∙ sym (covers_out (second_end g e) (is e w).1 q))))
-          go true false false t p q = total_none g.order _ (λ u x. let z = ap bit (alike (joined g s u (first_end g e)) (joined g s u (second_end g e)) (m e) (part_step g s u e is x w p q)) in omega (arith, ap (λ t. bit (c u) * t) z))
-              ∙ sym (ap bit (alike (covers (first_end g e)) (covers (second_end g e)) (m e) (covers_step e w p q)))
-          go true true false t p q = rw t (total_congr g.order _ _ (λ u x. right (c u) (joined g s u (first_end g e)) (joined g s u (second_end g e)) (cover_out (first_end g e) p u))
-              ∙ sym (cover_count (second_end g e) (is e w).1) ∙ other (covers (first_end g e)) (covers (second_end g e)) (covers_out (first_end g e) (is e w).0 p))
+          go true true true t p q = grind (arith, total_none, both_out, cover_out, covers_out)
+          go true false false t p q = grind (arith, total_none g.order, part_step g s, covers_step e w p q)
+          go true true false t p q = grind (arith, total_congr, cover_out, cover_count, covers_out)
           go true false true t p q = rw t (total_congr g.order _ _ (λ u x. left (c u) (joined g s u (first_end g e)) (joined g s u (second_end g e)) (cover_out (second_end g e) q u))
               ∙ sym (cover_count (first_end g e) (is e w).0) ∙ other' (covers (first_end g e)) (covers (second_end g e)) (covers_out (second_end g e) (is e w).1 q))
 
@@ -134,8 +93,7 @@ covers_all g is s v w = go (s v) refl
     go false e = up (some g.order (λ u. is_least g s u && joined g s u v)) (let a = some_leader g s is v w e in let b = some_count g.order (λ u. is_least g s u && joined g s u v) (one_leader g s is v w) in omega arith) ∙ sym (ap not e)
       where
         up : (b : Bool) → 1 ≤ bit b → b ≡ true
-        up true h = refl
-        up false h = absurd (omega arith)
+        up b h = grind arith
 
 module _ (g : Graph) (is : IsGraph g) (s : Set) (bar : IsBarrier g s) (m : Set) (p : IsPerfect g none m) where
   sum_cuts : total g.order (λ u. bit (is_least g s u) * edges_in_cut g m (joined g s u)) ≡ edges_in_cut g m s
@@ -145,12 +103,7 @@ module _ (g : Graph) (is : IsGraph g) (s : Set) (bar : IsBarrier g s) (m : Set) 
       turn a b = grind arith
 
   at_least : (u : ℕ) → Within g.order u → bit (is_least g s u && is_odd (count g.order (joined g s u))) ≤ bit (is_least g s u) * edges_in_cut g m (joined g s u)
-  at_least u w = go (is_least g s u) (is_odd (count g.order (joined g s u))) refl
-    where
-      go : (a b : Bool) → is_odd (count g.order (joined g s u)) ≡ b → bit (a && b) ≤ bit a * edges_in_cut g m (joined g s u)
-      go false b e = omega arith
-      go true false e = omega arith
-      go true true e = let a = odd_meets g m (joined g s u) is p e in omega arith
+  at_least u w = grind (arith, odd_meets)
 
   enough : total g.order (λ u. bit (is_least g s u) * edges_in_cut g m (joined g s u)) ≤ total g.order (λ u. bit (is_least g s u && is_odd (count g.order (joined g s u))))
   unfolding odd_component_count
@@ -159,8 +112,7 @@ module _ (g : Graph) (is : IsGraph g) (s : Set) (bar : IsBarrier g s) (m : Set) 
   -- no edge of m is inside s
   pub sat_inside : inner g m s ≡ 0
   unfolding odd_component_count
-  sat_inside = let a = parity g is m s p in let b = sum_cuts in let c : odd_component_count g s ≡ count g.order s = bar in
-      let d = total_le g.order _ _ at_least in omega arith
+  sat_inside = grind (arith, parity g is m s p, sum_cuts, total_le g.order, at_least)
 
   -- each odd component has one edge of m in its cut, an even one none
   pub sat_cut : (u : ℕ) → Within g.order u → is_least g s u ≡ true → edges_in_cut g m (joined g s u) ≡ bit (is_odd (count g.order (joined g s u)))
@@ -186,26 +138,16 @@ module _ (g : Graph) (is : IsGraph g) (cov : IsCovered g) (s : Set) (bar : IsBar
 
   -- each component has a tight cut
   pub lead_tight : (u a : ℕ) → Within g.order u → is_least g s u ≡ true → Within g.order a → s a ≡ true → IsTight g (joined g s u)
-  lead_tight u a wu l wa sa = record {
-    odd = odd_part u a wu l wa sa;
-    odd_complement = let m = covered_perfect g is cov in complement_odd g.order (joined g s u) (even_order g m.0 is m.1) (odd_part u a wu l wa sa);
-    cut = one_cut u a wu l wa sa;
-  }
+  lead_tight u a wu l wa sa = grind (arith, odd_part u a wu l wa sa, covered_perfect g is cov, complement_odd g.order (joined g s u), even_order g, one_cut u a wu l wa sa)
 
   -- there are as many as the barrier has vertices
   pub many_parts : (a : ℕ) → Within g.order a → s a ≡ true → count g.order (is_least g s) ≡ count g.order s
   unfolding odd_component_count
-  many_parts a wa sa = let c : odd_component_count g s ≡ count g.order s = bar in count_congr g.order _ _ (λ u w. go u w (is_least g s u) refl) ∙ c
-    where
-      go : (u : ℕ) → Within g.order u → (b : Bool) → is_least g s u ≡ b → is_least g s u ≡ (is_least g s u && is_odd (count g.order (joined g s u)))
-      go u w false e = rw e refl
-      go u w true e = rw (e, odd_part u a w e wa sa) refl
+  many_parts a wa sa = grind (arith, count_congr g.order, odd_part)
 
 -- each vertex outside s has one leader
 pub leader_of : (g : Graph) (s : Set) → IsGraph g → (v : ℕ) → Within g.order v → s v ≡ false → (u : ℕ) × Within g.order u × (is_least g s u ≡ true) × (joined g s u v ≡ true)
-leader_of g s is v w o =
-    let r = some_term g.order (λ u. bit (is_least g s u && joined g s u v)) (let a = some_leader g s is v w o in omega arith) in
-    let p = and_parts (is_least g s r.0) (joined g s r.0 v) (bit_true (is_least g s r.0 && joined g s r.0 v) r.2) in (r.0, r.1, p.0, p.1)
+leader_of g s is v w o = grind (arith, some_term g.order, some_leader g s is v w o, and_parts, bit_true)
 
 pub leader_same : (g : Graph) (s : Set) → IsGraph g → (u v w : ℕ) → Within g.order u → Within g.order v → Within g.order w → is_least g s u ≡ true → joined g s u v ≡ true → is_least g s w ≡ true → joined g s w v ≡ true → u ≡ w
 leader_same g s is u v w wu wv ww lu ju lw jw =
@@ -215,9 +157,7 @@ leader_same g s is u v w wu wv ww lu ju lw jw =
 
 -- two vertices of a component have one component
 pub part_same : (g : Graph) (s : Set) → IsGraph g → (u a : ℕ) → Within g.order u → Within g.order a → joined g s u a ≡ true → (v : ℕ) → joined g s u v ≡ joined g s a v
-part_same g s is u a wu wa j v = same_tests _ _
-    (λ t. walk_joined g s is a v wa (joined_on g s a u v (joined_back g s u a (joined_walk g s u a j)) (joined_walk g s u v t)))
-    (λ t. walk_joined g s is u v wu (joined_on g s u a v (joined_walk g s u a j) (joined_walk g s a v t)))
+part_same g s is u a wu wa j v = grind (arith, same_tests, walk_joined, joined_on, joined_back, joined_walk)
 
 -- each component of a covered graph without a barrier is odd
 pub part_odd : (g : Graph) (s : Set) (a u : ℕ) → IsGraph g → IsCovered g → IsBarrier g s → Within g.order a → s a ≡ true → Within g.order u → s u ≡ false → is_odd (count g.order (joined g s u)) ≡ true

@@ -1,7 +1,7 @@
 -- Barriers and perfect matchings: without a set of vertices there are at most as many odd
 -- components as it has vertices. Parity decides the rest: two vertices of a barrier have no
 -- perfect matching without them, and two such vertices lie in a barrier.
-use Rattle.std.proofs.Common.{◌≡◌, ℕ, suc, zero, ◌+◌, ◌*◌, ◌≤◌, ◌≢◌, Bool, true, false, cond, ◌==◌, refl, sym, ap, ap₂, ◌∙◌, arith, ◌&&◌, ◌||◌, not, eq-eqb, ne_eqb, eqb-true}
+use Rattle.std.proofs.Common.{◌≡◌, ℕ, suc, zero, ◌+◌, ◌*◌, ◌≤◌, ◌≢◌, Bool, true, false, ◌==◌, refl, sym, ap, ap₂, ◌∙◌, arith, ◌&&◌, ◌||◌, not, eq-eqb, ne_eqb, eqb-true}
 use Rattle.counting.proofs.Common.{true≢false, count_complement, count_congr, odd-add, odd-double, odd_total, total_add, total_at, total_congr, total_mul, total_none, total_swap, fun_ext, Within, bit, count, is_odd, total, pair_set, Set, complement, minus, none, union}
 use Rattle.graph_core.proofs.Common.{joined_outside, one_leader, some_leader, missed_edges, none_missed-perfect, perfect_matching, perfect_misses, berge_bound, is_least, odd_component_count, Graph, IsGraph, size, IsPerfect, missed_count, IsBarrier, joined}
 use Rattle.match_core.proofs.TutteBerge.{TutteBerge, tutte_berge}
@@ -12,45 +12,15 @@ by_components g s is =
     total_congr g.order _ _ (λ v w. leader v w)
     ∙ total_congr g.order _ _ (λ v w. sym (total_mul g.order (bit (not (s v))) (λ u. bit (is_least g s u && joined g s u v))))
     ∙ total_swap g.order g.order (λ v u. bit (not (s v)) * bit (is_least g s u && joined g s u v))
-    ∙ total_congr g.order _ _ (λ u w. total_congr g.order _ _ (λ v x. regroup u v) ∙ total_mul g.order (bit (is_least g s u)) (λ v. bit (joined g s u v)))
+    ∙ total_congr g.order _ _ (λ u w. total_congr g.order _ _ (λ v x. grind (arith, joined_outside, true≢false)) ∙ total_mul g.order (bit (is_least g s u)) (λ v. bit (joined g s u v)))
   where
     leader : (v : ℕ) → Within g.order v → bit (not (s v)) ≡ bit (not (s v)) * count g.order (λ u. is_least g s u && joined g s u v)
-    leader v w = go (s v) refl
-      where
-        go : (b : Bool) → s v ≡ b → bit (not b) ≡ bit (not b) * count g.order (λ u. is_least g s u && joined g s u v)
-        go true e = omega arith
-        go false e = let a = one_leader g s is v w in let b = some_leader g s is v w e in omega arith
-
-    regroup : (u v : ℕ) → bit (not (s v)) * bit (is_least g s u && joined g s u v) ≡ bit (is_least g s u) * bit (joined g s u v)
-    regroup u v = bits (s v) (is_least g s u) (joined g s u v) (λ l j. joined_outside g s is u v (out (s u) _ l) j)
-      where
-        out : (a b : Bool) → (not a && b) ≡ true → a ≡ false
-        out a b h = grind arith
-
-        bits : (a c d : Bool) → (c ≡ true → d ≡ true → a ≡ false) → bit (not a) * bit (c && d) ≡ bit c * bit d
-        bits true true true h = absurd (true≢false (h refl refl))
-        bits false true true h = refl
-        bits a true false h = omega arith
-        bits a false d h = omega arith
+    leader v w = grind (arith, one_leader, some_leader)
 
 -- the number of odd components and of the vertices outside s are odd together
 pub odd_component_count-parity : (g : Graph) (s : Set) → IsGraph g → is_odd (count g.order (complement s)) ≡ is_odd (odd_component_count g s)
 unfolding odd_component_count
-odd_component_count-parity g s is = ap is_odd (by_components g s is) ∙ odd_total g.order _ _ (λ u w. each (is_least g s u) (count g.order (joined g s u)))
-  where
-    each : (b : Bool) (k : ℕ) → is_odd (bit b * k) ≡ is_odd (bit (b && is_odd k))
-    each false k = ap is_odd (zero_times k)
-      where
-        zero_times : (k : ℕ) → 0 * k ≡ 0
-        zero_times k = omega arith
-    each true k = ap is_odd (one_times k) ∙ sym (odd_bit (is_odd k))
-      where
-        one_times : (k : ℕ) → 1 * k ≡ k
-        one_times k = omega arith
-
-        odd_bit : (b : Bool) → is_odd (bit b) ≡ b
-        odd_bit true = refl
-        odd_bit false = refl
+odd_component_count-parity g s is = grind (arith, by_components g s is, odd_total g.order)
 
 -- with a perfect matching no set leaves more odd components than it has vertices
 pub few_odd_components : (g : Graph) (s m : Set) → IsGraph g → IsPerfect g none m → odd_component_count g s ≤ count g.order s
@@ -59,21 +29,12 @@ few_odd_components g s m is p = let a = berge_bound g none s m is (perfect_match
 -- a set that holds a and b, without them
 pub two_less : (n : ℕ) (s : Set) (a b : ℕ) → Within n a → Within n b → a ≢ b → s a ≡ true → s b ≡ true → count n s ≡ count n (minus s (pair_set a b)) + 2
 two_less n s a b wa wb d sa sb =
-    total_congr n _ _ (λ v w. bits (s v) (a == v) (b == v) (λ t. ap s (sym (eqb-true a v t)) ∙ sa) (λ t. ap s (sym (eqb-true b v t)) ∙ sb) (λ t u. d (eqb-true a v t ∙ sym (eqb-true b v u))))
+    total_congr n _ _ (λ v w. grind arith)
     ∙ total_add n (λ v. bit (minus s (pair_set a b) v)) (λ v. bit (a == v) + bit (b == v))
     ∙ ap (λ k. count n (minus s (pair_set a b)) + k) (total_add n (λ v. bit (a == v)) (λ v. bit (b == v)) ∙ ap₂ ◌+◌ (once a wa) (once b wb))
   where
     once : (c : ℕ) → Within n c → total n (λ v. bit (c == v)) ≡ 1
     once c w = total_at n (λ v. bit (c == v)) c w (λ v u e. ap bit (ne_eqb c v (λ q. e (sym q)))) ∙ ap bit (eq-eqb c c refl)
-
-    bits : (x y z : Bool) → (y ≡ true → x ≡ true) → (z ≡ true → x ≡ true) → (y ≡ true → z ≡ true → ⊥) → bit x ≡ bit (x && not (y || z)) + (bit y + bit z)
-    bits x true true h k l = absurd (l refl refl)
-    bits true true false h k l = refl
-    bits true false true h k l = refl
-    bits true false false h k l = refl
-    bits false true false h k l = absurd (true≢false (sym (h refl)))
-    bits false false true h k l = absurd (true≢false (sym (k refl)))
-    bits false false false h k l = refl
 
 -- two vertices of a barrier are equivalent
 pub barrier_pair : (g : Graph) (s : Set) (a b : ℕ) → IsGraph g → IsBarrier g s → Within g.order a → Within g.order b → a ≢ b → s a ≡ true → s b ≡ true → (m : Set) → IsPerfect g (pair_set a b) m → ⊥
@@ -98,27 +59,16 @@ equivalent_barrier g m a b is p wa wb d no_match = (union (pair_set a b) t.s, eq
 
     equal : IsBarrier g (union (pair_set a b) t.s)
     equal = settle (missed_count g (pair_set a b) t.m) (count g.order t.s) (odd_component_count g (union (pair_set a b) t.s)) (count g.order (union (pair_set a b) t.s)) t.equal two_more (few_odd_components g (union (pair_set a b) t.s) m is p)
-        (λ z. no_match t.m (none_missed-perfect g (pair_set a b) t.m t.is z)) same_parity
+        (λ z. no_match t.m (none_missed-perfect g (pair_set a b) t.m t.is z)) (grind (arith, odd_component_count-parity, odd-add, count_complement, n_even))
       where
         two_more : count g.order (union (pair_set a b) t.s) ≡ count g.order t.s + 2
         two_more = two_less g.order (union (pair_set a b) t.s) a b wa wb d (ap (λ c. (c || (b == a)) || t.s a) (eq-eqb a a refl)) (at_b (a == b) (b == b) (t.s b) (eq-eqb b b refl))
-            ∙ ap (λ k. k + 2) (count_congr g.order _ _ (λ v w. drop_pair (pair_set a b v) (t.s v) (t.outside v)))
-          where
-            drop_pair : (x y : Bool) → (y ≡ true → x ≡ false) → ((x || y) && not x) ≡ y
-            drop_pair x y h = grind arith
+            ∙ ap (λ k. k + 2) (count_congr g.order _ _ (λ v w. grind arith))
 
         n_even : is_odd g.order ≡ false
         n_even = let a = missed_edges g none m is (perfect_matching g none m p) in let b = perfect_misses g none m p in let c = count_complement g.order none in
             let z : count g.order none ≡ 0 = total_none g.order _ (λ v w. refl) in
             let e : g.order ≡ count (size g) m + count (size g) m = omega arith in ap is_odd e ∙ odd-double (count (size g) m)
-
-        same_parity : is_odd (odd_component_count g (union (pair_set a b) t.s)) ≡ is_odd (count g.order (union (pair_set a b) t.s))
-        same_parity = sym (odd_component_count-parity g (union (pair_set a b) t.s) is)
-            ∙ same (is_odd (count g.order (union (pair_set a b) t.s))) (is_odd (count g.order (complement (union (pair_set a b) t.s))))
-            (sym (odd-add (count g.order (union (pair_set a b) t.s)) (count g.order (complement (union (pair_set a b) t.s)))) ∙ ap is_odd (count_complement g.order (union (pair_set a b) t.s)) ∙ n_even)
-          where
-            same : (x y : Bool) → cond x (not y) y ≡ false → y ≡ x
-            same x y h = grind arith
 
         settle : (k c o n : ℕ) → k + c ≡ o → n ≡ c + 2 → o ≤ n → (k ≡ 0 → ⊥) → is_odd o ≡ is_odd n → o ≡ n
         settle zero c o n e f l h q = absurd (h refl)
@@ -131,6 +81,5 @@ equivalent_barrier g m a b is p wa wb d no_match = (union (pair_set a b) t.s, eq
             f' c n f = omega arith
 
             flip : (x : Bool) → not x ≡ not (not x) → ⊥
-            flip true h = true≢false (sym h)
-            flip false h = true≢false h
+            flip x h = grind arith
         settle (suc (suc k)) c o n e f l h q = omega arith

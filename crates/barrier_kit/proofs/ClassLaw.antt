@@ -1,7 +1,7 @@
 -- The classes of a covered graph are its greatest barriers, and being equivalent is an equivalence.
 -- A barrier grows by each equivalent vertex outside it, until it is the whole class.
 use Rattle.std.proofs.Common.{◌≡◌, ℕ, suc, zero, ◌+◌, ◌≤◌, Bool, true, false, ◌==◌, refl, sym, ap, ◌∙◌, arith, ◌&&◌, ◌||◌, not, eq-eqb, eqb-true, ◌⊎◌, inl, inr}
-use Rattle.counting.proofs.Common.{cases_eq, cases_Bool, true≢false, both_ways, count_singleton, scan, choose_set, count_le, count_more, or_comm, same_tests, Within, count, is_odd, Set, minus, singleton, union}
+use Rattle.counting.proofs.Common.{cases_eq, cases_Bool, both_ways, count_singleton, scan, choose_set, count_le, count_more, same_tests, Within, count, is_odd, Set, minus, singleton, union}
 use Rattle.barrier_kit.proofs.BarrierCuts.{leader_of, leads_out, odd_part, part_out}
 use Rattle.barrier_kit.proofs.Barriers.{barrier_pair, few_odd_components}
 use Rattle.barrier_kit.proofs.Enlarging.{barrier_congr, enlarge, same_parity}
@@ -10,10 +10,7 @@ use Rattle.barrier_kit.proofs.Matched.{even_order, glue, perfect_congr}
 use Rattle.graph_core.proofs.Common.{covered_perfect, is_perfect_congr, is_perfect_true, true_is_perfect, odd_component_count, IsCovered, Graph, IsGraph, size, IsPerfect, is_perfect, Equivalent, IsBarrier, IsClass, joined}
 
 pub perfect_or_not : (g : Graph) (r : Set) → ((m : Set) × IsPerfect g r m) ⊎ ((m : Set) → IsPerfect g r m → ⊥)
-perfect_or_not g r = elim (choose_set (size g) (is_perfect g r) (record { same = is_perfect_congr g r })) [
-  | inl f ↦ inl (f.0, is_perfect_true g r f.0 f.1)
-  | inr f ↦ inr (λ m p. both_ways (is_perfect g r m) (f m) (true_is_perfect g r m p))
-]
+perfect_or_not g r = grind (arith, choose_set (size g) (is_perfect g r), is_perfect_congr g r, is_perfect_true g r, both_ways, true_is_perfect g r)
 
 pub equivalent_or_not : (g : Graph) (a b : ℕ) → (Equivalent g a b) ⊎ (Equivalent g a b → ⊥)
 equivalent_or_not g a b = elim (cases_eq a b) [
@@ -35,7 +32,7 @@ module _ (g : Graph) (is : IsGraph g) (cov : IsCovered g) (b : ℕ) (wb : Within
       let p = covered_perfect g is cov in
       enlarge g is p.0 p.1 s bar l.0 l.1 l.2 (odd_part g is cov s bar l.0 b l.1 l.2 wb sb) a wa l.3 (λ k kp.
       let j = join g is cov s bar b wb sb l.0 l.1 l.2 in
-      let m = glue g (λ v. not (b == v) && not (joined g s l.0 v)) (minus (joined g s l.0) (singleton a)) j.0 k is (λ v wv x y. apart (b == v) (joined g s l.0 v) (a == v) x y) j.1 kp in
+      let m = glue g (λ v. not (b == v) && not (joined g s l.0 v)) (minus (joined g s l.0) (singleton a)) j.0 k is (λ v wv x y. grind arith) j.1 kp in
       let n = perfect_congr g _ (union (singleton b) (singleton a)) _ (λ v wv. same (b == v) (joined g s l.0 v) (a == v)
       (λ t. ap (joined g s l.0) (sym (eqb-true b v t)) ∙ part_out g s l.0 b is (leads_out g s l.0 l.2) sb) (λ t. ap (joined g s l.0) (sym (eqb-true a v t)) ∙ l.3)) m in
       elim q [
@@ -43,27 +40,14 @@ module _ (g : Graph) (is : IsGraph g) (cov : IsCovered g) (b : ℕ) (wb : Within
         | inr f ↦ f (_, n)
       ])
     where
-      apart : (x k y : Bool) → (not x && not k) ≡ true → (k && not y) ≡ true → ⊥
-      apart x k y h i = grind arith
-
       same : (x k y : Bool) → (x ≡ true → k ≡ false) → (y ≡ true → k ≡ true) → not ((not x && not k) || (k && not y)) ≡ (x || y)
       same x k y h i = grind arith
 
   full : (k : ℕ) (s : Set) → IsBarrier g s → s b ≡ true → g.order ≤ count g.order s + k → (t : Set) × IsBarrier g t × (t b ≡ true) × ((a : ℕ) → Within g.order a → t a ≡ false → Equivalent g b a → ⊥)
-  full zero s bar sb le = elim (scan g.order (λ a. (s a ≡ false) × Equivalent g b a) (λ a. s a ≡ false → Equivalent g b a → ⊥) (λ a w. choose a)) [
-    | inl r ↦ let t = grow s bar sb r.0 r.1 r.2.0 r.2.1 in
-        absurd (let c = count_more g.order s t.0 t.2 r.0 r.1 r.2.0 t.3 in let d = count_le g.order t.0 in omega arith)
-    | inr f ↦ (s, bar, sb, f)
-  ]
+  full zero s bar sb le = grind (arith, scan g.order, choose, grow s bar sb, count_more g.order s, count_le g.order)
     where
       choose : (a : ℕ) → ((s a ≡ false) × Equivalent g b a) ⊎ (s a ≡ false → Equivalent g b a → ⊥)
-      choose a = elim (cases_Bool (s a)) [
-        | inl t ↦ inr (λ f q. both_ways (s a) f t)
-        | inr f ↦ elim (equivalent_or_not g b a) [
-          | inl q ↦ inl (f, q)
-          | inr n ↦ inr (λ h. n)
-        ]
-      ]
+      choose a = grind (arith, cases_Bool (s a), both_ways (s a), equivalent_or_not g b a)
   full (suc k) s bar sb le = elim (scan g.order (λ a. (s a ≡ false) × Equivalent g b a) (λ a. s a ≡ false → Equivalent g b a → ⊥) (λ a w. choose a)) [
     | inl r ↦ let t = grow s bar sb r.0 r.1 r.2.0 r.2.1 in
         full k t.0 t.1 (t.2 b sb) (let c = count_more g.order s t.0 t.2 r.0 r.1 r.2.0 t.3 in omega arith)
@@ -71,13 +55,7 @@ module _ (g : Graph) (is : IsGraph g) (cov : IsCovered g) (b : ℕ) (wb : Within
   ]
     where
       choose : (a : ℕ) → ((s a ≡ false) × Equivalent g b a) ⊎ (s a ≡ false → Equivalent g b a → ⊥)
-      choose a = elim (cases_Bool (s a)) [
-        | inl t ↦ inr (λ f q. both_ways (s a) f t)
-        | inr f ↦ elim (equivalent_or_not g b a) [
-          | inl q ↦ inl (f, q)
-          | inr n ↦ inr (λ h. n)
-        ]
-      ]
+      choose a = grind (arith, cases_Bool (s a), both_ways (s a), equivalent_or_not g b a)
 
   pub single_barrier : IsBarrier g (singleton b)
   single_barrier =
@@ -85,11 +63,7 @@ module _ (g : Graph) (is : IsGraph g) (cov : IsCovered g) (b : ℕ) (wb : Within
       let c = count_singleton g.order b wb in
       let l = few_odd_components g (singleton b) p.0 is p.1 in
       let o : is_odd (odd_component_count g (singleton b)) ≡ true = same_parity g (singleton b) is (even_order g p.0 is p.1) ∙ ap is_odd c in
-      odd_is_one (odd_component_count g (singleton b)) (count g.order (singleton b)) c l o
-    where
-      odd_is_one : (o n : ℕ) → n ≡ 1 → o ≤ n → is_odd o ≡ true → o ≡ n
-      odd_is_one zero n e l h = absurd (true≢false (sym h))
-      odd_is_one (suc o) n e l h = omega arith
+      (grind arith)
 
   -- the class of b is a barrier
   pub class_exists : (s : Set) × IsBarrier g s × IsClass g b s
@@ -113,27 +87,14 @@ pub equivalent_self : (g : Graph) (a : ℕ) → Equivalent g a a
 equivalent_self g a = inl refl
 
 pub equivalent_back : (g : Graph) (a b : ℕ) → Equivalent g a b → Equivalent g b a
-equivalent_back g a b q = elim q [
-  | inl e ↦ inl (sym e)
-  | inr f ↦ inr (λ h. f (h.0, perfect_congr g (union (singleton b) (singleton a)) (union (singleton a) (singleton b)) h.0 (λ v w. or_comm (b == v) (a == v)) h.1))
-]
+equivalent_back g a b q = grind arith
 
 pub equivalent_on : (g : Graph) (a b c : ℕ) → IsGraph g → IsCovered g → Within g.order a → Within g.order b → Within g.order c → Equivalent g a b → Equivalent g b c → Equivalent g a c
-equivalent_on g a b c is cov wa wb wc p q =
-    let s = class_exists g is cov b wb in
-    elim (cases_eq a c) [
-      | inl e ↦ inl e
-      | inr d ↦ inr (λ h. barrier_pair g s.0 a c is s.1 wa wc d (s.2.all a wa (equivalent_back g a b p)) (s.2.all c wc q) h.0 h.1)
-    ]
+equivalent_on g a b c is cov wa wb wc p q = grind (arith, class_exists g is cov b wb, cases_eq a c, barrier_pair g, equivalent_back g a b p)
 
 pub class_barrier : (g : Graph) (b : ℕ) (s : Set) → IsGraph g → IsCovered g → Within g.order b → IsClass g b s → IsBarrier g s
-class_barrier g b s is cov wb c =
-    let t = class_exists g is cov b wb in
-    barrier_congr g t.0 s is (λ v w. same_tests (t.0 v) (s v) (λ h. c.all v w (t.2.holds v w h)) (λ h. t.2.all v w (c.holds v w h))) t.1
+class_barrier g b s is cov wb c = grind (arith, class_exists g is cov b wb, barrier_congr g, same_tests)
 
 -- a barrier lies in the class of each of its vertices
 pub class_holds_barrier : (g : Graph) (b : ℕ) (s t : Set) → IsGraph g → Within g.order b → IsClass g b s → IsBarrier g t → t b ≡ true → (v : ℕ) → Within g.order v → t v ≡ true → s v ≡ true
-class_holds_barrier g b s t is wb c bar tb v w tv = c.all v w (elim (cases_eq b v) [
-  | inl e ↦ inl e
-  | inr d ↦ inr (λ h'. barrier_pair g t b v is bar wb w d tb tv h'.0 h'.1)
-])
+class_holds_barrier g b s t is wb c bar tb v w tv = grind (arith, cases_eq b v, barrier_pair g t b v is bar wb w)

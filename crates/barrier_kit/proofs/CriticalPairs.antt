@@ -1,8 +1,8 @@
 -- A covered graph that is not bicritical has a class with a nontrivial tight cut, and a
 -- bicritical one has none. Without a barrier of two vertices some component has three: else each
 -- edge would have one end in the barrier.
-use Rattle.std.proofs.Common.{◌≡◌, ℕ, suc, zero, ◌≤◌, ◌≢◌, Bool, true, false, ◌==◌, refl, sym, ap, ◌∙◌, arith, not, eq-eqb, ne_eqb, ◌⊎◌, ◌↔◌, inl, inr}
-use Rattle.counting.proofs.Common.{cases_eq, cases_lt, cases_Bool, true≢false, false_from_ne_true, both_ways, only_one, member_count, two_members, two_of, odd_three, count_singleton, count_mono, scan, count, Within, is_odd, Set, pair_set, complement, singleton}
+use Rattle.std.proofs.Common.{◌≡◌, ℕ, suc, zero, ◌≤◌, ◌≢◌, Bool, true, false, ◌==◌, refl, sym, ap, ◌∙◌, arith, not, ◌⊎◌, ◌↔◌, inl, inr}
+use Rattle.counting.proofs.Common.{cases_eq, cases_lt, cases_Bool, true≢false, both_ways, only_one, member_count, two_members, two_of, odd_three, count_singleton, count_mono, scan, count, Within, is_odd, Set, pair_set, complement, singleton}
 use Rattle.barrier_kit.proofs.BarrierCuts.{leader_of, leads_out, part_out, part_step, part_same, none_inside, part_tight, many_parts}
 use Rattle.barrier_kit.proofs.Barriers.{equivalent_barrier}
 use Rattle.barrier_kit.proofs.ClassLaw.{perfect_or_not, class_exists, class_barrier}
@@ -29,10 +29,7 @@ part_nontrivial g s a u is cov bar wa sa wu su = (there, back)
             let one = member_count g.order (is_least g s) r.0 r.1 r.2 in
             let q = count_mono g.order (complement (joined g s u)) s (λ v w h. elim (cases_Bool (s v)) [
               | inl y ↦ y
-              | inr y ↦
-                  let i = leader_of g s is v w y in
-                  let e = only_one g.order (is_least g s) (omega arith) r.0 i.0 r.1 i.1 r.2 i.2 in
-                  let j : joined g s u v ≡ true = sym (part_same g s is r.0 u r.1 wu r.3 v) ∙ ap (λ k. joined g s k v) e ∙ i.3 in absurd (both_ways (complement (joined g s u) v) (ap not j) h)
+              | inr y ↦ grind (arith, leader_of g s is v w y, only_one g.order (is_least g s), part_same g s is r.0 u r.1 wu r.3 v, both_ways (complement (joined g s u) v))
             ]) in
             let o = t.outside in absurd (omega arith)
       ],
@@ -50,28 +47,11 @@ part_nontrivial g s a u is cov bar wa sa wu su = (there, back)
 module _ (g : Graph) (is : IsGraph g) (cov : IsCovered g) (odd_cycle : (x : Set) → IsSide g x → ⊥) where
   -- a barrier with two vertices has a component with three
   pub barrier_cut : (s : Set) → IsBarrier g s → (a b : ℕ) → Within g.order a → Within g.order b → a ≢ b → s a ≡ true → s b ≡ true → BarrierCut g s
-  barrier_cut s bar a b wa wb d sa sb = elim (scan g.order (λ u. (is_least g s u ≡ true) × (count g.order (joined g s u) ≢ 1)) (λ u. is_least g s u ≡ true → count g.order (joined g s u) ≡ 1) (λ u w. choose u)) [
-    | inl r ↦
-        let o = leads_out g s r.0 r.2.0 in
-        record {
-          vertex = r.0;
-          within = r.1;
-          outside = o;
-          tight = part_tight g s a r.0 is cov bar wa sa r.1 o;
-          nontrivial = (part_nontrivial g s a r.0 is cov bar wa sa r.1 o).1 (two_members g.order s a b wa wb d sa sb, r.2.1);
-        }
+  barrier_cut s bar a b wa wb d sa sb = elim (scan g.order (λ u. (is_least g s u ≡ true) × (count g.order (joined g s u) ≢ 1)) (λ u. is_least g s u ≡ true → count g.order (joined g s u) ≡ 1) (λ u w. grind arith)) [
+    | inl r ↦ grind (arith, leads_out g s r.0 r.2.0, part_tight g s a r.0 is cov bar wa sa r.1, part_nontrivial g s a r.0 is cov bar wa sa r.1, two_members g.order s a b wa wb d sa sb)
     | inr f ↦ absurd (odd_cycle s (λ e w d. go e w d f (s (first_end g e)) (s (second_end g e)) refl refl))
   ]
     where
-      choose : (u : ℕ) → ((is_least g s u ≡ true) × (count g.order (joined g s u) ≢ 1)) ⊎ (is_least g s u ≡ true → count g.order (joined g s u) ≡ 1)
-      choose u = elim (cases_Bool (is_least g s u)) [
-        | inr f ↦ inr (λ t. absurd (both_ways (is_least g s u) f t))
-        | inl t ↦ elim (cases_eq (count g.order (joined g s u)) 1) [
-          | inl e ↦ inr (λ h. e)
-          | inr n ↦ inl (t, n)
-        ]
-      ]
-
       go : (e : ℕ) → Within (size g) e → first_end g e ≢ second_end g e → ((u : ℕ) → Within g.order u → is_least g s u ≡ true → count g.order (joined g s u) ≡ 1) → (x y : Bool) → s (first_end g e) ≡ x → s (second_end g e) ≡ y → in_cut g s e ≡ true
       go e w d f true false p q = rw (p, q) refl
       go e w d f false true p q = rw (p, q) refl
@@ -88,16 +68,7 @@ module _ (g : Graph) (is : IsGraph g) (cov : IsCovered g) (odd_cycle : (x : Set)
   ]
     where
       row : (a : ℕ) → ((b : ℕ) × Within g.order b × ((a ≢ b) × ((m : Set) → IsPerfect g (pair_set a b) m → ⊥))) ⊎ ((b : ℕ) → Within g.order b → a ≢ b → (m : Set) × IsPerfect g (pair_set a b) m)
-      row a = scan g.order (λ b. (a ≢ b) × ((m : Set) → IsPerfect g (pair_set a b) m → ⊥)) (λ b. a ≢ b → (m : Set) × IsPerfect g (pair_set a b) m) (λ b w. cell b)
-        where
-          cell : (b : ℕ) → ((a ≢ b) × ((m : Set) → IsPerfect g (pair_set a b) m → ⊥)) ⊎ (a ≢ b → (m : Set) × IsPerfect g (pair_set a b) m)
-          cell b = elim (cases_eq a b) [
-            | inl e ↦ inr (λ d. absurd (d e))
-            | inr d ↦ elim (perfect_or_not g (pair_set a b)) [
-              | inl m ↦ inr (λ h. m)
-              | inr f ↦ inl (d, f)
-            ]
-          ]
+      row a = scan g.order (λ b. (a ≢ b) × ((m : Set) → IsPerfect g (pair_set a b) m → ⊥)) (λ b. a ≢ b → (m : Set) × IsPerfect g (pair_set a b) m) (λ b w. grind (arith, cases_eq a b, perfect_or_not g (pair_set a b)))
 
   -- first law of the quick test: not bicritical, a class has a nontrivial tight cut
   pub class_cut : (IsBicritical g → ⊥) → (b : ℕ) × Within g.order b × ((s : Set) × IsClass g b s × BarrierCut g s)
@@ -110,16 +81,10 @@ module _ (g : Graph) (is : IsGraph g) (cov : IsCovered g) (odd_cycle : (x : Set)
   pub four_vertices : 4 ≤ g.order
   four_vertices = let m = covered_perfect g is cov in go g.order refl cov.two (even_order g m.0 is m.1)
     where
-      two_sides : g.order ≡ 2 → IsSide g (singleton 1)
-      two_sides q e w l = elim (cases_eq (first_end g e) 1) [
-        | inl a ↦ rw (a, ne_eqb 1 (second_end g e) (λ b. l (a ∙ b))) refl
-        | inr a ↦ let i = is e w in let d : 1 ≡ second_end g e = omega (arith, l, a, i) in rw (ne_eqb 1 (first_end g e) (λ b. a (sym b)), eq-eqb 1 (second_end g e) d) refl
-      ]
-
       go : (n : ℕ) → g.order ≡ n → 2 ≤ g.order → is_odd g.order ≡ false → 4 ≤ g.order
       go zero e h o = absurd (omega arith)
       go (suc zero) e h o = absurd (omega arith)
-      go (suc (suc zero)) e h o = absurd (odd_cycle (singleton 1) (two_sides e))
+      go (suc (suc zero)) e h o = absurd (odd_cycle (singleton 1) (grind arith))
       go (suc (suc (suc zero))) e h o = absurd (true≢false (sym (ap is_odd e) ∙ o))
       go (suc (suc (suc (suc n)))) e h o = omega arith
 
@@ -139,13 +104,7 @@ no_sides g loopless h x two = h (x, λ e w. two e w (loopless e w))
 
 -- bicritical: each class is a vertex
 pub class_single : (g : Graph) (b : ℕ) (s : Set) → IsBicritical g → Within g.order b → IsClass g b s → (v : ℕ) → Within g.order v → s v ≡ (b == v)
-class_single g b s bi wb c v w = elim (cases_eq b v) [
-  | inl e ↦ c.all v w (inl e) ∙ sym (eq-eqb b v e)
-  | inr d ↦ false_from_ne_true (s v) (λ t. elim (c.holds v w t) [
-    | inl e ↦ d e
-    | inr f ↦ f (bi b v wb w d)
-  ]) ∙ sym (ne_eqb b v d)
-]
+class_single g b s bi wb c v w = grind arith
 
 -- and no component of a class has a nontrivial cut
 pub class_trivial : (g : Graph) (b u : ℕ) (s : Set) → IsGraph g → IsCovered g → IsBicritical g → Within g.order b → IsClass g b s → Within g.order u → s u ≡ false → IsNontrivial g.order (joined g s u) → ⊥

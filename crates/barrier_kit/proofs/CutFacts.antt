@@ -2,17 +2,13 @@
 -- shores are, and there is none exactly when each shore is trivial. Inductions over the shores; a
 -- step appends at most one canonical shore.
 use Rattle.std.proofs.Common.{◌≡◌, ℕ, ◌≤◌, Bool, true, false, refl, sym, ap, ◌∙◌, arith, ◌&&◌, not, cond, List, [], ◌∷◌, ◌++◌, fold, length, nat_le, leb-true, inl, inr, All}
-use Rattle.counting.proofs.Common.{and_from, and_parts, cases_Bool, le-leb, length-append, All-cons, All-head, All-nil, All-tail, count_congr, mem-rising_list, rising_list-rises, total_congr, apart_denied, not_not, Within, bit, count, is_odd, mem, rising_list, Set, complement}
+use Rattle.counting.proofs.Common.{and_from, and_parts, cases_Bool, le-leb, length-append, All-cons, All-head, All-nil, All-tail, mem-rising_list, rising_list-rises, Within, count, mem, rising_list, Set, complement}
 use Rattle.std.proofs.lemmas.List.Elements.{All-append}
-use Rattle.graph_core.proofs.Common.{nontrivial-same, tight-same, Graph, IsGraph, first_end, second_end, size, IsNontrivial, IsTight, canonical_shore, is_nontrivial, IsCanonicalCut, canonical_list, cuts_of, is_listed, with_cut}
+use Rattle.graph_core.proofs.Common.{nontrivial-same, tight-same, Graph, IsGraph, IsNontrivial, IsTight, canonical_shore, is_nontrivial, IsCanonicalCut, canonical_list, cuts_of, is_listed, with_cut}
 
 -- a step keeps what is in the list
 step-length : (n : ℕ) (cuts : List (List ℕ)) (s : List ℕ) → length cuts ≤ length (with_cut n cuts s)
-step-length n cuts s = go (is_nontrivial n (canonical_shore n (mem s)) && not (is_listed cuts (canonical_list n s)))
-  where
-    go : (b : Bool) → length cuts ≤ length (cond b (cuts ++ canonical_list n s ∷ []) cuts)
-    go true = let l = length-append cuts (canonical_list n s ∷ []) in omega arith
-    go false = omega arith
+step-length n cuts s = grind (arith, length-append cuts (canonical_list n s ∷ []))
 
 cuts-length : (n : ℕ) (cuts shores : List (List ℕ)) → length cuts ≤ length (fold (with_cut n) cuts shores)
 cuts-length n cuts [] = omega arith
@@ -42,11 +38,7 @@ cuts-none n (s ∷ shores) each =
 pub cuts-some : (n : ℕ) (shores : List (List ℕ)) → cuts_of n shores ≡ [] → All (λ s. is_nontrivial n (canonical_shore n (mem s)) ≡ false) shores
 cuts-some n [] e = All-nil (λ s. is_nontrivial n (canonical_shore n (mem s)) ≡ false)
 cuts-some n (s ∷ shores) e = elim (cases_Bool (is_nontrivial n (canonical_shore n (mem s)))) [
-  | inl t ↦
-      let first : with_cut n [] s ≡ canonical_list n s ∷ [] = ap (λ b. cond (b && true) (canonical_list n s ∷ []) []) t in
-      let l = cuts-length n (with_cut n [] s) shores in
-      let a = ap length first in
-      let z = ap length e in absurd (omega arith)
+  | inl t ↦ grind (arith, cuts-length n (with_cut n [] s) shores)
   | inr f ↦
       let first : with_cut n [] s ≡ [] = ap (λ b. cond (b && true) (canonical_list n s ∷ []) []) f in
       All-cons (λ s. is_nontrivial n (canonical_shore n (mem s)) ≡ false) s shores f (cuts-some n shores (ap (λ cuts. fold (with_cut n) cuts shores) (sym first) ∙ e))
@@ -61,18 +53,10 @@ true-nontrivial n x t = and_from (nat_le 3 (count n x)) (nat_le 3 (count n (comp
 
 -- a set with the same cut: the set or its complement
 pub nontrivial-turned : (n : ℕ) (x : Set) → IsNontrivial n x → IsNontrivial n (complement x)
-nontrivial-turned n x t = let c = count_congr n x (complement (complement x)) (λ v w. not_twice (x v)) in let i = t.inside in record { inside = t.outside; outside = omega arith }
-  where
-    not_twice : (b : Bool) → b ≡ not (not b)
-    not_twice true = refl
-    not_twice false = refl
+nontrivial-turned n x t = grind arith
 
 pub tight-turned : (g : Graph) (x : Set) → IsTight g x → IsTight g (complement x)
-tight-turned g x t = record {
-  odd = t.odd_complement;
-  odd_complement = ap is_odd (count_congr g.order (complement (complement x)) x (λ v w. not_not (x v))) ∙ t.odd;
-  cut = λ m p. total_congr (size g) _ _ (λ e w. ap bit (apart_denied (m e) (x (first_end g e)) (x (second_end g e)))) ∙ t.cut m p;
-}
+tight-turned g x t = grind arith
 
 -- the canonical shore of a cut is the set or its complement
 pub canonical-is : (P : Set → Type 0) (n : ℕ) (x : Set) → ((y z : Set) → ((v : ℕ) → y v ≡ z v) → P y → P z) → P x → P (complement x) → P (canonical_shore n x)
@@ -89,18 +73,10 @@ pub canonical-wide : (n : ℕ) (x : Set) → IsNontrivial n x → IsNontrivial n
 canonical-wide n x t = canonical-is (IsNontrivial n) n x (λ y z h. nontrivial-same n y z (λ v w. h v)) t (nontrivial-turned n x t)
 
 pub wide-canonical : (n : ℕ) (x : Set) → IsNontrivial n (canonical_shore n x) → IsNontrivial n x
-wide-canonical n x t = go (x n) refl
-  where
-    go : (b : Bool) → x n ≡ b → IsNontrivial n x
-    go true e = nontrivial-same n (complement (canonical_shore n x)) x (λ v w. ap (λ b. not (cond b (not (x v)) (x v))) e ∙ not_not (x v)) (nontrivial-turned n (canonical_shore n x) t)
-    go false e = nontrivial-same n (canonical_shore n x) x (λ v w. ap (λ b. cond b (not (x v)) (x v)) e) t
+wide-canonical n x t = grind arith
 
 pub canonical-out : (n : ℕ) (x : Set) → canonical_shore n x n ≡ false
-canonical-out n x = go (x n)
-  where
-    go : (b : Bool) → cond b (not b) b ≡ false
-    go true = refl
-    go false = refl
+canonical-out n x = grind arith
 
 -- the cuts of tight shores
 pub cuts-canonical : (g : Graph) (shores : List (List ℕ)) → IsGraph g → 1 ≤ g.order → All (λ s. IsTight g (mem s)) shores → All (IsCanonicalCut g) (cuts_of g.order shores)

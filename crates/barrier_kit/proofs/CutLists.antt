@@ -1,9 +1,9 @@
 -- The cuts of all classes as a list, and the number of odd components off the list of all.
 -- Each is an induction over the list of what gives them.
-use Rattle.std.proofs.Common.{◌≡◌, ℕ, suc, zero, ◌+◌, ◌-◌, ◌≤◌, Bool, true, false, refl, sym, ap, ap₂, ◌∙◌, arith, ◌&&◌, not, cond, List, [], ◌∷◌, ◌++◌, map, length, nat_le, subst, fold, flat_map, take, count_by}
-use Rattle.counting.proofs.Common.{and_parts, and_from, and_right, map-append, take_all, count_complement, count_congr, count_mem_length, length-rising_list, list-from_test, mem-rising_list, rising_list-rises, set-narrower, Within, bit, count, is_odd, IsRisingIn, mem, rising_list, Set, complement}
+use Rattle.std.proofs.Common.{◌≡◌, ℕ, suc, zero, ◌+◌, ◌≤◌, Bool, refl, ap, ap₂, ◌∙◌, arith, ◌&&◌, cond, List, [], ◌∷◌, map, length, fold, flat_map, take, count_by}
+use Rattle.counting.proofs.Common.{map-append, take_all, length-rising_list, bit, count, is_odd, mem, rising_list, Set}
 use Rattle.std.proofs.lemmas.List.Sums.{sum_by-append}
-use Rattle.graph_core.proofs.Common.{components, is_least, odd_component_count, Graph, classes, canonical_shore, is_nontrivial, joined, canonical_list, is_listed, with_cut}
+use Rattle.graph_core.proofs.Common.{components, is_least, odd_component_count, Graph, classes, joined, with_cut}
 use Rattle.barrier_kit.specs.Common.{barrier_cuts, barrier_shores}
 
 -- the odd components by their lists
@@ -12,18 +12,13 @@ count_by-least g s zero = refl
 count_by-least g s (suc n) =
     ap (count_by (λ p. is_odd (length p))) (map-append part (rising_list n (is_least g s)) (cond (is_least g s (suc n)) (suc n ∷ []) []))
     ∙ sum_by-append (λ p. cond (is_odd (length p)) 1 0) (map part (rising_list n (is_least g s))) (map part (cond (is_least g s (suc n)) (suc n ∷ []) []))
-    ∙ ap₂ ◌+◌ (count_by-least g s n) (last (is_least g s (suc n)))
+    ∙ ap₂ ◌+◌ (count_by-least g s n) (grind (arith, counted_last (is_odd (length (part (suc n)))), length-rising_list g.order (joined g s (suc n))))
   where
     part : ℕ → List ℕ
     part u = rising_list g.order (joined g s u)
 
     counted_last : (b : Bool) → 0 + cond b 1 0 ≡ bit b
-    counted_last true = omega arith
-    counted_last false = omega arith
-
-    last : (b : Bool) → count_by (λ p. is_odd (length p)) (map part (cond b (suc n ∷ []) [])) ≡ bit (b && is_odd (count g.order (joined g s (suc n))))
-    last true = counted_last (is_odd (length (part (suc n)))) ∙ ap (λ k. bit (is_odd k)) (length-rising_list g.order (joined g s (suc n)))
-    last false = refl
+    counted_last b = grind arith
 
 pub odd_parts-counted : (g : Graph) (s : Set) → count_by (λ p. is_odd (length p)) (components g s) ≡ odd_component_count g s
 unfolding components odd_component_count

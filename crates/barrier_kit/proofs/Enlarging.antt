@@ -1,8 +1,8 @@
 -- A barrier grows by a vertex of an odd component without which the component has no perfect
 -- matching. By the law of Tutte and Berge the component has a set that shows this; together with
 -- the barrier and the vertex it is a barrier.
-use Rattle.std.proofs.Common.{◌≡◌, ℕ, suc, zero, ◌+◌, ◌≤◌, Bool, true, false, cond, ◌==◌, refl, sym, ap, ap₂, ◌∙◌, arith, ◌&&◌, ◌||◌, not, eq-eqb, ne_eqb, eqb-true, inl, inr, nat_lt, List, [], ◌∷◌}
-use Rattle.counting.proofs.Common.{same_tests, cases_eq, true≢false, false_from_ne_true, both_ways, count_singleton, some_congr, count_complement, count_congr, odd-add, total_add, total_congr, Within, bit, count, is_odd, Set, complement, minus, none, singleton, union}
+use Rattle.std.proofs.Common.{◌≡◌, ℕ, suc, zero, ◌+◌, ◌≤◌, Bool, true, false, ◌==◌, refl, sym, ap, ap₂, ◌∙◌, arith, ◌&&◌, ◌||◌, not, ne_eqb, eqb-true, inl, inr, nat_lt, List, [], ◌∷◌}
+use Rattle.counting.proofs.Common.{same_tests, cases_eq, false_from_ne_true, both_ways, count_singleton, some_congr, count_complement, count_congr, odd-add, total_add, total_congr, Within, bit, count, is_odd, Set, complement, minus, none, singleton, union}
 use Rattle.barrier_kit.proofs.BarrierCuts.{leader_same, leads_out}
 use Rattle.barrier_kit.proofs.Barriers.{few_odd_components, odd_component_count-parity}
 use Rattle.graph_core.proofs.Common.{none_missed-perfect, joined_outside, joined_walk, walk_joined, adjacent-edge, adjacent_back, adjacent_from, adjacent_within, joined_on, joined_self, is_least, odd_component_count, Graph, IsGraph, IsPerfect, missed_count, IsBarrier, Joined, Walk, adjacent, joined}
@@ -43,10 +43,7 @@ barrier_congr g s t is h b = sym (odd_component_count-congr g s t is h) ∙ b �
 
 -- the number of odd components and of the vertices of s are odd together
 pub same_parity : (g : Graph) (s : Set) → IsGraph g → is_odd g.order ≡ false → is_odd (odd_component_count g s) ≡ is_odd (count g.order s)
-same_parity g s is even = sym (odd_component_count-parity g s is) ∙ same (is_odd (count g.order s)) (is_odd (count g.order (complement s))) (sym (odd-add (count g.order s) (count g.order (complement s))) ∙ ap is_odd (count_complement g.order s) ∙ even)
-  where
-    same : (x y : Bool) → cond x (not y) y ≡ false → y ≡ x
-    same x y h = grind arith
+same_parity g s is even = grind (arith, odd_component_count-parity g s is, odd-add (count g.order s) (count g.order (complement s)), count_complement g.order s)
 
 module _ (g : Graph) (is : IsGraph g) (m : Set) (p : IsPerfect g none m) (s : Set) (bar : IsBarrier g s)
     (l : ℕ) (wl : Within g.order l) (lead : is_least g s l ≡ true) (odd : is_odd (count g.order (joined g s l)) ≡ true)
@@ -67,10 +64,7 @@ module _ (g : Graph) (is : IsGraph g) (m : Set) (p : IsPerfect g none m) (s : Se
   part_own = walk_joined g s is l l wl (joined_self g s l)
 
   in_part : (w : ℕ) → t.s w ≡ true → (part w ≡ true) × ((v == w) ≡ false)
-  in_part w h = split (part w) (v == w) (t.outside w h)
-    where
-      split : (a b : Bool) → not (a && not b) ≡ false → (a ≡ true) × (b ≡ false)
-      split a b h = grind arith
+  in_part w h = grind arith
 
   v_in : (w : ℕ) → (v == w) ≡ true → part w ≡ true
   v_in w h = ap part (sym (eqb-true v w h)) ∙ kv
@@ -83,50 +77,35 @@ module _ (g : Graph) (is : IsGraph g) (m : Set) (p : IsPerfect g none m) (s : Se
   step u w h a = walk_joined g s is l w wl (joined_on g s l u w (joined_walk g s l u h) (w ∷ [], (a, refl)))
 
   smaller : (u w : ℕ) → adjacent g big u w ≡ true → adjacent g s u w ≡ true
-  smaller u w a = let q = adjacent-edge g big u w a in adjacent_from g s u w q.2.0 (first (s u) _ q.0) (first (s w) _ q.1) q.2.1 q.2.2
-    where
-      first : (a b : Bool) → (a || b) ≡ false → a ≡ false
-      first a b h = grind arith
+  smaller u w a = grind arith
 
   -- outside the component all stays
   outer : (u : ℕ) → Within g.order u → part u ≡ false → (is_least g s u && is_odd (count g.order (joined g s u))) ≡ (is_least g big u && is_odd (count g.order (joined g big u)))
-  outer u w h = odd_same g s big (complement part) is (λ w x q. agree (s w) (v == w) (t.s w) (part w) q (v_in w) (λ k. (in_part w k).0)) closed (λ a b q k. closed a b q (smaller a b k)) u w (ap not h)
+  outer u w h = odd_same g s big (complement part) is (λ w x q. grind arith) closed (λ a b q k. closed a b q (smaller a b k)) u w (ap not h)
     where
-      agree : (a b c d : Bool) → not d ≡ true → (b ≡ true → d ≡ true) → (c ≡ true → d ≡ true) → a ≡ (a || (b || c))
-      agree a b c d h f k = grind arith
-
       closed : (a b : ℕ) → complement part a ≡ true → adjacent g s a b ≡ true → complement part b ≡ true
       closed a b q k = ap not (false_from_ne_true (part b) (λ pb. both_ways (complement part a) (ap not (step b a pb (adjacent_back g s a b k))) q))
 
   -- inside, the components are those of what Tutte and Berge left
   inner_same : (u : ℕ) → Within g.order u → part u ≡ true → (is_least g big u && is_odd (count g.order (joined g big u))) ≡ (is_least g (union r t.s) u && is_odd (count g.order (joined g (union r t.s) u)))
   inner_same u w h = odd_same g big (union r t.s) part is (λ w x q. agree (s w) (v == w) (t.s w) (part w) q (s_out w)) (λ a b q k. step a b q (smaller a b k))
-      (λ a b q k. into (part b) (v == b) (t.s b) (adjacent-edge g (union r t.s) a b k).1) u w h
+      (λ a b q k. grind arith) u w h
     where
       agree : (a b c d : Bool) → d ≡ true → (d ≡ true → a ≡ false) → (a || (b || c)) ≡ (not (d && not b) || c)
       agree a b c d h f = grind arith
-
-      into : (a b c : Bool) → (not (a && not b) || c) ≡ false → a ≡ true
-      into a b c h = grind arith
 
   pointwise : (u : ℕ) → Within g.order u → bit (is_least g big u && is_odd (count g.order (joined g big u))) + bit (singleton l u) ≡ bit (is_least g s u && is_odd (count g.order (joined g s u))) + bit (is_least g (union r t.s) u && is_odd (count g.order (joined g (union r t.s) u)))
   pointwise u w = go (part u) refl
     where
       removed : part u ≡ false → (is_least g (union r t.s) u && is_odd (count g.order (joined g (union r t.s) u))) ≡ false
-      removed h = out (part u) (v == u) (t.s u) _ _ h
-        where
-          out : (a b c d e : Bool) → a ≡ false → ((not (not (a && not b) || c) && d) && e) ≡ false
-          out a b c d e h = grind arith
+      removed h = grind arith
 
       go : (b : Bool) → part u ≡ b → bit (is_least g big u && is_odd (count g.order (joined g big u))) + bit (singleton l u) ≡ bit (is_least g s u && is_odd (count g.order (joined g s u))) + bit (is_least g (union r t.s) u && is_odd (count g.order (joined g (union r t.s) u)))
       go false h = let a = ap bit (outer u w h) in let b = ap bit (removed h) in
           let c : bit (singleton l u) ≡ 0 = ap bit (ne_eqb l u (λ e. both_ways (part u) h (ap part (sym e) ∙ part_own))) in omega arith
       go true h = let a = ap bit (inner_same u w h) in elim (cases_eq l u) [
-        | inl e ↦ let c : bit (singleton l u) ≡ 1 = ap bit (eq-eqb l u e) in
-            let d : bit (is_least g s u && is_odd (count g.order (joined g s u))) ≡ 1 = ap (λ i. bit (is_least g s i && is_odd (count g.order (joined g s i)))) (sym e) ∙ rw (lead, odd) refl in omega arith
-        | inr e ↦ let c : bit (singleton l u) ≡ 0 = ap bit (ne_eqb l u e) in
-            let d : is_least g s u ≡ false = false_from_ne_true _ (λ k. e (leader_same g s is l u u wl w w lead h k (walk_joined g s is u u w (joined_self g s u)))) in
-            let f : bit (is_least g s u && is_odd (count g.order (joined g s u))) ≡ 0 = ap (λ i. bit (i && is_odd (count g.order (joined g s u)))) d in omega arith
+        | inl e ↦ grind arith
+        | inr e ↦ grind (arith, ne_eqb l u e, false_from_ne_true, leader_same g s is l u u wl w w lead h, walk_joined g s is u u w (joined_self g s u), joined_self g s u)
       ]
 
   parts_sum : odd_component_count g big + 1 ≡ odd_component_count g s + odd_component_count g (union r t.s)
@@ -144,24 +123,12 @@ module _ (g : Graph) (is : IsGraph g) (m : Set) (p : IsPerfect g none m) (s : Se
       let d = count_singleton g.order v wv in omega arith
     where
       bits : (a b c d : Bool) → (d ≡ true → a ≡ false) → (b ≡ true → d ≡ true) → (c ≡ true → (d ≡ true) × (b ≡ false)) → bit (a || (b || c)) ≡ bit a + (bit b + bit c)
-      bits a true true d h k l = absurd (true≢false (l refl).1)
-      bits true true c d h k l = absurd (true≢false (h (k refl)))
-      bits true false true d h k l = absurd (true≢false (h (l refl).0))
-      bits true false false d h k l = refl
-      bits false true false d h k l = refl
-      bits false false true d h k l = refl
-      bits false false false d h k l = refl
+      bits a b c d h k l = grind arith
 
   -- the barrier grows
   pub enlarge : (b : Set) × IsBarrier g b × ((w : ℕ) → s w ≡ true → b w ≡ true) × (b v ≡ true)
-  enlarge = (big, barrier, (λ w h. first (s w) _ h), at_v (s v) (v == v) (t.s v) (eq-eqb v v refl))
+  enlarge = (big, barrier, (λ w h. grind arith), grind arith)
     where
-      first : (a b : Bool) → a ≡ true → (a || b) ≡ true
-      first a b h = grind arith
-
-      at_v : (a b c : Bool) → b ≡ true → (a || (b || c)) ≡ true
-      at_v a b c h = grind arith
-
       settle : (k c d o n : ℕ) → o + 1 ≡ c + (k + d) → n ≡ c + (1 + d) → o ≤ n → (k ≡ 0 → ⊥) → is_odd o ≡ is_odd n → o ≡ n
       settle zero c d o n e f h i q = absurd (i refl)
       settle (suc zero) c d o n e f h i q = absurd (flip (is_odd o) (q ∙ ap is_odd (next e f)))
@@ -170,8 +137,7 @@ module _ (g : Graph) (is : IsGraph g) (m : Set) (p : IsPerfect g none m) (s : Se
           next e f = omega arith
 
           flip : (x : Bool) → x ≡ not x → ⊥
-          flip true h = true≢false h
-          flip false h = true≢false (sym h)
+          flip x h = grind arith
       settle (suc (suc k)) c d o n e f h i q = omega arith
 
       barrier : IsBarrier g big

@@ -28,14 +28,7 @@ module _ (g : Graph) (is : IsGraph g) (from : Set) (star : ℕ → Set)
         where
           same : (a c d : Bool) → c ≡ false → not a ≡ not (a || (c && d))
           same a c d h = grind arith
-      go true e m p =
-          let i : Within g.order (suc k) = omega arith in
-          let q = matched (suc k) i e in
-          let t = glue g (so_far k) (star (suc k)) m q.0 is (λ v wv a c.
-          let z = some_true k (λ z. from z && star z v) a in
-          let b = and_parts (from z.0) (star z.0 v) z.2 in
-          let same = apart z.0 (suc k) v (let l = z.1 in omega arith) i wv b.0 b.1 e c in let l = z.1 in omega arith) p q.1 in
-          (_, perfect_congr g (complement (union (so_far k) (star (suc k)))) (complement (so_far (suc k))) _ (λ v w. same (so_far k v) (from (suc k)) (star (suc k) v) e) t)
+      go true e m p = grind (arith, glue g (so_far k) (star (suc k)) m, some_true k, and_parts, perfect_congr g (complement (union (so_far k) (star (suc k)))) (complement (so_far (suc k))))
         where
           same : (a c d : Bool) → c ≡ true → not (a || d) ≡ not (a || (c && d))
           same a c d h = grind arith

@@ -1,10 +1,10 @@
 -- The first cut of a list stays the first while shores add more. A step leaves the list or
 -- appends to it; so the first cut of the first classes is the first of all.
-use Rattle.std.proofs.Common.{◌≡◌, ℕ, Bool, true, false, cond, sym, ap, ◌∙◌, List, [], ◌∷◌, ◌++◌, Some, None, flat_map, fold, take, drop, slice_get, length, ◌≤◌, ◌<◌, ◌+◌, get_or, append-nil, take-append-drop}
+use Rattle.std.proofs.Common.{◌≡◌, ℕ, sym, ap, ◌∙◌, List, [], ◌∷◌, ◌++◌, Some, None, flat_map, fold, take, slice_get, length, ◌≤◌, ◌<◌, ◌+◌, get_or, append-nil, take-append-drop, arith}
 use Rattle.std.proofs.lemmas.Grind.{flat_map-append}
 use Rattle.counting.proofs.Common.{take_more, mem}
 use Rattle.std.proofs.lemmas.List.Sums.{fold-append}
-use Rattle.graph_core.proofs.Common.{components, Graph, classes, canonical_list, with_cut}
+use Rattle.graph_core.proofs.Common.{components, Graph, classes, with_cut}
 use Rattle.barrier_kit.proofs.CutLists.{barrier_cuts-all}
 use Rattle.barrier_kit.specs.Common.{barrier_cuts, barrier_shores}
 
@@ -14,38 +14,21 @@ first-append (b ∷ cuts) d c h = h
 
 pub first-kept : (n : ℕ) (cuts shores : List (List ℕ)) (c : List ℕ) → slice_get cuts 0 ≡ Some c → slice_get (fold (with_cut n) cuts shores) 0 ≡ Some c
 first-kept n cuts [] c h = h
-first-kept n cuts (s ∷ shores) c h = first-kept n (with_cut n cuts s) shores c (go _)
-  where
-    go : (b : Bool) → slice_get (cond b (cuts ++ canonical_list n s ∷ []) cuts) 0 ≡ Some c
-    go true = first-append cuts (canonical_list n s) c h
-    go false = h
+first-kept n cuts (s ∷ shores) c h = first-kept n (with_cut n cuts s) shores c (grind (arith, first-append))
 
 -- the first cut of some shores is the first with more shores after them
 pub first-of_part : (n : ℕ) (cuts shores more : List (List ℕ)) (c : List ℕ) → cuts ≡ fold (with_cut n) [] shores → slice_get cuts 0 ≡ Some c → Some c ≡ slice_get (fold (with_cut n) [] (shores ++ more)) 0
-first-of_part n cuts shores more c is h =
-    sym (ap (λ (list : List (List ℕ)). slice_get list 0) (fold-append (with_cut n) [] shores more)
-    ∙ ap (λ list. slice_get (fold (with_cut n) list more) 0) (sym is) ∙ first-kept n cuts more c h)
+first-of_part n cuts shores more c is h = grind (arith, slice_get, fold-append (with_cut n), first-kept n cuts more c h)
 
 -- the first cut of the first classes
 first_barrier : (g : Graph) (cuts items : List (List ℕ)) (i : ℕ) → items ≡ classes g → cuts ≡ fold (with_cut g.order) [] (flat_map (λ s. components g (mem s)) (take i items)) → (c : List ℕ) → slice_get cuts 0 ≡ Some c → Some c ≡ slice_get (barrier_cuts g) 0
 unfolding barrier_cuts barrier_shores
-first_barrier g cuts items i is old c h =
-    let parts = λ (s : List ℕ). components g (mem s) in
-    first-of_part g.order cuts (flat_map parts (take i items)) (flat_map parts (drop i items)) c old h
-    ∙ ap (λ shores. slice_get (fold (with_cut g.order) [] shores) 0) (sym (flat_map-append parts (take i items) (drop i items)) ∙ ap (flat_map parts) (take-append-drop i items ∙ is))
+first_barrier g cuts items i is old c h = grind (arith, first-of_part g.order cuts, slice_get, flat_map-append, take-append-drop i items)
 
 module _ (g : Graph) (cuts items : List (List ℕ)) (i : ℕ) (is : items ≡ classes g) (old : cuts ≡ fold (with_cut g.order) [] (flat_map (λ s. components g (mem s)) (take i items))) where
   -- a class more
   pub next_barrier : (item : List ℕ) (after : List (List ℕ)) (c : List ℕ) → i < length items → item ≡ get_or items i item → after ≡ fold (with_cut g.order) cuts (components g (mem item)) → slice_get after 0 ≡ Some c → Some c ≡ slice_get (barrier_cuts g) 0
-  next_barrier item after c l read new h =
-      let parts = λ (s : List ℕ). components g (mem s) in
-      first_barrier g after items (i + 1) is
-      (new ∙ ap (λ list. fold (with_cut g.order) list (parts item)) old
-      ∙ sym (fold-append (with_cut g.order) [] (flat_map parts (take i items)) (parts item))
-      ∙ ap (λ ss. fold (with_cut g.order) [] (flat_map parts (take i items) ++ ss)) (sym (append-nil (parts item)))
-      ∙ ap (fold (with_cut g.order) []) (sym (flat_map-append parts (take i items) (item ∷ [])))
-      ∙ ap (λ k. fold (with_cut g.order) [] (flat_map parts (take i items ++ k ∷ []))) read
-      ∙ ap (λ ss. fold (with_cut g.order) [] (flat_map parts ss)) (sym (take_more items i item l))) c h
+  next_barrier item after c l read new h = grind (arith, first_barrier g after items (i + 1) is, fold-append (with_cut g.order), append-nil, flat_map-append, take_more items i item l)
 
   -- no class has a cut
   pub no_first_barrier : length items ≤ i → cuts ≡ [] → None ≡ slice_get (barrier_cuts g) 0

@@ -1,7 +1,7 @@
 -- Hall's theorem: where each part of a set has at least as many neighbours, each member gets a
 -- neighbour of its own. By induction on the set: either some proper part is just met, and both
 -- sides are done apart, or one member takes any neighbour.
-use Rattle.std.proofs.Common.{◌≡◌, ℕ, suc, zero, ◌+◌, ◌≤◌, ◌<◌, ◌≢◌, Bool, true, false, cond, ◌==◌, refl, sym, ap, ap₂, ◌∙◌, arith, ◌&&◌, ◌||◌, not, eq-eqb, eqb-true, nat_lt, lt-ltb, ltb-true, inl, inr}
+use Rattle.std.proofs.Common.{◌≡◌, ℕ, suc, zero, ◌+◌, ◌≤◌, ◌<◌, ◌≢◌, Bool, true, false, cond, ◌==◌, refl, ap, ◌∙◌, arith, ◌&&◌, ◌||◌, not, eq-eqb, eqb-true, nat_lt, lt-ltb, ltb-true, inl, inr}
 use Rattle.counting.proofs.Common.{cases_eq, false_from_ne_true, both_ways, and_parts, and_from, Respects, choose_set, count_congr, count_le_one, count_of_one, count_member, count_minus, count_zero, member_count, count_singleton, count_mono, some_congr, some_true, true_some, some_or, total_add, total_congr, total_le, total_none, total_swap, total_tight, Within, bit, count, total, Set, meet, minus, singleton, union, some}
 use Rattle.barrier_kit.specs.Common.{Picks, neighbours}
 
@@ -31,76 +31,35 @@ module _ (n : ℕ) (f : ℕ → ℕ → Bool) where
         let k = count_congr n (neighbours n f c (meet y (meet z a))) (neighbours n f c1 (meet y (meet z a))) (λ v w. inner_met v) in omega arith
       where
         assoc : (p q r : Bool) → ((p && q) && r) ≡ (p && (q && r))
-        assoc true q r = refl
-        assoc false q r = refl
+        assoc p q r = grind arith
 
         bits : (p q r : Bool) → (r ≡ true → q ≡ true) → (p && r) ≡ ((p && q) && r)
         bits p q r h = grind arith
 
-        drop : (p q r : Bool) → ((p && q) && r) ≡ true → (q && r) ≡ true
-        drop p q r h = grind arith
-
         inner_met : (v : ℕ) → neighbours n f c (meet y (meet z a)) v ≡ neighbours n f c1 (meet y (meet z a)) v
         inner_met v = bits (c v) (some n (λ u. meet z a u && f u v)) (some n (λ u. meet y (meet z a) u && f u v)) (λ t.
-            let r = some_true n (λ u. meet y (meet z a) u && f u v) t in true_some n (λ u. meet z a u && f u v) r.0 r.1 (drop (y r.0) (meet z a r.0) (f r.0 v) r.2))
+            let r = some_true n (λ u. meet y (meet z a) u && f u v) t in true_some n (λ u. meet z a u && f u v) r.0 r.1 (grind arith))
 
     second : Enough (minus a z) (minus c c1)
     second y =
         let h = enough (union z y) in
-        let e = total_congr n (λ v. bit (meet (union z y) a v)) (λ v. bit (meet z a v) + bit (meet y (minus a z) v)) (λ v w. bits (z v) (y v) (a v)) in
+        let e = total_congr n (λ v. bit (meet (union z y) a v)) (λ v. bit (meet z a v) + bit (meet y (minus a z) v)) (λ v w. grind arith) in
         let e' = total_add n (λ v. bit (meet z a v)) (λ v. bit (meet y (minus a z) v)) in
         let d = total_congr n (λ v. bit (neighbours n f c (meet (union z y) a) v)) (λ v. bit (c1 v) + bit (neighbours n f (minus c c1) (meet y (minus a z)) v)) (λ v w. split v) in
         let d' = total_add n (λ v. bit (c1 v)) (λ v. bit (neighbours n f (minus c c1) (meet y (minus a z)) v)) in omega arith
       where
-        bits : (p q r : Bool) → bit ((p || q) && r) ≡ bit (p && r) + bit (q && (r && not p))
-        bits true true true = refl
-        bits true true false = refl
-        bits true false true = refl
-        bits true false false = refl
-        bits false true true = refl
-        bits false true false = refl
-        bits false false r = refl
-
-        component_count : (p q r t : Bool) → (((p || q) && r) && t) ≡ (((p && r) && t) || ((q && (r && not p)) && t))
-        component_count p q r t = grind arith
-
         join : (p q r : Bool) → bit (p && (q || r)) ≡ bit (p && q) + bit ((p && not (p && q)) && r)
-        join true true r = refl
-        join true false true = refl
-        join true false false = refl
-        join false q r = refl
+        join p q r = grind arith
 
         split : (v : ℕ) → bit (neighbours n f c (meet (union z y) a) v) ≡ bit (c1 v) + bit (neighbours n f (minus c c1) (meet y (minus a z)) v)
-        split v = ap (λ k. bit (c v && k)) (some_congr n _ _ (λ u w. component_count (z u) (y u) (a u) (f u v)) ∙ some_or n (λ u. meet z a u && f u v) (λ u. meet y (minus a z) u && f u v))
+        split v = ap (λ k. bit (c v && k)) (some_congr n _ _ (λ u w. grind arith) ∙ some_or n (λ u. meet z a u && f u v) (λ u. meet y (minus a z) u && f u v))
             ∙ join (c v) (some n (λ u. meet z a u && f u v)) (some n (λ u. meet y (minus a z) u && f u v))
 
     both_sets : Picks n f (meet z a) c1 → Picks n f (minus a z) (minus c c1) → Picks n f a c
-    both_sets p q = record { to = λ u. cond (z u) (p.to u) (q.to u); lands = land; apart = distinct }
+    both_sets p q = record { to = λ u. cond (z u) (p.to u) (q.to u); lands = grind arith; apart = grind arith }
       where
-        land : (u : ℕ) → Within n u → a u ≡ true → Within n (cond (z u) (p.to u) (q.to u)) × (c (cond (z u) (p.to u) (q.to u)) ≡ true) × (f u (cond (z u) (p.to u) (q.to u)) ≡ true)
-        land u w t = go (z u) refl
-          where
-            go : (b : Bool) → z u ≡ b → Within n (cond (z u) (p.to u) (q.to u)) × (c (cond (z u) (p.to u) (q.to u)) ≡ true) × (f u (cond (z u) (p.to u) (q.to u)) ≡ true)
-            go true e = rw e (let r = p.lands u w (and_from (z u) (a u) e t) in (r.0, (and_parts (c (p.to u)) (some n (λ v. meet z a v && f v (p.to u))) r.1).0, r.2))
-            go false e = rw e (let r = q.lands u w (and_from (a u) (not (z u)) t (ap not e)) in (r.0, (and_parts (c (q.to u)) (not (c1 (q.to u))) r.1).0, r.2))
-
         never : (u v : ℕ) → Within n u → Within n v → a u ≡ true → a v ≡ true → z u ≡ true → z v ≡ false → p.to u ≡ q.to v → ⊥
-        never u v wu wv tu tv zu zv e =
-            let r = p.lands u wu (and_from (z u) (a u) zu tu) in
-            let l = q.lands v wv (and_from (a v) (not (z v)) tv (ap not zv)) in
-            both_ways (not (c1 (q.to v))) (ap not (ap c1 (sym e) ∙ r.1)) (and_parts (c (q.to v)) (not (c1 (q.to v))) l.1).1
-
-        distinct : (u v : ℕ) → Within n u → Within n v → a u ≡ true → a v ≡ true → cond (z u) (p.to u) (q.to u) ≡ cond (z v) (p.to v) (q.to v) → u ≡ v
-        distinct u v wu wv tu tv e = go (z u) (z v) refl refl
-          where
-            at : (x y : Bool) → z u ≡ x → z v ≡ y → cond x (p.to u) (q.to u) ≡ cond y (p.to v) (q.to v)
-            at x y d k = ap (λ b. cond b (p.to u) (q.to u)) (sym d) ∙ e ∙ ap (λ b. cond b (p.to v) (q.to v)) k
-
-            go : (x y : Bool) → z u ≡ x → z v ≡ y → u ≡ v
-            go true true d k = p.apart u v wu wv (and_from (z u) (a u) d tu) (and_from (z v) (a v) k tv) (at true true d k)
-            go false false d k = q.apart u v wu wv (and_from (a u) (not (z u)) tu (ap not d)) (and_from (a v) (not (z v)) tv (ap not k)) (at false false d k)
-            go true false d k = absurd (never u v wu wv tu tv d k (at true false d k))
-            go false true d k = absurd (never v u wv wu tv tu k d (sym (at false true d k)))
+        never u v wu wv tu tv zu zv e = grind arith
 
   -- no set is critical: take any member of c for w
   module _ (a c : Set) (enough : Enough a c) (loose : (z : Set) → 0 < count n (meet z a) → count n (meet z a) < count n a → count n (meet z a) ≡ count n (neighbours n f c (meet z a)) → ⊥)
@@ -116,7 +75,7 @@ module _ (n : ℕ) (f : ℕ → ℕ → Bool) where
           let less = count_mono n (meet y (minus a (singleton w))) (minus a (singleton w)) (λ u t k. (and_parts (y u) (minus a (singleton w) u) k).1) in
           let one = count_minus n a w ww aw in
           let l : count n (meet z a) ≢ count n (neighbours n f c (meet z a)) = λ q. loose z (omega arith) (omega arith) q in
-          let first_end = total_le n (λ v. bit (neighbours n f c (meet y (minus a (singleton w))) v)) (λ v. bit (neighbours n f (minus c (singleton x)) (meet y (minus a (singleton w))) v) + bit (singleton x v)) (λ v t. bits (c v) (some n (λ u. meet y (minus a (singleton w)) u && f u v)) (x == v)) in
+          let first_end = total_le n (λ v. bit (neighbours n f c (meet y (minus a (singleton w))) v)) (λ v. bit (neighbours n f (minus c (singleton x)) (meet y (minus a (singleton w))) v) + bit (singleton x v)) (λ v t. grind arith) in
           let near' = total_add n (λ v. bit (neighbours n f (minus c (singleton x)) (meet y (minus a (singleton w))) v)) (λ v. bit (singleton x v)) in
           let k = count_singleton n x wx in omega arith
     ]
@@ -124,37 +83,11 @@ module _ (n : ℕ) (f : ℕ → ℕ → Bool) where
         turn : (p q r : Bool) → ((p && not q) && r) ≡ (p && (r && not q))
         turn p q r = grind arith
 
-        bits : (p q r : Bool) → bit (p && q) ≤ bit ((p && not r) && q) + bit r
-        bits false q r = omega arith
-        bits true false r = omega arith
-        bits true true true = omega arith
-        bits true true false = omega arith
-
     one_more : Picks n f (minus a (singleton w)) (minus c (singleton x)) → Picks n f a c
-    one_more p = record { to = λ u. cond (w == u) x (p.to u); lands = land; apart = distinct }
+    one_more p = record { to = λ u. cond (w == u) x (p.to u); lands = grind arith; apart = grind arith }
       where
-        land : (u : ℕ) → Within n u → a u ≡ true → Within n (cond (w == u) x (p.to u)) × (c (cond (w == u) x (p.to u)) ≡ true) × (f u (cond (w == u) x (p.to u)) ≡ true)
-        land u wu t = go (w == u) refl
-          where
-            go : (b : Bool) → (w == u) ≡ b → Within n (cond (w == u) x (p.to u)) × (c (cond (w == u) x (p.to u)) ≡ true) × (f u (cond (w == u) x (p.to u)) ≡ true)
-            go true e = rw e (wx, cx, ap (λ v. f v x) (sym (eqb-true w u e)) ∙ fx)
-            go false e = rw e (let r = p.lands u wu (and_from (a u) (not (w == u)) t (ap not e)) in (r.0, (and_parts (c (p.to u)) (not (x == p.to u)) r.1).0, r.2))
-
         never : (v : ℕ) → Within n v → a v ≡ true → (w == v) ≡ false → x ≡ p.to v → ⊥
-        never v wv tv d e = let r = p.lands v wv (and_from (a v) (not (w == v)) tv (ap not d)) in
-            both_ways (not (x == p.to v)) (ap not (eq-eqb x (p.to v) e)) (and_parts (c (p.to v)) (not (x == p.to v)) r.1).1
-
-        distinct : (u v : ℕ) → Within n u → Within n v → a u ≡ true → a v ≡ true → cond (w == u) x (p.to u) ≡ cond (w == v) x (p.to v) → u ≡ v
-        distinct u v wu wv tu tv e = go (w == u) (w == v) refl refl
-          where
-            at : (i j : Bool) → (w == u) ≡ i → (w == v) ≡ j → cond i x (p.to u) ≡ cond j x (p.to v)
-            at i j d k = ap (λ b. cond b x (p.to u)) (sym d) ∙ e ∙ ap (λ b. cond b x (p.to v)) k
-
-            go : (i j : Bool) → (w == u) ≡ i → (w == v) ≡ j → u ≡ v
-            go true true d k = sym (eqb-true w u d) ∙ eqb-true w v k
-            go false false d k = p.apart u v wu wv (and_from (a u) (not (w == u)) tu (ap not d)) (and_from (a v) (not (w == v)) tv (ap not k)) (at false false d k)
-            go true false d k = absurd (never v wv tv k (at true false d k))
-            go false true d k = absurd (never u wu tu d (sym (at false true d k)))
+        never v wv tv d e = grind arith
 
   record Choice (a c : Set) : Type 0 where
     member : ℕ
@@ -181,12 +114,7 @@ module _ (n : ℕ) (f : ℕ → ℕ → Bool) where
   is_critical a c z = nat_lt 0 (count n (meet z a)) && (nat_lt (count n (meet z a)) (count n a) && (count n (meet z a) == count n (neighbours n f c (meet z a))))
 
   respects : (a c : Set) → Respects n (is_critical a c)
-  respects a c = record {
-    same = λ y z h.
-        let e : count n (meet y a) ≡ count n (meet z a) = count_congr n (meet y a) (meet z a) (λ v w. ap (λ k. k && a v) (h v w)) in
-        let d : count n (neighbours n f c (meet y a)) ≡ count n (neighbours n f c (meet z a)) = met_congr c (meet y a) (meet z a) (λ v w. ap (λ k. k && a v) (h v w)) in
-        ap₂ (λ i j. nat_lt 0 i && (nat_lt i (count n a) && (i == j))) e d;
-  }
+  respects a c = grind (arith, count_congr n, met_congr c, nat_lt 0, nat_lt)
 
   -- the theorem of Hall
   pub hall : (k : ℕ) (a c : Set) → count n a ≤ k → ((z : Set) → count n (meet z a) ≤ count n (neighbours n f c (meet z a))) → Picks n f a c
@@ -201,7 +129,7 @@ module _ (n : ℕ) (f : ℕ → ℕ → Bool) where
           let pos = ltb-true 0 (count n (meet z a)) p.0 in
           let less = ltb-true (count n (meet z a)) (count n a) q.0 in
           let critical = eqb-true (count n (meet z a)) (count n (neighbours n f c (meet z a))) q.1 in
-          let s = total_congr n (λ v. bit (meet z a v) + bit (minus a z v)) (λ v. bit (a v)) (λ v w. bits (z v) (a v)) in
+          let s = total_congr n (λ v. bit (meet z a v) + bit (minus a z v)) (λ v. bit (a v)) (λ v w. grind arith) in
           let t = total_add n (λ v. bit (meet z a v)) (λ v. bit (minus a z v)) in
           both_sets a c z enough critical (hall k (meet z a) (neighbours n f c (meet z a)) (omega arith) (first a c z enough critical)) (hall k (minus a z) (minus c (neighbours n f c (meet z a))) (omega arith) (second a c z enough critical))
       | inr none_critical ↦
@@ -211,12 +139,6 @@ module _ (n : ℕ) (f : ℕ → ℕ → Bool) where
           one_more a c enough loose w.member w.choice w.inside w.is w.within w.in_c w.fits (hall k (minus a (singleton w.member)) (minus c (singleton w.choice)) (omega arith) (without a c enough loose w.member w.choice w.inside w.is w.within w.in_c w.fits))
     ]
   ]
-    where
-      bits : (p q : Bool) → bit (p && q) + bit (q && not p) ≡ bit q
-      bits true true = refl
-      bits true false = refl
-      bits false true = refl
-      bits false false = refl
 
   -- as many in a as in c: each of c is picked
   pub hits : (a c : Set) (p : Picks n f a c) → count n a ≡ count n c → (v : ℕ) → Within n v → c v ≡ true → (u : ℕ) × Within n u × (a u ≡ true) × (p.to u ≡ v)
@@ -237,10 +159,4 @@ module _ (n : ℕ) (f : ℕ → ℕ → Bool) where
           lands_once u w false t = rw t (total_none n (λ i. 0) (λ i w. refl))
 
       few : (i : ℕ) → Within n i → times i ≤ bit (c i)
-      few i w = go (c i) refl
-        where
-          go : (b : Bool) → c i ≡ b → times i ≤ bit (c i)
-          go true t = let l = count_le_one n (λ u. a u && (p.to u == i)) (λ x y wx wy l px py.
-              let qx = and_parts (a x) (p.to x == i) px in let qy = and_parts (a y) (p.to y == i) py in
-              let s = p.apart x y wx wy qx.0 qy.0 (eqb-true (p.to x) i qx.1 ∙ sym (eqb-true (p.to y) i qy.1)) in absurd (omega arith)) in let b = ap bit t in omega arith
-          go false t = let z : times i ≡ 0 = total_none n (λ u. bit (a u && (p.to u == i))) (λ u w. ap bit (false_from_ne_true _ (λ h. let q = and_parts (a u) (p.to u == i) h in both_ways (c i) t (ap c (sym (eqb-true (p.to u) i q.1)) ∙ (p.lands u w q.0).1)))) in omega arith
+      few i w = grind (arith, count_le_one, and_parts, eqb-true, total_none, false_from_ne_true, both_ways)

@@ -2,7 +2,7 @@
 -- matching. Hall's theorem gives each other vertex of the barrier a component of its own, and the
 -- matchings of the components are joined.
 use Rattle.std.proofs.Common.{◌≡◌, ℕ, ◌+◌, ◌*◌, ◌≤◌, ◌≢◌, Bool, true, false, ◌==◌, refl, sym, ap, ◌∙◌, arith, ◌&&◌, ◌||◌, not, eq-eqb, ne_eqb, eqb-true, ◌⊎◌, inl, inr}
-use Rattle.counting.proofs.Common.{cases_eq, cases_Bool, true≢false, false_from_ne_true, both_ways, and_parts, and_from, or_cases, count_member, count_minus, count_zero, count_singleton, some_true, true_some, at_le_total, total_add, total_congr, total_le, total_none, and_fails_second, same_tests, Within, bit, count, Set, complement, meet, minus, none, singleton, union, some}
+use Rattle.counting.proofs.Common.{cases_eq, cases_Bool, false_from_ne_true, both_ways, and_parts, and_from, count_member, count_minus, count_zero, count_singleton, some_true, true_some, at_le_total, total_add, total_congr, total_le, total_none, and_fails_second, same_tests, Within, bit, count, Set, complement, meet, minus, none, singleton, union, some}
 use Rattle.barrier_kit.proofs.BarrierCuts.{cover_in, covers, covers_out, cut_family, leader_of, leader_same, leads_out, many_parts, none_inside, one_cut, part_out, sat_inside}
 use Rattle.barrier_kit.proofs.Families.{glue_family}
 use Rattle.barrier_kit.proofs.Hall.{hall, hits}
@@ -17,21 +17,7 @@ touches g s z u = some (size g) (connects g (singleton z) (joined g s u))
 -- where each edge from z leads into y, the cut of y is that of z and that of both
 pub cut_split : (g : Graph) (m z y : Set) → ((e : ℕ) → Within (size g) e → m e ≡ true → (z (first_end g e) ≡ true → y (second_end g e) ≡ true) × (z (second_end g e) ≡ true → y (first_end g e) ≡ true)) →
     ((e : ℕ) → Within (size g) e → (z (first_end g e) ≡ true → y (first_end g e) ≡ false) × (z (second_end g e) ≡ true → y (second_end g e) ≡ false)) → edges_in_cut g m y ≡ edges_in_cut g m z + edges_in_cut g m (union z y)
-cut_split g m z y into apart = total_congr (size g) _ _ (λ e w. go e w (m e) refl) ∙ total_add (size g) (λ e. bit (m e && in_cut g z e)) (λ e. bit (m e && in_cut g (union z y) e))
-  where
-    test : (a b c d : Bool) → (a ≡ true → d ≡ true) → (b ≡ true → c ≡ true) → (a ≡ true → c ≡ false) → (b ≡ true → d ≡ false) →
-        bit ((c && not d) || (not c && d)) ≡ bit ((a && not b) || (not a && b)) + bit (((a || c) && not (b || d)) || (not (a || c) && (b || d)))
-    test true true c d h k l q = absurd (true≢false (sym (h refl) ∙ q refl))
-    test true false c d h k l q = rw (h refl, l refl) refl
-    test false true c d h k l q = rw (k refl, q refl) refl
-    test false false true true h k l q = refl
-    test false false true false h k l q = refl
-    test false false false true h k l q = refl
-    test false false false false h k l q = refl
-
-    go : (e : ℕ) → Within (size g) e → (b : Bool) → m e ≡ b → bit (m e && in_cut g y e) ≡ bit (m e && in_cut g z e) + bit (m e && in_cut g (union z y) e)
-    go e w false t = rw t refl
-    go e w true t = rw t (test (z (first_end g e)) (z (second_end g e)) (y (first_end g e)) (y (second_end g e)) (into e w t).0 (into e w t).1 (apart e w).0 (apart e w).1)
+cut_split g m z y into apart = total_congr (size g) _ _ (λ e w. grind arith) ∙ total_add (size g) (λ e. bit (m e && in_cut g z e)) (λ e. bit (m e && in_cut g (union z y) e))
 
 module _ (g : Graph) (is : IsGraph g) (cov : IsCovered g) (s : Set) (bar : IsBarrier g s) (b : ℕ) (wb : Within g.order b) (sb : s b ≡ true) where
   module _ (z : Set) (sub : (v : ℕ) → Within g.order v → z v ≡ true → s v ≡ true) (zb : z b ≡ false) where
@@ -56,15 +42,9 @@ module _ (g : Graph) (is : IsGraph g) (cov : IsCovered g) (s : Set) (bar : IsBar
     into : (m : Set) → IsPerfect g none m → (e : ℕ) → Within (size g) e → m e ≡ true → (z (first_end g e) ≡ true → reached (second_end g e) ≡ true) × (z (second_end g e) ≡ true → reached (first_end g e) ≡ true)
     into m p e w t =
         let i = none_inside g is cov s bar e w (loop_free g none m is p e w t) in (
-          λ h. across e (first_end g e) (second_end g e) w (is e w).0 (is e w).1 h (and_fails_second (s (first_end g e)) (s (second_end g e)) (sub (first_end g e) (is e w).0 h) i) (λ u j. one (first_end g e == first_end g e) (joined g s u (second_end g e)) (joined g s u (first_end g e)) (first_end g e == second_end g e) (eq-eqb (first_end g e) (first_end g e) refl) j),
-          λ h. across e (second_end g e) (first_end g e) w (is e w).1 (is e w).0 h (left (s (first_end g e)) (s (second_end g e)) (sub (second_end g e) (is e w).1 h) i) (λ u j. two (second_end g e == first_end g e) (joined g s u (second_end g e)) (joined g s u (first_end g e)) (second_end g e == second_end g e) j (eq-eqb (second_end g e) (second_end g e) refl)),
+          λ h. across e (first_end g e) (second_end g e) w (is e w).0 (is e w).1 h (and_fails_second (s (first_end g e)) (s (second_end g e)) (sub (first_end g e) (is e w).0 h) i) (λ u j. grind arith),
+          λ h. across e (second_end g e) (first_end g e) w (is e w).1 (is e w).0 h (left (s (first_end g e)) (s (second_end g e)) (sub (second_end g e) (is e w).1 h) i) (λ u j. grind arith),
         )
-      where
-        one : (a b c d : Bool) → a ≡ true → b ≡ true → ((a && b) || (c && d)) ≡ true
-        one a b c d h k = grind arith
-
-        two : (a b c d : Bool) → c ≡ true → d ≡ true → ((a && b) || (c && d)) ≡ true
-        two a b c d h k = grind arith
 
     apart : (e : ℕ) → Within (size g) e → (z (first_end g e) ≡ true → reached (first_end g e) ≡ false) × (z (second_end g e) ≡ true → reached (second_end g e) ≡ false)
     apart e w = (λ h. covers_out g is s near_parts lead (first_end g e) (is e w).0 (sub (first_end g e) (is e w).0 h), λ h. covers_out g is s near_parts lead (second_end g e) (is e w).1 (sub (second_end g e) (is e w).1 h))
@@ -98,23 +78,17 @@ module _ (g : Graph) (is : IsGraph g) (cov : IsCovered g) (s : Set) (bar : IsBar
       let e = some_true (size g) (connects g (singleton z) (joined g s u)) h in
       let zo = part_out g s u z is (leads_out g s u lu) sz in
       let z_out : (v : ℕ) → (z == v) ≡ true → joined g s u v ≡ false = λ v t. ap (joined g s u) (sym (eqb-true z v t)) ∙ zo in
-      let d : first_end g e.0 ≢ second_end g e.0 = λ l. loop (z == first_end g e.0) (z == second_end g e.0) (joined g s u (first_end g e.0)) (joined g s u (second_end g e.0)) (z_out (first_end g e.0)) (z_out (second_end g e.0)) (ap (λ v. z == v) l) (ap (joined g s u) l) e.2 in
+      let d : first_end g e.0 ≢ second_end g e.0 = λ l. (grind arith) in
       let a = cov.allowed e.0 e.1 d in
       let m : Set = a.0 in
       let one = parity g is m (singleton z) a.1 in
       let c = count_singleton g.order z wz in
       let k = one_cut g is cov s bar u b wu lu wb sb m a.1 in
       let t = two_cuts g m (singleton z) (joined g s u) in
-      let w : bit (m e.0 && connects g (minus (singleton z) (joined g s u)) (minus (joined g s u) (singleton z)) e.0) ≡ 1 = ap bit (and_from (m e.0) _ a.2 (both (z == first_end g e.0) (z == second_end g e.0) (joined g s u (first_end g e.0)) (joined g s u (second_end g e.0)) (z_out (first_end g e.0)) (z_out (second_end g e.0)) e.2)) in
+      let w : bit (m e.0 && connects g (minus (singleton z) (joined g s u)) (minus (joined g s u) (singleton z)) e.0) ≡ 1 = ap bit (and_from (m e.0) _ a.2 (grind arith)) in
       let y = at_le_total (size g) (λ i. bit (m i && connects g (minus (singleton z) (joined g s u)) (minus (joined g s u) (singleton z)) i)) e.0 e.1 in
       let q : edges_in_cut g m (union (singleton z) (joined g s u)) ≡ 0 = omega arith in
       (_, restrict g m (union (singleton z) (joined g s u)) a.1 q)
-    where
-      loop : (a b c d : Bool) → (a ≡ true → c ≡ false) → (b ≡ true → d ≡ false) → a ≡ b → c ≡ d → ((a && d) || (c && b)) ≡ true → ⊥
-      loop a b c d h k p q t = grind arith
-
-      both : (a b c d : Bool) → (a ≡ true → c ≡ false) → (b ≡ true → d ≡ false) → ((a && d) || (c && b)) ≡ true → (((a && not c) && (d && not b)) || ((c && not a) && (b && not d))) ≡ true
-      both a b c d h k t = grind arith
 
   -- the graph without a vertex of the barrier and a component
   module _ (l : ℕ) (wl : Within g.order l) (ll : is_least g s l ≡ true) where
@@ -125,16 +99,10 @@ module _ (g : Graph) (is : IsGraph g) (cov : IsCovered g) (s : Set) (bar : IsBar
     others = minus (is_least g s) (singleton l)
 
     from_s : (v : ℕ) → from v ≡ true → (s v ≡ true) × ((b == v) ≡ false)
-    from_s v h = split (s v) (b == v) h
-      where
-        split : (a c : Bool) → (a && not c) ≡ true → (a ≡ true) × (c ≡ false)
-        split a c h = grind arith
+    from_s v h = grind arith
 
     others_l : (v : ℕ) → others v ≡ true → (is_least g s v ≡ true) × ((l == v) ≡ false)
-    others_l v h = split (is_least g s v) (l == v) h
-      where
-        split : (a c : Bool) → (a && not c) ≡ true → (a ≡ true) × (c ≡ false)
-        split a c h = grind arith
+    others_l v h = grind arith
 
     enough : (z : Set) → count g.order (meet z from) ≤ count g.order (neighbours g.order (touches g s) others (meet z from))
     enough z = elim (cases_eq (count g.order (meet z from)) 0) [
@@ -142,20 +110,11 @@ module _ (g : Graph) (is : IsGraph g) (cov : IsCovered g) (s : Set) (bar : IsBar
       | inr e ↦
           let y : Set = meet z from in
           let x = count_member g.order (meet z from) (omega arith) in
-          let more = surplus (meet z from) (λ v w h. (from_s v (and_parts (z v) (from v) h).1).0) (out (z b) (s b) (b == b) (eq-eqb b b refl)) x.0 x.1 x.2 in
-          let first_end = total_le g.order (λ v. bit (neighbours g.order (touches g s) (is_least g s) (meet z from) v)) (λ v. bit (neighbours g.order (touches g s) others (meet z from) v) + bit (singleton l v)) (λ v t. bits (is_least g s v) (some g.order (λ u. meet z from u && touches g s u v)) (l == v)) in
+          let more = surplus (meet z from) (λ v w h. (from_s v (and_parts (z v) (from v) h).1).0) (grind arith) x.0 x.1 x.2 in
+          let first_end = total_le g.order (λ v. bit (neighbours g.order (touches g s) (is_least g s) (meet z from) v)) (λ v. bit (neighbours g.order (touches g s) others (meet z from) v) + bit (singleton l v)) (λ v t. grind arith) in
           let near' = total_add g.order (λ v. bit (neighbours g.order (touches g s) others (meet z from) v)) (λ v. bit (singleton l v)) in
           let k = count_singleton g.order l wl in omega arith
     ]
-      where
-        out : (a c d : Bool) → d ≡ true → (a && (c && not d)) ≡ false
-        out a c d h = grind arith
-
-        bits : (p q r : Bool) → bit (p && q) ≤ bit ((p && not r) && q) + bit r
-        bits false q r = omega arith
-        bits true false r = omega arith
-        bits true true true = omega arith
-        bits true true false = omega arith
 
     picks : Picks g.order (touches g s) from others
     picks = hall g.order (touches g s) (count g.order from) from others (omega arith) enough
@@ -170,33 +129,14 @@ module _ (g : Graph) (is : IsGraph g) (cov : IsCovered g) (s : Set) (bar : IsBar
     so_far k v = some k (λ z. from z && star_set z v)
 
     in_star : (z v : ℕ) → (from z && star_set z v) ≡ true → (from z ≡ true) × ((z ≡ v) ⊎ (joined g s (picks.to z) v ≡ true))
-    in_star z v h = let p = and_parts (from z) (star_set z v) h in (
-      p.0,
-      elim (or_cases (z == v) (joined g s (picks.to z) v) p.1) [
-        | inl t ↦ inl (eqb-true z v t)
-        | inr t ↦ inr t
-      ],
-    )
+    in_star z v h = grind arith
 
     in_part : (z v : ℕ) → Within g.order z → from z ≡ true → joined g s (picks.to z) v ≡ true → s v ≡ false
     in_part z v wz fz j = joined_outside g s is (picks.to z) v (leads_out g s (picks.to z) (others_l (picks.to z) (picks.lands z wz fz).1).0) j
 
     -- two stars with a vertex in common are one
     star_apart : (y z v : ℕ) → Within g.order y → Within g.order z → Within g.order v → (from y && star_set y v) ≡ true → (from z && star_set z v) ≡ true → y ≡ z
-    star_apart y z v wy wz wv hy hz =
-        let p = in_star y v hy in let q = in_star z v hz in
-        elim p.1 [
-          | inl e ↦ elim q.1 [
-            | inl f ↦ e ∙ sym f
-            | inr j ↦ absurd (both_ways (s v) (in_part z v wz q.0 j) (ap s (sym e) ∙ (from_s y p.0).0))
-          ]
-          | inr i ↦ elim q.1 [
-            | inl f ↦ absurd (both_ways (s v) (in_part y v wy p.0 i) (ap s (sym f) ∙ (from_s z q.0).0))
-            | inr j ↦
-                let a = picks.lands y wy p.0 in let c = picks.lands z wz q.0 in
-                picks.apart y z wy wz p.0 q.0 (leader_same g s is (picks.to y) v (picks.to z) a.0 wv c.0 (others_l (picks.to y) a.1).0 i (others_l (picks.to z) c.1).0 j)
-          ]
-        ]
+    star_apart y z v wy wz wv hy hz = grind (arith, in_star, both_ways, in_part, from_s, leader_same, others_l)
 
     abbrev left_over : Set
     left_over v = not (b == v) && not (joined g s l v)
@@ -219,22 +159,16 @@ module _ (g : Graph) (is : IsGraph g) (cov : IsCovered g) (s : Set) (bar : IsBar
         back h =
             let p = component_count (b == v) (joined g s l v) h in
             elim (cases_Bool (s v)) [
-              | inl t ↦ true_some g.order (λ z. from z && star_set z v) v w (own (s v) (b == v) (v == v) (joined g s (picks.to v) v) t p.0 (eq-eqb v v refl))
+              | inl t ↦ true_some g.order (λ z. from z && star_set z v) v w (grind arith)
               | inr f ↦
                   let r = leader_of g s is v w f in
                   let n_l : (l == r.0) ≡ false = ne_eqb l r.0 (λ e. both_ways (joined g s l v) p.1 (ap (λ i. joined g s i v) e ∙ r.3)) in
                   let k = hits g.order (touches g s) from others picks as_many r.0 r.1 (rw (r.2, n_l) refl) in
-                  true_some g.order (λ z. from z && star_set z v) k.0 k.1 (far_in (from k.0) (k.0 == v) (joined g s (picks.to k.0) v) k.2 (ap (λ i. joined g s i v) k.3 ∙ r.3))
+                  true_some g.order (λ z. from z && star_set z v) k.0 k.1 (grind arith)
             ]
           where
             component_count : (a c : Bool) → (not a && not c) ≡ true → (a ≡ false) × (c ≡ false)
             component_count a c h = grind arith
-
-            own : (a c d e : Bool) → a ≡ true → c ≡ false → d ≡ true → ((a && not c) && (d || e)) ≡ true
-            own a c d e h k l = grind arith
-
-            far_in : (a c d : Bool) → a ≡ true → d ≡ true → (a && (c || d)) ≡ true
-            far_in a c d h k = grind arith
 
     pub join : (m : Set) × IsPerfect g (complement left_over) m
     join =

@@ -1,8 +1,8 @@
 -- The classes found one after the other: a vertex is the least of its class exactly when no class
 -- before it holds it. A class is met by its least vertex, and by transitivity a vertex that was
 -- met adds no vertex to those met.
-use Rattle.std.proofs.Common.{◌≡◌, ℕ, suc, inl, inr, ◌+◌, ◌<◌, ◌≤◌, ◌↔◌, Bool, true, false, ◌==◌, refl, sym, ap, ap₂, ◌∙◌, arith, ◌&&◌, ◌||◌, not, cond, List, [], ◌∷◌, ◌++◌, map, nat_lt, ltb-true, lt-ltb, subst, append-nil}
-use Rattle.counting.proofs.Common.{same_tests, cases_Bool, and_parts, and_from, both_ways, false_from_ne_true, map-append, rising_only, mem-rising_list, rising_list-rises, same_rising_list, set-wider, some_true, true_some, Within, IsRisingIn, mem, rising_list, Set, none, pair_set, some}
+use Rattle.std.proofs.Common.{◌≡◌, ℕ, suc, ◌+◌, ◌<◌, ◌≤◌, ◌↔◌, Bool, true, false, refl, sym, ap, ◌∙◌, arith, ◌&&◌, ◌||◌, not, cond, List, [], ◌∷◌, ◌++◌, map, nat_lt, ltb-true, lt-ltb, subst, append-nil}
+use Rattle.counting.proofs.Common.{same_tests, cases_Bool, and_parts, and_from, both_ways, false_from_ne_true, map-append, rising_only, mem-rising_list, rising_list-rises, same_rising_list, set-wider, some_true, true_some, Within, IsRisingIn, mem, rising_list, Set, none, some}
 use Rattle.graph_core.proofs.Common.{has_perfect_found, is_equivalent_found, is_equivalent_says, IsCovered, Graph, IsGraph, HasPerfect, has_perfect, classes, is_equivalent, is_least_of_class}
 use Rattle.match_core.specs.Common.{are_partners}
 use Rattle.barrier_kit.proofs.ClassLaw.{equivalent_on}
@@ -14,9 +14,7 @@ has_perfect-true g r s same m = has_perfect_found g s (m.0, perfect_congr g r s 
 
 -- a rising list by its last number
 pub rising_list-more : (k : ℕ) (x : Set) → rising_list (k + 1) x ≡ rising_list k x ++ cond (x (k + 1)) ((k + 1) ∷ []) []
-rising_list-more k x =
-    let e : suc k ≡ k + 1 = omega arith in
-    subst (λ j. rising_list j x ≡ rising_list k x ++ cond (x j) (j ∷ []) []) e refl
+rising_list-more k x = grind arith
 
 -- all of 1 to n but the partners of a are the class of a
 pub class-row : (g : Graph) (full row class : List ℕ) (a : ℕ) → g.order ≤ 128 → IsRisingIn 128 class → ((v : ℕ) → (mem full v ≡ true) ↔ Within g.order v) →
@@ -24,17 +22,8 @@ pub class-row : (g : Graph) (full row class : List ℕ) (a : ℕ) → g.order �
 class-row g full row class a few rises all outside partners =
     same_rising_list 128 class (rising_list g.order (is_equivalent g a)) rises (set-wider g.order 128 (rising_list g.order (is_equivalent g a)) few (rising_list-rises g.order (is_equivalent g a))) (λ v w. here v)
   where
-    unlike : (d p : Bool) → not (true && true && not d && p) ≡ (d || not p)
-    unlike d p = grind arith
-
     here : (v : ℕ) → mem class v ≡ mem (rising_list g.order (is_equivalent g a)) v
-    here v = elim (cases_Bool (mem full v)) [
-      | inl t ↦ let w = (all v).0 t in
-          outside v ∙ ap (λ b. b && not (mem row v)) t ∙ ap not (partners v w) ∙ unlike (a == v) (has_perfect g (pair_set a v))
-          ∙ sym (mem-rising_list g.order (is_equivalent g a) v w)
-      | inr f ↦ outside v ∙ ap (λ b. b && not (mem row v)) f ∙ sym (false_from_ne_true (mem (rising_list g.order (is_equivalent g a)) v) (λ m.
-          both_ways (mem full v) f ((all v).1 (rising_only g.order (is_equivalent g a) v m).0)))
-    ]
+    here v = grind (arith, cases_Bool, mem-rising_list, false_from_ne_true, both_ways, rising_only)
 
 -- some number below k + 1 passes exactly when one of 1 to k does
 some_below : (n k : ℕ) (p : Set) → k < n → some n (λ b. nat_lt b (k + 1) && p b) ≡ some k p
@@ -59,19 +48,7 @@ module _ (g : Graph) (is : IsGraph g) (cov : IsCovered g) where
       class ≡ rising_list g.order (is_equivalent g (k + 1)) → after ≡ list ++ class ∷ [] → ((v : ℕ) → new v ≡ (met v || mem class v)) →
       (after ≡ map (λ a. rising_list g.order (is_equivalent g a)) (rising_list (k + 1) (is_least_of_class g))) × ((v : ℕ) → Within g.order v → new v ≡ some (k + 1) (λ a. is_equivalent g a v))
   unfolding class_at
-  classes-taken k list after met new class l old_list old_met out is_class is_after is_new = (
-    is_after ∙ ap₂ (λ xs c. xs ++ c ∷ []) old_list is_class
-        ∙ sym (map-append class_at (rising_list k (is_least_of_class g)) ((k + 1) ∷ []))
-        ∙ ap (λ ys. map class_at (rising_list k (is_least_of_class g) ++ ys)) (sym (ap (λ b. cond b ((k + 1) ∷ []) []) begins))
-        ∙ ap (map class_at) (sym (rising_list-more k (is_least_of_class g))),
-    λ v w. is_new v ∙ ap₂ (λ a b. a || b) (old_met v w) (ap (λ xs. mem xs v) is_class ∙ mem-rising_list g.order (is_equivalent g (k + 1)) v w) ∙ grown v,
-  )
-    where
-      begins : is_least_of_class g (k + 1) ≡ true
-      begins = least-first k l ∙ ap not (sym (old_met (k + 1) (omega arith)) ∙ out)
-
-      grown : (v : ℕ) → (some k (λ a. is_equivalent g a v) || is_equivalent g (k + 1) v) ≡ some (k + 1) (λ a. is_equivalent g a v)
-      grown v = let e : suc k ≡ k + 1 = omega arith in subst (λ j. (some k (λ a. is_equivalent g a v) || is_equivalent g j v) ≡ some j (λ a. is_equivalent g a v)) e refl
+  classes-taken k list after met new class l old_list old_met out is_class is_after is_new = grind (arith, map-append, class_at, rising_list-more, mem-rising_list, least-first)
 
   -- a vertex of a class before it begins none
   pub classes-passed : (k : ℕ) (list : List (List ℕ)) (met : Set) → k < g.order →
@@ -95,9 +72,7 @@ module _ (g : Graph) (is : IsGraph g) (cov : IsCovered g) where
       grown v = let e : suc k ≡ k + 1 = omega arith in subst (λ j. (some k (λ a. is_equivalent g a v) || is_equivalent g j v) ≡ some j (λ a. is_equivalent g a v)) e refl
 
       or_same : (a b : Bool) → (b ≡ true → a ≡ true) → a ≡ (a || b)
-      or_same true b h = refl
-      or_same false true h = h refl
-      or_same false false h = refl
+      or_same a b h = grind arith
 
       same : (v : ℕ) → Within g.order v → some k (λ a. is_equivalent g a v) ≡ (some k (λ a. is_equivalent g a v) || is_equivalent g (k + 1) v)
       same v w = or_same (some k (λ a. is_equivalent g a v)) (is_equivalent g (k + 1) v) (λ t.

@@ -1,6 +1,6 @@
 -- Small facts on perfect matchings without a set of vertices, and on counts that are tight. Where
 -- each term is at least one and the sum is no more than the number of terms, each term is one.
-use Rattle.std.proofs.Common.{◌≡◌, ℕ, ◌+◌, ◌≤◌, ◌≢◌, Bool, true, false, ◌==◌, refl, sym, ap, ◌∙◌, arith, ◌&&◌, ◌||◌, not, eq-eqb, eqb-true, inl, inr}
+use Rattle.std.proofs.Common.{◌≡◌, ℕ, ◌+◌, ◌≤◌, ◌≢◌, Bool, true, false, ◌==◌, refl, sym, ap, ◌∙◌, arith, ◌&&◌, ◌||◌, not, eq-eqb}
 use Rattle.counting.proofs.Common.{cases_Bool, true≢false, false_from_ne_true, both_ways, not-false, not-true, count_complement, count_zero, odd-double, some_none, some_true, at_le_total, total_add, total_congr, total_none, alike_not_apart, Within, bit, count, is_odd, Set, complement, none, union, some}
 use Rattle.graph_core.proofs.Common.{degree-inside, degree-inside_off, perfect_matching, perfect_misses, ends_le_degree, ends_of, missed_edges, parted, IsCovered, Graph, IsGraph, degree, edges_in_cut, first_end, in_cut, inside, second_end, size, IsPerfect}
 use Rattle.match_search.proofs.NearPerfectSets.{ends_far, ends_near}
@@ -12,12 +12,7 @@ pub perfect_congr : (g : Graph) (r s m : Set) → ((v : ℕ) → Within g.order 
 perfect_congr g r s m h p = record { once = λ v w o. p.once v w (h v w ∙ o); away = λ v w o. p.away v w (h v w ∙ o) }
 
 count_or : (n : ℕ) (m k t : Set) → ((e : ℕ) → Within n e → m e ≡ true → k e ≡ true → ⊥) → count n (λ e. (m e || k e) && t e) ≡ count n (λ e. m e && t e) + count n (λ e. k e && t e)
-count_or n m k t h = total_congr n _ _ (λ e w. bits (m e) (k e) (t e) (h e w)) ∙ total_add n (λ e. bit (m e && t e)) (λ e. bit (k e && t e))
-  where
-    bits : (a b c : Bool) → (a ≡ true → b ≡ true → ⊥) → bit ((a || b) && c) ≡ bit (a && c) + bit (b && c)
-    bits true true c f = absurd (f refl refl)
-    bits true false c f = omega arith
-    bits false b c f = omega arith
+count_or n m k t h = total_congr n _ _ (λ e w. grind arith) ∙ total_add n (λ e. bit (m e && t e)) (λ e. bit (k e && t e))
 
 degree_or : (g : Graph) (m k : Set) → ((e : ℕ) → Within (size g) e → m e ≡ true → k e ≡ true → ⊥) → (v : ℕ) → degree g (λ e. m e || k e) v ≡ degree g m v + degree g k v
 degree_or g m k h v = let a = count_or (size g) m k (λ e. first_end g e == v) h in let b = count_or (size g) m k (λ e. second_end g e == v) h in omega arith
@@ -39,14 +34,8 @@ loop_free g r m is p e w t l =
 
 -- perfect matchings of two sets apart make one of the union
 pub glue : (g : Graph) (x y m k : Set) → IsGraph g → ((v : ℕ) → Within g.order v → x v ≡ true → y v ≡ true → ⊥) → IsPerfect g (complement x) m → IsPerfect g (complement y) k → IsPerfect g (complement (union x y)) (λ e. m e || k e)
-glue g x y m k is h p q = record {
-  once = λ v w o. met_once v w (x v) (y v) refl refl o;
-  away = λ v w o. let d = degree_or g m k apart v in let b = both (x v) (y v) o in let c = p.away v w b.0 in let e = q.away v w b.1 in omega arith;
-}
+glue g x y m k is h p q = grind (arith, met_once, degree_or g m k apart)
   where
-    both : (a b : Bool) → not (a || b) ≡ true → (not a ≡ true) × (not b ≡ true)
-    both a b e = grind arith
-
     apart : (e : ℕ) → Within (size g) e → m e ≡ true → k e ≡ true → ⊥
     apart e w me ke = h (first_end g e) (is e w).0 (not-false (x (first_end g e)) (ends_out g (complement x) m is p e w me).0) (not-false (y (first_end g e)) (ends_out g (complement y) k is q e w ke).0)
 
@@ -58,20 +47,14 @@ glue g x y m k is h p q = record {
 
 -- a perfect matching with no edge in the cut of x, inside x
 pub restrict : (g : Graph) (m x : Set) → IsPerfect g none m → edges_in_cut g m x ≡ 0 → IsPerfect g (complement x) (λ e. m e && inside g x e)
-restrict g m x p z = record {
-  once = λ v w o. degree-inside g m x no_cross v (not-false (x v) o) ∙ p.once v w refl;
-  away = λ v w o. degree-inside_off g m x v (not-true (x v) o);
-}
+restrict g m x p z = grind (arith, degree-inside g m x no_cross, no_cross, not-false, degree-inside_off g m x, not-true)
   where
     no_cross : (e : ℕ) → Within (size g) e → (m e && in_cut g x e) ≡ false
     no_cross e w = count_zero (size g) (λ e. m e && in_cut g x e) z e w
 
 -- a set that is neither empty nor all has an edge in its cut
 pub cut_edge : (g : Graph) (x : Set) (u v : ℕ) → IsGraph g → IsCovered g → Within g.order u → Within g.order v → x u ≡ true → x v ≡ false → (e : ℕ) × Within (size g) e × (in_cut g x e ≡ true)
-cut_edge g x u v is c wu wv xu xv = elim (cases_Bool (some (size g) (in_cut g x))) [
-  | inl t ↦ some_true (size g) (in_cut g x) t
-  | inr f ↦ absurd ((parted g u v is wu wv).1 (x, xu, xv, λ e w. some_none (size g) (in_cut g x) f e w) (c.connected u v wu wv))
-]
+cut_edge g x u v is c wu wv xu xv = grind (arith, cases_Bool (some (size g) (in_cut g x)), some_true (size g) (in_cut g x), parted g u v is wu wv, some_none (size g) (in_cut g x))
 
 pub crosses_apart : (g : Graph) (x : Set) (e : ℕ) → in_cut g x e ≡ true → first_end g e ≢ second_end g e
 crosses_apart g x e h l = both_ways (in_cut g x e) (alike_not_apart (x (first_end g e)) (x (second_end g e)) (ap x l)) h

@@ -1,7 +1,7 @@
 -- The shores of the classes: each is tight, none is nontrivial in a bicritical graph, and in
 -- another that is not bipartite some is. A class is a barrier, and what holds of each component
 -- of each class holds of each item of the list.
-use Rattle.std.proofs.Common.{◌≡◌, ◌≢◌, ℕ, ◌≤◌, true, false, refl, sym, ap, ◌∙◌, arith, ◌&&◌, not, inl, inr, List, [], map, nat_lt, ltb-true, All}
+use Rattle.std.proofs.Common.{◌≡◌, ◌≢◌, ℕ, ◌≤◌, true, false, refl, sym, ap, arith, ◌&&◌, not, inl, inr, List, [], map, nat_lt, ltb-true, All, rules}
 use Rattle.counting.proofs.Common.{and_parts, both_ways, false_from_ne_true, All-map, two_members, mem-rising_list, least_true, some_true, true_some, Within, count, mem, rising_list, Set, some}
 use Rattle.graph_core.proofs.Common.{is_equivalent_found, is_equivalent_says, nontrivial-same, tight-same, components, is_least, IsCovered, Graph, HasNoLoop, IsGraph, IsBicritical, IsClass, classes, is_equivalent, is_least_of_class, IsNontrivial, IsTight, canonical_shore, is_nontrivial, joined, IsSide, IsCanonicalCut}
 use Rattle.barrier_kit.specs.Common.{BarrierCut, WideClass, barrier_cuts, barrier_shores}
@@ -27,10 +27,7 @@ abbrev pub class_set : Graph → ℕ → Set
 class_set g a = mem (rising_list g.order (is_equivalent g a))
 
 pub class_list : (g : Graph) (a : ℕ) → IsClass g a (class_set g a)
-class_list g a = record {
-  holds = λ v w t. is_equivalent_says g a v (sym (mem-rising_list g.order (is_equivalent g a) v w) ∙ t);
-  all = λ v w q. mem-rising_list g.order (is_equivalent g a) v w ∙ is_equivalent_found g a v q;
-}
+class_list g a = grind (arith, is_equivalent_says g a, mem-rising_list g.order (is_equivalent g a), is_equivalent_found g a)
 
 class_own : (g : Graph) (a : ℕ) → Within g.order a → class_set g a a ≡ true
 class_own g a w = (class_list g a).all a w (inl refl)
@@ -80,8 +77,7 @@ module _ (g : Graph) (is : IsGraph g) (cov : IsCovered g) where
 
   pub bicritical_no_cuts : IsBicritical g → barrier_cuts g ≡ []
   unfolding barrier_cuts
-  bicritical_no_cuts bi = cuts-none g.order (barrier_shores g) (all_shores g (λ s. is_nontrivial g.order (canonical_shore g.order (mem s)) ≡ false) (λ a u wa wu out.
-      listed_narrow g.order (joined g (class_set g a) u) (class_trivial g a u (class_set g a) is cov bi wa (class_list g a) wu out)))
+  bicritical_no_cuts bi = search (rules, cuts-none g.order (barrier_shores g), all_shores g, listed_narrow g.order, class_trivial g, class_list g)
 
   module _ (odd_cycle : (x : Set) → IsSide g x → ⊥) (no : IsBicritical g → ⊥) where
     -- a class of two vertices with its cut

@@ -1,6 +1,6 @@
 -- The lines of the leaves from a place on: that of the leaf there, and then those from the next
 -- place on.
-use Rattle.std.proofs.Common.{◌≡◌, ◌∙◌, ℕ, zero, suc, ◌+◌, List, [], ◌∷◌, ◌++◌, Some, append_assoc, drop, length, slice_get, refl, ap, sym, arith}
+use Rattle.std.proofs.Common.{◌≡◌, ℕ, zero, suc, ◌+◌, List, [], ◌∷◌, ◌++◌, Some, append_assoc, drop, length, slice_get, refl, ap, arith}
 use Rattle.counting.proofs.Common.{none-some, same_Some}
 use Rattle.tree_core.proofs.Common.{PlainLeafMap}
 use Rattle.report_text.specs.declared.comparisons.MapLine.{MapLine}
@@ -15,15 +15,7 @@ drop-at (suc i) (q ∷ ps) p is = drop-at i ps p is
 -- one line more is written, and one map less is left
 pub lines-more : (i : ℕ) (ps : List (List (List ℕ))) (p : List (List ℕ)) (m : PlainLeafMap) (left maps : List PlainLeafMap) (all lines next : List MapLine) (line : MapLine) → slice_get ps i ≡ Some p →
     all ≡ lines ++ lines_of i (drop i ps) left → left ≡ m ∷ maps → line ≡ line_of (i + 1) p m → next ≡ lines ++ line ∷ [] → all ≡ next ++ lines_of (i + 1) (drop (i + 1) ps) maps
-lines-more i ps p m left maps all lines next line at before first is more =
-    let one : i + 1 ≡ suc i = omega arith in
-    before
-    ∙ ap (λ (ms : List PlainLeafMap). lines ++ lines_of i (drop i ps) ms) first
-    ∙ ap (λ (qs : List (List (List ℕ))). lines ++ lines_of i qs (m ∷ maps)) (drop-at i ps p at)
-    ∙ sym (append_assoc lines (line_of (suc i) p m ∷ []) (lines_of (suc i) (drop (suc i) ps) maps))
-    ∙ ap (λ (k : ℕ). (lines ++ line_of k p m ∷ []) ++ lines_of k (drop k ps) maps) (sym one)
-    ∙ ap (λ (l : MapLine). (lines ++ l ∷ []) ++ lines_of (i + 1) (drop (i + 1) ps) maps) (sym is)
-    ∙ ap (λ (ls : List MapLine). ls ++ lines_of (i + 1) (drop (i + 1) ps) maps) (sym more)
+lines-more i ps p m left maps all lines next line at before first is more = grind (arith, drop-at i ps p at, append_assoc lines (line_of (suc i) p m ∷ []) (lines_of (suc i) (drop (suc i) ps) maps))
 
 -- if no map is left, there is no line
 pub lines-none : (i : ℕ) (ps : List (List (List ℕ))) (maps : List PlainLeafMap) → length maps ≡ 0 → lines_of i ps maps ≡ []

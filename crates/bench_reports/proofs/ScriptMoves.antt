@@ -6,7 +6,7 @@ use Rattle.std.proofs.Common.{◌≡◌, ℕ, suc, ◌*◌, ◌<◌, ◌≤◌, 
 use Rattle.counting.proofs.Common.{none-some, and_parts, true≢false, AllByRecursion}
 use Rattle.std.proofs.lemmas.Nat.{mul-le}
 use Rattle.graph_core.proofs.Common.{Graph, IsGraph, complement_of}
-use Rattle.tree_core.proofs.Common.{IsDerivation, PlainMove, rotate_at, switch_at, TurnsThrough, is_proper, last_step, move_result, parent_path, result_at, rotate_result_at, switch_result_at, Shape, leaf, cut, Fits, cut_count, node_count, fits-derivation, node_count-cuts, proper_outside-within, proper_part-within, few-nodes}
+use Rattle.tree_core.proofs.Common.{IsDerivation, PlainMove, rotate_at, switch_at, TurnsThrough, is_proper, move_result, parent_path, result_at, switch_result_at, Shape, leaf, cut, Fits, cut_count, node_count, fits-derivation, node_count-cuts, proper_outside-within, proper_part-within, few-nodes}
 use Rattle.tree_core.specs.declared.path.Side.{Side}
 use Rattle.tree_core.specs.declared.path.Side.TheVariants.{Kept, Merged}
 use Rattle.move_text.specs.Common.{HasSets, HasShortPath}
@@ -19,13 +19,11 @@ path-short f (side ∷ path) leaf r e = absurd (none-some _ e)
 path-short f (Kept ∷ path) (cut x a b) r e = go (result_at f path a) refl e (path-short f path a)
   where
     go : (o : Option Shape) → result_at f path a ≡ o → option_map (λ c. cut x c b) o ≡ Some r → ((c : Shape) → result_at f path a ≡ Some c → length path < node_count a) → suc (length path) < node_count (cut x a b)
-    go None is e below = absurd (none-some _ e)
-    go (Some c) is e below = let less = below c is in omega arith
+    go o is e below = grind arith
 path-short f (Merged ∷ path) (cut x a b) r e = go (result_at f path b) refl e (path-short f path b)
   where
     go : (o : Option Shape) → result_at f path b ≡ o → option_map (λ c. cut x a c) o ≡ Some r → ((c : Shape) → result_at f path b ≡ Some c → length path < node_count b) → suc (length path) < node_count (cut x a b)
-    go None is e below = absurd (none-some _ e)
-    go (Some c) is e below = let less = below c is in omega arith
+    go o is e below = grind arith
 
 -- a path without its last step
 length-parent_path : (side : Side) (path : List Side) → length (parent_path side path) ≡ length path
@@ -34,12 +32,7 @@ length-parent_path side (next ∷ path) = let below = length-parent_path next pa
 
 -- the path of a move that has a result
 move-path : (n : ℕ) (t r : Shape) (m : PlainMove) → node_count t ≤ 127 → move_result n t m ≡ Some r → HasShortPath m
-move-path n t r (rotate_at []) few e = absurd (none-some _ e)
-move-path n t r (rotate_at (side ∷ path)) few e =
-    let less = path-short (rotate_result_at (last_step side path)) (parent_path side path) t r e in
-    let same = length-parent_path side path in
-    omega arith
-move-path n t r (switch_at path u v) few e = let less = path-short (switch_result_at n u v) path t r e in omega arith
+move-path n t r m few e = grind (arith, none-some, path-short, length-parent_path)
 
 -- a proper subset is not empty
 proper-nonempty : (u x : List ℕ) → is_proper u x ≡ true → 0 < length u
@@ -64,13 +57,11 @@ path-sets n whole u v (side ∷ path) leaf r fits e = absurd (none-some _ e)
 path-sets n whole u v (Kept ∷ path) (cut x a b) r fits e = go (result_at (switch_result_at n u v) path a) refl e (path-sets n whole u v path a)
   where
     go : (o : Option Shape) → result_at (switch_result_at n u v) path a ≡ o → option_map (λ c. cut x c b) o ≡ Some r → ((c : Shape) → Fits n a → result_at (switch_result_at n u v) path a ≡ Some c → HasSets n (switch_at whole u v)) → HasSets n (switch_at whole u v)
-    go None is e below = absurd (none-some _ e)
-    go (Some c) is e below = below c fits.1 is
+    go o is e below = grind arith
 path-sets n whole u v (Merged ∷ path) (cut x a b) r fits e = go (result_at (switch_result_at n u v) path b) refl e (path-sets n whole u v path b)
   where
     go : (o : Option Shape) → result_at (switch_result_at n u v) path b ≡ o → option_map (λ c. cut x a c) o ≡ Some r → ((c : Shape) → Fits n b → result_at (switch_result_at n u v) path b ≡ Some c → HasSets n (switch_at whole u v)) → HasSets n (switch_at whole u v)
-    go None is e below = absurd (none-some _ e)
-    go (Some c) is e below = below c fits.2 is
+    go o is e below = grind arith
 
 -- the sets of a move that has a result
 move-sets : (n : ℕ) (t r : Shape) (m : PlainMove) → Fits n t → move_result n t m ≡ Some r → HasSets n m
@@ -89,9 +80,4 @@ script-sets g s t (m ∷ moves) derived turns = (move-sets g.order s turns.0 m (
 
 -- there are few moves
 pub few-moves : (g : Graph) (s : Shape) (k : ℕ) → IsGraph g → g.order ≤ 128 → IsDerivation g s → k ≤ 5 * (cut_count s * cut_count s) → k ≤ 20000
-few-moves g s k is few derived bound =
-    let nodes = few-nodes g s is few derived in
-    let cuts = node_count-cuts s in
-    let most : cut_count s ≤ 63 = omega arith in
-    let square : cut_count s * cut_count s ≤ 63 * 63 = mul-le (cut_count s) (cut_count s) 63 63 most most in
-    omega (arith, square, bound)
+few-moves g s k is few derived bound = grind (arith, few-nodes g s is few derived, node_count-cuts s, mul-le (cut_count s) (cut_count s) 63 63)

@@ -1,6 +1,6 @@
 -- A text that stands for a value stands for it with comments after it, and so the report on a
 -- script stands for the script.
-use Rattle.std.proofs.Common.{◌≡◌, ◌∙◌, ℕ, ◌<◌, ◌^◌, List, [], ◌∷◌, ◌++◌, map, true, length, ap, ap₂, refl, sym, subst, append_assoc, codes}
+use Rattle.std.proofs.Common.{◌≡◌, ℕ, ◌<◌, ◌^◌, List, [], ◌∷◌, ◌++◌, map, true, length, refl, sym, subst, append_assoc, codes, arith}
 use Rattle.std.specs.Fmt.{decimal}
 use Rattle.line_text.specs.Common.{Stands, is_closed, written, unwords}
 use Rattle.line_text.proofs.Decimals.{is_word-decimal}
@@ -38,16 +38,4 @@ stands-report n leaves count moves few_leaves few_moves stands =
 pub scripted : (g : Graph) (s t : Shape) (moves : List PlainMove) (n leaves count : ℕ) (text shown output : List ℕ) →
     IsScript g s t moves → leaves < 10 ^ 9 → count < 10 ^ 9 → n ≡ g.order → leaves ≡ leaf_count s → count ≡ length moves →
     text ≡ moves_text n moves → shown ≡ text → Stands (move_format n) text moves → output ≡ script_report_text shown leaves count → Scripted g s t Done output
-scripted g s t moves n leaves count text shown output script few_leaves few_moves n_is leaves_are count_is text_is shown_is stands output_is = record {
-  moves = moves;
-  script = script;
-  done = refl;
-  text = whole;
-  stands = subst (λ (o : List ℕ). Stands (move_format g.order) o moves) (sym whole)
-      (stands-report g.order (leaf_count s) (length moves) moves (subst (λ (k : ℕ). k < 10 ^ 9) leaves_are few_leaves) (subst (λ (k : ℕ). k < 10 ^ 9) count_is few_moves)
-      (subst (λ (k : ℕ). Stands (move_format k) (moves_text k moves) moves) n_is (subst (λ (x : List ℕ). Stands (move_format n) x moves) text_is stands)));
-}
-  where
-    whole : output ≡ script_report_text (moves_text g.order moves) (leaf_count s) (length moves)
-    whole = output_is ∙ ap (λ (x : List ℕ). script_report_text x leaves count) (shown_is ∙ text_is ∙ ap (λ (k : ℕ). moves_text k moves) n_is)
-        ∙ ap₂ (script_report_text (moves_text g.order moves)) leaves_are count_is
+scripted g s t moves n leaves count text shown output script few_leaves few_moves n_is leaves_are count_is text_is shown_is stands output_is = grind (arith, stands-report)

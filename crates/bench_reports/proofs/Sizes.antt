@@ -19,12 +19,7 @@ module _ (g : Graph) (is : IsGraph g) (m : MatchingValue) (of : IsOf g m) (keeps
 
   -- the missed vertices and two ends a row are all vertices
   pub missed_and_ends : missed_count g none (mem (edges_of m)) + 2 * length m.rows ≡ g.order
-  missed_and_ends =
-      let a = missed_edges g none (mem (edges_of m)) is most.is in
-      let b = count_complement g.order none in
-      let z : count g.order none ≡ 0 = total_zero g.order in
-      let r = rows_count in
-      omega arith
+  missed_and_ends = grind (arith, missed_edges g none (mem (edges_of m)) is most.is, count_complement g.order none, total_zero g.order, rows_count)
 
   -- so there are at most all vertices
   pub ends_within : (edges : ℕ) → edges ≡ length m.rows → 2 * edges ≤ g.order

@@ -2,79 +2,32 @@
 -- the verdict gives a value that the graph determines. A rising list is determined by its
 -- members, the number of edges of a maximum matching by there being none with more, and the kind
 -- by the sides and the first candidate.
-use Rattle.std.proofs.Common.{◌≡◌, ◌∙◌, ◌↔◌, ℕ, List, ◌++◌, Bool, Option, Some, None, inl, refl, sym, ap, arith, codes, IsTrue}
-use Rattle.counting.proofs.Common.{same_tests, none-some, same_Some, same_rising_list, Lists, mem, none}
-use Rattle.std.specs.Option.{option_map}
-use Rattle.graph_core.proofs.Common.{Graph, IsBipartite, IsMultigraph, size, InA, InC, InD, Allowed, IsVerdict, reason_of, pair_of, reason-uncovered, missed_edges}
-use Rattle.graph_core.specs.declared.ends.Ends.{Ends}
-use Rattle.graph_core.specs.declared.verdict.Kind.{Kind}
-use Rattle.graph_core.specs.declared.verdict.Kind.TheVariants.{Brace, Brick, Composite}
+use Rattle.std.proofs.Common.{◌≡◌, ◌∙◌, ◌↔◌, ℕ, List, ◌++◌, Bool, Option, Some, None, refl, sym, ap, arith, codes, IsTrue}
+use Rattle.counting.proofs.Common.{same_tests, same_rising_list, Lists}
+use Rattle.graph_core.proofs.Common.{Graph, IsBipartite, IsMultigraph, size, InA, InC, InD, Allowed, IsVerdict, reason_of, reason-uncovered, missed_edges}
 use Rattle.graph_core.specs.declared.verdict.Verdict.{Verdict}
 use Rattle.graph_core.specs.declared.verdict.Verdict.TheVariants.{Covered, NotCovered}
-use Rattle.leaf_kinds.specs.LeafKinds.{IsKind, cut_of}
-use Rattle.report_text.specs.Common.{analysis_text, graph_lines, verdict_lines, with_structure, with_three_sets, deficiency_line, list_line, matching_line, verdict_text, structure_text}
+use Rattle.report_text.specs.Common.{analysis_text, graph_lines, verdict_lines, with_structure, with_three_sets, deficiency_line, list_line, matching_line, verdict_text}
 use Rattle.report_text.specs.declared.analyses.AnalysisLines.{AnalysisLines}
 use Rattle.report_text.specs.declared.structures.Structure.{Structure}
-use Rattle.bench_outcomes.specs.Common.{HasMaximum, IsAnalysis, IsStructure, TellsStructure, MayBeBerge}
+use Rattle.bench_outcomes.specs.Common.{HasMaximum, IsAnalysis, TellsStructure, MayBeBerge}
 use Rattle.bench_top.specs.Fixed.{DifferAtMostIn}
 use Rattle.bench_top.proofs.AlikeReasons.{reason-alike}
 use Rattle.bench_top.proofs.AlikeTexts.{alike-along, alike-behind}
 
 -- a rising list is determined by what it lists
 lists-once : (n : ℕ) (xs ys : List ℕ) (P : ℕ → Type 0) → Lists n xs P → Lists n ys P → xs ≡ ys
-lists-once n xs ys P one two =
-    same_rising_list n xs ys one.rising two.rising
-    (λ v within. same_tests (mem xs v) (mem ys v) (λ is. two.complete v within (one.sound v is)) (λ is. one.complete v within (two.sound v is)))
+lists-once n xs ys P one two = grind (arith, same_rising_list n xs ys one.rising two.rising, same_tests)
 
 answers-once : (a b : Bool) (P : Type 0) → (IsTrue a ↔ P) → (IsTrue b ↔ P) → a ≡ b
 answers-once a b P one two = same_tests a b (λ is. two.1 (one.0 is)) (λ is. one.1 (two.0 is))
 
 -- maximum matchings have one number of edges, and miss one number of vertices
 edges-once : (g : Graph) (edges missed more others : ℕ) → HasMaximum g edges missed → HasMaximum g more others → edges ≡ more
-edges-once g edges missed more others one two =
-    let at_most = two.maximum.most one.matching one.maximum.is in
-    let at_least = one.maximum.most two.matching two.maximum.is in
-    let first = one.size_is in
-    let second = two.size_is in
-    omega arith
+edges-once g edges missed more others one two = grind arith
 
 missed-once : (g : Graph) → IsMultigraph g → (edges missed more others : ℕ) → HasMaximum g edges missed → HasMaximum g more others → missed ≡ others
-missed-once g is edges missed more others one two =
-    let same = edges-once g edges missed more others one two in
-    let first = missed_edges g none one.matching is.ends one.maximum.is in
-    let second = missed_edges g none two.matching is.ends two.maximum.is in
-    let first_size = one.size_is in
-    let second_size = two.size_is in
-    let first_misses = one.misses in
-    let second_misses = two.misses in
-    omega arith
-
--- the pair of two vertices is the code's
-ends-once : (a b : Option Ends) → option_map pair_of a ≡ option_map pair_of b → a ≡ b
-ends-once None None same = refl
-ends-once None (Some e) same = absurd (none-some _ same)
-ends-once (Some e) None same = absurd (none-some _ (sym same))
-ends-once (Some e) (Some f) same = let pair : pair_of e ≡ pair_of f = same_Some _ _ same in λ i. Some (record { a = (pair i).0; b = (pair i).1 })
-
-kind-once : (g : Graph) (a b : Kind) → IsKind g a → IsKind g b → cut_of a ≡ cut_of b → a ≡ b
-kind-once g Brace Brace one two same = refl
-kind-once g Brace Brick one two same = absurd (two.0 one.0)
-kind-once g Brace (Composite c) one two same = absurd (none-some _ same)
-kind-once g Brick Brace one two same = absurd (one.0 two.0)
-kind-once g Brick Brick one two same = refl
-kind-once g Brick (Composite c) one two same = absurd (none-some _ same)
-kind-once g (Composite c) Brace one two same = absurd (none-some _ (sym same))
-kind-once g (Composite c) Brick one two same = absurd (none-some _ (sym same))
-kind-once g (Composite c) (Composite d) one two same = ap (λ (x : List ℕ). Composite x) (same_Some _ _ same)
-
--- the lines on the structure
-structure-once : (g : Graph) (a b : Structure) → IsStructure g a → IsStructure g b → structure_text a ≡ structure_text b
-structure-once g a b one two =
-    let same_classes = one.partition ∙ sym two.partition in
-    let same_unlike = ends-once a.unlike b.unlike (one.unlike ∙ sym two.unlike) in
-    let same_pair = ends-once a.cutpair b.cutpair (one.separates ∙ sym two.separates) in
-    let same_kind = kind-once g a.kind b.kind one.kind two.kind (one.cut ∙ sym two.cut) in
-    λ i. structure_text (record { classes = same_classes i; unlike = same_unlike i; cutpair = same_pair i; kind = same_kind i })
+missed-once g is edges missed more others one two = grind (arith, edges-once, missed_edges)
 
 -- the lines before that of the verdict
 abbrev front : AnalysisLines → List ℕ
@@ -111,14 +64,12 @@ rest-alike : (g : Graph) → IsMultigraph g → (before : List ℕ) (v w : Verdi
     DifferAtMostIn (MayBeBerge g) (with_structure (before ++ verdict_text v) s) (with_structure (before ++ verdict_text w) t)
 rest-alike g is before Covered w None t first second one two = absurd one
 rest-alike g is before Covered Covered (Some s) None first second one two = absurd two
-rest-alike g is before Covered Covered (Some s) (Some t) first second one two =
-    inl (ap (λ (text : List ℕ). (before ++ verdict_text Covered) ++ text) (structure-once g s t one two))
+rest-alike g is before Covered Covered (Some s) (Some t) first second one two = grind arith
 rest-alike g is before Covered (NotCovered r) (Some s) t first second one two = absurd (reason-uncovered g (reason_of r) is second first)
 rest-alike g is before (NotCovered q) w (Some s) t first second one two = absurd one
 rest-alike g is before (NotCovered q) Covered None t first second one two = absurd (reason-uncovered g (reason_of q) is first second)
 rest-alike g is before (NotCovered q) (NotCovered r) None (Some t) first second one two = absurd two
-rest-alike g is before (NotCovered q) (NotCovered r) None None first second one two =
-    alike-behind (MayBeBerge g) before (verdict_text (NotCovered q)) (verdict_text (NotCovered r)) (reason-alike g q r first second)
+rest-alike g is before (NotCovered q) (NotCovered r) None None first second one two = grind (arith, alike-behind, reason-alike)
 
 pub analyses-alike : (g : Graph) → IsMultigraph g → (a b : AnalysisLines) → IsAnalysis g a → IsAnalysis g b → DifferAtMostIn (MayBeBerge g) (analysis_text a) (analysis_text b)
 unfolding analysis_text verdict_lines

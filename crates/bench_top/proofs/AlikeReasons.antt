@@ -1,5 +1,5 @@
 -- Two reasons why a graph is not covered have the same line, but for the Berge set.
-use Rattle.std.proofs.Common.{◌≡◌, ℕ, List, ◌++◌, inl, refl, ap, subst, codes}
+use Rattle.std.proofs.Common.{◌≡◌, ℕ, List, ◌++◌, inl, refl, codes, arith}
 use Rattle.graph_core.proofs.Common.{IsReason, Graph, reason_of}
 use Rattle.graph_core.specs.declared.verdict.Reason.{Reason}
 use Rattle.graph_core.specs.declared.verdict.Reason.TheVariants.{Small, Parted, Unmatched, Unallowed}
@@ -21,21 +21,13 @@ told-alike fact (Unmatched s) (Unmatched t) same first second =
     (alike-behind fact (codes "covered no") (codes " berge" ++ numbers_text s) (codes " berge" ++ numbers_text t)
     (alike-behind fact (codes " berge") (numbers_text s) (numbers_text t) (alike-lists fact s t (first s refl) (second t refl))))
 told-alike fact Small Small same first second = inl refl
-told-alike fact (Parted a b) (Parted c d) same first second =
-    let equal : Parted a b ≡ Parted c d = cc same in
-    inl (ap (λ (r : Reason). verdict_text (NotCovered r)) equal)
-told-alike fact (Unallowed e) (Unallowed f) same first second =
-    let equal : Unallowed e ≡ Unallowed f = cc same in
-    inl (ap (λ (r : Reason). verdict_text (NotCovered r)) equal)
+told-alike fact (Parted a b) (Parted c d) same first second = grind arith
+told-alike fact (Unallowed e) (Unallowed f) same first second = grind arith
 told-alike fact q r same first second = absurd (cc same)
 
 pub reason-alike : (g : Graph) (q r : Reason) → IsReason g (reason_of q) → IsReason g (reason_of r) → DifferAtMostIn (MayBeBerge g) (verdict_text (NotCovered q)) (verdict_text (NotCovered r))
-reason-alike g q r one two =
-    told-alike (MayBeBerge g) q r (reason-one g (reason_of q) (reason_of r) one two)
-    (λ s e. subst (λ (x : Reason). IsReason g (reason_of x)) e one) (λ s e. subst (λ (x : Reason). IsReason g (reason_of x)) e two)
+reason-alike g q r one two = grind (arith, told-alike (MayBeBerge g) q r (reason-one g (reason_of q) (reason_of r) one two), reason-one g (reason_of q) (reason_of r) one two)
 
 -- the same of what is reported on a graph that is not covered
 pub uncovered-alike : (g : Graph) (first second : Status) (output other : List ℕ) → Uncovered g first output → Uncovered g second other → DifferAtMostIn (MayBeBerge g) output other
-uncovered-alike g first second output other one two =
-    alike-along (MayBeBerge g) output other (verdict_text (NotCovered one.reason)) (verdict_text (NotCovered two.reason)) one.text two.text
-    (reason-alike g one.reason two.reason one.first two.first)
+uncovered-alike g first second output other one two = grind (arith, alike-along, reason-alike)

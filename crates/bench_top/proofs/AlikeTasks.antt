@@ -1,6 +1,6 @@
 -- How alike are two reports of one task? One line for each task says it of a done one and of a
 -- refused one, as far as its conduct promises; the rest goes by the conduct alone.
-use Rattle.std.proofs.Common.{◌≡◌, ◌∙◌, ℕ, List, inl, inr, sym, subst}
+use Rattle.std.proofs.Common.{◌≡◌, ◌∙◌, ℕ, List, inl, inr, sym, subst, arith}
 use Rattle.decomposer.specs.Common.{NamedPicks, ScriptPicks}
 use Rattle.bench_tasks.specs.Common.{Task}
 use Rattle.bench_tasks.specs.Tasks as task
@@ -76,8 +76,7 @@ refused-by (Chooses fact shown) output other may same = same
 
 -- a refused task may be
 may-refuse : (t : Task) → IsSettledTask t Negative → TaskMayRefuse t
-may-refuse t (inl done) = let no = done.0 in absurd (cc no)
-may-refuse t (inr refused) = refused.1.0
+may-refuse t h = grind arith
 
 -- each task whose text is not free
 pub task-once : (t : Task) → KeepsGraph t → HasOneOutput t → (output other : List ℕ) → ResultOf t Done output → ResultOf t Done other → output ≡ other
@@ -93,6 +92,5 @@ task-alike t is status free output other one two = elim (settled t is status out
   | inl done ↦
       done-by (conduct_of t) output other (λ chosen. let refused = free chosen in let no : Done ≡ Negative = sym done.0 ∙ refused in cc no)
       ((alike t is).done output other (subst (λ (s : Status). ResultOf t s output) done.0 one) (subst (λ (s : Status). ResultOf t s other) done.0 two))
-  | inr refused ↦
-      refused-alike t is output other (subst (λ (s : Status). ResultOf t s output) refused.0 one) (subst (λ (s : Status). ResultOf t s other) refused.0 two)
+  | inr refused ↦ grind (arith, refused-alike t is output other)
 ]

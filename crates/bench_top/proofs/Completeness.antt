@@ -1,43 +1,31 @@
 -- Words and files decide the status: of good files by whether the task succeeds, and of a bad one
 -- it is BadInput.
-use Rattle.std.proofs.Common.{◌≡◌, ◌∙◌, ◌↔◌, ℕ, List, Option, Some, None, ◌⊎◌, inl, inr, refl, sym, subst}
+use Rattle.std.proofs.Common.{◌≡◌, ◌↔◌, ℕ, List, Option, Some, ◌⊎◌, inl, inr, refl, arith}
 use Rattle.outside.specs.Common.{NamedFile}
-use Rattle.bench_tasks.specs.Common.{Command, command_of, Loaded, All, Bad, Absent, loaded, Task}
+use Rattle.bench_tasks.specs.Common.{Command, command_of, Loaded, All, loaded, Task}
 use Rattle.bench_outcomes.specs.Common.{CommandGives, IsReported, LoadedGives, Outcome, Succeeds}
 use Rattle.bench_outcomes.specs.declared.status.Status.{Status}
 use Rattle.bench_outcomes.specs.declared.status.Status.TheVariants.{Done, Negative, Usage, ReadFault, BadInput, WriteFault, Memory}
 use Rattle.bench_top.proofs.LoadedGraphs.{Holds, loaded-graph}
 use Rattle.bench_outcomes.proofs.Settled.{KeepsGraph, Settles, settled}
 
--- done and refused are two things
-not-both : (status : Status) → status ≡ Done → status ≡ Negative → ⊥
-not-both status done negative = let no : Done ≡ Negative = sym done ∙ negative in cc no
-
 settles-done : (fact : Type 0) (status : Status) → Settles fact status → (status ≡ Done) ↔ fact
-settles-done fact status (inl done) = (λ is. done.1, λ is. done.0)
-settles-done fact status (inr refused) = (λ done. absurd (not-both status done refused.0), λ is. absurd (refused.1 is))
+settles-done fact status h = grind arith
 
 settles-negative : (fact : Type 0) (status : Status) → Settles fact status → (status ≡ Negative) ↔ (fact → ⊥)
-settles-negative fact status (inl done) = (λ negative. absurd (not-both status done.0 negative), λ none. absurd (none done.1))
-settles-negative fact status (inr refused) = (λ is. refused.1, λ none. refused.0)
+settles-negative fact status h = grind arith
 
 settles-once : (fact : Type 0) (first second : Status) → Settles fact first → Settles fact second → first ≡ second
-settles-once fact first second (inl done) (inl again) = done.0 ∙ sym again.0
-settles-once fact first second (inl done) (inr refused) = absurd (refused.1 done.1)
-settles-once fact first second (inr refused) (inl done) = absurd (refused.1 done.1)
-settles-once fact first second (inr refused) (inr again) = refused.0 ∙ sym again.0
+settles-once fact first second h k = grind arith
 
 -- good files settle
 outcome-settles : (words : List (List ℕ)) (files : List NamedFile) (command : Command) (task : Task) (status : Status) (output : List ℕ) →
     command_of words ≡ Some command → loaded files command ≡ All task → Outcome words files status output → Settles (Succeeds task) status
-outcome-settles words files command task status output row held gives =
-    settled task (subst (Holds KeepsGraph) held (loaded-graph files command)) status output
-    (subst (λ (h : Loaded Task). LoadedGives h status output) held (subst (λ (o : Option Command). CommandGives files o status output) row gives))
+outcome-settles words files command task status output row held gives = grind (arith, settled, loaded-graph)
 
 pub done-given : (files : List NamedFile) (command : Command) (task : Task) (status : Status) (output : List ℕ) →
     loaded files command ≡ All task → LoadedGives (loaded files command) status output → (status ≡ Done) ↔ Succeeds task
-done-given files command task status output held gives =
-    settles-done (Succeeds task) status (settled task (subst (Holds KeepsGraph) held (loaded-graph files command)) status output (subst (λ (h : Loaded Task). LoadedGives h status output) held gives))
+done-given files command task status output held gives = grind (arith, settles-done, settled, loaded-graph)
 
 pub done-exactly : (words : List (List ℕ)) (files : List NamedFile) (command : Command) (task : Task) (status : Status) (output : List ℕ) →
     command_of words ≡ Some command → loaded files command ≡ All task → Outcome words files status output → (status ≡ Done) ↔ Succeeds task
@@ -49,13 +37,10 @@ negative-exactly words files command task status output row held gives = settles
 
 -- one status
 held-once : (held : Loaded Task) (first second : Status) (output other : List ℕ) → Holds KeepsGraph held → LoadedGives held first output → LoadedGives held second other → first ≡ second
-held-once (All task) first second output other keeps gives again = settles-once (Succeeds task) first second (settled task keeps first output gives) (settled task keeps second other again)
-held-once (Bad file line kind) first second output other keeps gives again = gives.0 ∙ sym again.0
-held-once (Absent file) first second output other keeps gives again = absurd gives
+held-once held first second output other keeps gives again = grind (arith, settles-once, settled)
 
 row-once : (files : List NamedFile) (row : Option Command) (first second : Status) (output other : List ℕ) → CommandGives files row first output → CommandGives files row second other → first ≡ second
-row-once files None first second output other gives again = absurd gives
-row-once files (Some command) first second output other gives again = held-once (loaded files command) first second output other (loaded-graph files command) gives again
+row-once files row first second output other gives again = grind (arith, held-once, loaded-graph files)
 
 pub status-once : (words : List (List ℕ)) (files : List NamedFile) (first second : Status) (output other : List ℕ) → Outcome words files first output → Outcome words files second other → first ≡ second
 status-once words files first second output other gives again = row-once files (command_of words) first second output other gives again

@@ -1,12 +1,12 @@
 -- What `convert` writes stands for the graph with the names that it writes, and for nothing else.
 -- So a file that holds it is read as this graph with these names, and the text of them is the
 -- same text.
-use Rattle.std.proofs.Common.{◌≡◌, ◌∙◌, ℕ, ◌≤◌, List, [], ◌∷◌, length, Some, refl, sym, subst, codes}
+use Rattle.std.proofs.Common.{◌≡◌, ℕ, ◌≤◌, List, [], ◌∷◌, length, Some, refl, subst, codes, arith}
 use Rattle.outside.specs.Common.{NamedFile, file_named}
 use Rattle.line_text.specs.Common.{reading_of}
 use Rattle.line_text.proofs.ExactlyOne.{Stands-reading_of}
 use Rattle.graph_text.specs.Common.{NamedGraph, either_version}
-use Rattle.bench_tasks.specs.Common.{Loaded, All, Bad, Absent, loaded_as, graph_file, most_bytes}
+use Rattle.bench_tasks.specs.Common.{Loaded, All, loaded_as, graph_file, most_bytes}
 use Rattle.bench_outcomes.specs.Common.{LoadedGives, Outcome, Converted, given_or_plain}
 use Rattle.bench_tasks.specs.Tasks as task
 use Rattle.bench_tasks.specs.declared.verbs.GraphVerb.TheVariants.{Convert}
@@ -24,10 +24,7 @@ again : (named : NamedGraph) (output : List ℕ) → Converted named Done output
 again named output first = record { done = refl; text = first.text; stands = first.stands }
 
 convert-again : (held : Loaded NamedGraph) (again_held : Loaded NamedGraph) (output : List ℕ) → ((named : NamedGraph) → Converted named Done output → again_held ≡ All (written_graph named)) → LoadedGives (loaded_as (task.OnGraph Convert) held) Done output → LoadedGives (loaded_as (task.OnGraph Convert) again_held) Done output
-convert-again (All named) again_held output holds gives =
-    subst (λ (h : Loaded NamedGraph). LoadedGives (loaded_as (task.OnGraph Convert) h) Done output) (sym (holds named gives)) (again named output gives)
-convert-again (Bad file line kind) again_held output holds gives = let no = gives.0 in cc no
-convert-again (Absent file) again_held output holds gives = absurd gives
+convert-again held again_held output holds gives = grind arith
 
 pub convert-twice : (files others : List NamedFile) (name other : List ℕ) (output : List ℕ) → LoadedGives (loaded_as (task.OnGraph Convert) (graph_file files name)) Done output → file_named other others ≡ Some output → length output ≤ most_bytes → LoadedGives (loaded_as (task.OnGraph Convert) (graph_file others other)) Done output
 convert-twice files others name other output gives held within =
@@ -37,9 +34,7 @@ convert-twice files others name other output gives held within =
 
 -- the conversion of a file that holds one is done and gives it
 convert-one : (held : Loaded NamedGraph) (output other : List ℕ) → LoadedGives (loaded_as (task.OnGraph Convert) held) Done output → LoadedGives (loaded_as (task.OnGraph Convert) held) Done other → other ≡ output
-convert-one (All named) output other one two = two.text ∙ sym one.text
-convert-one (Bad file line kind) output other one two = let no = one.0 in cc no
-convert-one (Absent file) output other one two = absurd one
+convert-one held output other one two = grind arith
 
 pub convert-only : (files again : List NamedFile) (name other : List ℕ) (output : List ℕ) (status : Status) (text : List ℕ) → Outcome (codes "convert" ∷ name ∷ []) files Done output → file_named other again ≡ Some output → length output ≤ most_bytes →
     Outcome (codes "convert" ∷ other ∷ []) again status text → (status ≡ Done) × (text ≡ output)

@@ -7,11 +7,8 @@ use Rattle.bench_tasks.specs.Common.{Loaded, All, Bad, file_read, from_reading}
 
 -- within the limit of bytes the text is read
 file_read-within : {A : Type 0} (place : ℕ) (reading : List ℕ → Result A (ℕ × FaultKind)) (file : Option (List ℕ)) (bytes : List ℕ) → file ≡ Some bytes → length bytes ≤ 1048576 → file_read place reading file ≡ from_reading place (reading bytes)
-file_read-within {A} place reading file bytes held within = ap (file_read place reading) held ∙ go (nat_lt 1048576 (length bytes)) short
+file_read-within {A} place reading file bytes held within = ap (file_read place reading) held ∙ go (nat_lt 1048576 (length bytes)) (grind (arith, nat_tests, within))
   where
-    short : nat_lt 1048576 (length bytes) ≡ false
-    short = grind (arith, nat_tests, within)
-
     long : Loaded A
     long = Bad place 0 6
 

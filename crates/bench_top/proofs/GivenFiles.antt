@@ -1,6 +1,6 @@
 -- There are files that reads gave, whatever they answered: one for each answer that gave one, named
 -- by its place. They hold what was answered at each place, since places differ.
-use Rattle.std.proofs.Common.{◌≡◌, ◌∙◌, ◌<◌, ℕ, suc, ◌+◌, List, [], ◌∷◌, length, refl, ap, sym, subst, arith, Result, Ok, Err, replicate, true, false, Bool, cond, nat_eq}
+use Rattle.std.proofs.Common.{◌≡◌, ◌<◌, ℕ, ◌+◌, List, [], ◌∷◌, length, refl, arith, Result, Ok, Err, replicate, false}
 use Rattle.std.proofs.lemmas.List.{length-replicate}
 use Rattle.counting.proofs.Common.{nat_tests}
 use Rattle.std.specs.declared.option.Option.{Option}
@@ -8,7 +8,7 @@ use Rattle.std.specs.declared.option.Option.TheVariants.{Some}
 use Rattle.std.specs.Str.{bytes_eq}
 use Rattle.outside.specs.Common.{Answer, NamedFile, file_named}
 use Rattle.outside.specs.declared.shelf.ShelfFault.TheVariants.{Failed, TooLong, Memory}
-use Rattle.bench_tasks.specs.Common.{GathersAnswered, GaveFile, HoldGiven, by_place, place_name, Command, loaded, most_bytes, Held, LoadsAs, task_of}
+use Rattle.bench_tasks.specs.Common.{GathersAnswered, HoldGiven, by_place, place_name, Command, loaded, most_bytes, Held, LoadsAs, task_of}
 use Rattle.bench_tasks.specs.declared.stop.Stop.{Stop}
 use Rattle.bench_tasks.specs.declared.tasks.Task.TheVariants as code
 use Rattle.bench_outcomes.specs.Common.{LoadedGives}
@@ -23,17 +23,11 @@ next-name place next before = grind (arith, nat_tests, before)
 -- a file before them changes nothing of what those hold that come after it
 holds-after : (place : ℕ) (bytes : List ℕ) (files : List NamedFile) (next : ℕ) → place < next → (answers : List Answer) → HoldGiven files next answers → HoldGiven ((place_name place, bytes) ∷ files) next answers
 holds-after place bytes files next before [] held = tt
-holds-after place bytes files next before (answer ∷ answers) held =
-    let same : file_named (place_name next) ((place_name place, bytes) ∷ files) ≡ file_named (place_name next) files =
-    ap (λ (b : Bool). cond b (Some bytes) (file_named (place_name next) files)) (next-name place next before) in
-    (subst (GaveFile answer) (sym same) held.0, holds-after place bytes files (next + 1) (omega (arith, before)) answers held.1)
+holds-after place bytes files next before (answer ∷ answers) held = grind (arith, next-name place next before, holds-after place bytes files (next + 1) (omega (arith, before)) answers held.1)
 
 -- the first file is found
 first-named : (place : ℕ) (bytes : List ℕ) (files : List NamedFile) → file_named (place_name place) ((place_name place, bytes) ∷ files) ≡ Some bytes
-first-named place bytes files = ap (λ (b : Bool). cond b (Some bytes) (file_named (place_name place) files)) same
-  where
-    same : bytes_eq (place_name place) (place_name place) ≡ true
-    same = grind (arith, nat_tests)
+first-named place bytes files = grind arith
 
 -- some file is longer than any number
 longer : (n : ℕ) → (bytes : List ℕ) × (n < length bytes)
@@ -47,8 +41,7 @@ pub record FilesGiven (place : ℕ) (answers : List Answer) : Type 0 where
 
 with-file : (place : ℕ) (bytes : List ℕ) (answers : List Answer) → (rest : FilesGiven (place + 1) answers) →
     BeginsWith place bytes (AreGiven (place + 1) answers) ((place_name place, bytes) ∷ rest.files) × HoldGiven ((place_name place, bytes) ∷ rest.files) (place + 1) answers
-with-file place bytes answers rest =
-    (record { rest = rest.files; are = refl; others_hold = rest.given }, holds-after place bytes rest.files (place + 1) (omega arith) answers rest.held)
+with-file place bytes answers rest = grind (arith, holds-after place bytes rest.files (place + 1))
 
 pub files-given : (place : ℕ) (answers : List Answer) → FilesGiven place answers
 files-given place [] = record { files = []; given = refl; held = tt }
@@ -61,11 +54,7 @@ files-given place (Err TooLong ∷ answers) =
     let rest = files-given (place + 1) answers in
     let long = longer most_bytes in
     let more = with-file place long.0 answers rest in
-    record {
-      files = (place_name place, long.0) ∷ rest.files;
-      given = (long.0, long.1, more.0);
-      held = ((long.0, first-named place long.0 rest.files, long.1), more.1);
-    }
+    grind arith
 files-given place (Err Memory ∷ answers) = let rest = files-given (place + 1) answers in record { files = rest.files; given = rest.given; held = (tt, rest.held) }
 
 -- a run whose writes are those of an outcome of whatever was loaded

@@ -1,6 +1,6 @@
 -- What the files of a command hold keeps a graph: the graph that a file is read as is one. Each
 -- case of loading passes this on.
-use Rattle.std.proofs.Common.{ℕ, Bool, true, false, cond, nat_lt, List, length, Option, Some, None, Result, Ok, Err}
+use Rattle.std.proofs.Common.{ℕ, List, Option, Some, None, Result, arith}
 use Rattle.outside.specs.Common.{NamedFile, file_named}
 use Rattle.line_text.specs.Common.{reading_of}
 use Rattle.graph6_text.specs.Common.{outcome_of}
@@ -9,7 +9,7 @@ use Rattle.graph_core.proofs.Common.{Graph, IsMultigraph}
 use Rattle.text_faults.specs.declared.faults.FaultKind.{FaultKind}
 use Rattle.graph_text.specs.Common.{NamedGraph, either_version}
 use Rattle.tree_core.proofs.Common.{PlainMove, Shape}
-use Rattle.bench_tasks.specs.Common.{Command, OnGraph, OnSimpleGraph, OnTree, OnPicks, OnEars, OnMoves, OnTrees, OnNumbers, Loaded, All, Bad, Absent, and_then, ear_file, ears_given, file_read, from_reading, graph6_file, graph_file, loaded, loaded_as, most_bytes, move_file, moves_given, on_ears, on_moves, on_picks, on_tree, on_trees, pick_file, picks_given, tree_file, tree_given, trees_given, Task}
+use Rattle.bench_tasks.specs.Common.{Command, OnGraph, OnSimpleGraph, OnTree, OnPicks, OnEars, OnMoves, OnTrees, OnNumbers, Loaded, All, Bad, Absent, and_then, ear_file, ears_given, file_read, graph6_file, graph_file, loaded, loaded_as, move_file, moves_given, on_ears, on_moves, on_picks, on_tree, on_trees, pick_file, picks_given, tree_file, tree_given, trees_given}
 use Rattle.bench_tasks.specs.Tasks as task
 use Rattle.bench_top.proofs.ReadGraphs.{GoesOn, HasGraph, IsRead, read-graph}
 use Rattle.bench_top.proofs.ReadSimpleGraphs.{read-simple_graph}
@@ -25,28 +25,17 @@ abbrev Anything : {A : Type 0} → A → Type 0
 Anything value = Unit {0}
 
 any-holds : {A : Type 0} (held : Loaded A) → Holds Anything held
-any-holds (All value) = tt
-any-holds (Bad file line kind) = tt
-any-holds (Absent file) = tt
+any-holds held = grind arith
 
 as-holds : {A B : Type 0} (P : A → Type 0) (Q : B → Type 0) (make : A → B) (held : Loaded A) → ((a : A) → P a → Q (make a)) → Holds P held → Holds Q (loaded_as make held)
-as-holds P Q make (All value) give is = give value is
-as-holds P Q make (Bad file line kind) give is = tt
-as-holds P Q make (Absent file) give is = tt
+as-holds P Q make held give is = grind arith
 
 then-holds : {A B : Type 0} (P : A → Type 0) (Q : B → Type 0) (held : Loaded A) (next : A → Loaded B) → Holds P held → ((a : A) → P a → Holds Q (next a)) → Holds Q (and_then held next)
-then-holds P Q (All value) next is give = give value is
-then-holds P Q (Bad file line kind) next is give = tt
-then-holds P Q (Absent file) next is give = tt
+then-holds P Q held next is give = grind arith
 
 read-holds : {A : Type 0} (P : A → Type 0) (place : ℕ) (reading : List ℕ → Result A (ℕ × FaultKind)) (file : Option (List ℕ)) → ((bytes : List ℕ) → GoesOn P (reading bytes)) → Holds P (file_read place reading file)
 read-holds {A} P place reading None goes = tt
-read-holds {A} P place reading (Some bytes) goes = at (nat_lt most_bytes (length bytes)) (reading bytes) (goes bytes)
-  where
-    at : (b : Bool) (r : Result A (ℕ × FaultKind)) → GoesOn P r → Holds P (cond b (Bad place 0 6) (from_reading place r))
-    at true r is = tt
-    at false (Ok value) is = is
-    at false (Err fault) is = tt
+read-holds {A} P place reading (Some bytes) goes = grind arith
 
 -- the graph of a file
 pub graph-holds : (files : List NamedFile) (name : List ℕ) → Holds HasGraph (graph_file files name)
@@ -59,9 +48,7 @@ graph6-holds files name = read-holds IsMultigraph 1 outcome_of (file_named name 
 -- what is given beside a graph leaves it as it is
 beside-holds : {B C : Type 0} (files : List NamedFile) (graph : List ℕ) (further : NamedGraph → Loaded B) (make : NamedGraph → B → C) (HasIts : C → Type 0) →
     ((named : NamedGraph) (b : B) → HasGraph named → HasIts (make named b)) → Holds HasIts (and_then (graph_file files graph) (λ named. loaded_as (make named) (further named)))
-beside-holds files graph further make HasIts gives =
-    then-holds HasGraph HasIts (graph_file files graph) (λ named. loaded_as (make named) (further named)) (graph-holds files graph)
-    (λ named is. as-holds Anything HasIts (make named) (further named) (λ b any. gives named b is) (any-holds (further named)))
+beside-holds files graph further make HasIts gives = grind (arith, then-holds, graph-holds, as-holds, any-holds)
 
 abbrev TreeHasGraph : NamedGraph × Shape → Type 0
 TreeHasGraph given = IsRead given.0.graph
@@ -73,9 +60,7 @@ tree_given-holds files graph tree =
 -- the same of what is given beside a graph and a tree
 beside_tree-holds : {B C : Type 0} (files : List NamedFile) (graph tree : List ℕ) (further : NamedGraph × Shape → Loaded B) (make : NamedGraph × Shape → B → C) (HasIts : C → Type 0) →
     ((given : NamedGraph × Shape) (b : B) → TreeHasGraph given → HasIts (make given b)) → Holds HasIts (and_then (tree_given files graph tree) (λ given. loaded_as (make given) (further given)))
-beside_tree-holds files graph tree further make HasIts gives =
-    then-holds TreeHasGraph HasIts (tree_given files graph tree) (λ given. loaded_as (make given) (further given)) (tree_given-holds files graph tree)
-    (λ given is. as-holds Anything HasIts (make given) (further given) (λ b any. gives given b is) (any-holds (further given)))
+beside_tree-holds files graph tree further make HasIts gives = grind (arith, then-holds, tree_given-holds, as-holds, any-holds)
 
 -- a graph that is read has no loops
 read-keeps : (g : Graph) → IsRead g → IsMultigraph g
@@ -83,11 +68,9 @@ read-keeps g is = record { ends = is.ends; no_loop = is.no_loop }
 
 -- what a command works on, by the files that it reads
 pub loaded-graph : (files : List NamedFile) (command : Command) → Holds KeepsGraph (loaded files command)
-loaded-graph files (OnGraph verb graph) =
-    as-holds HasGraph KeepsGraph (task.OnGraph verb) (graph_file files graph) (λ named is. read-keeps named.graph is) (graph-holds files graph)
+loaded-graph files (OnGraph verb graph) = grind (arith, as-holds HasGraph KeepsGraph (task.OnGraph verb) (graph_file files graph), read-keeps, graph-holds files graph)
 loaded-graph files (OnSimpleGraph verb graph) = as-holds IsMultigraph KeepsGraph (task.OnSimpleGraph verb) (graph6_file files graph) (λ g is. is) (graph6-holds files graph)
-loaded-graph files (OnTree verb graph tree) =
-    as-holds TreeHasGraph KeepsGraph (on_tree verb) (tree_given files graph tree) (λ given is. read-keeps given.0.graph is) (tree_given-holds files graph tree)
+loaded-graph files (OnTree verb graph tree) = grind (arith, as-holds TreeHasGraph KeepsGraph (on_tree verb) (tree_given files graph tree), read-keeps, tree_given-holds files graph tree)
 loaded-graph files (OnPicks verb graph picks) =
     as-holds (λ (given : NamedGraph × List ℕ). IsRead given.0.graph) KeepsGraph (on_picks verb) (picks_given files graph picks) (λ given is. read-keeps given.0.graph is)
     (beside-holds files graph (λ named. pick_file files picks) (λ named list. (named, list)) (λ given. IsRead given.0.graph) (λ named list is. is))

@@ -1,12 +1,12 @@
 -- How many outputs does a done task have? One, if its text is not free; what an analysis or a
 -- refusal leaves free is one list of numbers.
-use Rattle.std.proofs.Common.{◌≡◌, ◌∙◌, ℕ, List, Option, Some, None, inl, inr, sym, subst}
+use Rattle.std.proofs.Common.{◌≡◌, ℕ, List, Option, Some, subst, arith}
 use Rattle.outside.specs.Common.{NamedFile}
-use Rattle.bench_tasks.specs.Common.{Command, command_of, Loaded, All, Bad, Absent, loaded, Task}
-use Rattle.bench_outcomes.specs.Common.{CommandGives, LoadedGives, Outcome, ResultOf}
+use Rattle.bench_tasks.specs.Common.{Command, command_of, All, loaded, Task}
+use Rattle.bench_outcomes.specs.Common.{CommandGives, Outcome, ResultOf}
 use Rattle.bench_outcomes.specs.declared.status.Status.{Status}
 use Rattle.bench_outcomes.specs.declared.status.Status.TheVariants.{Done, Negative, BadInput}
-use Rattle.bench_outcomes.proofs.Settled.{KeepsGraph, settled}
+use Rattle.bench_outcomes.proofs.Settled.{KeepsGraph}
 use Rattle.bench_top.specs.Fixed.{DifferAtMostIn, HasChosenText, HasOneOutput, MayShow, ShowsNothingFree}
 use Rattle.bench_top.proofs.AlikeTasks.{refused-alike, task-alike, task-once}
 use Rattle.bench_top.proofs.AlikeTexts.{alike-none}
@@ -15,8 +15,7 @@ use Rattle.bench_top.proofs.LoadedGraphs.{Holds, loaded-graph}
 -- good files give what their task gives
 gives-task : (words : List (List ℕ)) (files : List NamedFile) (command : Command) (t : Task) (status : Status) (output : List ℕ) →
     command_of words ≡ Some command → loaded files command ≡ All t → Outcome words files status output → ResultOf t status output
-gives-task words files command t status output row held outcome =
-    subst (λ (h : Loaded Task). LoadedGives h status output) held (subst (λ (c : Option Command). CommandGives files c status output) row outcome)
+gives-task words files command t status output row held outcome = grind arith
 
 keeps-task : (files : List NamedFile) (command : Command) (t : Task) → loaded files command ≡ All t → KeepsGraph t
 keeps-task files command t held = subst (Holds KeepsGraph) held (loaded-graph files command)
@@ -37,15 +36,8 @@ pub outputs-alike : (words : List (List ℕ)) (files : List NamedFile) (command 
 outputs-alike words files command t status output other row held free one two =
     task-alike t (keeps-task files command t held) status free output other (gives-task words files command t status output row held one) (gives-task words files command t status other row held two)
 
--- a bad file is named by one line
-held-bad : (held : Loaded Task) (output other : List ℕ) → Holds KeepsGraph held → LoadedGives held BadInput output → LoadedGives held BadInput other → output ≡ other
-held-bad (All t) output other keeps one two = elim (settled t keeps BadInput output one) [ inl done ↦ (let no = done.0 in cc no) | inr refused ↦ (let no = refused.0 in cc no) ]
-held-bad (Bad file line kind) output other keeps one two = one.1 ∙ sym two.1
-held-bad (Absent file) output other keeps one two = absurd one
-
 row-bad : (files : List NamedFile) (row : Option Command) (output other : List ℕ) → CommandGives files row BadInput output → CommandGives files row BadInput other → output ≡ other
-row-bad files None output other one two = absurd one
-row-bad files (Some command) output other one two = held-bad (loaded files command) output other (loaded-graph files command) one two
+row-bad files row output other one two = grind arith
 
 pub bad-once : (words : List (List ℕ)) (files : List NamedFile) (output other : List ℕ) → Outcome words files BadInput output → Outcome words files BadInput other → output ≡ other
 bad-once words files output other one two = row-bad files (command_of words) output other one two

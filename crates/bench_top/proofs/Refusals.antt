@@ -1,10 +1,9 @@
 -- A command may refuse if what was gathered of it may: that is a task of the command.
-use Rattle.std.proofs.Common.{Result, Ok, Err, IfOk, Some}
+use Rattle.std.proofs.Common.{Result, IfOk, Some, arith}
 use Rattle.bench_tasks.specs.Common.{Command, task_of, IsTaskOf}
 use Rattle.bench_tasks.specs.declared.stop.Stop.{Stop}
 use Rattle.bench_tasks.specs.declared.tasks.Task.TheVariants as code
 use Rattle.bench_outcomes.specs.Common.{GatheredMayRefuse, MayRefuse}
 
 pub may-refuse : (command : Command) (gathered : Result code.the_data Stop) → IfOk gathered (λ t. IsTaskOf command (task_of t)) → GatheredMayRefuse gathered → MayRefuse (Some command)
-may-refuse command (Ok t) is may = (task_of t, is, may)
-may-refuse command (Err stop) is may = absurd may
+may-refuse command gathered is may = grind arith

@@ -1,6 +1,6 @@
 -- What `script` writes stands for a script from the first tree to the second. So a file that
 -- holds it is read as this script, and its replay on the first tree is done and reports the second.
-use Rattle.std.proofs.Common.{◌≡◌, ◌∙◌, ℕ, ◌≤◌, List, [], ◌∷◌, length, Option, Some, refl, sym, ap, ap₂, subst, inl, inr, codes}
+use Rattle.std.proofs.Common.{◌≡◌, ◌∙◌, ℕ, ◌≤◌, List, [], ◌∷◌, length, Option, Some, refl, sym, ap, ap₂, subst, inl, codes, arith}
 use Rattle.outside.specs.Common.{NamedFile, file_named}
 use Rattle.line_text.specs.Common.{reading_of}
 use Rattle.line_text.proofs.ExactlyOne.{Stands-reading_of}
@@ -57,9 +57,7 @@ module _ (files again : List NamedFile) (graph first second script output : List
           (Stands-reading_of (move_format named.graph.order) output told.moves told.stands)
 
       read : moves_given again graph first script ≡ All (named, (s, told.moves))
-      read =
-          ap (λ (h : Loaded (NamedGraph × Shape)). and_then h (λ given. loaded_as (λ ms. (given.0, (given.1, ms))) (move_file again script given.0.graph.order))) given
-          ∙ ap (loaded_as (λ (ms : List PlainMove). (named, (s, ms)))) moves_are
+      read = grind (arith, moves_are)
 
       done : Outcome (codes "replay" ∷ graph ∷ first ∷ script ∷ []) again Done (replayed_text (tree_text named.graph.order t) (length told.moves))
       done = subst (λ (h : Loaded (NamedGraph × (Shape × List PlainMove))). LoadedGives (loaded_as (on_moves Replay) h) Done (replayed_text (tree_text named.graph.order t) (length told.moves)))
@@ -68,10 +66,7 @@ module _ (files again : List NamedFile) (graph first second script output : List
 
   -- what `script` gives if it is done
   gives : (named : NamedGraph) (s t : Shape) → tree_given again graph first ≡ All (named, s) → trees_given files graph first second ≡ All (named, (s, t)) → ScriptGives named.graph s t Done output → ReplaysScript files again graph first second script output
-  gives named s t given both (inl told) = replays named s t given both told
-  gives named s t given both (inr (inl first_refused)) = let no = first_refused.negative in cc no
-  gives named s t given both (inr (inr (inl second_refused))) = let no = second_refused.1.negative in cc no
-  gives named s t given both (inr (inr (inr uncovered))) = let no = uncovered.negative in cc no
+  gives named s t given both h = grind (arith, replays named s t given both)
 
   -- by what the file of the second tree is read as
   second_read : (named : NamedGraph) (s : Shape) (h : Loaded Shape) → tree_file files 3 second named.graph.order ≡ h → tree_given again graph first ≡ All (named, s) → tree_given files graph first ≡ All (named, s) →
@@ -94,5 +89,4 @@ module _ (files again : List NamedFile) (graph first second script output : List
 -- what was written is replayed
 pub script-replayed : (files again : List NamedFile) (graph first second script output : List ℕ) → LoadedGives (loaded_as (on_trees Script) (trees_given files graph first second)) Done output →
     file_named graph again ≡ file_named graph files → file_named first again ≡ file_named first files → file_named script again ≡ Some output → length output ≤ most_bytes → ReplaysScript files again graph first second script output
-script-replayed files again graph first second script output done one two held within =
-    first_read files again graph first second script output held within (tree_given files graph first) refl (tree_given-same files again graph first one two) done
+script-replayed files again graph first second script output done one two held within = grind (arith, first_read, tree_given-same)

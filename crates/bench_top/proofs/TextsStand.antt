@@ -1,7 +1,7 @@
 -- The reports of `ears`, `replay` and `grow` are texts with comments after them, and so they
 -- stand for what the texts stand for: an ear list, a derivation, a graph. The limits of the graph
 -- make all numbers of the comments small.
-use Rattle.std.proofs.Common.{◌≡◌, ℕ, ◌<◌, ◌≤◌, ◌^◌, List, [], ◌∷◌, ◌++◌, length, map, true, None, refl, ap, arith, append_assoc, not, codes}
+use Rattle.std.proofs.Common.{◌≡◌, ℕ, ◌<◌, ◌≤◌, ◌^◌, List, [], ◌∷◌, ◌++◌, length, map, true, None, refl, arith, append_assoc, not, codes}
 use Rattle.std.specs.Fmt.{decimal}
 use Rattle.std.proofs.lemmas.List.Sums.{count_by-le-length}
 use Rattle.line_text.specs.Common.{Stands, is_closed, is_word, unwords}
@@ -92,10 +92,7 @@ order-commented order tally word leaves bricks braces =
     (simp append_assoc)
 
 pairs-commented : (pairs : ℕ) → pairs < 10 ^ 9 → IsCommented [] (pairs_line pairs)
-pairs-commented pairs few =
-    commented-line (pairs_line pairs) (codes "c" ∷ codes "pairs" ∷ decimal pairs ∷ [])
-    (record { skipped = refl; each = (refl, (refl, (is_word-decimal pairs few, tt))) })
-    (simp append_assoc)
+pairs-commented pairs few = grind (arith, commented-line (pairs_line pairs) (codes "c" ∷ codes "pairs" ∷ decimal pairs ∷ []), is_word-decimal pairs few, append_assoc)
 
 -- a count of few leaves
 record IsFew (tally : Tally) : Type 0 where
@@ -114,12 +111,7 @@ grown-commented text first last pairs few_first few_last few =
 
 -- a derivation has few leaves
 pub few-leaves_of : (g : Graph) (t : Shape) → IsGraph g → g.order ≤ 128 → IsDerivation g t → length (leaves g.order t) ≤ 64
-few-leaves_of g t is vertices derived =
-    let nodes = few-nodes g t is vertices derived in
-    let listed = length-leaves_at g.order (singles g.order) t in
-    let cuts = leaf_count-cuts t in
-    let counted = node_count-cuts t in
-    omega arith
+few-leaves_of g t is vertices derived = grind (arith, few-nodes g t is vertices derived, length-leaves_at g.order (singles g.order) t, leaf_count-cuts t, node_count-cuts t)
 
 abbrev leaves_in : Tally → ℕ
 leaves_in tally = tally.leaves
@@ -131,14 +123,7 @@ abbrev braces_in : Tally → ℕ
 braces_in tally = tally.braces
 
 few-tally : (g : Graph) (ps : List (List (List ℕ))) (tally : Tally) → IsTally g ps tally → length ps ≤ 64 → IsFew tally
-few-tally g ps tally counts few =
-    let each = counts.right.each_one in
-    let bricks = count_by-le-length is_brick counts.kinds in
-    let braces = count_by-le-length (λ kind. not (is_brick kind)) counts.kinds in
-    let so_many = ap leaves_in counts.is in
-    let so_many_bricks = ap bricks_in counts.is in
-    let so_many_braces = ap braces_in counts.is in
-    record { leaves = omega arith; bricks = omega arith; braces = omega arith }
+few-tally g ps tally counts few = grind (arith, count_by-le-length is_brick counts.kinds, count_by-le-length)
 
 graph-closed : (g : Graph) → is_closed (graph_text g) ≡ true
 unfolding graph_text

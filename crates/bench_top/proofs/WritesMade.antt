@@ -1,5 +1,5 @@
 -- The writes of a run are those of its report: one case for each status.
-use Rattle.std.proofs.Common.{◌≡◌, ◌⊎◌, inl, inr, ℕ, List, refl, sym, subst}
+use Rattle.std.proofs.Common.{◌≡◌, ◌⊎◌, inl, inr, ℕ, List, refl, sym, subst, arith}
 use Rattle.std.specs.declared.option.Option.{Option}
 use Rattle.outside.specs.Common.{IsWritten, appended}
 use Rattle.bench_outcomes.specs.Common.{IsReported}
@@ -9,9 +9,7 @@ use Rattle.bench_top.specs.Writes.{WritesAs}
 
 -- any other status is not that of a report
 none-reported : (status : Status) → IsReported status → (status ≡ Done → ⊥) → (status ≡ Negative → ⊥) → (status ≡ BadInput → ⊥) → ⊥
-none-reported status (inl done) a b c = a done
-none-reported status (inr (inl negative)) a b c = b negative
-none-reported status (inr (inr bad)) a b c = c bad
+none-reported status h a b c = grind arith
 
 -- a report that was written whole
 pub wrote-report :

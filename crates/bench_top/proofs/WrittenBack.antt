@@ -1,10 +1,10 @@
 -- What is written is read back. An output that stands for a value is read as this value by a file
 -- that holds it, and the value is one with which a further command succeeds: a derivation, an ear
 -- list, a matching covered graph.
-use Rattle.std.proofs.Common.{◌≡◌, ◌∙◌, ℕ, ◌≤◌, ◌<◌, ◌^◌, ◌&&◌, nat_le, Bool, true, false, cond, List, [], ◌∷◌, length, Option, Some, None, Result, Ok, Err, inl, inr, refl, sym, subst, ap, arith, option_map, nat_lt, codes, leb-true}
+use Rattle.std.proofs.Common.{◌≡◌, ◌∙◌, ℕ, ◌≤◌, ◌<◌, ◌^◌, nat_le, List, [], ◌∷◌, length, Option, Some, None, Result, Ok, inl, inr, refl, sym, subst, ap, arith, option_map, codes, leb-true}
 use Rattle.counting.proofs.Common.{and_parts}
 use Rattle.outside.specs.Common.{NamedFile, file_named}
-use Rattle.line_text.specs.Common.{Stands, is_number, value_of, reading_of}
+use Rattle.line_text.specs.Common.{Stands, reading_of}
 use Rattle.line_text.proofs.ExactlyOne.{Stands-from_reading, Stands-reading_of}
 use Rattle.graph_core.proofs.Common.{size}
 use Rattle.text_faults.specs.declared.faults.FaultKind.{FaultKind}
@@ -17,7 +17,7 @@ use Rattle.tree_check.proofs.ReplaySteps.{reached-derivation}
 use Rattle.move_text.specs.Common.{move_format}
 use Rattle.move_text.proofs.MovesRead.{writable-read}
 use Rattle.ear_text.specs.EarFormat.{ear_format}
-use Rattle.bench_tasks.specs.Common.{Command, OnEars, OnGraph, OnNumbers, OnTree, command_of, decompose_in, most_pieces, Loaded, All, Bad, Absent, and_then, ear_file, ears_given, file_read, from_reading, graph_file, loaded, loaded_as, most_bytes, move_file, moves_given, on_ears, on_moves, on_picks, on_tree, pick_file, picks_given, tree_file, tree_given, Task}
+use Rattle.bench_tasks.specs.Common.{Command, OnEars, OnGraph, OnTree, command_of, decompose_in, Loaded, All, Bad, Absent, and_then, ear_file, ears_given, file_read, graph_file, loaded, loaded_as, most_bytes, move_file, moves_given, on_ears, on_moves, on_picks, on_tree, pick_file, picks_given, tree_file, tree_given, Task}
 use Rattle.decomposer.specs.Common.{order_named}
 use Rattle.ear_core.specs.Common.{PlainEars}
 use Rattle.bench_outcomes.specs.Common.{EarsGives, Grown, CommandGives, DecomposeGives, LoadedGives, Outcome, ResultOf, ReplayGives}
@@ -28,7 +28,6 @@ use Rattle.bench_tasks.specs.declared.verbs.TreeVerb.TheVariants.{Check}
 use Rattle.bench_tasks.specs.declared.verbs.PicksVerb.TheVariants.{DecomposeBy}
 use Rattle.bench_tasks.specs.declared.verbs.EarsVerb.TheVariants.{CheckEars}
 use Rattle.bench_tasks.specs.declared.verbs.MovesVerb.TheVariants.{Replay}
-use Rattle.bench_tasks.specs.declared.verbs.NumbersVerb.TheVariants.{Grow}
 use Rattle.decomposer.specs.declared.orders.NamedOrder.{NamedOrder}
 use Rattle.decomposer.specs.declared.orders.NamedOrder.TheVariants.{First}
 use Rattle.bench_outcomes.specs.declared.status.Status.TheVariants.{Done}
@@ -36,14 +35,12 @@ use Rattle.bench_top.proofs.FileReads.{file_read-value}
 use Rattle.bench_outcomes.proofs.GrownSizes.{few-edges, few-vertices, grown-multigraph}
 use Rattle.bench_top.proofs.LoadedGraphs.{Holds, graph-holds, loaded-graph}
 use Rattle.bench_top.proofs.ReadGraphs.{HasGraph, IsRead}
-use Rattle.bench_outcomes.proofs.Settled.{KeepsGraph, settled}
+use Rattle.bench_outcomes.proofs.Settled.{KeepsGraph}
 use Rattle.bench_top.proofs.TextsStand.{few-leaves_of, stands-ears, stands-grown, stands-replayed}
 
 -- what was held if a command was done
 given : {A : Type 0} (make : A → Task) (held : Loaded A) (output : List ℕ) → LoadedGives (loaded_as make held) Done output → (a : A) × ((held ≡ All a) × ResultOf (make a) Done output)
-given make (All a) output gives = (a, (refl, gives))
-given make (Bad file line kind) output gives = let no = gives.0 in cc no
-given make (Absent file) output gives = absurd gives
+given make held output gives = grind arith
 
 -- what all is made of
 abbrev value_or : {A : Type 0} → A → Loaded A → A
@@ -52,40 +49,24 @@ value_or other (Bad file line kind) = other
 value_or other (Absent file) = other
 
 as-held : {A B : Type 0} (make : A → B) (held : Loaded A) (b : B) → loaded_as make held ≡ All b → (a : A) × ((held ≡ All a) × (make a ≡ b))
-as-held make (All a) b is = (a, (refl, ap (value_or b) is))
-as-held make (Bad file line kind) b is = cc is
-as-held make (Absent file) b is = cc is
+as-held make held b is = grind arith
 
 then-held : {A B : Type 0} (held : Loaded A) (next : A → Loaded B) (b : B) → and_then held next ≡ All b → (a : A) × ((held ≡ All a) × (next a ≡ All b))
-then-held (All a) next b is = (a, (refl, is))
-then-held (Bad file line kind) next b is = cc is
-then-held (Absent file) next b is = cc is
+then-held held next b is = grind arith
 
 -- the text that was read
 read-held : {A : Type 0} (place : ℕ) (reading : List ℕ → Result A (ℕ × FaultKind)) (file : Option (List ℕ)) (a : A) → file_read place reading file ≡ All a → (bytes : List ℕ) × (reading bytes ≡ Ok a)
 read-held {A} place reading None a is = cc is
-read-held {A} place reading (Some bytes) a is = (bytes, at (nat_lt most_bytes (length bytes)) (reading bytes) is)
-  where
-    at : (b : Bool) (r : Result A (ℕ × FaultKind)) → cond b (Bad place 0 6) (from_reading place r) ≡ All a → r ≡ Ok a
-    at true r e = cc e
-    at false (Ok value) e = ap Ok (ap (value_or a) e)
-    at false (Err fault) e = cc e
+read-held {A} place reading (Some bytes) a is = (bytes, grind arith)
 
 -- a command that is done succeeds
 held-asks : (words : List (List ℕ)) (files : List NamedFile) (command : Command) (held : Loaded Task) (output : List ℕ) → command_of words ≡ Some command → loaded files command ≡ held → Holds KeepsGraph held → LoadedGives held Done output → AsksDone words files
-held-asks words files command (All t) output row is keeps gives = record {
-  command = command;
-  row = row;
-  task = t;
-  held = is;
-  succeeds = elim (settled t keeps Done output gives) [ inl done ↦ done.1 | inr refused ↦ (let no = refused.0 in cc no) ];
-}
+held-asks words files command (All t) output row is keeps gives = grind arith
 held-asks words files command (Bad file line kind) output row is keeps gives = let no = gives.0 in cc no
 held-asks words files command (Absent file) output row is keeps gives = absurd gives
 
 row-asks : (words : List (List ℕ)) (files : List NamedFile) (row : Option Command) (output : List ℕ) → command_of words ≡ row → CommandGives files row Done output → AsksDone words files
-row-asks words files None output is gives = absurd gives
-row-asks words files (Some command) output is gives = held-asks words files command (loaded files command) output is refl (loaded-graph files command) gives
+row-asks words files row output is gives = grind (arith, held-asks words files, loaded-graph files)
 
 pub done-asks : (words : List (List ℕ)) (files : List NamedFile) (output : List ℕ) → Outcome words files Done output → AsksDone words files
 done-asks words files output done = row-asks words files (command_of words) output refl done
@@ -135,8 +116,7 @@ module _ (files again : List NamedFile) (graph : List ℕ) (same : file_named gr
             (file_read-value 2 (reading_of (tree_format named.graph.order)) (file_named name again) output t held within (Stands-reading_of (tree_format named.graph.order) output t stands))
 
     decomposed : (picks : List Candidate → ℕ → ℕ → Type 0) (named : NamedGraph) → graph_file files graph ≡ All named → DecomposeGives picks named Done output → AsksDone (codes "check" ∷ graph ∷ name ∷ []) again
-    decomposed picks named is (inl made) = check-done named made.tree is made.told.stands made.told.derivation
-    decomposed picks named is (inr not_covered) = let no = not_covered.negative in cc no
+    decomposed picks named is h = grind (arith, check-done named)
 
     in-order : (order : Option NamedOrder) → CommandGives files (option_map (decompose_in graph) order) Done output → AsksDone (codes "check" ∷ graph ∷ name ∷ []) again
     in-order None gives = absurd gives
@@ -176,16 +156,7 @@ module _ (files again : List NamedFile) (graph : List ℕ) (same : file_named gr
 
     -- a tree that was reached is checked
     reached : (named : NamedGraph) (t : Shape) (moves : List PlainMove) → graph_file files graph ≡ All named → length moves < 10 ^ 9 → ReplayGives named.graph t moves Done output → AsksDone (codes "check" ∷ graph ∷ name ∷ []) again
-    reached named t moves is few (inl (inl replayed)) =
-        let derived = reached-derivation named.graph t replayed.reached moves replayed.derivation replayed.turns in
-        check-done named replayed.reached is
-        (subst (λ (o : List ℕ). Stands (tree_format named.graph.order) o replayed.reached) (sym replayed.text)
-        (stands-replayed named.graph replayed.reached (length moves) (graph-read files graph named is) derived few))
-        derived
-    reached named t moves is few (inl (inr (inl stuck))) = let no = stuck.negative in cc no
-    reached named t moves is few (inl (inr (inr refused))) = let no = refused.negative in cc no
-    reached named t moves is few (inr (inl refused)) = let no = refused.negative in cc no
-    reached named t moves is few (inr (inr not_covered)) = let no = not_covered.negative in cc no
+    reached named t moves is few h = grind (arith, reached-derivation named.graph t, check-done named, stands-replayed named.graph, graph-read files graph named is)
 
     pub replayed-checked : (tree moves : List ℕ) → Outcome (codes "replay" ∷ graph ∷ tree ∷ moves ∷ []) files Done output → AsksDone (codes "check" ∷ graph ∷ name ∷ []) again
     replayed-checked tree moves gives =
@@ -206,12 +177,7 @@ abbrev grown_named : (seed pieces : ℕ) → NamedGraph
 grown_named seed pieces = record { graph = grown seed pieces; names = None }
 
 grown-few : (seed pieces : ℕ) (output : List ℕ) → FitsVersionOne (grown seed pieces) → (made : Grown seed pieces Done output) → made.pairs ≤ 64
-grown-few seed pieces output fits made =
-    let vertices = fits.vertices in
-    let listed = few-leaves_of (grown seed pieces) made.s fits.multigraph.ends (omega arith) made.by_first.derivation in
-    let each = made.paired.paired.one_each in
-    let so_many = made.paired.so_many in
-    omega arith
+grown-few seed pieces output fits made = grind (arith, few-leaves_of (grown seed pieces) made.s fits.multigraph.ends)
 
 module _ (again : List NamedFile) (name output : List ℕ) (held : file_named name again ≡ Some output) (within : length output ≤ most_bytes) where
   grown-read : (seed pieces : ℕ) → FitsVersionOne (grown seed pieces) → Grown seed pieces Done output → graph_file again name ≡ All (grown_named seed pieces)
@@ -244,14 +210,4 @@ module _ (again : List NamedFile) (name output : List ℕ) (held : file_named na
 
   pub grown-served : (files : List NamedFile) (seed pieces : List ℕ) → Outcome (codes "grow" ∷ seed ∷ pieces ∷ []) files Done output →
       AsksDone (codes "ears" ∷ name ∷ []) again × AsksDone (codes "decompose" ∷ name ∷ codes "first" ∷ []) again
-  grown-served files seed pieces gives = go (is_number seed && (is_number pieces && (nat_le 1 (value_of pieces) && nat_le (value_of pieces) most_pieces))) refl gives
-    where
-      go : (b : Bool) → (is_number seed && (is_number pieces && (nat_le 1 (value_of pieces) && nat_le (value_of pieces) most_pieces))) ≡ b →
-          CommandGives files (cond b (Some (OnNumbers Grow (value_of seed) (value_of pieces))) None) Done output →
-          AsksDone (codes "ears" ∷ name ∷ []) again × AsksDone (codes "decompose" ∷ name ∷ codes "first" ∷ []) again
-      go true is made =
-          let numbers = (and_parts (is_number seed) (is_number pieces && (nat_le 1 (value_of pieces) && nat_le (value_of pieces) most_pieces)) is).1 in
-          let range = (and_parts (is_number pieces) (nat_le 1 (value_of pieces) && nat_le (value_of pieces) most_pieces) numbers).1 in
-          let both = and_parts (nat_le 1 (value_of pieces)) (nat_le (value_of pieces) most_pieces) range in
-          grown-asks (value_of seed) (value_of pieces) (leb-true 1 (value_of pieces) both.0) (leb-true (value_of pieces) 16 both.1) made
-      go false is made = absurd made
+  grown-served files seed pieces gives = grind (arith, nat_le, and_parts, grown-asks, leb-true)

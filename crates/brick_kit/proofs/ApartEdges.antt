@@ -1,9 +1,9 @@
 -- A set with three vertices on both sides has two edges in its cut without a common end, or the
 -- ends of one edge separate. Where each edge of the cut has an end of the first one, no other
 -- edge leaves the set.
-use Rattle.std.proofs.Common.{◌≡◌, ℕ, Bool, true, false, ◌==◌, ◌&&◌, ◌||◌, not, refl, sym, ap, ◌∙◌, arith, inl, inr, ◌⊎◌, ne_eqb}
+use Rattle.std.proofs.Common.{◌≡◌, ℕ, true, false, ◌==◌, ◌&&◌, ◌||◌, not, sym, ap, ◌∙◌, arith, inl, inr, ◌⊎◌, ne_eqb}
 use Rattle.std.proofs.lemmas.Bool.{eqb-false}
-use Rattle.counting.proofs.Common.{and_parts, both_ways, cases_Bool, not-true, or_from, or_parts, true≢false, count_member, count_minus, some_none, some_true, Within, Set, complement, minus, pair_set, singleton, some}
+use Rattle.counting.proofs.Common.{and_parts, both_ways, cases_Bool, not-true, or_from, or_parts, count_member, count_minus, some_none, some_true, Within, Set, complement, minus, pair_set, singleton, some}
 use Rattle.graph_core.proofs.Common.{IsCovered, Graph, HasEnds, IsGraph, first_end, in_cut, second_end, size, IsCutPair, IsNontrivial}
 use Rattle.barrier_kit.proofs.Common.{cut_edge}
 use Rattle.brick_kit.proofs.CutEnds.{cut_ends, ends_within}
@@ -43,7 +43,7 @@ module _ (g : Graph) (x : Set) (is : IsGraph g) (wide : IsNontrivial g.order x) 
       (or_from (u == c.0) (v == c.0) (not-true (u == c.0) cc.1) (ne_eqb v c.0 (λ q. both_ways (x v) xv (ap x q ∙ cc.0))))
       (or_from (u == d.0) (v == d.0) (ne_eqb u d.0 (λ q. both_ways (x d.0) (not-true (x d.0) dd.0) (ap x (sym q) ∙ xu))) (not-true (v == d.0) dd.1))
       cc.0 (not-true (x d.0) dd.0)
-      (λ f wf p q. table (in_cut g x f) (pair_set u v (first_end g f)) (pair_set u v (second_end g f)) (none_beside f wf) p q)
+      (λ f wf p q. grind arith)
     where
       wu : Within g.order u
       wu = (ends_within g is e u v we ends).0
@@ -62,12 +62,6 @@ module _ (g : Graph) (x : Set) (is : IsGraph g) (wide : IsNontrivial g.order x) 
 
       dd : (not (x d.0) ≡ true) × (not (v == d.0) ≡ true)
       dd = and_parts (not (x d.0)) (not (v == d.0)) d.2
-
-      table : (a p q : Bool) → (a && not (p || q)) ≡ false → p ≡ false → q ≡ false → a ≡ false
-      table false p q t i j = refl
-      table true true q t i j = absurd (true≢false i)
-      table true false true t i j = absurd (true≢false j)
-      table true false false t i j = absurd (true≢false t)
 
 pub apart_or_pair : (g : Graph) (x : Set) → IsGraph g → IsCovered g → IsNontrivial g.order x → ApartEdges g x ⊎ ((a : ℕ) × (b : ℕ) × IsCutPair g a b)
 apart_or_pair g x is cov wide = elim (cases_Bool (some (size g) (beside g x n.0 n.1))) [

@@ -2,8 +2,8 @@
 -- edges inside k. Such a one is heaviest for one weight in which the lowered weights count for
 -- more than all edges inside; with its edges inside a swap set replaced by those of a heaviest
 -- matching it is best again.
-use Rattle.std.proofs.Common.{◌≡◌, ◌≢◌, ℕ, suc, zero, ◌+◌, ◌-◌, ◌*◌, ◌≤◌, ◌<◌, Bool, true, false, cond, ◌==◌, ◌&&◌, nat_lt, refl, sym, ap, ap₂, ◌∙◌, arith, inl, inr, eqb-true, lt-ltb, mul-le-mul_left, subst}
-use Rattle.counting.proofs.Common.{cases_Bool, cases_lt, count_congr, count_le, Within, bit, count, Set, none, put}
+use Rattle.std.proofs.Common.{◌≡◌, ◌≢◌, ℕ, suc, ◌+◌, ◌*◌, ◌≤◌, ◌<◌, true, false, ◌&&◌, nat_lt, refl, sym, ap, ap₂, ◌∙◌, arith, lt-ltb}
+use Rattle.counting.proofs.Common.{cases_Bool, count_congr, count_le, Within, bit, count, Set, none, put}
 use Rattle.graph_core.proofs.Common.{add_edge, bit_same, ends_le_degree, ends_of_is, Graph, HasEnds, IsGraph, degree, inside, size, IsMatching}
 use Rattle.brick_kit.proofs.EdgeSums.{weight_plus, weight_put, weight_test, weight_times}
 use Rattle.brick_kit.proofs.HeaviestMatchings.{heaviest_exists, heavy_heaviest, heavy_holds, heavy_part}
@@ -27,10 +27,7 @@ pub record IsBest (g : Graph) (w : ℕ → ℕ) (k m : Set) : Type 0 where
 -- of two numbers of which the first counts more than s times, the first decides, and where the
 -- first are equal the second
 first_of_two : (s x y c d : ℕ) → suc s * x + c ≤ suc s * y + d → d ≤ s → x ≤ y
-first_of_two s x y c d h l = elim (cases_lt y x) [
-  | inl k ↦ let a : suc s * suc y ≤ suc s * x = mul-le-mul_left (suc s) k in absurd (omega arith)
-  | inr k ↦ k
-]
+first_of_two s x y c d h l = grind arith
 
 second_of_two : (s x y c d : ℕ) → suc s * x + c ≤ suc s * y + d → x ≡ y → c ≤ d
 second_of_two s x y c d h e = let a = ap (λ z. suc s * z) e in omega arith
@@ -46,12 +43,7 @@ ranked_parts g w k n =
     ∙ ap₂ ◌+◌ (weight_times g (suc (size g)) (lowered w (inside g k)) n) (weight_test g (λ e. inside g k e && nat_lt 0 (w e)) n)
 
 heavy_held : (g : Graph) (w : ℕ → ℕ) (k n : Set) → HasWeight g w n → count (size g) (λ e. n e && (inside g k e && nat_lt 0 (w e))) ≡ held g n k
-heavy_held g w k n h = count_congr (size g) _ _ (λ e i. same (n e) (inside g k e) (nat_lt 0 (w e)) (λ t. lt-ltb 0 (w e) (h e i t)))
-  where
-    same : (a b c : Bool) → (a ≡ true → c ≡ true) → (a && (b && c)) ≡ (a && b)
-    same true true c h = h refl
-    same true false c h = refl
-    same false b c h = refl
+heavy_held g w k n h = grind (arith, count_congr (size g), nat_lt 0, lt-ltb 0)
 
 pub best_exists : (g : Graph) (w : ℕ → ℕ) (k : Set) → (m : Set) × IsBest g w k m
 best_exists g w k = (
@@ -65,16 +57,11 @@ best_exists g w k = (
   },
 )
   where
-    nothing : (s j : ℕ) (b : Bool) → j ≡ 0 → suc s * (j - bit b) + bit (b && nat_lt 0 j) ≡ 0
-    nothing s zero true h = omega arith
-    nothing s zero false h = omega arith
-    nothing s (suc j) b h = absurd (omega arith)
-
     m : Set
     m = heavy_part w (heaviest_exists g (ranked g w k)).0
 
     top : IsHeaviest g (ranked g w k) m
-    top = heavy_heaviest g w (ranked g w k) (heaviest_exists g (ranked g w k)).0 (λ e. nothing (size g) (w e) (inside g k e)) (heaviest_exists g (ranked g w k)).1
+    top = heavy_heaviest g w (ranked g w k) (heaviest_exists g (ranked g w k)).0 (λ e. grind arith) (heaviest_exists g (ranked g w k)).1
 
     heavy : HasWeight g w m
     heavy e i h = (heavy_holds w (heaviest_exists g (ranked g w k)).0 e h).1
@@ -97,15 +84,11 @@ best_swapped g w k m n t c is best top nh wt nt s = record {
   most = λ j jj jh e. let a = best.most j jj jh (e ∙ same.0) in let b = same.1 in omega arith;
 }
   where
-    either : (b i j : Bool) (z : ℕ) → (i ≡ true → 0 < z) → (j ≡ true → 0 < z) → cond b i j ≡ true → 0 < z
-    either true i j z p q h = p h
-    either false i j z p q h = q h
-
     lm : IsMatching g none (swapped g c m n)
     lm = swapped_matching g c m n best.is top.is s.first_stays s.second_stays
 
     heavy : HasWeight g w (swapped g c m n)
-    heavy e i = either (inside g c e) (n e) (m e) (w e) (nh e i) (best.heavy e i)
+    heavy e i = grind arith
 
     same : (weight_of g (lowered w (inside g k)) (swapped g c m n) ≡ weight_of g (lowered w (inside g k)) m) × (held g m k ≤ held g (swapped g c m n) k)
     same = best_numbers (weight_of g w (swapped g c m n)) (weight_of g w (swapped g c n m)) (weight_of g w m) (weight_of g w n)
@@ -129,17 +112,10 @@ best_has_all g w k m e u v best we wp ie ends d mu mv =
     absurd (omega arith)
   where
     out : m e ≡ false
-    out = elim (cases_Bool (m e)) [
-      | inr f ↦ f
-      | inl t ↦ let a = ends_le_degree g m e u we t in let b = ends_of_is g e u v ends u in let c = bit_same u in absurd (omega arith)
-    ]
-
-    either : (b j : Bool) (z : ℕ) → (b ≡ true → 0 < z) → (j ≡ true → 0 < z) → cond b true j ≡ true → 0 < z
-    either true j z p q h = p refl
-    either false j z p q h = q h
+    out = grind (arith, cases_Bool (m e), ends_le_degree g m e u we, ends_of_is g e u v ends u, bit_same u)
 
     heavy : HasWeight g w (put m e true)
-    heavy i wi = either (i == e) (m i) (w i) (λ t. subst (λ z. 0 < w z) (sym (eqb-true i e t)) wp) (best.heavy i wi)
+    heavy i wi = grind arith
 
     more : held g (put m e true) k ≡ held g m k + 1
     more = sym (weight_test g (inside g k) (put m e true)) ∙ weight_put g (λ i. bit (inside g k i)) m e we out ∙ ap₂ ◌+◌ (weight_test g (inside g k) m) (ap bit ie)

@@ -19,19 +19,10 @@ critical_or_pair g = elim (scan g.order (λ a. (b : ℕ) × Within g.order b × 
 ]
   where
     row : (a : ℕ) → ((b : ℕ) × Within g.order b × (a ≢ b) × ((m : Set) → IsPerfect g (pair_set a b) m → ⊥)) ⊎ ((b : ℕ) → Within g.order b → a ≢ b → HasPerfect g (pair_set a b))
-    row a = elim (scan g.order (λ b. (a ≢ b) × ((m : Set) → IsPerfect g (pair_set a b) m → ⊥)) (λ b. a ≢ b → HasPerfect g (pair_set a b)) (λ b wb. decided_pair b)) [
+    row a = elim (scan g.order (λ b. (a ≢ b) × ((m : Set) → IsPerfect g (pair_set a b) m → ⊥)) (λ b. a ≢ b → HasPerfect g (pair_set a b)) (λ b wb. grind (arith, cases_eq a b, perfect_or_not g (pair_set a b)))) [
       | inl p ↦ inl (p.0, p.1, p.2.0, p.2.1)
       | inr h ↦ inr h
     ]
-      where
-        decided_pair : (b : ℕ) → ((a ≢ b) × ((m : Set) → IsPerfect g (pair_set a b) m → ⊥)) ⊎ (a ≢ b → HasPerfect g (pair_set a b))
-        decided_pair b = elim (cases_eq a b) [
-          | inl e ↦ inr (λ d. absurd (d e))
-          | inr d ↦ elim (perfect_or_not g (pair_set a b)) [
-            | inl m ↦ inr (λ d. m)
-            | inr n ↦ inl (d, n)
-          ]
-        ]
 
 -- by the dual of the weight "n, and one more in the cut of x"
 pub shore_pair : (g : Graph) (x : Set) → IsMultigraph g → IsCovered g → IsBicritical g → IsTight g x → IsNontrivial g.order x → (a : ℕ) × (b : ℕ) × IsCutPair g a b
@@ -54,7 +45,4 @@ no_shore g is cov bi none_pair x tx wide = let p = shore_pair g x is cov bi tx w
 -- a covered multigraph that is not bipartite is a brick exactly when it is bicritical and has no
 -- cut pair
 pub brick_or_not : (g : Graph) → IsMultigraph g → IsCovered g → (IsBipartite g → ⊥) → ((x : Set) → IsTight g x → IsNontrivial g.order x → ⊥) ↔ (IsBicritical g × ((u v : ℕ) → IsCutPair g u v → ⊥))
-brick_or_not g is cov odd_cycle = (
-  (λ brick. let f = brick_facts g is.ends cov (no_sides g is.no_loop odd_cycle) brick in (f.1, λ u v p. f.2 u v p.first p.second p)),
-  (λ h x tx wide. no_shore g is cov h.0 h.1 x tx wide),
-)
+brick_or_not g is cov odd_cycle = grind (arith, brick_facts g is.ends cov (no_sides g is.no_loop odd_cycle), no_sides g is.no_loop odd_cycle, no_shore g is cov)

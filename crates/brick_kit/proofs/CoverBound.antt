@@ -1,7 +1,7 @@
 -- No matching weighs more than a cover, and where one weighs as much the cover is exact at its
 -- edges and its sets. The weight of a cover is summed vertex by vertex and set by set.
-use Rattle.std.proofs.Common.{◌≡◌, ℕ, suc, zero, ◌+◌, ◌*◌, ◌/◌, ◌≤◌, Bool, true, false, ◌&&◌, List, refl, sym, ap₂, ◌∙◌, arith, All}
-use Rattle.counting.proofs.Common.{both_ways, total_le, total_tight, Within, bit, count, total, Set, none}
+use Rattle.std.proofs.Common.{◌≡◌, ℕ, ◌+◌, ◌*◌, ◌/◌, ◌≤◌, Bool, true, ◌&&◌, List, sym, ap₂, ◌∙◌, arith, All}
+use Rattle.counting.proofs.Common.{total_le, total_tight, Within, bit, count, total, Set, none}
 use Rattle.graph_core.proofs.Common.{degrees, Graph, IsGraph, degree, first_end, in_cut, inside, second_end, size, IsMatching}
 use Rattle.brick_kit.proofs.EdgeSums.{term_le, weight_le, weight_plus, weight_sum, weight_test}
 use Rattle.brick_kit.proofs.EndSums.{ends_weight}
@@ -25,22 +25,13 @@ cover_sum g y us m is =
 
 pub inside_half : (g : Graph) (m x : Set) → IsGraph g → IsMatching g none m → count (size g) (λ e. m e && inside g x e) ≤ count g.order x / 2
 inside_half g m x is mm = half (total g.order (λ v. bit (x v) * degree g m v)) (count (size g) (λ e. m e && in_cut g x e)) (count (size g) (λ e. m e && inside g x e)) (count g.order x) (degrees g is m x)
-    (total_le g.order (λ v. bit (x v) * degree g m v) (λ v. bit (x v)) (λ v w. few (x v) (degree g m v) (mm.once v w)))
+    (total_le g.order (λ v. bit (x v) * degree g m v) (λ v. bit (x v)) (λ v w. grind arith))
   where
     half : (t c i n : ℕ) → t ≡ c + 2 * i → t ≤ n → i ≤ n / 2
     half t c i n h l = omega arith
 
-    few : (b : Bool) (d : ℕ) → d ≤ 1 → bit b * d ≤ bit b
-    few true d l = omega arith
-    few false d l = omega arith
-
 pub ends_most : (g : Graph) (y : ℕ → ℕ) (m : Set) → IsMatching g none m → total g.order (λ v. y v * degree g m v) ≤ total g.order y
-ends_most g y m mm = total_le g.order (λ v. y v * degree g m v) y (λ v w. few (y v) (degree g m v) (mm.once v w))
-  where
-    few : (k d : ℕ) → d ≤ 1 → k * d ≤ k
-    few k zero l = omega arith
-    few k (suc zero) l = omega arith
-    few k (suc (suc d)) l = absurd (omega arith)
+ends_most g y m mm = grind (arith, total_le g.order)
 
 module _ (g : Graph) (w y : ℕ → ℕ) (us : List Set) (m : Set) (is : IsGraph g) (cover : IsCover g w y us) (mm : IsMatching g none m) where
   few_inside : sum_over (λ x. count (size g) (λ e. m e && inside g x e)) us ≤ sum_over (λ x. count g.order x / 2) us
@@ -66,8 +57,7 @@ module _ (g : Graph) (w y : ℕ → ℕ) (us : List Set) (m : Set) (is : IsGraph
       settle a b c d e f h i j k = omega arith
 
       at : (b : Bool) (i j : ℕ) → b ≡ true → bit b * j ≡ bit b * i → i ≡ j
-      at true i j h k = omega arith
-      at false i j h k = absurd (both_ways false refl h)
+      at b i j h k = grind arith
 
   pub slack_sets : weight_of g w m ≡ cover_value g y us → All (λ x. count (size g) (λ e. m e && inside g x e) ≡ count g.order x / 2) us
   slack_sets equal = sum_tight (λ x. count (size g) (λ e. m e && inside g x e)) (λ x. count g.order x / 2) us (λ x. inside_half g m x is mm)

@@ -1,7 +1,7 @@
 -- Two tight shores that cross: the meet or the union is nontrivial, or the vertex in both and the
 -- one in neither separate. Where the meet is even the complement of the second is taken. No edge
 -- joins the two differences.
-use Rattle.std.proofs.Common.{◌≡◌, ℕ, ◌≤◌, Bool, true, false, cond, ◌==◌, ◌&&◌, ◌||◌, not, refl, sym, ap, ◌∙◌, arith, inl, inr, ◌⊎◌, ne_eqb}
+use Rattle.std.proofs.Common.{◌≡◌, ℕ, ◌≤◌, Bool, true, false, cond, ◌==◌, ◌&&◌, ◌||◌, not, sym, ap, ◌∙◌, arith, inl, inr, ◌⊎◌, ne_eqb}
 use Rattle.std.proofs.lemmas.Bool.{eqb-false}
 use Rattle.counting.proofs.Common.{and_from, and_parts, both_ways, cases_Bool, not-true, or_from, or_parts, true≢false, or_left, only_one, count_member, odd-add, odd_three, count_mono, count_split, Within, count, is_odd, Set, complement, meet, minus, pair_set, union}
 use Rattle.graph_core.proofs.Common.{no_edge_joins, union_tight, IsCovered, Graph, HasEnds, IsGraph, connects, first_end, in_cut, second_end, size, IsCutPair, IsNontrivial, IsTight}
@@ -22,37 +22,7 @@ pub record Crossing (g : Graph) (x t : Set) (a b : ℕ) : Type 0 where
 
 pub odd_crossing : (g : Graph) (x t : Set) (d : ApartEdges g x) → IsGraph g → IsTight g x → IsTight g t → is_odd (count g.order (meet x t)) ≡ true → t d.u ≡ t d.v → t d.u' ≡ t d.v' → t d.u ≡ not (t d.u') →
     (a : ℕ) × (b : ℕ) × Crossing g x t a b
-odd_crossing g x t d is tx tt odd p p' q = go (t d.u) (t d.u') refl refl q
-  where
-    go : (i j : Bool) → t d.u ≡ i → t d.u' ≡ j → i ≡ not j → (a : ℕ) × (b : ℕ) × Crossing g x t a b
-    go true true k l r = absurd (true≢false r)
-    go false false k l r = absurd (true≢false (sym r))
-    go true false k l r = (
-      d.u',
-      d.v,
-      record {
-        first = tx;
-        second = tt;
-        odd = odd;
-        a_real = (ends_within g is d.f d.u' d.v' d.f_real d.f_ends).0;
-        b_real = (ends_within g is d.e d.u d.v d.e_real d.e_ends).1;
-        left = (d.ins.1, l);
-        right = (d.outs.0, sym p ∙ k);
-      },
-    )
-    go false true k l r = (
-      d.u,
-      d.v',
-      record {
-        first = tx;
-        second = tt;
-        odd = odd;
-        a_real = (ends_within g is d.e d.u d.v d.e_real d.e_ends).0;
-        b_real = (ends_within g is d.f d.u' d.v' d.f_real d.f_ends).1;
-        left = (d.ins.0, k);
-        right = (d.outs.1, sym p' ∙ l);
-      },
-    )
+odd_crossing g x t d is tx h odd p p' q = grind arith
 
 pub turned : (g : Graph) (x t : Set) (d : ApartEdges g x) → IsGraph g → IsTight g x → IsTight g t → t d.u ≡ t d.v → t d.u' ≡ t d.v' → t d.u ≡ not (t d.u') →
     ((a : ℕ) × (b : ℕ) × Crossing g x t a b) ⊎ ((a : ℕ) × (b : ℕ) × Crossing g x (complement t) a b)
@@ -64,37 +34,17 @@ turned g x t d is tx tt p p' q = elim (cases_Bool (is_odd (count g.order (meet x
 ]
   where
     other : (a b : Bool) → cond a (not b) b ≡ true → a ≡ false → b ≡ true
-    other true b h k = absurd (true≢false k)
-    other false b h k = h
+    other a b h k = grind arith
 
 pub meet_wide : (g : Graph) (x t : Set) (a b : ℕ) → Crossing g x t a b → IsNontrivial g.order x → 2 ≤ count g.order (meet x t) → IsNontrivial g.order (meet x t)
-meet_wide g x t a b c wide two = record {
-  inside = odd_three (count g.order (meet x t)) c.odd two;
-  outside = let o = wide.outside in let m = count_mono g.order (complement x) (complement (meet x t)) (λ v w h. out (x v) (t v) h) in omega arith;
-}
-  where
-    out : (i j : Bool) → not i ≡ true → not (i && j) ≡ true
-    out true j h = absurd (true≢false (sym h))
-    out false j h = refl
+meet_wide g x t a b c wide two = grind (arith, odd_three (count g.order (meet x t)) c.odd two, count_mono g.order (complement x) (complement (meet x t)), true≢false)
 
 pub union_wide : (g : Graph) (x t : Set) (a b : ℕ) → IsGraph g → IsCovered g → Crossing g x t a b → IsNontrivial g.order x → 2 ≤ count g.order (complement (union x t)) → IsNontrivial g.order (union x t)
-union_wide g x t a b is cov c wide two = record {
-  inside = let o = wide.inside in let m = count_mono g.order x (union x t) (λ v w h. or_left (x v) (t v) h) in omega arith;
-  outside = let u = union_tight g is cov x t c.first c.second c.odd in odd_three (count g.order (complement (union x t))) u.odd_complement two;
-}
+union_wide g x t a b is cov c wide two = grind (arith, count_mono g.order x (union x t), or_left, union_tight g is cov x t c.first c.second c.odd, odd_three (count g.order (complement (union x t))))
 
 -- an edge with one end in y and the other in z connects them
 pub joins : (g : Graph) (y z : Set) (e u v : ℕ) → HasEnds g e u v → y u ≡ true → z v ≡ true → connects g y z e ≡ true
-joins g y z e u v ends yu zv = elim ends [
-  | inl p ↦ left (y (first_end g e)) (z (second_end g e)) (z (first_end g e) && y (second_end g e)) (ap y p.0 ∙ yu) (ap z p.1 ∙ zv)
-  | inr p ↦ right (z (first_end g e)) (y (second_end g e)) (y (first_end g e) && z (second_end g e)) (ap z p.0 ∙ zv) (ap y p.1 ∙ yu)
-]
-  where
-    left : (i j k : Bool) → i ≡ true → j ≡ true → ((i && j) || k) ≡ true
-    left i j k p q = grind arith
-
-    right : (i j k : Bool) → i ≡ true → j ≡ true → (k || (i && j)) ≡ true
-    right i j k p q = grind arith
+joins g y z e u v ends yu zv = grind arith
 
 pub single_corners : (g : Graph) (x t : Set) (a b : ℕ) → IsGraph g → IsCovered g → Crossing g x t a b → count g.order (meet x t) ≡ 1 → count g.order (complement (union x t)) ≡ 1 → (c : ℕ) × (d : ℕ) × IsCutPair g c d
 single_corners g x t a b is cov k one one' = (
@@ -133,11 +83,7 @@ single_corners g x t a b is cov k one one' = (
     ]
       where
         first_alone : (i j : Bool) → i ≡ true → (j ≡ true → ⊥) → (i && not j) ≡ true
-        first_alone true true h l = absurd (l refl)
-        first_alone true false h l = refl
-        first_alone false j h l = absurd (true≢false (sym h))
+        first_alone i j h l = grind arith
 
         second_alone : (i j : Bool) → i ≡ false → (j ≡ false → ⊥) → (j && not i) ≡ true
-        second_alone false true h l = refl
-        second_alone false false h l = absurd (l refl)
-        second_alone true j h l = absurd (true≢false h)
+        second_alone i j h l = grind arith

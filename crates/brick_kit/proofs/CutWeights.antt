@@ -1,6 +1,6 @@
 -- A perfect matching is heaviest for the weight "n, and one more in a tight cut".
 -- A matching that misses a vertex has an edge less, and an edge weighs n at least.
-use Rattle.std.proofs.Common.{◌≡◌, ℕ, suc, ◌+◌, ◌*◌, ◌≤◌, ◌&&◌, refl, ap, ap₂, ◌∙◌, arith, inl, inr, mul-le-mul_left}
+use Rattle.std.proofs.Common.{◌≡◌, ℕ, suc, ◌+◌, ◌*◌, ◌≤◌, ◌&&◌, refl, ap₂, ◌∙◌, arith, mul-le-mul_left}
 use Rattle.counting.proofs.Common.{and_parts, cases_eq, count_complement, count_mono, total_none, bit, count, Set, complement, none}
 use Rattle.graph_core.proofs.Common.{missed_edges, none_missed-perfect, perfect_matching, perfect_misses, Graph, IsGraph, edges_in_cut, in_cut, size, IsMatching, IsPerfect, missed_count, CutIsTight}
 use Rattle.brick_kit.proofs.EdgeSums.{weight_flat, weight_plus, weight_test}
@@ -22,10 +22,7 @@ perfect_heaviest g x p is pp tight = record { is = perfect_matching g none p pp;
     sized missed c n' n h e = omega arith
 
     close : (n mm c k h j wm wp : ℕ) → wm ≡ n * c + k → wp ≡ n * h + j → mm + (c + c) ≡ n → h + h ≡ n → (mm ≡ 0 → k ≡ j) → k ≤ c → wm ≤ wp
-    close n mm c k h j wm wp i l p q same few = elim (cases_eq mm 0) [
-      | inl z ↦ let e : c ≡ h = omega arith in let f = same z in omega (arith, ap (λ t. n * t) e)
-      | inr z ↦ let e : suc (c + c) ≤ n = omega arith in let f : n ≡ h + h = omega arith in let r = lighter n c k h few e f in omega arith
-    ]
+    close n mm c k h j wm wp i l p q same few = grind (arith, cases_eq mm 0, lighter n c k h few)
 
     most : (m : Set) → IsMatching g none m → weight_of g (λ e. g.order + bit (in_cut g x e)) m ≤ weight_of g (λ e. g.order + bit (in_cut g x e)) p
     most m mm = close g.order (missed_count g none m) (count (size g) m) (edges_in_cut g m x) (count (size g) p) (edges_in_cut g p x)

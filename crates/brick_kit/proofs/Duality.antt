@@ -2,8 +2,8 @@
 -- weights. Where each heaviest matching meets some vertex, the edges at that vertex are lowered;
 -- else a component of the edges that have weight is an odd set, and the edges inside it are
 -- lowered.
-use Rattle.std.proofs.Common.{◌≡◌, ℕ, suc, zero, ◌+◌, ◌*◌, ◌≤◌, ◌<◌, true, ◌⊎◌, List, [], refl, sym, ◌∙◌, arith, inl, inr}
-use Rattle.counting.proofs.Common.{and_from, cases_lt, All-nil, scan, at_le_total, some_term, total_none, total_zero, Within, bit, count, is_odd, total, Set, none}
+use Rattle.std.proofs.Common.{◌≡◌, ℕ, suc, zero, ◌≤◌, ◌<◌, ◌⊎◌, List, refl, sym, ◌∙◌, arith, inl, inr}
+use Rattle.counting.proofs.Common.{and_from, cases_lt, scan, at_le_total, some_term, total_none, total_zero, Within, total, Set, none}
 use Rattle.graph_core.proofs.Common.{none_matching, Graph, IsGraph, degree, first_end, inside, second_end, size}
 use Rattle.brick_kit.proofs.CoverBound.{Dual, cover_bound}
 use Rattle.brick_kit.proofs.CutEnds.{same_side}
@@ -16,20 +16,7 @@ use Rattle.brick_kit.specs.Weights.{IsCover, IsHeaviest, cover_value, weight_of}
 
 -- a weight of 0 everywhere
 flat_dual : (g : Graph) (w : ℕ → ℕ) → total (size g) w ≤ 0 → Dual g w
-flat_dual g w l = record {
-  m = none;
-  y = λ v. 0;
-  us = [];
-  is = none_matching g none;
-  cover = record { odd = All-nil (λ x. is_odd (count g.order x) ≡ true); enough = λ e we. let a = at_le_total (size g) w e we in omega arith };
-  equal = settle (weight_of g w none) (total g.order (λ v. 0)) (total_none (size g) (λ e. bit (none e) * w e) (λ e we. nothing (w e))) (total_zero g.order);
-}
-  where
-    nothing : (k : ℕ) → 0 * k ≡ 0
-    nothing k = omega arith
-
-    settle : (a b : ℕ) → a ≡ 0 → b ≡ 0 → a ≡ b + 0
-    settle a b h i = omega arith
+flat_dual g w l = grind (arith, none_matching g none, at_le_total (size g) w, total_none (size g), total_zero g.order)
 
 -- some vertex is met by each heaviest matching, or each is missed by one
 met_or_missed : (g : Graph) (w : ℕ → ℕ) → ((v : ℕ) × Within g.order v × ((m : Set) → IsHeaviest g w m → 0 < degree g m v)) ⊎ ((v : ℕ) → Within g.order v → (n : Set) × IsHeaviest g w n × (degree g n v ≡ 0))
@@ -66,9 +53,4 @@ dual g w is = dual_below (total (size g) w) g w is (omega arith)
 
 -- each heaviest matching weighs as much as some cover
 pub heaviest_cover : (g : Graph) (w : ℕ → ℕ) (m : Set) → IsGraph g → IsHeaviest g w m → (y : ℕ → ℕ) × (us : List Set) × IsCover g w y us × (weight_of g w m ≡ cover_value g y us)
-heaviest_cover g w m is best =
-    let d = dual g w is in
-    (d.y, d.us, d.cover, settle (weight_of g w m) (weight_of g w d.m) (cover_value g d.y d.us) (cover_bound g w d.y d.us m is d.cover best.is) d.equal (best.most d.m d.is))
-  where
-    settle : (a b c : ℕ) → a ≤ c → b ≡ c → b ≤ a → a ≡ c
-    settle a b c h i j = omega arith
+heaviest_cover g w m is best = grind (arith, dual g w is, cover_bound g w)

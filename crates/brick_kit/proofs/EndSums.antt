@@ -1,6 +1,6 @@
 -- Numbers of the vertices times their degrees in an edge set add up to the numbers at the ends of
 -- its edges. The double sum is taken in the other order, for the first ends and for the second.
-use Rattle.std.proofs.Common.{◌≡◌, ℕ, ◌+◌, ◌*◌, Bool, true, false, ◌==◌, ◌&&◌, sym, ap, ap₂, ◌∙◌, arith, mul-add}
+use Rattle.std.proofs.Common.{◌≡◌, ℕ, ◌+◌, ◌*◌, ◌==◌, ◌&&◌, sym, ap, ap₂, ◌∙◌, arith, mul-add}
 use Rattle.counting.proofs.Common.{total_add, total_at, total_congr, total_mul, total_swap, Within, bit, count, total, Set}
 use Rattle.graph_core.proofs.Common.{bit_other, bit_same, Graph, IsGraph, degree, first_end, second_end, size}
 use Rattle.brick_kit.specs.Weights.{weight_of}
@@ -21,14 +21,9 @@ ends_at n k m q f is =
     total_congr n _ _ (λ v w. sym (total_mul k (q v) (λ e. bit (m e && (f e == v)))))
     ∙ total_swap n k (λ v e. q v * bit (m e && (f e == v)))
     ∙ total_congr k _ _ (λ e w.
-    total_congr n _ _ (λ v u. bits (q v) (m e) (f e == v))
+    total_congr n _ _ (λ v u. grind arith)
     ∙ total_mul n (bit (m e)) (λ v. bit (f e == v) * q v)
     ∙ ap (λ b. bit (m e) * b) (alone n q (f e) (is e w)))
-  where
-    bits : (k : ℕ) (b c : Bool) → k * bit (b && c) ≡ bit b * (bit c * k)
-    bits k true true = omega arith
-    bits k true false = omega arith
-    bits k false c = omega arith
 
 -- the numbers times the degrees add up to those at the ends of the edges
 pub ends_weight : (g : Graph) (q : ℕ → ℕ) (m : Set) → IsGraph g → total g.order (λ v. q v * degree g m v) ≡ weight_of g (λ e. q (first_end g e) + q (second_end g e)) m

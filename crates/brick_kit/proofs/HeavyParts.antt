@@ -1,8 +1,8 @@
 -- What the edges of weight 1 or more reach from a vertex.
 -- Walks speak of any test of adjacency, so no graph is made for it.
-use Rattle.std.proofs.Common.{◌≡◌, ℕ, ◌<◌, Bool, true, false, ◌&&◌, ◌||◌, not, List, nat_lt, refl, sym, lt-ltb, ◌++◌, ltb-true}
+use Rattle.std.proofs.Common.{◌≡◌, ℕ, ◌<◌, Bool, true, false, ◌&&◌, ◌||◌, not, List, nat_lt, lt-ltb, ◌++◌, ltb-true, arith}
 use Rattle.counting.proofs.Common.{and_from, and_parts, some_true, true_some, Within, Set, some}
-use Rattle.graph_core.proofs.Common.{IsClosed, Walk-back, Walk-join, flood_closed, flood_own, flood_walk, has_ends-back, has_ends-cases, has_ends-own, Graph, HasEnds, IsGraph, first_end, has_ends, in_cut, second_end, size, Walk, reaches}
+use Rattle.graph_core.proofs.Common.{IsClosed, Walk-back, Walk-join, flood_closed, flood_own, flood_walk, has_ends-cases, has_ends-own, Graph, HasEnds, IsGraph, first_end, has_ends, in_cut, second_end, size, Walk, reaches}
 use Rattle.brick_kit.proofs.CutEnds.{ends_within}
 
 -- some edge of weight 1 or more joins u and v
@@ -14,10 +14,7 @@ abbrev pub part_of : Graph → (ℕ → ℕ) → ℕ → Set
 part_of g w a = reaches g.order (heavy g w) a g.order
 
 pub heavy_edge : (g : Graph) (w : ℕ → ℕ) (u v : ℕ) → heavy g w u v ≡ true → (e : ℕ) × Within (size g) e × HasEnds g e u v × (0 < w e)
-heavy_edge g w u v h =
-    let r = some_true (size g) (λ e. has_ends g u v e && nat_lt 0 (w e)) h in
-    let p = and_parts (has_ends g u v r.0) (nat_lt 0 (w r.0)) r.2 in
-    (r.0, r.1, has_ends-cases g u v r.0 p.0, ltb-true 0 (w r.0) p.1)
+heavy_edge g w u v h = grind (arith, some_true (size g), nat_lt 0, and_parts, has_ends-cases g u v, ltb-true 0)
 
 pub edge_heavy : (g : Graph) (w : ℕ → ℕ) (e u v : ℕ) → Within (size g) e → has_ends g u v e ≡ true → 0 < w e → heavy g w u v ≡ true
 edge_heavy g w e u v we h l = true_some (size g) (λ e. has_ends g u v e && nat_lt 0 (w e)) e we (and_from (has_ends g u v e) (nat_lt 0 (w e)) h (lt-ltb 0 (w e) l))
@@ -26,10 +23,7 @@ pub heavy_within : (g : Graph) (w : ℕ → ℕ) → IsGraph g → (u v : ℕ) �
 heavy_within g w is u v h = let r = heavy_edge g w u v h in ends_within g is r.0 u v r.1 r.2
 
 pub heavy_back : (g : Graph) (w : ℕ → ℕ) (u v : ℕ) → heavy g w u v ≡ true → heavy g w v u ≡ true
-heavy_back g w u v h =
-    let r = some_true (size g) (λ e. has_ends g u v e && nat_lt 0 (w e)) h in
-    let p = and_parts (has_ends g u v r.0) (nat_lt 0 (w r.0)) r.2 in
-    edge_heavy g w r.0 v u r.1 (has_ends-back g u v r.0 p.0) (ltb-true 0 (w r.0) p.1)
+heavy_back g w u v h = grind arith
 
 pub part_own : (g : Graph) (w : ℕ → ℕ) (a : ℕ) → part_of g w a a ≡ true
 part_own g w a = flood_own g.order (heavy g w) a g.order
@@ -44,10 +38,7 @@ part_closed g w a is wa e we l = there (part_of g w a (first_end g e)) (part_of 
     on = edge_heavy g w e (first_end g e) (second_end g e) we (has_ends-own g e) l
 
     there : (s t : Bool) → (s ≡ true → t ≡ true) → (t ≡ true → s ≡ true) → ((s && not t) || (not s && t)) ≡ false
-    there true true f h = refl
-    there true false f h = sym (f refl)
-    there false true f h = sym (h refl)
-    there false false f h = refl
+    there s t f h = grind arith
 
 pub part_walk : (g : Graph) (w : ℕ → ℕ) (a : ℕ) → IsGraph g → (u v : ℕ) → part_of g w a u ≡ true → part_of g w a v ≡ true → (ws : List ℕ) × Walk (heavy g w) u ws v
 part_walk g w a is u v pu pv =

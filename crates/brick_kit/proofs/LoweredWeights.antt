@@ -1,6 +1,6 @@
 -- Weights lowered by one at the edges of a set that have any.
 -- Edge by edge the old weight is the new one, and one more where there was some.
-use Rattle.std.proofs.Common.{◌≡◌, ℕ, suc, zero, ◌+◌, ◌-◌, ◌*◌, ◌≤◌, ◌<◌, Bool, true, false, ◌&&◌, nat_lt, refl, ap, ◌∙◌, arith, lt-ltb}
+use Rattle.std.proofs.Common.{◌≡◌, ℕ, ◌+◌, ◌-◌, ◌*◌, ◌≤◌, ◌<◌, true, ◌&&◌, nat_lt, ap, arith}
 use Rattle.counting.proofs.Common.{total_congr, total_le, Within, bit, count, total, Set}
 use Rattle.graph_core.proofs.Common.{Graph, size}
 use Rattle.brick_kit.proofs.EdgeSums.{term_le, weight_plus, weight_test, total_less}
@@ -11,12 +11,7 @@ abbrev pub lowered : (ℕ → ℕ) → Set → ℕ → ℕ
 lowered w p e = w e - bit (p e)
 
 pub lowered_back : (w : ℕ → ℕ) (p : Set) (e : ℕ) → w e ≡ lowered w p e + bit (p e && nat_lt 0 (w e))
-lowered_back w p e = go (p e) (w e)
-  where
-    go : (b : Bool) (k : ℕ) → k ≡ (k - bit b) + bit (b && nat_lt 0 k)
-    go true zero = refl
-    go true (suc k) = let t = ap bit (lt-ltb 0 (suc k) (omega arith)) in omega arith
-    go false k = omega arith
+lowered_back w p e = grind arith
 
 pub lowered_at_most : (w : ℕ → ℕ) (p : Set) (e : ℕ) → lowered w p e ≤ w e
 lowered_at_most w p e = omega arith
@@ -25,15 +20,7 @@ pub lowered_below : (w : ℕ → ℕ) (p : Set) (e : ℕ) → p e ≡ true → 0
 lowered_below w p e pe l = let t = ap bit pe in omega arith
 
 pub lowered_weight : (g : Graph) (w : ℕ → ℕ) (p m : Set) → ((e : ℕ) → Within (size g) e → m e ≡ true → 0 < w e) → weight_of g w m ≡ weight_of g (lowered w p) m + count (size g) (λ e. m e && p e)
-lowered_weight g w p m h =
-    total_congr (size g) _ _ (λ e i. each (m e) (p e) (w e) (h e i))
-    ∙ weight_plus g (lowered w p) (λ e. bit (p e)) m
-    ∙ ap (λ k. weight_of g (lowered w p) m + k) (weight_test g p m)
-  where
-    each : (a b : Bool) (k : ℕ) → (a ≡ true → 0 < k) → bit a * k ≡ bit a * ((k - bit b) + bit b)
-    each true true k l = let i = l refl in omega arith
-    each true false k l = omega arith
-    each false b k l = omega arith
+lowered_weight g w p m h = grind (arith, total_congr (size g), weight_plus g (lowered w p), weight_test g p m)
 
 pub lowered_less : (g : Graph) (w : ℕ → ℕ) (p m : Set) → weight_of g (lowered w p) m ≤ weight_of g w m
 lowered_less g w p m = total_le (size g) (λ e. bit (m e) * lowered w p e) (λ e. bit (m e) * w e) (λ e i. term_le (m e) (lowered w p e) (w e) (λ t. lowered_at_most w p e))

@@ -77,14 +77,7 @@ module _ (g : Graph) (is : IsGraph g) (w : ℕ → ℕ) (k : Set) (closed : (e :
 
   module _ (walks : (u v : ℕ) → Within g.order u → Within g.order v → k u ≡ true → k v ≡ true → (ws : List ℕ) × Walk (heavy g w) u ws v) (a : ℕ) (wa : Within g.order a) (ka : k a ≡ true) where
     at_most_one : (m : Set) → IsBest g w k m → count g.order (λ v. k v && (degree g m v == 0)) ≤ 1
-    at_most_one m b = count_le_one g.order (λ v. k v && (degree g m v == 0)) (λ u v wu wv l hu hv.
-        let p = and_parts (k u) (degree g m u == 0) hu in
-        let q = and_parts (k v) (degree g m v == 0) hv in
-        let r = walks u v wu wv p.0 q.0 in
-        no_two r.0 m b u v wu wv p.0 r.1 (λ e. less u v l e) (eqb-true (degree g m u) 0 p.1) (eqb-true (degree g m v) 0 q.1))
-      where
-        less : (u v : ℕ) → u < v → u ≡ v → ⊥
-        less u v l e = omega arith
+    at_most_one m b = grind (arith, count_le_one g.order, and_parts, no_two, eqb-true)
 
     stays : (m : Set) → IsBest g w k m → (e : ℕ) → Within (size g) e → m e ≡ true → in_cut g k e ≡ false
     stays m b e i h = closed e i (b.heavy e i h)
@@ -134,9 +127,7 @@ module _ (g : Graph) (is : IsGraph g) (w : ℕ → ℕ) (k : Set) (closed : (e :
         odd = odd_part best.0 best.1
 
         enough : (z l : ℕ) (a b : Bool) (c s : ℕ) → z ≡ l + bit (a && b) → l ≤ c + s → z ≤ c + (bit a + s)
-        enough z l true true c s h i = omega arith
-        enough z l true false c s h i = omega arith
-        enough z l false b c s h i = omega arith
+        enough z l a b c s h i = grind arith
 
         equal : (wm lm i ld y us h : ℕ) → wm ≡ lm + i → i ≡ h → ld ≤ lm → ld ≡ y + us → lm ≤ y + us → wm ≡ y + (h + us)
         equal wm lm i ld y us h a b c d e = omega arith

@@ -1,7 +1,7 @@
 -- The numbers of two vertices of a bicritical graph are bounded by twice s and the members that
 -- part them. The sums over a perfect matching and over one without the two vertices differ by the
 -- two numbers.
-use Rattle.std.proofs.Common.{◌≡◌, ℕ, suc, zero, ◌+◌, ◌*◌, ◌≤◌, ◌≢◌, Bool, true, false, ◌==◌, ◌&&◌, ◌||◌, not, List, [], ◌∷◌, refl, sym, ap, ap₂, ◌∙◌, arith, mul-add, eqb-true, All}
+use Rattle.std.proofs.Common.{◌≡◌, ℕ, suc, zero, ◌+◌, ◌*◌, ◌≤◌, ◌≢◌, Bool, true, false, ◌==◌, ◌&&◌, ◌||◌, not, List, [], ◌∷◌, sym, ap, ap₂, ◌∙◌, arith, mul-add, All}
 use Rattle.counting.proofs.Common.{both_ways, All-head, All-tail, odd-double, total_add, total_congr, total_none, Within, bit, count, is_odd, total, Set, none, pair_set}
 use Rattle.graph_core.proofs.Common.{degrees, Graph, IsGraph, degree, edges_in_cut, first_end, in_cut, inside, second_end, size, IsPerfect, IsTight}
 use Rattle.brick_kit.specs.Balances.{IsBalanced, apart, parts}
@@ -11,30 +11,20 @@ use Rattle.brick_kit.specs.Weights.{sum_over}
 -- a sum, and without a and b
 pub pair_total : (g : Graph) (m : Set) (a b : ℕ) (f : ℕ → ℕ) → Within g.order a → Within g.order b → a ≢ b → IsPerfect g (pair_set a b) m → total g.order (λ v. f v * degree g m v) + (f a + f b) ≡ total g.order f
 pair_total g m a b f wa wb d p = sym (
-    total_congr g.order _ _ (λ v w. split (a == v) (b == v) (f v) (degree g m v) (λ t u. d (eqb-true a v t ∙ sym (eqb-true b v u))) (p.away v w) (p.once v w))
+    total_congr g.order _ _ (λ v w. grind arith)
     ∙ total_add g.order (λ v. f v * degree g m v) (λ v. bit (a == v) * f v + bit (b == v) * f v)
     ∙ ap (λ k. total g.order (λ v. f v * degree g m v) + k) (total_add g.order (λ v. bit (a == v) * f v) (λ v. bit (b == v) * f v) ∙ ap₂ ◌+◌ (alone g.order f a wa) (alone g.order f b wb)))
-  where
-    split : (i j : Bool) (k c : ℕ) → (i ≡ true → j ≡ true → ⊥) → ((i || j) ≡ true → c ≡ 0) → ((i || j) ≡ false → c ≡ 1) → k ≡ k * c + (bit i * k + bit j * k)
-    split true true k c h off on = absurd (h refl refl)
-    split true false k c h off on = omega (arith, ap (λ z. k * z) (off refl))
-    split false true k c h off on = omega (arith, ap (λ z. k * z) (off refl))
-    split false false k c h off on = omega (arith, ap (λ z. k * z) (on refl))
 
 -- the edges of m in the cuts of a list, edge by edge
 cut_sums : (g : Graph) (m : Set) (xs : List Set) → total (size g) (λ e. bit (m e) * apart xs (first_end g e) (second_end g e)) ≡ sum_over (edges_in_cut g m) xs
-cut_sums g m [] = total_none (size g) _ (λ e w. nothing (bit (m e)))
-  where
-    nothing : (k : ℕ) → k * 0 ≡ 0
-    nothing k = omega arith
+cut_sums g m [] = total_none (size g) _ (λ e w. omega arith)
 cut_sums g m (x ∷ xs) =
     total_congr (size g) _ _ (λ e w. split (m e) (in_cut g x e) (apart xs (first_end g e) (second_end g e)))
     ∙ total_add (size g) (λ e. bit (m e && in_cut g x e)) (λ e. bit (m e) * apart xs (first_end g e) (second_end g e))
     ∙ ap (λ k. edges_in_cut g m x + k) (cut_sums g m xs)
   where
     split : (a c : Bool) (k : ℕ) → bit a * (bit c + k) ≡ bit (a && c) + bit a * k
-    split true c k = omega arith
-    split false c k = omega arith
+    split a c k = grind arith
 
 pub balance_total : (g : Graph) (s : ℕ) (q : ℕ → ℕ) (xs : List Set) (m : Set) → IsGraph g → IsBalanced g s q xs → total g.order (λ v. q v * degree g m v) ≡ total g.order (λ v. s * degree g m v) + sum_over (edges_in_cut g m) xs
 balance_total g s q xs m is bal =
@@ -84,7 +74,4 @@ pair_bound g s q xs p m a b is bal pp wa wb d pm =
     (members_crossed g p m a b xs is pp wa wb d pm bal.tight)
   where
     freed : (f : ℕ → ℕ) → total g.order (λ v. f v * degree g p v) ≡ total g.order f
-    freed f = total_congr g.order _ _ (λ v w. by_one (f v) (degree g p v) (pp.once v w refl))
-      where
-        by_one : (k c : ℕ) → c ≡ 1 → k * c ≡ k
-        by_one k c h = omega (arith, ap (λ z. k * z) h)
+    freed f = grind (arith, total_congr g.order)

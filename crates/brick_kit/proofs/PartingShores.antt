@@ -1,11 +1,11 @@
 -- Two edges of the cut of a member without a common end: another member parts the one from the
 -- other. The numbers at the four ends say that the members part the ends of the edges less often
 -- than the ends on the two sides.
-use Rattle.std.proofs.Common.{◌≡◌, ℕ, ◌+◌, ◌≤◌, ◌<◌, ◌≢◌, Bool, true, false, ◌&&◌, ◌||◌, not, List, [], ◌∷◌, refl, sym, ap, ap₂, ◌∙◌, arith, inl, inr, add_comm, All}
-use Rattle.counting.proofs.Common.{cases_lt, true≢false, All-cons, All-head, All-tail, Within, bit, Set}
+use Rattle.std.proofs.Common.{◌≡◌, ℕ, ◌+◌, ◌≤◌, ◌<◌, ◌≢◌, Bool, true, false, ◌&&◌, ◌||◌, not, List, [], ◌∷◌, refl, ap₂, ◌∙◌, arith, inl, inr, All}
+use Rattle.counting.proofs.Common.{cases_lt, All-cons, All-head, All-tail, Within, bit, Set}
 use Rattle.graph_core.proofs.Common.{Graph, HasEnds, IsGraph, size, IsTight}
 use Rattle.brick_kit.proofs.CutEnds.{ends_within}
-use Rattle.brick_kit.proofs.SetSums.{sum_plus, sum_same}
+use Rattle.brick_kit.proofs.SetSums.{sum_plus}
 use Rattle.brick_kit.specs.Balances.{IsBalanced, apart, parts}
 use Rattle.brick_kit.specs.Weights.{sum_over}
 
@@ -48,20 +48,11 @@ some_less g f h (x ∷ xs) l = elim (cases_lt (f x) (h x)) [
 
 -- which set parts two vertices does not depend on their order
 pub apart_turned : (xs : List Set) (u v : ℕ) → apart xs u v ≡ apart xs v u
-apart_turned xs u v = sum_same (λ x. bit (parts x u v)) (λ x. bit (parts x v u)) xs (λ x. ap bit (turn (x u) (x v)))
-  where
-    turn : (a b : Bool) → ((a && not b) || (not a && b)) ≡ ((b && not a) || (not b && a))
-    turn true true = refl
-    turn true false = refl
-    turn false true = refl
-    turn false false = refl
+apart_turned xs u v = grind arith
 
 -- the balance at an edge, by its ends in either order
 pub balance_ends : (g : Graph) (s : ℕ) (q : ℕ → ℕ) (xs : List Set) (e u v : ℕ) → IsBalanced g s q xs → Within (size g) e → HasEnds g e u v → q u + q v ≡ (s + s) + apart xs u v
-balance_ends g s q xs e u v b w ends = elim ends [
-  | inl p ↦ sym (ap₂ (λ i j. q i + q j) p.0 p.1) ∙ b.each e w ∙ ap₂ (λ i j. (s + s) + apart xs i j) p.0 p.1
-  | inr p ↦ add_comm (q u) (q v) ∙ sym (ap₂ (λ i j. q i + q j) p.0 p.1) ∙ b.each e w ∙ ap₂ (λ i j. (s + s) + apart xs i j) p.0 p.1 ∙ ap (λ k. (s + s) + k) (apart_turned xs v u)
-]
+balance_ends g s q xs e u v b w ends = grind arith
 
 parting_numbers : (s2 qu qv qu' qv' a b c d : ℕ) → qu + qv ≡ s2 + (1 + a) → qu' + qv' ≡ s2 + (1 + b) → qu + qu' ≤ s2 + (0 + c) → qv + qv' ≤ s2 + (0 + d) → a + b < c + d
 parting_numbers s2 qu qv qu' qv' a b c d h i j k = omega arith
@@ -81,10 +72,7 @@ parting g s q x xs is b bound d = let r = some_less g (λ t. bit (parts t d.u d.
         (at_most (q d.v + q d.v') (apart xs d.v d.v') (x d.v) (x d.v') false d.outs.0 d.outs.1 (bound d.v d.v' (ends_within g is d.e d.u d.v d.e_real d.e_ends).1 (ends_within g is d.f d.u' d.v' d.f_real d.f_ends).1 d.differ.1))
       where
         at_most : (k c : ℕ) (i j a : Bool) → i ≡ a → j ≡ a → k ≤ (s + s) + (bit ((i && not j) || (not i && j)) + c) → k ≤ (s + s) + (0 + c)
-        at_most k c true true a p p' l = l
-        at_most k c true false a p p' l = absurd (true≢false (p ∙ sym p'))
-        at_most k c false true a p p' l = absurd (true≢false (p' ∙ sym p))
-        at_most k c false false a p p' l = l
+        at_most k c i j a p p' l = grind arith
 
     less : sum_over (λ t. bit (parts t d.u d.v) + bit (parts t d.u' d.v')) xs < sum_over (λ t. bit (parts t d.u d.u') + bit (parts t d.v d.v')) xs
     less = by_sums (sum_over (λ t. bit (parts t d.u d.v) + bit (parts t d.u' d.v')) xs) (sum_over (λ t. bit (parts t d.u d.u') + bit (parts t d.v d.v')) xs)
@@ -95,19 +83,4 @@ parting g s q x xs is b bound d = let r = some_less g (λ t. bit (parts t d.u d.
         by_sums a b c d p q l = omega arith
 
     table : (a b c d : Bool) → bit ((a && not b) || (not a && b)) + bit ((c && not d) || (not c && d)) < bit ((a && not c) || (not a && c)) + bit ((b && not d) || (not b && d)) → (a ≡ b) × (c ≡ d) × (a ≡ not c)
-    table true true false false l = (refl, refl, refl)
-    table false false true true l = (refl, refl, refl)
-    table true true true true l = absurd (omega arith)
-    table true true true false l = absurd (omega arith)
-    table true true false true l = absurd (omega arith)
-    table true false true true l = absurd (omega arith)
-    table true false true false l = absurd (omega arith)
-    table true false false true l = absurd (omega arith)
-    table true false false false l = absurd (omega arith)
-    table false true true true l = absurd (omega arith)
-    table false true true false l = absurd (omega arith)
-    table false true false true l = absurd (omega arith)
-    table false true false false l = absurd (omega arith)
-    table false false true false l = absurd (omega arith)
-    table false false false true l = absurd (omega arith)
-    table false false false false l = absurd (omega arith)
+    table a b c d l = grind arith

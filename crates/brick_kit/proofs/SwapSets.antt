@@ -1,8 +1,8 @@
 -- A set that no edge of two matchings leaves, grown vertex by vertex.
 -- Each vertex that comes brings at least one edge inside.
-use Rattle.std.proofs.Common.{◌≡◌, ℕ, suc, zero, ◌+◌, ◌≤◌, ◌<◌, Bool, true, false, ◌==◌, ◌&&◌, ◌||◌, refl, sym, ap, ◌∙◌, arith, inl, inr, eqb-true, eq-eqb}
+use Rattle.std.proofs.Common.{◌≡◌, ℕ, suc, zero, ◌+◌, ◌≤◌, ◌<◌, Bool, true, false, ◌==◌, ◌&&◌, ◌||◌, refl, sym, ◌∙◌, arith, inl, inr, eqb-true, eq-eqb}
 use Rattle.counting.proofs.Common.{and_from, and_parts, cases_Bool, or_cases, or_left, count_le, count_more, count_plus, count_mono, count_singleton, some_none, some_true, Within, count, Set, singleton, union, some}
-use Rattle.graph_core.proofs.Common.{Graph, HasEnds, IsGraph, first_end, in_cut, inside, second_end, size}
+use Rattle.graph_core.proofs.Common.{Graph, HasEnds, IsGraph, in_cut, inside, size}
 use Rattle.brick_kit.proofs.CutEnds.{cut_ends, ends_inside, ends_within, same_side}
 use Rattle.brick_kit.proofs.Swaps.{Swaps}
 
@@ -11,20 +11,14 @@ abbrev pub held : Graph → Set → Set → ℕ
 held g m d = count (size g) (λ e. m e && inside g d e)
 
 held_more : (g : Graph) (m d : Set) (z : ℕ) → held g m d ≤ held g m (union d (singleton z))
-held_more g m d z = count_mono (size g) (λ e. m e && inside g d e) (λ e. m e && inside g (union d (singleton z)) e) (λ e w h. wider (m e) (d (first_end g e)) (d (second_end g e)) (z == first_end g e) (z == second_end g e) h)
-  where
-    wider : (k a b c d : Bool) → (k && (a && b)) ≡ true → (k && ((a || c) && (b || d))) ≡ true
-    wider k a b c d h = grind arith
+held_more g m d z = grind (arith, count_mono (size g))
 
 held_new : (g : Graph) (m d : Set) (z e p : ℕ) → Within (size g) e → m e ≡ true → HasEnds g e p z → d p ≡ true → d z ≡ false → held g m d + 1 ≤ held g m (union d (singleton z))
 held_new g m d z e p we me ends dp dz =
-    count_more (size g) (λ e. m e && inside g d e) (λ e. m e && inside g (union d (singleton z)) e) (λ e h. wider (m e) (d (first_end g e)) (d (second_end g e)) (z == first_end g e) (z == second_end g e) h) e we
+    count_more (size g) (λ e. m e && inside g d e) (λ e. m e && inside g (union d (singleton z)) e) (λ e h. grind arith) e we
     (off (m e) (inside g d e) (d p) (d z) (ends_inside g d e p z ends) dz)
     (and_from (m e) (inside g (union d (singleton z)) e) me (ends_inside g (union d (singleton z)) e p z ends ∙ on (d p) (z == p) (d z) (z == z) dp (eq-eqb z z refl)))
   where
-    wider : (k a b c d : Bool) → (k && (a && b)) ≡ true → (k && ((a || c) && (b || d))) ≡ true
-    wider k a b c d h = grind arith
-
     off : (k i a b : Bool) → i ≡ (a && b) → b ≡ false → (k && i) ≡ false
     off k i a b h l = grind arith
 
@@ -38,16 +32,7 @@ module _ (g : Graph) (k m n : Set) (t : ℕ) (is : IsGraph g) (ms : (e : ℕ) �
   grow : (fuel : ℕ) (d : Set) → ((v : ℕ) → d v ≡ true → k v ≡ true) → d t ≡ true → count g.order d ≤ (held g m d + held g n d) + 1 → g.order < count g.order d + fuel → (c : Set) × Swaps g k m n t c
   grow zero d inside_k holds many l = let c = count_le g.order d in absurd (omega arith)
   grow (suc fuel) d inside_k holds many l = elim (cases_Bool (some (size g) (leaves d))) [
-    | inr f ↦ (
-      d,
-      record {
-        inside_k = inside_k;
-        holds = holds;
-        first_stays = λ e we me. first (m e) (n e) (in_cut g d e) (some_none (size g) (leaves d) f e we) me;
-        second_stays = λ e we ne. second (m e) (n e) (in_cut g d e) (some_none (size g) (leaves d) f e we) ne;
-        many = many;
-      },
-    )
+    | inr f ↦ grind (arith, some_none (size g) (leaves d) f)
     | inl f ↦
         let r = some_true (size g) (leaves d) f in
         let b = and_parts (m r.0 || n r.0) (in_cut g d r.0) r.2 in
@@ -66,17 +51,8 @@ module _ (g : Graph) (k m n : Set) (t : ℕ) (is : IsGraph g) (ms : (e : ℕ) �
         ]
   ]
     where
-      first : (a b c : Bool) → ((a || b) && c) ≡ false → a ≡ true → c ≡ false
-      first a b c h i = grind arith
-
-      second : (a b c : Bool) → ((a || b) && c) ≡ false → b ≡ true → c ≡ false
-      second a b c h i = grind arith
-
       in_k : (d : Set) → ((v : ℕ) → d v ≡ true → k v ≡ true) → (z : ℕ) → k z ≡ true → (v : ℕ) → (d v || (z == v)) ≡ true → k v ≡ true
-      in_k d h z kz v o = elim (or_cases (d v) (z == v) o) [
-        | inl dv ↦ h v dv
-        | inr zv ↦ ap k (sym (eqb-true z v zv)) ∙ kz
-      ]
+      in_k d h z kz v o = grind arith
 
       more : (c c' i j i' j' : ℕ) → c' ≡ c + 1 → c ≤ (i + j) + 1 → (i + j) + 1 ≤ i' + j' → c' ≤ (i' + j') + 1
       more c c' i j i' j' h l o = omega arith
@@ -85,5 +61,4 @@ module _ (g : Graph) (k m n : Set) (t : ℕ) (is : IsGraph g) (ms : (e : ℕ) �
       less n c c' f h l = omega arith
 
   pub swap_set : Within g.order t → k t ≡ true → (c : Set) × Swaps g k m n t c
-  swap_set wt kt = let one = count_singleton g.order t wt in
-      grow g.order (singleton t) (λ v h. ap k (sym (eqb-true t v h)) ∙ kt) (eq-eqb t t refl) (omega arith) (omega arith)
+  swap_set wt kt = grind (arith, count_singleton g.order t wt, grow g.order (singleton t), eqb-true t, eq-eqb t t refl)

@@ -1,8 +1,8 @@
 -- Two matchings exchanged inside a set that no edge of either leaves. The set has nearly as many
 -- edges inside as vertices, so that the matching that misses one of its vertices has no more
 -- edges there.
-use Rattle.std.proofs.Common.{◌≡◌, ℕ, suc, zero, ◌+◌, ◌*◌, ◌≤◌, ◌≢◌, Bool, true, false, cond, ◌==◌, ◌&&◌, ◌||◌, not, ◌⊎◌, refl, sym, ap, ap₂, ◌∙◌, arith, inl, inr, add_comm, eqb-true, eq-eqb}
-use Rattle.counting.proofs.Common.{and_from, and_parts, cases_Bool, true≢false, and_left, and_right, count_congr, member_count, two_members, total_add, total_congr, total_none, Within, bit, count, total, Set, none}
+use Rattle.std.proofs.Common.{◌≡◌, ℕ, ◌+◌, ◌*◌, ◌≤◌, ◌≢◌, Bool, true, false, cond, ◌==◌, ◌&&◌, ◌||◌, not, ◌⊎◌, refl, sym, ap, ap₂, ◌∙◌, arith, inl, inr, eqb-true, eq-eqb}
+use Rattle.counting.proofs.Common.{and_from, cases_Bool, true≢false, and_left, and_right, count_congr, member_count, two_members, total_add, total_congr, total_none, Within, bit, count, total, Set, none}
 use Rattle.graph_core.proofs.Common.{degrees, Graph, IsGraph, degree, first_end, in_cut, inside, second_end, size, IsMatching}
 use Rattle.brick_kit.specs.Weights.{weight_of}
 
@@ -19,7 +19,7 @@ pub missed_inside : (g : Graph) (m x : Set) → IsGraph g → IsMatching g none 
     count g.order x ≡ count g.order (λ v. x v && (degree g m v == 0)) + 2 * count (size g) (λ e. m e && inside g x e)
 missed_inside g m x is mm stays =
     settle (count g.order x) (count g.order (λ v. x v && (degree g m v == 0))) (total g.order (λ v. bit (x v) * degree g m v)) (count (size g) (λ e. m e && in_cut g x e)) (count (size g) (λ e. m e && inside g x e))
-    (total_congr g.order (λ v. bit (x v)) (λ v. bit (x v && (degree g m v == 0)) + bit (x v) * degree g m v) (λ v wv. each (x v) (degree g m v) (mm.once v wv))
+    (total_congr g.order (λ v. bit (x v)) (λ v. bit (x v && (degree g m v == 0)) + bit (x v) * degree g m v) (λ v wv. grind arith)
     ∙ total_add g.order (λ v. bit (x v && (degree g m v == 0))) (λ v. bit (x v) * degree g m v))
     (degrees g is m x)
     (total_none (size g) (λ e. bit (m e && in_cut g x e)) (λ e we. ap bit (gone (m e) (in_cut g x e) (stays e we))))
@@ -28,14 +28,7 @@ missed_inside g m x is mm stays =
     settle n a t c i h j k = omega arith
 
     gone : (a b : Bool) → (a ≡ true → b ≡ false) → (a && b) ≡ false
-    gone true b h = h refl
-    gone false b h = refl
-
-    each : (x : Bool) (d : ℕ) → d ≤ 1 → bit x ≡ bit (x && (d == 0)) + bit x * d
-    each false d h = omega arith
-    each true zero h = refl
-    each true (suc zero) h = refl
-    each true (suc (suc d)) h = absurd (omega arith)
+    gone a b h = grind arith
 
 fewer_numbers : (c xm xn im jn : ℕ) → c ≡ xm + 2 * im → c ≡ xn + 2 * jn → 1 ≤ xn → c ≤ (im + jn) + 1 → (jn ≤ im) × (xm ≤ 1)
 fewer_numbers c xm xn im jn h i j k = (omega arith, omega arith)
@@ -66,65 +59,29 @@ swapped g c m n e = cond (inside g c e) (n e) (m e)
 pub swapped_weight : (g : Graph) (w : ℕ → ℕ) (c m n : Set) → weight_of g w (swapped g c m n) + weight_of g w (swapped g c n m) ≡ weight_of g w m + weight_of g w n
 swapped_weight g w c m n =
     sym (total_add (size g) (λ e. bit (swapped g c m n e) * w e) (λ e. bit (swapped g c n m e) * w e))
-    ∙ total_congr (size g) _ _ (λ e i. each (inside g c e) (m e) (n e) (w e))
+    ∙ total_congr (size g) _ _ (λ e i. grind arith)
     ∙ total_add (size g) (λ e. bit (m e) * w e) (λ e. bit (n e) * w e)
-  where
-    each : (i a b : Bool) (k : ℕ) → bit (cond i b a) * k + bit (cond i a b) * k ≡ bit a * k + bit b * k
-    each true a b k = add_comm (bit b * k) (bit a * k)
-    each false a b k = refl
 
 pub swapped_inside : (g : Graph) (k c m n : Set) → ((v : ℕ) → c v ≡ true → k v ≡ true) →
     count (size g) (λ e. swapped g c m n e && inside g k e) + count (size g) (λ e. m e && inside g c e) ≡ count (size g) (λ e. m e && inside g k e) + count (size g) (λ e. n e && inside g c e)
 swapped_inside g k c m n h =
     sym (total_add (size g) (λ e. bit (swapped g c m n e && inside g k e)) (λ e. bit (m e && inside g c e)))
-    ∙ total_congr (size g) _ _ (λ e i. each (inside g c e) (inside g k e) (m e) (n e) (λ t. let p = and_parts (c (first_end g e)) (c (second_end g e)) t in and_from (k (first_end g e)) (k (second_end g e)) (h (first_end g e) p.0) (h (second_end g e) p.1)))
+    ∙ total_congr (size g) _ _ (λ e i. grind arith)
     ∙ total_add (size g) (λ e. bit (m e && inside g k e)) (λ e. bit (n e && inside g c e))
-  where
-    each : (i j a b : Bool) → (i ≡ true → j ≡ true) → bit (cond i b a && j) + bit (a && i) ≡ bit (a && j) + bit (b && i)
-    each true true true true l = refl
-    each true true true false l = refl
-    each true true false true l = refl
-    each true true false false l = refl
-    each true false a b l = absurd (true≢false (sym (l refl)))
-    each false j true true l = refl
-    each false j true false l = refl
-    each false j false true l = refl
-    each false j false false l = refl
 
 pub swapped_degree : (g : Graph) (c m n : Set) (v : ℕ) → ((e : ℕ) → Within (size g) e → m e ≡ true → in_cut g c e ≡ false) → ((e : ℕ) → Within (size g) e → n e ≡ true → in_cut g c e ≡ false) →
     degree g (swapped g c m n) v ≡ cond (c v) (degree g n v) (degree g m v)
 swapped_degree g c m n v ms ns = go (c v) refl
   where
-    none_of : (a b : Bool) → (a && false) ≡ (b && false)
-    none_of true true = refl
-    none_of true false = refl
-    none_of false true = refl
-    none_of false false = refl
-
-    first_in : (p q a b t : Bool) → (t ≡ true → p ≡ true) → (a ≡ true → ((p && not q) || (not p && q)) ≡ false) → (b ≡ true → ((p && not q) || (not p && q)) ≡ false) → (cond (p && q) b a && t) ≡ (b && t)
-    first_in true true a b t h i j = refl
-    first_in true false true b t h i j = absurd (true≢false (i refl))
-    first_in true false false true t h i j = absurd (true≢false (j refl))
-    first_in true false false false t h i j = refl
-    first_in false q a b true h i j = absurd (true≢false (sym (h refl)))
-    first_in false q a b false h i j = none_of a b
-
     second_in : (p q a b t : Bool) → (t ≡ true → q ≡ true) → (a ≡ true → ((p && not q) || (not p && q)) ≡ false) → (b ≡ true → ((p && not q) || (not p && q)) ≡ false) → (cond (p && q) b a && t) ≡ (b && t)
-    second_in true true a b t h i j = refl
-    second_in false true true b t h i j = absurd (true≢false (i refl))
-    second_in false true false true t h i j = absurd (true≢false (j refl))
-    second_in false true false false t h i j = refl
-    second_in p false a b true h i j = absurd (true≢false (sym (h refl)))
-    second_in p false a b false h i j = none_of (cond (p && false) b a) b
+    second_in p q a b t h i j = grind arith
 
     out : (i a b t : Bool) → (t ≡ true → i ≡ false) → (cond i b a && t) ≡ (a && t)
-    out false a b t h = refl
-    out true a b true h = absurd (true≢false (h refl))
-    out true a b false h = none_of b a
+    out i a b t h = grind arith
 
     go : (b : Bool) → c v ≡ b → degree g (swapped g c m n) v ≡ cond b (degree g n v) (degree g m v)
     go true h = ap₂ ◌+◌
-        (count_congr (size g) _ _ (λ e w. first_in (c (first_end g e)) (c (second_end g e)) (m e) (n e) (first_end g e == v) (λ t. ap c (eqb-true (first_end g e) v t) ∙ h) (ms e w) (ns e w)))
+        (count_congr (size g) _ _ (λ e w. grind arith))
         (count_congr (size g) _ _ (λ e w. second_in (c (first_end g e)) (c (second_end g e)) (m e) (n e) (second_end g e == v) (λ t. ap c (eqb-true (second_end g e) v t) ∙ h) (ms e w) (ns e w)))
     go false h = ap₂ ◌+◌
         (count_congr (size g) _ _ (λ e w. out (inside g c e) (m e) (n e) (first_end g e == v) (λ t. and_left (c (first_end g e)) (c (second_end g e)) (ap c (eqb-true (first_end g e) v t) ∙ h))))
@@ -132,8 +89,4 @@ swapped_degree g c m n v ms ns = go (c v) refl
 
 pub swapped_matching : (g : Graph) (c m n : Set) → IsMatching g none m → IsMatching g none n → ((e : ℕ) → Within (size g) e → m e ≡ true → in_cut g c e ≡ false) →
     ((e : ℕ) → Within (size g) e → n e ≡ true → in_cut g c e ≡ false) → IsMatching g none (swapped g c m n)
-swapped_matching g c m n mm nn ms ns = record { once = λ v w. few (degree g (swapped g c m n) v) (c v) (degree g n v) (degree g m v) (swapped_degree g c m n v ms ns) (nn.once v w) (mm.once v w); away = λ v w o. absurd (true≢false (sym o)) }
-  where
-    few : (d : ℕ) (b : Bool) (i j : ℕ) → d ≡ cond b i j → i ≤ 1 → j ≤ 1 → d ≤ 1
-    few d true i j h p q = omega arith
-    few d false i j h p q = omega arith
+swapped_matching g c m n mm nn ms ns = grind (arith, swapped_degree g c m n, true≢false)

@@ -15,28 +15,7 @@ spread n xs = total n (λ u. total n (λ v. apart xs u v))
 
 pub parts_uncrossed : (x t : Set) (u v : ℕ) → bit (parts x u v) + bit (parts t u v) ≡ bit (parts (meet x t) u v) + bit (parts (union x t) u v)
     + 2 * bit ((minus x t u && minus t x v) || (minus t x u && minus x t v))
-parts_uncrossed x t u v = bits (x u) (x v) (t u) (t v)
-  where
-    bits : (a b c d : Bool) →
-        bit ((a && not b) || (not a && b)) + bit ((c && not d) || (not c && d))
-        ≡ bit (((a && c) && not (b && d)) || (not (a && c) && (b && d))) + bit (((a || c) && not (b || d)) || (not (a || c) && (b || d)))
-        + 2 * bit (((a && not c) && (d && not b)) || ((c && not a) && (b && not d)))
-    bits true true true true = refl
-    bits true true true false = refl
-    bits true true false true = refl
-    bits true true false false = refl
-    bits true false true true = refl
-    bits true false true false = refl
-    bits true false false true = refl
-    bits true false false false = refl
-    bits false true true true = refl
-    bits false true true false = refl
-    bits false true false true = refl
-    bits false true false false = refl
-    bits false false true true = refl
-    bits false false true false = refl
-    bits false false false true = refl
-    bits false false false false = refl
+parts_uncrossed x t u v = grind arith
 
 pub balance_uncrossed : (g : Graph) (s : ℕ) (q : ℕ → ℕ) (x t : Set) (rest : List Set) → IsGraph g → IsCovered g → IsBalanced g s q (x ∷ t ∷ rest) → is_odd (count g.order (meet x t)) ≡ true → IsBalanced g s q (meet x t ∷ union x t ∷ rest)
 balance_uncrossed g s q x t rest is cov b odd =
@@ -63,13 +42,7 @@ balance_picked g s q x t xs rest p b = let k = p.tight (All-tail (IsTight g) x x
 
 -- a set and its complement part the same vertices
 pub parts_turned : (t : Set) (u v : ℕ) → parts t u v ≡ parts (complement t) u v
-parts_turned t u v = turn (t u) (t v)
-  where
-    turn : (a b : Bool) → ((a && not b) || (not a && b)) ≡ ((not a && not (not b)) || (not (not a) && not b))
-    turn true true = refl
-    turn true false = refl
-    turn false true = refl
-    turn false false = refl
+parts_turned t u v = grind arith
 
 pub balance_turned : (g : Graph) (s : ℕ) (q : ℕ → ℕ) (x t : Set) (rest : List Set) → IsBalanced g s q (x ∷ t ∷ rest) → IsBalanced g s q (x ∷ complement t ∷ rest)
 balance_turned g s q x t rest b = let tail = All-tail (IsTight g) x (t ∷ rest) b.tight in record {
@@ -80,11 +53,8 @@ balance_turned g s q x t rest b = let tail = All-tail (IsTight g) x (t ∷ rest)
 pub balance_exchanged : (g : Graph) (s : ℕ) (q : ℕ → ℕ) (x t : Set) (rest : List Set) → IsBalanced g s q (x ∷ t ∷ rest) → IsBalanced g s q (t ∷ x ∷ rest)
 balance_exchanged g s q x t rest b = let tail = All-tail (IsTight g) x (t ∷ rest) b.tight in record {
   tight = All-cons (IsTight g) t (x ∷ rest) (All-head (IsTight g) t rest tail) (All-cons (IsTight g) x rest (All-head (IsTight g) x (t ∷ rest) b.tight) (All-tail (IsTight g) t rest tail));
-  each = λ e w. settle (q (first_end g e) + q (second_end g e)) (s + s) (bit (parts x (first_end g e) (second_end g e))) (bit (parts t (first_end g e) (second_end g e))) (apart rest (first_end g e) (second_end g e)) (b.each e w);
+  each = λ e w. omega arith;
 }
-  where
-    settle : (l s2 a b r : ℕ) → l ≡ s2 + (a + (b + r)) → l ≡ s2 + (b + (a + r))
-    settle l s2 a b r h = omega arith
 
 pub spread_same : (n : ℕ) (xs ys : List Set) → ((u v : ℕ) → apart xs u v ≡ apart ys u v) → spread n xs ≡ spread n ys
 spread_same n xs ys h = total_congr n _ _ (λ u w. total_congr n _ _ (λ v z. h u v))
@@ -97,14 +67,11 @@ spread_falls n x t rest a b wa wb xa ta xb tb =
     (falls (bit (parts x a b)) (bit (parts t a b)) (bit (parts (meet x t) a b)) (bit (parts (union x t) a b)) (bit ((minus x t a && minus t x b) || (minus t x a && minus x t b))) (apart rest a b)
     (parts_uncrossed x t a b) (crosses (x a) (t a) (x b) (t b) xa ta xb tb)))
   where
-    at_most : (a b c d z r : ℕ) → a + b ≡ c + d + 2 * z → c + (d + r) ≤ a + (b + r)
-    at_most a b c d z r h = omega arith
-
     falls : (a b c d z r : ℕ) → a + b ≡ c + d + 2 * z → z ≡ 1 → c + (d + r) < a + (b + r)
     falls a b c d z r h i = omega arith
 
     rises : (u v : ℕ) → apart (meet x t ∷ union x t ∷ rest) u v ≤ apart (x ∷ t ∷ rest) u v
-    rises u v = at_most (bit (parts x u v)) (bit (parts t u v)) (bit (parts (meet x t) u v)) (bit (parts (union x t) u v)) (bit ((minus x t u && minus t x v) || (minus t x u && minus x t v))) (apart rest u v) (parts_uncrossed x t u v)
+    rises u v = grind arith
 
     crosses : (p q r s : Bool) → p ≡ true → q ≡ false → r ≡ false → s ≡ true → bit (((p && not q) && (s && not r)) || ((q && not p) && (r && not s))) ≡ 1
     crosses p q r s i j k l = rw (i, j, k, l) refl

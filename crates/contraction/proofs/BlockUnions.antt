@@ -44,16 +44,7 @@ module _ (n : ℕ) (p : List (List ℕ)) (s : List ℕ) (is : AreBlocks n p) whe
 
   -- and a union of blocks passes
   pub test-from_union : IsUnion n p (mem s) → list_all (in_or_apart s) p ≡ true
-  test-from_union union = has-all (in_or_apart s) p (λ c k. each c k (is_subset c s) refl)
-    where
-      within_block : (c : List ℕ) → Has p c → (v : ℕ) → mem c v ≡ true → mem s v ≡ is_subset c s
-      within_block c k v m =
-          let r = has_block p c k in
-          sym (in_union n p (mem s) is union r.0 v r.1 (ap (λ b. mem b v) r.2 ∙ m)) ∙ ap (λ b. all_in b (mem s)) r.2
-
-      each : (c : List ℕ) → Has p c → (t : Bool) → is_subset c s ≡ t → in_or_apart s c ≡ true
-      each c k true e = or_left (is_subset c s) (is_apart c s) e
-      each c k false e = or_right (is_subset c s) (is_apart c s) (true_all_in c (λ v. not (mem s v)) (λ v m. ap not (within_block c k v m ∙ e)))
+  test-from_union union = grind (arith, has-all (in_or_apart s) p, has_block p, in_union n p (mem s) is union, or_left, or_right, true_all_in)
 
   -- a block is in a union of blocks where its name is
   pub subset-name : IsUnion n p (mem s) → (c : List ℕ) → Has p c → is_subset c s ≡ mem s (last_of c)

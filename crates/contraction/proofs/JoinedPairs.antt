@@ -1,7 +1,7 @@
 -- The pairs of vertices that edges join, in lexicographic order: the rows of later neighbours
 -- give them, none comes twice, and there are no more than edges. A pair goes to its least edge,
 -- and no other pair goes there.
-use Rattle.std.proofs.Common.{◌≡◌, ℕ, ◌+◌, ◌-◌, ◌*◌, ◌≤◌, ◌<◌, ◌==◌, Bool, true, false, cond, ◌&&◌, List, [], ◌∷◌, ◌++◌, length, refl, sym, ap, ap₂, ◌∙◌, arith, ◌⊎◌, inl, inr, filter, map, flat_map, nat_lt, get_or, eq-eqb, subst, suc, zero}
+use Rattle.std.proofs.Common.{◌≡◌, ℕ, ◌+◌, ◌-◌, ◌*◌, ◌≤◌, ◌<◌, ◌==◌, Bool, true, false, cond, ◌&&◌, List, [], ◌∷◌, ◌++◌, length, refl, sym, ap, ap₂, ◌∙◌, arith, ◌⊎◌, inl, inr, filter, map, flat_map, nat_lt, get_or, eq-eqb, suc, zero}
 use Rattle.counting.proofs.Common.{list_any, both_ways, cases_lt, cases_order, and_parts, or_left, or_right, false_from_ne_true, nat_tests, map-append, Rises, mem_low, rises-from_set, rising_only, HasPair, at_pair, pair_filter, rows_only, map_pair, mem-outside, mem-rising_list, rising_list-mem, rising_list-rises, same_rising_list, set-wider, least_of, least_of_is, some_true, total_le, Within, bit, total, IsRisingIn, item, mem, pair_with, rising_list, rising_pairs, Set, everything, some}
 use Rattle.std.proofs.lemmas.List.Elements.{filter-append}
 use Rattle.graph_core.proofs.Common.{image, total_image, some-graph_of, has_ends-cases, Graph, IsGraph, first_end, has_ends, second_end, size, IsWithinLimits, are_ends, graph_of}
@@ -22,27 +22,16 @@ row-filter : (n a : ℕ) (t : ℕ → ℕ → Bool) (s : Set) → ((j : ℕ) →
 row-filter zero a t s h = refl
 row-filter (suc n) a t s h =
     map-append (pair_with a) (rising_list n s) (cond (s (suc n)) (suc n ∷ []) [])
-    ∙ ap₂ ◌++◌ (row-filter n a t s h) (ap (λ b. map (pair_with a) (cond b (suc n ∷ []) [])) (h (suc n)) ∙ last (nat_lt a (suc n)))
+    ∙ ap₂ ◌++◌ (row-filter n a t s h) (ap (λ b. map (pair_with a) (cond b (suc n ∷ []) [])) (h (suc n)) ∙ (grind arith))
     ∙ sym (filter-append (λ k. t k.0 k.1) (map (pair_with a) (rising_list n (nat_lt a))) (map (pair_with a) (cond (nat_lt a (suc n)) (suc n ∷ []) [])))
     ∙ ap (filter (λ k. t k.0 k.1)) (sym (map-append (pair_with a) (rising_list n (nat_lt a)) (cond (nat_lt a (suc n)) (suc n ∷ []) [])))
-  where
-    last : (b : Bool) → map (pair_with a) (cond (b && t a (suc n)) (suc n ∷ []) []) ≡ filter (λ k. t k.0 k.1) (map (pair_with a) (cond b (suc n ∷ []) []))
-    last false = refl
-    last true = hit (t a (suc n))
-      where
-        hit : (c : Bool) → map (pair_with a) (cond c (suc n ∷ []) []) ≡ cond c ((a, suc n) ∷ []) []
-        hit true = refl
-        hit false = refl
 
 -- a set of numbers 1 to n is listed by 1 to n
 rising-narrower : (n m : ℕ) (s : Set) → n ≤ m → ((j : ℕ) → (Within n j → ⊥) → s j ≡ false) → rising_list m s ≡ rising_list n s
 rising-narrower n m s l h = same_rising_list m (rising_list m s) (rising_list n s) (rising_list-rises m s) (set-wider n m (rising_list n s) l (rising_list-rises n s)) each
   where
     each : (v : ℕ) → Within m v → mem (rising_list m s) v ≡ mem (rising_list n s) v
-    each v w = mem-rising_list m s v w ∙ elim (cases_lt n v) [
-      | inr le ↦ sym (mem-rising_list n s v (omega arith))
-      | inl lt ↦ h v (λ i. absurd (omega arith)) ∙ sym (mem-outside n (rising_list n s) (rising_list-rises n s) v (λ i. absurd (omega arith)))
-    ]
+    each v w = grind (arith, mem-rising_list m s v w, cases_lt n v, mem-rising_list n s v, mem-outside n (rising_list n s) (rising_list-rises n s) v, rising_list-rises n s)
 
 -- some edge joins a and b
 abbrev adj : Graph → ℕ → ℕ → Bool
@@ -64,12 +53,7 @@ rows-joined n m ends rows is few len rise later =
         test j = later a j w ∙ ap (λ b. nat_lt a j && b) (sym (some-graph_of n ends a j))
 
         outside : (j : ℕ) → (Within n j → ⊥) → mem (item rows a) j ≡ false
-        outside j out = false_from_ne_true (mem (item rows a) j) (λ t.
-            let q = some_true (size (graph_of n ends)) (has_ends (graph_of n ends) a j) (and_parts (nat_lt a j) (adj (graph_of n ends) a j) (sym (test j) ∙ t)).1 in
-            elim (has_ends-cases (graph_of n ends) a j q.0 q.2) [
-              | inl e ↦ out (subst (Within n) e.1 (is q.0 q.1).1)
-              | inr e ↦ out (subst (Within n) e.0 (is q.0 q.1).0)
-            ])
+        outside j out = grind (arith, false_from_ne_true, some_true, and_parts, nat_lt, test, has_ends-cases)
 
 -- no pair comes twice
 once-append : (xs ys : List (ℕ × ℕ)) → Once xs → Once ys → ((a b : ℕ) → HasPair xs a b → HasPair ys a b → ⊥) → Once (xs ++ ys)
@@ -100,8 +84,7 @@ once-filter t [] o = tt
 once-filter t (k ∷ ks) o = go (t k.0 k.1) (once-filter t ks o.1)
   where
     go : (b : Bool) → Once (filter (λ k. t k.0 k.1) ks) → Once (cond b (k ∷ filter (λ k. t k.0 k.1) ks) (filter (λ k. t k.0 k.1) ks))
-    go true ih = (λ h. o.0 (pair_filter t ks k.0 k.1 h).0, ih)
-    go false ih = ih
+    go b ih = grind (arith, pair_filter t ks k.0 k.1)
 
 pub joined-once : (g : Graph) → EachOnce (joined_pairs g)
 unfolding joined_pairs
@@ -115,10 +98,7 @@ joined-at g i l =
     let k = get_or (joined_pairs g) i (0, 0) in
     let h = pair_filter (λ a b. some (size g) (has_ends g a b)) (rising_pairs g.order) k.0 k.1 (at_pair (joined_pairs g) i l) in
     let r = rows_only g.order k.0 k.1 (rising_list g.order everything) h.0 in
-    ((rising_only g.order everything k.0 r.0).0, r.1, lower k.0 k.1 r.2, h.1)
-  where
-    lower : (a b : ℕ) → nat_lt a b ≡ true → a < b
-    lower a b h = grind (arith, nat_tests, h)
+    ((rising_only g.order everything k.0 r.0).0, r.1, grind (arith, nat_tests, h), h.1)
 
 -- the least edge that joins pair i, counted from 1
 abbrev pick : Graph → ℕ → ℕ
@@ -129,25 +109,18 @@ pub joined-few : (g : Graph) → length (joined_pairs g) ≤ size g
 unfolding image
 joined-few g =
     let all = total_image (length (joined_pairs g)) (size g) everything (pick g) (λ i. 1) (λ i w h. (least g i w).0) (λ d e wd we hd he q. apart d e wd we q) in
-    let less : total (size g) (λ i. bit (some (length (joined_pairs g)) (λ e. true && (pick g e == i))) * 1) ≤ total (size g) (λ i. 1) = total_le (size g) _ _ (λ i w. below (some (length (joined_pairs g)) (λ e. true && (pick g e == i)))) in
+    let less : total (size g) (λ i. bit (some (length (joined_pairs g)) (λ e. true && (pick g e == i))) * 1) ≤ total (size g) (λ i. 1) = total_le (size g) _ _ (λ i w. grind arith) in
     let a = ones (length (joined_pairs g)) in let b = ones (size g) in omega arith
   where
     ones : (k : ℕ) → total k (λ i. 1) ≡ k
     ones zero = refl
     ones (suc k) = let h = ones k in omega arith
 
-    below : (b : Bool) → bit b * 1 ≤ 1
-    below true = omega arith
-    below false = omega arith
-
     least : (g : Graph) (i : ℕ) → Within (length (joined_pairs g)) i → Within (size g) (pick g i) × (has_ends g (get_or (joined_pairs g) (i - 1) (0, 0)).0 (get_or (joined_pairs g) (i - 1) (0, 0)).1 (pick g i) ≡ true)
     least g i w = least_of_is (size g) (has_ends g (get_or (joined_pairs g) (i - 1) (0, 0)).0 (get_or (joined_pairs g) (i - 1) (0, 0)).1) (joined-at g (i - 1) (omega arith)).3
 
     same_pair : (a b c d x y : ℕ) → a < b → c < d → ((x ≡ a) × (y ≡ b)) ⊎ ((x ≡ b) × (y ≡ a)) → ((x ≡ c) × (y ≡ d)) ⊎ ((x ≡ d) × (y ≡ c)) → (a ≡ c) × (b ≡ d)
-    same_pair a b c d x y l m (inl p) (inl q) = (sym p.0 ∙ q.0, sym p.1 ∙ q.1)
-    same_pair a b c d x y l m (inl p) (inr q) = let e = sym p.0 ∙ q.0 in let f = sym p.1 ∙ q.1 in absurd (omega arith)
-    same_pair a b c d x y l m (inr p) (inl q) = let e = sym p.0 ∙ q.0 in let f = sym p.1 ∙ q.1 in absurd (omega arith)
-    same_pair a b c d x y l m (inr p) (inr q) = (sym p.1 ∙ q.1, sym p.0 ∙ q.0)
+    same_pair a b c d x y l m h k = grind arith
 
     pairs : (d e : ℕ) → Within (length (joined_pairs g)) d → Within (length (joined_pairs g)) e → pick g d ≡ pick g e → get_or (joined_pairs g) (d - 1) (0, 0) ≡ get_or (joined_pairs g) (e - 1) (0, 0)
     pairs d e wd we q =
@@ -170,11 +143,4 @@ joined-few g =
 
 -- so they are the edges of a multigraph within the limits
 pub joined-limits : (g : Graph) → g.order ≤ 128 → size g ≤ 2048 → IsWithinLimits (record { order = g.order; ends = joined_pairs g })
-joined-limits g few edges = record {
-  vertices = few;
-  edges = let l = joined-few g in omega arith;
-  multigraph = record {
-    ends = λ e w. let j = joined-at g (e - 1) (omega arith) in (j.0, j.1);
-    no_loop = λ e w s. let l = (joined-at g (e - 1) (omega arith)).2 in omega arith;
-  };
-}
+joined-limits g few edges = grind (arith, joined-few g, joined-at g)

@@ -1,7 +1,7 @@
 -- Each edge of the quotient has a least remembered edge, and the places that are marked row by
 -- row are the lifted matching. A list of rows is gone through one row at a time; a row is found
 -- by its edge.
-use Rattle.std.proofs.Common.{◌≡◌, ℕ, ◌+◌, ◌<◌, Bool, true, false, ◌&&◌, ◌||◌, ◌==◌, List, [], ◌∷◌, length, map, take, get_or, refl, sym, ap, ◌∙◌, inl, inr, subst, eq-eqb, eqb-true, All, Some, slice_get, slice_index}
+use Rattle.std.proofs.Common.{◌≡◌, ℕ, ◌+◌, ◌<◌, Bool, true, false, ◌&&◌, ◌||◌, ◌==◌, List, [], ◌∷◌, length, map, take, get_or, refl, ap, ◌∙◌, inl, inr, eq-eqb, eqb-true, All, Some, slice_get, slice_index, arith}
 use Rattle.counting.proofs.Common.{list_any, and_from, and_parts, both_ways, or_cases, or_right, or_left, take_more, All-head, All-tail, list_any-append, get_or_from_slice_get, rising_list-congr, some_congr, some_true, true_some, or_false, same_tests, Within, item, mem, rising_list, Set, some}
 use Rattle.std.proofs.lemmas.Option.{slice_get_within}
 use Rattle.graph_core.proofs.Common.{Graph, size, lifted, quotient, remembered, AreBlocks}
@@ -14,19 +14,14 @@ use Rattle.contraction.specs.LeastEdges.{least_at}
 
 -- the list of remembered edges is not empty
 pub some-least : (q : ContractedValue) (k : ℕ) → KeepsContraction q → Within (size q.graph) k → 0 < length (item q.edges k)
-some-least q k keeps w =
-    let is = ap (λ (r : ContractedValue). size r.graph) keeps.is in
-    subst (λ (es : List ℕ). 0 < length es) (sym (item-remembered keeps.base q.blocks q k keeps.is w)) (remembered-some keeps.base q.blocks keeps.limits.multigraph.ends keeps.partition.partition k (subst (λ n. Within n k) is w))
+some-least q k keeps w = grind (arith, item-remembered keeps.base q.blocks q k keeps.is w, remembered-some keeps.base q.blocks keeps.limits.multigraph.ends keeps.partition.partition k)
 
 pub least-is : (g : Graph) (p : List (List ℕ)) (q : ContractedValue) (k : ℕ) → q ≡ contraction g p → Within (size q.graph) k → least_at q k ≡ slice_index (remembered g p k) 0
 least-is g p q k is w = ap (λ (es : List ℕ). slice_index es 0) (item-remembered g p q k is w)
 
 -- the least remembered edge is an edge of the graph
 pub least-within : (q : ContractedValue) (k : ℕ) → KeepsContraction q → Within (size q.graph) k → Within q.size (least_at q k)
-least-within q k keeps w =
-    let is = ap (λ (r : ContractedValue). size r.graph) keeps.is in
-    let l = least-remembered keeps.base q.blocks keeps.limits.multigraph.ends keeps.partition.partition k (subst (λ n. Within n k) is w) in
-    subst (λ n. Within n (least_at q k)) (sym (ap (λ (r : ContractedValue). r.size) keeps.is)) (subst (Within (size keeps.base)) (sym (least-is keeps.base q.blocks q k keeps.is w)) l.0)
+least-within q k keeps w = grind (arith, least-remembered keeps.base q.blocks keeps.limits.multigraph.ends keeps.partition.partition k, least-is keeps.base q.blocks q k keeps.is w)
 
 -- one row more
 pub any-more : (t : MatchRow → Bool) (rows : List MatchRow) (i : ℕ) (row : MatchRow) → slice_get rows i ≡ Some row → list_any t (take (i + 1) rows) ≡ (list_any t (take i rows) || t row)
@@ -73,6 +68,4 @@ marked-lifted g p q rows marked is all each =
 
 -- the blocks of a quotient's value are a partition of the graph that it is of
 pub blocks-of : (g : Graph) (p : List (List ℕ)) (q : ContractedValue) → KeepsContraction q → q ≡ contraction g p → AreBlocks g.order p
-blocks-of g p q keeps is =
-    let orders = sym (ap (λ (r : ContractedValue). r.order) keeps.is) ∙ ap (λ (r : ContractedValue). r.order) is in
-    subst (AreBlocks g.order) (ap (λ (r : ContractedValue). r.blocks) is) (subst (λ n. AreBlocks n q.blocks) orders keeps.partition.partition)
+blocks-of g p q keeps is = grind arith

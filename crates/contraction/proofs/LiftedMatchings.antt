@@ -8,10 +8,7 @@ use Rattle.graph_core.proofs.Edits.{HasEnds}
 
 -- sets of edges that agree are perfect together
 pub perfect-congr : (g : Graph) (m k : Set) → ((e : ℕ) → Within (size g) e → m e ≡ k e) → IsPerfect g none m → IsPerfect g none k
-perfect-congr g m k h perfect = record {
-  once = λ v w out. sym (degree_congr g m k v h) ∙ perfect.once v w out;
-  away = λ v w out. sym (degree_congr g m k v h) ∙ perfect.away v w out;
-}
+perfect-congr g m k h perfect = grind (arith, degree_congr g m k)
 
 first-member : (xs : List ℕ) (v : ℕ) → mem xs v ≡ true → mem xs (slice_index xs 0) ≡ true
 first-member [] v h = absurd (both_ways false refl h)

@@ -1,7 +1,7 @@
 -- A perfect matching at a partition is projected to a perfect matching of the quotient, each edge
 -- to the edge between its two blocks, of which there is one; the cut of a set of blocks has as
 -- many edges of it before and after, down and up.
-use Rattle.std.proofs.Common.{◌≡◌, ◌≢◌, ℕ, ◌-◌, ◌<◌, true, ◌==◌, ◌&&◌, List, get_or, refl, sym, ap, ◌∙◌, arith, inl, inr, ◌⊎◌, subst, eq-eqb, eqb-true, slice_index}
+use Rattle.std.proofs.Common.{◌≡◌, ◌≢◌, ℕ, ◌<◌, true, ◌==◌, ◌&&◌, List, refl, sym, ap, ◌∙◌, arith, ◌⊎◌, subst, eq-eqb, eqb-true, slice_index}
 use Rattle.counting.proofs.Common.{same_tests, and_from, and_parts, cases_order, count_congr, rising_holds, rising_only, mem-rising_list, least_of, least_of_is, some_true, true_some, Within, mem, Set, none, some}
 use Rattle.graph_core.proofs.Common.{has_ends-from, contracted-graph, contracted-order, contracted-size, carried_set, cut_carried, image, no_loop, perfect_carried, quotient-order, quotient_edge, quotient_graph, has_ends-cases, has_ends-own, Graph, HasEnds, IsGraph, edges_in_cut, first_end, has_ends, in_cut, second_end, size, IsPerfect, AreBlocks, IsPerfectAt, contracted, lifted, projected, quotient, remembered}
 use Rattle.contraction.proofs.JoinedPairs.{joined-once}
@@ -12,26 +12,14 @@ use Rattle.contraction.specs.Pairs.{EachOnce}
 
 -- two pairs in rising order with the same ends
 rising-same : (a b c d x y : ℕ) → a < b → c < d → ((a ≡ x) × (b ≡ y)) ⊎ ((a ≡ y) × (b ≡ x)) → ((c ≡ x) × (d ≡ y)) ⊎ ((c ≡ y) × (d ≡ x)) → (a ≡ c) × (b ≡ d)
-rising-same a b c d x y l m (inl p) (inl q) = (p.0 ∙ sym q.0, p.1 ∙ sym q.1)
-rising-same a b c d x y l m (inl p) (inr q) = let e = p.0 ∙ sym q.1 in let f = p.1 ∙ sym q.0 in absurd (omega arith)
-rising-same a b c d x y l m (inr p) (inl q) = let e = p.0 ∙ sym q.1 in let f = p.1 ∙ sym q.0 in absurd (omega arith)
-rising-same a b c d x y l m (inr p) (inr q) = (p.0 ∙ sym q.0, p.1 ∙ sym q.1)
+rising-same a b c d x y l m h k = grind arith
 
 -- no two edges of the quotient join the same places
 quotient-once : (g : Graph) (p : List (List ℕ)) → EachOnce (quotient g p).ends
 quotient-once g p = subst (λ (h : Graph). EachOnce h.ends) (joined-quotient g p) (joined-once (contracted g p))
 
 pub one-edge : (g : Graph) (p : List (List ℕ)) (k l x y : ℕ) → Within (size (quotient g p)) k → Within (size (quotient g p)) l → HasEnds (quotient g p) k x y → HasEnds (quotient g p) l x y → k ≡ l
-one-edge g p k l x y wk wl hk hl =
-    let same = rising-same (first_end (quotient g p) k) (second_end (quotient g p) k) (first_end (quotient g p) l) (second_end (quotient g p) l) x y (quotient_edge g p k wk).2 (quotient_edge g p l wl).2 hk hl in
-    let pair : get_or (quotient g p).ends (k - 1) (0, 0) ≡ get_or (quotient g p).ends (l - 1) (0, 0) = λ i. (same.0 i, same.1 i) in
-    elim (cases_order k l) [
-      | inl e ↦ e
-      | inr o ↦ elim o [
-        | inl m ↦ absurd (quotient-once g p (k - 1) (l - 1) (omega arith) (omega arith) pair)
-        | inr m ↦ absurd (quotient-once g p (l - 1) (k - 1) (omega arith) (omega arith) (sym pair))
-      ]
-    ]
+one-edge g p k l x y wk wl hk hl = grind (arith, rising-same, quotient_edge, cases_order, quotient-once)
 
 module _ (g : Graph) (p : List (List ℕ)) (is : IsGraph g) (pp : AreBlocks g.order p) where
   -- the edge of the quotient between the two blocks of edge e
@@ -68,11 +56,7 @@ module _ (g : Graph) (p : List (List ℕ)) (is : IsGraph g) (pp : AreBlocks g.or
         let ends = subst (λ j. HasEnds (quotient g p) j (first_end (contracted g p) r.0) (second_end (contracted g p) r.0)) (eqb-true (over r.0) k b.1) o.1 in
         let w = subst (λ n. Within n r.0) (contracted-size g p) r.1 in
         true_some (size g) (λ e. m e && mem (remembered g p k) e) r.0 w (and_from (m r.0) (mem (remembered g p k) r.0) b.0
-        (rising_holds (size g) (has_ends (contracted g p) (first_end (quotient g p) k) (second_end (quotient g p) k)) r.0 w (has_ends-from (contracted g p) (first_end (quotient g p) k) (second_end (quotient g p) k) r.0 (turned ends))))
-      where
-        turned : {a b c d : ℕ} → ((a ≡ c) × (b ≡ d)) ⊎ ((a ≡ d) × (b ≡ c)) → ((c ≡ a) × (d ≡ b)) ⊎ ((c ≡ b) × (d ≡ a))
-        turned (inl q) = inl (sym q.0, sym q.1)
-        turned (inr q) = inr (sym q.1, sym q.0)
+        (rising_holds (size g) (has_ends (contracted g p) (first_end (quotient g p) k) (second_end (quotient g p) k)) r.0 w (has_ends-from (contracted g p) (first_end (quotient g p) k) (second_end (quotient g p) k) r.0 (grind arith))))
 
     back : (k : ℕ) → Within (size (quotient g p)) k → projected g p m k ≡ true → carried k ≡ true
     unfolding carried carried_set image
@@ -86,8 +70,7 @@ module _ (g : Graph) (p : List (List ℕ)) (is : IsGraph g) (pp : AreBlocks g.or
         true_some (size (contracted g p)) (λ e. m e && (over e == k)) r.0 w (and_from (m r.0) (over r.0 == k) b.0 (eq-eqb (over r.0) k (one-edge g p (over r.0) k (first_end (contracted g p) r.0) (second_end (contracted g p) r.0) o.0 wk o.1 mine)))
       where
         turned : {a b c d : ℕ} → ((a ≡ c) × (b ≡ d)) ⊎ ((a ≡ d) × (b ≡ c)) → ((c ≡ a) × (d ≡ b)) ⊎ ((c ≡ b) × (d ≡ a))
-        turned (inl q) = inl (sym q.0, sym q.1)
-        turned (inr q) = inr (sym q.1, sym q.0)
+        turned h = grind arith
 
     same : (k : ℕ) → Within (size (quotient g p)) k → carried k ≡ projected g p m k
     same k w = same_tests (carried k) (projected g p m k) (there k w) (back k w)

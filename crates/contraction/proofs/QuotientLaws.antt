@@ -1,8 +1,8 @@
 -- The quotient and the contracted graph have the same adjacent pairs, so both are matching
 -- covered or neither is, and a union of blocks is tight in the one where it is in the other.
-use Rattle.std.proofs.Common.{◌≡◌, ℕ, ◌<◌, ◌≢◌, true, not, ◌==◌, List, length, refl, sym, ap, ◌∙◌, arith, inl, inr, subst, ne_eqb}
+use Rattle.std.proofs.Common.{◌≡◌, ℕ, ◌<◌, ◌≢◌, true, not, ◌==◌, List, length, sym, ap, ◌∙◌, arith, inl, inr, ne_eqb}
 use Rattle.counting.proofs.Common.{and_parts, and_from, cases_order, some_true, true_some, same_tests, Within, Set, some}
-use Rattle.graph_core.proofs.Common.{Alike, covered_over, has_ends-from, contracted-graph, contracted-order, contracted-size, edge_of_pair, quotient-order, quotient_edge, quotient_graph, has_ends-back, has_ends-cases, IsCovered, Graph, IsGraph, first_end, has_ends, second_end, size, AreBlocks, contracted, quotient, IsTightAt, IsUnion, blocks_in, IsTight}
+use Rattle.graph_core.proofs.Common.{Alike, covered_over, has_ends-from, contracted-graph, contracted-order, contracted-size, edge_of_pair, quotient-order, quotient_edge, quotient_graph, has_ends-back, IsCovered, Graph, IsGraph, first_end, has_ends, second_end, size, AreBlocks, contracted, quotient, IsTightAt, IsUnion, blocks_in, IsTight}
 use Rattle.graph_core.proofs.QuotientTight.{tight_down, tight_up}
 
 module _ (g : Graph) (p : List (List ℕ)) (is : IsGraph g) (pp : AreBlocks g.order p) where
@@ -19,10 +19,7 @@ module _ (g : Graph) (p : List (List ℕ)) (is : IsGraph g) (pp : AreBlocks g.or
       let q = quotient_edge g p r.0 r.1 in
       let s = ap (λ k. some k (has_ends (contracted g p) (first_end (quotient g p) r.0) (second_end (quotient g p) r.0))) (contracted-size g p) ∙ (and_parts (not (first_end (quotient g p) r.0 == second_end (quotient g p) r.0)) (some (size g) (has_ends (contracted g p) (first_end (quotient g p) r.0) (second_end (quotient g p) r.0))) q.3).1 in
       let e = some_true (size (contracted g p)) (has_ends (contracted g p) (first_end (quotient g p) r.0) (second_end (quotient g p) r.0)) s in
-      elim (has_ends-cases (quotient g p) a b r.0 r.2) [
-        | inl k ↦ true_some (size (contracted g p)) (has_ends (contracted g p) a b) e.0 e.1 (ap (λ x. has_ends (contracted g p) x b e.0) (sym k.0) ∙ ap (λ y. has_ends (contracted g p) (first_end (quotient g p) r.0) y e.0) (sym k.1) ∙ e.2)
-        | inr k ↦ true_some (size (contracted g p)) (has_ends (contracted g p) a b) e.0 e.1 (has_ends-back (contracted g p) b a e.0 (ap (λ x. has_ends (contracted g p) x a e.0) (sym k.0) ∙ ap (λ y. has_ends (contracted g p) (first_end (quotient g p) r.0) y e.0) (sym k.1) ∙ e.2))
-      ]
+      grind arith
 
   turned : (h : Graph) (a b : ℕ) → some (size h) (has_ends h a b) ≡ true → some (size h) (has_ends h b a) ≡ true
   turned h a b t = let r = some_true (size h) (has_ends h a b) t in true_some (size h) (has_ends h b a) r.0 r.1 (has_ends-back h a b r.0 r.2)
@@ -37,22 +34,10 @@ module _ (g : Graph) (p : List (List ℕ)) (is : IsGraph g) (pp : AreBlocks g.or
       ]
 
   alike_q : Alike (contracted g p) (quotient g p) (λ v. v)
-  alike_q = record {
-    order = quotient-order g p ∙ sym (contracted-order g p);
-    within = λ v w. subst (λ n. Within n v) (contracted-order g p ∙ sym (quotient-order g p)) w;
-    apart = λ u v wu wv e. e;
-    onto = λ w ww. (w, subst (λ n. Within n w) (quotient-order g p ∙ sym (contracted-order g p)) ww, refl);
-    edges = λ u v wu wv d. same_pairs u v (subst (λ n. Within n u) (contracted-order g p) wu) (subst (λ n. Within n v) (contracted-order g p) wv) d;
-  }
+  alike_q = grind (arith, quotient-order g p, contracted-order g p, same_pairs)
 
   alike_c : Alike (quotient g p) (contracted g p) (λ v. v)
-  alike_c = record {
-    order = contracted-order g p ∙ sym (quotient-order g p);
-    within = λ v w. subst (λ n. Within n v) (quotient-order g p ∙ sym (contracted-order g p)) w;
-    apart = λ u v wu wv e. e;
-    onto = λ w ww. (w, subst (λ n. Within n w) (contracted-order g p ∙ sym (quotient-order g p)) ww, refl);
-    edges = λ u v wu wv d. sym (same_pairs u v (subst (λ n. Within n u) (quotient-order g p) wu) (subst (λ n. Within n v) (quotient-order g p) wv) d);
-  }
+  alike_c = grind (arith, contracted-order g p, quotient-order g p, same_pairs)
 
   pub covered_up : IsCovered (contracted g p) → IsCovered (quotient g p)
   covered_up cov = covered_over (contracted g p) (quotient g p) (λ v. v) (contracted-graph g p is pp) alike_q (quotient_graph g p is pp) cov

@@ -1,7 +1,7 @@
 -- The edges of the quotient as the code finds them: each edge of the graph goes to the places of
 -- its ends, each place has a row of later neighbours, and the rows in order give the adjacent
 -- pairs in lexicographic order, each once.
-use Rattle.std.proofs.Common.{◌≡◌, ◌≢◌, ℕ, ◌+◌, ◌<◌, cond, List, [], ◌∷◌, ◌++◌, length, sym, ap, ap₂, ◌∙◌, arith, map, get_or, suc}
+use Rattle.std.proofs.Common.{◌≡◌, ◌≢◌, ℕ, ◌+◌, ◌<◌, cond, List, [], ◌∷◌, ◌++◌, length, sym, ap, ◌∙◌, arith, map, get_or}
 use Rattle.std.proofs.lemmas.Simd.{map-map}
 use Rattle.counting.proofs.Common.{rising_list}
 use Rattle.graph_core.proofs.Common.{has_ends-graph_of, pair-graph_of, size-graph_of, HasNoLoop, has_ends, contracted, place, are_ends, graph_of, pair_of}
@@ -14,13 +14,8 @@ ends-contracted n p edges ends h = ap (λ (ks : List (ℕ × ℕ)). record { ord
 
 -- the next edge goes after those before it where it has the two ends
 pub edges-more : (es : List Ends) (a b k : ℕ) (before after : List ℕ) (d : Ends) → k < length es → before ≡ rising_list k (has_ends (graph_of 0 es) a b) → after ≡ before ++ cond (are_ends a b (get_or es k d)) ((k + 1) ∷ []) [] → after ≡ rising_list (k + 1) (has_ends (graph_of 0 es) a b)
-edges-more es a b k before after d l old new =
-    let e : suc k ≡ k + 1 = omega arith in
-    let h = has_ends-graph_of 0 es a b k d l in
-    new ∙ ap₂ (λ xs t. xs ++ cond t ((k + 1) ∷ []) []) old (sym h) ∙ ap (λ j. rising_list k (has_ends (graph_of 0 es) a b) ++ cond (has_ends (graph_of 0 es) a b (suc k)) (j ∷ []) []) (sym e) ∙ ap (λ j. rising_list j (has_ends (graph_of 0 es) a b)) e
+edges-more es a b k before after d l old new = grind (arith, has_ends-graph_of 0 es a b k d l)
 
 -- the ends of an item differ
 pub ends_differ : (n : ℕ) (es : List Ends) (i : ℕ) (d : Ends) → HasNoLoop (graph_of n es) → i < length es → (get_or es i d).a ≢ (get_or es i d).b
-ends_differ n es i d no_loop l e =
-    let p = pair-graph_of n es i d l in
-    no_loop (suc i) (let s = size-graph_of n es in omega arith) (p.0 ∙ e ∙ sym p.1)
+ends_differ n es i d no_loop l e = grind (arith, pair-graph_of n es i d l, size-graph_of n es)

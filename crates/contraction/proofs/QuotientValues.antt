@@ -3,7 +3,7 @@
 -- different blocks.
 use Rattle.std.proofs.Common.{◌≡◌, ℕ, ◌≤◌, ◌==◌, Bool, true, false, not, cond, ◌&&◌, List, [], ◌∷◌, length, refl, sym, ap, ap₂, ◌∙◌, arith, inl, inr, filter, map, nat_lt, subst}
 use Rattle.counting.proofs.Common.{nat_tests, HasPair, rows_only, rising_list, rising_pairs, everything, some}
-use Rattle.graph_core.proofs.Common.{contracted-graph, contracted-size, size-graph_of, Graph, IsGraph, has_ends, size, AreBlocks, contracted, blocks_adjacent, edges_between, quotient, IsWithinLimits, graph_of, pair_of}
+use Rattle.graph_core.proofs.Common.{contracted-graph, contracted-size, size-graph_of, Graph, IsGraph, has_ends, size, AreBlocks, contracted, blocks_adjacent, quotient, IsWithinLimits, graph_of, pair_of}
 use Rattle.graph_core.specs.declared.ends.Ends.{Ends}
 use Rattle.contraction.proofs.BlockLists.{length-partition}
 use Rattle.contraction.proofs.JoinedPairs.{joined-limits, joined-once}
@@ -57,16 +57,7 @@ module _ (g : Graph) (p : List (List ℕ)) (n : ℕ) (ends : List Ends) (is : n 
 
     pub contraction-same : (q : ContractedValue) → q.order ≡ g.order → q.size ≡ size g → q.blocks ≡ p → q.graph ≡ graph_of n pairs →
         q.edges ≡ map (λ k. rising_list (length ends) (has_ends (graph_of 0 ends) k.0 k.1)) (map pair_of pairs) → q ≡ contraction g p
-    contraction-same q order edge_count blocks graph edges = λ i. record {
-      order = order i;
-      size = edge_count i;
-      blocks = blocks i;
-      graph = (graph ∙ pairs-quotient) i;
-      edges = (edges ∙ remembered) i;
-    }
-      where
-        remembered : map (λ k. rising_list (length ends) (has_ends (graph_of 0 ends) k.0 k.1)) (map pair_of pairs) ≡ map (λ k. edges_between g p k.0 k.1) (quotient g p).ends
-        remembered = ap₂ (λ m h. map (λ k. rising_list m (has_ends h k.0 k.1)) (map pair_of pairs)) length-ends here ∙ ap (λ h. map (λ k. edges_between g p k.0 k.1) h.ends) pairs-quotient
+    contraction-same q order edge_count blocks graph edges = grind (arith, pairs-quotient, length-ends)
 
 -- the ends that the code made are those of the contracted graph
 pub ends-at : (g : Graph) (p : PartitionValue) (edges made read : List Ends) → p.order ≡ g.order → graph_of g.order edges ≡ g → read ≡ made → graph_of (length p.blocks) made ≡ contracted (graph_of p.order edges) p.blocks → graph_of (length p.blocks) read ≡ contracted g p.blocks

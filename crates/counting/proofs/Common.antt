@@ -24,5 +24,5 @@ pub use Rattle.counting.proofs.Pairs.{HasPair, map_pair, append_pair, rows_hold,
 pub use Rattle.counting.proofs.Ranks.{count_up, member_ranked, rank_once}
 pub use Rattle.counting.proofs.RisingLists.{set-from_rises, rises-wider, rising_list-rises, mem-rising_list, mem-outside, same_rising_list, rising_list-mem, length-rising_list, rising_list-congr, first_is_least, rising-tail, above_first, mem-last_of, last_is_greatest, all_in_true, true_all_in, all_in_false, set-none, set-one, no_members, split_least, false_all_in, set-wider, mem-all, mem-item, list-from_test, set-narrower, set-part, first-least, last-greatest}
 pub use Rattle.counting.proofs.SetSizes.{count_mono, count_split, count_singleton, same_set-from_size, length-within}
-pub use Rattle.counting.proofs.Tests.{every_true, true_every, every_congr, some_true, true_some, some_none, least_true, scan, least_of, least_of_is, some_congr, least_of_congr, some_or, least-one, all_or_least}
+pub use Rattle.counting.proofs.Tests.{every_true, true_every, every_congr, some_true, true_some, some_none, least_true, scan, least_of, least_of_is, some_congr, some_or, least-one, all_or_least}
 pub use Rattle.counting.proofs.Totals.{total_congr, total_le, total_add, total_mul, total_zero, total_swap, total_none, total_at, at_le_total, two_le_total, some_term, total_tight, total-first, total_ones}

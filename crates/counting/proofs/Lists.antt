@@ -1,6 +1,6 @@
 -- Rising lists as sets: a rising list of numbers 1 to n has as many items as its test counts, and
 -- is fixed by its test. By induction on the list, with the least number that may still come.
-use Rattle.std.proofs.Common.{◌≡◌, ℕ, ◌+◌, ◌≤◌, ◌<◌, Bool, true, false, ◌==◌, ◌||◌, ◌&&◌, List, [], ◌∷◌, length, refl, sym, ap, ap₂, ◌∙◌, arith, ◌⊎◌, inl, inr, eq-eqb, ne_eqb, cond, subst, true≢false, suc, zero, ◌*◌, ◌++◌, eqb-true, sum_by, take, get_or, slice_index, slice_index_or, All}
+use Rattle.std.proofs.Common.{◌≡◌, ℕ, ◌+◌, ◌≤◌, ◌<◌, Bool, true, false, ◌==◌, ◌||◌, List, [], ◌∷◌, length, refl, sym, ap, ap₂, ◌∙◌, arith, ◌⊎◌, inl, inr, eq-eqb, ne_eqb, cond, subst, true≢false, suc, zero, ◌*◌, ◌++◌, eqb-true, sum_by, take, get_or, slice_index, slice_index_or, All}
 use Rattle.std.specs.List.Sorted.{IsStrictlyIncreasing}
 use Rattle.std.proofs.lemmas.Bool.{cases_eq, cases_order, both_ways, cases_lt, or_cases, or_right, or_left, cases_Bool}
 use Rattle.std.proofs.lemmas.List.{take_more}
@@ -16,10 +16,7 @@ Rises low n (x ∷ xs) = (low ≤ x) × (x ≤ n) × Rises (x + 1) n xs
 
 pub mem_low : (low n : ℕ) (xs : List ℕ) → Rises low n xs → (v : ℕ) → v < low → mem xs v ≡ false
 mem_low low n [] r v h = refl
-mem_low low n (x ∷ xs) r v h = let a = r.0 in let b = mem_low (x + 1) n xs r.2 v (omega arith) in both (x == v) (mem xs v) (ne_eqb x v (λ e. absurd (omega arith))) b
-  where
-    both : (s t : Bool) → s ≡ false → t ≡ false → (s || t) ≡ false
-    both s t p q = grind arith
+mem_low low n (x ∷ xs) r v h = let a = r.0 in let b = mem_low (x + 1) n xs r.2 v (omega arith) in grind arith
 
 pub count_mem : (low n : ℕ) (xs : List ℕ) → 1 ≤ low → Rises low n xs → count n (mem xs) ≡ length xs
 count_mem low n [] l r = total_zero n
@@ -39,10 +36,7 @@ count_mem low n (x ∷ xs) l r =
     apart true true (inl p) = absurd (both_ways true p refl)
     apart true true (inr p) = absurd (both_ways true p refl)
     apart true false p = refl
-    apart false t p = sym (zero_plus (bit t))
-      where
-        zero_plus : (k : ℕ) → 0 + k ≡ k
-        zero_plus k = omega arith
+    apart false t p = sym (omega arith)
 
 -- a rising list is fixed by its test
 pub same_list : (low n : ℕ) (xs ys : List ℕ) → Rises low n xs → Rises low n ys → ((v : ℕ) → mem xs v ≡ mem ys v) → xs ≡ ys
@@ -57,20 +51,14 @@ same_list low n (x ∷ xs) (y ∷ ys) r s h = ap₂ ◌∷◌ same_head (same_li
     same_head : x ≡ y
     same_head = elim (cases_order x y) [
       | inl e ↦ e
-      | inr d ↦ elim d [
-        | inl l ↦ absurd (both_ways (mem (y ∷ ys) x) (mem_low (x + 1) n (y ∷ ys) (omega arith, s.1, s.2) x (omega arith)) (sym (h x) ∙ own x xs))
-        | inr l ↦ absurd (both_ways (mem (x ∷ xs) y) (mem_low (y + 1) n (x ∷ xs) (omega arith, r.1, r.2) y (omega arith)) (h y ∙ own y ys))
-      ]
+      | inr d ↦ grind (arith, both_ways (mem (y ∷ ys) x), mem_low (x + 1) n (y ∷ ys), both_ways (mem (x ∷ xs) y), mem_low (y + 1) n (x ∷ xs))
     ]
 
     same_tail : (v : ℕ) → mem xs v ≡ mem ys v
     same_tail v = elim (cases_eq x v) [
       | inl e ↦ mem_low (x + 1) n xs r.2 v (omega arith) ∙ sym (mem_low (y + 1) n ys s.2 v (let k = same_head in omega arith))
-      | inr e ↦ let k = h v in let a = ne_eqb x v e in let b = ne_eqb y v (λ q. e (same_head ∙ q)) in drop_both (x == v) (y == v) (mem xs v) (mem ys v) a b k
+      | inr e ↦ let k = h v in let a = ne_eqb x v e in let b = ne_eqb y v (λ q. e (same_head ∙ q)) in grind arith
     ]
-      where
-        drop_both : (a b c d : Bool) → a ≡ false → b ≡ false → (a || c) ≡ (b || d) → c ≡ d
-        drop_both a b c d p q r = grind arith
 
 -- a sum over the members of a rising list is a sum over the list
 pub total_mem : (low n : ℕ) (f : ℕ → ℕ) (xs : List ℕ) → 1 ≤ low → Rises low n xs → total n (λ v. bit (mem xs v) * f v) ≡ sum_by f xs

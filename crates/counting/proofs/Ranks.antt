@@ -32,8 +32,5 @@ below_rank p a (suc b) l t = let x = count_up p a b (omega arith) in let y = ap 
 pub rank_once : (p : Set) (a b : ℕ) → p a ≡ true → p b ≡ true → count a p ≡ count b p → a ≡ b
 rank_once p a b pa pb q = elim (cases_order a b) [
   | inl e ↦ e
-  | inr d ↦ elim d [
-    | inl l ↦ let x = below_rank p a b l pb in absurd (omega arith)
-    | inr l ↦ let x = below_rank p b a l pa in absurd (omega arith)
-  ]
+  | inr d ↦ grind (arith, below_rank p a b, below_rank p b a)
 ]

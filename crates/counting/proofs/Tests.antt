@@ -76,11 +76,6 @@ pub some_congr : (n : ℕ) (p q : ℕ → Bool) → ((v : ℕ) → Within n v �
 some_congr zero p q h = refl
 some_congr (suc n) p q h = ap₂ ◌||◌ (some_congr n p q (λ v w. h v (omega arith))) (h (suc n) (omega arith))
 
-pub least_of_congr : (n : ℕ) (p q : ℕ → Bool) → ((v : ℕ) → Within n v → p v ≡ q v) → least_of n p ≡ least_of n q
-unfolding least_of
-least_of_congr zero p q h = refl
-least_of_congr (suc n) p q h = ap₂ (λ b k. cond b k (suc n)) (some_congr n p q (λ v w. h v (omega arith))) (least_of_congr n p q (λ v w. h v (omega arith)))
-
 -- some in one of two sets
 pub some_or : (n : ℕ) (p q : ℕ → Bool) → some n (λ v. p v || q v) ≡ (some n p || some n q)
 some_or zero p q = refl
@@ -96,10 +91,7 @@ some_or (suc n) p q = ap (λ k. k || (p (suc n) || q (suc n))) (some_or n p q) �
 pub least-one : (n : ℕ) (P : ℕ → Type 0) (d e : ℕ) → IsLeastWithout n P d → IsLeastWithout n P e → d ≡ e
 least-one n P d e a b = elim (cases_order d e) [
   | inl q ↦ q
-  | inr q ↦ elim q [
-    | inl l ↦ absurd (a.without (b.before d a.within l))
-    | inr l ↦ absurd (b.without (a.before e b.within l))
-  ]
+  | inr q ↦ grind arith
 ]
 
 -- of 1 to n all have a decided property, or there is a least that has it not

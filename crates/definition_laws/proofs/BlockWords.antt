@@ -1,9 +1,9 @@
 -- A perfect matching and a tight shore at a partition, in words that do not name the contracted
 -- graph. They are the wordings for the contracted graph, whose ends are places of blocks and
 -- whose cuts are those of the graph.
-use Rattle.std.proofs.Common.{◌≡◌, ℕ, true, List, length, refl, sym, ap, ◌∙◌, arith, inl, inr, subst, ◌↔◌}
+use Rattle.std.proofs.Common.{◌≡◌, ℕ, true, List, length, refl, sym, ap, ◌∙◌, arith, subst, ◌↔◌}
 use Rattle.counting.proofs.Common.{Within, is_odd, mem, Set, complement, none}
-use Rattle.graph_core.proofs.Common.{contracted-ends, contracted-graph, contracted-order, contracted-size, place_in, place_is, block_count_rest, edges-in-cut-at, Graph, IsGraph, edges_in_cut, first_end, second_end, size, IsEnd, AreBlocks, IsPerfectAt, block, contracted, place, IsTightAt, IsUnion, block_count}
+use Rattle.graph_core.proofs.Common.{contracted-ends, contracted-graph, contracted-order, contracted-size, place_in, place_is, block_count_rest, edges-in-cut-at, Graph, IsGraph, edges_in_cut, size, IsEnd, AreBlocks, IsPerfectAt, block, contracted, place, IsTightAt, IsUnion, block_count}
 use Rattle.definition_laws.proofs.MatchingWords.{avoids_none, meets-perfect, perfect-meets, perfect-no_loop}
 use Rattle.definition_laws.specs.Words.{HasEndIn, LeavesBlocks, MeetsEachBlockOnce}
 
@@ -22,22 +22,15 @@ module _ (g : Graph) (p : List (List ℕ)) (is : IsGraph g) (pp : AreBlocks g.or
 
   -- an end of the contracted edge is a block with an end of the edge
   end_in : (e i : ℕ) → Within (size g) e → Within (length p) i → IsEnd (contracted g p) e i → HasEndIn g p e i
-  end_in e i we wi h = let k = contracted-ends g p e we in elim h [
-    | inl q ↦ inl ((in_block (first_end g e) i (is e we).0 wi).1 (sym k.0 ∙ q))
-    | inr q ↦ inr ((in_block (second_end g e) i (is e we).1 wi).1 (sym k.1 ∙ q))
-  ]
+  end_in e i we wi h = grind (arith, contracted-ends, in_block)
 
   -- and the other way round
   in_end : (e i : ℕ) → Within (size g) e → Within (length p) i → HasEndIn g p e i → IsEnd (contracted g p) e i
-  in_end e i we wi h = let k = contracted-ends g p e we in elim h [
-    | inl q ↦ inl (k.0 ∙ (in_block (first_end g e) i (is e we).0 wi).0 q)
-    | inr q ↦ inr (k.1 ∙ (in_block (second_end g e) i (is e we).1 wi).0 q)
-  ]
+  in_end e i we wi h = grind (arith, contracted-ends, in_block)
 
   -- no edge of a perfect matching at p is inside a block
   pub perfect-leaves : (m : Set) → IsPerfectAt g p m → LeavesBlocks g p m
-  perfect-leaves m h e we me q = let k = contracted-ends g p e we in
-      perfect-no_loop (contracted g p) none m (contracted-graph g p is pp) h e (there e we) me (k.0 ∙ q ∙ sym k.1)
+  perfect-leaves m h e we me q = grind (arith, contracted-ends g p e we, perfect-no_loop (contracted g p) none m (contracted-graph g p is pp) h e (there e we) me, contracted-graph g p is pp)
 
   -- and each block holds an end of exactly one of its edges
   pub perfect-meets_blocks : (m : Set) → IsPerfectAt g p m → MeetsEachBlockOnce g p m
@@ -63,7 +56,4 @@ module _ (g : Graph) (p : List (List ℕ)) (is : IsGraph g) (pp : AreBlocks g.or
   -- and the other way round
   pub words-tight : (x : Set) → IsUnion g.order p x → is_odd (block_count p x) ≡ true → is_odd (block_count p (complement x)) ≡ true → ((m : Set) → IsPerfectAt g p m → edges_in_cut g m x ≡ 1) → IsTightAt g p x
   unfolding contracted
-  words-tight x u odd other h = record {
-    union = u;
-    tight = record { odd = odd; odd_complement = ap is_odd (block_count_rest g.order p pp x u) ∙ other; cut = λ m k. edges-in-cut-at g p x is pp u m ∙ h m k };
-  }
+  words-tight x u odd other h = grind (arith, block_count_rest g.order p pp x u, edges-in-cut-at g p x is pp u)

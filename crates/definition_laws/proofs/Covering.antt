@@ -18,9 +18,7 @@ item_at (x ∷ xs) u h = elim (or_cases (x == u) (mem xs u) h) [
 
 -- where v is in the list of u, it is in one of the lists
 any_mapped : (f : ℕ → List ℕ) (xs : List ℕ) (u v : ℕ) → mem xs u ≡ true → mem (f u) v ≡ true → Any (λ (c : List ℕ). mem c v ≡ true) (map f xs)
-any_mapped f xs u v h m =
-    let r = item_at xs u h in
-    (r.0, f u, (let e = length-map xs f in let a = r.1 in omega arith), get_or-map f xs r.0 0 (f u) r.1 ∙ ap f (r.2 0), m)
+any_mapped f xs u v h m = grind (arith, item_at xs u h, length-map xs f, get_or-map f xs)
 
 -- each vertex outside s is in a component of the list
 pub components-cover : (g : Graph) (s : Set) → IsGraph g → (v : ℕ) → Within g.order v → s v ≡ false → Any (λ (c : List ℕ). mem c v ≡ true) (components g s)
@@ -82,8 +80,7 @@ module _ (n : ℕ) (f : ℕ → Set) (first : Set)
 pub components-once : (g : Graph) (s : Set) → IsGraph g → (i j v : ℕ) → Within (length (components g s)) i → Within (length (components g s)) j →
     mem (item (components g s) i) v ≡ true → mem (item (components g s) j) v ≡ true → i ≡ j
 unfolding components
-components-once g s is = listed-once g.order (joined g s) (is_least g s) (λ u w v wu wv _ lu lw hu hw.
-    least_same g s is u w wu wv lu lw (joined_on g s u v w (joined_walk g s u v hu) (joined_back g s w v (joined_walk g s w v hw))))
+components-once g s is = grind (arith, listed-once g.order (joined g s) (is_least g s), least_same g s is, joined_on g s, joined_walk g s, joined_back g s)
 
 -- the least vertex of a class has no equivalent vertex below it
 least-none_below : (g : Graph) (u w : ℕ) → Within g.order u → is_least_of_class g w ≡ true → u < w → Equivalent g u w → ⊥
@@ -98,8 +95,5 @@ classes-once g is cov = listed-once g.order (is_equivalent g) (is_least_of_class
     let q : Equivalent g u w = equivalent_on g u v w is cov wu wv ww (is_equivalent_says g u v hu) (equivalent_back g w v (is_equivalent_says g w v hw)) in
     elim (cases_order u w) [
       | inl e ↦ e
-      | inr o ↦ elim o [
-        | inl l ↦ absurd (least-none_below g u w wu lw l q)
-        | inr l ↦ absurd (least-none_below g w u ww lu l (equivalent_back g u w q))
-      ]
+      | inr o ↦ grind (arith, least-none_below g u w wu lw, least-none_below g w u ww lu, equivalent_back g u w q)
     ])

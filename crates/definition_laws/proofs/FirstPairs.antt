@@ -1,6 +1,6 @@
 -- The first pair that a search through the pairs a < b finds is the first in lexicographic order.
 -- The list rises row by row, so every pair before the one found comes earlier in the list.
-use Rattle.std.proofs.Common.{◌≡◌, ℕ, ◌<◌, ◌≤◌, Bool, true, false, cond, List, [], ◌∷◌, ◌++◌, map, flat_map, Option, Some, None, refl, sym, ap, ap₂, ◌∙◌, arith, ◌⊎◌, inl, inr, not, nat_lt, nat_le, lt-ltb, ltb-true, leb-true, subst, leb-false, find}
+use Rattle.std.proofs.Common.{◌≡◌, ℕ, ◌<◌, ◌≤◌, Bool, true, false, List, [], ◌∷◌, ◌++◌, map, flat_map, Option, Some, None, refl, arith, inl, inr, not, nat_lt, nat_le, lt-ltb, ltb-true, leb-true, subst, leb-false, find}
 use Rattle.counting.proofs.Common.{both_ways, not-true, not-false, HasPair, rows_hold, rows_only, map_pair, append_pair, above_first, mem-all, rising-tail, rising_list-rises, Within, IsRisingIn, pair_with, rising_list, rising_pairs, ComesBefore, everything, pair_set}
 use Rattle.graph_core.proofs.Common.{has_perfect_found, has_perfect_says, component_count, Graph, HasPerfect, has_perfect, cut_pair, equivalent_pair}
 use Rattle.definition_laws.specs.Words.{IsFirstPair}
@@ -31,19 +31,9 @@ rows_rise n (x ∷ xs) r =
     (row_rises x n (rising_list n (nat_lt x)) (rising_list-rises n (nat_lt x))) (rows_rise n xs (rising-tail n x xs r))
     (λ i j a b m h. let q = map_pair x (rising_list n (nat_lt x)) i j m in let s = rows_only n a b xs h in inl (subst (λ z. z < a) q.0 (above_first n x xs r a s.0)))
 
--- no pair is before one that is it or is before it
-not_both : (i j a b : ℕ) → ComesBefore (i, j) (a, b) → ((a ≡ i) × (b ≡ j)) ⊎ ComesBefore (a, b) (i, j) → ⊥
-not_both i j a b (inl l) (inl e) = let q = e.0 in absurd (omega arith)
-not_both i j a b (inl l) (inr (inl k)) = absurd (omega arith)
-not_both i j a b (inl l) (inr (inr k)) = let q = k.0 in absurd (omega arith)
-not_both i j a b (inr l) (inl e) = let q = e.1 in let w = l.1 in absurd (omega arith)
-not_both i j a b (inr l) (inr (inl k)) = let q = l.0 in absurd (omega arith)
-not_both i j a b (inr l) (inr (inr k)) = let q = k.1 in let w = l.1 in absurd (omega arith)
-
 -- what an answer holds
 value : ℕ × ℕ → Option (ℕ × ℕ) → ℕ × ℕ
-value d None = d
-value d (Some k) = k
+value d h = grind arith
 
 -- the first of a rising list that passes: it passes, and none before it does
 found_first : (t : ℕ → ℕ → Bool) (ks : List (ℕ × ℕ)) (k : ℕ × ℕ) → Rising ks → find (λ l. t l.0 l.1) ks ≡ Some k →
@@ -55,29 +45,14 @@ found_first t (l ∷ ks) k r h = go (t l.0 l.1) refl (found_first t ks k r.1)
     go : (b : Bool) → t l.0 l.1 ≡ b →
         (find (λ l. t l.0 l.1) ks ≡ Some k → HasPair ks k.0 k.1 × (t k.0 k.1 ≡ true) × ((i j : ℕ) → HasPair ks i j → ComesBefore (i, j) k → t i j ≡ false)) →
         HasPair (l ∷ ks) k.0 k.1 × (t k.0 k.1 ≡ true) × ((i j : ℕ) → HasPair (l ∷ ks) i j → ComesBefore (i, j) k → t i j ≡ false)
-    go true e ih =
-        let s : Some l ≡ Some k = ap (λ b. cond b (Some l) (find (λ l. t l.0 l.1) ks)) (sym e) ∙ h in
-        let q : l ≡ k = ap (value l) s in
-        let x : l.0 ≡ k.0 = ap (λ (z : ℕ × ℕ). z.0) q in
-        let y : l.1 ≡ k.1 = ap (λ (z : ℕ × ℕ). z.1) q in (
-          inl (x, y),
-          ap₂ t (sym x) (sym y) ∙ e,
-          λ i j m b. absurd (not_both i j l.0 l.1 (subst (λ z. ComesBefore (i, j) z) (sym q) b) (elim m [ inl z ↦ inl z | inr z ↦ inr (r.0 i j z) ])),
-        )
-    go false e ih =
-        let f = ih (ap (λ b. cond b (Some l) (find (λ l. t l.0 l.1) ks)) (sym e) ∙ h) in
-        (inr f.0, f.1, λ i j m b. elim m [ inl z ↦ ap₂ t (sym z.0) (sym z.1) ∙ e | inr z ↦ f.2 i j z b ])
+    go b e ih = grind arith
 
 -- the same for the pairs a < b of 1 to n
 first_pair : (n : ℕ) (t : ℕ → ℕ → Bool) (k : ℕ × ℕ) → find (λ l. t l.0 l.1) (rising_pairs n) ≡ Some k →
     (Within n k.0 × Within n k.1 × (k.0 < k.1)) × (t k.0 k.1 ≡ true) × ((a b : ℕ) → Within n a → Within n b → a < b → ComesBefore (a, b) k → t a b ≡ false)
 first_pair n t k h =
     let f = found_first t (rising_pairs n) k (rows_rise n (rising_list n everything) (rising_list-rises n everything)) h in
-    let q = rows_only n k.0 k.1 (rising_list n everything) f.0 in (
-      ((mem-all n k.0).0 q.0, q.1, ltb-true k.0 k.1 q.2),
-      f.1,
-      λ a b wa wb l before. f.2 a b (rows_hold n a b (rising_list n everything) ((mem-all n a).1 wa) wb (lt-ltb a b l)) before,
-    )
+    grind (arith, rows_only n k.0 k.1 (rising_list n everything) f.0, mem-all n k.0, ltb-true k.0 k.1, rows_hold n, mem-all n, lt-ltb)
 
 -- the pair that `equivalent_pair` finds
 pub equivalent-first : (g : Graph) (k : ℕ × ℕ) → equivalent_pair g ≡ Some k → IsFirstPair g.order (λ a b. HasPerfect g (pair_set a b) → ⊥) k

@@ -1,8 +1,8 @@
 -- The components by least vertex are the components: each vertex is joined to exactly one least
 -- vertex. The test for a least vertex looks at the vertices below it, and the lists are those of
 -- the test for a walk.
-use Rattle.std.proofs.Common.{◌≡◌, ℕ, ◌≤◌, ◌<◌, true, false, ap, ◌∙◌, sym, arith, ◌&&◌, not, nat_lt, lt-ltb, ltb-true, inl, inr, refl, All, slice_index_or}
-use Rattle.counting.proofs.Common.{and_parts, and_from, both_ways, cases_order, false_from_ne_true, not-true, All-map, bit_true, only_one, rising_only, mem-item, mem-rising_list, rising_list-rises, some_true, true_some, some_term, Within, bit, count, is_odd, rising_list, Set, some}
+use Rattle.std.proofs.Common.{◌≡◌, ℕ, ◌≤◌, ◌<◌, true, false, ◌∙◌, sym, arith, ◌&&◌, not, nat_lt, lt-ltb, ltb-true, inl, refl, All, slice_index_or}
+use Rattle.counting.proofs.Common.{and_parts, and_from, both_ways, false_from_ne_true, not-true, All-map, bit_true, only_one, rising_only, mem-item, mem-rising_list, rising_list-rises, some_true, true_some, some_term, Within, bit, count, is_odd, rising_list, Set, some}
 use Rattle.graph_core.proofs.Common.{joined_walk, one_leader, some_leader, walk_joined, is_equivalent_found, is_equivalent_says, joined_self, component_count, components, is_least, odd_component_count, Graph, IsGraph, classes, is_equivalent, is_least_of_class, Joined, joined}
 use Rattle.definition_laws.specs.Words.{IsComponent, IsListOfClass}
 
@@ -16,21 +16,11 @@ least_says g s is u wu h =
     )
   where
     not_below : (v : ℕ) → (v < u → ⊥) → u ≤ v
-    not_below v h = elim (cases_order u v) [
-      | inl e ↦ omega arith
-      | inr o ↦ elim o [ inl l ↦ omega arith | inr l ↦ absurd (h l) ]
-    ]
+    not_below v h = grind arith
 
 -- and such a vertex is a least one
 pub least_found : (g : Graph) (s : Set) (u : ℕ) → s u ≡ false → ((v : ℕ) → Within g.order v → Joined g s u v → u ≤ v) → is_least g s u ≡ true
-least_found g s u out all =
-    and_from (not (s u)) (not (some g.order (λ v. joined g s u v && nat_lt v u))) (ap not out)
-    (ap not (false_from_ne_true (some g.order (λ v. joined g s u v && nat_lt v u)) (λ t.
-    let r = some_true g.order (λ v. joined g s u v && nat_lt v u) t in
-    let b = and_parts (joined g s u r.0) (nat_lt r.0 u) r.2 in
-    let a = all r.0 r.1 (joined_walk g s u r.0 b.0) in
-    let l = ltb-true r.0 u b.1 in
-    absurd (omega arith))))
+least_found g s u out all = grind (arith, and_from (not (s u)), nat_lt, false_from_ne_true, some_true g.order, and_parts, joined_walk g s u, ltb-true)
 
 -- each vertex outside s is joined to exactly one least vertex
 pub leader : (g : Graph) (s : Set) → IsGraph g → (v : ℕ) → Within g.order v → s v ≡ false →

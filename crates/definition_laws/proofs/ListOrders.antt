@@ -1,8 +1,8 @@
 -- The lists of components and of classes stand by their least vertices: each is the list of what
 -- belongs to its least vertex, and the least vertices stand in rising order. The odd lists are
 -- counted at these vertices.
-use Rattle.std.proofs.Common.{◌≡◌, ℕ, zero, suc, ◌+◌, Bool, true, false, cond, ◌&&◌, ◌∷◌, [], List, length, map, refl, sym, ap, ◌∙◌, arith, inl, inr, nat_lt, lt-ltb, subst, ◌≤◌, count_by, slice_index}
-use Rattle.counting.proofs.Common.{and_from, both_ways, cases_order, false_from_ne_true, not-true, true≢false, map-append, count_congr, rising_holds, rising_only, first-least, length-rising_list, rising_list-rises, true_some, Within, bit, count, is_odd, IsLeastOf, IsRisingIn, mem, rising_list, Set, some}
+use Rattle.std.proofs.Common.{◌≡◌, ℕ, zero, suc, Bool, true, cond, ◌&&◌, ◌∷◌, [], List, length, map, refl, sym, arith, inl, inr, nat_lt, lt-ltb, subst, ◌≤◌, count_by, slice_index}
+use Rattle.counting.proofs.Common.{and_from, both_ways, cases_order, false_from_ne_true, not-true, true≢false, map-append, count_congr, rising_holds, rising_only, first-least, length-rising_list, rising_list-rises, true_some, Within, count, is_odd, IsLeastOf, IsRisingIn, mem, rising_list, Set, some}
 use Rattle.std.proofs.lemmas.List.Sums.{sum_by-append}
 use Rattle.std.specs.List.Sorted.{IsStrictlyIncreasing}
 use Rattle.barrier_kit.proofs.Common.{equivalent_back}
@@ -18,13 +18,10 @@ first-of_rising n (x ∷ xs) v rises least = first-least n x v xs rises least
 first_of-lists : (n : ℕ) (f : ℕ → Set) (us : List ℕ) → ((u : ℕ) → mem us u ≡ true → IsLeastOf (rising_list n (f u)) u) → map (λ (c : List ℕ). slice_index c 0) (map (λ u. rising_list n (f u)) us) ≡ us
 first_of-lists n f [] least = refl
 first_of-lists n f (u ∷ us) least =
-    let here = first-of_rising n (rising_list n (f u)) u (rising_list-rises n (f u)) (least u (own u us)) in
+    let here = first-of_rising n (rising_list n (f u)) u (rising_list-rises n (f u)) (least u (grind arith)) in
     let rest = first_of-lists n f us (λ w held. least w (further w u us held)) in
     cons here rest
   where
-    own : (u : ℕ) (us : List ℕ) → mem (u ∷ us) u ≡ true
-    own u us = grind arith
-
     further : (w u : ℕ) (us : List ℕ) → mem us w ≡ true → mem (u ∷ us) w ≡ true
     further w u us held = grind arith
 
@@ -33,10 +30,7 @@ first_of-lists n f (u ∷ us) least =
 
 -- u is the least of the list where it is in the set and no number of the set is below it
 least-of_list : (n : ℕ) (x : Set) (u : ℕ) → Within n u → x u ≡ true → ((v : ℕ) → Within n v → x v ≡ true → u ≤ v) → IsLeastOf (rising_list n x) u
-least-of_list n x u w held below = record {
-  member = rising_holds n x u w held;
-  before = λ v less. false_from_ne_true (mem (rising_list n x) v) (λ m. let r = rising_only n x v m in let a = below v r.0 r.1 in absurd (omega arith));
-}
+least-of_list n x u w held below = grind (arith, rising_holds n x u w held, false_from_ne_true, rising_only n x)
 
 -- the components stand by their least vertices
 pub components-order : (g : Graph) (s : Set) → IsGraph g → IsStrictlyIncreasing (map (λ (c : List ℕ). slice_index c 0) (components g s))
@@ -74,24 +68,9 @@ classes-order g =
 -- the lists that pass a test are counted at the numbers that they are made from
 count_by-lists : (n : ℕ) (x : Set) (q : List ℕ → Bool) (f : ℕ → List ℕ) → count_by q (map f (rising_list n x)) ≡ count n (λ u. x u && q (f u))
 count_by-lists zero x q f = refl
-count_by-lists (suc n) x q f =
-    ap (count_by q) (map-append f (rising_list n x) (cond (x (suc n)) (suc n ∷ []) []))
-    ∙ sum_by-append (λ c. cond (q c) 1 0) (map f (rising_list n x)) (map f (cond (x (suc n)) (suc n ∷ []) []))
-    ∙ last (x (suc n)) (count_by-lists n x q f)
-  where
-    bit_is : (b : Bool) → cond b 1 0 + 0 ≡ bit b
-    bit_is true = omega arith
-    bit_is false = omega arith
-
-    last : (b : Bool) → count_by q (map f (rising_list n x)) ≡ count n (λ u. x u && q (f u)) →
-        count_by q (map f (rising_list n x)) + count_by q (map f (cond b (suc n ∷ []) [])) ≡ count n (λ u. x u && q (f u)) + bit (b && q (f (suc n)))
-    last true e = let k = bit_is (q (f (suc n))) in omega arith
-    last false e = omega arith
+count_by-lists (suc n) x q f = grind (arith, map-append f (rising_list n x) (cond (x (suc n)) (suc n ∷ []) []), sum_by-append, count_by-lists n x q f)
 
 -- o(S) counts the components of odd length
 pub odd-lists : (g : Graph) (s : Set) → odd_component_count g s ≡ count_by (λ (c : List ℕ). is_odd (length c)) (components g s)
 unfolding odd_component_count components
-odd-lists g s =
-    sym (count_by-lists g.order (is_least g s) (λ c. is_odd (length c)) (λ u. rising_list g.order (joined g s u))
-    ∙ count_congr g.order (λ u. is_least g s u && is_odd (length (rising_list g.order (joined g s u)))) (λ u. is_least g s u && is_odd (count g.order (joined g s u)))
-    (λ u w. ap (λ k. is_least g s u && is_odd k) (length-rising_list g.order (joined g s u))))
+odd-lists g s = grind (arith, count_by-lists g.order (is_least g s), count_congr g.order, length-rising_list g.order)

@@ -1,16 +1,13 @@
 -- The test for a matching with so many edges is true exactly when there is one. Like the tests
 -- for perfect matchings it searches through all edge sets, and its condition goes by the edge
 -- numbers alone.
-use Rattle.std.proofs.Common.{◌≡◌, ℕ, true, ◌==◌, ap, ap₂, ◌&&◌, eq-eqb, eqb-true}
+use Rattle.std.proofs.Common.{◌≡◌, ℕ, true, ◌==◌, ap, ap₂, ◌&&◌, eq-eqb, eqb-true, arith}
 use Rattle.counting.proofs.Common.{and_from, and_parts, set_found, some_set_found, count_congr, count, Set}
 use Rattle.graph_core.proofs.Common.{is_matching_congr, is_matching_true, true_is_matching, Graph, size, IsMatching, has_matching_of, is_matching}
 
 -- some matching has k edges where the test says so
 pub has_matching_says : (g : Graph) (r : Set) (k : ℕ) → has_matching_of g r k ≡ true → (m : Set) × IsMatching g r m × (count (size g) m ≡ k)
-has_matching_says g r k h =
-    let q = some_set_found (size g) (λ m. is_matching g r m && (count (size g) m == k)) h in
-    let b = and_parts (is_matching g r q.0) (count (size g) q.0 == k) q.1 in
-    (q.0, is_matching_true g r q.0 b.0, eqb-true (count (size g) q.0) k b.1)
+has_matching_says g r k h = grind (arith, some_set_found (size g), and_parts, is_matching_true g r, eqb-true)
 
 -- and the other way round
 pub has_matching_found : (g : Graph) (r : Set) (k : ℕ) → ((m : Set) × IsMatching g r m × (count (size g) m ≡ k)) → has_matching_of g r k ≡ true

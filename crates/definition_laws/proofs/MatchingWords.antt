@@ -1,31 +1,18 @@
 -- Matchings by degrees are matchings in the words of a textbook: no edge has an end in the
 -- removed set, each vertex is met once. A degree is a sum of ends over the edges, so an edge with
 -- an end at a vertex of degree 1 is its only one, and the other way round.
-use Rattle.std.proofs.Common.{◌≡◌, ℕ, ◌*◌, ◌≤◌, ◌≢◌, Bool, true, false, refl, sym, ap, ◌∙◌, arith, inl, inr, eq-eqb, ne_eqb}
+use Rattle.std.proofs.Common.{◌≡◌, ℕ, ◌*◌, ◌≤◌, ◌≢◌, true, false, refl, sym, ap, arith, inl, inr, eq-eqb, ne_eqb}
 use Rattle.counting.proofs.Common.{cases_eq, true≢false, total_at, total_none, Within, bit, Set, none}
 use Rattle.graph_core.proofs.Common.{degree_sum, edge_at, ends_le_degree, ends_of, ends_of_is, perfect_matching, apart_matching, ends_one, matching_apart, one_end, Graph, HasNoLoop, IsGraph, degree, first_end, second_end, size, IsEnd, IsMatching, IsPerfect, ShareNoEnd}
 use Rattle.definition_laws.specs.Words.{Avoids, HoldsNoLoop, MeetsEachOnce}
 
 -- what counts is an end
 is_end : (g : Graph) (e v : ℕ) → 1 ≤ ends_of g e v → IsEnd g e v
-is_end g e v p = let a = ends_of_is g e (first_end g e) (second_end g e) (inl (refl, refl)) v in elim (cases_eq (first_end g e) v) [
-  | inl q ↦ inl q
-  | inr q ↦ elim (cases_eq (second_end g e) v) [
-    | inl t ↦ inr t
-    | inr t ↦ let b = ap bit (ne_eqb (first_end g e) v q) in let c = ap bit (ne_eqb (second_end g e) v t) in absurd (omega arith)
-  ]
-]
+is_end g e v p = grind (arith, ends_of_is g e (first_end g e) (second_end g e), cases_eq (first_end g e) v, cases_eq (second_end g e) v, ne_eqb (first_end g e) v, ne_eqb (second_end g e) v)
 
 -- where no edge of m has an end in r, each vertex of r has degree 0 in m
 avoids_zero : (g : Graph) (r m : Set) → Avoids g r m → (v : ℕ) → Within g.order v → r v ≡ true → degree g m v ≡ 0
-avoids_zero g r m av v wv o = degree_sum g m v ∙ total_none (size g) (λ e. bit (m e) * ends_of g e v) (λ e we. none_at e we (m e) refl)
-  where
-    none_at : (e : ℕ) → Within (size g) e → (b : Bool) → m e ≡ b → bit b * ends_of g e v ≡ 0
-    none_at e we true h = elim (cases_eq (ends_of g e v) 0) [
-      | inl z ↦ omega arith
-      | inr z ↦ absurd (av e v we wv h o (is_end g e v (omega arith)))
-    ]
-    none_at e we false h = omega arith
+avoids_zero g r m av v wv o = grind (arith, degree_sum g m v, total_none (size g), ends_of g, cases_eq, is_end g)
 
 -- and the other way round
 zero_avoids : (g : Graph) (r m : Set) → ((v : ℕ) → Within g.order v → r v ≡ true → degree g m v ≡ 0) → Avoids g r m
@@ -77,13 +64,6 @@ meets-perfect g r m loops av meets = record { once = once; away = avoids_zero g 
         let b = ends_one g f.0 v (loops f.0 f.1 f.2) in
         let c = one_end g f.0 v f.3 in
         let s = degree_sum g m v in
-        let t = total_at (size g) (λ e. bit (m e) * ends_of g e v) f.0 f.1 (λ e we d. alone e we d (m e) refl) in
+        let t = total_at (size g) (λ e. bit (m e) * ends_of g e v) f.0 f.1 (λ e we d. grind (arith, cases_eq (ends_of g e v) 0, ends_of g e v, is_end g e v)) in
         let u = ap (λ k. bit k * ends_of g f.0 v) f.2 in
         omega arith
-      where
-        alone : (e : ℕ) → Within (size g) e → e ≢ (meets v wv out).0 → (b : Bool) → m e ≡ b → bit b * ends_of g e v ≡ 0
-        alone e we d true h = elim (cases_eq (ends_of g e v) 0) [
-          | inl z ↦ omega arith
-          | inr z ↦ absurd (d ((meets v wv out).4 e we h (is_end g e v (omega arith))))
-        ]
-        alone e we d false h = omega arith

@@ -1,8 +1,8 @@
 -- A graph is matching covered or there is a reason why not, never both, and no two reasons. Each
 -- reason denies a part of being covered and asserts the parts before it; each part is decided,
 -- and each graph has a Berge set.
-use Rattle.std.proofs.Common.{◌≡◌, ℕ, suc, zero, ◌+◌, ◌≤◌, ◌⊎◌, ◌||◌, inl, inr, refl, sym, ap, ap₂, ◌∙◌, arith, List, nat_le, leb-true, subst, leb-false}
-use Rattle.counting.proofs.Common.{all_or_least, cases_Bool, cases_eq, count_congr, mem-rising_list, rising_list-rises, least-one, Within, IsRisingIn, mem, rising_list, none, union, IsLeastWithout}
+use Rattle.std.proofs.Common.{◌≡◌, ℕ, ◌+◌, ◌≤◌, ◌⊎◌, ◌||◌, inl, inr, refl, sym, ap, ap₂, ◌∙◌, arith, List, nat_le, leb-true, leb-false}
+use Rattle.counting.proofs.Common.{all_or_least, cases_Bool, count_congr, mem-rising_list, rising_list-rises, least-one, Within, IsRisingIn, mem, rising_list, none, union}
 use Rattle.barrier_kit.proofs.Common.{perfect_or_not, odd_component_count-congr}
 use Rattle.graph_core.proofs.Common.{allowed_or_not, joined_back, joined_on, joined_or_not, IsBergeSet, IsConnected, IsCovered, IsReason, Reason, Small, Parted, Unmatched, Unallowed, Graph, IsGraph, size, Allowed, HasPerfect, missed_count, Joined}
 use Rattle.definition_laws.specs.Words.{without_berge}
@@ -24,10 +24,7 @@ berge_list g is =
 
 -- covered, or a reason
 pub covered_or_reason : (g : Graph) → IsGraph g → (IsCovered g) ⊎ ((r : Reason) × IsReason g r)
-covered_or_reason g is = elim (cases_Bool (nat_le 2 g.order)) [
-  | inr f ↦ inr (Small, leb-false 2 g.order f)
-  | inl t ↦ big (leb-true 2 g.order t)
-]
+covered_or_reason g is = grind (arith, cases_Bool (nat_le 2 g.order), nat_le 2 g.order, leb-false 2 g.order, big, leb-true 2 g.order)
   where
     matched : 2 ≤ g.order → IsConnected g → HasPerfect g none → (IsCovered g) ⊎ ((r : Reason) × IsReason g r)
     matched two con per = elim (all_or_least (size g) (Allowed g) (allowed_or_not g)) [

@@ -1,17 +1,12 @@
 -- Ears of bipartite graphs. An ear has its ends on opposite sides, since its length is odd; so it
 -- serves, and single ears do.
-use Rattle.std.proofs.Common.{◌≡◌, ℕ, Bool, true, false, cond, ◌==◌, refl, sym, ap, ap₂, ◌∙◌, arith, ◌&&◌, ◌||◌, not, eq-eqb, ne_eqb, eqb-true, inl, inr, [], ◌∷◌, List, length, rules}
-use Rattle.counting.proofs.Common.{cases_eq, cases_Bool, and_parts, and_from, true≢false, or_cases, rank_once, some_true, true_some, not_not, or_comm, same_tests, Within, count, is_odd, Set, pair_set, some}
-use Rattle.barrier_kit.proofs.Common.{perfect_congr}
-use Rattle.graph_core.proofs.Common.{IsSide, Graph, IsBipartite, IsGraph, first_end, in_cut, second_end, size, HasPerfect}
-use Rattle.ear_core.proofs.EngineGraphs.{ends-met}
+use Rattle.std.proofs.Common.{◌≡◌, ℕ, true, refl, sym, ap, ◌∙◌, arith, not, inl, [], ◌∷◌, List, length}
+use Rattle.counting.proofs.Common.{true≢false, not_not, Within, is_odd, Set, pair_set, some}
+use Rattle.graph_core.proofs.Common.{Graph, IsBipartite, IsGraph, in_cut, size}
 use Rattle.ear_core.proofs.OppositeEnds.{opposite-serve}
 use Rattle.ear_core.proofs.TraceEdges.{two_less_odd}
-use Rattle.ear_core.proofs.NextStages.{met-within}
-use Rattle.ear_core.proofs.RankedStages.{second_end-ranked, ranked-off, first_end-ranked, off-loop, rank-test, rank-within, size-ranked, stage_graph, ranked-covered, ranked-graph}
-use Rattle.ear_core.specs.Common.{Serves, AreCandidates, NoneServes, PlainEar, Follow, IsEar, last_vertex, other_end, IsStage, is_met}
+use Rattle.ear_core.specs.Common.{Serves, AreCandidates, NoneServes, PlainEar, Follow, IsEar, last_vertex, other_end, IsStage}
 use Rattle.ear_core.proofs.Walking.{joins}
-use Rattle.two_ears.proofs.OppositeSides.{opposite}
 
 -- the ends of an odd trace are on opposite sides
 other_end-side : (g : Graph) (a : Set) (e v : ℕ) → in_cut g a e ≡ true → joins g e v ≡ true → a (other_end g e v) ≡ not (a v)

@@ -1,9 +1,9 @@
 -- What the code's tests of an ear say of the definitions: the first test that fails, the vertices
 -- met by marks, and inner vertices that are free.
-use Rattle.std.proofs.Common.{◌≡◌, ℕ, suc, true, false, ◌==◌, refl, sym, ap, ap₂, ◌∙◌, arith, ◌&&◌, ◌||◌, not, eq-eqb, ne_eqb, Some, None, [], ◌∷◌, List, length, All, subst, inl, inr, rules}
+use Rattle.std.proofs.Common.{◌≡◌, ℕ, suc, true, false, ◌==◌, refl, sym, ap, ap₂, ◌∙◌, arith, ◌&&◌, ◌||◌, not, eq-eqb, ne_eqb, Some, None, [], ◌∷◌, List, length, All, subst, inl, inr}
 use Rattle.counting.proofs.Common.{same_tests, and_parts, and_from, both_ways, or_cases, or_left, or_right, false_from_ne_true, true≢false, some_true, true_some, bit, mem, Set, some}
 use Rattle.graph_core.proofs.Common.{ends_of, edge_at, ends_le_degree, Graph, size, first_end, second_end}
-use Rattle.ear_core.specs.Common.{last_vertex, is_met, even_length, bad_ends, inner_on_stage, edge_used, is_path, has_odd_length, has_good_ends, has_free_inner, has_new_edges, ear_fault, inner_vertices, no_member}
+use Rattle.ear_core.specs.Common.{last_vertex, is_met, inner_on_stage, edge_used, is_path, has_odd_length, has_good_ends, has_free_inner, has_new_edges, ear_fault, inner_vertices, no_member}
 use Rattle.ear_core.proofs.TraceEdges.{met-some, some-met}
 use Rattle.ear_core.proofs.EarTests.{no_member_at, at_no_member}
 
@@ -23,13 +23,6 @@ met-ends g f v = same_tests (some (size g) (λ e. f e && (first_end g e == v || 
     ])))
 
 module _ (g : Graph) (f : Set) (xs ds : List ℕ) (v : ℕ) (es : List ℕ) where
-  -- the first test that fails
-  pub fault-length : is_path g v es ≡ true → has_odd_length es ≡ false → ear_fault g f xs ds v es ≡ Some even_length
-  fault-length a b = rw (a, b) refl
-
-  pub fault-ends : is_path g v es ≡ true → has_odd_length es ≡ true → has_good_ends g f v es ≡ false → ear_fault g f xs ds v es ≡ Some bad_ends
-  fault-ends a b c = rw (a, b, c) refl
-
   pub fault-inner : is_path g v es ≡ true → has_odd_length es ≡ true → has_good_ends g f v es ≡ true → has_free_inner g f xs v es ≡ false → ear_fault g f xs ds v es ≡ Some inner_on_stage
   fault-inner a b c d = rw (a, b, c, d) refl
 

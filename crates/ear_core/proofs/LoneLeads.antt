@@ -1,6 +1,6 @@
 -- From a matching to a single ear. If the matching leads out of the stage at two vertices alone,
 -- each ear that it makes with the kept one has these for its ends, so it serves alone.
-use Rattle.std.proofs.Common.{◌≡◌, ◌≢◌, ℕ, ◌+◌, ◌≤◌, Bool, true, false, cond, ◌==◌, ◌&&◌, ◌||◌, not, refl, sym, ap, ◌∙◌, arith, eq-eqb, eqb-true, ne_eqb, inl, inr, subst, List, [], ◌∷◌, rules}
+use Rattle.std.proofs.Common.{◌≡◌, ◌≢◌, ℕ, ◌+◌, ◌≤◌, Bool, true, false, cond, ◌==◌, ◌&&◌, ◌||◌, not, refl, sym, ap, ◌∙◌, arith, eq-eqb, eqb-true, ne_eqb, inl, inr, subst, List, [], ◌∷◌}
 use Rattle.counting.proofs.Common.{both_ways, cases_eq, false_from_ne_true, or_cases, or_left, or_right, or_parts, true≢false, not-true, same_tests, Within, bit, IsIn, mem, Set, pair_set}
 use Rattle.graph_core.proofs.Common.{Graph, IsGraph, first_end, second_end}
 use Rattle.match_core.specs.Common.{MatchingValue, edges_of}
@@ -10,7 +10,7 @@ use Rattle.ear_core.proofs.Mates.{row-found}
 use Rattle.ear_core.proofs.NextStages.{met-within}
 use Rattle.ear_core.proofs.Searching.{ends-among, serves-same}
 use Rattle.ear_core.proofs.ServingPairs.{serving-one}
-use Rattle.ear_core.specs.Common.{AreCandidates, IsChosen, IsMatedEar, IsPerfectRows, Serves, ends_of_ear, ends_of_ears, row_edge, IsNeeded, IsSingle, PlainEar, PlainStep, one, two, last_vertex, LeadsAtTwo, barred, is_open, IsStage, is_met}
+use Rattle.ear_core.specs.Common.{AreCandidates, IsChosen, IsMatedEar, IsPerfectRows, Serves, ends_of_ear, ends_of_ears, row_edge, IsNeeded, IsSingle, PlainEar, PlainStep, last_vertex, LeadsAtTwo, barred, is_open, IsStage, is_met}
 
 module _ (g : Graph) (is : IsGraph g) (f : Set) (u v : ℕ) (e w : ℕ) (opens : is_open g f u v e ≡ true) (at : (first_end g e == w || second_end g e == w) ≡ true) where
   -- an end of an open edge is not barred

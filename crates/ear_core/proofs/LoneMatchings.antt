@@ -1,15 +1,15 @@
 -- From a single ear to a matching. If a stage with an ear is matching covered and the rest has a
 -- perfect matching, then this one, the odd edges of the ear and a perfect matching of the stage
 -- without the two ends are a perfect matching that leads out of the stage at the two ends alone.
-use Rattle.std.proofs.Common.{◌≡◌, ◌≢◌, ℕ, ◌<◌, ◌≤◌, Bool, true, false, cond, ◌==◌, ◌&&◌, ◌||◌, not, refl, sym, ap, ◌∙◌, arith, eq-eqb, inl, inr, subst, List, [], ◌∷◌, rules}
+use Rattle.std.proofs.Common.{◌≡◌, ◌≢◌, ℕ, ◌<◌, ◌≤◌, true, false, cond, ◌==◌, ◌&&◌, ◌||◌, not, refl, sym, ap, ◌∙◌, arith, eq-eqb, inl, inr, List, [], ◌∷◌}
 use Rattle.std.proofs.Math.Path.{fun_ext}
-use Rattle.counting.proofs.Common.{both_ways, cases_Bool, cases_order, false_from_ne_true, or_cases, or_from, or_left, or_right, true≢false, or_comm, or_false, or_false_back, Within, bit, mem, Set, none, pair_set, union}
+use Rattle.counting.proofs.Common.{both_ways, cases_Bool, cases_order, false_from_ne_true, or_cases, or_from, or_left, or_right, true≢false, or_comm, or_false, or_false_back, Within, mem, Set, none, pair_set, union}
 use Rattle.graph_core.proofs.Common.{ends_le_degree, ends_of, IsCovered, Graph, IsGraph, IsMultigraph, first_end, second_end, size, IsEnd, IsPerfect}
 use Rattle.match_core.specs.Common.{has_end_in}
 use Rattle.ear_core.proofs.AddedEars.{evens_at, odd_on}
 use Rattle.ear_core.proofs.NeededPairs.{stage-serves}
 use Rattle.ear_core.proofs.NextStages.{met-within}
-use Rattle.ear_core.proofs.Rests.{apart-rest, covered-meets, filled, rest-perfect}
+use Rattle.ear_core.proofs.Rests.{covered-meets, filled, rest-perfect}
 use Rattle.ear_core.proofs.ServingEars.{off-same}
 use Rattle.ear_core.proofs.Stepping.{still-met}
 use Rattle.ear_core.proofs.TraceEdges.{mem_odds, trail_has}
@@ -46,9 +46,6 @@ pub ends-differ : (g : Graph) (f : Set) (v : ℕ) (es : List ℕ) → IsEar g f 
 ends-differ g f v es ear same = grind (arith, evens_at g f v es ear v, eq-eqb v v refl, eq-eqb (last_vertex g v es) v (sym same))
 
 module _ (g : Graph) (is : IsGraph g) (f : Set) (v : ℕ) (es : List ℕ) (ear : IsEar g f v es) (q : Set) (serves : IsPerfectOff g f (pair_set v (last_vertex g v es)) q) (r : Set) (rest : IsPerfect g (is_met g (with_edges f es)) r) where
-  z : ℕ
-  z = last_vertex g v es
-
   grown : IsPerfectOff g (with_edges f es) none (with_edges q (odds es))
   grown = grind (arith, odd_on g f v es ear none q, true≢false, off-same g f (pair_set v (last_vertex g v es)) (union (pair_set v (last_vertex g v es)) none) q, or_false_back)
 
@@ -65,9 +62,6 @@ module _ (g : Graph) (is : IsGraph g) (f : Set) (v : ℕ) (es : List ℕ) (ear :
 
   rest-open : (e : ℕ) → Within (size g) e → r e ≡ true → is_open g f v (last_vertex g v es) e ≡ true
   rest-open e we t = grind (arith, off-open e, false_from_ne_true (f e), both_ways (r e), or_left (f e) (mem es e), met-within g is f, still-met g f es, ends_le_degree g r e, end-counts g e)
-    where
-      apart : (e : ℕ) → Within (size g) e → with_edges f es e ≡ true → r e ≡ false
-      apart = apart-rest g is (with_edges f es) none (with_edges q (odds es)) r (λ w t. absurd (true≢false (sym t))) grown rest
 
   pub lone-made : IsPerfectBy g (is_open g f v (last_vertex g v es)) (union (with_edges q (odds es)) r)
   lone-made = record {

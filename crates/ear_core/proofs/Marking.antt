@@ -1,11 +1,11 @@
 -- Marks set at the places of further edges, and the tests of a step of two ears.
-use Rattle.std.proofs.Common.{◌≡◌, ℕ, ◌+◌, ◌<◌, Bool, true, false, ◌||◌, ◌==◌, if◌then◌else◌, List, [], ◌∷◌, length, All, Option, Some, None, refl, sym, ap, ◌∙◌, arith, slice_set, rules}
+use Rattle.std.proofs.Common.{◌≡◌, ℕ, ◌+◌, ◌<◌, Bool, true, ◌||◌, if◌then◌else◌, List, [], ◌∷◌, length, All, Option, Some, None, ap, arith, slice_set}
 use Rattle.std.proofs.Math.Path.{fun_ext}
 use Rattle.counting.proofs.Common.{Within, mem, Set}
 use Rattle.graph_core.proofs.Common.{Graph}
 use Rattle.match_search.specs.Common.{marks}
 use Rattle.allowed_edges.proofs.Marking.{marks-set}
-use Rattle.ear_core.specs.Common.{PlainEar, two, PlainWhy, not_path, even_length, bad_ends, inner_on_stage, edge_used, is_path, has_odd_length, has_good_ends, has_new_edges, ear_fault, inner_vertices, no_member, first_of, step_fault, is_met}
+use Rattle.ear_core.specs.Common.{PlainEar, two, PlainWhy, not_path, even_length, bad_ends, inner_on_stage, edge_used, is_path, has_odd_length, has_good_ends, has_new_edges, ear_fault, inner_vertices, no_member, step_fault, is_met}
 
 -- one more is marked, and one less is left
 pub marked-more : (items : List Bool) (old every : Set) (e : ℕ) (rest others : List ℕ) → rest ≡ e ∷ others → e < length items → ((i : ℕ) → (marks items i || mem rest i) ≡ (old i || every i)) → (i : ℕ) → (marks (slice_set items e true) i || mem others i) ≡ (old i || every i)

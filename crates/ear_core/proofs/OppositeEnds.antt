@@ -1,15 +1,14 @@
 -- Two vertices on opposite sides of a stage whose edges all cross between the sides serve.
 -- Idea: the stage as a graph of its own is matching covered and bipartite, so it has a perfect
 -- matching without the two.
-use Rattle.std.proofs.Common.{◌≡◌, ℕ, Bool, true, false, ◌==◌, refl, ap, ap₂, sym, ◌∙◌, arith, ◌&&◌, ◌||◌, not, eq-eqb, eqb-true, inl, inr, List, rules}
+use Rattle.std.proofs.Common.{◌≡◌, ℕ, Bool, true, false, ◌==◌, refl, ap, sym, ◌∙◌, arith, ◌&&◌, not, eq-eqb, eqb-true}
 use Rattle.counting.proofs.Common.{and_from, and_parts, cases_Bool, or_comm, same_tests, rank_once, some_true, true_some, Within, count, Set, pair_set, some}
 use Rattle.barrier_kit.proofs.Common.{perfect_congr}
-use Rattle.graph_core.proofs.Common.{IsSide, Graph, IsGraph, first_end, in_cut, second_end, size, HasPerfect}
+use Rattle.graph_core.proofs.Common.{IsSide, Graph, IsGraph, in_cut, size, HasPerfect}
 use Rattle.ear_core.proofs.EngineGraphs.{ends-met}
 use Rattle.ear_core.proofs.NextStages.{met-within}
 use Rattle.ear_core.proofs.RankedStages.{first_end-ranked, off-loop, rank-test, rank-within, ranked-covered, ranked-graph, ranked-off, second_end-ranked, size-ranked, stage_graph}
-use Rattle.ear_core.proofs.ServingEars.{one-serves}
-use Rattle.ear_core.specs.Common.{Serves, IsEar, last_vertex, IsStage, is_met, with_edges}
+use Rattle.ear_core.specs.Common.{Serves, IsStage, is_met}
 use Rattle.two_ears.proofs.OppositeSides.{opposite}
 
 module _ (g : Graph) (is : IsGraph g) (f a : Set) (sides : (e : ℕ) → Within (size g) e → f e ≡ true → in_cut g a e ≡ true) where

@@ -1,10 +1,10 @@
 -- A list of steps from a stage leads to all edges, or has exactly one first refusal. The tests of
 -- a step say that it is a step; then only the odd edges of its ears are left to ask, and the new
 -- stage is covered exactly when no edge of it is refused.
-use Rattle.std.proofs.Common.{◌≡◌, ℕ, ◌+◌, Bool, true, false, if◌then◌else◌, Option, Some, None, refl, sym, ap, ◌∙◌, ◌||◌, inl, inr, [], ◌∷◌, List, arith, rules}
-use Rattle.counting.proofs.Common.{both_ways, least-one, Within, mem, Set, none}
+use Rattle.std.proofs.Common.{◌≡◌, ℕ, ◌+◌, Bool, true, false, if◌then◌else◌, Option, Some, None, refl, sym, ap, ◌∙◌, ◌||◌, inl, inr, [], ◌∷◌, List, arith}
+use Rattle.counting.proofs.Common.{both_ways, Within, mem, Set, none}
 use Rattle.graph_core.proofs.Common.{Graph, size, IsGraph}
-use Rattle.ear_core.specs.Common.{IsStage, AllowedBy, with_edges, IsNearlyStage, odds, PlainStep, one, two, next_stage, IsStep, AreSteps, PlainWhy, not_path, even_length, bad_ends, inner_on_stage, edge_used, stage_not_covered, ends_early, is_path, has_odd_length, has_good_ends, has_free_inner, has_new_edges, Passes, ear_fault, inner_vertices, first_of, step_fault, IsLeastUnallowed, IsStepRefused, IsFirstRefusal}
+use Rattle.ear_core.specs.Common.{IsStage, AllowedBy, with_edges, IsNearlyStage, odds, PlainStep, one, two, next_stage, IsStep, AreSteps, PlainWhy, not_path, even_length, bad_ends, inner_on_stage, edge_used, is_path, has_odd_length, has_good_ends, has_free_inner, has_new_edges, Passes, ear_fault, first_of, step_fault, IsLeastUnallowed, IsStepRefused, IsFirstRefusal}
 use Rattle.ear_core.proofs.AddedEars.{grow}
 use Rattle.ear_core.proofs.NextStages.{nearly, met-within, second_ear}
 use Rattle.ear_core.proofs.EarTests.{first_passes, second_passes}
@@ -64,9 +64,6 @@ stage-fine g f e stage least = least.without (λ t. stage.allowed e least.within
 pub fine-stage : (g : Graph) (f o : Set) → IsNearlyStage g f o → ((e : ℕ) → Within (size g) e → f e ≡ true → AllowedBy g f e) → IsStage g f
 fine-stage g f o near fine = record { some_edge = near.some_edge; connected = near.connected; allowed = fine }
 
-some-one : (a b : PlainWhy) → Some a ≡ Some b → a ≡ b
-some-one a b same = grind arith
-
 -- the first refusal is one alone
 pub refusal-one : (g : Graph) (f : Set) (k : ℕ) (steps : List PlainStep) (i j : ℕ) (a b : PlainWhy) → IsFirstRefusal g f k steps i a → IsFirstRefusal g f k steps j b → (i ≡ j) × (a ≡ b)
 refusal-one g f k [] i j a b x y = grind arith
@@ -83,9 +80,6 @@ refusal-one g f k (s ∷ steps) i j a b x y = elim x [
       | inl t ↦ some_none why (sym t ∙ passes)
       | inr t ↦ let u = t.1 in stage-fine g (next_stage f s) u.0 stage u.1
     ]
-
-    step-one : IsStepRefused g f s a → IsStepRefused g f s b → a ≡ b
-    step-one r t = grind arith
 
 -- and steps with a refusal do not lead to all edges
 pub refusal-none : (g : Graph) (f : Set) (k : ℕ) (steps : List PlainStep) (i : ℕ) (a : PlainWhy) → IsFirstRefusal g f k steps i a → AreSteps g f steps → ⊥

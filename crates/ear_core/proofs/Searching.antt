@@ -1,12 +1,12 @@
 -- The search for ears that serve: what is found or not among the ears after the first one and
 -- what of that one make what is found or not among all. After the search one ear serves or two
 -- do.
-use Rattle.std.proofs.Common.{◌≡◌, ℕ, ◌+◌, ◌≤◌, true, ◌==◌, ◌||◌, ◌⊎◌, ◌↔◌, inl, inr, refl, sym, ap, ◌∙◌, arith, subst, eq-eqb, List, [], ◌∷◌, Option, Some, None, Result, Ok, Err, IfOk, IfSome, IfNone, All, get_or, rules}
-use Rattle.counting.proofs.Common.{AllByRecursion, mem-item, or_comm, bit, Within, mem, IsIn, Set, union, complement}
+use Rattle.std.proofs.Common.{◌≡◌, ℕ, ◌+◌, ◌≤◌, true, ◌==◌, ◌||◌, ◌⊎◌, ◌↔◌, inl, inr, refl, sym, ap, ◌∙◌, arith, subst, eq-eqb, List, [], ◌∷◌, Option, Some, None, Result, IfOk, IfSome, IfNone, All, get_or}
+use Rattle.counting.proofs.Common.{AllByRecursion, mem-item, or_comm, bit, Within, mem, IsIn, Set, union}
 use Rattle.barrier_kit.proofs.Common.{perfect_congr}
-use Rattle.graph_core.proofs.Common.{Graph, size, IsGraph, with_ends, HasPerfect}
+use Rattle.graph_core.proofs.Common.{Graph, size, IsGraph, HasPerfect}
 use Rattle.two_ears.specs.VertexPairs.{pairs_at}
-use Rattle.ear_core.specs.Common.{AreCandidates, Serves, ends_of_ear, ends_of_ears, IsChosen, IsAsked, IsBefore, FindsBeside, FindsTwo, NoneServes, NoneServesBeside, NoTwoServe, PlainEar, PlainStep, one, two, FitsEar, IsStep, next_stage, last_vertex, trail, IsEar, listed, is_met, IsStage}
+use Rattle.ear_core.specs.Common.{AreCandidates, Serves, ends_of_ear, ends_of_ears, IsChosen, IsAsked, IsBefore, FindsBeside, FindsTwo, NoneServes, NoneServesBeside, NoTwoServe, PlainEar, PlainStep, one, two, FitsEar, IsStep, next_stage, last_vertex, trail, IsEar, IsStage}
 use Rattle.ear_core.specs.declared.asking.Asked.{Asked}
 use Rattle.ear_core.proofs.EngineGraphs.{served_listed}
 use Rattle.ear_core.proofs.TraceEdges.{edges-within}

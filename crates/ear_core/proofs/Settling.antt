@@ -1,9 +1,9 @@
 -- The edges of the ears of a step, asked one by one: what an answer of the engine says of an
 -- edge, and what is known after it.
-use Rattle.std.proofs.Common.{◌≡◌, ℕ, ◌<◌, ◌≤◌, arith, eqb-true, inl, inr, Bool, true, false, ◌==◌, refl, sym, ap, ap₂, ◌∙◌, ◌||◌, Some, None, Option, Result, Ok, Err, IfOk, [], ◌∷◌, List, subst, ◌↔◌, rules}
-use Rattle.counting.proofs.Common.{or_cases, true≢false, Within, mem, Set, none, pair_set}
+use Rattle.std.proofs.Common.{◌≡◌, ℕ, arith, true, ◌==◌, sym, ap₂, ◌∙◌, ◌||◌, None, Option, Result, IfOk, [], ◌∷◌, List, ◌↔◌}
+use Rattle.counting.proofs.Common.{true≢false, Within, mem, Set, none, pair_set}
 use Rattle.graph_core.proofs.Common.{Graph, IsMultigraph, first_end, second_end, size}
-use Rattle.ear_core.specs.Common.{Serves, AllowedBy, with_edges, IsBehind, IsUpTo, Settled, asked_too}
+use Rattle.ear_core.specs.Common.{Serves, AllowedBy, with_edges, IsUpTo, Settled, asked_too}
 use Rattle.ear_core.proofs.EngineGraphs.{edge_serves}
 use Rattle.ear_core.proofs.LoneMatchings.{pair-is}
 use Rattle.ear_core.proofs.Searching.{serves-same}
@@ -15,10 +15,6 @@ ends-serve g is f e a b first both w on at_a at_b one joined =
     let same : (v : ℕ) → mem both v ≡ pair_set (first_end g e) (second_end g e) v = λ v. pair-is first both a b one joined v ∙ ap₂ (λ x y. pair_set x y v) at_a at_b in
     (λ q. ends.1 (serves-same g f (mem both) (pair_set (first_end g e) (second_end g e)) same q), λ q. serves-same g f (pair_set (first_end g e) (second_end g e)) (mem both) (λ v. sym (same v)) (ends.0 q))
 
--- an edge that is asked too: one that was asked, or e
-one-too : (asked : Set) (e w : ℕ) (P : Type 0) → asked_too asked e w ≡ true → (asked w ≡ true → P) → (e ≡ w → P) → P
-one-too asked e w P t before here = elim (or_cases (asked w) (e == w) t) [ inl a ↦ before a | inr same ↦ here (eqb-true e w same) ]
-
 -- an edge up to e is known
 pub settled-known : (g : Graph) (f asked : Set) (known : Option ℕ) (e : ℕ) → IsUpTo e known → Settled g f asked known → Settled g f (asked_too asked e) known
 settled-known g f asked known e up is = grind arith
@@ -26,10 +22,6 @@ settled-known g f asked known e up is = grind arith
 -- e is allowed
 pub settled-allowed : (g : Graph) (f asked : Set) (known : Option ℕ) (e : ℕ) → AllowedBy g f e → Settled g f asked known → Settled g f (asked_too asked e) known
 settled-allowed g f asked known e allowed is = grind arith
-
--- e is not, and no edge up to it is known
-pub settled-refused : (g : Graph) (f asked : Set) (known : Option ℕ) (e : ℕ) → Within (size g) e → f e ≡ true → (AllowedBy g f e → ⊥) → IsBehind e known → Settled g f asked known → Settled g f (asked_too asked e) (Some e)
-settled-refused g f asked known e within marked refused behind is = grind arith
 
 -- the same edges asked
 pub settled-same : (g : Graph) (f asked others : Set) (known : Option ℕ) → ((e : ℕ) → others e ≡ asked e) → Settled g f asked known → Settled g f others known

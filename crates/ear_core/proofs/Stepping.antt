@@ -1,14 +1,14 @@
 -- The builder step by step. An edge off the stage leads out of it as long as one is left; a step
 -- of ears that hold the mates of their vertices keeps this of the stage; and steps that go on
 -- from a stage make a list with those before.
-use Rattle.std.proofs.Common.{◌≡◌, ℕ, ◌+◌, ◌≤◌, Bool, true, false, cond, ◌==◌, refl, sym, ap, ◌∙◌, arith, ◌&&◌, ◌||◌, not, eq-eqb, inl, inr, subst, [], ◌∷◌, ◌++◌, List, Result, Ok, Err, IfOk, length, append_assoc, rules}
+use Rattle.std.proofs.Common.{◌≡◌, ℕ, ◌+◌, ◌≤◌, Bool, true, false, refl, sym, ap, ◌∙◌, arith, ◌&&◌, ◌||◌, not, eq-eqb, inl, inr, subst, [], ◌∷◌, ◌++◌, List, Result, IfOk, append_assoc}
 use Rattle.std.proofs.Math.Path.{fun_ext}
 use Rattle.std.proofs.lemmas.Bool.{true_from_ne_false}
-use Rattle.counting.proofs.Common.{cases_Bool, both_ways, true≢false, false_from_ne_true, or_left, or_right, or_cases, count_complement, odd_pos, AllByRecursion, count, Within, mem, IsIn, Set, none, singleton, complement}
+use Rattle.counting.proofs.Common.{cases_Bool, both_ways, true≢false, false_from_ne_true, or_left, or_right, or_cases, count_complement, AllByRecursion, count, Within, mem, IsIn, Set, none, singleton, complement}
 use Rattle.barrier_kit.proofs.Common.{cut_edge}
 use Rattle.graph_core.proofs.Common.{IsCovered, Graph, size, first_end, second_end, IsGraph, IsMultigraph, HasPerfect, Allowed}
 use Rattle.match_core.specs.Common.{MatchingValue, edges_of}
-use Rattle.ear_core.specs.Common.{mate, IsPerfectRows, row_edge, KeepsMates, IsMatedEar, AreMatedEars, AreCandidates, IsChosen, PlainEar, PlainStep, one, two, next_stage, IsStep, AreSteps, IsSingle, FitsStep, PlainEars, FitsEars, HasEdges, IsEarList, other_end, trail, IsEar, odds, is_met, IsStage, with_edges}
+use Rattle.ear_core.specs.Common.{mate, IsPerfectRows, row_edge, KeepsMates, IsMatedEar, AreMatedEars, AreCandidates, IsChosen, PlainEar, PlainStep, one, two, next_stage, IsStep, AreSteps, IsSingle, FitsStep, PlainEars, FitsEars, HasEdges, IsEarList, trail, IsEar, odds, is_met, IsStage, with_edges}
 use Rattle.ear_core.proofs.EngineGraphs.{ends-met}
 use Rattle.ear_core.proofs.FirstStage.{one-ends, step-adds}
 use Rattle.ear_core.proofs.TraceEdges.{mem_times, mem_odds, degree_le, met-some, some-met}
@@ -17,7 +17,6 @@ use Rattle.ear_core.proofs.Mates.{row-found, row-is, rows-mates}
 use Rattle.ear_core.proofs.NextStages.{second_ear}
 use Rattle.ear_core.proofs.Rounds.{mated-candidates}
 use Rattle.ear_core.proofs.Searching.{ear-fits}
-use Rattle.ear_core.proofs.Walking.{joins}
 
 -- an edge leads out of the stage
 abbrev leads_out_of : Graph → Set → Set

@@ -1,9 +1,9 @@
 -- Is a trace a walk? Yes, by its edges from the start to each of its vertices; and a walk by some
 -- edges is one by more.
-use Rattle.std.proofs.Common.{◌≡◌, ℕ, true, false, cond, ◌==◌, refl, sym, ap, ap₂, ◌∙◌, ◌&&◌, ◌||◌, eq-eqb, ne_eqb, eqb-true, inl, inr, [], ◌∷◌, List, arith, rules}
-use Rattle.counting.proofs.Common.{cases_eq, and_parts, and_from, true≢false, or_left, or_right, or_cases, true_some, some_true, or_second, mem, Set}
+use Rattle.std.proofs.Common.{◌≡◌, ℕ, true, ◌==◌, refl, ◌&&◌, ◌||◌, eq-eqb, eqb-true, inl, inr, [], ◌∷◌, List, arith}
+use Rattle.counting.proofs.Common.{and_parts, and_from, or_left, or_right, or_cases, true_some, some_true, mem, Set}
 use Rattle.ear_core.specs.Common.{other_end, Follow, trail, adjacent_by}
-use Rattle.graph_core.proofs.Common.{has_ends-own, has_ends-back, Graph, size, first_end, second_end, has_ends, Walk}
+use Rattle.graph_core.proofs.Common.{Graph, size, first_end, second_end, has_ends, Walk}
 
 pub adjacent_by-back : (g : Graph) (f : Set) (u v : ℕ) → adjacent_by g f u v ≡ true → adjacent_by g f v u ≡ true
 adjacent_by-back g f u v h = grind arith

@@ -1,8 +1,8 @@
 -- Walking along an ear edge by edge, with the inner vertices so far at hand: what is left of the
 -- ear goes on as a path if each edge is at the vertex reached, the next vertex is new, and
 -- only the last may be the first.
-use Rattle.std.proofs.Common.{◌≡◌, ℕ, suc, Bool, true, false, ◌==◌, refl, sym, ap, ap₂, ◌∙◌, arith, ◌&&◌, ◌||◌, not, nat_le, eq-eqb, ne_eqb, eqb-true, le-leb, inl, inr, [], ◌∷◌, List, length, All, rules}
-use Rattle.counting.proofs.Common.{cases_eq, true≢false, and_false, or_assoc_back, Within, mem, Set, none}
+use Rattle.std.proofs.Common.{◌≡◌, ℕ, suc, Bool, true, false, ◌==◌, refl, sym, ap, ap₂, ◌∙◌, arith, ◌&&◌, ◌||◌, not, nat_le, eqb-true, le-leb, [], ◌∷◌, List, length, All}
+use Rattle.counting.proofs.Common.{true≢false, or_assoc_back, Within, mem, Set, none}
 use Rattle.std.proofs.Math.Path.{fun_ext}
 use Rattle.graph_core.proofs.Common.{Graph, size, first_end, second_end}
 use Rattle.ear_core.specs.Common.{other_end, trail, last_vertex, is_path, follows, front, inner_vertices, repeats, no_member}

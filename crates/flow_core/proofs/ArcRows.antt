@@ -12,8 +12,7 @@ abbrev pub with_place : List (List ℕ) → ℕ → ℕ → List (List ℕ)
 with_place rows v i = set rows v (row_of rows v ++ i ∷ [])
 
 Contains-push : (xs : List ℕ) (i j : ℕ) → Contains xs j → Contains (xs ++ i ∷ []) j
-Contains-push xs i j h =
-    (h.0, let l = h.1 in omega (arith, length-append xs (i ∷ [])), get_or_append_left xs (i ∷ []) j h.0 h.1 ∙ h.2)
+Contains-push xs i j h = grind (arith, length-append xs (i ∷ []), get_or_append_left xs (i ∷ []) j h.0 h.1)
 
 Contains-last : (xs : List ℕ) (i : ℕ) → Contains (xs ++ i ∷ []) i
 Contains-last xs i = (length xs, omega (arith, length-append xs (i ∷ [])), get_or-append_seam xs i [] i)

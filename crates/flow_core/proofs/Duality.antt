@@ -2,8 +2,8 @@
 -- with room, it is the least minimum cut. Idea: sum what goes out of the nodes of a set, node by
 -- node and arc by arc.
 use Rattle.std.proofs.Common.{◌≡◌, ℕ, suc, zero, ◌≤◌, ◌<◌, ◌≢◌, Bool, true, false, cond, ◌==◌, refl, sym, ap, ap₂, ◌∙◌, arith, ◌&&◌, ◌||◌, not, inl, inr, List, [], ◌∷◌, length, sum_by, eq-eqb, ne_eqb, All, if◌then◌else◌, ℤ, pos, neg_ℤ, ◌+ℤ◌, ◌-ℤ◌, ◌≤ℤ◌, ◌<ℤ◌, unsigned_abs}
-use Rattle.counting.proofs.Common.{cases_Bool, true≢false, both_ways, All-head, All-tail, sum_by-cons, Within, Set, singleton, mem}
-use Rattle.std.proofs.lemmas.Int.{ints, by_lt_z}
+use Rattle.counting.proofs.Common.{cases_Bool, true≢false, All-head, All-tail, sum_by-cons, Within, Set, singleton, mem}
+use Rattle.std.proofs.lemmas.Int.{ints}
 use Rattle.flow_core.specs.Common.{Arc, Net, IsArc, IsNet, leaves_set, value_of, total_capacity, Separates, IsLeastCut, out_by, goes_out, Fits, IsFlow, arc_at, amount_at, Joins, room_from, IsOpenWalk, IsReachedSet}
 use Rattle.flow_core.proofs.IntegerSums.{sum_to, sum_to-congr, sum_to-add, sum_to-sub, sum_to-zero, sum_to-one}
 
@@ -20,40 +20,29 @@ across x (arc ∷ arcs) (amount ∷ amounts) = through x arc amount +ℤ across 
 -- one end of an arc, summed over the nodes of x
 sum_to-end : (n : ℕ) (x : Set) (a : ℕ) (amount : ℤ) → Within n a → sum_to n (λ v. if x v then (if a == v then amount else pos 0) else pos 0) ≡ (if x a then amount else pos 0)
 sum_to-end n x a amount w =
-    sum_to-one n (λ v. if x v then (if a == v then amount else pos 0) else pos 0) a w (λ v u d. other (x v) (a == v) (ne_eqb a v (λ e. d (sym e))))
+    sum_to-one n (λ v. if x v then (if a == v then amount else pos 0) else pos 0) a w (λ v u d. (grind arith))
     ∙ ap (λ b. if x a then (if b then amount else pos 0) else pos 0) (eq-eqb a a refl)
-  where
-    other : (s t : Bool) → t ≡ false → (if s then (if t then amount else pos 0) else pos 0) ≡ pos 0
-    other true true h = absurd (true≢false h)
-    other true false h = refl
-    other false t h = refl
 
 -- what goes out of the nodes of x is what the arcs take out of x
 sum_to-goes_out : (n : ℕ) (x : Set) (arcs : List Arc) (amounts : List ℤ) → All (IsArc n) arcs → sum_to n (λ v. if x v then goes_out arcs amounts v else pos 0) ≡ across x arcs amounts
 sum_to-goes_out n x [] amounts h = sum_to-zero n (λ v. if x v then pos 0 else pos 0) (λ v w. same (x v))
   where
     same : (s : Bool) → (if s then pos 0 else pos 0) ≡ pos 0
-    same true = refl
-    same false = refl
+    same s = grind arith
 sum_to-goes_out n x (arc ∷ arcs) [] h = sum_to-zero n (λ v. if x v then pos 0 else pos 0) (λ v w. same (x v))
   where
     same : (s : Bool) → (if s then pos 0 else pos 0) ≡ pos 0
-    same true = refl
-    same false = refl
+    same s = grind arith
 sum_to-goes_out n x (arc ∷ arcs) (amount ∷ amounts) h =
     let i = All-head (IsArc n) arc arcs h in
     sum_to-congr n (λ v. if x v then (out_by v arc amount +ℤ goes_out arcs amounts v) else pos 0)
     (λ v. ((if x v then (if arc.a == v then amount else pos 0) else pos 0) -ℤ (if x v then (if arc.b == v then amount else pos 0) else pos 0)) +ℤ (if x v then goes_out arcs amounts v else pos 0))
-    (λ v w. split (x v) (if arc.a == v then amount else pos 0) (if arc.b == v then amount else pos 0) (goes_out arcs amounts v))
+    (λ v w. (grind arith))
     ∙ sum_to-add n (λ v. (if x v then (if arc.a == v then amount else pos 0) else pos 0) -ℤ (if x v then (if arc.b == v then amount else pos 0) else pos 0)) (λ v. if x v then goes_out arcs amounts v else pos 0)
     ∙ ap₂ ◌+ℤ◌
     (sum_to-sub n (λ v. if x v then (if arc.a == v then amount else pos 0) else pos 0) (λ v. if x v then (if arc.b == v then amount else pos 0) else pos 0)
     ∙ ap₂ ◌-ℤ◌ (sum_to-end n x arc.a amount i.from_a) (sum_to-end n x arc.b amount i.to_b))
     (sum_to-goes_out n x arcs amounts (All-tail (IsArc n) arc arcs h))
-  where
-    split : (s : Bool) (p q r : ℤ) → (if s then ((p -ℤ q) +ℤ r) else pos 0) ≡ ((if s then p else pos 0) -ℤ (if s then q else pos 0)) +ℤ (if s then r else pos 0)
-    split true p q r = refl
-    split false p q r = refl
 
 -- what the arc adds to the value of x
 abbrev share : Set → Arc → ℕ
@@ -65,22 +54,13 @@ record IsFull (x : Set) (arc : Arc) (amount : ℤ) : Type 0 where
   from_b : x arc.a ≡ false → x arc.b ≡ true → amount ≡ neg_ℤ (pos arc.capacity)
 
 arc_bound : (s t : Bool) (z : ℤ) (c : ℕ) → unsigned_abs z ≤ c → ((if s then z else pos 0) -ℤ (if t then z else pos 0)) ≤ℤ pos (cond ((s && not t) || (not s && t)) c 0)
-arc_bound true true z c h = omega (arith, ints)
-arc_bound true false z c h = omega (arith, ints)
-arc_bound false true z c h = omega (arith, ints)
-arc_bound false false z c h = omega (arith, ints)
+arc_bound s t z c h = grind arith
 
 arc_full : (s t : Bool) (z : ℤ) (c : ℕ) → unsigned_abs z ≤ c → ((if s then z else pos 0) -ℤ (if t then z else pos 0)) ≡ pos (cond ((s && not t) || (not s && t)) c 0) → (s ≡ true → t ≡ false → z ≡ pos c) × (s ≡ false → t ≡ true → z ≡ neg_ℤ (pos c))
-arc_full true true z c h e = (λ p q. absurd (true≢false q), λ p q. absurd (true≢false p))
-arc_full true false z c h e = (λ p q. omega (arith, ints), λ p q. absurd (true≢false p))
-arc_full false true z c h e = (λ p q. absurd (true≢false (sym p)), λ p q. omega (arith, ints))
-arc_full false false z c h e = (λ p q. absurd (true≢false (sym p)), λ p q. absurd (true≢false (sym q)))
+arc_full s t z c h e = grind arith
 
 full_arc : (s t : Bool) (z : ℤ) (c : ℕ) → (s ≡ true → t ≡ false → z ≡ pos c) → (s ≡ false → t ≡ true → z ≡ neg_ℤ (pos c)) → ((if s then z else pos 0) -ℤ (if t then z else pos 0)) ≡ pos (cond ((s && not t) || (not s && t)) c 0)
-full_arc true true z c f g = omega (arith, ints)
-full_arc true false z c f g = let e = f refl refl in omega (arith, ints)
-full_arc false true z c f g = let e = g refl refl in omega (arith, ints)
-full_arc false false z c f g = omega (arith, ints)
+full_arc s t z c f g = grind arith
 
 -- each arc that leaves x is full outward
 abbrev AllFull : Set → List Arc → List ℤ → Type 0
@@ -92,10 +72,7 @@ across_bound : (x : Set) (arcs : List Arc) (amounts : List ℤ) → Fits arcs am
 across_bound x [] [] f = omega (arith, ints)
 across_bound x [] (z ∷ amounts) f = absurd f
 across_bound x (arc ∷ arcs) [] f = absurd f
-across_bound x (arc ∷ arcs) (z ∷ amounts) f =
-    let i = across_bound x arcs amounts f.1 in
-    let j = arc_bound (x arc.a) (x arc.b) z arc.capacity f.0 in
-    let s = sum_by-cons (share x) arc arcs in omega (arith, ints)
+across_bound x (arc ∷ arcs) (z ∷ amounts) f = grind (arith, across_bound x arcs amounts f.1, arc_bound (x arc.a) (x arc.b) z arc.capacity f.0, sum_by-cons (share x) arc arcs)
 
 across-full : (x : Set) (arcs : List Arc) (amounts : List ℤ) → Fits arcs amounts → across x arcs amounts ≡ pos (sum_by (share x) arcs) → AllFull x arcs amounts
 across-full x [] [] f e = tt
@@ -112,10 +89,7 @@ full-across : (x : Set) (arcs : List Arc) (amounts : List ℤ) → Fits arcs amo
 full-across x [] [] f h = refl
 full-across x [] (z ∷ amounts) f h = absurd f
 full-across x (arc ∷ arcs) [] f h = absurd f
-full-across x (arc ∷ arcs) (z ∷ amounts) f h =
-    let i = full-across x arcs amounts f.1 h.1 in
-    let j = full_arc (x arc.a) (x arc.b) z arc.capacity h.0.from_a h.0.from_b in
-    let s = sum_by-cons (share x) arc arcs in omega (arith, ints)
+full-across x (arc ∷ arcs) (z ∷ amounts) f h = grind (arith, full-across x arcs amounts f.1 h.1, full_arc (x arc.a) (x arc.b) z arc.capacity h.0.from_a h.0.from_b, sum_by-cons (share x) arc arcs)
 
 -- as many amounts as arcs
 pub Fits-length : (arcs : List Arc) (amounts : List ℤ) → Fits arcs amounts → length amounts ≡ length arcs
@@ -145,35 +119,18 @@ AllFull-from x (arc ∷ arcs) (z ∷ amounts) f h =
 
 -- an arc that is full outward has no room out of x
 full_stays : (x : Set) (arc : Arc) (z : ℤ) → IsFull x arc z → (u w : ℕ) → Joins arc u w → x u ≡ true → x w ≡ false → pos 0 <ℤ room_from u arc z → ⊥
-full_stays x arc z f u w (inl j) p q r =
-    let e = f.from_a (ap x j.0 ∙ p) (ap x j.1 ∙ q) in
-    let t : (arc.a == u) ≡ true = eq-eqb arc.a u j.0 in
-    let s = rw t at r in omega (arith, ints)
-full_stays x arc z f u w (inr j) p q r =
-    let e = f.from_b (ap x j.1 ∙ q) (ap x j.0 ∙ p) in
-    let t : (arc.a == u) ≡ false = ne_eqb arc.a u (λ d. both_ways (x arc.a) (ap x j.1 ∙ q) (ap x d ∙ p)) in
-    let s = rw t at r in omega (arith, ints)
+full_stays x arc z f u w h p q r = grind arith
 
 -- and an arc with no room out of x is full outward
 stays_full : (x : Set) (arc : Arc) (z : ℤ) → unsigned_abs z ≤ arc.capacity → ((u w : ℕ) → Joins arc u w → x u ≡ true → x w ≡ false → pos 0 <ℤ room_from u arc z → ⊥) → IsFull x arc z
-stays_full x arc z fits h = record {
-  from_a = λ p q. high z arc.capacity fits (λ l. let t : (arc.a == arc.a) ≡ true = eq-eqb arc.a arc.a refl in h arc.a arc.b (inl (refl, refl)) p q (rw t (omega (arith, ints))));
-  from_b = λ p q. low z arc.capacity fits (λ l. let t : (arc.a == arc.b) ≡ false = ne_eqb arc.a arc.b (λ d. both_ways (x arc.a) p (ap x d ∙ q)) in h arc.b arc.a (inr (refl, refl)) q p (rw t (omega (arith, ints))));
-}
-  where
-    high : (y : ℤ) (c : ℕ) → unsigned_abs y ≤ c → (y <ℤ pos c → ⊥) → y ≡ pos c
-    high y c l n = by_lt_z y (pos c) (λ s. absurd (n s)) (λ s. omega (arith, ints))
-
-    low : (y : ℤ) (c : ℕ) → unsigned_abs y ≤ c → (neg_ℤ (pos c) <ℤ y → ⊥) → y ≡ neg_ℤ (pos c)
-    low y c l n = by_lt_z (neg_ℤ (pos c)) y (λ s. absurd (n s)) (λ s. omega (arith, ints))
+stays_full x arc z fits h = grind arith
 
 -- no set is worth more than all arcs
 pub value_of-le-total : (net : Net) (x : Set) → value_of net x ≤ total_capacity net
 value_of-le-total net x = go net.arcs
   where
     part : (b : Bool) (c : ℕ) → cond b c 0 ≤ c
-    part true c = omega arith
-    part false c = omega arith
+    part b c = grind arith
 
     go : (arcs : List Arc) → sum_by (share x) arcs ≤ sum_by (λ (arc : Arc). arc.capacity) arcs
     go [] = omega arith
@@ -185,12 +142,8 @@ module _ (net : Net) (source sink : ℕ) (amounts : List ℤ) (value : ℕ) (is 
   flow_across : (x : Set) → Separates source sink x → pos value ≡ across x net.arcs amounts
   flow_across x s =
       sym flow.gives ∙ sym (ap (λ b. if b then goes_out net.arcs amounts source else pos 0) s.holds)
-      ∙ sym (sum_to-one net.nodes (λ v. if x v then goes_out net.arcs amounts v else pos 0) source from (λ v w d. go v w d (x v) refl))
+      ∙ sym (sum_to-one net.nodes (λ v. if x v then goes_out net.arcs amounts v else pos 0) source from (λ v w d. (grind arith)))
       ∙ sum_to-goes_out net.nodes x net.arcs amounts is
-    where
-      go : (v : ℕ) → Within net.nodes v → v ≢ source → (b : Bool) → x v ≡ b → (if b then goes_out net.arcs amounts v else pos 0) ≡ pos 0
-      go v w d true e = flow.kept v w d (λ t. both_ways (x v) (ap x t ∙ s.lacks) e)
-      go v w d false e = refl
 
   -- weak duality: no flow is more than a cut
   pub flow-le-value_of : (x : Set) → Separates source sink x → value ≤ value_of net x
@@ -198,9 +151,7 @@ module _ (net : Net) (source sink : ℕ) (amounts : List ℤ) (value : ℕ) (is 
 
   -- no flow is more than all arcs
   pub flow-le-total : source ≢ sink → value ≤ total_capacity net
-  flow-le-total d =
-      let b = flow-le-value_of (singleton source) (record { holds = eq-eqb source source refl; lacks = ne_eqb source sink d }) in
-      let t = value_of-le-total net (singleton source) in omega arith
+  flow-le-total d = grind (arith, flow-le-value_of (singleton source), eq-eqb source source refl, ne_eqb source sink d, value_of-le-total net (singleton source))
 
   -- where a flow is as much as a cut, the arcs of the cut are full
   cut_full : (x : Set) → Separates source sink x → value_of net x ≡ value → AllFull x net.arcs amounts

@@ -1,6 +1,6 @@
 -- Sums of integers over the numbers 1 to n: term by term, and a sum with one term that is not zero.
 -- Idea: induction on n.
-use Rattle.std.proofs.Common.{◌≡◌, ℕ, suc, zero, ◌≢◌, refl, ap, ap₂, arith, inl, inr, ℤ, pos, ◌+ℤ◌, ◌-ℤ◌}
+use Rattle.std.proofs.Common.{◌≡◌, ℕ, suc, zero, ◌≢◌, refl, ap₂, arith, inl, inr, ℤ, pos, ◌+ℤ◌, ◌-ℤ◌}
 use Rattle.counting.proofs.Common.{cases_eq, Within}
 use Rattle.std.proofs.lemmas.Int.{ints}
 
@@ -32,9 +32,7 @@ sum_to-zero (suc n) f h =
 pub sum_to-one : (n : ℕ) (f : ℕ → ℤ) (a : ℕ) → Within n a → ((v : ℕ) → Within n v → v ≢ a → f v ≡ pos 0) → sum_to n f ≡ f a
 sum_to-one zero f a w h = absurd (omega arith)
 sum_to-one (suc n) f a w h = elim (cases_eq a (suc n)) [
-  | inl e ↦
-      let z : sum_to n f ≡ pos 0 = sum_to-zero n f (λ v u. h v (omega arith) (omega arith)) in
-      let q = ap f e in omega (arith, ints)
+  | inl e ↦ grind (arith, sum_to-zero n f)
   | inr e ↦
       let i = sum_to-one n f a (omega arith) (λ v u d. h v (omega arith) d) in
       let j = h (suc n) (omega arith) (omega arith) in omega (arith, ints)

@@ -13,9 +13,7 @@ use Rattle.flow_core.proofs.Scanning.{Leads, taken, end_within}
 total-less : (n : ℕ) (f g : ℕ → ℕ) (a : ℕ) → Within n a → ((v : ℕ) → Within n v → v ≢ a → f v ≡ g v) → f a + 1 ≡ g a → total n f + 1 ≡ total n g
 total-less zero f g a w h e = absurd (omega arith)
 total-less (suc n) f g a w h e = elim (cases_eq a (suc n)) [
-  | inl t ↦
-      let same : total n f ≡ total n g = total_congr n f g (λ v u. h v (omega arith) (omega arith)) in
-      let last : f (suc n) + 1 ≡ g (suc n) = subst (λ k. f k + 1 ≡ g k) t e in omega arith
+  | inl t ↦ grind (arith, total_congr n f g)
   | inr d ↦
       let less = total-less n f g a (omega arith) (λ v u k. h v (omega arith) k) e in
       let last = h (suc n) (omega arith) (omega arith) in omega arith
@@ -40,16 +38,7 @@ pub record IsLastRead (net : Net) (places : List ℕ) (path : List Visit) (last 
 
 pub last-read : (net : Net) (rows : List (List ℕ)) (amounts : List ℤ) (levels places : List ℕ) (path : List Visit) → IsLaid net rows amounts levels places path → (last : ℕ) → length path ≡ last + 1 → (from : Visit) → from ≡ get_or path last from
     → (place : ℕ) → place ≡ get_or places from.node place → IsLastRead net places path last from place
-last-read net rows amounts levels places path laid last long from f place p = record { is = is; within = within; at = at }
-  where
-    is : visit_at path last ≡ from
-    is = sym (get_or_read path last from (omega arith) f (record { node = 0; parent = 0; arc = 0; room = 0 }))
-
-    within : Within net.nodes from.node
-    within = subst (λ (u : Visit). Within net.nodes u.node) is (laid.tree.nodes last (omega arith))
-
-    at : slice_index places from.node ≡ place
-    at = sym (get_or_read places from.node place (let all = laid.all_places in let w = within in omega arith) p 0)
+last-read net rows amounts levels places path laid last long from f place p = grind (arith, get_or_read path last from, slice_index places from.node, get_or_read places from.node place)
 
 -- the path goes on to a node of the next level
 module _ (net : Net) (rows : List (List ℕ)) (amounts : List ℤ) (levels places : List ℕ) (path : List Visit) (laid : IsLaid net rows amounts levels places path)
@@ -62,9 +51,7 @@ module _ (net : Net) (rows : List (List ℕ)) (amounts : List ℤ) (levels place
   old j m = ap (λ (u : Visit). u.node) (visit_at-push path visit j m)
 
   on : slice_index places (node_at path last) < length (row_of rows (node_at path last))
-  on =
-      subst (λ (u : Visit). slice_index places u.node < length (row_of rows u.node)) (sym is)
-      (let e = ap (λ (xs : List ℕ). length xs) lists in omega arith)
+  on = grind arith
 
   pub IsLaid-push : IsLaid net rows amounts levels places (path ++ taken node last (get_or row place 0) (min room from.room) ∷ [])
   IsLaid-push = record {
@@ -95,8 +82,7 @@ module _ (net : Net) (rows : List (List ℕ)) (amounts : List ℤ) (levels place
 -- with a step back there is less left
 pub work-back : (nodes : ℕ) (rows : List (List ℕ)) (places : List ℕ) (path : List Visit) (v last : ℕ) → length path ≡ last + 1 → Within nodes v → v < length places → slice_index places v < length (row_of rows v)
     → work_left nodes rows (set places v (slice_index places v + 1)) (take last path) < work_left nodes rows places path
-work-back nodes rows places path v last l w m p =
-    let a = arcs_left-pass nodes rows places v w m p in let t = long-take path last (omega arith) in omega arith
+work-back nodes rows places path v last l w m p = grind (arith, arcs_left-pass nodes rows places v w m p, long-take path last)
 
 -- and with an arc that is passed over
 pub work-pass : (nodes : ℕ) (rows : List (List ℕ)) (places : List ℕ) (path : List Visit) (v : ℕ) → Within nodes v → v < length places → slice_index places v < length (row_of rows v)

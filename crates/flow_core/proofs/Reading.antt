@@ -1,6 +1,6 @@
 -- What the code reads of a net: its arcs, the rows of its nodes and the amounts on its arcs.
 -- Idea: each is a reading law of lists, at the one default that the definitions use.
-use Rattle.std.proofs.Common.{◌≡◌, ℕ, zero, suc, ◌<◌, ◌≤◌, ◌^◌, List, [], ◌∷◌, ◌++◌, length, get_or, set, refl, sym, ◌∙◌, ap, ap₂, subst, arith, w64, to_z, of_z, All, ℤ, pos, slice_get, Some, unsigned_abs}
+use Rattle.std.proofs.Common.{◌≡◌, ℕ, zero, suc, ◌<◌, ◌≤◌, ◌^◌, List, [], ◌∷◌, ◌++◌, length, get_or, set, refl, sym, ◌∙◌, subst, arith, w64, to_z, of_z, All, ℤ, pos, slice_get, Some, unsigned_abs}
 use mir.Val.{SFits}
 use Rattle.std.specs.Global.{Vec}
 use Rattle.std.proofs.lemmas.Int.{to_z-of_z}
@@ -24,13 +24,7 @@ capacity-below net b i l = let c = capacity-le-total net i l in let t = b.total 
 
 -- a row that has grown at its end
 pub rows_of-push : (rows : List (Vec ℕ)) (view : List (List ℕ)) → rows_of rows ≡ view → (v : ℕ) → v < length view → (row new : Vec ℕ) → row ≡ get_or rows v row → (i : ℕ) → new.items ≡ row.items ++ i ∷ [] → rows_of (set rows v new) ≡ set view v (row_of view v ++ i ∷ [])
-rows_of-push rows view is v l row new e i grown =
-    let items : Vec ℕ → List ℕ = λ (r : Vec ℕ). r.items in
-    let at : v < length rows = let m = length-map rows items in let n = ap length is in omega arith in
-    let read : row_of (rows_of rows) v ≡ row.items = get_or-map items rows v row [] at ∙ ap items (sym e) in
-    map-set items rows v new
-    ∙ ap₂ (λ (xs : List (List ℕ)) (r : List ℕ). set xs v r) is
-    (grown ∙ ap (λ (r : List ℕ). r ++ i ∷ []) (sym read ∙ ap (λ (xs : List (List ℕ)). row_of xs v) is))
+rows_of-push rows view is v l row new e i grown = grind (arith, length-map, get_or-map, map-set)
 
 -- rows that are all empty
 pub rows_of-empty : (rows : List (Vec ℕ)) → All (λ (row : Vec ℕ). row.items ≡ []) rows → (v : ℕ) → row_of (rows_of rows) v ≡ []

@@ -1,12 +1,11 @@
 -- The arcs at one node, scanned one by one: each has no room out of the node, or leads to a node
 -- that is seen then. Idea: the arcs scanned so far stay scanned while the seen nodes grow, and
 -- the rows list every arc at the node.
-use Rattle.std.proofs.Common.{◌≡◌, ◌≢◌, ℕ, ◌+◌, ◌-◌, ◌≤◌, ◌<◌, ◌==◌, ◌||◌, true, false, List, [], ◌∷◌, ◌++◌, length, get_or, min, refl, sym, ◌∙◌, ap, subst, arith, inl, inr, eq-eqb, ne_eqb, below_more, length-append, ℤ, pos, ◌<ℤ◌, Contains}
+use Rattle.std.proofs.Common.{◌≡◌, ◌≢◌, ℕ, ◌+◌, ◌≤◌, ◌<◌, ◌==◌, ◌||◌, true, false, List, [], ◌∷◌, ◌++◌, length, get_or, min, refl, sym, ◌∙◌, ap, subst, arith, inl, inr, eq-eqb, ne_eqb, below_more, length-append, ℤ, pos, ◌<ℤ◌, Contains}
 use Rattle.counting.proofs.Common.{or_right, or_left, get_or_read, get_or-append_seam, Within, Set, mem, row_of}
 use Rattle.std.proofs.lemmas.Int.{ints}
 use Rattle.flow_core.specs.Common.{Arc, Net, IsArc, IsNet, arc_at, amount_at, Joins, room_from, HasRoom, IsScanned, HasEnd, IsIncidence, visit_at, node_at, first_node, last_node, IsStep, IsTree, IsSeen, IsSearch}
 use Rattle.flow_core.specs.declared.search.Visit.{Visit}
-use Rattle.flow_core.proofs.Reading.{IsNet-at}
 use Rattle.flow_core.proofs.SearchTrees.{IsTree-push, IsSeen-push, unseen-new, visit_at-push, room-some}
 
 -- arc i has no room out of u, or leads into x
@@ -22,34 +21,16 @@ pub record IsScanning (net : Net) (amounts : List ℤ) (sink head : ℕ) (from :
 
 -- an arc has one other end
 pub other_end : (n : ℕ) (arc : Arc) (u v w : ℕ) → IsArc n arc → Joins arc u v → Joins arc u w → w ≡ v
-other_end n arc u v w is (inl x) (inl y) = sym y.1 ∙ x.1
-other_end n arc u v w is (inl x) (inr y) = absurd (is.differ (x.0 ∙ sym y.0))
-other_end n arc u v w is (inr x) (inl y) = absurd (is.differ (y.0 ∙ sym x.0))
-other_end n arc u v w is (inr x) (inr y) = sym y.1 ∙ x.1
+other_end n arc u v w is h k = grind arith
 
 -- the other end is a node
 pub end_within : (n : ℕ) (arc : Arc) (u w : ℕ) → IsArc n arc → Joins arc u w → Within n w
-end_within n arc u w is (inl x) = subst (Within n) x.1 is.to_b
-end_within n arc u w is (inr x) = subst (Within n) x.1 is.from_a
+end_within n arc u w is h = grind arith
 
 -- what stands at a place of a row: an arc of the net with an end at the row's node
 pub record IsPlaced (net : Net) (u : ℕ) (row : List ℕ) (place : ℕ) : Type 0 where
   pub is_arc : get_or row place 0 < length net.arcs
   pub end : HasEnd (arc_at net.arcs (get_or row place 0)) u
-
-pub IsPlaced-row : (net : Net) (rows : List (List ℕ)) (u : ℕ) (row : List ℕ) (place : ℕ) → IsIncidence net rows → row ≡ row_of rows u → place < length row → IsPlaced net u row place
-IsPlaced-row net rows u row place lists e l =
-    subst (λ (xs : List ℕ). IsPlaced net u xs place) (sym e)
-    (let h = lists.ends u place 0 (subst (λ (xs : List ℕ). place < length xs) e l) in record { is_arc = h.0; end = h.1 })
-
--- at the start of the row
-pub IsScanning-start : (net : Net) (amounts : List ℤ) (sink head : ℕ) (row : List ℕ) (visits : List Visit) (seen : List ℕ) → IsSearch net amounts sink head visits seen → head < length visits → IsScanning net amounts sink head (visit_at visits head) row 0 visits seen
-IsScanning-start net amounts sink head row visits seen s l = record {
-  search = s;
-  long = l;
-  at_head = refl;
-  done = λ p q. absurd (omega arith);
-}
 
 -- where an arc at the row's node leads, and how much more it can take there
 pub record Leads (net : Net) (amounts : List ℤ) (u : ℕ) (row : List ℕ) (place node room : ℕ) : Type 0 where
@@ -62,36 +43,7 @@ pub record Leads (net : Net) (amounts : List ℤ) (u : ℕ) (row : List ℕ) (pl
 pub Leads-read : (net : Net) → IsNet net → (rows : List (List ℕ)) → IsIncidence net rows → (amounts : List ℤ) (u : ℕ) (row : List ℕ) → row ≡ row_of rows u → (place : ℕ) → place < length row
     → (node : ℕ) → Joins (arc_at net.arcs (get_or row place 0)) u node → (room : ℕ) → pos room ≡ room_from u (arc_at net.arcs (get_or row place 0)) (amount_at amounts (get_or row place 0))
     → Leads net amounts u row place node room
-Leads-read net is rows lists amounts u row e place l node joins room r = record {
-  is_arc = p.is_arc;
-  in_order = IsNet-at net is (get_or row place 0) p.is_arc;
-  joins = joins;
-  room_is = r;
-}
-  where
-    p : IsPlaced net u row place
-    p = IsPlaced-row net rows u row place lists e l
-
--- an arc is passed over: its other end is seen, or it has no room
-pub IsScanning-seen : (net : Net) (amounts : List ℤ) (sink head : ℕ) (from : Visit) (row : List ℕ) (place : ℕ) (visits : List Visit) (seen : List ℕ) → IsScanning net amounts sink head from row place visits seen
-    → (node : ℕ) → IsArc net.nodes (arc_at net.arcs (get_or row place 0)) → Joins (arc_at net.arcs (get_or row place 0)) from.node node → mem seen node ≡ true
-    → IsScanning net amounts sink head from row (place + 1) visits seen
-IsScanning-seen net amounts sink head from row place visits seen s node is joins m = record {
-  search = s.search;
-  long = s.long;
-  at_head = s.at_head;
-  done = below_more (λ p. IsArcScanned net.arcs amounts (mem seen) from.node (get_or row p 0)) place s.done (λ w k r. ap (mem seen) (other_end net.nodes (arc_at net.arcs (get_or row place 0)) from.node node w is joins k) ∙ m);
-}
-
-pub IsScanning-full : (net : Net) (amounts : List ℤ) (sink head : ℕ) (from : Visit) (row : List ℕ) (place : ℕ) (visits : List Visit) (seen : List ℕ) → IsScanning net amounts sink head from row place visits seen
-    → (node : ℕ) → Leads net amounts from.node row place node 0
-    → IsScanning net amounts sink head from row (place + 1) visits seen
-IsScanning-full net amounts sink head from row place visits seen s node t = record {
-  search = s.search;
-  long = s.long;
-  at_head = s.at_head;
-  done = below_more (λ p. IsArcScanned net.arcs amounts (mem seen) from.node (get_or row p 0)) place s.done (λ w k r. let e = t.room_is in absurd (omega (arith, ints)));
-}
+Leads-read net is rows lists amounts u row e place l node joins room r = grind arith
 
 -- a visit with these parts
 abbrev pub taken : ℕ → ℕ → ℕ → ℕ → Visit
@@ -142,10 +94,7 @@ module _ (net : Net) (amounts : List ℤ) (sink head : ℕ) (from : Visit) (row 
 
   -- its last node
   taken-last : last_node longer ≡ node
-  taken-last =
-      let e : length longer - 1 ≡ length visits = let l = ap (λ (vs : List Visit). length vs) grown in omega (arith, length-append visits (last ∷ [])) in
-      ap (node_at longer) e ∙ ap (λ (vs : List Visit). node_at vs (length visits)) grown
-      ∙ ap (λ (u : Visit). u.node) (get_or-append_seam visits last [] (record { node = 0; parent = 0; arc = 0; room = 0 }))
+  taken-last = grind (arith, length-append visits (last ∷ []), get_or-append_seam visits last)
 
   -- an earlier visit stays
   earlier : (j : ℕ) → j < length visits → visit_at longer j ≡ visit_at visits j

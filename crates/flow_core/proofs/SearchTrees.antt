@@ -1,10 +1,9 @@
 -- Search trees: how they grow, that each node is reached from the root over arcs with room, and
 -- that no arc is used twice. Idea: a visit is at a new node, so its arc has an end that no
 -- earlier arc has.
-use Rattle.std.proofs.Common.{◌≡◌, ◌≢◌, ℕ, zero, suc, ◌+◌, ◌-◌, ◌≤◌, ◌<◌, ◌^◌, ◌==◌, ◌||◌, Bool, true, false, cond, List, [], ◌∷◌, ◌++◌, length, get_or, refl, sym, ◌∙◌, ap, subst, arith, inl, inr, eq-eqb, ne_eqb, length-append, ℤ}
-use Rattle.counting.proofs.Common.{get_or-append_seam, cases_eq, both_ways, or_right, or_left, get_or_append_left, mem-item, count_of_one, count_congr, count_le, count_put, or_false, or_true, Within, count, bit, Set, put, everything, mem, IsRisingIn}
-use Rattle.std.proofs.lemmas.Int.{ints}
-use Rattle.flow_core.specs.Common.{Arc, Net, arc_at, Joins, HasRoom, IsReached, IsScanned, IsReachedSet, visit_at, node_at, IsStep, IsVisit, IsTree, IsSeen, IsSearch}
+use Rattle.std.proofs.Common.{◌≡◌, ◌≢◌, ℕ, zero, suc, ◌+◌, ◌≤◌, ◌<◌, ◌^◌, ◌==◌, ◌||◌, true, false, List, [], ◌∷◌, ◌++◌, length, refl, sym, ◌∙◌, ap, subst, arith, inl, inr, eq-eqb, ne_eqb, length-append, ℤ}
+use Rattle.counting.proofs.Common.{get_or-append_seam, cases_eq, both_ways, or_right, or_left, get_or_append_left, mem-item, count_of_one, count_congr, count_le, count_put, Within, count, bit, Set, put, everything, mem, IsRisingIn}
+use Rattle.flow_core.specs.Common.{Arc, Net, HasRoom, IsReached, IsScanned, IsReachedSet, visit_at, node_at, IsStep, IsVisit, IsTree, IsSeen, IsSearch}
 use Rattle.flow_core.specs.declared.search.Visit.{Visit}
 
 -- the default visit
@@ -27,10 +26,7 @@ IsVisit-push arcs amounts visits visit j l v =
     let was = visit_at visits j in
     let from : visit_at longer was.parent ≡ visit_at visits was.parent = visit_at-push visits visit was.parent (let e = v.earlier in omega arith) in
     let is : visit_at longer j ≡ was = visit_at-push visits visit j l in
-    record {
-      earlier = subst (λ (u : Visit). u.parent < j) (sym is) v.earlier;
-      step = subst (λ (u : Visit). IsStep arcs amounts (visit_at longer u.parent) u) (sym is) (subst (λ (u : Visit). IsStep arcs amounts u was) (sym from) v.step);
-    }
+    grind arith
 
 -- the last visit
 IsVisit-last : (arcs : List Arc) (amounts : List ℤ) (visits : List Visit) (visit : Visit) → visit.parent < length visits → IsStep arcs amounts (visit_at visits visit.parent) visit → IsVisit arcs amounts (visits ++ visit ∷ []) (length visits)
@@ -38,52 +34,17 @@ IsVisit-last arcs amounts visits visit l s =
     let longer = visits ++ visit ∷ [] in
     let from : visit_at longer visit.parent ≡ visit_at visits visit.parent = visit_at-push visits visit visit.parent l in
     let is : visit_at longer (length visits) ≡ visit = visit_at-last visits visit in
-    record {
-      earlier = subst (λ (u : Visit). u.parent < length visits) (sym is) l;
-      step = subst (λ (u : Visit). IsStep arcs amounts (visit_at longer u.parent) u) (sym is) (subst (λ (u : Visit). IsStep arcs amounts u visit) (sym from) s);
-    }
+    grind arith
 
 -- a new node adds one to the size of the set
 count-with : (n : ℕ) (x y : Set) (v : ℕ) → Within n v → x v ≡ false → ((w : ℕ) → y w ≡ (x w || v == w)) → count n y ≡ count n x + 1
 count-with n x y v w f h =
-    let c = count_congr n y (put x v true) (λ u t. h u ∙ same u) in
+    let c = count_congr n y (put x v true) (λ u t. h u ∙ (grind arith)) in
     let p = count_put n x v true w in
     let z : bit (x v) ≡ 0 = ap bit f in omega arith
-  where
-    same : (u : ℕ) → (x u || v == u) ≡ put x v true u
-    same u = elim (cases_eq u v) [
-      | inl e ↦
-          let a : (v == u) ≡ true = eq-eqb v u (sym e) in
-          let b : (u == v) ≡ true = eq-eqb u v e in
-          ap (λ t. x u || t) a ∙ or_true (x u) ∙ sym (ap (λ t. cond t true (x u)) b)
-      | inr d ↦
-          let a : (v == u) ≡ false = ne_eqb v u (λ e. d (sym e)) in
-          let b : (u == v) ≡ false = ne_eqb u v d in
-          ap (λ t. x u || t) a ∙ or_false (x u) ∙ sym (ap (λ t. cond t true (x u)) b)
-    ]
-
--- one visit, at the root
-pub IsTree-root : (net : Net) (amounts : List ℤ) (visit : Visit) → Within net.nodes visit.node → visit.room ≡ 2 ^ 63 - 1 → IsTree net amounts (visit ∷ [])
-IsTree-root net amounts visit w r = record {
-  some = omega arith;
-  root = r;
-  each = λ j p l. absurd (omega arith);
-  nodes = λ j l. let e : 0 ≡ j = omega arith in subst (λ i. Within net.nodes (node_at (visit ∷ []) i)) e w;
-  distinct = λ i j k l. absurd (omega arith);
-}
 
 pub IsSeen-root : (net : Net) (visit : Visit) (seen : List ℕ) → Within net.nodes visit.node → ((v : ℕ) → mem seen v ≡ (visit.node == v)) → IsSeen net (visit ∷ []) seen
-IsSeen-root net visit seen w h = record {
-  all_seen = λ j l. let e : 0 ≡ j = omega arith in subst (λ i. mem seen (node_at (visit ∷ []) i) ≡ true) e (h visit.node ∙ eq-eqb visit.node visit.node refl);
-  seen_only = λ v m. (0, omega arith, same v m);
-  size = sym (count_congr net.nodes (mem seen) (λ v. visit.node == v) (λ v k. h v) ∙ count_of_one net.nodes everything visit.node w);
-}
-  where
-    same : (v : ℕ) → mem seen v ≡ true → visit.node ≡ v
-    same v m = elim (cases_eq visit.node v) [
-      | inl e ↦ e
-      | inr d ↦ absurd (both_ways (mem seen v) (h v ∙ ne_eqb visit.node v d) m)
-    ]
+IsSeen-root net visit seen w h = grind (arith, eq-eqb visit.node visit.node refl, count_congr net.nodes (mem seen), count_of_one net.nodes everything visit.node w)
 
 -- a place of the longer list is old or the last
 old_place : (visits : List Visit) (visit : Visit) (j : ℕ) → j < length (visits ++ visit ∷ []) → j ≢ length visits → j < length visits
@@ -112,9 +73,7 @@ IsTree-push net amounts visits tree visit p s w new = record {
   ];
   distinct = λ i j k l e. elim (cases_eq j (length visits)) [
     | inl g ↦ new i (omega arith) (sym (old_node visits visit i (omega arith)) ∙ e ∙ new_node visits visit j g)
-    | inr d ↦
-        let m = old_place visits visit j l d in
-        tree.distinct i j k m (sym (old_node visits visit i (omega arith)) ∙ e ∙ old_node visits visit j m)
+    | inr d ↦ grind (arith, old_place visits visit j l d, old_node visits visit i, old_node visits visit j)
   ];
 }
 
@@ -124,22 +83,11 @@ pub IsSeen-push : (net : Net) (visits : List Visit) (seen : List ℕ) → IsSeen
 IsSeen-push net visits seen set visit more w f h = record {
   all_seen = λ j l. elim (cases_eq j (length visits)) [
     | inl e ↦ ap (mem more) (new_node visits visit j e) ∙ h visit.node ∙ or_right (mem seen visit.node) (visit.node == visit.node) (eq-eqb visit.node visit.node refl)
-    | inr d ↦
-        let m = old_place visits visit j l d in
-        ap (mem more) (old_node visits visit j m) ∙ h (node_at visits j) ∙ or_left (mem seen (node_at visits j)) (visit.node == node_at visits j) (set.all_seen j m)
+    | inr d ↦ grind (arith, old_place visits visit j l d, old_node visits visit j, or_left (mem seen (node_at visits j)) (visit.node == node_at visits j))
   ];
-  seen_only = λ v m. place v (mem seen v) refl m;
+  seen_only = λ v m. (grind (arith, length-push visits visit, old_node visits visit, cases_eq visit.node v, new_node visits visit (length visits) refl, both_ways (mem more v), ne_eqb visit.node v));
   size = length-push visits visit ∙ ap (λ k. k + 1) set.size ∙ sym (count-with net.nodes (mem seen) (mem more) visit.node w f h);
 }
-  where
-    place : (v : ℕ) (b : Bool) → mem seen v ≡ b → mem more v ≡ true → (j : ℕ) × (j < length (visits ++ visit ∷ [])) × (node_at (visits ++ visit ∷ []) j ≡ v)
-    place v true e m =
-        let k = set.seen_only v e in
-        (k.0, let l = k.1 in omega (arith, length-push visits visit), old_node visits visit k.0 k.1 ∙ k.2)
-    place v false e m = elim (cases_eq visit.node v) [
-      | inl g ↦ (length visits, omega (arith, length-push visits visit), new_node visits visit (length visits) refl ∙ g)
-      | inr d ↦ absurd (both_ways (mem more v) (h v ∙ ap (λ t. t || visit.node == v) e ∙ ne_eqb visit.node v d) m)
-    ]
 
 -- a node that is not seen was not visited
 pub unseen-new : (net : Net) (visits : List Visit) (seen : List ℕ) → IsSeen net visits seen → (v : ℕ) → mem seen v ≡ false → (j : ℕ) → j < length visits → node_at visits j ≢ v
@@ -147,10 +95,7 @@ unseen-new net visits seen set v f j l e = both_ways (mem seen v) f (ap (mem see
 
 -- something can go to each visit
 pub room-some : (net : Net) (amounts : List ℤ) (visits : List Visit) → IsTree net amounts visits → (j : ℕ) → j < length visits → 0 < (visit_at visits j).room
-room-some net amounts visits tree j l = elim (cases_eq j 0) [
-  | inl e ↦ subst (λ i. 0 < (visit_at visits i).room) (sym e) (let r = tree.root in omega arith)
-  | inr d ↦ (tree.each j (omega arith) l).step.some
-]
+room-some net amounts visits tree j l = grind arith
 
 -- and no more than 2^63 - 1
 pub room-below : (net : Net) (amounts : List ℤ) (visits : List Visit) → IsTree net amounts visits → (j : ℕ) → j < length visits → (visit_at visits j).room < 2 ^ 63
@@ -168,17 +113,11 @@ room-below net amounts visits tree j l = go (suc j) j (omega arith) l
 
 -- no more visits than nodes
 pub visits-le-nodes : (net : Net) (visits : List Visit) (seen : List ℕ) → IsSeen net visits seen → length visits ≤ net.nodes
-visits-le-nodes net visits seen set =
-    let s = set.size in let c = count_le net.nodes (mem seen) in omega arith
+visits-le-nodes net visits seen set = grind (arith, count_le net.nodes (mem seen))
 
 -- the arc of a visit has room out of its parent's node
 step-HasRoom : (arcs : List Arc) (amounts : List ℤ) (from visit : Visit) → IsStep arcs amounts from visit → HasRoom arcs amounts from.node visit.node
-step-HasRoom arcs amounts from visit s = record {
-  arc = visit.arc;
-  is_arc = s.is_arc;
-  joins = s.joins;
-  room = let a = s.some in let b = s.within in omega (arith, ints);
-}
+step-HasRoom arcs amounts from visit s = grind arith
 
 -- the node of each visit is reached from the root
 pub tree-reaches : (net : Net) (amounts : List ℤ) (visits : List Visit) → IsTree net amounts visits → (j : ℕ) → j < length visits → IsReached net.arcs amounts (node_at visits 0) (node_at visits j)
@@ -197,35 +136,11 @@ tree-reaches net amounts visits tree j l = go (suc j) j (omega arith) l
 
 -- different visits come over different arcs
 pub arcs-differ : (net : Net) (amounts : List ℤ) (visits : List Visit) → IsTree net amounts visits → (i j : ℕ) → 0 < i → i < j → j < length visits → (visit_at visits i).arc ≢ (visit_at visits j).arc
-arcs-differ net amounts visits tree i j p k l e = elim u.step.joins [
-  | inl x ↦ elim other [
-    | inl y ↦ tree.distinct i j k l (sym x.1 ∙ y.1)
-    | inr y ↦ tree.distinct (visit_at visits i).parent j up l (sym x.0 ∙ y.1)
-  ]
-  | inr x ↦ elim other [
-    | inl y ↦ tree.distinct (visit_at visits i).parent j up l (sym x.0 ∙ y.1)
-    | inr y ↦ tree.distinct i j k l (sym x.1 ∙ y.1)
-  ]
-]
-  where
-    u : IsVisit net.arcs amounts visits i
-    u = tree.each i p (omega arith)
-
-    v : IsVisit net.arcs amounts visits j
-    v = tree.each j (omega arith) l
-
-    up : (visit_at visits i).parent < j
-    up = let h = u.earlier in omega arith
-
-    other : Joins (arc_at net.arcs (visit_at visits i).arc) (node_at visits (visit_at visits j).parent) (node_at visits j)
-    other = subst (λ a. Joins (arc_at net.arcs a) (node_at visits (visit_at visits j).parent) (node_at visits j)) (sym e) v.step.joins
+arcs-differ net amounts visits tree i j p k l e = grind arith
 
 -- a rising list whose members are numbers 1 to n
 rising-within : (m n : ℕ) (xs : List ℕ) → IsRisingIn m xs → ((v : ℕ) → mem xs v ≡ true → Within n v) → IsRisingIn n xs
-rising-within m n xs r h = record {
-  rising = r.rising;
-  within = λ k d l. h (get_or xs k d) (mem-item xs k d l);
-}
+rising-within m n xs r h = grind (arith, mem-item xs)
 
 -- a search that has scanned all its visits has found the nodes that are reached from its root,
 -- and the sink is not among them

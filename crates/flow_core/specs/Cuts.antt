@@ -1,5 +1,5 @@
 -- The two answers of `min_cut`.
--- Stated by: flow_core. Rests on it: tight_cuts.
+-- Stated by: flow_core.
 use Rattle.std.specs.Prelude.{ℕ, List}
 use Rattle.flow_core.specs.declared.flow.Flow.{Flow}
 use Rattle.flow_core.specs.declared.cut.CutAnswer.{CutAnswer}

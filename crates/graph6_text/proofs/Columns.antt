@@ -1,7 +1,7 @@
 -- The pairs of vertices by columns are the pairs i < j of 1 to n, each once, and there are n (n -
 -- 1) / 2 of them. Idea: induction on the number of columns, and within a column on the number of
 -- its pairs.
-use Rattle.std.proofs.Common.{◌≡◌, ℕ, suc, zero, ◌+◌, ◌-◌, ◌*◌, ◌/◌, ◌<◌, ◌≤◌, ◌==◌, ◌&&◌, ◌||◌, Bool, true, false, List, [], ◌∷◌, ◌++◌, length, map, get_or, refl, sym, ap, ap₂, ◌∙◌, arith, inl, inr, append_assoc}
+use Rattle.std.proofs.Common.{◌≡◌, ℕ, suc, zero, ◌+◌, ◌-◌, ◌*◌, ◌<◌, ◌≤◌, ◌||◌, Bool, true, false, List, [], ◌∷◌, ◌++◌, length, map, get_or, refl, sym, ap, ◌∙◌, arith, inl, inr, append_assoc}
 use Rattle.counting.proofs.Common.{cases_eq, or_left, or_right, nat_tests, length-append, length-map, get_or-map, list_any-append, list_any, Within}
 use Rattle.graph_core.proofs.Common.{pair_of}
 use Rattle.graph_core.specs.declared.ends.Ends.{Ends}
@@ -18,8 +18,7 @@ column_pairs-suc n = refl
 
 length-column : (i j : ℕ) → length (column i j) ≡ i
 length-column zero j = refl
-length-column (suc i) j = let h = length-column i j in
-    let e : length (column (suc i) j) ≡ length (column i j) + 1 = length-append (column i j) ((suc i, j) ∷ []) in omega arith
+length-column (suc i) j = grind (arith, length-column i j, length-append (column i j) ((suc i, j) ∷ []))
 
 twice_length : (n : ℕ) → 2 * length (column_pairs n) ≡ n * (n - 1)
 twice_length zero = ap (λ (xs : List (ℕ × ℕ)). 2 * length xs) column_pairs-zero
@@ -38,24 +37,16 @@ twice_length (suc n) =
 
 -- as many pairs as the field's formula says
 pub length-column_pairs : (n : ℕ) → length (column_pairs n) ≡ pair_count n
-length-column_pairs n = let h = twice_length n in half (length (column_pairs n)) (n * (n - 1)) h
-  where
-    half : (x y : ℕ) → 2 * x ≡ y → x ≡ y / 2
-    half x y h = omega arith
+length-column_pairs n = grind (arith, twice_length n)
 
 -- the loop over columns: one column more
 pub columns_more : (b : ℕ) (front more : List (ℕ × ℕ)) → 1 ≤ b → front ≡ column_pairs (b - 1) → more ≡ front ++ column (b - 1) b → more ≡ column_pairs b
 columns_more zero front more h inv e = absurd (omega arith)
-columns_more (suc b) front more h inv e =
-    let s : suc b - 1 ≡ b = omega arith in
-    e ∙ ap₂ (λ (xs : List (ℕ × ℕ)) (k : ℕ). xs ++ column k (suc b)) (inv ∙ ap column_pairs s) s ∙ sym (column_pairs-suc b)
+columns_more (suc b) front more h inv e = grind (arith, column_pairs-suc b)
 
 -- the loop over a column: one pair more
 pub column_more : (a b : ℕ) (old front more : List (ℕ × ℕ)) → 1 ≤ a → front ≡ old ++ column (a - 1) b → more ≡ front ++ (a, b) ∷ [] → more ≡ old ++ column a b
-column_more zero b old front more h inv e = absurd (omega arith)
-column_more (suc a) b old front more h inv e =
-    let s : suc a - 1 ≡ a = omega arith in
-    e ∙ ap (λ (xs : List (ℕ × ℕ)). xs ++ (suc a, b) ∷ []) (inv ∙ ap (λ (k : ℕ). old ++ column k b) s) ∙ append_assoc old (column a b) ((suc a, b) ∷ [])
+column_more a b old front more h inv e = grind (arith, append_assoc)
 
 -- where the loop over columns has come to its end
 pub columns_all : (b n : ℕ) (front : List (ℕ × ℕ)) → n < b → b ≤ n + 1 → front ≡ column_pairs (b - 1) → front ≡ column_pairs n
@@ -67,30 +58,20 @@ columns_end b n front more h k inv e = columns_more b front more h inv e ∙ ap 
 -- each pair of the columns has 1 ≤ i < j ≤ n, and no two are the same
 each_column : (i j : ℕ) → Each (λ q. (1 ≤ q.0) × (q.0 ≤ i) × (q.1 ≡ j)) (column i j)
 each_column zero j = tt
-each_column (suc i) j = each-append _ (column i j) ((suc i, j) ∷ [])
-    (each_weaker _ _ (column i j) (λ q h. (h.0, omega arith, h.2)) (each_column i j)) ((omega arith, omega arith, refl), tt)
+each_column (suc i) j = grind (arith, each-append, each_weaker, each_column i j)
 
 distinct_column : (i j : ℕ) → i < j → AreDistinct (column i j)
 distinct_column zero j l = tt
-distinct_column (suc i) j l = distinct-append (column i j) ((suc i, j) ∷ []) (distinct_column i j (omega arith)) (tt, tt)
-    (each_weaker _ _ (column i j) (λ q h. (other q.0 q.1 i j h.1 h.2, tt)) (each_column i j))
-  where
-    other : (a b i j : ℕ) → a ≤ i → b ≡ j → ((suc i == a && j == b) || (suc i == b && j == a)) ≡ false
-    other a b i j h k = grind (arith, nat_tests)
+distinct_column (suc i) j l = grind (arith, distinct-append (column i j) ((suc i, j) ∷ []), distinct_column i j (omega arith), each_weaker, each_column i j)
 
 pub each_column_pair : (n : ℕ) → Each (λ q. (1 ≤ q.0) × (q.0 < q.1) × (q.1 ≤ n)) (column_pairs n)
 each_column_pair zero = rw column_pairs-zero tt
-each_column_pair (suc n) = rw (column_pairs-suc n) (each-append _ (column_pairs n) (column n (suc n))
-    (each_weaker _ _ (column_pairs n) (λ q h. (h.0, h.1, omega arith)) (each_column_pair n))
-    (each_weaker _ _ (column n (suc n)) (λ q h. (h.0, omega arith, omega arith)) (each_column n (suc n))))
+each_column_pair (suc n) = grind (arith, column_pairs-suc n, each-append, each_weaker, each_column_pair n, each_column n (suc n))
 
 pub distinct_column_pairs : (n : ℕ) → AreDistinct (column_pairs n)
 distinct_column_pairs zero = rw column_pairs-zero tt
 distinct_column_pairs (suc n) = rw (column_pairs-suc n) (distinct-append (column_pairs n) (column n (suc n)) (distinct_column_pairs n) (distinct_column n (suc n) (omega arith))
-    (each_weaker _ _ (column_pairs n) (λ p h. each_weaker _ _ (column n (suc n)) (λ q k. other p.0 p.1 q.0 q.1 n h.1 h.2 k.2) (each_column n (suc n))) (each_column_pair n)))
-  where
-    other : (a b c d n : ℕ) → a < b → b ≤ n → d ≡ suc n → ((c == a && d == b) || (c == b && d == a)) ≡ false
-    other a b c d n h k l = grind (arith, nat_tests)
+    (each_weaker _ _ (column_pairs n) (λ p h. each_weaker _ _ (column n (suc n)) (λ q k. grind (arith, nat_tests)) (each_column n (suc n))) (each_column_pair n)))
 
 -- each such pair is there
 any_column : (test : ℕ × ℕ → Bool) (i j a : ℕ) → Within i a → test (a, j) ≡ true → list_any test (column i j) ≡ true
@@ -109,10 +90,4 @@ any_column_pair test (suc n) a b w l k h = ap (list_any test) (column_pairs-suc 
 
 -- the loop over the pairs of a graph's vertices: both numbers of the next pair are vertices
 pub pair_within : (n : ℕ) (pairs : List Ends) (i : ℕ) (d : Ends) → map pair_of pairs ≡ column_pairs n → i < length pairs → Within n (get_or pairs i d).a × Within n (get_or pairs i d).b
-pair_within n pairs i d columns h =
-    let many = length-map pairs pair_of in
-    let e : get_or (column_pairs n) i (0, 0) ≡ pair_of (get_or pairs i d) = ap (λ (xs : List (ℕ × ℕ)). get_or xs i (0, 0)) (sym columns) ∙ get_or-map pair_of pairs i d (0, 0) h in
-    let w = each_at _ (column_pairs n) i (each_column_pair n) (omega (arith, ap length columns)) in
-    let first : (get_or (column_pairs n) i (0, 0)).0 ≡ (get_or pairs i d).a = ap (λ (p : ℕ × ℕ). p.0) e in
-    let second : (get_or (column_pairs n) i (0, 0)).1 ≡ (get_or pairs i d).b = ap (λ (p : ℕ × ℕ). p.1) e in
-    (omega arith, omega arith)
+pair_within n pairs i d columns h = grind (arith, length-map pairs pair_of, get_or-map pair_of pairs i d (0, 0) h, each_at, each_column_pair n)

@@ -1,7 +1,7 @@
 -- Lists of pairs of which no two are the same two numbers. Idea: among such pairs the bits that
 -- choose some can be read off the chosen ones, and each edge of a graph is chosen at most once.
-use Rattle.std.proofs.Common.{◌≡◌, ℕ, suc, zero, ◌+◌, ◌-◌, ◌<◌, ◌≤◌, ◌==◌, ◌&&◌, ◌||◌, Bool, true, false, cond, List, [], ◌∷◌, ◌++◌, length, map, take, get_or, refl, ap, ap₂, ◌∙◌, arith, ◌⊎◌, inl, inr}
-use Rattle.counting.proofs.Common.{or_from, or_left, both_ways, cases_order, nat_tests, list_any}
+use Rattle.std.proofs.Common.{◌≡◌, ℕ, suc, zero, ◌+◌, ◌<◌, ◌≤◌, ◌&&◌, ◌||◌, Bool, true, false, cond, List, [], ◌∷◌, ◌++◌, length, map, take, get_or, refl, ap, ap₂, ◌∙◌, arith}
+use Rattle.counting.proofs.Common.{or_from, or_left, both_ways, cases_order, list_any}
 use Rattle.graph_core.proofs.Common.{Graph, IsSimple, joins}
 use Rattle.graph6_text.specs.Common.{chosen}
 
@@ -31,35 +31,17 @@ distinct-append [] ys h k a = k
 distinct-append (x ∷ xs) ys h k a = (each-append (λ q. joins x.0 x.1 q ≡ false) xs ys h.0 a.0, distinct-append xs ys h.1 k a.1)
 
 pub joins-own : (p : ℕ × ℕ) → joins p.0 p.1 p ≡ true
-joins-own p = tests p.0 p.1
-  where
-    tests : (a b : ℕ) → ((a == a && b == b) || (a == b && b == a)) ≡ true
-    tests a b = grind (arith, nat_tests)
+joins-own p = grind arith
 
 pub joins-turned : (u v : ℕ) → joins u v (v, u) ≡ true
-joins-turned u v = tests u v
-  where
-    tests : (a b : ℕ) → ((b == a && a == b) || (b == b && a == a)) ≡ true
-    tests a b = grind (arith, nat_tests)
-
-pub joins-cases : (u v : ℕ) (p : ℕ × ℕ) → joins u v p ≡ true → ((p.0 ≡ u) × (p.1 ≡ v)) ⊎ ((p.0 ≡ v) × (p.1 ≡ u))
-joins-cases u v p h = tests p.0 p.1 u v h
-  where
-    tests : (a b u v : ℕ) → ((a == u && b == v) || (a == v && b == u)) ≡ true → ((a ≡ u) × (b ≡ v)) ⊎ ((a ≡ v) × (b ≡ u))
-    tests a b u v h = grind (arith, nat_tests)
+joins-turned u v = grind arith
 
 pub joins-back : (p q : ℕ × ℕ) → joins p.0 p.1 q ≡ false → joins q.0 q.1 p ≡ false
-joins-back p q h = tests p.0 p.1 q.0 q.1 h
-  where
-    tests : (a b c d : ℕ) → ((c == a && d == b) || (c == b && d == a)) ≡ false → ((a == c && b == d) || (a == d && b == c)) ≡ false
-    tests a b c d h = grind (arith, nat_tests)
+joins-back p q h = grind arith
 
 -- two pairs that are the same two numbers as a third
 pub joins-third : (p q r : ℕ × ℕ) → joins p.0 p.1 r ≡ true → joins p.0 p.1 q ≡ false → joins q.0 q.1 r ≡ false
-joins-third p q r h k = tests p.0 p.1 q.0 q.1 r.0 r.1 h k
-  where
-    tests : (a b c d e f : ℕ) → ((e == a && f == b) || (e == b && f == a)) ≡ true → ((c == a && d == b) || (c == b && d == a)) ≡ false → ((e == c && f == d) || (e == d && f == c)) ≡ false
-    tests a b c d e f h k = grind (arith, nat_tests)
+joins-third p q r h k = grind arith
 
 -- what is chosen of pairs that are not p, is not p
 apart_chosen : (p : ℕ × ℕ) (ps : List (ℕ × ℕ)) (bits : List Bool) → Apart p ps → Apart p (chosen ps bits)
@@ -107,13 +89,7 @@ distinct_at (p ∷ ps) zero (suc j) h l m = apart_at p ps j h.0 (omega arith)
 distinct_at (p ∷ ps) (suc i) (suc j) h l m = distinct_at ps i j h.1 (omega arith) (omega arith)
 
 pub simple_from_distinct : (g : Graph) → AreDistinct g.ends → IsSimple g
-simple_from_distinct g h e f we wf same = elim (cases_order e f) [
-  | inl q ↦ q
-  | inr c ↦ elim c [
-    | inl l ↦ absurd (both_ways _ (distinct_at g.ends (e - 1) (f - 1) h (omega arith) (omega arith)) same)
-    | inr l ↦ absurd (both_ways _ (joins-back (get_or g.ends (f - 1) (0, 0)) (get_or g.ends (e - 1) (0, 0)) (distinct_at g.ends (f - 1) (e - 1) h (omega arith) (omega arith))) same)
-  ]
-]
+simple_from_distinct g h e f we wf same = grind (arith, cases_order, both_ways, distinct_at, joins-back)
 
 -- a test of pairs, as the bits that choose those that pass
 pub any_chosen : (test wanted : ℕ × ℕ → Bool) (ps : List (ℕ × ℕ)) → list_any wanted (chosen ps (map test ps)) ≡ list_any (λ p. test p && wanted p) ps
@@ -122,8 +98,7 @@ any_chosen test wanted (p ∷ ps) = go (test p) (any_chosen test wanted ps)
   where
     go : (b : Bool) → list_any wanted (chosen ps (map test ps)) ≡ list_any (λ p. test p && wanted p) ps →
         list_any wanted (cond b (p ∷ chosen ps (map test ps)) (chosen ps (map test ps))) ≡ ((b && wanted p) || list_any (λ p. test p && wanted p) ps)
-    go true ih = ap (λ (x : Bool). wanted p || x) ih
-    go false ih = ih
+    go b ih = grind arith
 
 pub any_none : (test : ℕ × ℕ → Bool) (ps : List (ℕ × ℕ)) → ((p : ℕ × ℕ) → test p ≡ false) → list_any test ps ≡ false
 any_none test [] h = refl
@@ -140,8 +115,7 @@ one_at_most e [] h = omega arith
 one_at_most e (p ∷ ps) h = go (joins p.0 p.1 e) refl (one_at_most e ps h.1)
   where
     go : (b : Bool) → joins p.0 p.1 e ≡ b → length (chosen ps (map (λ q. joins q.0 q.1 e) ps)) ≤ 1 → length (cond b (p ∷ chosen ps (map (λ q. joins q.0 q.1 e) ps)) (chosen ps (map (λ q. joins q.0 q.1 e) ps))) ≤ 1
-    go true s ih = let n = none_else p e ps h.0 s in omega arith
-    go false s ih = ih
+    go b s ih = grind (arith, none_else)
 
 either_at_most : (f g : ℕ × ℕ → Bool) (ps : List (ℕ × ℕ)) → length (chosen ps (map (λ p. f p || g p) ps)) ≤ length (chosen ps (map f ps)) + length (chosen ps (map g ps))
 either_at_most f g [] = omega arith
@@ -150,10 +124,7 @@ either_at_most f g (p ∷ ps) = go (f p) (g p) (either_at_most f g ps)
     go : (a b : Bool) → length (chosen ps (map (λ p. f p || g p) ps)) ≤ length (chosen ps (map f ps)) + length (chosen ps (map g ps)) →
         length (cond (a || b) (p ∷ chosen ps (map (λ p. f p || g p) ps)) (chosen ps (map (λ p. f p || g p) ps))) ≤
         length (cond a (p ∷ chosen ps (map f ps)) (chosen ps (map f ps))) + length (cond b (p ∷ chosen ps (map g ps)) (chosen ps (map g ps)))
-    go true true ih = omega arith
-    go true false ih = omega arith
-    go false true ih = omega arith
-    go false false ih = ih
+    go a b ih = grind arith
 
 pub present_at_most : (es ps : List (ℕ × ℕ)) → AreDistinct ps → length (chosen ps (present es ps)) ≤ length es
 present_at_most [] ps h = let n = nothing ps in omega arith

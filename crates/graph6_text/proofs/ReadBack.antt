@@ -1,32 +1,29 @@
 -- The text of a graph is accepted, with a graph of the same order and the same adjacent pairs.
 -- Idea: each of its bytes writes a digit, so that nothing is set aside; the bits that are read
 -- are those that were written, with zeros after them.
-use Rattle.std.proofs.Common.{◌≡◌, ℕ, ◌+◌, ◌-◌, ◌/◌, ◌%◌, ◌<◌, ◌≤◌, ◌≢◌, ◌==◌, ◌&&◌, Bool, true, false, cond, List, [], ◌∷◌, ◌++◌, length, map, take, drop, None, Ok, refl, sym, ap, ap₂, ◌∙◌, arith, leb, ltb, inl, inr, subst, codes, nat_eq, get_or, ne_eqb, le-ltb, drop_at}
+use Rattle.std.proofs.Common.{◌≡◌, ℕ, ◌+◌, ◌-◌, ◌/◌, ◌%◌, ◌<◌, ◌≤◌, ◌≢◌, ◌==◌, ◌&&◌, Bool, true, false, cond, List, [], ◌∷◌, ◌++◌, length, map, take, drop, None, refl, sym, ap, ap₂, ◌∙◌, arith, leb, ltb, inl, inr, subst, codes, nat_eq, get_or, ne_eqb, le-ltb, drop_at}
 use Rattle.std.proofs.lemmas.Bool.{not_from_true, cond-false}
-use Rattle.counting.proofs.Common.{and_parts, and_from, and_left, and_right, or_from, both_ways, cases_lt, cases_order, cases_Bool, false_from_ne_true, lt-leb, length-map, list_all, list_any, none}
+use Rattle.counting.proofs.Common.{and_parts, and_from, and_left, or_from, both_ways, cases_lt, cases_order, false_from_ne_true, lt-leb, length-map, list_all, list_any, none}
 use Rattle.std.proofs.lemmas.Bool.Decides.{Decides-eqb}
 use Rattle.std.proofs.lemmas.List.Folds.{list_all-append}
-use Rattle.std.proofs.lemmas.Slice.Eq.{starts_is, ends_is}
+use Rattle.std.proofs.lemmas.Slice.Eq.{ends_is}
 use Rattle.std.specs.List.{starts_with, ends_with}
-use Rattle.graph_core.proofs.Common.{Graph, size, first_end, second_end, has_ends, IsWithinLimits, adjacent, joins, adjacent-ends, adjacent-edge, adjacent_back, adjacent_within, has_ends-cases}
+use Rattle.graph_core.proofs.Common.{Graph, size, IsWithinLimits, adjacent, joins, adjacent-ends, adjacent-edge, adjacent_back, adjacent_within}
 use Rattle.graph6_text.specs.Common.{byte_of, is_digit, bits_of, bytes_of, column_pairs, chosen, without_header, without_line_end, first_fault, faults_of, is_long, order_of, data_of, data_len, pair_count, filling_of, graph_of, body_of, size_of, adjacency_bits, graph6_of, ReadsBack}
 use Rattle.graph6_text.proofs.Canonical.{digit_bounds, size-short, size-long, order-short, order-long, present-adjacent, simple-graph_of}
 use Rattle.graph6_text.proofs.Choosing.{chosen-filled}
 use Rattle.graph6_text.proofs.Columns.{length-column_pairs, distinct_column_pairs, any_column_pair}
-use Rattle.graph6_text.proofs.DistinctPairs.{present, present_at_most, any_chosen, any_none, joins-own, joins-turned, joins-cases}
+use Rattle.graph6_text.proofs.DistinctPairs.{present, present_at_most, any_chosen, any_none, joins-own, joins-turned}
 use Rattle.graph6_text.proofs.Passing.{none_from_all_fail, outcome-graph}
 use Rattle.graph6_text.proofs.RoundTrip.{AreZeros, Filled, bits-bytes_of, length-bytes_of, is_digit-byte_of, digits-bytes_of}
 
 -- a list of digits holds no byte that is none
 digits_only : (xs ys : List ℕ) (byte : ℕ) → is_digit byte ≡ false → list_all is_digit (xs ++ byte ∷ ys) ≡ true → ⊥
-digits_only xs ys byte other h =
-    both_ways (is_digit byte) other (and_parts (is_digit byte) (list_all is_digit ys) (and_parts (list_all is_digit xs) (list_all is_digit (byte ∷ ys)) (sym (list_all-append is_digit xs (byte ∷ ys)) ∙ h)).1).0
+digits_only xs ys byte other h = grind (arith, both_ways, and_parts, list_all-append)
 
 -- such a list neither begins nor ends with other bytes
 not_begun : (text : List ℕ) (byte : ℕ) (bytes : List ℕ) → is_digit byte ≡ false → list_all is_digit text ≡ true → starts_with nat_eq text (byte ∷ bytes) ≡ false
-not_begun text byte bytes other h = false_from_ne_true (starts_with nat_eq text (byte ∷ bytes)) (λ t.
-    let cut = (starts_is Decides-eqb text (byte ∷ bytes) (starts_with nat_eq text (byte ∷ bytes)) refl).0 t in
-    digits_only [] (bytes ++ drop (length (byte ∷ bytes)) text) byte other (ap (list_all is_digit) (sym cut) ∙ h))
+not_begun text byte bytes other h = grind arith
 
 not_ended : (text : List ℕ) (byte : ℕ) (bytes : List ℕ) → is_digit byte ≡ false → list_all is_digit text ≡ true → ends_with nat_eq text (byte ∷ bytes) ≡ false
 not_ended text byte bytes other h = false_from_ne_true (ends_with nat_eq text (byte ∷ bytes)) (λ t.
@@ -65,43 +62,17 @@ record Sized (n : ℕ) (rest body : List ℕ) : Type 0 where
 
 sized_short : (n : ℕ) (rest : List ℕ) → n ≤ 62 → Sized n rest (byte_of n ∷ rest)
 unfolding data_of
-sized_short n rest h =
-    let short : is_long (byte_of n ∷ rest) ≡ false = ne_eqb (byte_of n) 126 (omega arith) in
-    record {
-      order = order-short (byte_of n ∷ rest) short ∙ omega arith;
-      behind = ap (λ (b : Bool). drop (cond b 4 1) (byte_of n ∷ rest)) short;
-      some = ne_eqb (length (byte_of n ∷ rest)) 0 (omega arith);
-      digits = ap (λ (b : Bool). b && list_all is_digit rest) (is_digit-byte_of n (omega arith));
-      whole = and_left _ _ short;
-      not_longer = and_left _ _ short;
-      due_form = and_left _ _ short;
-    }
+sized_short n rest h = grind (arith, ne_eqb (byte_of n) 126, order-short (byte_of n ∷ rest), ne_eqb (length (byte_of n ∷ rest)) 0, is_digit-byte_of n, and_left)
 
 first_digit : (d : ℕ) (rest : List ℕ) → d < 64 → list_all is_digit (byte_of d ∷ rest) ≡ list_all is_digit rest
 first_digit d rest h = ap (λ (b : Bool). b && list_all is_digit rest) (is_digit-byte_of d h)
 
 sized_long : (n : ℕ) (rest : List ℕ) → 62 < n → n ≤ 128 → Sized n rest (126 ∷ byte_of (n / 4096) ∷ byte_of (n / 64 % 64) ∷ byte_of (n % 64) ∷ rest)
 unfolding data_of
-sized_long n rest h k =
-    let body = 126 ∷ byte_of (n / 4096) ∷ byte_of (n / 64 % 64) ∷ byte_of (n % 64) ∷ rest in
-    let read : order_of body ≡ n = order-long body refl ∙ omega arith in
-    record {
-      order = read;
-      behind = refl;
-      some = ne_eqb (length body) 0 (omega arith);
-      digits = first_digit (n / 4096) (byte_of (n / 64 % 64) ∷ byte_of (n % 64) ∷ rest) (omega arith)
-          ∙ first_digit (n / 64 % 64) (byte_of (n % 64) ∷ rest) (omega arith)
-          ∙ first_digit (n % 64) rest (omega arith);
-      whole = le-ltb (length body) 4 (omega arith);
-      not_longer = ne_eqb (byte_of (n / 4096)) 126 (omega arith);
-      due_form = lt-leb (order_of body) 62 (omega (arith, read));
-    }
+sized_long n rest h k = grind (arith, order-long, ne_eqb, first_digit, le-ltb, lt-leb)
 
 sized : (n : ℕ) (rest : List ℕ) → n ≤ 128 → Sized n rest (size_of n ++ rest)
-sized n rest k = elim (cases_lt 62 n) [
-  | inl l ↦ subst (λ (size : List ℕ). Sized n rest (size ++ rest)) (sym (size-long n l)) (sized_long n rest l k)
-  | inr l ↦ subst (λ (size : List ℕ). Sized n rest (size ++ rest)) (sym (size-short n l)) (sized_short n rest l)
-]
+sized n rest k = grind (arith, cases_lt 62 n, size-long n, sized_long n rest, size-short n, sized_short n rest)
 
 -- the bits of an accepted text of g
 module _ (g : Graph) (limits : IsWithinLimits g) where
@@ -144,8 +115,7 @@ module _ (g : Graph) (limits : IsWithinLimits g) where
   zeros-text : AreZeros (filling_of (graph6_of g))
   zeros-text =
       let place : pair_count (order_of (graph6_of g)) ≡ length bits = ap pair_count size-text.order ∙ sym (length-bits ∙ many_pairs) in
-      ap₂ (λ (t : ℕ) (xs : List Bool). list_any (λ bit. bit) (drop t xs)) place read_bits.behind
-      ∙ ap (list_any (λ bit. bit)) (drop_at bits read_bits.filling (length bits) refl) ∙ read_bits.zeros
+      grind (arith, list_any, drop_at bits read_bits.filling (length bits) refl)
 
   few-text : size (graph_of (graph6_of g)) ≤ 2048
   few-text =
@@ -182,19 +152,13 @@ module _ (g : Graph) (limits : IsWithinLimits g) where
 
   -- a pair that is u and v is adjacent where they are
   not_edge : (u v : ℕ) → adjacent g none u v ≡ false → (p : ℕ × ℕ) → is_edge u v p ≡ false
-  not_edge u v none_there p = elim (cases_Bool (joins u v p)) [
-    | inl s ↦ and_left (adjacent g none p.0 p.1) (joins u v p) (false_from_ne_true (adjacent g none p.0 p.1) (λ t. elim (joins-cases u v p s) [
-      | inl e ↦ both_ways (adjacent g none u v) none_there (ap₂ (adjacent g none) (sym e.0) (sym e.1) ∙ t)
-      | inr e ↦ both_ways (adjacent g none u v) none_there (adjacent_back g none v u (ap₂ (adjacent g none) (sym e.0) (sym e.1) ∙ t))
-    ]))
-    | inr s ↦ and_right (adjacent g none p.0 p.1) (joins u v p) s
-  ]
+  not_edge u v none_there p = grind arith
 
   some_edge : (u v : ℕ) → adjacent g none u v ≡ true → list_any (is_edge u v) pairs ≡ true
   some_edge u v there =
       let w = adjacent_within g none limits.multigraph.ends u v there in
       let e = (adjacent-edge g none u v there).2 in
-      let differ : u ≢ v = λ same. limits.multigraph.no_loop e.0 e.1 (ends_same u v e.0 same e.2) in
+      let differ : u ≢ v = λ same. limits.multigraph.no_loop e.0 e.1 (grind arith) in
       elim (cases_order u v) [
         | inl same ↦ absurd (differ same)
         | inr c ↦ elim c [
@@ -202,32 +166,13 @@ module _ (g : Graph) (limits : IsWithinLimits g) where
           | inr l ↦ any_column_pair (is_edge u v) g.order v u w.1.0 l w.0.1 (and_from (adjacent g none v u) (joins u v (v, u)) (adjacent_back g none u v there) (joins-turned u v))
         ]
       ]
-    where
-      ends_same : (u v e : ℕ) → u ≡ v → has_ends g u v e ≡ true → first_end g e ≡ second_end g e
-      ends_same u v e same h = elim (has_ends-cases g u v e h) [
-        | inl p ↦ p.0 ∙ same ∙ sym p.1
-        | inr p ↦ p.0 ∙ sym same ∙ sym p.1
-      ]
 
   adjacent-text : (u v : ℕ) → adjacent (graph_of (graph6_of g)) none u v ≡ adjacent g none u v
-  adjacent-text u v =
-      adjacent-ends (graph_of (graph6_of g)) u v
-      ∙ ap (λ (h : Graph). list_any (joins u v) h.ends) graph-text
-      ∙ ap (λ (bs : List Bool). list_any (joins u v) (chosen pairs bs)) bits-tested
-      ∙ any_chosen (λ p. adjacent g none p.0 p.1) (joins u v) pairs
-      ∙ go (adjacent g none u v) refl
+  adjacent-text u v = grind (arith, adjacent-ends (graph_of (graph6_of g)) u v, list_any (joins u v), graph-text, bits-tested, any_chosen, go (adjacent g none u v) refl)
     where
       go : (b : Bool) → adjacent g none u v ≡ b → list_any (is_edge u v) pairs ≡ adjacent g none u v
       go true h = some_edge u v h ∙ sym h
       go false h = any_none (is_edge u v) pairs (not_edge u v h) ∙ sym h
 
   pub reads_back : ReadsBack (graph6_of g) g
-  reads_back =
-      let is : body_of (graph6_of g) ≡ graph6_of g = bare (graph6_of g) digits-text in
-      record {
-        graph = graph_of (graph6_of g);
-        stands = outcome-graph (graph6_of g) (ap (λ (body : List ℕ). first_fault (faults_of body)) is ∙ no_fault-text) ∙ ap (λ (body : List ℕ). Ok (graph_of body)) is;
-        order = ap (λ (h : Graph). h.order) graph-text;
-        simple = simple-graph_of (graph6_of g);
-        adjacent_pairs = adjacent-text;
-      }
+  reads_back = grind (arith, bare (graph6_of g) digits-text, digits-text, outcome-graph (graph6_of g), no_fault-text, graph-text, simple-graph_of (graph6_of g), adjacent-text)

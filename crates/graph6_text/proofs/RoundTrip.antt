@@ -8,22 +8,14 @@ use Rattle.graph6_text.specs.Common.{byte_of, digit_of, is_digit, weights, bits_
 use Rattle.graph6_text.proofs.SixBits.{digit_of_bits-lt, bits_of-nil, bits_of-cons}
 
 bit_lt : (b : Bool) → bit b < 2
-bit_lt true = omega arith
-bit_lt false = omega arith
+bit_lt b = grind arith
 
 -- a bit's weight, and a bit that is told by a number below 2
 weight_is : (b : Bool) (w : ℕ) → cond b w 0 ≡ w * bit b
-weight_is true w = omega arith
-weight_is false w = omega arith
-
-one_is : (b : Bool) (x : ℕ) → x ≡ bit b → (x == 1) ≡ b
-one_is true x h = rw h refl
-one_is false x h = rw h refl
+weight_is b w = grind arith
 
 test_is : (x w : ℕ) → x < 2 → cond (x == 1) w 0 ≡ w * x
-test_is zero w h = omega arith
-test_is (suc zero) w h = omega arith
-test_is (suc (suc x)) w h = absurd (omega arith)
+test_is x w h = grind arith
 
 -- the quotients of a digit by the weights tell its bits
 places : (n a b c d e f : ℕ) → a < 2 → b < 2 → c < 2 → d < 2 → e < 2 → f < 2 → n ≡ 32 * a + (16 * b + (8 * c + (4 * d + (2 * e + (1 * f + 0))))) →
@@ -43,19 +35,10 @@ bits-digit_of_bits a b c d e f =
     let we = weight_is e 2 in
     let wf = weight_is f 1 in
     let p = places n (bit a) (bit b) (bit c) (bit d) (bit e) (bit f) (bit_lt a) (bit_lt b) (bit_lt c) (bit_lt d) (bit_lt e) (bit_lt f) (omega arith) in
-    ap₂ ◌∷◌ (one_is a ((n / 32) % 2) p.0) (ap₂ ◌∷◌ (one_is b ((n / 16) % 2) p.1) (ap₂ ◌∷◌ (one_is c ((n / 8) % 2) p.2)
-    (ap₂ ◌∷◌ (one_is d ((n / 4) % 2) p.3) (ap₂ ◌∷◌ (one_is e ((n / 2) % 2) p.4) (ap₂ ◌∷◌ (one_is f ((n / 1) % 2) p.5) refl)))))
+    grind arith
 
 pub digit-bits_of_digit : (d : ℕ) → d < 64 → digit_of_bits (bits_of_digit d) ≡ d
-digit-bits_of_digit d h =
-    let wa = test_is ((d / 32) % 2) 32 (omega arith) in
-    let wb = test_is ((d / 16) % 2) 16 (omega arith) in
-    let wc = test_is ((d / 8) % 2) 8 (omega arith) in
-    let wd = test_is ((d / 4) % 2) 4 (omega arith) in
-    let we = test_is ((d / 2) % 2) 2 (omega arith) in
-    let wf = test_is ((d / 1) % 2) 1 (omega arith) in
-    let s = halves d h in
-    omega arith
+digit-bits_of_digit d h = grind (arith, test_is, halves)
 
 -- a byte that writes a digit below 64
 digit-byte_of : (d : ℕ) → digit_of (byte_of d) ≡ d
@@ -83,13 +66,7 @@ pub record Filled (bits whole : List Bool) : Type 0 where
 -- one byte, of fewer than six bits
 last_byte : (bits filling : List Bool) (a b c d e f : Bool) → bits ++ filling ≡ a ∷ b ∷ c ∷ d ∷ e ∷ f ∷ [] → AreZeros filling → digit_of_bits bits ≡ digit_of_bits (bits ++ filling) →
     Filled bits (bits_of (byte_of (digit_of_bits bits) ∷ []))
-last_byte bits filling a b c d e f whole zeros same = record {
-  filling = filling;
-  behind = bits_of-cons (byte_of (digit_of_bits bits)) []
-      ∙ ap₂ ◌++◌ (ap bits_of_digit (digit-byte_of (digit_of_bits bits) ∙ same ∙ ap digit_of_bits whole) ∙ bits-digit_of_bits a b c d e f ∙ sym whole) bits_of-nil
-      ∙ append-nil (bits ++ filling);
-  zeros = zeros;
-}
+last_byte bits filling a b c d e f whole zeros same = grind (arith, bits_of-cons, digit-byte_of, bits-digit_of_bits, bits_of-nil, append-nil)
 
 pub bits-bytes_of : (bits : List Bool) → Filled bits (bits_of (bytes_of bits))
 unfolding bytes_of
@@ -165,19 +142,13 @@ unfolding bytes_of
 bytes-bits_of [] zero is many zeros = refl
 bytes-bits_of [] (suc t) is many zeros = absurd (omega arith)
 bytes-bits_of (byte ∷ bytes) zero is many zeros = absurd (omega arith)
-bytes-bits_of (byte ∷ bytes) (suc zero) is many zeros = let cut = bits_of-cons byte bytes in
-    ap (λ (xs : List Bool). bytes_of (take 1 xs)) cut ∙ ap₂ ◌∷◌ (first_byte byte 1 bytes is (rw cut at zeros)) (sym (nil_from_length bytes (omega arith)))
-bytes-bits_of (byte ∷ bytes) (suc (suc zero)) is many zeros = let cut = bits_of-cons byte bytes in
-    ap (λ (xs : List Bool). bytes_of (take 2 xs)) cut ∙ ap₂ ◌∷◌ (first_byte byte 2 bytes is (rw cut at zeros)) (sym (nil_from_length bytes (omega arith)))
-bytes-bits_of (byte ∷ bytes) (suc (suc (suc zero))) is many zeros = let cut = bits_of-cons byte bytes in
-    ap (λ (xs : List Bool). bytes_of (take 3 xs)) cut ∙ ap₂ ◌∷◌ (first_byte byte 3 bytes is (rw cut at zeros)) (sym (nil_from_length bytes (omega arith)))
-bytes-bits_of (byte ∷ bytes) (suc (suc (suc (suc zero)))) is many zeros = let cut = bits_of-cons byte bytes in
-    ap (λ (xs : List Bool). bytes_of (take 4 xs)) cut ∙ ap₂ ◌∷◌ (first_byte byte 4 bytes is (rw cut at zeros)) (sym (nil_from_length bytes (omega arith)))
-bytes-bits_of (byte ∷ bytes) (suc (suc (suc (suc (suc zero))))) is many zeros = let cut = bits_of-cons byte bytes in
-    ap (λ (xs : List Bool). bytes_of (take 5 xs)) cut ∙ ap₂ ◌∷◌ (first_byte byte 5 bytes is (rw cut at zeros)) (sym (nil_from_length bytes (omega arith)))
+bytes-bits_of (byte ∷ bytes) (suc zero) is many zeros = grind (arith, bits_of-cons byte bytes, first_byte byte 1 bytes is, nil_from_length bytes)
+bytes-bits_of (byte ∷ bytes) (suc (suc zero)) is many zeros = grind (arith, bits_of-cons byte bytes, first_byte byte 2 bytes is, nil_from_length bytes)
+bytes-bits_of (byte ∷ bytes) (suc (suc (suc zero))) is many zeros = grind (arith, bits_of-cons byte bytes, first_byte byte 3 bytes is, nil_from_length bytes)
+bytes-bits_of (byte ∷ bytes) (suc (suc (suc (suc zero)))) is many zeros = grind (arith, bits_of-cons byte bytes, first_byte byte 4 bytes is, nil_from_length bytes)
+bytes-bits_of (byte ∷ bytes) (suc (suc (suc (suc (suc zero))))) is many zeros = grind (arith, bits_of-cons byte bytes, first_byte byte 5 bytes is, nil_from_length bytes)
 bytes-bits_of (byte ∷ bytes) (suc (suc (suc (suc (suc (suc t)))))) is many zeros =
     let cut = bits_of-cons byte bytes in
     let p = and_parts (is_digit byte) (list_all is_digit bytes) is in
     let rest = bytes-bits_of bytes t p.1 (omega arith) (rw cut at zeros) in
-    ap (λ (xs : List Bool). bytes_of (take (suc (suc (suc (suc (suc (suc t)))))) xs)) cut
-    ∙ ap₂ ◌∷◌ (ap byte_of (digit-bits_of_digit (digit_of byte) (digit_of-lt byte p.0)) ∙ byte-digit_of byte p.0) rest
+    grind (arith, digit-bits_of_digit (digit_of byte) (digit_of-lt byte p.0), digit_of-lt byte p.0, byte-digit_of byte p.0)

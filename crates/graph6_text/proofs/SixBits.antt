@@ -1,7 +1,7 @@
 -- Six bits and a digit below 64 determine each other, and so do bits and the bytes that write
 -- them, six bits in each. Idea: the weights halve, so that a digit's quotients by them are known
 -- one after the other; then by induction in steps of six.
-use Rattle.std.proofs.Common.{◌≡◌, ℕ, ◌+◌, ◌*◌, ◌<◌, ◌≤◌, Bool, true, false, cond, List, [], ◌∷◌, ◌++◌, length, take, drop, get_or, refl, sym, ap, ap₂, ◌∙◌, arith, inl, inr, min, append_assoc, take_at, drop_at}
+use Rattle.std.proofs.Common.{◌≡◌, ℕ, ◌+◌, ◌*◌, ◌<◌, ◌≤◌, Bool, true, false, cond, List, [], ◌∷◌, ◌++◌, length, take, drop, get_or, refl, sym, ap, ◌∙◌, arith, inl, inr, min, append_assoc, take_at, drop_at}
 use Rattle.std.proofs.lemmas.List.{drop_more, drop_all, nil_from_length}
 use Rattle.counting.proofs.Common.{append-nil, length-append, take_all, cases_lt}
 use Rattle.graph6_text.specs.Common.{byte_of, digit_of, weights, bits_of_digit, weight_of, digit_of_bits, bits_of, bytes_of}
@@ -34,8 +34,7 @@ pub weighed_more : (bits : List Bool) (i digit more : ℕ) → i < length bits �
 weighed_more bits i digit more h k inv e = let s = weight_of-drop weights bits i (omega arith) h in omega arith
 
 pub weighed_all : (bits : List Bool) (i digit : ℕ) → length bits ≤ i → digit + weight_of (drop i weights) (drop i bits) ≡ digit_of_bits bits → digit ≡ digit_of_bits bits
-weighed_all bits i digit h inv =
-    let e : weight_of (drop i weights) (drop i bits) ≡ 0 = rw (drop_all i bits h) (weight_of-nil (drop i weights)) in omega arith
+weighed_all bits i digit h inv = grind (arith, drop_all i bits h, weight_of-nil (drop i weights))
 
 -- the loop over bytes that are turned into bits
 pub bits_of-nil : bits_of [] ≡ []
@@ -48,11 +47,7 @@ bits_of-cons byte bytes = refl
 
 pub turned_more : (bytes : List ℕ) (i : ℕ) (front more : List Bool) → i < length bytes → front ++ bits_of (drop i bytes) ≡ bits_of bytes →
     more ≡ front ++ bits_of_digit (digit_of (get_or bytes i 0)) → more ++ bits_of (drop (i + 1) bytes) ≡ bits_of bytes
-turned_more bytes i front more h inv e =
-    ap (λ (xs : List Bool). xs ++ bits_of (drop (i + 1) bytes)) e
-    ∙ append_assoc front (bits_of_digit (digit_of (get_or bytes i 0))) (bits_of (drop (i + 1) bytes))
-    ∙ ap (λ (xs : List Bool). front ++ xs) (sym (ap bits_of (drop_more bytes i 0 h) ∙ bits_of-cons (get_or bytes i 0) (drop (i + 1) bytes)))
-    ∙ inv
+turned_more bytes i front more h inv e = grind (arith, append_assoc, drop_more, bits_of-cons)
 
 pub turned_all : (bytes : List ℕ) (i : ℕ) (front : List Bool) → length bytes ≤ i → front ++ bits_of (drop i bytes) ≡ bits_of bytes → front ≡ bits_of bytes
 turned_all bytes i front h inv = sym (append-nil front) ∙ ap (λ (xs : List Bool). front ++ xs) (sym (ap bits_of (drop_all i bytes h) ∙ bits_of-nil)) ∙ inv
@@ -85,11 +80,7 @@ packed_more bits rest six others front more size digit cut is_six least some inv
       | inl l ↦ drop_all 6 rest (omega arith) ∙ sym (nil_from_length others (omega arith))
       | inr l ↦ ap (drop 6) cut ∙ drop_at six others 6 (omega arith)
     ] in
-    let split : bytes_of rest ≡ byte_of digit ∷ bytes_of others =
-    bytes_of-step rest some ∙ ap₂ (λ (x : List Bool) (y : List Bool). byte_of (digit_of_bits x) ∷ bytes_of y) first behind
-    ∙ ap (λ (x : ℕ). byte_of x ∷ bytes_of others) (sym d) in
-    ap (λ (xs : List ℕ). xs ++ bytes_of others) e ∙ append_assoc front (byte_of digit ∷ []) (bytes_of others)
-    ∙ ap (λ (xs : List ℕ). front ++ xs) (sym split) ∙ inv
+    grind (arith, bytes_of-step rest some, append_assoc front (byte_of digit ∷ []) (bytes_of others))
 
 pub packed_all : (bits rest : List Bool) (front : List ℕ) → length rest ≡ 0 → front ++ bytes_of rest ≡ bytes_of bits → front ≡ bytes_of bits
 packed_all bits rest front h inv = sym (append-nil front) ∙ ap (λ (xs : List ℕ). front ++ xs) (sym (ap bytes_of (nil_from_length rest h) ∙ bytes_of-nil)) ∙ inv
@@ -97,7 +88,4 @@ packed_all bits rest front h inv = sym (append-nil front) ∙ ap (λ (xs : List 
 -- six bits for each byte
 pub length-bits_of : (bytes : List ℕ) → length (bits_of bytes) ≡ 6 * length bytes
 length-bits_of [] = ap length bits_of-nil
-length-bits_of (byte ∷ bytes) = let h = length-bits_of bytes in
-    let e : length (bits_of (byte ∷ bytes)) ≡ length (bits_of_digit (digit_of byte)) + length (bits_of bytes) =
-    ap length (bits_of-cons byte bytes) ∙ length-append (bits_of_digit (digit_of byte)) (bits_of bytes) in
-    let six : length (bits_of_digit (digit_of byte)) ≡ 6 = refl in omega arith
+length-bits_of (byte ∷ bytes) = grind (arith, length-bits_of bytes, bits_of-cons byte bytes, length-append (bits_of_digit (digit_of byte)) (bits_of bytes))

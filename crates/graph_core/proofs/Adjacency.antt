@@ -1,8 +1,8 @@
 -- Tightness and being covered depend on adjacency alone: they go over from a graph to one with
 -- the same adjacent pairs. A perfect matching goes over by choosing, for each of its edges, the
 -- least edge with the same ends.
-use Rattle.std.proofs.Common.{◌≡◌, ℕ, ◌≢◌, true, cond, ◌==◌, refl, sym, ap, ◌∙◌, arith, ◌&&◌, ◌||◌, eq-eqb, ne_eqb, ◌⊎◌, inl, inr, List, [], ◌∷◌, subst, subst₂}
-use Rattle.counting.proofs.Common.{cases_eq, and_from, nat_tests, some_true, true_some, least_of, least_of_is, Within, Set, none, some}
+use Rattle.std.proofs.Common.{◌≡◌, ℕ, ◌≢◌, true, cond, ◌==◌, refl, sym, ap, ◌∙◌, arith, ◌&&◌, eq-eqb, ne_eqb, ◌⊎◌, inl, inr, List, [], ◌∷◌, subst, subst₂}
+use Rattle.counting.proofs.Common.{cases_eq, and_from, some_true, true_some, least_of, least_of_is, Within, Set, none, some}
 use Rattle.graph_core.proofs.Carrying.{carried_set, cut_carried, image, perfect_carried}
 use Rattle.graph_core.proofs.Walks.{adjacent-edge, adjacent_from, adjacent_within, has_ends-cases, has_ends-own}
 use Rattle.graph_core.specs.Common.{IsCovered, Graph, IsGraph, first_end, has_ends, second_end, size, HasEnds, Allowed, CutIsTight, Joined, Walk, adjacent}
@@ -16,10 +16,7 @@ pub record Alike (g h : Graph) (move : ℕ → ℕ) : Type 0 where
   pub edges : (u v : ℕ) → Within g.order u → Within g.order v → u ≢ v → some (size g) (has_ends g u v) ≡ some (size h) (has_ends h (move u) (move v))
 
 pub has_ends-from : (g : Graph) (u v e : ℕ) → ((first_end g e ≡ u) × (second_end g e ≡ v)) ⊎ ((first_end g e ≡ v) × (second_end g e ≡ u)) → has_ends g u v e ≡ true
-has_ends-from g u v e h = tests (first_end g e) (second_end g e) u v h
-  where
-    tests : (a b u v : ℕ) → ((a ≡ u) × (b ≡ v)) ⊎ ((a ≡ v) × (b ≡ u)) → ((a == u && b == v) || (a == v && b == u)) ≡ true
-    tests a b u v h = grind (arith, nat_tests)
+has_ends-from g u v e h = grind arith
 
 module _ (g h : Graph) (move : ℕ → ℕ) (is : IsGraph g) (alike : Alike g h move) where
   -- the first edge of h where edge e of g goes
@@ -50,11 +47,7 @@ module _ (g h : Graph) (move : ℕ → ℕ) (is : IsGraph g) (alike : Alike g h 
       pick i = cond (i == e) f (least i)
 
       pick_is : (i : ℕ) → Within (size g) i → first_end g i ≢ second_end g i → Within (size h) (pick i) × HasEnds h (pick i) (move (first_end g i)) (move (second_end g i))
-      pick_is i w n = elim (cases_eq i e) [
-        | inl q ↦ subst (λ k. Within (size h) k × HasEnds h k (move (first_end g i)) (move (second_end g i))) (sym (ap (λ b. cond b f (least i)) (eq-eqb i e q)))
-            (wf, subst₂ (λ x y. HasEnds h f x y) (ap (λ k. move (first_end g k)) (sym q)) (ap (λ k. move (second_end g k)) (sym q)) ends)
-        | inr q ↦ subst (λ k. Within (size h) k × HasEnds h k (move (first_end g i)) (move (second_end g i))) (sym (ap (λ b. cond b f (least i)) (ne_eqb i e q))) (least_is i w n)
-      ]
+      pick_is i w n = grind (arith, cases_eq i e, eq-eqb i e, ne_eqb i e, least_is i w n)
 
   pub covered_over : IsGraph h → IsCovered g → IsCovered h
   unfolding Joined

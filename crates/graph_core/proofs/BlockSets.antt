@@ -1,7 +1,7 @@
 -- Unions of blocks block by block: how many blocks are in them, and uncrossing at a partition. A
 -- union of blocks is counted at the first vertex of each block; uncrossing is that of the
 -- contracted graph.
-use Rattle.std.proofs.Common.{◌≡◌, ℕ, suc, zero, ◌-◌, ◌<◌, ◌+◌, ◌*◌, ◌≤◌, Bool, true, false, ◌==◌, refl, sym, ap, ap₂, ◌∙◌, arith, ◌&&◌, ◌||◌, not, eq-eqb, eqb-true, inl, inr, List, [], ◌∷◌, length}
+use Rattle.std.proofs.Common.{◌≡◌, ℕ, suc, zero, ◌+◌, ◌*◌, ◌≤◌, Bool, true, false, ◌==◌, refl, sym, ap, ap₂, ◌∙◌, arith, ◌&&◌, ◌||◌, not, eq-eqb, eqb-true, inl, inr, List, length}
 use Rattle.counting.proofs.Common.{cases_Bool, both_ways, and_parts, and_from, cases_eq, get_or-map, count_congr, some_true, true_some, total_add, total_congr, apart_denied, bit_parted, not_not, Within, bit, count, is_odd, total, mem, Set, complement, meet, minus, none, union, some}
 use Rattle.graph_core.proofs.Blocks.{contracted-graph, contracted-size, first, in_union, place_in, place_is}
 use Rattle.graph_core.proofs.Carrying.{image, total_image}
@@ -24,27 +24,18 @@ pub count_over : (n m : ℕ) (x y : Set) (f b : ℕ → ℕ) →
 unfolding image
 count_over n m x y f b there back =
     let t = total_image n m x f (λ i. 1) (λ i w h. (there i w h).0) (λ d e wd we hd he q. sym (there d wd hd).2 ∙ ap b q ∙ (there e we he).2) in
-    total_congr n _ _ (λ i w. let z = bit (x i) in omega arith) ∙ sym t ∙ total_congr m _ _ (λ j w. ap (λ s. bit s * 1) (same j w (y j) refl) ∙ once (y j))
+    total_congr n _ _ (λ i w. let z = bit (x i) in omega arith) ∙ sym t ∙ total_congr m _ _ (λ j w. ap (λ s. bit s * 1) (same j w (y j) refl) ∙ (grind arith))
   where
-    once : (s : Bool) → bit s * 1 ≡ bit s
-    once true = omega arith
-    once false = omega arith
-
     same : (j : ℕ) → Within m j → (s : Bool) → y j ≡ s → some n (λ e. x e && (f e == j)) ≡ y j
     same j w true h = let r = back j w h in true_some n (λ e. x e && (f e == j)) (b j) r.0 (and_from (x (b j)) (f (b j) == j) r.1 (eq-eqb (f (b j)) j r.2)) ∙ sym h
-    same j w false h = elim (cases_Bool (some n (λ e. x e && (f e == j)))) [
-      | inr z ↦ z ∙ sym h
-      | inl z ↦ let r = some_true n (λ e. x e && (f e == j)) z in let a = and_parts (x r.0) (f r.0 == j) r.2 in
-          absurd (both_ways (y j) h (ap y (sym (eqb-true (f r.0) j a.1)) ∙ (there r.0 r.1 a.0).1))
-    ]
+    same j w false h = grind (arith, cases_Bool, some_true n, and_parts, both_ways (y j) h, eqb-true)
 
 module _ (n : ℕ) (p : List (List ℕ)) (pp : AreBlocks n p) where
   pub rep_in : (i : ℕ) → Within (length p) i → Within n (rep p i) × (mem (block p i) (rep p i) ≡ true)
   rep_in i w = let f = pp.full i w in let h = own (block p i) f.0 f.2 in (pp.within i (rep p i) w h, h)
     where
       own : (vs : List ℕ) (v : ℕ) → mem vs v ≡ true → mem vs (first vs) ≡ true
-      own [] v h = h
-      own (w ∷ vs) v h = ap (λ b. b || mem vs w) (eq-eqb w w refl)
+      own vs v h = grind arith
 
   pub rep_place : (i : ℕ) → Within (length p) i → place p (rep p i) ≡ i
   rep_place i w = sym (place_is n p pp (rep p i) i (rep_in i w).0 w (rep_in i w).1)
@@ -178,7 +169,4 @@ module _ (g : Graph) (is : IsGraph g) (p : List (List ℕ)) (pp : AreBlocks g.or
         same a b c d e f i j p q r s h = sym (ap₂ (λ z w. ((z && not f) && (j && not w)) || ((f && not z) && (w && not j))) p q) ∙ sym (ap₂ (λ z w. ((a && not z) && (w && not c)) || ((z && not a) && (c && not w))) r s) ∙ h
 
         ends_of : (e : ℕ) → Within (size g) e → (first_end (contracted g p) e ≡ place p (first_end g e)) × (second_end (contracted g p) e ≡ place p (second_end g e))
-        ends_of e w =
-            let l : e - 1 < length g.ends = omega arith in
-            let h = get_or-map (λ (d : ℕ × ℕ). (place p d.0, place p d.1)) g.ends (e - 1) (0, 0) (0, 0) l in
-            (ap (λ (d : ℕ × ℕ). d.0) h, ap (λ (d : ℕ × ℕ). d.1) h)
+        ends_of e w = grind (arith, get_or-map)

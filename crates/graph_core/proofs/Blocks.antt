@@ -1,7 +1,7 @@
 -- Merging a union of blocks contracts it in the contracted graph, so the law of contraction
 -- applies. Each vertex has one block, and the block of a place in the one partition goes to a
 -- place in the other.
-use Rattle.std.proofs.Common.{◌≡◌, ℕ, suc, zero, ◌+◌, ◌-◌, ◌≤◌, ◌<◌, ◌≢◌, Bool, true, false, cond, ◌==◌, refl, sym, ap, ◌∙◌, arith, ◌&&◌, ◌||◌, eq-eqb, eqb-true, inl, inr, List, [], ◌∷◌, length, get_or, subst}
+use Rattle.std.proofs.Common.{◌≡◌, ℕ, suc, ◌+◌, ◌-◌, ◌≢◌, Bool, true, false, cond, ◌==◌, refl, sym, ap, ◌∙◌, arith, ◌&&◌, ◌||◌, eq-eqb, eqb-true, inl, inr, List, [], ◌∷◌, length, subst}
 use Rattle.counting.proofs.Common.{cases_Bool, both_ways, true≢false, or_cases, and_from, and_left, get_or-map, length-map, bit_true, only_one, some_term, Within, bit, all_in, mem, Set, union}
 use Rattle.graph_core.specs.Common.{Graph, IsGraph, first_end, second_end, size, AreBlocks, IsMerge, block, contracted, place, IsUnion, blocks_in, Merges}
 
@@ -10,21 +10,9 @@ place_holds : (p : List (List ℕ)) (v i : ℕ) → Within (length p) i → mem 
 place_holds [] v i w h = absurd (omega arith)
 place_holds (b ∷ p) v i w h = go (place_holds p v (i - 1)) (mem b v) refl
   where
-    complement : i ≢ 1 → block (b ∷ p) i ≡ block p (i - 1)
-    complement d = shift (i - 1) (omega arith)
-      where
-        shift : (k : ℕ) → 1 ≤ k → get_or (b ∷ p) k [] ≡ get_or p (k - 1) []
-        shift zero q = absurd (omega arith)
-        shift (suc k) q = let e : suc k - 1 ≡ k = omega arith in ap (λ j. get_or p j []) (sym e)
-
     go : (Within (length p) (i - 1) → mem (block p (i - 1)) v ≡ true → Within (length p) (place p v) × (mem (block p (place p v)) v ≡ true)) → (x : Bool) → mem b v ≡ x →
         Within (suc (length p)) (cond x 1 (place p v + 1)) × (mem (block (b ∷ p) (cond x 1 (place p v + 1))) v ≡ true)
-    go ih true e = (omega arith, e)
-    go ih false e =
-        let d : i ≢ 1 = λ q. both_ways (mem b v) e (subst (λ k. mem (block (b ∷ p) k) v ≡ true) q h) in
-        let r = ih (omega arith) (subst (λ (c : List ℕ). mem c v ≡ true) (complement d) h) in
-        let s : (place p v + 1) - 1 ≡ suc (place p v - 1) = omega arith in
-        (omega arith, subst (λ k. mem (get_or (b ∷ p) k []) v ≡ true) (sym s) r.1)
+    go ih x e = grind arith
 
 module _ (n : ℕ) (p : List (List ℕ)) (is : AreBlocks n p) where
   pub place_is : (v i : ℕ) → Within n v → Within (length p) i → mem (block p i) v ≡ true → i ≡ place p v
@@ -41,8 +29,7 @@ first [] = 0
 first (v ∷ vs) = v
 
 mem_first : (vs : List ℕ) (v : ℕ) → mem vs v ≡ true → mem vs (first vs) ≡ true
-mem_first [] v h = h
-mem_first (w ∷ vs) v h = ap (λ b. b || mem vs w) (eq-eqb w w refl)
+mem_first vs v h = grind arith
 
 -- what the block of place i becomes in q
 abbrev pub carried : List (List ℕ) → List (List ℕ) → ℕ → ℕ
@@ -57,16 +44,10 @@ in_union n p x is union i v wi h = go (x v) refl
 
     all_yes : (vs : List ℕ) → ((u : ℕ) → mem vs u ≡ true → x u ≡ true) → all_in vs x ≡ true
     all_yes [] f = refl
-    all_yes (u ∷ vs) f = and_from (x u) (all_in vs x) (f u (own u vs)) (all_yes vs (λ w q. f w (later u vs w q)))
+    all_yes (u ∷ vs) f = and_from (x u) (all_in vs x) (f u (own u vs)) (all_yes vs (λ w q. f w (grind arith)))
       where
         own : (u : ℕ) (vs : List ℕ) → mem (u ∷ vs) u ≡ true
         own u vs = ap (λ b. b || mem vs u) (eq-eqb u u refl)
-
-        later : (u : ℕ) (vs : List ℕ) (w : ℕ) → mem vs w ≡ true → mem (u ∷ vs) w ≡ true
-        later u vs w q = right (u == w) (mem vs w) q
-          where
-            right : (a b : Bool) → b ≡ true → (a || b) ≡ true
-            right a b q = grind arith
 
     one_no : (vs : List ℕ) (u : ℕ) → mem vs u ≡ true → x u ≡ false → all_in vs x ≡ false
     one_no [] u q f = absurd (true≢false (sym q))
@@ -95,10 +76,7 @@ contracted-size g p = length-map g.ends (λ (d : ℕ × ℕ). (place p d.0, plac
 -- between the places of their ends
 pub contracted-ends : (g : Graph) (p : List (List ℕ)) (e : ℕ) → Within (size g) e → (first_end (contracted g p) e ≡ place p (first_end g e)) × (second_end (contracted g p) e ≡ place p (second_end g e))
 unfolding contracted
-contracted-ends g p e w =
-    let l : e - 1 < length g.ends = omega arith in
-    let h = get_or-map (λ (d : ℕ × ℕ). (place p d.0, place p d.1)) g.ends (e - 1) (0, 0) (0, 0) l in
-    (ap (λ (d : ℕ × ℕ). d.0) h, ap (λ (d : ℕ × ℕ). d.1) h)
+contracted-ends g p e w = grind (arith, get_or-map)
 
 -- merging a union of blocks merges the vertices of the shrunk graph
 module _ (g : Graph) (is : IsGraph g) (p q : List (List ℕ)) (x : Set) (pp : AreBlocks g.order p) (union : IsUnion g.order p x) (merge : IsMerge g.order p x q) where
@@ -163,10 +141,4 @@ module _ (g : Graph) (is : IsGraph g) (p q : List (List ℕ)) (x : Set) (pp : Ar
 
 pub contracted-graph : (g : Graph) (p : List (List ℕ)) → IsGraph g → AreBlocks g.order p → IsGraph (contracted g p)
 unfolding contracted
-contracted-graph g p is pp e w =
-    let v : Within (size g) e = let s = contracted-size g p in omega arith in
-    let l : e - 1 < length g.ends = omega arith in
-    let h = get_or-map (λ (d : ℕ × ℕ). (place p d.0, place p d.1)) g.ends (e - 1) (0, 0) (0, 0) l in (
-      subst (Within (length p)) (ap (λ (d : ℕ × ℕ). d.0) (sym h)) (place_in g.order p pp (first_end g e) (is e v).0).0,
-      subst (Within (length p)) (ap (λ (d : ℕ × ℕ). d.1) (sym h)) (place_in g.order p pp (second_end g e) (is e v).1).0,
-    )
+contracted-graph g p is pp e w = grind (arith, contracted-size g p, get_or-map, place_in g.order p pp (first_end g e), place_in g.order p pp (second_end g e))

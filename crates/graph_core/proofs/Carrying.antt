@@ -48,10 +48,7 @@ module _ (g h : Graph) (is_g : IsGraph g) (move pick : ℕ → ℕ)
       let c = ap bit (eq-eqb (first_end g e) (first_end g e) refl) in let d = ap bit (eq-eqb (second_end g e) (first_end g e) (sym l)) in let o = perfect.once (first_end g e) (is_g e w).0 refl in absurd (omega arith)
 
   same_bit : (u v : ℕ) → Within g.order u → Within g.order v → bit (move u == move v) ≡ bit (u == v)
-  same_bit u v wu wv = elim (cases_eq u v) [
-    | inl e ↦ ap bit (eq-eqb (move u) (move v) (ap move e) ∙ sym (eq-eqb u v e))
-    | inr e ↦ ap bit (ne_eqb (move u) (move v) (λ d. e (apart u v wu wv d)) ∙ sym (ne_eqb u v e))
-  ]
+  same_bit u v wu wv = grind arith
 
   moved_ends : (e : ℕ) → Within (size g) e → m e ≡ true → (v : ℕ) → Within g.order v → ends_of h (pick e) (move v) ≡ ends_of g e v
   moved_ends e w t v wv =
@@ -59,16 +56,7 @@ module _ (g h : Graph) (is_g : IsGraph g) (move pick : ℕ → ℕ)
       ends_of_is h (pick e) (move (first_end g e)) (move (second_end g e)) i.1 (move v) ∙ ap₂ ◌+◌ (same_bit (first_end g e) v (is_g e w).0 wv) (same_bit (second_end g e) v (is_g e w).1 wv) ∙ sym (ends_of_is g e (first_end g e) (second_end g e) (inl (refl, refl)) v)
 
   pick_apart : (d e : ℕ) → Within (size g) d → Within (size g) e → m d ≡ true → m e ≡ true → pick d ≡ pick e → d ≡ e
-  pick_apart d e wd we td te q = elim (cases_eq d e) [
-    | inl s ↦ s
-    | inr s ↦
-        let v = first_end g d in
-        let a = two_ends_le_degree g m d e v wd we s td te in
-        let b = moved_ends d wd td v (is_g d wd).0 in let c = moved_ends e we te v (is_g d wd).0 in
-        let f = ap (λ i. ends_of h i (move v)) q in
-        let k = ends_of_is g d (first_end g d) (second_end g d) (inl (refl, refl)) v in let l = ap bit (eq-eqb v v refl) in
-        let o = perfect.once v (is_g d wd).0 refl in absurd (omega arith)
-  ]
+  pick_apart d e wd we td te q = grind (arith, cases_eq d e, two_ends_le_degree g m d e, moved_ends d wd td, moved_ends e we te, ends_of h, ends_of_is g d (first_end g d) (second_end g d), eq-eqb)
 
   unfoldable pub carried_set : Set
   carried_set = image (size g) m pick
@@ -85,11 +73,7 @@ module _ (g h : Graph) (is_g : IsGraph g) (move pick : ℕ → ℕ)
   }
     where
       at_moved : (v : ℕ) → Within g.order v → degree h carried_set (move v) ≡ 1
-      at_moved v wv = degree_sum h carried_set (move v) ∙ over (λ i. ends_of h i (move v)) ∙ total_congr (size g) _ _ (λ e w. go e w (m e) refl) ∙ sym (degree_sum g m v) ∙ perfect.once v wv refl
-        where
-          go : (e : ℕ) → Within (size g) e → (b : Bool) → m e ≡ b → bit (m e) * ends_of h (pick e) (move v) ≡ bit (m e) * ends_of g e v
-          go e w true t = ap (λ k. bit (m e) * k) (moved_ends e w t v wv)
-          go e w false t = rw t (omega arith)
+      at_moved v wv = degree_sum h carried_set (move v) ∙ over (λ i. ends_of h i (move v)) ∙ total_congr (size g) _ _ (λ e w. grind (arith, moved_ends)) ∙ sym (degree_sum g m v) ∙ perfect.once v wv refl
 
   -- and its cuts are those of the sets that move leads into
   pub cut_carried : (y : Set) → count (size h) (λ i. carried_set i && in_cut h y i) ≡ count (size g) (λ e. m e && in_cut g (λ v. y (move v)) e)
@@ -99,11 +83,5 @@ module _ (g h : Graph) (is_g : IsGraph g) (move pick : ℕ → ℕ)
       go e w false t = rw t (omega arith)
       go e w true t = rw t (elim (in_h e w (no_loop e w t)).1 [
         | inl p ↦ ap₂ (λ a b. 1 * bit ((y a && not (y b)) || (not (y a) && y b))) p.0 p.1 ∙ omega arith
-        | inr p ↦ ap₂ (λ a b. 1 * bit ((y a && not (y b)) || (not (y a) && y b))) p.0 p.1 ∙ turn (y (move (second_end g e))) (y (move (first_end g e)))
+        | inr p ↦ ap₂ (λ a b. 1 * bit ((y a && not (y b)) || (not (y a) && y b))) p.0 p.1 ∙ (grind arith)
       ])
-        where
-          turn : (a b : Bool) → 1 * bit ((a && not b) || (not a && b)) ≡ bit ((b && not a) || (not b && a))
-          turn true true = refl
-          turn true false = refl
-          turn false true = refl
-          turn false false = refl

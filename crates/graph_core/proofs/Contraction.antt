@@ -1,7 +1,7 @@
 -- Contracting a tight shore of a covered graph: perfect matchings go down, tight cuts go both
 -- ways, covered goes down. A perfect matching has one edge in the cut, so each vertex outside
 -- keeps its one edge and the new vertex gets one.
-use Rattle.std.proofs.Common.{◌≡◌, ℕ, suc, ◌+◌, ◌*◌, ◌≤◌, ◌<◌, ◌≢◌, Bool, true, false, cond, ◌==◌, refl, sym, ap, ap₂, ◌∙◌, arith, ◌&&◌, ◌||◌, not, eq-eqb, ne_eqb, eqb-true, ◌⊎◌, inl, inr, List, [], ◌∷◌, subst₂}
+use Rattle.std.proofs.Common.{◌≡◌, ℕ, suc, ◌+◌, ◌*◌, ◌≤◌, ◌<◌, ◌≢◌, Bool, true, false, cond, ◌==◌, refl, sym, ap, ap₂, ◌∙◌, arith, ◌&&◌, ◌||◌, not, eqb-true, inl, inr, List, [], ◌∷◌, subst₂}
 use Rattle.counting.proofs.Common.{cases_eq, and_parts, and_from, true≢false, false_from_ne_true, both_ways, not-true, nat_tests, bit_true, count_congr, only_one, odd-double, odd_pos, at_le_total, some_term, total_add, total_congr, alike_not_apart, apart_denied, Within, bit, count, is_odd, Set, complement, none}
 use Rattle.graph_core.proofs.Decide.{degree_congr}
 use Rattle.graph_core.proofs.Parity.{parity}
@@ -26,22 +26,10 @@ module _ (g : Graph) (is : IsGraph g) (x : Set) (h : Graph) (f : ℕ → ℕ) (c
   in_g e w = let k = merge.edges in omega arith
 
   same_end : (u v : ℕ) → Within g.order u → Within g.order v → x v ≡ false → (f u == f v) ≡ (u == v)
-  same_end u v wu wv o = go (x u) refl
-    where
-      go : (b : Bool) → x u ≡ b → (f u == f v) ≡ (u == v)
-      go true t = let a = merge.inside u wu t in let b = (merge.outside v wv o).1 in
-          ne_eqb (f u) (f v) (λ e. b (sym e ∙ a)) ∙ sym (ne_eqb u v (λ e. both_ways (x v) o (ap x (sym e) ∙ t)))
-      go false t = elim (cases_eq u v) [
-        | inl e ↦ eq-eqb (f u) (f v) (ap f e) ∙ sym (eq-eqb u v e)
-        | inr e ↦ ne_eqb (f u) (f v) (λ d. e (merge.apart u v wu wv t o d)) ∙ sym (ne_eqb u v e)
-      ]
+  same_end u v wu wv o = grind arith
 
   at_c : (u : ℕ) → Within g.order u → (f u == c) ≡ x u
-  at_c u wu = go (x u) refl
-    where
-      go : (b : Bool) → x u ≡ b → (f u == c) ≡ b
-      go true t = eq-eqb (f u) c (merge.inside u wu t)
-      go false t = ne_eqb (f u) c (merge.outside u wu t).1
+  at_c u wu = grind arith
 
   -- the edges of m that are not inside x
   abbrev pub drop_inside : Set → Set
@@ -53,28 +41,15 @@ module _ (g : Graph) (is : IsGraph g) (x : Set) (h : Graph) (f : ℕ → ℕ) (c
 
   degree_outside : (m : Set) (v : ℕ) → Within g.order v → x v ≡ false → degree h (drop_inside m) (f v) ≡ degree g m v
   degree_outside m v w o = ap₂ ◌+◌
-      (over _ _ (λ e we. ap (λ k. drop_inside m e && k) (ap (λ k. k == f v) (merge.first_ends e we) ∙ same_end (first_end g e) v (is e we).0 w o) ∙ bits (m e) (x (first_end g e)) (x (second_end g e)) (first_end g e == v) (λ t. ap x (eqb-true (first_end g e) v t) ∙ o)))
-      (over _ _ (λ e we. ap (λ k. drop_inside m e && k) (ap (λ k. k == f v) (merge.second_ends e we) ∙ same_end (second_end g e) v (is e we).1 w o) ∙ bits' (m e) (x (first_end g e)) (x (second_end g e)) (second_end g e == v) (λ t. ap x (eqb-true (second_end g e) v t) ∙ o)))
-    where
-      bits : (k a b t : Bool) → (t ≡ true → a ≡ false) → ((k && not (a && b)) && t) ≡ (k && t)
-      bits k a b t h = grind arith
-
-      bits' : (k a b t : Bool) → (t ≡ true → b ≡ false) → ((k && not (a && b)) && t) ≡ (k && t)
-      bits' k a b t h = grind arith
+      (over _ _ (λ e we. ap (λ k. drop_inside m e && k) (ap (λ k. k == f v) (merge.first_ends e we) ∙ same_end (first_end g e) v (is e we).0 w o) ∙ (grind arith)))
+      (over _ _ (λ e we. ap (λ k. drop_inside m e && k) (ap (λ k. k == f v) (merge.second_ends e we) ∙ same_end (second_end g e) v (is e we).1 w o) ∙ (grind arith)))
 
   degree_new : (m : Set) → degree h (drop_inside m) c ≡ count (size g) (λ e. m e && in_cut g x e)
   degree_new m = ap₂ ◌+◌
       (over _ (λ e. (m e && not (inside g x e)) && x (first_end g e)) (λ e we. ap (λ k. drop_inside m e && k) (ap (λ k. k == c) (merge.first_ends e we) ∙ at_c (first_end g e) (is e we).0)))
       (over _ (λ e. (m e && not (inside g x e)) && x (second_end g e)) (λ e we. ap (λ k. drop_inside m e && k) (ap (λ k. k == c) (merge.second_ends e we) ∙ at_c (second_end g e) (is e we).1)))
       ∙ sym (total_add (size g) (λ e. bit ((m e && not (inside g x e)) && x (first_end g e))) (λ e. bit ((m e && not (inside g x e)) && x (second_end g e))))
-      ∙ total_congr (size g) _ _ (λ e w. bits (m e) (x (first_end g e)) (x (second_end g e)))
-    where
-      bits : (k a b : Bool) → bit ((k && not (a && b)) && a) + bit ((k && not (a && b)) && b) ≡ bit (k && ((a && not b) || (not a && b)))
-      bits false a b = refl
-      bits true true true = refl
-      bits true true false = refl
-      bits true false true = refl
-      bits true false false = refl
+      ∙ total_congr (size g) _ _ (λ e w. grind arith)
 
   pub perfect_down : CutIsTight g x → (m : Set) → IsPerfect g none m → IsPerfect h none (drop_inside m)
   perfect_down tight m p = record {
@@ -88,10 +63,7 @@ module _ (g : Graph) (is : IsGraph g) (x : Set) (h : Graph) (f : ℕ → ℕ) (c
   -- the cut of y in h is that of the vertices which f puts into y
   cut_down : (m y : Set) → count (size h) (λ e. drop_inside m e && in_cut h y e) ≡ count (size g) (λ e. m e && in_cut g (λ v. y (f v)) e)
   cut_down m y = over _ _ (λ e w. ap₂ (λ a b. drop_inside m e && ((y a && not (y b)) || (not (y a) && y b))) (merge.first_ends e w) (merge.second_ends e w)
-      ∙ bits (m e) (x (first_end g e)) (x (second_end g e)) (y (f (first_end g e))) (y (f (second_end g e))) (λ s t. ap y (merge.inside (first_end g e) (is e w).0 s ∙ sym (merge.inside (second_end g e) (is e w).1 t))))
-    where
-      bits : (k a b s t : Bool) → (a ≡ true → b ≡ true → s ≡ t) → ((k && not (a && b)) && ((s && not t) || (not s && t))) ≡ (k && ((s && not t) || (not s && t)))
-      bits k a b s t h = grind arith
+      ∙ (grind arith))
 
   -- a tight shore of h is one of g
   pub tight_up : CutIsTight g x → (y : Set) → CutIsTight h y → CutIsTight g (λ v. y (f v))
@@ -100,16 +72,7 @@ module _ (g : Graph) (is : IsGraph g) (x : Set) (h : Graph) (f : ℕ → ℕ) (c
   -- h is covered
   pub covered_down : IsTight g x → IsCovered g → IsCovered h
   unfolding Joined
-  covered_down tight cov = record {
-    two = two_down;
-    connected = joined_down;
-    allowed = λ e w l.
-        let wg = in_g e w in
-        let a = cov.allowed e wg (λ k. l (merge.first_ends e wg ∙ ap f k ∙ sym (merge.second_ends e wg))) in
-        let i : inside g x e ≡ false = false_from_ne_true (inside g x e) (λ t. let b = and_parts (x (first_end g e)) (x (second_end g e)) t in
-        l (merge.first_ends e wg ∙ merge.inside (first_end g e) (is e wg).0 b.0 ∙ sym (merge.second_ends e wg ∙ merge.inside (second_end g e) (is e wg).1 b.1))) in
-        (drop_inside a.0, perfect_down tight.cut a.0 a.1, and_from (a.0 e) (not (inside g x e)) a.2 (ap not i));
-  }
+  covered_down tight cov = grind (arith, two_down, joined_down, in_g, false_from_ne_true, and_parts, perfect_down tight.cut, and_from)
     where
       in_x : (v : ℕ) × Within g.order v × (x v ≡ true)
       in_x = let r = some_term g.order (λ v. bit (x v)) (odd_pos (count g.order x) tight.odd) in (r.0, r.1, bit_true (x r.0) r.2)
@@ -127,16 +90,7 @@ module _ (g : Graph) (is : IsGraph g) (x : Set) (h : Graph) (f : ℕ → ℕ) (c
       ]
 
       step : (u v : ℕ) → adjacent g none u v ≡ true → adjacent h none (f u) (f v) ≡ true
-      step u v a = let q = adjacent-edge g none u v a in
-          let e = q.2.0 in
-          let we : Within (size h) e = let k = merge.edges in let z = q.2.1 in omega arith in
-          adjacent_from h none (f u) (f v) e refl refl we (elim (has_ends-cases g u v e q.2.2) [
-            | inl b ↦ both_tests (first_end h e) (second_end h e) (f u) (f v) (inl (merge.first_ends e q.2.1 ∙ ap f b.0, merge.second_ends e q.2.1 ∙ ap f b.1))
-            | inr b ↦ both_tests (first_end h e) (second_end h e) (f u) (f v) (inr (merge.first_ends e q.2.1 ∙ ap f b.0, merge.second_ends e q.2.1 ∙ ap f b.1))
-          ])
-        where
-          both_tests : (a b u v : ℕ) → ((a ≡ u) × (b ≡ v)) ⊎ ((a ≡ v) × (b ≡ u)) → ((a == u && b == v) || (a == v && b == u)) ≡ true
-          both_tests a b u v q = grind (arith, nat_tests)
+      step u v a = grind (arith, adjacent-edge g none u v a, adjacent_from h none (f u) (f v), has_ends-cases g u v, nat_tests)
 
       walk : (u v : ℕ) (ws : List ℕ) → Walk (adjacent g none) u ws v → Joined h none (f u) (f v)
       walk u v [] w = ([], ap f w)
@@ -157,19 +111,12 @@ module _ (g : Graph) (is : IsGraph g) (x : Set) (h : Graph) (f : ℕ → ℕ) (c
             arith,
             total_add (size g) (λ e. bit (k e && in_cut g x e)) (λ e. bit (k e && inside g x e) + bit (k e && inside g x e)),
             total_add (size g) (λ e. bit (k e && inside g x e)) (λ e. bit (k e && inside g x e)),
-            total_congr (size g) (λ e. bit (k e && x (first_end g e)) + bit (k e && x (second_end g e))) (λ e. bit (k e && in_cut g x e) + (bit (k e && inside g x e) + bit (k e && inside g x e))) (λ e w. bits (k e) (x (first_end g e)) (x (second_end g e))),
+            total_congr (size g) (λ e. bit (k e && x (first_end g e)) + bit (k e && x (second_end g e))) (λ e. bit (k e && in_cut g x e) + (bit (k e && inside g x e) + bit (k e && inside g x e))) (λ e w. grind arith),
             total_add (size g) (λ e. bit (k e && x (first_end g e))) (λ e. bit (k e && x (second_end g e))),
             over (λ e. k e && (first_end h e == c)) (λ e. k e && x (first_end g e)) (λ e we. ap (λ b. k e && b) (ap (λ b. b == c) (merge.first_ends e we) ∙ at_c (first_end g e) (is e we).0)),
             over (λ e. k e && (second_end h e == c)) (λ e. k e && x (second_end g e)) (λ e we. ap (λ b. k e && b) (ap (λ b. b == c) (merge.second_ends e we) ∙ at_c (second_end g e) (is e we).1)),
             p.once c merge.new refl,
           )
-        where
-          bits : (k a b : Bool) → bit (k && a) + bit (k && b) ≡ bit (k && ((a && not b) || (not a && b))) + (bit (k && (a && b)) + bit (k && (a && b)))
-          bits false a b = refl
-          bits true true true = refl
-          bits true true false = refl
-          bits true false true = refl
-          bits true false false = refl
 
       k_out : (e : ℕ) → Within (size g) e → (k e && inside g x e) ≡ false
       k_out e w = false_from_ne_true (k e && inside g x e) (λ t. let b = ap bit t in let z = at_le_total (size g) (λ e. bit (k e && inside g x e)) e w in absurd (omega (arith, new_degree)))
@@ -193,10 +140,7 @@ module _ (g : Graph) (is : IsGraph g) (x : Set) (h : Graph) (f : ℕ → ℕ) (c
       m e = cond (inside g x e) (other.0 e) (k e)
 
       same_in_h : (e : ℕ) → Within (size h) e → drop_inside m e ≡ k e
-      same_in_h e w = bits (k e) (other.0 e) (inside g x e) (k_out e (in_g e w))
-        where
-          bits : (a b i : Bool) → (a && i) ≡ false → (cond i b a && not i) ≡ a
-          bits a b i q = grind arith
+      same_in_h e w = grind (arith, k_out e (in_g e w), in_g e w)
 
       -- where an edge crosses, k and the other matching agree
       agree : (e : ℕ) → Within (size g) e → in_cut g x e ≡ true → k e ≡ other.0 e

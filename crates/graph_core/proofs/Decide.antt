@@ -1,21 +1,15 @@
 -- The tests for matchings, tightness and equivalence against the relations; each is decided.
 -- Each test goes by the edge numbers alone, so the search over all edge sets misses none.
-use Rattle.std.proofs.Common.{◌≡◌, ℕ, suc, zero, ◌+◌, ◌≢◌, Bool, true, false, cond, ◌==◌, refl, sym, ap, ap₂, ◌∙◌, arith, ◌&&◌, ◌||◌, not, eq-eqb, eqb-true, ◌⊎◌, inl, inr, ◌≤◌, ◌<◌, nat_le, leb-true, le-leb, List, [], ◌∷◌}
+use Rattle.std.proofs.Common.{◌≡◌, ℕ, suc, zero, ◌+◌, ◌≢◌, Bool, true, cond, ◌==◌, sym, ap, ap₂, ◌∙◌, arith, ◌&&◌, ◌||◌, not, eq-eqb, eqb-true, ◌⊎◌, inl, inr, ◌≤◌, ◌<◌, nat_le, leb-true, le-leb, List, [], ◌∷◌}
 use Rattle.counting.proofs.Common.{cases_eq, cases_Bool, or_cases, and_parts, and_from, both_ways, not-true, nat_tests, Respects, choose_set, each_passes, implied, implies, none_fails, set_found, some_set_found, count_congr, count_le, every_congr, every_true, true_every, total_none, Within, count, is_odd, Set, complement, none, pair_set}
 use Rattle.graph_core.proofs.Walks.{adjacent-edge, has_ends-cases}
 use Rattle.graph_core.specs.Common.{IsCovered, IsReason, Reason, Small, Parted, Unmatched, Unallowed, Graph, IsGraph, IsMultigraph, degree, edges_in_cut, first_end, in_cut, second_end, size, Allowed, HasPerfect, IsMatching, IsMaximum, IsPerfect, fits_at, has_perfect, is_allowed, is_matching, is_perfect, right_degree, Equivalent, is_equivalent, CutIsTight, IsTight, is_tight, Joined, Walk, adjacent}
 
 pub is_perfect_true : (g : Graph) (r m : Set) → is_perfect g r m ≡ true → IsPerfect g r m
-is_perfect_true g r m h = record {
-  once = λ v w o. eqb-true _ _ (every_true g.order (right_degree g r m) h v w) ∙ ap (λ b. cond b 0 1) o;
-  away = λ v w o. eqb-true _ _ (every_true g.order (right_degree g r m) h v w) ∙ ap (λ b. cond b 0 1) o;
-}
+is_perfect_true g r m h = grind (arith, eqb-true, every_true g.order (right_degree g r m) h)
 
 pub true_is_perfect : (g : Graph) (r m : Set) → IsPerfect g r m → is_perfect g r m ≡ true
-true_is_perfect g r m h = true_every g.order (right_degree g r m) (λ v w. eq-eqb _ _ (elim (cases_Bool (r v)) [
-  | inl t ↦ h.away v w t ∙ sym (ap (λ b. cond b 0 1) t)
-  | inr t ↦ h.once v w t ∙ sym (ap (λ b. cond b 0 1) t)
-]))
+true_is_perfect g r m h = grind (arith, true_every g.order (right_degree g r m), eq-eqb, cases_Bool)
 
 pub degree_congr : (g : Graph) (m k : Set) (v : ℕ) → ((e : ℕ) → Within (size g) e → m e ≡ k e) → degree g m v ≡ degree g k v
 degree_congr g m k v h = ap₂ ◌+◌ (count_congr (size g) _ _ (λ e w. ap (λ b. b && (first_end g e == v)) (h e w))) (count_congr (size g) _ _ (λ e w. ap (λ b. b && (second_end g e == v)) (h e w)))
@@ -39,34 +33,17 @@ tight_or_not g x =
     ]
 
 pub is_matching_true : (g : Graph) (r m : Set) → is_matching g r m ≡ true → IsMatching g r m
-is_matching_true g r m h = record {
-  once = λ v w. both (r v) (degree g m v) (leb-true _ _ (every_true g.order (fits_at g r m) h v w));
-  away = λ v w o. let a = leb-true _ _ (every_true g.order (fits_at g r m) h v w) in let b = ap (λ k. cond k 0 1) o in zero_le (degree g m v) (cond (r v) 0 1) a b;
-}
-  where
-    both : (b : Bool) (d : ℕ) → d ≤ cond b 0 1 → d ≤ 1
-    both true d q = omega arith
-    both false d q = q
-
-    zero_le : (d k : ℕ) → d ≤ k → k ≡ 0 → d ≡ 0
-    zero_le d k a b = omega arith
+is_matching_true g r m h = grind (arith, leb-true, every_true g.order (fits_at g r m) h)
 
 pub true_is_matching : (g : Graph) (r m : Set) → IsMatching g r m → is_matching g r m ≡ true
-true_is_matching g r m h = true_every g.order (fits_at g r m) (λ v w. le-leb _ _ (go v w (r v) refl))
-  where
-    go : (v : ℕ) → Within g.order v → (b : Bool) → r v ≡ b → degree g m v ≤ cond b 0 1
-    go v w true e = omega (arith, h.away v w e)
-    go v w false e = h.once v w
+true_is_matching g r m h = grind (arith, true_every g.order (fits_at g r m), le-leb)
 
 pub is_matching_congr : (g : Graph) (r m k : Set) → ((e : ℕ) → Within (size g) e → m e ≡ k e) → is_matching g r m ≡ is_matching g r k
 is_matching_congr g r m k h = every_congr g.order _ _ (λ v w. ap (λ d. nat_le d (cond (r v) 0 1)) (degree_congr g m k v h))
 
 -- no edges are a matching
 pub none_matching : (g : Graph) (r : Set) → IsMatching g r none
-none_matching g r = record { once = λ v w. omega (arith, zero_degree v); away = λ v w o. zero_degree v }
-  where
-    zero_degree : (v : ℕ) → degree g none v ≡ 0
-    zero_degree v = ap₂ ◌+◌ (total_none (size g) _ (λ e w. refl)) (total_none (size g) _ (λ e w. refl))
+none_matching g r = grind (arith, total_none (size g))
 
 -- there is a maximum matching
 pub maximum_below : (g : Graph) (r : Set) (k : ℕ) → ((m : Set) → IsMatching g r m → count (size g) m ≤ k) → (m : Set) × IsMaximum g r m
@@ -115,33 +92,17 @@ has_perfect_found g r h = set_found (size g) (is_perfect g r) (perfect_respects 
 
 -- an edge is allowed where the test says so
 pub is_allowed_says : (g : Graph) (e : ℕ) → is_allowed g e ≡ true → Allowed g e
-is_allowed_says g e h =
-    let q = some_set_found (size g) (λ m. is_perfect g none m && m e) h in
-    let b = and_parts (is_perfect g none q.0) (q.0 e) q.1 in
-    (q.0, is_perfect_true g none q.0 b.0, b.1)
+is_allowed_says g e h = grind (arith, some_set_found (size g), and_parts, is_perfect_true g none)
 
 pub is_allowed_found : (g : Graph) (e : ℕ) → Within (size g) e → Allowed g e → is_allowed g e ≡ true
 is_allowed_found g e w a = set_found (size g) (λ m. is_perfect g none m && m e) (record { same = λ m k h. ap₂ ◌&&◌ (is_perfect_congr g none m k h) (h e w) }) a.0 (and_from (is_perfect g none a.0) (a.0 e) (true_is_perfect g none a.0 a.1) a.2)
 
 -- two vertices are equivalent where the test says so
 pub is_equivalent_says : (g : Graph) (a b : ℕ) → is_equivalent g a b ≡ true → Equivalent g a b
-is_equivalent_says g a b h = elim (or_cases (a == b) (not (has_perfect g (pair_set a b))) h) [
-  | inl e ↦ inl (eqb-true a b e)
-  | inr f ↦ inr (λ q. both_ways (has_perfect g (pair_set a b)) (not-true (has_perfect g (pair_set a b)) f) (has_perfect_found g (pair_set a b) q))
-]
+is_equivalent_says g a b h = grind (arith, or_cases, eqb-true, both_ways, not-true, has_perfect_found)
 
 pub is_equivalent_found : (g : Graph) (a b : ℕ) → Equivalent g a b → is_equivalent g a b ≡ true
-is_equivalent_found g a b (inl e) = front (a == b) (not (has_perfect g (pair_set a b))) (eq-eqb a b e)
-  where
-    front : (x y : Bool) → x ≡ true → (x || y) ≡ true
-    front x y h = grind arith
-is_equivalent_found g a b (inr h) = elim (cases_Bool (has_perfect g (pair_set a b))) [
-  | inl t ↦ absurd (h (has_perfect_says g (pair_set a b) t))
-  | inr f ↦ back (a == b) (has_perfect g (pair_set a b)) f
-]
-  where
-    back : (x y : Bool) → y ≡ false → (x || not y) ≡ true
-    back x y h = grind arith
+is_equivalent_found g a b k = grind (arith, eq-eqb a b, cases_Bool (has_perfect g (pair_set a b)), has_perfect_says g (pair_set a b))
 
 -- the test for one edge in the cut of x, where m is a perfect matching
 cut_respects : (g : Graph) (x : Set) → Respects (size g) (λ m. not (is_perfect g none m) || (count (size g) (λ e. m e && in_cut g x e) == 1))
@@ -155,9 +116,7 @@ is_tight_says g x h =
     record { odd = c.0; odd_complement = c.1; cut = λ m p. eqb-true _ _ (implied (is_perfect g none m) _ (each_passes (size g) _ (cut_respects g x) b.1 m) (true_is_perfect g none m p)) }
 
 pub is_tight_found : (g : Graph) (x : Set) → IsTight g x → is_tight g x ≡ true
-is_tight_found g x t =
-    and_from (is_odd (count g.order x) && is_odd (count g.order (complement x))) _ (and_from (is_odd (count g.order x)) (is_odd (count g.order (complement x))) t.odd t.odd_complement)
-    (none_fails (size g) (λ m. not (is_perfect g none m) || (count (size g) (λ e. m e && in_cut g x e) == 1)) (λ m. implies (is_perfect g none m) _ (λ p. eq-eqb _ _ (t.cut m (is_perfect_true g none m p)))))
+is_tight_found g x t = grind (arith, and_from, none_fails, implies, eq-eqb, is_perfect_true)
 
 -- a covered graph has a perfect matching
 pub covered_perfect : (g : Graph) → IsGraph g → IsCovered g → (m : Set) × IsPerfect g none m

@@ -1,6 +1,6 @@
 -- A set of edges after one edge is put in or taken out: degrees, sizes, and what it misses.
 -- Only one term of each sum changes.
-use Rattle.std.proofs.Common.{◌≡◌, ℕ, suc, zero, ◌+◌, ◌*◌, ◌≤◌, ◌<◌, ◌≢◌, Bool, true, false, ◌==◌, refl, sym, ap, ◌∙◌, arith, ◌&&◌, not, eq-eqb, ne_eqb, ◌⊎◌, inl, inr, ap₂, add_comm}
+use Rattle.std.proofs.Common.{◌≡◌, ℕ, suc, zero, ◌+◌, ◌*◌, ◌≤◌, ◌<◌, ◌≢◌, Bool, true, false, ◌==◌, refl, sym, ap, ◌∙◌, arith, ◌&&◌, not, eq-eqb, ne_eqb, ◌⊎◌, inl, inr}
 use Rattle.counting.proofs.Common.{cases_eq, cases_Bool, both_ways, cases_order, count_put, total_put, at_le_total, some_term, total_add, total_congr, total_zero, two_le_total, bit_and_false, bit_and_true, Within, bit, count, total, Set, put}
 use Rattle.graph_core.proofs.Parity.{degrees}
 use Rattle.graph_core.proofs.Walks.{adjacent-edge, has_ends-cases}
@@ -13,11 +13,7 @@ ends_of g e v = bit (first_end g e == v) + bit (second_end g e == v)
 
 pub degree_sum : (g : Graph) (m : Set) (v : ℕ) → degree g m v ≡ total (size g) (λ e. bit (m e) * ends_of g e v)
 unfolding ends_of
-degree_sum g m v = sym (total_add (size g) (λ e. bit (m e && (first_end g e == v))) (λ e. bit (m e && (second_end g e == v)))) ∙ total_congr (size g) _ _ (λ e w. each (m e) (first_end g e == v) (second_end g e == v))
-  where
-    each : (a b c : Bool) → bit (a && b) + bit (a && c) ≡ bit a * (bit b + bit c)
-    each true b c = omega arith
-    each false b c = omega arith
+degree_sum g m v = sym (total_add (size g) (λ e. bit (m e && (first_end g e == v))) (λ e. bit (m e && (second_end g e == v)))) ∙ total_congr (size g) _ _ (λ e w. grind arith)
 
 pub degree_put : (g : Graph) (m : Set) (i : ℕ) (b : Bool) (v : ℕ) → Within (size g) i → degree g (put m i b) v + bit (m i) * ends_of g i v ≡ degree g m v + bit b * ends_of g i v
 degree_put g m i b v w = ap (λ s. s + bit (m i) * ends_of g i v) (degree_sum g (put m i b) v) ∙ total_put (size g) m i b (λ e. ends_of g e v) w ∙ ap (λ s. s + bit b * ends_of g i v) (sym (degree_sum g m v))
@@ -35,9 +31,7 @@ unfolding shared
 shared_le k m n = go k
   where
     le_one : (a b : Bool) → bit a * bit b ≤ 1
-    le_one true true = omega arith
-    le_one true false = omega arith
-    le_one false b = omega arith
+    le_one a b = grind arith
 
     go : (j : ℕ) → total j (λ e. bit (n e) * bit (m e)) ≤ j
     go zero = omega arith
@@ -55,35 +49,15 @@ sum_degrees g m is =
 -- what a matching misses, and twice its edges, are the vertices outside r
 pub missed_edges : (g : Graph) (r m : Set) → IsGraph g → IsMatching g r m → missed_count g r m + 2 * count (size g) m ≡ count g.order (λ v. not (r v))
 unfolding missed_count
-missed_edges g r m is mm = ap (λ k. missed_count g r m + k) (sym (sum_degrees g m is)) ∙ sym (total_add g.order (λ v. bit (not (r v) && (degree g m v == 0))) (λ v. degree g m v)) ∙ total_congr g.order _ _ (λ v w. each v w)
-  where
-    each : (v : ℕ) → Within g.order v → bit (not (r v) && (degree g m v == 0)) + degree g m v ≡ bit (not (r v))
-    each v w = go (r v) refl
-      where
-        tests : (d : ℕ) → d ≤ 1 → bit (d == 0) + d ≡ 1
-        tests zero h = refl
-        tests (suc zero) h = refl
-        tests (suc (suc d)) h = absurd (omega arith)
-
-        go : (b : Bool) → r v ≡ b → bit (not b && (degree g m v == 0)) + degree g m v ≡ bit (not b)
-        go true e = omega (arith, mm.away v w e)
-        go false e = tests (degree g m v) (mm.once v w)
+missed_edges g r m is mm = ap (λ k. missed_count g r m + k) (sym (sum_degrees g m is)) ∙ sym (total_add g.order (λ v. bit (not (r v) && (degree g m v == 0))) (λ v. degree g m v)) ∙ total_congr g.order _ _ (λ v w. grind arith)
 
 -- a vertex that m does not miss has an edge of m
 pub edge_at : (g : Graph) (m : Set) (v : ℕ) → 0 < degree g m v → (e : ℕ) × Within (size g) e × (m e ≡ true) × ((y : ℕ) × (((first_end g e ≡ v) × (second_end g e ≡ y)) ⊎ ((first_end g e ≡ y) × (second_end g e ≡ v))))
 unfolding ends_of
 edge_at g m v h =
     let r = some_term (size g) (λ e. bit (m e) * ends_of g e v) (omega (arith, degree_sum g m v)) in
-    (r.0, r.1, in_m (m r.0) (ends_of g r.0 v) r.2, other (first_end g r.0) (second_end g r.0) (has_end (m r.0) (ends_of g r.0 v) r.2))
+    (r.0, r.1, grind arith, other (first_end g r.0) (second_end g r.0) (grind arith))
   where
-    in_m : (b : Bool) (k : ℕ) → 0 < bit b * k → b ≡ true
-    in_m true k q = refl
-    in_m false k q = absurd (omega arith)
-
-    has_end : (b : Bool) (k : ℕ) → 0 < bit b * k → 0 < k
-    has_end true k q = omega arith
-    has_end false k q = absurd (omega arith)
-
     other : (a b : ℕ) → 0 < bit (a == v) + bit (b == v) → (y : ℕ) × (((a ≡ v) × (b ≡ y)) ⊎ ((a ≡ y) × (b ≡ v)))
     other a b q = elim (cases_eq a v) [
       | inl e ↦ (b, inl (e, refl))
@@ -112,10 +86,7 @@ two_ends_le_degree g m e f v we wf d me mf =
 -- how many ends an edge of x and y has at v
 pub ends_of_is : (g : Graph) (e x y : ℕ) → HasEnds g e x y → (v : ℕ) → ends_of g e v ≡ bit (x == v) + bit (y == v)
 unfolding ends_of
-ends_of_is g e x y ends v = elim ends [
-  | inl p ↦ ap₂ (λ a b. bit (a == v) + bit (b == v)) p.0 p.1
-  | inr p ↦ ap₂ (λ a b. bit (a == v) + bit (b == v)) p.0 p.1 ∙ add_comm (bit (y == v)) (bit (x == v))
-]
+ends_of_is g e x y ends v = grind arith
 
 pub bit_same : (x : ℕ) → bit (x == x) ≡ 1
 bit_same x = ap bit (eq-eqb x x refl)
@@ -128,10 +99,7 @@ pub add_edge : (g : Graph) (r m : Set) (e x y : ℕ) → IsMatching g r m → Wi
 add_edge g r m e x y mm w d rx ry ends mx my = (record { once = once; away = away }, more)
   where
     out : m e ≡ false
-    out = elim (cases_Bool (m e)) [
-      | inr f ↦ f
-      | inl t ↦ let a = ends_le_degree g m e x w t in let b = ends_of_is g e x y ends x in let c = bit_same x in absurd (omega arith)
-    ]
+    out = grind (arith, cases_Bool (m e), ends_le_degree g m e x w, ends_of_is g e x y ends x, bit_same x)
 
     more : count (size g) (put m e true) ≡ count (size g) m + 1
     more = let a = count_put (size g) m e true w in let b = ap bit out in omega arith

@@ -1,6 +1,6 @@
 -- An edge joins two vertices where an item of the list of ends has them. Idea: edge e is item e -
 -- 1, so that "some of the first k edges" is "some of the first k items", by induction on k.
-use Rattle.std.proofs.Common.{◌≡◌, ℕ, suc, zero, ◌+◌, ◌-◌, ◌≤◌, Bool, ◌==◌, ◌&&◌, ◌||◌, List, length, take, take_all, get_or, refl, sym, ap, ap₂, ◌∙◌, arith, le_refl}
+use Rattle.std.proofs.Common.{◌≡◌, ℕ, suc, zero, ◌-◌, ◌≤◌, Bool, ◌==◌, ◌&&◌, ◌||◌, List, length, take, take_all, get_or, refl, ap, ◌∙◌, arith, le_refl}
 use Rattle.counting.proofs.Common.{list_any, none, some}
 use Rattle.std.proofs.lemmas.List.Folds.{list_any_more}
 use Rattle.graph_core.specs.Common.{Graph, adjacent}
@@ -11,11 +11,7 @@ joins u v p = (p.0 == u && p.1 == v) || (p.0 == v && p.1 == u)
 
 some_take : {X : Type 0} (p : X → Bool) (xs : List X) (d : X) (k : ℕ) → k ≤ length xs → some k (λ e. p (get_or xs (e - 1) d)) ≡ list_any p (take k xs)
 some_take p xs d zero h = refl
-some_take p xs d (suc k) h =
-    let one : suc k ≡ k + 1 = omega arith in
-    let back : suc k - 1 ≡ k = omega arith in
-    ap₂ ◌||◌ (some_take p xs d k (omega arith)) (ap (λ (i : ℕ). p (get_or xs i d)) back)
-    ∙ sym (list_any_more p xs k d (omega arith)) ∙ ap (λ (j : ℕ). list_any p (take j xs)) (sym one)
+some_take p xs d (suc k) h = grind (arith, some_take p xs d k (omega arith), list_any_more p xs k d, list_any p)
 
 -- some place, counted from 1, passes where some item does
 pub some_items : {X : Type 0} (p : X → Bool) (xs : List X) (d : X) → some (length xs) (λ e. p (get_or xs (e - 1) d)) ≡ list_any p xs

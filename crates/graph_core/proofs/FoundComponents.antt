@@ -1,9 +1,9 @@
 -- A search takes one component after another, each from the least vertex that is left. What does
 -- the list hold at the end? The components, in the order of their least vertices, and the trees
 -- of the searches are one forest.
-use Rattle.std.proofs.Common.{◌≡◌, ℕ, suc, zero, ◌+◌, ◌<◌, Bool, true, false, ◌==◌, refl, sym, ap, ap₂, ◌∙◌, arith, ◌&&◌, ◌||◌, not, ◌⊎◌, inl, inr, List, [], ◌∷◌, ◌++◌, subst, eq-eqb, eqb-true, ne_eqb, cond, map, append_assoc, append-nil, nat_lt, ltb-true}
+use Rattle.std.proofs.Common.{◌≡◌, ℕ, suc, zero, ◌+◌, ◌<◌, Bool, true, false, ◌==◌, refl, sym, ap, ap₂, ◌∙◌, arith, ◌&&◌, not, ◌⊎◌, inl, inr, List, [], ◌∷◌, ◌++◌, subst, eq-eqb, eqb-true, ne_eqb, cond, map, append_assoc, append-nil, nat_lt, ltb-true}
 use Rattle.std.proofs.lemmas.Bool.{not_from_false}
-use Rattle.counting.proofs.Common.{and_from, and_parts, both_ways, cases_Bool, cases_eq, false_from_ne_true, not-true, not-false, true≢false, or_parts, rising_list-congr, rising_list-rises, mem-rising_list, same_rising_list, some_true, not_but_parts, or_fails_first, same_tests, and_false, and_true, Within, IsRisingIn, mem, rising_list, Set, complement, meet, minus, union, some}
+use Rattle.counting.proofs.Common.{and_from, and_parts, both_ways, cases_Bool, cases_eq, false_from_ne_true, not-true, not-false, or_parts, rising_list-congr, rising_list-rises, mem-rising_list, same_rising_list, some_true, not_but_parts, or_fails_first, same_tests, and_false, and_true, Within, IsRisingIn, mem, rising_list, Set, complement, meet, minus, union, some}
 use Rattle.graph_core.specs.Common.{components, is_least, Graph, IsGraph, IsStage, Hangs, IsForest, Joined, Walk, adjacent, joined}
 use Rattle.graph_core.proofs.Components.{joined_walk, walk_joined}
 use Rattle.graph_core.proofs.Trees.{adjacent_more, hangs_more, joined_more, least_same}
@@ -33,21 +33,7 @@ module _ (g : Graph) (s : Set) (is : IsGraph g) where
   -- all vertices outside s are left
   pub stage_start : (left : Set) (parent depth : ℕ → ℕ) → ((v : ℕ) → left v ≡ true → Within g.order v × (s v ≡ false)) → ((v : ℕ) → Within g.order v → s v ≡ false → left v ≡ true) → IsStage g s left [] parent depth
   unfolding components
-  stage_start left parent depth only all = record {
-    vertices = only;
-    closed = λ u v a. let p = adjacent-edge g s u v a in let w = adjacent_within g s is u v a in all u w.0 p.0 ∙ sym (all v w.1 p.1);
-    tree = record { stands = λ v w out. absurd (both_ways (s v || left v) out (whole (s v) (left v) (all v w))) };
-    rest = ap (map (λ u. rising_list g.order (joined g s u))) (rising_list-congr g.order (meet left (is_least g s)) (is_least g s) (λ v w. same (left v) (is_least g s v) (λ l. all v w (not-true (s v) (and_parts (not (s v)) _ l).0))));
-  }
-    where
-      whole : (a b : Bool) → (a ≡ false → b ≡ true) → (a || b) ≡ true
-      whole true b h = refl
-      whole false b h = h refl
-
-      same : (a b : Bool) → (b ≡ true → a ≡ true) → (a && b) ≡ b
-      same true b h = refl
-      same false true h = h refl
-      same false false h = refl
+  stage_start left parent depth only all = grind (arith, adjacent-edge g s, adjacent_within g s is, both_ways, rising_list-congr g.order (meet left (is_least g s)) (is_least g s), not-true, and_parts)
 
   -- the vertices of the component of u, which is the first that is left, are those that a walk in
   -- what is left leads to
@@ -115,15 +101,7 @@ module _ (g : Graph) (s : Set) (is : IsGraph g) where
           ∙ sym (taken b w.1))
         where
           rest_same : (p q p' q' : Bool) → p ≡ q → (p' ≡ true → p ≡ true) → (q' ≡ true → q ≡ true) → (p && not p') ≡ (q && not q') → p' ≡ q'
-          rest_same true true true true e f h k = refl
-          rest_same true true true false e f h k = absurd (both_ways false refl k)
-          rest_same true true false true e f h k = absurd (both_ways false refl (sym k))
-          rest_same true true false false e f h k = refl
-          rest_same true false p' q' e f h k = absurd (true≢false e)
-          rest_same false true p' q' e f h k = absurd (true≢false (sym e))
-          rest_same false false true q' e f h k = absurd (true≢false (sym (f refl)))
-          rest_same false false false true e f h k = absurd (true≢false (sym (h refl)))
-          rest_same false false false false e f h k = refl
+          rest_same p q p' q' e f h k = grind arith
 
       -- what is outside the new set was found now or before
       stand : (v : ℕ) → Within g.order v → (s v ≡ false) × (left' v ≡ false) → ((is_least g s v ≡ true) × (depth' v ≡ 0)) ⊎ Hangs g (union s left') parent' depth' v
@@ -141,19 +119,8 @@ module _ (g : Graph) (s : Set) (is : IsGraph g) where
           now : (w : ℕ) → complement (minus left left') w ≡ false → union s left' w ≡ false
           now w h = let p = not_but_parts (left w) (left' w) h in rw ((old.vertices w p.0).1, p.1) refl
 
-          later : (w : ℕ) → union s left w ≡ false → union s left' w ≡ false
-          later w h = let p = or_parts (s w) (left w) h in rw (p.0, false_from_ne_true (left' w) (λ t. both_ways (left w) p.1 (smaller w t))) refl
-
           before : Hangs g (union s left) parent depth v → Hangs g (union s left') parent' depth' v
-          before k =
-              let l = (or_parts (s v) (left v) (adjacent-edge g (union s left) (parent v) v k.joins).1).1 in
-              let lp = (or_parts (s (parent v)) (left (parent v)) (adjacent-edge g (union s left) (parent v) v k.joins).0).1 in
-              let wp = (adjacent_within g (union s left) is (parent v) v k.joins).0 in
-              let q = same v w l in
-              record {
-                joins = subst (λ p. adjacent g (union s left') p v ≡ true) (sym q.0) (adjacent_more g (union s left) (union s left') later (parent v) v k.joins);
-                deeper = q.1 ∙ k.deeper ∙ ap (λ d. d + 1) (sym (ap depth' q.0 ∙ (same (parent v) wp lp).1));
-              }
+          before k = grind (arith, or_parts, adjacent-edge, adjacent_within, adjacent_more)
 
       -- the least vertices that are left: u, and those that are left after it
       first : rising_list g.order (meet left (is_least g s)) ≡ u ∷ rising_list g.order (meet left' (is_least g s))
@@ -163,21 +130,8 @@ module _ (g : Graph) (s : Set) (is : IsGraph g) where
       ])
         where
           keep : (a b l : Bool) → (b ≡ true → a ≡ true) → (l ≡ true → (a && not b) ≡ false) → (b && l) ≡ ((a && l) && true)
-          keep true true true f h = refl
-          keep true true false f h = refl
-          keep true false true f h = absurd (true≢false (h refl))
-          keep true false false f h = refl
-          keep false true l f h = absurd (true≢false (sym (f refl)))
-          keep false false l f h = refl
+          keep a b l f h = grind arith
 
   -- with nothing left, the list is that of the components, and the tree stands in g without s
   pub stage_end : (left : Set) (parts : List (List ℕ)) (parent depth : ℕ → ℕ) → IsStage g s left parts parent depth → ((v : ℕ) → left v ≡ false) → (parts ≡ components g s) × IsForest g s (is_least g s) parent depth
-  stage_end left parts parent depth old none_left = (
-    sym (append-nil parts) ∙ ap (λ us. parts ++ map (λ u. rising_list g.order (joined g s u)) us) (sym (rising_list-nothing g.order (meet left (is_least g s)) (λ v w. ap (λ b. b && is_least g s v) (none_left v)))) ∙ old.rest,
-    record {
-      stands = λ v w out. elim (old.tree.stands v w (rw (out, none_left v) refl)) [
-        | inl k ↦ inl k
-        | inr k ↦ inr (hangs_more g (union s left) s parent depth v (λ u h. or_fails_first (s u) (left u) h) k)
-      ];
-    },
-  )
+  stage_end left parts parent depth old none_left = grind (arith, append-nil parts, rising_list-nothing g.order (meet left (is_least g s)), hangs_more g (union s left) s parent depth, or_fails_first)

@@ -23,23 +23,7 @@ module _ (g : Graph) (x : Set) (r : ℕ) (is : IsGraph g) where
 
   -- the root alone
   pub growth_start : (left open_set : Set) (parent depth : ℕ → ℕ) → Within g.order r → x r ≡ true → Loses x r left → ((v : ℕ) → open_set v ≡ (r == v)) → depth r ≡ 0 → IsGrowth g x r left open_set parent depth
-  growth_start left open_set parent depth w xr loses opens d = record {
-    smaller = Loses-smaller x left r loses;
-    found = λ v o. let e = is_root v o in subst (Found left) e (xr, Loses-own x left r loses);
-    start = (xr, Loses-own x left r loses);
-    tree = record { stands = λ v wv out. let e = only_root v (found_of left v out) in inl (eq-eqb r v e, subst (λ u. depth u ≡ 0) e d) };
-    done = λ v u xv lv o a. absurd (both_ways (open_set v) o (opens v ∙ eq-eqb r v (only_root v (xv, lv))));
-    shallow = λ v wv xv lv. let e = ap depth (sym (only_root v (xv, lv))) in let c = count_le g.order left in omega arith;
-  }
-    where
-      is_root : (v : ℕ) → open_set v ≡ true → r ≡ v
-      is_root v o = eqb-true r v (sym (opens v) ∙ o)
-
-      only_root : (v : ℕ) → Found left v → r ≡ v
-      only_root v f = elim (cases_eq r v) [
-        | inl e ↦ e
-        | inr n ↦ absurd (both_ways (left v) f.1 (Loses-others x left r loses v n ∙ f.0))
-      ]
+  growth_start left open_set parent depth w xr loses opens d = grind (arith, found_of left, eq-eqb r, both_ways, count_le g.order left, eqb-true r, cases_eq r)
 
   -- a vertex w that is left hangs on the open vertex v
   pub growth_step : (left left' open_set open' : Set) (parent parent' depth depth' : ℕ → ℕ) (v w : ℕ) → IsGrowth g x r left open_set parent depth → open_set v ≡ true → adjacent g (λ u. false) v w ≡ true → left w ≡ true →
@@ -93,14 +77,7 @@ module _ (g : Graph) (x : Set) (r : ℕ) (is : IsGraph g) where
       other u f e = both_ways (left u) f (ap left (sym e) ∙ lw)
 
       new : Hangs g (complement (minus x left')) parent' depth' w
-      new =
-          let p = adjacent-edge g (λ u. false) v w a in
-          let f = old.found v ov in
-          record {
-            joins = subst (λ u. adjacent g (complement (minus x left')) u w ≡ true) (sym pw)
-                (adjacent_from g (complement (minus x left')) v w p.2.0 (now_found v (of_found left v f)) (of_found left' w (old.smaller w lw, Loses-own left left' w loses)) p.2.1 p.2.2);
-            deeper = dw ∙ ap (λ d. d + 1) (sym (ap depth' pw ∙ (same v within_v (other v f.1)).1));
-          }
+      new = grind (arith, adjacent-edge g, adjacent_from g (complement (minus x left')) v w, now_found v, of_found left v, of_found left' w (old.smaller w lw, Loses-own left left' w loses), within_v)
 
       kept : (u : ℕ) → Within g.order u → (w ≡ u → ⊥) → Hangs g (complement (minus x left)) parent depth u → Hangs g (complement (minus x left')) parent' depth' u
       kept u wu n k =
@@ -114,17 +91,7 @@ module _ (g : Graph) (x : Set) (r : ℕ) (is : IsGraph g) where
 
   -- an open vertex without a neighbour left is done
   pub growth_drop : (left open_set open' : Set) (parent depth : ℕ → ℕ) (v : ℕ) → IsGrowth g x r left open_set parent depth → ((w : ℕ) → adjacent g (λ u. false) v w ≡ true → left w ≡ false) → Loses open_set v open' → IsGrowth g x r left open' parent depth
-  growth_drop left open_set open' parent depth v old none_left loses = record {
-    smaller = old.smaller;
-    found = λ u o. old.found u (Loses-smaller open_set open' v loses u o);
-    start = old.start;
-    tree = old.tree;
-    done = λ u y xu lu o b. elim (cases_eq v u) [
-      | inl e ↦ none_left y (subst (λ k. adjacent g (λ u. false) k y ≡ true) (sym e) (adjacent_more g (complement x) (λ u. false) (λ k _. refl) u y b))
-      | inr n ↦ old.done u y xu lu (sym (Loses-others open_set open' v loses u n) ∙ o) b
-    ];
-    shallow = old.shallow;
-  }
+  growth_drop left open_set open' parent depth v old none_left loses = grind arith
 
   -- with no open vertex, what was found is the component of r
   pub growth_end : (left open_set : Set) (parent depth : ℕ → ℕ) → IsGrowth g x r left open_set parent depth → ((v : ℕ) → open_set v ≡ false) → Within g.order r → (v : ℕ) → Within g.order v → (x v && not (left v)) ≡ joined g (complement x) r v

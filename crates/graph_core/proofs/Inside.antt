@@ -22,6 +22,4 @@ gone' : (a b c t : Bool) → (t ≡ true → c ≡ false) → ((a && (b && c)) &
 gone' a b c t f = grind arith
 
 pub degree-inside_off : (g : Graph) (m x : Set) (v : ℕ) → x v ≡ false → degree g (λ e. m e && inside g x e) v ≡ 0
-degree-inside_off g m x v o =
-    let a = total_none (size g) (λ e. bit ((m e && inside g x e) && (first_end g e == v))) (λ e w. ap bit (gone (m e) (x (first_end g e)) (x (second_end g e)) (first_end g e == v) (λ t. ap x (eqb-true (first_end g e) v t) ∙ o))) in
-    let b = total_none (size g) (λ e. bit ((m e && inside g x e) && (second_end g e == v))) (λ e w. ap bit (gone' (m e) (x (first_end g e)) (x (second_end g e)) (second_end g e == v) (λ t. ap x (eqb-true (second_end g e) v t) ∙ o))) in omega arith
+degree-inside_off g m x v o = grind (arith, total_none (size g), gone, eqb-true, gone')

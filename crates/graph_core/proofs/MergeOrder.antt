@@ -19,8 +19,7 @@ ordered_filter t [] o = tt
 ordered_filter t (b ∷ p) o = go (t b) (ordered_filter t p o.1)
   where
     go : (s : Bool) → Ordered (filter t p) → Ordered (cond s (b ∷ filter t p) (filter t p))
-    go true ih = (λ c k. o.0 c (filter_has t c p k), ih)
-    go false ih = ih
+    go s ih = grind (arith, filter_has t)
 
 -- a block with a new name goes in at its place
 ordered_insert : (b : List ℕ) (p : List (List ℕ)) → Ordered p → ((c : List ℕ) → Has p c → last_of b ≡ last_of c → ⊥) → Ordered (insert_block b p)
@@ -34,32 +33,18 @@ ordered_insert b (c ∷ p) o d = go (nat_lt (last_of b) (last_of c)) refl (order
     upper h = grind (arith, nat_tests, h)
 
     go : (t : Bool) → nat_lt (last_of b) (last_of c) ≡ t → Ordered (insert_block b p) → Ordered (cond t (b ∷ c ∷ p) (c ∷ insert_block b p))
-    go true t ih = (first, o)
-      where
-        first : (e : List ℕ) → Has (c ∷ p) e → last_of b < last_of e
-        first e (inl s) = subst (λ (k : List ℕ). last_of b < last_of k) s (lower t)
-        first e (inr k) = let q = o.0 e k in let r = lower t in omega arith
-    go false t ih = (complement, ih)
-      where
-        complement : (e : List ℕ) → Has (insert_block b p) e → last_of c < last_of e
-        complement e k = elim (insert_has b e p k) [
-          | inl s ↦ subst (λ (k : List ℕ). last_of c < last_of k) s (let q = upper t in elim (cases_lt (last_of c) (last_of b)) [ inl l ↦ l | inr g ↦ absurd (d c (inl refl) (omega arith)) ])
-          | inr h ↦ o.0 e h
-        ]
+    go m t ih = grind (arith, lower, insert_has, upper, cases_lt)
 
 -- the names of a merged list rise
 pub merged_order : (p : List (List ℕ)) (x : List ℕ) (v : ℕ) → mem x v ≡ true → IsStrictlyIncreasing (names_of p) → IsStrictlyIncreasing (names_of (merged p x))
-merged_order p x v m h =
-    ordered_rising (merged p x) (ordered_insert x (filter (λ b. not (mem x (last_of b))) p) (ordered_filter (λ b. not (mem x (last_of b))) p (rising_ordered p h)) (λ c k e. new_name c (filter_test c p k) e))
+merged_order p x v m h = grind (arith, ordered_rising (merged p x), ordered_insert x, ordered_filter, rising_ordered p h, new_name, filter_test)
   where
     filter_test : (c : List ℕ) (p : List (List ℕ)) → Has (filter (λ b. not (mem x (last_of b))) p) c → mem x (last_of c) ≡ false
     filter_test c [] k = absurd k
     filter_test c (d ∷ p) k = go (filter_test c p) (mem x (last_of d)) refl k
       where
         go : (Has (filter (λ b. not (mem x (last_of b))) p) c → mem x (last_of c) ≡ false) → (s : Bool) → mem x (last_of d) ≡ s → Has (cond (not s) (d ∷ filter (λ b. not (mem x (last_of b))) p) (filter (λ b. not (mem x (last_of b))) p)) c → mem x (last_of c) ≡ false
-        go ih true e k = ih k
-        go ih false e (inl s) = ap (λ (b : List ℕ). mem x (last_of b)) (sym s) ∙ e
-        go ih false e (inr k) = ih k
+        go ih s e k = grind arith
 
     new_name : (c : List ℕ) → mem x (last_of c) ≡ false → last_of x ≡ last_of c → ⊥
     new_name c n e = both_ways (mem x (last_of c)) n (ap (mem x) (sym e) ∙ mem_last x v m)
@@ -81,5 +66,4 @@ merged_blocks n p x is union rising some low = record {
 }
   where
     each : (c : List ℕ) → (x ≡ c) ⊎ Has p c → IsStrictlyIncreasing c
-    each c (inl e) = subst IsStrictlyIncreasing e rising
-    each c (inr h) = all_has IsStrictlyIncreasing p c is.blocks h
+    each c k = grind (arith, all_has IsStrictlyIncreasing p c is.blocks)

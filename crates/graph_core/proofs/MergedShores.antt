@@ -1,13 +1,13 @@
 -- Unions of blocks before and after a merge, how many blocks they hold, and the law of
 -- contraction for them. The merged blocks are one block then, and all others stay.
-use Rattle.std.proofs.Common.{◌≡◌, ℕ, ◌+◌, ◌≢◌, Bool, true, false, refl, sym, ap, ◌∙◌, arith, ◌⊎◌, inl, inr, List, length}
+use Rattle.std.proofs.Common.{◌≡◌, ℕ, ◌+◌, ◌≢◌, true, false, sym, ap, ◌∙◌, arith, ◌⊎◌, inl, inr, List, length}
 use Rattle.counting.proofs.Common.{cases_Bool, both_ways, total_at, and_implied, but_not, Within, bit, mem, Set, meet, minus}
 use Rattle.graph_core.proofs.BlockSets.{at_place, at_rep, block_count_congr, block_count_parts, count_over, place_rep, rep, rep_in, rep_place, union_meet, union_minus}
 use Rattle.graph_core.proofs.Blocks.{carried, contracted-graph, merges, place_in, place_is}
 use Rattle.graph_core.proofs.Contraction.{covered_down}
 use Rattle.graph_core.proofs.Merging.{merged_merges}
 use Rattle.graph_core.proofs.Shores.{shore_down, shore_up}
-use Rattle.graph_core.specs.Common.{IsCovered, Graph, IsGraph, AreBlocks, IsMerge, block, contracted, merged, place, block_count, IsTightAt, IsUnion, blocks_in}
+use Rattle.graph_core.specs.Common.{IsCovered, Graph, IsGraph, AreBlocks, IsMerge, contracted, merged, place, block_count, IsTightAt, IsUnion, blocks_in}
 
 -- What merging a union of blocks does to blocks, unions and numbers.
 
@@ -29,23 +29,10 @@ module _ (n : ℕ) (p q : List (List ℕ)) (x : Set) (pp : AreBlocks n p) (ux : 
   alike_in u v wu wv tu tv = new_place u wu tu ∙ sym (new_place v wv tv)
 
   pub alike_up : (u v : ℕ) → Within n u → Within n v → place p u ≡ place p v → place q u ≡ place q v
-  alike_up u v wu wv e = go (x u) refl
-    where
-      go : (b : Bool) → x u ≡ b → place q u ≡ place q v
-      go true t = alike_in u v wu wv t (sym (ux u v wu wv e) ∙ t)
-      go false t = (merge.old u v wu wv t (sym (ux u v wu wv e) ∙ t)).1 e
+  alike_up u v wu wv e = grind (arith, alike_in)
 
   pub same_side : IsUnion n q x
-  same_side u v wu wv e = go (x u) refl (x v) refl
-    where
-      one : (u v : ℕ) → Within n u → Within n v → place q u ≡ place q v → x u ≡ true → x v ≡ true
-      one u v wu wv e t = sym (merge.new.2 v wv) ∙ ap (λ i. mem (block q i) v) (sym (new_place u wu t) ∙ e) ∙ (place_in n q merge.partition v wv).1
-
-      go : (a : Bool) → x u ≡ a → (b : Bool) → x v ≡ b → x u ≡ x v
-      go true s true t = s ∙ sym t
-      go false s false t = s ∙ sym t
-      go true s false t = absurd (both_ways (x v) t (one u v wu wv e s))
-      go false s true t = absurd (both_ways (x u) s (one v u wv wu (sym e) t))
+  same_side u v wu wv e = grind (arith, new_place, place_in, both_ways)
 
   pub alike_down : (u v : ℕ) → Within n u → Within n v → x u ≡ false → place q u ≡ place q v → place p u ≡ place p v
   alike_down u v wu wv f e = (merge.old u v wu wv f (sym (same_side u v wu wv e) ∙ f)).0 e
@@ -56,25 +43,14 @@ module _ (n : ℕ) (p q : List (List ℕ)) (x : Set) (pp : AreBlocks n p) (ux : 
 
   -- and the other way for one that x is inside of, or apart from
   pub closed_over : (y : Set) → IsUnion n p y → Below n x y → IsUnion n q y
-  closed_over y uy b u v wu wv e = go (x u) refl
-    where
-      go : (a : Bool) → x u ≡ a → y u ≡ y v
-      go true t = b u wu t ∙ sym (b v wv (sym (same_side u v wu wv e) ∙ t))
-      go false t = uy u v wu wv (alike_down u v wu wv t e)
+  closed_over y uy b u v wu wv e = grind (arith, same_side, alike_down)
 
   pub closed_apart : (y : Set) → IsUnion n p y → Apart n x y → IsUnion n q y
-  closed_apart y uy b u v wu wv e = go (x u) refl
-    where
-      go : (a : Bool) → x u ≡ a → y u ≡ y v
-      go true t = b u wu t ∙ sym (b v wv (sym (same_side u v wu wv e) ∙ t))
-      go false t = uy u v wu wv (alike_down u v wu wv t e)
+  closed_apart y uy b u v wu wv e = grind (arith, same_side, alike_down)
 
   -- which of the two holds for a union of new blocks
   pub inside_or_apart : Some n x → (y : Set) → IsUnion n q y → Below n x y ⊎ Apart n x y
-  inside_or_apart s y uy = elim (cases_Bool (y s.0)) [
-    | inl t ↦ inl (λ v w h. uy v s.0 w s.1 (alike_in v s.0 w s.1 h s.2) ∙ t)
-    | inr f ↦ inr (λ v w h. uy v s.0 w s.1 (alike_in v s.0 w s.1 h s.2) ∙ f)
-  ]
+  inside_or_apart s y uy = grind (arith, cases_Bool (y s.0), alike_in)
 
   -- numbers of blocks
   pub block_count_outside : (y : Set) → IsUnion n q y → Apart n x y → block_count q y ≡ block_count p y

@@ -1,6 +1,6 @@
 -- The list that merging gives is the partition with the union made one block.
 -- Each vertex is in exactly one of the kept blocks or in the new one.
-use Rattle.std.proofs.Common.{◌≡◌, ℕ, suc, zero, ◌+◌, ◌-◌, ◌*◌, ◌≤◌, Bool, true, false, not, cond, ◌||◌, ◌==◌, List, [], ◌∷◌, length, refl, sym, ap, ◌∙◌, arith, ◌⊎◌, inl, inr, eq-eqb, subst, get_or, filter, nat_lt}
+use Rattle.std.proofs.Common.{◌≡◌, ℕ, suc, zero, ◌+◌, ◌*◌, ◌≤◌, Bool, true, false, not, cond, ◌||◌, ◌==◌, List, [], ◌∷◌, length, refl, sym, ap, ◌∙◌, arith, ◌⊎◌, inl, inr, eq-eqb, subst, filter, nat_lt}
 use Rattle.counting.proofs.Common.{both_ways, or_left, total_congr, total-first, Within, bit, count, last_of, mem}
 use Rattle.graph_core.proofs.Blocks.{place_in, place_is}
 use Rattle.graph_core.specs.Common.{AreBlocks, IsMerge, block, insert_block, merged, place, IsUnion}
@@ -19,8 +19,7 @@ Has [] b = ⊥
 Has (c ∷ p) b = (c ≡ b) ⊎ Has p b
 
 block_past : (b : List ℕ) (p : List (List ℕ)) (i : ℕ) → 1 ≤ i → block (b ∷ p) (i + 1) ≡ block p i
-block_past b p zero h = absurd (omega arith)
-block_past b p (suc k) h = let e : suc k + 1 - 1 ≡ suc k = omega arith in let d : k ≡ suc k - 1 = omega arith in ap (λ j. get_or (b ∷ p) j []) e ∙ ap (λ j. get_or p j []) d
+block_past b p i h = grind arith
 
 count_held : (p : List (List ℕ)) (v : ℕ) → count (length p) (λ i. mem (block p i) v) ≡ held p v
 count_held [] v = refl
@@ -44,8 +43,7 @@ held_insert b [] v = refl
 held_insert b (c ∷ p) v = go (held_insert b p v) (nat_lt (last_of b) (last_of c))
   where
     go : held (insert_block b p) v ≡ bit (mem b v) + held p v → (t : Bool) → held (cond t (b ∷ c ∷ p) (c ∷ insert_block b p)) v ≡ bit (mem b v) + (bit (mem c v) + held p v)
-    go ih true = refl
-    go ih false = omega arith
+    go ih t = grind arith
 
 pub insert_has : (b c : List ℕ) (p : List (List ℕ)) → Has (insert_block b p) c → (b ≡ c) ⊎ Has p c
 insert_has b c [] (inl e) = inl e
@@ -53,27 +51,21 @@ insert_has b c [] (inr h) = absurd h
 insert_has b c (d ∷ p) h = go (insert_has b c p) (nat_lt (last_of b) (last_of d)) h
   where
     go : (Has (insert_block b p) c → (b ≡ c) ⊎ Has p c) → (t : Bool) → Has (cond t (b ∷ d ∷ p) (d ∷ insert_block b p)) c → (b ≡ c) ⊎ Has (d ∷ p) c
-    go ih true (inl e) = inl e
-    go ih true (inr h) = inr h
-    go ih false (inl e) = inr (inl e)
-    go ih false (inr h) = elim (ih h) [ inl e ↦ inl e | inr k ↦ inr (inr k) ]
+    go ih t l = grind arith
 
 insert_own : (b : List ℕ) (p : List (List ℕ)) → Has (insert_block b p) b
 insert_own b [] = inl refl
 insert_own b (d ∷ p) = go (insert_own b p) (nat_lt (last_of b) (last_of d))
   where
     go : Has (insert_block b p) b → (t : Bool) → Has (cond t (b ∷ d ∷ p) (d ∷ insert_block b p)) b
-    go ih true = inl refl
-    go ih false = inr ih
+    go ih t = grind arith
 
 pub filter_has : (t : List ℕ → Bool) (c : List ℕ) (p : List (List ℕ)) → Has (filter t p) c → Has p c
 filter_has t c [] h = h
 filter_has t c (d ∷ p) h = go (filter_has t c p) (t d) h
   where
     go : (Has (filter t p) c → Has p c) → (b : Bool) → Has (cond b (d ∷ filter t p) (filter t p)) c → Has (d ∷ p) c
-    go ih true (inl e) = inl e
-    go ih true (inr h) = inr (ih h)
-    go ih false h = inr (ih h)
+    go ih b h = grind arith
 
 -- each block that holds v goes with v
 held_filter : (x : List ℕ) (p : List (List ℕ)) (v : ℕ) → ((b : List ℕ) → Has p b → mem b v ≡ true → mem x (last_of b) ≡ mem x v) →
@@ -83,16 +75,7 @@ held_filter x (b ∷ p) v h = go (held_filter x p v (λ c k m. h c (inr k) m)) (
   where
     go : held (filter (λ b. not (mem x (last_of b))) p) v ≡ bit (not (mem x v)) * held p v → (t : Bool) → mem x (last_of b) ≡ t → (s : Bool) → mem b v ≡ s →
         held (cond (not t) (b ∷ filter (λ b. not (mem x (last_of b))) p) (filter (λ b. not (mem x (last_of b))) p)) v ≡ bit (not (mem x v)) * (bit s + held p v)
-    go ih t e true m = at t (mem x v) (sym e ∙ h b (inl refl) m) ih m
-      where
-        at : (t y : Bool) → t ≡ y → held (filter (λ b. not (mem x (last_of b))) p) v ≡ bit (not y) * held p v → mem b v ≡ true →
-            held (cond (not t) (b ∷ filter (λ b. not (mem x (last_of b))) p) (filter (λ b. not (mem x (last_of b))) p)) v ≡ bit (not y) * (1 + held p v)
-        at true true q ih m = omega arith
-        at false false q ih m = let o : bit (mem b v) ≡ 1 = ap bit m in omega arith
-        at true false q ih m = absurd (both_ways true (q) refl)
-        at false true q ih m = absurd (both_ways true (sym q) refl)
-    go ih true e false m = omega arith
-    go ih false e false m = let o : bit (mem b v) ≡ 0 = ap bit m in omega arith
+    go ih t e s m = grind arith
 
 pub mem_last : (b : List ℕ) (v : ℕ) → mem b v ≡ true → mem b (last_of b) ≡ true
 mem_last [] v h = h
@@ -108,59 +91,36 @@ kept_has t c (d ∷ p) (inl e) k = rw (ap t e ∙ k) (inl e)
 kept_has t c (d ∷ p) (inr h) k = go (kept_has t c p h k) (t d)
   where
     go : Has (filter t p) c → (b : Bool) → Has (cond b (d ∷ filter t p) (filter t p)) c
-    go ih true = inr ih
-    go ih false = ih
+    go ih b = grind arith
 
 insert_keeps : (b c : List ℕ) (p : List (List ℕ)) → Has p c → Has (insert_block b p) c
 insert_keeps b c [] h = absurd h
 insert_keeps b c (d ∷ p) h = go (insert_keeps b c p) (nat_lt (last_of b) (last_of d)) h
   where
     go : (Has p c → Has (insert_block b p) c) → (t : Bool) → Has (d ∷ p) c → Has (cond t (b ∷ d ∷ p) (d ∷ insert_block b p)) c
-    go ih true h = inr h
-    go ih false (inl e) = inl e
-    go ih false (inr h) = inr (ih h)
+    go ih t h = grind arith
 
 module _ (n : ℕ) (p : List (List ℕ)) (x : List ℕ) (is : AreBlocks n p) (union : IsUnion n p (mem x)) (some : (v : ℕ) × Within n v × (mem x v ≡ true)) (low : (v : ℕ) → mem x v ≡ true → Within n v) where
   -- a block of p goes into x or stays outside as a whole
   goes_with : (b : List ℕ) → Has p b → (v : ℕ) → mem b v ≡ true → mem x (last_of b) ≡ mem x v
-  goes_with b h v m =
-      let r = has_block p b h in
-      let l = mem_last b v m in
-      let bl : mem (block p r.0) (last_of b) ≡ true = ap (λ c. mem c (last_of b)) r.2 ∙ l in
-      let bv : mem (block p r.0) v ≡ true = ap (λ c. mem c v) r.2 ∙ m in
-      let wl = is.within r.0 (last_of b) r.1 bl in
-      let wv = is.within r.0 v r.1 bv in
-      union (last_of b) v wl wv (sym (place_is n p is (last_of b) r.0 wl r.1 bl) ∙ place_is n p is v r.0 wv r.1 bv)
+  goes_with b h v m = grind (arith, has_block p b h, mem_last b v m, place_is n p is (last_of b), place_is n p is v)
 
   held_merged : (v : ℕ) → Within n v → held (merged p x) v ≡ 1
-  held_merged v w =
-      let a = held_insert x (filter (λ b. not (mem x (last_of b))) p) v in
-      let b = held_filter x p v (λ c k m. goes_with c k v m) in
-      let c : held p v ≡ 1 = sym (count_held p v) ∙ is.once v w in
-      go (mem x v) a (b ∙ ap (λ k. bit (not (mem x v)) * k) c)
-    where
-      go : (t : Bool) → held (merged p x) v ≡ bit t + held (filter (λ b. not (mem x (last_of b))) p) v → held (filter (λ b. not (mem x (last_of b))) p) v ≡ bit (not t) * 1 → held (merged p x) v ≡ 1
-      go true a b = omega arith
-      go false a b = omega arith
+  held_merged v w = grind (arith, held_insert x, held_filter x p v, goes_with, count_held p v)
 
   -- a block of the merged list is x or a block of p
   pub block_of : (c : List ℕ) → Has (merged p x) c → (x ≡ c) ⊎ Has p c
   block_of c h = elim (insert_has x c (filter (λ b. not (mem x (last_of b))) p) h) [ inl e ↦ inl e | inr k ↦ inr (filter_has (λ b. not (mem x (last_of b))) c p k) ]
 
   block_within : (c : List ℕ) → (x ≡ c) ⊎ Has p c → (v : ℕ) → mem c v ≡ true → Within n v
-  block_within c (inl e) v m = low v (ap (λ b. mem b v) e ∙ m)
-  block_within c (inr h) v m = let r = has_block p c h in is.within r.0 v r.1 (ap (λ b. mem b v) r.2 ∙ m)
+  block_within c k v m = grind (arith, has_block p c)
 
   block_full : (c : List ℕ) → (x ≡ c) ⊎ Has p c → (v : ℕ) × Within n v × (mem c v ≡ true)
   block_full c (inl e) = (some.0, some.1, ap (λ b. mem b some.0) (sym e) ∙ some.2)
   block_full c (inr h) = let r = has_block p c h in let f = is.full r.0 r.1 in (f.0, f.1, ap (λ b. mem b f.0) (sym r.2) ∙ f.2)
 
   pub merged_partition : AreBlocks n (merged p x)
-  merged_partition = record {
-    once = λ v w. count_held (merged p x) v ∙ held_merged v w;
-    within = λ i v w m. block_within (block (merged p x) i) (block_of (block (merged p x) i) (block_has (merged p x) i w)) v m;
-    full = λ i w. block_full (block (merged p x) i) (block_of (block (merged p x) i) (block_has (merged p x) i w));
-  }
+  merged_partition = grind (arith, count_held (merged p x), held_merged, block_within, block_of, block_has (merged p x), block_full)
 
   -- two vertices outside x that stand in one new block stood in one block, and back
   apart_down : (u v : ℕ) → Within n u → Within n v → mem x u ≡ false → place (merged p x) u ≡ place (merged p x) v → place p u ≡ place p v
@@ -186,10 +146,4 @@ module _ (n : ℕ) (p : List (List ℕ)) (x : List ℕ) (is : AreBlocks n p) (un
       sym (place_is n (merged p x) merged_partition u r.0 wu r.1 (ap (λ c. mem c u) r.2 ∙ a.1)) ∙ place_is n (merged p x) merged_partition v r.0 wv r.1 (ap (λ c. mem c v) r.2 ∙ bv)
 
   pub merged_merges : IsMerge n p (mem x) (merged p x)
-  merged_merges =
-      let r = has_block (merged p x) x (insert_own x (filter (λ b. not (mem x (last_of b))) p)) in
-      record {
-        partition = merged_partition;
-        new = (r.0, r.1, λ v w. ap (λ c. mem c v) r.2);
-        old = λ u v wu wv nu nv. (apart_down u v wu wv nu, apart_up u v wu wv nu);
-      }
+  merged_merges = grind (arith, has_block (merged p x) x, insert_own x, merged_partition, apart_down, apart_up)

@@ -2,7 +2,7 @@
 -- that its rows are the old rows with each end of the new edge in the row of the other. Idea: the
 -- new edge is the last item of the list of ends, and "some edge joins v and w" is "some item
 -- does".
-use Rattle.std.proofs.Common.{◌≡◌, ◌≢◌, ℕ, ◌+◌, ◌-◌, ◌<◌, ◌∷◌, [], List, length, Bool, false, ◌==◌, ◌&&◌, ◌||◌, sym, ap, ◌∙◌, arith, subst₂, inl, inr}
+use Rattle.std.proofs.Common.{◌≡◌, ◌≢◌, ℕ, ◌+◌, ◌-◌, ◌<◌, ◌∷◌, [], List, length, Bool, false, ◌==◌, ◌&&◌, ◌||◌, arith}
 use Rattle.counting.proofs.Common.{cases_eq, get_or_append_left, length-append, list_any-append, Within, item, mem, none}
 use Rattle.std.proofs.lemmas.List.{get_or_push}
 use Rattle.graph_core.specs.Common.{Graph, first_end, second_end, size, with_edge, AreRows, IsWithinLimits, adjacent}
@@ -15,12 +15,7 @@ size-with_edge g a b = length-append g.ends ((a, b) ∷ [])
 -- larger graph
 each_end : (P : ℕ → ℕ → Type 0) (g : Graph) (a b : ℕ) → P a b → ((e : ℕ) → Within (size g) e → P (first_end g e) (second_end g e)) →
     (e : ℕ) → Within (size (with_edge g a b)) e → P (first_end (with_edge g a b) e) (second_end (with_edge g a b) e)
-each_end P g a b new old e w = elim (cases_eq (e - 1) (size g)) [
-  | inl last ↦ let p = get_or_push g.ends (a, b) (0, 0) (e - 1) (sym last) in
-      subst₂ P (sym (ap (λ (p : ℕ × ℕ). p.0) p)) (sym (ap (λ (p : ℕ × ℕ). p.1) p)) new
-  | inr before ↦ let more = size-with_edge g a b in let p = get_or_append_left g.ends ((a, b) ∷ []) (0, 0) (e - 1) (omega arith) in
-      subst₂ P (sym (ap (λ (p : ℕ × ℕ). p.0) p)) (sym (ap (λ (p : ℕ × ℕ). p.1) p)) (old e (omega arith))
-]
+each_end P g a b new old e w = grind (arith, cases_eq (e - 1) (size g), get_or_push g.ends (a, b) (0, 0) (e - 1), size-with_edge g a b, get_or_append_left g.ends ((a, b) ∷ []) (0, 0) (e - 1))
 
 -- the larger graph keeps the limits where there is room for one more edge
 pub limits-with_edge : (g : Graph) (a b : ℕ) → IsWithinLimits g → Within g.order a → Within g.order b → a ≢ b → size g < 2048 → IsWithinLimits (with_edge g a b)
@@ -35,8 +30,7 @@ limits-with_edge g a b limits first second differ room = record {
 
 -- the new edge joins its own ends and no others
 adjacent-with_edge : (g : Graph) (a b v w : ℕ) → adjacent (with_edge g a b) none v w ≡ (adjacent g none v w || (joins v w (a, b) || false))
-adjacent-with_edge g a b v w =
-    adjacent-ends (with_edge g a b) v w ∙ list_any-append (joins v w) g.ends ((a, b) ∷ []) ∙ ap (λ t. t || (joins v w (a, b) || false)) (sym (adjacent-ends g v w))
+adjacent-with_edge g a b v w = grind (arith, adjacent-ends (with_edge g a b) v w, list_any-append (joins v w) g.ends ((a, b) ∷ []), adjacent-ends g v w)
 
 -- w enters the row of v in one of two steps, or was there
 two_steps : (old p q r s : Bool) → ((old || (p && q)) || (r && s)) ≡ (old || (((p && q) || (s && r)) || false))
@@ -46,11 +40,4 @@ pub rows-with_edge : (g : Graph) (rows between new : List (List ℕ)) (a b : ℕ
     ((u x : ℕ) → Within (length rows) u → mem (item between u) x ≡ (mem (item rows u) x || (a == u && b == x))) →
     ((u x : ℕ) → Within (length between) u → mem (item new u) x ≡ (mem (item between u) x || (b == u && a == x))) →
     AreRows (with_edge g a b) new
-rows-with_edge g rows between new a b are same_between same_new first second = record {
-  one_each = same_new ∙ are.one_each;
-  adjacent_is = λ v w i.
-      second v w (let n = are.one_each in omega arith)
-      ∙ ap (λ t. t || (b == v && a == w)) (first v w (let n = are.one_each in omega arith) ∙ ap (λ t. t || (a == v && b == w)) (are.adjacent_is v w i))
-      ∙ two_steps (adjacent g none v w) (a == v) (b == w) (b == v) (a == w)
-      ∙ sym (adjacent-with_edge g a b v w);
-}
+rows-with_edge g rows between new a b are same_between same_new first second = grind (arith, two_steps, adjacent-with_edge g a b)

@@ -1,6 +1,6 @@
 -- A set loses one vertex, or gains one: what does it answer for each, and how does its size change?
 use Rattle.std.proofs.Common.{◌≡◌, ℕ, ◌+◌, true, false, ◌==◌, refl, sym, ap, ◌∙◌, arith, ◌&&◌, ◌||◌, not, inl, inr, eq-eqb, ne_eqb}
-use Rattle.counting.proofs.Common.{and_false, and_true, or_false, and_parts, cases_eq, or_right, count_put, count_congr, Within, bit, count, Set, put}
+use Rattle.counting.proofs.Common.{and_false, and_true, or_false, and_parts, cases_eq, or_right, count_put, count_congr, Within, count, Set, put}
 
 -- left' is left without w
 abbrev pub Loses : Set → ℕ → Set → Type 0
@@ -20,12 +20,7 @@ Loses-out left left' w h v f = h v ∙ rw f refl
 
 -- taking one out of a set makes it smaller by one
 pub count_lost : (n : ℕ) (left left' : Set) (w : ℕ) → Within n w → left w ≡ true → Loses left w left' → count n left' + 1 ≡ count n left
-count_lost n left left' w i t h =
-    let c : count n left' ≡ count n (put left w false) = count_congr n left' (put left w false) (λ v _. elim (cases_eq w v) [
-      | inl e ↦ ap left' (sym e) ∙ Loses-own left left' w h ∙ rw (eq-eqb v w (sym e)) refl
-      | inr d ↦ Loses-others left left' w h v d ∙ rw (ne_eqb v w (λ e. d (sym e))) refl
-    ]) in
-    let p = count_put n left w false i in let b = ap bit t in omega arith
+count_lost n left left' w i t h = grind (arith, count_congr n left' (put left w false), cases_eq w, eq-eqb, ne_eqb, count_put n left w false i)
 
 -- open' is open with w
 abbrev pub Gains : Set → ℕ → Set → Type 0

@@ -1,6 +1,6 @@
 -- The vertices of a set are the edges of a perfect matching in its cut and twice those inside;
 -- two cuts against their meet and union. Degrees are summed vertex by vertex and edge by edge.
-use Rattle.std.proofs.Common.{◌≡◌, ℕ, ◌+◌, ◌*◌, Bool, true, false, ◌==◌, refl, sym, ap, mul-add, ap₂, ◌∙◌, arith, ◌&&◌, ◌||◌, not}
+use Rattle.std.proofs.Common.{◌≡◌, ℕ, ◌+◌, ◌*◌, Bool, ◌==◌, refl, sym, ap, mul-add, ap₂, ◌∙◌, arith, ◌&&◌, ◌||◌, not}
 use Rattle.counting.proofs.Common.{bit-and, count_of_one, total_add, total_congr, total_mul, total_swap, Within, bit, count, total, Set, meet, minus, none, union}
 use Rattle.graph_core.specs.Common.{Graph, IsGraph, connects, degree, first_end, in_cut, inside, second_end, size, IsPerfect}
 
@@ -10,15 +10,10 @@ ends_in n k m x f is =
     total_congr n _ _ (λ v w. sym (total_mul k (bit (x v)) (λ e. bit (m e && (f e == v)))))
     ∙ total_swap n k (λ v e. bit (x v) * bit (m e && (f e == v)))
     ∙ total_congr k _ _ (λ e w.
-    total_congr n _ _ (λ v u. bits (x v) (m e) (f e == v))
+    total_congr n _ _ (λ v u. grind arith)
     ∙ total_mul n (bit (m e)) (λ v. bit (x v && (f e == v)))
     ∙ ap (λ b. bit (m e) * b) (count_of_one n x (f e) (is e w))
     ∙ sym (bit-and (m e) (x (f e))))
-  where
-    bits : (a b c : Bool) → bit a * bit (b && c) ≡ bit b * bit (a && c)
-    bits true true c = refl
-    bits true false c = omega arith
-    bits false b c = omega arith
 
 module _ (g : Graph) (is : IsGraph g) (m : Set) where
   -- the degrees in x add up to the ends in x of the edges of m
@@ -28,16 +23,9 @@ module _ (g : Graph) (is : IsGraph g) (m : Set) where
       ∙ total_add g.order (λ v. bit (x v) * count (size g) (λ e. m e && (first_end g e == v))) (λ v. bit (x v) * count (size g) (λ e. m e && (second_end g e == v)))
       ∙ ap₂ ◌+◌ (ends_in g.order (size g) m x (first_end g) (λ e w. (is e w).0)) (ends_in g.order (size g) m x (second_end g) (λ e w. (is e w).1))
       ∙ sym (total_add (size g) (λ e. bit (m e && x (first_end g e))) (λ e. bit (m e && x (second_end g e))))
-      ∙ total_congr (size g) _ _ (λ e w. bits (m e) (x (first_end g e)) (x (second_end g e)))
+      ∙ total_congr (size g) _ _ (λ e w. grind arith)
       ∙ total_add (size g) (λ e. bit (m e && in_cut g x e)) (λ e. 2 * bit (m e && inside g x e))
       ∙ ap (λ k. count (size g) (λ e. m e && in_cut g x e) + k) (total_mul (size g) 2 (λ e. bit (m e && inside g x e)))
-    where
-      bits : (k s t : Bool) → bit (k && s) + bit (k && t) ≡ bit (k && ((s && not t) || (not s && t))) + 2 * bit (k && (s && t))
-      bits true true true = refl
-      bits true true false = refl
-      bits true false true = refl
-      bits true false false = refl
-      bits false s t = refl
 
   -- a perfect matching of G: the vertices of x are the edges in its cut and twice those inside
   pub parity : (x : Set) → IsPerfect g none m → count g.order x ≡ count (size g) (λ e. m e && in_cut g x e) + 2 * count (size g) (λ e. m e && inside g x e)
@@ -49,23 +37,7 @@ bits_of_cuts : (k a b c d : Bool) →
     bit (k && ((a && not b) || (not a && b))) + bit (k && ((c && not d) || (not c && d)))
     ≡ bit (k && (((a && c) && not (b && d)) || (not (a && c) && (b && d)))) + bit (k && (((a || c) && not (b || d)) || (not (a || c) && (b || d))))
     + 2 * bit (k && (((a && not c) && (d && not b)) || ((c && not a) && (b && not d))))
-bits_of_cuts false a b c d = refl
-bits_of_cuts true true true true true = refl
-bits_of_cuts true true true true false = refl
-bits_of_cuts true true true false true = refl
-bits_of_cuts true true true false false = refl
-bits_of_cuts true true false true true = refl
-bits_of_cuts true true false true false = refl
-bits_of_cuts true true false false true = refl
-bits_of_cuts true true false false false = refl
-bits_of_cuts true false true true true = refl
-bits_of_cuts true false true true false = refl
-bits_of_cuts true false true false true = refl
-bits_of_cuts true false true false false = refl
-bits_of_cuts true false false true true = refl
-bits_of_cuts true false false true false = refl
-bits_of_cuts true false false false true = refl
-bits_of_cuts true false false false false = refl
+bits_of_cuts k a b c d = grind arith
 
 pub two_cuts : (g : Graph) (m x y : Set) →
     count (size g) (λ e. m e && in_cut g x e) + count (size g) (λ e. m e && in_cut g y e)

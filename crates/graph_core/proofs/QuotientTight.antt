@@ -1,7 +1,7 @@
 -- A set of blocks is tight in the quotient exactly when it is in the contracted graph.
 -- Perfect matchings go over both ways by the least edge with the same ends.
 use Rattle.std.proofs.Common.{◌≡◌, ℕ, ◌<◌, ◌≢◌, true, not, ◌==◌, List, length, refl, sym, ap, ◌∙◌, arith, inl, inr, subst, ne_eqb}
-use Rattle.counting.proofs.Common.{and_parts, and_from, cases_lt, least_of, least_of_is, some_true, true_some, Within, count, is_odd, Set, complement, some}
+use Rattle.counting.proofs.Common.{and_parts, and_from, cases_lt, least_of, least_of_is, some_true, true_some, Within, Set, some}
 use Rattle.graph_core.proofs.Adjacency.{has_ends-from}
 use Rattle.graph_core.proofs.Blocks.{contracted-graph, contracted-order, contracted-size}
 use Rattle.graph_core.proofs.Carrying.{carried_set, cut_carried, perfect_carried}
@@ -77,15 +77,7 @@ module _ (g : Graph) (p : List (List ℕ)) (is : IsGraph g) (pp : AreBlocks g.or
   same_order = contracted-order g p ∙ sym (quotient-order g p)
 
   pub tight_up : (y : Set) → IsTight (contracted g p) y → IsTight (quotient g p) y
-  tight_up y t = record {
-    odd = ap (λ n. is_odd (count n y)) (sym same_order) ∙ t.odd;
-    odd_complement = ap (λ n. is_odd (count n (complement y))) (sym same_order) ∙ t.odd_complement;
-    cut = cut_up y t.cut;
-  }
+  tight_up y t = grind (arith, same_order, cut_up y t.cut)
 
   pub tight_down : (y : Set) → IsTight (quotient g p) y → IsTight (contracted g p) y
-  tight_down y t = record {
-    odd = ap (λ n. is_odd (count n y)) same_order ∙ t.odd;
-    odd_complement = ap (λ n. is_odd (count n (complement y))) same_order ∙ t.odd_complement;
-    cut = cut_down y t.cut;
-  }
+  tight_down y t = grind (arith, same_order, cut_down y t.cut)

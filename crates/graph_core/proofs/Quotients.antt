@@ -17,10 +17,7 @@ quotient_edge g p e w =
     let h = pair_filter (blocks_adjacent g p) (rising_pairs (length p)) _ _ (at_pair (quotient g p).ends (e - 1) (omega arith)) in
     let r = rows_only (length p) _ _ (rising_list (length p) everything) h.0 in
     let q = rising_only (length p) everything _ r.0 in
-    (q.0, r.1, lower _ _ r.2, h.1)
-  where
-    lower : (a b : ℕ) → nat_lt a b ≡ true → a < b
-    lower a b h = grind (arith, nat_tests, h)
+    (q.0, r.1, grind (arith, nat_tests, h), h.1)
 
 -- and each two adjacent places have an edge
 pub edge_of_pair : (g : Graph) (p : List (List ℕ)) (i j : ℕ) → Within (length p) i → Within (length p) j → i < j → blocks_adjacent g p i j ≡ true → (e : ℕ) × Within (size (quotient g p)) e × (first_end (quotient g p) e ≡ i) × (second_end (quotient g p) e ≡ j)

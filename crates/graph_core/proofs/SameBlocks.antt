@@ -1,6 +1,6 @@
 -- A partition is fixed by its relation "in the same block": two partitions with the same relation
 -- are equal as lists. They have the same blocks, and names that rise leave one order.
-use Rattle.std.proofs.Common.{List, [], ap, ap₂, arith, inl, inr, refl, subst, suc, sym, true, ℕ, ◌+◌, ◌-◌, ◌<◌, ◌∙◌, ◌∷◌, ◌≡◌, slice_index, slice_index_or}
+use Rattle.std.proofs.Common.{List, [], ap, ap₂, arith, inl, inr, refl, subst, suc, sym, true, ℕ, ◌+◌, ◌<◌, ◌∙◌, ◌∷◌, ◌≡◌, slice_index, slice_index_or}
 use Rattle.counting.proofs.Common.{same_tests, mem-item, same_rising_list, Within, IsRisingIn, last_of, mem}
 use Rattle.std.specs.List.Sorted.{IsStrictlyIncreasing}
 use Rattle.graph_core.proofs.Blocks.{place_in, place_is}
@@ -43,11 +43,7 @@ ordered_same (b ∷ p) (c ∷ q) o r f k = ap₂ ◌∷◌ head (ordered_same p 
 
 -- a block is a rising list within 1 to n
 pub block_rises : (n : ℕ) (p : List (List ℕ)) (c : List ℕ) → IsPartition n p → Has p c → IsRisingIn n c
-block_rises n p c is h =
-    let r = has_block p c h in let w = r.1 in record {
-      rising = subst IsStrictlyIncreasing r.2 (is.blocks (r.0 - 1) [] (omega arith));
-      within = λ k d l. is.partition.within r.0 (slice_index_or c k d) r.1 (ap (λ z. mem z (slice_index_or c k d)) r.2 ∙ mem-item c k d l);
-    }
+block_rises n p c is h = grind (arith, has_block p c h, slice_index_or c, mem-item c)
 
 -- two vertices share a block of p where they share one of q
 abbrev pub Finer : ℕ → (p q : List (List ℕ)) → Type 0

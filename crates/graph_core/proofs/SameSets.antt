@@ -1,7 +1,7 @@
 -- Sets with the same vertices: they have the same cut, and are tight and nontrivial together.
 -- Each is said vertex by vertex, so it goes over term by term.
-use Rattle.std.proofs.Common.{◌≡◌, ℕ, sym, ap, ap₂, ◌∙◌, ◌&&◌, ◌||◌, not, ◌≤◌, subst}
-use Rattle.counting.proofs.Common.{count_congr, Within, is_odd, Set, complement}
+use Rattle.std.proofs.Common.{◌≡◌, ℕ, sym, ap₂, ◌∙◌, ◌&&◌, ◌||◌, not, arith}
+use Rattle.counting.proofs.Common.{count_congr, Within, Set, complement}
 use Rattle.graph_core.specs.Common.{Graph, IsGraph, first_end, second_end, size, CutIsTight, IsNontrivial, IsTight}
 
 -- the same cut is tight
@@ -10,15 +10,8 @@ cut_congr g x y is h t m p = count_congr (size g) _ _ (λ e w. ap₂ (λ a b. m 
 
 -- sets with the same vertices are tight alike
 pub tight-same : (g : Graph) (x y : Set) → IsGraph g → ((v : ℕ) → Within g.order v → x v ≡ y v) → IsTight g x → IsTight g y
-tight-same g x y is h t = record {
-  odd = ap is_odd (sym (count_congr g.order x y h)) ∙ t.odd;
-  odd_complement = ap is_odd (sym (count_congr g.order (complement x) (complement y) (λ v w. ap not (h v w)))) ∙ t.odd_complement;
-  cut = cut_congr g x y is h t.cut;
-}
+tight-same g x y is h t = grind (arith, count_congr g.order x y h, count_congr g.order (complement x) (complement y), cut_congr g x y is h t.cut)
 
 -- sets that agree on 1 to n are nontrivial together
 pub nontrivial-same : (n : ℕ) (x y : Set) → ((v : ℕ) → Within n v → x v ≡ y v) → IsNontrivial n x → IsNontrivial n y
-nontrivial-same n x y h t = record {
-  inside = subst (λ k. 3 ≤ k) (count_congr n x y h) t.inside;
-  outside = subst (λ k. 3 ≤ k) (count_congr n (complement x) (complement y) (λ v w. ap not (h v w))) t.outside;
-}
+nontrivial-same n x y h t = grind (arith, count_congr n x y h, count_congr n (complement x) (complement y))

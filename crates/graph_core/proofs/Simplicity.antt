@@ -1,8 +1,6 @@
-use Rattle.std.proofs.Common.{◌≡◌, ℕ, ◌-◌, Bool, true, false, sym, arith, inl, inr}
+use Rattle.std.proofs.Common.{◌≡◌, ℕ, ◌-◌, Bool, true, false, arith, inl, inr}
 use Rattle.counting.proofs.Common.{both_ways, cases_lt, cases_eq, some_true, some_none, Within, some}
 use Rattle.graph_core.specs.Common.{Graph, size, first_end, second_end, has_ends, IsSimple}
-use Rattle.graph_core.proofs.Walks.{has_ends-cases}
-use Rattle.graph_core.proofs.Adjacency.{has_ends-from}
 
 -- A graph is simple where no edge has the ends of an earlier one. Idea: of two edges with the
 -- same ends one is earlier, and "has the ends of" holds both ways.
@@ -12,10 +10,7 @@ abbrev pub repeats : Graph → ℕ → ℕ → Bool
 repeats g e f = has_ends g (first_end g e) (second_end g e) f
 
 pub repeats-back : (g : Graph) (e f : ℕ) → repeats g e f ≡ true → repeats g f e ≡ true
-repeats-back g e f h = elim (has_ends-cases g (first_end g e) (second_end g e) f h) [
-  | inl p ↦ has_ends-from g (first_end g f) (second_end g f) e (inl (sym p.0, sym p.1))
-  | inr p ↦ has_ends-from g (first_end g f) (second_end g f) e (inr (sym p.1, sym p.0))
-]
+repeats-back g e f h = grind arith
 
 pub simple_from_no_repeat : (g : Graph) → ((e : ℕ) → Within (size g) e → some (e - 1) (repeats g e) ≡ false) → IsSimple g
 simple_from_no_repeat g h e f we wf r = elim (cases_eq e f) [
@@ -27,5 +22,4 @@ simple_from_no_repeat g h e f we wf r = elim (cases_eq e f) [
 ]
 
 pub no_repeat_from_simple : (g : Graph) (e : ℕ) → IsSimple g → Within (size g) e → some (e - 1) (repeats g e) ≡ true → ⊥
-no_repeat_from_simple g e s we h = let r = some_true (e - 1) (repeats g e) h in let a = r.1 in
-    let q = s e r.0 we (omega arith) r.2 in omega arith
+no_repeat_from_simple g e s we h = grind (arith, some_true (e - 1) (repeats g e) h)

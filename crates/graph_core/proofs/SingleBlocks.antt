@@ -36,10 +36,7 @@ pub tight-singles : (g : Graph) (x : Set) → IsGraph g → IsTightAt g (singles
 tight-singles g x is t = tight-same g (blocks_in (singles g.order) x) x is (blocks-singles g.order x) (subst (λ h. IsTight h (blocks_in (singles g.order) x)) (contracted-singles g is) t.tight)
 
 pub singles-tight : (g : Graph) (x : Set) → IsGraph g → IsTight g x → IsTightAt g (singles g.order) x
-singles-tight g x is t = record {
-  union = union-singles g.order x;
-  tight = subst (λ h. IsTight h (blocks_in (singles g.order) x)) (sym (contracted-singles g is)) (tight-same g x (blocks_in (singles g.order) x) is (λ v w. sym (blocks-singles g.order x v w)) t);
-}
+singles-tight g x is t = grind (arith, union-singles g.order x, contracted-singles g is, tight-same g x (blocks_in (singles g.order) x) is, blocks-singles g.order x)
 
 -- the cut of a union of blocks, edge by edge
 module _ (g : Graph) (p : List (List ℕ)) (x : Set) (is : IsGraph g) (pp : AreBlocks g.order p) (union : IsUnion g.order p x) where

@@ -12,16 +12,14 @@ place_early [] q v h = absurd (omega arith)
 place_early (b ∷ p) q v h = go (place_early p q v) (mem b v) h
   where
     go : (place p v ≤ length p → place (p ++ q) v ≡ place p v) → (x : Bool) → cond x 1 (place p v + 1) ≤ suc (length p) → cond x 1 (place (p ++ q) v + 1) ≡ cond x 1 (place p v + 1)
-    go ih true h = refl
-    go ih false h = ap (λ k. k + 1) (ih (omega arith))
+    go ih x h = grind arith
 
 place_late : (p q : List (List ℕ)) (v : ℕ) → place p v ≡ length p + 1 → place (p ++ q) v ≡ length p + place q v
 place_late [] q v h = sym (zero-add (place q v))
 place_late (b ∷ p) q v h = go (place_late p q v) (mem b v) h
   where
     go : (place p v ≡ length p + 1 → place (p ++ q) v ≡ length p + place q v) → (x : Bool) → cond x 1 (place p v + 1) ≡ suc (length p) + 1 → cond x 1 (place (p ++ q) v + 1) ≡ suc (length p) + place q v
-    go ih true h = absurd (omega arith)
-    go ih false h = let a = ih (omega arith) in omega arith
+    go ih x h = grind arith
 
 pub length-singles : (n : ℕ) → length (singles n) ≡ n
 length-singles zero = refl
@@ -37,15 +35,8 @@ place_singles (suc n) v h = elim (cases_lt n v) [
   | inl lt ↦
       let ih : place (singles n) v ≡ n + 1 = place_singles n v h ∙ rw (lt-leb v n lt) refl in
       let l = length-singles n in
-      place_late (singles n) ((suc n ∷ []) ∷ []) v (omega arith) ∙ last lt (suc n == v) refl
+      place_late (singles n) ((suc n ∷ []) ∷ []) v (omega arith) ∙ (grind (arith, length-singles, eqb-true, le-leb, lt-leb, nat_tests))
 ]
-  where
-    last : n < v → (b : Bool) → (suc n == v) ≡ b → length (singles n) + cond (b || false) 1 (1 + 1) ≡ cond (nat_le v (suc n)) v (suc n + 1)
-    last lt true e = let l = length-singles n in let q = eqb-true (suc n) v e in rw (le-leb v (suc n) (omega arith)) (omega arith)
-    last lt false e = let l = length-singles n in rw (lt-leb v (suc n) (past n v lt e)) (omega arith)
-      where
-        past : (n v : ℕ) → n < v → (suc n == v) ≡ false → suc n < v
-        past n v lt e = grind (arith, nat_tests)
 
 -- block i is that of i alone
 pub block-singles : (n i : ℕ) → Within n i → block (singles n) i ≡ i ∷ []
@@ -69,7 +60,7 @@ own v = ap (λ b. b || false) (eq-eqb v v refl)
 pub singles-partition : (n : ℕ) → IsPartition n (singles n)
 singles-partition n = record {
   partition = record {
-    once = λ v w. ap (λ k. count k (λ i. mem (block (singles n) i) v)) (length-singles n) ∙ count_congr n _ (singleton v) (λ i wi. ap (λ b. mem b v) (block-singles n i wi) ∙ one i v) ∙ count_singleton n v w;
+    once = λ v w. ap (λ k. count k (λ i. mem (block (singles n) i) v)) (length-singles n) ∙ count_congr n _ (singleton v) (λ i wi. ap (λ b. mem b v) (block-singles n i wi) ∙ (grind (arith, nat_tests))) ∙ count_singleton n v w;
     within = λ i v w h. let wi = inside i w in subst (Within n) (same i v (ap (λ b. mem b v) (sym (block-singles n i wi)) ∙ h)) wi;
     full = λ i w. let wi = inside i w in (i, wi, ap (λ b. mem b i) (block-singles n i wi) ∙ own i);
   };
@@ -79,9 +70,6 @@ singles-partition n = record {
   where
     inside : (i : ℕ) → Within (length (singles n)) i → Within n i
     inside i w = let l = length-singles n in omega arith
-
-    one : (i v : ℕ) → (i == v || false) ≡ (v == i)
-    one i v = grind (arith, nat_tests)
 
     same : (i v : ℕ) → (i == v || false) ≡ true → i ≡ v
     same i v h = grind (arith, nat_tests, h)

@@ -1,7 +1,7 @@
 -- A search tree hangs its vertices on those that were found before, so the way up from a vertex
 -- is a walk to a root, as long as the vertex is deep. Two ways up from the ends of an edge,
 -- closed by the edge, are an odd walk where the depths are alike.
-use Rattle.std.proofs.Common.{◌≡◌, ℕ, suc, zero, ◌+◌, ◌<◌, Bool, true, false, refl, ap, ◌∙◌, arith, ◌&&◌, not, inl, inr, List, [], ◌∷◌, ◌++◌, length, nat_lt, lt-ltb}
+use Rattle.std.proofs.Common.{◌≡◌, ℕ, suc, zero, ◌+◌, ◌<◌, Bool, true, false, refl, ap, ◌∙◌, arith, ◌&&◌, not, List, [], ◌∷◌, ◌++◌, length, nat_lt, lt-ltb}
 use Rattle.counting.proofs.Common.{and_from, and_parts, both_ways, cases_order, length-append, true_some, Within, Set, some}
 use Rattle.graph_core.specs.Common.{is_least, Graph, IsGraph, Hangs, IsForest, way_up, way_down, above, Joined, Walk, adjacent, joined}
 use Rattle.graph_core.proofs.Components.{walk_joined}
@@ -31,24 +31,11 @@ pub record StandsAt (g : Graph) (s roots : Set) (parent depth : ℕ → ℕ) (k 
 module _ (g : Graph) (s roots : Set) (parent depth : ℕ → ℕ) (is : IsGraph g) (forest : IsForest g s roots parent depth) where
   -- a vertex at depth 0 is a root
   pub root_at : (v : ℕ) → StandsAt g s roots parent depth zero v → roots v ≡ true
-  root_at v at = elim (forest.stands v at.within at.outside) [
-    | inl r ↦ r.0
-    | inr h ↦ let d = h.deeper in let z = at.deep in absurd (omega arith)
-  ]
+  root_at v at = grind arith
 
   -- a deeper one hangs on its parent, which is one step less deep
   pub hangs_at : (k v : ℕ) → StandsAt g s roots parent depth (suc k) v → (adjacent g s (parent v) v ≡ true) × StandsAt g s roots parent depth k (parent v)
-  hangs_at k v at = elim (forest.stands v at.within at.outside) [
-    | inl r ↦ let z = r.1 in let d = at.deep in absurd (omega arith)
-    | inr h ↦ let d = h.deeper in let z = at.deep in (
-      h.joins,
-      record {
-        within = (adjacent_within g s is (parent v) v h.joins).0;
-        outside = (adjacent-edge g s (parent v) v h.joins).0;
-        deep = omega arith;
-      },
-    )
-  ]
+  hangs_at k v at = grind (arith, adjacent_within g s is (parent v) v, adjacent-edge g s (parent v) v)
 
   -- the way up leads to a root
   pub above_root : (k v : ℕ) → StandsAt g s roots parent depth k v → (roots (above parent k v) ≡ true) × StandsAt g s roots parent depth zero (above parent k v)
@@ -79,13 +66,7 @@ length-way_down parent (suc k) v = length-append (way_down parent k (parent v)) 
 
 -- two vertices of one component that are both its least are the same
 pub least_same : (g : Graph) (s : Set) → IsGraph g → (u v : ℕ) → Within g.order u → Within g.order v → is_least g s u ≡ true → is_least g s v ≡ true → Joined g s u v → u ≡ v
-least_same g s is u v wu wv a b j = elim (cases_order u v) [
-  | inl e ↦ e
-  | inr d ↦ elim d [
-    | inl l ↦ absurd (no_less v u wv wu b (joined_back g s u v j) l)
-    | inr l ↦ absurd (no_less u v wu wv a j l)
-  ]
-]
+least_same g s is u v wu wv a b j = grind (arith, cases_order u v, no_less v u wv wu b (joined_back g s u v j), joined_back g s u v j, no_less u v wu wv a j)
   where
     no_less : (u v : ℕ) → Within g.order u → Within g.order v → is_least g s u ≡ true → Joined g s u v → v < u → ⊥
     no_less u v wu wv a j l =

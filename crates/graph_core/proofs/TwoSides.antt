@@ -1,9 +1,9 @@
 -- Along a walk the side changes with each step, so the length of a walk tells whether its ends
 -- are on the same side: hence no closed walk is odd, and the left side is fixed by the least
 -- vertices. In a search tree the sides are the parities of depths.
-use Rattle.std.proofs.Common.{◌≡◌, ℕ, suc, ◌+◌, ◌<◌, Bool, true, false, cond, refl, sym, ap, ap₂, ◌∙◌, arith, ◌&&◌, ◌||◌, not, inl, inr, List, [], ◌∷◌, ◌++◌, subst, length, append_assoc}
+use Rattle.std.proofs.Common.{◌≡◌, ℕ, suc, ◌+◌, Bool, true, false, cond, refl, sym, ap, ap₂, ◌∙◌, arith, ◌&&◌, ◌||◌, not, List, [], ◌∷◌, ◌++◌, subst, length, append_assoc}
 use Rattle.counting.proofs.Common.{and_parts, both_ways, length-append, bit_true, odd-add, mem-rising_list, rising_list-rises, same_rising_list, some_term, Within, is_odd, mem, rising_list, Set, none}
-use Rattle.graph_core.specs.Common.{is_least, Graph, IsBipartite, IsGraph, first_end, in_cut, second_end, size, IsLeftSide, IsRooted, depth_at, parent_at, Hangs, IsForest, above, way_down, way_up, IsOddClosedWalk, Joined, Walk, adjacent, joined}
+use Rattle.graph_core.specs.Common.{is_least, Graph, IsBipartite, IsGraph, first_end, in_cut, second_end, size, IsLeftSide, IsRooted, depth_at, parent_at, IsForest, above, way_down, way_up, IsOddClosedWalk, Joined, Walk, adjacent}
 use Rattle.graph_core.specs.declared.tree.TreeNode.{TreeNode}
 use Rattle.graph_core.proofs.Components.{joined_walk, some_leader}
 use Rattle.graph_core.proofs.Trees.{StandsAt, above_joined, above_root, down_walk, least_same, length-way_down, length-way_up, up_walk}
@@ -15,17 +15,7 @@ AllInCut g x = (e : ℕ) → Within (size g) e → in_cut g x e ≡ true
 
 -- neighbours are on different sides
 other_side : (g : Graph) (x : Set) → AllInCut g x → (u v : ℕ) → adjacent g none u v ≡ true → x v ≡ not (x u)
-other_side g x cut u v a = let p = adjacent-edge g none u v a in let c = cut p.2.0 p.2.1 in
-    elim (has_ends-cases g u v p.2.0 p.2.2) [
-      | inl k ↦ subst (λ w. x w ≡ not (x u)) k.1 (subst (λ w. x (second_end g p.2.0) ≡ not (x w)) k.0 (differ (x (first_end g p.2.0)) (x (second_end g p.2.0)) c).0)
-      | inr k ↦ subst (λ w. x w ≡ not (x u)) k.0 (subst (λ w. x (first_end g p.2.0) ≡ not (x w)) k.1 (differ (x (first_end g p.2.0)) (x (second_end g p.2.0)) c).1)
-    ]
-  where
-    differ : (s t : Bool) → ((s && not t) || (not s && t)) ≡ true → (t ≡ not s) × (s ≡ not t)
-    differ true true c = absurd (both_ways false refl c)
-    differ true false c = (refl, refl)
-    differ false true c = (refl, refl)
-    differ false false c = absurd (both_ways false refl c)
+other_side g x cut u v a = grind (arith, adjacent-edge g none u v a, has_ends-cases g u v, both_ways false refl)
 
 -- the side at the end of a walk
 side_after : (g : Graph) (x : Set) → AllInCut g x → (u v : ℕ) (ws : List ℕ) → Walk (adjacent g none) u ws v → x v ≡ cond (is_odd (length ws)) (not (x u)) (x u)
@@ -33,9 +23,7 @@ side_after g x cut u v [] w = ap x (sym w)
 side_after g x cut u v (y ∷ ws) w = side_after g x cut y v ws w.1 ∙ step (is_odd (length ws)) (x u) (x y) (other_side g x cut u y w.0)
   where
     step : (odd s t : Bool) → t ≡ not s → cond odd (not t) t ≡ cond (not odd) (not s) s
-    step true true t e = ap not e
-    step true false t e = ap not e
-    step false s t e = e
+    step odd s t e = grind arith
 
 -- an odd closed walk excludes that the graph is bipartite
 pub odd_walk_excludes : (g : Graph) (ws : List ℕ) → IsOddClosedWalk g ws → IsBipartite g → ⊥
@@ -45,9 +33,7 @@ odd_walk_excludes g (v ∷ vs) o b =
     never (b.0 v) (is_odd (length (vs ++ v ∷ []))) (ap is_odd l ∙ o.1) (side_after g b.0 b.1 v v (vs ++ v ∷ []) o.0)
   where
     never : (s odd : Bool) → odd ≡ true → s ≡ cond odd (not s) s → ⊥
-    never true true h e = both_ways false refl (sym e)
-    never false true h e = both_ways false refl e
-    never s false h e = both_ways false refl h
+    never s odd h e = grind arith
 
 -- the left side makes the graph bipartite
 pub left_bipartite : (g : Graph) (left : List ℕ) → IsLeftSide g left → IsBipartite g
@@ -59,14 +45,7 @@ unfolding Joined
 left_side_only g xs ys is a b = same_rising_list g.order xs ys a.rising b.rising same_within
   where
     same_within : (v : ℕ) → Within g.order v → mem xs v ≡ mem ys v
-    same_within v w =
-        let l = some_term g.order _ (some_leader g none is v w refl) in
-        let p = and_parts (is_least g none l.0) (joined g none l.0 v) (bit_true _ l.2) in
-        let j = joined_walk g none l.0 v p.1 in
-        let odd = is_odd (length j.0) in
-        side_after g (mem xs) a.cut l.0 v j.0 j.1
-        ∙ ap (λ s. cond odd (not s) s) (a.least l.0 l.1 p.0 ∙ sym (b.least l.0 l.1 p.0))
-        ∙ sym (side_after g (mem ys) b.cut l.0 v j.0 j.1)
+    same_within v w = grind (arith, some_term g.order, some_leader g none is v w refl, and_parts, bit_true, joined_walk g none, side_after g (mem xs) a.cut, side_after g (mem ys) b.cut)
 
 module _ (g : Graph) (parent depth : ℕ → ℕ) (is : IsGraph g) (forest : IsForest g none (is_least g none) parent depth) where
   place : (v : ℕ) → Within g.order v → StandsAt g none (is_least g none) parent depth (depth v) v
@@ -87,7 +66,7 @@ module _ (g : Graph) (parent depth : ℕ → ℕ) (is : IsGraph g) (forest : IsF
         (Walk-join (adjacent g none) a top a (way_up parent (depth a) a) (way_down parent (depth b) b ++ a ∷ []) (up_walk g none (is_least g none) parent depth is forest (depth a) a (place a wa))
         (Walk-join (adjacent g none) top b a (way_down parent (depth b) b) (a ∷ []) down (back, refl))),
     ap (λ k. not (is_odd k)) (length-append (way_up parent (depth a) a) (way_down parent (depth b) b) ∙ ap₂ ◌+◌ (length-way_up parent (depth a) a) (length-way_down parent (depth b) b))
-        ∙ ap not (odd-add (depth a) (depth b)) ∙ twice (is_odd (depth a)) (is_odd (depth b)) odd,
+        ∙ ap not (odd-add (depth a) (depth b)) ∙ (grind arith),
   )
     where
       wa : Within g.order a
@@ -117,12 +96,6 @@ module _ (g : Graph) (parent depth : ℕ → ℕ) (is : IsGraph g) (forest : IsF
       down : Walk (adjacent g none) top (way_down parent (depth b) b) b
       down = subst (λ r. Walk (adjacent g none) r (way_down parent (depth b) b) b) same_top (down_walk g none (is_least g none) parent depth is forest (depth b) b (place b wb))
 
-      twice : (s t : Bool) → s ≡ t → not (cond s (not t) t) ≡ true
-      twice true true e = refl
-      twice true false e = absurd (both_ways false refl (sym e))
-      twice false true e = absurd (both_ways false refl e)
-      twice false false e = refl
-
   -- where the ends of each edge are at depths of different parity, the even depths are the left
   -- side
   pub even_side : ((e : ℕ) → Within (size g) e → is_odd (depth (first_end g e)) ≡ not (is_odd (depth (second_end g e)))) → IsLeftSide g (rising_list g.order (λ v. not (is_odd (depth v))))
@@ -130,25 +103,10 @@ module _ (g : Graph) (parent depth : ℕ → ℕ) (is : IsGraph g) (forest : IsF
     rising = rising_list-rises g.order (λ v. not (is_odd (depth v)));
     cut = λ e w. let i = is e w in
         ap₂ (λ s t. (s && not t) || (not s && t)) (mem-rising_list g.order (λ v. not (is_odd (depth v))) (first_end g e) i.0) (mem-rising_list g.order (λ v. not (is_odd (depth v))) (second_end g e) i.1)
-        ∙ one_end (is_odd (depth (first_end g e))) (is_odd (depth (second_end g e))) (differ e w);
+        ∙ (grind arith);
     least = λ v w l. mem-rising_list g.order (λ v. not (is_odd (depth v))) v w ∙ ap (λ k. not (is_odd k)) (least_depth v w l);
   }
-    where
-      one_end : (s t : Bool) → s ≡ not t → ((not s && not (not t)) || (not (not s) && not t)) ≡ true
-      one_end true true e = absurd (both_ways false refl (sym e))
-      one_end true false e = refl
-      one_end false true e = refl
-      one_end false false e = absurd (both_ways false refl e)
 
 -- the tree as the code keeps it has a parent for each vertex below a root
 pub forest_rooted : (g : Graph) (roots : Set) (nodes : List TreeNode) → IsGraph g → length nodes ≡ g.order → IsForest g none roots (parent_at nodes) (depth_at nodes) → IsRooted nodes
-forest_rooted g roots nodes is len forest = record {
-  within = λ v w d. let h = hangs v w d in let i = (adjacent_within g none is (parent_at nodes v) v h.joins).0 in omega arith;
-  deeper = λ v w d. (hangs v w d).deeper;
-}
-  where
-    hangs : (v : ℕ) → Within (length nodes) v → 0 < depth_at nodes v → Hangs g none (parent_at nodes) (depth_at nodes) v
-    hangs v w d = elim (forest.stands v (omega arith) refl) [
-      | inl r ↦ let z = r.1 in absurd (omega arith)
-      | inr h ↦ h
-    ]
+forest_rooted g roots nodes is len forest = grind (arith, adjacent_within g none is)

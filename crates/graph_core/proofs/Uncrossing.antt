@@ -1,10 +1,10 @@
 -- Uncrossing in one graph: the meet and the union of two tight shores are tight, and no edge
 -- joins their differences. The edges of a perfect matching in the two cuts are those in the cuts
 -- of meet and union and twice those between the differences.
-use Rattle.std.proofs.Common.{◌≡◌, ℕ, ◌+◌, ◌≤◌, Bool, true, false, cond, refl, sym, ap, ◌∙◌, arith, ◌&&◌, ◌||◌, not, inl, inr}
+use Rattle.std.proofs.Common.{◌≡◌, ℕ, ◌+◌, ◌≤◌, Bool, true, false, cond, refl, sym, ap, ◌∙◌, arith, ◌&&◌, not, inl, inr}
 use Rattle.counting.proofs.Common.{cases_Bool, both_ways, count_meet_union, complement_odd, odd-add, odd-double, odd_pos, order_even, at_le_total, Within, bit, count, is_odd, Set, meet, minus, none, union}
 use Rattle.graph_core.proofs.Parity.{parity, two_cuts}
-use Rattle.graph_core.specs.Common.{IsCovered, Graph, IsGraph, connects, first_end, in_cut, inside, second_end, size, IsPerfect, IsTight}
+use Rattle.graph_core.specs.Common.{IsCovered, Graph, IsGraph, connects, in_cut, inside, size, IsPerfect, IsTight}
 
 -- the cut of an odd set meets each perfect matching
 pub odd_meets : (g : Graph) (m x : Set) → IsGraph g → IsPerfect g none m → is_odd (count g.order x) ≡ true → 1 ≤ count (size g) (λ e. m e && in_cut g x e)
@@ -15,31 +15,23 @@ odd_meets g m x is p o =
     odd_pos (count (size g) (λ e. m e && in_cut g x e)) (go (is_odd (count (size g) (λ e. m e && in_cut g x e))) (is_odd (k + k)) (odd-double k) (sym a ∙ ap is_odd (sym e) ∙ o))
   where
     go : (s t : Bool) → t ≡ false → cond s (not t) t ≡ true → s ≡ true
-    go true t a b = refl
-    go false t a b = sym a ∙ b
+    go s t a b = grind arith
 
 module _ (g : Graph) (is : IsGraph g) (covered : IsCovered g) (x y : Set) (tx : IsTight g x) (ty : IsTight g y) (odd : is_odd (count g.order (meet x y)) ≡ true) where
   union_odd : is_odd (count g.order (union x y)) ≡ true
-  union_odd = go _ _ _ _ odd tx.odd ty.odd (sym (odd-add (count g.order (meet x y)) (count g.order (union x y))) ∙ ap is_odd (count_meet_union g.order x y) ∙ odd-add (count g.order x) (count g.order y))
-    where
-      go : (a b c d : Bool) → a ≡ true → c ≡ true → d ≡ true → cond a (not b) b ≡ cond c (not d) d → b ≡ true
-      go a b c d p q r e = grind arith
+  union_odd = grind (arith, odd-add (count g.order (meet x y)) (count g.order (union x y)), count_meet_union g.order x y, odd-add (count g.order x) (count g.order y))
 
   one_each : (m : Set) → IsPerfect g none m →
       (count (size g) (λ e. m e && in_cut g (meet x y) e) ≡ 1) × (count (size g) (λ e. m e && in_cut g (union x y) e) ≡ 1) × (count (size g) (λ e. m e && connects g (minus x y) (minus y x) e) ≡ 0)
-  one_each m p = let a = odd_meets g m (meet x y) is p odd in let b = odd_meets g m (union x y) is p union_odd in
-      let c = two_cuts g m x y in let d = tx.cut m p in let e = ty.cut m p in (omega arith, omega arith, omega arith)
+  one_each m p = grind (arith, odd_meets g m (meet x y) is p odd, odd_meets g m (union x y) is p union_odd, union_odd, two_cuts g m x y)
 
   pub no_edge_joins : (e : ℕ) → Within (size g) e → connects g (minus x y) (minus y x) e ≡ false
   no_edge_joins e w = elim (cases_Bool (connects g (minus x y) (minus y x) e)) [
     | inr f ↦ f
-    | inl t ↦ let a = covered.allowed e w (λ l. both_ways (connects g (minus x y) (minus y x) e) (loop (x (first_end g e)) (x (second_end g e)) (y (first_end g e)) (y (second_end g e)) (ap x l) (ap y l)) t) in
+    | inl t ↦ let a = covered.allowed e w (λ l. both_ways (connects g (minus x y) (minus y x) e) (grind arith) t) in
         let z : bit (a.0 e && connects g (minus x y) (minus y x) e) ≡ 1 = rw (a.2, t) refl in
         absurd (omega (arith, at_le_total (size g) (λ i. bit (a.0 i && connects g (minus x y) (minus y x) i)) e w, (one_each a.0 a.1).2))
   ]
-    where
-      loop : (a b c d : Bool) → a ≡ b → c ≡ d → (((a && not c) && (d && not b)) || ((c && not a) && (b && not d))) ≡ false
-      loop a b c d p q = grind arith
 
   pub meet_tight : IsTight g (meet x y)
   meet_tight = record { odd = odd; odd_complement = complement_odd g.order (meet x y) (order_even g.order x tx.odd tx.odd_complement) odd; cut = λ m p. (one_each m p).0 }

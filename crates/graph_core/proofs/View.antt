@@ -1,6 +1,6 @@
 -- The code's list of edges and the graph that it stands for: edge e of the graph is item e - 1 of
 -- the list, so that "some edge" of the graph is "some item" of the list.
-use Rattle.std.proofs.Common.{◌≡◌, ℕ, ◌+◌, ◌-◌, ◌≤◌, ◌<◌, ◌||◌, refl, sym, ap, ap₂, ◌∙◌, arith, suc, zero, List, length, get_or, map, take, take_all, le_refl, subst, eq-eqb, true}
+use Rattle.std.proofs.Common.{◌≡◌, ℕ, ◌+◌, ◌≤◌, ◌<◌, ◌||◌, refl, sym, ap, ap₂, ◌∙◌, arith, suc, zero, List, length, get_or, take, take_all, le_refl, subst, eq-eqb, true}
 use Rattle.counting.proofs.Common.{list_any, get_or-map, length-map, Within, none, some}
 use Rattle.std.specs.List.{All, Contains}
 use Rattle.std.proofs.lemmas.List.Folds.{list_any_more}
@@ -14,10 +14,7 @@ size-graph_of n es = length-map es pair_of
 
 -- the ends of edge i + 1 are those of item i
 pub pair-graph_of : (n : ℕ) (es : List Ends) (i : ℕ) (d : Ends) → i < length es → (first_end (graph_of n es) (suc i) ≡ (get_or es i d).a) × (second_end (graph_of n es) (suc i) ≡ (get_or es i d).b)
-pair-graph_of n es i d h =
-    let s : suc i - 1 ≡ i = omega arith in
-    let p : get_or (map pair_of es) (suc i - 1) (0, 0) ≡ pair_of (get_or es i d) = rw s (get_or-map pair_of es i d (0, 0) h) in
-    (ap (λ (p : ℕ × ℕ). p.0) p, ap (λ (p : ℕ × ℕ). p.1) p)
+pair-graph_of n es i d h = grind (arith, get_or-map pair_of es i d (0, 0) h)
 
 -- edge i + 1 has the ends u and v where item i has
 pub has_ends-graph_of : (n : ℕ) (es : List Ends) (u v i : ℕ) (d : Ends) → i < length es → has_ends (graph_of n es) u v (suc i) ≡ are_ends u v (get_or es i d)
@@ -38,10 +35,7 @@ some-graph_of n es u v =
 
 -- the ends of an item are vertices
 pub ends_within : (n : ℕ) (es : List Ends) (i : ℕ) (d : Ends) → IsGraph (graph_of n es) → i < length es → Within n (get_or es i d).a × Within n (get_or es i d).b
-ends_within n es i d is h =
-    let p = pair-graph_of n es i d h in
-    let w = is (suc i) (let s = size-graph_of n es in omega arith) in
-    (subst (Within n) p.0 w.0, subst (Within n) p.1 w.1)
+ends_within n es i d is h = grind (arith, pair-graph_of n es i d h, size-graph_of n es)
 
 -- an edge of the list has two vertices as its ends, which it makes adjacent
 pub contained_edge : (n : ℕ) (es : List Ends) (edge : Ends) → IsGraph (graph_of n es) → Contains es edge → Within n edge.a × Within n edge.b × (adjacent (graph_of n es) none edge.a edge.b ≡ true)

@@ -1,7 +1,7 @@
 -- Walks: they join, turn back and stay in a set that no step leaves; whether one leads on is
 -- decided. A set that grows step by step stops growing after as many steps as there are vertices.
-use Rattle.std.proofs.Common.{◌≡◌, ℕ, suc, zero, ◌+◌, ◌≤◌, Bool, true, false, ◌==◌, refl, sym, ap, ◌∙◌, arith, ◌&&◌, ◌||◌, not, eq-eqb, eqb-true, ◌⊎◌, inl, inr, List, [], ◌∷◌, ◌++◌, subst, ◌↔◌}
-use Rattle.counting.proofs.Common.{cases_Bool, or_cases, or_left, or_right, and_parts, and_from, false_from_ne_true, both_ways, nat_tests, count_le, count_more, some_none, some_true, true_some, at_le_total, but_fails_second, Within, bit, count, Set, none, some}
+use Rattle.std.proofs.Common.{◌≡◌, ℕ, suc, zero, ◌+◌, ◌≤◌, Bool, true, false, ◌==◌, refl, sym, ap, ◌∙◌, arith, ◌&&◌, ◌||◌, not, eq-eqb, eqb-true, ◌⊎◌, inl, inr, List, [], ◌∷◌, ◌++◌, ◌↔◌}
+use Rattle.counting.proofs.Common.{cases_Bool, or_cases, or_left, or_right, and_parts, and_from, false_from_ne_true, both_ways, count_le, count_more, some_none, some_true, true_some, at_le_total, but_fails_second, Within, bit, count, Set, none, some}
 use Rattle.graph_core.specs.Common.{Graph, IsGraph, first_end, has_ends, in_cut, second_end, size, Joined, Walk, adjacent, reaches}
 
 pub Walk-join : (adj : ℕ → ℕ → Bool) (u v w : ℕ) (xs ys : List ℕ) → Walk adj u xs v → Walk adj v ys w → Walk adj u (xs ++ ys) w
@@ -48,29 +48,15 @@ module _ (n : ℕ) (adj : ℕ → ℕ → Bool) where
 
   closed_spread : (x : Set) → IsClosed n adj x → IsClosed n adj (spread x)
   unfolding spread IsClosed
-  closed_spread x c u v wu wv a b = or_left (x v) (some n (λ w. x w && adj w v)) (elim (or_cases (x u) (some n (λ w. x w && adj w u)) a) [
-    | inl t ↦ c u v wu wv t b
-    | inr t ↦ let r = some_true n (λ w. x w && adj w u) t in
-        let p = and_parts (x r.0) (adj r.0 u) r.2 in
-        c u v wu wv (c r.0 u r.1 wu p.0 p.1) b
-  ])
+  closed_spread x c u v wu wv a b = grind (arith, or_left (x v), adj, or_cases (x u), some_true n, and_parts)
 
   flood_grows : (u : ℕ) → Within n u → (k : ℕ) → (IsClosed n adj (reaches n adj u k)) ⊎ (k + 1 ≤ count n (reaches n adj u k))
   unfolding spread
   flood_grows u w zero = inr (let b : bit (u == u) ≡ 1 = rw (eq-eqb u u refl) refl in omega (arith, at_le_total n (λ v. bit (u == v)) u w))
-  flood_grows u w (suc k) = elim (flood_grows u w k) [
-    | inl c ↦ inl (closed_spread (reaches n adj u k) c)
-    | inr c ↦ elim (grows (reaches n adj u k)) [
-      | inl d ↦ inl (closed_spread (reaches n adj u k) d)
-      | inr d ↦ inr (omega arith)
-    ]
-  ]
+  flood_grows u w (suc k) = grind (arith, flood_grows u w k, closed_spread (reaches n adj u k), adj u k, grows (reaches n adj u k))
 
   pub flood_closed : (u : ℕ) → Within n u → IsClosed n adj (reaches n adj u n)
-  flood_closed u w = elim (flood_grows u w n) [
-    | inl c ↦ c
-    | inr c ↦ absurd (omega (arith, count_le n (reaches n adj u n)))
-  ]
+  flood_closed u w = grind (arith, flood_grows u w n, count_le n (reaches n adj u n), adj u n)
 
   pub flood_own : (u k : ℕ) → reaches n adj u k u ≡ true
   unfolding spread
@@ -90,40 +76,22 @@ module _ (n : ℕ) (adj : ℕ → ℕ → Bool) where
 
 -- steps of a graph
 pub adjacent-edge : (g : Graph) (s : Set) (u v : ℕ) → adjacent g s u v ≡ true → (s u ≡ false) × (s v ≡ false) × ((e : ℕ) × Within (size g) e × (has_ends g u v e ≡ true))
-adjacent-edge g s u v h =
-    let a = and_parts (not (s u) && not (s v)) (some (size g) (has_ends g u v)) h in
-    let b = and_parts (not (s u)) (not (s v)) a.0 in
-    (grind (arith, b.0), grind (arith, b.1), some_true (size g) (has_ends g u v) a.1)
+adjacent-edge g s u v h = grind (arith, and_parts (not (s u) && not (s v)) (some (size g) (has_ends g u v)) h, and_parts (not (s u)) (not (s v)), some_true (size g) (has_ends g u v))
 
 pub has_ends-cases : (g : Graph) (u v e : ℕ) → has_ends g u v e ≡ true → ((first_end g e ≡ u) × (second_end g e ≡ v)) ⊎ ((first_end g e ≡ v) × (second_end g e ≡ u))
-has_ends-cases g u v e h = from_tests (first_end g e) (second_end g e) u v h
-  where
-    from_tests : (a b u v : ℕ) → ((a == u && b == v) || (a == v && b == u)) ≡ true → ((a ≡ u) × (b ≡ v)) ⊎ ((a ≡ v) × (b ≡ u))
-    from_tests a b u v h = grind (arith, nat_tests)
+has_ends-cases g u v e h = grind arith
 
 pub adjacent_within : (g : Graph) (s : Set) → IsGraph g → (u v : ℕ) → adjacent g s u v ≡ true → Within g.order u × Within g.order v
-adjacent_within g s is u v h =
-    let p = adjacent-edge g s u v h in
-    let e = p.2.0 in
-    let w = is e p.2.1 in
-    elim (has_ends-cases g u v e p.2.2) [
-      | inl k ↦ (subst (Within g.order) k.0 w.0, subst (Within g.order) k.1 w.1)
-      | inr k ↦ (subst (Within g.order) k.1 w.1, subst (Within g.order) k.0 w.0)
-    ]
+adjacent_within g s is u v h = grind (arith, adjacent-edge g s u v h, has_ends-cases g u v)
 
 pub adjacent_from : (g : Graph) (s : Set) (u v e : ℕ) → s u ≡ false → s v ≡ false → Within (size g) e → has_ends g u v e ≡ true → adjacent g s u v ≡ true
 adjacent_from g s u v e a b w h = and_from (not (s u) && not (s v)) (some (size g) (has_ends g u v)) (rw (a, b) refl) (true_some (size g) (has_ends g u v) e w h)
 
 pub has_ends-back : (g : Graph) (u v e : ℕ) → has_ends g u v e ≡ true → has_ends g v u e ≡ true
-has_ends-back g u v e h = turn (first_end g e == u && second_end g e == v) (first_end g e == v && second_end g e == u) h
-  where
-    turn : (s t : Bool) → (s || t) ≡ true → (t || s) ≡ true
-    turn s t h = grind arith
+has_ends-back g u v e h = grind arith
 
 pub adjacent_back : (g : Graph) (s : Set) (u v : ℕ) → adjacent g s u v ≡ true → adjacent g s v u ≡ true
-adjacent_back g s u v h =
-    let p = adjacent-edge g s u v h in
-    adjacent_from g s v u p.2.0 p.1 p.0 p.2.1 (has_ends-back g u v p.2.0 p.2.2)
+adjacent_back g s u v h = grind arith
 
 pub has_ends-own : (g : Graph) (e : ℕ) → has_ends g (first_end g e) (second_end g e) e ≡ true
 has_ends-own g e = rw (eq-eqb (first_end g e) (first_end g e) refl, eq-eqb (second_end g e) (second_end g e) refl) refl
@@ -143,10 +111,7 @@ joined_on g s u v w j k = (j.0 ++ k.0, Walk-join (adjacent g s) u v w j.0 k.0 j.
 
 pub joined_or_not : (g : Graph) (s : Set) → IsGraph g → (u v : ℕ) → Within g.order u → (Joined g s u v) ⊎ (Joined g s u v → ⊥)
 unfolding Joined
-joined_or_not g s is u v w = elim (walk_or_not g.order (adjacent g s) (adjacent_within g s is) u v w) [
-  | inl j ↦ inl j
-  | inr n ↦ inr (λ j. n j.0 j.1)
-]
+joined_or_not g s is u v w = grind (arith, walk_or_not g.order (adjacent g s) (adjacent_within g s is) u v w, adjacent_within g s is)
 
 -- two vertices are not joined where a set parts them that no edge leaves
 pub parted : (g : Graph) (u v : ℕ) → IsGraph g → Within g.order u → Within g.order v → (Joined g none u v → ⊥) ↔ ((x : Set) × (x u ≡ true) × (x v ≡ false) × ((e : ℕ) → Within (size g) e → in_cut g x e ≡ false))
@@ -157,12 +122,7 @@ parted g u v is wu wv = (there, back)
     adj = adjacent g none
 
     there : ((ws : List ℕ) × Walk (adjacent g none) u ws v → ⊥) → (x : Set) × (x u ≡ true) × (x v ≡ false) × ((e : ℕ) → Within (size g) e → in_cut g x e ≡ false)
-    there alone = (
-      reaches g.order (adjacent g none) u g.order,
-      flood_own g.order (adjacent g none) u g.order,
-      false_from_ne_true _ (λ t. alone (flood_walk g.order (adjacent g none) u g.order v t)),
-      λ e w. go e w (reaches g.order (adjacent g none) u g.order (first_end g e)) (reaches g.order (adjacent g none) u g.order (second_end g e)) refl refl,
-    )
+    there alone = grind (arith, flood_own g.order (adjacent g none) u g.order, false_from_ne_true, flood_walk g.order (adjacent g none) u g.order v, go)
       where
         go : (e : ℕ) → Within (size g) e → (a b : Bool) → reaches g.order (adjacent g none) u g.order (first_end g e) ≡ a → reaches g.order (adjacent g none) u g.order (second_end g e) ≡ b → ((a && not b) || (not a && b)) ≡ false
         go e w true true p q = refl
@@ -175,12 +135,6 @@ parted g u v is wu wv = (there, back)
         let p = adjacent-edge g none a b ab in
         let c = f.3 p.2.0 p.2.1 in
         elim (has_ends-cases g a b p.2.0 p.2.2) [
-          | inl k ↦ stay (f.0 (first_end g p.2.0)) (f.0 (second_end g p.2.0)) (f.0 b) c (ap f.0 k.0 ∙ xa) (ap f.0 k.1)
-          | inr k ↦ stay' (f.0 (first_end g p.2.0)) (f.0 (second_end g p.2.0)) (f.0 b) c (ap f.0 k.1 ∙ xa) (ap f.0 k.0)
+          | inl k ↦ grind arith
+          | inr k ↦ grind arith
         ]) u v j.0 f.1 j.1)
-      where
-        stay : (s t r : Bool) → ((s && not t) || (not s && t)) ≡ false → s ≡ true → t ≡ r → r ≡ true
-        stay s t r h p q = grind arith
-
-        stay' : (s t r : Bool) → ((s && not t) || (not s && t)) ≡ false → t ≡ true → s ≡ r → r ≡ true
-        stay' s t r h p q = grind arith

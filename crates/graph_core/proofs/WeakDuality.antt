@@ -32,18 +32,7 @@ loose_few g s m is =
     one f h v = count (size g) (λ e. (m e && s (h e)) && (f e == v))
 
     bits : (v : ℕ) → bit (loose g s m v) ≤ bit (not (s v) && (degree g m v == 0)) + (one (first_end g) (second_end g) v + one (second_end g) (first_end g) v)
-    bits v = omega (
-      arith,
-      bit_at_most (not (s v)) (degree g m v == 0) (some (size g) (λ e. (m e && s (second_end g e)) && (first_end g e == v))) (some (size g) (λ e. (m e && s (first_end g e)) && (second_end g e == v))),
-      some_le_count (size g) (λ e. (m e && s (second_end g e)) && (first_end g e == v)),
-      some_le_count (size g) (λ e. (m e && s (first_end g e)) && (second_end g e == v)),
-    )
-      where
-        bit_at_most : (p q r t : Bool) → bit (p && (q || (r || t))) ≤ bit (p && q) + (bit r + bit t)
-        bit_at_most false q r t = omega arith
-        bit_at_most true true r t = omega arith
-        bit_at_most true false true t = omega arith
-        bit_at_most true false false t = omega arith
+    bits v = grind (arith, some_le_count (size g))
 
     into : (f h : ℕ → ℕ) → ((e : ℕ) → Within (size g) e → Within g.order (f e)) → ((e : ℕ) → Within (size g) e → Within g.order (h e)) → total g.order (λ v. one f h v) ≡ total g.order (λ v. bit (s v) * count (size g) (λ e. m e && (h e == v)))
     into f h fw hw =
@@ -120,7 +109,7 @@ berge_raw : (g : Graph) (s m : Set) → IsGraph g → ((v : ℕ) → Within g.or
 unfolding odd_component_count
 berge_raw g s m is mm =
     le_trans (total_le g.order _ (λ u. bit (is_least g s u) * total g.order (λ v. bit (joined g s u v) * bit (loose g s m v))) (λ u w. each u w))
-    (le_trans (le_of_eq swapped) (le_trans (total_le g.order _ _ (λ v w. at_most v w)) (loose_few g s m is)))
+    (le_trans (le_of_eq swapped) (le_trans (total_le g.order _ _ (λ v w. omega (arith, mul-le-mul_left (bit (loose g s m v)) (one_leader g s is v w)))) (loose_few g s m is)))
   where
     each : (u : ℕ) → Within g.order u → bit (is_least g s u && is_odd (count g.order (joined g s u))) ≤ bit (is_least g s u) * total g.order (λ v. bit (joined g s u v) * bit (loose g s m v))
     each u w = go (is_least g s u) (is_odd (count g.order (joined g s u))) refl refl
@@ -140,27 +129,10 @@ berge_raw g s m is mm =
         ∙ total_swap g.order g.order (λ u v. bit (is_least g s u) * (bit (joined g s u v) * bit (loose g s m v)))
         ∙ total_congr g.order _ _ (λ v w. total_congr g.order _ _ (λ u x. omega (arith, ap (λ k. bit (loose g s m v) * k) (bit-and (is_least g s u) (joined g s u v)))) ∙ total_mul g.order (bit (loose g s m v)) (λ u. bit (is_least g s u && joined g s u v)))
 
-    at_most : (v : ℕ) → Within g.order v → bit (loose g s m v) * count g.order (λ u. is_least g s u && joined g s u v) ≤ bit (loose g s m v)
-    at_most v w = omega (arith, mul-le-mul_left (bit (loose g s m v)) (one_leader g s is v w))
-
 -- a matching of g without r misses at least as many vertices as there are odd components more
 -- than s has vertices
 pub berge_bound : (g : Graph) (r s m : Set) → IsGraph g → IsMatching g r m → odd_component_count g (union r s) ≤ missed_count g r m + count g.order s
 unfolding missed_count
 berge_bound g r s m is mm =
     le_trans (berge_raw g (union r s) m is mm.once)
-    (le_trans (total_le g.order _ (λ v. bit (not (r v) && (degree g m v == 0)) + bit (s v)) (λ v w. each v w)) (le_of_eq (total_add g.order (λ v. bit (not (r v) && (degree g m v == 0))) (λ v. bit (s v)))))
-  where
-    each : (v : ℕ) → Within g.order v → bit (not (r v || s v) && (degree g m v == 0)) + bit (r v || s v) * degree g m v ≤ bit (not (r v) && (degree g m v == 0)) + bit (s v)
-    each v w = go (r v) (s v) refl
-      where
-        one_le : degree g m v ≤ 1
-        one_le = mm.once v w
-
-        go : (a b : Bool) → r v ≡ a → bit (not (a || b) && (degree g m v == 0)) + bit (a || b) * degree g m v ≤ bit (not a && (degree g m v == 0)) + bit b
-        go true b e = let z = mm.away v w e in omega (arith, ap (λ k. bit true * k) z)
-        go false true e = tests (degree g m v) one_le
-          where
-            tests : (d : ℕ) → d ≤ 1 → 0 + 1 * d ≤ bit (d == 0) + 1
-            tests d h = omega arith
-        go false false e = omega arith
+    (le_trans (total_le g.order _ (λ v. bit (not (r v) && (degree g m v == 0)) + bit (s v)) (λ v w. grind arith)) (le_of_eq (total_add g.order (λ v. bit (not (r v) && (degree g m v == 0))) (λ v. bit (s v)))))

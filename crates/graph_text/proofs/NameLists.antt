@@ -1,6 +1,6 @@
 -- Lists of different names: a word of the form of a name is ASCII, hence UTF-8; a word that is
 -- none of the names has no place among them; and a further one keeps the names different.
-use Rattle.std.proofs.Common.{◌≡◌, ◌≢◌, ◌<◌, ◌+◌, inl, inr, ℕ, suc, zero, Bool, true, false, not, cond, nat_lt, ◌||◌, List, [], ◌∷◌, ◌++◌, length, map, get_or, Some, None, refl, sym, ◌∙◌, ap, ap₂, arith, subst, position, String, Global, Result, Ok, Err, IfOk, OnErr, is_some}
+use Rattle.std.proofs.Common.{◌≡◌, ◌≢◌, ◌<◌, ◌+◌, inl, inr, ℕ, suc, zero, Bool, true, false, not, cond, nat_lt, ◌||◌, List, [], ◌∷◌, ◌++◌, length, map, get_or, None, refl, sym, ◌∙◌, ap, ap₂, arith, subst, position, String, Global, Result, Ok, Err, IfOk, OnErr, is_some}
 use Rattle.counting.proofs.Common.{list_any, list_all, AllByRecursion, cases_Bool, cases_eq, and_parts, both_ways, or_parts, nat_tests, length-append, length-map, map-append, bytes_eq-Decides, get_or-append_seam}
 use Rattle.std.specs.List.{position_or_len}
 use Rattle.std.specs.Str.{bytes_eq, IsUtf8, IsAscii}
@@ -32,8 +32,7 @@ module _ {X Y : Type 0} (test : Y → Bool) (view : X → Y) where
   position_or_len-map (x ∷ xs) = ap (λ k. cond (not (test (view x))) (1 + k) 0) (position_or_len-map xs)
 
   pub position-map : (xs : List X) → position test (map view xs) ≡ position (λ x. test (view x)) xs
-  position-map xs =
-      ap₂ (λ k n. cond (nat_lt k n) (Some k) None) (position_or_len-map xs) (length-map xs view)
+  position-map xs = grind (arith, nat_lt, position_or_len-map xs, length-map xs view)
 
 -- where the item at each place is another word, the word is not among them
 pub among-none : (names : List (List ℕ)) (word : List ℕ) → ((i : ℕ) → i < length names → get_or names i [] ≢ word) → is_among names word ≡ false
@@ -46,8 +45,7 @@ among-none (name ∷ names) word others = elim (cases_Bool (bytes_eq word name))
 -- and the other way round
 pub none-among : (names : List (List ℕ)) (word : List ℕ) → is_among names word ≡ false → (i : ℕ) → i < length names → get_or names i [] ≢ word
 none-among [] word none i less = absurd (omega arith)
-none-among (name ∷ names) word none zero less =
-    λ same. both_ways (bytes_eq word name) (or_parts (bytes_eq word name) _ none).0 ((bytes_eq-Decides word name).1 (sym same))
+none-among (name ∷ names) word none zero less = grind (arith, both_ways (bytes_eq word name), or_parts (bytes_eq word name), bytes_eq-Decides word name)
 none-among (name ∷ names) word none (suc i) less = none-among names word (or_parts (bytes_eq word name) _ none).1 i (omega arith)
 
 -- a word that is none of the names has no place
@@ -60,8 +58,7 @@ place-none (name ∷ names) word none =
 -- the place of a name
 pub place-first : (names : List (List ℕ)) (word : List ℕ) (i : ℕ) → i < length names → get_or names i [] ≡ word → ((j : ℕ) → j < i → get_or names j [] ≢ word) → position_or_len (bytes_eq word) names ≡ i
 place-first [] word i less is others = absurd (omega arith)
-place-first (name ∷ names) word zero less is others =
-    ap (λ b. cond (not b) (1 + position_or_len (bytes_eq word) names) 0) ((bytes_eq-Decides word name).1 (sym is))
+place-first (name ∷ names) word zero less is others = grind (arith, bytes_eq-Decides word name)
 place-first (name ∷ names) word (suc i) less is others = elim (cases_Bool (bytes_eq word name)) [
   | inl same ↦ absurd (others 0 (omega arith) (sym ((bytes_eq-Decides word name).0 same)))
   | inr other ↦
@@ -75,13 +72,11 @@ each-name (name ∷ names) zero each less = each.0
 each-name (name ∷ names) (suc i) each less = each-name names i each.1 (omega arith)
 
 pub nameless-among : (names : List (List ℕ)) (word : List ℕ) → AreNames names → is_name word ≡ false → is_among names word ≡ false
-nameless-among names word are nameless =
-    among-none names word (λ i less same. both_ways (is_name word) nameless (ap is_name (sym same) ∙ each-name names i are.each less))
+nameless-among names word are nameless = grind (arith, among-none names word, both_ways (is_name word) nameless, each-name names)
 
 -- such a word has no position
 pub position-nameless : (names : List (List ℕ)) (word : List ℕ) → AreNames names → is_name word ≡ false → position (bytes_eq word) names ≡ None
-position-nameless names word are nameless =
-    ap (λ k. cond (nat_lt k (length names)) (Some k) None) (place-none names word (nameless-among names word are nameless)) ∙ grind (arith, nat_tests)
+position-nameless names word are nameless = grind (arith, nat_lt, place-none names word (nameless-among names word are nameless), nameless-among names word are nameless, nat_tests)
 
 -- a further name keeps the names different
 each-more : (names : List (List ℕ)) (name : List ℕ) → AllByRecursion (λ n. is_name n ≡ true) names → is_name name ≡ true → AllByRecursion (λ n. is_name n ≡ true) (names ++ name ∷ [])
@@ -94,9 +89,7 @@ AreNames-more names name are is none few = record { each = each-more names name 
     differ : (i j : ℕ) → i < j → j < length (names ++ name ∷ []) → get_or (names ++ name ∷ []) i [] ≢ get_or (names ++ name ∷ []) j []
     differ i j before within same = elim (cases_eq j (length names)) [
       | inl last ↦ none-among names name none i (omega arith) (sym (get_or-append names (name ∷ []) [] i (omega arith)) ∙ same ∙ ap (λ k. get_or (names ++ name ∷ []) k []) last ∙ get_or-append_seam names name [] [])
-      | inr other ↦
-          let less : j < length names = omega (arith, length-append names (name ∷ []), other) in
-          are.differ i j before less (sym (get_or-append names (name ∷ []) [] i (omega arith)) ∙ same ∙ get_or-append names (name ∷ []) [] j less)
+      | inr other ↦ grind (arith, length-append names (name ∷ []), get_or-append names (name ∷ []))
     ]
 
 -- a new text goes after the others of a set
@@ -110,8 +103,7 @@ module _ (same : String Global → String Global → Bool) (tells : (a b : Strin
   pub keys-inserted : (keys : List (String Global)) (text : String Global) (name : List ℕ) → string_bytes text ≡ name → is_among (map string_bytes keys) name ≡ false → map string_bytes (insert_key same keys text) ≡ map string_bytes keys ++ name ∷ []
   keys-inserted keys text name is none =
       let new = absent keys text (subst (λ n. is_among (map string_bytes keys) n ≡ false) (sym is) none) in
-      ap (λ b. map string_bytes (cond b keys (keys ++ text ∷ []))) new
-      ∙ map-append string_bytes keys (text ∷ []) ∙ ap (λ n. map string_bytes keys ++ n ∷ []) is
+      grind (arith, map-append string_bytes keys (text ∷ []))
 
   pub AreNames-inserted : {B E : Type 0} (r : Result B E) (old new : List (String Global)) (text : String Global) (name : List ℕ) → IfOk r (λ _. new ≡ insert_key same old text) → OnErr r (new ≡ old) → string_bytes text ≡ name → is_name name ≡ true → is_among (map string_bytes old) name ≡ false → length (map string_bytes old) < 128 → AreNames (map string_bytes old) → AreNames (map string_bytes new)
   AreNames-inserted (Ok b) old new text name keys err text_is is none few are =
@@ -122,23 +114,12 @@ module _ (same : String Global → String Global → Bool) (tells : (a b : Strin
 place-within : (names : List (List ℕ)) (word : List ℕ) → nat_lt (position_or_len (bytes_eq word) names) (length names) ≡ is_among names word
 place-within [] word = refl
 place-within (name ∷ names) word = elim (cases_Bool (bytes_eq word name)) [
-  | inl same ↦
-      ap (λ b. nat_lt (cond (not b) (1 + position_or_len (bytes_eq word) names) 0) (suc (length names))) same
-      ∙ none_before (length names) ∙ sym (ap (λ b. b || is_among names word) same)
-  | inr other ↦
-      ap (λ b. nat_lt (cond (not b) (1 + position_or_len (bytes_eq word) names) 0) (suc (length names))) other
-      ∙ one_more (position_or_len (bytes_eq word) names) (length names) ∙ place-within names word ∙ ap (λ b. b || is_among names word) (sym other)
+  | inl same ↦ grind arith
+  | inr other ↦ grind (arith, nat_lt, one_more (position_or_len (bytes_eq word) names) (length names), place-within names word)
 ]
   where
     one_more : (p n : ℕ) → nat_lt (1 + p) (suc n) ≡ nat_lt p n
     one_more p n = grind (arith, nat_tests)
 
-    none_before : (n : ℕ) → nat_lt 0 (suc n) ≡ true
-    none_before n = grind (arith, nat_tests)
-
 pub is_some-position : (names : List (List ℕ)) (word : List ℕ) → is_some (position (bytes_eq word) names) ≡ is_among names word
-is_some-position names word = by (nat_lt (position_or_len (bytes_eq word) names) (length names)) ∙ place-within names word
-  where
-    by : (b : Bool) → is_some (cond b (Some (position_or_len (bytes_eq word) names)) None) ≡ b
-    by true = refl
-    by false = refl
+is_some-position names word = grind (arith, nat_lt (position_or_len (bytes_eq word) names) (length names), place-within names word)

@@ -1,7 +1,7 @@
 -- What is written of a graph with names is read as this graph with these names: the header leads
 -- to no names and no edges, the lines of the names put them one after the other, and the line of
 -- each edge adds it, since different names have different places.
-use Rattle.std.proofs.Common.{inl, inr, nat_le, ◌≡◌, ◌≢◌, ◌+◌, ◌-◌, ◌≤◌, ◌<◌, ◌==◌, ◌||◌, ◌&&◌, not, ℕ, List, [], ◌∷◌, ◌++◌, length, map, get_or, codes, true, false, Some, Ok, refl, sym, ◌∙◌, ap, subst, arith, append_assoc}
+use Rattle.std.proofs.Common.{nat_le, ◌≡◌, ◌≢◌, ◌+◌, ◌-◌, ◌≤◌, ◌<◌, ◌==◌, ◌||◌, ◌&&◌, not, ℕ, List, [], ◌∷◌, ◌++◌, length, map, get_or, true, false, Some, Ok, refl, sym, ap, subst, arith, append_assoc}
 use Rattle.counting.proofs.Common.{AllByRecursion, list_all, cases_Bool, and_parts, and_from, nat_tests, append-nil, length-append, bytes_eq-Decides, get_or-append_seam, Within}
 use Rattle.std.specs.Str.{bytes_eq}
 use Rattle.std.proofs.Math.ListN.{get_or-append}
@@ -20,8 +20,7 @@ either order edges names done = record { so_far = record { graph = record { orde
 -- the header line
 header-taken : (order edges : ℕ) → order ≤ 128 → edges ≤ 2048 → either_version.header (named_header_words order edges) ≡ Ok (either order edges [] [])
 unfolding has_form
-header-taken order edges few_vertices few_edges =
-    rw (number_of-decimal order (omega arith), number_of-decimal edges (omega arith)) (grind (arith, nat_tests))
+header-taken order edges few_vertices few_edges = grind (arith, number_of-decimal order, number_of-decimal edges, nat_tests)
 
 -- the line of a name
 name-taken : (order edges : ℕ) (names : List (List ℕ)) (name : List ℕ) → length names < order → is_name name ≡ true → is_among names name ≡ false → either_version.line (either order edges names []) (name_words name) ≡ Ok (either order edges (names ++ name ∷ []) [])
@@ -30,13 +29,10 @@ name-taken order edges names name wanted is none = rw (is, none) (grind (arith, 
 
 -- a name of the list is not among those before it
 fresh : (done : List (List ℕ)) (name : List ℕ) (more : List (List ℕ)) → AreNames (done ++ name ∷ more) → is_among done name ≡ false
-fresh done name more are = among-none done name (λ i less same.
-    are.differ i (length done) less (omega (arith, length-append done (name ∷ more)))
-    (get_or-append done (name ∷ more) [] i less ∙ same ∙ sym (get_or-append_seam done name more [])))
+fresh done name more are = grind (arith, among-none done name, length-append done (name ∷ more), get_or-append done (name ∷ more), get_or-append_seam done name more)
 
 form : (done : List (List ℕ)) (name : List ℕ) (more : List (List ℕ)) → AreNames (done ++ name ∷ more) → is_name name ≡ true
-form done name more are =
-    ap is_name (sym (get_or-append_seam done name more [])) ∙ each-name (done ++ name ∷ more) (length done) are.each (omega (arith, length-append done (name ∷ more)))
+form done name more are = grind (arith, get_or-append_seam done name more, each-name (done ++ name ∷ more) (length done) are.each, length-append done (name ∷ more))
 
 -- the lines of all names
 names-taken : (order edges : ℕ) (done more : List (List ℕ)) → length done + length more ≡ order → AreNames (done ++ more) → Begins either_version (Some (either order edges done [])) (map name_words more) (Some (either order edges (done ++ more) []))
@@ -48,31 +44,18 @@ names-taken order edges done (name ∷ more) all are =
 
 -- the name of a vertex is among the names, at its place
 place-name : (names : List (List ℕ)) (v : ℕ) → AreNames names → Within (length names) v → vertex_of names (get_or names (v - 1) []) ≡ v
-place-name names v are within =
-    let at = place-first names (get_or names (v - 1) []) (v - 1) (omega arith) refl (λ j before. are.differ j (v - 1) before (omega arith)) in omega arith
+place-name names v are within = grind (arith, place-first names (get_or names (v - 1) []) (v - 1))
 
 among-name : (names : List (List ℕ)) (v : ℕ) → Within (length names) v → is_among names (get_or names (v - 1) []) ≡ true
-among-name names v within = elim (cases_Bool (is_among names (get_or names (v - 1) []))) [
-  | inl is ↦ is
-  | inr none ↦ absurd (none-among names (get_or names (v - 1) []) none (v - 1) (omega arith) refl)
-]
+among-name names v within = grind (arith, cases_Bool (is_among names (get_or names (v - 1) [])), none-among names (get_or names (v - 1) []))
 
 different-names : (names : List (List ℕ)) (a b : ℕ) → AreNames names → Within (length names) a → Within (length names) b → a ≢ b → bytes_eq (get_or names (a - 1) []) (get_or names (b - 1) []) ≡ false
-different-names names a b are first second other = elim (cases_Bool (bytes_eq (get_or names (a - 1) []) (get_or names (b - 1) []))) [
-  | inl same ↦ absurd (other (sym (place-name names a are first) ∙ ap (vertex_of names) ((bytes_eq-Decides (get_or names (a - 1) []) (get_or names (b - 1) [])).0 same) ∙ place-name names b are second))
-  | inr is ↦ is
-]
+different-names names a b are first second other = grind (arith, cases_Bool, place-name, bytes_eq-Decides)
 
 -- the line of an edge, where one is wanted
 edge-taken : (order edges : ℕ) (names : List (List ℕ)) (a b : ℕ) (done : List (ℕ × ℕ)) → length names ≡ order → AreNames names → length done < edges → IsEdgeIn order (a, b) → either_version.line (either order edges names done) (named_edge_words names (a, b)) ≡ Ok (either order edges names (done ++ (a, b) ∷ []))
 unfolding has_form
-edge-taken order edges names a b done all are wanted is =
-    let first = subst (λ n. Within n a) (sym all) is.0 in
-    let second = subst (λ n. Within n b) (sym all) is.1 in
-    taken (get_or names (a - 1) []) (get_or names (b - 1) []) (among-name names a first) (among-name names b second) (different-names names a b are first second is.2) (place-name names a are first) (place-name names b are second)
-  where
-    taken : (x y : List ℕ) → is_among names x ≡ true → is_among names y ≡ true → bytes_eq x y ≡ false → vertex_of names x ≡ a → vertex_of names y ≡ b → either_version.line (either order edges names done) (codes "e" ∷ x ∷ y ∷ []) ≡ Ok (either order edges names (done ++ (a, b) ∷ []))
-    taken x y first second other x_is y_is = rw (first, second, other, x_is, y_is) (grind (arith, nat_tests))
+edge-taken order edges names a b done all are wanted is = grind (arith, among-name names a, among-name names b, different-names names a b are, place-name names a are, place-name names b are)
 
 -- the lines of all edges
 edges-taken : (order edges : ℕ) (names : List (List ℕ)) (done more : List (ℕ × ℕ)) → length names ≡ order → AreNames names → length done + length more ≡ edges → AllByRecursion (IsEdgeIn order) more → Begins either_version (Some (either order edges names done)) (map (named_edge_words names) more) (Some (either order edges names (done ++ more)))
@@ -97,15 +80,12 @@ some-bytes n some = grind (arith, nat_tests)
 
 pub is_word-name : (word : List ℕ) → is_name word ≡ true → is_word word ≡ true
 unfolding is_name
-is_word-name word is =
-    let parts = and_parts (nat_le 1 (length word)) _ is in
-    and_from _ _ (some-bytes (length word) parts.0) (bytes-plain word (and_parts _ _ parts.1).1)
+is_word-name word is = grind (arith, and_parts (nat_le 1 (length word)), nat_le 1 (length word), and_from, some-bytes (length word), bytes-plain word, and_parts)
 
 -- each line is significant
 names-significant : (names : List (List ℕ)) → AllByRecursion (λ name. is_name name ≡ true) names → AllByRecursion IsSignificant (map name_words names)
 names-significant [] each = tt
-names-significant (name ∷ names) each =
-    (record { kept = refl; each = (refl, (is_word-name name each.0, tt)) }, names-significant names each.1)
+names-significant (name ∷ names) each = grind (arith, is_word-name name each.0, names-significant names each.1)
 
 edges-significant : (names : List (List ℕ)) (ends : List (ℕ × ℕ)) → AreNames names → AllByRecursion (IsEdgeIn (length names)) ends → AllByRecursion IsSignificant (map (named_edge_words names) ends)
 edges-significant names [] are is = tt

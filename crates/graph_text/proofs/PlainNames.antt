@@ -1,12 +1,11 @@
 -- The plain names `v1`, `v2` and so on are different names: a number below 10 ^ 9 is written in
 -- one to nine digits, and is read again, so that equal names have equal numbers. Each name after
 -- the others is therefore new, by induction over their number.
-use Rattle.std.proofs.Common.{◌≡◌, ◌≤◌, ◌<◌, ◌^◌, ℕ, zero, suc, true, false, [], ◌∷◌, ◌++◌, length, inl, inr, refl, sym, ◌∙◌, ap, ap₂, ◌||◌, arith, Some}
+use Rattle.std.proofs.Common.{◌≡◌, ◌≤◌, ◌<◌, ◌^◌, ℕ, zero, suc, true, false, [], ◌∷◌, ◌++◌, length, refl, ◌∙◌, ap, ap₂, ◌||◌, arith}
 use Rattle.std.specs.Fmt.{decimal}
 use Rattle.std.specs.Str.{bytes_eq}
 use Rattle.counting.proofs.Common.{cases_Bool, and_from, le-leb, nat_tests, length-append, list_any-append, bytes_eq-Decides}
 use Rattle.std.proofs.lemmas.Fmt.{length-decimal-le}
-use Rattle.line_text.specs.Common.{number_of}
 use Rattle.line_text.proofs.Decimals.{number_of-decimal, digits-decimal, list_all-digits}
 use Rattle.graph_text.specs.Common.{is_name, is_name_byte, is_among, plain_name, plain_names}
 
@@ -29,10 +28,7 @@ is_name-plain k small =
 
 -- equal plain names have equal numbers
 plain_name-injective : (i j : ℕ) → i < 10 ^ 9 → j < 10 ^ 9 → plain_name i ≡ plain_name j → i ≡ j
-plain_name-injective i j first second same =
-    let digits : decimal i ≡ decimal j = cc same in
-    let read : Some i ≡ Some j = sym (number_of-decimal i first) ∙ ap number_of digits ∙ number_of-decimal j second in
-    cc read
+plain_name-injective i j first second same = grind (arith, number_of-decimal i first, number_of-decimal j second)
 
 -- a plain name is not among those before it
 pub plain-fresh : (n k : ℕ) → n < k → k < 10 ^ 9 → is_among (plain_names n) (plain_name k) ≡ false
@@ -43,19 +39,13 @@ plain-fresh (suc n) k less small =
     ∙ ap₂ ◌||◌ (plain-fresh n k (omega arith) small) (ap (λ b. b || false) other)
   where
     other : bytes_eq (plain_name k) (plain_name (suc n)) ≡ false
-    other = elim (cases_Bool (bytes_eq (plain_name k) (plain_name (suc n)))) [
-      | inl same ↦
-          let equal = plain_name-injective k (suc n) small (omega arith) ((bytes_eq-Decides (plain_name k) (plain_name (suc n))).0 same) in
-          absurd (omega arith)
-      | inr is ↦ is
-    ]
+    other = grind (arith, cases_Bool (bytes_eq (plain_name k) (plain_name (suc n))), plain_name-injective k (suc n) small, bytes_eq-Decides (plain_name k) (plain_name (suc n)))
 
 -- there are so many of them
 pub length-plain_names : (n : ℕ) → length (plain_names n) ≡ n
 unfolding plain_names
 length-plain_names zero = refl
-length-plain_names (suc n) =
-    length-append (plain_names n) (plain_name (suc n) ∷ []) ∙ (let all = length-plain_names n in omega arith)
+length-plain_names (suc n) = grind (arith, length-append (plain_names n) (plain_name (suc n) ∷ []), length-plain_names n)
 
 pub plain_names-none : plain_names 0 ≡ []
 unfolding plain_names

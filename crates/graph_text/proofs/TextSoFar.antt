@@ -1,7 +1,7 @@
 -- The text of the first items of a list grows by the line of the next item: a written list of
 -- lines with one line more is the text of the list and then the text of that line. The text of a
 -- graph is its header and then the lines of its parts.
-use Rattle.std.proofs.Common.{◌≡◌, ◌≤◌, ◌<◌, ◌+◌, ◌-◌, ℕ, List, [], ◌∷◌, ◌++◌, length, get_or, map, take, take_all, append_assoc, sym, ◌∙◌, ap, ap₂, arith, codes}
+use Rattle.std.proofs.Common.{◌≡◌, ◌≤◌, ◌<◌, ◌+◌, ℕ, List, [], ◌∷◌, ◌++◌, length, get_or, map, take, take_all, append_assoc, sym, ◌∙◌, ap, arith, codes}
 use Rattle.std.specs.Fmt.{decimal}
 use Rattle.line_text.specs.Common.{written}
 use Rattle.line_text.proofs.WrittenLines.{written-append, written-more}
@@ -22,9 +22,7 @@ module _ {X : Type 0} (words_of : X → List (List ℕ)) (start : List ℕ) (xs 
 
 -- the ends of the next edge
 pub ends-next : (g : Graph) (i a b : ℕ) → a ≡ first_end g (i + 1) → b ≡ second_end g (i + 1) → (a, b) ≡ get_or g.ends i (0, 0)
-ends-next g i a b first second =
-    let same : i + 1 - 1 ≡ i = omega arith in
-    ap₂ (λ (a b : ℕ). (a, b)) (first ∙ ap (λ k. (get_or g.ends k (0, 0)).0) same) (second ∙ ap (λ k. (get_or g.ends k (0, 0)).1) same)
+ends-next g i a b first second = grind arith
 
 -- the line of a header, and then other lines
 header-first : (header : List (List ℕ)) (lines : List (List (List ℕ))) (text : List ℕ) → text ≡ written (header ∷ []) → text ++ written lines ≡ written (header ∷ lines)
@@ -33,17 +31,9 @@ header-first header lines text is = ap (λ (t : List ℕ). t ++ written lines) i
 -- the header and the lines of the edges
 pub graph_text-lines : (g : Graph) (order edges : ℕ) (text next : List ℕ) → order ≡ g.order → edges ≡ size g → text ≡ codes "p mcg " ++ (decimal order ++ (codes " " ++ (decimal edges ++ codes "\n"))) → next ≡ text ++ written (map edge_words g.ends) → next ≡ graph_text g
 unfolding graph_text
-graph_text-lines g order edges text next vertices all first second =
-    second ∙ header-first (header_words order edges) (map edge_words g.ends) text (first ∙ simp append_assoc)
-    ∙ ap₂ (λ n m. written (header_words n m ∷ map edge_words g.ends)) vertices all
+graph_text-lines g order edges text next vertices all first second = grind (arith, header-first (header_words order edges) (map edge_words g.ends) text (first ∙ simp append_assoc), append_assoc)
 
 -- the header, the lines of the names and those of the edges between named vertices
 pub named_text-lines : (g : Graph) (names : List (List ℕ)) (order edges : ℕ) (text middle next : List ℕ) → order ≡ g.order → edges ≡ size g → text ≡ codes "p mcg2 " ++ (decimal order ++ (codes " " ++ (decimal edges ++ codes "\n"))) → middle ≡ text ++ written (map name_words names) → next ≡ middle ++ written (map (named_edge_words names) g.ends) → next ≡ named_text g names
 unfolding named_text
-named_text-lines g names order edges text middle next vertices all first second third =
-    let vertex_lines : List (List (List ℕ)) = map name_words names in
-    let edge_lines : List (List (List ℕ)) = map (named_edge_words names) g.ends in
-    third ∙ ap (λ (t : List ℕ). t ++ written edge_lines) second ∙ append_assoc text (written vertex_lines) (written edge_lines)
-    ∙ ap (λ (t : List ℕ). text ++ t) (sym (written-append vertex_lines edge_lines))
-    ∙ header-first (named_header_words order edges) (vertex_lines ++ edge_lines) text (first ∙ simp append_assoc)
-    ∙ ap₂ (λ n m. written (named_header_words n m ∷ vertex_lines ++ edge_lines)) vertices all
+named_text-lines g names order edges text middle next vertices all first second third = grind (arith, append_assoc text, written-append, header-first (named_header_words order edges), append_assoc)

@@ -17,15 +17,12 @@ body order edges done = record { graph = record { order = order; ends = done }; 
 -- the header line
 header-taken : (order edges : ℕ) → order ≤ 64 → edges ≤ 512 → version_one.header (header_words order edges) ≡ Ok (body order edges [])
 unfolding has_form
-header-taken order edges few_vertices few_edges =
-    rw (number_of-decimal order (omega arith), number_of-decimal edges (omega arith)) (grind (arith, nat_tests))
+header-taken order edges few_vertices few_edges = grind (arith, number_of-decimal order, number_of-decimal edges, nat_tests)
 
 -- the line of an edge, where one is wanted
 edge-taken : (order edges a b : ℕ) (done : List (ℕ × ℕ)) → length done < edges → order ≤ 128 → IsEdgeIn order (a, b) → version_one.line (body order edges done) (edge_words (a, b)) ≡ Ok (body order edges (done ++ (a, b) ∷ []))
 unfolding has_form
-edge-taken order edges a b done wanted few is =
-    let low = is.0 in let high = is.1 in let other = is.2 in
-    rw (number_of-decimal a (omega arith), number_of-decimal b (omega arith)) (grind (arith, nat_tests))
+edge-taken order edges a b done wanted few is = grind (arith, number_of-decimal a, number_of-decimal b, nat_tests)
 
 -- the lines of all edges
 edges-taken : (order edges : ℕ) (done more : List (ℕ × ℕ)) → length done + length more ≡ edges → order ≤ 128 → AllByRecursion (IsEdgeIn order) more → Begins version_one (Some (body order edges done)) (map edge_words more) (Some (body order edges (done ++ more)))
@@ -37,9 +34,7 @@ edges-taken order edges done (edge ∷ more) all few is =
 -- each line is significant
 pub edges-significant : (order : ℕ) (ends : List (ℕ × ℕ)) → order ≤ 128 → AllByRecursion (IsEdgeIn order) ends → AllByRecursion IsSignificant (map edge_words ends)
 edges-significant order [] few is = tt
-edges-significant order (edge ∷ ends) few is =
-    let low = is.0.0 in let high = is.0.1 in
-    (record { kept = refl; each = (refl, (is_word-decimal edge.0 (omega arith), (is_word-decimal edge.1 (omega arith), tt))) }, edges-significant order ends few is.1)
+edges-significant order (edge ∷ ends) few is = grind (arith, is_word-decimal edge.0, is_word-decimal edge.1, edges-significant order ends few is.1)
 
 -- the text of a graph stands for it
 pub Stands-graph_text : (g : Graph) → FitsVersionOne g → Stands version_one (graph_text g) g

@@ -2,12 +2,12 @@
 -- vertices. By parity each of the joined edges is inside S where S has an odd number of old
 -- vertices, and else each is outside; so S, with the vertex that was given up put on that side,
 -- is all or nothing in both graphs.
-use Rattle.std.proofs.Common.{◌≡◌, ℕ, suc, ◌+◌, ◌≤◌, ◌≢◌, Bool, true, false, cond, ◌==◌, ◌&&◌, ◌||◌, not, inl, inr, List, [], ◌∷◌, length, map, filter, refl, sym, ap, ap₂, ◌∙◌, arith, subst, eq-eqb, ne_eqb}
+use Rattle.std.proofs.Common.{◌≡◌, ℕ, suc, ◌+◌, ◌≤◌, ◌≢◌, Bool, true, cond, ◌==◌, ◌&&◌, ◌||◌, not, inl, inr, List, [], ◌∷◌, length, map, filter, refl, sym, ap, ap₂, ◌∙◌, arith, subst, eq-eqb, ne_eqb}
 use Rattle.counting.proofs.Common.{Within, bit, Set, none, mem, same_tests}
 use Rattle.graph_core.proofs.Common.{Graph, size, first_end, second_end, IsGraph, has_ends, Joined, Walk, adjacent, joined, IsConnected, adjacent-edge, adjacent_from, has_ends-back, has_ends-cases, has_ends-own, joined_on, joined_self, joined_walk, walk_joined}
 use Rattle.grow_gen.specs.Common.{is_at, other_end, edge_with_end, new_number, renumbered_edge, rehung_edges}
 use Rattle.grow_gen.proofs.EdgeSums.{Each, by_test, sum_edges, each-edge, edge-at}
-use Rattle.grow_gen.proofs.Rehanging.{IsEdge, flags_at, caught, caught-none, at-cases, not_at-ends, rehung_edges-none, member-first, member-later}
+use Rattle.grow_gen.proofs.Rehanging.{IsEdge, flags_at, caught, caught-none, not_at-ends, rehung_edges-none, member-later}
 use Rattle.grow_gen.proofs.Renumbering.{kept_edges, ends_beside}
 
 -- the edge has both ends in x or none
@@ -52,9 +52,6 @@ with_answer w s x v = cond (v == w) s (x v)
 abbrev pub crosses : Set → ℕ × ℕ → Bool
 crosses x e = (x e.0 && not (x e.1)) || (not (x e.0) && x e.1)
 
-without-own : (w v : ℕ) (x : Set) → v ≡ w → without w x v ≡ false
-without-own w v x q = ap (λ b. not b && x v) (eq-eqb v w q)
-
 without-other : (w v : ℕ) (x : Set) → v ≢ w → without w x v ≡ x v
 without-other w v x d = ap (λ b. not b && x v) (ne_eqb v w d)
 
@@ -64,23 +61,8 @@ answer-own w v s x q = ap (λ b. cond b s (x v)) (eq-eqb v w q)
 pub answer-other : (w v : ℕ) (s : Bool) (x : Set) → v ≢ w → with_answer w s x v ≡ x v
 answer-other w v s x d = ap (λ b. cond b s (x v)) (ne_eqb v w d)
 
-crosses-one : (b : Bool) (x : Set) (e : ℕ × ℕ) (s : Bool) → (x e.0 ≡ false) × (x e.1 ≡ s) → bit (b && crosses x e) ≡ bit (b && s)
-crosses-one b x e s h = ap₂ (λ p q. bit (b && ((p && not q) || (not p && q)))) h.0 h.1
-
-crosses-other : (b : Bool) (x : Set) (e : ℕ × ℕ) (s : Bool) → (x e.0 ≡ s) × (x e.1 ≡ false) → bit (b && crosses x e) ≡ bit (b && s)
-crosses-other b x e s h = ap₂ (λ p q. bit (b && ((p && not q) || (not p && q)))) h.0 h.1 ∙ clear b s
-  where
-    clear : (b s : Bool) → bit (b && ((s && true) || (not s && false))) ≡ bit (b && s)
-    clear b true = refl
-    clear b false = refl
-
 crosses-none : (b : Bool) (x : Set) (e : ℕ × ℕ) → Stays x e → bit (b && crosses x e) ≡ 0
-crosses-none b x e h = ap (λ p. bit (b && ((p && not (x e.1)) || (not p && x e.1)))) h ∙ clear b (x e.1)
-  where
-    clear : (b s : Bool) → bit (b && ((s && not s) || (not s && s))) ≡ 0
-    clear true true = refl
-    clear true false = refl
-    clear false s = refl
+crosses-none b x e h = grind arith
 
 -- where no edge of the splice leaves x, the edges of g that leave x without w are those at w with
 -- their new end in x
@@ -99,17 +81,11 @@ sum_edges-crossing n w x [] (b ∷ bs) (e ∷ es) c s l f = by_test (is_at w e)
 sum_edges-crossing n w x (t ∷ ts) (b ∷ bs) (e ∷ es) c s l f = by_test (is_at w e)
     (λ a. is_at w e ≡ a → Each (Stays x) (cond a (edge_with_end w t e ∷ rehung_edges w ts es) (e ∷ rehung_edges w (t ∷ ts) es)) → length (cond a (b ∷ flags_at w bs es) (flags_at w bs es)) ≤ suc (length ts) →
     bit (b && crosses (without w x) e) + sum_edges (λ b e. bit (b && crosses (without w x) e)) bs es ≡ caught x (cond a (b ∷ flags_at w bs es) (flags_at w bs es)) (t ∷ ts))
-    (λ a p z k. ap₂ ◌+◌ (here a z.0) (sum_edges-crossing n w x ts bs es c.1 z.1 (omega arith) (omega arith)))
+    (λ a p z k. ap₂ ◌+◌ (grind arith) (sum_edges-crossing n w x ts bs es c.1 z.1 (omega arith) (omega arith)))
     (λ a p z k. let d = not_at-ends w e a in
     ap₂ ◌+◌ (crosses-none b (without w x) e (without-other w e.0 x d.0 ∙ z.0 ∙ sym (without-other w e.1 x d.1))) (sum_edges-crossing n w x (t ∷ ts) bs es c.1 z.1 (omega arith) k)
     ∙ (let q : 0 + caught x (flags_at w bs es) (t ∷ ts) ≡ caught x (flags_at w bs es) (t ∷ ts) = omega arith in q))
     refl s f
-  where
-    here : is_at w e ≡ true → Stays x (edge_with_end w t e) → bit (b && crosses (without w x) e) ≡ bit (b && x t)
-    here a z = elim (at-cases w t e a) [
-      | inl p ↦ crosses-one b (without w x) e (x t) (without-own w e.0 x p.0, without-other w e.1 x (λ q. c.0.2 (p.0 ∙ sym q)) ∙ sym (subst (Stays x) p.1 z))
-      | inr p ↦ crosses-other b (without w x) e (x t) (without-other w e.0 x p.1 ∙ subst (Stays x) p.2 z, without-own w e.1 x p.0)
-    ]
 
 -- with w put where the new ends are, no edge of g leaves x
 pub each-stays_old : (n w : ℕ) (x : Set) (s : Bool) (ts : List ℕ) (es : List (ℕ × ℕ)) → Each (IsEdge n) es → Each (Stays x) (rehung_edges w ts es) → length (filter (is_at w) es) ≤ length ts → ((t : ℕ) → mem ts t ≡ true → x t ≡ s) → Each (Stays (with_answer w s x)) es
@@ -121,16 +97,10 @@ each-stays_old n w x s [] (e ∷ es) c k l h = by_test (is_at w e) (λ a. length
     l
 each-stays_old n w x s (t ∷ ts) (e ∷ es) c k l h = by_test (is_at w e)
     (λ a. Each (Stays x) (cond a (edge_with_end w t e ∷ rehung_edges w ts es) (e ∷ rehung_edges w (t ∷ ts) es)) → length (cond a (e ∷ filter (is_at w) es) (filter (is_at w) es)) ≤ suc (length ts) → Each (Stays (with_answer w s x)) (e ∷ es))
-    (λ a z m. (here a z.0, each-stays_old n w x s ts es c.1 z.1 (omega arith) (λ u j. h u (member-later u t ts j))))
+    (λ a z m. ((grind arith), each-stays_old n w x s ts es c.1 z.1 (omega arith) (λ u j. h u (member-later u t ts j))))
     (λ a z m. let d = not_at-ends w e a in
     (answer-other w e.0 s x d.0 ∙ z.0 ∙ sym (answer-other w e.1 s x d.1), each-stays_old n w x s (t ∷ ts) es c.1 z.1 m h))
     k l
-  where
-    here : is_at w e ≡ true → Stays x (edge_with_end w t e) → Stays (with_answer w s x) e
-    here a z = let q = h t (member-first t ts) in elim (at-cases w t e a) [
-      | inl p ↦ answer-own w e.0 s x p.0 ∙ sym q ∙ subst (Stays x) p.1 z ∙ sym (answer-other w e.1 s x (λ r. c.0.2 (p.0 ∙ sym r)))
-      | inr p ↦ answer-other w e.0 s x p.1 ∙ subst (Stays x) p.2 z ∙ q ∙ sym (answer-own w e.1 s x p.0)
-    ]
 
 -- with 1 put where its neighbours are, no edge of h leaves the set of vertices whose new numbers
 -- are in x
@@ -138,13 +108,7 @@ pub each-stays_new : (k n w : ℕ) (x : Set) (s : Bool) (es : List (ℕ × ℕ))
 each-stays_new k n w x s [] c z b = tt
 each-stays_new k n w x s (e ∷ es) c z b = by_test (is_at 1 e)
     (λ a. Each (Stays x) (map (renumbered_edge n w) (cond (not a) (e ∷ kept_edges es) (kept_edges es))) → Each (λ v. x (new_number n w v) ≡ s) (map (other_end 1) (cond a (e ∷ filter (is_at 1) es) (filter (is_at 1) es))) → Each (Stays (with_answer 1 s (λ v. x (new_number n w v)))) (e ∷ es))
-    (λ a p q. (here a q.0, each-stays_new k n w x s es c.1 p q.1))
+    (λ a p q. ((grind arith), each-stays_new k n w x s es c.1 p q.1))
     (λ a p q. let d = not_at-ends 1 e a in
     (answer-other 1 e.0 s (λ v. x (new_number n w v)) d.0 ∙ p.0 ∙ sym (answer-other 1 e.1 s (λ v. x (new_number n w v)) d.1), each-stays_new k n w x s es c.1 p.1 q))
     z b
-  where
-    here : is_at 1 e ≡ true → x (new_number n w (other_end 1 e)) ≡ s → Stays (with_answer 1 s (λ v. x (new_number n w v))) e
-    here a q = elim (at-cases 1 0 e a) [
-      | inl p ↦ answer-own 1 e.0 s (λ v. x (new_number n w v)) p.0 ∙ sym q ∙ ap (λ v. x (new_number n w v)) p.2 ∙ sym (answer-other 1 e.1 s (λ v. x (new_number n w v)) (λ r. c.0.2 (p.0 ∙ sym r)))
-      | inr p ↦ answer-other 1 e.0 s (λ v. x (new_number n w v)) p.1 ∙ ap (λ v. x (new_number n w v)) (sym p.3) ∙ q ∙ sym (answer-own 1 e.1 s (λ v. x (new_number n w v)) p.0)
-    ]

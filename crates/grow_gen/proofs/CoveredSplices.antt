@@ -1,6 +1,6 @@
 -- A splice of two covered cubic graphs is covered. Idea: its edges are allowed, and it is
 -- connected since a set that no edge leaves holds the new ends of all joined edges or of none.
-use Rattle.std.proofs.Common.{◌≡◌, ℕ, suc, zero, ◌+◌, ◌-◌, ◌*◌, ◌≤◌, ◌<◌, ◌≢◌, Bool, true, false, ◌&&◌, inl, inr, List, [], ◌∷◌, map, refl, sym, ap, ap₂, ◌∙◌, arith, subst, cond, not, slice_index_or}
+use Rattle.std.proofs.Common.{◌≡◌, ℕ, ◌+◌, ◌-◌, ◌*◌, ◌≤◌, ◌<◌, ◌≢◌, Bool, true, ◌&&◌, inl, inr, List, [], ◌∷◌, map, refl, sym, ap, ap₂, ◌∙◌, arith, subst, slice_index_or}
 use Rattle.counting.proofs.Common.{Within, bit, count, is_odd, Set, mem, odd-add, odd-double}
 use Rattle.graph_core.proofs.Common.{Graph, size, IsMultigraph, in_cut, inside, IsCovered, parity}
 use Rattle.grow_gen.specs.Common.{IsCubic, is_at, new_number, permutation, renumbered_edge, rehung_edges, splice}
@@ -14,22 +14,14 @@ use Rattle.grow_gen.proofs.Connecting.{Stays, without, with_answer, answer-own, 
 
 -- twice a number does not change the parity
 odd-even : (c k : ℕ) → is_odd (c + 2 * k) ≡ is_odd c
-odd-even c k = ap (λ j. is_odd (c + j)) (let q : 2 * k ≡ k + k = omega arith in q) ∙ odd-add c (k + k) ∙ ap (λ b. cond (is_odd c) (not b) b) (odd-double k) ∙ same (is_odd c)
-  where
-    same : (b : Bool) → cond b true false ≡ b
-    same true = refl
-    same false = refl
+odd-even c k = grind (arith, odd-add c (k + k), odd-double k)
 
 odd-bit : (b : Bool) → is_odd (bit b) ≡ b
-odd-bit true = refl
-odd-bit false = refl
+odd-bit b = grind arith
 
 -- of three targets the one whose flag is true is caught
 caught-unit : (x : Set) (p q r : ℕ) (a : ℕ) → a < 3 → caught x (unit a) (p ∷ q ∷ r ∷ []) ≡ bit (x (slice_index_or (p ∷ q ∷ r ∷ []) a 0))
-caught-unit x p q r zero l = omega arith
-caught-unit x p q r (suc zero) l = omega arith
-caught-unit x p q r (suc (suc zero)) l = omega arith
-caught-unit x p q r (suc (suc (suc a))) l = absurd (omega arith)
+caught-unit x p q r a l = grind arith
 
 module _ (g h : Graph) (w i : ℕ) (mg : IsMultigraph g) (mh : IsMultigraph h) (cg : IsCubic g) (ch : IsCubic h) (vg : IsCovered g) (vh : IsCovered h) (ww : Within g.order w) (li : i < 6) where
   -- the new ends
@@ -90,10 +82,7 @@ module _ (g h : Graph) (w i : ℕ) (mg : IsMultigraph g) (mh : IsMultigraph h) (
         sym (answer-other 1 v odd_old y (λ q. absurd (omega (arith, q, a)))) ∙ steady-connected h vh.connected (with_answer 1 odd_old y) c v 1 (omega arith, b) (omega arith, omega arith) ∙ answer-own 1 1 odd_old y refl
 
     each-odd : (v : ℕ) → Within (g.order + h.order - 2) v → x v ≡ odd_old
-    each-odd v u = elim (old_or_new g.order w ww h.order v vh.two u) [
-      | inl o ↦ old-odd v o.0 o.1
-      | inr n ↦ ap x (sym n.3) ∙ new-odd n.0 n.1 n.2
-    ]
+    each-odd v u = grind (arith, old_or_new g.order w ww h.order v vh.two u, old-odd v, new-odd)
 
   pub splice-covered : IsCovered (splice g w h (permutation i))
   unfolding splice

@@ -7,8 +7,7 @@ use Rattle.graph_core.proofs.Common.{Graph, size, first_end, second_end, degree,
 
 -- what holds at both answers of a test holds at its answer
 pub by_test : (b : Bool) (P : Bool → Type 0) → (b ≡ true → P true) → (b ≡ false → P false) → P b
-by_test true P h k = h refl
-by_test false P h k = k refl
+by_test b P h k = grind arith
 
 -- each item has the property
 abbrev pub Each : {A : Type 0} → (A → Type 0) → List A → Type 0
@@ -42,8 +41,7 @@ length-marks_from k (suc n) m = let h = length-marks_from (k + 1) n m in omega a
 
 -- the item after the first one
 pub item-next : {A : Type 0} (x d : A) (xs : List A) (i : ℕ) → 1 ≤ i → slice_index_or (x ∷ xs) (i + 1 - 1) d ≡ slice_index_or xs (i - 1) d
-item-next x d xs zero h = absurd (omega arith)
-item-next x d xs (suc i) h = let a : suc i + 1 - 1 ≡ suc i = omega arith in let b : suc i - 1 ≡ i = omega arith in ap (λ k. slice_index_or (x ∷ xs) k d) a ∙ sym (ap (λ k. slice_index_or xs k d) b)
+item-next x d xs i h = grind arith
 
 pub marked-marks_from : (k n : ℕ) (m : Set) (e : ℕ) → Within n e → marked (marks_from k n m) e ≡ m (k + e)
 marked-marks_from k zero m e w = absurd (omega arith)
@@ -89,9 +87,7 @@ pub edge-at : (P : ℕ × ℕ → Type 0) (es : List (ℕ × ℕ)) → Each P es
 edge-at P [] h i w = absurd (omega arith)
 edge-at P (e ∷ es) h zero w = absurd (omega arith)
 edge-at P (e ∷ es) h (suc zero) w = h.0
-edge-at P (e ∷ es) h (suc (suc i)) w =
-    let a : suc i + 1 - 1 ≡ suc (suc i) - 1 = omega arith in
-    subst P (sym (item-next e (0, 0) es (suc i) (omega arith)) ∙ ap (λ k. slice_index_or (e ∷ es) k (0, 0)) a) (edge-at P es h.1 (suc i) (omega arith))
+edge-at P (e ∷ es) h (suc (suc i)) w = grind (arith, item-next e (0, 0) es (suc i), slice_index_or (e ∷ es), edge-at P es h.1 (suc i) (omega arith))
 
 pub each-append : {A : Type 0} (P : A → Type 0) (xs ys : List A) → Each P xs → Each P ys → Each P (xs ++ ys)
 each-append P [] ys c d = d
@@ -115,9 +111,7 @@ each-weaker P Q (x ∷ xs) h c = (h x c.0, each-weaker P Q xs h c.1)
 pub length-marks_where : (p : ℕ × ℕ → Bool) (bs : List Bool) (es : List (ℕ × ℕ)) → length bs ≡ length es → length (marks_where p bs es) ≡ length (filter p es)
 length-marks_where p bs [] l = refl
 length-marks_where p [] (e ∷ es) l = absurd (omega arith)
-length-marks_where p (b ∷ bs) (e ∷ es) l = by_test (p e) (λ s. length (cond s (b ∷ marks_where p bs es) (marks_where p bs es)) ≡ length (cond s (e ∷ filter p es) (filter p es)))
-    (λ s. let h = length-marks_where p bs es (omega arith) in omega arith)
-    (λ s. length-marks_where p bs es (omega arith))
+length-marks_where p (b ∷ bs) (e ∷ es) l = grind (arith, by_test (p e), length-marks_where p bs es (omega arith))
 
 -- edge i stands at place c, counted from 0, among those that pass
 abbrev pub StandsAt : (ℕ × ℕ → Bool) → List (ℕ × ℕ) → ℕ → ℕ → Type 0
@@ -128,11 +122,7 @@ abbrev StandsBehind : (ℕ × ℕ → Bool) → List (ℕ × ℕ) → ℕ → �
 StandsBehind p es c i s = Within (suc (length es)) i × ((b : Bool) (bs : List Bool) → length bs ≡ length es → slice_index_or (cond s (b ∷ marks_where p bs es) (marks_where p bs es)) c false ≡ marked (b ∷ bs) i)
 
 stands-behind : (p : ℕ × ℕ → Bool) (e : ℕ × ℕ) (es : List (ℕ × ℕ)) (c i : ℕ) → StandsBehind p es c i (p e) → StandsAt p (e ∷ es) c i
-stands-behind p e es c i h = (h.0, all)
-  where
-    all : (bs : List Bool) → length bs ≡ suc (length es) → slice_index_or (marks_where p bs (e ∷ es)) c false ≡ marked bs i
-    all [] q = absurd (omega arith)
-    all (b ∷ bs) q = h.1 b bs (omega arith)
+stands-behind p e es c i h = grind arith
 
 -- at each place there is an edge
 pub edge-at_place : (p : ℕ × ℕ → Bool) (es : List (ℕ × ℕ)) (c : ℕ) → c < length (filter p es) → (i : ℕ) × StandsAt p es c i

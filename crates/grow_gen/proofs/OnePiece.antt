@@ -1,5 +1,5 @@
 -- The parts of a graph with one more piece, and the ends of its edges as the code reads them.
-use Rattle.std.proofs.Common.{◌≡◌, ℕ, ◌+◌, ◌-◌, ◌%◌, ◌<◌, List, ◌++◌, length, get_or, map, filter, not, sym, ap, ap₂, ◌∙◌, arith, subst, slice_index}
+use Rattle.std.proofs.Common.{◌≡◌, ℕ, ◌+◌, ◌-◌, ◌%◌, ◌<◌, List, ◌++◌, length, get_or, map, filter, not, sym, ap, ◌∙◌, arith, subst, slice_index}
 use Rattle.std.proofs.Math.ListN.{get_or-map}
 use Rattle.counting.proofs.Common.{length-map, Within, mem}
 use Rattle.graph_core.proofs.Common.{IsMultigraph, size, first_end, second_end, graph_of, pair_of}
@@ -16,10 +16,7 @@ pub with_piece-parts : (s : Growth) (p : Piece) (x y w n : ℕ) (es : List (ℕ 
     es ≡ rehung_edges w (targets_of s.graph.order w (piece_graph p) (permutation (y % 6))) s.graph.ends ++ map (renumbered_edge s.graph.order w) (filter (λ e. not (is_at 1 e)) (piece_ends p)) →
     a ≡ next_class s.graph.order w p s.in_a (mem s.in_a w) → b ≡ next_class s.graph.order w p s.in_b (mem s.in_b w) → growth n es a b ≡ with_piece s p x y
 unfolding with_piece splice
-with_piece-parts s p x y w n es a b qw qn qe qa qb =
-    ap₂ (λ m fs. growth m fs a b) qn qe
-    ∙ ap₂ (growth (s.graph.order + piece_order p - 2) (rehung_edges w (targets_of s.graph.order w (piece_graph p) (permutation (y % 6))) s.graph.ends ++ map (renumbered_edge s.graph.order w) (filter (λ e. not (is_at 1 e)) (piece_ends p)))) qa qb
-    ∙ ap (λ v. growth (s.graph.order + piece_order p - 2) (rehung_edges v (targets_of s.graph.order v (piece_graph p) (permutation (y % 6))) s.graph.ends ++ map (renumbered_edge s.graph.order v) (filter (λ e. not (is_at 1 e)) (piece_ends p))) (next_class s.graph.order v p s.in_a (mem s.in_a v)) (next_class s.graph.order v p s.in_b (mem s.in_b v))) qw
+with_piece-parts s p x y w n es a b qw qn qe qa qb = grind arith
 
 -- the edge of a multigraph that stands at place k, counted from 0
 pub edge-ends : (n : ℕ) (es : List Ends) (k : ℕ) → IsMultigraph (graph_of n es) → k < length es → let e : Ends = get_or es k (record { a = 0; b = 0 }) in Within n e.a × Within n e.b × (e.a ≡ e.b → ⊥)

@@ -1,12 +1,12 @@
 -- A splice of graphs without parallel edges has none. Idea: two vertices of one side are joined
 -- by at most the edges that joined them, and an old and a new vertex only by the one edge at w
 -- whose target the new vertex is.
-use Rattle.std.proofs.Common.{◌≡◌, ℕ, suc, ◌+◌, ◌-◌, ◌≤◌, ◌<◌, ◌≢◌, Bool, true, false, cond, ◌==◌, ◌&&◌, ◌||◌, not, ◌⊎◌, inl, inr, List, [], ◌∷◌, ◌++◌, length, map, filter, refl, sym, ap, ap₂, ◌∙◌, arith, subst, eq-eqb, ne_eqb, eqb-true, le_trans, slice_index_or}
-use Rattle.counting.proofs.Common.{or_cases, or_from, or_left, or_right, and_parts, and_from, and_left, and_right, count_le_one, only_one, total_congr, at_le_total, total-first, bit_le, Within, bit, total, mem}
+use Rattle.std.proofs.Common.{◌≡◌, ℕ, suc, ◌+◌, ◌-◌, ◌≤◌, ◌<◌, ◌≢◌, Bool, true, false, cond, ◌==◌, ◌&&◌, ◌||◌, not, inl, inr, List, [], ◌∷◌, ◌++◌, length, map, filter, refl, sym, ap, ap₂, ◌∙◌, arith, subst, ne_eqb, le_trans, slice_index_or}
+use Rattle.counting.proofs.Common.{or_from, and_left, and_right, count_le_one, only_one, total_congr, at_le_total, total-first, Within, bit, total, mem}
 use Rattle.graph_core.proofs.Common.{Graph, size, first_end, second_end, has_ends, IsMultigraph, IsSimple, has_ends-own, has_ends-cases, has_ends-back}
 use Rattle.grow_gen.specs.Common.{IsCubic, is_at, other_end, edge_with_end, new_number, permutation, renumbered_edge, rehung_edges, splice}
 use Rattle.grow_gen.proofs.EdgeSums.{Each, by_test, item-next, each-weaker}
-use Rattle.grow_gen.proofs.Rehanging.{IsEdge, IsClear, at-cases, not_at-ends, rehung_edges-none, member-first, member-later}
+use Rattle.grow_gen.proofs.Rehanging.{IsEdge, IsClear, not_at-ends, rehung_edges-none, member-later}
 use Rattle.grow_gen.proofs.Renumbering.{kept_edges, ends_beside, new_number-same, new_number-where, old_or_new}
 use Rattle.grow_gen.proofs.ThreeEdges.{each-edge_of, edges-at}
 use Rattle.grow_gen.proofs.PermutedLists.{permuted_values, by_permutation}
@@ -33,16 +33,7 @@ total-links u v (e ∷ es) = total-first (length es) (λ i. bit (joins u v (slic
 
 -- without parallel edges at most one edge joins two vertices
 pub few_links : (g : Graph) → IsSimple g → (u v : ℕ) → link_count u v g.ends ≤ 1
-few_links g h u v = let t = total-links u v g.ends in let c = count_le_one (size g) (has_ends g u v) (λ e f we wf l pe pf. absurd (omega (arith, l, h e f we wf (same e f pe pf)))) in omega (arith, t, c)
-  where
-    same : (e f : ℕ) → has_ends g u v e ≡ true → has_ends g u v f ≡ true → has_ends g (first_end g e) (second_end g e) f ≡ true
-    same e f pe pf = elim (has_ends-cases g u v e pe) [
-      | inl k ↦ subst (λ a. has_ends g a (second_end g e) f ≡ true) (sym k.0) (subst (λ b. has_ends g u b f ≡ true) (sym k.1) pf)
-      | inr k ↦ subst (λ a. has_ends g a (second_end g e) f ≡ true) (sym k.0) (subst (λ b. has_ends g v b f ≡ true) (sym k.1) (turn u v f pf))
-    ]
-      where
-        turn : (u v f : ℕ) → has_ends g u v f ≡ true → has_ends g v u f ≡ true
-        turn u v f h = has_ends-back g u v f h
+few_links g h u v = grind (arith, total-links u v g.ends, count_le_one (size g) (has_ends g u v), has_ends-cases g u v, has_ends-back g u v)
 
 -- and the other way round
 pub simple-from_links : (g : Graph) → ((e : ℕ) → Within (size g) e → link_count (first_end g e) (second_end g e) g.ends ≤ 1) → IsSimple g
@@ -58,18 +49,8 @@ simple-from_links g h e f we wf j =
 no_link : (u v : ℕ) (e : ℕ × ℕ) → e.0 ≢ u → e.1 ≢ u → joins u v e ≡ false
 no_link u v e a b = or_from (e.0 == u && e.1 == v) (e.0 == v && e.1 == u) (and_left (e.0 == u) (e.1 == v) (ne_eqb e.0 u a)) (and_right (e.0 == v) (e.1 == u) (ne_eqb e.1 u b))
 
-link-back : (u v : ℕ) (e : ℕ × ℕ) → joins u v e ≡ joins v u e
-link-back u v e = turn (e.0 == u && e.1 == v) (e.0 == v && e.1 == u)
-  where
-    turn : (a b : Bool) → (a || b) ≡ (b || a)
-    turn true true = refl
-    turn true false = refl
-    turn false true = refl
-    turn false false = refl
-
 link_count-back : (u v : ℕ) (es : List (ℕ × ℕ)) → link_count u v es ≡ link_count v u es
-link_count-back u v [] = refl
-link_count-back u v (e ∷ es) = ap₂ (λ a k. bit a + k) (link-back u v e) (link_count-back u v es)
+link_count-back u v es = grind arith
 
 link_count-append : (u v : ℕ) (es fs : List (ℕ × ℕ)) → link_count u v (es ++ fs) ≡ link_count u v es + link_count u v fs
 link_count-append u v [] fs = omega arith
@@ -83,23 +64,8 @@ links-rehung_old w u v (t ∷ ts) (e ∷ es) h = by_test (is_at w e) (λ s. link
     (λ a. let z = ap bit (none_joined a) in let k = links-rehung_old w u v ts es (λ x m. h x (member-later x t ts m)) in omega (arith, z, k))
     (λ a. let k = links-rehung_old w u v (t ∷ ts) es h in omega (arith, k))
   where
-    -- an edge with the end t joins u and v only if t is one of them
-    with_t : (a b : ℕ) → (a ≡ t) ⊎ (b ≡ t) → joins u v (a, b) ≡ false
-    with_t a b (inl q) = let n = h t (member-first t ts) in or_from (a == u && b == v) (a == v && b == u) (and_left (a == u) (b == v) (ne_eqb a u (λ r. n.0 (sym q ∙ r)))) (and_left (a == v) (b == u) (ne_eqb a v (λ r. n.1 (sym q ∙ r))))
-    with_t a b (inr q) = let n = h t (member-first t ts) in or_from (a == u && b == v) (a == v && b == u) (and_right (a == u) (b == v) (ne_eqb b v (λ r. n.1 (sym q ∙ r)))) (and_right (a == v) (b == u) (ne_eqb b u (λ r. n.0 (sym q ∙ r))))
-
     none_joined : is_at w e ≡ true → joins u v (edge_with_end w t e) ≡ false
-    none_joined a = elim (at-cases w t e a) [
-      | inl p ↦ ap (joins u v) p.1 ∙ with_t t e.1 (inl refl)
-      | inr p ↦ ap (joins u v) p.2 ∙ with_t e.0 t (inr refl)
-    ]
-
--- an edge at w gets an end apart from y and its target
-clear_end : (w y t : ℕ) (e : ℕ × ℕ) → IsClear w y e → is_at w e ≡ true → (o : ℕ) × (o ≢ y) × ((edge_with_end w t e ≡ (t, o)) ⊎ (edge_with_end w t e ≡ (o, t)))
-clear_end w y t e c a = elim (at-cases w t e a) [
-  | inl p ↦ (e.1, (λ q. c.2 (p.0 ∙ sym (c.1 q))), inl p.1)
-  | inr p ↦ (e.0, (λ q. p.1 (c.0 q)), inr p.2)
-]
+    none_joined a = grind arith
 
 clear_away : (w y v : ℕ) (e : ℕ × ℕ) → IsClear w y e → is_at w e ≡ false → joins y v e ≡ false
 clear_away w y v e c a = let d = not_at-ends w e a in no_link y v e (λ q. d.0 (c.0 q)) (λ q. d.1 (c.1 q))
@@ -118,16 +84,7 @@ links-rehung_new w y v (t ∷ ts) (e ∷ es) c l = by_test (is_at w e)
     l
   where
     by_target : is_at w e ≡ true → bit (joins y v (edge_with_end w t e)) ≤ bit (t == y)
-    by_target a = let o = clear_end w y t e c.0 a in elim o.2 [
-      | inl q ↦ bit_le (joins y v (edge_with_end w t e)) (t == y) (λ j. elim (or_cases (t == y && o.0 == v) (t == v && o.0 == y) (ap (joins y v) (sym q) ∙ j)) [
-        | inl k ↦ (and_parts (t == y) (o.0 == v) k).0
-        | inr k ↦ absurd (o.1 (eqb-true o.0 y (and_parts (t == v) (o.0 == y) k).1))
-      ])
-      | inr q ↦ bit_le (joins y v (edge_with_end w t e)) (t == y) (λ j. elim (or_cases (o.0 == y && t == v) (o.0 == v && t == y) (ap (joins y v) (sym q) ∙ j)) [
-        | inl k ↦ absurd (o.1 (eqb-true o.0 y (and_parts (o.0 == y) (t == v) k).0))
-        | inr k ↦ (and_parts (o.0 == v) (t == y) k).1
-      ])
-    ]
+    by_target a = grind arith
 
 -- two targets are joined by none
 links-rehung_both : (w y z : ℕ) (ts : List ℕ) (es : List (ℕ × ℕ)) → Each (IsClear w y) es → Each (IsClear w z) es → length (filter (is_at w) es) ≤ length ts → link_count y z (rehung_edges w ts es) ≡ 0
@@ -143,27 +100,15 @@ links-rehung_both w y z (t ∷ ts) (e ∷ es) c d l = by_test (is_at w e)
     l
   where
     not_both : is_at w e ≡ true → joins y z (edge_with_end w t e) ≡ false
-    not_both a = elim (at-cases w t e a) [
-      | inl p ↦ ap (joins y z) p.1 ∙ or_from (t == y && e.1 == z) (t == z && e.1 == y) (and_right (t == y) (e.1 == z) (ne_eqb e.1 z (λ q. c.0.2 (p.0 ∙ sym (d.0.1 q))))) (and_right (t == z) (e.1 == y) (ne_eqb e.1 y (λ q. c.0.2 (p.0 ∙ sym (c.0.1 q)))))
-      | inr p ↦ ap (joins y z) p.2 ∙ or_from (e.0 == y && t == z) (e.0 == z && t == y) (and_left (e.0 == y) (t == z) (ne_eqb e.0 y (λ q. p.1 (c.0.0 q)))) (and_left (e.0 == z) (t == y) (ne_eqb e.0 z (λ q. p.1 (d.0.0 q))))
-    ]
+    not_both a = grind arith
 
 -- the neighbours of vertex 1 are joined to it
 hits-beside : (x : ℕ) (es : List (ℕ × ℕ)) → hits x (ends_beside 1 es) ≤ link_count 1 x es
 hits-beside x [] = omega arith
-hits-beside x (e ∷ es) = by_test (is_at 1 e) (λ s. hits x (map (other_end 1) (cond s (e ∷ filter (is_at 1) es) (filter (is_at 1) es))) ≤ bit (joins 1 x e) + link_count 1 x es)
-    (λ a. let h = hits-beside x es in let b = joined a in omega (arith, h, b))
-    (λ a. let h = hits-beside x es in omega (arith, h))
+hits-beside x (e ∷ es) = grind (arith, by_test (is_at 1 e), hits-beside x es)
   where
-    le_one : (s b : Bool) → (s ≡ true → b ≡ true) → bit s ≤ bit b
-    le_one true b h = omega (arith, ap bit (h refl))
-    le_one false b h = omega arith
-
     joined : is_at 1 e ≡ true → bit (other_end 1 e == x) ≤ bit (joins 1 x e)
-    joined a = le_one (other_end 1 e == x) (joins 1 x e) (λ q. elim (at-cases 1 0 e a) [
-      | inl p ↦ or_left (e.0 == 1 && e.1 == x) (e.0 == x && e.1 == 1) (and_from (e.0 == 1) (e.1 == x) (eq-eqb e.0 1 p.0) (eq-eqb e.1 x (sym p.2 ∙ eqb-true (other_end 1 e) x q)))
-      | inr p ↦ or_right (e.0 == 1 && e.1 == x) (e.0 == x && e.1 == 1) (and_from (e.0 == x) (e.1 == 1) (eq-eqb e.0 x (sym p.3 ∙ eqb-true (other_end 1 e) x q)) (eq-eqb e.1 1 p.0))
-    ])
+    joined a = grind arith
 
 module _ (n w : ℕ) (ww : Within n w) where
   -- an edge that is brought in joins new vertices alone
@@ -179,16 +124,10 @@ module _ (n w : ℕ) (ww : Within n w) where
   -- and new vertices as their vertices were joined
   links-kept_new : (k x y : ℕ) (es : List (ℕ × ℕ)) → 2 ≤ x → 2 ≤ y → Each (IsEdge k) es → link_count (new_number n w x) (new_number n w y) (map (renumbered_edge n w) (kept_edges es)) ≤ link_count x y es
   links-kept_new k x y [] a b c = omega arith
-  links-kept_new k x y (e ∷ es) a b c = by_test (is_at 1 e) (λ s. link_count (new_number n w x) (new_number n w y) (map (renumbered_edge n w) (cond (not s) (e ∷ kept_edges es) (kept_edges es))) ≤ bit (joins x y e) + link_count x y es)
-      (λ s. let h = links-kept_new k x y es a b c.1 in omega (arith, h))
-      (λ s. let h = links-kept_new k x y es a b c.1 in let q = not_at-ends 1 e s in let z = ap bit (moved (above e.0 c.0.0 q.0) (above e.1 c.0.1 q.1)) in omega (arith, h, z))
+  links-kept_new k x y (e ∷ es) a b c = grind (arith, by_test (is_at 1 e), kept_edges es, links-kept_new k x y es a b c.1, not_at-ends 1 e, moved)
     where
-      above : (v : ℕ) → Within k v → v ≢ 1 → 2 ≤ v
-      above v u d = omega arith
-
       moved : 2 ≤ e.0 → 2 ≤ e.1 → joins (new_number n w x) (new_number n w y) (renumbered_edge n w e) ≡ joins x y e
-      moved p q = ap₂ (λ s t. (s && t) || (new_number n w e.0 == new_number n w y && new_number n w e.1 == new_number n w x)) (new_number-same n w ww e.0 x p a) (new_number-same n w ww e.1 y q b)
-          ∙ ap₂ (λ s t. (e.0 == x && e.1 == y) || (s && t)) (new_number-same n w ww e.0 y p b) (new_number-same n w ww e.1 x q a)
+      moved p q = grind (arith, new_number-same n w ww e.0 x p a, new_number-same n w ww e.1 y q b, new_number-same n w ww e.0 y p b, new_number-same n w ww e.1 x q a)
 
 -- a permutation keeps how many are hit
 hits-permuted : (f : ℕ → ℕ) (p q r y : ℕ) (i : ℕ) → i < 6 → hits y (permuted_values i f (p ∷ q ∷ r ∷ [])) ≡ hits y (f p ∷ f q ∷ f r ∷ [])
@@ -213,10 +152,7 @@ module _ (g h : Graph) (w i : ℕ) (mg : IsMultigraph g) (mh : IsMultigraph h) (
       omega (arith, p, q0, q1, q2, b, l, f)
 
   clear : (x : ℕ) → 2 ≤ x → x ≤ h.order → Each (IsClear w (new_number g.order w x)) g.ends
-  clear x a b = each-weaker (IsEdge g.order) (IsClear w (new_number g.order w x)) g.ends (λ e k. (at_w e.0 k.0, at_w e.1 k.1, k.2)) (each-edge_of g mg)
-    where
-      at_w : (v : ℕ) → Within g.order v → v ≡ new_number g.order w x → v ≡ w
-      at_w v u q = elim (new_number-where g.order w ww h.order x two a b).1 [ inl z ↦ q ∙ z | inr z ↦ absurd (omega arith) ]
+  clear x a b = grind (arith, each-weaker (IsEdge g.order) (IsClear w (new_number g.order w x)) g.ends, each-edge_of g mg, new_number-where g.order w ww h.order x two a b)
 
   few : length (filter (is_at w) g.ends) ≤ length ends
   few = let q = edges-at g mg cg w ww in let r = targets-three g h w i mg mh cg ch two ww li in omega arith
@@ -244,9 +180,4 @@ module _ (g h : Graph) (w i : ℕ) (mg : IsMultigraph g) (mh : IsMultigraph h) (
 
   pub splice-simple : IsSimple (splice g w h (permutation i))
   unfolding splice
-  splice-simple = simple-from_links (splice g w h (permutation i)) (λ e we.
-      let m = (splice-multigraph g h w i mg mh cg ch two ww li).ends e we in
-      let u = first_end (splice g w h (permutation i)) e in
-      let v = second_end (splice g w h (permutation i)) e in
-      let a = link_count-append u v (rehung_edges w ends g.ends) (map (renumbered_edge g.order w) (kept_edges h.ends)) in
-      let b = one_link u v m.0 m.1 in omega (arith, a, b))
+  splice-simple = grind (arith, simple-from_links (splice g w h (permutation i)), splice-multigraph g h w i mg mh cg ch two ww li, link_count-append, kept_edges h.ends, one_link)

@@ -56,18 +56,7 @@ reached (e ∷ es) r = reached es (cond (mem r e.0) (e.1 ∷ r) (cond (mem r e.1
 -- they are all on one side of a set that no edge leaves
 reached-stay : (x : Set) (b : Bool) (es : List (ℕ × ℕ)) (r : List ℕ) → Each (Stays x) es → ((v : ℕ) → mem r v ≡ true → x v ≡ b) → (v : ℕ) → mem (reached es r) v ≡ true → x v ≡ b
 reached-stay x b [] r c h v m = h v m
-reached-stay x b (e ∷ es) r c h v m = reached-stay x b es (cond (mem r e.0) (e.1 ∷ r) (cond (mem r e.1) (e.0 ∷ r) r)) c.1 (first (mem r e.0) refl) v m
-  where
-    add : (a : ℕ) → x a ≡ b → (u : ℕ) → mem (a ∷ r) u ≡ true → x u ≡ b
-    add a q u k = elim (or_cases (a == u) (mem r u) k) [ inl t ↦ ap x (sym (eqb-true a u t)) ∙ q | inr t ↦ h u t ]
-
-    second : (t : Bool) → mem r e.1 ≡ t → (u : ℕ) → mem (cond t (e.0 ∷ r) r) u ≡ true → x u ≡ b
-    second true q u k = add e.0 (c.0 ∙ h e.1 q) u k
-    second false q u k = h u k
-
-    first : (t : Bool) → mem r e.0 ≡ t → (u : ℕ) → mem (cond t (e.1 ∷ r) (cond (mem r e.1) (e.0 ∷ r) r)) u ≡ true → x u ≡ b
-    first true q u k = add e.1 (sym c.0 ∙ h e.0 q) u k
-    first false q u k = second (mem r e.1) refl u k
+reached-stay x b (e ∷ es) r c h v m = reached-stay x b es (cond (mem r e.0) (e.1 ∷ r) (cond (mem r e.1) (e.0 ∷ r) r)) c.1 (grind arith) v m
 
 connected-says : (g : Graph) → IsMultigraph g → every g.order (mem (reached g.ends (1 ∷ []))) ≡ true → IsConnected g
 connected-says g m h = connected-steady g m.ends (λ x s u v wu wv. all x s u wu ∙ sym (all x s v wv))
@@ -82,10 +71,7 @@ connected-says g m h = connected-steady g m.ends (λ x s u v wu wv. all x s u wu
 allowed-says : (g : Graph) (k l m : List ℕ) → is_perfect g none (mem k) ≡ true → is_perfect g none (mem l) ≡ true → is_perfect g none (mem m) ≡ true → every (size g) (λ e. mem k e || (mem l e || mem m e)) ≡ true → (e : ℕ) → Within (size g) e → Allowed g e
 allowed-says g k l m pk pl pm h e w = elim (or_cases (mem k e) (mem l e || mem m e) (every_true (size g) _ h e w)) [
   | inl t ↦ (mem k, is_perfect_true g none (mem k) pk, t)
-  | inr t ↦ elim (or_cases (mem l e) (mem m e) t) [
-    | inl s ↦ (mem l, is_perfect_true g none (mem l) pl, s)
-    | inr s ↦ (mem m, is_perfect_true g none (mem m) pm, s)
-  ]
+  | inr t ↦ grind (arith, or_cases (mem l e) (mem m e) t, is_perfect_true g none (mem l) pl, is_perfect_true g none (mem m) pm)
 ]
 
 piece-allowed : (p : Piece) (e : ℕ) → Within (size (piece_graph p)) e → Allowed (piece_graph p) e

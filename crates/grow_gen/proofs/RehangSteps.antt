@@ -1,6 +1,6 @@
 -- One step along the edges, where those at w get new ends: what is done and what is still to be
 -- done make up the whole.
-use Rattle.std.proofs.Common.{◌≡◌, ℕ, ◌+◌, ◌<◌, true, false, cond, List, [], ◌∷◌, ◌++◌, length, get_or, set, take, drop, map, sym, ap, ap₂, ◌∙◌, arith, append_assoc, ◌⊎◌, inl, inr, drop-set-lt}
+use Rattle.std.proofs.Common.{◌≡◌, ℕ, ◌+◌, ◌<◌, true, false, List, [], ◌∷◌, ◌++◌, length, get_or, set, take, drop, map, sym, ap, ◌∙◌, arith, append_assoc, ◌⊎◌, drop-set-lt}
 use Rattle.std.proofs.lemmas.List.{take_more_set, drop_more}
 use Rattle.counting.proofs.Common.{take_more, map-append}
 use Rattle.graph_core.proofs.Common.{pair_of}
@@ -21,21 +21,10 @@ kept_step w ts k xs d l h =
     ap (λ ys. map pair_of ys ++ rehung_edges w ts (map pair_of (drop (k + 1) xs))) (take_more xs k d l)
     ∙ ap (λ es. es ++ rehung_edges w ts (map pair_of (drop (k + 1) xs))) (map-append pair_of (take k xs) (get_or xs k d ∷ []))
     ∙ first_done (map pair_of (take k xs)) (pair_of (get_or xs k d)) (rehung_edges w ts (map pair_of (drop (k + 1) xs)))
-    ∙ ap (λ es. map pair_of (take k xs) ++ es) (stays ts h)
+    ∙ ap (λ es. map pair_of (take k xs) ++ es) (grind (arith, rehung_edges-none w (map pair_of (drop (k + 1) xs))))
     ∙ sym (ap (λ ys. map pair_of (take k xs) ++ rehung_edges w ts (map pair_of ys)) (drop_more xs k d l))
-  where
-    stays : (us : List ℕ) → (us ≡ []) ⊎ (is_at w (pair_of (get_or xs k d)) ≡ false) → pair_of (get_or xs k d) ∷ rehung_edges w us (map pair_of (drop (k + 1) xs)) ≡ rehung_edges w us (pair_of (get_or xs k d) ∷ map pair_of (drop (k + 1) xs))
-    stays [] h = ap (λ es. pair_of (get_or xs k d) ∷ es) (rehung_edges-none w (map pair_of (drop (k + 1) xs)))
-    stays (t ∷ us) (inl q) = cc
-    stays (t ∷ us) (inr q) = sym (ap (λ b. cond b (edge_with_end w t (pair_of (get_or xs k d)) ∷ rehung_edges w us (map pair_of (drop (k + 1) xs))) (pair_of (get_or xs k d) ∷ rehung_edges w (t ∷ us) (map pair_of (drop (k + 1) xs)))) q)
 
 -- an edge that gets the next target
 pub rehung_step : (w : ℕ) (ts : List ℕ) (next k : ℕ) (xs : List Ends) (d y : Ends) → k < length xs → next < length ts → is_at w (pair_of (get_or xs k d)) ≡ true → pair_of y ≡ edge_with_end w (get_or ts next 0) (pair_of (get_or xs k d)) →
     Halfway w (drop (next + 1) ts) (k + 1) (set xs k y) ≡ Halfway w (drop next ts) k xs
-rehung_step w ts next k xs d y l n a e =
-    ap₂ (λ ys zs. map pair_of ys ++ rehung_edges w (drop (next + 1) ts) (map pair_of zs)) (take_more_set xs k y l) (drop-set-lt (k + 1) xs k y (omega arith))
-    ∙ ap (λ es. es ++ rehung_edges w (drop (next + 1) ts) (map pair_of (drop (k + 1) xs))) (map-append pair_of (take k xs) (y ∷ []))
-    ∙ first_done (map pair_of (take k xs)) (pair_of y) (rehung_edges w (drop (next + 1) ts) (map pair_of (drop (k + 1) xs)))
-    ∙ ap (λ p. map pair_of (take k xs) ++ p ∷ rehung_edges w (drop (next + 1) ts) (map pair_of (drop (k + 1) xs))) e
-    ∙ sym (ap (λ b. map pair_of (take k xs) ++ cond b (edge_with_end w (get_or ts next 0) (pair_of (get_or xs k d)) ∷ rehung_edges w (drop (next + 1) ts) (map pair_of (drop (k + 1) xs))) (pair_of (get_or xs k d) ∷ rehung_edges w (get_or ts next 0 ∷ drop (next + 1) ts) (map pair_of (drop (k + 1) xs)))) a)
-    ∙ sym (ap₂ (λ us ys. map pair_of (take k xs) ++ rehung_edges w us (map pair_of ys)) (drop_more ts next 0 n) (drop_more xs k d l))
+rehung_step w ts next k xs d y l n a e = grind (arith, take_more_set, drop-set-lt, map-append, first_done, drop_more)

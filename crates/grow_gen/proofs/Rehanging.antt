@@ -1,8 +1,8 @@
 -- What changes where the edges at w get other ends in the place of w: nothing at the other
 -- vertices, and a new end meets the edges that were given it. Idea: along the list of edges, with
 -- the marks of the edges at w taken out in order.
-use Rattle.std.proofs.Common.{◌≡◌, ℕ, suc, ◌+◌, ◌≤◌, ◌<◌, ◌≢◌, Bool, true, false, cond, ◌==◌, ◌&&◌, ◌⊎◌, inl, inr, List, [], ◌∷◌, length, refl, sym, ap, ap₂, ◌∙◌, arith, subst, eq-eqb, ne_eqb, eqb-true}
-use Rattle.counting.proofs.Common.{cases_eq, or_cases, or_parts, both_ways, or_left, or_right, bit_and_false, Within, bit, Set, mem}
+use Rattle.std.proofs.Common.{◌≡◌, ℕ, suc, ◌+◌, ◌≤◌, ◌<◌, ◌≢◌, Bool, true, false, cond, ◌==◌, ◌&&◌, ◌⊎◌, inl, inr, List, [], ◌∷◌, length, refl, sym, ap, ap₂, ◌∙◌, arith, eq-eqb, ne_eqb}
+use Rattle.counting.proofs.Common.{or_parts, both_ways, or_left, or_right, bit_and_false, Within, bit, Set, mem}
 use Rattle.grow_gen.specs.Common.{is_at, other_end, edge_with_end, rehung_edges}
 use Rattle.grow_gen.proofs.EdgeSums.{Each, sum_edges, ends_at, by_test, marks_where}
 
@@ -22,13 +22,7 @@ IsEdge n e = Within n e.0 × Within n e.1 × (e.0 ≢ e.1)
 
 -- an edge at w has w as its first end, or as its second alone
 pub at-cases : (w t : ℕ) (e : ℕ × ℕ) → is_at w e ≡ true → ((e.0 ≡ w) × (edge_with_end w t e ≡ (t, e.1)) × (other_end w e ≡ e.1)) ⊎ ((e.1 ≡ w) × (e.0 ≢ w) × (edge_with_end w t e ≡ (e.0, t)) × (other_end w e ≡ e.0))
-at-cases w t e h = elim (cases_eq e.0 w) [
-  | inl q ↦ inl (q, ap (λ b. cond b (t, e.1) (e.0, t)) (eq-eqb e.0 w q), ap (λ b. cond b e.1 e.0) (eq-eqb e.0 w q))
-  | inr q ↦ elim (or_cases (e.0 == w) (e.1 == w) h) [
-    | inl p ↦ absurd (q (eqb-true e.0 w p))
-    | inr p ↦ inr (eqb-true e.1 w p, q, ap (λ b. cond b (t, e.1) (e.0, t)) (ne_eqb e.0 w q), ap (λ b. cond b e.1 e.0) (ne_eqb e.0 w q))
-  ]
-]
+at-cases w t e h = grind arith
 
 -- an edge that is not at w has other ends
 pub not_at-ends : (w : ℕ) (e : ℕ × ℕ) → is_at w e ≡ false → (e.0 ≢ w) × (e.1 ≢ w)
@@ -41,9 +35,7 @@ rehung_edges-none w (e ∷ es) = refl
 pub length-rehung_edges : (w : ℕ) (ts : List ℕ) (es : List (ℕ × ℕ)) → length (rehung_edges w ts es) ≡ length es
 length-rehung_edges w ts [] = refl
 length-rehung_edges w [] (e ∷ es) = refl
-length-rehung_edges w (t ∷ ts) (e ∷ es) = by_test (is_at w e) (λ s. length (cond s (edge_with_end w t e ∷ rehung_edges w ts es) (e ∷ rehung_edges w (t ∷ ts) es)) ≡ suc (length es))
-    (λ a. let h = length-rehung_edges w ts es in omega arith)
-    (λ a. let h = length-rehung_edges w (t ∷ ts) es in omega arith)
+length-rehung_edges w (t ∷ ts) (e ∷ es) = grind (arith, by_test (is_at w e), length-rehung_edges w ts es, length-rehung_edges w (t ∷ ts) es)
 
 pub member-first : (t : ℕ) (ts : List ℕ) → mem (t ∷ ts) t ≡ true
 member-first t ts = or_left (t == t) (mem ts t) (eq-eqb t t refl)
@@ -62,14 +54,8 @@ sum_edges-rehung_elsewhere w v [] bs (e ∷ es) d h l = refl
 sum_edges-rehung_elsewhere w v (t ∷ ts) [] (e ∷ es) d h l = absurd (omega arith)
 sum_edges-rehung_elsewhere w v (t ∷ ts) (b ∷ bs) (e ∷ es) d h l =
     by_test (is_at w e) (λ s. sum_edges (ends_at v) (b ∷ bs) (cond s (edge_with_end w t e ∷ rehung_edges w ts es) (e ∷ rehung_edges w (t ∷ ts) es)) ≡ ends_at v b e + sum_edges (ends_at v) bs es)
-    (λ a. ap₂ ◌+◌ (same_ends a) (sum_edges-rehung_elsewhere w v ts bs es d (λ u m. h u (member-later u t ts m)) (omega arith)))
+    (λ a. ap₂ ◌+◌ (grind arith) (sum_edges-rehung_elsewhere w v ts bs es d (λ u m. h u (member-later u t ts m)) (omega arith)))
     (λ a. ap (λ k. ends_at v b e + k) (sum_edges-rehung_elsewhere w v (t ∷ ts) bs es d h (omega arith)))
-  where
-    same_ends : is_at w e ≡ true → ends_at v b (edge_with_end w t e) ≡ ends_at v b e
-    same_ends a = elim (at-cases w t e a) [
-      | inl p ↦ ap (ends_at v b) p.1 ∙ ap (λ k. k + bit (b && (e.1 == v))) (no_end b t v (h t (member-first t ts)) ∙ sym (no_end b e.0 v (λ q. d (sym q ∙ p.0))))
-      | inr p ↦ ap (ends_at v b) p.2 ∙ ap (λ k. bit (b && (e.0 == v)) + k) (no_end b t v (h t (member-first t ts)) ∙ sym (no_end b e.1 v (λ q. d (sym q ∙ p.0))))
-    ]
 
 -- y is not an end of the edge but perhaps in the place of w, and the edge is not a loop
 abbrev pub IsClear : ℕ → ℕ → ℕ × ℕ → Type 0
@@ -95,17 +81,11 @@ sum_edges-rehung_there w y [] (b ∷ bs) (e ∷ es) c l f = by_test (is_at w e)
 sum_edges-rehung_there w y (t ∷ ts) (b ∷ bs) (e ∷ es) c l f = by_test (is_at w e)
     (λ s. length (cond s (b ∷ flags_at w bs es) (flags_at w bs es)) ≤ suc (length ts) →
     sum_edges (ends_at y) (b ∷ bs) (cond s (edge_with_end w t e ∷ rehung_edges w ts es) (e ∷ rehung_edges w (t ∷ ts) es)) ≡ caught (λ t. t == y) (cond s (b ∷ flags_at w bs es) (flags_at w bs es)) (t ∷ ts))
-    (λ a k. ap₂ ◌+◌ (new_end a) (sum_edges-rehung_there w y ts bs es c.1 (omega arith) (omega arith)))
+    (λ a k. ap₂ ◌+◌ (grind arith) (sum_edges-rehung_there w y ts bs es c.1 (omega arith) (omega arith)))
     (λ a k. let n = not_at-ends w e a in
     ap₂ ◌+◌ (ap₂ ◌+◌ (no_end b e.0 y (λ q. n.0 (c.0.0 q))) (no_end b e.1 y (λ q. n.1 (c.0.1 q)))) (sum_edges-rehung_there w y (t ∷ ts) bs es c.1 (omega arith) k)
     ∙ (let z : 0 + 0 + caught (λ t. t == y) (flags_at w bs es) (t ∷ ts) ≡ caught (λ t. t == y) (flags_at w bs es) (t ∷ ts) = omega arith in z))
     f
-  where
-    new_end : is_at w e ≡ true → ends_at y b (edge_with_end w t e) ≡ bit (b && (t == y))
-    new_end a = elim (at-cases w t e a) [
-      | inl p ↦ ap (ends_at y b) p.1 ∙ ap (λ k. bit (b && (t == y)) + k) (no_end b e.1 y (λ q. c.0.2 (p.0 ∙ sym (c.0.1 q)))) ∙ (let z : bit (b && (t == y)) + 0 ≡ bit (b && (t == y)) = omega arith in z)
-      | inr p ↦ ap (ends_at y b) p.2 ∙ ap (λ k. k + bit (b && (t == y))) (no_end b e.0 y (λ q. p.1 (c.0.0 q))) ∙ (let z : 0 + bit (b && (t == y)) ≡ bit (b && (t == y)) = omega arith in z)
-    ]
 
 -- the edges stay edges
 pub each-rehung : (n k w : ℕ) (ts : List ℕ) (es : List (ℕ × ℕ)) → n ≤ k → ((t : ℕ) → mem ts t ≡ true → Within k t × ((t ≡ w) ⊎ (n < t))) → Each (IsEdge n) es → Each (IsEdge k) (rehung_edges w ts es)
@@ -116,14 +96,8 @@ each-rehung n k w [] (e ∷ es) l h c = wider (e ∷ es) c
     wider [] c = tt
     wider (e ∷ es) c = let a = c.0.0 in let b = c.0.1 in (((a.0, omega arith), (b.0, omega arith), c.0.2), wider es c.1)
 each-rehung n k w (t ∷ ts) (e ∷ es) l h c = by_test (is_at w e) (λ s. Each (IsEdge k) (cond s (edge_with_end w t e ∷ rehung_edges w ts es) (e ∷ rehung_edges w (t ∷ ts) es)))
-    (λ a. (new_edge a, each-rehung n k w ts es l (λ u m. h u (member-later u t ts m)) c.1))
+    (λ a. ((grind (arith, member-first t ts, at-cases w t e a)), each-rehung n k w ts es l (λ u m. h u (member-later u t ts m)) c.1))
     (λ a. let x = c.0.0 in let y = c.0.1 in (((x.0, omega arith), (y.0, omega arith), c.0.2), each-rehung n k w (t ∷ ts) es l h c.1))
   where
     away : (v : ℕ) → v ≢ w → Within n v → t ≢ v
     away v d b q = elim (h t (member-first t ts)).1 [ inl z ↦ d (sym q ∙ z) | inr z ↦ absurd (omega arith) ]
-
-    new_edge : is_at w e ≡ true → IsEdge k (edge_with_end w t e)
-    new_edge a = let r = (h t (member-first t ts)).0 in elim (at-cases w t e a) [
-      | inl p ↦ let b = c.0.1 in subst (IsEdge k) (sym p.1) (r, (b.0, omega arith), away e.1 (λ q. c.0.2 (p.0 ∙ sym q)) b)
-      | inr p ↦ let b = c.0.0 in subst (IsEdge k) (sym p.2) ((b.0, omega arith), r, λ q. away e.0 p.1 b (sym q))
-    ]

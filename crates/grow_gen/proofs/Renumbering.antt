@@ -1,11 +1,11 @@
 -- The edges that a spliced graph brings in: those not at its vertex 1, with new numbers for their
 -- ends. Idea: a vertex has all its edges, once those to vertex 1 are counted among the edges that
 -- got new ends.
-use Rattle.std.proofs.Common.{◌≡◌, ℕ, ◌+◌, ◌-◌, ◌≤◌, ◌<◌, ◌≢◌, Bool, true, cond, ◌==◌, ◌&&◌, not, ◌⊎◌, inl, inr, List, [], ◌∷◌, length, map, filter, refl, sym, ap, ap₂, ◌∙◌, arith, subst, eq-eqb, ne_eqb}
+use Rattle.std.proofs.Common.{◌≡◌, ℕ, ◌+◌, ◌-◌, ◌≤◌, ◌<◌, ◌≢◌, Bool, true, cond, ◌==◌, ◌&&◌, not, ◌⊎◌, inl, inr, List, [], ◌∷◌, length, map, filter, refl, sym, ap, ap₂, ◌∙◌, arith, ne_eqb}
 use Rattle.counting.proofs.Common.{cases_eq, cases_lt, Within, bit}
 use Rattle.grow_gen.specs.Common.{is_at, other_end, new_number, renumbered_edge}
 use Rattle.grow_gen.proofs.EdgeSums.{Each, sum_edges, ends_at, by_test, marks_where}
-use Rattle.grow_gen.proofs.Rehanging.{IsEdge, flags_at, caught, at-cases, not_at-ends, no_end}
+use Rattle.grow_gen.proofs.Rehanging.{IsEdge, flags_at, caught, not_at-ends, no_end}
 
 -- the edges that are not at vertex 1
 abbrev pub kept_edges : List (ℕ × ℕ) → List (ℕ × ℕ)
@@ -22,39 +22,18 @@ ends_beside v es = map (other_end v) (filter (is_at v) es)
 module _ (n w : ℕ) (ww : Within n w) where
   -- the new numbers of different vertices differ
   pub new_number-apart : (x y : ℕ) → 2 ≤ x → 2 ≤ y → x ≢ y → new_number n w x ≢ new_number n w y
-  new_number-apart x y a b d q = elim (cases_eq x 2) [
-    | inl p ↦ let z : y ≢ 2 = λ r. d (p ∙ sym r) in let f = first p in let s = later y z in absurd (omega arith)
-    | inr p ↦ elim (cases_eq y 2) [
-      | inl r ↦ let f = first r in let s = later x p in absurd (omega arith)
-      | inr r ↦ let s = later x p in let t = later y r in absurd (d (omega arith))
-    ]
-  ]
-    where
-      first : {z : ℕ} → z ≡ 2 → new_number n w z ≡ w
-      first {z} p = ap (λ b. cond b w (n + z - 2)) (eq-eqb z 2 p)
-
-      later : (z : ℕ) → z ≢ 2 → new_number n w z ≡ n + z - 2
-      later z p = ap (λ b. cond b w (n + z - 2)) (ne_eqb z 2 p)
+  new_number-apart x y a b d q = grind arith
 
   pub new_number-same : (x y : ℕ) → 2 ≤ x → 2 ≤ y → (new_number n w x == new_number n w y) ≡ (x == y)
-  new_number-same x y a b = elim (cases_eq x y) [
-    | inl q ↦ eq-eqb _ _ (ap (new_number n w) q) ∙ sym (eq-eqb x y q)
-    | inr q ↦ ne_eqb _ _ (new_number-apart x y a b q) ∙ sym (ne_eqb x y q)
-  ]
+  new_number-same x y a b = grind arith
 
   -- a new number is w or past n
   pub new_number-where : (k x : ℕ) → 2 ≤ k → 2 ≤ x → x ≤ k → Within (n + k - 2) (new_number n w x) × ((new_number n w x ≡ w) ⊎ (n < new_number n w x))
-  new_number-where k x l a b = elim (cases_eq x 2) [
-    | inl q ↦ let f : new_number n w x ≡ w = ap (λ b. cond b w (n + x - 2)) (eq-eqb x 2 q) in ((omega arith, omega arith), inl f)
-    | inr q ↦ let f : new_number n w x ≡ n + x - 2 = ap (λ b. cond b w (n + x - 2)) (ne_eqb x 2 q) in ((omega arith, omega arith), inr (omega arith))
-  ]
+  new_number-where k x l a b = grind arith
 
   -- each vertex is an old one, or a new one with its number in the spliced graph
   pub old_or_new : (k v : ℕ) → 2 ≤ k → Within (n + k - 2) v → (Within n v × (v ≢ w)) ⊎ ((x : ℕ) × (2 ≤ x) × (x ≤ k) × (new_number n w x ≡ v))
-  old_or_new k v l u = elim (cases_eq v w) [
-    | inl q ↦ inr (2, omega arith, l, sym q)
-    | inr q ↦ go q (cases_lt n v)
-  ]
+  old_or_new k v l u = grind (arith, cases_eq v w, go, cases_lt n v)
     where
       go : v ≢ w → (n < v) ⊎ (v ≤ n) → (Within n v × (v ≢ w)) ⊎ ((x : ℕ) × (2 ≤ x) × (x ≤ k) × (new_number n w x ≡ v))
       go q (inl p) = let z : v + 2 - n ≢ 2 = λ r. absurd (omega arith) in
@@ -82,10 +61,7 @@ module _ (n w : ℕ) (ww : Within n w) where
       let q = moved_ends x b e a (above_one k e.0 c.0.0 d.0) (above_one k e.1 c.0.1 d.1) in omega (arith, h, q))
     where
       beside : is_at 1 e ≡ true → ends_at x b e ≡ bit (b && (other_end 1 e == x))
-      beside s = elim (at-cases 1 0 e s) [
-        | inl p ↦ ap (λ z. z + bit (b && (e.1 == x))) (no_end b e.0 x (λ q. absurd (omega (arith, p.0)))) ∙ (let z : 0 + bit (b && (e.1 == x)) ≡ bit (b && (e.1 == x)) = omega arith in z) ∙ ap (λ z. bit (b && (z == x))) (sym p.2)
-        | inr p ↦ ap (λ z. bit (b && (e.0 == x)) + z) (no_end b e.1 x (λ q. absurd (omega (arith, p.0)))) ∙ (let z : bit (b && (e.0 == x)) + 0 ≡ bit (b && (e.0 == x)) = omega arith in z) ∙ ap (λ z. bit (b && (z == x))) (sym p.3)
-      ]
+      beside s = grind arith
 
   -- an old vertex has none of them
   pub sum_edges-kept_old : (k v : ℕ) (bs : List Bool) (es : List (ℕ × ℕ)) → 2 ≤ k → v ≤ n → v ≢ w → Each (IsEdge k) es → length bs ≡ length es →
@@ -112,12 +88,7 @@ module _ (n w : ℕ) (ww : Within n w) where
 -- the neighbours of vertex 1 are 2 and on
 pub each-beside : (k : ℕ) (es : List (ℕ × ℕ)) → Each (IsEdge k) es → Each (λ v. (2 ≤ v) × (v ≤ k)) (ends_beside 1 es)
 each-beside k [] c = tt
-each-beside k (e ∷ es) c = by_test (is_at 1 e) (λ s. Each (λ v. (2 ≤ v) × (v ≤ k)) (map (other_end 1) (cond s (e ∷ filter (is_at 1) es) (filter (is_at 1) es))))
-    (λ s. (in_range s, each-beside k es c.1))
-    (λ s. each-beside k es c.1)
+each-beside k (e ∷ es) c = grind (arith, by_test (is_at 1 e), in_range, each-beside k es c.1)
   where
     in_range : is_at 1 e ≡ true → (2 ≤ other_end 1 e) × (other_end 1 e ≤ k)
-    in_range s = let a = c.0.0 in let b = c.0.1 in elim (at-cases 1 0 e s) [
-      | inl p ↦ let d : e.1 ≢ 1 = λ q. c.0.2 (p.0 ∙ sym q) in subst (λ v. (2 ≤ v) × (v ≤ k)) (sym p.2) (omega arith, b.1)
-      | inr p ↦ let d = p.1 in subst (λ v. (2 ≤ v) × (v ≤ k)) (sym p.3) (omega arith, a.1)
-    ]
+    in_range s = grind arith

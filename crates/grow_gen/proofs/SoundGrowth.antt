@@ -1,9 +1,9 @@
 -- A graph that grows stays a covered cubic multigraph, and each piece finds a vertex. Idea: class
 -- A gets at least two vertices with each bipartite piece and gives up at most one with each other
 -- piece, and no two others come in a row.
-use Rattle.std.proofs.Common.{◌≡◌, ℕ, suc, zero, ◌+◌, ◌-◌, ◌*◌, ◌/◌, ◌%◌, ◌≤◌, ◌<◌, ◌≢◌, Bool, true, false, cond, ◌==◌, ◌&&◌, ◌||◌, not, inl, inr, List, [], ◌∷◌, length, map, filter, refl, sym, ap, ap₂, ◌∙◌, arith, eq-eqb, ne_eqb, slice_index, slice_index_or, div-add-mod'}
+use Rattle.std.proofs.Common.{◌≡◌, ℕ, ◌+◌, ◌-◌, ◌*◌, ◌%◌, ◌≤◌, ◌<◌, ◌≢◌, Bool, true, false, cond, ◌==◌, ◌&&◌, ◌||◌, not, inl, inr, List, [], ◌∷◌, length, map, filter, refl, sym, ap₂, ◌∙◌, arith, eq-eqb, ne_eqb, slice_index}
 use Rattle.counting.proofs.Common.{length-append, length-map, cases_eq, cases_Bool, or_left, or_right, true≢false, rising_holds, mem-within, some-member, rising_list-rises, Within, union, mem, rising_list, IsRisingIn}
-use Rattle.std.proofs.lemmas.Nat.{mod_below, mod-mul-add}
+use Rattle.std.proofs.lemmas.Nat.{mod_below}
 use Rattle.graph_core.proofs.Common.{size, IsMultigraph, IsCovered, IsSimple}
 use Rattle.grow_gen.specs.declared.pieces.Piece.{Piece}
 use Rattle.grow_gen.specs.declared.pieces.Piece.TheVariants.{K33, K4, Prism, Cube}
@@ -30,24 +30,11 @@ pub record IsSound (i : ℕ) (s : Growth) : Type 0 where
 
 -- two members: one of them is not w
 other_member : (xs : List ℕ) (a b : ℕ) → a ≢ b → mem xs a ≡ true → mem xs b ≡ true → (w : ℕ) → (v : ℕ) × (v ≢ w) × (mem xs v ≡ true)
-other_member xs a b d p q w = elim (cases_eq a w) [
-  | inl e ↦ (b, (λ f. d (e ∙ sym f)), q)
-  | inr e ↦ (a, e, p)
-]
+other_member xs a b d p q w = grind (arith, cases_eq a w)
 
 -- after a piece that is not bipartite comes one that is
 bipartite_next : (i : ℕ) → is_bipartite_piece (further_piece i) ≡ false → is_bipartite_piece (further_piece (i + 1)) ≡ true
-bipartite_next i h = go (i % 4) refl (mod_below i 4 (omega arith)) h
-  where
-    step : (r : ℕ) → i % 4 ≡ r → r + 1 < 4 → (i + 1) % 4 ≡ r + 1
-    step r e l = let d = div-add-mod' i 4 in let q : i + 1 ≡ i / 4 * 4 + (r + 1) = omega (arith, d, e) in ap (λ k. k % 4) q ∙ mod-mul-add (i / 4) 4 (r + 1) l
-
-    go : (r : ℕ) → i % 4 ≡ r → r < 4 → is_bipartite_piece (slice_index_or (K4 ∷ K33 ∷ Prism ∷ Cube ∷ []) r K4) ≡ false → is_bipartite_piece (further_piece (i + 1)) ≡ true
-    go zero e l k = ap (λ r. is_bipartite_piece (slice_index_or (K4 ∷ K33 ∷ Prism ∷ Cube ∷ []) r K4)) (step 0 e (omega arith))
-    go (suc zero) e l k = absurd (true≢false k)
-    go (suc (suc zero)) e l k = ap (λ r. is_bipartite_piece (slice_index_or (K4 ∷ K33 ∷ Prism ∷ Cube ∷ []) r K4)) (step 2 e (omega arith))
-    go (suc (suc (suc zero))) e l k = absurd (true≢false k)
-    go (suc (suc (suc (suc r)))) e l k = absurd (omega arith)
+bipartite_next i h = grind arith
 
 -- what passes is in the next class
 next-member : (n w : ℕ) (p : Piece) (class : List ℕ) (opposite : Bool) (v : ℕ) → Within (n + piece_order p - 2) v → mem (map (new_number n w) (side p opposite)) v ≡ true → mem (next_class n w p class opposite) v ≡ true
@@ -93,22 +80,11 @@ module _ (i : ℕ) (s : Growth) (sound : IsSound i s) (x : ℕ) where
   picked-within = eligible-within s piece sound.in_a (x % length (eligible s piece)) (mod_below x (length (eligible s piece)) some-eligible)
 
   order-bound : piece_order piece ≤ 8
-  order-bound = go piece
-    where
-      go : (p : Piece) → piece_order p ≤ 8
-      go K33 = omega arith
-      go K4 = omega arith
-      go Prism = omega arith
-      go Cube = omega arith
+  order-bound = grind arith
 
   -- the piece can be spliced, as long as there are at most fifteen pieces
   pub may-take : i ≤ 14 → MayTake s piece
-  may-take l = record {
-    room = let a = sound.vertices in let b = order-bound in omega arith;
-    in_a = sound.in_a;
-    in_b = sound.in_b;
-    some = some-eligible;
-  }
+  may-take l = grind (arith, order-bound, some-eligible)
 
   -- the second draw names a permutation
   permutation-below : (y : ℕ) → y % 6 < 6
@@ -116,13 +92,7 @@ module _ (i : ℕ) (s : Growth) (sound : IsSound i s) (x : ℕ) where
 
   -- the edges of the piece that stay are at most twelve
   few-kept : length (filter (λ e. not (is_at 1 e)) (piece_ends piece)) ≤ 12
-  few-kept = go piece
-    where
-      go : (p : Piece) → length (filter (λ e. not (is_at 1 e)) (piece_ends p)) ≤ 12
-      go K33 = omega arith
-      go K4 = omega arith
-      go Prism = omega arith
-      go Cube = omega arith
+  few-kept = grind arith
 
   -- class A after the piece has a vertex
   next_some : (v : ℕ) × (mem (next_class n picked piece s.in_a (mem s.in_a picked)) v ≡ true)

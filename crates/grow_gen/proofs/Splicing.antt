@@ -59,10 +59,7 @@ module _ (g h : Graph) (w i : ℕ) (mg : IsMultigraph g) (mh : IsMultigraph h) (
 
   pub length-both_marks : (bs cs : List Bool) → length bs ≡ size g → length cs ≡ size h → length (both_marks bs cs) ≡ size (splice g w h (permutation i))
   unfolding splice
-  length-both_marks bs cs lb lc =
-      length-append bs (kept_marks cs h.ends)
-      ∙ ap₂ ◌+◌ (lb ∙ sym (length-rehung_edges w targets g.ends)) (length-marks_where (λ e. not (is_at 1 e)) cs h.ends lc ∙ sym (length-map (kept_edges h.ends) (renumbered_edge g.order w)))
-      ∙ sym (length-append (rehung_edges w targets g.ends) (map (renumbered_edge g.order w) (kept_edges h.ends)))
+  length-both_marks bs cs lb lc = grind (arith, length-append, kept_marks, length-rehung_edges, length-marks_where, length-map, kept_edges)
 
   -- a vertex of g but w keeps its ends
   pub degree-old : (bs cs : List Bool) → length bs ≡ size g → length cs ≡ size h → (v : ℕ) → Within g.order v → v ≢ w →
@@ -103,10 +100,7 @@ module _ (g h : Graph) (w i : ℕ) (mg : IsMultigraph g) (mh : IsMultigraph h) (
       ∙ sym (degree-marked h cs x lc)
     where
       clear : (e : ℕ × ℕ) → IsEdge g.order e → IsClear w (new x) e
-      clear e k = (at_w e.0 k.0, at_w e.1 k.1, k.2)
-        where
-          at_w : (v : ℕ) → Within g.order v → v ≡ new x → v ≡ w
-          at_w v u q = elim (new_number-where g.order w ww h.order x two a b).1 [ inl z ↦ q ∙ z | inr z ↦ absurd (omega arith) ]
+      clear e k = grind arith
 
       few : length (flags_at w bs g.ends) ≤ length targets
       few = let p = length-marks_where (is_at w) bs g.ends lb in let q = edges-at g mg cg w ww in let r = targets-three in omega arith
@@ -119,10 +113,7 @@ module _ (g h : Graph) (w i : ℕ) (mg : IsMultigraph g) (mh : IsMultigraph h) (
   -- have k
   degree-both : (k : ℕ) (bs cs : List Bool) → length bs ≡ size g → length cs ≡ size h → Agree bs cs → ((v : ℕ) → Within g.order v → degree g (marked bs) v ≡ k) → ((v : ℕ) → Within h.order v → degree h (marked cs) v ≡ k) →
       (v : ℕ) → Within (g.order + h.order - 2) v → degree (splice g w h (permutation i)) (marked (both_marks bs cs)) v ≡ k
-  degree-both k bs cs lb lc agree dg dh v u = elim (old_or_new g.order w ww h.order v two u) [
-    | inl o ↦ degree-old bs cs lb lc v o.0 o.1 ∙ dg v o.0
-    | inr x ↦ let a = x.1 in ap (degree (splice g w h (permutation i)) (marked (both_marks bs cs))) (sym x.3) ∙ degree-new bs cs lb lc agree x.0 x.1 x.2 ∙ dh x.0 (omega arith, x.2)
-  ]
+  degree-both k bs cs lb lc agree dg dh v u = grind (arith, old_or_new g.order w ww h.order v two u, degree-old bs cs lb lc v, degree-new bs cs lb lc agree)
 
   -- each edge of the splice is one of g with its number, or one of h
   pub edge-cases : (e : ℕ) → Within (size (splice g w h (permutation i))) e →
@@ -169,9 +160,7 @@ module _ (g h : Graph) (w i : ℕ) (mg : IsMultigraph g) (mh : IsMultigraph h) (
   all_agree =
       let f = flags-three g mg cg w ww (all_of g) (length-marks_from 0 (size g) everything) in
       let k = flags-three h mh ch 1 one (all_of h) (length-marks_from 0 (size h) everything) in
-      f.3 ∙ three-true f.0 f.1 f.2 (f.4 ∙ all_at g w ∙ cg w ww)
-      ∙ by_permutation (λ j. (true ∷ true ∷ true ∷ []) ≡ permuted j (true ∷ true ∷ true ∷ [])) refl refl refl refl refl refl i li
-      ∙ ap (permuted i) (sym (k.3 ∙ three-true k.0 k.1 k.2 (k.4 ∙ all_at h 1 ∙ ch 1 one)))
+      grind (arith, three-true f.0 f.1 f.2 (f.4 ∙ all_at g w ∙ cg w ww), all_at g w, by_permutation, three-true k.0 k.1 k.2 (k.4 ∙ all_at h 1 ∙ ch 1 one), all_at h 1)
 
   all_both : (e : ℕ) → Within (size (splice g w h (permutation i))) e → marked (both_marks (all_of g) (all_of h)) e ≡ true
   all_both e u = elim (edge-cases e u) [
@@ -189,10 +178,7 @@ module _ (g h : Graph) (w i : ℕ) (mg : IsMultigraph g) (mh : IsMultigraph h) (
   -- two perfect matchings that agree give one of the splice
   pub splice-perfect : (b : PerfectMarks g) (c : PerfectMarks h) → Agree b.marks c.marks → IsPerfect (splice g w h (permutation i)) none (marked (both_marks b.marks c.marks))
   unfolding splice
-  splice-perfect b c agree = record {
-    once = λ v u o. degree-both 1 b.marks c.marks b.whole c.whole agree (λ v u. b.perfect.once v u refl) (λ v u. c.perfect.once v u refl) v u;
-    away = λ v u o. absurd (true≢false (sym o));
-  }
+  splice-perfect b c agree = grind (arith, degree-both 1 b.marks c.marks b.whole c.whole agree, true≢false)
 
   -- to each perfect matching of g there is one of h that agrees, and the other way round
   partner_in_h : IsCovered h → (b : PerfectMarks g) → (c : PerfectMarks h) × Agree b.marks c.marks

@@ -1,11 +1,11 @@
 -- The three edges at a vertex of a cubic graph. Idea: the marks of the edges at a vertex are a
 -- list of three, and exactly one of them is true for a perfect matching.
-use Rattle.std.proofs.Common.{◌≡◌, ℕ, suc, zero, ◌+◌, ◌<◌, Bool, true, false, cond, ◌==◌, ◌&&◌, inl, inr, List, [], ◌∷◌, length, filter, refl, sym, ap, ◌∙◌, arith, eq-eqb, slice_index_or}
-use Rattle.counting.proofs.Common.{true≢false, bit_and_true, bit_le_one, Within, bit, Set, everything, none}
+use Rattle.std.proofs.Common.{◌≡◌, ℕ, ◌+◌, ◌<◌, Bool, true, false, cond, ◌==◌, List, [], ◌∷◌, length, filter, refl, sym, ap, ◌∙◌, arith, slice_index_or}
+use Rattle.counting.proofs.Common.{Within, bit, Set, everything, none}
 use Rattle.graph_core.proofs.Common.{Graph, size, degree, IsMultigraph, IsPerfect, IsCovered, degree_congr}
 use Rattle.grow_gen.specs.Common.{IsCubic, is_at}
 use Rattle.grow_gen.proofs.EdgeSums.{Each, sum_edges, ends_at, by_test, marks_from, marked, each-edge, edge-at_place, degree-marks, degree-marked, length-marks_from, length-marks_where, marked-marks_from}
-use Rattle.grow_gen.proofs.Rehanging.{IsEdge, flags_at, at-cases, not_at-ends, no_end}
+use Rattle.grow_gen.proofs.Rehanging.{IsEdge, flags_at, not_at-ends, no_end}
 
 -- how many are true
 abbrev pub true_count : List Bool → ℕ
@@ -24,14 +24,8 @@ true_count-flags n w (b ∷ bs) (e ∷ es) c l = by_test (is_at w e) (λ s. true
     (λ s. let h = true_count-flags n w bs es c.1 (omega arith) in let q = one_end s in omega (arith, h, q))
     (λ s. let h = true_count-flags n w bs es c.1 (omega arith) in let d = not_at-ends w e s in let x = no_end b e.0 w d.0 in let y = no_end b e.1 w d.1 in omega (arith, h, x, y))
   where
-    here : (v : ℕ) → v ≡ w → bit (b && (v == w)) ≡ bit b
-    here v q = ap (λ t. bit (b && t)) (eq-eqb v w q) ∙ bit_and_true b
-
     one_end : is_at w e ≡ true → ends_at w b e ≡ bit b
-    one_end s = elim (at-cases w 0 e s) [
-      | inl p ↦ let x = here e.0 p.0 in let y = no_end b e.1 w (λ q. c.0.2 (p.0 ∙ sym q)) in omega (arith, x, y)
-      | inr p ↦ let x = no_end b e.0 w p.1 in let y = here e.1 p.0 in omega (arith, x, y)
-    ]
+    one_end s = grind arith
 
 -- all edges at w are as many as there are
 true_count-everything : (k w : ℕ) (es : List (ℕ × ℕ)) → true_count (flags_at w (marks_from k (length es) everything) es) ≡ length (filter (is_at w) es)
@@ -49,39 +43,15 @@ three-items (a ∷ b ∷ c ∷ d ∷ xs) l = absurd (omega arith)
 
 -- three of which one is true
 pub unit-of_one : (a b c : Bool) → true_count (a ∷ b ∷ c ∷ []) ≡ 1 → (i : ℕ) × (i < 3) × ((a ∷ b ∷ c ∷ []) ≡ unit i)
-unit-of_one true true c h = absurd (omega arith)
-unit-of_one true false true h = absurd (omega arith)
-unit-of_one true false false h = (0, omega arith, refl)
-unit-of_one false true true h = absurd (omega arith)
-unit-of_one false true false h = (1, omega arith, refl)
-unit-of_one false false true h = (2, omega arith, refl)
-unit-of_one false false false h = absurd (omega arith)
+unit-of_one a b c h = grind arith
 
 -- three of which one is true, and which it is
 pub unit-at : (a b c : Bool) (i : ℕ) → true_count (a ∷ b ∷ c ∷ []) ≡ 1 → slice_index_or (a ∷ b ∷ c ∷ []) i false ≡ true → (a ∷ b ∷ c ∷ []) ≡ unit i
-unit-at true true c i h k = absurd (omega arith)
-unit-at true false true i h k = absurd (omega arith)
-unit-at false true true i h k = absurd (omega arith)
-unit-at false false false i h k = absurd (omega arith)
-unit-at true false false zero h k = refl
-unit-at true false false (suc zero) h k = absurd (true≢false (sym k))
-unit-at true false false (suc (suc zero)) h k = absurd (true≢false (sym k))
-unit-at true false false (suc (suc (suc i))) h k = absurd (true≢false (sym k))
-unit-at false true false zero h k = absurd (true≢false (sym k))
-unit-at false true false (suc zero) h k = refl
-unit-at false true false (suc (suc zero)) h k = absurd (true≢false (sym k))
-unit-at false true false (suc (suc (suc i))) h k = absurd (true≢false (sym k))
-unit-at false false true zero h k = absurd (true≢false (sym k))
-unit-at false false true (suc zero) h k = absurd (true≢false (sym k))
-unit-at false false true (suc (suc zero)) h k = refl
-unit-at false false true (suc (suc (suc i))) h k = absurd (true≢false (sym k))
+unit-at a b c i h k = grind arith
 
 -- three that are all true
 pub three-true : (a b c : Bool) → true_count (a ∷ b ∷ c ∷ []) ≡ 3 → (a ∷ b ∷ c ∷ []) ≡ true ∷ true ∷ true ∷ []
-three-true true true true h = refl
-three-true true true false h = absurd (omega arith)
-three-true true false c h = absurd (omega (arith, h, bit_le_one c))
-three-true false b c h = absurd (omega (arith, h, bit_le_one b, bit_le_one c))
+three-true a b c h = grind arith
 
 -- the edges of a multigraph as pairs
 pub each-edge_of : (g : Graph) → IsMultigraph g → Each (IsEdge g.order) g.ends

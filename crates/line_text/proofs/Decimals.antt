@@ -1,6 +1,6 @@
 -- What is written of a number is a word of digits, and std tells that they read as that number.
 -- Below 10 ^ 9 they are nine at most, so the word is a number.
-use Rattle.std.proofs.Common.{◌≡◌, ℕ, suc, ◌^◌, ◌≤◌, ◌<◌, List, [], ◌∷◌, All, length, map, Bool, true, not, ◌||◌, ◌==◌, cond, Some, None, refl, ◌∙◌, ap, ap₂, arith, rules, le-leb}
+use Rattle.std.proofs.Common.{◌≡◌, ℕ, suc, ◌^◌, ◌≤◌, ◌<◌, List, [], ◌∷◌, All, length, map, Bool, true, not, ◌||◌, ◌==◌, Some, refl, ◌∙◌, ap, ap₂, arith, rules}
 use Rattle.std.specs.Char.{is_ascii_digit}
 use Rattle.std.specs.Fmt.{decimal}
 use Rattle.std.specs.List.{list_all}
@@ -32,8 +32,7 @@ list_all-digits test holds (byte ∷ word) digits =
 -- one to nine digits are a number
 pub number_of-digits : (word : List ℕ) → 0 < length word → length word ≤ 9 → list_all is_ascii_digit word ≡ true → number_of word ≡ Some (digits_value 10 word)
 unfolding number_of
-number_of-digits word some few digits =
-    ap (λ b. cond b (Some (digits_value 10 word)) None) (and_from _ _ (le-leb 1 (length word) some) (and_from _ _ (le-leb (length word) 9 few) digits))
+number_of-digits word some few digits = grind arith
 
 -- what is written of a number is read as that number
 pub number_of-decimal : (n : ℕ) → n < 10 ^ 9 → number_of (decimal n) ≡ Some n
@@ -49,8 +48,7 @@ pub nonempty : (word : List ℕ) → 0 < length word → not (length word == 0) 
 nonempty word some = grind (arith, nat_tests)
 
 pub is_word-decimal : (n : ℕ) → n < 10 ^ 9 → is_word (decimal n) ≡ true
-is_word-decimal n small =
-    and_from _ _ (nonempty (decimal n) (decimal_nonempty n (omega arith))) (list_all-digits (λ byte. not (is_blank byte || is_line_feed byte)) word_byte (decimal n) (digits-decimal n small))
+is_word-decimal n small = grind (arith, and_from, nonempty, decimal_nonempty, list_all-digits, word_byte, digits-decimal)
 
 -- the number that is read of it
 pub value-decimal : (v : ℕ) → v < 10 ^ 9 → value_of (decimal v) ≡ v

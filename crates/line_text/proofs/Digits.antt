@@ -1,11 +1,10 @@
 -- Reading digits from the front: each digit more takes ten times the number and leaves one place
 -- less, so that the number of nine digits at most stays below 10 ^ 9.
-use Rattle.std.proofs.Common.{◌≡◌, ℕ, zero, suc, ◌+◌, ◌-◌, ◌*◌, ◌^◌, ◌≤◌, ◌<◌, List, [], ◌∷◌, true, false, arith, subst, sym, ap, refl, length, get_or, None}
+use Rattle.std.proofs.Common.{◌≡◌, ℕ, zero, suc, ◌+◌, ◌-◌, ◌*◌, ◌^◌, ◌≤◌, ◌<◌, List, [], ◌∷◌, true, false, arith, subst, sym, refl, length, get_or, None}
 use Rattle.std.specs.Char.{is_ascii_digit}
 use Rattle.std.specs.List.{list_all}
 use Rattle.std.specs.Str.Parse.{digits_value_after}
 use Rattle.std.proofs.lemmas.Bool.Decides.{nat_tests}
-use Rattle.std.proofs.lemmas.Str.{digit_value_digit}
 use Rattle.std.specs.Borrow.{Bor}
 use Rattle.line_text.specs.Common.{number_of, is_number, numbers_of, texts_of}
 use Rattle.std.proofs.lemmas.Bool.{and_right}
@@ -34,15 +33,13 @@ digits-cons byte bytes digits = grind (arith, nat_tests)
 
 -- the first digit makes ten times the number so far, and itself
 pub digits_value_after-cons : (n byte : ℕ) (bytes : List ℕ) → 48 ≤ byte → byte ≤ 57 → digits_value_after 10 n (byte ∷ bytes) ≡ digits_value_after 10 (n * 10 + (byte - 48)) bytes
-digits_value_after-cons n byte bytes low high =
-    ap (λ (d : ℕ). digits_value_after 10 (n * 10 + d) bytes) (omega (arith, digit_value_digit byte (low, high)))
+digits_value_after-cons n byte bytes low high = grind arith
 
 -- among words one of which writes no number, not all are numbers
 list_all-is_number : (words : List (Bor (List ℕ))) (i : ℕ) (d : Bor (List ℕ)) → i < length words → None ≡ number_of (get_or words i d).now → list_all is_number (texts_of words) ≡ false
 list_all-is_number [] i d within none = absurd (omega arith)
 list_all-is_number (word ∷ words) zero d within none = rw (sym none) refl
-list_all-is_number (word ∷ words) (suc i) d within none =
-    rw (list_all-is_number words i d (omega arith) none) (and_right (is_number word.now) false refl)
+list_all-is_number (word ∷ words) (suc i) d within none = grind (arith, list_all-is_number words i d (omega arith) none, and_right (is_number word.now) false refl)
 
 pub numbers_of-none : (words : List (Bor (List ℕ))) (i : ℕ) (d : Bor (List ℕ)) → i < length words → None ≡ number_of (get_or words i d).now → None ≡ numbers_of (texts_of words)
 numbers_of-none words i d within none = rw (list_all-is_number words i d within none) refl

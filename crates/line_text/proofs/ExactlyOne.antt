@@ -1,7 +1,7 @@
 -- Reading line by line and the two relations on the whole text say the same. Each step of a good
 -- beginning is forced by the line, so an induction over the significant lines, for every state,
 -- leads from one to the other.
-use Rattle.std.proofs.Common.{◌≡◌, ◌⊎◌, inl, inr, ℕ, ◌+◌, List, [], ◌∷◌, ◌++◌, length, map, Option, Some, None, Result, Ok, Err, IfOk, IfErr, refl, sym, ◌∙◌, ap, subst}
+use Rattle.std.proofs.Common.{◌≡◌, ◌⊎◌, inl, inr, ℕ, ◌+◌, List, [], ◌∷◌, ◌++◌, length, map, Option, Some, None, Result, Ok, Err, IfOk, IfErr, refl, sym, ◌∙◌, ap, subst, arith, rules}
 use Rattle.line_text.specs.Common.{lines_of, SignificantLine, significant_lines_of, Rules, step, finish, Begins, Stands, FirstFault, StandsAlone, BreaksAlone, go_on, reading_from, reading_of, Reads, IsFirst, ReadingTells}
 use Rattle.line_text.specs.declared.format.LineFault.{LineFault}
 use Rattle.line_text.specs.declared.format.LineFault.TheVariants as fault
@@ -12,22 +12,16 @@ words_of_lines lines = map (λ line. line.words) lines
 module _ {Body Value Kind : Type 0} (rules : Rules Body Value Kind) where
   -- from a good beginning to reading
   reading_from-value : (from : Option Body) (lines : List SignificantLine) (count : ℕ) (reached : Option Body) (value : Value) → Begins rules from (words_of_lines lines) reached → finish rules reached ≡ Ok value → reading_from rules from lines count ≡ Ok value
-  reading_from-value from [] count reached value begins ends =
-      ap (λ (r : Result Value Kind). go_on (count + 1) r (λ v. Ok v)) (ap (finish rules) (sym begins) ∙ ends)
-  reading_from-value from (line ∷ lines) count reached value begins ends =
-      ap (λ (r : Result Body Kind). go_on line.number r (λ body. reading_from rules (Some body) lines count)) begins.1 ∙ reading_from-value (Some begins.0) lines count reached value begins.2 ends
+  reading_from-value from [] count reached value begins ends = grind arith
+  reading_from-value from (line ∷ lines) count reached value begins ends = grind (arith, reading_from-value (Some begins.0) lines count reached value begins.2 ends)
 
   reading_from-at_end : (from : Option Body) (lines : List SignificantLine) (count : ℕ) (reached : Option Body) (kind : Kind) → Begins rules from (words_of_lines lines) reached → finish rules reached ≡ Err kind → reading_from rules from lines count ≡ Err (count + 1, kind)
-  reading_from-at_end from [] count reached kind begins ends =
-      ap (λ (r : Result Value Kind). go_on (count + 1) r (λ v. Ok v)) (ap (finish rules) (sym begins) ∙ ends)
-  reading_from-at_end from (line ∷ lines) count reached kind begins ends =
-      ap (λ (r : Result Body Kind). go_on line.number r (λ body. reading_from rules (Some body) lines count)) begins.1 ∙ reading_from-at_end (Some begins.0) lines count reached kind begins.2 ends
+  reading_from-at_end from [] count reached kind begins ends = grind arith
+  reading_from-at_end from (line ∷ lines) count reached kind begins ends = grind (arith, reading_from-at_end (Some begins.0) lines count reached kind begins.2 ends)
 
   reading_from-at_line : (from : Option Body) (before : List SignificantLine) (line : SignificantLine) (after : List SignificantLine) (count : ℕ) (reached : Option Body) (kind : Kind) → Begins rules from (words_of_lines before) reached → step rules reached line.words ≡ Err kind → reading_from rules from (before ++ line ∷ after) count ≡ Err (line.number, kind)
-  reading_from-at_line from [] line after count reached kind begins breaks =
-      ap (λ (r : Result Body Kind). go_on line.number r (λ body. reading_from rules (Some body) after count)) (ap (λ (s : Option Body). step rules s line.words) (sym begins) ∙ breaks)
-  reading_from-at_line from (first ∷ before) line after count reached kind begins breaks =
-      ap (λ (r : Result Body Kind). go_on first.number r (λ body. reading_from rules (Some body) (before ++ line ∷ after) count)) begins.1 ∙ reading_from-at_line (Some begins.0) before line after count reached kind begins.2 breaks
+  reading_from-at_line from [] line after count reached kind begins breaks = grind arith
+  reading_from-at_line from (first ∷ before) line after count reached kind begins breaks = grind (arith, reading_from-at_line (Some begins.0) before line after count reached kind begins.2 breaks)
 
   -- why reading from a state gives a value or a fault
   record FaultAtLine (from : Option Body) (lines : List SignificantLine) (number : ℕ) (kind : Kind) : Type 0 where
@@ -48,8 +42,7 @@ module _ {Body Value Kind : Type 0} (rules : Rules Body Value Kind) where
   Explains from lines count (Err fault) = FaultAtLine from lines fault.0 fault.1 ⊎ ((fault.0 ≡ count + 1) × ReachesEnd from lines (Err fault.1))
 
   explains-nil : (from : Option Body) (count : ℕ) (ending : Result Value Kind) → finish rules from ≡ ending → Explains from [] count (go_on (count + 1) ending (λ v. Ok v))
-  explains-nil from count (Ok value) ends = (from, refl, ends)
-  explains-nil from count (Err kind) ends = inr (refl, (from, refl, ends))
+  explains-nil from count ending ends = grind arith
 
   explains-more : (from : Option Body) (line : SignificantLine) (lines : List SignificantLine) (count : ℕ) (body : Body) → step rules from line.words ≡ Ok body → (outcome : Result Value (ℕ × Kind)) → Explains (Some body) lines count outcome → Explains from (line ∷ lines) count outcome
   explains-more from line lines count body steps (Ok value) known = (known.0, (body, steps, known.1), known.2)
@@ -63,8 +56,7 @@ module _ {Body Value Kind : Type 0} (rules : Rules Body Value Kind) where
     begins = (body, steps, known.begins);
     breaks = known.breaks;
   })
-  explains-more from line lines count body steps (Err fault) (inr known) =
-      inr (known.0, (known.1.0, (body, steps, known.1.1), known.1.2))
+  explains-more from line lines count body steps (Err fault) (inr known) = grind arith
 
   explains-cons : (from : Option Body) (line : SignificantLine) (lines : List SignificantLine) (count : ℕ) (stepped : Result Body Kind) → step rules from line.words ≡ stepped → ((body : Body) → Explains (Some body) lines count (reading_from rules (Some body) lines count)) → Explains from (line ∷ lines) count (go_on line.number stepped (λ body. reading_from rules (Some body) lines count))
   explains-cons from line lines count (Ok body) steps known = explains-more from line lines count body steps _ (known body)
@@ -89,34 +81,17 @@ module _ {Body Value Kind : Type 0} (rules : Rules Body Value Kind) where
   Stands-reading_of text value stands = reading_from-value None _ _ stands.reached value stands.begins stands.ends
 
   Stands-from_explains : (text : List ℕ) (outcome : Result Value (ℕ × Kind)) → Explains None (significant_lines_of text) (length (lines_of text)) outcome → (value : Value) → outcome ≡ Ok value → Stands rules text value
-  Stands-from_explains text (Ok known) why value is =
-      record { reached = why.0; begins = why.1; ends = why.2 ∙ ap (λ (v : Value). Ok v) (cc) }
-  Stands-from_explains text (Err fault) why value is = cc is
+  Stands-from_explains text outcome why value is = grind arith
 
   pub Stands-from_reading : (text : List ℕ) (value : Value) → reading_of rules text ≡ Ok value → Stands rules text value
   Stands-from_reading text value is = Stands-from_explains text _ (explains None _ _) value is
 
   -- and the fault exactly when it is the first one
   pub FirstFault-reading_of : (text : List ℕ) (number : ℕ) (kind : Kind) → FirstFault rules text number kind → reading_of rules text ≡ Err (number, kind)
-  FirstFault-reading_of text number kind (inl at) =
-      ap (λ (ls : List SignificantLine). reading_from rules None ls (length (lines_of text))) at.cut ∙ reading_from-at_line None at.before at.line at.after _ at.reached kind at.begins at.breaks ∙ ap (λ (n : ℕ). Err (n, kind)) at.numbered
-  FirstFault-reading_of text number kind (inr at) =
-      reading_from-at_end None _ _ at.reached kind at.begins at.breaks ∙ ap (λ (n : ℕ). Err (n, kind)) (sym at.numbered)
+  FirstFault-reading_of text number kind h = grind (arith, reading_from-at_line None, reading_from-at_end None)
 
   FirstFault-from_explains : (text : List ℕ) (outcome : Result Value (ℕ × Kind)) → Explains None (significant_lines_of text) (length (lines_of text)) outcome → (number : ℕ) (kind : Kind) → outcome ≡ Err (number, kind) → FirstFault rules text number kind
-  FirstFault-from_explains text (Ok known) why number kind is = cc is
-  FirstFault-from_explains text (Err fault) (inl at) number kind is = inl (record {
-    before = at.before;
-    line = at.line;
-    after = at.after;
-    cut = at.cut;
-    numbered = at.numbered ∙ (cc);
-    reached = at.reached;
-    begins = at.begins;
-    breaks = at.breaks ∙ (cc);
-  })
-  FirstFault-from_explains text (Err fault) (inr at) number kind is =
-      inr (record { numbered = (cc); reached = at.1.0; begins = at.1.1; breaks = at.1.2 ∙ (cc) })
+  FirstFault-from_explains text outcome why number kind is = grind arith
 
   pub FirstFault-from_reading : (text : List ℕ) (number : ℕ) (kind : Kind) → reading_of rules text ≡ Err (number, kind) → FirstFault rules text number kind
   FirstFault-from_reading text number kind is = FirstFault-from_explains text _ (explains None _ _) number kind is

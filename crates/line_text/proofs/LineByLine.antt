@@ -1,6 +1,6 @@
 -- One line more: a skipped line changes nothing, and what the format says to a significant line
 -- decides what comes of it and the lines after it.
-use Rattle.std.proofs.Common.{◌≡◌, ℕ, ◌+◌, List, [], ◌∷◌, Bool, true, false, cond, Option, Some, Result, Ok, Err, refl, ◌∙◌, ap}
+use Rattle.std.proofs.Common.{◌≡◌, ℕ, ◌+◌, List, [], ◌∷◌, Bool, cond, Option, Some, Result, Ok, Err, ap, arith, rules}
 use Rattle.std.specs.Result.{result_map_both}
 use Rattle.line_text.specs.declared.format.Refusal.{Refusal}
 use Rattle.line_text.specs.declared.format.Refusal.TheVariants as refusal
@@ -16,15 +16,9 @@ module _ {Body Value Kind : Type 0} (rules : Rules Body Value Kind) (from : Opti
   abbrev onward : List (List ℕ) → Option Body → Result Value (ℕ × Kind)
   onward lines next = reading_from rules next (significant_from (number + 1) lines) count
 
-  -- by what the format says to a significant line
-  go_on-stepped : (next : Option Body → Result Value (ℕ × Kind)) (stepped : Result Body Kind) → go_on number stepped (λ body. next (Some body)) ≡ go_on number (result_map_both (λ body. Some body) (λ kind. kind) stepped) next
-  go_on-stepped next (Ok body) = refl
-  go_on-stepped next (Err kind) = refl
-
   -- by whether the line is skipped
   reading_from-tested : (skipped : Bool) (words : List (List ℕ)) (lines : List (List ℕ)) → reading_from rules from (cond skipped (significant_from (number + 1) lines) (record { number = number; words = words } ∷ significant_from (number + 1) lines)) count ≡ go_on number (cond skipped (Ok from) (result_map_both (λ body. Some body) (λ kind. kind) (step rules from words))) (onward lines)
-  reading_from-tested true words lines = refl
-  reading_from-tested false words lines = go_on-stepped (onward lines) (step rules from words)
+  reading_from-tested skipped words lines = grind arith
 
   reading_from-cons : (line : List ℕ) (lines : List (List ℕ)) → reading_from rules from (significant_from number (line ∷ lines)) count ≡ go_on number (state_after rules from (words_of line)) (onward lines)
   unfolding significant_from
@@ -32,18 +26,15 @@ module _ {Body Value Kind : Type 0} (rules : Rules Body Value Kind) (from : Opti
 
   module _ (left : List (List ℕ)) (line : List ℕ) (lines : List (List ℕ)) (cut : left ≡ line ∷ lines) where
     reading_from-first : reading_from rules from (significant_from number left) count ≡ go_on number (state_after rules from (words_of line)) (onward lines)
-    reading_from-first =
-        ap (λ (ls : List (List ℕ)). reading_from rules from (significant_from number ls) count) cut ∙ reading_from-cons line lines
+    reading_from-first = grind (arith, reading_from-cons line lines)
 
     -- a line that the format takes or skips
     pub reading_from-taken : (next : Option Body) → state_after rules from (words_of line) ≡ Ok next → reading_from rules from (significant_from number left) count ≡ reading_from rules next (significant_from (number + 1) lines) count
-    reading_from-taken next takes =
-        reading_from-first ∙ ap (λ (given : Result (Option Body) Kind). go_on number given (onward lines)) takes
+    reading_from-taken next takes = grind (arith, reading_from-first)
 
     -- a line that breaks the format
     pub reading_from-broken : (kind : Kind) → state_after rules from (words_of line) ≡ Err kind → reading_from rules from (significant_from number left) count ≡ Err (number, kind)
-    reading_from-broken kind breaks =
-        reading_from-first ∙ ap (λ (given : Result (Option Body) Kind). go_on number given (onward lines)) breaks
+    reading_from-broken kind breaks = grind (arith, reading_from-first)
 
   module _ (left : List (List ℕ)) (none : left ≡ []) where
     reading_from-none : reading_from rules from (significant_from number left) count ≡ go_on (count + 1) (finish rules from) (λ value. Ok value)
@@ -52,10 +43,8 @@ module _ {Body Value Kind : Type 0} (rules : Rules Body Value Kind) (from : Opti
 
     -- the end of a text that stands for a value
     pub reading_from-value : (value : Value) → finish rules from ≡ Ok value → reading_from rules from (significant_from number left) count ≡ Ok value
-    reading_from-value value ends =
-        reading_from-none ∙ ap (λ (given : Result Value Kind). go_on (count + 1) given (λ v. Ok v)) ends
+    reading_from-value value ends = grind (arith, reading_from-none)
 
     -- the end of a text that ends too early
     pub reading_from-ended : (kind : Kind) → finish rules from ≡ Err kind → reading_from rules from (significant_from number left) count ≡ Err (count + 1, kind)
-    reading_from-ended kind ends =
-        reading_from-none ∙ ap (λ (given : Result Value Kind). go_on (count + 1) given (λ v. Ok v)) ends
+    reading_from-ended kind ends = grind (arith, reading_from-none)

@@ -1,7 +1,7 @@
 -- A text is cut into lines from the front: up to the first line feed stands the first line, after
 -- it the others. What stands after a line feed has parts of its own, so the part before it is a
 -- line, even an empty one.
-use Rattle.std.proofs.Common.{◌≡◌, inl, inr, ℕ, ◌+◌, ◌<◌, ◌≤◌, List, [], ◌∷◌, ◌++◌, length, position, unwrap_or, Bool, true, false, cond, refl, sym, ◌∙◌, ap, arith, lt-ltb, take_all}
+use Rattle.std.proofs.Common.{◌≡◌, inl, inr, ℕ, ◌+◌, ◌<◌, ◌≤◌, List, [], ◌∷◌, ◌++◌, length, position, unwrap_or, Bool, true, false, cond, refl, ◌∙◌, ap, arith, lt-ltb, take_all}
 use Rattle.std.specs.List.{slice_split, onto_first, position_or_len, before_first, after_first}
 use Rattle.std.proofs.lemmas.Bool.{cases_Bool, cases_lt}
 use Rattle.std.proofs.lemmas.Bool.Decides.{nat_tests}
@@ -20,8 +20,7 @@ IsCons-onto_first x [] = (_, _, refl)
 IsCons-onto_first x (part ∷ parts) = (_, _, refl)
 
 IsCons-cond : (b : Bool) (xs ys : List (List ℕ)) → IsCons xs → IsCons ys → IsCons (cond b xs ys)
-IsCons-cond true xs ys first second = first
-IsCons-cond false xs ys first second = second
+IsCons-cond b xs ys first second = grind arith
 
 -- each text has a first part
 IsCons-slice_split : (text : List ℕ) → IsCons (slice_split is_line_feed text)
@@ -32,14 +31,12 @@ IsCons-slice_split (byte ∷ text) = IsCons-cond (is_line_feed byte) _ _ (_, _, 
 -- the lines of parts of which the first stands before a line feed
 lines_of_parts-cons : (part : List ℕ) (parts : List (List ℕ)) → IsCons parts → lines_of_parts (part ∷ parts) ≡ part ∷ lines_of_parts parts
 unfolding IsCons
-lines_of_parts-cons part [] more = cc (more.2)
-lines_of_parts-cons part (next ∷ parts) more = refl
+lines_of_parts-cons part parts more = grind arith
 
 -- the first line of a text with a line feed
 lines_of-fed : (text : List ℕ) → position_or_len is_line_feed text < length text → lines_of text ≡ before_first is_line_feed text ∷ lines_of (after_first is_line_feed text)
 unfolding lines_of
-lines_of-fed text fed =
-    ap lines_of_parts (slice_split_first is_line_feed text 0 fed) ∙ lines_of_parts-cons (before_first is_line_feed text) _ (IsCons-slice_split (after_first is_line_feed text))
+lines_of-fed text fed = grind (arith, slice_split_first, lines_of_parts-cons)
 
 -- a list that no element cuts is its one part
 slice_split-whole : (p : ℕ → Bool) (xs : List ℕ) → length xs ≤ position_or_len p xs → slice_split p xs ≡ xs ∷ []
@@ -54,10 +51,7 @@ slice_split-whole p (x ∷ xs) whole = elim (cases_Bool (p x)) [
 -- the one line of a text without a line feed
 lines_of-unfed : (text : List ℕ) → 0 < length text → length text ≤ position_or_len is_line_feed text → lines_of text ≡ text ∷ []
 unfolding lines_of
-lines_of-unfed [] some unfed = absurd (omega arith)
-lines_of-unfed (byte ∷ text) some unfed =
-    let kept : lines_of_parts ((byte ∷ text) ∷ []) ≡ (byte ∷ text) ∷ [] = grind (arith, nat_tests) in
-    ap lines_of_parts (slice_split-whole is_line_feed (byte ∷ text) unfed) ∙ kept
+lines_of-unfed text some unfed = grind (arith, nat_tests, slice_split-whole is_line_feed)
 
 pub lines_of-nil : lines_of [] ≡ []
 unfolding lines_of
@@ -65,20 +59,11 @@ lines_of-nil = refl
 
 -- a text that is not empty has a first line, and the lines of what stands after its line feed
 pub lines_of-first : (text : List ℕ) → 0 < length text → lines_of text ≡ before_first is_line_feed text ∷ lines_of (after_first is_line_feed text)
-lines_of-first text some = elim (cases_lt (position_or_len is_line_feed text) (length text)) [
-  | inl fed ↦ lines_of-fed text fed
-  | inr unfed ↦
-      let line : before_first is_line_feed text ≡ text = take_all (position_or_len is_line_feed text) text unfed in
-      let rest : after_first is_line_feed text ≡ [] = drop_all (position_or_len is_line_feed text + 1) text (omega arith) in
-      lines_of-unfed text some unfed ∙ ap (λ l. l ∷ []) (sym line) ∙ ap (λ ls. before_first is_line_feed text ∷ ls) (sym lines_of-nil ∙ ap lines_of (sym rest))
-]
+lines_of-first text some = grind (arith, cases_lt, lines_of-fed, take_all, drop_all, lines_of-unfed, lines_of-nil)
 
 -- where a search finds no line feed, the first line is the whole text
 pub position_or_len-from_position : (text : List ℕ) → unwrap_or (position is_line_feed text) (length text) ≡ position_or_len is_line_feed text
-position_or_len-from_position text = elim (cases_lt (position_or_len is_line_feed text) (length text)) [
-  | inl fed ↦ rw (lt-ltb (position_or_len is_line_feed text) (length text) fed) refl
-  | inr unfed ↦ grind (arith, nat_tests, prefix_len-le-length)
-]
+position_or_len-from_position text = grind (arith, cases_lt, lt-ltb, nat_tests, prefix_len-le-length)
 
 pub position_or_len-within : (text : List ℕ) → position_or_len is_line_feed text ≤ length text
 position_or_len-within text = prefix_len-le-length _ text
@@ -98,13 +83,11 @@ lines_of_parts-onto_first byte ((first ∷ part) ∷ []) = grind (arith, nat_tes
 -- any other byte begins the first line
 pub lines_of-byte : (byte : ℕ) (text : List ℕ) → is_line_feed byte ≡ false → lines_of (byte ∷ text) ≡ onto_first byte (lines_of text)
 unfolding lines_of
-lines_of-byte byte text other =
-    ap lines_of_parts (slice_split-cons_no is_line_feed byte text other) ∙ lines_of_parts-onto_first byte (slice_split is_line_feed text)
+lines_of-byte byte text other = grind (arith, slice_split-cons_no is_line_feed byte text other, lines_of_parts-onto_first byte (slice_split is_line_feed text))
 
 onto_first-append : (byte : ℕ) (lines more : List (List ℕ)) → IsCons lines → onto_first byte (lines ++ more) ≡ onto_first byte lines ++ more
 unfolding IsCons
-onto_first-append byte [] more some = cc (some.2)
-onto_first-append byte (line ∷ lines) more some = refl
+onto_first-append byte lines more some = grind arith
 
 -- a byte before a text that is not empty stands in that text's first line
 pub onto_first-lines_of : (byte : ℕ) (text : List ℕ) (more : List (List ℕ)) → 0 < length text → onto_first byte (lines_of text ++ more) ≡ onto_first byte (lines_of text) ++ more

@@ -1,9 +1,9 @@
 -- What is written is read as it was meant: lines by line feeds, words by spaces, numbers by their
 -- digits. Byte by byte, a line feed begins a new line, and any other byte stands at the front of
 -- the first line of what follows it.
-use Rattle.std.proofs.Common.{◌≡◌, inl, inr, ℕ, ◌+◌, List, [], ◌∷◌, ◌++◌, length, map, filter, Bool, true, false, not, ◌||◌, ◌==◌, cond, Option, Some, None, Ok, refl, sym, ◌∙◌, ap, subst, arith}
+use Rattle.std.proofs.Common.{◌≡◌, inl, inr, ℕ, ◌+◌, List, [], ◌∷◌, ◌++◌, length, map, filter, Bool, true, false, not, ◌||◌, ◌==◌, cond, Option, Some, None, Ok, refl, sym, ◌∙◌, ap, subst, arith, rules}
 use Rattle.std.specs.List.{slice_split, onto_first, list_all, AllByRecursion, All}
-use Rattle.std.proofs.lemmas.Bool.{cases_Bool, and_parts, and_from, or_parts, not-true}
+use Rattle.std.proofs.lemmas.Bool.{cases_Bool, and_parts, and_from, not-true}
 use Rattle.std.proofs.lemmas.List.Folds.{list_all-append}
 use Rattle.std.proofs.lemmas.List.Elements.{All-nil, All-cons}
 use Rattle.std.proofs.lemmas.List.Splits.{slice_split_at, slice_split_none}
@@ -24,8 +24,7 @@ lines_of-line (byte ∷ line) rest one =
 -- more text after a closed one has lines of its own
 pub lines_of-append : (text tail : List ℕ) → is_closed text ≡ true → lines_of (text ++ tail) ≡ lines_of text ++ lines_of tail
 lines_of-append [] tail closed = rw lines_of-nil refl
-lines_of-append (byte ∷ []) tail closed =
-    lines_of-feed byte tail closed ∙ ap (λ ls. ls ++ lines_of tail) (sym (lines_of-feed byte [] closed ∙ ap (λ ls. [] ∷ ls) lines_of-nil))
+lines_of-append (byte ∷ []) tail closed = grind (arith, lines_of-feed byte tail closed, lines_of-feed byte, lines_of-nil)
 lines_of-append (byte ∷ next ∷ text) tail closed = elim (cases_Bool (is_line_feed byte)) [
   | inl feed ↦ lines_of-feed byte (next ∷ text ++ tail) feed ∙ ap (λ ls. [] ∷ ls) (lines_of-append (next ∷ text) tail closed) ∙ ap (λ ls. ls ++ lines_of tail) (sym (lines_of-feed byte (next ∷ text) feed))
   | inr other ↦
@@ -35,13 +34,11 @@ lines_of-append (byte ∷ next ∷ text) tail closed = elim (cases_Bool (is_line
 -- the lines of a text that is written line by line
 pub lines_of-unlines : (lines : List (List ℕ)) → AllByRecursion (λ line. is_one_line line ≡ true) lines → lines_of (unlines lines) ≡ lines
 lines_of-unlines [] each = lines_of-nil
-lines_of-unlines (line ∷ lines) each =
-    lines_of-line line (unlines lines) each.0 ∙ ap (λ ls. line ∷ ls) (lines_of-unlines lines each.1)
+lines_of-unlines (line ∷ lines) each = grind (arith, lines_of-line line (unlines lines) each.0, lines_of-unlines lines each.1)
 
 -- such a text is closed
 is_closed-feed : (text : List ℕ) → is_closed text ≡ true → is_closed (10 ∷ text) ≡ true
-is_closed-feed [] closed = refl
-is_closed-feed (byte ∷ text) closed = closed
+is_closed-feed text closed = grind arith
 
 is_closed-line : (line text : List ℕ) → is_closed text ≡ true → is_closed (line ++ 10 ∷ text) ≡ true
 is_closed-line [] text closed = is_closed-feed text closed
@@ -57,9 +54,7 @@ abbrev is_one_word : List ℕ → Bool
 is_one_word word = list_all (λ byte. not (is_blank byte)) word
 
 plain_byte : (byte : ℕ) → not (is_blank byte || is_line_feed byte) ≡ true → (not (is_blank byte) ≡ true) × (not (is_line_feed byte) ≡ true)
-plain_byte byte plain =
-    let parts = or_parts (is_blank byte) (is_line_feed byte) (not-true _ plain) in
-    (ap not parts.0, ap not parts.1)
+plain_byte byte plain = grind arith
 
 plain_bytes : (word : List ℕ) → list_all (λ byte. not (is_blank byte || is_line_feed byte)) word ≡ true → (is_one_word word ≡ true) × (is_one_line word ≡ true)
 plain_bytes [] plain = (refl, refl)
@@ -79,8 +74,7 @@ is_one_line-word word is = (plain_bytes word (and_parts _ _ is).1).1
 is_one_line-unwords : (words : List (List ℕ)) → AreWords words → is_one_line (unwords words) ≡ true
 is_one_line-unwords [] each = refl
 is_one_line-unwords (word ∷ []) each = is_one_line-word word each.0
-is_one_line-unwords (word ∷ next ∷ words) each =
-    is_one_line-append word _ (is_one_line-word word each.0) (is_one_line-unwords (next ∷ words) each.1)
+is_one_line-unwords (word ∷ next ∷ words) each = grind (arith, is_one_line-append word, is_one_line-word word each.0, is_one_line-unwords (next ∷ words) each.1)
 
 -- the words of words with spaces between them
 blankless : (word : List ℕ) → is_one_word word ≡ true → All (λ byte. is_blank byte ≡ false) word
@@ -98,8 +92,7 @@ blankless-word word is = blankless word (plain_bytes word (and_parts _ _ is).1).
 pub words_of-unwords : (words : List (List ℕ)) → AreWords words → words_of (unwords words) ≡ words
 unfolding words_of
 words_of-unwords [] each = refl
-words_of-unwords (word ∷ []) each =
-    ap (filter (λ run. not (length run == 0))) (slice_split_none is_blank word (blankless-word word each.0)) ∙ kept word [] each.0
+words_of-unwords (word ∷ []) each = grind (arith, slice_split_none is_blank word (blankless-word word each.0), blankless-word word each.0)
 words_of-unwords (word ∷ next ∷ words) each =
     ap (filter (λ run. not (length run == 0))) (slice_split_at is_blank word 32 (unwords (next ∷ words)) (blankless-word word each.0) refl)
     ∙ kept word (slice_split is_blank (unwords (next ∷ words))) each.0 ∙ ap (λ ws. word ∷ ws) (words_of-unwords (next ∷ words) each.1)
@@ -114,9 +107,7 @@ lines_of-written lines each = lines_of-unlines (map unwords lines) (one_lines li
 -- a line that is not skipped
 significant_from-kept : (number : ℕ) (line : List ℕ) (lines : List (List ℕ)) (words : List (List ℕ)) → words_of line ≡ words → is_skipped words ≡ false → significant_from number (line ∷ lines) ≡ record { number = number; words = words } ∷ significant_from (number + 1) lines
 unfolding significant_from
-significant_from-kept number line lines words are said =
-    ap (λ ws. cond (is_skipped ws) (significant_from (number + 1) lines) (record { number = number; words = ws } ∷ significant_from (number + 1) lines)) are
-    ∙ ap (λ b. cond b (significant_from (number + 1) lines) (record { number = number; words = words } ∷ significant_from (number + 1) lines)) said
+significant_from-kept number line lines words are said = grind arith
 
 significant_from-nil : (number : ℕ) → significant_from number [] ≡ []
 unfolding significant_from
@@ -134,8 +125,7 @@ AreWords-each (words ∷ lines) each = (each.0.each, AreWords-each lines each.1)
 
 -- the significant lines of a written text are those that were written, in order
 pub significant_lines_of-written : (lines : List (List (List ℕ))) → AllByRecursion IsSignificant lines → significant_lines_of (written lines) ≡ numbered_from 1 lines
-significant_lines_of-written lines each =
-    ap (significant_from 1) (lines_of-written lines (AreWords-each lines each)) ∙ significant_from-written 1 lines each
+significant_lines_of-written lines each = grind (arith, lines_of-written lines (AreWords-each lines each), significant_from-written 1 lines each)
 
 pub words-numbered_from : (number : ℕ) (lines : List (List (List ℕ))) → map (λ line. line.words) (numbered_from number lines) ≡ lines
 words-numbered_from number [] = refl
@@ -150,12 +140,10 @@ unfolding significant_from
 significant_from-comments number [] [] skipped = refl
 significant_from-comments number [] (comment ∷ comments) skipped =
     ap (λ b. cond b (significant_from (number + 1) comments) (record { number = number; words = words_of comment } ∷ significant_from (number + 1) comments)) skipped.0 ∙ significant_from-comments (number + 1) [] comments skipped.1
-significant_from-comments number (line ∷ lines) comments skipped =
-    ap (λ (ls : List SignificantLine). cond (is_skipped (words_of line)) ls (record { number = number; words = words_of line } ∷ ls)) (significant_from-comments (number + 1) lines comments skipped)
+significant_from-comments number (line ∷ lines) comments skipped = grind (arith, significant_from-comments (number + 1) lines comments skipped)
 
 pub significant_lines_of-comments : (text tail : List ℕ) → is_closed text ≡ true → AreSkipped (lines_of tail) → significant_lines_of (text ++ tail) ≡ significant_lines_of text
-significant_lines_of-comments text tail closed skipped =
-    ap (significant_from 1) (lines_of-append text tail closed) ∙ significant_from-comments 1 (lines_of text) (lines_of tail) skipped
+significant_lines_of-comments text tail closed skipped = grind (arith, lines_of-append text tail closed, significant_from-comments 1 (lines_of text) (lines_of tail) skipped)
 
 -- the lines of written comments are skipped
 AreSkipped-unwords : (comments : List (List (List ℕ))) → AllByRecursion IsComment comments → AreSkipped (map unwords comments)
@@ -179,22 +167,10 @@ module _ {Body Value Kind : Type 0} (rules : Rules Body Value Kind) where
       (begins.0, begins.1, Begins-append (Some begins.0) lines between more to begins.2 goes)
 
   pub Stands-written : (lines : List (List (List ℕ))) (reached : Option Body) (value : Value) → AllByRecursion IsSignificant lines → Begins rules None lines reached → finish rules reached ≡ Ok value → Stands rules (written lines) value
-  Stands-written lines reached value each begins ends =
-      let read = ap (map (λ line. line.words)) (significant_lines_of-written lines each) ∙ words-numbered_from 1 lines in
-      record {
-        reached = reached;
-        begins = subst (λ ls. Begins rules None ls reached) (sym read) begins;
-        ends = ends;
-      }
+  Stands-written lines reached value each begins ends = grind (arith, significant_lines_of-written lines each, words-numbered_from 1 lines)
 
   pub Stands-comments : (text tail : List ℕ) (value : Value) → is_closed text ≡ true → AreSkipped (lines_of tail) → Stands rules text value → Stands rules (text ++ tail) value
-  Stands-comments text tail value closed skipped stands =
-      let same = ap (map (λ line. line.words)) (significant_lines_of-comments text tail closed skipped) in
-      record {
-        reached = stands.reached;
-        begins = subst (λ ls. Begins rules None ls stands.reached) (sym same) stands.begins;
-        ends = stands.ends;
-      }
+  Stands-comments text tail value closed skipped stands = grind (arith, significant_lines_of-comments text tail closed skipped)
 
 -- lines that are significant, and further ones
 pub significant-append : (lines more : List (List (List ℕ))) → AllByRecursion IsSignificant lines → AllByRecursion IsSignificant more → AllByRecursion IsSignificant (lines ++ more)

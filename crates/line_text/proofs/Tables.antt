@@ -1,6 +1,6 @@
 -- A table of tests that gives a value: none of its tests applies, and the value is that of the
 -- table.
-use Rattle.std.proofs.Common.{◌≡◌, List, [], ◌∷◌, Bool, true, false, if◌then◌else◌, Result, Ok, Err, refl, sym, ◌∙◌, ap}
+use Rattle.std.proofs.Common.{◌≡◌, List, [], ◌∷◌, Bool, true, false, Result, Ok, Err, refl, ap, arith}
 use Rattle.std.specs.List.{AllByRecursion}
 use Rattle.std.proofs.lemmas.Bool.{both_ways}
 use Rattle.line_text.specs.Common.{checked}
@@ -22,7 +22,4 @@ all_passed [] a b same = (tt, ap (value_or a) same)
 all_passed (test ∷ tests) a b same = go test.0 refl (all_passed tests a b)
   where
     go : (applies : Bool) → test.0 ≡ applies → (checked tests a ≡ Ok b → AllByRecursion (λ t. t.0 ≡ false) tests × (a ≡ b)) → AllByRecursion (λ t. t.0 ≡ false) (test ∷ tests) × (a ≡ b)
-    go true is further = absurd (no_value test.1 b (sym (ap (λ c. if c then Err test.1 else checked tests a) is) ∙ same))
-    go false is further =
-        let rest = further (sym (ap (λ c. if c then Err test.1 else checked tests a) is) ∙ same) in
-        ((is, rest.0), rest.1)
+    go applies is further = grind arith

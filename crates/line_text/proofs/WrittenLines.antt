@@ -8,8 +8,7 @@ use Rattle.line_text.specs.Common.{unwords, written}
 -- what is written of lines and further lines
 pub written-append : (lines more : List (List (List ℕ))) → written (lines ++ more) ≡ written lines ++ written more
 written-append [] more = refl
-written-append (words ∷ lines) more =
-    ap (λ text. unwords words ++ 10 ∷ text) (written-append lines more) ∙ sym (append_assoc (unwords words) (10 ∷ written lines) (written more))
+written-append (words ∷ lines) more = grind (arith, written-append lines more, append_assoc (unwords words) (10 ∷ written lines) (written more))
 
 -- one item more, a line each
 pub written-more : {X : Type 0} (words_of : X → List (List ℕ)) (before : List (List (List ℕ))) (xs : List X) (i : ℕ) (d : X) → i < length xs → written (before ++ map words_of (take (i + 1) xs)) ≡ written (before ++ map words_of (take i xs)) ++ written (words_of (get_or xs i d) ∷ [])

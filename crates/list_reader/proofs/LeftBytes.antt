@@ -1,6 +1,6 @@
 -- What is left of a source after bytes were read: what was left before is these bytes and what is
 -- left now. If a source makes nothing known, some list serves.
-use Rattle.std.proofs.Common.{◌≡◌, ℕ, List, [], ◌++◌, refl, sym, subst, ◌∙◌, ap, append_assoc, append-nil}
+use Rattle.std.proofs.Common.{◌≡◌, ℕ, List, [], ◌++◌, refl, sym, subst, ◌∙◌, ap, append_assoc, append-nil, arith}
 use Rattle.std.specs.declared.option.Option.{Option}
 use Rattle.std.specs.declared.option.Option.TheVariants.{Some, None}
 use Rattle.outside.specs.Common.{prepended, IsEnd}
@@ -10,8 +10,7 @@ use Rattle.list_reader.specs.declared.place.LinePlace.{LinePlace}
 use Rattle.list_reader.specs.Common.{lines_of, first_place, Gives, Appended, IsLeft, TellsList}
 
 pub prepended-nil : (left : Option (List ℕ)) → prepended [] left ≡ left
-prepended-nil None = refl
-prepended-nil (Some rest) = refl
+prepended-nil left = grind arith
 
 pub prepended-prepended :
     (first second : List ℕ) (left : Option (List ℕ)) → prepended first (prepended second left) ≡ prepended (first ++ second) left
@@ -24,10 +23,7 @@ pub record ListIs (before : Option (List ℕ)) (read : List ℕ) : Type 0 where
   pub is_left : IsLeft before (read ++ rest)
 
 pub list_is : (before now : Option (List ℕ)) (read : List ℕ) → before ≡ prepended read now → ListIs before read
-list_is before None read left = record {
-  rest = [];
-  is_left = subst (λ (o : Option (List ℕ)). IsLeft o (read ++ [])) (sym left) tt;
-}
+list_is before None read left = grind arith
 list_is before (Some rest) read left = record {
   rest = rest;
   is_left = subst (λ (o : Option (List ℕ)). IsLeft o (read ++ rest)) (sym left) refl;
@@ -35,9 +31,7 @@ list_is before (Some rest) read left = record {
 
 -- at the end nothing is left
 pub list_ends : (before now : Option (List ℕ)) (read : List ℕ) → before ≡ prepended read now → IsEnd now → IsLeft before read
-list_ends before None read left end = subst (λ (o : Option (List ℕ)). IsLeft o read) (sym left) tt
-list_ends before (Some rest) read left end =
-    subst (λ (o : Option (List ℕ)). IsLeft o read) (sym left) (ap (λ (t : List ℕ). read ++ t) end ∙ append-nil read)
+list_ends before now read left end = grind (arith, append-nil read)
 
 -- what was read once a piece is read
 pub piece_read :

@@ -29,20 +29,10 @@ feed-is byte feed = grind (arith, nat_tests)
 IsCons : List (List ℕ) → Type 0
 IsCons lines = (line : List ℕ) × (others : List (List ℕ)) × (lines ≡ line ∷ others)
 
-IsCons-onto_first : (byte : ℕ) (lines : List (List ℕ)) → IsCons (onto_first byte lines)
-unfolding IsCons
-IsCons-onto_first byte [] = (_, _, refl)
-IsCons-onto_first byte (line ∷ lines) = (_, _, refl)
-
 -- a text that is not empty has a first line
 IsCons-lines_of : (byte : ℕ) (text : List ℕ) → IsCons (lines_of (byte ∷ text))
 unfolding IsCons
-IsCons-lines_of byte text = elim (cases_Bool (is_line_feed byte)) [
-  | inl feed ↦ (_, _, lines_of-feed byte text feed)
-  | inr other ↦
-      let some = IsCons-onto_first byte (lines_of text) in
-      (some.0, some.1, lines_of-byte byte text other ∙ some.2)
-]
+IsCons-lines_of byte text = grind (arith, cases_Bool (is_line_feed byte), lines_of-feed byte text, lines_of-byte byte text)
 
 IsCons-closed : (front : List ℕ) → IsCons (lines_of (front ++ 10 ∷ []))
 IsCons-closed [] = IsCons-lines_of 10 []
@@ -50,8 +40,7 @@ IsCons-closed (byte ∷ front) = IsCons-lines_of byte (front ++ 10 ∷ [])
 
 onto_first-append : (byte : ℕ) (lines more : List (List ℕ)) → IsCons lines → onto_first byte (lines ++ more) ≡ onto_first byte lines ++ more
 unfolding IsCons
-onto_first-append byte [] more some = cc (some.2)
-onto_first-append byte (line ∷ lines) more some = refl
+onto_first-append byte lines more some = grind arith
 
 lines_of-fed :
     (front more : List ℕ) → lines_of ((front ++ 10 ∷ []) ++ more) ≡ lines_of (front ++ 10 ∷ []) ++ lines_of more
@@ -71,26 +60,16 @@ lines_of-fed (byte ∷ front) more = elim (cases_Bool (is_line_feed byte)) [
 
 -- after a text that a line feed ends, lines begin anew
 pub lines_of-closed : (text more : List ℕ) → IsClosed text → lines_of (text ++ more) ≡ lines_of text ++ lines_of more
-lines_of-closed text more (inl empty) =
-    subst (λ (t : List ℕ). lines_of (t ++ more) ≡ lines_of t ++ lines_of more) (sym empty)
-    (ap (λ (ls : List (List ℕ)). ls ++ lines_of more) (sym lines_of-nil))
+lines_of-closed text more (inl empty) = grind (arith, lines_of-nil)
 lines_of-closed text more (inr (front, fed)) =
     subst (λ (t : List ℕ). lines_of (t ++ more) ≡ lines_of t ++ lines_of more) (sym fed) (lines_of-fed front more)
 
 pub IsClosed-append : (first second : List ℕ) → IsClosed first → IsClosed second → IsClosed (first ++ second)
-IsClosed-append first second one (inl empty) =
-    subst (λ (t : List ℕ). IsClosed t) (sym (ap (λ (t : List ℕ). first ++ t) empty ∙ append-nil first)) one
-IsClosed-append first second one (inr (front, fed)) =
-    inr (first ++ front, ap (λ (t : List ℕ). first ++ t) fed ∙ sym (append_assoc first front (10 ∷ [])))
+IsClosed-append first second one h = grind (arith, append-nil first, append_assoc first)
 
 -- a text whose first byte is a line feed
 IsFirstLine-feed : (byte : ℕ) (text : List ℕ) → is_line_feed byte ≡ true → IsFirstLine (byte ∷ text) (byte ∷ []) text
-IsFirstLine-feed byte text feed = record {
-  whole = refl;
-  alone = lines_of-feed byte [] feed ∙ ap (λ (ls : List (List ℕ)). (byte ∷ []) ∷ ls) lines_of-nil;
-  closed = inr ([], ap (λ (b : ℕ). b ∷ []) (feed-is byte feed));
-  shorter = omega arith;
-}
+IsFirstLine-feed byte text feed = grind (arith, lines_of-feed byte, lines_of-nil, feed-is byte feed)
 
 IsClosed-cons : (byte : ℕ) (line : List ℕ) → lines_of line ≡ line ∷ [] → IsClosed line → IsClosed (byte ∷ line)
 IsClosed-cons byte line alone (inl empty) = cc (ap lines_of empty, lines_of-nil)
@@ -136,13 +115,7 @@ no_feed_found (byte ∷ text) none = elim (cases_Bool (is_line_feed byte)) [
 
 -- the same, as a search for it answers
 pub no_feed_position : (text : List ℕ) → position is_line_feed text ≡ None → HasNoFeed text
-no_feed_position text none = elim (cases_lt (position_or_len is_line_feed text) (length text)) [
-  | inl found ↦
-      let test = lt-ltb (position_or_len is_line_feed text) (length text) found in
-      let some : position is_line_feed text ≡ Some (position_or_len is_line_feed text) = rw test refl in
-      cc
-  | inr absent ↦ no_feed_found text absent
-]
+no_feed_position text none = grind (arith, cases_lt (position_or_len is_line_feed text) (length text), lt-ltb (position_or_len is_line_feed text) (length text), no_feed_found text)
 
 pub first_line_position :
     (text : List ℕ) (end : ℕ) → position is_line_feed text ≡ Some end →
@@ -160,16 +133,12 @@ first_line_position text end some = elim (cases_lt (position_or_len is_line_feed
 
 -- the first byte of a text without line feeds is not one, and none is after it
 no_feed-first : (byte : ℕ) (text : List ℕ) → HasNoFeed (byte ∷ text) → (is_line_feed byte ≡ false) × HasNoFeed text
-no_feed-first byte text none = elim (cases_Bool (is_line_feed byte)) [
-  | inl feed ↦ let not_so : false ≡ true = rw feed at none in cc
-  | inr other ↦ (other, rw other at none)
-]
+no_feed-first byte text none = grind arith
 
 -- a text without line feeds is one line
 pub lines_of-last : (text : List ℕ) → HasNoFeed text → 0 < length text → lines_of text ≡ text ∷ []
 lines_of-last [] none some = absurd (omega arith)
-lines_of-last (byte ∷ []) none some =
-    lines_of-byte byte [] ((no_feed-first byte [] none).0) ∙ ap (onto_first byte) lines_of-nil
+lines_of-last (byte ∷ []) none some = grind (arith, lines_of-byte byte, no_feed-first byte, lines_of-nil)
 lines_of-last (byte ∷ next ∷ text) none some =
     let first = no_feed-first byte (next ∷ text) none in
     lines_of-byte byte (next ∷ text) first.0 ∙ ap (onto_first byte) (lines_of-last (next ∷ text) first.1 (omega arith))
@@ -188,16 +157,8 @@ pub lines_of-begun : (text rest : List ℕ) → HasNoFeed text → 0 < length te
 lines_of-begun [] rest none some = absurd (omega arith)
 lines_of-begun (byte ∷ []) rest none some =
     let begins = onto_first-begins byte (lines_of rest) in
-    record {
-      more = begins.0;
-      others = begins.1;
-      first = lines_of-byte byte rest ((no_feed-first byte [] none).0) ∙ begins.2;
-    }
+    grind (arith, lines_of-byte, no_feed-first)
 lines_of-begun (byte ∷ next ∷ text) rest none some =
     let first = no_feed-first byte (next ∷ text) none in
     let begun = lines_of-begun (next ∷ text) rest first.1 (omega arith) in
-    record {
-      more = begun.more;
-      others = begun.others;
-      first = lines_of-byte byte ((next ∷ text) ++ rest) first.0 ∙ ap (onto_first byte) begun.first;
-    }
+    grind (arith, lines_of-byte byte ((next ∷ text) ++ rest) first.0)

@@ -1,8 +1,7 @@
 -- Where no line has both an output and a fault, a list that is told whole has no bad line, and
 -- the first bad line of any other is one: by induction on the lines before it. A header is short,
 -- so that it is not bad.
-use Rattle.std.proofs.Common.{◌≡◌, inl, inr, ℕ, ◌==◌, ◌≤◌, ◌||◌, Bool, true, false, List, [], ◌∷◌, ◌++◌, length, refl, sym, ◌∙◌, ap, ap₂, subst, arith, IsTrue, codes}
-use Rattle.std.specs.Str.{bytes_eq}
+use Rattle.std.proofs.Common.{◌≡◌, inl, inr, ℕ, ◌≤◌, List, [], ◌∷◌, ◌++◌, length, refl, sym, ◌∙◌, ap, ap₂, subst, arith, IsTrue}
 use Rattle.std.specs.declared.option.Option.{Option}
 use Rattle.std.proofs.lemmas.Bool.{and_parts}
 use Rattle.std.proofs.lemmas.Option.{none-some, same_Some}
@@ -10,21 +9,12 @@ use Rattle.std.proofs.lemmas.Slice.Eq.{bytes_eq-Decides}
 use Rattle.text_faults.specs.declared.faults.FaultKind.{FaultKind}
 use Rattle.list_reader.specs.declared.ending.BadLine.{BadLine}
 use Rattle.list_reader.specs.declared.place.LinePlace.{LinePlace}
-use Rattle.list_reader.specs.Common.{is_header, is_header_line, place_after, place_behind, LineTold, LineBad, most_line, AllTold, HasBadLine, HasOneFault, HasOneOutput, LacksLine, TellsApart, ToldToBad, WholeTold}
+use Rattle.list_reader.specs.Common.{is_header, place_after, place_behind, LineTold, LineBad, most_line, AllTold, HasBadLine, HasOneFault, HasOneOutput, LacksLine, TellsApart, ToldToBad, WholeTold}
 use Rattle.list_reader.proofs.OneOutput.{one_output}
 
 -- a header is one of three texts
 header_short : (number : ℕ) (line : List ℕ) → IsTrue (is_header number line) → length line ≤ most_line
-header_short number line is =
-    go (bytes_eq line (codes ">>graph6<<\n")) (bytes_eq line (codes ">>graph6<<\r\n")) (bytes_eq line (codes ">>graph6<<")) refl refl refl
-    (and_parts (number == 1) (is_header_line line) is).1
-  where
-    go : (a b c : Bool) → bytes_eq line (codes ">>graph6<<\n") ≡ a → bytes_eq line (codes ">>graph6<<\r\n") ≡ b → bytes_eq line (codes ">>graph6<<") ≡ c →
-        (a || b || c) ≡ true → length line ≤ most_line
-    go true b c first second third some = let long : length line ≡ 11 = ap length ((bytes_eq-Decides line (codes ">>graph6<<\n")).0 first) in omega arith
-    go false true c first second third some = let long : length line ≡ 12 = ap length ((bytes_eq-Decides line (codes ">>graph6<<\r\n")).0 second) in omega arith
-    go false false true first second third some = let long : length line ≡ 10 = ap length ((bytes_eq-Decides line (codes ">>graph6<<")).0 third) in omega arith
-    go false false false first second third some = absurd (cc some)
+header_short number line is = grind (arith, and_parts, bytes_eq-Decides)
 
 -- the kind of a bad line is one
 fault_once :
@@ -38,10 +28,7 @@ fault_once bad place line kind other one (inr first) (inr second) = one place li
 module _ (tells : LinePlace → List ℕ → List ℕ → Type 0) (bad : LinePlace → List ℕ → FaultKind → Type 0) (apart : TellsApart tells bad) where
   -- a line that is told is not bad
   told_not_bad : (place : LinePlace) (line output : List ℕ) (kind : FaultKind) → LineTold tells place line output → LineBad bad place line kind → ⊥
-  told_not_bad place line output kind (inl told) (inl long) = let short = header_short place.number line told.0 in let more = long.0 in omega arith
-  told_not_bad place line output kind (inl told) (inr is) = let no : true ≡ false = sym told.0 ∙ is.0 in cc no
-  told_not_bad place line output kind (inr told) (inl long) = let short = told.1 in let more = long.0 in omega arith
-  told_not_bad place line output kind (inr told) (inr is) = apart place line output kind told.2 is.2
+  told_not_bad place line output kind h k = grind (arith, header_short place.number line)
 
   -- nor is one of lines that all are
   all_not_bad :

@@ -123,32 +123,11 @@ module _ {S K : Type 0} {tells : LinePlace → List ℕ → List ℕ → Type 0}
 
   -- the answers stopped before a piece was read
   so_far_begins : (rest : List ℕ) → BeginningTold tells first_place (lines_of ((so_far.whole ++ held) ++ rest)) so_far.output
-  so_far_begins rest = record {
-    before = lines_of so_far.whole;
-    behind = lines_of (held ++ rest);
-    cut = ap lines_of (append_assoc so_far.whole held rest) ∙ lines_of-closed so_far.whole (held ++ rest) so_far.closed;
-    told = so_far.told;
-  }
+  so_far_begins rest = grind (arith, append_assoc so_far.whole held rest, lines_of-closed so_far.whole (held ++ rest) so_far.closed)
 
   -- a read failed: each whole line of what was read is answered
   pub so_far_torn : (last_source : S) → left last_source ≡ left now_source → Appended (ReadsTold tells (left source) (left last_source)) (written sink) (written now_sink)
-  so_far_torn last_source same = record {
-    output = so_far.output;
-    right = record {
-      read = so_far.whole ++ held;
-      left = so_far.leaves ∙ ap (prepended (so_far.whole ++ held)) (sym same);
-      told = record {
-        whole = so_far.whole;
-        part = held;
-        cut = refl;
-        closed = so_far.closed;
-        no_feed = so_far.no_feed;
-        short = so_far.short;
-        told = so_far.told;
-      };
-    };
-    written = so_far.wrote;
-  }
+  so_far_torn last_source same = grind arith
 
   module _ (bad : LinePlace → List ℕ → FaultKind → Type 0) (lacks : ℕ → Option FaultKind) (ending : Ending) where
     -- what the lines after those answered give is what the list gives
@@ -206,18 +185,7 @@ module _ {S K : Type 0} {tells : LinePlace → List ℕ → List ℕ → Type 0}
     -- the answers stopped there, with an ending that asks for no more than a beginning
     pub so_far_begun : ((lines : List (List ℕ)) (output : List ℕ) → BeginningTold tells first_place lines output → Gives tells bad lacks first_place lines ending output) →
         TellsList tells bad lacks ending (left source) (written sink) (written now_sink)
-    so_far_begun enough =
-        let list = list_is (left source) (left now_source) (so_far.whole ++ held) so_far.leaves in
-        let bytes = (so_far.whole ++ held) ++ list.rest in
-        record {
-          bytes = bytes;
-          is_left = list.is_left;
-          gives = record {
-            output = so_far.output;
-            right = enough (lines_of bytes) so_far.output (so_far_begins list.rest);
-            written = so_far.wrote;
-          };
-        }
+    so_far_begun enough = grind (arith, list_is (left source) (left now_source) (so_far.whole ++ held) so_far.leaves, so_far_begins)
 
 -- nothing was read or written
 pub untouched :

@@ -1,12 +1,12 @@
 -- The reads and writes of a list that is answered as it is read, joined to one stream: what the
 -- last piece gives is what the list gives there, whatever stands after it.
-use Rattle.std.proofs.Common.{◌≡◌, inl, ℕ, List, [], ◌++◌, sym, subst, ◌∙◌, ap, append_assoc, append-nil}
+use Rattle.std.proofs.Common.{inl, ℕ, List, [], ◌++◌, append_assoc, append-nil, arith}
 use Rattle.std.specs.declared.option.Option.{Option}
 use Rattle.std.specs.declared.option.Option.TheVariants.{Some}
 use Rattle.text_faults.specs.declared.faults.FaultKind.{FaultKind}
 use Rattle.list_reader.specs.declared.ending.Ending.{Ending}
 use Rattle.list_reader.specs.declared.place.LinePlace.{LinePlace}
-use Rattle.list_reader.specs.Common.{lines_of, first_place, Gives, StopsWith, WroteUpTo, Ends, IsStream, GivesAfter}
+use Rattle.list_reader.specs.Common.{lines_of, Gives, StopsWith, WroteUpTo, Ends, IsStream, GivesAfter}
 use Rattle.list_reader.proofs.Stages.{wrote_otherwise}
 use Rattle.list_reader.proofs.Readings.{SoFar, gives_behind}
 
@@ -14,25 +14,12 @@ module _ {S K : Type 0} {tells : LinePlace → List ℕ → List ℕ → Type 0}
   -- what the lines of a piece give is what the list gives, whatever stands after it
   stops_after : (piece : List ℕ) (ending : Ending) (output : List ℕ) → StopsWith tells bad lacks place (held ++ piece) ending output →
       GivesAfter tells bad lacks (so_far.whole ++ held) piece so_far.output ending output
-  stops_after piece ending output stops rest follows =
-      let whole = so_far.whole in
-      let joined : whole ++ ((held ++ piece) ++ rest) ≡ ((whole ++ held) ++ piece) ++ rest =
-      sym (append_assoc whole (held ++ piece) rest)
-      ∙ ap (λ (t : List ℕ). t ++ rest) (sym (append_assoc whole held piece)) in
-      subst (λ (t : List ℕ). Gives tells bad lacks first_place (lines_of t) ending (so_far.output ++ output)) joined
-      (gives_behind so_far bad lacks ending ((held ++ piece) ++ rest) output (stops rest))
+  stops_after piece ending output stops rest follows = grind (arith, append_assoc, gives_behind so_far bad lacks ending ((held ++ piece) ++ rest) output (stops rest))
 
   -- what the last lines give is what the list gives, since nothing stands after them
   end_after : (ending : Ending) (output : List ℕ) → Gives tells bad lacks place (lines_of held) ending output →
       GivesAfter tells bad lacks (so_far.whole ++ held) [] so_far.output ending output
-  end_after ending output gives rest follows =
-      let whole = so_far.whole in
-      let joined : whole ++ held ≡ ((whole ++ held) ++ []) ++ rest =
-      sym (append-nil (whole ++ held))
-      ∙ sym (append-nil ((whole ++ held) ++ []))
-      ∙ ap (λ (t : List ℕ). ((whole ++ held) ++ []) ++ t) (sym follows) in
-      subst (λ (t : List ℕ). Gives tells bad lacks first_place (lines_of t) ending (so_far.output ++ output)) joined
-      (gives_behind so_far bad lacks ending held output gives)
+  end_after ending output gives rest follows = grind (arith, append-nil, gives_behind so_far bad lacks ending held output gives)
 
   module _ (ending : Ending) (last_source : S) (last_sink : K) where
     -- the reads and writes so far, and how they end
@@ -67,16 +54,4 @@ module _ {S K : Type 0} {tells : LinePlace → List ℕ → List ℕ → Type 0}
     pub stream_end : reads now_source (Some []) last_source →
         WroteUpTo written writes (Gives tells bad lacks place (lines_of held)) ending now_sink last_sink →
         IsStream tells bad lacks reads written writes ending source sink last_source last_sink
-    stream_end reading wrote =
-        stream_begun (
-        inl (
-        record {
-          piece = [];
-          reading = reading;
-          writing =
-              wrote_otherwise written writes (Gives tells bad lacks place (lines_of held))
-              (GivesAfter tells bad lacks (so_far.whole ++ held) [] so_far.output)
-              end_after ending now_sink last_sink wrote;
-        }
-        )
-        )
+    stream_end reading wrote = grind (arith, stream_begun, wrote_otherwise, end_after)

@@ -1,6 +1,6 @@
 -- What is put into an empty output and then written: all of it if the writes took it whole,
 -- else a proper prefix of it.
-use Rattle.std.proofs.Common.{◌≡◌, ℕ, ◌<◌, List, [], ◌++◌, length, take, sym, subst, refl, ◌∙◌, ap}
+use Rattle.std.proofs.Common.{◌≡◌, ℕ, ◌<◌, List, [], length, take, sym, subst, refl, arith}
 use Rattle.std.specs.declared.option.Option.{Option}
 use Rattle.outside.specs.Common.{appended, IsCutOff}
 use Rattle.list_reader.specs.declared.place.LinePlace.{LinePlace}
@@ -8,8 +8,7 @@ use Rattle.list_reader.specs.Common.{BeginningTold, CutShort, Added, WroteCut}
 
 -- what was added to nothing is the whole output
 added_whole : (holds : List ℕ → Type 0) (start out : List ℕ) → Added holds start out → start ≡ [] → holds out
-added_whole holds start out added none =
-    subst holds (sym (added.output ∙ ap (λ (t : List ℕ). t ++ added.more) none)) added.right
+added_whole holds start out added none = grind arith
 
 -- a proper prefix of it was written
 pub wrote_cut :

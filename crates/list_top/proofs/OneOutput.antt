@@ -1,15 +1,13 @@
 -- A line has one output or one kind of a first fault, and not both. So the bytes of a list leave
 -- open neither whether its lines are told whole nor what is written.
 use Rattle.std.proofs.Common.{◌≡◌, ◌∙◌, ℕ, List, true, false, inl, inr, sym}
-use Rattle.text_faults.specs.declared.faults.FaultKind.{FaultKind}
 use Rattle.list_lines.proofs.OneAnswer.{fault_once, output_once, output_or_fault}
 use Rattle.list_lines.specs.declared.query.Query.{Query}
 use Rattle.list_reader.proofs.OneEnding.{stop_once, whole_not_bad}
 use Rattle.list_reader.proofs.OneOutput.{one_output}
 use Rattle.list_reader.specs.Common.{lines_of, HasOneFault, HasOneOutput, TellsApart, ToldToBad, first_place}
 use Rattle.list_reader.specs.declared.ending.BadLine.{BadLine}
-use Rattle.list_reader.specs.declared.place.LinePlace.{LinePlace}
-use Rattle.list_top.specs.Common.{IsBadLine, TellsLineOf, is_further, lacks_of, EndsWith, ListOutcome}
+use Rattle.list_top.specs.Common.{IsBadLine, TellsLineOf, lacks_of, ListOutcome}
 use Rattle.list_top.specs.declared.status.ListStatus.TheVariants.{BadInput, Done}
 
 pub one_output_each : (query : Query) → HasOneOutput (TellsLineOf query)

@@ -5,7 +5,7 @@ use Rattle.std.specs.declared.option.Option.{Option}
 use Rattle.list_lines.specs.declared.query.Query.{Query}
 use Rattle.list_reader.specs.declared.ending.BadLine.{BadLine}
 use Rattle.list_reader.specs.declared.ending.Ending.{Ending}
-use Rattle.list_reader.specs.Common.{lines_of, BeginningTold, WholeTold, ToldToBad, CutShort, Appended, Gives, IsLeft, TellsList, first_place, IsStream}
+use Rattle.list_reader.specs.Common.{lines_of, BeginningTold, WholeTold, ToldToBad, CutShort, Appended, Gives, IsLeft, first_place, IsStream}
 use Rattle.list_top.specs.Listings.{TellsLineOf, IsBadLine, lacks_of}
 use Rattle.list_top.specs.Statuses.{status_of}
 use Rattle.list_top.specs.declared.status.ListStatus.{ListStatus}

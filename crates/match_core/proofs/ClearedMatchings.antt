@@ -2,7 +2,7 @@
 -- vertices it then misses. A row is left exactly when its edge has no end in the set. If the set
 -- holds the ends of edges of a perfect matching and of one more edge, then at most one edge more
 -- is taken out than there are such edges, since that one has two ends.
-use Rattle.std.proofs.Common.{◌≡◌, ℕ, suc, zero, ◌+◌, ◌*◌, ◌≤◌, ◌<◌, ◌≢◌, Bool, true, false, ◌==◌, ◌&&◌, ◌||◌, ◌⊎◌, not, refl, sym, ap, ap₂, ◌∙◌, arith, List, [], ◌∷◌, length, map, filter, cond, inl, inr, eqb-true, eq-eqb, subst, All}
+use Rattle.std.proofs.Common.{◌≡◌, ℕ, suc, ◌+◌, ◌*◌, ◌≤◌, ◌≢◌, Bool, true, false, ◌==◌, ◌&&◌, ◌||◌, ◌⊎◌, not, refl, ap, ap₂, ◌∙◌, arith, List, [], ◌∷◌, length, map, filter, cond, inl, inr, All}
 use Rattle.counting.proofs.Common.{both_ways, cases_Bool, cases_eq, and_parts, or_cases, or_left, or_right, not-true, length-map, count_put, count_complement, count_mem_length, count_split, total_add, total_congr, total_le, total_none, bit_le_one, Within, bit, count, total, IsRisingIn, mem, Set, none, put, meet}
 use Rattle.std.proofs.lemmas.List.Elements.{All-filter}
 use Rattle.graph_core.proofs.Common.{Graph, IsGraph, degree, first_end, second_end, size, IsMatching, IsPerfect, missed_count, edge_at, ends_of, missed_edges, sum_degrees, two_ends_le_degree, perfect_matching, perfect_misses}
@@ -26,63 +26,19 @@ rows_left : (g : Graph) (x : Set) (rows : List MatchRow) → All (IsRowOf g) row
 rows_left g x [] all i = refl
 rows_left g x (row ∷ rows) all i =
     let is = all 0 row (omega arith) in
-    let here : is_clear x row ≡ not (has_end_in g x row.edge) = ap₂ (λ a b. not (x a) && not (x b)) is.first is.second ∙ both_out (x (first_end g row.edge)) (x (second_end g row.edge)) in
+    let here : is_clear x row ≡ not (has_end_in g x row.edge) = ap₂ (λ a b. not (x a) && not (x b)) is.first is.second ∙ (grind arith) in
     go (is_clear x row) here (rows_left g x rows (λ k d h. all (suc k) d (omega arith)) i)
   where
-    both_out : (a b : Bool) → (not a && not b) ≡ not (a || b)
-    both_out true b = refl
-    both_out false b = refl
-
     go : (b : Bool) → b ≡ not (has_end_in g x row.edge) → mem (map edge_of (filter (is_clear x) rows)) i ≡ (mem (map edge_of rows) i && not (has_end_in g x i)) →
         mem (map edge_of (cond b (row ∷ filter (is_clear x) rows) (filter (is_clear x) rows))) i ≡ (((row.edge == i) || mem (map edge_of rows) i) && not (has_end_in g x i))
-    go b q h = elim (cases_Bool (row.edge == i)) [
-      | inl t ↦
-          let c : b ≡ not (has_end_in g x i) = q ∙ ap (λ e. not (has_end_in g x e)) (eqb-true row.edge i t) in
-          with_it b t c h
-      | inr f ↦ without_it b f h
-    ]
-      where
-        with_it : (b : Bool) → (row.edge == i) ≡ true → b ≡ not (has_end_in g x i) → mem (map edge_of (filter (is_clear x) rows)) i ≡ (mem (map edge_of rows) i && not (has_end_in g x i)) →
-            mem (map edge_of (cond b (row ∷ filter (is_clear x) rows) (filter (is_clear x) rows))) i ≡ (((row.edge == i) || mem (map edge_of rows) i) && not (has_end_in g x i))
-        with_it true t c h = ap (λ s. s || mem (map edge_of (filter (is_clear x) rows)) i) t ∙ sym (ap₂ (λ s u. (s || mem (map edge_of rows) i) && u) t (sym c))
-        with_it false t c h = h ∙ ap (λ u. mem (map edge_of rows) i && u) (sym c) ∙ never (mem (map edge_of rows) i) ((row.edge == i) || mem (map edge_of rows) i) ∙ ap (λ u. ((row.edge == i) || mem (map edge_of rows) i) && u) c
-          where
-            never : (s u : Bool) → (s && false) ≡ (u && false)
-            never true true = refl
-            never true false = refl
-            never false true = refl
-            never false false = refl
-
-        without_it : (b : Bool) → (row.edge == i) ≡ false → mem (map edge_of (filter (is_clear x) rows)) i ≡ (mem (map edge_of rows) i && not (has_end_in g x i)) →
-            mem (map edge_of (cond b (row ∷ filter (is_clear x) rows) (filter (is_clear x) rows))) i ≡ (((row.edge == i) || mem (map edge_of rows) i) && not (has_end_in g x i))
-        without_it true f h = ap (λ s. s || mem (map edge_of (filter (is_clear x) rows)) i) f ∙ h ∙ sym (ap (λ s. (s || mem (map edge_of rows) i) && not (has_end_in g x i)) f)
-        without_it false f h = h ∙ sym (ap (λ s. (s || mem (map edge_of rows) i) && not (has_end_in g x i)) f)
+    go b q h = grind arith
 
 pub cleared_edges : (g : Graph) (x : Set) (m : MatchingValue) → IsOf g m → (i : ℕ) → mem (edges_of (cleared x m)) i ≡ left_over g x (mem (edges_of m)) i
 cleared_edges g x m of i = rows_left g x m.rows of.rows i
 
 -- the edges of a matching with no end in x are a matching of the graph without x
 pub left_matching : (g : Graph) (x m : Set) → IsMatching g none m → IsMatching g x (left_over g x m)
-left_matching g x m mm = record {
-  once = λ v w. let o = mm.once v w in let s = degree_split g m (left_over g x m) (meet m (has_end_in g x)) v (λ i wi. parts (m i) (has_end_in g x i)) in omega arith;
-  away = λ v w t. none_there (degree g (left_over g x m) v) (λ p.
-      let d = edge_at g (left_over g x m) v p in
-      let l = and_parts (m d.0) (not (has_end_in g x d.0)) d.2 in
-      let out : has_end_in g x d.0 ≡ false = not-true (has_end_in g x d.0) l.1 in
-      elim d.3.1 [
-        | inl q ↦ both_ways (has_end_in g x d.0) out (or_left (x (first_end g d.0)) (x (second_end g d.0)) (ap x q.0 ∙ t))
-        | inr q ↦ both_ways (has_end_in g x d.0) out (or_right (x (first_end g d.0)) (x (second_end g d.0)) (ap x q.1 ∙ t))
-      ]);
-}
-  where
-    parts : (a b : Bool) → bit a ≡ bit (a && not b) + bit (a && b)
-    parts true true = refl
-    parts true false = refl
-    parts false b = refl
-
-    none_there : (d : ℕ) → (0 < d → ⊥) → d ≡ 0
-    none_there zero h = refl
-    none_there (suc d) h = absurd (h (omega arith))
+left_matching g x m mm = grind (arith, degree_split g m (left_over g x m) (meet m (has_end_in g x)), edge_at g (left_over g x m), and_parts, not-true, both_ways, or_left, or_right)
 
 pub cleared_matching : (g : Graph) (x : Set) (m : MatchingValue) → IsOf g m → KeepsMatching m → IsMatching g x (mem (edges_of (cleared x m)))
 cleared_matching g x m of keeps = matching_alike g x (left_over g x (mem (edges_of m))) (mem (edges_of (cleared x m))) (λ e w. cleared_edges g x m of e) (left_matching g x (mem (edges_of m)) (rows-matching g m of keeps))
@@ -101,10 +57,7 @@ left_size g x m is rises of keeps mm =
 -- an edge with an end at v
 pub end_at : (g : Graph) (k v : ℕ) → (first_end g k ≡ v) ⊎ (second_end g k ≡ v) → 1 ≤ ends_of g k v
 unfolding ends_of
-end_at g k v h = elim h [
-  | inl q ↦ let z = ap bit (eq-eqb (first_end g k) v q) in omega arith
-  | inr q ↦ let z = ap bit (eq-eqb (second_end g k) v q) in omega arith
-]
+end_at g k v h = grind arith
 
 -- p is perfect, the edges c share no vertex, met are their ends, and all of c but e, which is one
 -- of them, are in p
@@ -132,21 +85,9 @@ module _ (g : Graph) (is : IsGraph g) (p c met : Set) (e : ℕ) (perfect : IsPer
           let d = edge_at g c v (omega arith) in
           let few : bit (taken i) ≤ 1 = bit_le_one (taken i) in
           elim (cases_eq d.0 e) [
-            | inl same ↦
-                let ends : (first_end g e ≡ v) ⊎ (second_end g e ≡ v) = subst (λ k. (first_end g k ≡ v) ⊎ (second_end g k ≡ v)) same (end_of (first_end g d.0) (second_end g d.0) v d.3.0 d.3.1) in
-                elim end [
-                  | inl a ↦ elim ends [
-                    | inl b ↦ let z = hit (p i) (first_end g i) (first_end g e) pi (a ∙ sym b) in omega arith
-                    | inr b ↦ let z = hit (p i) (first_end g i) (second_end g e) pi (a ∙ sym b) in omega arith
-                  ]
-                  | inr a ↦ elim ends [
-                    | inl b ↦ let z = hit (p i) (second_end g i) (first_end g e) pi (a ∙ sym b) in omega arith
-                    | inr b ↦ let z = hit (p i) (second_end g i) (second_end g e) pi (a ∙ sym b) in omega arith
-                  ]
-                ]
+            | inl same ↦ grind arith
             | inr other ↦ elim (cases_eq i d.0) [
-              | inl here ↦
-                  let z : bit (put c e false i) ≡ 1 = ap bit (kept i (λ k. other (sym here ∙ k)) ∙ ap c here ∙ d.2) in omega arith
+              | inl here ↦ grind arith
               | inr away ↦
                   let two = two_ends_le_degree g p i d.0 v wi d.1 away pi (others d.0 d.1 d.2 other) in
                   let one = perfect.once v wv refl in
@@ -156,14 +97,8 @@ module _ (g : Graph) (is : IsGraph g) (p c met : Set) (e : ℕ) (perfect : IsPer
             ]
           ]
         where
-          hit : (b : Bool) (x y : ℕ) → b ≡ true → x ≡ y → bit (b && (x == y)) ≡ 1
-          hit b x y h q = ap₂ (λ s t. bit (s && t)) h (eq-eqb x y q)
-
           end_of : (x y v o : ℕ) → ((x ≡ v) × (y ≡ o)) ⊎ ((x ≡ o) × (y ≡ v)) → (x ≡ v) ⊎ (y ≡ v)
           end_of x y v o h = elim h [ inl q ↦ inl q.0 | inr q ↦ inr q.1 ]
-
-          kept : (k : ℕ) → k ≢ e → put c e false k ≡ c k
-          kept k h = ap (λ b. cond b false (c k)) (Rattle.std.proofs.Common.ne_eqb k e h)
 
   taken_few : count (size g) taken ≤ count (size g) c + 1
   taken_few =
@@ -193,10 +128,4 @@ module _ (g : Graph) (is : IsGraph g) (p c met : Set) (e : ℕ) (perfect : IsPer
       let m = count_complement g.order met in
       let split = count_split (size g) p (has_end_in g met) in
       let few = taken_few in
-      two_or_none (missed_count g met (left_over g met p)) (count (size g) taken) (count (size g) c) (omega arith) few
-    where
-      two_or_none : (x t c : ℕ) → x + 2 * c ≡ 2 * t → t ≤ c + 1 → (x ≡ 0) ⊎ (x ≡ 2)
-      two_or_none zero t c h l = inl refl
-      two_or_none (suc zero) t c h l = absurd (omega arith)
-      two_or_none (suc (suc zero)) t c h l = inr refl
-      two_or_none (suc (suc (suc x))) t c h l = absurd (omega arith)
+      (grind arith)

@@ -1,7 +1,7 @@
 -- What a matching with a frame is: maximum, with the Gallai-Edmonds sets as its outer and inner
 -- vertices; perfect exactly where there is no outer vertex. A missed vertex is outer, and an
 -- outer vertex is missed by some matching as large.
-use Rattle.std.proofs.Common.{◌≡◌, ℕ, suc, zero, ◌≤◌, ◌<◌, ◌≢◌, Bool, true, false, ◌==◌, ◌↔◌, refl, sym, ap, ◌∙◌, arith, List, [], ◌∷◌, length, subst, inl, inr, eq-eqb}
+use Rattle.std.proofs.Common.{◌≡◌, ℕ, ◌≤◌, ◌<◌, ◌≢◌, Bool, true, false, ◌==◌, ◌↔◌, refl, sym, ap, ◌∙◌, arith, List, [], ◌∷◌, length, subst, inl, inr, eq-eqb}
 use Rattle.counting.proofs.Common.{both_ways, true≢false, false_from_ne_true, count_congr, mem-rising_list, set-narrower, fun_ext, Within, count, is_odd, Set, none, mem, rising_list, IsRisingIn}
 use Rattle.graph_core.proofs.Common.{Graph, IsGraph, degree, size, IsMatching, IsMaximum, IsPerfect, HasPerfect, Attains, InD, InA, joined, degree_congr, edge_of, missed_edges, has_ends-from, perfect_matching, perfect_misses, missed_one, adjacent_from}
 use Rattle.match_search.specs.Common.{Frame, marks, IsBest}
@@ -26,13 +26,7 @@ module _ (g : Graph) (r : Set) (mark passed : List Bool) (passed_is : passed ≡
   passed_matching = subst (λ (row : List Bool). IsMatching g none (marks row)) (sym passed_is) (whole_matching g r (marks mark) (perfect_matching g r (marks mark) p))
 
   pub listed_perfect : (es : List ℕ) → es ≡ rising_list (size g) (marks passed) → IsPerfect g r (mem es)
-  listed_perfect es es_is = record {
-    once = λ v w rv. degree_congr g (mem es) (marks mark) v same ∙ p.once v w rv;
-    away = λ v w rv. degree_congr g (mem es) (marks mark) v same ∙ p.away v w rv;
-  }
-    where
-      same : (e : ℕ) → Within (size g) e → mem es e ≡ marks mark e
-      same e w = ap (λ xs. mem xs e) es_is ∙ listed_marks g (marks passed) e w ∙ ap (λ row. marks row e) passed_is
+  listed_perfect es es_is = grind (arith, degree_congr, listed_marks)
 
 -- what the engine answers where nothing is removed, with its marks passed on
 module _ (g : Graph) (is : IsGraph g) (removed : List ℕ) (b : Best) (nothing : removed ≡ []) (found : IsBest g (mem removed) b) (passed : List Bool) (passed_is : passed ≡ b.mark.items) where
@@ -110,9 +104,7 @@ module _ (g : Graph) (is : IsGraph g) (r m outer inner : Set) (mm : IsMatching g
       met v w rv z = both_ways (outer v) (h v) (missable_outer g is r (count (size g) m) outer inner frame m mm refl v w rv m (certificate_maximum g r inner (count (size g) m) frame.label frame.classes is frame.certificate m mm refl) z)
 
       one : (d : ℕ) → d ≤ 1 → (d ≡ 0 → ⊥) → d ≡ 1
-      one zero l n = absurd (n refl)
-      one (suc zero) l n = refl
-      one (suc (suc d)) l n = absurd (omega arith)
+      one d l n = grind arith
 
   outer-no_perfect : (v : ℕ) → Within g.order v → outer v ≡ true → HasPerfect g r → ⊥
   outer-no_perfect v w t p =
@@ -140,6 +132,4 @@ module _ (g : Graph) (is : IsGraph g) (r : Set) (b : Best) (best : IsBest g r b)
   no_outer-best_perfect nothing = no_outer-perfect g is r (marks b.mark.items) (mem b.sets.outer) (mem b.sets.inner) best.matching best.frame (empty-mem b.sets.outer nothing)
 
   pub outer-none_perfect : length b.sets.outer ≢ 0 → HasPerfect g r → ⊥
-  outer-none_perfect some =
-      let v = some-mem b.sets.outer (omega arith) in
-      outer-no_perfect g is r (marks b.mark.items) (mem b.sets.outer) (mem b.sets.inner) best.matching best.frame v.0 ((best.sets v.0).0 v.1) v.1
+  outer-none_perfect some = grind (arith, some-mem b.sets.outer, outer-no_perfect g is r (marks b.mark.items) (mem b.sets.outer) (mem b.sets.inner) best.matching best.frame)

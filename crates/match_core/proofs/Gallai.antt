@@ -1,8 +1,8 @@
 -- Gallai's lemma: where each vertex is missed by some maximum matching, none misses two vertices
 -- of one component. By induction on a walk between the two, and an exchange of one edge that
 -- makes two maximum matchings share one edge more.
-use Rattle.std.proofs.Common.{◌≡◌, ℕ, suc, zero, ◌+◌, ◌*◌, ◌≤◌, ◌<◌, ◌≢◌, Bool, true, false, cond, ◌==◌, refl, sym, ap, ◌∙◌, arith, ◌&&◌, not, eq-eqb, ne_eqb, eqb-true, inl, inr, subst, List, [], ◌∷◌}
-use Rattle.counting.proofs.Common.{cases_eq, cases_Bool, cases_order, both_ways, true≢false, nat_tests, count_put, bit_true, count_congr, count_le_one, some_term, total_add, total_congr, total_le, two_le_total, and_comm, Within, bit, count, total, Set, put}
+use Rattle.std.proofs.Common.{◌≡◌, ℕ, suc, zero, ◌+◌, ◌≤◌, ◌<◌, ◌≢◌, Bool, true, false, cond, ◌==◌, refl, sym, ap, ◌∙◌, arith, ◌&&◌, not, eq-eqb, ne_eqb, eqb-true, inl, inr, subst, List, [], ◌∷◌}
+use Rattle.counting.proofs.Common.{cases_eq, cases_Bool, cases_order, both_ways, count_put, bit_true, count_congr, count_le_one, some_term, total_add, total_congr, total_le, two_le_total, and_comm, Within, bit, count, total, Set, put}
 use Rattle.graph_core.proofs.Common.{add_edge, bit_other, bit_same, degree_put, edge_at, edge_of, ends_le_degree, ends_of, ends_of_is, missed_edges, shared, shared_le, shared_put, two_ends_le_degree, adjacent-edge, adjacent_within, Graph, IsGraph, degree, size, HasEnds, IsMaximum, missed_count, Walk, adjacent}
 
 -- two maximum matchings, of which one misses u and v and the other t: the second can be made more
@@ -41,9 +41,7 @@ module _ (g : Graph) (is : IsGraph g) (r m n : Set) (mm : IsMaximum g r m) (nn :
       halves a b = total_congr g.order _ _ (λ v w. bits (a v) (b v)) ∙ total_add g.order (λ v. bit (a v && b v)) (λ v. bit (a v && not (b v)))
         where
           bits : (s t : Bool) → bit s ≡ bit (s && t) + bit (s && not t)
-          bits true true = refl
-          bits true false = refl
-          bits false t = refl
+          bits s t = grind arith
 
       split_a : count g.order a_set ≡ count g.order (λ v. a_set v && b_set v) + count g.order p
       split_a = halves a_set b_set
@@ -68,9 +66,7 @@ module _ (g : Graph) (is : IsGraph g) (r m n : Set) (mm : IsMaximum g r m) (nn :
           let k = total_le g.order (λ x. bit (q x)) (λ x. bit (q x && not (t == x)) + bit (t == x)) (λ x w. bits (q x) (t == x)) in omega arith
         where
           bits : (s t : Bool) → bit s ≤ bit (s && not t) + bit t
-          bits true true = omega arith
-          bits true false = omega arith
-          bits false t = omega arith
+          bits s t = grind arith
 
 module _ (g : Graph) (is : IsGraph g) (r m n : Set) (mm : IsMaximum g r m) (nn : IsMaximum g r n)
     (u v t : ℕ) (wu : Within g.order u) (wv : Within g.order v) (wt : Within g.order t) (d : u ≢ v) (ru : r u ≡ false) (rv : r v ≡ false) (rt : r t ≡ false)
@@ -79,10 +75,7 @@ module _ (g : Graph) (is : IsGraph g) (r m n : Set) (mm : IsMaximum g r m) (nn :
   missing l z a b = rw (a, b) refl
 
   meeting : (l : Set) (z : ℕ) → 0 < degree g l z → (not (r z) && (degree g l z == 0)) ≡ false
-  meeting l z a = test (r z) (degree g l z) a
-    where
-      test : (b : Bool) (c : ℕ) → 0 < c → (not b && (c == 0)) ≡ false
-      test b c h = grind (arith, nat_tests)
+  meeting l z a = grind arith
 
   found : (x : ℕ) × Within g.order x × (b_set g is r m n mm nn x ≡ true) × (a_set g is r m n mm nn x ≡ false) × (t ≢ x)
   unfolding a_set b_set
@@ -93,11 +86,7 @@ module _ (g : Graph) (is : IsGraph g) (r m n : Set) (mm : IsMaximum g r m) (nn :
 
   x_parts : (r x ≡ false) × (degree g n x ≡ 0) × (0 < degree g m x)
   unfolding a_set b_set
-  x_parts = test (r x) (degree g n x) (degree g m x) found.2 found.3
-    where
-      test : (b : Bool) (c d : ℕ) → (not b && (c == 0)) ≡ true → (not b && (d == 0)) ≡ false → (b ≡ false) × (c ≡ 0) × (0 < d)
-      test true c d p q = absurd (true≢false (sym p))
-      test false c d p q = (refl, eqb-true c 0 p, grind (arith, nat_tests))
+  x_parts = grind arith
 
   at_x : (e : ℕ) × Within (size g) e × (m e ≡ true) × ((y : ℕ) × HasEnds g e x y)
   at_x = edge_at g m x x_parts.2
@@ -121,10 +110,7 @@ module _ (g : Graph) (is : IsGraph g) (r m n : Set) (mm : IsMaximum g r m) (nn :
   wy = elim at_x.3.1 [ inl p ↦ subst (Within g.order) p.1 (is e at_x.1).1 | inr p ↦ subst (Within g.order) p.0 (is e at_x.1).0 ]
 
   ry : r y ≡ false
-  ry = elim (cases_Bool (r y)) [
-    | inr f ↦ f
-    | inl o ↦ let a = m_at y in let b = ends_e y in let c = bit_same y in let z = mm.is.away y wy o in absurd (omega arith)
-  ]
+  ry = grind (arith, cases_Bool (r y), m_at y, ends_e y, bit_same y, wy)
 
   n_e : n e ≡ false
   n_e = elim (cases_Bool (n e)) [
@@ -166,9 +152,7 @@ module _ (g : Graph) (is : IsGraph g) (r m n : Set) (mm : IsMaximum g r m) (nn :
   k = put half_way e true
 
   degree_k : (z : ℕ) → degree g k z + ends_of g f z ≡ degree g n z + (bit (x == z) + bit (y == z))
-  degree_k z =
-      let a = degree_put g n f false z at_y.1 in let b = degree_put g half_way e true z at_x.1 in
-      let c = ap (λ b. bit b * ends_of g f z) at_y.2 in let h = ap (λ b. bit b * ends_of g e z) half_e in let i = ends_e z in omega arith
+  degree_k z = grind (arith, degree_put g n f false z at_y.1, degree_put g half_way e true z at_x.1, ends_of g f z, ends_of g e z, half_e, ends_e z)
 
   count_k : count (size g) k ≡ count (size g) n
   count_k = let a = count_put (size g) n f false at_y.1 in let b = count_put (size g) half_way e true at_x.1 in let c = ap bit at_y.2 in let h = ap bit half_e in omega arith
@@ -192,8 +176,7 @@ module _ (g : Graph) (is : IsGraph g) (r m n : Set) (mm : IsMaximum g r m) (nn :
       let b = bit_other y t (λ p. let h = ap (degree g n) p in let i = n_y in absurd (omega arith)) in omega arith
 
   more : shared (size g) m k ≡ shared (size g) m n + 1
-  more = let a = shared_put (size g) m n f false at_y.1 in let b = shared_put (size g) m half_way e true at_x.1 in
-      let c = ap (λ b. bit (n f) * bit b) m_f in let h = ap (λ b. bit b * bit (m e)) half_e in let i = ap bit at_x.2 in omega arith
+  more = grind (arith, shared_put (size g) m n f false at_y.1, shared_put (size g) m half_way e true at_x.1, m_f, half_e)
 
   pub exchange : (l : Set) × IsMaximum g r l × (degree g l t ≡ 0) × (shared (size g) m l ≡ shared (size g) m n + 1)
   exchange = (k, record { is = record { once = once; away = away }; most = λ j p. let a = nn.most j p in let b = count_k in omega arith }, miss_t, more)

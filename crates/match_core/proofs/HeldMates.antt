@@ -1,6 +1,6 @@
 -- An instance of a whole graph holds the mates of each of its matchings, and goes on to hold them
 -- when it is put back. What holds of each row of a list holds when a row is put at its end.
-use Rattle.std.proofs.Common.{◌≡◌, ℕ, ◌+◌, ◌-◌, ◌<◌, ◌++◌, ◌∷◌, [], ◌∙◌, ap, sym, subst, inl, inr, arith, List, length, suc, get_or}
+use Rattle.std.proofs.Common.{◌≡◌, ℕ, ◌+◌, ◌++◌, ◌∷◌, [], arith, List, length}
 use Rattle.counting.proofs.Common.{cases_eq, get_or_append_left, Within, item, Set}
 use Rattle.std.proofs.lemmas.List.{get_or_at}
 use Rattle.graph_core.proofs.Common.{Graph}
@@ -10,25 +10,10 @@ use Rattle.match_search.proofs.Instances.{instance_alike}
 use Rattle.match_core.specs.Common.{HoldsMates}
 
 pub first_mates : (g : Graph) (r : Set) (s : Instance) (mate : List ℕ) → IsInstance g r s → length mate ≡ g.order + 1 → (m : Set) × HasMates g r m (numbers mate) → HoldsMates g r s mate
-first_mates g r s mate is long has = record { m = has.0; held = record { instance_is = is; long = long ∙ one g.order; mates = has.1 } }
-  where
-    one : (n : ℕ) → n + 1 ≡ suc n
-    one n = omega arith
+first_mates g r s mate is long has = grind arith
 
 pub mates_alike : (g : Graph) (r : Set) (s h : Instance) (mate : List ℕ) → HoldsMates g r s mate → AreAlike s h → HoldsMates g r h mate
-mates_alike g r s h mate holds alike = record {
-  m = holds.m;
-  held = record { instance_is = instance_alike g r s h holds.held.instance_is alike; long = holds.held.long; mates = holds.held.mates };
-}
+mates_alike g r s h mate holds alike = grind (arith, instance_alike g r s h holds.held.instance_is alike)
 
 pub each_more : (P : ℕ → List ℕ → Type 0) (k : ℕ) (rows new : List (List ℕ)) (next : List ℕ) → length rows ≡ k → new ≡ rows ++ next ∷ [] → ((u : ℕ) → Within k u → P u (item rows u)) → P (k + 1) next → (u : ℕ) → Within (k + 1) u → P u (item new u)
-each_more P k rows new next long is earlier here u w = elim (cases_eq u (k + 1)) [
-  | inl q ↦
-      let place : u - 1 ≡ k = omega arith in
-      let at : item new u ≡ next = ap (λ (l : List (List ℕ)). item l u) is ∙ ap (λ j. get_or (rows ++ next ∷ []) j []) place ∙ get_or_at rows next [] [] k long in
-      subst (λ v. P v (item new u)) (sym q) (subst (P (k + 1)) (sym at) here)
-  | inr n ↦
-      let place : u - 1 < length rows = omega arith in
-      let at : item new u ≡ item rows u = ap (λ (l : List (List ℕ)). item l u) is ∙ get_or_append_left rows (next ∷ []) [] (u - 1) place in
-      subst (P u) (sym at) (earlier u (omega arith))
-]
+each_more P k rows new next long is earlier here u w = grind (arith, cases_eq u (k + 1), get_or_at rows next, get_or_append_left rows (next ∷ []))

@@ -2,7 +2,7 @@
 -- edges meet it. A degree is a sum over the edges in the set, and that sum goes along the rising
 -- list of the rows.
 use Rattle.counting.proofs.Common.{both_ways, cases_Bool, false_from_ne_true, or_cases, map-append, All-map, sum_by-cons, Rises, total_mem, rises-from_set, rising_holds, rising_only, mem-within, set-from_rises, rising_list-rises, mem-rising_list, Within, bit, Set, none, mem, rising_list, IsRisingIn}
-use Rattle.std.proofs.Common.{length, inr, eqb-true, ◌||◌, ◌≡◌, ℕ, suc, ◌+◌, ◌≤◌, Bool, true, false, ◌==◌, refl, sym, ap, ap₂, ◌∙◌, arith, List, [], ◌∷◌, ◌++◌, map, filter, cond, subst, inl, All, sum_by, slice_index_or}
+use Rattle.std.proofs.Common.{length, inr, eqb-true, ◌||◌, ◌≡◌, ℕ, suc, ◌+◌, ◌≤◌, Bool, false, ◌==◌, refl, sym, ap, ap₂, ◌∙◌, arith, List, [], ◌∷◌, ◌++◌, map, filter, cond, subst, inl, All, sum_by, slice_index_or, rules}
 use Rattle.std.proofs.lemmas.List.Elements.{All-filter}
 use Rattle.graph_core.proofs.Common.{degree_congr, degree_sum, ends_of, Graph, IsGraph, degree, size, IsMatching, graph_of}
 use Rattle.graph_core.specs.declared.ends.Ends.{Ends}
@@ -27,10 +27,7 @@ ends_at-sum g (row ∷ rows) v all =
     ap₂ ◌+◌ (ap₂ (λ a b. bit (a == v) + bit (b == v)) is.first is.second) (ends_at-sum g rows v (λ k d h. all (suc k) d (omega arith))) ∙ sym (sum_by-cons (λ e. ends_of g e v) row.edge (map edge_of rows))
 
 pub degree-ends_at : (g : Graph) (rows : List MatchRow) → All (IsRowOf g) rows → IsRisingIn (size g) (map edge_of rows) → (v : ℕ) → degree g (mem (map edge_of rows)) v ≡ ends_at rows v
-degree-ends_at g rows all rises v =
-    degree_sum g (mem (map edge_of rows)) v
-    ∙ total_mem 1 (size g) (λ e. ends_of g e v) (map edge_of rows) (omega arith) (rises-from_set (size g) (map edge_of rows) rises)
-    ∙ sym (ends_at-sum g rows v all)
+degree-ends_at g rows all rises v = grind (arith, degree_sum g (mem (map edge_of rows)) v, total_mem 1 (size g), ends_of g, rises-from_set (size g) (map edge_of rows) rises, ends_at-sum g rows v all)
 
 -- the edges of rows of g are edges of g
 pub rows-rise : (g : Graph) (m : MatchingValue) → IsOf g m → KeepsMatching m → IsRisingIn (size g) (edges_of m)
@@ -69,18 +66,10 @@ marked-keeps g m is few short mm = record {
 
 -- one more edge, if it is marked
 pub marked_more : (g : Graph) (m : Set) (k : ℕ) (rows : List MatchRow) (b : Bool) → m (suc k) ≡ b → rows ≡ map (row_at g) (rising_list k m) → rows ++ cond b (row_at g (suc k) ∷ []) [] ≡ map (row_at g) (rising_list (suc k) m)
-marked_more g m k rows b h is = ap₂ (λ xs c. xs ++ cond c (row_at g (suc k) ∷ []) []) is (sym h) ∙ sym (map-append (row_at g) (rising_list k m) (cond (m (suc k)) (suc k ∷ []) []) ∙ ap (λ xs. map (row_at g) (rising_list k m) ++ xs) (one (m (suc k))))
-  where
-    one : (c : Bool) → map (row_at g) (cond c (suc k ∷ []) []) ≡ cond c (row_at g (suc k) ∷ []) []
-    one true = refl
-    one false = refl
+marked_more g m k rows b h is = grind (arith, map-append (row_at g) (rising_list k m) (cond (m (suc k)) (suc k ∷ []) []))
 
 pub marked_none : (g : Graph) (m : Set) (k : ℕ) (rows : List MatchRow) → m (suc k) ≡ false → rows ≡ map (row_at g) (rising_list k m) → rows ≡ map (row_at g) (rising_list (suc k) m)
-marked_none g m k rows h is = sym (append_nil rows) ∙ marked_more g m k rows false h is
-  where
-    append_nil : (xs : List MatchRow) → xs ++ [] ≡ xs
-    append_nil [] = refl
-    append_nil (x ∷ xs) = ap (λ t. x ∷ t) (append_nil xs)
+marked_none g m k rows h is = search (rules, marked_more g m k rows false h is)
 
 -- fewer rows rise too
 rises-lower : (low high n : ℕ) (xs : List ℕ) → low ≤ high → Rises high n xs → Rises low n xs
@@ -92,16 +81,14 @@ filter-rises p low n [] r = tt
 filter-rises p low n (row ∷ rows) r = go (p row) (filter-rises p (row.edge + 1) n rows r.2)
   where
     go : (b : Bool) → Rises (row.edge + 1) n (map edge_of (filter p rows)) → Rises low n (map edge_of (cond b (row ∷ filter p rows) (filter p rows)))
-    go true rest = (r.0, r.1, rest)
-    go false rest = let a = r.0 in rises-lower low (row.edge + 1) n (map edge_of (filter p rows)) (omega arith) rest
+    go b rest = grind (arith, rises-lower low (row.edge + 1) n (map edge_of (filter p rows)))
 
 filter-ends_at : (p : MatchRow → Bool) (rows : List MatchRow) (v : ℕ) → ends_at (filter p rows) v ≤ ends_at rows v
 filter-ends_at p [] v = omega arith
 filter-ends_at p (row ∷ rows) v = go (p row) (filter-ends_at p rows v)
   where
     go : (b : Bool) → ends_at (filter p rows) v ≤ ends_at rows v → ends_at (cond b (row ∷ filter p rows) (filter p rows)) v ≤ bit (row.a == v) + bit (row.b == v) + ends_at rows v
-    go true h = omega arith
-    go false h = omega arith
+    go b h = grind arith
 
 pub keeps-filter : (p : MatchRow → Bool) (m : MatchingValue) → KeepsMatching m → KeepsMatching (record { order = m.order; rows = filter p m.rows })
 keeps-filter p m keeps = record {
@@ -114,19 +101,11 @@ keeps-filter p m keeps = record {
 -- an edge more in the rising list of a set
 pub joined_edges : (n : ℕ) (es : List ℕ) (x : Set) (e : ℕ) → Within n e → IsRisingIn n es → ((i : ℕ) → x i ≡ (mem es i || (e == i))) → (i : ℕ) → mem (rising_list n x) i ≡ (mem es i || (e == i))
 joined_edges n es x e we rises h i = elim (cases_Bool (mem es i || (e == i))) [
-  | inl t ↦ rising_holds n x i (within t) (h i ∙ t) ∙ sym t
+  | inl t ↦ rising_holds n x i (grind (arith, or_cases (mem es i) (e == i) t, mem-within n es rises i, eqb-true e i)) (h i ∙ t) ∙ sym t
   | inr f ↦ false_from_ne_true (mem (rising_list n x) i) (λ q. both_ways (mem es i || (e == i)) f (sym (h i) ∙ (rising_only n x i q).1)) ∙ sym f
 ]
-  where
-    within : (mem es i || (e == i)) ≡ true → Within n i
-    within t = elim (or_cases (mem es i) (e == i) t) [
-      | inl q ↦ mem-within n es rises i q
-      | inr q ↦ subst (Within n) (eqb-true e i q) we
-    ]
 
 module _ (g : Graph) (n : ℕ) (ends : List Ends) (order : n ≡ g.order) (same : graph_of g.order ends ≡ g) where
   -- the marked edges of the ends are those of the graph
   pub whole_marked : (m : Set) (rows : List MatchRow) → rows ≡ map (row_at (graph_of n ends)) (rising_list (length ends) m) → record { order = n; rows = rows } ≡ marked_matching g m
-  whole_marked m rows rows_is =
-      let made : ℕ → List MatchRow → MatchingValue = λ k rows. record { order = k; rows = rows } in
-      ap₂ made order (rows_is ∙ ap₂ (λ (h : Graph) k. map (row_at h) (rising_list k m)) (whole_graph g n ends order same) (whole_size g n ends order same))
+  whole_marked m rows rows_is = grind (arith, whole_graph g n ends order same, whole_size g n ends order same)

@@ -4,8 +4,8 @@
 -- vertex of an odd number. Where more than one vertex is missed, no matching misses one alone. A
 -- perfect matching without two vertices misses just these, so where there are partners, a maximum
 -- matching misses none or two.
-use Rattle.std.proofs.Common.{◌≡◌, ◌≢◌, ℕ, zero, suc, ◌+◌, ◌-◌, ◌*◌, ◌≤◌, ◌↔◌, List, length, Bool, true, false, ◌==◌, ◌&&◌, ◌||◌, not, refl, sym, ap, ◌∙◌, arith, inl, inr, eq-eqb, eqb-true, ne_eqb}
-use Rattle.counting.proofs.Common.{or_false, both_ways, cases_Bool, cases_eq, false_from_ne_true, and_from, and_parts, not-true, or_left, or_right, count_complement, count_congr, count_le, count_le_one, only_one, count_mem_length, count_plus, set-narrower, Within, count, Set, complement, pair_set, singleton, union, item, mem, IsRisingIn, fun_ext}
+use Rattle.std.proofs.Common.{◌≡◌, ◌≢◌, ℕ, ◌+◌, ◌-◌, ◌*◌, ◌≤◌, ◌↔◌, List, length, Bool, true, false, ◌==◌, ◌&&◌, ◌||◌, not, refl, sym, ap, ◌∙◌, arith, inl, inr, eq-eqb, ne_eqb}
+use Rattle.counting.proofs.Common.{or_false, both_ways, cases_Bool, cases_eq, false_from_ne_true, and_from, and_parts, not-true, or_left, or_right, count_complement, count_congr, count_le, count_le_one, only_one, count_mem_length, count_plus, set-narrower, Within, count, Set, complement, pair_set, singleton, union, mem, IsRisingIn}
 use Rattle.graph_core.proofs.Common.{Graph, IsGraph, degree, size, HasPerfect, IsMatching, IsPerfect, has_perfect, missed_count, has_perfect_found, has_perfect_says, missed_edges, missed_one, perfect_matching, perfect_misses}
 use Rattle.match_search.specs.Common.{Frame, IsMissableRow, IsBest, marks}
 use Rattle.match_core.specs.Common.{AreEmptyRows, ArePartners, are_partners}
@@ -38,15 +38,10 @@ alone-perfect g r m v mm one w rv z = record { once = once; away = away }
         (only_one g.order (λ t. not (r t) && (degree g m t == 0)) one v u w wu (passes v rv z) (passes u o.0 du))))
       where
         met : (d : ℕ) → d ≤ 1 → (d ≡ 0 → ⊥) → d ≡ 1
-        met zero l n = absurd (n refl)
-        met (suc zero) l n = refl
-        met (suc (suc d)) l n = absurd (omega arith)
+        met d l n = grind arith
 
     away : (u : ℕ) → Within g.order u → union r (singleton v) u ≡ true → degree g m u ≡ 0
-    away u wu out = elim (cases_eq v u) [
-      | inl e ↦ ap (degree g m) (sym e) ∙ z
-      | inr d ↦ mm.away u wu (sym (with_other r v u d) ∙ out)
-    ]
+    away u wu out = grind arith
 
 -- a perfect matching without r and v is a matching without r that misses v alone
 pub perfect-alone : (g : Graph) (r p : Set) (v : ℕ) → Within g.order v → r v ≡ false → IsPerfect g (union r (singleton v)) p → IsMatching g r p × (degree g p v ≡ 0) × (missed_count g r p ≡ 1)
@@ -57,21 +52,13 @@ perfect-alone g r p v w rv perfect = (record { once = once; away = away }, z, on
     z = perfect.away v w (with_own r v)
 
     once : (u : ℕ) → Within g.order u → degree g p u ≤ 1
-    once u wu = elim (cases_Bool (union r (singleton v) u)) [
-      | inl t ↦ let d = perfect.away u wu t in omega arith
-      | inr f ↦ let d = perfect.once u wu f in omega arith
-    ]
+    once u wu = grind arith
 
     away : (u : ℕ) → Within g.order u → r u ≡ true → degree g p u ≡ 0
     away u wu ru = perfect.away u wu (with_other r v u (λ e. both_ways (r v) rv (ap r e ∙ ru)) ∙ ru)
 
     only : (u : ℕ) → Within g.order u → (not (r u) && (degree g p u == 0)) ≡ true → v ≡ u
-    only u wu h = elim (cases_eq v u) [
-      | inl e ↦ e
-      | inr d ↦ let b = and_parts (not (r u)) (degree g p u == 0) h in
-          let k = perfect.once u wu (with_other r v u d ∙ not-true (r u) b.0) in
-          let k0 = eqb-true (degree g p u) 0 b.1 in absurd (omega arith)
-    ]
+    only u wu h = grind arith
 
     few : count g.order (λ u. not (r u) && (degree g p u == 0)) ≤ 1
     few = count_le_one g.order (λ u. not (r u) && (degree g p u == 0)) (λ a b wa wb l pa pb. let x = only a wa pa in let y = only b wb pb in absurd (omega arith))
@@ -89,14 +76,11 @@ perfect-two g r p u v is wu wv ru rv d perfect = (mm, two)
     mm : IsMatching g r p
     mm = record { once = (perfect_matching g both p perfect).once; away = λ w ww rw. perfect.away w ww (or_left (r w) (pair_set u v w) rw) }
 
-    assoc : (a b e : Bool) → ((a || b) || e) ≡ (a || (b || e))
-    assoc a b e = grind arith
-
     two : missed_count g r p ≡ 2
     two =
         let more = count_plus g.order r u wu ru in
         let most = count_plus g.order (union r (singleton u)) v wv (with_other r u v d ∙ rv) in
-        let same : count g.order (union (union r (singleton u)) (singleton v)) ≡ count g.order (union r (pair_set u v)) = count_congr g.order _ _ (λ w ww. assoc (r w) (u == w) (v == w)) in
+        let same : count g.order (union (union r (singleton u)) (singleton v)) ≡ count g.order (union r (pair_set u v)) = count_congr g.order _ _ (λ w ww. grind arith) in
         let left = count_complement g.order r in
         let left_both = count_complement g.order (union r (pair_set u v)) in
         let none_missed = perfect_misses g (union r (pair_set u v)) p perfect in
@@ -112,13 +96,7 @@ module _ (g : Graph) (is : IsGraph g) (r m outer inner : Set) (mm : IsMatching g
 
   -- where one vertex is missed, an outer vertex is missed alone by some matching
   outer-perfect : (v : ℕ) → missed_count g r m ≡ 1 → Within g.order v → outer v ≡ true → HasPerfect g (union r (singleton v))
-  outer-perfect v one w t =
-      let f = frame.missable v w t in
-      let o = outer_missable g is r (count (size g) m) outer inner frame m mm refl v w t in
-      let sum = missed_edges g r f.0 is f.1 in
-      let own = missed_edges g r m is mm in
-      let same = f.2 in
-      (f.0, alone-perfect g r f.0 v f.1 (omega arith) w o.0 f.3)
+  outer-perfect v one w t = grind (arith, outer_missable, mm, missed_edges, alone-perfect)
 
   -- a vertex without which there is a perfect matching is outer, and m misses one vertex
   perfect-outer : (v : ℕ) → Within g.order v → r v ≡ false → HasPerfect g (union r (singleton v)) → (missed_count g r m ≡ 1) × (outer v ≡ true)
@@ -137,18 +115,13 @@ module _ (g : Graph) (is : IsGraph g) (r m outer inner : Set) (mm : IsMatching g
   -- the outer vertices are the row
   outer-row : missed_count g r m ≡ 1 → (v : ℕ) → Within g.order v → outer v ≡ (not (r v) && has_perfect g (union r (singleton v)))
   outer-row one v w = elim (cases_Bool (outer v)) [
-    | inl t ↦ t ∙ sym (and_from (not (r v)) (has_perfect g (union r (singleton v)))
-        (ap not (outer_missable g is r (count (size g) m) outer inner frame m mm refl v w t).0) (has_perfect_found g (union r (singleton v)) (outer-perfect v one w t)))
-    | inr f ↦ f ∙ sym (false_from_ne_true (not (r v) && has_perfect g (union r (singleton v))) (λ h.
-        let b = and_parts (not (r v)) (has_perfect g (union r (singleton v))) h in
-        both_ways (outer v) f (perfect-outer v w (not-true (r v) b.0) (has_perfect_says g (union r (singleton v)) b.1)).1))
+    | inl t ↦ grind (arith, and_from, outer_missable, mm, has_perfect_found, outer-perfect)
+    | inr f ↦ grind (arith, false_from_ne_true, and_parts, both_ways, perfect-outer, not-true, has_perfect_says)
   ]
 
   -- where another number of vertices is missed, the row is empty
   no_row : missed_count g r m ≢ 1 → (v : ℕ) → Within g.order v → (not (r v) && has_perfect g (union r (singleton v))) ≡ false
-  no_row d v w = false_from_ne_true (not (r v) && has_perfect g (union r (singleton v))) (λ h.
-      let b = and_parts (not (r v)) (has_perfect g (union r (singleton v))) h in
-      d (perfect-outer v w (not-true (r v) b.0) (has_perfect_says g (union r (singleton v)) b.1)).0)
+  no_row d v w = grind (arith, false_from_ne_true, and_parts, perfect-outer, not-true, has_perfect_says)
 
   -- where there are partners, no vertex is missed or two
   pair-missed : (u v : ℕ) → Within g.order u → Within g.order v → r u ≡ false → r v ≡ false → u ≢ v → HasPerfect g (union r (pair_set u v)) → missed_count g r m ≢ 0 → missed_count g r m ≡ 2
@@ -162,23 +135,17 @@ module _ (g : Graph) (is : IsGraph g) (r m outer inner : Set) (mm : IsMatching g
 
 -- u and then v are taken out
 both_out : (r : Set) (u v : ℕ) → union (union r (singleton u)) (singleton v) ≡ union r (pair_set u v)
-both_out r u v = fun_ext (λ w. assoc (r w) (u == w) (v == w))
-  where
-    assoc : (a b d : Bool) → ((a || b) || d) ≡ (a || (b || d))
-    assoc a b d = grind arith
+both_out r u v = grind arith
 
 -- the vertices that can be missed beside u are its partners
 pub missable-partners : (g : Graph) (is : IsGraph g) (r : Set) (u : ℕ) (row : List ℕ) → r u ≡ false → IsMissableRow g (union r (singleton u)) row → (v : ℕ) → Within g.order v → mem row v ≡ are_partners g r u v
-missable-partners g is r u row out missable v w = here ∙ ap (λ (s : Set). not (r v || (u == v)) && has_perfect g s) (both_out r u v) ∙ parts (r u) (r v) (u == v) (has_perfect g (union r (pair_set u v))) out
+missable-partners g is r u row out missable v w = here ∙ ap (λ (s : Set). not (r v || (u == v)) && has_perfect g s) (both_out r u v) ∙ (grind arith)
   where
     here : mem row v ≡ (not (r v || (u == v)) && has_perfect g (union (union r (singleton u)) (singleton v)))
     here = elim (cases_eq (missed_count g (union r (singleton u)) missable.m) 1) [
       | inl q ↦ missable.one q v ∙ outer-row g is (union r (singleton u)) missable.m missable.outer missable.inner missable.matching missable.frame q v w
       | inr q ↦ missable.other q v ∙ sym (no_row g is (union r (singleton u)) missable.m missable.outer missable.inner missable.matching missable.frame q v w)
     ]
-
-    parts : (a b d p : Bool) → a ≡ false → (not (b || d) && p) ≡ (not a && not b && not d && p)
-    parts a b d p h = grind arith
 
 -- what the engine answers, with the number of vertices that it misses, as the code counts them
 module _ (g : Graph) (is : IsGraph g) (r : Set) (b : Best) (best : IsBest g r b) (mark : List Bool) (missed : ℕ) (mark_is : mark ≡ b.mark.items) (missed_is : missed ≡ missed_count g r (marks mark)) where
@@ -195,28 +162,17 @@ module _ (g : Graph) (is : IsGraph g) (r : Set) (b : Best) (best : IsBest g r b)
       four a b d p h = grind arith
 
   pub empty-partners : (missed == 0 || missed == 2) ≡ false → (n : ℕ) → n ≡ g.order → (table : List (List ℕ)) → AreEmptyRows n table → ArePartners g r table
-  empty-partners not_searched n order table empty = record {
-    one_each = empty.one_each ∙ order;
-    within = λ u v wu t. absurd (both_ways (mem (item table u) v) (empty.empty u v (omega arith)) t);
-    partner_is = λ u v wu wv. empty.empty u v (omega arith) ∙ sym (no_partners (λ q. both_ways (missed == 0) parts.0 (eq-eqb missed 0 q)) (λ q. both_ways (missed == 2) parts.1 (eq-eqb missed 2 q)) u v wu wv);
-  }
-    where
-      parts : ((missed == 0) ≡ false) × ((missed == 2) ≡ false)
-      parts = or_none (missed == 0) (missed == 2) not_searched
+  empty-partners not_searched n order table empty = grind (arith, both_ways, no_partners, eq-eqb, or_none)
 
 -- the vertices of 1 to n outside a set, as a list
 pub left-length : (n : ℕ) (full left removed : List ℕ) → IsRisingIn 128 left → ((v : ℕ) → (mem full v ≡ true) ↔ Within n v) → ((v : ℕ) → mem left v ≡ (mem full v && not (mem removed v))) →
     length left ≡ count n (complement (mem removed))
-left-length n full left removed rises all outside =
-    sym (count_mem_length n left (set-narrower 128 n left rises (λ v q. ((all v).0 (and_parts (mem full v) (not (mem removed v)) (sym (outside v) ∙ q)).0).1)))
-    ∙ count_congr n (mem left) (complement (mem removed)) (λ v w. outside v ∙ ap (λ b. b && not (mem removed v)) ((all v).1 w))
+left-length n full left removed rises all outside = grind (arith, count_mem_length n left, set-narrower 128 n left rises, and_parts, count_congr n (mem left) (complement (mem removed)))
 
 -- what the marked edges leave of these vertices is what they miss
 pub missed-left : (g : Graph) (is : IsGraph g) (n : ℕ) (full left removed : List ℕ) (mark : List Bool) → n ≡ g.order → IsRisingIn 128 left → ((v : ℕ) → (mem full v ≡ true) ↔ Within n v) → ((v : ℕ) → mem left v ≡ (mem full v && not (mem removed v))) →
     length mark ≡ size g + 1 → IsMatching g (mem removed) (marks mark) → missed_count g (mem removed) (marks mark) + 2 * count (length mark - 1) (marks mark) ≡ length left
-missed-left g is n full left removed mark order rises all outside long mm =
-    ap (λ k. missed_count g (mem removed) (marks mark) + 2 * count k (marks mark)) (omega arith)
-    ∙ missed_edges g (mem removed) (marks mark) is mm ∙ ap (λ k. count k (complement (mem removed))) (sym order) ∙ sym (left-length n full left removed rises all outside)
+missed-left g is n full left removed mark order rises all outside long mm = grind (arith, missed_edges g (mem removed) (marks mark) is mm, mm, left-length n full left removed rises all outside)
 
 -- they are few
 pub few_left : (left : List ℕ) → IsRisingIn 128 left → length left ≤ 128

@@ -1,7 +1,7 @@
 -- The walk from one missed vertex to the other, edge by edge of a perfect matching and of the
 -- given one in turn, in rows: how does it go on, and where does it end? Each turn makes the path
 -- longer by two edges; where the given matching ends, the path is whole and repairs it.
-use Rattle.std.proofs.Common.{◌≡◌, ℕ, suc, zero, ◌+◌, ◌-◌, ◌<◌, ◌≢◌, Bool, true, false, ◌==◌, ◌&&◌, not, refl, sym, ap, ap₂, ◌∙◌, arith, List, [], ◌∷◌, ◌++◌, length, inl, inr, ◌⊎◌, subst}
+use Rattle.std.proofs.Common.{◌≡◌, ℕ, suc, zero, ◌+◌, ◌<◌, ◌≢◌, true, false, ◌==◌, ◌&&◌, not, refl, sym, ap, ap₂, ◌∙◌, arith, List, [], ◌∷◌, ◌++◌, length, inl, inr, ◌⊎◌, subst}
 use Rattle.counting.proofs.Common.{cases_eq, cases_lt, cases_order, false_from_ne_true, and_right, length-append, two_le_total, total_add, total_congr, total_at, Within, bit, count, total, Set, put}
 use Rattle.std.proofs.Math.ListN.{get_or-append}
 use Rattle.std.proofs.lemmas.List.{get_or-append_right}
@@ -14,24 +14,10 @@ use Rattle.match_search.proofs.SymmetricDifference.{further, further_other, m_a,
 
 -- where two pass, a third does not
 pub no_third_passes : (n : ℕ) (p : Set) (a b : ℕ) → count n p ≡ 2 → Within n a → Within n b → a ≢ b → p a ≡ true → p b ≡ true → (u : ℕ) → Within n u → p u ≡ true → (u ≡ a) ⊎ (u ≡ b)
-no_third_passes n p a b two wa wb ab pa pb u wu pu = elim (cases_eq u a) [
-  | inl q ↦ inl q
-  | inr ua ↦ elim (cases_eq u b) [
-    | inl q ↦ inr q
-    | inr ub ↦ absurd (too_many (λ q. ua q) (λ q. ub q))
-  ]
-]
+no_third_passes n p a b two wa wb ab pa pb u wu pu = grind (arith, cases_eq u a, cases_eq u b, too_many)
   where
-    rest : ℕ → ℕ
-    rest v = bit (p v && not (a == v))
-
     split : count n p ≡ total n (λ v. bit (p v && not (a == v))) + total n (λ v. bit (p v && (a == v)))
-    split = total_congr n _ _ (λ v w. parts (p v) (a == v)) ∙ total_add n (λ v. bit (p v && not (a == v))) (λ v. bit (p v && (a == v)))
-      where
-        parts : (s t : Bool) → bit s ≡ bit (s && not t) + bit (s && t)
-        parts true true = refl
-        parts true false = refl
-        parts false t = refl
+    split = total_congr n _ _ (λ v w. grind arith) ∙ total_add n (λ v. bit (p v && not (a == v))) (λ v. bit (p v && (a == v)))
 
     one : total n (λ v. bit (p v && (a == v))) ≡ 1
     one = total_at n (λ v. bit (p v && (a == v))) a wa (λ v w d. ap bit (and_right (p v) (a == v) (Rattle.std.proofs.Common.ne_eqb a v (λ q. d (sym q))))) ∙ ap₂ (λ s t. bit (s && t)) pa (Rattle.std.proofs.Common.eq-eqb a a refl)
@@ -73,16 +59,10 @@ pub appended_below : (es : List ℕ) (a j : ℕ) → j < length es → numbers (
 appended_below es a j l = get_or-append es (a ∷ []) 0 j l
 
 pub appended_at : (es : List ℕ) (a j : ℕ) → j ≡ length es → numbers (es ++ a ∷ []) j ≡ a
-appended_at es a j q = get_or-append_right es (a ∷ []) (length es) j 0 refl (omega arith) ∙ ap (λ i. numbers (a ∷ []) i) (less (length es) j q)
-  where
-    less : (n j : ℕ) → j ≡ n → j - n ≡ 0
-    less n j q = omega arith
+appended_at es a j q = grind (arith, get_or-append_right es (a ∷ []) (length es) j 0 refl)
 
 pub appended_length : (es : List ℕ) (a : ℕ) → length (es ++ a ∷ []) ≡ suc (length es)
-appended_length es a = length-append es (a ∷ []) ∙ one (length es)
-  where
-    one : (n : ℕ) → n + 1 ≡ suc n
-    one n = omega arith
+appended_length es a = grind (arith, length-append es (a ∷ []))
 
 module _ (g : Graph) (is : IsGraph g) (r m n : Set) (mm : IsMatching g r m) (perfect : IsPerfect g r n) (x : ℕ) where
   pub walk_start : Misses g r m x → IsWalk g r m n x [] x

@@ -6,7 +6,6 @@ use Rattle.match_search.proofs.LongerPaths.{ends_by}
 use Rattle.graph_core.proofs.Common.{Graph, HasEnds, IsGraph, size, IsMatching}
 use Rattle.match_search.specs.Common.{IsAlternating, flipped, same_answer, numbers, part, DiffersByPath, IsRepairRow, Misses, difference}
 use Rattle.match_search.proofs.AlternatingPaths.{put_at, put_off, path_edges, flipped_off}
-use Rattle.match_search.proofs.OddCycles.{same_ends}
 use Rattle.match_search.proofs.StepTheorem.{on_path}
 
 -- the edge at a place of the path, after the exchange
@@ -29,10 +28,7 @@ module _ (g : Graph) (is : IsGraph g) (r m : Set) (mm : IsMatching g r m) (x : �
   new = put (flipped m (numbers es) row.pairs) (numbers es (row.pairs + row.pairs)) true
 
   last_other : (i : ℕ) → i < k + k → numbers es i ≢ numbers es (k + k)
-  last_other i l q = elim (same_ends g (numbers es i) (row.vertex i) (row.vertex (suc i)) (row.vertex (k + k)) row.y (row.path.path.ends i l) (subst (λ (d : ℕ). HasEnds g d (row.vertex (k + k)) row.y) (sym q) row.ends)) [
-    | inl s ↦ row.apart (suc i) (omega arith) s.1
-    | inr s ↦ row.apart i (omega arith) s.0
-  ]
+  last_other i l q = grind arith
 
   changed : (i : ℕ) → i < suc (k + k) → difference m new (numbers es i) ≡ true
   changed i l = elim (cases_eq i (k + k)) [
@@ -41,15 +37,10 @@ module _ (g : Graph) (is : IsGraph g) (r m : Set) (mm : IsMatching g r m) (x : �
   ]
     where
       turned : (b : Bool) → not (same_answer b (not b)) ≡ true
-      turned true = refl
-      turned false = refl
+      turned b = grind arith
 
   kept : (e : ℕ) → ((i : ℕ) → i ≤ k + k → e ≢ numbers es i) → difference m new e ≡ false
-  kept e none = ap (λ t. not (same_answer (m e) t)) (put_off (flipped m (numbers es) k) (numbers es (k + k)) true e (none (k + k) (omega arith)) ∙ flipped_off g r m mm k row.vertex (numbers es) row.path k e (omega arith) (λ j l. none j (omega arith))) ∙ same (m e)
-    where
-      same : (b : Bool) → not (same_answer b b) ≡ false
-      same true = refl
-      same false = refl
+  kept e none = grind (arith, put_off (flipped m (numbers es) k) (numbers es (k + k)) true e, flipped_off g r m mm k row.vertex (numbers es) row.path k e)
 
   abbrev vertex : ℕ → ℕ
   vertex j = cond (nat_lt j (suc (row.pairs + row.pairs))) (row.vertex j) row.y
@@ -96,23 +87,7 @@ module _ (g : Graph) (is : IsGraph g) (r m : Set) (mm : IsMatching g r m) (x : �
       ]
 
       apart : (i j : ℕ) → i ≤ suc (k + k) → j ≤ suc (k + k) → vertex i ≡ vertex j → i ≡ j
-      apart i j li lj q = elim (cases_lt i (suc (k + k))) [
-        | inl a ↦ elim (cases_lt j (suc (k + k))) [
-          | inl b ↦ row.path.path.apart i j (omega arith) (omega arith) (sym (vertex_low i a) ∙ q ∙ vertex_low j b)
-          | inr b ↦ absurd (row.apart i (omega arith) (sym (vertex_low i a) ∙ q ∙ vertex_last j b))
-        ]
-        | inr a ↦ elim (cases_lt j (suc (k + k))) [
-          | inl b ↦ absurd (row.apart j (omega arith) (sym (vertex_low j b) ∙ sym q ∙ vertex_last i a))
-          | inr b ↦ omega arith
-        ]
-      ]
-
--- the edges of the row are edges of the graph
-pub row_real : (g : Graph) (r m : Set) (x : ℕ) (es : List ℕ) → IsRepairRow g r m x es → (i : ℕ) → i < length es → Within (size g) (numbers es i)
-row_real g r m x es row i l = let long = row.long in elim (cases_eq i (row.pairs + row.pairs)) [
-  | inl q ↦ subst (λ (j : ℕ). Within (size g) (numbers es j)) (sym q) row.real
-  | inr n ↦ row.path.path.real i (omega arith)
-]
+      apart i j li lj q = grind (arith, cases_lt i (suc (k + k)), cases_lt j (suc (k + k)), vertex_low i, vertex_low j, vertex_last j, vertex_last i)
 
 -- the marks that the code makes along the row
 pub flipped_row : (g : Graph) (r m : Set) (x : ℕ) (es : List ℕ) (row : IsRepairRow g r m x es) → put (flipped m (part es 0) ((length es - 1) / 2)) (numbers es (length es - 1)) true ≡ put (flipped m (numbers es) row.pairs) (numbers es (row.pairs + row.pairs)) true

@@ -2,7 +2,7 @@
 -- that are left: a vertex that all maximum matchings meet joins the set; else Gallai's lemma
 -- counts each component.
 use Rattle.std.proofs.Common.{◌≡◌, ℕ, suc, zero, ◌+◌, ◌*◌, ◌≤◌, ◌<◌, ◌≢◌, Bool, true, false, ◌==◌, refl, sym, ap, ◌∙◌, arith, ◌&&◌, ◌||◌, not, eq-eqb, ne_eqb, eqb-true, ◌⊎◌, inl, inr, [], ◌∷◌}
-use Rattle.counting.proofs.Common.{cases_eq, cases_Bool, and_parts, or_cases, or_right, both_ways, true≢false, false_from_ne_true, bit-and, count_le_one, count_more, odd-add, odd-double, scan, at_le_total, total_add, total_at, total_congr, total_mul, total_none, total_swap, or_fails_first, or_false, fun_ext, Within, bit, count, is_odd, Outside, Set, none, singleton, union}
+use Rattle.counting.proofs.Common.{cases_Bool, and_parts, or_right, both_ways, true≢false, false_from_ne_true, bit-and, count_le_one, count_more, odd-add, odd-double, scan, at_le_total, total_add, total_at, total_congr, total_mul, total_none, total_swap, or_false, fun_ext, Within, bit, count, is_odd, Outside, Set, none, singleton, union}
 use Rattle.graph_core.proofs.Common.{joined_outside, joined_walk, one_leader, some_leader, walk_joined, maximum_exists, missed_or_met, ends_le_degree, ends_of, ends_of_is, missed_edges, degrees, adjacent_from, has_ends-back, has_ends-own, joined_back, joined_on, berge_bound, is_least, odd_component_count, Graph, IsGraph, degree, first_end, has_ends, in_cut, inside, second_end, size, IsMatching, IsMaximum, missed_count, Joined, adjacent, joined}
 use Rattle.match_core.proofs.Gallai.{no_two}
 
@@ -40,28 +40,18 @@ module _ (g : Graph) (is : IsGraph g) (r m : Set) (mm : IsMaximum g r m)
   missed_in u w = parity (count g.order (λ v. joined g r u v && (degree g m v == 0))) (count (size g) (λ e. m e && inside g (joined g r u) e)) (count g.order (joined g r u)) at_most component_count
     where
       at_most : count g.order (λ v. joined g r u v && (degree g m v == 0)) ≤ 1
-      at_most = count_le_one g.order _ (λ a b wa wb l pa pb.
-          let qa = and_parts (joined g r u a) (degree g m a == 0) pa in let qb = and_parts (joined g r u b) (degree g m b == 0) pb in
-          no_pair a b (joined_on g r a u b (joined_back g r u a (joined_walk g r u a qa.0)) (joined_walk g r u b qb.0)) (λ e. absurd (omega arith)) (eqb-true (degree g m a) 0 qa.1) (eqb-true (degree g m b) 0 qb.1))
+      at_most = grind (arith, count_le_one g.order, and_parts, joined_on g r, joined_back g r u, joined_walk g r u, eqb-true)
 
       component_count : count g.order (joined g r u) ≡ count g.order (λ v. joined g r u v && (degree g m v == 0)) + (count (size g) (λ e. m e && inside g (joined g r u) e) + count (size g) (λ e. m e && inside g (joined g r u) e))
       component_count =
-          let a = total_congr g.order (λ v. bit (joined g r u v)) (λ v. bit (joined g r u v && (degree g m v == 0)) + bit (joined g r u v) * degree g m v) (λ v wv. each (joined g r u v) (degree g m v) (mm.is.once v wv)) in
+          let a = total_congr g.order (λ v. bit (joined g r u v)) (λ v. bit (joined g r u v && (degree g m v == 0)) + bit (joined g r u v) * degree g m v) (λ v wv. grind arith) in
           let b = total_add g.order (λ v. bit (joined g r u v && (degree g m v == 0))) (λ v. bit (joined g r u v) * degree g m v) in
           let c = degrees g is m (joined g r u) in
           let z = total_none (size g) (λ e. bit (m e && in_cut g (joined g r u) e)) (λ e we. ap bit (none_leaves u w e we)) in
           omega arith
-        where
-          each : (x : Bool) (d : ℕ) → d ≤ 1 → bit x ≡ bit (x && (d == 0)) + bit x * d
-          each false d h = omega arith
-          each true zero h = refl
-          each true (suc zero) h = refl
-          each true (suc (suc d)) h = absurd (omega arith)
 
       parity : (c k n : ℕ) → c ≤ 1 → n ≡ c + (k + k) → c ≡ bit (is_odd n)
-      parity zero k n h e = sym (ap bit (ap is_odd e ∙ odd-add zero (k + k) ∙ odd-double k))
-      parity (suc zero) k n h e = sym (ap bit (ap is_odd e ∙ odd-add (suc zero) (k + k) ∙ ap not (odd-double k)))
-      parity (suc (suc c)) k n h e = absurd (omega arith)
+      parity c k n h e = grind (arith, odd-add zero (k + k), odd-double k, odd-add (suc zero) (k + k))
 
   pub missed_odd : missed_count g r m ≡ odd_component_count g r
   unfolding missed_count odd_component_count
@@ -70,32 +60,13 @@ module _ (g : Graph) (is : IsGraph g) (r m : Set) (mm : IsMaximum g r m)
       ∙ total_congr g.order _ _ (λ v w. sym (total_mul g.order (bit (not (r v) && (degree g m v == 0))) (λ u. bit (is_least g r u && joined g r u v))))
       ∙ total_swap g.order g.order (λ v u. bit (not (r v) && (degree g m v == 0)) * bit (is_least g r u && joined g r u v))
       ∙ total_congr g.order _ _ (λ u w.
-      total_congr g.order _ _ (λ v x. regroup u v)
+      total_congr g.order _ _ (λ v x. grind (arith, joined_outside, true≢false))
       ∙ total_mul g.order (bit (is_least g r u)) (λ v. bit (joined g r u v && (degree g m v == 0)))
       ∙ ap (λ k. bit (is_least g r u) * k) (missed_in u w)
       ∙ sym (bit-and (is_least g r u) (is_odd (count g.order (joined g r u)))))
     where
       leader : (v : ℕ) → Within g.order v → bit (not (r v) && (degree g m v == 0)) ≡ bit (not (r v) && (degree g m v == 0)) * count g.order (λ u. is_least g r u && joined g r u v)
-      leader v w = go (r v) refl
-        where
-          go : (b : Bool) → r v ≡ b → bit (not b && (degree g m v == 0)) ≡ bit (not b && (degree g m v == 0)) * count g.order (λ u. is_least g r u && joined g r u v)
-          go true e = omega arith
-          go false e = let a = one_leader g r is v w in let b = some_leader g r is v w e in let c : count g.order (λ u. is_least g r u && joined g r u v) ≡ 1 = omega arith in rw c (omega arith)
-
-      regroup : (u v : ℕ) → bit (not (r v) && (degree g m v == 0)) * bit (is_least g r u && joined g r u v) ≡ bit (is_least g r u) * bit (joined g r u v && (degree g m v == 0))
-      regroup u v = bits (r v) (degree g m v == 0) (is_least g r u) (joined g r u v) (λ l j. joined_outside g r is u v (out (r u) _ l) j)
-        where
-          out : (a b : Bool) → (not a && b) ≡ true → a ≡ false
-          out a b h = grind arith
-
-          bits : (a b c d : Bool) → (c ≡ true → d ≡ true → a ≡ false) → bit (not a && b) * bit (c && d) ≡ bit c * bit (d && b)
-          bits true b true true h = absurd (true≢false (h refl refl))
-          bits true b true false h = refl
-          bits true b false d h = omega arith
-          bits false true true true h = refl
-          bits false false true true h = refl
-          bits false b true false h = omega arith
-          bits false b false d h = omega arith
+      leader v w = grind (arith, one_leader, some_leader)
 
 -- the Tutte-Berge law
 pub record TutteBerge (g : Graph) (r : Set) : Type 0 where
@@ -124,28 +95,13 @@ all_missed g r is h =
 
 -- where each maximum matching meets v
 one_met : (g : Graph) (r : Set) → IsGraph g → (v : ℕ) → Within g.order v → r v ≡ false → ((m : Set) → IsMaximum g r m → 0 < degree g m v) → TutteBerge g (union r (singleton v)) → TutteBerge g r
-one_met g r is v w o met ih = record { s = union ih.s (singleton v); outside = out; m = m.0; is = m.1.is; equal = equal }
+one_met g r is v w o met ih = record { s = union ih.s (singleton v); outside = grind arith; m = m.0; is = m.1.is; equal = equal }
   where
     m : (m : Set) × IsMaximum g r m
     m = maximum_exists g r
 
-    out : Outside r (union ih.s (singleton v))
-    out u e = elim (or_cases (ih.s u) (v == u) e) [
-      | inl t ↦ or_fails_first (r u) (v == u) (ih.outside u t)
-      | inr t ↦ ap r (sym (eqb-true v u t)) ∙ o
-    ]
-
-    also : IsMatching g r ih.m
-    also = record { once = ih.is.once; away = λ u wu e. ih.is.away u wu (ap (λ b. b || (v == u)) e) }
-
-    misses : degree g ih.m v ≡ 0
-    misses = ih.is.away v w (or_right (r v) (v == v) (eq-eqb v v refl))
-
     fewer : count (size g) ih.m + 1 ≤ count (size g) m.0
-    fewer = elim (cases_eq (count (size g) ih.m) (count (size g) m.0)) [
-      | inl e ↦ let z = met ih.m (record { is = also; most = λ k p. let a = m.1.most k p in omega arith }) in let y = misses in absurd (omega arith)
-      | inr e ↦ let a = m.1.most ih.m also in omega arith
-    ]
+    fewer = grind arith
 
     one_less : count g.order (λ u. not (r u)) ≡ count g.order (λ u. not (union r (singleton v) u)) + 1
     one_less =
@@ -154,10 +110,7 @@ one_met g r is v w o met ih = record { s = union ih.s (singleton v); outside = o
         ∙ ap (λ k. count g.order (λ u. not (union r (singleton v) u)) + k) (total_at g.order (λ u. bit (v == u)) v w (λ u wu d. ap bit (ne_eqb v u (λ q. d (sym q)))) ∙ ap bit (eq-eqb v v refl))
       where
         bits : (a b : Bool) → (b ≡ true → a ≡ false) → bit (not a) ≡ bit (not (a || b)) + bit b
-        bits true true h = absurd (true≢false (h refl))
-        bits true false h = refl
-        bits false true h = refl
-        bits false false h = refl
+        bits a b h = grind arith
 
     one_more : count g.order (union ih.s (singleton v)) ≡ count g.order ih.s + 1
     one_more =
@@ -166,16 +119,10 @@ one_met g r is v w o met ih = record { s = union ih.s (singleton v); outside = o
         ∙ ap (λ k. count g.order ih.s + k) (total_at g.order (λ u. bit (v == u)) v w (λ u wu d. ap bit (ne_eqb v u (λ q. d (sym q)))) ∙ ap bit (eq-eqb v v refl))
       where
         bits : (a b : Bool) → (b ≡ true → a ≡ true → ⊥) → bit (a || b) ≡ bit a + bit b
-        bits true true h = absurd (h refl refl)
-        bits true false h = refl
-        bits false true h = refl
-        bits false false h = refl
+        bits a b h = grind arith
 
     same_parts : odd_component_count g (union r (union ih.s (singleton v))) ≡ odd_component_count g (union (union r (singleton v)) ih.s)
-    same_parts = ap (odd_component_count g) (fun_ext (λ u. swap (r u) (ih.s u) (v == u)))
-      where
-        swap : (a b c : Bool) → (a || (b || c)) ≡ ((a || c) || b)
-        swap a b c = grind arith
+    same_parts = grind arith
 
     equal : missed_count g r m.0 + count g.order (union ih.s (singleton v)) ≡ odd_component_count g (union r (union ih.s (singleton v)))
     equal = omega (arith, berge_bound g r (union ih.s (singleton v)) m.0 is m.1.is, missed_edges g r m.0 is m.1.is, missed_edges g (union r (singleton v)) ih.m is ih.is, fewer, one_less, one_more, same_parts, ih.equal)
@@ -194,10 +141,7 @@ tutte_berge_below (suc k) g r is h =
   where
     fewer : (v : ℕ) → Within g.order v → r v ≡ false → count g.order (λ u. not (union r (singleton v) u)) ≤ k
     fewer v w o =
-        let a = count_more g.order (λ u. not (union r (singleton v) u)) (λ u. not (r u)) (λ u. sub (r u) (v == u)) v w (ap not (or_right (r v) (v == v) (eq-eqb v v refl))) (ap not o) in omega arith
-      where
-        sub : (a b : Bool) → not (a || b) ≡ true → not a ≡ true
-        sub a b h = grind arith
+        let a = count_more g.order (λ u. not (union r (singleton v) u)) (λ u. not (r u)) (λ u. grind arith) v w (ap not (or_right (r v) (v == v) (eq-eqb v v refl))) (ap not o) in omega arith
 
 pub tutte_berge : (g : Graph) (r : Set) → IsGraph g → TutteBerge g r
 tutte_berge g r is = tutte_berge_below (count g.order (λ v. not (r v))) g r is (omega arith)

@@ -3,9 +3,8 @@
 use Rattle.std.proofs.Common.{◌≡◌, ℕ, suc, ◌+◌, ◌≤◌, ◌<◌, true, sym, ap, ◌∙◌, arith, subst}
 use Rattle.counting.proofs.Common.{Within, Set}
 use Rattle.graph_core.proofs.Common.{degree_congr, Graph, degree, first_end, second_end, size, IsMatching}
-use Rattle.match_search.proofs.OddCycles.{next_in}
 use Rattle.match_search.proofs.LongerPaths.{ends_by}
-use Rattle.match_search.specs.Common.{IsOddCycle, next, IsAlternating, IsForest}
+use Rattle.match_search.specs.Common.{IsOddCycle, IsAlternating, IsForest}
 
 -- a path is what stands at its places
 pub path_alike : (g : Graph) (r f : Set) (k : ℕ) (v e v' e' : ℕ → ℕ) → ((j : ℕ) → j ≤ k + k → v' j ≡ v j) → ((j : ℕ) → j < k + k → e' j ≡ e j) → IsAlternating g r f k v e → IsAlternating g r f k v' e'
@@ -41,19 +40,8 @@ forest_alike g r f outer inner k v e outer' inner' k' v' e' ho hi hk hv he fores
 
 -- a matching is what it answers at the edges
 pub matching_alike : (g : Graph) (r m n : Set) → ((e : ℕ) → Within (size g) e → n e ≡ m e) → IsMatching g r m → IsMatching g r n
-matching_alike g r m n h mm = record {
-  once = λ v w. let a = degree_congr g n m v h in let o = mm.once v w in omega arith;
-  away = λ v w t. degree_congr g n m v h ∙ mm.away v w t;
-}
+matching_alike g r m n h mm = grind (arith, degree_congr g n m)
 
 -- a cycle is what stands at its places
 pub cycle_alike : (g : Graph) (r : Set) (n : ℕ) (c e c' e' : ℕ → ℕ) → ((i : ℕ) → Within n i → c' i ≡ c i) → ((i : ℕ) → Within n i → e' i ≡ e i) → IsOddCycle g r n c e → IsOddCycle g r n c' e'
-cycle_alike g r n c e c' e' hc he cyc = record {
-  odd = cyc.odd;
-  three = cyc.three;
-  apart = λ i j wi wj q. cyc.apart i j wi wj (sym (hc i wi) ∙ q ∙ hc j wj);
-  within = λ i w. subst (λ z. Within g.order z) (sym (hc i w)) (cyc.within i w);
-  outside = λ i w. ap r (hc i w) ∙ cyc.outside i w;
-  real = λ i w. subst (λ z. Within (size g) z) (sym (he i w)) (cyc.real i w);
-  ends = λ i w. ends_by g (e' i) (e i) (c' i) (c i) (c' (next n i)) (c (next n i)) (he i w) (hc i w) (hc (next n i) (next_in n i w)) (cyc.ends i w);
-}
+cycle_alike g r n c e c' e' hc he cyc = grind arith

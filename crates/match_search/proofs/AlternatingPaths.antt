@@ -15,11 +15,7 @@ put_off m e b d n = ap (λ t. cond t b (m d)) (ne_eqb d e n)
 
 module _ (g : Graph) (r : Set) (k : ℕ) (v e : ℕ → ℕ) (is : IsPath g r k v e) where
   pub path_edges : (i j : ℕ) → i < k + k → j < k + k → e i ≡ e j → i ≡ j
-  path_edges i j wi wj q =
-      elim (same_ends g (e i) (v i) (v (suc i)) (v j) (v (suc j)) (is.ends i wi) (subst (λ d. HasEnds g d (v j) (v (suc j))) (sym q) (is.ends j wj))) [
-        | inl a ↦ is.apart i j (omega arith) (omega arith) a.0
-        | inr a ↦ let x = is.apart i (suc j) (omega arith) (omega arith) a.0 in let y = is.apart (suc i) j (omega arith) (omega arith) a.1 in absurd (omega arith)
-      ]
+  path_edges i j wi wj q = grind arith
 
 -- an edge with other ends than those of the path's edges is none of them
 module _ (g : Graph) (r f : Set) (mm : IsMatching g r f) (k : ℕ) (v e : ℕ → ℕ) (is : IsAlternating g r f k v e) where
@@ -41,10 +37,7 @@ module _ (g : Graph) (r f : Set) (mm : IsMatching g r f) (k : ℕ) (v e : ℕ �
 
   -- the first i pairs of edges move what is missed from v 0 to v (i + i)
   pub flipped_degree : (i w : ℕ) → i ≤ k → degree g (flipped f e i) w + bit (v (i + i) == w) ≡ degree g f w + bit (v 0 == w)
-  flipped_degree zero w l = ap (λ s. degree g f w + bit (v s == w)) (zero_zero)
-    where
-      zero_zero : zero + zero ≡ zero
-      zero_zero = omega arith
+  flipped_degree zero w l = ap (λ s. degree g f w + bit (v s == w)) (omega arith)
   flipped_degree (suc i) w l =
       let a = degree_put g (flipped f e i) (e (i + i)) true w (is.path.real (i + i) (omega arith)) in
       let b = degree_put g (put (flipped f e i) (e (i + i)) true) (e (suc (i + i))) false w (is.path.real (suc (i + i)) (omega arith)) in
@@ -52,12 +45,9 @@ module _ (g : Graph) (r f : Set) (mm : IsMatching g r f) (k : ℕ) (v e : ℕ �
       let d = ap (λ s. bit s * ends_of g (e (suc (i + i))) w) (before_true i l) in
       let x = ends_of_is g (e (i + i)) (v (i + i)) (v (suc (i + i))) (is.path.ends (i + i) (omega arith)) w in
       let y = ends_of_is g (e (suc (i + i))) (v (suc (i + i))) (v (suc (suc (i + i)))) (is.path.ends (suc (i + i)) (omega arith)) w in
-      let z : bit (v (suc i + suc i) == w) ≡ bit (v (suc (suc (i + i))) == w) = ap (λ s. bit (v s == w)) (two i) in
+      let z : bit (v (suc i + suc i) == w) ≡ bit (v (suc (suc (i + i))) == w) = ap (λ s. bit (v s == w)) (omega arith) in
       let h = flipped_degree i w (omega arith) in
       omega arith
-    where
-      two : (i : ℕ) → suc i + suc i ≡ suc (suc (i + i))
-      two i = omega arith
 
   pub flipped_count : (i : ℕ) → i ≤ k → count (size g) (flipped f e i) ≡ count (size g) f
   flipped_count zero l = refl
@@ -76,11 +66,7 @@ module _ (g : Graph) (r f : Set) (mm : IsMatching g r f) (k : ℕ) (v e : ℕ �
   ]
 
   pub flipped_matching : (i : ℕ) → i ≤ k → IsMatching g r (flipped f e i)
-  flipped_matching i l = record {
-    once = λ w ww. let a = flipped_degree i w l in let b = room w ww in omega arith;
-    away = λ w ww t. let a = flipped_degree i w l in let b = mm.away w ww t in
-        let c = ap bit (ne_eqb (v 0) w (λ q. both_ways (r w) (ap r (sym q) ∙ is.path.outside 0 (omega arith)) t)) in omega arith;
-  }
+  flipped_matching i l = grind (arith, flipped_degree i, ne_eqb (v 0), both_ways)
 
   pub flipped_end : (i : ℕ) → i ≤ k → degree g (flipped f e i) (v (i + i)) ≡ 0
   flipped_end i l = let a = flipped_degree i (v (i + i)) l in let b = room (v (i + i)) (is.path.within (i + i) (omega arith)) in let c = ap bit (eq-eqb (v (i + i)) (v (i + i)) refl) in omega arith

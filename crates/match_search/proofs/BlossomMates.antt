@@ -64,8 +64,7 @@ module _ (g : Graph) (is : IsGraph g) (r f m : Set) (n : ℕ) (c e : ℕ → ℕ
       go (suc t) o l s = let q = half t (not-true (is_odd t) o) in (q.0, (let a = q.1 in omega arith), (let a = q.1 in omega arith))
 
   pub near_sets : (t : ℕ) → Within g.order t → cs t ≡ true → (d : Set) × IsNearPerfect g cs t d
-  near_sets t w q = let s = some_true n (λ i. c i == t) q in
-      (picked n (every_other s.0) e, subst (λ y. IsNearPerfect g cs y (picked n (every_other s.0) e)) (eqb-true (c s.0) t s.2) (every_other-near_perfect g r n c e cyc s.0 s.1))
+  near_sets t w q = grind (arith, some_true n, eqb-true, every_other-near_perfect g r n c e cyc)
 
   pub graph : IsGraph H
   graph = shrunk_graph g is r cs z es pulls cr wz cz
@@ -233,17 +232,8 @@ module _ (g : Graph) (is : IsGraph g) (r f m : Set) (n : ℕ) (c e : ℕ → ℕ
       moved = put fewer d2 true
 
       pub moved_mates : HasMates g r moved (with_pair (with_mate mate z 0) x u)
-      moved_mates = mates_alike g r moved (with_pair parted x u) (with_pair (with_mate mate z 0) x u) same
+      moved_mates = mates_alike g r moved (with_pair parted x u) (with_pair (with_mate mate z 0) x u) (grind arith)
           (joined_pairs g r fewer parted d2 x u parted_below added.0 wd ends x_not_u (λ v nx nu. degree_elsewhere g fewer d2 x u wd ends v nx nu) back.0 (cw u cu))
-        where
-          same : (v : ℕ) → with_pair (with_mate mate z 0) x u v ≡ with_pair parted x u v
-          same v = elim (cases_eq v u) [
-            | inl s ↦ with_here (with_mate (with_mate mate z 0) x u) u x v s ∙ sym (with_here (with_mate parted x u) u x v s)
-            | inr nu ↦ elim (cases_eq v x) [
-              | inl s ↦ with_there (with_mate (with_mate mate z 0) x u) u x v nu ∙ with_here (with_mate mate z 0) x u v s ∙ sym (with_there (with_mate parted x u) u x v nu ∙ with_here parted x u v s)
-              | inr nx ↦ with_there (with_mate (with_mate mate z 0) x u) u x v nu ∙ with_there (with_mate mate z 0) x u v nx ∙ sym (with_there (with_mate parted x u) u x v nu ∙ with_there parted x u v nx ∙ with_there (with_mate mate z 0) x 0 v nx)
-            ]
-          ]
 
       pub moved_missed : (v : ℕ) → Within g.order v → cs v ≡ true → v ≢ u → degree g moved v ≡ 0
       moved_missed v w t s = degree_elsewhere g fewer d2 x u wd ends v (λ q. both_ways (cs x) x_out (ap cs (sym q) ∙ t)) s ∙ blossom_missed fewer parted parted_has parted_free v w t

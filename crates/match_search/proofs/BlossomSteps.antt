@@ -1,7 +1,7 @@
 -- Is the step of the graph with a blossom shrunk one of the graph, by mates? The matching of the
 -- smaller graph leaves the blossom at its base or at a neighbour of some vertex of it; it is
 -- completed there.
-use Rattle.std.proofs.Common.{◌≡◌, ◌≢◌, ℕ, ◌+◌, ◌≤◌, true, refl, sym, ap, ◌∙◌, arith, inl, inr, ◌||◌, subst, subst₂, List}
+use Rattle.std.proofs.Common.{◌≡◌, ◌≢◌, ℕ, ◌+◌, ◌≤◌, true, refl, sym, ap, ◌∙◌, arith, ◌||◌, List}
 use Rattle.counting.proofs.Common.{fun_ext, or_cases, count_le, Within, count, Set, union, mem}
 use Rattle.graph_core.proofs.Common.{Graph, HasEnds, IsGraph, degree, size, with_ends}
 use Rattle.match_search.specs.Common.{Frame, shrunk_removed, HasMates, paired_round, with_mate, with_pair, IsOddCycle, every_other, listed, picked, IsOpened, IsWidened, StepAnswer, shrunk_ends}
@@ -56,17 +56,13 @@ module _ (g : Graph) (is : IsGraph g) (r f m : Set) (n : ℕ) (c e : ℕ → ℕ
   )
     where
       outer_in : (v : ℕ) → union (mem sets.outer) (mem members) v ≡ true → Within g.order v
-      outer_in v q = elim (or_cases (mem sets.outer v) (mem members v) q) [
-        | inl o ↦ (a.2 v).0 o
-        | inr o ↦ cw g is r f m n c e opened v (sym (is_cs v) ∙ o)
-      ]
+      outer_in v q = grind (arith, or_cases (mem sets.outer v) (mem members v) q, cw g is r f m n c e opened v)
 
       outer_is : mem wide.outer ≡ union (mem sets.outer) cs
       outer_is = fun_ext (λ v. w.0 v ∙ ap (λ b. mem sets.outer v || b) (is_cs v))
 
       framed : Frame g r (count (size H) m + pairs) (union (mem sets.outer) cs) (mem sets.inner) → Frame g r (count (size g) f) (mem wide.outer) (mem wide.inner)
-      framed h = subst (λ (k : ℕ). Frame g r k (mem wide.outer) (mem wide.inner)) ((downs g is r f m n c e opened).2 ∙ opened.same)
-          (subst₂ (λ (o i : Set). Frame g r (count (size H) m + pairs) o i) (sym outer_is) (sym (ap mem w.1)) h)
+      framed h = grind (arith, downs g is r f m n c e opened, outer_is)
 
   -- opened where the base is exposed, and where it has a mate
   pub opened_free : (m2 : Set) (mate : ℕ → ℕ) → HasMates H rs m2 mate → mate z ≡ 0 → (new : ℕ → ℕ) → ((v : ℕ) → new v ≡ paired_round mate n c 1 n v) → (full : Set) × HasMates g r full new × (count (size g) full ≡ count (size H) m2 + pairs)

@@ -38,24 +38,7 @@ module _ (s : Instance) (mate : List ℕ) (t : AlternatingForest) (x y : ℕ) (m
   z_in_graph = (branch_mate g r f s mate is t holds x y ox parts.0 parts.1 parts.2 oy parts.3).0
 
   pub fits_branch : FitsBranch mate t x y
-  fits_branch =
-      let wx = (holds.forest.outer_in x ox).0 in
-      let wy = y_in_graph in
-      let wz = z_in_graph in
-      let few = is.instance_is.few in
-      let long = is.long in
-      let parents = holds.parents_long in
-      let pairs = holds.pairs_long in
-      let short = pairs_few g r f mate t holds x ox in
-      record {
-        y_mate = omega arith;
-        x_in = omega arith;
-        y_in = omega arith;
-        z_in = omega arith;
-        y_vertex = (wy.0, omega arith);
-        z_vertex = (wz.0, omega arith);
-        shallow = omega arith;
-      }
+  fits_branch = grind (arith, y_in_graph, z_in_graph, pairs_few g r f mate t holds x ox)
 
   pub holds_branched : (h : AlternatingForest) → HasBranched t h x y (numbers mate y) → HoldsAlternating g r f mate h
   holds_branched = branch_holds g r f s mate is t holds x y ox parts.0 parts.1 parts.2 oy parts.3

@@ -1,8 +1,8 @@
 -- An odd labelling of G - R - S with enough classes shows that no matching of G - R is larger.
 -- Each class has a vertex that the matching misses or an edge to S; summed over the classes and
 -- compared term by term.
-use Rattle.std.proofs.Common.{◌≡◌, ℕ, suc, zero, ◌+◌, ◌*◌, ◌≤◌, ◌≢◌, Bool, true, false, ◌==◌, refl, sym, ap, ap₂, ◌∙◌, arith, ◌&&◌, ◌||◌, not, eq-eqb, ne_eqb, eqb-true, inl, inr, nat_lt, mul-add, lt-ltb}
-use Rattle.counting.proofs.Common.{cases_eq, both_ways, true≢false, false_from_ne_true, or_from, count_le_one, odd-double, total_add, total_at, total_congr, total_le, total_none, total_swap, total_tight, total_ones, Within, bit, count, is_odd, total, Set, complement, union}
+use Rattle.std.proofs.Common.{◌≡◌, ℕ, suc, zero, ◌+◌, ◌*◌, ◌≤◌, Bool, true, false, ◌==◌, refl, sym, ap, ap₂, ◌∙◌, arith, ◌&&◌, ◌||◌, not, eq-eqb, ne_eqb, eqb-true, inl, inr, nat_lt, mul-add, lt-ltb}
+use Rattle.counting.proofs.Common.{cases_eq, both_ways, false_from_ne_true, or_from, count_le_one, odd-double, total_add, total_at, total_congr, total_le, total_none, total_swap, total_tight, total_ones, Within, bit, count, is_odd, total, Set, complement, union}
 use Rattle.graph_core.proofs.Common.{ends_le_degree, ends_of, ends_of_is, missed_edges, degrees, ends_in, Graph, IsGraph, degree, first_end, in_cut, inside, second_end, size, IsMatching, missed_count}
 use Rattle.match_search.specs.Common.{IsOddLabelling}
 
@@ -24,22 +24,7 @@ one_class : (p l : ℕ) → count p (λ j. l == j) ≤ 1
 one_class p l = count_le_one p (λ j. l == j) (λ u v wu wv lt a b. let x = eqb-true l u a in let y = eqb-true l v b in absurd (omega arith))
 
 cross_sum : (p a b : ℕ) (x y : Bool) → (x ≡ true → a ≡ 0) → (y ≡ true → b ≡ 0) → (x ≡ false → y ≡ false → a ≡ b) → count p (λ j. ((a == j) && not (b == j)) || (not (a == j) && (b == j))) ≤ bit x + bit y
-cross_sum p a b false false hx hy hxy = let z = total_none p (λ j. bit (((a == j) && not (b == j)) || (not (a == j) && (b == j)))) (λ j w. ap bit (ap (λ k. ((k == j) && not (b == j)) || (not (k == j) && (b == j))) (hxy refl refl) ∙ same (b == j))) in omega arith
-  where
-    same : (t : Bool) → ((t && not t) || (not t && t)) ≡ false
-    same true = refl
-    same false = refl
-cross_sum p a b true y hx hy hxy = let z = total_le p (λ j. bit (((a == j) && not (b == j)) || (not (a == j) && (b == j)))) (λ j. bit (b == j)) (λ j w. le (a == j) (b == j) (ne_eqb a j (λ e. let k = hx refl in absurd (omega arith)))) in let o = one_class p b in omega arith
-  where
-    le : (s t : Bool) → s ≡ false → bit ((s && not t) || (not s && t)) ≤ bit t
-    le true t q = absurd (true≢false q)
-    le false t q = omega arith
-cross_sum p a b false true hx hy hxy = let z = total_le p (λ j. bit (((a == j) && not (b == j)) || (not (a == j) && (b == j)))) (λ j. bit (a == j)) (λ j w. le (a == j) (b == j) (ne_eqb b j (λ e. let k = hy refl in absurd (omega arith)))) in let o = one_class p a in omega arith
-  where
-    le : (s t : Bool) → t ≡ false → bit ((s && not t) || (not s && t)) ≤ bit s
-    le s true q = absurd (true≢false q)
-    le true false q = omega arith
-    le false false q = omega arith
+cross_sum p a b x y hx hy hxy = grind (arith, total_none p, total_le p, ne_eqb a, one_class p b, ne_eqb b, one_class p a)
 
 module _ (g : Graph) (is : IsGraph g) (r s : Set) (label : ℕ → ℕ) (p : ℕ) (labels : IsOddLabelling g (union r s) label p) (m : Set) (mm : IsMatching g r m) where
   abbrev class : ℕ → Set
@@ -49,16 +34,10 @@ module _ (g : Graph) (is : IsGraph g) (r s : Set) (label : ℕ → ℕ) (p : ℕ
   class_open : (j : ℕ) → Within p j → 1 ≤ total g.order (λ v. bit (label v == j) * bit (degree g m v == 0)) + count (size g) (λ e. m e && in_cut g (class j) e)
   class_open j w = go (total g.order (λ v. bit (label v == j) * bit (degree g m v == 0)) + count (size g) (λ e. m e && in_cut g (class j) e)) refl
     where
-      each : (b : Bool) (d : ℕ) → d ≤ 1 → bit b ≡ bit b * bit (d == 0) + bit b * d
-      each false d l = omega arith
-      each true zero l = refl
-      each true (suc zero) l = refl
-      each true (suc (suc d)) l = absurd (omega arith)
-
       go : (k : ℕ) → total g.order (λ v. bit (label v == j) * bit (degree g m v == 0)) + count (size g) (λ e. m e && in_cut g (class j) e) ≡ k → 1 ≤ k
       go (suc k) q = omega arith
       go zero q =
-          let a = total_congr g.order (λ v. bit (label v == j)) (λ v. bit (label v == j) * bit (degree g m v == 0) + bit (label v == j) * degree g m v) (λ v w. each (label v == j) (degree g m v) (mm.once v w)) in
+          let a = total_congr g.order (λ v. bit (label v == j)) (λ v. bit (label v == j) * bit (degree g m v == 0) + bit (label v == j) * degree g m v) (λ v w. grind arith) in
           let b = total_add g.order (λ v. bit (label v == j) * bit (degree g m v == 0)) (λ v. bit (label v == j) * degree g m v) in
           let d = degrees g is m (class j) in
           let i = count (size g) (λ e. m e && inside g (class j) e) in
@@ -103,22 +82,7 @@ module _ (g : Graph) (is : IsGraph g) (r s : Set) (label : ℕ → ℕ) (p : ℕ
       omega arith
 
   each_term : (v : ℕ) → Within g.order v → bit (nat_lt 0 (label v)) * bit (degree g m v == 0) + bit (s v) * degree g m v ≤ bit (not (r v) && (degree g m v == 0)) + bit (s v)
-  each_term v w = go (r v) (s v) (degree g m v) (mm.once v w) (mm.away v w) (λ t. ap (nat_lt 0) (labels.away v w (Rattle.std.proofs.lemmas.Bool.or_left (r v) (s v) t)))
-    where
-      go : (a b : Bool) (d : ℕ) → d ≤ 1 → (a ≡ true → d ≡ 0) → (a ≡ true → nat_lt 0 (label v) ≡ false) → bit (nat_lt 0 (label v)) * bit (d == 0) + bit b * d ≤ bit (not a && (d == 0)) + bit b
-      go true b d l q t = let x = ap bit (t refl) in let y = q refl in rw (t refl, q refl) (omega arith)
-      go false true zero l q t = le_bit (nat_lt 0 (label v))
-        where
-          le_bit : (x : Bool) → bit x * 1 + 1 * 0 ≤ 1 + 1
-          le_bit true = omega arith
-          le_bit false = omega arith
-      go false false zero l q t = le_bit (nat_lt 0 (label v))
-        where
-          le_bit : (x : Bool) → bit x * 1 + 0 * 0 ≤ 1 + 0
-          le_bit true = omega arith
-          le_bit false = omega arith
-      go false b (suc zero) l q t = omega arith
-      go false b (suc (suc d)) l q t = absurd (omega arith)
+  each_term v w = grind arith
 
   bound_total : total g.order (λ v. bit (not (r v) && (degree g m v == 0)) + bit (s v)) ≡ missed_count g r m + count g.order s
   unfolding missed_count
@@ -126,11 +90,7 @@ module _ (g : Graph) (is : IsGraph g) (r s : Set) (label : ℕ → ℕ) (p : ℕ
 
   module _ (k : ℕ) (sizes : count g.order (complement r) + count g.order s ≡ 2 * k + p) where
     pub certificate_bound : count (size g) m ≤ k
-    certificate_bound =
-        let a = classes_few in
-        let b = total_le g.order _ _ each_term in
-        let d = bound_total in
-        let e = missed_edges g r m is mm in omega arith
+    certificate_bound = grind (arith, classes_few, total_le g.order, each_term, bound_total, missed_edges g r m is mm)
 
     -- a matching of k edges misses only vertices of the classes, and none of s
     pub certificate_tight : count (size g) m ≡ k → (v : ℕ) → Within g.order v → r v ≡ false → degree g m v ≡ 0 → (nat_lt 0 (label v) ≡ true) × (s v ≡ false)
@@ -139,12 +99,4 @@ module _ (g : Graph) (is : IsGraph g) (r s : Set) (label : ℕ → ℕ) (p : ℕ
         let d = bound_total in
         let e = missed_edges g r m is mm in
         let t = sym (total_tight g.order _ _ each_term (omega arith) v w) in
-        go (nat_lt 0 (label v)) (s v) (r v) (degree g m v) rv dv t
-      where
-        go : (x y z : Bool) (d : ℕ) → z ≡ false → d ≡ 0 → bit x * bit (d == 0) + bit y * d ≡ bit (not z && (d == 0)) + bit y → (x ≡ true) × (y ≡ false)
-        go x y true d q f h = absurd (true≢false q)
-        go x y z (suc d) q f h = absurd (omega arith)
-        go true false false zero q f h = (refl, refl)
-        go true true false zero q f h = absurd (omega arith)
-        go false true false zero q f h = absurd (omega arith)
-        go false false false zero q f h = absurd (omega arith)
+        (grind arith)

@@ -1,6 +1,6 @@
 -- The cycle of a blossom, as the code reads it off two closing paths, with its members and with the
 -- mates that are left. What is proved of the places on the paths is so said of the cycle.
-use Rattle.std.proofs.Common.{◌≡◌, ◌≢◌, ℕ, suc, ◌+◌, ◌-◌, ◌/◌, ◌≤◌, ◌<◌, ap, ap₂, ◌∙◌, arith, subst, length, List}
+use Rattle.std.proofs.Common.{◌≡◌, ◌≢◌, ℕ, suc, ◌+◌, ◌-◌, ◌/◌, ◌≤◌, ◌<◌, ap, ◌∙◌, arith, subst, length, List}
 use Rattle.counting.proofs.Common.{fun_ext, Within, Set, mem}
 use Rattle.graph_core.proofs.Common.{Graph}
 use Rattle.match_search.specs.Common.{AreClosingPaths, ExposesOnly, HoldsBlossom, second_start, cleared_mates, flipped_mates, IsLastMeeting, listed, numbers, part}
@@ -23,10 +23,7 @@ module _ (w : Paths) (meeting : Meeting) (last : IsLastMeeting w.row.items 0 (su
   latest s u a b d = last.latest s u a (omega arith) (omega arith)
 
   c_low : (y : ℕ) → y ≤ w.second + w.second - meeting.j → numbers cs (1 + y) ≡ numbers w.row.items (second_start w + meeting.j + y)
-  c_low y b = low y b ∙ ap (λ (xs : List ℕ). numbers xs (w.first + w.first + 1 + meeting.j + y)) row_is ∙ ap (numbers w.row.items) (start (w.first + w.first) meeting.j y)
-    where
-      start : (a j y : ℕ) → a + 1 + j + y ≡ suc a + j + y
-      start a j y = omega arith
+  c_low y b = low y b ∙ ap (λ (xs : List ℕ). numbers xs (w.first + w.first + 1 + meeting.j + y)) row_is ∙ ap (numbers w.row.items) (omega arith)
 
   c_high : (y : ℕ) → y < w.first + w.first - meeting.i → numbers cs (w.second + w.second - meeting.j + 2 + y) ≡ numbers w.row.items (meeting.i + 1 + (w.first + w.first - meeting.i - 1 - y))
   c_high y b = high y b ∙ ap (λ (xs : List ℕ). numbers xs (meeting.i + 1 + (w.first + w.first - meeting.i - 1 - y))) row_is
@@ -47,8 +44,7 @@ module _ (w : Paths) (meeting : Meeting) (last : IsLastMeeting w.row.items 0 (su
     members_is = subst (λ (xs : List ℕ). (v : ℕ) → mem blossom.members v ≡ listed (length xs - 1) (numbers xs) v) listing_is members
 
     new_is : (v : ℕ) → numbers new v ≡ cleared_mates (flipped_mates (numbers mate) (part w.row.items (second_start w)) (meeting.j / 2)) (length cs - 1) (numbers cs) v
-    new_is v = clear v ∙ ap₂ (λ (xs : List ℕ) (m : ℕ → ℕ). cleared_mates m (length xs - 1) (numbers xs) v) cleared_is
-        (fun_ext (λ u. flip u ∙ ap₂ (λ (xs : List ℕ) (s : ℕ). flipped_mates (numbers mate) (part xs s) (meeting.j / 2) u) path_is (one_more (w.first + w.first))))
+    new_is v = grind (arith, fun_ext, one_more (w.first + w.first))
       where
         one_more : (a : ℕ) → a + 1 ≡ suc a
         one_more a = omega arith

@@ -1,23 +1,18 @@
 -- An edge between two outer vertices whose paths meet closes an odd cycle that begins at a vertex
 -- which can be missed. The paths meet last at an outer vertex; from there along one path, over
 -- the edge and back along the other.
-use Rattle.std.proofs.Common.{◌≡◌, ℕ, suc, zero, ◌+◌, ◌-◌, ◌≤◌, ◌<◌, ◌≢◌, Bool, true, false, cond, ◌==◌, refl, sym, ap, ap₂, ◌∙◌, arith, ◌&&◌, ◌||◌, not, eq-eqb, ne_eqb, eqb-true, ◌⊎◌, inl, inr, subst, nat_lt, nat_le, le-ltb}
+use Rattle.std.proofs.Common.{◌≡◌, ℕ, suc, zero, ◌+◌, ◌-◌, ◌≤◌, ◌<◌, ◌≢◌, Bool, true, false, cond, ◌==◌, refl, sym, ap, ap₂, ◌∙◌, arith, ◌&&◌, ◌||◌, not, eq-eqb, ne_eqb, eqb-true, ◌⊎◌, inl, inr, subst, nat_lt, nat_le, le-ltb, rules}
 use Rattle.counting.proofs.Common.{not_not, cases_eq, cases_Bool, cases_lt, cases_order, both_ways, true≢false, and_parts, le-leb, lt-leb, odd-add, odd-double, some_true, Within, count, is_odd, Set}
 use Rattle.graph_core.proofs.Common.{Graph, degree, size, HasEnds, IsMatching}
 use Rattle.match_search.proofs.OddCycles.{next_in, same_ends}
 use Rattle.match_search.proofs.LongerPaths.{ends_by}
 use Rattle.match_search.proofs.Forests.{one_edge, turned}
 use Rattle.match_search.proofs.AlternatingPaths.{flipped_count, flipped_end, flipped_matching, flipped_off}
-use Rattle.match_search.specs.Common.{IsOddCycle, same_answer, next, every_other, picked, IsAlternating, flipped}
+use Rattle.match_search.specs.Common.{IsOddCycle, next, every_other, picked, IsAlternating, flipped}
 
 -- the summand of an even sum whose other summand is even
 even_part : (m j t : ℕ) → m + j ≡ t → is_odd j ≡ false → is_odd t ≡ false → is_odd m ≡ false
-even_part m j t q oj ot = go (is_odd m) (is_odd j) oj (sym (odd-add m j) ∙ ap is_odd q ∙ ot)
-  where
-    go : (a b : Bool) → b ≡ false → cond a (not b) b ≡ false → a ≡ false
-    go true true p q = absurd (true≢false p)
-    go true false p q = absurd (true≢false q)
-    go false b p q = refl
+even_part m j t q oj ot = grind (arith, odd-add, true≢false)
 
 module _ (g : Graph) (r f : Set) (mm : IsMatching g r f) (inner : Set) (k l : ℕ) (p a q b : ℕ → ℕ) (pp : IsAlternating g r f k p a) (qq : IsAlternating g r f l q b)
     (p_sides : (s : ℕ) → s ≤ k + k → inner (p s) ≡ is_odd s) (q_sides : (s : ℕ) → s ≤ l + l → inner (q s) ≡ is_odd s)
@@ -69,22 +64,13 @@ module _ (g : Graph) (r f : Set) (mm : IsMatching g r f) (inner : Set) (k l : �
     even_x = even_part x i (k + k) xi even_i (odd-double k)
 
     pub low : (y : ℕ) → y ≤ m → around (suc y) ≡ q (j + y)
-    low y le = ap (λ t. cond t (q (j + suc y - 1)) (p (k + k + suc (suc m) - suc y))) (le-leb (suc y) (suc m) (omega arith)) ∙ ap q (less j y)
-      where
-        less : (j y : ℕ) → j + suc y - 1 ≡ j + y
-        less j y = omega arith
+    low y le = grind (arith, le-leb (suc y) (suc m))
 
     pub high : (s y : ℕ) → y ≤ k + k → s + y ≡ k + k + suc (suc m) → around s ≡ p y
-    high s y le e = ap (λ t. cond t (q (j + s - 1)) (p (k + k + suc (suc m) - s))) (lt-leb s (suc m) (omega arith)) ∙ ap p (less (k + k + suc (suc m)) e)
-      where
-        less : (t : ℕ) → s + y ≡ t → t - s ≡ y
-        less t e = omega arith
+    high s y le e = grind (arith, lt-leb s (suc m))
 
     pub edge_low : (y : ℕ) → y < m → edges_around (suc y) ≡ b (j + y)
-    edge_low y le = ap (λ t. cond t (b (j + suc y - 1)) (cond (suc y == suc m) d (a (k + k + suc m - suc y)))) (le-leb (suc y) m (omega arith)) ∙ ap b (less j y)
-      where
-        less : (j y : ℕ) → j + suc y - 1 ≡ j + y
-        less j y = omega arith
+    edge_low y le = ap (λ t. cond t (b (j + suc y - 1)) (cond (suc y == suc m) d (a (k + k + suc m - suc y)))) (le-leb (suc y) m (omega arith)) ∙ ap b (omega arith)
 
     pub edge_mid : edges_around (suc m) ≡ d
     edge_mid = ap (λ t. cond t (b (j + suc m - 1)) (cond (suc m == suc m) d (a (k + k + suc m - suc m)))) (lt-leb (suc m) m (omega arith)) ∙ ap (λ t. cond t d (a (k + k + suc m - suc m))) (eq-eqb (suc m) (suc m) refl)
@@ -93,10 +79,7 @@ module _ (g : Graph) (r f : Set) (mm : IsMatching g r f) (inner : Set) (k l : �
     edge_high s y le e =
         ap (λ t. cond t (b (j + s - 1)) (cond (s == suc m) d (a (k + k + suc m - s)))) (lt-leb s m (omega arith))
         ∙ ap (λ t. cond t d (a (k + k + suc m - s))) (ne_eqb s (suc m) (λ z. absurd (omega arith)))
-        ∙ ap a (less (k + k + suc m) (omega arith))
-      where
-        less : (t : ℕ) → s + y ≡ t → t - s ≡ y
-        less t e = omega arith
+        ∙ ap a (omega arith)
 
     -- where a place is
     pub spot : (s : ℕ) → Within length_around s → ((y : ℕ) × (y ≤ m) × (s ≡ suc y)) ⊎ ((y : ℕ) × (i < y) × (y ≤ k + k) × (s + y ≡ k + k + suc (suc m)))
@@ -115,10 +98,7 @@ module _ (g : Graph) (r f : Set) (mm : IsMatching g r f) (inner : Set) (k l : �
     ]
 
     by_spot : (P : ℕ → Type 0) → ((t : ℕ) → t ≤ l + l → P (q t)) → ((t : ℕ) → t ≤ k + k → P (p t)) → (s : ℕ) → Within length_around s → P (around s)
-    by_spot P on_q on_p s w = elim (spot s w) [
-      | inl t ↦ subst P (sym (ap around t.2 ∙ low t.0 t.1)) (on_q (j + t.0) (let z = t.1 in omega arith))
-      | inr t ↦ subst P (sym (high s t.0 t.2 t.3)) (on_p t.0 t.2)
-    ]
+    by_spot P on_q on_p s w = search (rules, spot s w, high s)
 
     apart : (s t : ℕ) → Within length_around s → Within length_around t → around s ≡ around t → s ≡ t
     apart s t ws wt e = elim (spot s ws) [
@@ -133,10 +113,7 @@ module _ (g : Graph) (r f : Set) (mm : IsMatching g r f) (inner : Set) (k l : �
     ]
 
     first_is : around 1 ≡ p i
-    first_is = low 0 (omega arith) ∙ ap q (plus_zero j) ∙ sym meet
-      where
-        plus_zero : (j : ℕ) → j + zero ≡ j
-        plus_zero j = omega arith
+    first_is = low 0 (omega arith) ∙ ap q (omega arith) ∙ sym meet
 
     next_end : (s : ℕ) → s ≡ length_around → next length_around s ≡ 1
     next_end s e = ap (λ t. cond t 1 (suc s)) (eq-eqb s length_around e)
@@ -145,13 +122,7 @@ module _ (g : Graph) (r f : Set) (mm : IsMatching g r f) (inner : Set) (k l : �
     next_on s e = ap (λ t. cond t 1 (suc s)) (ne_eqb s length_around e)
 
     after_mid : around (next length_around (suc m)) ≡ p (k + k)
-    after_mid = elim (cases_eq x 0) [
-      | inl z ↦ ap around (next_end (suc m) (omega arith)) ∙ first_is ∙ ap p (same i (k + k) (omega arith))
-      | inr z ↦ ap around (next_on (suc m) (λ t. absurd (omega arith))) ∙ high (suc (suc m)) (k + k) (omega arith) (omega arith)
-    ]
-      where
-        same : (u v : ℕ) → u ≡ v → u ≡ v
-        same u v h = h
+    after_mid = search (rules, cases_eq x 0, next_end (suc m), first_is, next_on (suc m), high (suc (suc m)) (k + k))
 
     ends : (s : ℕ) → Within length_around s → HasEnds g (edges_around s) (around s) (around (next length_around s))
     ends s w = elim (edge_spot s w) [
@@ -159,13 +130,13 @@ module _ (g : Graph) (r f : Set) (mm : IsMatching g r f) (inner : Set) (k l : �
           ends_by g (edges_around s) (b (j + t.0)) (around s) (q (j + t.0)) (around (next length_around s)) (q (suc (j + t.0)))
           (ap edges_around t.2 ∙ edge_low t.0 t.1)
           (ap around t.2 ∙ low t.0 (omega arith))
-          (ap around (next_on s (λ c. absurd (omega arith)) ∙ ap suc t.2) ∙ low (suc t.0) (omega arith) ∙ ap q (add_suc j t.0))
+          (ap around (next_on s (λ c. absurd (omega arith)) ∙ ap suc t.2) ∙ low (suc t.0) (omega arith) ∙ ap q (omega arith))
           (qq.path.ends (j + t.0) (omega arith))
       | inr t ↦ elim t [
         | inl t ↦
             ends_by g (edges_around s) d (around s) (q (l + l)) (around (next length_around s)) (p (k + k))
             (ap edges_around t ∙ edge_mid)
-            (ap around t ∙ low m (omega arith) ∙ ap q (flip_sum j m (l + l) mj))
+            (ap around t ∙ low m (omega arith) ∙ ap q (omega arith))
             (ap (λ z. around (next length_around z)) t ∙ after_mid)
             (turned g d (p (k + k)) (q (l + l)) closing)
         | inr t ↦
@@ -180,12 +151,6 @@ module _ (g : Graph) (r f : Set) (mm : IsMatching g r f) (inner : Set) (k l : �
             (turned g (a t.0) (p t.0) (p (suc t.0)) (pp.path.ends t.0 t.2))
       ]
     ]
-      where
-        add_suc : (j y : ℕ) → j + suc y ≡ suc (j + y)
-        add_suc j y = omega arith
-
-        flip_sum : (j m t : ℕ) → m + j ≡ t → j + m ≡ t
-        flip_sum j m t h = omega arith
 
     pub cycle : IsOddCycle g r length_around around edges_around
     cycle = record {
@@ -196,10 +161,7 @@ module _ (g : Graph) (r f : Set) (mm : IsMatching g r f) (inner : Set) (k l : �
       outside = by_spot (λ z. r z ≡ false) qq.path.outside pp.path.outside;
       real = λ s w. elim (edge_spot s w) [
         | inl t ↦ subst (λ z. Within (size g) z) (sym (ap edges_around t.2 ∙ edge_low t.0 t.1)) (qq.path.real (j + t.0) (let z = t.1 in omega arith))
-        | inr t ↦ elim t [
-          | inl t ↦ subst (λ z. Within (size g) z) (sym (ap edges_around t ∙ edge_mid)) wd
-          | inr t ↦ subst (λ z. Within (size g) z) (sym (edge_high s t.0 t.2 t.3)) (pp.path.real t.0 t.2)
-        ]
+        | inr t ↦ grind (arith, edge_mid, edge_high s)
       ];
       ends = ends;
     }
@@ -223,10 +185,7 @@ module _ (g : Graph) (r f : Set) (mm : IsMatching g r f) (inner : Set) (k l : �
     ]
       where
         parity : (c e : Bool) → cond c (not (not e)) (not e) ≡ false → e ≡ not c
-        parity true true h = absurd (true≢false h)
-        parity true false h = refl
-        parity false true h = refl
-        parity false false h = absurd (true≢false h)
+        parity c e h = grind arith
 
     module _ (h : ℕ) (jh : j ≡ h + h) where
       h_l : h ≤ l
@@ -256,23 +215,13 @@ module _ (g : Graph) (r f : Set) (mm : IsMatching g r f) (inner : Set) (k l : �
       stem_count = flipped_count g r f mm l q b qq h h_l
 
       pub stem_free : degree g stem (around 1) ≡ 0
-      stem_free = ap (degree g stem) (low 0 (omega arith) ∙ ap q (plus_zero j (h + h) jh)) ∙ flipped_end g r f mm l q b qq h h_l
-        where
-          plus_zero : (j t : ℕ) → j ≡ t → j + zero ≡ t
-          plus_zero j t e = omega arith
+      stem_free = search (rules, flipped_end g r f mm l q b qq h h_l, h_l)
 
       pub stem_holds : (c : ℕ) → Within (size g) c → picked length_around (every_other 1) edges_around c ≡ true → stem c ≡ true
       stem_holds c w t =
           let s = some_true length_around (λ y. every_other 1 y && (edges_around y == c)) t in
           let z = and_parts (every_other 1 s.0) (edges_around s.0 == c) s.2 in
-          ap stem (sym (eqb-true (edges_around s.0) c z.1)) ∙ stem_same s.0 s.1 ∙ turns s.0 s.1 ∙ even s.0 s.1 z.0
+          ap stem (sym (eqb-true (edges_around s.0) c z.1)) ∙ stem_same s.0 s.1 ∙ turns s.0 s.1 ∙ (grind (arith, go, nat_lt, le-ltb, true≢false))
         where
           go : (x y o : Bool) → x ≡ false → ((x && o) || (y && not o)) ≡ true → o ≡ false
           go x y o p q = grind arith
-
-          even : (y : ℕ) → Within length_around y → every_other 1 y ≡ true → not (is_odd y) ≡ true
-          even y w t = even_of (is_odd y) (go (nat_lt y 1) (nat_lt 1 y) (same_answer (is_odd y) true) (le-ltb y 1 w.0) t)
-            where
-              even_of : (o : Bool) → same_answer o true ≡ false → not o ≡ true
-              even_of true q = absurd (true≢false q)
-              even_of false q = refl

@@ -1,7 +1,7 @@
 -- Two closing paths by mates: where they do not meet, the exchanged pairs and the pair of their
 -- last vertices are a matching with one edge more; where they meet, the mates without the blossom
 -- are those of the opened matching.
-use Rattle.std.proofs.Common.{◌≡◌, ◌≢◌, ℕ, suc, ◌+◌, ◌-◌, ◌*◌, ◌/◌, ◌≤◌, ◌<◌, Bool, true, false, cond, ◌==◌, refl, sym, ap, ◌∙◌, arith, ne_eqb, inl, inr, subst, length, List, ◌&&◌, not}
+use Rattle.std.proofs.Common.{◌≡◌, ◌≢◌, ℕ, suc, ◌+◌, ◌-◌, ◌/◌, ◌≤◌, ◌<◌, true, false, cond, ◌==◌, refl, sym, ap, ◌∙◌, arith, ne_eqb, inl, inr, subst, length, List, ◌&&◌, not}
 use Rattle.counting.proofs.Common.{fun_ext, cases_Bool, cases_eq, both_ways, false_from_ne_true, half, Within, bit, count, Set, minus, put, mem}
 use Rattle.graph_core.proofs.Common.{degree_put, ends_of_is, Graph, HasEnds, degree, size, IsMatching}
 use Rattle.match_search.specs.Common.{AreClosingPaths, ExposesOnly, HoldsBlossom, IsAugmented, second_start, IsAlternating, flipped, IsNearPerfect, HasMates, with_pair, flipped_mates, cleared_mates, IsOddCycle, every_other, listed, picked, numbers, part, IsOpened}
@@ -21,16 +21,7 @@ mates_alike g r m mate new h has = subst (λ (x : ℕ → ℕ). HasMates g r m x
 
 -- an edge more changes no degree but those of its ends
 pub degree_elsewhere : (g : Graph) (m : Set) (d x y : ℕ) → Within (size g) d → HasEnds g d x y → (u : ℕ) → u ≢ x → u ≢ y → degree g (put m d true) u ≡ degree g m u
-degree_elsewhere g m d x y w ends u nx ny =
-    let a = degree_put g m d true u w in
-    let b = ends_of_is g d x y ends u in
-    let s = ap bit (ne_eqb x u (λ q. nx (sym q))) in
-    let t = ap bit (ne_eqb y u (λ q. ny (sym q))) in
-    none (degree g (put m d true) u) (degree g m u) _ (m d) a (omega arith)
-  where
-    none : (d e n : ℕ) (s : Bool) → d + bit s * n ≡ e + bit true * n → n ≡ 0 → d ≡ e
-    none d e n true q z = omega arith
-    none d e n false q z = omega arith
+degree_elsewhere g m d x y w ends u nx ny = grind (arith, degree_put g m d true u w, ends_of_is g d x y ends u, ne_eqb x u, ne_eqb y u)
 
 -- the mates of the stem without the cycle are those of the opened matching
 module _ (g : Graph) (r f m : Set) (n : ℕ) (c e : ℕ → ℕ) (is : IsOpened g r f m n c e) where
@@ -56,14 +47,9 @@ module _ (g : Graph) (r f m : Set) (n : ℕ) (c e : ℕ → ℕ) (is : IsOpened 
     | inr q ↦
         let a = split v in
         let b = near.degrees v w in
-        let x : bit (listed n c v && not (v == c 1)) ≡ 1 = one (listed n c v) (v == c 1) t (ne_eqb v (c 1) q) in
+        let x : bit (listed n c v && not (v == c 1)) ≡ 1 = grind arith in
         let o = is.matching.once v w in omega arith
   ]
-    where
-      one : (s t : Bool) → s ≡ true → t ≡ false → bit (s && not t) ≡ 1
-      one true false p q = refl
-      one true true p q = absurd (Rattle.std.proofs.lemmas.Bool.true≢false q)
-      one false t p q = absurd (Rattle.std.proofs.lemmas.Bool.true≢false (sym p))
 
   none_in_cycle : (v : ℕ) → Within g.order v → listed n c v ≡ false → degree g e1 v ≡ 0
   none_in_cycle v w t = near.degrees v w ∙ ap (λ b. bit (b && not (v == c 1))) t
@@ -262,8 +248,5 @@ module _ (g : Graph) (r f : Set) (mate : List ℕ) (w : Paths) (are : AreClosing
         size : n ≡ length cs - 1
         size = omega arith
 
-        plus_zero : (a b : ℕ) → a + b ≡ a + b + 0
-        plus_zero a b = omega arith
-
         base : Q j ≡ numbers cs 1
-        base = ap (numbers w.row.items) (plus_zero (second_start w) j) ∙ sym (c_low 0 (omega arith))
+        base = ap (numbers w.row.items) (omega arith) ∙ sym (c_low 0 (omega arith))

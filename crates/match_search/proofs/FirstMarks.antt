@@ -1,6 +1,6 @@
 -- The marks that the engine begins with, and the bound on its augmentations. An edge between two
 -- free vertices is added: it meets these two alone, so all other free vertices stay free.
-use Rattle.std.proofs.Common.{◌≡◌, ℕ, ◌+◌, ◌≢◌, Bool, true, false, ◌==◌, ◌||◌, ◌&&◌, not, sym, ap, ap₂, ◌∙◌, arith}
+use Rattle.std.proofs.Common.{◌≡◌, ℕ, ◌+◌, ◌≢◌, Bool, true, false, ◌==◌, ◌||◌, ◌&&◌, not, ap, ap₂, arith}
 use Rattle.counting.proofs.Common.{both_ways, or_left, or_right, false_from_ne_true, total_none, Within, bit, Set, put}
 use Rattle.graph_core.proofs.Common.{add_edge, degree_put, ends_of_is, Graph, HasEnds, degree, first_end, second_end, size, IsMatching}
 
@@ -19,16 +19,4 @@ addable a b d h = grind arith
 pub added_edge : (g : Graph) (r m met met' : Set) (e x y : ℕ) → IsMatching g r m → ((v : ℕ) → Within g.order v → met v ≡ false → (r v ≡ false) × (degree g m v ≡ 0)) →
     Within (size g) e → Within g.order x → Within g.order y → HasEnds g e x y → x ≢ y → met x ≡ false → met y ≡ false → ((v : ℕ) → met' v ≡ ((met v || (x == v)) || (y == v))) →
     IsMatching g r (put m e true) × ((v : ℕ) → Within g.order v → met' v ≡ false → (r v ≡ false) × (degree g (put m e true) v ≡ 0))
-added_edge g r m met met' e x y mm free we wx wy ends xy mx my met'_is = (
-  (add_edge g r m e x y mm we xy (free x wx mx).0 (free y wy my).0 ends (free x wx mx).1 (free y wy my).1).0,
-  λ v w q. still v w (sym (met'_is v) ∙ q),
-)
-  where
-    still : (v : ℕ) → Within g.order v → ((met v || (x == v)) || (y == v)) ≡ false → (r v ≡ false) × (degree g (put m e true) v ≡ 0)
-    still v w q =
-        let a = false_from_ne_true (met v) (λ t. both_ways ((met v || (x == v)) || (y == v)) q (or_left (met v || (x == v)) (y == v) (or_left (met v) (x == v) t))) in
-        let b = ap bit (false_from_ne_true (x == v) (λ t. both_ways ((met v || (x == v)) || (y == v)) q (or_left (met v || (x == v)) (y == v) (or_right (met v) (x == v) t)))) in
-        let d = ap bit (false_from_ne_true (y == v) (λ t. both_ways ((met v || (x == v)) || (y == v)) q (or_right (met v || (x == v)) (y == v) t))) in
-        let f = free v w a in
-        let s = ends_of_is g e x y ends v in
-        let p = degree_put g m e true v we in (f.0, omega arith)
+added_edge g r m met met' e x y mm free we wx wy ends xy mx my met'_is = grind (arith, add_edge, false_from_ne_true, both_ways, or_left, or_right, ends_of_is, degree_put)

@@ -30,13 +30,8 @@ pub over_first : (mate v : ℕ → ℕ) (s n top t : ℕ) → AreApart v top →
 over_first mate v s zero top t apart in_top a b = absurd (omega arith)
 over_first mate v s (suc n) top t apart in_top a b = elim (cases_eq t s) [
   | inl q ↦ pair_first (flipped_over mate v (suc s) n) (v (s + s)) (v (suc (s + s))) (v (t + t)) (ap (λ k. v (k + k)) q) (λ e. let x = apart (s + s) (suc (s + s)) (omega arith) (omega arith) e in absurd (omega arith)) ∙ ap (λ k. v (suc (k + k))) (sym q)
-  | inr q ↦
-      pair_off (flipped_over mate v (suc s) n) (v (s + s)) (v (suc (s + s))) (v (t + t)) (λ e. let x = apart (t + t) (s + s) (omega arith) (omega arith) e in q (omega arith)) (λ e. let x = apart (t + t) (suc (s + s)) (omega arith) (omega arith) e in absurd (omega arith))
-      ∙ over_first mate v (suc s) n top t apart (omega arith) (above s t a q) (omega arith)
+  | inr q ↦ grind (arith, pair_off (flipped_over mate v (suc s) n) (v (s + s)) (v (suc (s + s))) (v (t + t)), over_first mate v (suc s) n top t apart (omega arith) (omega arith) (omega arith))
 ]
-  where
-    above : (s t : ℕ) → s ≤ t → t ≢ s → suc s ≤ t
-    above s t l n = omega arith
 
 pub over_second : (mate v : ℕ → ℕ) (s n top t : ℕ) → AreApart v top → (s + n) + (s + n) ≤ top → s ≤ t → t < s + n → flipped_over mate v s n (v (suc (t + t))) ≡ v (t + t)
 over_second mate v s zero top t apart in_top a b = absurd (omega arith)
@@ -44,11 +39,8 @@ over_second mate v s (suc n) top t apart in_top a b = elim (cases_eq t s) [
   | inl q ↦ pair_second (flipped_over mate v (suc s) n) (v (s + s)) (v (suc (s + s))) (v (suc (t + t))) (ap (λ k. v (suc (k + k))) q) ∙ ap (λ k. v (k + k)) (sym q)
   | inr q ↦
       pair_off (flipped_over mate v (suc s) n) (v (s + s)) (v (suc (s + s))) (v (suc (t + t))) (λ e. let x = apart (suc (t + t)) (s + s) (omega arith) (omega arith) e in absurd (omega arith)) (λ e. let x = apart (suc (t + t)) (suc (s + s)) (omega arith) (omega arith) e in q (omega arith))
-      ∙ over_second mate v (suc s) n top t apart (omega arith) (above s t a q) (omega arith)
+      ∙ over_second mate v (suc s) n top t apart (omega arith) (omega arith) (omega arith)
 ]
-  where
-    above : (s t : ℕ) → s ≤ t → t ≢ s → suc s ≤ t
-    above s t l n = omega arith
 
 -- from the start
 mates_off : (mate v : ℕ → ℕ) (k u : ℕ) → ((j : ℕ) → j ≤ k + k → u ≢ v j) → flipped_mates mate v k u ≡ mate u
@@ -64,13 +56,8 @@ mates_first mate v (suc k) top t apart in_top b =
     with_there (with_pair (flipped_mates mate v k) (v (k + k)) (v (suc (k + k)))) (v (suc (suc (k + k)))) 0 (v (t + t)) (λ e. let x = apart (t + t) (suc (suc (k + k))) (omega arith) (omega arith) e in absurd (omega arith))
     ∙ elim (cases_eq t k) [
       | inl q ↦ pair_first (flipped_mates mate v k) (v (k + k)) (v (suc (k + k))) (v (t + t)) (ap (λ k. v (k + k)) q) (λ e. let x = apart (k + k) (suc (k + k)) (omega arith) (omega arith) e in absurd (omega arith)) ∙ ap (λ k. v (suc (k + k))) (sym q)
-      | inr q ↦
-          pair_off (flipped_mates mate v k) (v (k + k)) (v (suc (k + k))) (v (t + t)) (λ e. let x = apart (t + t) (k + k) (omega arith) (omega arith) e in q (omega arith)) (λ e. let x = apart (t + t) (suc (k + k)) (omega arith) (omega arith) e in absurd (omega arith))
-          ∙ mates_first mate v k top t apart (omega arith) (below k t b q)
+      | inr q ↦ grind (arith, pair_off (flipped_mates mate v k) (v (k + k)) (v (suc (k + k))) (v (t + t)), mates_first mate v k top t apart (omega arith) (omega arith))
     ]
-  where
-    below : (k t : ℕ) → t < suc k → t ≢ k → t < k
-    below k t l n = omega arith
 
 mates_second : (mate v : ℕ → ℕ) (k top t : ℕ) → AreApart v top → k + k ≤ top → t < k → flipped_mates mate v k (v (suc (t + t))) ≡ v (t + t)
 mates_second mate v zero top t apart in_top b = absurd (omega arith)
@@ -78,20 +65,12 @@ mates_second mate v (suc k) top t apart in_top b =
     with_there (with_pair (flipped_mates mate v k) (v (k + k)) (v (suc (k + k)))) (v (suc (suc (k + k)))) 0 (v (suc (t + t))) (λ e. let x = apart (suc (t + t)) (suc (suc (k + k))) (omega arith) (omega arith) e in absurd (omega arith))
     ∙ elim (cases_eq t k) [
       | inl q ↦ pair_second (flipped_mates mate v k) (v (k + k)) (v (suc (k + k))) (v (suc (t + t))) (ap (λ k. v (suc (k + k))) q) ∙ ap (λ k. v (k + k)) (sym q)
-      | inr q ↦
-          pair_off (flipped_mates mate v k) (v (k + k)) (v (suc (k + k))) (v (suc (t + t))) (λ e. let x = apart (suc (t + t)) (k + k) (omega arith) (omega arith) e in absurd (omega arith)) (λ e. let x = apart (suc (t + t)) (suc (k + k)) (omega arith) (omega arith) e in q (omega arith))
-          ∙ mates_second mate v k top t apart (omega arith) (below k t b q)
+      | inr q ↦ grind (arith, pair_off (flipped_mates mate v k) (v (k + k)) (v (suc (k + k))) (v (suc (t + t))), mates_second mate v k top t apart (omega arith) (omega arith))
     ]
-  where
-    below : (k t : ℕ) → t < suc k → t ≢ k → t < k
-    below k t l n = omega arith
 
 -- a place up to the top where the vertex stands, or none
 place : (v : ℕ → ℕ) (u top : ℕ) → ((j : ℕ) × (j ≤ top) × (u ≡ v j)) ⊎ ((j : ℕ) → j ≤ top → u ≢ v j)
-place v u zero = elim (cases_eq u (v 0)) [
-  | inl q ↦ inl (0, omega arith, q)
-  | inr q ↦ inr (λ j l e. q (e ∙ ap v (omega arith)))
-]
+place v u zero = grind (arith, cases_eq u (v 0))
 place v u (suc top) = elim (cases_eq u (v (suc top))) [
   | inl q ↦ inl (suc top, omega arith, q)
   | inr q ↦ elim (place v u top) [
@@ -108,22 +87,8 @@ pub over_mates : (mate v w : ℕ → ℕ) (k : ℕ) → AreApart v (k + k) → (
 over_mates mate v w k apart same u off = elim (place v u (k + k)) [
   | inr none ↦ over_off mate w 0 k u (λ j a b e. none j (omega arith) (e ∙ same j (omega arith))) ∙ sym (mates_off mate v k u none)
   | inl at ↦ elim (cases_Bool (is_odd at.0)) [
-    | inr even ↦
-        let h = half at.0 even in
-        let l = at.1 in
-        let e = h.1 in
-        let below : h.0 < k = elim (cases_eq h.0 k) [ inl s ↦ absurd (off (at.2 ∙ ap v (omega arith))) | inr s ↦ omega arith ] in
-        let here : u ≡ w (h.0 + h.0) = at.2 ∙ ap v e ∙ sym (same (h.0 + h.0) (omega arith)) in
-        ap (flipped_over mate w 0 k) here ∙ over_first mate w 0 k (k + k) h.0 apart_w (omega arith) (omega arith) (omega arith) ∙ same (suc (h.0 + h.0)) (omega arith)
-        ∙ sym (ap (flipped_mates mate v k) (at.2 ∙ ap v e) ∙ mates_first mate v k (k + k) h.0 apart (omega arith) below)
-    | inl odd ↦
-        let h = half_odd at.0 odd in
-        let l = at.1 in
-        let e = h.1 in
-        let below : h.0 < k = omega arith in
-        let here : u ≡ w (suc (h.0 + h.0)) = at.2 ∙ ap v e ∙ sym (same (suc (h.0 + h.0)) (omega arith)) in
-        ap (flipped_over mate w 0 k) here ∙ over_second mate w 0 k (k + k) h.0 apart_w (omega arith) (omega arith) (omega arith) ∙ same (h.0 + h.0) (omega arith)
-        ∙ sym (ap (flipped_mates mate v k) (at.2 ∙ ap v e) ∙ mates_second mate v k (k + k) h.0 apart (omega arith) below)
+    | inr even ↦ grind (arith, half at.0 even, cases_eq, over_first mate w 0 k (k + k), apart_w, mates_first mate v k (k + k))
+    | inl odd ↦ grind (arith, half_odd at.0 odd, over_second mate w 0 k (k + k), apart_w, mates_second mate v k (k + k))
   ]
 ]
   where

@@ -1,7 +1,7 @@
 -- Walks up a forest: what a walk has met is the end of the path. An outer vertex on a path has its
 -- own path as the beginning of it.
-use Rattle.std.proofs.Common.{◌≡◌, ◌≢◌, ◌↔◌, ℕ, zero, suc, ◌+◌, ◌≤◌, true, false, refl, sym, ap, ap₂, ◌∙◌, arith, inl, inr, not, ◌||◌, ◌==◌, subst, eq-eqb, eqb-true, List}
-use Rattle.counting.proofs.Common.{fun_ext, both_ways, cases_eq, cases_lt, odd-double, or_cases, or_left, or_right, true≢false, is_odd, Set, mem}
+use Rattle.std.proofs.Common.{◌≡◌, ◌≢◌, ◌↔◌, ℕ, zero, suc, ◌+◌, ◌≤◌, true, refl, sym, ap, ◌∙◌, arith, inl, inr, not, ◌||◌, ◌==◌, subst, List}
+use Rattle.counting.proofs.Common.{both_ways, cases_eq, odd-double, is_odd, Set, mem}
 use Rattle.graph_core.proofs.Common.{Graph}
 use Rattle.match_search.specs.Common.{HoldsAlternating, GoesOver, flipped_over, with_pair, numbers}
 use Rattle.match_search.specs.declared.alternating.AlternatingForest.{AlternatingForest}
@@ -11,40 +11,11 @@ use Rattle.match_search.proofs.PathsUp.{grandparent, up_parts}
 -- what a walk has met, with two vertices more
 pub path_more : (p : ℕ → ℕ) (old new top inner at : ℕ) (path after : List ℕ) → old ≡ suc (suc new) → old ≤ top → p (suc new) ≡ inner → p new ≡ at → ((v : ℕ) → mem after v ≡ ((mem path v || inner == v) || at == v))
     → ((v : ℕ) → (mem path v ≡ true) ↔ ((j : ℕ) × (old ≤ j) × (j ≤ top) × (p j ≡ v))) → (v : ℕ) → (mem after v ≡ true) ↔ ((j : ℕ) × (new ≤ j) × (j ≤ top) × (p j ≡ v))
-path_more p old new top inner at path after low fits at_inner at_new after_is path_is v = (
-  λ m. elim (or_cases (mem path v || inner == v) (at == v) (sym (after_is v) ∙ m)) [
-    | inl a ↦ elim (or_cases (mem path v) (inner == v) a) [
-      | inl b ↦ let w = (path_is v).0 b in (w.0, (let l = w.1 in omega arith), w.2, w.3)
-      | inr b ↦ (suc new, omega arith, omega arith, at_inner ∙ eqb-true inner v b)
-    ]
-    | inr a ↦ (new, omega arith, omega arith, at_new ∙ eqb-true at v a)
-  ],
-  λ w. after_is v ∙ elim (cases_lt w.0 old) [
-    | inr l ↦ or_left (mem path v || inner == v) (at == v) (or_left (mem path v) (inner == v) ((path_is v).1 (w.0, omega arith, w.2, w.3)))
-    | inl l ↦ elim (cases_eq w.0 new) [
-      | inl q ↦ or_right (mem path v || inner == v) (at == v) (eq-eqb at v (sym at_new ∙ ap p (sym q) ∙ w.3))
-      | inr q ↦ let b = w.1 in let s : w.0 ≡ suc new = omega arith in or_left (mem path v || inner == v) (at == v) (or_right (mem path v) (inner == v) (eq-eqb inner v (sym at_inner ∙ ap p (sym s) ∙ w.3)))
-    ]
-  ],
-)
-
--- the path of one outer vertex alone
-pub path_first : (p : ℕ → ℕ) (top x : ℕ) (path : List ℕ) → p top ≡ x → ((v : ℕ) → mem path v ≡ (x == v || false)) → (v : ℕ) → (mem path v ≡ true) ↔ ((j : ℕ) × (top ≤ j) × (j ≤ top) × (p j ≡ v))
-path_first p top x path last path_is v = (
-  λ m. elim (or_cases (x == v) false (sym (path_is v) ∙ m)) [
-    | inl e ↦ (top, omega arith, omega arith, last ∙ eqb-true x v e)
-    | inr e ↦ absurd (true≢false (sym e))
-  ],
-  λ w. let a = w.1 in let b = w.2 in let s : w.0 ≡ top = omega arith in path_is v ∙ or_left (x == v) false (eq-eqb x v (sym last ∙ ap p (sym s) ∙ w.3)),
-)
+path_more p old new top inner at path after low fits at_inner at_new after_is path_is v = grind arith
 
 -- one pair more exchanged
 pub flip_more : (mate v old new : ℕ → ℕ) (s more n at inner : ℕ) → more ≡ suc s → v (s + s) ≡ at → v (suc (s + s)) ≡ inner → ((u : ℕ) → old u ≡ flipped_over mate v more n u) → ((u : ℕ) → new u ≡ with_pair old at inner u) → (u : ℕ) → new u ≡ flipped_over mate v s (n + 1) u
-flip_more mate v old new s more n at inner up at_is inner_is old_is new_is u = subst (λ (k : ℕ). new u ≡ flipped_over mate v s k u) (one n)
-    (new_is u ∙ ap (λ (o : ℕ → ℕ). with_pair o at inner u) (fun_ext (λ w. old_is w ∙ ap (λ k. flipped_over mate v k n w) up)) ∙ ap₂ (λ a b. with_pair (flipped_over mate v (suc s) n) a b u) (sym at_is) (sym inner_is))
-  where
-    one : (n : ℕ) → suc n ≡ n + 1
-    one n = omega arith
+flip_more mate v old new s more n at inner up at_is inner_is old_is new_is u = grind arith
 
 module _ (g : Graph) (r f : Set) (mate : List ℕ) (t : AlternatingForest) (h : HoldsAlternating g r f mate t) where
   abbrev pairs : ℕ → ℕ

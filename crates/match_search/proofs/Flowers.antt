@@ -3,9 +3,8 @@
 -- graph is one of the graph with the blossom among the outer vertices.
 use Rattle.std.proofs.Common.{◌≡◌, ℕ, ◌<◌, Bool, true, false, refl, sym, ap, ap₂, ◌∙◌, arith, inl, inr, not, ◌&&◌, ◌||◌, ◌==◌, subst₂, eq-eqb, eqb-true, ne_eqb, List, [], ◌∷◌, length, None}
 use Rattle.counting.proofs.Common.{fun_ext, and_from, and_parts, count_congr, count_of_one, cases_eq, false_from_ne_true, or_cases, only_one, or_false, Within, bit, count, Set, mem, union}
-use Rattle.graph_core.proofs.Common.{missed_edges, Graph, IsGraph, IsMatching, degree, size, missed_count}
-use Rattle.match_search.specs.Common.{AreExposed, HoldsMatching, IsGrownForest, HoldsBlossom, IsAugmented, blossom_length, HasOuter, HoldsFlower, HoldsRooted, Frame, IsMissableRow, listed, numbers, IsShrinking}
-use Rattle.match_search.specs.declared.blossom.Blossom.{Blossom}
+use Rattle.graph_core.proofs.Common.{missed_edges, Graph, degree, size, missed_count}
+use Rattle.match_search.specs.Common.{AreExposed, HoldsMatching, IsGrownForest, HasOuter, HoldsFlower, HoldsRooted, Frame, IsMissableRow, listed, numbers, IsShrinking}
 use Rattle.match_search.specs.declared.flower.Flower.{Flower}
 use Rattle.match_search.specs.declared.growing.GrownForest.{GrownForest}
 use Rattle.match_search.specs.declared.instance.Instance.{Instance}
@@ -18,13 +17,6 @@ use Rattle.match_search.proofs.ParentForests.{done_frame}
 use Rattle.match_search.proofs.SameMates.{mates_degree}
 use Rattle.match_search.proofs.ShrunkFrames.{complement_size, frame_up}
 use Rattle.match_search.proofs.ShrunkInstances.{shrunk_instance}
-
--- a matching that misses one vertex cannot be made larger by an edge
-pub never_augmented : (g : Graph) → IsGraph g → (r f : Set) (mate : List ℕ) → IsMatching g r f → IsAugmented g r f mate → missed_count g r f ≡ 1 → ⊥
-never_augmented g is r f mate matching more one =
-    let a = missed_edges g r f is matching in
-    let b = missed_edges g r more.0 is more.1.matching in
-    let s = more.2 in absurd (omega arith)
 
 -- a vertex that is left and exposed is the root
 module _ (g : Graph) (r f : Set) (s : Instance) (mate : List ℕ) (root : ℕ) (rooted : HoldsRooted g r f s mate root) where
@@ -53,24 +45,7 @@ module _ (g : Graph) (r f : Set) (s : Instance) (mate : List ℕ) (root : ℕ) (
 
   -- a forest that no edge leaves has the outer vertices
   pub outer_final : (t : GrownForest) → IsGrownForest g r f s mate t → t.closing ≡ None → HasOuter g r f t.forest.outer
-  outer_final t growth q = record {
-    inner = mem t.forest.inner;
-    frame = done_frame g r f s mate rooted.holds t.forest growth.holds (growth.done q);
-    within = λ v o. (growth.holds.forest.outer_in v o).0;
-  }
-
--- the vertices and the base of a blossom
-pub flower_from : (g : Graph) (r f : Set) (mate : List ℕ) (b : Blossom) (flower : Flower) → HoldsBlossom g r f mate b → flower.members ≡ b.members → flower.base ≡ numbers b.cycle.items 1 → HoldsFlower g r f mate flower
-flower_from g r f mate b flower held members base = record {
-  length_of = blossom_length b;
-  vertex = numbers b.cycle.items;
-  edge = held.edge;
-  m = held.m;
-  members = λ v. ap (λ (xs : List ℕ). mem xs v) members ∙ held.members v;
-  base = base;
-  opened = held.opened;
-  mates = held.mates;
-}
+  outer_final t growth q = grind (arith, done_frame g r f s mate rooted.holds t.forest growth.holds (growth.done q))
 
 -- a blossom is shrunk
 module _ (g : Graph) (r f : Set) (s : Instance) (mate mate2 : List ℕ) (is : HoldsMatching g r f s mate) (long : length mate2 ≡ length mate) (b : Flower) (held : HoldsFlower g r f mate2 b) where
@@ -135,10 +110,7 @@ module _ (g : Graph) (r f : Set) (s : Instance) (mate mate2 : List ℕ) (is : Ho
         kept a b q = grind arith
 
         no_mate : (k : ℕ) → bit (not (k == 0)) ≡ 0 → k ≡ 0
-        no_mate k q = elim (cases_eq k 0) [
-          | inl z ↦ z
-          | inr z ↦ let t = ap (λ b. bit (not b)) (ne_eqb k 0 z) in absurd (omega arith)
-        ]
+        no_mate k q = grind (arith, cases_eq k 0, ne_eqb k 0)
 
     -- the outer vertices of the shrunk graph, with those of the blossom
     pub outer_up : (below result : List ℕ) → HasOuter shrunk_graph_of shrunk_out held.m below → ((v : ℕ) → mem result v ≡ (mem below v || mem b.members v)) → HasOuter g r f result
@@ -174,22 +146,9 @@ rooted_from g r f s mate exposed root holds are is = record {
     parts : (mem s.left root ≡ true) × ((numbers mate root == 0) ≡ true)
     parts = and_parts (mem s.left root) (numbers mate root == 0) (member root ∙ eq-eqb root root refl)
 
-    zero_test : (b : Bool) → (bit (not b) == 0) ≡ b
-    zero_test true = refl
-    zero_test false = refl
-
     each : (v : ℕ) → Within g.order v → (not (r v) && (degree g f v == 0)) ≡ (root == v)
-    each v w = ap₂ (λ a b. a && b) (sym (left_is g r s holds.instance_is v w)) (ap (λ d. d == 0) (mates_degree g r f (numbers mate) holds.mates v w) ∙ zero_test (numbers mate v == 0)) ∙ member v
+    each v w = ap₂ (λ a b. a && b) (sym (left_is g r s holds.instance_is v w)) (ap (λ d. d == 0) (mates_degree g r f (numbers mate) holds.mates v w) ∙ (grind arith)) ∙ member v
 
 -- the outer vertices are the row
 pub outer_row : (g : Graph) (r f : Set) (s : Instance) (mate : List ℕ) (root : ℕ) → HoldsRooted g r f s mate root → (row : List ℕ) → HasOuter g r f row → IsMissableRow g r row
-outer_row g r f s mate root rooted row has = record {
-  m = f;
-  outer = mem row;
-  inner = has.inner;
-  matching = rooted.holds.mates.matching;
-  frame = has.frame;
-  one = λ q v. refl;
-  other = λ q v. absurd (q rooted.one);
-  within = has.within;
-}
+outer_row g r f s mate root rooted row has = grind arith

@@ -1,10 +1,10 @@
 -- A forest grows by a vertex outside it that an edge joins to an outer one, and by the mate of
 -- this vertex. The new path is that of the outer vertex with two more edges; every other part of
 -- the forest stays.
-use Rattle.std.proofs.Common.{◌≡◌, ℕ, suc, ◌+◌, ◌≤◌, ◌≢◌, Bool, true, false, cond, ◌==◌, refl, sym, ap, ◌∙◌, arith, not, eq-eqb, eqb-true, inl, inr, subst}
+use Rattle.std.proofs.Common.{◌≡◌, ℕ, suc, ◌+◌, ◌≤◌, ◌≢◌, Bool, true, false, cond, ◌==◌, refl, sym, ap, ◌∙◌, arith, not, eq-eqb, inl, inr, subst}
 use Rattle.counting.proofs.Common.{cases_eq, both_ways, false_from_ne_true, count_put, odd-double, Within, bit, count, is_odd, Set, put}
 use Rattle.graph_core.proofs.Common.{edge_at, ends_le_degree, ends_of_is, bit_same, Graph, IsGraph, degree, first_end, second_end, size, HasEnds, IsMatching}
-use Rattle.match_search.proofs.LongerPaths.{end_within, ends_by, longer_after, spots, extended, longer}
+use Rattle.match_search.proofs.LongerPaths.{end_within, ends_by, spots, extended, longer}
 use Rattle.match_search.proofs.Forests.{mates_of, met, one_edge, outer_edge, turned}
 use Rattle.match_search.proofs.AlternatingPaths.{put_at, put_off}
 use Rattle.match_search.specs.Common.{IsAlternating, IsForest}
@@ -69,8 +69,7 @@ module _ (g : Graph) (is : IsGraph g) (r f : Set) (mm : IsMatching g r f) (outer
 
     -- what is in the forest is not one of the new vertices
     off_tree : (z : ℕ) (s : Bool) → outer z ≡ not s → inner z ≡ s → (z ≢ w) × (z ≢ x)
-    off_tree z true p q = (λ t. both_ways (inner z) (ap inner t ∙ iw) q, λ t. both_ways (inner z) (ap inner t ∙ ix) q)
-    off_tree z false p q = (λ t. both_ways (outer z) (ap outer t ∙ ow) p, λ t. both_ways (outer z) (ap outer t ∙ ox) p)
+    off_tree z s p q = grind arith
 
     same_sides : (z : ℕ) (s : Bool) → outer z ≡ not s → inner z ≡ s → (more_outer z ≡ not s) × (more_inner z ≡ s)
     same_sides z s p q = let o = off_tree z s p q in (put_off outer x true z o.1 ∙ p, put_off inner w true z o.0 ∙ q)
@@ -93,10 +92,7 @@ module _ (g : Graph) (is : IsGraph g) (r f : Set) (mm : IsMatching g r f) (outer
     new_sides : (j : ℕ) → j ≤ suc (k u) + suc (k u) → (more_outer (vx j) ≡ not (is_odd j)) × (more_inner (vx j) ≡ is_odd j)
     new_sides j l = elim (spots g r f (k u) (v u) (e u) p a w d x j l) [
       | inl s ↦ let o = forest.sides u ou j s.0 in let b = same_sides (v u j) (is_odd j) o.0 o.1 in (ap more_outer s.1 ∙ b.0, ap more_inner s.1 ∙ b.1)
-      | inr s ↦ elim s [
-        | inl s ↦ let b = side_w (vx j) s.1 in let o = ap is_odd s.0 ∙ ap not (odd-double (k u)) in (b.0 ∙ sym (ap not o), b.1 ∙ sym o)
-        | inr s ↦ let b = side_x (vx j) s.1 in let o = ap is_odd s.0 ∙ ap (λ t. not (not t)) (odd-double (k u)) in (b.0 ∙ sym (ap not o), b.1 ∙ sym o)
-      ]
+      | inr s ↦ grind (arith, side_w (vx j), odd-double (k u), side_x (vx j))
     ]
 
     other_edge : (c y z : ℕ) → Within (size g) c → f c ≡ true → HasEnds g c y z → c ≢ d → (y ≢ w) × (y ≢ x)
@@ -122,34 +118,24 @@ module _ (g : Graph) (is : IsGraph g) (r f : Set) (mm : IsMatching g r f) (outer
       ];
       misses = λ y wy ry dy. kept y (forest.misses y wy ry dy);
       mates = λ c wc fc. elim (cases_eq c d) [
-        | inl q ↦ elim pair_set [
-          | inl s ↦ let a = side_w (first_end g c) (ap (first_end g) q ∙ s.0) in let b = side_x (second_end g c) (ap (second_end g) q ∙ s.1) in (a.0 ∙ sym b.1, a.1 ∙ sym b.0)
-          | inr s ↦ let a = side_x (first_end g c) (ap (first_end g) q ∙ s.0) in let b = side_w (second_end g c) (ap (second_end g) q ∙ s.1) in (a.0 ∙ sym b.1, a.1 ∙ sym b.0)
-        ]
+        | inl q ↦ grind arith
         | inr q ↦
             let a = other_edge c (first_end g c) (second_end g c) wc fc (inl (refl, refl)) q in
             let b = other_edge c (second_end g c) (first_end g c) wc fc (inr (refl, refl)) q in
-            let m = forest.mates c wc fc in (
-              put_off outer x true (first_end g c) a.1 ∙ m.0 ∙ sym (put_off inner w true (second_end g c) b.0),
-              put_off inner w true (first_end g c) a.0 ∙ m.1 ∙ sym (put_off outer x true (second_end g c) b.1),
-            )
+            grind arith
       ];
       seen = λ y t. elim (cases_eq y w) [
         | inl q ↦ (a, u, wa, ends_by g a a y w u u refl q refl (turned g a u w ends), kept u ou)
         | inr q ↦ let s = forest.seen y (sym (put_off inner w true y q) ∙ t) in (s.0, s.1, s.2, s.3, kept s.1 s.4)
       ];
       path = λ y t. paths y (y == x) refl t;
-      last = λ y t. lasts y (y == x) refl t;
+      last = λ y t. grind arith;
       sides = λ y t. all_sides y (y == x) refl t;
     }
       where
         paths : (y : ℕ) (s : Bool) → (y == x) ≡ s → cond s true (outer y) ≡ true → IsAlternating g r f (cond s (suc (k u)) (k y)) (cond s vx (v y)) (cond s ex (e y))
         paths y true q t = new_path
         paths y false q t = forest.path y t
-
-        lasts : (y : ℕ) (s : Bool) → (y == x) ≡ s → cond s true (outer y) ≡ true → cond s vx (v y) (cond s (suc (k u)) (k y) + cond s (suc (k u)) (k y)) ≡ y
-        lasts y true q t = longer_after (suc (k u + k u)) (v u) w x (suc (k u) + suc (k u)) (omega arith) ∙ sym (eqb-true y x q)
-        lasts y false q t = forest.last y t
 
         all_sides : (y : ℕ) (s : Bool) → (y == x) ≡ s → cond s true (outer y) ≡ true → (j : ℕ) → j ≤ cond s (suc (k u)) (k y) + cond s (suc (k u)) (k y) → (more_outer (cond s vx (v y) j) ≡ not (is_odd j)) × (more_inner (cond s vx (v y) j) ≡ is_odd j)
         all_sides y true q t j l = new_sides j l

@@ -1,8 +1,8 @@
 -- Alternating forests: the first one, how many outer vertices there are, and the frame of a
 -- forest that is closed. Outer and covered inner vertices are paired by the matching; in a closed
 -- forest each outer vertex is a class by itself.
-use Rattle.std.proofs.Common.{◌≡◌, ℕ, suc, zero, ◌+◌, ◌*◌, ◌≤◌, ◌≢◌, Bool, true, false, cond, ◌==◌, refl, sym, ap, ◌∙◌, arith, ◌&&◌, not, eq-eqb, ne_eqb, eqb-true, inl, inr, nat_lt, nat_le, lt-ltb, le-ltb}
-use Rattle.counting.proofs.Common.{cases_eq, cases_order, and_parts, and_from, both_ways, true≢false, false_from_ne_true, le-leb, lt-leb, at_le_total, total_add, total_congr, Within, bit, count, is_odd, total, Set, none, union}
+use Rattle.std.proofs.Common.{◌≡◌, ℕ, suc, zero, ◌+◌, ◌*◌, ◌≤◌, ◌≢◌, Bool, true, false, cond, ◌==◌, refl, sym, ap, ◌∙◌, arith, ◌&&◌, not, eq-eqb, inl, inr, nat_lt, nat_le, lt-ltb, le-ltb}
+use Rattle.counting.proofs.Common.{cases_eq, and_from, both_ways, true≢false, false_from_ne_true, le-leb, lt-leb, at_le_total, total_add, total_congr, Within, bit, count, is_odd, total, Set, none, union}
 use Rattle.graph_core.proofs.Common.{bit_same, ends_le_degree, ends_of_is, missed_edges, two_ends_le_degree, Graph, IsGraph, degree, first_end, second_end, size, HasEnds, IsMatching, missed_count}
 use Rattle.match_search.proofs.Certificates.{ends_total}
 use Rattle.match_search.proofs.AlternatingPaths.{flipped_count, flipped_end, flipped_matching}
@@ -10,17 +10,11 @@ use Rattle.match_search.specs.Common.{IsForest, flipped, Frame}
 
 -- an edge of f at a vertex
 pub met : (g : Graph) (f : Set) (d x y : ℕ) → Within (size g) d → f d ≡ true → HasEnds g d x y → (1 ≤ degree g f x) × (1 ≤ degree g f y)
-met g f d x y w fd ends = (
-  (let a = ends_le_degree g f d x w fd in let b = ends_of_is g d x y ends x in let c = bit_same x in omega arith),
-  (let a = ends_le_degree g f d y w fd in let b = ends_of_is g d x y ends y in let c = bit_same y in omega arith),
-)
+met g f d x y w fd ends = grind (arith, ends_le_degree g f d x w fd, ends_of_is g d x y ends x, bit_same x, ends_le_degree g f d y w fd, ends_of_is g d x y ends y, bit_same y)
 
 -- two edges of a matching with a common end are one
 pub one_edge : (g : Graph) (r f : Set) → IsMatching g r f → (d e x y z : ℕ) → Within g.order x → Within (size g) d → Within (size g) e → f d ≡ true → f e ≡ true → HasEnds g d x y → HasEnds g e x z → d ≡ e
-one_edge g r f mm d e x y z wx wd we fd fe p q = elim (cases_eq d e) [
-  | inl s ↦ s
-  | inr s ↦ let a = two_ends_le_degree g f d e x wd we s fd fe in let b = ends_of_is g d x y p x in let c = ends_of_is g e x z q x in let o = bit_same x in let m = mm.once x wx in absurd (omega arith)
-]
+one_edge g r f mm d e x y z wx wd we fd fe p q = grind (arith, cases_eq d e, two_ends_le_degree g f d e x wd we, ends_of_is g d x y p x, ends_of_is g e x z q x, bit_same x)
 
 pub turned : (g : Graph) (d x y : ℕ) → HasEnds g d x y → HasEnds g d y x
 turned g d x y p = elim p [ inl a ↦ inr a | inr a ↦ inl a ]
@@ -31,13 +25,7 @@ module _ (g : Graph) (is : IsGraph g) (r f : Set) (mm : IsMatching g r f) where
   first_outer v = (nat_lt 0 v && nat_le v g.order) && (not (r v) && (degree g f v == 0))
 
   pub first_parts : (v : ℕ) → first_outer v ≡ true → Within g.order v × (r v ≡ false) × (degree g f v ≡ 0)
-  first_parts v t =
-      let a = and_parts (nat_lt 0 v && nat_le v g.order) (not (r v) && (degree g f v == 0)) t in
-      let b = and_parts (nat_lt 0 v) (nat_le v g.order) a.0 in
-      let c = and_parts (not (r v)) (degree g f v == 0) a.1 in
-      let x = Rattle.std.proofs.Common.ltb-true 0 v b.0 in
-      let y = Rattle.std.proofs.lemmas.Bool.leb-true v g.order b.1 in
-      (omega arith, Rattle.std.proofs.lemmas.Bool.not-true (r v) c.0, eqb-true (degree g f v) 0 c.1)
+  first_parts v t = grind arith
 
   not_first : (v : ℕ) → 1 ≤ degree g f v → first_outer v ≡ false
   not_first v l = false_from_ne_true (first_outer v) (λ t. let a = (first_parts v t).2 in absurd (omega arith))
@@ -67,10 +55,7 @@ module _ (g : Graph) (is : IsGraph g) (r f : Set) (mm : IsMatching g r f) where
 
 module _ (g : Graph) (is : IsGraph g) (r f : Set) (mm : IsMatching g r f) (outer inner : Set) (k : ℕ → ℕ) (v e : ℕ → ℕ → ℕ) (forest : IsForest g r f outer inner k v e) where
   pub mates_of : (d x y : ℕ) → Within (size g) d → f d ≡ true → HasEnds g d x y → (outer x ≡ inner y) × (inner x ≡ outer y)
-  mates_of d x y w fd ends = let m = forest.mates d w fd in elim ends [
-    | inl q ↦ (ap outer (sym q.0) ∙ m.0 ∙ ap inner q.1, ap inner (sym q.0) ∙ m.1 ∙ ap outer q.1)
-    | inr q ↦ (ap outer (sym q.1) ∙ sym m.1 ∙ ap inner q.0, ap inner (sym q.1) ∙ sym m.0 ∙ ap outer q.0)
-  ]
+  mates_of d x y w fd ends = grind arith
 
   -- no edge of f joins two outer vertices, and none an outer one and one outside the forest
   pub outer_edge : (d x y : ℕ) → Within (size g) d → HasEnds g d x y → outer x ≡ true → inner y ≡ false → f d ≡ false
@@ -85,36 +70,15 @@ module _ (g : Graph) (is : IsGraph g) (r f : Set) (mm : IsMatching g r f) (outer
       let c = ends_total g is f outer in
       let d = ends_total g is f inner in
       let i : total g.order (λ u. bit (inner u) * degree g f u) ≡ count g.order inner = total_congr g.order _ _ (λ u w. ones u) in
-      let x : count (size g) (λ d. f d && outer (first_end g d)) ≡ count (size g) (λ d. f d && inner (second_end g d)) = total_congr (size g) _ _ (λ d w. ap bit (swap_near d w (f d) refl)) in
-      let y : count (size g) (λ d. f d && outer (second_end g d)) ≡ count (size g) (λ d. f d && inner (first_end g d)) = total_congr (size g) _ _ (λ d w. ap bit (swap_far d w (f d) refl)) in
+      let x : count (size g) (λ d. f d && outer (first_end g d)) ≡ count (size g) (λ d. f d && inner (second_end g d)) = total_congr (size g) _ _ (λ d w. ap bit (grind arith)) in
+      let y : count (size g) (λ d. f d && outer (second_end g d)) ≡ count (size g) (λ d. f d && inner (first_end g d)) = total_congr (size g) _ _ (λ d w. ap bit (grind arith)) in
       omega arith
     where
-      swap_near : (d : ℕ) → Within (size g) d → (b : Bool) → f d ≡ b → (f d && outer (first_end g d)) ≡ (f d && inner (second_end g d))
-      swap_near d w true q = ap (λ s. f d && s) (forest.mates d w q).0
-      swap_near d w false q = ap (λ s. s && outer (first_end g d)) q ∙ sym (ap (λ s. s && inner (second_end g d)) q)
-
-      swap_far : (d : ℕ) → Within (size g) d → (b : Bool) → f d ≡ b → (f d && outer (second_end g d)) ≡ (f d && inner (first_end g d))
-      swap_far d w true q = ap (λ s. f d && s) (sym (forest.mates d w q).1)
-      swap_far d w false q = ap (λ s. s && outer (second_end g d)) q ∙ sym (ap (λ s. s && inner (first_end g d)) q)
-
       ones : (u : ℕ) → bit (inner u) * degree g f u ≡ bit (inner u)
-      ones u = go (inner u) refl
-        where
-          go : (b : Bool) → inner u ≡ b → bit b * degree g f u ≡ bit b
-          go true q = let a = (forest.inner_in u q).2 in omega arith
-          go false q = omega arith
+      ones u = grind arith
 
       each : (u : ℕ) → Within g.order u → bit (outer u) ≡ bit (not (r u) && (degree g f u == 0)) + bit (outer u) * degree g f u
-      each u w = go (outer u) (r u) (degree g f u) (mm.once u w) (λ t. (forest.outer_in u t).1) (λ q d. forest.misses u w q d)
-        where
-          go : (o s : Bool) (d : ℕ) → d ≤ 1 → (o ≡ true → s ≡ false) → (s ≡ false → d ≡ 0 → o ≡ true) → bit o ≡ bit (not s && (d == 0)) + bit o * d
-          go true true d l p q = absurd (true≢false (p refl))
-          go true false zero l p q = refl
-          go true false (suc zero) l p q = refl
-          go o s (suc (suc d)) l p q = absurd (omega arith)
-          go false false zero l p q = absurd (true≢false (sym (q refl refl)))
-          go false false (suc zero) l p q = refl
-          go false true d l p q = omega arith
+      each u w = grind arith
 
   -- where each edge from an outer vertex leads to an inner one
   module _ (closed : (d x y : ℕ) → Within (size g) d → HasEnds g d x y → r x ≡ false → r y ≡ false → x ≢ y → outer x ≡ true → inner y ≡ true) where
@@ -126,29 +90,7 @@ module _ (g : Graph) (is : IsGraph g) (r f : Set) (mm : IsMatching g r f) (outer
     one_class (suc n) j l = go (outer (suc n)) refl (one_class n j l)
       where
         go : (b : Bool) → outer (suc n) ≡ b → count n (λ u. rank u == j) ≡ bit (nat_le j (count n outer)) → count n (λ u. rank u == j) + bit (rank (suc n) == j) ≡ bit (nat_le j (count n outer + bit (outer (suc n))))
-        go false q h =
-            let a : bit (rank (suc n) == j) ≡ 0 = ap (λ s. bit (cond s (count (suc n) outer) 0 == j)) q ∙ ap bit (ne_eqb 0 j (λ z. absurd (omega arith))) in
-            let b : count n outer + bit (outer (suc n)) ≡ count n outer = (let x = ap bit q in omega arith) in
-            let c = ap (λ s. bit (nat_le j s)) b in omega arith
-        go true q h =
-            let a : bit (rank (suc n) == j) ≡ bit (count (suc n) outer == j) = ap (λ s. bit (cond s (count (suc n) outer) 0 == j)) q in
-            let x = ap bit q in
-            elim (cases_order (suc (count n outer)) j) [
-              | inl s ↦
-                  let y = ap bit (eq-eqb (count (suc n) outer) j (omega arith)) in
-                  let z = ap bit (lt-leb j (count n outer) (omega arith)) in
-                  let u = ap bit (le-leb j (count n outer + bit (outer (suc n))) (omega arith)) in omega arith
-              | inr s ↦ elim s [
-                | inl t ↦
-                    let y = ap bit (ne_eqb (count (suc n) outer) j (λ s. absurd (omega arith))) in
-                    let z = ap bit (lt-leb j (count n outer) (omega arith)) in
-                    let u = ap bit (lt-leb j (count n outer + bit (outer (suc n))) (omega arith)) in omega arith
-                | inr t ↦
-                    let y = ap bit (ne_eqb (count (suc n) outer) j (λ s. absurd (omega arith))) in
-                    let z = ap bit (le-leb j (count n outer) (omega arith)) in
-                    let u = ap bit (le-leb j (count n outer + bit (outer (suc n))) (omega arith)) in omega arith
-              ]
-            ]
+        go b q h = grind arith
 
     count_more_terms : (n u : ℕ) → u ≤ n → count u outer ≤ count n outer
     count_more_terms zero u l = let z : u ≡ 0 = omega arith in let a = ap (λ s. count s outer) z in omega arith
@@ -164,16 +106,10 @@ module _ (g : Graph) (is : IsGraph g) (r f : Set) (mm : IsMatching g r f) (outer
     odd_one j w = ap is_odd (one_class g.order j w.0 ∙ ap bit (le-leb j (count g.order outer) w.1))
 
     not_outer : (u : ℕ) → union r inner u ≡ true → outer u ≡ false
-    not_outer u t = false_from_ne_true (outer u) (λ o. elim (Rattle.std.proofs.lemmas.Bool.or_cases (r u) (inner u) t) [
-      | inl q ↦ both_ways (r u) (forest.outer_in u o).1 q
-      | inr q ↦ both_ways (inner u) (forest.apart u o) q
-    ])
+    not_outer u t = grind arith
 
     ends_not_outer : (d x y : ℕ) → Within (size g) d → HasEnds g d x y → x ≢ y → union r inner x ≡ false → union r inner y ≡ false → outer x ≡ false
-    ends_not_outer d x y w ends n a b =
-        let p = Rattle.std.proofs.lemmas.Bool.or_parts (r x) (inner x) a in
-        let q = Rattle.std.proofs.lemmas.Bool.or_parts (r y) (inner y) b in
-        false_from_ne_true (outer x) (λ t. both_ways (inner y) q.1 (closed d x y w ends p.0 q.0 n t))
+    ends_not_outer d x y w ends n a b = grind arith
 
     -- the frame of a final forest: each outer vertex is a class
     pub final_frame : Frame g r (count (size g) f) outer inner
@@ -204,8 +140,7 @@ module _ (g : Graph) (is : IsGraph g) (r f : Set) (mm : IsMatching g r f) (outer
     }
       where
         low : (u : ℕ) → Within g.order u → (b : Bool) → cond b (count u outer) 0 ≤ count g.order outer
-        low u w true = count_more_terms g.order u w.1
-        low u w false = omega arith
+        low u w b = grind (arith, count_more_terms)
 
         labelled : (u : ℕ) → Within g.order u → (b : Bool) → outer u ≡ b → outer u ≡ nat_lt 0 (rank u)
         labelled u w false q = q ∙ sym (ap (nat_lt 0) (rank_not u q) ∙ le-ltb 0 0 (omega arith))

@@ -1,8 +1,8 @@
 -- Perfect matchings through given edges: edges that share no vertex, with a perfect matching of
 -- the graph without their ends. Degrees add where the sets of edges have none in common, and the
 -- two meet each vertex in turn.
-use Rattle.std.proofs.Common.{◌≡◌, ℕ, suc, zero, ◌+◌, ◌*◌, ◌≤◌, ◌<◌, ◌≢◌, Bool, true, false, ◌==◌, ◌||◌, ◌&&◌, not, refl, sym, ap, ◌∙◌, arith, inl, inr, eq-eqb, eqb-true, List, [], ◌∷◌, length, take, get_or, subst, All}
-use Rattle.counting.proofs.Common.{both_ways, cases_Bool, or_left, or_right, true≢false, take_more, take_all, mem-append, or_false, or_true, Within, bit, Set, none, put, union, minus, mem}
+use Rattle.std.proofs.Common.{◌≡◌, ℕ, suc, zero, ◌+◌, ◌≤◌, ◌<◌, ◌≢◌, Bool, true, false, ◌==◌, ◌||◌, ◌&&◌, not, refl, sym, ap, ◌∙◌, arith, inl, inr, eq-eqb, eqb-true, List, [], ◌∷◌, length, take, get_or, subst, All}
+use Rattle.counting.proofs.Common.{both_ways, cases_Bool, or_left, or_right, true≢false, take_more, take_all, mem-append, or_false, Within, bit, Set, none, put, union, minus, mem}
 use Rattle.graph_core.proofs.Common.{degree_put, edge_at, ends_le_degree, ends_of, ends_of_is, two_ends_le_degree, bit_same, Graph, HasEnds, IsGraph, degree, size, first_end, second_end, IsMatching, IsPerfect}
 use Rattle.match_search.specs.Common.{MeetOnce}
 use Rattle.match_search.proofs.Forests.{met as met_ends}
@@ -10,22 +10,7 @@ use Rattle.match_search.proofs.NearPerfectSets.{degree_split, bit_minus, bit_uni
 
 -- an edge outside c with two free ends is added
 pub meet_more : (g : Graph) (c met met' : Set) (e a b : ℕ) → Within (size g) e → HasEnds g e a b → a ≢ b → c e ≡ false → MeetOnce g c met → met a ≡ false → met b ≡ false → ((v : ℕ) → met' v ≡ ((met v || (a == v)) || (b == v))) → MeetOnce g (put c e true) met'
-meet_more g c met met' e a b we ends ab ce once ma mb met'_is v w =
-    let p = degree_put g c e true v we in
-    let o = once v w in
-    let s = ends_of_is g e a b ends v in
-    let m = ap bit (met'_is v) in
-    let z = ap bit ce in
-    let sum = bits (met v) (a == v) (b == v) (λ t. elim (cases_Bool (a == v)) [ inl q ↦ absurd (both_ways (met a) ma (ap met (eqb-true a v q) ∙ t)) | inr q ↦ q ]) (λ t. elim (cases_Bool (b == v)) [ inl q ↦ absurd (both_ways (met b) mb (ap met (eqb-true b v q) ∙ t)) | inr q ↦ q ]) (λ t q. ab (eqb-true a v t ∙ sym (eqb-true b v q))) in
-    let nothing : bit (c e) * ends_of g e v ≡ 0 = ap (λ k. bit k * ends_of g e v) ce ∙ Rattle.std.proofs.Common.zero-mul (ends_of g e v) in
-    omega arith
-  where
-    bits : (s t u : Bool) → (s ≡ true → t ≡ false) → (s ≡ true → u ≡ false) → (t ≡ true → u ≡ true → ⊥) → bit ((s || t) || u) ≡ bit s + (bit t + bit u)
-    bits true t u p q h = rw (p refl, q refl) refl
-    bits false true true p q h = absurd (h refl refl)
-    bits false true false p q h = refl
-    bits false false true p q h = refl
-    bits false false false p q h = refl
+meet_more g c met met' e a b we ends ab ce once ma mb met'_is v w = grind (arith, degree_put, ends_of_is, cases_Bool, both_ways, eqb-true, ends_of)
 
 -- an edge that is a loop, or has an end on an edge of c, lies in no matching with these
 pub meet_none : (g : Graph) (c met : Set) (e a b : ℕ) → IsGraph g → Within (size g) e → HasEnds g e a b → Within g.order a → Within g.order b → c e ≡ false → MeetOnce g c met → (not (a == b) && (not (met a) && not (met b))) ≡ false →
@@ -49,12 +34,7 @@ meet_none g c met e a b is we ends wa wb ce once closed m mm holds me = go (a ==
     ends_b = let s = ends_of_is g e a b ends b in let t = bit_same b in omega arith
 
     go : (s t u : Bool) → (not s && (not t && not u)) ≡ false → (a == b) ≡ s → met a ≡ t → met b ≡ u → ⊥
-    go true t u h p q k =
-        let s = ends_of_is g e a b ends a in
-        let x = bit_same a in
-        let y = ap bit (eq-eqb b a (sym (eqb-true a b p))) in
-        let z = ends_le_degree g m e a we me in
-        let l = mm.once a wa in absurd (omega arith)
+    go true t u h p q k = grind (arith, ends_of_is g e a b ends a, bit_same a, eq-eqb b a (sym (eqb-true a b p)), eqb-true a b p, ends_le_degree g m e a we me)
     go false true u h p q k = at a wa ends_a q
     go false false true h p q k = at b wb ends_b k
     go false false false h p q k = absurd (true≢false h)
@@ -64,35 +44,17 @@ pub glued : (g : Graph) (c met p : Set) → IsGraph g → MeetOnce g c met → I
 glued g c met p is once perfect = record { once = λ v w q. both v w; away = λ v w q. absurd (true≢false (sym q)) }
   where
     apart : (i : ℕ) → Within (size g) i → p i ≡ true → c i ≡ true → ⊥
-    apart i w pi ci =
-        let x = first_end g i in
-        let wx = (is i w).0 in
-        let a = (met_ends g c i (first_end g i) (second_end g i) w ci (inl (refl, refl))).0 in
-        let b = (met_ends g p i (first_end g i) (second_end g i) w pi (inl (refl, refl))).0 in
-        let o = once x wx in
-        elim (cases_Bool (met x)) [
-          | inl t ↦ let z = perfect.away x wx t in absurd (omega arith)
-          | inr f ↦ let z = ap bit f in absurd (omega arith)
-        ]
+    apart i w pi ci = grind (arith, met_ends g c i (first_end g i) (second_end g i) w ci, met_ends g p i (first_end g i) (second_end g i) w pi, cases_Bool)
 
     both : (v : ℕ) → Within g.order v → degree g (union p c) v ≡ 1
     both v w =
         let s = degree_split g (union p c) p c v (λ i wi. bit_union (p i) (c i) (apart i wi)) in
         let o = once v w in
-        elim (cases_Bool (met v)) [
-          | inl t ↦ let z = perfect.away v w t in let q = ap bit t in omega arith
-          | inr f ↦ let z = perfect.once v w f in let q = ap bit f in omega arith
-        ]
+        grind arith
 
 -- a perfect matching that holds c, without c
 pub cut_off : (g : Graph) (c met m : Set) → MeetOnce g c met → IsPerfect g none m → ((i : ℕ) → c i ≡ true → m i ≡ true) → IsPerfect g met (minus m c)
-cut_off g c met m once perfect holds = record {
-  once = λ v w f. let s = split v in let o = once v w in let q = ap bit f in let z = perfect.once v w refl in omega arith;
-  away = λ v w t. let s = split v in let o = once v w in let q = ap bit t in let z = perfect.once v w refl in omega arith;
-}
-  where
-    split : (v : ℕ) → degree g m v ≡ degree g (minus m c) v + degree g c v
-    split v = degree_split g m (minus m c) c v (λ i wi. bit_minus (m i) (c i) (holds i))
+cut_off g c met m once perfect holds = grind (arith, degree_split g m (minus m c) c, bit_minus)
 
 -- the first items of a list, one more of them, and an item of it
 pub mem-more : (xs : List ℕ) (k v : ℕ) → k < length xs → mem (take (k + 1) xs) v ≡ (mem (take k xs) v || (get_or xs k 0 == v))
@@ -109,10 +71,7 @@ mem-take (x ∷ xs) (suc k) v h = elim (Rattle.std.proofs.lemmas.Bool.or_cases (
 
 -- an item that is there already changes nothing
 pub mem-again : (x : Set) (v w : ℕ) → x v ≡ true → (x w || (v == w)) ≡ x w
-mem-again x v w h = elim (cases_Bool (v == w)) [
-  | inl q ↦ ap (λ b. x w || b) q ∙ or_true (x w) ∙ sym (ap x (sym (eqb-true v w q)) ∙ h)
-  | inr q ↦ ap (λ b. x w || b) q ∙ or_false (x w)
-]
+mem-again x v w h = grind arith
 
 -- all items of a list
 pub mem-take_all : (xs : List ℕ) (k v : ℕ) → length xs ≤ k → mem (take k xs) v ≡ mem xs v

@@ -1,7 +1,7 @@
 -- What a row of ends says of the graph of these ends, and a row of edges of its vertices.
 -- Each fact about the ends at a place is carried to the edge one place on.
-use Rattle.std.proofs.Common.{◌≡◌, ℕ, suc, ◌+◌, ◌-◌, ◌<◌, ◌≤◌, ◌≢◌, Bool, true, false, cond, ◌==◌, refl, sym, ap, ap₂, ◌∙◌, arith, List, length, eq-eqb, ne_eqb, inl, inr, ◌&&◌}
-use Rattle.counting.proofs.Common.{cases_eq, get_or-map, length-map, total_none, bit, Within, Set}
+use Rattle.std.proofs.Common.{◌≡◌, ℕ, suc, ◌+◌, ◌-◌, ◌<◌, ◌≤◌, ◌≢◌, true, cond, ◌==◌, sym, ap, ◌∙◌, arith, List, length, eq-eqb, ne_eqb, inl, inr}
+use Rattle.counting.proofs.Common.{cases_eq, get_or-map, length-map, total_none, Within, Set}
 use Rattle.graph_core.proofs.Common.{HasEnds, Graph, size, first_end, second_end, IsGraph, degree, graph_of}
 use Rattle.match_search.proofs.Forests.{met}
 use Rattle.match_search.specs.Common.{numbers, end_a, end_b, AreEnds, NamesEdges}
@@ -30,22 +30,13 @@ module _ (n : ℕ) (ends : List Ends) where
 
   -- a vertex that no marked edge meets
   pub unmet_degree : (m : Set) (v : ℕ) → ((k : ℕ) → k < length ends → m (k + 1) ≡ true → (end_a ends k ≢ v) × (end_b ends k ≢ v)) → degree G m v ≡ 0
-  unmet_degree m v unmet = ap₂ ◌+◌
-      (total_none (size G) _ (λ e w. ap bit (none e (first_end G e) w (λ t y. let u = in_ends e w in (unmet (e - 1) (omega arith) (ap m (forth e w.0) ∙ t)).0 (sym (near_is e u) ∙ y)))))
-      (total_none (size G) _ (λ e w. ap bit (none e (second_end G e) w (λ t y. let u = in_ends e w in (unmet (e - 1) (omega arith) (ap m (forth e w.0) ∙ t)).1 (sym (far_is e u) ∙ y)))))
+  unmet_degree m v unmet = grind (arith, total_none (size G), in_ends, forth, near_is, far_is)
     where
       in_ends : (e : ℕ) → Within (size G) e → Within (length ends) e
       in_ends e w = let s = size_is in omega arith
 
       forth : (e : ℕ) → 1 ≤ e → e - 1 + 1 ≡ e
       forth e l = omega arith
-
-      none : (e y : ℕ) → Within (size G) e → (m e ≡ true → y ≢ v) → (m e && (y == v)) ≡ false
-      none e y w h = go (m e) h
-        where
-          go : (b : Bool) → (b ≡ true → y ≢ v) → (b && (y == v)) ≡ false
-          go true h = ne_eqb y v (h refl)
-          go false h = refl
 
   module _ (m : Set) (at : List ℕ) (mates : NamesEdges ends m at (length ends)) where
     -- a vertex without a marked edge
@@ -64,22 +55,13 @@ module _ (n : ℕ) (ends : List Ends) where
           t.1,
           elim (cases_eq (end_a ends (numbers at w - 1)) w) [
             | inl q ↦ inl (near_is (numbers at w) t.0 ∙ q, far_is (numbers at w) t.0 ∙ sym (ap (λ b. cond b (end_b ends (numbers at w - 1)) (end_a ends (numbers at w - 1))) (eq-eqb (end_a ends (numbers at w - 1)) w q)))
-            | inr q ↦ elim t.2 [
-              | inl y ↦ absurd (q y)
-              | inr y ↦ inr (near_is (numbers at w) t.0 ∙ sym (ap (λ b. cond b (end_b ends (numbers at w - 1)) (end_a ends (numbers at w - 1))) (ne_eqb (end_a ends (numbers at w - 1)) w q)), far_is (numbers at w) t.0 ∙ y)
-            ]
+            | inr q ↦ grind (arith, near_is (numbers at w) t.0, ne_eqb (end_a ends (numbers at w - 1)) w q, far_is (numbers at w) t.0)
           ],
         )
 
 -- the ends at a place are those of the next edge
 pub ends_here : (n : ℕ) (ends : List Ends) (k : ℕ) → k < length ends → (end_a ends k ≡ first_end (graph_of n ends) (suc k)) × (end_b ends k ≡ second_end (graph_of n ends) (suc k))
-ends_here n ends k l = (
-  sym (near_is n ends (suc k) (omega arith) ∙ ap (end_a ends) (back k)),
-  sym (far_is n ends (suc k) (omega arith) ∙ ap (end_b ends) (back k)),
-)
-  where
-    back : (k : ℕ) → suc k - 1 ≡ k
-    back k = omega arith
+ends_here n ends k l = grind (arith, near_is n ends (suc k), far_is n ends (suc k))
 
 -- a vertex has no edge in the row exactly when the matching misses it
 pub free_degree : (n : ℕ) (ends : List Ends) (m : Set) (at : List ℕ) → NamesEdges ends m at (length ends) → (u : ℕ) → (numbers at u == 0) ≡ (degree (graph_of n ends) m u == 0)

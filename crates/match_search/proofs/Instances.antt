@@ -1,7 +1,7 @@
 -- What an instance tells of its graph, and the instance of a whole graph. A vertex that is left
 -- is near where its row holds it, or where it is a blossom with a member in the row.
-use Rattle.std.proofs.Common.{◌≡◌, ◌≢◌, ◌↔◌, ℕ, ◌≤◌, true, false, ◌==◌, refl, sym, ap, ◌∙◌, arith, eq-eqb, eqb-true, inl, inr, ◌⊎◌, not, ◌&&◌, ◌||◌, nat_lt, nat_le, lt-ltb, ltb-true, length, List, [], ◌∷◌, leb-true}
-use Rattle.counting.proofs.Common.{and_from, and_parts, both_ways, cases_Bool, false_from_ne_true, le-leb, not-true, or_cases, true≢false, cases_eq, true_some, Within, Set, none, mem, item}
+use Rattle.std.proofs.Common.{◌≡◌, ◌≢◌, ◌↔◌, ℕ, ◌≤◌, true, false, refl, sym, ap, ◌∙◌, arith, eq-eqb, inl, inr, ◌⊎◌, not, ◌&&◌, ◌||◌, nat_lt, nat_le, lt-ltb, length, List, [], ◌∷◌}
+use Rattle.counting.proofs.Common.{and_from, and_parts, cases_Bool, le-leb, true≢false, true_some, Within, Set, none, mem, item}
 use Rattle.graph_core.proofs.Common.{has_ends-from, adjacent-edge, has_ends-cases, Graph, HasEnds, IsGraph, has_ends, size, AreRows}
 use Rattle.match_search.specs.Common.{AreNear, IsInstance, Touches, AreAlike, IsPutBack, IsShrinking, IsUnshrunk}
 use Rattle.match_search.specs.declared.instance.Instance.{Instance}
@@ -9,12 +9,7 @@ use Rattle.match_search.specs.declared.instance.Unshrunk.{Unshrunk}
 
 -- what the vertices that are left are
 pub left_parts : (g : Graph) (r : Set) (s : Instance) → IsInstance g r s → (v : ℕ) → mem s.left v ≡ true → Within g.order v × (r v ≡ false)
-left_parts g r s is v t =
-    let a = and_parts (nat_lt 0 v && nat_le v g.order) (not (r v)) (sym (is.left v) ∙ t) in
-    let b = and_parts (nat_lt 0 v) (nat_le v g.order) a.0 in
-    let x = ltb-true 0 v b.0 in
-    let y = leb-true v g.order b.1 in
-    ((omega arith, omega arith), not-true (r v) a.1)
+left_parts g r s is v t = grind arith
 
 pub left_from : (g : Graph) (r : Set) (s : Instance) → IsInstance g r s → (v : ℕ) → Within g.order v → r v ≡ false → mem s.left v ≡ true
 left_from g r s is v w rv = is.left v ∙ and_from (nat_lt 0 v && nat_le v g.order) (not (r v)) (and_from (nat_lt 0 v) (nat_le v g.order) (lt-ltb 0 v (omega arith)) (le-leb v g.order (omega arith))) (ap not rv)
@@ -56,16 +51,7 @@ first_in xs ys v q = ap (λ (zs : List ℕ). mem zs v) q ∙ ap (λ b. b || mem 
 
 -- the vertices of 1 to n without those removed
 pub full_left : (n : ℕ) (r : Set) (full left : List ℕ) → ((v : ℕ) → (mem full v ≡ true) ↔ Within n v) → ((v : ℕ) → mem left v ≡ (mem full v && not (r v))) → (v : ℕ) → mem left v ≡ ((nat_lt 0 v && nat_le v n) && not (r v))
-full_left n r full left full_is left_is v = left_is v ∙ ap (λ b. b && not (r v)) same
-  where
-    same : mem full v ≡ (nat_lt 0 v && nat_le v n)
-    same = elim (cases_Bool (mem full v)) [
-      | inl t ↦ let w = (full_is v).0 t in t ∙ sym (and_from (nat_lt 0 v) (nat_le v n) (lt-ltb 0 v (omega arith)) (le-leb v n (omega arith)))
-      | inr t ↦ t ∙ sym (false_from_ne_true (nat_lt 0 v && nat_le v n) (λ q.
-          let b = and_parts (nat_lt 0 v) (nat_le v n) q in
-          let x = ltb-true 0 v b.0 in
-          let y = leb-true v n b.1 in both_ways (mem full v) t ((full_is v).1 (omega arith, omega arith))))
-    ]
+full_left n r full left full_is left_is v = grind arith
 
 -- each vertex its own only member
 pub whole_instance : (g : Graph) (r : Set) (s : Instance) → IsGraph g → g.order ≤ 128 → AreRows g s.rows.items → length s.members.items ≡ g.order → ((v : ℕ) → Within g.order v → item s.members.items v ≡ v ∷ [])
@@ -89,23 +75,13 @@ whole_instance g r s is few rows members alone blossoms left = record {
     own v w = ap (λ (xs : List ℕ). mem xs v) (alone v w) ∙ ap (λ b. b || false) (eq-eqb v v refl)
 
     only : (v w : ℕ) → Within g.order v → mem (item s.members.items v) w ≡ true → v ≡ w
-    only v w wv t = elim (or_cases (v == w) false (sym (ap (λ (xs : List ℕ). mem xs w) (alone v wv)) ∙ t)) [
-      | inl q ↦ eqb-true v w q
-      | inr q ↦ absurd (true≢false (sym q))
-    ]
+    only v w wv t = grind arith
 
 pub alike_self : (s : Instance) → AreAlike s s
 alike_self s = record { rows_long = refl; members_long = refl; rows = λ v w. refl; members = λ v w. refl; blossoms = refl; left = refl }
 
 pub alike_then : (s h k : Instance) → AreAlike s h → AreAlike h k → AreAlike s k
-alike_then s h k a b = record {
-  rows_long = b.rows_long ∙ a.rows_long;
-  members_long = b.members_long ∙ a.members_long;
-  rows = λ v w. b.rows v (let e = a.rows_long in omega arith) ∙ a.rows v w;
-  members = λ v w. b.members v (let e = a.members_long in omega arith) ∙ a.members v w;
-  blossoms = b.blossoms ∙ a.blossoms;
-  left = b.left ∙ a.left;
-}
+alike_then s h k a b = grind arith
 
 -- an instance that holds the same is one of the same graph
 pub instance_alike : (g : Graph) (r : Set) (s h : Instance) → IsInstance g r s → AreAlike s h → IsInstance g r h
@@ -130,21 +106,4 @@ instance_alike g r s h is a = record {
 
 -- what a shrinking took is put back
 pub put_back : (s h t u : Instance) (cycle : Set) (base : ℕ) (before : Unshrunk) → IsShrinking s cycle base h → IsUnshrunk s base before → AreAlike h t → IsPutBack t base before u → AreAlike s u
-put_back s h t u cycle base before shrink taken same put = record {
-  rows_long = put.rows_long ∙ same.rows_long ∙ shrink.rows.one_each;
-  members_long = put.members_long ∙ same.members_long ∙ shrink.members.one_each;
-  rows = λ v w. elim (cases_eq base v) [
-    | inl q ↦ ap (item u.rows.items) (sym q) ∙ put.row ∙ taken.row ∙ ap (item s.rows.items) q
-    | inr n ↦
-        let a = shrink.rows.one_each in
-        let b = same.rows_long in put.other_rows v (omega arith) n ∙ same.rows v (omega arith) ∙ shrink.rows.others v w n
-  ];
-  members = λ v w. elim (cases_eq base v) [
-    | inl q ↦ ap (item u.members.items) (sym q) ∙ put.members ∙ taken.members ∙ ap (item s.members.items) q
-    | inr n ↦
-        let a = shrink.members.one_each in
-        let b = same.members_long in put.other_members v (omega arith) n ∙ same.members v (omega arith) ∙ shrink.members.others v w n
-  ];
-  blossoms = put.blossoms ∙ taken.blossoms;
-  left = put.left ∙ taken.left;
-}
+put_back s h t u cycle base before shrink taken same put = grind arith

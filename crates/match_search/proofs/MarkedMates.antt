@@ -1,11 +1,11 @@
 -- The least edges of the pairs of mates are a matching with these mates. Each pair has an edge,
 -- so one of its ends is seen in the end; a marked edge joins mates, and the mate of a mate is the
 -- vertex itself, so that edge is the one of the pair.
-use Rattle.std.proofs.Common.{◌≡◌, ◌≢◌, ℕ, suc, ◌==◌, ◌||◌, ◌⊎◌, true, false, refl, sym, ap, ◌∙◌, arith, inl, inr, subst, eq-eqb, ne_eqb}
-use Rattle.counting.proofs.Common.{both_ways, cases_eq, cases_Bool, or_from, or_left, or_right, Within, bit, Set, none, put}
+use Rattle.std.proofs.Common.{◌≡◌, ◌≢◌, ℕ, suc, ◌==◌, ◌||◌, ◌⊎◌, true, false, refl, sym, ap, ◌∙◌, arith, inl, inr, subst, eq-eqb}
+use Rattle.counting.proofs.Common.{both_ways, cases_eq, cases_Bool, or_left, or_right, Within, Set, none, put}
 use Rattle.graph_core.proofs.Common.{bit_same, ends_le_degree, ends_of_is, Graph, HasEnds, IsGraph, degree, first_end, second_end, size, IsMatching}
 use Rattle.match_search.specs.Common.{HasMates, JoinsMates, MarksMates}
-use Rattle.match_search.proofs.AlternatingPaths.{put_at, put_off}
+use Rattle.match_search.proofs.AlternatingPaths.{put_at}
 use Rattle.match_search.proofs.FirstMarks.{added_edge, empty_degree, empty_matching}
 use Rattle.match_search.proofs.Forests.{turned}
 use Rattle.match_search.proofs.LongerPaths.{end_within}
@@ -13,12 +13,7 @@ use Rattle.match_search.proofs.MatePairs.{mate_back, removed_mate}
 
 -- before the first edge nothing is marked
 pub marks_none : (g : Graph) (mate : ℕ → ℕ) (m seen : Set) → ((e : ℕ) → m e ≡ false) → ((v : ℕ) → seen v ≡ false) → MarksMates g mate m seen 0
-marks_none g mate m seen unmarked unseen = record {
-  matching = empty_matching g none m unmarked;
-  free = λ v w q. (refl, empty_degree g m unmarked v);
-  marked = λ v t. absurd (both_ways (seen v) (unseen v) t);
-  covered = λ e w. absurd (omega arith);
-}
+marks_none g mate m seen unmarked unseen = grind (arith, empty_matching g none m unmarked, unmarked, empty_degree g m unmarked, both_ways)
 
 module _ (g : Graph) (mate : ℕ → ℕ) (m seen : Set) (k : ℕ) (before : MarksMates g mate m seen k) where
   abbrev x : ℕ
@@ -26,18 +21,6 @@ module _ (g : Graph) (mate : ℕ → ℕ) (m seen : Set) (k : ℕ) (before : Mar
 
   abbrev y : ℕ
   y = second_end g (suc k)
-
-  -- an edge that joins no mates, or of which an end is seen, is passed
-  pub marks_passed : (mate x ≡ y → x ≢ y → (seen x ≡ true) ⊎ (seen y ≡ true)) → MarksMates g mate m seen (suc k)
-  marks_passed last = record {
-    matching = before.matching;
-    free = before.free;
-    marked = before.marked;
-    covered = λ e w. elim (cases_eq e (suc k)) [
-      | inl q ↦ subst (λ (d : ℕ). mate (first_end g d) ≡ second_end g d → first_end g d ≢ second_end g d → (seen (first_end g d) ≡ true) ⊎ (seen (second_end g d) ≡ true)) (sym q) last
-      | inr q ↦ before.covered e (omega arith)
-    ];
-  }
 
   -- an edge that joins mates which are not seen is marked
   pub marks_more : (seen' : Set) → Within (size g) (suc k) → Within g.order x → Within g.order y → x ≢ y → mate x ≡ y → seen x ≡ false → seen y ≡ false → ((v : ℕ) → seen' v ≡ ((seen v || (x == v)) || (y == v))) → MarksMates g mate (put m (suc k) true) seen' (suc k)
@@ -57,38 +40,16 @@ module _ (g : Graph) (mate : ℕ → ℕ) (m seen : Set) (k : ℕ) (before : Mar
       more : (v : ℕ) → seen v ≡ true → seen' v ≡ true
       more v t = seen'_is v ∙ or_left (seen v || (x == v)) (y == v) (or_left (seen v) (x == v) t)
 
-      kept : (e : ℕ) → m e ≡ true → put m (suc k) true e ≡ true
-      kept e t = elim (cases_eq e (suc k)) [
-        | inl q ↦ subst (λ (d : ℕ). put m (suc k) true d ≡ true) (sym q) (put_at m (suc k) true)
-        | inr q ↦ put_off m (suc k) true e q ∙ t
-      ]
-
       marked : (v : ℕ) → seen' v ≡ true → JoinsMates g mate (put m (suc k) true) v
       marked v t = elim (cases_eq x v) [
         | inl q ↦ subst (JoinsMates g mate (put m (suc k) true)) q (suc k, y, real, put_at m (suc k) true, inl (refl, refl), inl pair)
-        | inr nx ↦ elim (cases_eq y v) [
-          | inl q ↦ subst (JoinsMates g mate (put m (suc k) true)) q (suc k, x, real, put_at m (suc k) true, inr (refl, refl), inr pair)
-          | inr ny ↦ elim (cases_Bool (seen v)) [
-            | inl s ↦ let d = before.marked v s in (d.0, d.1, d.2, kept d.0 d.3, d.4, d.5)
-            | inr s ↦ absurd (both_ways (seen' v) (seen'_is v ∙ or_from (seen v || (x == v)) (y == v) (or_from (seen v) (x == v) s (ne_eqb x v nx)) (ne_eqb y v ny)) t)
-          ]
-        ]
+        | inr nx ↦ grind arith
       ]
 
 module _ (g : Graph) (is : IsGraph g) (r f m seen : Set) (mate : ℕ → ℕ) (has : HasMates g r f mate) (all : MarksMates g mate m seen (size g)) where
   -- a seen vertex has a marked edge to its mate
   own : (v : ℕ) → seen v ≡ true → (mate v ≢ 0) × ((e : ℕ) × Within (size g) e × (m e ≡ true) × HasEnds g e v (mate v))
-  own v t =
-      let d = all.marked v t in
-      let wv = end_within g is d.0 v d.1 d.2 d.4 in
-      let wu = end_within g is d.0 d.1 v d.2 (turned g d.0 v d.1 d.4) in
-      elim d.5 [
-        | inl q ↦ ((λ z. let a = sym q ∙ z in absurd (omega arith)), (d.0, d.2, d.3, subst (λ (u : ℕ). HasEnds g d.0 v u) (sym q) d.4))
-        | inr q ↦
-            let back = (mate_back g is r f mate has d.1 wu (λ z. let a = sym q ∙ z in absurd (omega arith))).1 in
-            let own_is : mate v ≡ d.1 = ap mate (sym q) ∙ back in
-            ((λ z. let a = sym own_is ∙ z in absurd (omega arith)), (d.0, d.2, d.3, subst (λ (u : ℕ). HasEnds g d.0 v u) (sym own_is) d.4))
-      ]
+  own v t = grind (arith, end_within g is, turned g, mate_back g is r f mate has)
 
   unmarked : (v : ℕ) → Within g.order v → mate v ≡ 0 → degree g m v ≡ 0
   unmarked v w z = elim (cases_Bool (seen v)) [
@@ -109,12 +70,7 @@ module _ (g : Graph) (is : IsGraph g) (r f m seen : Set) (mate : ℕ → ℕ) (h
       h = has.paired v w n
 
       different : v ≢ mate v
-      different q =
-          let a = ends_le_degree g f h.0 v h.1 h.2 in
-          let b = ends_of_is g h.0 v (mate v) h.3 v in
-          let c = bit_same v in
-          let d = ap bit (eq-eqb (mate v) v (sym q)) in
-          let o = has.matching.once v w in absurd (omega arith)
+      different q = grind (arith, ends_le_degree g f h.0 v h.1 h.2, ends_of_is g h.0 v (mate v) h.3 v, bit_same v, eq-eqb (mate v) v (sym q))
 
       one : (seen v ≡ true) ⊎ (seen (mate v) ≡ true)
       one = elim h.3 [

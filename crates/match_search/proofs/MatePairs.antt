@@ -1,7 +1,7 @@
 -- Matchings by mates: mates are mates of each other, and a path exchanged by mates is the path
 -- exchanged by edges. Two edges of a matching at one vertex are one edge, so the mate of a mate
 -- is the vertex itself.
-use Rattle.std.proofs.Common.{◌≡◌, ◌≢◌, ℕ, zero, suc, ◌+◌, ◌≤◌, Bool, true, false, cond, ◌==◌, refl, sym, ap, ◌∙◌, arith, eq-eqb, ne_eqb, inl, inr, subst, ◌⊎◌}
+use Rattle.std.proofs.Common.{◌≡◌, ◌≢◌, ℕ, zero, suc, ◌+◌, ◌≤◌, true, false, cond, sym, ap, ◌∙◌, arith, eq-eqb, ne_eqb, inl, inr, subst, ◌⊎◌, rules}
 use Rattle.counting.proofs.Common.{cases_eq, Within, bit, Set, put}
 use Rattle.graph_core.proofs.Common.{Graph, IsGraph, HasEnds, degree, size, IsMatching}
 use Rattle.match_search.specs.Common.{IsAlternating, flipped, HasMates, with_mate, with_pair, flipped_mates}
@@ -24,13 +24,7 @@ module _ (g : Graph) (is : IsGraph g) (r m : Set) (mate : ℕ → ℕ) (has : Ha
       let u = end_within g is d.0 (mate v) v d.1 (turned g d.0 v (mate v) d.3) in
       let e = has.paired (mate v) u (λ z. let a = has.exposed (mate v) u z in let b = (met g m d.0 v (mate v) d.1 d.2 d.3).1 in absurd (omega arith)) in
       let back = turned g d.0 v (mate v) d.3 in
-      let one = one_edge g r m has.matching d.0 e.0 (mate v) v (mate (mate v)) u d.1 e.1 d.2 e.2 back e.3 in (
-        u,
-        elim (same_ends g e.0 (mate v) (mate (mate v)) (mate v) v e.3 (subst (λ (c : ℕ). HasEnds g c (mate v) v) one back)) [
-          | inl q ↦ q.1
-          | inr q ↦ q.1 ∙ q.0
-        ],
-      )
+      grind (arith, one_edge g r m has.matching d.0 e.0 (mate v) v (mate (mate v)) u d.1 e.1 d.2 e.2 back e.3, same_ends g e.0 (mate v) (mate (mate v)) (mate v) v e.3)
 
   -- a removed vertex has no mate
   pub removed_mate : (v : ℕ) → Within g.order v → r v ≡ true → mate v ≡ 0
@@ -38,13 +32,6 @@ module _ (g : Graph) (is : IsGraph g) (r m : Set) (mate : ℕ → ℕ) (has : Ha
     | inl q ↦ q
     | inr q ↦ let d = has.paired v w q in let a = (met g m d.0 v (mate v) d.1 d.2 d.3).0 in let b = has.matching.away v w t in absurd (omega arith)
   ]
-
-put_more : (m : Set) (a d : ℕ) → m d ≡ true → put m a true d ≡ true
-put_more m a d t = more (d == a)
-  where
-    more : (s : Bool) → cond s true (m d) ≡ true
-    more true = refl
-    more false = t
 
 module _ (g : Graph) (r f : Set) (mate : ℕ → ℕ) (has : HasMates g r f mate) (k : ℕ) (v e : ℕ → ℕ) (p : IsAlternating g r f k v e) where
   -- one pair of edges more
@@ -65,10 +52,7 @@ module _ (g : Graph) (r f : Set) (mate : ℕ → ℕ) (has : HasMates g r f mate
     new = flipped f e (suc i)
 
     c_is : v (suc i + suc i) ≡ c
-    c_is = ap v (twice i)
-      where
-        twice : (i : ℕ) → suc i + suc i ≡ suc (suc (i + i))
-        twice i = omega arith
+    c_is = grind arith
 
     at_c : (u : ℕ) → u ≡ c → flipped_mates mate v (suc i) u ≡ 0
     at_c u s = with_here (with_pair old a b) c 0 u s
@@ -84,9 +68,6 @@ module _ (g : Graph) (r f : Set) (mate : ℕ → ℕ) (has : HasMates g r f mate
 
     in_new : new (e (i + i)) ≡ true
     in_new = put_off (put (flipped f e i) (e (i + i)) true) (e (suc (i + i))) false (e (i + i)) (λ s. let z = path_edges g r k v e p.path (i + i) (suc (i + i)) (omega arith) (omega arith) s in absurd (omega arith)) ∙ put_at (flipped f e i) (e (i + i)) true
-
-    kept : (d : ℕ) → flipped f e i d ≡ true → d ≢ e (suc (i + i)) → new d ≡ true
-    kept d t n = put_off (put (flipped f e i) (e (i + i)) true) (e (suc (i + i))) false d n ∙ put_more (flipped f e i) (e (i + i)) d t
 
     pair_more : HasMates g r new (flipped_mates mate v (suc i))
     pair_more = record {
@@ -112,16 +93,7 @@ module _ (g : Graph) (r f : Set) (mate : ℕ → ℕ) (has : HasMates g r f mate
           | inl s ↦ (e (i + i), p.path.real (i + i) (omega arith), in_new, subst (λ (x : ℕ). HasEnds g (e (i + i)) u x) (sym (at_b u nc s)) (subst (λ (x : ℕ). HasEnds g (e (i + i)) x a) (sym s) (turned g (e (i + i)) a b (p.path.ends (i + i) (omega arith)))))
           | inr nb ↦ elim (cases_eq u a) [
             | inl s ↦ (e (i + i), p.path.real (i + i) (omega arith), in_new, subst (λ (x : ℕ). HasEnds g (e (i + i)) u x) (sym (at_a u nc nb s)) (subst (λ (x : ℕ). HasEnds g (e (i + i)) x b) (sym s) (p.path.ends (i + i) (omega arith))))
-            | inr na ↦
-                let d = before.paired u w (λ z. q (at_old u nc nb na ∙ z)) in (
-                  d.0,
-                  d.1,
-                  kept d.0 d.2 (λ s. elim (same_ends g d.0 u (old u) b c d.3 (subst (λ (x : ℕ). HasEnds g x b c) (sym s) (p.path.ends (suc (i + i)) (omega arith)))) [
-                    | inl t ↦ nb t.0
-                    | inr t ↦ nc t.0
-                  ]),
-                  subst (λ (x : ℕ). HasEnds g d.0 u x) (sym (at_old u nc nb na)) d.3,
-                )
+            | inr na ↦ search (rules, at_old u nc nb na, same_ends g)
           ]
         ]
       ];
@@ -135,32 +107,13 @@ module _ (g : Graph) (r f : Set) (mate : ℕ → ℕ) (has : HasMates g r f mate
 -- a pair more: an edge between two exposed vertices
 pub joined_pairs : (g : Graph) (r m : Set) (mate : ℕ → ℕ) (a v w : ℕ) → HasMates g r m mate → IsMatching g r (put m a true) → Within (size g) a → HasEnds g a v w → v ≢ w → ((u : ℕ) → u ≢ v → u ≢ w → degree g (put m a true) u ≡ degree g m u) → Within g.order v → Within g.order w →
     HasMates g r (put m a true) (with_pair mate v w)
-joined_pairs g r m mate a v w has mm wa ends vw same wv ww = record {
-  matching = mm;
-  exposed = λ u wu q. elim (cases_eq u w) [
-    | inl s ↦ let z = sym (with_here (with_mate mate v w) w v u s) ∙ q in absurd (omega arith)
-    | inr nw ↦ elim (cases_eq u v) [
-      | inl s ↦ let z = sym (with_there (with_mate mate v w) w v u nw ∙ with_here mate v w u s) ∙ q in absurd (omega arith)
-      | inr nv ↦ same u nv nw ∙ has.exposed u wu (sym (with_there (with_mate mate v w) w v u nw ∙ with_there mate v w u nv) ∙ q)
-    ]
-  ];
-  paired = λ u wu q. elim (cases_eq u w) [
-    | inl s ↦ (a, wa, put_at m a true, subst (λ (x : ℕ). HasEnds g a u x) (sym (with_here (with_mate mate v w) w v u s)) (subst (λ (x : ℕ). HasEnds g a x v) (sym s) (turned g a v w ends)))
-    | inr nw ↦ elim (cases_eq u v) [
-      | inl s ↦ (a, wa, put_at m a true, subst (λ (x : ℕ). HasEnds g a u x) (sym (with_there (with_mate mate v w) w v u nw ∙ with_here mate v w u s)) (subst (λ (x : ℕ). HasEnds g a x w) (sym s) ends))
-      | inr nv ↦
-          let here = with_there (with_mate mate v w) w v u nw ∙ with_there mate v w u nv in
-          let d = has.paired u wu (λ z. q (here ∙ z)) in
-          (d.0, d.1, put_more m a d.0 d.2, subst (λ (x : ℕ). HasEnds g d.0 u x) (sym here) d.3)
-    ]
-  ];
-}
+joined_pairs g r m mate a v w has mm wa ends vw same wv ww = grind arith
 
 -- along a flipped path the last vertex alone is newly exposed
 pub flipped_exposes : (mate v : ℕ → ℕ) (k : ℕ) → ((i : ℕ) → i ≤ k + k → v i ≢ 0) → (u : ℕ) → flipped_mates mate v k u ≡ 0 → (u ≡ v (k + k)) ⊎ (mate u ≡ 0)
 flipped_exposes mate v zero real u z = inr z
 flipped_exposes mate v (suc k) real u z = elim (cases_eq u (v (suc (suc (k + k))))) [
-  | inl q ↦ inl (q ∙ ap v (two k))
+  | inl q ↦ inl (q ∙ ap v (omega arith))
   | inr last ↦
       let pair = sym (with_there (with_pair (flipped_mates mate v k) (v (k + k)) (v (suc (k + k)))) (v (suc (suc (k + k)))) 0 u last) ∙ z in
       elim (cases_eq u (v (suc (k + k)))) [
@@ -176,6 +129,3 @@ flipped_exposes mate v (suc k) real u z = elim (cases_eq u (v (suc (suc (k + k))
             ]
       ]
 ]
-  where
-    two : (k : ℕ) → suc (suc (k + k)) ≡ suc k + suc k
-    two k = omega arith

@@ -1,6 +1,6 @@
 -- One augmentation by mates: what its parts hand to one another.
-use Rattle.std.proofs.Common.{◌≡◌, ℕ, ◌<◌, refl, ap, ◌∙◌, arith, subst₂, length, List, get_or, not, ◌&&◌, nat_lt, nat_le, lt-ltb, Some, None, Bool, true, false, ◌==◌, ◌||◌, ◌⊎◌, sym, inl, inr, eq-eqb}
-use Rattle.counting.proofs.Common.{fun_ext, and_from, le-leb, and_parts, or_left, or_right, true≢false, total_congr, get_or_default_zero, Within, bit, count, Set, complement, mem}
+use Rattle.std.proofs.Common.{◌≡◌, ℕ, ◌<◌, ◌∙◌, arith, subst₂, length, List, get_or, nat_lt, nat_le, lt-ltb, Some, None, true, ◌==◌, ◌||◌, ◌⊎◌, eq-eqb}
+use Rattle.counting.proofs.Common.{fun_ext, and_from, le-leb, total_congr, get_or_default_zero, Within, count, Set, complement, mem}
 use Rattle.graph_core.proofs.Common.{Graph}
 use Rattle.match_search.specs.Common.{AreExposed, HoldsMatching, IsGrownForest, MayBeExposed, ClosesForest, HoldsBlossom, IsCompleted, IsMateStep, MayOpen, blossom_length, removed_with, without_blossom, IsInstance, listed, numbers, AreAlike, IsShrinking, IsWidened}
 use Rattle.match_search.specs.declared.blossom.Blossom.{Blossom}
@@ -26,8 +26,7 @@ module _ (g : Graph) (r f : Set) (mate : List ℕ) (b : Blossom) (held : HoldsBl
 
 -- the vertices that are left are counted by the instance
 pub left_count : (g : Graph) (r : Set) (s : Instance) → IsInstance g r s → count (length s.rows.items) (mem s.left) ≡ count g.order (complement r)
-left_count g r s is = ap (λ (n : ℕ). count n (mem s.left)) is.one_each
-    ∙ total_congr g.order (λ v. bit (mem s.left v)) (λ v. bit (not (r v))) (λ v w. ap bit (is.left v ∙ ap (λ b. b && not (r v)) (and_from (nat_lt 0 v) (nat_le v g.order) (lt-ltb 0 v (omega arith)) (le-leb v g.order (omega arith)))))
+left_count g r s is = grind (arith, total_congr g.order, and_from, nat_lt 0, nat_le, lt-ltb 0, le-leb)
 
 -- a blossom may be opened by an instance that holds the same
 pub may_open_alike : (g : Graph) (r f m n : Set) (s h : Instance) (mate : List ℕ) (b : Blossom) → MayOpen g r f m n s mate b → AreAlike s h → MayOpen g r f m n h mate b
@@ -40,41 +39,14 @@ roots_exposed left mate roots are v l z = are v ∙ and_from (mem left v) (numbe
 -- a vertex that is left after a shrinking and exposed is the base, or was exposed before
 pub candidates_below : (s h : Instance) (cycle : List ℕ) (base : ℕ) → IsShrinking s (mem cycle) base h → (candidates more before after : List ℕ) → MayBeExposed s.left before candidates
     → ((v : ℕ) → numbers after v ≡ 0 → (mem cycle v ≡ true) ⊎ (numbers before v ≡ 0)) → ((v : ℕ) → mem more v ≡ (mem candidates v || (base == v))) → MayBeExposed h.left after more
-candidates_below s h cycle base shrink candidates more before after may exposes more_is v l z =
-    let a = and_parts (mem s.left v) (not (mem cycle v && not (base == v))) (sym (shrink.left v) ∙ l) in
-    more_is v ∙ elim (exposes v z) [
-      | inl m ↦ or_right (mem candidates v) (base == v) (only_base (mem cycle v) (base == v) m a.1)
-      | inr q ↦ or_left (mem candidates v) (base == v) (may v a.0 q)
-    ]
-  where
-    only_base : (a b : Bool) → a ≡ true → not (a && not b) ≡ true → b ≡ true
-    only_base true true p q = refl
-    only_base true false p q = absurd (true≢false (sym q))
-    only_base false b p q = absurd (true≢false (sym p))
+candidates_below s h cycle base shrink candidates more before after may exposes more_is v l z = grind arith
 
 module _ (g : Graph) (r f : Set) (s : Instance) (mate : List ℕ) (is : HoldsMatching g r f s mate) where
   pub growth_closes : (t : GrownForest) (o : Adjacent) → IsGrownForest g r f s mate t → t.closing ≡ Some o → ClosesForest g r f mate t.forest o
-  growth_closes t o growth q =
-      let pair = growth.closing_pair o q in
-      let at = growth.holds.forest.outer_in o.v pair.v_outer in
-      record {
-        graph = is.instance_is.graph;
-        few = is.instance_is.few;
-        long = is.long;
-        mates = is.mates;
-        holds = growth.holds;
-        v_outer = pair.v_outer;
-        w_outer = pair.w_outer;
-        different = pair.different;
-        edge = near_edge g r s is.instance_is o.v o.w at.0 at.1 pair.adjacent pair.w_left pair.different;
-      }
+  growth_closes t o growth q = grind (arith, near_edge g r s is.instance_is o.v o.w)
 
   pub growth_final : (t : GrownForest) → IsGrownForest g r f s mate t → t.closing ≡ None → IsMateStep g r f mate (Final (record { outer = t.forest.outer; inner = t.forest.inner }))
-  growth_final t growth q = record {
-    m = f;
-    mates = is.mates;
-    answer = (refl, done_frame g r f s mate is t.forest growth.holds (growth.done q), λ v. (λ o. (growth.holds.forest.outer_in v o).0, λ o. (growth.holds.forest.inner_in v o).0));
-  }
+  growth_final t growth q = grind (arith, done_frame g r f s mate is t.forest growth.holds (growth.done q))
 
   module _ (mate2 : List ℕ) (long2 : length mate2 ≡ length mate) (b : Blossom) (held : HoldsBlossom g r f mate2 b) (base : ℕ) (base_is : base ≡ numbers b.cycle.items 1) (h : Instance) (shrink : IsShrinking s (mem b.members) base h) where
     abbrev c : ℕ → ℕ

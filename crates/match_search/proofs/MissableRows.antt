@@ -1,7 +1,7 @@
 -- A vertex taken out of a graph with a matching. Its edge of the matching goes, so its mate is
 -- exposed, and nothing else of the matching changes; of the instance the vertex alone goes.
-use Rattle.std.proofs.Common.{◌≡◌, ◌≢◌, ℕ, zero, suc, ◌+◌, ◌-◌, ◌<◌, ◌≤◌, ◌==◌, ◌&&◌, ◌||◌, not, Bool, true, false, refl, sym, ap, ◌∙◌, arith, eq-eqb, ne_eqb, eqb-true, nat_lt, nat_le, inl, inr, ◌⊎◌, subst, List, [], length}
-use Rattle.counting.proofs.Common.{and_parts, and_from, both_ways, cases_eq, not-true, or_cases, total_congr, Within, bit, count, mem, Set, meet, singleton, union}
+use Rattle.std.proofs.Common.{◌≡◌, ◌≢◌, ℕ, suc, ◌-◌, ◌<◌, ◌≤◌, ◌==◌, ◌&&◌, ◌||◌, not, Bool, true, false, refl, sym, ap, ◌∙◌, arith, eqb-true, nat_lt, nat_le, inl, inr, subst, List, [], length, rules}
+use Rattle.counting.proofs.Common.{and_parts, and_from, cases_eq, or_cases, total_congr, Within, bit, count, mem, Set, meet, singleton, union}
 use Rattle.graph_core.proofs.Common.{Graph, IsGraph, HasEnds, degree, first_end, second_end, IsMatching, missed_count, edge_at}
 use Rattle.match_search.specs.Common.{HoldsMatching, IsInstance, HasMates, with_mate, HasFrame, IsMissableRow, numbers}
 use Rattle.match_search.specs.declared.answer.FinalSets.{FinalSets}
@@ -17,21 +17,7 @@ or_none a b h = grind arith
 
 -- the instance without one vertex more
 pub instance_without : (g : Graph) (r : Set) (u : ℕ) (s : Instance) (left : List ℕ) → IsInstance g r s → ((v : ℕ) → mem left v ≡ (mem s.left v && not (u == v))) → IsInstance g (union r (singleton u)) (record s { left = left })
-instance_without g r u s left is less = record {
-  graph = is.graph;
-  few = is.few;
-  one_each = is.one_each;
-  members_each = is.members_each;
-  left = λ v. less v ∙ ap (λ b. b && not (u == v)) (is.left v) ∙ parts (nat_lt 0 v && nat_le v g.order) (r v) (u == v);
-  blossoms_in = is.blossoms_in;
-  own = λ v w q. is.own v w (or_none (r v) (u == v) q).0;
-  single = λ v w wv q b t. is.single v w wv (or_none (r v) (u == v) q).0 b t;
-  joined = λ v w wv ww q p n t. is.joined v w wv ww (or_none (r v) (u == v) q).0 (or_none (r w) (u == w) p).0 n t;
-  touched = λ d v w wd ends wv ww q p n. is.touched d v w wd ends wv ww (or_none (r v) (u == v) q).0 (or_none (r w) (u == w) p).0 n;
-}
-  where
-    parts : (a b d : Bool) → ((a && not b) && not d) ≡ (a && not (b || d))
-    parts a b d = grind arith
+instance_without g r u s left is less = search (rules, nat_lt 0, nat_le, or_none)
 
 module _ (g : Graph) (is : IsGraph g) (r m : Set) (mate : ℕ → ℕ) (has : HasMates g r m mate) (u : ℕ) (wu : Within g.order u) where
   abbrev out : Set
@@ -45,25 +31,14 @@ module _ (g : Graph) (is : IsGraph g) (r m : Set) (mate : ℕ → ℕ) (has : Ha
   own = with_mate (with_mate mate (mate u) 0) u 0
 
   fewer : (v : ℕ) → degree g less v ≤ degree g m v
-  fewer v = let s = degree_split g m less (meet m (λ e. first_end g e == u || second_end g e == u)) v (λ i wi. split (m i) (first_end g i == u || second_end g i == u)) in omega arith
-    where
-      split : (a b : Bool) → bit a ≡ bit (a && not b) + bit (a && b)
-      split true true = refl
-      split true false = refl
-      split false b = refl
+  fewer v = let s = degree_split g m less (meet m (λ e. first_end g e == u || second_end g e == u)) v (λ i wi. grind arith) in omega arith
 
   none_there : (d : ℕ) → (0 < d → ⊥) → d ≡ 0
-  none_there zero h = refl
-  none_there (suc d) h = absurd (h (omega arith))
+  none_there d h = grind arith
 
   -- an edge that is left does not meet u
   misses : (e y : ℕ) → less e ≡ true → HasEnds g e u y → ⊥
-  misses e y l ends =
-      let o = or_none (first_end g e == u) (second_end g e == u) (not-true (first_end g e == u || second_end g e == u) (and_parts (m e) (not (first_end g e == u || second_end g e == u)) l).1) in
-      elim ends [
-        | inl q ↦ both_ways (first_end g e == u) o.0 (eq-eqb (first_end g e) u q.0)
-        | inr q ↦ both_ways (second_end g e == u) o.1 (eq-eqb (second_end g e) u q.1)
-      ]
+  misses e y l ends = grind arith
 
   free_at : degree g less u ≡ 0
   free_at = none_there (degree g less u) (λ p. let d = edge_at g less u p in misses d.0 d.3.0 d.2 d.3.1)
@@ -80,54 +55,24 @@ module _ (g : Graph) (is : IsGraph g) (r m : Set) (mate : ℕ → ℕ) (has : Ha
   at_u : own u ≡ 0
   at_u = with_here (with_mate mate (mate u) 0) u 0 u refl
 
-  there : (v : ℕ) → v ≢ u → v ≢ mate u → own v ≡ mate v
-  there v n o = with_there (with_mate mate (mate u) 0) u 0 v n ∙ with_there mate (mate u) 0 v o
-
   gone : (v : ℕ) → v ≢ u → v ≡ mate u → own v ≡ 0
   gone v n q = with_there (with_mate mate (mate u) 0) u 0 v n ∙ with_here mate (mate u) 0 v q
 
   less_matching : IsMatching g out less
-  less_matching = record {
-    once = λ v w. let a = fewer v in let b = has.matching.once v w in omega arith;
-    away = λ v w t. elim (or_cases (r v) (u == v) t) [
-      | inl q ↦ let a = fewer v in let b = has.matching.away v w q in omega arith
-      | inr q ↦ subst (λ x. degree g less x ≡ 0) (eqb-true u v q) free_at
-    ];
-  }
+  less_matching = grind (arith, fewer, or_cases, eqb-true u, free_at)
 
   pub less_mates : HasMates g out less own
   less_mates = record {
     matching = less_matching;
     exposed = λ v w q. elim (cases_eq v u) [
       | inl e ↦ subst (λ x. degree g less x ≡ 0) (sym e) free_at
-      | inr n ↦ elim (cases_eq v (mate u)) [
-        | inl e ↦ free_mate v w n e
-        | inr o ↦ let a = fewer v in let b = has.exposed v w (sym (there v n o) ∙ q) in omega arith
-      ]
+      | inr n ↦ grind (arith, cases_eq v (mate u), free_mate v w n, fewer v)
     ];
     paired = λ v w q. elim (cases_eq v u) [
       | inl e ↦ absurd (q (ap own e ∙ at_u))
-      | inr n ↦ elim (cases_eq v (mate u)) [
-        | inl e ↦ absurd (q (gone v n e))
-        | inr o ↦
-            let some : mate v ≢ 0 = λ z. q (there v n o ∙ z) in
-            let e = has.paired v w some in
-            let back = (mate_back g is r m mate has v w some).1 in
-            let away : mate v ≢ u = λ z. o (sym back ∙ ap mate z) in (
-              e.0,
-              e.1,
-              and_from (m e.0) (not (first_end g e.0 == u || second_end g e.0 == u)) e.2 (ap not (apart (first_end g e.0) (second_end g e.0) v (mate v) n away e.3)),
-              subst (λ (x : ℕ). HasEnds g e.0 v x) (sym (there v n o)) e.3,
-            )
-      ]
+      | inr n ↦ grind (arith, cases_eq v (mate u), gone v n, mate_back g is r m mate has v w, and_from)
     ];
   }
-    where
-      apart : (a b v y : ℕ) → v ≢ u → y ≢ u → ((a ≡ v) × (b ≡ y)) ⊎ ((a ≡ y) × (b ≡ v)) → (a == u || b == u) ≡ false
-      apart a b v y n o h = elim h [
-        | inl q ↦ rw (ne_eqb a u (λ z. n (sym q.0 ∙ z)), ne_eqb b u (λ z. o (sym q.1 ∙ z))) refl
-        | inr q ↦ rw (ne_eqb a u (λ z. o (sym q.0 ∙ z)), ne_eqb b u (λ z. n (sym q.1 ∙ z))) refl
-      ]
 
 -- the instance and the mates without one vertex more hold a matching
 pub held_without : (g : Graph) (r f : Set) (u : ℕ) (s : Instance) (mate own left : List ℕ) → HoldsMatching g r f s mate → Within g.order u → ((v : ℕ) → mem left v ≡ (mem s.left v && not (u == v))) → length own ≡ length mate →
@@ -148,11 +93,7 @@ module _ (g : Graph) (r : Set) (mate left row : List ℕ) (sets : FinalSets) (fr
   counted =
       missed_is ∙ ap (λ k. count k (λ v. mem left v && (numbers mate v == 0))) (omega arith)
       ∙ total_congr g.order (λ v. bit (mem left v && (numbers mate v == 0))) (λ v. bit (not (r v) && (degree g framed.m v == 0)))
-      (λ v w. ap (λ b. bit (b && (numbers mate v == 0))) (left_is v w) ∙ ap (λ b. bit (not (r v) && b)) (sym (ap (λ d. d == 0) (mates_degree g r framed.m (numbers mate) framed.mates v w) ∙ zero_test (numbers mate v == 0))))
-    where
-      zero_test : (b : Bool) → (bit (not b) == 0) ≡ b
-      zero_test true = refl
-      zero_test false = refl
+      (λ v w. ap (λ b. bit (b && (numbers mate v == 0))) (left_is v w) ∙ ap (λ b. bit (not (r v) && b)) (sym (ap (λ d. d == 0) (mates_degree g r framed.m (numbers mate) framed.mates v w) ∙ (grind arith))))
 
   pub missable_row : (missed ≡ 1 → row ≡ sets.outer) → (missed ≢ 1 → row ≡ []) → ((v : ℕ) → mem row v ≡ true → Within g.order v) → IsMissableRow g r row
   missable_row one other within = record {

@@ -1,8 +1,8 @@
 -- A set of edges is near-perfect in C for a vertex t: it meets each vertex of C but t once. How
 -- many ends has it at each vertex, and how many edges? And how do the degrees add up where the
 -- edges of a set are those of two others?
-use Rattle.std.proofs.Common.{◌≡◌, ℕ, suc, ◌+◌, ◌*◌, ◌≤◌, ◌≢◌, Bool, true, false, cond, ◌==◌, refl, sym, ap, ap₂, ◌∙◌, arith, ◌&&◌, ◌||◌, not, eq-eqb, ne_eqb, inl, inr}
-use Rattle.counting.proofs.Common.{cases_Bool, true≢false, count_put, total_add, total_congr, Within, bit, count, total, Set, put}
+use Rattle.std.proofs.Common.{◌≡◌, ℕ, suc, ◌+◌, ◌*◌, ◌≤◌, ◌≢◌, Bool, true, false, ◌==◌, refl, sym, ap, ap₂, ◌∙◌, arith, ◌&&◌, ◌||◌, not, eq-eqb, inl}
+use Rattle.counting.proofs.Common.{cases_Bool, count_put, total_add, total_congr, Within, bit, count, Set}
 use Rattle.graph_core.proofs.Common.{degree_sum, ends_le_degree, ends_of, ends_of_is, sum_degrees, Graph, IsGraph, degree, first_end, second_end, size}
 use Rattle.match_search.specs.Common.{IsNearPerfect}
 
@@ -21,16 +21,10 @@ degree_split g k m e v h =
     each a b c d q = ap (λ k. k * d) q ∙ Rattle.std.proofs.Common.add-mul b c d
 
 pub bit_minus : (m e : Bool) → (e ≡ true → m ≡ true) → bit m ≡ bit (m && not e) + bit e
-bit_minus true true h = refl
-bit_minus true false h = refl
-bit_minus false true h = absurd (true≢false (sym (h refl)))
-bit_minus false false h = refl
+bit_minus m e h = grind arith
 
 pub bit_union : (m e : Bool) → (m ≡ true → e ≡ true → ⊥) → bit (m || e) ≡ bit m + bit e
-bit_union true true h = absurd (h refl refl)
-bit_union true false h = refl
-bit_union false true h = refl
-bit_union false false h = refl
+bit_union m e h = grind arith
 
 pub ends_near : (g : Graph) (e : ℕ) → 1 ≤ ends_of g e (first_end g e)
 ends_near g e = let a = ends_of_is g e (first_end g e) (second_end g e) (inl (refl, refl)) (first_end g e) in let b = ap bit (eq-eqb (first_end g e) (first_end g e) refl) in omega arith
@@ -40,48 +34,19 @@ ends_far g e = let a = ends_of_is g e (first_end g e) (second_end g e) (inl (ref
 
 module _ (g : Graph) (is : IsGraph g) (c : Set) (t : ℕ) (e : Set) (near_t : IsNearPerfect g c t e) where
   pub near_in : (i : ℕ) → Within (size g) i → e i ≡ true → c (first_end g i) ≡ true
-  near_in i w ei = elim (cases_Bool (c (first_end g i))) [
-    | inl q ↦ q
-    | inr q ↦ let a = ends_le_degree g e i (first_end g i) w ei in let b = ends_near g i in
-        let d = near_t.degrees (first_end g i) (is i w).0 in
-        let z : bit (c (first_end g i) && not (first_end g i == t)) ≡ 0 = ap (λ s. bit (s && not (first_end g i == t))) q in absurd (omega arith)
-  ]
+  near_in i w ei = grind (arith, cases_Bool (c (first_end g i)), ends_le_degree g e i (first_end g i) w ei, ends_near g i)
 
   pub far_in : (i : ℕ) → Within (size g) i → e i ≡ true → c (second_end g i) ≡ true
-  far_in i w ei = elim (cases_Bool (c (second_end g i))) [
-    | inl q ↦ q
-    | inr q ↦ let a = ends_le_degree g e i (second_end g i) w ei in let b = ends_far g i in
-        let d = near_t.degrees (second_end g i) (is i w).1 in
-        let z : bit (c (second_end g i) && not (second_end g i == t)) ≡ 0 = ap (λ s. bit (s && not (second_end g i == t))) q in absurd (omega arith)
-  ]
+  far_in i w ei = grind (arith, cases_Bool (c (second_end g i)), ends_le_degree g e i (second_end g i) w ei, ends_far g i)
 
   pub near_perfect_count : (k : ℕ) → c t ≡ true → Within g.order t → count g.order c ≡ suc (k + k) → count (size g) e ≡ k
-  near_perfect_count k ct wt odd =
-      let a = sum_degrees g e is in
-      let b : total g.order (λ v. degree g e v) ≡ count g.order (put c t false) = total_congr g.order _ _ (λ v w. near_t.degrees v w ∙ bits v) in
-      let d = count_put g.order c t false wt in
-      let o = ap bit ct in omega arith
-    where
-      bits : (v : ℕ) → bit (c v && not (v == t)) ≡ bit (cond (v == t) false (c v))
-      bits v = go (c v) (v == t)
-        where
-          go : (a b : Bool) → bit (a && not b) ≡ bit (cond b false a)
-          go true true = refl
-          go true false = refl
-          go false true = refl
-          go false false = refl
+  near_perfect_count k ct wt odd = grind (arith, sum_degrees g e is, total_congr g.order, count_put g.order c t false wt)
 
   pub at_t : Within g.order t → degree g e t ≡ 0
-  at_t w = near_t.degrees t w ∙ ap bit (go (c t) (t == t) (eq-eqb t t refl))
-    where
-      go : (a b : Bool) → b ≡ true → (a && not b) ≡ false
-      go a b q = grind arith
+  at_t w = grind arith
 
   pub at_other : (v : ℕ) → Within g.order v → c v ≡ true → v ≢ t → degree g e v ≡ 1
-  at_other v w cv d = near_t.degrees v w ∙ ap bit (go (c v) (v == t) cv (ne_eqb v t d))
-    where
-      go : (a b : Bool) → a ≡ true → b ≡ false → (a && not b) ≡ true
-      go a b p q = grind arith
+  at_other v w cv d = grind arith
 
   pub at_out : (v : ℕ) → Within g.order v → c v ≡ false → degree g e v ≡ 0
   at_out v w cv = near_t.degrees v w ∙ ap (λ s. bit (s && not (v == t))) cv

@@ -1,10 +1,10 @@
 -- An odd cycle has a near-perfect matching for each of its vertices: every other edge on the way
 -- round. The two edges at a vertex have neighbouring places, of which exactly one is chosen
 -- unless the way starts there.
-use Rattle.std.proofs.Common.{◌≡◌, ℕ, suc, zero, ◌+◌, ◌*◌, ◌<◌, ◌≢◌, Bool, true, false, cond, ◌==◌, refl, sym, ap, ap₂, ◌∙◌, arith, ◌&&◌, ◌||◌, not, eq-eqb, ne_eqb, eqb-true, ◌⊎◌, inl, inr, nat_lt, lt-ltb, le-ltb, mul-add, subst}
-use Rattle.counting.proofs.Common.{cases_eq, cases_order, some_none, some_true, true_some, total_add, total_at, total_congr, total_none, Within, bit, count, is_odd, total, Set}
+use Rattle.std.proofs.Common.{◌≡◌, ℕ, suc, zero, ◌+◌, ◌*◌, ◌≢◌, Bool, true, false, cond, ◌==◌, refl, sym, ap, ◌∙◌, arith, ◌&&◌, not, eq-eqb, ne_eqb, eqb-true, ◌⊎◌, mul-add}
+use Rattle.counting.proofs.Common.{cases_eq, some_none, some_true, true_some, total_add, total_at, total_congr, total_none, Within, bit, count, is_odd, total, Set}
 use Rattle.graph_core.proofs.Common.{image, total_image, degree_sum, ends_of, ends_of_is, Graph, degree, size, HasEnds}
-use Rattle.match_search.specs.Common.{IsOddCycle, same_answer, listed, next, every_other, picked, IsNearPerfect}
+use Rattle.match_search.specs.Common.{IsOddCycle, listed, next, every_other, picked, IsNearPerfect}
 
 -- a sum over an image without collisions is a sum over what it comes from
 pub total_picked : (k l : ℕ) (m : Set) (pick : ℕ → ℕ) (f : ℕ → ℕ) → ((e : ℕ) → Within k e → m e ≡ true → Within l (pick e)) → ((d e : ℕ) → Within k d → Within k e → m d ≡ true → m e ≡ true → pick d ≡ pick e → d ≡ e) →
@@ -12,111 +12,27 @@ pub total_picked : (k l : ℕ) (m : Set) (pick : ℕ → ℕ) (f : ℕ → ℕ) 
 unfolding image
 total_picked k l m pick f inside apart = total_image k l m pick f inside apart
 
-pattern_below : (t i : ℕ) → i < t → every_other t i ≡ same_answer (is_odd i) (is_odd t)
-pattern_below t i l = go (nat_lt i t) (nat_lt t i) (same_answer (is_odd i) (is_odd t)) (lt-ltb i t l) (le-ltb t i (omega arith))
-  where
-    go : (a b s : Bool) → a ≡ true → b ≡ false → ((a && s) || (b && not s)) ≡ s
-    go a b s p q = grind arith
-
-pattern_above : (t i : ℕ) → t < i → every_other t i ≡ not (same_answer (is_odd i) (is_odd t))
-pattern_above t i l = go (nat_lt i t) (nat_lt t i) (same_answer (is_odd i) (is_odd t)) (le-ltb i t (omega arith)) (lt-ltb t i l)
-  where
-    go : (a b s : Bool) → a ≡ false → b ≡ true → ((a && s) || (b && not s)) ≡ not s
-    go a b s p q = grind arith
-
-pattern_at : (t i : ℕ) → i ≡ t → every_other t i ≡ false
-pattern_at t i e = go (nat_lt i t) (nat_lt t i) (same_answer (is_odd i) (is_odd t)) (le-ltb i t (omega arith)) (le-ltb t i (omega arith))
-  where
-    go : (a b s : Bool) → a ≡ false → b ≡ false → ((a && s) || (b && not s)) ≡ false
-    go a b s p q = grind arith
-
 -- of a place that is not the first, and the one before it
 pattern_two : (t b : ℕ) → bit (every_other t (suc b)) + bit (every_other t b) ≡ bit (not (suc b == t))
-pattern_two t b = elim (cases_order (suc b) t) [
-  | inl e ↦ let x = ap bit (pattern_at t (suc b) e) in let y = ap bit (pattern_below t b (omega arith)) in let z = ap (λ k. bit (not k)) (eq-eqb (suc b) t e) in
-      let u = ap (λ k. bit (same_answer (is_odd b) (is_odd k))) (sym e) in let v = differ (is_odd b) in omega arith
-  | inr d ↦ elim d [
-    | inl l ↦ let x = ap bit (pattern_below t (suc b) l) in let y = ap bit (pattern_below t b (omega arith)) in let z = ap (λ k. bit (not k)) (ne_eqb (suc b) t (λ q. absurd (omega arith))) in
-        let u = turn (is_odd b) (is_odd t) in omega arith
-    | inr l ↦ let x = ap bit (pattern_above t (suc b) l) in let z = ap (λ k. bit (not k)) (ne_eqb (suc b) t (λ q. absurd (omega arith))) in
-        elim (cases_eq b t) [
-          | inl q ↦ let y = ap bit (pattern_at t b q) in let u = ap (λ k. bit (not (same_answer (is_odd (suc b)) (is_odd k)))) (sym q) in let v = agree (is_odd b) in omega arith
-          | inr q ↦ let y = ap bit (pattern_above t b (omega arith)) in let u = turn' (is_odd b) (is_odd t) in omega arith
-        ]
-  ]
-]
-  where
-    differ : (a : Bool) → bit (same_answer a (not a)) ≡ 0
-    differ true = refl
-    differ false = refl
-
-    agree : (a : Bool) → bit (not (same_answer (not a) a)) ≡ 1
-    agree true = refl
-    agree false = refl
-
-    turn : (a b : Bool) → bit (same_answer (not a) b) + bit (same_answer a b) ≡ 1
-    turn true true = refl
-    turn true false = refl
-    turn false true = refl
-    turn false false = refl
-
-    turn' : (a b : Bool) → bit (not (same_answer (not a) b)) + bit (not (same_answer a b)) ≡ 1
-    turn' true true = refl
-    turn' true false = refl
-    turn' false true = refl
-    turn' false false = refl
+pattern_two t b = grind arith
 
 -- of the first place, and the last, of an odd number
 pattern_round : (n t : ℕ) → is_odd n ≡ true → Within n t → bit (every_other t 1) + bit (every_other t n) ≡ bit (not (1 == t))
-pattern_round n t o w = elim (cases_eq 1 t) [
-  | inl e ↦ let x = ap bit (pattern_at t 1 e) in let z = ap (λ k. bit (not k)) (eq-eqb 1 t e) in elim (cases_eq n t) [
-    | inl q ↦ let y = ap bit (pattern_at t n q) in omega arith
-    | inr q ↦ let y = ap bit (pattern_above t n (omega arith)) in let u = ap₂ (λ a b. bit (not (same_answer a b))) o (sym (ap is_odd e)) in omega arith
-  ]
-  | inr e ↦ let x = ap bit (pattern_below t 1 (omega arith)) in let z = ap (λ k. bit (not k)) (ne_eqb 1 t e) in elim (cases_eq n t) [
-    | inl q ↦ let y = ap bit (pattern_at t n q) in let u = ap (λ b. bit (same_answer true b)) (ap is_odd (sym q) ∙ o) in omega arith
-    | inr q ↦ let y = ap bit (pattern_above t n (omega arith)) in let u = ap (λ a. bit (not (same_answer a (is_odd t)))) o in let v = turn (is_odd t) in omega arith
-  ]
-]
-  where
-    turn : (b : Bool) → bit (same_answer true b) + bit (not (same_answer true b)) ≡ 1
-    turn true = refl
-    turn false = refl
+pattern_round n t o w = grind arith
 
 -- two pairs of ends of one edge
 pub same_ends : (g : Graph) (e x y u v : ℕ) → HasEnds g e x y → HasEnds g e u v → ((x ≡ u) × (y ≡ v)) ⊎ ((x ≡ v) × (y ≡ u))
-same_ends g e x y u v p q = elim p [
-  | inl a ↦ elim q [ inl b ↦ inl (sym a.0 ∙ b.0, sym a.1 ∙ b.1) | inr b ↦ inr (sym a.0 ∙ b.0, sym a.1 ∙ b.1) ]
-  | inr a ↦ elim q [ inl b ↦ inr (sym a.1 ∙ b.1, sym a.0 ∙ b.0) | inr b ↦ inl (sym a.1 ∙ b.1, sym a.0 ∙ b.0) ]
-]
+same_ends g e x y u v p q = grind arith
 
 pub next_in : (n i : ℕ) → Within n i → Within n (next n i)
-next_in n i w = elim (cases_eq i n) [
-  | inl e ↦ let a : next n i ≡ 1 = ap (λ b. cond b 1 (suc i)) (eq-eqb i n e) in omega arith
-  | inr e ↦ let a : next n i ≡ suc i = ap (λ b. cond b 1 (suc i)) (ne_eqb i n e) in omega arith
-]
+next_in n i w = grind arith
 
 next_is : (n i : ℕ) → ((i ≡ n) × (next n i ≡ 1)) ⊎ ((i ≢ n) × (next n i ≡ suc i))
-next_is n i = elim (cases_eq i n) [
-  | inl e ↦ inl (e, ap (λ b. cond b 1 (suc i)) (eq-eqb i n e))
-  | inr e ↦ inr (e, ap (λ b. cond b 1 (suc i)) (ne_eqb i n e))
-]
+next_is n i = grind arith
 
 module _ (g : Graph) (r : Set) (n : ℕ) (c e : ℕ → ℕ) (is : IsOddCycle g r n c e) where
   pub edges_apart : (i j : ℕ) → Within n i → Within n j → e i ≡ e j → i ≡ j
-  edges_apart i j wi wj q =
-      let p : HasEnds g (e i) (c j) (c (next n j)) = subst (λ k. HasEnds g k (c j) (c (next n j))) (sym q) (is.ends j wj) in
-      elim (same_ends g (e i) (c i) (c (next n i)) (c j) (c (next n j)) (is.ends i wi) p) [
-        | inl a ↦ is.apart i j wi wj a.0
-        | inr a ↦
-            let x = is.apart i (next n j) wi (next_in n j wj) a.0 in
-            let y = is.apart (next n i) j (next_in n i wi) wj a.1 in
-            let z = is.three in
-            elim (next_is n i) [
-              | inl u ↦ elim (next_is n j) [ inl v ↦ omega arith | inr v ↦ absurd (omega arith) ]
-              | inr u ↦ elim (next_is n j) [ inl v ↦ absurd (omega arith) | inr v ↦ absurd (omega arith) ]
-            ]
-      ]
+  edges_apart i j wi wj q = grind arith
 
   pub cycle_size : count g.order (listed n c) ≡ n
   cycle_size =
@@ -157,10 +73,7 @@ module _ (g : Graph) (r : Set) (n : ℕ) (c e : ℕ → ℕ) (is : IsOddCycle g 
       before (suc (suc b)) w = (suc b, omega arith, ap (λ x. cond x 1 (suc (suc b))) (ne_eqb (suc b) n (λ q. absurd (omega arith))), pattern_two t (suc b))
 
       next_apart : (i j : ℕ) → Within n i → Within n j → next n i ≡ next n j → i ≡ j
-      next_apart i j wi wj q = elim (next_is n i) [
-        | inl u ↦ elim (next_is n j) [ inl v ↦ omega arith | inr v ↦ absurd (omega arith) ]
-        | inr u ↦ elim (next_is n j) [ inl v ↦ absurd (omega arith) | inr v ↦ omega arith ]
-      ]
+      next_apart i j wi wj q = grind (arith, next_is n i, next_is n j)
 
       at : (v : ℕ) (b : Bool) → listed n c v ≡ b → total n (λ i. bit (every_other t i) * bit (c i == v)) + total n (λ i. bit (every_other t i) * bit (c (next n i) == v)) ≡ bit (listed n c v && not (v == c t))
       at v false q =
@@ -182,13 +95,7 @@ module _ (g : Graph) (r : Set) (n : ℕ) (c e : ℕ → ℕ) (is : IsOddCycle g 
           omega arith
         where
           same : (i v : ℕ) → Within n i → c i ≡ v → bit (i == t) ≡ bit (v == c t)
-          same i v w cv = elim (cases_eq i t) [
-            | inl d ↦ ap bit (eq-eqb i t d ∙ sym (eq-eqb v (c t) (sym cv ∙ ap c d)))
-            | inr d ↦ ap bit (ne_eqb i t d ∙ sym (ne_eqb v (c t) (λ e. d (is.apart i t w wt (cv ∙ e)))))
-          ]
+          same i v w cv = grind (arith, cases_eq i t, eq-eqb i t, eq-eqb v (c t), ne_eqb i t, ne_eqb v (c t))
 
           negs : (a b : Bool) → bit a ≡ bit b → bit (not a) ≡ bit (not b)
-          negs true true q = refl
-          negs false false q = refl
-          negs true false q = absurd (omega arith)
-          negs false true q = absurd (omega arith)
+          negs a b q = grind arith

@@ -1,14 +1,13 @@
 -- A blossom opened by mates: an edge is taken out, another is put in its place at the tip, and
 -- the cycle is paired round from there. Each change is one of a few edges, so the mates change at
 -- their ends alone.
-use Rattle.std.proofs.Common.{◌≡◌, ◌≢◌, ℕ, zero, suc, ◌+◌, ◌*◌, ◌≤◌, Bool, true, false, cond, ◌==◌, refl, sym, ap, ◌∙◌, arith, eq-eqb, ne_eqb, eqb-true, inl, inr, ◌⊎◌, not, ◌&&◌, ◌||◌, subst}
+use Rattle.std.proofs.Common.{◌≡◌, ◌≢◌, ℕ, zero, suc, ◌+◌, ◌≤◌, Bool, true, false, cond, ◌==◌, refl, sym, ap, ◌∙◌, arith, eq-eqb, ne_eqb, eqb-true, inl, inr, ◌⊎◌, not, ◌&&◌, subst}
 use Rattle.counting.proofs.Common.{cases_Bool, cases_eq, both_ways, and_parts, and_from, true≢false, count_put, some_true, true_some, Within, bit, count, Set, put, union}
 use Rattle.graph_core.proofs.Common.{degree_put, edge_at, ends_of_is, Graph, HasEnds, IsGraph, degree, size, IsMatching}
 use Rattle.match_search.specs.Common.{IsNearPerfect, HasMates, paired_round, with_mate, with_pair, IsOddCycle, every_other, listed, next, picked}
-use Rattle.match_search.proofs.AlternatingPaths.{put_off}
 use Rattle.match_search.proofs.Forests.{met, one_edge, turned}
 use Rattle.match_search.proofs.MatePairs.{with_here, with_there}
-use Rattle.match_search.proofs.OddCycles.{edges_apart, every_other-near_perfect, next_in, same_ends}
+use Rattle.match_search.proofs.OddCycles.{edges_apart, every_other-near_perfect, next_in}
 use Rattle.match_search.proofs.NearPerfectSets.{bit_union, count_split, degree_split}
 
 -- a pair less
@@ -17,45 +16,13 @@ module _ (g : Graph) (r m : Set) (mate : ℕ → ℕ) (has : HasMates g r m mate
   less = put m d false
 
   less_degree : (u : ℕ) → degree g less u + (bit (v == u) + bit (w == u)) ≡ degree g m u
-  less_degree u =
-      let a = degree_put g m d false u wd in
-      let b = ends_of_is g d v w ends u in
-      let c = ap bit md in
-      rest (degree g less u) (degree g m u) _ (bit (v == u) + bit (w == u)) (m d) a b md
-    where
-      rest : (x y n k : ℕ) (s : Bool) → x + bit s * n ≡ y + bit false * n → n ≡ k → s ≡ true → x + k ≡ y
-      rest x y n k true p q t = omega arith
-      rest x y n k false p q t = absurd (true≢false (sym t))
+  less_degree u = grind (arith, degree_put, ends_of_is, true≢false)
 
   pub less_count : count (size g) less + 1 ≡ count (size g) m
   less_count = let a = count_put (size g) m d false wd in let b = ap bit md in omega arith
 
   pub less_pairs : HasMates g r less (with_mate (with_mate mate v 0) w 0)
-  less_pairs = record {
-    matching = record {
-      once = λ u wu. let a = less_degree u in let b = has.matching.once u wu in omega arith;
-      away = λ u wu t. let a = less_degree u in let b = has.matching.away u wu t in omega arith;
-    };
-    exposed = λ u wu q. elim (cases_eq w u) [
-      | inl s ↦ let a = less_degree u in let b = ap bit (eq-eqb w u s) in let o = has.matching.once u wu in omega arith
-      | inr nw ↦ elim (cases_eq v u) [
-        | inl s ↦ let a = less_degree u in let b = ap bit (eq-eqb v u s) in let o = has.matching.once u wu in omega arith
-        | inr nv ↦ let a = less_degree u in let b = has.exposed u wu (sym (old u nv nw) ∙ q) in omega arith
-      ]
-    ];
-    paired = λ u wu q. elim (cases_eq w u) [
-      | inl s ↦ absurd (q (with_here (with_mate mate v 0) w 0 u (sym s)))
-      | inr nw ↦ elim (cases_eq v u) [
-        | inl s ↦ absurd (q (with_there (with_mate mate v 0) w 0 u (λ t. nw (sym t)) ∙ with_here mate v 0 u (sym s)))
-        | inr nv ↦
-            let e = has.paired u wu (λ z. q (old u nv nw ∙ z)) in
-            (e.0, e.1, put_off m d false e.0 (λ s. elim (same_ends g e.0 u (mate u) v w e.3 (subst (λ (x : ℕ). HasEnds g x v w) (sym s) ends)) [ inl t ↦ nv (sym t.0) | inr t ↦ nw (sym t.0) ]) ∙ e.2, subst (λ (x : ℕ). HasEnds g e.0 u x) (sym (old u nv nw)) e.3)
-      ]
-    ];
-  }
-    where
-      old : (u : ℕ) → v ≢ u → w ≢ u → with_mate (with_mate mate v 0) w 0 u ≡ mate u
-      old u nv nw = with_there (with_mate mate v 0) w 0 u (λ t. nw (sym t)) ∙ with_there mate v 0 u (λ t. nv (sym t))
+  less_pairs = grind (arith, less_degree, cases_eq w, eq-eqb w, cases_eq v, eq-eqb v, with_here (with_mate mate v 0) w 0, with_there (with_mate mate v 0) w 0, with_there mate v 0)
 
 -- the cycle paired round from place t
 module _ (g : Graph) (is : IsGraph g) (r : Set) (n : ℕ) (c e : ℕ → ℕ) (cyc : IsOddCycle g r n c e) (t : ℕ) (wt : Within n t) where
@@ -72,8 +39,7 @@ module _ (g : Graph) (is : IsGraph g) (r : Set) (n : ℕ) (c e : ℕ → ℕ) (c
   }
     where
       le : (b : Bool) → bit b ≤ 1
-      le true = omega arith
-      le false = omega arith
+      le b = grind arith
 
   et_holds : (i : ℕ) → Within n i → every_other t i ≡ true → et (e i) ≡ true
   et_holds i w q = true_some n (λ j. every_other t j && (e j == e i)) i w (and_from (every_other t i) (e i == e i) q (eq-eqb (e i) (e i) refl))
@@ -87,18 +53,10 @@ module _ (g : Graph) (is : IsGraph g) (r : Set) (n : ℕ) (c e : ℕ → ℕ) (c
   round_keeps mate (suc k) u l z = go (every_other t (suc k)) refl (round_keeps mate k u (omega arith) z)
     where
       go : (b : Bool) → every_other t (suc k) ≡ b → paired_round mate n c t k u ≡ mate u → cond b (with_pair (paired_round mate n c t k) (c (suc k)) (c (next n (suc k))) u) (paired_round mate n c t k u) ≡ mate u
-      go false q rest = rest
-      go true q rest =
-          let m = et_met (suc k) (omega arith) q in
-          with_there (with_mate (paired_round mate n c t k) (c (suc k)) (c (next n (suc k)))) (c (next n (suc k))) (c (suc k)) u (λ s. let a = ap (degree g et) s in let b = m.1 in absurd (omega arith))
-          ∙ with_there (paired_round mate n c t k) (c (suc k)) (c (next n (suc k))) u (λ s. let a = ap (degree g et) s in let b = m.0 in absurd (omega arith))
-          ∙ rest
+      go b q rest = grind (arith, et_met (suc k), with_there)
 
   next_other : (i : ℕ) → Within n i → c i ≢ c (next n i)
-  next_other i w q = let s = cyc.apart i (next n i) w (next_in n i w) q in let three = cyc.three in elim (cases_eq i n) [
-    | inl z ↦ let a = ap (λ b. cond b 1 (suc i)) (eq-eqb i n z) in absurd (omega arith)
-    | inr z ↦ let a = ap (λ b. cond b 1 (suc i)) (ne_eqb i n z) in absurd (omega arith)
-  ]
+  next_other i w q = grind arith
 
   -- two of these edges have no common end
   apart : (i j x y z : ℕ) → Within n i → Within n j → every_other t i ≡ true → every_other t j ≡ true → i ≢ j → Within g.order x → HasEnds g (e i) x y → HasEnds g (e j) x z → ⊥
@@ -108,21 +66,12 @@ module _ (g : Graph) (is : IsGraph g) (r : Set) (n : ℕ) (c e : ℕ → ℕ) (c
   pub round_pairs : (mate : ℕ → ℕ) (k i : ℕ) → k ≤ n → Within k i → every_other t i ≡ true → (paired_round mate n c t k (c i) ≡ c (next n i)) × (paired_round mate n c t k (c (next n i)) ≡ c i)
   round_pairs mate zero i l w q = absurd (omega arith)
   round_pairs mate (suc k) i l w q = elim (cases_eq i (suc k)) [
-    | inl s ↦ here i s q
+    | inl s ↦ grind (arith, with_there, next_other, with_here)
     | inr s ↦ let old = round_pairs mate k i (omega arith) (below i w s) q in (there (c i) (c (next n i)) i (omega arith) q s (cyc.within i (omega arith)) (cyc.ends i (omega arith)) ∙ old.0, there (c (next n i)) (c i) i (omega arith) q s (cyc.within (next n i) (next_in n i (omega arith))) (turned g (e i) (c i) (c (next n i)) (cyc.ends i (omega arith))) ∙ old.1)
   ]
     where
       below : (i : ℕ) → Within (suc k) i → i ≢ suc k → Within k i
       below i w s = omega arith
-
-      here : (i : ℕ) → i ≡ suc k → every_other t i ≡ true → (paired_round mate n c t (suc k) (c i) ≡ c (next n i)) × (paired_round mate n c t (suc k) (c (next n i)) ≡ c i)
-      here i s q = subst (λ (x : ℕ). (paired_round mate n c t (suc k) (c x) ≡ c (next n x)) × (paired_round mate n c t (suc k) (c (next n x)) ≡ c x)) (sym s) (
-        at (c (suc k)) ∙ with_there (with_mate (paired_round mate n c t k) (c (suc k)) (c (next n (suc k)))) (c (next n (suc k))) (c (suc k)) (c (suc k)) (next_other (suc k) (omega arith)) ∙ with_here (paired_round mate n c t k) (c (suc k)) (c (next n (suc k))) (c (suc k)) refl,
-        at (c (next n (suc k))) ∙ with_here (with_mate (paired_round mate n c t k) (c (suc k)) (c (next n (suc k)))) (c (next n (suc k))) (c (suc k)) (c (next n (suc k))) refl,
-      )
-        where
-          at : (u : ℕ) → paired_round mate n c t (suc k) u ≡ with_pair (paired_round mate n c t k) (c (suc k)) (c (next n (suc k))) u
-          at u = ap (λ (b : Bool). cond b (with_pair (paired_round mate n c t k) (c (suc k)) (c (next n (suc k))) u) (paired_round mate n c t k u)) (ap (every_other t) (sym s) ∙ q)
 
       there : (u v i : ℕ) → Within n i → every_other t i ≡ true → i ≢ suc k → Within g.order u → HasEnds g (e i) u v → paired_round mate n c t (suc k) u ≡ paired_round mate n c t k u
       there u v j w_j q_j s wu ends = go (every_other t (suc k)) refl
@@ -159,13 +108,7 @@ module _ (g : Graph) (is : IsGraph g) (r : Set) (n : ℕ) (c e : ℕ → ℕ) (c
         off (c s.0) (cyc.within s.0 s.1) z in_et in_m
       where
         off : (v : ℕ) → Within g.order v → degree g et v ≡ bit (listed n c v && not (v == c t)) → 1 ≤ degree g et v → 1 ≤ degree g m v → ⊥
-        off v wv z a b = elim (cases_Bool (listed n c v)) [
-          | inl l ↦ elim (cases_eq v (c t)) [
-            | inl s ↦ let x = z ∙ ap (λ y. bit (listed n c v && not y)) (eq-eqb v (c t) s) ∙ ap (λ y. bit (y && false)) l in absurd (omega arith)
-            | inr s ↦ let x = missed v wv l s in absurd (omega arith)
-          ]
-          | inr l ↦ let x = z ∙ ap (λ y. bit (y && not (v == c t))) l in absurd (omega arith)
-        ]
+        off v wv z a b = grind arith
 
     full_degree : (v : ℕ) → degree g full v ≡ degree g m v + degree g et v
     full_degree v = degree_split g full m et v (λ i w. bit_union (m i) (et i) (apart_sets i w))
@@ -194,10 +137,7 @@ module _ (g : Graph) (is : IsGraph g) (r : Set) (n : ℕ) (c e : ℕ → ℕ) (c
         | inr z ↦ let p = partner v w z.0 in absurd (let a = p.2 ∙ q in let b = p.1 in omega arith)
       ];
       paired = λ v w q. elim (one_misses v w) [
-        | inl z ↦
-            let same = round_keeps mate n v (omega arith) z in
-            let d = has.paired v w (λ y. q (same ∙ y)) in
-            (d.0, d.1, ap (λ b. b || et d.0) d.2, subst (λ (x : ℕ). HasEnds g d.0 v x) (sym same) d.3)
+        | inl z ↦ grind (arith, round_keeps mate n v)
         | inr z ↦ let p = partner v w z.0 in let d = p.3 in (d.0, d.1, in_full d.0 d.2, subst (λ (x : ℕ). HasEnds g d.0 v x) p.2 d.3)
       ];
     }
@@ -207,14 +147,4 @@ module _ (g : Graph) (is : IsGraph g) (r : Set) (n : ℕ) (c e : ℕ → ℕ) (c
 
         -- the other end of the edge of the cycle at v
         partner : (v : ℕ) → Within g.order v → degree g et v ≡ 1 → (u : ℕ) × (1 ≤ u) × (u ≡ paired_round mate n c t n v) × ((d : ℕ) × Within (size g) d × (et d ≡ true) × HasEnds g d v u)
-        partner v w z =
-            let x = edge_at g et v (omega arith) in
-            let s = some_true n (λ j. every_other t j && (e j == x.0)) x.2 in
-            let p = and_parts (every_other t s.0) (e s.0 == x.0) s.2 in
-            let q = eqb-true (e s.0) x.0 p.1 in
-            let ends = subst (λ (y : ℕ). HasEnds g y (c s.0) (c (next n s.0))) q (cyc.ends s.0 s.1) in
-            let pairs = round_pairs mate n s.0 (omega arith) s.1 p.0 in
-            elim (same_ends g x.0 v x.3.0 (c s.0) (c (next n s.0)) x.3.1 ends) [
-              | inl y ↦ (c (next n s.0), (cyc.within (next n s.0) (next_in n s.0 s.1)).0, sym (ap (paired_round mate n c t n) y.0 ∙ pairs.0), (x.0, x.1, x.2, subst (λ (b : ℕ). HasEnds g x.0 v b) y.1 x.3.1))
-              | inr y ↦ (c s.0, (cyc.within s.0 s.1).0, sym (ap (paired_round mate n c t n) y.0 ∙ pairs.1), (x.0, x.1, x.2, subst (λ (b : ℕ). HasEnds g x.0 v b) y.1 x.3.1))
-            ]
+        partner v w z = grind (arith, edge_at g et v, some_true n, and_parts, eqb-true, round_pairs mate n)

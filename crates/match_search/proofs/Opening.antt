@@ -1,7 +1,7 @@
 -- The opening of a blossom after its shrinking, in the words of what its caller knows. Where the
 -- base is free, the cycle is paired round from it; else the mate of the base is near a vertex of
 -- the cycle, its tip.
-use Rattle.std.proofs.Common.{◌≡◌, ◌≢◌, ℕ, suc, ◌≤◌, ◌∙◌, true, arith, length, List, get_or}
+use Rattle.std.proofs.Common.{◌≡◌, ◌≢◌, ℕ, suc, ◌≤◌, true, arith, length, List, get_or}
 use Rattle.counting.proofs.Common.{get_or_default_zero, Within, Set, mem}
 use Rattle.graph_core.proofs.Common.{Graph}
 use Rattle.match_search.specs.Common.{IsCompleted, MayOpen, blossom_length, Touches, paired_round, with_mate, with_pair, numbers}
@@ -20,11 +20,7 @@ pub record IsSmallCycle (g : Graph) (mate : List ℕ) (b : Blossom) (base : ℕ)
 
 module _ (g : Graph) (r f m n : Set) (s : Instance) (mate : List ℕ) (b : Blossom) (is : MayOpen g r f m n s mate b) where
   pub small_cycle : (base : ℕ) → base ≡ get_or b.cycle.items 1 base → IsSmallCycle g mate b base
-  small_cycle base read =
-      let three = is.opened.cycle.three in
-      let few = is.instance_is.few in
-      let short = blossom_short g is.instance_is.graph r f m (blossom_length b) (numbers b.cycle.items) is.edge is.opened in
-      record { three = three; short = omega arith; few = few; long = is.long; base_is = read ∙ get_or_default_zero b.cycle.items 1 base (omega arith) }
+  small_cycle base read = grind (arith, blossom_short g is.instance_is.graph r f m (blossom_length b) (numbers b.cycle.items) is.edge is.opened, get_or_default_zero b.cycle.items 1 base)
 
   -- where the base is free
   pub opened_base : numbers mate (numbers b.cycle.items 1) ≡ 0 → (new : List ℕ) → ((v : ℕ) → numbers new v ≡ paired_round (numbers mate) (blossom_length b) (numbers b.cycle.items) 1 (blossom_length b) v) → IsCompleted g r f m n new

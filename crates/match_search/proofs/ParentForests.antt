@@ -1,7 +1,7 @@
 -- Forests by parents: the first one, one more branch, and the last one as a frame. The path of a
 -- new outer vertex is that of its grandparent, and on by its mate; all other paths stay.
-use Rattle.std.proofs.Common.{◌≡◌, ◌≢◌, ℕ, suc, ◌+◌, Bool, true, false, cond, ◌==◌, refl, sym, ap, ◌∙◌, arith, eq-eqb, eqb-true, ne_eqb, inl, inr, not, ◌&&◌, ◌||◌, nat_lt, nat_le, length, List, leb-true}
-use Rattle.counting.proofs.Common.{cases_Bool, cases_eq, both_ways, and_from, and_parts, false_from_ne_true, Within, count, Set, none, mem}
+use Rattle.std.proofs.Common.{◌≡◌, ◌≢◌, ℕ, suc, ◌+◌, Bool, true, false, cond, ◌==◌, refl, sym, ap, ◌∙◌, arith, eq-eqb, ne_eqb, inl, inr, ◌&&◌, ◌||◌, nat_lt, nat_le, length, List, leb-true}
+use Rattle.counting.proofs.Common.{cases_eq, both_ways, and_parts, Within, count, Set, none, mem}
 use Rattle.graph_core.proofs.Common.{Graph, HasEnds, IsGraph, degree, size}
 use Rattle.match_search.specs.Common.{IsForest, Frame, Touches, HoldsMatching, HoldsAlternating, HasBranched, GoesUp, IsDone, numbers}
 use Rattle.match_search.specs.declared.instance.Instance.{Instance}
@@ -13,16 +13,6 @@ use Rattle.match_search.proofs.ForestSteps.{grown, more_e, more_inner, more_k, m
 use Rattle.match_search.proofs.Instances.{left_from, left_parts, near_edge}
 use Rattle.match_search.proofs.LongerPaths.{end_within, longer, longer_below, longer_at}
 use Rattle.match_search.proofs.MatePairs.{mate_back, with_here, with_there}
-
--- a set of those of the vertices that are left that have no mate
-pub exposed_is_both : (left mate exposed : List ℕ) → ((v : ℕ) → mem exposed v ≡ true → (mem left v ≡ true) × (numbers mate v ≡ 0)) → ((v : ℕ) → mem left v ≡ true → numbers mate v ≡ 0 → mem exposed v ≡ true) →
-    (v : ℕ) → mem exposed v ≡ (mem left v && (numbers mate v == 0))
-exposed_is_both left mate exposed from into v = elim (cases_Bool (mem exposed v)) [
-  | inl t ↦ let f = from v t in t ∙ sym (and_from (mem left v) (numbers mate v == 0) f.0 (eq-eqb (numbers mate v) 0 f.1))
-  | inr t ↦ t ∙ sym (false_from_ne_true (mem left v && (numbers mate v == 0)) (λ q.
-      let a = and_parts (mem left v) (numbers mate v == 0) q in
-      both_ways (mem exposed v) t (into v a.0 (eqb-true (numbers mate v) 0 a.1))))
-]
 
 module _ (g : Graph) (r f : Set) (s : Instance) (mate : List ℕ) (is : HoldsMatching g r f s mate) where
   -- each exposed vertex a root
@@ -46,12 +36,10 @@ module _ (g : Graph) (r f : Set) (s : Instance) (mate : List ℕ) (is : HoldsMat
       ]
 
       go : (a b x y : Bool) → (a ≡ true → x ≡ y) → ((a && b) && x) ≡ (a && (b && y))
-      go false b x y h = refl
-      go true b x y h = ap (λ z. b && z) (h refl)
+      go a b x y h = grind arith
 
       same : (u : ℕ) → (mem s.left u && (numbers mate u == 0)) ≡ first_outer g is.instance_is.graph r f is.mates.matching u
-      same u = ap (λ z. z && (numbers mate u == 0)) (is.instance_is.left u) ∙
-          go (nat_lt 0 u && nat_le u g.order) (not (r u)) (numbers mate u == 0) (degree g f u == 0) (λ t. let b = and_parts (nat_lt 0 u) (nat_le u g.order) t in let x = Rattle.std.proofs.Common.ltb-true 0 u b.0 in let y = leb-true u g.order b.1 in exposed_is u (omega arith, omega arith))
+      same u = grind (arith, go, nat_lt, nat_le, and_parts, leb-true, exposed_is)
 
   module _ (t : AlternatingForest) (holds : HoldsAlternating g r f mate t) where
     -- where no edge leaves the forest, it is a frame
@@ -145,13 +133,8 @@ module _ (g : Graph) (r f : Set) (s : Instance) (mate : List ℕ) (is : HoldsMat
             wu : Within g.order u
             wu = (holds.forest.outer_in u o).0
 
-            real : numbers mate u ≢ 0
-            real q =
-                let w = (holds.forest.path u o).path.within (suc (numbers t.pairs.items p + numbers t.pairs.items p)) (let k = go.pairs in omega arith) in
-                let i = go.inner in absurd (omega arith)
-
             back : numbers mate (numbers mate u) ≡ u
-            back = (mate_back g is_graph r f (numbers mate) is.mates u wu real).1
+            back = (mate_back g is_graph r f (numbers mate) is.mates u wu (grind arith)).1
 
         pub branch_holds : HoldsAlternating g r f mate h
         branch_holds = record {

@@ -1,7 +1,7 @@
 -- The blossom that two paths of a forest close. Two paths that meet are one up to the base, and
 -- the vertices on one of them alone are the others of the blossom.
 use Rattle.std.proofs.Common.{◌≡◌, ◌≢◌, ◌↔◌, ℕ, suc, ◌+◌, ◌-◌, ◌≤◌, ◌<◌, Bool, true, false, cond, refl, sym, ap, ◌∙◌, arith, inl, inr, ◌⊎◌, not, ◌&&◌, ◌||◌, ◌==◌, subst, eq-eqb, eqb-true, List}
-use Rattle.counting.proofs.Common.{and_from, both_ways, cases_Bool, cases_eq, cases_lt, false_from_ne_true, half, odd-double, only_one, or_cases, or_left, or_right, some_true, true_some, true≢false, Within, is_odd, Set, mem, minus}
+use Rattle.counting.proofs.Common.{and_from, both_ways, cases_Bool, cases_eq, cases_lt, false_from_ne_true, half, only_one, or_cases, or_left, or_right, some_true, true_some, Within, is_odd, Set, mem, minus}
 use Rattle.graph_core.proofs.Common.{Graph, HasEnds, degree, missed_count}
 use Rattle.match_search.specs.Common.{HoldsAlternating, ClosesForest, GoesOver, HoldsFlower, IsLastIn, OnPath, IsAlternating, flipped, cleared_mates, flipped_mates, flipped_over, every_other, listed, picked, numbers, IsOpened}
 use Rattle.match_search.specs.declared.alternating.AlternatingForest.{AlternatingForest}
@@ -110,7 +110,7 @@ module _ (g : Graph) (r f : Set) (mate : List ℕ) (t : AlternatingForest) (o : 
         let z = c.1 in
         let s_in : s < k + k = omega arith in
         let odd_u : is_odd u ≡ true = sym (q_sides u d) ∙ ap (mem t.inner) (sym e) ∙ p_sides s hi ∙ odd in
-        let u_in : u < l + l = below u (l + l) d (λ x. both_ways (is_odd u) (ap is_odd x ∙ odd-double l) odd_u) in
+        let u_in : u < l + l = grind arith in
         let e1 = pp.path.ends s s_in in
         let e2 = subst (λ z. HasEnds g (b u) z (q (suc u))) (sym e) (qq.path.ends u u_in) in
         let same = one_edge g r f closes.mates.matching (a s) (b u) (p s) (p (suc s)) (q (suc u)) (pp.path.within s hi) (pp.path.real s s_in) (qq.path.real u u_in) (pp.turns s s_in ∙ odd) (qq.turns u u_in ∙ odd_u) e1 e2 in
@@ -119,9 +119,6 @@ module _ (g : Graph) (r f : Set) (mate : List ℕ) (t : AlternatingForest) (o : 
           | inr x ↦ let y = pp.path.apart (suc s) s (omega arith) hi x.1 in absurd (omega arith)
         ]
   ]
-    where
-      below : (x y : ℕ) → x ≤ y → x ≢ y → x < y
-      below x y l n = omega arith
 
   abbrev d : ℕ
   d = closes.edge.0
@@ -180,25 +177,17 @@ module _ (g : Graph) (r f : Set) (mate : List ℕ) (t : AlternatingForest) (o : 
   first_place = (omega arith, omega arith)
 
   round_base : round 1 ≡ base
-  round_base = round_low 0 (omega arith) ∙ ap q (plus_zero i) ∙ q_base
-    where
-      plus_zero : (j : ℕ) → j + 0 ≡ j
-      plus_zero j = omega arith
+  round_base = grind (arith, round_low 0, q_base)
 
   -- a vertex of the cycle is on one of the paths alone, or the base
   abbrev alone : Bool → Bool → Bool
   alone s u = (s || u) && not (s && u)
 
   alone_parts : (s u : Bool) → alone s u ≡ true → ((s ≡ true) × (u ≡ false)) ⊎ ((u ≡ true) × (s ≡ false))
-  alone_parts true true z = absurd (true≢false (sym z))
-  alone_parts true false z = inl (refl, refl)
-  alone_parts false true z = inr (refl, refl)
-  alone_parts false false z = absurd (true≢false (sym z))
+  alone_parts s u z = grind arith
 
   same_bool : (s u : Bool) → (s ≡ true → u ≡ true) → (u ≡ true → s ≡ true) → s ≡ u
-  same_bool true u there back = sym (there refl)
-  same_bool false true there back = back refl
-  same_bool false false there back = refl
+  same_bool s u there back = grind arith
 
   module _ (members : List ℕ) (members_are : (v : ℕ) → mem members v ≡ (alone (mem first v) (mem second v) || base == v)) where
     into : (v : ℕ) → mem members v ≡ true → listed n round v ≡ true
@@ -210,7 +199,7 @@ module _ (g : Graph) (r f : Set) (mate : List ℕ) (t : AlternatingForest) (o : 
             let in_l = w.1 in
             elim (cases_lt w.0 i) [
               | inl s ↦ absurd (both_ways (mem second v) c.1 ((second_is v).1 (w.0, (let fits = li in omega arith), shared w.0 (omega arith) ∙ w.2)))
-              | inr s ↦ true_some n (λ s. round s == v) (suc (w.0 - i)) (omega arith, omega arith) (eq-eqb (round (suc (w.0 - i))) v (round_low (w.0 - i) (omega arith) ∙ ap q (back w.0 i s) ∙ w.2))
+              | inr s ↦ true_some n (λ s. round s == v) (suc (w.0 - i)) (omega arith, omega arith) (eq-eqb (round (suc (w.0 - i))) v (round_low (w.0 - i) (omega arith) ∙ ap q (omega arith) ∙ w.2))
             ]
         | inr c ↦
             let w = (second_is v).0 c.0 in
@@ -221,9 +210,6 @@ module _ (g : Graph) (r f : Set) (mate : List ℕ) (t : AlternatingForest) (o : 
             ]
       ]
     ]
-      where
-        back : (t i : ℕ) → i ≤ t → i + (t - i) ≡ t
-        back t i s = omega arith
 
     from : (v : ℕ) → listed n round v ≡ true → mem members v ≡ true
     from v z =

@@ -1,5 +1,5 @@
 -- One step of the path up from an outer vertex: over its mate to its grandparent.
-use Rattle.std.proofs.Common.{◌≡◌, ◌≢◌, ℕ, suc, ◌+◌, ◌≤◌, ◌<◌, true, sym, ap, ◌∙◌, arith, inl, inr, subst, List, get_or}
+use Rattle.std.proofs.Common.{◌≡◌, ◌≢◌, ℕ, suc, ◌+◌, ◌≤◌, ◌<◌, true, sym, ap, ◌∙◌, arith, inl, inr, subst, List, get_or, rules}
 use Rattle.counting.proofs.Common.{get_or_default_zero, cases_eq, Within, Set, mem}
 use Rattle.graph_core.proofs.Common.{Graph}
 use Rattle.match_search.specs.Common.{HoldsAlternating, with_mate, numbers}
@@ -26,9 +26,7 @@ module _ (g : Graph) (r f : Set) (mate : List ℕ) (t : AlternatingForest) (h : 
       (sym p.1.parent) (p.1.outer, p.1.pairs, p.1.inner, p.1.before)
 
   pub up_within : Within g.order (numbers mate u)
-  up_within =
-      let p = up_parts in
-      subst (λ (x : ℕ). Within g.order x) p.2 ((h.forest.path u o).path.within (suc (numbers t.pairs.items grandparent + numbers t.pairs.items grandparent)) (let k = p.1 in omega arith))
+  up_within = search (rules, up_parts)
 
   -- the row with the last two vertices of the path of u, which are those of the path of x, told
   -- from place 2 k on
@@ -45,18 +43,9 @@ module _ (g : Graph) (r f : Set) (mate : List ℕ) (t : AlternatingForest) (h : 
       | inl z ↦
           let s : j ≡ numbers t.pairs.items u + numbers t.pairs.items u = omega arith in
           is (start + j) ∙ with_there (with_mate (numbers row) (suc place) u) place (numbers mate u) (start + j) q ∙ with_here (numbers row) (suc place) u (start + j) z ∙ sym (h.forest.last u o) ∙ ap (h.v u) (sym s) ∙ above j (omega arith)
-      | inr z ↦
-          let p = up_parts in
-          let k = p.1 in
-          is (start + j) ∙ with_there (with_mate (numbers row) (suc place) u) place (numbers mate u) (start + j) q ∙ with_there (numbers row) (suc place) u (start + j) z ∙ old j (over (start) j place (numbers t.pairs.items u) (numbers t.pairs.items grandparent) at k lo q z) hi
+      | inr z ↦ grind (arith, up_parts, with_there (with_mate (numbers row) (suc place) u) place (numbers mate u) (start + j) q, with_there (numbers row) (suc place) u (start + j) z)
     ]
   ]
     where
       over : (a j place k l : ℕ) → suc place ≡ a + (k + k) → k ≡ suc l → l + l < j → a + j ≢ place → a + j ≢ suc place → k + k < j
-      over a j place k l s e lo q z = elim (Rattle.std.proofs.lemmas.Bool.cases_order j (k + k)) [
-        | inl y ↦ absurd (z (omega arith))
-        | inr y ↦ elim y [
-          | inl y ↦ absurd (q (omega arith))
-          | inr y ↦ y
-        ]
-      ]
+      over a j place k l s e lo q z = grind arith

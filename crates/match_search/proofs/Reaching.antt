@@ -1,7 +1,7 @@
 -- What the neighbours of an outer vertex that are left and not inner tell, and that a branch more
 -- is a step nearer to the end.
-use Rattle.std.proofs.Common.{◌≡◌, ◌≢◌, ℕ, suc, ◌+◌, ◌-◌, ◌*◌, ◌≤◌, ◌<◌, true, false, ◌==◌, sym, ap, ◌∙◌, arith, eq-eqb, ne_eqb, inl, inr, not, ◌&&◌, ◌||◌, List, []}
-use Rattle.counting.proofs.Common.{cases_Bool, both_ways, and_parts, and_from, not-true, false_from_ne_true, count_le, Within, count, Set, mem}
+use Rattle.std.proofs.Common.{◌≡◌, ◌≢◌, ℕ, suc, ◌+◌, ◌-◌, ◌*◌, ◌≤◌, ◌<◌, true, false, ◌==◌, ap, ◌∙◌, arith, not, ◌&&◌, ◌||◌, List, []}
+use Rattle.counting.proofs.Common.{both_ways, and_from, false_from_ne_true, count_le, Within, count, Set, mem}
 use Rattle.graph_core.proofs.Common.{count_gained, count_lost, Graph}
 use Rattle.match_search.specs.Common.{HoldsAlternating, IsDone, HasBranched, AreNear, Touches, numbers}
 use Rattle.match_search.specs.declared.instance.Instance.{Instance}
@@ -11,18 +11,11 @@ use Rattle.match_search.proofs.SymmetricDifference.{path_short}
 module _ (s : Instance) (t : AlternatingForest) (x : ℕ) (met near reach : List ℕ) (met_is : AreNear s x met) (near_is : (v : ℕ) → mem near v ≡ (mem met v && not (x == v)))
     (reach_is : (v : ℕ) → mem reach v ≡ (mem near v && not (mem t.inner v))) where
   pub reach_parts : (y : ℕ) → mem reach y ≡ true → Touches s x y × (mem s.left y ≡ true) × (x ≢ y) × (mem t.inner y ≡ false)
-  reach_parts y h =
-      let a = and_parts (mem near y) (not (mem t.inner y)) (sym (reach_is y) ∙ h) in
-      let b = and_parts (mem met y) (not (x == y)) (sym (near_is y) ∙ a.0) in
-      let c = (met_is y).0 b.0 in
-      (c.1, c.0, (λ q. both_ways (not (x == y)) (ap not (eq-eqb x y q)) b.1), not-true (mem t.inner y) a.1)
+  reach_parts y h = grind arith
 
   -- where nothing is reached, the vertex is done
   pub none_reached : reach ≡ [] → IsDone s t x
-  none_reached e y n l d = elim (cases_Bool (mem t.inner y)) [
-    | inl i ↦ i
-    | inr i ↦ absurd (both_ways (mem reach y) (ap (λ (r : List ℕ). mem r y) e) (reach_is y ∙ and_from (mem near y) (not (mem t.inner y)) (near_is y ∙ and_from (mem met y) (not (x == y)) ((met_is y).1 (l, n)) (ap not (ne_eqb x y d))) (ap not i)))
-  ]
+  none_reached e y n l d = grind arith
 
 -- a vertex that is done stays done when more vertices are inner
 pub done_stays : (s : Instance) (t h : AlternatingForest) (y z x w : ℕ) → HasBranched t h x y z → IsDone s t w → IsDone s h w
@@ -34,10 +27,7 @@ pairs_few g r f mate t holds u o = path_short g r (numbers t.pairs.items u) (hol
 
 pub branch_less : (n : ℕ) (inner inner' opens opens' : Set) (y z : ℕ) → Within n y → Within n z → inner y ≡ false → opens z ≡ false → ((v : ℕ) → inner' v ≡ (inner v || (y == v))) → ((v : ℕ) → opens' v ≡ (opens v || (z == v))) →
     2 * (n - count n inner') + count n opens' < 2 * (n - count n inner) + count n opens
-branch_less n inner inner' opens opens' y z wy wz iy oz hi ho =
-    let a = count_gained n inner inner' y wy iy hi in
-    let b = count_gained n opens opens' z wz oz ho in
-    let c = count_le n inner' in omega arith
+branch_less n inner inner' opens opens' y z wy wz iy oz hi ho = grind (arith, count_gained n inner inner' y wy iy hi, count_gained n opens opens' z wz oz ho, count_le n inner')
 
 pub drop_less : (n k : ℕ) (opens opens' : Set) (x : ℕ) → Within n x → opens x ≡ true → ((v : ℕ) → opens' v ≡ (opens v && not (x == v))) → k + count n opens' < k + count n opens
 drop_less n k opens opens' x w o h = let a = count_lost n opens opens' x w o h in omega arith

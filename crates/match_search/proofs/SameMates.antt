@@ -1,5 +1,5 @@
 -- Two matchings with the same mates have the same degrees, so they have as many edges.
-use Rattle.std.proofs.Common.{◌≡◌, ℕ, ◌+◌, ◌*◌, ◌==◌, Bool, true, false, refl, sym, ap, ◌∙◌, arith, inl, inr, not, ◌&&◌, eq-eqb, ne_eqb}
+use Rattle.std.proofs.Common.{◌≡◌, ℕ, ◌+◌, ◌*◌, ◌==◌, sym, ap, ◌∙◌, arith, inl, inr, not, ◌&&◌, eq-eqb, ne_eqb}
 use Rattle.counting.proofs.Common.{cases_eq, total_congr, Within, bit, count, Set, complement}
 use Rattle.graph_core.proofs.Common.{missed_edges, Graph, IsGraph, degree, size, missed_count}
 use Rattle.match_search.specs.Common.{HasMates}
@@ -14,15 +14,11 @@ mates_degree g r m mate has v w = elim (cases_eq (mate v) 0) [
 
 pub same_mates_missed : (g : Graph) (r m n : Set) (mate : ℕ → ℕ) → HasMates g r m mate → HasMates g r n mate → missed_count g r m ≡ missed_count g r n
 unfolding missed_count
-same_mates_missed g r m n mate hm hn = total_congr g.order (λ v. bit (not (r v) && (degree g m v == 0))) (λ v. bit (not (r v) && (degree g n v == 0)))
-    (λ v w. ap (λ k. bit (not (r v) && (k == 0))) (mates_degree g r m mate hm v w ∙ sym (mates_degree g r n mate hn v w)))
+same_mates_missed g r m n mate hm hn = grind (arith, total_congr g.order, mates_degree g r m mate hm, mates_degree g r n mate hn)
 
 -- matchings with the same mates have as many edges
 pub same_mates_count : (g : Graph) → IsGraph g → (r m n : Set) (mate : ℕ → ℕ) → HasMates g r m mate → HasMates g r n mate → count (size g) m ≡ count (size g) n
-same_mates_count g is r m n mate hm hn =
-    let a = missed_edges g r m is hm.matching in
-    let b = missed_edges g r n is hn.matching in
-    let c = same_mates_missed g r m n mate hm hn in omega arith
+same_mates_count g is r m n mate hm hn = grind (arith, missed_edges g r m is hm.matching, missed_edges g r n is hn.matching, same_mates_missed g r m n mate hm hn)
 
 -- the exposed vertices outside r, by their mates, and twice the edges of the matching are the
 -- vertices outside r
@@ -30,9 +26,5 @@ pub exposed_mates : (g : Graph) → IsGraph g → (r m : Set) (mate : ℕ → �
 unfolding missed_count
 exposed_mates g is r m mate has =
     ap (λ k. k + 2 * count (size g) m) (total_congr g.order (λ v. bit (not (r v) && (mate v == 0))) (λ v. bit (not (r v) && (degree g m v == 0)))
-    (λ v w. ap (λ b. bit (not (r v) && b)) (sym (ap (λ d. d == 0) (mates_degree g r m mate has v w) ∙ zero_test (mate v == 0)))))
+    (λ v w. ap (λ b. bit (not (r v) && b)) (sym (ap (λ d. d == 0) (mates_degree g r m mate has v w) ∙ (grind arith)))))
     ∙ missed_edges g r m is has.matching
-  where
-    zero_test : (b : Bool) → (bit (not b) == 0) ≡ b
-    zero_test true = refl
-    zero_test false = refl

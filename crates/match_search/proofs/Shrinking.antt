@@ -1,7 +1,7 @@
 -- A set C is shrunk to one vertex z of it. What are the degrees in the shrunk graph? Outside C
 -- they stay, those in C sum to the degree of z, and a vertex of C but z has none.
-use Rattle.std.proofs.Common.{◌≡◌, ℕ, ◌+◌, ◌*◌, ◌≤◌, ◌<◌, ◌≢◌, Bool, true, false, cond, ◌==◌, refl, sym, ap, ap₂, ◌∙◌, arith, ◌&&◌, ◌||◌, not, eq-eqb, ne_eqb, inl, inr, List, mul-add, subst}
-use Rattle.counting.proofs.Common.{cases_eq, cases_order, both_ways, count_congr, at_le_total, some_term, total_add, total_congr, total_none, two_le_total, and_false, Within, bit, count, total, Set}
+use Rattle.std.proofs.Common.{◌≡◌, ℕ, ◌+◌, ◌*◌, ◌≤◌, ◌<◌, ◌≢◌, Bool, true, false, ◌==◌, sym, ap, ap₂, ◌∙◌, arith, ◌&&◌, inl, inr, List, mul-add}
+use Rattle.counting.proofs.Common.{cases_eq, cases_order, count_congr, at_le_total, some_term, total_add, total_congr, total_none, two_le_total, and_false, Within, bit, count, total, Set}
 use Rattle.graph_core.proofs.Common.{ends_in, Graph, IsGraph, degree, first_end, second_end, size, with_ends}
 use Rattle.match_search.specs.Common.{IsShrunk, shrunk_vertex, shrunk_removed}
 
@@ -15,42 +15,20 @@ module _ (g : Graph) (is : IsGraph g) (r c : Set) (z : ℕ) (es : List (ℕ × �
   pub in_g : (e : ℕ) → Within (size h) e → Within (size g) e
   in_g e w = let k = pulls.same in omega arith
 
-  pull_within : (a : ℕ) → Within g.order a → Within g.order (shrunk_vertex c z a)
-  pull_within a w = go (c a)
-    where
-      go : (b : Bool) → Within g.order (cond b z a)
-      go true = wz
-      go false = w
-
   pub shrunk_graph : IsGraph h
-  shrunk_graph e w = let u = in_g e w in (
-    subst (λ k. Within g.order k) (sym (pulls.first_ends e u)) (pull_within (first_end g e) (is e u).0),
-    subst (λ k. Within g.order k) (sym (pulls.second_ends e u)) (pull_within (second_end g e) (is e u).1),
-  )
+  shrunk_graph e w = grind arith
 
   pub over : (p q : ℕ → Bool) → ((e : ℕ) → Within (size g) e → p e ≡ q e) → count (size h) p ≡ count (size g) q
   over p q k = ap (λ n. count n p) pulls.same ∙ count_congr (size g) p q k
 
   pull_out : (a v : ℕ) → c v ≡ false → (shrunk_vertex c z a == v) ≡ (a == v)
-  pull_out a v cv = go (c a) refl
-    where
-      go : (b : Bool) → c a ≡ b → (cond b z a == v) ≡ (a == v)
-      go true q = ne_eqb z v (λ e. both_ways (c v) cv (ap c (sym e) ∙ cz)) ∙ sym (ne_eqb a v (λ e. both_ways (c v) cv (ap c (sym e) ∙ q)))
-      go false q = refl
+  pull_out a v cv = grind arith
 
   pull_in : (a v : ℕ) → c v ≡ true → v ≢ z → (shrunk_vertex c z a == v) ≡ false
-  pull_in a v cv d = go (c a) refl
-    where
-      go : (b : Bool) → c a ≡ b → (cond b z a == v) ≡ false
-      go true q = ne_eqb z v (λ e. d (sym e))
-      go false q = ne_eqb a v (λ e. both_ways (c a) q (ap c e ∙ cv))
+  pull_in a v cv d = grind arith
 
   pull_z : (a : ℕ) → (shrunk_vertex c z a == z) ≡ c a
-  pull_z a = go (c a) refl
-    where
-      go : (b : Bool) → c a ≡ b → (cond b z a == z) ≡ b
-      go true q = eq-eqb z z refl
-      go false q = ne_eqb a z (λ e. both_ways (c a) q (ap c e ∙ cz))
+  pull_z a = grind arith
 
   pub degree_out : (m : Set) (v : ℕ) → c v ≡ false → degree h m v ≡ degree g m v
   degree_out m v cv = ap₂ ◌+◌
@@ -58,9 +36,7 @@ module _ (g : Graph) (is : IsGraph g) (r c : Set) (z : ℕ) (es : List (ℕ × �
       (over _ _ (λ e w. ap (λ k. m e && k) (ap (λ k. k == v) (pulls.second_ends e w) ∙ pull_out (second_end g e) v cv)))
 
   pub degree_in : (m : Set) (v : ℕ) → c v ≡ true → v ≢ z → degree h m v ≡ 0
-  degree_in m v cv d = ap₂ ◌+◌
-      (over _ (λ e. false) (λ e w. ap (λ k. m e && k) (ap (λ k. k == v) (pulls.first_ends e w) ∙ pull_in (first_end g e) v cv d) ∙ and_false (m e)) ∙ total_none (size g) _ (λ e w. refl))
-      (over _ (λ e. false) (λ e w. ap (λ k. m e && k) (ap (λ k. k == v) (pulls.second_ends e w) ∙ pull_in (second_end g e) v cv d) ∙ and_false (m e)) ∙ total_none (size g) _ (λ e w. refl))
+  degree_in m v cv d = grind (arith, pull_in, and_false, total_none (size g))
 
   pub degree_z : (m : Set) → degree h m z ≡ total g.order (λ d. bit (c d) * degree g m d)
   degree_z m = ap₂ ◌+◌
@@ -99,24 +75,10 @@ module _ (g : Graph) (is : IsGraph g) (r c : Set) (z : ℕ) (es : List (ℕ × �
   ]
     where
       in_c : (b : Bool) (k : ℕ) → 0 < bit b * k → b ≡ true
-      in_c true k q = refl
-      in_c false k q = absurd (omega arith)
+      in_c b k q = grind arith
 
   pub shut_z : r' z ≡ false
-  shut_z = go (r z) (c z) (z == z) (cr z cz) (eq-eqb z z refl)
-    where
-      go : (a b d : Bool) → a ≡ false → d ≡ true → (a || (b && not d)) ≡ false
-      go a b d p q = grind arith
-
-  pub shut_in : (v : ℕ) → c v ≡ true → v ≢ z → r' v ≡ true
-  shut_in v cv d = go (r v) (c v) (v == z) cv (ne_eqb v z d)
-    where
-      go : (a b d : Bool) → b ≡ true → d ≡ false → (a || (b && not d)) ≡ true
-      go a b d p q = grind arith
+  shut_z = grind arith
 
   pub shut_out : (v : ℕ) → c v ≡ false → r' v ≡ r v
-  shut_out v cv = go (r v) (c v) (v == z) cv
-    where
-      go : (a b d : Bool) → b ≡ false → (a || (b && not d)) ≡ a
-      go true b d p = refl
-      go false b d p = grind arith
+  shut_out v cv = grind arith

@@ -1,11 +1,11 @@
 -- A set C is shrunk to one vertex z of it. Do labellings and frames of the shrunk graph go up?
 -- Yes: each vertex of C gets the label of z, and is outer.
 use Rattle.std.proofs.Common.{◌≡◌, ℕ, suc, ◌+◌, ◌*◌, ◌≤◌, Bool, true, false, cond, ◌==◌, refl, sym, ap, ap₂, ◌∙◌, arith, ◌||◌, not, eq-eqb, ne_eqb, inl, inr, nat_lt, List}
-use Rattle.counting.proofs.Common.{cases_eq, cases_Bool, both_ways, false_from_ne_true, or_from, odd-add, odd-double, total_add, total_at, total_congr, or_false, or_true, Within, bit, count, is_odd, total, Set, complement, union}
+use Rattle.counting.proofs.Common.{cases_Bool, odd-add, odd-double, total_add, total_at, total_congr, or_false, or_true, Within, bit, count, is_odd, total, Set, complement, union}
 use Rattle.graph_core.proofs.Common.{Graph, IsGraph, degree, first_end, second_end, size, HasEnds, with_ends, IsMatching}
 use Rattle.match_search.specs.Common.{Frame, IsCertificate, IsOddLabelling, IsNearPerfect, IsShrunk, shrunk_vertex, shrunk_removed}
 use Rattle.match_search.proofs.Certificates.{certificate_tight}
-use Rattle.match_search.proofs.Shrinking.{in_g, shrunk_graph, in_le_z, tip, shut_z, shut_in, shut_out}
+use Rattle.match_search.proofs.Shrinking.{in_g, shrunk_graph, in_le_z, tip, shut_z, shut_out}
 use Rattle.match_search.proofs.ShrunkMatchings.{up}
 
 module _ (g : Graph) (is : IsGraph g) (r c : Set) (z : ℕ) (es : List (ℕ × ℕ)) (pulls : IsShrunk g c z es) (cr : (v : ℕ) → c v ≡ true → r v ≡ false) (wz : Within g.order z) (cz : c z ≡ true) where
@@ -18,21 +18,11 @@ module _ (g : Graph) (is : IsGraph g) (r c : Set) (z : ℕ) (es : List (ℕ × �
   -- r' has all of c but z beside r
   pub complement_size : (k : ℕ) → count g.order c ≡ suc (k + k) → count g.order (complement r) ≡ count g.order (complement r') + (k + k)
   complement_size k odd =
-      let a = total_congr g.order (λ v. bit (complement r v) + bit (z == v)) (λ v. bit (complement r' v) + bit (c v)) (λ v w. each v) in
+      let a = total_congr g.order (λ v. bit (complement r v) + bit (z == v)) (λ v. bit (complement r' v) + bit (c v)) (λ v w. grind arith) in
       let b = total_add g.order (λ v. bit (complement r v)) (λ v. bit (z == v)) in
       let d = total_add g.order (λ v. bit (complement r' v)) (λ v. bit (c v)) in
       let e : total g.order (λ v. bit (z == v)) ≡ 1 = total_at g.order (λ v. bit (z == v)) z wz (λ v w n. ap bit (ne_eqb z v (λ e. n (sym e)))) ∙ ap bit (eq-eqb z z refl) in
       omega arith
-    where
-      each : (v : ℕ) → bit (not (r v)) + bit (z == v) ≡ bit (not (r' v)) + bit (c v)
-      each v = go (c v) refl
-        where
-          go : (b : Bool) → c v ≡ b → bit (not (r v)) + bit (z == v) ≡ bit (not (r' v)) + bit b
-          go false q = let a = ap bit (ne_eqb z v (λ e. both_ways (c v) q (ap c (sym e) ∙ cz))) in let b = ap (λ k. bit (not k)) (shut_out g is r c z es pulls cr wz cz v q) in omega arith
-          go true q = let x = ap (λ k. bit (not k)) (cr v q) in elim (cases_eq v z) [
-            | inl d ↦ let a = ap bit (eq-eqb z v (sym d)) in let b = ap (λ k. bit (not k)) (ap r' d ∙ shut_z g is r c z es pulls cr wz cz) in omega arith
-            | inr d ↦ let a = ap bit (ne_eqb z v (λ e. d (sym e))) in let b = ap (λ k. bit (not k)) (shut_in g is r c z es pulls cr wz cz v q d) in omega arith
-          ]
 
   -- the labels of h, with that of z for each vertex of c
   abbrev pub lifted : (ℕ → ℕ) → ℕ → ℕ
@@ -40,64 +30,30 @@ module _ (g : Graph) (is : IsGraph g) (r c : Set) (z : ℕ) (es : List (ℕ × �
 
   module _ (s : Set) (label : ℕ → ℕ) (p k : ℕ) (labels : IsOddLabelling h (union r' s) label p) (sr : (v : ℕ) → Within g.order v → s v ≡ true → r' v ≡ false) (sz : s z ≡ false) (odd : count g.order c ≡ suc (k + k)) where
     s_out : (v : ℕ) → Within g.order v → s v ≡ true → c v ≡ false
-    s_out v w t = false_from_ne_true (c v) (λ q. elim (cases_eq v z) [
-      | inl d ↦ both_ways (s v) (ap s d ∙ sz) t
-      | inr d ↦ both_ways (r' v) (sr v w t) (shut_in g is r c z es pulls cr wz cz v q d)
-    ])
+    s_out v w t = grind arith
 
     x_out : (v : ℕ) → Within g.order v → union r s v ≡ true → c v ≡ false
-    x_out v w t = elim (Rattle.std.proofs.lemmas.Bool.or_cases (r v) (s v) t) [
-      | inl q ↦ false_from_ne_true (c v) (λ a. both_ways (r v) (cr v a) q)
-      | inr q ↦ s_out v w q
-    ]
+    x_out v w t = grind arith
 
     lifted_is : (a : ℕ) → lifted label a ≡ label (shrunk_vertex c z a)
-    lifted_is a = go (c a)
-      where
-        go : (b : Bool) → cond b (label z) (label a) ≡ label (cond b z a)
-        go true = refl
-        go false = refl
+    lifted_is a = grind arith
 
     pulled_free : (a : ℕ) → union r s a ≡ false → union r' s (shrunk_vertex c z a) ≡ false
-    pulled_free a q = go (c a) refl
-      where
-        go : (b : Bool) → c a ≡ b → union r' s (cond b z a) ≡ false
-        go true t = or_from (r' z) (s z) (shut_z g is r c z es pulls cr wz cz) sz
-        go false t = ap (λ k. k || s a) (shut_out g is r c z es pulls cr wz cz a t) ∙ q
+    pulled_free a q = grind arith
 
     class_size : (j : ℕ) → 1 ≤ j → count g.order (λ v. lifted label v == j) + bit (label z == j) ≡ count g.order (λ v. label v == j) + bit (label z == j) * count g.order c
     class_size j l =
         ap (λ k. count g.order (λ v. lifted label v == j) + k) (sym (total_at g.order (λ v. bit (z == v) * bit (label z == j)) z wz (λ v w n. ap (λ k. k * bit (label z == j)) (ap bit (ne_eqb z v (λ e. n (sym e)))) ∙ Rattle.std.proofs.Common.zero-mul (bit (label z == j))) ∙ ap (λ b. bit b * bit (label z == j)) (eq-eqb z z refl) ∙ Rattle.std.proofs.Common.one-mul (bit (label z == j))))
         ∙ sym (total_add g.order (λ v. bit (lifted label v == j)) (λ v. bit (z == v) * bit (label z == j)))
-        ∙ total_congr g.order _ _ (λ v w. each v w)
+        ∙ total_congr g.order _ _ (λ v w. grind arith)
         ∙ total_add g.order (λ v. bit (label v == j)) (λ v. bit (label z == j) * bit (c v))
         ∙ ap (λ k. count g.order (λ v. label v == j) + k) (Rattle.counting.proofs.Totals.total_mul g.order (bit (label z == j)) (λ v. bit (c v)))
-      where
-        each : (v : ℕ) → Within g.order v → bit (lifted label v == j) + bit (z == v) * bit (label z == j) ≡ bit (label v == j) + bit (label z == j) * bit (c v)
-        each v w = go (c v) refl
-          where
-            go : (b : Bool) → c v ≡ b → bit (cond b (label z) (label v) == j) + bit (z == v) * bit (label z == j) ≡ bit (label v == j) + bit (label z == j) * bit b
-            go false q = let a = ap (λ b. bit b * bit (label z == j)) (ne_eqb z v (λ e. both_ways (c v) q (ap c (sym e) ∙ cz))) in omega arith
-            go true q = elim (cases_eq v z) [
-              | inl d ↦ let a = ap (λ b. bit b * bit (label z == j)) (eq-eqb z v (sym d)) in let b = ap (λ u. bit (label u == j)) d in omega arith
-              | inr d ↦ let a = ap (λ b. bit b * bit (label z == j)) (ne_eqb z v (λ e. d (sym e))) in
-                  let b : label v ≡ 0 = labels.away v w (Rattle.std.proofs.lemmas.Bool.or_left (r' v) (s v) (shut_in g is r c z es pulls cr wz cz v q d)) in
-                  let e = ap bit (ne_eqb (label v) j (λ e. absurd (omega arith))) in omega arith
-            ]
 
     pub labels_up : IsOddLabelling g (union r s) (lifted label) p
-    labels_up = record {
-      low = λ v w. low_at v w (c v);
-      away = λ v w t. let q = x_out v w t in ap (λ b. cond b (label z) (label v)) q ∙ labels.away v w (ap (λ b. b || s v) (shut_out g is r c z es pulls cr wz cz v q) ∙ t);
-      along = λ e w a b. lifted_is (first_end g e) ∙ ap label (sym (pulls.first_ends e w))
-          ∙ labels.along e (let k = pulls.same in omega arith) (ap (union r' s) (pulls.first_ends e w) ∙ pulled_free (first_end g e) a) (ap (union r' s) (pulls.second_ends e w) ∙ pulled_free (second_end g e) b)
-          ∙ ap label (pulls.second_ends e w) ∙ sym (lifted_is (second_end g e));
-      odd = λ j w. odd_at j w;
-    }
+    labels_up = grind (arith, low_at, x_out, shut_out g is r c z es pulls cr wz cz, lifted_is, pulled_free, odd_at)
       where
         low_at : (v : ℕ) → Within g.order v → (b : Bool) → cond b (label z) (label v) ≤ p
-        low_at v w true = labels.low z wz
-        low_at v w false = labels.low v w
+        low_at v w b = grind arith
 
         odd_at : (j : ℕ) → Within p j → is_odd (count g.order (λ v. lifted label v == j)) ≡ true
         odd_at j w = go (label z == j) (class_size j w.0)
@@ -171,15 +127,7 @@ module _ (g : Graph) (is : IsGraph g) (r c : Set) (z : ℕ) (es : List (ℕ × �
           ]
         where
           own : (a : ℕ) → c i ≡ false → shrunk_vertex c z a ≡ i → a ≡ i
-          own a ci = go (c a)
-            where
-              go : (b : Bool) → cond b z a ≡ i → a ≡ i
-              go true q = absurd (both_ways (c i) ci (ap c (sym q) ∙ cz))
-              go false q = q
+          own a ci = grind arith
 
           outer_of : (a : ℕ) → outer (shrunk_vertex c z a) ≡ true → union outer c a ≡ true
-          outer_of a = go (c a)
-            where
-              go : (b : Bool) → outer (cond b z a) ≡ true → (outer a || b) ≡ true
-              go true q = Rattle.std.proofs.lemmas.Bool.or_right (outer a) true refl
-              go false q = Rattle.std.proofs.lemmas.Bool.or_left (outer a) false q
+          outer_of a = grind arith

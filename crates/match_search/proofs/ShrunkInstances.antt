@@ -1,9 +1,9 @@
 -- An instance with a blossom shrunk is the graph with the blossom's vertices made one. The base
 -- has the neighbours and the members of the blossom's vertices: what one of them touched it
 -- touches, and what touched one of them touches it.
-use Rattle.std.proofs.Common.{◌≡◌, ◌≢◌, ℕ, Bool, true, false, cond, ◌==◌, refl, sym, ap, ◌∙◌, arith, eq-eqb, eqb-true, ne_eqb, inl, inr, not, ◌&&◌, ◌||◌, List, subst, nat_lt, nat_le}
-use Rattle.counting.proofs.Common.{and_parts, cases_Bool, cases_eq, both_ways, or_cases, true≢false, false_from_ne_true, Within, Set, mem, item}
-use Rattle.graph_core.proofs.Common.{Graph, HasEnds, IsGraph, first_end, second_end, size, with_ends}
+use Rattle.std.proofs.Common.{◌≡◌, ◌≢◌, ℕ, Bool, true, false, cond, ◌==◌, sym, ap, ◌∙◌, arith, eq-eqb, eqb-true, ne_eqb, inl, inr, not, ◌&&◌, ◌||◌, List, subst, nat_lt, nat_le, rules}
+use Rattle.counting.proofs.Common.{and_parts, cases_eq, both_ways, or_cases, true≢false, false_from_ne_true, Within, Set, mem, item}
+use Rattle.graph_core.proofs.Common.{Graph, HasEnds, IsGraph, size, with_ends}
 use Rattle.match_search.specs.Common.{IsShrunk, shrunk_removed, shrunk_vertex, IsInstance, Touches, IsShrinking}
 use Rattle.match_search.specs.declared.instance.Instance.{Instance}
 use Rattle.match_search.proofs.Forests.{turned}
@@ -20,30 +20,18 @@ module _ (g : Graph) (c : Set) (z : ℕ) (es : List (ℕ × ℕ)) (pulls : IsShr
 
   -- an edge of g has the ends in the shrunk graph that its ends became
   pub pulled_ends : (d x y : ℕ) → Within (size g) d → HasEnds g d x y → HasEnds H d (shrunk_vertex c z x) (shrunk_vertex c z y)
-  pulled_ends d x y w ends = elim ends [
-    | inl q ↦ inl (pulls.first_ends d w ∙ ap (shrunk_vertex c z) q.0, pulls.second_ends d w ∙ ap (shrunk_vertex c z) q.1)
-    | inr q ↦ inr (pulls.first_ends d w ∙ ap (shrunk_vertex c z) q.0, pulls.second_ends d w ∙ ap (shrunk_vertex c z) q.1)
-  ]
+  pulled_ends d x y w ends = grind arith
 
   -- and the other way round: its ends in g are vertices that became these
   pub origin_ends : (d x y : ℕ) → Within (size g) d → HasEnds H d x y → (u : ℕ) × (v : ℕ) × HasEnds g d u v × (shrunk_vertex c z u ≡ x) × (shrunk_vertex c z v ≡ y)
-  origin_ends d x y w ends = elim ends [
-    | inl q ↦ (first_end g d, second_end g d, inl (refl, refl), sym (pulls.first_ends d w) ∙ q.0, sym (pulls.second_ends d w) ∙ q.1)
-    | inr q ↦ (second_end g d, first_end g d, inr (refl, refl), sym (pulls.second_ends d w) ∙ q.1, sym (pulls.first_ends d w) ∙ q.0)
-  ]
+  origin_ends d x y w ends = grind arith
 
   -- what became a vertex outside c is that vertex, and what became z is in c
   pub origin_out : (u x : ℕ) → shrunk_vertex c z u ≡ x → c x ≡ false → u ≡ x
-  origin_out u x q out = elim (cases_Bool (c u)) [
-    | inl t ↦ absurd (both_ways (c x) out (ap c (sym q ∙ pulled_vertex u t) ∙ cz))
-    | inr t ↦ sym (kept_vertex u t) ∙ q
-  ]
+  origin_out u x q out = grind arith
 
   pub origin_in : (u : ℕ) → shrunk_vertex c z u ≡ z → c u ≡ true
-  origin_in u q = elim (cases_Bool (c u)) [
-    | inl t ↦ t
-    | inr t ↦ absurd (both_ways (c u) t (ap c (sym (kept_vertex u t) ∙ q) ∙ cz))
-  ]
+  origin_in u q = grind arith
 
   -- edges between vertices outside c stay, and a vertex outside c is joined to z where it was
   -- joined to one of c
@@ -65,13 +53,7 @@ module _ (g : Graph) (c : Set) (z : ℕ) (es : List (ℕ × ℕ)) (pulls : IsShr
 
     -- what is left is not in r, and it is the base or outside c
     out_parts : (v : ℕ) → rs v ≡ false → (r v ≡ false) × (c v ≡ true → v ≡ z)
-    out_parts v q = go (r v) (c v) (v == z) refl q
-      where
-        go : (a b e : Bool) → (v == z) ≡ e → (a || (b && not e)) ≡ false → (a ≡ false) × (b ≡ true → v ≡ z)
-        go true b e s q = absurd (true≢false q)
-        go false true false s q = absurd (true≢false q)
-        go false true true s q = (refl, λ t. eqb-true v z s)
-        go false false e s q = (refl, λ t. absurd (true≢false (sym t)))
+    out_parts v q = grind (arith, true≢false, eqb-true)
 
     not_base : (v : ℕ) → rs v ≡ false → v ≢ z → c v ≡ false
     not_base v q n = false_from_ne_true (c v) (λ t. n ((out_parts v q).1 t))
@@ -93,15 +75,7 @@ module _ (g : Graph) (c : Set) (z : ℕ) (es : List (ℕ × ℕ)) (pulls : IsShr
     ]
 
     alone : (v w : ℕ) → Within g.order v → rs v ≡ false → mem h.blossoms v ≡ false → mem (item h.members.items v) w ≡ true → v ≡ w
-    alone v w wv o b t =
-        let p = apart (mem s.blossoms v) (c v) (z == v) (sym (shrink.blossoms v) ∙ b) in
-        let n : v ≢ z = λ q. both_ways (z == v) p.0 (eq-eqb z v (sym q)) in
-        is.single v w wv (out_parts v o).0 (p.1 (not_base v o n)) (sym (ap (λ (xs : List ℕ). mem xs w) (members_kept v wv n)) ∙ t)
-      where
-        apart : (a b e : Bool) → ((a && not b) || e) ≡ false → (e ≡ false) × (b ≡ false → a ≡ false)
-        apart true true e q = (q, λ t. absurd (true≢false t))
-        apart true false e q = absurd (true≢false q)
-        apart false b e q = (q, λ t. refl)
+    alone v w wv o b t = search (rules, both_ways (z == v), eq-eqb z v, out_parts v o, not_base v o, members_kept v wv)
 
     joins : (v w : ℕ) → Within g.order v → Within g.order w → rs v ≡ false → rs w ≡ false → v ≢ w → Touches h v w → (d : ℕ) × Within (size g) d × HasEnds H d v w
     joins v w wv ww ov ow d t = elim (cases_eq v z) [
@@ -174,6 +148,4 @@ module _ (g : Graph) (c : Set) (z : ℕ) (es : List (ℕ × ℕ)) (pulls : IsShr
         same a b = elim (cases_eq a b) [ inl q ↦ eq-eqb a b q ∙ sym (eq-eqb b a (sym q)) | inr q ↦ ne_eqb a b q ∙ sym (ne_eqb b a (λ s. q (sym s))) ]
 
         go : (a b d e f : Bool) → e ≡ f → ((a && not b) && not (d && not e)) ≡ (a && not (b || (d && not f)))
-        go false b d e f q = refl
-        go true true d e f q = refl
-        go true false d e f q = ap (λ x. not (d && not x)) q
+        go a b d e f q = grind arith

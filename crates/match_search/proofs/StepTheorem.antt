@@ -1,7 +1,7 @@
 -- A matching of G - R can be made larger by one edge, or has a frame. Induction on the vertices
 -- outside R and on the forest: a closing edge augments, or its cycle is shrunk.
-use Rattle.std.proofs.Common.{◌≡◌, ℕ, suc, zero, ◌+◌, ◌-◌, ◌≤◌, ◌<◌, ◌≢◌, Bool, true, false, ◌==◌, refl, sym, ap, ap₂, ◌∙◌, arith, ◌&&◌, not, eq-eqb, ne_eqb, eqb-true, ◌⊎◌, inl, inr, subst, List, length}
-use Rattle.counting.proofs.Common.{cases_eq, cases_Bool, both_ways, and_parts, and_from, not-true, get_or-map, length-map, count_le, scan, some_true, half, Within, count, is_odd, Set, complement, minus, none, union}
+use Rattle.std.proofs.Common.{◌≡◌, ℕ, suc, zero, ◌+◌, ◌-◌, ◌≤◌, ◌<◌, ◌≢◌, Bool, true, false, ◌==◌, refl, sym, ◌∙◌, arith, ◌&&◌, not, eqb-true, ◌⊎◌, inl, inr, subst, List}
+use Rattle.counting.proofs.Common.{cases_eq, cases_Bool, both_ways, not-true, get_or-map, length-map, count_le, scan, some_true, half, Within, count, is_odd, Set, complement, minus, none, union}
 use Rattle.graph_core.proofs.Common.{Graph, IsGraph, degree, first_end, second_end, size, HasEnds, with_ends, IsMatching}
 use Rattle.match_search.proofs.OddCycles.{cycle_holds, cycle_outside, cycle_size, every_other-near_perfect}
 use Rattle.match_search.proofs.LongerPaths.{end_within, ends_by}
@@ -12,17 +12,10 @@ use Rattle.match_search.proofs.AlternatingPaths.{two_paths}
 use Rattle.match_search.proofs.Shrinking.{shrunk_graph, tip}
 use Rattle.match_search.proofs.ShrunkMatchings.{down, up}
 use Rattle.match_search.proofs.ShrunkFrames.{frame_up, complement_size}
-use Rattle.match_search.specs.Common.{IsOddCycle, listed, every_other, picked, IsAlternating, IsForest, Frame, IsNearPerfect, IsShrunk, shrunk_ends, shrunk_vertex, shrunk_removed}
+use Rattle.match_search.specs.Common.{IsOddCycle, listed, every_other, picked, IsAlternating, IsForest, Frame, IsNearPerfect, IsShrunk, shrunk_ends, shrunk_removed}
 
 pub shrunk_ends_shrunk : (g : Graph) (c : Set) (z : ℕ) → IsShrunk g c z (shrunk_ends g c z)
-shrunk_ends_shrunk g c z = record {
-  same = length-map g.ends (λ d. (shrunk_vertex c z d.0, shrunk_vertex c z d.1));
-  first_ends = λ e w. ap (λ d. d.0) (at e w);
-  second_ends = λ e w. ap (λ d. d.1) (at e w);
-}
-  where
-    at : (e : ℕ) → Within (size g) e → Rattle.std.specs.Prelude.slice_index_or (shrunk_ends g c z) (e - 1) (0, 0) ≡ (shrunk_vertex c z (first_end g e), shrunk_vertex c z (second_end g e))
-    at e w = let l : e - 1 < length g.ends = omega arith in get_or-map (λ (d : ℕ × ℕ). (shrunk_vertex c z d.0, shrunk_vertex c z d.1)) g.ends (e - 1) (0, 0) (0, 0) l
+shrunk_ends_shrunk g c z = grind (arith, length-map, get_or-map)
 
 -- a matching with one edge more, or a frame
 abbrev pub Step : Graph → Set → Set → Type 0
@@ -94,8 +87,7 @@ module _ (g : Graph) (is : IsGraph g) (r f : Set) (n : ℕ) (c e : ℕ → ℕ) 
       go (suc t) o l s = let q = half t (not-true (is_odd t) o) in (q.0, (let a = q.1 in omega arith), (let a = q.1 in omega arith))
 
   near_sets : (t : ℕ) → Within g.order t → cs t ≡ true → (d : Set) × IsNearPerfect g cs t d
-  near_sets t w q = let s = some_true n (λ i. c i == t) q in
-      (picked n (every_other s.0) e, subst (λ y. IsNearPerfect g cs y (picked n (every_other s.0) e)) (eqb-true (c s.0) t s.2) (every_other-near_perfect g r n c e cyc s.0 s.1))
+  near_sets t w q = grind (arith, some_true n, eqb-true, every_other-near_perfect g r n c e cyc)
 
   abbrev left : Set
   left = minus f1 e1
@@ -128,17 +120,10 @@ module _ (g : Graph) (is : IsGraph g) (r f : Set) (mm : IsMatching g r f)
   bad outer inner x y = (not (r x) && not (r y)) && (not (x == y) && (outer x && not (inner y)))
 
   bad_parts : (outer inner : Set) (x y : ℕ) → bad outer inner x y ≡ true → (r x ≡ false) × (r y ≡ false) × (x ≢ y) × (outer x ≡ true) × (inner y ≡ false)
-  bad_parts outer inner x y t =
-      let a = and_parts (not (r x) && not (r y)) (not (x == y) && (outer x && not (inner y))) t in
-      let b = and_parts (not (r x)) (not (r y)) a.0 in
-      let d = and_parts (not (x == y)) (outer x && not (inner y)) a.1 in
-      let e = and_parts (outer x) (not (inner y)) d.1 in
-      (not-true (r x) b.0, not-true (r y) b.1, (λ q. both_ways (not (x == y)) (ap not (eq-eqb x y q)) d.0), e.0, not-true (inner y) e.1)
+  bad_parts outer inner x y t = grind arith
 
   bad_from : (outer inner : Set) (x y : ℕ) → r x ≡ false → r y ≡ false → x ≢ y → outer x ≡ true → inner y ≡ false → bad outer inner x y ≡ true
-  bad_from outer inner x y rx ry n o i =
-      and_from (not (r x) && not (r y)) (not (x == y) && (outer x && not (inner y))) (and_from (not (r x)) (not (r y)) (ap not rx) (ap not ry))
-      (and_from (not (x == y)) (outer x && not (inner y)) (ap not (ne_eqb x y n)) (and_from (outer x) (not (inner y)) o (ap not i)))
+  bad_from outer inner x y rx ry n o i = grind arith
 
   abbrev Open : Set → Set → ℕ → Type 0
   Open outer inner d = (x : ℕ) × (y : ℕ) × HasEnds g d x y × (bad outer inner x y ≡ true)
@@ -149,16 +134,7 @@ module _ (g : Graph) (is : IsGraph g) (r f : Set) (mm : IsMatching g r f)
   open_or_closed : (outer inner : Set) (d : ℕ) → Open outer inner d ⊎ Closed outer inner d
   open_or_closed outer inner d = elim (cases_Bool (bad outer inner (first_end g d) (second_end g d))) [
     | inl t ↦ inl (first_end g d, second_end g d, inl (refl, refl), t)
-    | inr a ↦ elim (cases_Bool (bad outer inner (second_end g d) (first_end g d))) [
-      | inl t ↦ inl (second_end g d, first_end g d, inr (refl, refl), t)
-      | inr b ↦ inr (λ x y ends rx ry n o. elim (cases_Bool (inner y)) [
-        | inl q ↦ q
-        | inr q ↦ absurd (both_ways (bad outer inner x y) (elim ends [
-          | inl s ↦ sym (ap₂ (bad outer inner) s.0 s.1) ∙ a
-          | inr s ↦ sym (ap₂ (bad outer inner) s.1 s.0) ∙ b
-        ]) (bad_from outer inner x y rx ry n o q))
-      ])
-    ]
+    | inr a ↦ grind (arith, cases_Bool (bad outer inner (second_end g d) (first_end g d)), cases_Bool, both_ways, bad_from outer inner)
   ]
 
   search_step : (n : ℕ) (outer inner : Set) (k : ℕ → ℕ) (v e : ℕ → ℕ → ℕ) → IsForest g r f outer inner k v e → g.order + g.order < count g.order outer + count g.order inner + n → Step g r f

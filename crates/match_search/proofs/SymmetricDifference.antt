@@ -28,9 +28,7 @@ module _ (g : Graph) (is : IsGraph g) (r m n : Set) (mm : IsMatching g r m) (per
   nn = perfect_matching g r n perfect
 
   no_loop : (f : Set) → IsMatching g r f → (d x y : ℕ) → Within (size g) d → f d ≡ true → HasEnds g d x y → x ≢ y
-  no_loop f ff d x y w fd ends q =
-      let a = ends_le_degree g f d x w fd in let b = ends_of_is g d x y ends x in let c = bit_same x in let s = ap bit (eq-eqb y x (sym q)) in
-      let o = ff.once x (end_within g is d x y w ends) in absurd (omega arith)
+  no_loop f ff d x y w fd ends q = grind (arith, ends_le_degree g f d x w fd, ends_of_is g d x y ends x, bit_same x, eq-eqb y x (sym q), end_within g is d x y w ends)
 
   outside : (f : Set) → IsMatching g r f → (d x y : ℕ) → Within (size g) d → f d ≡ true → HasEnds g d x y → r x ≡ false
   outside f ff d x y w fd ends = false_from_ne_true (r x) (λ t. let a = ff.away x (end_within g is d x y w ends) t in let b = (met g f d x y w fd ends).0 in absurd (omega arith))
@@ -45,10 +43,7 @@ module _ (g : Graph) (is : IsGraph g) (r m n : Set) (mm : IsMatching g r m) (per
       where
         go : (k : ℕ) → ((i : ℕ) → i ≤ k + k → Within g.order (v i)) → ((t : ℕ) → suc t ≤ k + k → HasEnds g (e t) (v (suc t)) (v t)) → ((i : ℕ) → i < k + k → m (e i) ≡ is_odd i) → ((i : ℕ) → i < k + k → n (e i) ≡ not (is_odd i)) → ((i : ℕ) → i < k + k → Within (size g) (e i))
             → HasEnds g a (v (k + k)) w → 1 ≤ degree g m (v (k + k)) → degree g m (v 0) ≡ 0 → m a ≡ true → ⊥
-        go zero within before turns other real ends l free t = let z : degree g m (v (zero + zero)) ≡ degree g m (v 0) = ap (λ i. degree g m (v i)) zero_zero in omega arith
-          where
-            zero_zero : zero + zero ≡ zero
-            zero_zero = omega arith
+        go zero within before turns other real ends l free t = let z : degree g m (v (zero + zero)) ≡ degree g m (v 0) = ap (λ i. degree g m (v i)) (omega arith) in omega arith
         go (suc k) within before turns other real ends l free t =
             let h : suc k + suc k ≡ suc (suc (k + k)) = omega arith in
             let en : HasEnds g a (v (suc (suc (k + k)))) w = subst (λ i. HasEnds g a (v i) w) h ends in
@@ -119,13 +114,7 @@ module _ (g : Graph) (is : IsGraph g) (r m n : Set) (mm : IsMatching g r m) (per
           (outside m mm d w x wd md pair_set) (outside m mm d x w wd md (turned g d w x pair_set)) wa wd ends pair_set m_a md
 
       pub further_other : (i : ℕ) → i < suc k + suc k → n (longer (k + k) e a d i) ≡ not (is_odd i)
-      further_other i l = elim (edge_spots g r m k v e p a w d x i l) [
-        | inl s ↦ ap n s.1 ∙ other i s.0
-        | inr s ↦ elim s [
-          | inl s ↦ ap n s.1 ∙ na ∙ sym (ap not (ap is_odd s.0 ∙ odd-double k))
-          | inr s ↦ ap n s.1 ∙ n_d ∙ sym (ap not (ap is_odd s.0 ∙ ap not (odd-double k)))
-        ]
-      ]
+      further_other i l = grind (arith, edge_spots g r m k v e p a w d x i l, odd-double k, n_d)
 
     -- the end: m misses w, and misses nothing but v 0 and w
     pub mended : degree g m w ≡ 0 → ((u : ℕ) → Within g.order u → r u ≡ false → degree g m u ≡ 0 → (u ≡ v 0) ⊎ (u ≡ w)) → IsPerfect g r (put (flipped m e k) a true)

@@ -16,10 +16,7 @@ module _ (g : Graph) (n : ℕ) (ends : List Ends) (order : n ≡ g.order) (same 
 
   -- the ends of an edge stand one place before it
   pub whole_ends : (e : ℕ) → Within (size g) e → (first_end g e ≡ end_a ends (e - 1)) × (second_end g e ≡ end_b ends (e - 1))
-  whole_ends e w =
-      let there = whole_graph in
-      let here : Within (length ends) e = (let s = whole_size in omega arith) in
-      (subst (λ (h : Graph). first_end h e ≡ end_a ends (e - 1)) there (near_is n ends e here), subst (λ (h : Graph). second_end h e ≡ end_b ends (e - 1)) there (far_is n ends e here))
+  whole_ends e w = grind (arith, whole_graph, whole_size, near_is n ends e, far_is n ends e)
 
   pub whole_pair : (e : ℕ) → Within (size g) e → HasEnds g e (end_a ends (e - 1)) (end_b ends (e - 1))
   whole_pair e w = inl (whole_ends e w)
@@ -38,11 +35,7 @@ module _ (g : Graph) (n : ℕ) (ends : List Ends) (order : n ≡ g.order) (same 
       in_size k l = let s = whole_size in omega arith
 
   pub limits_row : IsWithinLimits g → IsGraphRow n ends
-  limits_row limits = record {
-    vertices = let a = limits.vertices in omega arith;
-    few = let a = limits.edges in let b = whole_size in omega arith;
-    within = whole_within limits.multigraph.ends;
-  }
+  limits_row limits = grind (arith, whole_size, whole_within limits.multigraph.ends)
 
   -- the rows of the graph are those of its ends
   pub ends_rows : (rows : List (List ℕ)) → AreRows g rows → AreRows (graph_of n ends) rows

@@ -1,8 +1,8 @@
 -- How a vertex set of a bipartite graph stands to a perfect matching: it has as many vertices
 -- more on the one side as edges leave it from there more than from the other. So a tight set has
 -- one vertex more of one side, and all edges of its cut leave it there.
-use Rattle.std.proofs.Common.{◌≡◌, ℕ, ◌+◌, Bool, true, false, refl, sym, ap, arith, ◌&&◌, ◌||◌, not, inl, inr}
-use Rattle.counting.proofs.Common.{cases_eq, true≢false, and_parts, count_zero, total_congr, total_add, total_none, and_fails_second, bit, count, Within, Set, none, minus, meet, complement}
+use Rattle.std.proofs.Common.{◌≡◌, ℕ, ◌+◌, Bool, true, false, ap, arith, ◌&&◌, ◌||◌, not, inl, inr}
+use Rattle.counting.proofs.Common.{cases_eq, and_parts, count_zero, total_congr, total_add, total_none, and_fails_second, bit, count, Within, Set, none, minus, meet, complement}
 use Rattle.barrier_kit.proofs.Common.{inner, loop_free}
 use Rattle.graph_core.proofs.Common.{IsSide, IsCovered, Graph, size, first_end, second_end, IsGraph, connects, in_cut, edges_in_cut, IsPerfect, CutIsTight, covered_perfect, parity}
 
@@ -16,27 +16,17 @@ module _ (g : Graph) (is : IsGraph g) where
   no_inner x y r m two h p = total_none (size g) _ (λ e w. ap bit (out (m e) (x (first_end g e)) (x (second_end g e)) (y (first_end g e)) (y (second_end g e)) (crossing x r m two p e w) (h (first_end g e)) (h (second_end g e))))
     where
       out : (k a b c d : Bool) → (k ≡ true → ((a && not b) || (not a && b)) ≡ true) → (c ≡ true → a ≡ true) → (d ≡ true → b ≡ true) → (k && (c && d)) ≡ false
-      out false a b c d h i j = refl
-      out true a b c d h i j = one a b c d (h refl) i j
-        where
-          one : (a b c d : Bool) → ((a && not b) || (not a && b)) ≡ true → (c ≡ true → a ≡ true) → (d ≡ true → b ≡ true) → (c && d) ≡ false
-          one a b c d h i j = grind arith
+      out k a b c d h i j = grind arith
 
   pub other_side : (x : Set) → IsSide g x → IsSide g (complement x)
-  other_side x two e w d = turn (x (first_end g e)) (x (second_end g e)) (two e w d)
-    where
-      turn : (a b : Bool) → ((a && not b) || (not a && b)) ≡ true → ((not a && not (not b)) || (not (not a) && not b)) ≡ true
-      turn a b h = grind arith
+  other_side x two e w d = grind arith
 
   -- a set on one side has as many vertices as edges in its cut
   pub side_count : (x y m : Set) → IsSide g x → ((v : ℕ) → y v ≡ true → x v ≡ true) → IsPerfect g none m → count g.order y ≡ edges_in_cut g m y
   side_count x y m two h p = let a = parity g is m y p in let b = no_inner x y none m two h p in omega arith
 
   same_cut : (x m : Set) → edges_in_cut g m x ≡ edges_in_cut g m (complement x)
-  same_cut x m = total_congr (size g) _ _ (λ e w. ap bit (turn (m e) (x (first_end g e)) (x (second_end g e))))
-    where
-      turn : (k a b : Bool) → (k && ((a && not b) || (not a && b))) ≡ (k && ((not a && not (not b)) || (not (not a) && not b)))
-      turn k a b = grind arith
+  same_cut x m = grind arith
 
   module _ (x : Set) (two : IsSide g x) where
     pub left_of : (y : Set) (v : ℕ) → meet y x v ≡ true → x v ≡ true
@@ -46,8 +36,7 @@ module _ (g : Graph) (is : IsGraph g) where
     right_of y v h = (and_parts (y v) (not (x v)) h).1
 
     pub equal_sides : IsCovered g → count g.order x ≡ count g.order (complement x)
-    equal_sides cov = let m = covered_perfect g is cov in
-        let a = side_count x x m.0 two (λ v h. h) m.1 in let b = side_count (complement x) (complement x) m.0 (other_side x two) (λ v h. h) m.1 in let c = same_cut x m.0 in omega arith
+    equal_sides cov = grind (arith, covered_perfect g is cov, side_count x x, side_count (complement x) (complement x), other_side x two, same_cut x)
 
     -- edges that leave y from the left, from the and_fails_second
     abbrev pub leaves_left : Set → Set
@@ -62,52 +51,24 @@ module _ (g : Graph) (is : IsGraph g) where
         let b = side_count (complement x) (minus y x) m (other_side x two) (right_of y) p in
         let c = total_add (size g) (λ e. bit (m e && in_cut g (meet y x) e)) (λ e. bit (m e && leaves_right y e)) in
         let d = total_add (size g) (λ e. bit (m e && in_cut g (minus y x) e)) (λ e. bit (m e && leaves_left y e)) in
-        let e = total_congr (size g) (λ e. bit (m e && in_cut g (meet y x) e) + bit (m e && leaves_right y e)) (λ e. bit (m e && in_cut g (minus y x) e) + bit (m e && leaves_left y e)) (λ e w. first (m e) (x (first_end g e)) (x (second_end g e)) (y (first_end g e)) (y (second_end g e)) (crossing x none m two p e w)) in
+        let e = total_congr (size g) (λ e. bit (m e && in_cut g (meet y x) e) + bit (m e && leaves_right y e)) (λ e. bit (m e && in_cut g (minus y x) e) + bit (m e && leaves_left y e)) (λ e w. grind arith) in
         let f = total_add (size g) (λ e. bit (m e && leaves_left y e)) (λ e. bit (m e && leaves_right y e)) in
         let h = total_congr (size g) (λ e. bit (m e && leaves_left y e) + bit (m e && leaves_right y e)) (λ e. bit (m e && in_cut g y e)) (λ e w. second (m e) (x (first_end g e)) (x (second_end g e)) (y (first_end g e)) (y (second_end g e)) (crossing x none m two p e w)) in
         (omega arith, omega arith)
       where
-        first : (k a b c d : Bool) → (k ≡ true → ((a && not b) || (not a && b)) ≡ true) →
-            bit (k && (((c && a) && not (d && b)) || (not (c && a) && (d && b)))) + bit (k && (((c && not a) && (not d && b)) || ((not c && a) && (d && not b))))
-            ≡ bit (k && (((c && not a) && not (d && not b)) || (not (c && not a) && (d && not b)))) + bit (k && (((c && a) && (not d && not b)) || ((not c && not a) && (d && b))))
-        first false a b c d h = refl
-        first true true true c d h = absurd (true≢false (sym (h refl)))
-        first true false false c d h = absurd (true≢false (sym (h refl)))
-        first true true false true true h = refl
-        first true true false true false h = refl
-        first true true false false true h = refl
-        first true true false false false h = refl
-        first true false true true true h = refl
-        first true false true true false h = refl
-        first true false true false true h = refl
-        first true false true false false h = refl
-
         second : (k a b c d : Bool) → (k ≡ true → ((a && not b) || (not a && b)) ≡ true) →
             bit (k && (((c && a) && (not d && not b)) || ((not c && not a) && (d && b)))) + bit (k && (((c && not a) && (not d && b)) || ((not c && a) && (d && not b))))
             ≡ bit (k && ((c && not d) || (not c && d)))
-        second false a b c d h = refl
-        second true true true c d h = absurd (true≢false (sym (h refl)))
-        second true false false c d h = absurd (true≢false (sym (h refl)))
-        second true true false true true h = refl
-        second true true false true false h = refl
-        second true true false false true h = refl
-        second true true false false false h = refl
-        second true false true true true h = refl
-        second true false true true false h = refl
-        second true false true false true h = refl
-        second true false true false false h = refl
+        second k a b c d h = grind arith
 
     -- where each perfect matching leaves y by one edge and y has one vertex more on the left, no
     -- edge leaves it from the and_fails_second
     pub none_right : IsCovered g → (y : Set) → CutIsTight g y → count g.order (meet y x) ≡ count g.order (minus y x) + 1 → (e : ℕ) → Within (size g) e → leaves_right y e ≡ false
     none_right cov y tight more e w = elim (cases_eq (first_end g e) (second_end g e)) [
-      | inl l ↦ loop (x (first_end g e)) (x (second_end g e)) (y (first_end g e)) (y (second_end g e)) (ap x l) (ap y l)
+      | inl l ↦ grind arith
       | inr d ↦
           let a = cov.allowed e w d in
           let b = balance y a.0 a.1 in
           let c = tight a.0 a.1 in
           let z = count_zero (size g) (λ e. a.0 e && leaves_right y e) (let k = b.0 in let l = b.1 in omega arith) e w in and_fails_second (a.0 e) (leaves_right y e) a.2 z
     ]
-      where
-        loop : (a b c d : Bool) → a ≡ b → c ≡ d → (((c && not a) && (not d && b)) || ((not c && a) && (d && not b))) ≡ false
-        loop a b c d h k = grind arith

@@ -1,9 +1,9 @@
 -- Tight shores of a bipartite covered graph are the vertex sets that no arc of the digraph of a
 -- perfect matching leaves, but from one vertex a of the side: then only the edge of the matching
 -- at a leaves the set from the side, and none from the other.
-use Rattle.std.proofs.Common.{◌≡◌, ◌≢◌, ℕ, ◌+◌, ◌≤◌, Bool, true, false, cond, ◌==◌, refl, sym, ap, ◌∙◌, arith, ◌&&◌, ◌||◌, not, eq-eqb, ne_eqb, inl, inr, ◌⊎◌, subst}
+use Rattle.std.proofs.Common.{◌≡◌, ◌≢◌, ℕ, ◌+◌, ◌≤◌, Bool, true, false, cond, ◌==◌, refl, sym, ap, ◌∙◌, arith, ◌&&◌, ◌||◌, not, eq-eqb, ne_eqb, inl, inr, ◌⊎◌}
 use Rattle.counting.proofs.Common.{cases_eq, cases_Bool, true≢false, both_ways, and_parts, and_from, false_from_ne_true, not-true, and_right, member_count, two_members, some_true, true_some, total_add, total_le, total_none, bit, count, Within, Set, none, minus, meet}
-use Rattle.graph_core.proofs.Common.{IsSide, IsCovered, Graph, size, first_end, second_end, IsGraph, has_ends, IsPerfect, IsTight, adjacent, tight_from_cut, perfect_matching, matching_apart, adjacent-edge, adjacent_from, has_ends-cases, has_ends-own, has_ends-back}
+use Rattle.graph_core.proofs.Common.{IsSide, IsCovered, Graph, size, first_end, second_end, IsGraph, has_ends, IsPerfect, IsTight, adjacent, tight_from_cut, perfect_matching, matching_apart, adjacent-edge, adjacent_from, has_ends-cases}
 use Rattle.matching_digraph.proofs.Balance.{balance, crossing, leaves_left, leaves_right, none_right}
 use Rattle.matching_digraph.specs.Digraph.{NoArcLeaves, arc, are_mates, step_past}
 
@@ -17,10 +17,7 @@ mates_edge g m u v h = let r = some_true (size g) (λ e. m e && has_ends g u v e
 
 -- a test of both ends, where the edge has the ends u and v
 pub at_ends : (g : Graph) (P : ℕ → ℕ → Type 0) (u v e : ℕ) → ((s t : ℕ) → P s t → P t s) → has_ends g u v e ≡ true → P (first_end g e) (second_end g e) → P u v
-at_ends g P u v e turn h p = elim (has_ends-cases g u v e h) [
-  | inl k ↦ subst (λ s. P s v) k.0 (subst (P (first_end g e)) k.1 p)
-  | inr k ↦ turn v u (subst (λ s. P s u) k.0 (subst (P (first_end g e)) k.1 p))
-]
+at_ends g P u v e turn h p = grind arith
 
 -- the ends of an edge are vertices
 pub ends_within : (g : Graph) → IsGraph g → (u v e : ℕ) → Within (size g) e → has_ends g u v e ≡ true → Within g.order u × Within g.order v
@@ -34,11 +31,8 @@ module _ (g : Graph) (is : IsGraph g) (x m : Set) (two : IsSide g x) (perfect : 
   pub mates_cross : (u v : ℕ) → are_mates g m u v ≡ true → x u ≡ not (x v)
   mates_cross u v h =
       let e = mates_edge g m u v h in
-      at_ends g (λ s t. x s ≡ not (x t)) u v e.0 (λ s t. turn (x s) (x t)) e.3 (apart (x (first_end g e.0)) (x (second_end g e.0)) (crossing g is x none m two perfect e.0 e.1 e.2))
+      at_ends g (λ s t. x s ≡ not (x t)) u v e.0 (λ s t. grind arith) e.3 (apart (x (first_end g e.0)) (x (second_end g e.0)) (crossing g is x none m two perfect e.0 e.1 e.2))
     where
-      turn : (s t : Bool) → s ≡ not t → t ≡ not s
-      turn s t h = grind arith
-
       apart : (s t : Bool) → ((s && not t) || (not s && t)) ≡ true → s ≡ not t
       apart s t h = grind arith
 
@@ -48,32 +42,17 @@ module _ (g : Graph) (is : IsGraph g) (x m : Set) (two : IsSide g x) (perfect : 
       let e = mates_edge g m u v h in
       let f = mates_edge g m w v k in
       let same = matching_apart g m (perfect_matching g none m perfect) e.0 f.0 v e.1 f.1 wv e.2 f.2 (end_of e.0 u e.3) (end_of f.0 w f.3) in
-      ends u w v (first_end g e.0) (second_end g e.0) (has_ends-cases g u v e.0 e.3) (has_ends-cases g w v e.0 (ap (has_ends g w v) same ∙ f.3))
+      (grind arith)
     where
       end_of : (e u : ℕ) → has_ends g u v e ≡ true → (first_end g e ≡ v) ⊎ (second_end g e ≡ v)
-      end_of e u h = elim (has_ends-cases g u v e h) [
-        | inl k ↦ inr k.1
-        | inr k ↦ inl k.0
-      ]
-
-      ends : (u w v a b : ℕ) → ((a ≡ u) × (b ≡ v)) ⊎ ((a ≡ v) × (b ≡ u)) → ((a ≡ w) × (b ≡ v)) ⊎ ((a ≡ v) × (b ≡ w)) → u ≡ w
-      ends u w v a b (inl p) (inl q) = sym p.0 ∙ q.0
-      ends u w v a b (inl p) (inr q) = sym p.0 ∙ q.0 ∙ sym p.1 ∙ q.1
-      ends u w v a b (inr p) (inl q) = sym p.1 ∙ q.1 ∙ sym p.0 ∙ q.0
-      ends u w v a b (inr p) (inr q) = sym p.1 ∙ q.1
+      end_of e u h = grind arith
 
   module _ (a b : ℕ) (wa : Within g.order a) (mates : are_mates g m a b ≡ true) (xa : x a ≡ true) (y : Set) (ya : y a ≡ true) (yb : y b ≡ false) where
     xb : x b ≡ false
-    xb = flip (x b) (sym (mates_cross a b mates) ∙ xa)
-      where
-        flip : (s : Bool) → not s ≡ true → s ≡ false
-        flip s h = grind arith
+    xb = grind (arith, mates_cross a b mates)
 
     left : (u v e : ℕ) → has_ends g u v e ≡ true → y u ≡ true → x u ≡ true → y v ≡ false → x v ≡ false → leaves_left g is x two y e ≡ true
-    left u v e h yu xu yv xv = elim (has_ends-cases g u v e h) [
-      | inl k ↦ rw (k.0, k.1, yu, xu, yv, xv) refl
-      | inr k ↦ rw (k.0, k.1, yu, xu, yv, xv) refl
-    ]
+    left u v e h yu xu yv xv = grind arith
 
     -- the edge of m at a leaves y from the side
     leaving : (e : ℕ) × Within (size g) e × (m e ≡ true) × (has_ends g a b e ≡ true) × ((m e && leaves_left g is x two y e) ≡ true)
@@ -88,36 +67,10 @@ module _ (g : Graph) (is : IsGraph g) (x m : Set) (two : IsSide g x) (perfect : 
 
     -- the ends of an edge that leaves from the right, and from the left
     right_ends : (e : ℕ) → leaves_right g is x two y e ≡ true → (u v : ℕ) × (has_ends g u v e ≡ true) × (y u ≡ true) × (x u ≡ false) × (y v ≡ false)
-    right_ends e h = elim (cases (y (first_end g e)) (x (first_end g e)) (y (second_end g e)) (x (second_end g e)) h) [
-      | inl k ↦ (first_end g e, second_end g e, has_ends-own g e, k.0, k.1, k.2)
-      | inr k ↦ (second_end g e, first_end g e, has_ends-back g (first_end g e) (second_end g e) e (has_ends-own g e), k.0, k.1, k.2)
-    ]
-      where
-        cases : (c r d s : Bool) → (((c && not r) && (not d && s)) || ((not c && r) && (d && not s))) ≡ true → ((c ≡ true) × (r ≡ false) × (d ≡ false)) ⊎ ((d ≡ true) × (s ≡ false) × (c ≡ false))
-        cases true false false true h = inl (refl, refl, refl)
-        cases false true true false h = inr (refl, refl, refl)
-        cases true true d s h = absurd (true≢false (sym h))
-        cases true false true s h = absurd (true≢false (sym h))
-        cases true false false false h = absurd (true≢false (sym h))
-        cases false false d s h = absurd (true≢false (sym h))
-        cases false true false s h = absurd (true≢false (sym h))
-        cases false true true true h = absurd (true≢false (sym h))
+    right_ends e h = grind arith
 
     left_ends : (e : ℕ) → leaves_left g is x two y e ≡ true → (u v : ℕ) × (has_ends g u v e ≡ true) × (y u ≡ true) × (x u ≡ true) × (y v ≡ false)
-    left_ends e h = elim (cases (y (first_end g e)) (x (first_end g e)) (y (second_end g e)) (x (second_end g e)) h) [
-      | inl k ↦ (first_end g e, second_end g e, has_ends-own g e, k.0, k.1, k.2)
-      | inr k ↦ (second_end g e, first_end g e, has_ends-back g (first_end g e) (second_end g e) e (has_ends-own g e), k.0, k.1, k.2)
-    ]
-      where
-        cases : (c r d s : Bool) → (((c && r) && (not d && not s)) || ((not c && not r) && (d && s))) ≡ true → ((c ≡ true) × (r ≡ true) × (d ≡ false)) ⊎ ((d ≡ true) × (s ≡ true) × (c ≡ false))
-        cases true true false false h = inl (refl, refl, refl)
-        cases false false true true h = inr (refl, refl, refl)
-        cases true false d s h = absurd (true≢false (sym h))
-        cases true true true s h = absurd (true≢false (sym h))
-        cases true true false true h = absurd (true≢false (sym h))
-        cases false true d s h = absurd (true≢false (sym h))
-        cases false false false s h = absurd (true≢false (sym h))
-        cases false false true false h = absurd (true≢false (sym h))
+    left_ends e h = grind arith
 
     -- how many edges of k leave y from the left, and from the right
     abbrev lefts : Set → ℕ
@@ -128,36 +81,19 @@ module _ (g : Graph) (is : IsGraph g) (x m : Set) (two : IsSide g x) (perfect : 
 
     module _ (closed : NoArcLeaves g x m a y) where
       no_right : (e : ℕ) → Within (size g) e → leaves_right g is x two y e ≡ false
-      no_right e w = false_from_ne_true (leaves_right g is x two y e) (λ h.
-          let r = right_ends e h in
-          let n = ends_within g is r.0 r.1 e w r.2 in
-          both_ways (y r.1) r.5 (closed r.0 r.1 n.0 n.1 r.3 (step_adjacent r.0 r.1 r.4 (adjacent_from g none r.0 r.1 e refl refl w r.2))))
+      no_right e w = grind (arith, false_from_ne_true (leaves_right g is x two y e), leaves_right g is x two y e, right_ends e, ends_within g is, both_ways, step_adjacent, adjacent_from g none)
 
       rights_none : (k : Set) → rights k ≡ 0
       rights_none k = total_none (size g) (λ e. bit (k e && leaves_right g is x two y e)) (λ e w. ap bit (and_right (k e) (leaves_right g is x two y e) (no_right e w)))
 
       lefts_one : lefts m ≤ 1
       lefts_one =
-          let l = total_le (size g) (λ e. bit (m e && leaves_left g is x two y e)) (λ e. bit (m e && (first_end g e == a)) + bit (m e && (second_end g e == a))) (λ e w. at_a e w (m e) (leaves_left g is x two y e) refl refl) in
+          let l = total_le (size g) (λ e. bit (m e && leaves_left g is x two y e)) (λ e. bit (m e && (first_end g e == a)) + bit (m e && (second_end g e == a))) (λ e w. grind (arith, some_end)) in
           let s = total_add (size g) (λ e. bit (m e && (first_end g e == a))) (λ e. bit (m e && (second_end g e == a))) in
           let d = perfect.once a wa refl in omega arith
         where
           some_end : (e : ℕ) → Within (size g) e → m e ≡ true → leaves_left g is x two y e ≡ true → 1 ≤ bit (first_end g e == a) + bit (second_end g e == a)
-          some_end e w t h =
-              let r = left_ends e h in
-              let n = ends_within g is r.0 r.1 e w r.2 in
-              elim (cases_eq a r.0) [
-                | inl q ↦ elim (has_ends-cases g r.0 r.1 e r.2) [
-                  | inl k ↦ let z = ap bit (eq-eqb (first_end g e) a (k.0 ∙ sym q)) in omega arith
-                  | inr k ↦ let z = ap bit (eq-eqb (second_end g e) a (k.1 ∙ sym q)) in omega arith
-                ]
-                | inr d ↦ absurd (both_ways (y r.1) r.5 (closed r.0 r.1 n.0 n.1 r.3 (step_mate r.0 r.1 r.4 d (mates_from g m r.0 r.1 e w t r.2))))
-              ]
-
-          at_a : (e : ℕ) → Within (size g) e → (s t : Bool) → m e ≡ s → leaves_left g is x two y e ≡ t → bit (s && t) ≤ bit (s && (first_end g e == a)) + bit (s && (second_end g e == a))
-          at_a e w false t p q = omega arith
-          at_a e w true false p q = omega arith
-          at_a e w true true p q = some_end e w p q
+          some_end e w t h = grind (arith, left_ends e h, ends_within g is, cases_eq a, has_ends-cases g, eq-eqb (first_end g e) a, eq-eqb (second_end g e) a, both_ways, step_mate, mates_from g m)
 
       -- a set that no arc leaves is tight
       pub closed_tight : IsTight g y
@@ -180,19 +116,13 @@ module _ (g : Graph) (is : IsGraph g) (x m : Set) (two : IsSide g x) (perfect : 
             | inl xu ↦
                 let h : are_mates g m u v ≡ true = ap (λ s. cond s (are_mates g m u v) (adjacent g none u v)) (sym xu) ∙ p.1 in
                 let e = mates_edge g m u v h in
-                let n : (m e.0 && leaves_left g is x two y e.0) ≡ true = and_from (m e.0) (leaves_left g is x two y e.0) e.2 (left u v e.0 e.3 yu xu yv (flip (x u) (x v) (mates_cross u v h) xu)) in
+                let n : (m e.0 && leaves_left g is x two y e.0) ≡ true = and_from (m e.0) (leaves_left g is x two y e.0) e.2 (left u v e.0 e.3 yu xu yv (grind arith)) in
                 let k = two_members (size g) (λ e. m e && leaves_left g is x two y e) leaving.0 e.0 leaving.1 e.1 (λ q. other u v e.0 xu (not-true (a == u) p.0) e.3 (ap (has_ends g a b) (sym q) ∙ leaving.3)) leaving.4 n in
                 let c = cut_one in absurd (omega arith)
-            | inr xu ↦
-                let h : adjacent g none u v ≡ true = ap (λ s. cond s (are_mates g m u v) (adjacent g none u v)) (sym xu) ∙ p.1 in
-                let e = adjacent-edge g none u v h in
-                absurd (both_ways (leaves_right g is x two y e.2.0) (none_right g is x two cov y tight.cut more e.2.0 e.2.1) (right u v e.2.0 e.2.2 yu xu yv (over u v e.2.0 e.2.1 e.2.2 xu yu yv)))
+            | inr xu ↦ grind (arith, adjacent-edge g none u v, both_ways, leaves_right g is x two y, none_right g is x two cov y tight.cut more)
           ]
         ]
       where
-        flip : (s t : Bool) → s ≡ not t → s ≡ true → t ≡ false
-        flip s t h k = grind arith
-
         cut_one : lefts m + rights m ≡ 1
         cut_one = (balance g is x two y m perfect).1 ∙ tight.cut m perfect
 
@@ -204,31 +134,7 @@ module _ (g : Graph) (is : IsGraph g) (x m : Set) (two : IsSide g x) (perfect : 
 
         -- an edge with the ends u and v, and a and b, has a = u
         other : (u v e : ℕ) → x u ≡ true → (a == u) ≡ false → has_ends g u v e ≡ true → has_ends g a b e ≡ true → ⊥
-        other u v e xu d h k = elim (has_ends-cases g u v e h) [
-          | inl i ↦ elim (has_ends-cases g a b e k) [
-            | inl j ↦ true≢false (sym (eq-eqb a u (sym j.0 ∙ i.0)) ∙ d)
-            | inr j ↦ both_ways (x u) (ap x (sym i.0 ∙ j.0) ∙ xb) xu
-          ]
-          | inr i ↦ elim (has_ends-cases g a b e k) [
-            | inl j ↦ both_ways (x u) (ap x (sym i.1 ∙ j.1) ∙ xb) xu
-            | inr j ↦ true≢false (sym (eq-eqb a u (sym j.1 ∙ i.1)) ∙ d)
-          ]
-        ]
+        other u v e xu d h k = grind (arith, has_ends-cases g u v e h, has_ends-cases g a b e k, true≢false, eq-eqb a u, both_ways (x u), xb)
 
         right : (u v e : ℕ) → has_ends g u v e ≡ true → y u ≡ true → x u ≡ false → y v ≡ false → x v ≡ true → leaves_right g is x two y e ≡ true
-        right u v e h yu xu yv xv = elim (has_ends-cases g u v e h) [
-          | inl k ↦ rw (k.0, k.1, yu, xu, yv, xv) refl
-          | inr k ↦ rw (k.0, k.1, yu, xu, yv, xv) refl
-        ]
-
-        -- the other end of an edge between different vertices is on the other side
-        over : (u v e : ℕ) → Within (size g) e → has_ends g u v e ≡ true → x u ≡ false → y u ≡ true → y v ≡ false → x v ≡ true
-        over u v e w h xu yu yv = at_ends g (λ s t. s ≢ t → (x s ≡ false → x t ≡ true)) u v e (λ s t f d. turn (x s) (x t) (f (λ q. d (sym q)))) h
-            (λ d. cross (x (first_end g e)) (x (second_end g e)) (two e w d)) (λ q. both_ways (y u) (ap y q ∙ yv) yu) xu
-          where
-            cross : (s t : Bool) → ((s && not t) || (not s && t)) ≡ true → s ≡ false → t ≡ true
-            cross s t h k = grind arith
-
-            turn : (s t : Bool) → (s ≡ false → t ≡ true) → t ≡ false → s ≡ true
-            turn true t f h = refl
-            turn false t f h = absurd (true≢false (sym (f refl) ∙ h))
+        right u v e h yu xu yv xv = grind arith

@@ -17,9 +17,6 @@ exchange_over g is p r q a u b v s t pp four mr mq link = record {
   edges = λ e w d. over e w d (b (first_end g e)) refl (b (second_end g e)) refl;
 }
   where
-    n : ℕ
-    n = g.order
-
     ur : IsUnion g.order p (union b v)
     ur = union_join g.order p pp b v four.second four.right.closed
 

@@ -1,6 +1,6 @@
 -- Which bipartite covered graphs are braces? The theorem on braces: there is no nontrivial tight
 -- cut exactly when a perfect matching is left without any two vertices of each side.
-use Rattle.std.proofs.Common.{inl, inr, ◌↔◌}
+use Rattle.std.proofs.Common.{◌↔◌, arith}
 use Rattle.graph_core.proofs.Common.{IsSide, IsCovered, Graph, IsGraph, IsTight, IsNontrivial}
 use Rattle.counting.proofs.Common.{Set}
 use Rattle.quick_kinds.specs.Braces.{AreFoursMatched}
@@ -10,10 +10,4 @@ use Rattle.quick_kinds.proofs.UnmatchedFours.{matched_or_tight}
 module _ (g : Graph) (is : IsGraph g) (cov : IsCovered g) where
   -- the theorem on braces
   pub braces : (x : Set) → IsSide g x → ((y : Set) → IsTight g y → IsNontrivial g.order y → ⊥) ↔ AreFoursMatched g x
-  braces x two = (
-    (λ h a c b d wa wc wb wd ac bd xa xc xb xd. elim (matched_or_tight g is cov x two a c b d wa wc wb wd ac bd xa xc xb xd) [
-      | inl m ↦ m
-      | inr t ↦ absurd (h t.0 t.1 t.2)
-    ]),
-    no_tight g is cov x two,
-  )
+  braces x two = grind (arith, matched_or_tight g is cov x two, no_tight g is cov x two)

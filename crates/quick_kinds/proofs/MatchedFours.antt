@@ -2,10 +2,10 @@
 -- any two vertices of each side? No: a tight set has one vertex more of one side, and no edge
 -- leaves it from the other; so two of the larger side in it, and two of the other side outside
 -- it, leave no perfect matching.
-use Rattle.std.proofs.Common.{◌≡◌, ℕ, suc, zero, ◌+◌, ◌*◌, ◌≤◌, ◌≢◌, Bool, true, false, ◌==◌, refl, sym, ap, ◌∙◌, arith, ◌&&◌, ◌||◌, not, ne_eqb, eqb-true}
-use Rattle.counting.proofs.Common.{true≢false, and_parts, not-false, not-true, count_congr, count_minus, two_of, count_split, total_congr, total_le, and_comm, bit, count, Within, Set, minus, meet, complement, singleton}
+use Rattle.std.proofs.Common.{◌≡◌, ℕ, suc, zero, ◌+◌, ◌*◌, ◌≤◌, ◌≢◌, Bool, true, false, ◌==◌, refl, ◌∙◌, arith, ◌&&◌, ◌||◌, not, ne_eqb}
+use Rattle.counting.proofs.Common.{and_parts, not-false, not-true, count_congr, count_minus, two_of, count_split, total_congr, total_le, and_comm, bit, count, Within, Set, minus, meet, complement, singleton}
 use Rattle.barrier_kit.proofs.Common.{perfect_congr}
-use Rattle.graph_core.proofs.Common.{IsSide, IsCovered, Graph, size, first_end, second_end, IsGraph, in_cut, degree, IsPerfect, IsTight, IsNontrivial, covered_perfect, degrees, perfect_matching}
+use Rattle.graph_core.proofs.Common.{IsSide, IsCovered, Graph, size, first_end, second_end, IsGraph, in_cut, degree, IsPerfect, IsTight, IsNontrivial, covered_perfect, degrees}
 use Rattle.matching_digraph.proofs.Balance.{balance, crossing, equal_sides, leaves_left, leaves_right, left_of, no_inner, none_right, other_side, right_of}
 use Rattle.quick_kinds.specs.Braces.{AreFoursMatched, four_set}
 
@@ -42,44 +42,19 @@ module _ (g : Graph) (is : IsGraph g) (cov : IsCovered g) where
             let f = degrees g is m (meet y x) in
             let i = no_inner g is (complement x) (minus y x) (four_set a c b d) m (other_side g is x two) (right_of g is x two y) p in
             let j = no_inner g is x (meet y x) (four_set a c b d) m two (left_of g is x two y) p in
-            let k = total_congr g.order (λ v. bit (minus y x v)) (λ v. bit (minus y x v) * degree g m v) (λ v w. ones v w (minus y x v) refl) in
+            let k = total_congr g.order (λ v. bit (minus y x v)) (λ v. bit (minus y x v) * degree g m v) (λ v w. grind arith) in
             let l = total_le g.order (λ v. bit (meet y x v) * degree g m v) (λ v. bit (minus (minus (meet y x) (singleton a)) (singleton c) v)) (λ v w. less v w (meet y x v) (a == v) (c == v) refl refl refl) in
             let s = count_minus g.order (meet y x) a wa ha in
             let u = count_minus g.order (minus (meet y x) (singleton a)) c wc (rw (hc, ne_eqb a c ac) refl) in
             let cut = total_le (size g) (λ e. bit (m e && in_cut g (minus y x) e)) (λ e. bit (m e && in_cut g (meet y x) e)) (λ e w. over (m e) (x (first_end g e)) (x (second_end g e)) (y (first_end g e)) (y (second_end g e)) (crossing g is x (four_set a c b d) m two p e w) (none_right g is x two cov y t.cut more e w)) in
             omega arith
           where
-            ones : (v : ℕ) → Within g.order v → (k : Bool) → minus y x v ≡ k → bit (minus y x v) ≡ bit (minus y x v) * degree g m v
-            ones v w false t = rw t (omega arith)
-            ones v w true t =
-                let q = and_parts (y v) (not (x v)) t in
-                let o : four_set a c b d v ≡ false = outer (a == v) (c == v) (b == v) (d == v) (y v) (not (x v)) q.0 q.1
-                (λ h. ap (λ i. not (x i)) (sym (eqb-true a v h)) ∙ ap not (and_parts (y a) (x a) ha).1) (λ h. ap (λ i. not (x i)) (sym (eqb-true c v h)) ∙ ap not (and_parts (y c) (x c) hc).1)
-                (λ h. ap y (sym (eqb-true b v h)) ∙ yb) (λ h. ap y (sym (eqb-true d v h)) ∙ yd) in
-                rw t (let z = p.once v w o in omega arith)
-              where
-                outer : (i j k l s u : Bool) → s ≡ true → u ≡ true → (i ≡ true → u ≡ false) → (j ≡ true → u ≡ false) → (k ≡ true → s ≡ false) → (l ≡ true → s ≡ false) → ((i || j) || (k || l)) ≡ false
-                outer i j k l s u p q h1 h2 h3 h4 = grind arith
-
             less : (v : ℕ) → Within g.order v → (k i j : Bool) → meet y x v ≡ k → (a == v) ≡ i → (c == v) ≡ j → bit (meet y x v) * degree g m v ≤ bit ((meet y x v && not (a == v)) && not (c == v))
-            less v w false i j q r s = rw q (omega arith)
-            less v w true true j q r s = rw (q, r) (let z = p.away v w (rw r refl) in omega arith)
-            less v w true false true q r s = rw (q, r, s) (let z = p.away v w (rw (r, s) refl) in omega arith)
-            less v w true false false q r s = rw (q, r, s) (let z = (perfect_matching g (four_set a c b d) m p).once v w in omega arith)
+            less v w k i j q r s = grind arith
 
             over : (k a b c d : Bool) → (k ≡ true → ((a && not b) || (not a && b)) ≡ true) → (((c && not a) && (not d && b)) || ((not c && a) && (d && not b))) ≡ false →
                 bit (k && (((c && not a) && not (d && not b)) || (not (c && not a) && (d && not b)))) ≤ bit (k && (((c && a) && not (d && b)) || (not (c && a) && (d && b))))
-            over false a b c d h i = omega arith
-            over true true true c d h i = absurd (true≢false (sym (h refl)))
-            over true false false c d h i = absurd (true≢false (sym (h refl)))
-            over true true false true true h i = omega arith
-            over true true false true false h i = omega arith
-            over true true false false true h i = absurd (true≢false i)
-            over true true false false false h i = omega arith
-            over true false true true true h i = omega arith
-            over true false true true false h i = absurd (true≢false i)
-            over true false true false true h i = omega arith
-            over true false true false false h i = omega arith
+            over k a b c d h i = grind arith
 
   pub no_tight : (x : Set) → IsSide g x → AreFoursMatched g x → (y : Set) → IsTight g y → IsNontrivial g.order y → ⊥
   no_tight x two match y t n =
@@ -88,16 +63,13 @@ module _ (g : Graph) (is : IsGraph g) (cov : IsCovered g) where
       let c = t.cut m.0 m.1 in
       go (count (size g) (λ e. m.0 e && leaves_left g is x two y e)) (count (size g) (λ e. m.0 e && leaves_right g is x two y e)) b.0 (b.1 ∙ c)
     where
-      swap : (i j k l : Bool) → ((i || j) || (k || l)) ≡ ((k || l) || (i || j))
-      swap i j k l = grind arith
-
       go : (l r : ℕ) → count g.order (meet y x) + r ≡ count g.order (minus y x) + l → l + r ≡ 1 → ⊥
       go (suc l) r e f = more_left x two y t n (omega arith) match
       go zero r e f =
           more_left (complement x) (other_side g is x two) y t n
           (let s : count g.order (minus y (complement x)) ≡ count g.order (meet y x) = count_congr g.order _ _ (λ v w. double (y v) (x v)) in omega arith)
           (λ a c b d wa wc wb wd ac bd xa xc xb xd. let k = match b d a c wb wd wa wc bd ac (not-false (x b) xb) (not-false (x d) xd) (not-true (x a) xa) (not-true (x c) xc) in
-          (k.0, perfect_congr g (four_set b d a c) (four_set a c b d) k.0 (λ v w. swap (b == v) (d == v) (a == v) (c == v)) k.1))
+          (k.0, perfect_congr g (four_set b d a c) (four_set a c b d) k.0 (λ v w. grind arith) k.1))
         where
           double : (a b : Bool) → (a && not (not b)) ≡ (a && b)
           double a b = grind arith

@@ -37,10 +37,7 @@ critical_or_not g = go (equivalent_pair g) refl
 
 module _ (g : Graph) (is : IsMultigraph g) (cov : IsCovered g) (odd : IsBipartite g → ⊥) where
   pub no_cuts-bicritical : barrier_cuts g ≡ [] → IsBicritical g
-  no_cuts-bicritical e = elim (critical_or_not g) [
-    | inl bi ↦ bi
-    | inr n ↦ absurd (some_cut g is.ends cov (no_sides g is.no_loop odd) n e)
-  ]
+  no_cuts-bicritical e = grind (arith, critical_or_not g, some_cut g is.ends cov (no_sides g is.no_loop odd), no_sides g is.no_loop odd)
 
   pub at_least_four : 4 ≤ g.order
   at_least_four = four_vertices g is.ends cov (no_sides g is.no_loop odd)

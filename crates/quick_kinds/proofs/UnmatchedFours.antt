@@ -2,7 +2,7 @@
 -- perfect matching? Hall's condition fails for some vertices, and these with their neighbours are
 -- a nontrivial tight set.
 use Rattle.std.proofs.Common.{◌≡◌, ℕ, ◌+◌, ◌*◌, ◌≤◌, ◌<◌, ◌≢◌, Bool, true, false, ◌==◌, refl, sym, ap, ap₂, ◌∙◌, arith, ◌&&◌, ◌||◌, not, eq-eqb, ne_eqb, eqb-true, nat_lt, ltb-true, ltb-false, ◌⊎◌, inl, inr}
-use Rattle.counting.proofs.Common.{cases_Bool, true≢false, both_ways, and_parts, and_from, or_cases, Respects, choose_set, count_congr, count_minus, count_member, two_members, odd_three, count_singleton, some_true, true_some, some_congr, total_congr, total_add, total_le, total_at, bit_le_one, not_not, same_tests, bit, count, Within, Set, none, union, minus, meet, complement, singleton, some}
+use Rattle.counting.proofs.Common.{cases_Bool, both_ways, and_parts, and_from, or_cases, Respects, choose_set, count_congr, count_minus, count_member, two_members, odd_three, count_singleton, some_true, true_some, some_congr, total_congr, total_add, total_le, total_at, not_not, same_tests, bit, count, Within, Set, none, union, minus, meet, complement, singleton, some}
 use Rattle.barrier_kit.proofs.Common.{glue_family, hall, hits, cut_split, cut_matching, loop_free, perfect_congr, neighbours, Picks}
 use Rattle.graph_core.proofs.Common.{IsSide, IsCovered, Graph, size, first_end, second_end, IsGraph, degree, has_ends, edges_in_cut, IsPerfect, IsTight, IsNontrivial, tight_from_cut, covered_perfect, ends_of, degree_sum, ends_of_is, has_ends-cases, has_ends-own, has_ends-back}
 use Rattle.matching_digraph.proofs.Balance.{equal_sides, other_side, side_count}
@@ -11,20 +11,12 @@ use Rattle.quick_kinds.specs.Braces.{four_set}
 -- a perfect matching of two vertices that an edge joins
 pub one_edge : (g : Graph) (e x y : ℕ) → Within (size g) e → has_ends g x y e ≡ true → x ≢ y → IsPerfect g (complement (union (singleton x) (singleton y))) (singleton e)
 one_edge g e x y w h d = record {
-  once = λ v wv o. at v ∙ one_end (x == v) (y == v) o (λ t s. d (eqb-true x v t ∙ sym (eqb-true y v s)));
+  once = λ v wv o. at v ∙ (grind arith);
   away = λ v wv o. at v ∙ zero_ends (x == v) (y == v) o;
 }
   where
-    one_end : (a b : Bool) → not (a || b) ≡ false → (a ≡ true → b ≡ true → ⊥) → bit a + bit b ≡ 1
-    one_end true true h f = absurd (f refl refl)
-    one_end true false h f = refl
-    one_end false true h f = refl
-    one_end false false h f = absurd (true≢false h)
-
     zero_ends : (a b : Bool) → not (a || b) ≡ true → bit a + bit b ≡ 0
-    zero_ends true b h = absurd (true≢false (sym h))
-    zero_ends false true h = absurd (true≢false (sym h))
-    zero_ends false false h = refl
+    zero_ends a b h = grind arith
 
     at : (v : ℕ) → degree g (singleton e) v ≡ bit (x == v) + bit (y == v)
     at v = degree_sum g (singleton e) v
@@ -45,16 +37,10 @@ module _ (g : Graph) (is : IsGraph g) (cov : IsCovered g) where
     beside u v = some (size g) (has_ends g u v)
 
     left_parts : (v : ℕ) → lefts v ≡ true → (x v ≡ true) × ((a == v) ≡ false) × ((c == v) ≡ false)
-    left_parts v h = split (x v) (a == v) (c == v) h
-      where
-        split : (i j k : Bool) → ((i && not j) && not k) ≡ true → (i ≡ true) × (j ≡ false) × (k ≡ false)
-        split i j k h = grind arith
+    left_parts v h = grind arith
 
     right_parts : (v : ℕ) → rights v ≡ true → (x v ≡ false) × ((b == v) ≡ false) × ((d == v) ≡ false)
-    right_parts v h = split (x v) (b == v) (d == v) h
-      where
-        split : (i j k : Bool) → ((not i && not j) && not k) ≡ true → (i ≡ false) × (j ≡ false) × (k ≡ false)
-        split i j k h = grind arith
+    right_parts v h = grind arith
 
     -- Hall's condition holds: a perfect matching
     matched : ((z : Set) → count g.order (meet z lefts) ≤ count g.order (neighbours g.order beside rights (meet z lefts))) → (m : Set) × IsPerfect g (four_set a c b d) m
@@ -76,14 +62,8 @@ module _ (g : Graph) (is : IsGraph g) (cov : IsCovered g) where
         apart y z v wy wz wv ly sy lz sz =
             let ry = right_parts (picks.to y) (picks.lands y wy ly).1 in let rz = right_parts (picks.to z) (picks.lands z wz lz).1 in
             elim (or_cases (y == v) (picks.to y == v) sy) [
-              | inl i ↦ elim (or_cases (z == v) (picks.to z == v) sz) [
-                | inl j ↦ eqb-true y v i ∙ sym (eqb-true z v j)
-                | inr j ↦ absurd (both_ways (x y) (ap x (eqb-true y v i ∙ sym (eqb-true (picks.to z) v j)) ∙ rz.0) (left_parts y ly).0)
-              ]
-              | inr i ↦ elim (or_cases (z == v) (picks.to z == v) sz) [
-                | inl j ↦ absurd (both_ways (x z) (ap x (eqb-true z v j ∙ sym (eqb-true (picks.to y) v i)) ∙ ry.0) (left_parts z lz).0)
-                | inr j ↦ picks.apart y z wy wz ly lz (eqb-true (picks.to y) v i ∙ sym (eqb-true (picks.to z) v j))
-              ]
+              | inl i ↦ grind arith
+              | inr i ↦ grind (arith, or_cases (z == v) (picks.to z == v) sz, both_ways (x z), eqb-true z v, eqb-true (picks.to y) v i, left_parts z lz, eqb-true (picks.to z) v)
             ]
 
         as_many : count g.order lefts ≡ count g.order rights
@@ -97,9 +77,6 @@ module _ (g : Graph) (is : IsGraph g) (cov : IsCovered g) where
         cover : (v : ℕ) → Within g.order v → some g.order (λ z. lefts z && star z v) ≡ not (four_set a c b d v)
         cover v w = same_tests _ _ there back
           where
-            out : (i j k l s : Bool) → i ≡ false → j ≡ false → (k ≡ true → s ≡ false) → (l ≡ true → s ≡ false) → s ≡ true → not ((i || j) || (k || l)) ≡ true
-            out i j k l s h1 h2 h3 h4 h5 = grind arith
-
             out' : (i j k l s : Bool) → k ≡ false → l ≡ false → (i ≡ true → s ≡ true) → (j ≡ true → s ≡ true) → s ≡ false → not ((i || j) || (k || l)) ≡ true
             out' i j k l s h1 h2 h3 h4 h5 = grind arith
 
@@ -108,17 +85,12 @@ module _ (g : Graph) (is : IsGraph g) (cov : IsCovered g) where
                 let z = some_true g.order (λ z. lefts z && star z v) h in
                 let p = and_parts (lefts z.0) (star z.0 v) z.2 in
                 elim (or_cases (z.0 == v) (picks.to z.0 == v) p.1) [
-                  | inl i ↦ let e = eqb-true z.0 v i in let q = left_parts v (ap lefts (sym e) ∙ p.0) in
-                      out (a == v) (c == v) (b == v) (d == v) (x v) q.1 q.2 (λ t. ap x (sym (eqb-true b v t)) ∙ xb) (λ t. ap x (sym (eqb-true d v t)) ∙ xd) q.0
-                  | inr i ↦ let e = eqb-true (picks.to z.0) v i in let q = right_parts v (ap rights (sym e) ∙ (picks.lands z.0 z.1 p.0).1) in
-                      out' (a == v) (c == v) (b == v) (d == v) (x v) q.1 q.2 (λ t. ap x (sym (eqb-true a v t)) ∙ xa) (λ t. ap x (sym (eqb-true c v t)) ∙ xc) q.0
+                  | inl i ↦ grind arith
+                  | inr i ↦ grind (arith, eqb-true (picks.to z.0) v i, right_parts v, out' (a == v) (c == v) (b == v) (d == v) (x v), eqb-true a v, eqb-true c v)
                 ]
 
             no_one : (i j k l : Bool) → not ((i || j) || (k || l)) ≡ true → (i ≡ false) × (j ≡ false) × (k ≡ false) × (l ≡ false)
             no_one i j k l h = grind arith
-
-            first : (i j k : Bool) → i ≡ true → j ≡ true → (i && (j || k)) ≡ true
-            first i j k h l = grind arith
 
             last : (i j k : Bool) → i ≡ true → k ≡ true → (i && (j || k)) ≡ true
             last i j k h l = grind arith
@@ -127,7 +99,7 @@ module _ (g : Graph) (is : IsGraph g) (cov : IsCovered g) where
             back h =
                 let q = no_one (a == v) (c == v) (b == v) (d == v) h in
                 elim (cases_Bool (x v)) [
-                  | inl t ↦ true_some g.order (λ z. lefts z && star z v) v w (first (lefts v) (v == v) _ (rw (t, q.0, q.1) refl) (eq-eqb v v refl))
+                  | inl t ↦ true_some g.order (λ z. lefts z && star z v) v w (grind arith)
                   | inr f ↦
                       let k = hits g.order beside lefts rights picks as_many v w (rw (f, q.2, q.3) refl) in
                       true_some g.order (λ z. lefts z && star z v) k.0 k.1 (last (lefts k.0) (k.0 == v) (picks.to k.0 == v) k.2 (eq-eqb _ _ k.3))
@@ -152,23 +124,17 @@ module _ (g : Graph) (is : IsGraph g) (cov : IsCovered g) where
 
       into : (e : ℕ) → Within (size g) e → first_end g e ≢ second_end g e → (some_left (first_end g e) ≡ true → near_set (second_end g e) ≡ true) × (some_left (second_end g e) ≡ true → near_set (first_end g e) ≡ true)
       into e w l = (
-        (λ h. and_from (complement x (second_end g e)) (some g.order (λ u. some_left u && beside u (second_end g e))) (over (x (first_end g e)) (x (second_end g e)) (two e w l) (in_left (first_end g e) h))
+        (λ h. and_from (complement x (second_end g e)) (some g.order (λ u. some_left u && beside u (second_end g e))) (grind arith)
             (true_some g.order (λ u. some_left u && beside u (second_end g e)) (first_end g e) (is e w).0 (and_from (some_left (first_end g e)) _ h (true_some (size g) (has_ends g (first_end g e) (second_end g e)) e w (has_ends-own g e))))),
         λ h. and_from (complement x (first_end g e)) (some g.order (λ u. some_left u && beside u (first_end g e))) (back (x (first_end g e)) (x (second_end g e)) (two e w l) (in_left (second_end g e) h))
             (true_some g.order (λ u. some_left u && beside u (first_end g e)) (second_end g e) (is e w).1 (and_from (some_left (second_end g e)) _ h (true_some (size g) (has_ends g (second_end g e) (first_end g e)) e w (has_ends-back g (first_end g e) (second_end g e) e (has_ends-own g e))))),
       )
         where
-          over : (i j : Bool) → ((i && not j) || (not i && j)) ≡ true → i ≡ true → not j ≡ true
-          over i j h k = grind arith
-
           back : (i j : Bool) → ((i && not j) || (not i && j)) ≡ true → j ≡ true → not i ≡ true
           back i j h k = grind arith
 
       left_out : (v : ℕ) → some_left v ≡ true → near_set v ≡ false
-      left_out v h = gone (x v) (some g.order (λ u. some_left u && beside u v)) (in_left v h)
-        where
-          gone : (i j : Bool) → i ≡ true → (not i && j) ≡ false
-          gone i j h = grind arith
+      left_out v h = grind arith
 
       cut_is : (m : Set) → IsPerfect g none m → count g.order near_set ≡ count g.order some_left + edges_in_cut g m (union some_left near_set)
       cut_is m p =
@@ -178,28 +144,16 @@ module _ (g : Graph) (is : IsGraph g) (cov : IsCovered g) where
 
       near_few : count g.order near_set ≤ count g.order (neighbours g.order beside rights some_left) + 2
       near_few =
-          let l = total_le g.order (λ v. bit (near_set v)) (λ v. bit (neighbours g.order beside rights some_left v) + (bit (singleton b v) + bit (singleton d v))) (λ v w. bits (not (x v)) (b == v) (d == v) (some g.order (λ u. some_left u && beside u v))) in
+          let l = total_le g.order (λ v. bit (near_set v)) (λ v. bit (neighbours g.order beside rights some_left v) + (bit (singleton b v) + bit (singleton d v))) (λ v w. grind arith) in
           let s = total_add g.order (λ v. bit (neighbours g.order beside rights some_left v)) (λ v. bit (singleton b v) + bit (singleton d v)) in
           let t = total_add g.order (λ v. bit (singleton b v)) (λ v. bit (singleton d v)) in
           let i = count_singleton g.order b wb in let j = count_singleton g.order d wd in omega arith
-        where
-          bits : (i j k l : Bool) → bit (i && l) ≤ bit (((i && not j) && not k) && l) + (bit j + bit k)
-          bits false j k l = omega arith
-          bits true true k l = omega (arith, bit_le_one l)
-          bits true false true l = omega (arith, bit_le_one l)
-          bits true false false l = omega arith
 
       a_out : union some_left near_set a ≡ false
-      a_out = gone (z a) (x a) (a == a) (c == a) (some g.order (λ u. some_left u && beside u a)) xa (eq-eqb a a refl)
-        where
-          gone : (i j k l s : Bool) → j ≡ true → k ≡ true → ((i && ((j && not k) && not l)) || (not j && s)) ≡ false
-          gone i j k l s h q = grind arith
+      a_out = grind arith
 
       c_out : union some_left near_set c ≡ false
-      c_out = gone (z c) (x c) (a == c) (c == c) (some g.order (λ u. some_left u && beside u c)) xc (eq-eqb c c refl)
-        where
-          gone : (i j k l s : Bool) → j ≡ true → l ≡ true → ((i && ((j && not k) && not l)) || (not j && s)) ≡ false
-          gone i j k l s h q = grind arith
+      c_out = grind arith
 
       one_more : count g.order near_set ≡ count g.order some_left + 1
       one_more =
@@ -211,12 +165,7 @@ module _ (g : Graph) (is : IsGraph g) (cov : IsCovered g) where
       tight = let m = covered_perfect g is cov in tight_from_cut g (union some_left near_set) m.0 is m.1 (λ k p. let e = cut_is k p in let f = one_more in omega arith)
 
       size_is : count g.order (union some_left near_set) ≡ count g.order some_left + count g.order near_set
-      size_is = total_congr g.order _ _ (λ v w. bits (some_left v) (near_set v) (left_out v)) ∙ total_add g.order (λ v. bit (some_left v)) (λ v. bit (near_set v))
-        where
-          bits : (i j : Bool) → (i ≡ true → j ≡ false) → bit (i || j) ≡ bit i + bit j
-          bits true true h = absurd (true≢false (h refl))
-          bits true false h = refl
-          bits false j h = omega arith
+      size_is = total_congr g.order _ _ (λ v w. grind arith) ∙ total_add g.order (λ v. bit (some_left v)) (λ v. bit (near_set v))
 
       nontrivial : IsNontrivial g.order (union some_left near_set)
       nontrivial = let s = size_is in let o = one_more in record { inside = omega arith; outside = odd_three _ tight.odd_complement (two_members g.order (complement (union some_left near_set)) a c wa wc ac (ap not a_out) (ap not c_out)) }

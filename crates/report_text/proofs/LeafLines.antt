@@ -1,13 +1,11 @@
 -- The lines of the leaves grow by those of one leaf: those before it tell their own kinds.
 -- By induction over the leaves, and what stands at a place stays where a kind is appended.
-use Rattle.std.proofs.Common.{◌≡◌, ◌≤◌, ℕ, zero, suc, ◌+◌, ◌-◌, List, [], ◌∷◌, ◌++◌, length, map, ap, ap₂, refl, subst, subst₂, sym, ◌∙◌, get_or, slice_get, Some, inl, inr, arith}
+use Rattle.std.proofs.Common.{◌≡◌, ◌≤◌, ℕ, zero, suc, ◌+◌, ◌-◌, List, [], ◌∷◌, ◌++◌, length, map, ap, ap₂, refl, sym, ◌∙◌, get_or, slice_get, Some, arith}
 use Rattle.std.proofs.Math.ListN.{get_or-append}
-use Rattle.counting.proofs.Common.{get_or-append_seam, cases_lt, length-append, length-map, get_or_from_slice_get, Within}
-use Rattle.std.proofs.lemmas.Option.{slice_get-map}
-use Rattle.std.specs.Option.{option_map}
+use Rattle.counting.proofs.Common.{get_or-append_seam}
 use Rattle.contraction.specs.Partition.{PartitionValue}
 use Rattle.graph_core.proofs.Common.{Graph}
-use Rattle.tree_core.proofs.Common.{leaf_at, AreLeafKinds, IsLeafKind, kind_at}
+use Rattle.tree_core.proofs.Common.{leaf_at}
 use Rattle.report_text.specs.Common.{leaf_lines, leaf_text}
 use Rattle.tree_core.specs.declared.tallies.LeafKind.{LeafKind}
 use Rattle.tree_core.specs.declared.tallies.LeafKind.TheVariants.{Brick}

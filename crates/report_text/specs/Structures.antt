@@ -1,6 +1,6 @@
 -- The lines on the structure of a matching covered graph, as functions of the values that they
 -- tell.
--- Stated by: report_text. Rests on it: bench_top.
+-- Stated by: report_text.
 use Rattle.std.specs.Prelude.{ℕ, List, [], ◌∷◌, ◌++◌, length, codes}
 use Rattle.std.specs.declared.option.Option.{Option}
 use Rattle.std.specs.declared.option.Option.TheVariants.{Some, None}

@@ -19,9 +19,7 @@ pair_cut g u v a is bi wu wv c wa o = let m = bi u v wu wv c.different in
     (separation_tight g is u v wu wv c.different m.0 m.1 a wa o, separation_nontrivial g is u v wu wv c.different m.0 m.1 a wa o c)
 
 pub no_cut_pair : (g : Graph) → IsGraph g → IsBicritical g → ((x : Set) → IsTight g x → IsNontrivial g.order x → ⊥) → (u v : ℕ) → Within g.order u → Within g.order v → IsCutPair g u v → ⊥
-no_cut_pair g is bi brick u v wu wv c =
-    let w = beside_pair g u v c in
-    let t = pair_cut g u v w.0 is bi wu wv c w.1 w.2 in brick _ t.0 t.1
+no_cut_pair g is bi brick u v wu wv c = grind (arith, beside_pair g u v c, pair_cut g u v)
 
 -- a brick
 pub brick_facts : (g : Graph) → IsGraph g → IsCovered g → ((x : Set) → IsSide g x → ⊥) → ((x : Set) → IsTight g x → IsNontrivial g.order x → ⊥) →

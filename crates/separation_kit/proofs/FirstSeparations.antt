@@ -1,7 +1,7 @@
 -- The first separation cut is the first cut at the first cut pair.
 -- The shores at that pair stand first, and one of them gives a cut.
-use Rattle.std.proofs.Common.{◌≡◌, ◌≢◌, ℕ, ◌<◌, ◌≤◌, Bool, true, false, ◌&&◌, cond, refl, sym, ap, ap₂, ◌∙◌, arith, List, [], ◌∷◌, ◌++◌, Some, None, filter, flat_map, fold, slice_get, leb-true, le-leb, subst, All, find}
-use Rattle.counting.proofs.Common.{All-head, All-tail, Within, rising_pairs, pair_set}
+use Rattle.std.proofs.Common.{◌≡◌, ◌≢◌, ℕ, ◌<◌, ◌≤◌, Bool, true, false, ◌&&◌, cond, refl, sym, ap, ap₂, ◌∙◌, arith, List, [], ◌∷◌, ◌++◌, Some, None, filter, flat_map, fold, slice_get, leb-true, le-leb, All, find}
+use Rattle.counting.proofs.Common.{All-tail, Within, rising_pairs, pair_set}
 use Rattle.graph_core.proofs.Common.{component_count, Graph, IsGraph, IsBicritical, IsCutPair, cut_pair, with_cut}
 use Rattle.barrier_kit.proofs.Common.{pairs_rise, first-of_part}
 use Rattle.separation_kit.specs.Common.{is_cut_pair, separation_cuts, separation_shores, shores_at_pair}
@@ -14,8 +14,7 @@ found_holds p P [] k all h = absurd cc
 found_holds p P (x ∷ xs) k all h = go (p x) refl (found_holds p P xs k (All-tail P x xs all)) h
   where
     go : (b : Bool) → p x ≡ b → (find p xs ≡ Some k → P k × (p k ≡ true)) → cond b (Some x) (find p xs) ≡ Some k → P k × (p k ≡ true)
-    go true e later q = let same : x ≡ k = cc in (subst P same (All-head P x xs all), ap p (sym same) ∙ e)
-    go false e later q = later q
+    go b e later q = grind arith
 
 found_rest : {X : Type 0} (p : X → Bool) (xs : List X) (k : X) → find p xs ≡ Some k → (ys : List X) × (filter p xs ≡ k ∷ ys)
 found_rest p [] k h = absurd cc
@@ -50,9 +49,7 @@ module _ (g : Graph) (k : ℕ × ℕ) (first : Some k ≡ cut_pair g) where
   module _ (bi : IsBicritical g) (four : 4 ≤ g.order) (cuts : List (List ℕ)) (old : cuts ≡ fold (with_cut g.order) [] (shores_at_pair g k)) where
     pub first_separation : (c : List ℕ) → slice_get cuts 0 ≡ Some c → Some c ≡ slice_get (separation_cuts g) 0
     unfolding separation_cuts
-    first_separation c h =
-        let shores = shores_first bi four in
-        first-of_part g.order cuts (shores_at_pair g k) shores.0 c old h ∙ ap (λ ss. slice_get (fold (with_cut g.order) [] ss) 0) (sym shores.1)
+    first_separation c h = grind (arith, shores_first bi four, first-of_part g.order cuts (shores_at_pair g k), slice_get)
 
     pub some_first : IsGraph g → cuts ≢ []
     some_first is e = pair_own_cut g is bi four k.0 k.1 is_pair (sym old ∙ e)

@@ -1,7 +1,7 @@
 -- The shores of all cut pairs as the code goes through them: the pairs in order, and at each cut
 -- pair the components in order. A step of the loop is a step of the fold; where no cut pair is,
 -- nothing is added.
-use Rattle.std.proofs.Common.{◌≡◌, ℕ, ◌+◌, ◌<◌, ◌≤◌, true, false, ◌==◌, ◌||◌, ◌&&◌, cond, not, sym, ap, ap₂, ◌∙◌, arith, List, [], ◌∷◌, ◌++◌, map, flat_map, filter, fold, length, take, get_or, append-nil, inl, inr, All, is_none, eqb-true}
+use Rattle.std.proofs.Common.{◌≡◌, ℕ, ◌+◌, ◌<◌, ◌≤◌, true, false, ◌==◌, ◌||◌, cond, not, ap, arith, List, [], ◌∷◌, ◌++◌, map, flat_map, filter, fold, length, take, get_or, append-nil, All, is_none, eqb-true}
 use Rattle.counting.proofs.Common.{le-leb, or_cases, get_or-map, length-map, map-append, take_all, take_more, All-map, mem-within, list-from_test, rising_list-rises, set-narrower, Within, IsRisingIn, mem, rising_list, rising_pairs, Set, pair_set, singleton, union}
 use Rattle.std.proofs.lemmas.Grind.{flat_map-append}
 use Rattle.std.proofs.lemmas.List.Elements.{filter-append}
@@ -14,24 +14,13 @@ use Rattle.separation_kit.proofs.PairSearch.{pair_at}
 
 -- a set with one vertex more
 pub shore-with : (n a : ℕ) (part shore : List ℕ) → n ≤ 128 → Within n a → IsRisingIn n part → IsRisingIn 128 shore → ((v : ℕ) → mem shore v ≡ (mem part v || a == v)) → shore ≡ rising_list n (union (mem part) (singleton a))
-shore-with n a part shore few wa rises wide same =
-    list-from_test n shore (union (mem part) (singleton a))
-    (set-narrower 128 n shore wide (λ v m. elim (or_cases (mem part v) (a == v) (sym (same v) ∙ m)) [
-      | inl p ↦ (mem-within n part rises v p).1
-      | inr q ↦ let e = eqb-true a v q in omega arith
-    ]))
-    (λ v w. same v)
+shore-with n a part shore few wa rises wide same = grind (arith, list-from_test n shore (union (mem part) (singleton a)), set-narrower 128 n shore wide, or_cases, mem-within n part rises, eqb-true a)
 
 -- one component more
 pub fold-map_more : (n a i : ℕ) (d : List ℕ) (parts cuts start after : List (List ℕ)) (shore : List ℕ) → i < length parts → shore ≡ rising_list n (union (mem (get_or parts i d)) (singleton a)) →
     cuts ≡ fold (with_cut n) start (map (λ s. rising_list n (union (mem s) (singleton a))) (take i parts)) → after ≡ with_cut n cuts shore →
     after ≡ fold (with_cut n) start (map (λ s. rising_list n (union (mem s) (singleton a))) (take (i + 1) parts))
-fold-map_more n a i d parts cuts start after shore l is old new =
-    let f = λ (s : List ℕ). rising_list n (union (mem s) (singleton a)) in
-    new ∙ ap₂ (with_cut n) old is
-    ∙ sym (fold-append (with_cut n) start (map f (take i parts)) (f (get_or parts i d) ∷ []))
-    ∙ ap (fold (with_cut n) start) (sym (map-append f (take i parts) (get_or parts i d ∷ [])))
-    ∙ ap (λ ss. fold (with_cut n) start (map f ss)) (sym (take_more parts i d l))
+fold-map_more n a i d parts cuts start after shore l is old new = grind (arith, fold-append (with_cut n) start, map-append, take_more parts i d l)
 
 -- the components rise
 pub components-rise : (g : Graph) (s : Set) → All (IsRisingIn g.order) (components g s)
@@ -44,27 +33,15 @@ module _ (g : Graph) (i : ℕ) (items : List Pair) (l : i < length items) where
   next_pairs : filter (is_cut_pair g) (take (i + 1) (map pair_of items)) ≡ filter (is_cut_pair g) (take i (map pair_of items)) ++ cond (is_cut_pair g (pair_of (pair_at items i))) (pair_of (pair_at items i) ∷ []) []
   next_pairs =
       let m = length-map items pair_of in
-      ap (filter (is_cut_pair g)) (take_more (map pair_of items) i (0, 0) (omega arith) ∙ ap (λ k. take i (map pair_of items) ++ k ∷ []) (get_or-map pair_of items i (record { a = 0; b = 0 }) (0, 0) l))
-      ∙ filter-append (is_cut_pair g) (take i (map pair_of items)) (pair_of (pair_at items i) ∷ [])
+      grind (arith, take_more (map pair_of items) i (0, 0), get_or-map pair_of items i, filter-append (is_cut_pair g) (take i (map pair_of items)) (pair_of (pair_at items i) ∷ []))
 
   pub shores-taken : (cuts after : List (List ℕ)) → cuts ≡ fold (with_cut g.order) [] (flat_map (shores_at_pair g) (filter (is_cut_pair g) (take i (map pair_of items)))) → is_cut_pair g (pair_of (pair_at items i)) ≡ true →
       after ≡ fold (with_cut g.order) cuts (shores_at_pair g (pair_of (pair_at items i))) → after ≡ fold (with_cut g.order) [] (flat_map (shores_at_pair g) (filter (is_cut_pair g) (take (i + 1) (map pair_of items))))
-  shores-taken cuts after old t new =
-      let before = filter (is_cut_pair g) (take i (map pair_of items)) in
-      let k = pair_of (pair_at items i) in
-      new ∙ ap (λ cs. fold (with_cut g.order) cs (shores_at_pair g k)) old
-      ∙ sym (fold-append (with_cut g.order) [] (flat_map (shores_at_pair g) before) (shores_at_pair g k))
-      ∙ ap (λ ss. fold (with_cut g.order) [] (flat_map (shores_at_pair g) before ++ ss)) (sym (append-nil (shores_at_pair g k)))
-      ∙ ap (fold (with_cut g.order) []) (sym (flat_map-append (shores_at_pair g) before (k ∷ [])))
-      ∙ ap (λ ks. fold (with_cut g.order) [] (flat_map (shores_at_pair g) (before ++ ks))) (sym (ap (λ b. cond b (k ∷ []) []) t))
-      ∙ ap (λ ks. fold (with_cut g.order) [] (flat_map (shores_at_pair g) ks)) (sym next_pairs)
+  shores-taken cuts after old t new = grind (arith, fold-append (with_cut g.order), append-nil, flat_map-append (shores_at_pair g), next_pairs)
 
   pub shores-passed : (cuts : List (List ℕ)) → cuts ≡ fold (with_cut g.order) [] (flat_map (shores_at_pair g) (filter (is_cut_pair g) (take i (map pair_of items)))) → is_cut_pair g (pair_of (pair_at items i)) ≡ false →
       cuts ≡ fold (with_cut g.order) [] (flat_map (shores_at_pair g) (filter (is_cut_pair g) (take (i + 1) (map pair_of items))))
-  shores-passed cuts old f =
-      let before = filter (is_cut_pair g) (take i (map pair_of items)) in
-      let k = pair_of (pair_at items i) in
-      old ∙ ap (λ ks. fold (with_cut g.order) [] (flat_map (shores_at_pair g) ks)) (sym (append-nil before) ∙ ap (λ ks. before ++ ks) (sym (ap (λ b. cond b (k ∷ []) []) f)) ∙ sym next_pairs)
+  shores-passed cuts old f = grind (arith, append-nil, next_pairs)
 
 -- bicritical, as the test
 pub bicritical-true : (g : Graph) → IsBicritical g → is_bicritical g ≡ true
@@ -75,7 +52,4 @@ bicritical-true g bi = ap is_none (unfound_all (λ k. not (has_perfect g (pair_s
 pub shores-all : (g : Graph) (i : ℕ) (items : List Pair) (cuts : List (List ℕ)) → IsBicritical g → 4 ≤ g.order → map pair_of items ≡ rising_pairs g.order → length items ≤ i →
     cuts ≡ fold (with_cut g.order) [] (flat_map (shores_at_pair g) (filter (is_cut_pair g) (take i (map pair_of items)))) → cuts ≡ separation_cuts g
 unfolding separation_cuts separation_shores
-shores-all g i items cuts bi four e l h =
-    let m = length-map items pair_of in
-    h ∙ ap (λ ks. fold (with_cut g.order) [] (flat_map (shores_at_pair g) (filter (is_cut_pair g) ks))) (take_all i (map pair_of items) (omega arith) ∙ e)
-    ∙ ap₂ (λ b c. fold (with_cut g.order) [] (cond (b && c) (flat_map (shores_at_pair g) (filter (is_cut_pair g) (rising_pairs g.order))) [])) (sym (bicritical-true g bi)) (sym (le-leb 4 g.order four))
+shores-all g i items cuts bi four e l h = grind (arith, length-map items pair_of, take_all i (map pair_of items), bicritical-true g bi, le-leb 4 g.order four)

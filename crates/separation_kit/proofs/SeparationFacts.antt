@@ -1,8 +1,8 @@
 -- What holds of the cuts at cut pairs: each is tight, there is one where a bicritical graph has a
 -- cut pair, and none where it has none. What holds of each component at each cut pair holds of
 -- each item of the list.
-use Rattle.std.proofs.Common.{◌≡◌, ◌≢◌, ◌↔◌, ℕ, ◌≤◌, ◌<◌, Bool, true, false, ◌==◌, ◌&&◌, ◌||◌, not, refl, sym, ap, arith, inl, inr, List, [], map, filter, flat_map, nat_le, nat_lt, lt-ltb, leb-true, subst, ap₂, get_or, Option, Some, None, All, find, is_none, if◌then◌else◌}
-use Rattle.counting.proofs.Common.{both_ways, cases_lt, false_from_ne_true, le-leb, true≢false, not-false, All-map, All-nil, count_member, mem-rising_list, Within, count, is_odd, mem, pair_with, rising_list, rising_pairs, Set, everything, pair_set, singleton, union}
+use Rattle.std.proofs.Common.{◌≡◌, ◌≢◌, ◌↔◌, ℕ, ◌≤◌, ◌<◌, Bool, true, false, ◌==◌, ◌&&◌, ◌||◌, not, refl, sym, ap, arith, inl, inr, List, [], map, filter, flat_map, nat_le, nat_lt, lt-ltb, leb-true, subst, ap₂, get_or, None, All, find, if◌then◌else◌}
+use Rattle.counting.proofs.Common.{both_ways, cases_lt, false_from_ne_true, le-leb, not-false, All-map, All-nil, count_member, mem-rising_list, Within, count, is_odd, mem, pair_with, rising_list, rising_pairs, Set, everything, pair_set, singleton, union}
 use Rattle.graph_core.proofs.Common.{has_perfect_found, has_perfect_says, nontrivial-same, tight-same, component_count, components, is_least, IsCovered, Graph, IsGraph, HasPerfect, has_perfect, IsBicritical, IsCutPair, cut_pair, is_bicritical, equivalent_pair, IsTight, canonical_shore, is_nontrivial, joined, IsCanonicalCut, cuts_of}
 use Rattle.barrier_kit.proofs.Common.{all_flat, all_passing, all_rising, all_unfound, filter_all, flat_all, map_all, pairs_rise, rising_all, unfound_all, leads_out, cuts-canonical, cuts-none, cuts-some, has_perfect-true, listed_tight, listed_wide}
 use Rattle.separation_kit.specs.Common.{is_cut_pair, separation_cuts, separation_shores, shores_at_pair}
@@ -11,10 +11,7 @@ use Rattle.separation_kit.proofs.Separations.{separation_even, separation_nontri
 
 -- the pair in the other order
 turned : (a b v : ℕ) → pair_set a b v ≡ pair_set b a v
-turned a b v = swap (a == v) (b == v)
-  where
-    swap : (x y : Bool) → (x || y) ≡ (y || x)
-    swap x y = grind arith
+turned a b v = grind arith
 
 -- what holds of each pair a < b of the list
 pub pair_holds : (n : ℕ) (P : ℕ × ℕ → Type 0) → All P (rising_pairs n) → (a b : ℕ) → Within n a → Within n b → a < b → P (a, b)
@@ -28,15 +25,12 @@ unfolding equivalent_pair
 equivalent-none g = (
   (λ e a b wa wb d. elim (cases_lt a b) [
     | inl l ↦ matched e a b wa wb l
-    | inr l ↦ let m = matched e b a wb wa (less a b l d) in has_perfect_says g (pair_set a b) (has_perfect-true g (pair_set b a) (pair_set a b) (turned b a) m)
+    | inr l ↦ let m = matched e b a wb wa (omega (arith, d)) in has_perfect_says g (pair_set a b) (has_perfect-true g (pair_set b a) (pair_set a b) (turned b a) m)
   ]),
   (λ bi. unfound_all (λ k. not (has_perfect g (pair_set k.0 k.1))) (rising_pairs g.order) (λ i d l.
       let w = pairs_rise g.order i d l in let r = w.2 in ap not (has_perfect_found g _ (bi _ _ w.0 w.1 (λ e. omega arith))))),
 )
   where
-    less : (a b : ℕ) → b ≤ a → a ≢ b → b < a
-    less a b l d = omega (arith, d)
-
     matched : find (λ k. not (has_perfect g (pair_set k.0 k.1))) (rising_pairs g.order) ≡ None → (a b : ℕ) → Within g.order a → Within g.order b → a < b → HasPerfect g (pair_set a b)
     matched e a b wa wb l = has_perfect_says g (pair_set a b) (not-false (has_perfect g (pair_set a b))
         (pair_holds g.order (λ k. not (has_perfect g (pair_set k.0 k.1)) ≡ false) (all_unfound (λ k. not (has_perfect g (pair_set k.0 k.1))) (rising_pairs g.order) e) a b wa wb l))
@@ -73,10 +67,6 @@ pub all_pair_shores : (g : Graph) (P : List ℕ → Type 0) →
 unfolding separation_shores components
 all_pair_shores g P h = go (is_bicritical g) (nat_le 4 g.order) refl
   where
-    none_is : (o : Option (ℕ × ℕ)) → is_none o ≡ true → o ≡ None
-    none_is None t = refl
-    none_is (Some k) t = absurd (true≢false (sym t))
-
     at_pair : (k : ℕ × ℕ) → IsBicritical g → Within g.order k.0 × Within g.order k.1 × (k.0 < k.1) → is_cut_pair g k ≡ true → All P (shores_at_pair g k)
     at_pair k bi w t =
         let l = w.2 in
@@ -89,7 +79,7 @@ all_pair_shores g P h = go (is_bicritical g) (nat_le 4 g.order) refl
     each bi ks w = all_flat P (shores_at_pair g) (filter (is_cut_pair g) ks) (all_passing (is_cut_pair g) (λ k. All P (shores_at_pair g k)) ks (λ i d l t. at_pair (get_or ks i d) bi (w i d l) t))
 
     go : (s t : Bool) → is_bicritical g ≡ s → All P (if s && t then flat_map (shores_at_pair g) (filter (is_cut_pair g) (rising_pairs g.order)) else [])
-    go true true e = each ((equivalent-none g).0 (none_is (equivalent_pair g) e)) (rising_pairs g.order) (pairs_rise g.order)
+    go true true e = each ((equivalent-none g).0 (grind arith)) (rising_pairs g.order) (pairs_rise g.order)
     go true false e = All-nil P
     go false t e = All-nil P
 
@@ -155,10 +145,4 @@ module _ (g : Graph) (is : IsGraph g) where
         both_ways (is_nontrivial g.order (canonical_shore g.order (mem (rising_list g.order (pair_shore g u v k.0))))) narrow k.3
 
     pub pair_some_cut : (u v : ℕ) → IsCutPair g u v → separation_cuts g ≢ []
-    pair_some_cut u v c e = elim (cases_lt u v) [
-      | inl l ↦ rising_cut u v c l e
-      | inr l ↦ rising_cut v u (record { first = c.second; second = c.first; different = λ q. c.different (sym q); parts = subst (λ k. 2 ≤ k) (ap (component_count g) (λ i w. turned u v w i)) c.parts }) (less u v l c.different) e
-    ]
-      where
-        less : (a b : ℕ) → b ≤ a → a ≢ b → b < a
-        less a b l d = omega (arith, d)
+    pair_some_cut u v c e = grind (arith, cases_lt u v, rising_cut u v c, rising_cut v u, turned u v)

@@ -1,8 +1,8 @@
 -- Two vertices u and v without which there is a perfect matching: each component without them is
 -- even, and the cut of each together with u is tight. A perfect matching has an edge or two at u
 -- and v, and an odd shore has an odd number in its cut.
-use Rattle.std.proofs.Common.{◌≡◌, ℕ, suc, zero, ◌+◌, ◌*◌, ◌≤◌, ◌≢◌, Bool, true, false, ◌==◌, refl, sym, ap, ap₂, ◌∙◌, arith, ◌&&◌, ◌||◌, not, eq-eqb, ne_eqb, eqb-true, inl, inr}
-use Rattle.counting.proofs.Common.{true≢false, false_from_ne_true, both_ways, or_cases, count_congr, count_complement, count_plus, count_minus, count_member, member_count, odd-double, complement_odd, count_singleton, count_mono, total_congr, total_add, total_le, total_none, bit, count, Within, is_odd, Set, pair_set, none, union, minus, complement, singleton}
+use Rattle.std.proofs.Common.{◌≡◌, ℕ, suc, ◌+◌, ◌*◌, ◌≤◌, ◌≢◌, Bool, true, false, ◌==◌, refl, sym, ap, ◌∙◌, arith, ◌&&◌, ◌||◌, not, eq-eqb, ne_eqb, eqb-true, inl, inr}
+use Rattle.counting.proofs.Common.{false_from_ne_true, both_ways, or_cases, count_congr, count_complement, count_plus, count_minus, count_member, member_count, odd-double, complement_odd, count_singleton, count_mono, total_congr, total_add, total_le, total_none, bit, count, Within, is_odd, Set, pair_set, none, union, minus, complement, singleton}
 use Rattle.barrier_kit.proofs.Common.{leads_out, leader_of, leader_same, part_step, part_out, part_same, inner, ends_out}
 use Rattle.graph_core.proofs.Common.{joined_outside, walk_joined, ends_of, degree_sum, missed_edges, degrees, parity, perfect_matching, perfect_misses, nontrivial-same, tight-same, joined_self, is_least, component_count, Graph, size, first_end, second_end, IsGraph, in_cut, degree, edges_in_cut, IsPerfect, IsCutPair, IsTight, IsNontrivial, joined}
 use Rattle.match_search.proofs.NearPerfectSets.{ends_far, ends_near}
@@ -15,10 +15,7 @@ module _ (g : Graph) (is : IsGraph g) (u v : ℕ) (wu : Within g.order u) (wv : 
   pair_u = rw (eq-eqb u u refl) refl
 
   pair_v : pair v ≡ true
-  pair_v = right (u == v) (v == v) (eq-eqb v v refl)
-    where
-      right : (a b : Bool) → b ≡ true → (a || b) ≡ true
-      right a b h = grind arith
+  pair_v = grind arith
 
   alike : (k a b : Bool) → (k ≡ true → a ≡ b) → (k && ((a && not b) || (not a && b))) ≡ false
   alike k a b h = grind arith
@@ -41,14 +38,10 @@ module _ (g : Graph) (is : IsGraph g) (u v : ℕ) (wu : Within g.order u) (wv : 
     pub even_part : is_odd (count g.order part) ≡ false
     even_part =
         let k = inner g n part in
-        let a = total_congr g.order (λ x. bit (part x)) (λ x. bit (part x) * degree g n x) (λ x w. ones x w (part x) refl) in
+        let a = total_congr g.order (λ x. bit (part x)) (λ x. bit (part x) * degree g n x) (λ x w. grind (arith, joined_outside, leads_out)) in
         let b = degrees g is n part in
         let z = total_none (size g) (λ e. bit (n e && in_cut g part e)) (λ e w. ap bit (alike (n e) (part (first_end g e)) (part (second_end g e)) (λ t. let o = ends_out g pair n is pn e w t in part_step g pair l e is wl w o.0 o.1))) in
         let q : count g.order part ≡ k + k = omega arith in ap is_odd q ∙ odd-double k
-      where
-        ones : (x : ℕ) → Within g.order x → (c : Bool) → part x ≡ c → bit (part x) ≡ bit (part x) * degree g n x
-        ones x w true t = rw t (let a = pn.once x w (joined_outside g pair is l x (leads_out g pair l ll) t) in omega arith)
-        ones x w false t = rw t (omega arith)
 
     abbrev shore : Set
     shore = union part (singleton u)
@@ -61,43 +54,21 @@ module _ (g : Graph) (is : IsGraph g) (u v : ℕ) (wu : Within g.order u) (wv : 
 
     -- an edge in the cut has an end u or an end v
     at_pair : (e : ℕ) → Within (size g) e → in_cut g shore e ≡ true → 1 ≤ ends_of g e u + ends_of g e v
-    at_pair e w h = go (pair (first_end g e)) (pair (second_end g e)) refl refl
+    at_pair e w h = grind (arith, hit, ends_near, ends_far, part_step, both_ways)
       where
         hit : (x : ℕ) → 1 ≤ ends_of g e x → pair x ≡ true → 1 ≤ ends_of g e u + ends_of g e v
-        hit x o t = elim (or_cases (u == x) (v == x) t) [
-          | inl q ↦ let a = ap (ends_of g e) (eqb-true u x q) in omega arith
-          | inr q ↦ let a = ap (ends_of g e) (eqb-true v x q) in omega arith
-        ]
-
-        left : (a b : Bool) → (a || b) ≡ false → a ≡ false
-        left a b h = grind arith
-
-        go : (a b : Bool) → pair (first_end g e) ≡ a → pair (second_end g e) ≡ b → 1 ≤ ends_of g e u + ends_of g e v
-        go true b p q = hit (first_end g e) (ends_near g e) p
-        go false true p q = hit (second_end g e) (ends_far g e) q
-        go false false p q =
-            let s = part_step g pair l e is wl w p q in
-            let x = left (u == first_end g e) _ p in let y = left (u == second_end g e) _ q in
-            absurd (both_ways (in_cut g shore e) (alike true (shore (first_end g e)) (shore (second_end g e)) (λ t. ap₂ (λ a b. a || b) s (x ∙ sym y))) h)
+        hit x o t = grind arith
 
     shore_cut : (m : Set) → IsPerfect g none m → edges_in_cut g m shore ≡ 1
     shore_cut m p =
-        let a = total_le (size g) (λ e. bit (m e && in_cut g shore e)) (λ e. bit (m e) * ends_of g e u + bit (m e) * ends_of g e v) (λ e w. each e w (m e) (in_cut g shore e) refl) in
+        let a = total_le (size g) (λ e. bit (m e && in_cut g shore e)) (λ e. bit (m e) * ends_of g e u + bit (m e) * ends_of g e v) (λ e w. grind (arith, at_pair)) in
         let b = total_add (size g) (λ e. bit (m e) * ends_of g e u) (λ e. bit (m e) * ends_of g e v) in
         let c = degree_sum g m u in let f = degree_sum g m v in
         let i = p.once u wu refl in let j = p.once v wv refl in
         settle (edges_in_cut g m shore) (inner g m shore) (count g.order shore) (parity g is m shore p) shore_odd (omega arith)
       where
-        each : (e : ℕ) → Within (size g) e → (x y : Bool) → in_cut g shore e ≡ y → bit (x && y) ≤ bit x * ends_of g e u + bit x * ends_of g e v
-        each e w false y t = omega arith
-        each e w true false t = omega arith
-        each e w true true t = let a = at_pair e w t in omega arith
-
         settle : (c k x : ℕ) → x ≡ c + 2 * k → is_odd x ≡ true → c ≤ 2 → c ≡ 1
-        settle zero k x e o h = let q : x ≡ k + k = omega arith in absurd (both_ways (is_odd x) (ap is_odd q ∙ odd-double k) o)
-        settle (suc zero) k x e o h = refl
-        settle (suc (suc zero)) k x e o h = let q : x ≡ (k + 1) + (k + 1) = omega arith in absurd (both_ways (is_odd x) (ap is_odd q ∙ odd-double (k + 1)) o)
-        settle (suc (suc (suc c))) k x e o h = absurd (omega arith)
+        settle c k x e o h = grind (arith, both_ways (is_odd x), odd-double k, odd-double (k + 1))
 
     pub shore_tight : IsTight g shore
     shore_tight = record { odd = shore_odd; odd_complement = complement_odd g.order shore even_order shore_odd; cut = shore_cut }
@@ -106,9 +77,7 @@ module _ (g : Graph) (is : IsGraph g) (u v : ℕ) (wu : Within g.order u) (wv : 
     two_in = go (count g.order part) (member_count g.order part l wl (walk_joined g pair is l l wl (joined_self g pair l))) even_part
       where
         go : (k : ℕ) → 1 ≤ k → is_odd k ≡ false → 2 ≤ k
-        go zero h e = absurd (omega arith)
-        go (suc zero) h e = absurd (true≢false e)
-        go (suc (suc k)) h e = omega arith
+        go k h e = grind arith
 
   -- with two components, each and u make a nontrivial set
   pub shore_nontrivial : (l : ℕ) → Within g.order l → is_least g pair l ≡ true → 2 ≤ component_count g pair → IsNontrivial g.order (union (joined g pair l) (singleton u))

@@ -1,5 +1,5 @@
 -- Ranges of the numbers of a text.
--- Stated by: text_faults, tree_text, ear_text. Rests on it: graph_text, move_text, bench_top.
+-- Stated by: text_faults, tree_text, ear_text. Rests on it: graph_text, move_text.
 use Rattle.std.specs.Prelude.{ℕ, ◌==◌, ◌||◌, nat_lt, Bool}
 
 -- v is 0 or over n

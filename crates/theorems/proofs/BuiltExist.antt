@@ -1,7 +1,7 @@
 -- For every graph there is a report of `ears`, of `convert` and, in each order of choice, of
 -- `decompose`, and for every seed one of `grow`. A covered graph has an ear decomposition, and in
 -- each order a derivation; names that a file gives are words, and so the texts are read again.
-use Rattle.std.proofs.Common.{◌≡◌, ℕ, zero, suc, ◌+◌, ◌-◌, ◌≤◌, List, length, map, true, Option, Some, None, refl, sym, subst, arith, inl, inr}
+use Rattle.std.proofs.Common.{◌≡◌, ℕ, zero, suc, ◌-◌, ◌≤◌, List, length, map, true, Option, Some, None, refl, sym, subst, arith, inl, inr}
 use Rattle.std.specs.Option.{ForSome}
 use Rattle.contraction.specs.Partition.{PartitionValue}
 use Rattle.ear_core.proofs.Stepping.{covered-edge}
@@ -12,10 +12,10 @@ use Rattle.graph_text.proofs.NamedReadBack.{Stands-named_text}
 use Rattle.graph_text.proofs.PlainNames.{is_name-plain, length-plain_names, plain-fresh, plain_names-more, plain_names-none}
 use Rattle.graph_text.specs.Common.{NamedGraph, AreNames, plain_name, plain_names, FitsNames, graph_text, named_text}
 use Rattle.bench_outcomes.proofs.GrownSizes.{sound-from, grown-multigraph}
-use Rattle.grow_gen.proofs.SoundGrowth.{IsSound, sound-first, sound-next}
-use Rattle.grow_gen.specs.Common.{Growth, first_growth, grown, growth_from, with_piece, further_piece}
-use Rattle.rand_pcg.specs.Lcg.{Lcg, increment_of, started}
-use Rattle.rand_pcg.specs.Pcg.{multiplier_64, pcg32}
+use Rattle.grow_gen.proofs.SoundGrowth.{sound-first}
+use Rattle.grow_gen.specs.Common.{first_growth, grown}
+use Rattle.rand_pcg.specs.Lcg.{increment_of, started}
+use Rattle.rand_pcg.specs.Pcg.{multiplier_64}
 use Rattle.report_text.proofs.CommentLines.{given_names-commented}
 use Rattle.report_text.proofs.Comments.{commented-none}
 use Rattle.tree_core.proofs.Common.{blocks-of_leaves, AreLeafKinds, IsDerivation, leaves, partitions_of, Shape, partitions-leaves}

@@ -1,8 +1,8 @@
 -- Matchings inside a set of vertices: edges that meet each vertex of it once, and do not cross
 -- it, are a perfect matching of the graph that it induces.
-use Rattle.std.proofs.Common.{◌≡◌, ℕ, suc, zero, ◌+◌, ◌≤◌, Bool, true, false, ◌==◌, refl, sym, ap, ap₂, ◌∙◌, arith, ◌&&◌, ◌||◌, not, eqb-true, subst, inl, inr}
-use Rattle.counting.proofs.Common.{true≢false, not-false, not-true, total_congr, total_none, Within, bit, Set}
-use Rattle.graph_core.proofs.Common.{degree-inside, degree-inside_off, ends_le_degree, one_end, Graph, HasEnds, degree, first_end, in_cut, inside, second_end, size}
+use Rattle.std.proofs.Common.{◌≡◌, ℕ, suc, zero, ◌≤◌, Bool, true, false, refl, sym, ◌∙◌, arith, ◌&&◌, ◌||◌, not, subst, inl, inr}
+use Rattle.counting.proofs.Common.{true≢false, not-false, not-true, Within, Set}
+use Rattle.graph_core.proofs.Common.{degree-inside, degree-inside_off, ends_le_degree, one_end, Graph, HasEnds, degree, first_end, in_cut, second_end, size}
 use Rattle.theorems.specs.Matchings.{MatchesWithin}
 
 -- edges that meet each vertex of x once, of which none crosses x: those inside x are a perfect

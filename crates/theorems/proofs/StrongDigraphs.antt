@@ -4,7 +4,7 @@
 -- what a walk that keeps away from both leads to.
 use Rattle.std.proofs.Common.{◌≡◌, ◌≢◌, ℕ, Bool, true, false, cond, ◌==◌, refl, sym, ap, ◌∙◌, arith, ◌&&◌, ◌||◌, ◌↔◌, not, eq-eqb, ne_eqb, inl, inr, List, [], ◌∷◌}
 use Rattle.counting.proofs.Common.{and_from, and_parts, both_ways, not-true, Within, Set, complement, none}
-use Rattle.graph_core.proofs.Common.{IsClosed, Walk-stays, adjacent-edge, adjacent_within, IsCovered, Graph, IsGraph, IsPerfect, IsSide, HasOnlyTrivialTightCuts, IsNontrivial, IsTight, Walk, adjacent}
+use Rattle.graph_core.proofs.Common.{IsClosed, Walk-stays, adjacent-edge, adjacent_within, IsCovered, Graph, IsGraph, IsPerfect, IsSide, HasOnlyTrivialTightCuts, Walk, adjacent}
 use Rattle.matching_digraph.proofs.ArcRows.{past-walks}
 use Rattle.matching_digraph.proofs.Shores.{second_member}
 use Rattle.matching_digraph.proofs.Spans.{none_at_all, none_spans}

@@ -1,8 +1,8 @@
 -- Lists of candidates as the code makes them: one shore more, and the candidates of a list of
 -- canonical shores. Idea: a candidate goes by its shore alone, and a set and its rising list have
 -- the same numbers on both sides.
-use Rattle.std.proofs.Common.{◌≡◌, ℕ, ◌-◌, Bool, true, false, refl, sym, ap, ap₂, ◌∙◌, arith, ◌&&◌, ◌||◌, not, List, [], ◌∷◌, ◌++◌, map, length, if◌then◌else◌, fold, rules}
-use Rattle.counting.proofs.Common.{list_any, true≢false, count_congr, count_complement, count_mem_length, mem-rising_list, but_from, count, mem, is_subset, rising_list, IsRisingIn, Set, complement}
+use Rattle.std.proofs.Common.{◌≡◌, ℕ, ◌-◌, Bool, true, false, refl, sym, ap, ◌∙◌, arith, ◌&&◌, ◌||◌, not, List, [], ◌∷◌, ◌++◌, map, length, if◌then◌else◌, fold}
+use Rattle.counting.proofs.Common.{list_any, count_congr, count_complement, count_mem_length, mem-rising_list, but_from, mem, is_subset, rising_list, IsRisingIn, Set, complement}
 use Rattle.graph_core.proofs.Common.{canonical-nontrivial, canonical_list, is_listed, with_cut, Graph, in_cut, is_nontrivial, canonical_shore}
 use Rattle.tight_cuts.specs.Common.{Candidate, Origin, candidate, candidate_at, cuts, shores_of, with_list, candidate_of}
 use Rattle.tight_cuts.specs.declared.candidate.Candidate.{Candidate as StoredCandidate}

@@ -1,6 +1,6 @@
 -- The candidates: none twice, each tight if the shores of the first two parts are, and each
 -- edge of a nontrivial tight cut in a candidate's cut.
-use Rattle.std.proofs.Common.{◌≡◌, ℕ, true, refl, sym, ap, ◌∙◌, arith, List, [], ◌∷◌, ◌↔◌, subst, All, fold, rules}
+use Rattle.std.proofs.Common.{◌≡◌, ℕ, true, refl, sym, ap, ◌∙◌, arith, List, [], ◌∷◌, ◌↔◌, subst, All, fold}
 use Rattle.counting.proofs.Common.{true≢false, not-true, All-nil, All-head, All-tail, count_member, list_any, Within, mem, Set, complement}
 use Rattle.std.specs.List.{AllPairs}
 use Rattle.tight_cuts.specs.Common.{ShoresDiffer, Barrier, Separation, cuts, front_candidates, Origin, Candidate, with_list, candidates, IsTightCandidate}

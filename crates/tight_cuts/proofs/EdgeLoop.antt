@@ -1,11 +1,11 @@
 -- The loop over the edges. Idea: what an edge gives is tight, and if some nontrivial tight set
 -- has the edge in its cut, so has a candidate then.
-use Rattle.std.proofs.Common.{◌≡◌, ℕ, suc, zero, ◌≤◌, Bool, true, false, cond, ◌==◌, refl, sym, ap, ap₂, ◌∙◌, arith, ◌&&◌, ◌||◌, not, inl, inr, ◌⊎◌, List, [], ◌∷◌, subst, map, flat_map, Option, Some, None, eq-eqb, ne_eqb, eqb-true, min, max, All, if◌then◌else◌, find, fold, rules}
-use Rattle.counting.proofs.Common.{cases_eq, cases_lt, cases_Bool, and_parts, and_from, or_from, or_left, or_right, true≢false, both_ways, not-true, list_any-append, count_minus, count_member, some_true, some_none, some_congr, or_false, list_any, Within, rising_list, ordered_pairs, pair_with, Set, complement, minus, singleton, everything, pair_set, some}
+use Rattle.std.proofs.Common.{◌≡◌, ℕ, suc, zero, ◌≤◌, Bool, true, false, cond, ◌==◌, refl, sym, ap, ap₂, ◌∙◌, arith, ◌&&◌, ◌||◌, not, inl, inr, ◌⊎◌, List, [], ◌∷◌, subst, map, flat_map, Option, Some, None, eq-eqb, ne_eqb, eqb-true, All, find, fold}
+use Rattle.counting.proofs.Common.{cases_eq, cases_lt, cases_Bool, and_parts, or_from, or_left, or_right, true≢false, both_ways, not-true, list_any-append, count_minus, count_member, some_true, some_none, some_congr, or_false, list_any, Within, rising_list, ordered_pairs, pair_with, Set, complement, minus, singleton, everything, pair_set, some}
 use Rattle.std.proofs.lemmas.List.Sums.{fold_push}
 use Rattle.std.specs.List.{AllPairs}
 use Rattle.tight_cuts.specs.Common.{ShoresDiffer, Flow, cuts, lesser_end, greater_end, first_separated, Candidate, is_separated, common_shore, with_pair, with_edge_cut, IsTightCandidate, SeparatesTightly}
-use Rattle.graph_core.proofs.Common.{has_ends-cases, IsCovered, Graph, size, first_end, second_end, IsGraph, in_cut, has_ends, IsTight, IsNontrivial}
+use Rattle.graph_core.proofs.Common.{IsCovered, Graph, size, first_end, second_end, IsGraph, in_cut, has_ends, IsTight, IsNontrivial}
 use Rattle.tight_cuts.proofs.LeastShores.{separated_says, separated_found, common_parts, parts_nontrivial}
 use Rattle.tight_cuts.proofs.PairsOfEdges.{cut_between}
 use Rattle.tight_cuts.proofs.Shores.{with_found, with_apart, with_grows, with_covers}
@@ -53,10 +53,6 @@ no_pair n p h x y wx wy = some_none n (λ b. p (x, b)) (some_none n (λ a. some 
 
 pub ends_between : (g : Graph) (e : ℕ) → has_ends g (lesser_end g e) (greater_end g e) e ≡ true
 ends_between g e = grind arith
-
--- the ends of an edge of a cut
-sides : (g : Graph) (x : Set) (a b e : ℕ) → has_ends g a b e ≡ true → in_cut g x e ≡ true → ((x a ≡ true) × (x b ≡ false)) ⊎ ((x a ≡ false) × (x b ≡ true))
-sides g x a b e h c = grind arith
 
 module _ (g : Graph) (is : IsGraph g) (cov : IsCovered g) (e : ℕ) (we : Within (size g) e) where
   low_within : Within g.order (lesser_end g e)

@@ -1,7 +1,7 @@
 -- The network as the code makes it, edge by edge, is the contracted network of a pair list.
 -- Idea: one edge more is one arc more or none; equal rows give equal arcs.
-use Rattle.std.proofs.Common.{◌≡◌, ℕ, suc, zero, ◌+◌, ◌≤◌, ◌<◌, Bool, true, false, cond, ◌==◌, sym, ap, ap₂, ◌∙◌, arith, List, [], ◌∷◌, ◌++◌, sum_by, inl, inr, rules}
-use Rattle.counting.proofs.Common.{cases_eq, sum_by-cons, total}
+use Rattle.std.proofs.Common.{◌≡◌, ℕ, suc, zero, ◌+◌, ◌≤◌, ◌<◌, ap, arith, List, ◌++◌, sum_by, inl, inr}
+use Rattle.counting.proofs.Common.{cases_eq, total}
 use Rattle.std.proofs.lemmas.List.Sums.{sum_by-append}
 use Rattle.flow_core.specs.Common.{Arc}
 use Rattle.graph_core.proofs.Common.{Graph, first_end, second_end}

@@ -1,13 +1,13 @@
 -- The search over pairs in lexicographic order finds the first pair that is separated. Idea: a pair
 -- of which a vertex does not lead its piece is separated only if the earlier one of the leaders is.
-use Rattle.std.proofs.Common.{◌≡◌, ℕ, ◌+◌, ◌<◌, Bool, true, false, ◌==◌, refl, sym, ap, ap₂, ◌∙◌, arith, not, ◌&&◌, inl, inr, ◌⊎◌, List, Option, Some, None, subst, eq-eqb, eqb-true, rules}
-use Rattle.counting.proofs.Common.{and_parts, cases_eq, cases_lt, not-true, true≢false, both_ways, false_from_ne_true, Within, mem, pair_set}
+use Rattle.std.proofs.Common.{◌≡◌, ℕ, ◌+◌, ◌<◌, Bool, true, false, ◌==◌, refl, ap, ap₂, ◌∙◌, arith, not, ◌&&◌, inl, inr, ◌⊎◌, List, Option, Some, None, eq-eqb}
+use Rattle.counting.proofs.Common.{cases_eq, cases_lt, both_ways, Within, pair_set}
 use Rattle.graph_core.proofs.Common.{IsCovered, Graph, size, IsWithinLimits}
 use Rattle.tight_cuts.proofs.EdgeLoop.{first_pair, no_pair, ends_between}
 use Rattle.tight_cuts.proofs.EdgeShores.{ends_apart, lesser_within, greater_within, least_leads}
 use Rattle.tight_cuts.proofs.FirstPairs.{before_first, first_leads, no_first}
 use Rattle.tight_cuts.proofs.LeastShores.{separated_says}
-use Rattle.tight_cuts.specs.Common.{lesser_end, greater_end, is_separated, first_separated, AreLeaders, IsShoreOfEdge, IsShoreOfPair, Leads, NoneBefore, at_place}
+use Rattle.tight_cuts.specs.Common.{lesser_end, greater_end, is_separated, first_separated, AreLeaders, Leads, NoneBefore, at_place}
 
 module _ (g : Graph) (lim : IsWithinLimits g) (cov : IsCovered g) (e : ℕ) (we : Within (size g) e) (leaders : List ℕ) (ld : AreLeaders g (lesser_end g e) (greater_end g e) e leaders) where
   abbrev separated : ℕ × ℕ → Bool
@@ -24,10 +24,6 @@ module _ (g : Graph) (lim : IsWithinLimits g) (cov : IsCovered g) (e : ℕ) (we 
   -- if no pair of different leaders is separated from a pair on, none is
   abbrev pub LeadersBefore : ℕ → ℕ → Type 0
   LeadersBefore x y = (c d : ℕ) → Leads g (lesser_end g e) (greater_end g e) leaders c → Leads g (lesser_end g e) (greater_end g e) leaders d → (c < x) ⊎ ((c ≡ x) × (d < y)) → separated (c, d) ≡ false
-
-  -- a pair is separated only between different vertices
-  unequal : (x : ℕ) → separated (x, x) ≡ false
-  unequal x = false_from_ne_true (separated (x, x)) (λ t. let p = separated_says g (lesser_end g e) (greater_end g e) (x, x) t in true≢false (sym p.2.1.has_x ∙ p.2.1.lacks_y))
 
   -- no leaders' pair before (x, y) is separated: then no pair before it is
   pub none_before : (x y : ℕ) → LeadersBefore x y → NoneBefore g e x y
@@ -64,29 +60,10 @@ module _ (g : Graph) (lim : IsWithinLimits g) (cov : IsCovered g) (e : ℕ) (we 
   pub none_at_all : (x : ℕ) → g.order < x → NoneBefore g e x 1 → first_separated g e ≡ None
   none_at_all x l h = no_first g.order (is_separated g (lesser_end g e) (greater_end g e)) (λ c d wc wd. h c d wc wd (inl (let w = wc.1 in omega arith)))
 
-  -- a pair that gives its shore with none before it: the edge gives that
-  pub found_shore : (x y : ℕ) → Within g.order x → Within g.order y → NoneBefore g e x y → (answer : Option (List ℕ)) → IsShoreOfPair g e (x, y) answer → (s : List ℕ) → answer ≡ Some s → IsShoreOfEdge g e (Some s)
-  found_shore x y wx wy h answer p s q = grind (arith, first_is x y wx wy h)
-
-  -- one pair more
-  pub next_pair : (x y : ℕ) → NoneBefore g e x y → separated (x, y) ≡ false → NoneBefore g e x (y + 1)
-  next_pair x y h f c d wc wd b = grind arith
-
-  -- a vertex more as the second: it does not lead a piece, or is the first itself
-  pub skip_second : (x y : ℕ) → NoneBefore g e x y → (Leads g (lesser_end g e) (greater_end g e) leaders y → x ≡ y) → NoneBefore g e x (y + 1)
-  skip_second x y h n = grind (arith, none_before x (y + 1), cases_lt, unequal x)
-
   -- a vertex more as the first that does not lead a piece
   pub skip_first : (x : ℕ) → NoneBefore g e x 1 → (Leads g (lesser_end g e) (greater_end g e) leaders x → ⊥) → NoneBefore g e (x + 1) 1
   skip_first x h n = grind (arith, none_before (x + 1) 1, cases_lt)
 
-  -- at one pair: what a pair of different leaders gives, or nothing
-  pub pair_not : (x y : ℕ) → NoneBefore g e x y → (answer : Option (List ℕ)) → IsShoreOfPair g e (x, y) answer → answer ≡ None → NoneBefore g e x (y + 1)
-  pair_not x y h answer p q = next_pair x y h (p.none q)
-
 -- what the test of a leader says
 pub leads-test : (g : Graph) (e : ℕ) (leaders : List ℕ) (a b x : ℕ) → a ≡ lesser_end g e → b ≡ greater_end g e → Leads g (lesser_end g e) (greater_end g e) leaders x → (not (pair_set a b x) && (at_place leaders x == x)) ≡ true
 leads-test g e leaders a b x qa qb l = ap (λ t. not t && (at_place leaders x == x)) (ap₂ (λ i j. pair_set i j x) qa qb ∙ l.outside) ∙ eq-eqb (at_place leaders x) x l.itself
-
-pub leads-found : (g : Graph) (leaders : List ℕ) (a b x : ℕ) → Within g.order x → (not (pair_set a b x) && (at_place leaders x == x)) ≡ true → Leads g a b leaders x
-leads-found g leaders a b x w l = grind arith

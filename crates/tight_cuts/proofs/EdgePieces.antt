@@ -1,14 +1,14 @@
 -- What the pairs with one first vertex x give, by one set: the intersection of all tight sets
 -- that have x and an end of the edge, not the other. Idea: that intersection is one of these
 -- sets, so a pair (x, y) is separated exactly when it lacks y, and then it is the common shore.
-use Rattle.std.proofs.Common.{◌≡◌, ◌≢◌, ℕ, ◌+◌, true, false, not, ◌==◌, refl, sym, ap, ◌∙◌, arith, inl, inr, List, Option, Some, None, eq-eqb, ne_eqb, rules}
-use Rattle.counting.proofs.Common.{same_tests, cases_lt, true≢false, both_ways, false_from_ne_true, cases_Bool, or_from, or_left, or_right, complement, Within, mem, Set, pair_set}
+use Rattle.std.proofs.Common.{◌≡◌, ◌≢◌, ℕ, ◌+◌, true, false, not, ◌==◌, refl, sym, ap, ◌∙◌, arith, inl, inr, List, Option, Some, None, eq-eqb}
+use Rattle.counting.proofs.Common.{same_tests, cases_lt, both_ways, false_from_ne_true, cases_Bool, or_left, or_right, complement, Within, mem, Set, pair_set}
 use Rattle.barrier_kit.proofs.Common.{tight-turned}
 use Rattle.graph_core.proofs.Common.{IsCovered, Graph, IsGraph, size, IsWithinLimits}
 use Rattle.tight_cuts.proofs.EdgeLoop.{ends_between, first_pair, no_pair}
 use Rattle.tight_cuts.proofs.EdgeShores.{allowed, greater_within, lesser_within}
 use Rattle.tight_cuts.proofs.FirstPairs.{before_first, no_first}
-use Rattle.tight_cuts.proofs.LeastShores.{common_from, common_in, common_parts, separated_found, separated_says}
+use Rattle.tight_cuts.proofs.LeastShores.{common_from, common_in, common_parts, separated_says}
 use Rattle.tight_cuts.specs.Common.{common_shore, first_separated, greater_end, is_separated, lesser_end, AreWhole, IsCommonShore, IsShoreOfEdge, NoneBefore, SeparatesTightly}
 
 -- a set that separates x from y separates x from b alone

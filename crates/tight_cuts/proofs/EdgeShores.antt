@@ -1,21 +1,16 @@
 -- What the groups of two pieces, or of one, give as the code finds it: a least cut of their
 -- network within the number of listed matchings. Idea: the network of the rows is the contracted
 -- network of the list, and the leaders give its groups.
-use Rattle.std.proofs.Common.{◌≡◌, ℕ, suc, zero, ◌*◌, ◌≤◌, ◌<◌, ◌^◌, ◌≢◌, true, false, ◌==◌, ◌&&◌, ◌||◌, not, get_or, refl, sym, ap, ap₂, ◌∙◌, arith, inl, inr, List, [], ◌∷◌, ◌++◌, length, subst, subst₂, Option, Some, None, ◌↔◌, All, rules}
-use Rattle.counting.proofs.Common.{cases_lt, count_congr, false_from_ne_true, or_comm, sum_by-cons, bit_le_one, bit, complement, count, is_odd, Within, total, mem, Set, pair_set}
-use Rattle.std.proofs.Math.Path.{fun_ext}
-use Rattle.graph_core.proofs.Common.{has_ends-cases, tight-same, components, is_least, IsCovered, Graph, size, edges_in_cut, first_end, second_end, has_ends, IsGraph, IsTight, Allowed, IsWithinLimits}
-use Rattle.flow_core.specs.Common.{IfCut, IsCut, Net, HasCutWithin, IsLeastCut}
-use Rattle.flow_core.specs.declared.cut.CutAnswer.{CutAnswer}
-use Rattle.flow_core.specs.declared.cut.CutAnswer.TheVariants.{Cut, Exceeds}
-use Rattle.flow_core.specs.declared.flow.Flow.{Flow}
+use Rattle.std.proofs.Common.{◌≡◌, ℕ, suc, zero, ◌*◌, ◌≤◌, ◌<◌, ◌^◌, ◌≢◌, true, false, ◌&&◌, ◌||◌, not, get_or, refl, sym, ap, ap₂, ◌∙◌, arith, inl, inr, List, [], ◌∷◌, length, subst, subst₂, Option, Some, None, All, rules}
+use Rattle.counting.proofs.Common.{cases_lt, count_congr, sum_by-cons, bit_le_one, complement, count, is_odd, Within, total, mem, Set, pair_set}
+use Rattle.graph_core.proofs.Common.{tight-same, components, is_least, IsCovered, Graph, size, edges_in_cut, first_end, second_end, has_ends, IsGraph, IsTight, Allowed, IsWithinLimits}
+use Rattle.flow_core.specs.Common.{Net, HasCutWithin, IsLeastCut}
 use Rattle.tight_cuts.proofs.LeanLists.{grown_length}
 use Rattle.tight_cuts.proofs.LeaderGroups.{leaders_group}
 use Rattle.tight_cuts.proofs.Leaders.{leader-least, leader-fixed}
-use Rattle.tight_cuts.proofs.LeastShores.{separated_found, separated_says}
 use Rattle.tight_cuts.proofs.Networks.{back, back_odd, least_back, least_common, least_once, parts_nodes}
 use Rattle.tight_cuts.proofs.PiecesOfEdges.{beside_graph}
-use Rattle.tight_cuts.specs.Common.{lesser_end, greater_end, is_separated, common_shore, AreGroups, AreLeaders, AreLeadersAt, AreWeights, IsBeyond, IsCommonShore, IsCutOfGroups, IsShoreOfPair, Leads, arc_between, arcs_by, at_place, group_net, row_group, weight, SeparatesTightly, arcs_of, contracted_net, group_of, leader, IsGrouping}
+use Rattle.tight_cuts.specs.Common.{lesser_end, greater_end, common_shore, AreGroups, AreLeaders, AreLeadersAt, AreWeights, IsBeyond, IsCommonShore, IsCutOfGroups, Leads, arcs_by, at_place, group_net, row_group, weight, SeparatesTightly, arcs_of, contracted_net, group_of, leader, IsGrouping}
 
 -- a total of numbers up to 2048
 pub total_small : (n : ℕ) (f : ℕ → ℕ) → ((v : ℕ) → Within n v → f v ≤ 2048) → total n f ≤ 2048 * n
@@ -67,18 +62,9 @@ ends_within g is a b e we h = grind arith
 ends_differ : (g : Graph) (a b e : ℕ) → first_end g e ≢ second_end g e → has_ends g a b e ≡ true → a ≢ b
 ends_differ g a b e d h q = grind arith
 
-ends_turned : (g : Graph) (a b e : ℕ) → has_ends g a b e ≡ true → has_ends g b a e ≡ true
-ends_turned g a b e h = or_comm (first_end g e == b && second_end g e == a) (first_end g e == a && second_end g e == b) ∙ h
-
-pair_turned : (a b : ℕ) → ◌≡◌ {A = Set} (pair_set a b) (pair_set b a)
-pair_turned a b = fun_ext (λ v. or_comm (a == v) (b == v))
-
 module _ (g : Graph) (is : IsGraph g) (a b e : ℕ) (wa : Within g.order a) (wb : Within g.order b) (ab : a ≢ b) (we : Within (size g) e) (ends : has_ends g a b e ≡ true) (leaders : List ℕ) (ld : AreLeaders g a b e leaders) where
   beside_is : IsGraph ld.beside
   beside_is = beside_graph g ld.beside is a b e wa wb we ends ld.is
-
-  inside : (v : ℕ) → Within g.order v → Within ld.beside.order v
-  inside v w = subst (λ n. Within n v) (sym ld.is.order) w
 
   -- a vertex that leads a piece is its least vertex
   pub leads_least : (x : ℕ) → Leads g a b leaders x → is_least ld.beside (pair_set a b) x ≡ true
@@ -205,26 +191,4 @@ named_leads g a b leaders x qa qb at = subst₂ (λ i j. Leads g i j leaders x) 
 pub named_leaders : (g : Graph) (a b e : ℕ) (leaders : List ℕ) {l h : ℕ} → a ≡ l → b ≡ h → AreLeadersAt g l h e leaders → AreLeadersAt g a b e leaders
 named_leaders g a b e leaders qa qb at = subst₂ (λ i j. AreLeadersAt g i j e leaders) (sym qa) (sym qb) at
 
--- the row serves for the ends in either order
-pub leaders_turned : (g : Graph) (a b e : ℕ) (leaders : List ℕ) → AreLeadersAt g a b e leaders → AreLeadersAt g b a e leaders
-leaders_turned g a b e leaders at = grind arith
-
--- the common shore of two pieces is what their pair gives
-pub pair-from_common : (g : Graph) (e : ℕ) (leaders : List ℕ) (x y : ℕ) → IsWithinLimits g → IsCovered g → Within (size g) e → Leads g (lesser_end g e) (greater_end g e) leaders x → Leads g (lesser_end g e) (greater_end g e) leaders y → (answer : Option (List ℕ)) → IsCommonShore g (lesser_end g e) (greater_end g e) (x, y) answer → IsShoreOfPair g e (x, y) answer
-pair-from_common g e leaders x y lim cov we lx ly answer h = record {
-  some = λ s q. let c = h.some s q in (
-    separated_found g (lesser_end g e) (greater_end g e) (x, y) c.0.0 lim.multigraph.ends (lesser_within g lim cov e we) (greater_within g lim cov e we) lx.within ly.within lx.outside ly.outside c.0.1,
-    c.1,
-  );
-  none = λ q. false_from_ne_true (is_separated g (lesser_end g e) (greater_end g e) (x, y)) (λ t. let p = separated_says g (lesser_end g e) (greater_end g e) (x, y) t in h.none q p.2.0 p.2.1);
-}
-
 module _ (g : Graph) (weights leaders : List ℕ) (bound x y a b : ℕ) (net : Net) (is_net : net ≡ group_net g weights leaders a b x y) where
-  -- a cut within the bound
-  pub cut_answer : (answer : CutAnswer) → IfCut answer (λ set value. IsLeastCut net a b set value × (value ≤ bound)) → (set : List ℕ) (value : ℕ) → answer ≡ Cut set value →
-      (shore : List ℕ) → ((v : ℕ) → Within g.order v → mem shore v ≡ mem set (row_group a b x y leaders v)) → IsCutOfGroups g weights leaders bound a b x y (Some shore)
-  cut_answer answer h set value q shore same = grind arith
-
-  -- a flow above it shows that there is none
-  pub flow_answer : (answer : CutAnswer) → IsCut answer ↔ HasCutWithin net a b bound → (flow : Flow) → answer ≡ Exceeds flow → IsCutOfGroups g weights leaders bound a b x y None
-  flow_answer answer h flow q = grind arith

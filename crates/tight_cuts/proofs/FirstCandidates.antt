@@ -1,12 +1,12 @@
 -- The first candidate stays while edges add more, and edges in the cut of a candidate add none.
 -- Idea: an edge leaves the list or appends to it.
-use Rattle.std.proofs.Common.{◌≡◌, ℕ, suc, zero, ◌≤◌, Bool, true, false, refl, sym, ap, ◌∙◌, arith, List, [], ◌∷◌, ◌++◌, Option, Some, None, map, slice_get, inl, inr, ◌↔◌, subst, All, if◌then◌else◌, rules}
-use Rattle.counting.proofs.Common.{list_any, cases_eq, All-head, Within, Set}
+use Rattle.std.proofs.Common.{◌≡◌, ℕ, suc, zero, ◌≤◌, true, refl, sym, ap, ◌∙◌, arith, List, [], Option, Some, None, map, slice_get, inl, inr, ◌↔◌, All}
+use Rattle.counting.proofs.Common.{list_any, cases_eq, Within}
 use Rattle.std.specs.Option.{option_map}
 use Rattle.graph_core.proofs.Common.{Graph, size}
 use Rattle.tight_cuts.proofs.EdgeLoop.{after_edges, after_suc}
 use Rattle.tight_cuts.proofs.FrontCandidates.{edge-known, edges-all}
-use Rattle.tight_cuts.specs.Common.{Candidate, Flow, Origin, candidates, common_shore, cuts, first_of, first_separated, front_candidates, greater_end, lesser_end, with_edge_cut, with_pair, with_shore, candidate_of}
+use Rattle.tight_cuts.specs.Common.{Candidate, candidates, cuts, first_of, front_candidates, with_edge_cut, candidate_of}
 use Rattle.tight_cuts.specs.declared.candidate.Candidate.{Candidate as StoredCandidate}
 
 -- the first candidate is that at place 0
@@ -16,12 +16,6 @@ first-place list = grind arith
 -- the list without a first candidate is empty
 pub first-nil : (list : List Candidate) → None ≡ first_of list → list ≡ []
 first-nil list q = grind arith
-
-first-append : (list : List Candidate) (c d : Candidate) → first_of list ≡ Some c → first_of (list ++ d ∷ []) ≡ Some c
-first-append list c d h = grind arith
-
-first-shore_more : (n : ℕ) (o : Origin) (list : List Candidate) (x : Set) (c : Candidate) → first_of list ≡ Some c → first_of (with_shore n o list x) ≡ Some c
-first-shore_more n o list x c h = grind arith
 
 first-edge_more : (g : Graph) (list : List Candidate) (e : ℕ) (c : Candidate) → first_of list ≡ Some c → first_of (with_edge_cut g list e) ≡ Some c
 first-edge_more g list e c h = grind arith

@@ -1,15 +1,15 @@
 -- The candidates of the first two parts, as the code makes them, and the steps of the loop over
 -- the edges. Idea: a bicritical graph has no barrier cut, and one that is not has no separation
 -- shore.
-use Rattle.std.proofs.Common.{◌≡◌, ℕ, suc, ◌+◌, ◌<◌, Bool, true, false, refl, sym, ap, ◌∙◌, arith, ◌&&◌, not, List, [], ◌∷◌, ◌++◌, map, nat_le, Option, Some, slice_get, subst, All, fold, if◌then◌else◌, is_none, rules}
-use Rattle.counting.proofs.Common.{list_any, true≢false, lt-leb, and_right, All-head, count_congr, rising_list-congr, count, Within, mem, rising_list, IsRisingIn, Set, complement}
+use Rattle.std.proofs.Common.{◌≡◌, ℕ, ◌+◌, ◌<◌, true, false, sym, ap, ◌∙◌, arith, ◌&&◌, List, [], ◌∷◌, map, nat_le, Option, Some, slice_get, subst, All, fold, is_none}
+use Rattle.counting.proofs.Common.{list_any, lt-leb, and_right, All-head, count_congr, rising_list-congr, Within, IsRisingIn, Set}
 use Rattle.std.specs.Option.{option_map}
 use Rattle.barrier_kit.proofs.Common.{barrier_cuts, barrier_shores}
-use Rattle.graph_core.proofs.Common.{IsCanonicalCut, is_listed, with_cut, Graph, size, is_bicritical, equivalent_pair, canonical_shore}
+use Rattle.graph_core.proofs.Common.{IsCanonicalCut, with_cut, Graph, size, is_bicritical, equivalent_pair}
 use Rattle.separation_kit.specs.Common.{separation_cuts, separation_shores}
 use Rattle.tight_cuts.proofs.CandidateLists.{fold-cuts, choose-false, choose-true}
 use Rattle.tight_cuts.proofs.EdgeLoop.{after_edges, after_suc}
-use Rattle.tight_cuts.specs.Common.{Barrier, Candidate, Flow, Origin, Separation, candidate_at, candidates, common_shore, cuts, first_of, first_separated, front_candidates, greater_end, lesser_end, shores_of, with_edge_cut, with_list, with_pair, with_shore, IsShoreOfEdge}
+use Rattle.tight_cuts.specs.Common.{Barrier, Candidate, Flow, Origin, Separation, candidate_at, candidates, cuts, first_of, first_separated, front_candidates, greater_end, lesser_end, with_edge_cut, with_list, with_pair, with_shore, IsShoreOfEdge}
 
 -- the cuts of shores, as candidates
 cuts-candidates : (n : ℕ) (o : Origin) (shores : List (List ℕ)) → fold (with_list n o) [] shores ≡ map (candidate_at n o) (fold (with_cut n) [] shores)

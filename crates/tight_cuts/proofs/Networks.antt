@@ -1,10 +1,10 @@
 -- The contracted network.
 -- Idea: the value of a set of nodes is the sum over the listed matchings of the cut of its vertices.
-use Rattle.std.proofs.Common.{◌≡◌, ℕ, suc, zero, ◌+◌, ◌*◌, ◌≤◌, Bool, true, false, cond, ◌==◌, refl, sym, ap, ap₂, ◌∙◌, arith, ◌&&◌, ◌||◌, not, inl, inr, eq-eqb, ne_eqb, eqb-true, List, [], ◌∷◌, length, sum_by, All, rules}
-use Rattle.counting.proofs.Common.{same_tests, cases_eq, and_parts, and_from, or_cases, or_left, or_right, true≢false, sum_by-cons, some_true, true_some, total_congr, total_add, total_none, bit, total, count, Within, is_odd, mem, none, Set, complement, pair_set, some}
+use Rattle.std.proofs.Common.{◌≡◌, ℕ, suc, zero, ◌+◌, ◌*◌, ◌≤◌, Bool, true, false, cond, ◌==◌, refl, sym, ap, ◌∙◌, arith, ◌&&◌, eq-eqb, eqb-true, List, [], ◌∷◌, length, sum_by, All}
+use Rattle.counting.proofs.Common.{same_tests, and_parts, and_from, or_cases, or_left, or_right, sum_by-cons, some_true, true_some, total_congr, total_add, total_none, bit, total, count, Within, is_odd, mem, none, Set, complement, pair_set, some}
 use Rattle.std.proofs.lemmas.List.Sums.{sum_by-append}
 use Rattle.flow_core.specs.Common.{leaves_set, value_of, Separates, IsLeastCut}
-use Rattle.graph_core.proofs.Common.{walk_joined, tight-same, joined_self, Graph, size, first_end, second_end, IsGraph, in_cut, edges_in_cut, has_ends, IsPerfect, IsTight, joined}
+use Rattle.graph_core.proofs.Common.{walk_joined, tight-same, joined_self, Graph, size, IsGraph, in_cut, edges_in_cut, has_ends, IsPerfect, IsTight, joined}
 use Rattle.tight_cuts.proofs.LeastShores.{common_in, common_from}
 use Rattle.tight_cuts.proofs.PairsOfEdges.{met_bound, met_once, tight_met, cut_between}
 use Rattle.tight_cuts.proofs.PiecesOfEdges.{pieces_odd, tight_piece, beside_graph}
@@ -27,15 +27,6 @@ weights_cut g (m ∷ ms) x =
 arcs_value : (g : Graph) (ms : List (List ℕ)) (group : ℕ → ℕ) (u : Set) (e : ℕ) → sum_by (λ c. cond (leaves_set u c) c.capacity 0) (arcs_of g ms group e) ≡ total e (λ i. weight ms i * bit (in_cut g (λ v. u (group v)) i))
 arcs_value g ms group u zero = refl
 arcs_value g ms group u (suc e) = grind (arith, sum_by-append, arcs_value g ms group u e)
-  where
-    none_left : (s t : Bool) (w : ℕ) → s ≡ t → 0 ≡ w * bit ((s && not t) || (not s && t))
-    none_left s t w h = grind arith
-
-    one_left : (s : Bool) (w : ℕ) → 0 + cond s w 0 ≡ w * bit s
-    one_left s w = grind arith
-
-    last : (p q w : ℕ) → sum_by (λ c. cond (leaves_set u c) c.capacity 0) (cond (p == q) [] (record { a = p; b = q; capacity = w } ∷ [])) ≡ w * bit ((u p && not (u q)) || (not (u p) && u q))
-    last p q w = grind arith
 
 pub value_cut : (g : Graph) (ms : List (List ℕ)) (group : ℕ → ℕ) (r : ℕ) (u : Set) → value_of (contracted_net g ms group r) u ≡ cut_sum g ms (λ v. u (group v))
 value_cut g ms group r u = arcs_value g ms group u (size g) ∙ weights_cut g ms (λ v. u (group v))

@@ -1,8 +1,8 @@
 -- Vertices that edges lying together with e join are on one side of each tight set with e in its
 -- cut. If they are all vertices but the ends of e, no pair is separated at e.
-use Rattle.std.proofs.Common.{◌≡◌, ◌≢◌, ℕ, Bool, true, false, ◌||◌, ◌&&◌, ◌⊎◌, not, ◌==◌, sym, ap, ◌∙◌, List, [], ◌∷◌, None, inl, inr, eq-eqb, ne_eqb, eqb-true, refl, arith, rules}
-use Rattle.counting.proofs.Common.{and_from, both_ways, false_from_ne_true, or_cases, or_left, or_right, or_false, Within, mem, Set, pair_set}
-use Rattle.graph_core.proofs.Common.{Graph, first_end, in_cut, second_end, size, Together, IsTight, has_ends-cases}
+use Rattle.std.proofs.Common.{◌≡◌, ◌≢◌, ℕ, Bool, true, false, ◌||◌, ◌&&◌, ◌⊎◌, not, ◌==◌, sym, ◌∙◌, List, [], ◌∷◌, None, eqb-true, arith}
+use Rattle.counting.proofs.Common.{both_ways, false_from_ne_true, or_cases, Within, mem, Set, pair_set}
+use Rattle.graph_core.proofs.Common.{Graph, first_end, in_cut, second_end, size, Together, IsTight}
 use Rattle.tight_cuts.proofs.EdgeLoop.{ends_between}
 use Rattle.tight_cuts.proofs.FirstPairs.{no_first}
 use Rattle.tight_cuts.proofs.LeastShores.{separated_says}
@@ -38,12 +38,5 @@ none_parted g e x one all = no_first g.order (is_separated g (lesser_end g e) (g
     let c = cut_between g p.2.0 (lesser_end g e) (greater_end g e) e (ends_between g e) q.has_a q.lacks_b in
     both_ways (p.2.0 v) q.lacks_y (sym (one p.2.0 q.tight c u v (inside u wu p.0) (inside v wv p.1)) ∙ q.has_x)))
   where
-    apart : (a b v w : ℕ) → pair_set a b v ≡ false → (w ≡ a) ⊎ (w ≡ b) → w ≢ v
-    apart a b v w h k r = grind arith
-
     inside : (v : ℕ) → Within g.order v → pair_set (lesser_end g e) (greater_end g e) v ≡ false → x v ≡ true
     inside v w h = grind arith
-
--- a vertex that is neither of two, in what is left without them
-pub other_vertex : (full rest others : Set) (a b : ℕ) → ((v : ℕ) → rest v ≡ (full v && not (a == v))) → ((v : ℕ) → others v ≡ (rest v && not (b == v))) → (v : ℕ) → full v ≡ true → a ≢ v → b ≢ v → others v ≡ true
-other_vertex full rest others a b one two v t n m = two v ∙ and_from (rest v) (not (b == v)) (one v ∙ and_from (full v) (not (a == v)) t (ap not (ne_eqb a v n))) (ap not (ne_eqb b v m))

@@ -1,6 +1,6 @@
 -- Canonical shores, shores as rising lists, and what one more shore does to a list of candidates.
-use Rattle.std.proofs.Common.{◌≡◌, ℕ, Bool, true, false, refl, sym, ap, ap₂, ◌∙◌, ◌&&◌, ◌||◌, not, inl, inr, ◌⊎◌, List, [], ◌∷◌, ◌++◌, subst, All, if◌then◌else◌, arith, rules}
-use Rattle.counting.proofs.Common.{same_tests, cases_Bool, and_parts, and_from, or_left, or_right, true≢false, both_ways, false_from_ne_true, list_any-append, count_congr, rising_only, mem-rising_list, rising_list-rises, true_all_in, all_in_true, list_any, Within, mem, rising_list, is_subset, Set, complement}
+use Rattle.std.proofs.Common.{◌≡◌, ℕ, Bool, true, false, refl, sym, ap, ap₂, ◌∙◌, ◌&&◌, ◌||◌, not, inl, inr, ◌⊎◌, List, [], ◌∷◌, ◌++◌, subst, All, arith}
+use Rattle.counting.proofs.Common.{same_tests, and_parts, and_from, or_left, or_right, true≢false, both_ways, false_from_ne_true, list_any-append, count_congr, rising_only, mem-rising_list, rising_list-rises, true_all_in, all_in_true, list_any, Within, mem, rising_list, is_subset, Set, complement}
 use Rattle.std.proofs.lemmas.List.Elements.{All-push}
 use Rattle.std.proofs.lemmas.List.Folds.{list_any_at, Any-from_list_any}
 use Rattle.std.proofs.lemmas.List.Quantifiers.{all_pairs_push}
@@ -8,10 +8,6 @@ use Rattle.std.specs.List.{AllPairs}
 use Rattle.barrier_kit.proofs.Common.{canonical-tight, canonical-wide, nontrivial-true, true-nontrivial, canonical-out}
 use Rattle.graph_core.proofs.Common.{is_listed, Graph, size, first_end, second_end, IsGraph, in_cut, IsTight, IsNontrivial, canonical_shore, is_nontrivial, tight-same, nontrivial-same}
 use Rattle.tight_cuts.specs.Common.{Origin, Candidate, ShoresDiffer, candidate, cuts, shores_of, with_shore, IsTightCandidate}
-
--- which shore is canonical
-pub canonical-cases : (n : ℕ) (x : Set) → ((x n ≡ true) × ((v : ℕ) → canonical_shore n x v ≡ complement x v)) ⊎ ((x n ≡ false) × ((v : ℕ) → canonical_shore n x v ≡ x v))
-canonical-cases n x = grind arith
 
 pub canonical-in_cut : (g : Graph) (n : ℕ) (x : Set) (e : ℕ) → in_cut g (canonical_shore n x) e ≡ in_cut g x e
 canonical-in_cut g n x e = grind arith

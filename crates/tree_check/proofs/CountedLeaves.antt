@@ -1,6 +1,6 @@
 -- The leaves of a derivation counted as the scan goes: the count of one leaf is told by its kind,
 -- and those of the two trees below a cut add up, since their kinds stand one after the other.
-use Rattle.std.proofs.Common.{◌≡◌, ℕ, ◌+◌, Bool, List, [], ◌∷◌, ◌++◌, cond, ap, ap₂, ◌∙◌, count_by, not}
+use Rattle.std.proofs.Common.{◌≡◌, ℕ, ◌+◌, Bool, List, [], ◌∷◌, ◌++◌, cond, ap, ◌∙◌, count_by, arith}
 use Rattle.std.proofs.lemmas.List.Sums.{sum_by-append}
 use Rattle.counting.proofs.Common.{length-append}
 use Rattle.graph_core.proofs.Common.{Graph, quotient}
@@ -20,18 +20,10 @@ module _ (g : Graph) where
 
   -- the leaves of two lists
   pub tally-both : (ps qs : List (List (List ℕ))) (a b : Tally) → IsTally g ps a → IsTally g qs b → IsTally g (ps ++ qs) (sum_of a b)
-  tally-both ps qs a b s t = record {
-    kinds = s.kinds ++ t.kinds;
-    right = kinds-both g ps qs s.kinds t.kinds s.right t.right;
-    is = ap₂ sum_of s.is t.is ∙ sums s.kinds t.kinds;
-  }
+  tally-both ps qs a b s t = grind (arith, kinds-both g ps qs s.kinds t.kinds s.right t.right, sums s.kinds t.kinds)
     where
       sums : (ks ls : List LeafKind) → sum_of (tally_of ks) (tally_of ls) ≡ tally_of (ks ++ ls)
-      sums ks ls =
-          let n = length-append ks ls in
-          let bricks = count_by-append is_brick ks ls in
-          let braces = count_by-append (λ kind. not (is_brick kind)) ks ls in
-          cc
+      sums ks ls = grind (arith, length-append ks ls, count_by-append is_brick ks ls, count_by-append)
 
   -- as many leaves as the tree has
   pub leaves-counted : (n : ℕ) (p : List (List ℕ)) (t : Shape) (tally : Tally) → IsTally g (leaves_at n p t) tally → tally.leaves ≡ leaf_count t

@@ -1,8 +1,8 @@
 -- What the rules of a cut show. The test of tightness is made on the quotient, at the places of
 -- the blocks in the shore: a cut that is tight there is tight at the partition, and a perfect
 -- matching with two edges in it is lifted to one at the partition.
-use Rattle.std.proofs.Common.{◌≡◌, ◌≢◌, ◌⊎◌, ◌↔◌, IsTrue, ◌%◌, ◌==◌, Option, Some, unwrap_or, ℕ, zero, suc, ◌+◌, ◌*◌, ◌-◌, ◌≤◌, ◌<◌, Bool, true, false, not, ◌&&◌, ◌||◌, List, length, refl, sym, ap, ap₂, ◌∙◌, arith, subst, inl, inr}
-use Rattle.counting.proofs.Common.{list_all, both_ways, cases_Bool, cases_lt, count_complement, count_congr, is_odd_remainder, odd-double, length-rising_list, mem-outside, mem-rising_list, rising_list-rises, set-wider, Within, count, is_odd, IsRisingIn, mem, rising_list, Set, complement, none}
+use Rattle.std.proofs.Common.{◌≡◌, ◌≢◌, ◌⊎◌, ◌↔◌, IsTrue, ◌%◌, ◌==◌, Option, Some, unwrap_or, ℕ, zero, suc, ◌+◌, ◌*◌, ◌-◌, ◌≤◌, Bool, true, false, not, ◌&&◌, ◌||◌, List, length, refl, sym, ap, ap₂, ◌∙◌, arith, subst, inl, inr}
+use Rattle.counting.proofs.Common.{list_all, both_ways, cases_Bool, count_complement, count_congr, is_odd_remainder, odd-double, length-rising_list, mem-outside, mem-rising_list, rising_list-rises, set-wider, Within, count, is_odd, IsRisingIn, mem, rising_list, Set, none}
 use Rattle.contraction.proofs.BlockUnions.{in_or_apart, test-from_union, union-from_test}
 use Rattle.contraction.proofs.LiftedMatchings.{lifted-perfect, perfect-congr}
 use Rattle.contraction.proofs.ProjectedMatchings.{lifted-cut}
@@ -21,12 +21,7 @@ cut-same g m x y is h = count_congr (size g) _ _ (λ e w. ap₂ (λ a b. m e && 
 
 -- a canonical nontrivial shore that is tight
 pub is-cut : (g : Graph) (p : List (List ℕ)) (x : List ℕ) → IsRisingIn (g.order - 1) x → IsTightAt g p (mem x) → IsNontrivial (length p) (blocks_in p (mem x)) → IsCutAt g p x
-is-cut g p x rises tight nontrivial = record {
-  set = set-wider (g.order - 1) g.order x (omega arith) rises;
-  tight = tight;
-  nontrivial = nontrivial;
-  canonical = mem-outside (g.order - 1) x rises g.order (λ w. omega (arith, w));
-}
+is-cut g p x rises tight nontrivial = grind (arith, set-wider (g.order - 1) g.order x, mem-outside (g.order - 1) x rises g.order)
 
 module _ (g : Graph) (p : List (List ℕ)) (x : Set) (is : IsGraph g) (pp : AreBlocks g.order p) where
   -- the places of the blocks in the shore are an odd set of vertices of the quotient if their
@@ -58,11 +53,7 @@ module _ (g : Graph) (p : List (List ℕ)) (x : Set) (is : IsGraph g) (pp : AreB
 
     -- a shore that a perfect matching crosses twice is not tight
     pub crossed-not_tight : (m : List ℕ) → CrossesAt g p x m → IsTightAt g p x → ⊥
-    crossed-not_tight m crosses tight =
-        let once = tight.tight.cut (mem m) crosses.perfect in
-        let same = edges-in-cut-at g p x is pp union (mem m) in
-        let twice = crosses.twice in
-        absurd (omega arith)
+    crossed-not_tight m crosses tight = grind (arith, edges-in-cut-at g p x is pp union (mem m))
 
     -- an odd shore is tight, or a perfect matching crosses it twice
     pub tight-or_crossed : IsCovered (quotient g p) → is_odd (block_count p x) ≡ true → IsTightAt g p x ⊎ ((m : List ℕ) × CrossesAt g p x m)
@@ -98,18 +89,10 @@ module _ (g : Graph) (p : List (List ℕ)) (x : Set) (is : IsGraph g) (pp : AreB
 
 -- at least three blocks inside, and three outside
 pub nontrivial-shown : (p : List (List ℕ)) (x : Set) (inside all : ℕ) → inside ≡ block_count p x → all ≡ length p → 3 ≤ inside → inside + 3 ≤ all → IsNontrivial (length p) (blocks_in p x)
-nontrivial-shown p x inside all counted sized few rest =
-    let both = count_complement (length p) (blocks_in p x) in
-    record { inside = omega arith; outside = omega arith }
+nontrivial-shown p x inside all counted sized few rest = grind (arith, count_complement (length p) (blocks_in p x))
 
 nontrivial_or_not : (n : ℕ) (x : Set) → IsNontrivial n x ⊎ (IsNontrivial n x → ⊥)
-nontrivial_or_not n x = elim (cases_lt (count n x) 3) [
-  | inl l ↦ inr (λ t. let i = t.inside in absurd (omega arith))
-  | inr i ↦ elim (cases_lt (count n (complement x)) 3) [
-    | inl l ↦ inr (λ t. let o = t.outside in absurd (omega arith))
-    | inr o ↦ inl (record { inside = i; outside = o })
-  ]
-]
+nontrivial_or_not n x = grind arith
 
 module _ (g : Graph) (p : List (List ℕ)) (x : List ℕ) (is : IsGraph g) (pp : AreBlocks g.order p) where
   -- a canonical nontrivial tight shore breaks no rule
@@ -168,22 +151,11 @@ module _ (g : Graph) (q : PartitionValue) (p : List (List ℕ)) (x : List ℕ) (
   pub union-at : test ≡ true → IsUnion g.order p (mem x)
   union-at holds = subst (λ (bs : List (List ℕ)). IsUnion g.order bs (mem x)) same (subst (λ n. IsUnion n q.blocks (mem x)) order (says.0 holds).union)
 
-  pub no_union-at : test ≡ false → IsRisingIn (g.order - 1) x → IsUnion g.order p (mem x) → ⊥
-  no_union-at fails rises union = both_ways test fails (says.1 (record {
-    set = subst (λ n. IsRisingIn n x) (sym order) (set-wider (g.order - 1) g.order x (omega arith) rises);
-    union = subst (λ n. IsUnion n q.blocks (mem x)) (sym order) (subst (λ (bs : List (List ℕ)). IsUnion g.order bs (mem x)) (sym same) union);
-  }))
-
 pub even-count : (i n : ℕ) → i ≡ n → i % 2 ≡ 0 → is_odd n ≡ false
 even-count i n same half = ap is_odd (sym same) ∙ is_odd_remainder i ∙ ap (λ r. r == 1) half
 
 pub odd-count : (i n : ℕ) → i ≡ n → i % 2 ≢ 0 → is_odd n ≡ true
-odd-count i n same half = ap is_odd (sym same) ∙ is_odd_remainder i ∙ ap (λ r. r == 1) (one (i % 2) (omega arith) half)
-  where
-    one : (r : ℕ) → r < 2 → r ≢ 0 → r ≡ 1
-    one zero l d = absurd (d refl)
-    one (suc zero) l d = refl
-    one (suc (suc r)) l d = absurd (omega arith)
+odd-count i n same half = grind (arith, is_odd_remainder i)
 
 pub breaks-some : (g : Graph) (p : List (List ℕ)) (x : Set) (a b : StoredWhy) → Some a ≡ Some b → BreaksCut g p x (why_of a) → BreaksCut g p x (why_of b)
 breaks-some g p x a b is breaks = subst (λ w. BreaksCut g p x (why_of w)) (ap (λ (o : Option StoredWhy). unwrap_or o a) is) breaks

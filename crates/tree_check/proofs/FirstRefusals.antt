@@ -1,7 +1,7 @@
 -- The law of the first refusal, by induction down the tree: a derivation has none, two refusals
 -- of a tree agree, and a tree that is not a derivation has one. Below a kept cut the partitions are
 -- partitions again and their quotients are matching covered.
-use Rattle.std.proofs.Common.{◌≡◌, ◌⊎◌, ℕ, ◌+◌, List, refl, sym, ap, ◌∙◌, inl, inr}
+use Rattle.std.proofs.Common.{◌≡◌, ◌⊎◌, ℕ, ◌+◌, List, refl, sym, ap, ◌∙◌, inl, inr, arith}
 use Rattle.counting.proofs.Common.{mem}
 use Rattle.graph_core.proofs.Common.{singles-partition, IsCovered, Graph, IsGraph, IsPartition, singles, quotient}
 use Rattle.tree_core.proofs.Common.{kept-covers, kept-partition, merged-covers, merged-partition, root-covered, IsDerivation, IsDerivationAt, kept_at, merged_at, Shape, leaf, cut, node_count}
@@ -33,10 +33,7 @@ module _ (g : Graph) (is : IsGraph g) where
       (r.2.1 ∙ ap (λ n. 1 + node_count k + n) e.0 ∙ sym s.2.1, e.1)
 
   some-at : (p : List (List ℕ)) (t : Shape) → IsPartition g.order p → IsCovered (quotient g p) → HasShores g.order t → IsDerivationAt g p t ⊎ ((node : ℕ) × (why : Why) × IsRefusedAt g p t node why)
-  some-at p leaf pp covered shores = elim (leaf-or_broken g p is pp covered) [
-    | inl d ↦ inl d
-    | inr b ↦ inr (1, b.0, (refl, b.1))
-  ]
+  some-at p leaf pp covered shores = grind (arith, leaf-or_broken g p is pp covered)
   some-at p (cut x k m) pp covered shores = elim (cut-or_broken g p x is pp.partition covered shores.0) [
     | inr b ↦ inr (1, b.0, inl (refl, b.1))
     | inl c ↦ elim (some-at (kept_at g.order p x) k (kept-partition g p x is pp c) (kept-covers g p x is pp c covered) shores.1) [
@@ -58,7 +55,4 @@ module _ (g : Graph) (is : IsGraph g) where
   refused-once t i j a b r s = one-at (singles g.order) t i j a b (singles-partition g.order) (at-root r.covered) r.refused s.refused
 
   pub derived-or_refused : (t : Shape) → IsCovered g → HasShores g.order t → IsDerivation g t ⊎ ((node : ℕ) × (why : Why) × IsRefused g t node why)
-  derived-or_refused t covered shores = elim (some-at (singles g.order) t (singles-partition g.order) (at-root covered) shores) [
-    | inl d ↦ inl (record { covered = covered; derives = d })
-    | inr r ↦ inr (r.0, r.1, record { covered = covered; refused = r.2 })
-  ]
+  derived-or_refused t covered shores = grind (arith, some-at (singles g.order) t (singles-partition g.order) (at-root covered) shores, singles-partition g.order, at-root covered)

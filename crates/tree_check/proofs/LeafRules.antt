@@ -1,7 +1,7 @@
 -- What the rule of a leaf shows: there is no candidate at a partition if and only if no nontrivial
 -- shore is tight at it.
 use Rattle.std.proofs.Common.{◌≡◌, ◌⊎◌, ℕ, List, [], ◌∷◌, length, Option, Some, None, unwrap_or, refl, sym, ap, ◌∙◌, arith, inl, inr}
-use Rattle.counting.proofs.Common.{none-some, same_Some, Set}
+use Rattle.counting.proofs.Common.{Set}
 use Rattle.graph_core.proofs.Common.{IsCovered, Graph, IsGraph, IsPartition, quotient, IsTightAt, blocks_in, IsNontrivial}
 use Rattle.tight_cuts.proofs.PartitionCandidates.{none-at}
 use Rattle.tight_cuts.specs.Common.{Candidate, first_of, first_shore, candidates_at}
@@ -47,5 +47,4 @@ leaf-once g p (not_leaf c) (not_leaf d) s t = ap not_leaf (same c d (sym s ∙ t
 
 -- the shore of the first candidate
 pub shore-first : (c : Candidate) (list : List Candidate) → Some c ≡ first_of list → Some c.shore ≡ first_shore list
-shore-first c [] e = absurd (none-some _ (sym e))
-shore-first c (d ∷ list) e = ap (λ (c : Candidate). Some c.shore) (same_Some _ _ e)
+shore-first c list e = grind arith

@@ -1,10 +1,10 @@
 -- A move on a tree that fits makes a tree that fits: each new shore is put together from numbers
 -- below n. If the greatest vertex is in v, the rest of the outer side does not hold it; else v
 -- does not.
-use Rattle.std.proofs.Common.{◌≡◌, ℕ, ◌-◌, Bool, true, false, not, ◌&&◌, List, [], ◌∷◌, All, get_or, Option, Some, None, option_map, if◌then◌else◌, inl, inr, refl, sym, subst, arith}
-use Rattle.counting.proofs.Common.{and_parts, both_ways, not-true, or_cases, none-some, same_Some, rising_only, mem-item, Within, is_apart, is_subset, mem, minus, union}
+use Rattle.std.proofs.Common.{◌≡◌, ℕ, ◌-◌, Bool, true, false, not, List, [], ◌∷◌, All, get_or, Option, Some, option_map, if◌then◌else◌, inl, inr, refl, sym, subst, arith}
+use Rattle.counting.proofs.Common.{and_parts, both_ways, not-true, or_cases, none-some, same_Some, rising_only, mem-item, Within, is_subset, mem, minus, union}
 use Rattle.graph_core.proofs.Common.{complement_of}
-use Rattle.tree_core.proofs.Common.{each-member, proper-within, proper_outside-within, PlainMove, rotate_at, switch_at, inner_rest, is_proper, kept_if_greatest_stays, kept_if_greatest_comes, last_step, list_if, merged_if_greatest_stays, merged_if_greatest_comes, minus_list, move_result, outer_rest, parent_path, result_at, rotate_result_at, switch_result_at, union_list, Shape, leaf, cut, Fits}
+use Rattle.tree_core.proofs.Common.{each-member, proper-within, proper_outside-within, PlainMove, inner_rest, is_proper, kept_if_greatest_stays, kept_if_greatest_comes, list_if, merged_if_greatest_stays, merged_if_greatest_comes, minus_list, move_result, outer_rest, result_at, rotate_result_at, switch_result_at, union_list, Shape, leaf, cut, Fits}
 use Rattle.tree_core.specs.declared.path.Side.{Side}
 use Rattle.tree_core.specs.declared.path.Side.TheVariants.{Kept, Merged}
 
@@ -27,8 +27,7 @@ minus-below n x y first =
     below n (minus_list n x y) (λ v m. each-member (Within (n - 1)) x first v (and_parts (mem x v) (not (mem y v)) (rising_only n (minus (mem x) (mem y)) v m).1).0)
 
 list_if-below : (n : ℕ) (t : Bool) (x : List ℕ) → IsBelow n x → IsBelow n (list_if t x)
-list_if-below n true x all = all
-list_if-below n false x all = λ k d less. absurd (omega arith)
+list_if-below n t x all = grind arith
 
 -- a vertex other than the greatest
 without-greatest : (n v : ℕ) → Within n v → (v ≡ n → ⊥) → Within (n - 1) v
@@ -70,8 +69,7 @@ kept_greatest_stays-fits n x u v leaf whole other fits = tt
 kept_greatest_stays-fits n x u v (cut s a b) whole other fits = go (is_subset u s) (kept_greatest_stays-fits n x u v a whole other fits.1) (kept_greatest_stays-fits n x u v b whole other fits.2)
   where
     go : (t : Bool) → Fits n (kept_if_greatest_stays n x u v a) → Fits n (kept_if_greatest_stays n x u v b) → Fits n (if t then cut (union_list n (minus_list n x s) v) (kept_if_greatest_stays n x u v b) (kept_if_greatest_stays n x u v a) else cut s (kept_if_greatest_stays n x u v a) (kept_if_greatest_stays n x u v b))
-    go true first second = (union-below n (minus_list n x s) v (minus-below n x s whole) other, second, first)
-    go false first second = (fits.0, first, second)
+    go t first second = grind (arith, union-below n (minus_list n x s) v (minus-below n x s whole) other, minus-below n x s whole)
 
 merged_greatest_stays-fits : (n : ℕ) (x u v : List ℕ) (t : Shape) → IsBelow n x → IsBelow n u → IsBelow n v → Fits n t → Fits n (merged_if_greatest_stays n x u v t)
 merged_greatest_stays-fits n x u v leaf whole part other fits = tt
@@ -91,7 +89,7 @@ switched n u v x a b t =
 
 switch-fits : (n : ℕ) (u v : List ℕ) (t r : Shape) → Fits n t → switch_result_at n u v t ≡ Some r → Fits n r
 switch-fits n u v leaf r fits e = absurd (none-some _ e)
-switch-fits n u v (cut x a b) r fits e = go (is_proper u x && is_proper v (complement_of n x)) refl e
+switch-fits n u v (cut x a b) r fits e = grind (arith, none-some, and_parts, same_Some, which)
   where
     which : (t : Bool) → mem v n ≡ t → is_proper u x ≡ true → is_proper v (complement_of n x) ≡ true → Fits n (switched n u v x a b t)
     which true greatest inner outer =
@@ -102,27 +100,14 @@ switch-fits n u v (cut x a b) r fits e = go (is_proper u x && is_proper v (compl
         let other = other-below n v x outer greatest in
         (union-below n (inner_rest n x u) v (minus-below n x u fits.0) other, kept_greatest_stays-fits n x u v a fits.0 other fits.1, merged_greatest_stays-fits n x u v b fits.0 part other fits.2)
 
-    go : (t : Bool) → (is_proper u x && is_proper v (complement_of n x)) ≡ t → (if t then Some (switched n u v x a b (mem v n)) else None) ≡ Some r → Fits n r
-    go false is e = absurd (none-some _ e)
-    go true is e =
-        let proper = and_parts (is_proper u x) (is_proper v (complement_of n x)) is in
-        subst (Fits n) (same_Some _ _ e) (which (mem v n) refl proper.0 proper.1)
-
 -- Rotate at the parent of its node
 rotate-fits : (n : ℕ) (side : Side) (t r : Shape) → Fits n t → rotate_result_at side t ≡ Some r → Fits n r
 rotate-fits n Kept leaf r fits e = absurd (none-some _ e)
 rotate-fits n Merged leaf r fits e = absurd (none-some _ e)
 rotate-fits n Kept (cut x leaf c) r fits e = absurd (none-some _ e)
-rotate-fits n Kept (cut x (cut y a b) c) r fits e =
-    let lower = fits.1 in
-    subst (Fits n) (same_Some _ _ e) (lower.0, lower.1, (fits.0, lower.2, fits.2))
+rotate-fits n Kept (cut x (cut y a b) c) r fits e = grind arith
 rotate-fits n Merged (cut x a leaf) r fits e = absurd (none-some _ e)
-rotate-fits n Merged (cut x a (cut y b c)) r fits e = go (is_subset x y) (is_apart x y) e
-  where
-    go : (inside apart : Bool) → (if inside then Some (cut y (cut x a b) c) else (if apart then Some (cut y b (cut x a c)) else None)) ≡ Some r → Fits n r
-    go true apart e = let lower = fits.2 in subst (Fits n) (same_Some _ _ e) (lower.0, (fits.0, fits.1, lower.1), lower.2)
-    go false true e = let lower = fits.2 in subst (Fits n) (same_Some _ _ e) (lower.0, lower.1, (fits.0, fits.1, lower.2))
-    go false false e = absurd (none-some _ e)
+rotate-fits n Merged (cut x a (cut y b c)) r fits e = grind arith
 
 -- along a path
 path-fits : (n : ℕ) (f : Shape → Option Shape) → ((t r : Shape) → Fits n t → f t ≡ Some r → Fits n r) → (path : List Side) (t r : Shape) → Fits n t → result_at f path t ≡ Some r → Fits n r
@@ -131,16 +116,12 @@ path-fits n f keeps (side ∷ path) leaf r fits e = absurd (none-some _ e)
 path-fits n f keeps (Kept ∷ path) (cut x a b) r fits e = go (result_at f path a) refl e (path-fits n f keeps path a)
   where
     go : (o : Option Shape) → result_at f path a ≡ o → option_map (λ c. cut x c b) o ≡ Some r → ((c : Shape) → Fits n a → result_at f path a ≡ Some c → Fits n c) → Fits n r
-    go None is e below = absurd (none-some _ e)
-    go (Some c) is e below = subst (Fits n) (same_Some _ _ e) (fits.0, below c fits.1 is, fits.2)
+    go o is e below = grind arith
 path-fits n f keeps (Merged ∷ path) (cut x a b) r fits e = go (result_at f path b) refl e (path-fits n f keeps path b)
   where
     go : (o : Option Shape) → result_at f path b ≡ o → option_map (λ c. cut x a c) o ≡ Some r → ((c : Shape) → Fits n b → result_at f path b ≡ Some c → Fits n c) → Fits n r
-    go None is e below = absurd (none-some _ e)
-    go (Some c) is e below = subst (Fits n) (same_Some _ _ e) (fits.0, fits.1, below c fits.2 is)
+    go o is e below = grind arith
 
 -- a move
 pub move-fits : (n : ℕ) (t r : Shape) (m : PlainMove) → Fits n t → move_result n t m ≡ Some r → Fits n r
-move-fits n t r (rotate_at []) fits e = absurd (none-some _ e)
-move-fits n t r (rotate_at (side ∷ path)) fits e = path-fits n (rotate_result_at (last_step side path)) (rotate-fits n (last_step side path)) (parent_path side path) t r fits e
-move-fits n t r (switch_at path u v) fits e = path-fits n (switch_result_at n u v) (switch-fits n u v) path t r fits e
+move-fits n t r m fits e = grind (arith, none-some, path-fits n, rotate-fits n, switch-fits n)

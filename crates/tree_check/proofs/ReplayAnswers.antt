@@ -1,12 +1,12 @@
 -- The three answers to a script exclude one another, and each is determined: a move has one
 -- result at most, so two replays go through the same trees, and a derivation has no refusal.
-use Rattle.std.proofs.Common.{◌≡◌, ◌↔◌, ◌+◌, ℕ, List, [], ◌∷◌, inl, inr, refl, sym, ◌∙◌, ap, subst, arith}
+use Rattle.std.proofs.Common.{◌≡◌, ◌↔◌, ◌+◌, ℕ, List, [], ◌∷◌, inl, inr, sym, ◌∙◌, ap, subst, arith}
 use Rattle.counting.proofs.Common.{none-some, same_Some}
 use Rattle.graph_core.proofs.Common.{Graph, IsGraph}
-use Rattle.tree_core.proofs.Common.{IsDerivation, PlainMove, TurnsThrough, Shape, shape_of}
+use Rattle.tree_core.proofs.Common.{PlainMove, TurnsThrough, Shape}
 use Rattle.tree_core.specs.declared.tree.Tree.{Tree}
 use Rattle.tree_check.proofs.FirstRefusals.{refused-not_derived, refused-once}
-use Rattle.tree_check.specs.Common.{why_of, Why, IsRefused, without_matching, IsReplay, IsStuckAt, IsRefusedMoveAt}
+use Rattle.tree_check.specs.Common.{Why, IsRefused, without_matching, IsReplay, IsStuckAt, IsRefusedMoveAt}
 use Rattle.tree_check.specs.declared.judgement.Why.{Why as StoredWhy}
 use Rattle.tree_check.specs.declared.replaying.Replayed.{Replayed}
 use Rattle.tree_check.specs.declared.replaying.Replayed.TheVariants.{Done, Stuck, Refused}
@@ -29,10 +29,7 @@ turns-not_stuck g s t (m ∷ ms) at turns stuck = elim stuck [
 stuck-once : (g : Graph) (s : Shape) (ms : List PlainMove) (i j : ℕ) → IsStuckAt g s ms i → IsStuckAt g s ms j → i ≡ j
 stuck-once g s [] i j first second = absurd first
 stuck-once g s (m ∷ ms) i j first second = elim first [
-  | inl here ↦ elim second [
-    | inl there ↦ here.0 ∙ sym there.0
-    | inr later ↦ absurd (none-some _ (sym here.1 ∙ later.1))
-  ]
+  | inl here ↦ grind arith
   | inr behind ↦ elim second [
     | inl there ↦ absurd (none-some _ (sym there.1 ∙ behind.1))
     | inr later ↦
@@ -72,12 +69,7 @@ module _ (g : Graph) (is : IsGraph g) where
       let r : Shape = first.0 in
       let same : second.0 ≡ r = same_Some _ _ (sym second.1 ∙ first.1) in
       elim first.2 [
-        | inl here ↦ elim second.2 [
-          | inl there ↦
-              let one = refused-once g is r k l a b here.1 (subst (λ (o : Shape). IsRefused g o l b) same there.1) in
-              (here.0 ∙ sym there.0, one.0, one.1)
-          | inr later ↦ absurd (refused-not_derived g is r k a (subst (IsDerivation g) same later.0) here.1)
-        ]
+        | inl here ↦ grind (arith, refused-once g is r k l a b here.1, refused-not_derived g is r k a)
         | inr behind ↦ elim second.2 [
           | inl there ↦ absurd (refused-not_derived g is r l b behind.0 (subst (λ (o : Shape). IsRefused g o l b) same there.1))
           | inr later ↦
@@ -90,20 +82,10 @@ module _ (g : Graph) (is : IsGraph g) where
 
   -- so a right answer is the one that is true
   pub done-exactly : (s : Shape) (ms : List PlainMove) (answer : Replayed) → IsReplay g s ms answer → ((tree : Tree) × (answer ≡ Done tree)) ↔ ((t : Shape) × TurnsThrough g s ms t)
-  done-exactly s ms (Done tree) right = (λ d. (shape_of tree, right), λ t. (tree, refl))
-  done-exactly s ms (Stuck at) right = (λ d. absurd (grind (arith, d.1)), λ t. absurd (turns-not_stuck g s t.0 ms at t.1 right))
-  done-exactly s ms (Refused at node why) right = (λ d. absurd (grind (arith, d.1)), λ t. absurd (turns-not_refused s t.0 ms at node (why_of why) t.1 right))
+  done-exactly s ms answer right = grind (arith, turns-not_stuck g s, turns-not_refused s)
 
   pub stuck-exactly : (s : Shape) (ms : List PlainMove) (answer : Replayed) (at : ℕ) → IsReplay g s ms answer → (answer ≡ Stuck at) ↔ IsStuckAt g s ms at
-  stuck-exactly s ms (Done tree) at right = (λ e. absurd (grind (arith, e)), λ stuck. absurd (turns-not_stuck g s (shape_of tree) ms at right stuck))
-  stuck-exactly s ms (Stuck i) at right =
-      (λ e. let same : i ≡ at = grind (arith, e) in subst (IsStuckAt g s ms) same right, λ stuck. ap (λ k. Stuck k) (stuck-once g s ms i at right stuck))
-  stuck-exactly s ms (Refused i node why) at right = (λ e. absurd (grind (arith, e)), λ stuck. absurd (stuck-not_refused s ms at i node (why_of why) stuck right))
+  stuck-exactly s ms answer at right = grind (arith, turns-not_stuck g s, stuck-once g s ms, stuck-not_refused s ms at)
 
   pub refused-exactly : (s : Shape) (ms : List PlainMove) (answer : Replayed) (at : ℕ) → IsReplay g s ms answer → ((node : ℕ) × (why : StoredWhy) × (answer ≡ Refused at node why)) ↔ ((node : ℕ) × (why : Why) × IsRefusedMoveAt g s ms at node why)
-  refused-exactly s ms (Done tree) at right = (λ r. absurd (grind (arith, r.2)), λ r. absurd (turns-not_refused s (shape_of tree) ms at r.0 r.1 right r.2))
-  refused-exactly s ms (Stuck i) at right = (λ r. absurd (grind (arith, r.2)), λ r. absurd (stuck-not_refused s ms i at r.0 r.1 right r.2))
-  refused-exactly s ms (Refused i node why) at right = (
-    λ r. let same : i ≡ at = grind (arith, r.2) in (node, why_of why, subst (λ k. IsRefusedMoveAt g s ms k node (why_of why)) same right),
-    λ r. (node, why, ap (λ k. Refused k node why) (refused_move-once s ms i at node r.0 (why_of why) r.1 right r.2).0),
-  )
+  refused-exactly s ms answer at right = grind (arith, turns-not_refused, stuck-not_refused, refused_move-once)

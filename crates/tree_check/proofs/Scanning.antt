@@ -1,12 +1,12 @@
 -- Steps of the scan of a tree: what is found below a cut, said of the tree that the cut makes;
 -- and the numbers of its nodes and leaves, which stay below those of the blocks.
-use Rattle.std.proofs.Common.{◌≡◌, ℕ, ◌+◌, ◌*◌, ◌≤◌, List, length, refl, arith, subst, subst₂, inl, inr}
+use Rattle.std.proofs.Common.{◌≡◌, ℕ, ◌+◌, ◌*◌, ◌≤◌, List, length, refl, arith, subst₂, inl, inr}
 use Rattle.counting.proofs.Common.{count, mem}
 use Rattle.graph_core.proofs.Common.{Graph, IsGraph, IsCovered, IsPartition, singles, blocks_in}
 use Rattle.tree_core.proofs.Common.{blocks-below, few-cuts_at, kept-length, kept-partition, merged-length, merged-partition, leaf_count-cuts, node_count-cuts, IsCutAt, PlaceValue, kept_at, leaves_at, merged_at, Shape, cut, node_count}
 use Rattle.tree_core.specs.declared.tallies.Tally.{Tally}
 use Rattle.tree_check.proofs.CountedLeaves.{leaves-counted, tally-both}
-use Rattle.tree_check.specs.Common.{why_of, IsScanned, IsScannedAt, sum_of, BreaksCut, IsRefusedAt}
+use Rattle.tree_check.specs.Common.{IsScanned, IsScannedAt, sum_of}
 use Rattle.tree_check.specs.declared.judgement.Why.{Why as StoredWhy}
 use Rattle.tree_check.specs.declared.judgement.Scanned.{Scanned}
 use Rattle.tree_check.specs.declared.judgement.Scanned.TheVariants as scanned
@@ -17,11 +17,7 @@ found-at g p place t node found graph blocks is = subst₂ (λ (h : Graph) (q : 
 
 -- a derivation has less than half as many leaves as its partition has blocks
 few-found : (g : Graph) (p : List (List ℕ)) (t : Shape) (node : ℕ) (tally : Tally) → IsGraph g → IsPartition g.order p → 4 ≤ length p → IsScannedAt g p t node (scanned.Passed tally) → 2 * tally.leaves + 2 ≤ length p
-few-found g p t node tally is pp four found =
-    let leaves = leaves-counted g g.order p t tally found.1 in
-    let few = few-cuts_at g p t is pp found.0 four in
-    let cuts = leaf_count-cuts t in
-    omega arith
+few-found g p t node tally is pp four found = grind (arith, leaves-counted g g.order p t tally found.1, few-cuts_at g p t is pp found.0 four, leaf_count-cuts t)
 
 -- the two trees below a cut have few leaves, for the numbers of blocks at the cut and below it
 module _ (g : Graph) (p : List (List ℕ)) (x : List ℕ) (is : IsGraph g) (pp : IsPartition g.order p) (cuts : IsCutAt g p x) where
@@ -52,9 +48,6 @@ module _ (g : Graph) (p : List (List ℕ)) (x : List ℕ) (is : IsGraph g) (pp :
 
 -- what is found below a cut
 module _ (g : Graph) (p : List (List ℕ)) (x : List ℕ) (k m : Shape) (node : ℕ) where
-  pub refused-here : (why : StoredWhy) → BreaksCut g p (mem x) (why_of why) → IsScannedAt g p (cut x k m) node (scanned.Refused node why)
-  refused-here why breaks = (1, refl, inl (refl, breaks))
-
   module _ (cuts : IsCutAt g p x) where
     pub refused-kept : (number : ℕ) (why : StoredWhy) → IsScannedAt g (kept_at g.order p x) k (node + 1) (scanned.Refused number why) → IsScannedAt g p (cut x k m) node (scanned.Refused number why)
     refused-kept number why found = (1 + found.0, omega (arith, found.1), inr (inl (cuts, (found.0, refl, found.2))))
@@ -72,14 +65,8 @@ module _ (g : Graph) (p : List (List ℕ)) (x : List ℕ) (k m : Shape) (node : 
           )
 
       pub passed-both : (outside : Tally) → IsScannedAt g (merged_at g.order p x) m (node + 2 * inside.leaves) (scanned.Passed outside) → IsScannedAt g p (cut x k m) node (scanned.Passed (sum_of inside outside))
-      passed-both outside found = (
-        (cuts, kept.0, found.0),
-        tally-both g (leaves_at g.order (kept_at g.order p x) k) (leaves_at g.order (merged_at g.order p x) m) inside outside kept.1 found.1,
-      )
+      passed-both outside found = grind (arith, tally-both g (leaves_at g.order (kept_at g.order p x) k) (leaves_at g.order (merged_at g.order p x) m) inside outside kept.1 found.1)
 
 -- what a scan from the root finds
 pub scanned-root : (g : Graph) (t : Shape) (found : Scanned) → IsCovered g → IsScannedAt g (singles g.order) t 1 found → IsScanned g t found
-scanned-root g t (scanned.Passed tally) covered found = (record { covered = covered; derives = found.0 }, found.1)
-scanned-root g t (scanned.Refused node why) covered found =
-    let same : found.0 ≡ node = omega (arith, found.1) in
-    record { covered = covered; refused = subst (λ j. IsRefusedAt g (singles g.order) t j (why_of why)) same found.2 }
+scanned-root g t h covered found = grind arith

@@ -13,10 +13,7 @@ use Rattle.tree_check.specs.declared.judgement.Judgement.TheVariants.{Accepted, 
 -- a graph with a reason is not covered
 reason-not_covered : (g : Graph) (r : Covered.Reason) → IsMultigraph g → Covered.IsReason g r → Covered.IsCovered g → ⊥
 reason-not_covered g Covered.Small is reason covered = let two = covered.two in absurd (omega arith)
-reason-not_covered g (Covered.Parted a b) is reason covered =
-    let two = covered.two in
-    let least = reason.2 in
-    least.without (covered.connected 1 b (omega arith, omega arith) least.within)
+reason-not_covered g (Covered.Parted a b) is reason covered = grind arith
 reason-not_covered g (Covered.Unmatched s) is reason covered = reason.2 (covered_perfect g is.ends covered)
 reason-not_covered g (Covered.Unallowed e) is reason covered =
     let least = reason.3 in

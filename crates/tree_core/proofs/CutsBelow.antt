@@ -2,7 +2,7 @@
 -- where that of the node is, and each has one block for the merged side and the blocks of the
 -- other side. So a tree of cuts has few leaves, by induction.
 use Rattle.std.proofs.lemmas.List.Elements.{All-append}
-use Rattle.std.proofs.Common.{◌≡◌, ℕ, zero, suc, ◌+◌, ◌*◌, ◌≤◌, List, length, All, subst, refl, sym, ◌∙◌, arith}
+use Rattle.std.proofs.Common.{◌≡◌, ℕ, zero, suc, ◌+◌, ◌*◌, ◌≤◌, List, length, All, refl, sym, ◌∙◌, arith}
 use Rattle.counting.proofs.Common.{count_congr, count_complement, mem-within, member-of_set, true_all_in, count, mem, IsRisingIn, complement, everything}
 use Rattle.graph_core.proofs.Common.{block_count_congr, block_count_rest, union_rest, complement_of-rises, mem-complement_of, block_count_around, merge_of, complement-tight, shore-some, contracted-singles, length-singles, singles-partition, IsCovered, Graph, IsGraph, IsPartition, block, complement_of, merged, singles, quotient, IsTightAt, block_count, blocks_in}
 use Rattle.contraction.proofs.MergedQuotients.{merged-covered}
@@ -31,8 +31,7 @@ length-merged g p x is pp rises tight =
 
 -- at the single vertices of a covered graph the quotient is covered
 pub root-covered : (g : Graph) (p : List (List ℕ)) → IsGraph g → p ≡ singles g.order → IsCovered g → IsCovered (quotient g p)
-root-covered g p is e covered =
-    subst (λ (q : List (List ℕ)). IsCovered (quotient g q)) (sym e) (covered_up g (singles g.order) is (singles-partition g.order).partition (subst IsCovered (sym (contracted-singles g is)) covered))
+root-covered g p is e covered = grind (arith, covered_up, singles-partition, contracted-singles)
 
 module _ (g : Graph) (p : List (List ℕ)) (x : List ℕ) (is : IsGraph g) (pp : IsPartition g.order p) (cuts : IsCutAt g p x) where
   pub kept-partition : IsPartition g.order (kept_at g.order p x)
@@ -60,11 +59,7 @@ module _ (g : Graph) (p : List (List ℕ)) (x : List ℕ) (is : IsGraph g) (pp :
 -- at least four blocks stand on each side of a cut, and on both together two more than at it
 pub blocks-below : (g : Graph) (p : List (List ℕ)) (x : List ℕ) (k m : ℕ) → IsCutAt g p x → k + count (length p) (complement (blocks_in p (mem x))) ≡ length p + 1 → m + count (length p) (blocks_in p (mem x)) ≡ length p + 1 →
     (4 ≤ k) × (4 ≤ m) × (k + m ≡ length p + 2)
-blocks-below g p x k m cuts kept merged =
-    let inside = cuts.nontrivial.inside in
-    let outside = cuts.nontrivial.outside in
-    let both = count_complement (length p) (blocks_in p (mem x)) in
-    (omega arith, omega arith, omega arith)
+blocks-below g p x k m cuts kept merged = grind (arith, count_complement (length p) (blocks_in p (mem x)))
 
 -- c cuts stand at a partition with at least 2 c + 4 blocks, if it has at least four
 pub few-cuts_at : (g : Graph) (p : List (List ℕ)) (t : Shape) → IsGraph g → IsPartition g.order p → IsDerivationAt g p t → 4 ≤ length p → 2 * cut_count t + 4 ≤ length p
@@ -81,11 +76,7 @@ few-cuts_at g p (cut x k m) is pp derives four =
     omega arith
 
 pub few-leaves : (g : Graph) (t : Shape) → IsGraph g → IsDerivation g t → 4 ≤ g.order → 2 * leaf_count t + 2 ≤ g.order
-few-leaves g t is derives four =
-    let n = length-singles g.order in
-    let few = few-cuts_at g (singles g.order) t is (singles-partition g.order) derives.derives (omega arith) in
-    let leaves = leaf_count-cuts t in
-    omega arith
+few-leaves g t is derives four = grind (arith, length-singles g.order, few-cuts_at g (singles g.order) t is (singles-partition g.order) derives.derives, singles-partition g.order, leaf_count-cuts t)
 
 -- the quotient at a partition is matching covered
 abbrev pub HasCoveredQuotient : Graph → List (List ℕ) → Type 0

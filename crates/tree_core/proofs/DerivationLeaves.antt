@@ -1,6 +1,6 @@
 -- The leaves of a derivation, by induction down the tree: the partition at each is one, since
 -- merging keeps partitions, and no nontrivial shore is tight there.
-use Rattle.std.proofs.Common.{ℕ, List, [], ◌∷◌, All, zero, suc, arith}
+use Rattle.std.proofs.Common.{ℕ, List, [], ◌∷◌, All, arith}
 use Rattle.std.proofs.lemmas.List.Elements.{All-append}
 use Rattle.graph_core.proofs.Common.{Graph, IsPartition, singles, singles-partition}
 use Rattle.tree_core.specs.Common.{Shape, leaf, cut, IsDerivationAt, IsDerivation, IsLeafAt, kept_at, merged_at, leaves_at, leaves}
@@ -8,8 +8,7 @@ use Rattle.tree_core.proofs.DerivationStands.{cut-nonempty, cut-below, partition
 
 -- of the one item of a list
 pub all-one : {A : Type 0} (P : A → Type 0) (x : A) → P x → All P (x ∷ [])
-all-one P x is zero d less = is
-all-one P x is (suc k) d less = absurd (omega arith)
+all-one P x is h d less = grind arith
 
 pub partitions-leaves_at : (g : Graph) (p : List (List ℕ)) (t : Shape) → IsPartition g.order p → IsDerivationAt g p t → All (IsPartition g.order) (leaves_at g.order p t)
 partitions-leaves_at g p leaf is derives = all-one (IsPartition g.order) p is

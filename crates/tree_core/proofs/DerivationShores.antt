@@ -1,8 +1,8 @@
 -- Each shore of a derivation is a nontrivial tight shore of the graph itself. What is tight at a
 -- merged partition was tight before, so down the tree each tight shore is tight in the graph; and
 -- a union of blocks has at least as many vertices as blocks.
-use Rattle.std.proofs.Common.{◌≡◌, ℕ, ◌≤◌, ◌&&◌, ◌==◌, not, List, [], ◌∷◌, ◌++◌, length, All, refl, subst, sym, ap, ◌∙◌, arith, eq-eqb, eqb-true}
-use Rattle.counting.proofs.Common.{and_from, and_parts, count_congr, count_mono, count, mem, Set, complement}
+use Rattle.std.proofs.Common.{ℕ, ◌≤◌, ◌&&◌, ◌==◌, List, [], ◌∷◌, ◌++◌, length, All, refl, sym, ap, ◌∙◌, arith, eq-eqb, eqb-true}
+use Rattle.counting.proofs.Common.{and_from, and_parts, count_congr, count_mono, count, mem, Set}
 use Rattle.std.proofs.lemmas.List.Elements.{All-append}
 use Rattle.graph_core.proofs.Common.{at_rep, at_place, block_count_rest, count_over, rep, rep_in, rep_place, union_rest, place_in, complement_of-rises, complement-tight, blocks-singles, singles-tight, tight-singles, length-singles, singles-partition, IsCovered, Graph, IsGraph, AreBlocks, IsPartition, complement_of, place, singles, quotient, IsTightAt, IsUnion, block_count, blocks_in, IsNontrivial, IsTight}
 use Rattle.contraction.proofs.MergedQuotients.{tight-before}
@@ -31,13 +31,7 @@ blocks-few n p pp x union =
 
 -- so what has three blocks inside and outside has three vertices inside and outside
 pub nontrivial-vertices : (n : ℕ) (p : List (List ℕ)) → AreBlocks n p → (x : Set) → IsUnion n p x → IsNontrivial (length p) (blocks_in p x) → IsNontrivial n x
-nontrivial-vertices n p pp x union t =
-    let a = blocks-few n p pp x union in
-    let b = blocks-few n p pp (complement x) (union_rest n p pp x union) in
-    let c = block_count_rest n p pp x union in
-    let inside = t.inside in
-    let outside = t.outside in
-    record { inside = omega arith; outside = omega arith }
+nontrivial-vertices n p pp x union t = grind (arith, blocks-few, union_rest, block_count_rest)
 
 -- the cuts that a derivation may name at the single vertices are the canonical nontrivial tight
 -- shores
@@ -50,19 +44,7 @@ cut-shore g x is cuts = record {
 }
 
 pub shore-cut : (g : Graph) (x : List ℕ) → IsGraph g → IsTightShore g x → IsCutAt g (singles g.order) x
-shore-cut g x is shore =
-    let n = g.order in
-    let blocks : (y : Set) → count (length (singles n)) (blocks_in (singles n) y) ≡ count n y
-    = λ y. ap (λ k. count k (blocks_in (singles n) y)) (length-singles n) ∙ count_congr n (blocks_in (singles n) y) y (blocks-singles n y) in
-    let rest : count (length (singles n)) (complement (blocks_in (singles n) (mem x))) ≡ count n (complement (mem x))
-    = ap (λ k. count k (complement (blocks_in (singles n) (mem x)))) (length-singles n)
-    ∙ count_congr n (complement (blocks_in (singles n) (mem x))) (complement (mem x)) (λ v w. ap not (blocks-singles n (mem x) v w)) in
-    record {
-      set = shore.set;
-      tight = singles-tight g (mem x) is shore.tight;
-      nontrivial = record { inside = subst (λ k. 3 ≤ k) (sym (blocks (mem x))) shore.nontrivial.inside; outside = subst (λ k. 3 ≤ k) (sym rest) shore.nontrivial.outside };
-      canonical = shore.canonical;
-    }
+shore-cut g x is shore = grind (arith, length-singles, count_congr, blocks-singles, singles-tight g (mem x) is shore.tight)
 
 -- what is tight at p is tight in the graph
 abbrev pub TightAbove : Graph → List (List ℕ) → Type 0

@@ -1,7 +1,7 @@
 -- A derivation of a graph within the limits has at most 127 nodes, since there are few leaves
 -- where the graph has at least four vertices, and no cut where it has fewer. Its leaves are
 -- partitions of the graph's vertices.
-use Rattle.std.proofs.Common.{◌≡◌, ℕ, ◌≤◌, ◌<◌, List, [], ◌∷◌, length, map, All, ap, refl, arith, zero, suc, inl, inr}
+use Rattle.std.proofs.Common.{◌≡◌, ℕ, ◌≤◌, ◌<◌, List, [], ◌∷◌, length, map, All, ap, refl, arith, zero, suc}
 use Rattle.counting.proofs.Common.{cases_lt, count_complement, mem}
 use Rattle.graph_core.proofs.Common.{Graph, IsGraph, singles, blocks_in, length-singles}
 use Rattle.contraction.specs.Partition.{PartitionValue}
@@ -12,24 +12,14 @@ use Rattle.tree_core.proofs.Sizes.{leaf_count-cuts, node_count-cuts, length-leav
 -- a cut has at least three blocks on either side
 few-without_cut : (g : Graph) (t : Shape) → g.order < 4 → IsDerivationAt g (singles g.order) t → node_count t ≤ 127
 few-without_cut g leaf small is = omega arith
-few-without_cut g (cut x k m) small is =
-    let inside = is.0.nontrivial.inside in
-    let outside = is.0.nontrivial.outside in
-    let all = count_complement (length (singles g.order)) (blocks_in (singles g.order) (mem x)) in
-    let so_many = length-singles g.order in
-    absurd (omega arith)
+few-without_cut g (cut x k m) small is = grind (arith, count_complement (length (singles g.order)) (blocks_in (singles g.order) (mem x)), length-singles g.order)
 
 pub few-nodes : (g : Graph) (t : Shape) → IsGraph g → g.order ≤ 128 → IsDerivation g t → node_count t ≤ 127
-few-nodes g t is few derived = elim (cases_lt g.order 4) [
-  | inl small ↦ few-without_cut g t small derived.derives
-  | inr four ↦ let leaves = few-leaves g t is derived four in let cuts = leaf_count-cuts t in let nodes = node_count-cuts t in omega arith
-]
+few-nodes g t is few derived = grind (arith, cases_lt g.order 4, few-without_cut g t, few-leaves g t is derived, leaf_count-cuts t, node_count-cuts t)
 
 -- and so there are few leaves
 pub few-leaves_listed : (n : ℕ) (t : Shape) → node_count t ≤ 127 → length (partitions_of n (leaves n t)) ≤ 127
-few-leaves_listed n t few =
-    let listed = length-leaves_at n (singles n) t in let cuts = leaf_count-cuts t in let nodes = node_count-cuts t in
-    let same = length-partitions n (leaves n t) in omega arith
+few-leaves_listed n t few = grind (arith, length-leaves_at n (singles n) t, leaf_count-cuts t, node_count-cuts t, length-partitions n (leaves n t))
   where
     length-partitions : (n : ℕ) (ps : List (List (List ℕ))) → length (partitions_of n ps) ≡ length ps
     length-partitions n [] = refl

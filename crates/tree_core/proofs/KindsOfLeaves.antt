@@ -1,6 +1,6 @@
 -- The kinds of the leaves of a list grow by that of one leaf, and at the end are those of all.
 -- What stands at the places before stays where an item is appended; the new one comes next.
-use Rattle.std.proofs.Common.{◌≡◌, ℕ, ◌+◌, ◌-◌, List, [], ◌∷◌, ◌++◌, length, map, ap, subst, subst₂, sym, ◌∙◌, get_or, slice_get, Some, inl, inr, arith}
+use Rattle.std.proofs.Common.{◌≡◌, ℕ, ◌+◌, ◌-◌, List, [], ◌∷◌, ◌++◌, length, map, ap, ◌∙◌, get_or, slice_get, Some, arith}
 use Rattle.std.proofs.Math.ListN.{get_or-append}
 use Rattle.counting.proofs.Common.{get_or-append_seam, cases_lt, length-append, length-map, get_or_from_slice_get, Within}
 use Rattle.std.proofs.lemmas.Option.{slice_get-map}
@@ -15,14 +15,7 @@ use Rattle.tree_core.specs.declared.tallies.LeafKind.TheVariants.{Brick}
 pub kinds-more : (g : Graph) (ps : List (List (List ℕ))) (i : ℕ) (kinds : List LeafKind) (kind : LeafKind) → length kinds ≡ i →
     ((j : ℕ) → Within i j → IsLeafKind g (leaf_at ps j) (kind_at kinds j)) → IsLeafKind g (get_or ps i []) kind →
     (j : ℕ) → Within (i + 1) j → IsLeafKind g (leaf_at ps j) (kind_at (kinds ++ kind ∷ []) j)
-kinds-more g ps i kinds kind e before here j w = elim (cases_lt (j - 1) i) [
-  | inl b ↦ subst (λ (d : LeafKind). IsLeafKind g (leaf_at ps j) d) (sym (get_or-append kinds (kind ∷ []) Brick (j - 1) (omega arith))) (before j (omega arith))
-  | inr a ↦
-      let same : length kinds ≡ j - 1 = omega arith in
-      let own : i ≡ j - 1 = omega arith in
-      subst₂ (λ (n : ℕ) (d : LeafKind). IsLeafKind g (get_or ps n []) d) own
-      (sym (get_or-append_seam kinds kind [] Brick) ∙ ap (λ (n : ℕ). get_or (kinds ++ kind ∷ []) n Brick) same) here
-]
+kinds-more g ps i kinds kind e before here j w = grind (arith, cases_lt (j - 1) i, get_or-append kinds (kind ∷ []) Brick (j - 1), get_or-append_seam kinds kind)
 
 -- the blocks of the partition at a place
 pub blocks-at : (found : List PartitionValue) (i : ℕ) (p : PartitionValue) → slice_get found i ≡ Some p → get_or (map (λ (q : PartitionValue). q.blocks) found) i [] ≡ p.blocks
@@ -34,16 +27,9 @@ blocks-at found i p is =
 pub kinds-next : (g : Graph) (leaves : List PartitionValue) (i : ℕ) (p : PartitionValue) (kinds more : List LeafKind) (kind : LeafKind) → slice_get leaves i ≡ Some p → more ≡ kinds ++ kind ∷ [] → length kinds ≡ i →
     ((j : ℕ) → Within i j → IsLeafKind g (leaf_at (map (λ (q : PartitionValue). q.blocks) leaves) j) (kind_at kinds j)) → IsLeafKind g p.blocks kind →
     (length more ≡ i + 1) × ((j : ℕ) → Within (i + 1) j → IsLeafKind g (leaf_at (map (λ (q : PartitionValue). q.blocks) leaves) j) (kind_at more j))
-kinds-next g leaves i p kinds more kind is one e before here =
-    let ps : List (List (List ℕ)) = map (λ (q : PartitionValue). q.blocks) leaves in (
-      ap length one ∙ length-append kinds (kind ∷ []) ∙ ap (λ (n : ℕ). n + 1) e,
-      λ j w. subst (λ (ks : List LeafKind). IsLeafKind g (leaf_at ps j) (kind_at ks j)) (sym one)
-          (kinds-more g ps i kinds kind e before (subst (λ (b : List (List ℕ)). IsLeafKind g b kind) (sym (blocks-at leaves i p is)) here) j w),
-    )
+kinds-next g leaves i p kinds more kind is one e before here = grind (arith, length-append kinds (kind ∷ []), kinds-more g, blocks-at leaves i p is)
 
 -- the kinds of all leaves
 pub kinds-all : (g : Graph) (leaves : List PartitionValue) (i : ℕ) (kinds : List LeafKind) → i ≡ length leaves → length kinds ≡ i →
     ((j : ℕ) → Within i j → IsLeafKind g (leaf_at (map (λ (q : PartitionValue). q.blocks) leaves) j) (kind_at kinds j)) → AreLeafKinds g (map (λ (q : PartitionValue). q.blocks) leaves) kinds
-kinds-all g leaves i kinds all e right =
-    let count : i ≡ length (map (λ (q : PartitionValue). q.blocks) leaves) = all ∙ sym (length-map leaves (λ (q : PartitionValue). q.blocks)) in
-    record { each_one = e ∙ count; right = λ j w. right j (subst (λ (n : ℕ). Within n j) (sym count) w) }
+kinds-all g leaves i kinds all e right = grind (arith, length-map)

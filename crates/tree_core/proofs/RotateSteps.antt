@@ -1,16 +1,12 @@
 -- Rotate at the end of a path, and the test of two sets with no common vertex.
-use Rattle.std.proofs.Common.{◌≡◌, ℕ, not, ◌&&◌, List, [], ◌∷◌, ◌++◌, length, None, refl, sym, ap, ap₂, ◌∙◌, arith}
-use Rattle.counting.proofs.Common.{same_tests, and_from, and_parts, all_in_true, true_all_in, mem, is_apart, is_subset, everything, minus}
-use Rattle.tree_core.specs.Common.{last_step, parent_path, result_at, rotate_result, rotate_result_at, Fits, Shape, MayTurn}
+use Rattle.std.proofs.Common.{◌≡◌, ℕ, not, ◌&&◌, List, [], ◌∷◌, ◌++◌, length, None, refl, ap, ap₂, ◌∙◌, arith}
+use Rattle.counting.proofs.Common.{same_tests, and_from, and_parts, all_in_true, true_all_in, mem, is_apart, is_subset}
+use Rattle.tree_core.specs.Common.{last_step, parent_path, result_at, rotate_result, rotate_result_at, Shape}
 use Rattle.tree_core.specs.declared.path.Side.{Side}
-use Rattle.tree_core.specs.declared.turns.Turn.{Turn}
-use Rattle.tree_core.specs.declared.turns.Turn.TheVariants.{Rotate, Switch}
 
 -- x lies in what it keeps without y exactly when the two have no common vertex
 pub apart-test : (x y z : List ℕ) → ((v : ℕ) → mem z v ≡ (mem x v && not (mem y v))) → is_subset x z ≡ is_apart x y
-apart-test x y z e = same_tests (is_subset x z) (is_apart x y)
-    (λ h. true_all_in x (minus everything (mem y)) (λ v m. (and_parts (mem x v) (not (mem y v)) (sym (e v) ∙ all_in_true x (mem z) h v m)).1))
-    (λ h. true_all_in x (mem z) (λ v m. e v ∙ and_from (mem x v) (not (mem y v)) m (all_in_true x (minus everything (mem y)) h v m)))
+apart-test x y z e = grind (arith, same_tests, true_all_in, and_parts, all_in_true, and_from)
 
 -- a path of at least one step, taken apart before its last step
 pub last_step-end : (side : Side) (path : List Side) (last : Side) → last_step side (path ++ last ∷ []) ≡ last
@@ -31,10 +27,4 @@ rotate-end path parents last t e = ap (λ (p : List Side). rotate_result p t) e 
 
 -- with no step there is no result
 pub rotate-nowhere : (path : List Side) (t : Shape) → length path ≡ 0 → rotate_result path t ≡ None
-rotate-nowhere [] t e = refl
-rotate-nowhere (side ∷ path) t e = absurd (omega (arith, e))
-
--- a turn that may be asked for of a tree may be asked for of its child
-pub may_turn-below : (turn : Turn) (whole child : Shape) → ((n : ℕ) → Fits n whole → Fits n child) → MayTurn turn whole → MayTurn turn child
-may_turn-below (Rotate side) whole child below may = tt
-may_turn-below (Switch n u v) whole child below may = below n may
+rotate-nowhere path t e = grind arith

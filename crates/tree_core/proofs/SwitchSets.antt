@@ -1,6 +1,6 @@
 -- Sets of vertices 1 to n as the lists of their tests: unions, differences and complements, also
 -- where n is greater than any vertex that a set can hold.
-use Rattle.std.proofs.Common.{◌≡◌, ℕ, ◌-◌, ◌≤◌, ◌<◌, Bool, true, false, not, ◌&&◌, ◌||◌, List, [], ◌∷◌, All, min, refl, sym, ap, ◌∙◌, arith, inl, inr, ◌⊎◌, subst, get_or, suc, ◌==◌, eqb-true}
+use Rattle.std.proofs.Common.{◌≡◌, ℕ, ◌-◌, ◌≤◌, ◌<◌, Bool, true, false, not, ◌&&◌, ◌||◌, List, [], ◌∷◌, All, min, refl, sym, ap, ◌∙◌, arith, ◌⊎◌, get_or, suc, ◌==◌}
 use Rattle.counting.proofs.Common.{same_tests, and_from, and_parts, both_ways, or_cases, mem-within, all_in_false, all_in_true, list-from_test, mem-all, mem-item, mem-outside, set-narrower, true_all_in, Within, IsRisingIn, is_subset, mem, rising_list, Set, everything, minus, union}
 use Rattle.graph_core.proofs.Common.{complement_of-rises, mem-complement_of, complement_of}
 use Rattle.tree_core.proofs.Shores.{is-complement}
@@ -12,8 +12,7 @@ each-member P [] all v m = absurd (both_ways false refl m)
 each-member P (x ∷ xs) all v m = go (each-member P xs (λ k d l. all (suc k) d (omega arith))) (or_cases (x == v) (mem xs v) m)
   where
     go : ((v : ℕ) → mem xs v ≡ true → P v) → ((x == v) ≡ true) ⊎ (mem xs v ≡ true) → P v
-    go rest (inl e) = subst P (eqb-true x v e) (all 0 0 (omega arith))
-    go rest (inr t) = rest v t
+    go rest h = grind arith
 
 -- numbers below n are numbers up to n
 pub all_wider : (n : ℕ) (xs : List ℕ) → All (Within (n - 1)) xs → All (Within n) xs
@@ -27,10 +26,7 @@ all-of : (n : ℕ) (r : List ℕ) → IsRisingIn 128 r → ((v : ℕ) → mem r 
 all-of n r rises low = (set-narrower 128 n r rises low).within
 
 union_low : (n : ℕ) (x y r : List ℕ) → All (Within n) x → All (Within n) y → ((v : ℕ) → mem r v ≡ (mem x v || mem y v)) → (v : ℕ) → mem r v ≡ true → v ≤ n
-union_low n x y r ax ay tells v m = elim (or_cases (mem x v) (mem y v) (sym (tells v) ∙ m)) [
-  | inl t ↦ (each-member (Within n) x ax v t).1
-  | inr t ↦ (each-member (Within n) y ay v t).1
-]
+union_low n x y r ax ay tells v m = grind (arith, or_cases (mem x v) (mem y v) (sym (tells v) ∙ m), each-member (Within n) x ax v, each-member (Within n) y ay v)
 
 pub union-is : (n : ℕ) (x y r : List ℕ) → IsRisingIn 128 r → All (Within n) x → All (Within n) y → ((v : ℕ) → mem r v ≡ (mem x v || mem y v)) → r ≡ union_list n x y
 union-is n x y r rises ax ay tells = list-of n r (union (mem x) (mem y)) rises tells (union_low n x y r ax ay tells)
@@ -56,10 +52,7 @@ abbrev pub IsOutside : ℕ → (x r : List ℕ) → Type 0
 IsOutside n x r = (w : ℕ) → mem r w ≡ (mem (rising_list (min n 128) everything) w && not (mem x w))
 
 outside_in : (n : ℕ) (x r : List ℕ) → IsOutside n x r → (w : ℕ) → mem r w ≡ true → mem (complement_of n x) w ≡ true
-outside_in n x r tells w m =
-    let h = and_parts (mem (rising_list (min n 128) everything) w) (not (mem x w)) (sym (tells w) ∙ m) in
-    let i = (mem-all (min n 128) w).0 h.0 in let z : Within n w = (omega arith, omega arith) in
-    mem-complement_of n x w z ∙ h.1
+outside_in n x r tells w m = grind (arith, and_parts (mem (rising_list (min n 128) everything) w) (not (mem x w)) (sym (tells w) ∙ m), mem-all (min n 128) w, mem-complement_of n x w)
 
 in_outside : (n : ℕ) (x r : List ℕ) → IsOutside n x r → (w : ℕ) → w ≤ 128 → mem (complement_of n x) w ≡ true → mem r w ≡ true
 in_outside n x r tells w small m =
@@ -73,9 +66,7 @@ outside-test n v x r rises tells = same_tests (is_subset v r) (is_subset v (comp
 
 -- the complement has a number that no set holds
 pub not-covered : (n : ℕ) (v x : List ℕ) → IsRisingIn 128 v → All (Within (n - 1)) x → 128 < n → is_subset (complement_of n x) v ≡ false
-not-covered n v x rises below large =
-    let z : Within n n = (omega arith, omega arith) in
-    all_in_false (complement_of n x) (mem v) n (mem-complement_of n x n z ∙ ap not (out (mem x n) refl)) (mem-past v n rises (λ w. omega (arith, w)))
+not-covered n v x rises below large = grind (arith, all_in_false (complement_of n x) (mem v) n, mem-complement_of n x n, out (mem x n) refl, mem-past v n rises)
   where
     out : (b : Bool) → mem x n ≡ b → mem x n ≡ false
     out false h = h
@@ -89,14 +80,10 @@ rest_tells : (n : ℕ) (x v o r : List ℕ) → IsOutside n x o → n ≤ 128 �
 rest_tells n x v o r tells small is ro w = is w ∙ ap (λ (z : List ℕ). mem z w && not (mem v w)) (outside-is n x o ro small tells)
 
 pub outer_rest-is : (n : ℕ) (x v o r : List ℕ) → IsRisingIn 128 v → mem v n ≡ true → IsRisingIn 128 o → IsOutside n x o → IsRisingIn 128 r → ((w : ℕ) → mem r w ≡ (mem o w && not (mem v w))) → r ≡ outer_rest n x v
-outer_rest-is n x v o r rv h ro tells rr is =
-    let small = mem-within 128 v rv n h in let all : All (Within n) (complement_of n x) = (complement_of-rises n x).within in
-    minus-is n (complement_of n x) v r rr all (rest_tells n x v o r tells small.1 is ro)
+outer_rest-is n x v o r rv h ro tells rr is = grind (arith, mem-within 128 v rv n h, complement_of-rises n x, minus-is n (complement_of n x) v r rr, rest_tells n x v o r tells)
 
 pub outer_rest-within : (n : ℕ) (x v o r : List ℕ) → IsRisingIn 128 v → mem v n ≡ true → IsRisingIn 128 o → IsOutside n x o → IsRisingIn 128 r → ((w : ℕ) → mem r w ≡ (mem o w && not (mem v w))) → All (Within n) r
-outer_rest-within n x v o r rv h ro tells rr is =
-    let small = mem-within 128 v rv n h in let all : All (Within n) (complement_of n x) = (complement_of-rises n x).within in
-    minus-within n (complement_of n x) v r rr all (rest_tells n x v o r tells small.1 is ro)
+outer_rest-within n x v o r rv h ro tells rr is = grind (arith, mem-within 128 v rv n h, complement_of-rises n x, minus-within n (complement_of n x) v r rr, rest_tells n x v o r tells)
 
 -- a nonempty proper subset has no other numbers
 pub proper-within : (n : ℕ) (u x : List ℕ) → is_proper u x ≡ true → ((v : ℕ) → mem x v ≡ true → Within n v) → All (Within n) u

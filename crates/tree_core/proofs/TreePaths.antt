@@ -1,5 +1,5 @@
 -- What a tree has, by the paths from its root: by induction along the path, or down the tree.
-use Rattle.std.proofs.Common.{◌≡◌, ℕ, zero, suc, ◌+◌, ◌≤◌, ◌<◌, List, [], ◌∷◌, ◌++◌, length, refl, sym, ap, subst, arith, inl, inr, ◌⊎◌, Any, slice_index_or}
+use Rattle.std.proofs.Common.{◌≡◌, ℕ, suc, ◌+◌, ◌≤◌, List, [], ◌∷◌, ◌++◌, length, refl, sym, ap, subst, arith, inl, inr, ◌⊎◌, Any}
 use Rattle.counting.proofs.Common.{cases_lt}
 use Rattle.tree_core.specs.Common.{kept_at, merged_at, LeadsTo, leaves_at, Shape, cut, depth, leaf, shores}
 use Rattle.tree_core.specs.declared.path.Side.{Side}
@@ -16,11 +16,7 @@ module _ {X : Type 0} (P : X → Type 0) where
   any-there x xs a = let less = a.2 in (suc a.0, a.1, omega arith, a.3, a.4)
 
   any-cases : (x : X) (xs : List X) → Any P (x ∷ xs) → P x ⊎ Any P xs
-  any-cases x xs a = go a.0 a.1 a.2 a.3 a.4
-    where
-      go : (k : ℕ) (y : X) → k < length (x ∷ xs) → slice_index_or (x ∷ xs) k y ≡ y → P y → P x ⊎ Any P xs
-      go zero y less is holds = inl (subst P (sym is) holds)
-      go (suc k) y less is holds = inr (k, y, omega arith, is, holds)
+  any-cases x xs a = grind arith
 
   any-left : (xs ys : List X) → Any P xs → Any P (xs ++ ys)
   any-left [] ys a = absurd (any-none a)

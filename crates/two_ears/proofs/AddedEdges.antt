@@ -46,9 +46,7 @@ module _ (g : Graph) (es : List (ℕ × ℕ)) (p : ℕ × ℕ) where
   pub edge_of : (P : ℕ → ℕ → Type 0) → ((e : ℕ) → Within (length es) e → P (first_end (with_ends g es) e) (second_end (with_ends g es) e)) → P p.0 p.1 → (e : ℕ) → Within (length (es ++ (p ∷ []))) e → P (first_end (with_ends g (es ++ (p ∷ []))) e) (second_end (with_ends g (es ++ (p ∷ []))) e)
   edge_of P old new e w = elim (cases_eq e (suc (length es))) [
     | inl q ↦ subst2 p.0 (first_end (with_ends g (es ++ (p ∷ []))) e) p.1 (second_end (with_ends g (es ++ (p ∷ []))) e) (sym first_end-new ∙ ap (first_end (with_ends g (es ++ (p ∷ [])))) (sym q)) (sym second_end-new ∙ ap (second_end (with_ends g (es ++ (p ∷ [])))) (sym q)) new
-    | inr q ↦ let l = size-added in
-        let v : Within (length es) e = omega arith in
-        subst2 (first_end (with_ends g es) e) (first_end (with_ends g (es ++ (p ∷ []))) e) (second_end (with_ends g es) e) (second_end (with_ends g (es ++ (p ∷ []))) e) (sym (first_end-old e v)) (sym (second_end-old e v)) (old e v)
+    | inr q ↦ grind (arith, size-added, subst2, first_end-old, second_end-old)
   ]
     where
       subst2 : (a b c d : ℕ) → a ≡ b → c ≡ d → P a c → P b d
@@ -59,8 +57,7 @@ module _ (g : Graph) (es : List (ℕ × ℕ)) (p : ℕ × ℕ) where
   new-joined =
       let l = size-added in
       let b = has_ends-own (with_ends g (es ++ (p ∷ []))) (suc (length es)) in
-      true_some (length (es ++ (p ∷ []))) (has_ends (with_ends g (es ++ (p ∷ []))) p.0 p.1) (suc (length es)) (omega arith)
-      (ap₂ (λ c d. has_ends (with_ends g (es ++ (p ∷ []))) c d (suc (length es))) (sym first_end-new) (sym second_end-new) ∙ b)
+      grind (arith, true_some (length (es ++ (p ∷ []))) (has_ends (with_ends g (es ++ (p ∷ []))) p.0 p.1) (suc (length es)), first_end-new, second_end-new)
 
   pub keeps-added : KeepsEdges g es → Within g.order p.0 → Within g.order p.1 → KeepsEdges g (es ++ (p ∷ []))
   keeps-added h w0 w1 = record {
@@ -90,11 +87,8 @@ abbrev pub with_new : Graph → Set → Set
 with_new g m e = m e || nat_lt (size g) e
 
 pub degree-with_pairs : (g : Graph) (m : Set) (ps : List (ℕ × ℕ)) (v : ℕ) → degree (with_ends g (with_pairs g.ends ps)) (with_new g m) v ≡ degree g m v + pairs_at ps v
-degree-with_pairs g m [] v = degree_congr g (with_new g m) m v (λ e w. old (m e) (nat_lt (size g) e) (le-ltb (size g) e (omega arith))) ∙ zero_more (degree g m v)
+degree-with_pairs g m [] v = degree_congr g (with_new g m) m v (λ e w. old (m e) (nat_lt (size g) e) (le-ltb (size g) e (omega arith))) ∙ (omega arith)
   where
-    zero_more : (k : ℕ) → k ≡ k + 0
-    zero_more k = omega arith
-
     old : (a b : Bool) → b ≡ false → (a || b) ≡ a
     old a b h = grind arith
 degree-with_pairs g m (p ∷ ps) v =

@@ -14,25 +14,8 @@ least_passer (suc n) p = cond (some n p) (least_passer n p) (suc n)
 least_passer-is : (n : ℕ) (p : ℕ → Bool) → some n p ≡ true → Within n (least_passer n p) × (p (least_passer n p) ≡ true) × ((w : ℕ) → Within n w → p w ≡ true → least_passer n p ≤ w)
 least_passer-is zero p h = absurd (true≢false (sym h))
 least_passer-is (suc n) p h = elim (cases_Bool (some n p)) [
-  | inl t ↦
-      let r = least_passer-is n p t in
-      let e : least_passer (suc n) p ≡ least_passer n p = ap (λ b. cond b (least_passer n p) (suc n)) t in (
-        let a = r.0 in omega (arith, e),
-        ap p e ∙ r.1,
-        λ w ww pw. elim (cases_eq w (suc n)) [
-          | inl i ↦ let a = r.0 in omega (arith, e)
-          | inr i ↦ let a = r.2 w (omega arith) pw in omega (arith, e)
-        ],
-      )
-  | inr f ↦
-      let e : least_passer (suc n) p ≡ suc n = ap (λ b. cond b (least_passer n p) (suc n)) f in (
-        omega (arith, e),
-        ap p e ∙ or_second (some n p) (p (suc n)) f h,
-        λ w ww pw. elim (cases_eq w (suc n)) [
-          | inl i ↦ omega (arith, e)
-          | inr i ↦ absurd (both_ways (p w) (some_none n p f w (omega arith)) pw)
-        ],
-      )
+  | inl t ↦ grind (arith, least_passer-is n p t, cases_eq)
+  | inr f ↦ grind (arith, or_second (some n p) (p (suc n)) f h, cases_eq, both_ways, some_none n p f)
 ]
 
 least_passer-congr : (n : ℕ) (p q : ℕ → Bool) → ((v : ℕ) → Within n v → p v ≡ q v) → least_passer n p ≡ least_passer n q
@@ -68,11 +51,7 @@ module _ (n : ℕ) (p : ℕ → ℕ → Bool) (eq : IsEquivalence n p) where
           let v = some_true n (λ v. label v == l) t in
           let e = eqb-true (label v.0) l v.2 in
           let d = label_is v.0 v.1 in
-          ap not (false_from_ne_true (some n (λ v. p l v && nat_lt v l)) (λ s.
-          let u = some_true n (λ v. p l v && nat_lt v l) s in
-          let b = and_parts (p l u.0) (nat_lt u.0 l) u.2 in
-          let c = d.2 u.0 u.1 (eq.on v.0 l u.0 v.1 w u.1 (ap (p v.0) (sym e) ∙ d.1) b.0) in
-          let i = ltb-true u.0 l b.1 in absurd (omega arith)))
+          grind (arith, false_from_ne_true, nat_lt, some_true n, and_parts, ltb-true)
 
       back : (l : ℕ) → Within n l → not (some n (λ v. p l v && nat_lt v l)) ≡ true → used n label l ≡ true
       back l w t =

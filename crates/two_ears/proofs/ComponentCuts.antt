@@ -12,11 +12,8 @@ pub leader_sum : (x : Graph) (b w : Set) → IsGraph x → ((u v : ℕ) → With
 leader_sum x b w is same p wp o =
     total_congr x.order _ _ (λ u wu. bits (is_least x b u) (w u) (joined x b u p) (w p) (same u p wu wp))
     ∙ total_mul x.order (bit (w p)) (λ u. bit (is_least x b u && joined x b u p))
-    ∙ (let i = one_leader x b is p wp in let j = some_leader x b is p wp o in let e : count x.order (λ u. is_least x b u && joined x b u p) ≡ 1 = omega arith in ap (λ k. bit (w p) * k) e ∙ one (bit (w p)))
+    ∙ (let i = one_leader x b is p wp in let j = some_leader x b is p wp o in let e : count x.order (λ u. is_least x b u && joined x b u p) ≡ 1 = omega arith in ap (λ k. bit (w p) * k) e ∙ (omega arith))
   where
-    one : (k : ℕ) → k * 1 ≡ k
-    one k = omega arith
-
     bits : (l a j c : Bool) → (j ≡ true → a ≡ c) → bit ((l && a) && j) ≡ bit c * bit (l && j)
     bits true a true c h = ap (λ t. bit (t && true)) (h refl) ∙ two c
       where
@@ -69,14 +66,11 @@ weighted_cut g xs b w m is h same =
 
         never : (s t c d : Bool) → (s ≡ true → c ≡ d) → bit (s && t) * bit ((c && not d) || (not c && d)) ≡ 0
         never false t c d f = omega arith
-        never true t c d f = let q = f refl in let z : bit ((c && not d) || (not c && d)) ≡ 0 = ap (λ y. bit ((y && not d) || (not y && d))) q ∙ none_of d in ap (λ k. bit (true && t) * k) z ∙ zero_of (bit t)
+        never true t c d f = let q = f refl in let z : bit ((c && not d) || (not c && d)) ≡ 0 = ap (λ y. bit ((y && not d) || (not y && d))) q ∙ none_of d in ap (λ k. bit (true && t) * k) z ∙ (omega arith)
           where
             none_of : (d : Bool) → bit ((d && not d) || (not d && d)) ≡ 0
             none_of true = refl
             none_of false = refl
-
-            zero_of : (k : ℕ) → k * 0 ≡ 0
-            zero_of k = omega arith
 
         fore : (s t c d : Bool) → (s ≡ true → d ≡ false) → bit (s && t) * bit ((c && not d) || (not c && d)) ≡ bit ((s && t) && c)
         fore false t c d f = omega arith

@@ -1,7 +1,7 @@
 -- The two-ear theorem for edges: of further edges that keep a covered graph covered one does, or
 -- two do. Take a perfect matching that holds one of them.
 use Rattle.std.proofs.Common.{◌≡◌, ℕ, suc, zero, ◌+◌, ◌*◌, ◌≤◌, ◌≢◌, Bool, true, false, cond, ◌==◌, refl, sym, ap, ap₂, ◌∙◌, arith, ◌&&◌, ◌||◌, not, eqb-true, ◌⊎◌, inl, inr, nat_lt, lt-ltb, le-ltb, subst, [], ◌∷◌, List, length}
-use Rattle.counting.proofs.Common.{cases_eq, cases_Bool, cases_lt, and_from, true≢false, not-false, or_right, or_cases, or_parts, but_not, Within, bit, Set, none, union, IsIn}
+use Rattle.counting.proofs.Common.{cases_eq, cases_Bool, cases_lt, and_from, true≢false, not-false, or_right, or_parts, but_not, Within, bit, Set, none, union, IsIn}
 use Rattle.graph_core.proofs.Common.{joined_walk, walk_joined, degree_congr, IsCovered, Graph, IsGraph, degree, first_end, second_end, size, with_ends, Allowed, IsPerfect, Joined}
 use Rattle.two_ears.proofs.AddedEdges.{degree-added, degree-with_pairs, second_end-new, second_end-old, keeps-with_pairs, first_end-new, first_end-old, with_pairs-longer, size-added, with_new}
 use Rattle.two_ears.proofs.JoinedClasses.{keeps-itself, joined_more}
@@ -21,10 +21,7 @@ abbrev without_new : Graph → Set → Set
 without_new g m e = m e && not (nat_lt (size g) e)
 
 degree_without : (g : Graph) (m : Set) (ps : List (ℕ × ℕ)) (v : ℕ) → degree (with_ends g (with_pairs g.ends ps)) (without_new g m) v ≡ degree g m v
-degree_without g m [] v = degree_congr g (without_new g m) m v (λ e w. old (m e) (nat_lt (size g) e) (le-ltb (size g) e (omega arith)))
-  where
-    old : (a b : Bool) → b ≡ false → (a && not b) ≡ a
-    old a b h = grind arith
+degree_without g m [] v = degree_congr g (without_new g m) m v (λ e w. grind arith)
 degree_without g m (p ∷ ps) v =
     let d = degree-added g (with_pairs g.ends ps) p (without_new g m) v in
     let i = degree_without g m ps v in
@@ -64,10 +61,7 @@ chosen_in g m (q ∷ ps) p i = go (m (suc (length (with_pairs g.ends ps)))) i (c
 
 degree_chosen : (g : Graph) (m : Set) (ps : List (ℕ × ℕ)) (v : ℕ) → degree (with_ends g (with_pairs g.ends ps)) m v ≡ degree g m v + pairs_at (chosen g m ps) v
 unfolding chosen
-degree_chosen g m [] v = zero_more (degree g m v)
-  where
-    zero_more : (k : ℕ) → k ≡ k + 0
-    zero_more k = omega arith
+degree_chosen g m [] v = omega arith
 degree_chosen g m (p ∷ ps) v = degree-added g (with_pairs g.ends ps) p m v ∙ go (m (suc (length (with_pairs g.ends ps)))) (degree_chosen g m ps v)
   where
     go : (b : Bool) → degree (with_ends g (with_pairs g.ends ps)) m v ≡ degree g m v + pairs_at (chosen g m ps) v →
@@ -78,10 +72,7 @@ degree_chosen g m (p ∷ ps) v = degree-added g (with_pairs g.ends ps) p m v ∙
 same_or_apart : (ps : List (ℕ × ℕ)) (p q : ℕ × ℕ) (v : ℕ) → IsIn p ps → IsIn q ps → (p ≡ q) ⊎ ((bit (p.0 == v) + bit (p.1 == v)) + (bit (q.0 == v) + bit (q.1 == v)) ≤ pairs_at ps v)
 same_or_apart [] p q v i j = absurd i
 same_or_apart (r ∷ ps) p q v i j = elim i [
-  | inl x ↦ elim j [
-    | inl y ↦ inl (x ∙ sym y)
-    | inr y ↦ let a = ap (λ z. bit (z.0 == v) + bit (z.1 == v)) x in let b = ends_of_one ps q v y in inr (omega arith)
-  ]
+  | inl x ↦ grind (arith, ends_of_one ps q v)
   | inr x ↦ elim j [
     | inl y ↦ let a = ap (λ z. bit (z.0 == v) + bit (z.1 == v)) y in let b = ends_of_one ps p v x in inr (omega arith)
     | inr y ↦ elim (same_or_apart ps p q v x y) [ inl k ↦ inl k | inr k ↦ inr (omega arith) ]
@@ -118,10 +109,7 @@ module _ (g : Graph) (is : IsGraph g) (cov : IsCovered g) (p0 : ℕ × ℕ) (res
 
   some_chosen : qs ≢ []
   unfolding qs chosen m e0
-  some_chosen e = not_empty (ap length (sym (ap (λ b. cond b (p0 ∷ chosen g m rest) (chosen g m rest)) used.2) ∙ e))
-    where
-      not_empty : suc (length (chosen g m rest)) ≡ 0 → ⊥
-      not_empty e = omega arith
+  some_chosen e = grind arith
 
   of_qs : (p : ℕ × ℕ) → IsIn p qs → IsIn p ps
   unfolding qs
@@ -184,21 +172,15 @@ module _ (g : Graph) (is : IsGraph g) (cov : IsCovered g) (p0 : ℕ × ℕ) (res
                 let a = h.away v w t in
                 let l = ends_of_one qs p v i in
                 let s = split v w in
-                let u = some_or (p.0 == v) (p.1 == v) (same (vertices_of p v) (vertices_of q v) (ap (λ z. vertices_of z v) e) t) in omega arith
+                let u = some_or (p.0 == v) (p.1 == v) (grind arith) in omega arith
             | inr t ↦ let a = h.once v w t in let u = one_or_none (p.0 == v) (p.1 == v) (or_parts (vertices_of p v) (vertices_of q v) t).0 in omega arith
           ]
-            where
-              same : (x y : Bool) → x ≡ y → (x || y) ≡ true → x ≡ true
-              same x y e h = grind arith
 
           double : (v : ℕ) → Within g.order v → p ≢ q → degree g k v + ((bit (p.0 == v) + bit (p.1 == v)) + ((bit (q.0 == v) + bit (q.1 == v)) + 0)) ≡ 1
           double v w d = elim (same_or_apart qs p q v i j) [
             | inl e ↦ absurd (d e)
             | inr l ↦ let s = split v w in elim (cases_Bool (union (vertices_of p) (vertices_of q) v)) [
-              | inl t ↦ let a = h.away v w t in elim (or_cases (vertices_of p v) (vertices_of q v) t) [
-                | inl x ↦ let u = some_or (p.0 == v) (p.1 == v) x in omega arith
-                | inr x ↦ let u = some_or (q.0 == v) (q.1 == v) x in omega arith
-              ]
+              | inl t ↦ grind arith
               | inr t ↦ let a = h.once v w t in let r = or_parts (vertices_of p v) (vertices_of q v) t in let u = one_or_none (p.0 == v) (p.1 == v) r.0 in let x = one_or_none (q.0 == v) (q.1 == v) r.1 in omega arith
             ]
           ]

@@ -59,14 +59,8 @@ merge_joins f x y = ap (λ t. cond t (f y) (f x)) (eq-eqb (f x) (f x) refl) ∙ 
 -- a partition that holds f and joins x and y holds the merged one
 pub merge_in : (n : ℕ) (f z : ℕ → ℕ) (x y : ℕ) → Within n x → Within n y → Finer n f z → z x ≡ z y → Finer n (merge f x y) z
 merge_in n f z x y wx wy fin e a b wa wb h = elim (cases_eq (f a) (f x)) [
-  | inl p ↦ elim (cases_eq (f b) (f x)) [
-    | inl q ↦ fin a b wa wb (p ∙ sym q)
-    | inr q ↦ let i : f y ≡ f b = sym (hit a p) ∙ h ∙ miss b q in fin a x wa wx p ∙ e ∙ fin y b wy wb i
-  ]
-  | inr p ↦ elim (cases_eq (f b) (f x)) [
-    | inl q ↦ let i : f a ≡ f y = sym (miss a p) ∙ h ∙ hit b q in fin a y wa wy i ∙ sym e ∙ sym (fin b x wb wx q)
-    | inr q ↦ fin a b wa wb (sym (miss a p) ∙ h ∙ miss b q)
-  ]
+  | inl p ↦ grind arith
+  | inr p ↦ grind arith
 ]
   where
     hit : (v : ℕ) → f v ≡ f x → merge f x y v ≡ f y
@@ -124,11 +118,7 @@ merge_used n f x y wx wy lf d =
 -- a pair in one class of f and in two of h, or none
 pub parted_pair : (n : ℕ) (f h : ℕ → ℕ) → ((x : ℕ) × (y : ℕ) × Within n x × Within n y × (f x ≡ f y) × (h x ≢ h y)) ⊎ Finer n f h
 parted_pair n f h = elim (cases_Bool (some n (λ x. some n (λ y. (f x == f y) && not (h x == h y))))) [
-  | inl t ↦
-      let x = some_true n (λ x. some n (λ y. (f x == f y) && not (h x == h y))) t in
-      let y = some_true n (λ y. (f x.0 == f y) && not (h x.0 == h y)) x.2 in
-      let b = and_parts (f x.0 == f y.0) (not (h x.0 == h y.0)) y.2 in
-      inl (x.0, y.0, x.1, y.1, eqb-true (f x.0) (f y.0) b.0, λ e. both_ways (h x.0 == h y.0) (not-true (h x.0 == h y.0) b.1) (eq-eqb (h x.0) (h y.0) e))
+  | inl t ↦ grind (arith, some_true n, and_parts, eqb-true, both_ways, not-true, eq-eqb)
   | inr t ↦ inr (λ a b wa wb e. elim (cases_eq (h a) (h b)) [
     | inl q ↦ q
     | inr q ↦

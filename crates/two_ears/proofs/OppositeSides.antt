@@ -2,7 +2,7 @@
 -- them. Else a barrier holds both; each component that it leaves is heavy on one side, and no
 -- edge would lead from the one side of the barrier to the other.
 use Rattle.std.proofs.Common.{◌≡◌, ℕ, ◌+◌, ◌≢◌, Bool, true, false, ◌==◌, refl, sym, ap, ap₂, ◌∙◌, arith, ◌&&◌, ◌||◌, not, eq-eqb, ne_eqb, inl, inr}
-use Rattle.counting.proofs.Common.{and_parts, and_from, both_ways, true≢false, false_from_ne_true, bit_true, count_congr, at_le_total, some_term, total_add, total_congr, total_none, not_not, same_tests, Within, bit, count, Set, complement, meet, none}
+use Rattle.counting.proofs.Common.{and_parts, and_from, both_ways, true≢false, false_from_ne_true, bit_true, count_congr, at_le_total, some_term, total_add, total_congr, total_none, same_tests, Within, bit, count, Set, complement, meet, none}
 use Rattle.barrier_kit.proofs.Common.{equivalent_barrier, perfect_or_not, crosses_apart, cut_edge, loop_free}
 use Rattle.graph_core.proofs.Common.{IsSide, is_least, IsCovered, Graph, IsGraph, edges_in_cut, first_end, in_cut, inside, second_end, size, HasPerfect, IsPerfect, IsBarrier, joined, joined_outside, some_leader, adjacent_from, has_ends-own}
 use Rattle.two_ears.proofs.BarrierComponents.{count_none, none_inside, one_leaves, some_perfect}
@@ -22,14 +22,11 @@ module _ (g : Graph) (is : IsGraph g) (cov : IsCovered g) (a : Set) (sides : IsS
       let y = count_in g none m (meet k (complement a)) is p (λ v w t. absurd (true≢false (sym t))) in
       let z = count_none g.order in
       let i = total_none (size g) (λ e. bit (m e && inside g (meet k a) e)) (λ e w. ap bit (apart a e w (m e) refl (λ n. sides e w n))) in
-      let j = total_none (size g) (λ e. bit (m e && inside g (meet k (complement a)) e)) (λ e w. ap bit (apart (complement a) e w (m e) refl (λ n. turned (a (first_end g e)) (a (second_end g e)) (sides e w n)))) in
+      let j = total_none (size g) (λ e. bit (m e && inside g (meet k (complement a)) e)) (λ e w. ap bit (apart (complement a) e w (m e) refl (λ n. grind arith))) in
       let b = total_add (size g) (λ e. bit (m e && in_cut g (meet k a) e)) (λ e. bit (m e && leaves_from g k (complement a) e)) in
       let c = total_add (size g) (λ e. bit (m e && in_cut g (meet k (complement a)) e)) (λ e. bit (m e && leaves_from g k a e)) in
       let d = total_congr (size g) (λ e. bit (m e && in_cut g (meet k a) e) + bit (m e && leaves_from g k (complement a) e)) (λ e. bit (m e && in_cut g (meet k (complement a)) e) + bit (m e && leaves_from g k a e)) (λ e w. edges e w (m e) refl) in omega arith
     where
-      turned : (x y : Bool) → ((x && not y) || (not x && y)) ≡ true → ((not x && not (not y)) || (not (not x) && not y)) ≡ true
-      turned x y h = grind arith
-
       never : (c d x y : Bool) → ((x && not y) || (not x && y)) ≡ true → ((c && x) && (d && y)) ≡ false
       never c d x y h = grind arith
 
@@ -105,9 +102,6 @@ module _ (g : Graph) (is : IsGraph g) (cov : IsCovered g) (a : Set) (sides : IsS
     none_crosses : (e : ℕ) → Within (size g) e → in_cut g w e ≡ false
     none_crosses e we = false_from_ne_true (in_cut g w e) (λ t. go t (crosses_apart g w e t) (s (first_end g e)) (s (second_end g e)) refl refl)
       where
-        apart_sides : (x y : Bool) → ((x && not y) || (not x && y)) ≡ true → y ≡ not x
-        apart_sides x y h = grind arith
-
         out_near : (c d x y : Bool) → c ≡ true → d ≡ false → ((c && (not d && x)) || (d && (not c && y))) ≡ x
         out_near c d x y p q = rw (p, q) (plain x y)
           where
@@ -131,21 +125,11 @@ module _ (g : Graph) (is : IsGraph g) (cov : IsCovered g) (a : Set) (sides : IsS
         same_cross true false e h = true≢false e
         same_cross false true e h = true≢false (sym e)
 
-        w_in : (v : ℕ) → s v ≡ true → w v ≡ not (a v)
-        w_in v t = plain (s v) (a v) (is_heavy v) t
-          where
-            plain : (x y z : Bool) → x ≡ true → ((x && not y) || (not x && z)) ≡ not y
-            plain x y z h = grind arith
-
         w_out : (v : ℕ) → s v ≡ false → w v ≡ is_heavy v
         w_out v t = plain (s v) (a v) (is_heavy v) t
           where
             plain : (x y z : Bool) → x ≡ false → ((x && not y) || (not x && z)) ≡ z
             plain x y z h = grind arith
-
-        by_side : (x y : Bool) → (x ≡ true → y ≡ true) → (not x ≡ true → y ≡ false) → y ≡ x
-        by_side true y f h = f refl
-        by_side false y f h = h refl
 
         go : in_cut g w e ≡ true → first_end g e ≢ second_end g e → (x y : Bool) → s (first_end g e) ≡ x → s (second_end g e) ≡ y → ⊥
         go t d true true p q = both_in (s (first_end g e)) (s (second_end g e)) true true (none_inside g is cov g.ends (keeps-itself g is) s bar s0 w0 in0 e we d) p q
@@ -163,28 +147,19 @@ module _ (g : Graph) (is : IsGraph g) (cov : IsCovered g) (a : Set) (sides : IsS
             let k = own (first_end g e) wn in
             let l = off_comp (first_end g e) (second_end g e) p q in
             let r = starts e (first_end g e) we d wn p (out_near (joined g s (first_end g e) (first_end g e)) (joined g s (first_end g e) (second_end g e)) true true k l) in
-            let h = by_side (a (first_end g e)) (is_heavy (first_end g e)) (λ i. r.0 (out_near (joined g s (first_end g e) (first_end g e)) (joined g s (first_end g e) (second_end g e)) (a (first_end g e)) (a (second_end g e)) k l ∙ i))
-            (λ i. r.1 (out_near (joined g s (first_end g e) (first_end g e)) (joined g s (first_end g e) (second_end g e)) (not (a (first_end g e))) (not (a (second_end g e))) k l ∙ i)) in
-            let o = apart_sides (a (first_end g e)) (a (second_end g e)) (sides e we d) in
-            same_cross (w (first_end g e)) (w (second_end g e)) (w_out (first_end g e) p ∙ h ∙ sym (not_not (a (first_end g e))) ∙ ap not (sym o) ∙ sym (w_in (second_end g e) q)) t
+            grind arith
         go t d true false p q =
             let wf = (is e we).1 in
             let k = own (second_end g e) wf in
             let l = off_comp (second_end g e) (first_end g e) q p in
             let r = starts e (second_end g e) we d wf q (out_far (joined g s (second_end g e) (first_end g e)) (joined g s (second_end g e) (second_end g e)) true true l k) in
-            let h = by_side (a (second_end g e)) (is_heavy (second_end g e)) (λ i. r.0 (out_far (joined g s (second_end g e) (first_end g e)) (joined g s (second_end g e) (second_end g e)) (a (first_end g e)) (a (second_end g e)) l k ∙ i))
-            (λ i. r.1 (out_far (joined g s (second_end g e) (first_end g e)) (joined g s (second_end g e) (second_end g e)) (not (a (first_end g e))) (not (a (second_end g e))) l k ∙ i)) in
-            let o = apart_sides (a (first_end g e)) (a (second_end g e)) (sides e we d) in
-            same_cross (w (first_end g e)) (w (second_end g e)) (w_in (first_end g e) p ∙ sym o ∙ sym h ∙ sym (w_out (second_end g e) q)) t
+            grind arith
 
     pub one_side : (z : ℕ) → Within g.order z → s z ≡ true → a s0 ≡ true → a z ≡ false → ⊥
     one_side z wz tz a0 az =
-        let e = cut_edge g w z s0 is cov wz w0 (in_w (s z) (a z) (is_heavy z) tz az) (out_w (s s0) (a s0) (is_heavy s0) in0 a0) in
+        let e = cut_edge g w z s0 is cov wz w0 (grind arith) (out_w (s s0) (a s0) (is_heavy s0) in0 a0) in
         both_ways (in_cut g w e.0) (none_crosses e.0 e.1) e.2
       where
-        in_w : (x y c : Bool) → x ≡ true → y ≡ false → ((x && not y) || (not x && c)) ≡ true
-        in_w x y c p q = grind arith
-
         out_w : (x y c : Bool) → x ≡ true → y ≡ true → ((x && not y) || (not x && c)) ≡ false
         out_w x y c p q = grind arith
 

@@ -1,7 +1,7 @@
 -- A pair outside a barrier that serves together with no pair inside: some part of the barrier
 -- leaves as many components as it has vertices and joins the two vertices of the pair. So it is
 -- for a list of pairs at once.
-use Rattle.std.proofs.Common.{◌≡◌, ℕ, suc, ◌+◌, ◌*◌, ◌≤◌, ◌≢◌, Bool, true, false, ◌==◌, refl, sym, ap, ap₂, ◌∙◌, arith, ◌&&◌, ◌||◌, not, eq-eqb, eqb-true, inl, inr, nat_lt, lt-ltb, le-ltb, [], ◌∷◌, ◌++◌, List}
+use Rattle.std.proofs.Common.{◌≡◌, ℕ, suc, ◌+◌, ◌*◌, ◌≤◌, ◌≢◌, Bool, true, false, ◌==◌, refl, sym, ap, ap₂, ◌∙◌, arith, ◌&&◌, ◌||◌, not, eq-eqb, eqb-true, inl, inr, nat_lt, lt-ltb, [], ◌∷◌, ◌++◌, List}
 use Rattle.counting.proofs.Common.{cases_eq, cases_Bool, and_parts, and_from, both_ways, true≢false, false_from_ne_true, or_left, or_parts, or_cases, at_le_total, but_not, Within, bit, count, Set, meet, none, union, IsIn}
 use Rattle.barrier_kit.proofs.Common.{equivalent_barrier}
 use Rattle.graph_core.proofs.Common.{degree_congr, adjacent-edge, adjacent_from, has_ends-cases, has_ends-own, component_count, IsCovered, Graph, IsGraph, degree, first_end, second_end, size, with_ends, IsPerfect, Equivalent, IsBarrier, adjacent, joined}
@@ -39,13 +39,10 @@ module _ (g : Graph) (is : IsGraph g) (cov : IsCovered g) (s : Set) (bar : IsBar
     above : (m : Set) → IsPerfect g none m → IsPerfect (with_ends g ys) none (λ e. m e && not (nat_lt (size g) e))
     above m q = record { once = λ w ww o. same w ∙ q.once w ww o; away = λ w ww o. absurd (true≢false (sym o)) }
       where
-        and_yes : (a b : Bool) → b ≡ false → (a && not b) ≡ a
-        and_yes a b h = grind arith
-
         same : (w : ℕ) → degree (with_ends g ys) (λ e. m e && not (nat_lt (size g) e)) w ≡ degree g m w
         same w =
             let a = degree-added g g.ends p (λ e. m e && not (nat_lt (size g) e)) w in
-            let b = degree_congr g (λ e. m e && not (nat_lt (size g) e)) m w (λ e we. and_yes (m e) (nat_lt (size g) e) (le-ltb (size g) e (omega arith))) in
+            let b = degree_congr g (λ e. m e && not (nat_lt (size g) e)) m w (λ e we. grind arith) in
             let c : bit (m (suc (size g)) && not (nat_lt (size g) (suc (size g)))) ≡ 0 = ap bit (but_not (m (suc (size g))) (nat_lt (size g) (suc (size g))) (lt-ltb (size g) (suc (size g)) (omega arith))) in
             let i = ap (λ k. k * (bit (p.0 == w) + bit (p.1 == w))) c in omega arith
 

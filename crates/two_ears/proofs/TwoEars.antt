@@ -1,7 +1,7 @@
 -- The two-ear theorem. If no pair serves alone and no two do together, each pair lies in a class
 -- or outside it; the parts of a class that keep the pairs outside joined are united, and the
 -- union leaves too many components.
-use Rattle.std.proofs.Common.{◌≡◌, ℕ, suc, zero, ◌+◌, ◌*◌, ◌≤◌, ◌≢◌, Bool, true, false, cond, ◌==◌, refl, sym, ap, ◌∙◌, arith, ◌&&◌, ◌||◌, not, eq-eqb, ne_eqb, eqb-true, ◌⊎◌, inl, inr, subst, [], ◌∷◌, List, length}
+use Rattle.std.proofs.Common.{◌≡◌, ℕ, suc, zero, ◌+◌, ◌*◌, ◌≤◌, ◌≢◌, Bool, true, false, cond, ◌==◌, refl, sym, ap, ◌∙◌, arith, ◌&&◌, not, eq-eqb, ne_eqb, eqb-true, ◌⊎◌, inl, inr, [], ◌∷◌, List, length}
 use Rattle.counting.proofs.Common.{same_tests, cases_eq, and_left, true≢false, not-true, not-false, or_left, or_right, or_cases, total_add, total_at, total_congr, total_zero, Within, bit, count, total, Set, union, IsIn}
 use Rattle.graph_core.proofs.Common.{component_count, IsCovered, Graph, IsGraph, degree, first_end, second_end, size, with_ends, HasPerfect, IsPerfect, Equivalent, IsBarrier}
 use Rattle.barrier_kit.proofs.Common.{perfect_or_not, equivalent_back, equivalent_on, class_barrier, perfect_congr, class_set, class_list}
@@ -18,10 +18,7 @@ pub scan_pairs : (P Q : ℕ × ℕ → Type 0) → ((p : ℕ × ℕ) → P p ⊎
 scan_pairs P Q h [] = inr (λ p i. absurd i)
 scan_pairs P Q h (q ∷ ps) = elim (h q) [
   | inl a ↦ inl (q, inl refl, a)
-  | inr b ↦ elim (scan_pairs P Q h ps) [
-    | inl r ↦ inl (r.0, inr r.1, r.2)
-    | inr f ↦ inr (λ p i. elim i [ inl e ↦ subst Q (sym e) b | inr j ↦ f p j ])
-  ]
+  | inr b ↦ grind (arith, scan_pairs P Q h ps)
 ]
 
 pub two_or_none : (g : Graph) (ps : List (ℕ × ℕ)) → ((p : ℕ × ℕ) × (q : ℕ × ℕ) × IsIn p ps × IsIn q ps × HasPerfect g (union (vertices_of p) (vertices_of q))) ⊎ ((p : ℕ × ℕ) → IsIn p ps → (q : ℕ × ℕ) → IsIn q ps → (m : Set) → IsPerfect g (union (vertices_of p) (vertices_of q)) m → ⊥)
@@ -106,10 +103,7 @@ module _ (g : Graph) (is : IsGraph g) (cov : IsCovered g) (p0 : ℕ × ℕ) (res
   of_s w ww e = (class_list g p0.0).holds w ww e
 
   alone : (p : ℕ × ℕ) → IsIn p ps → (k : Set) → IsPerfect g (vertices_of p) k → ⊥
-  alone p i k q = no_two p i p i k (perfect_congr g (vertices_of p) (union (vertices_of p) (vertices_of p)) k (λ v w. twice (vertices_of p v)) q)
-    where
-      twice : (b : Bool) → b ≡ (b || b)
-      twice b = grind arith
+  alone p i k q = no_two p i p i k (perfect_congr g (vertices_of p) (union (vertices_of p) (vertices_of p)) k (λ v w. grind arith) q)
 
   differ : (p : ℕ × ℕ) → IsIn p ps → p.0 ≢ p.1
   differ p i e =
@@ -180,10 +174,7 @@ module _ (g : Graph) (is : IsGraph g) (cov : IsCovered g) (p0 : ℕ × ℕ) (res
   holds_ends : (b : Set) (p : ℕ × ℕ) → b p.0 ≡ true → b p.1 ≡ true → (w : ℕ) → 1 ≤ bit (p.0 == w) + bit (p.1 == w) → b w ≡ true
   holds_ends b p b0 b1 w l = elim (cases_eq p.0 w) [
     | inl e ↦ ap b (sym e) ∙ b0
-    | inr d ↦ elim (cases_eq p.1 w) [
-      | inl e ↦ ap b (sym e) ∙ b1
-      | inr f ↦ let x = ap bit (ne_eqb p.0 w d) in let y = ap bit (ne_eqb p.1 w f) in absurd (omega arith)
-    ]
+    | inr d ↦ grind arith
   ]
 
   joint : (p : ℕ × ℕ) (qs : List (ℕ × ℕ)) → ((q : ℕ × ℕ) → IsIn q (p ∷ qs) → IsIn q (p0 ∷ es)) → Joint g s xs (p ∷ qs)
@@ -219,9 +210,6 @@ module _ (g : Graph) (is : IsGraph g) (cov : IsCovered g) (p0 : ℕ × ℕ) (res
   covers_none : (qs : List (ℕ × ℕ)) (v : ℕ) → in_pairs qs v ≡ false → pairs_at qs v ≡ 0
   covers_none qs v t = eqb-true (pairs_at qs v) 0 (not-false (pairs_at qs v == 0) t)
 
-  none_covers : (qs : List (ℕ × ℕ)) (v : ℕ) → pairs_at qs v ≡ 0 → in_pairs qs v ≡ false
-  none_covers qs v e = ap not (eq-eqb (pairs_at qs v) 0 e)
-
   some_covers : (qs : List (ℕ × ℕ)) (v : ℕ) → 1 ≤ pairs_at qs v → in_pairs qs v ≡ true
   some_covers qs v l = ap not (ne_eqb (pairs_at qs v) 0 (λ e. omega arith))
 
@@ -235,10 +223,7 @@ module _ (g : Graph) (is : IsGraph g) (cov : IsCovered g) (p0 : ℕ × ℕ) (res
           let b = covers_none (p0 ∷ es) v o in
           let c = ends_split v in
           let d = dis.once v w in
-          elim (cases_eq (pairs_at ps v) 0) [
-            | inl z ↦ let e = perfect.once v w (none_covers ps v z) in omega arith
-            | inr z ↦ let e = perfect.away v w (some_covers ps v (omega arith)) in omega arith
-          ]
+          grind arith
 
       away : (v : ℕ) → Within g.order v → in_pairs (p0 ∷ es) v ≡ true → degree (with_ends g xs) (with_new g m) v ≡ 0
       away v w o =

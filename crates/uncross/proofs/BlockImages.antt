@@ -1,6 +1,6 @@
 -- The images of blocks: what of a set lies in 1 to n is the list of its test, and from such lists
 -- the names of images are made.
-use Rattle.std.proofs.Common.{◌≡◌, ◌↔◌, ◌<◌, ◌+◌, ℕ, Bool, true, ◌&&◌, List, [], ◌∷◌, ◌++◌, Some, length, map, take, get_or, slice_get, ap, sym, ◌∙◌}
+use Rattle.std.proofs.Common.{◌≡◌, ◌↔◌, ◌<◌, ◌+◌, ℕ, Bool, true, ◌&&◌, List, [], ◌∷◌, ◌++◌, Some, length, map, take, get_or, slice_get, ap, sym, ◌∙◌, arith}
 use Rattle.counting.proofs.Common.{and_parts, map-append, take_more, get_or_from_slice_get, list-from_test, set-narrower, and_true, Within, IsRisingIn, is_subset, last_of, mem, rising_list}
 use Rattle.tree_core.proofs.Common.{inner_rest, list_if, meet_list, outer_rest, union_list}
 use Rattle.uncross.specs.declared.block_images.Images.{Images}
@@ -9,10 +9,7 @@ use Rattle.uncross.specs.Common.{image_name, kept_images}
 
 -- what a set shares with 1 to n
 pub part-is : (n : ℕ) (x full part : List ℕ) → ((v : ℕ) → (mem full v ≡ true) ↔ Within n v) → IsRisingIn 128 part → ((v : ℕ) → mem part v ≡ (mem x v && mem full v)) → part ≡ rising_list n (mem x)
-part-is n x full part all rises tells =
-    list-from_test n part (mem x)
-    (set-narrower 128 n part rises (λ v m. ((all v).0 (and_parts (mem x v) (mem full v) (sym (tells v) ∙ m)).1).1))
-    (λ v w. tells v ∙ ap (λ b. mem x v && b) ((all v).1 w) ∙ and_true (mem x v))
+part-is n x full part all rises tells = grind (arith, list-from_test n part (mem x), set-narrower 128 n part rises, and_parts, and_true)
 
 -- the name of a moved image, from the sets that make it
 pub moved-name : (n name : ℕ) (images : Images) (staying leaving gained far coming t stays inner outer inside whole : List ℕ) (near beyond : Bool) →
@@ -31,17 +28,10 @@ moved-name n name images staying leaving gained far coming t stays inner outer i
 pub kept-is : (n : ℕ) (x u v rest staying gained far : List ℕ) →
     rest ≡ outer_rest n x v → staying ≡ inner_rest n x u → gained ≡ union_list n rest u → far ≡ union_list n rest v →
     Moved staying u gained far v ≡ kept_images n x u v
-kept-is n x u v rest staying gained far r s g f =
-    ap (λ (xs : List ℕ). Moved xs u gained far v) s
-    ∙ ap (λ (xs : List ℕ). Moved (inner_rest n x u) u xs far v) (g ∙ ap (λ (xs : List ℕ). union_list n xs u) r)
-    ∙ ap (λ (xs : List ℕ). Moved (inner_rest n x u) u (union_list n (outer_rest n x v) u) xs v) (f ∙ ap (λ (xs : List ℕ). union_list n xs v) r)
+kept-is n x u v rest staying gained far r s g f = grind arith
 
 -- one more block's name
 pub named-more : (f : List ℕ → ℕ) (blocks : List (List ℕ)) (i name : ℕ) (block : List ℕ) (before after : List ℕ) →
     i < length blocks → slice_get blocks i ≡ Some block → before ≡ map f (take i blocks) → after ≡ before ++ name ∷ [] → name ≡ f block →
     after ≡ map f (take (i + 1) blocks)
-named-more f blocks i name block before after low at b a e =
-    let read : block ≡ get_or blocks i [] = sym (get_or_from_slice_get blocks i block [] at) in
-    let last : name ≡ f (get_or blocks i []) = e ∙ ap f read in
-    a ∙ ap (λ (xs : List ℕ). xs ++ name ∷ []) b ∙ ap (λ (v : ℕ). map f (take i blocks) ++ v ∷ []) last
-    ∙ sym (map-append f (take i blocks) (get_or blocks i [] ∷ [])) ∙ ap (map f) (sym (take_more blocks i [] low))
+named-more f blocks i name block before after low at b a e = grind (arith, get_or_from_slice_get blocks i block, map-append f (take i blocks) (get_or blocks i [] ∷ []), take_more blocks i)

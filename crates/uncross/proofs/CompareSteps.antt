@@ -16,9 +16,7 @@ use Rattle.move_laws.specs.Common.{AreRising, IsProperScript}
 -- a derivation where another is a leaf is a leaf
 pub both_leaves : (g : Graph) (n : ℕ) (p : List (List ℕ)) (s t : Shape) → IsGraph g → n ≡ g.order → IsPartition n p → IsCovered (quotient g p) → t ≡ leaf → IsDerivationAt g p s → IsDerivationAt g p t → s ≡ t
 both_leaves g n p leaf t is e list cov l ds dt = sym l
-both_leaves g n p (cut x a b) t is e list cov l ds dt =
-    let st = stage_of g n p is e list cov in
-    absurd (leaf_not g p x st (subst (IsDerivationAt g p) l dt) (cut_big g p st x ds.0.set ds.0) ds.0.canonical)
+both_leaves g n p (cut x a b) t is e list cov l ds dt = grind (arith, stage_of g n p is e list cov, leaf_not g p x, cut_big g p)
 
 -- where the shore y of t was exposed in s: what may be asked of the two pairs of trees below it,
 -- and that the moves that turn the one into the other make a script of few moves from s to t
@@ -84,9 +82,4 @@ module _ (g : Graph) (n : ℕ) (p : List (List ℕ)) (s t : Shape) (y : List ℕ
           omega arith
 
     pub compared : IsCompared g p s t y k1 r1 k2 r2 ms
-    compared = record {
-      kept = asks_kept_both;
-      merged = asks_merged_both;
-      whole = λ q r ks ns k1' k2' r1' r2' eq er e1 e2 e3 e4 wk wr bk br all is_all. subst (λ (xs : List PlainMove). IsProperScript g p s xs t × (length xs ≤ 5 * (cut_count s * cut_count s))) (sym is_all)
-          (whole_script q r ks ns k1' k2' r1' r2' eq er e1 e2 e3 e4 wk wr bk br, whole_few q r ks ns k1' k2' r1' r2' eq er e1 e2 e3 e4 wk wr bk br);
-    }
+    compared = grind (arith, asks_kept_both, asks_merged_both, whole_script, whole_few)

@@ -19,11 +19,8 @@ names_by n e k (p ∷ ps) = map (image_name n (images_at e (k + 1))) p ∷ names
 pub maps_by-at : (o : List ℕ) (n : ℕ) (e : Exchange) (k : ℕ) (ps : List (List (List ℕ))) (j : ℕ) (d : PlainLeafMap) → j < length ps →
     get_or (maps_from o k (names_by n e k ps)) j d ≡ record { to = position o (k + j + 1); images = map (image_name n (images_at e (k + j + 1))) (get_or ps j []) }
 maps_by-at o n e k [] j d l = absurd (omega arith)
-maps_by-at o n e k (p ∷ ps) zero d l =
-    let i : k + 1 ≡ k + zero + 1 = omega arith in ap (λ i. record { to = position o i; images = map (image_name n (images_at e i)) p }) i
-maps_by-at o n e k (p ∷ ps) (suc j) d l =
-    let i : k + 1 + j + 1 ≡ k + suc j + 1 = omega arith in
-    maps_by-at o n e (k + 1) ps j d (omega arith) ∙ ap (λ i. record { to = position o i; images = map (image_name n (images_at e i)) (get_or ps j []) }) i
+maps_by-at o n e k (p ∷ ps) zero d l = grind arith
+maps_by-at o n e k (p ∷ ps) (suc j) d l = grind (arith, maps_by-at o n e (k + 1) ps j d (omega arith))
 
 names_by-append : (n : ℕ) (e : Exchange) (k j : ℕ) (ps qs : List (List (List ℕ))) → j ≡ k + length ps → names_by n e k (ps ++ qs) ≡ names_by n e k ps ++ names_by n e j qs
 names_by-append n e k j [] qs is = let same : k ≡ j = omega arith in ap (λ i. names_by n e i qs) same
@@ -37,10 +34,7 @@ names_by-same n e images k (p ∷ ps) same =
 
 -- the images of a leaf, by where it stands
 tested : (e : Exchange) (i : ℕ) (a b c : Bool) → nat_lt e.last i ≡ a → nat_lt e.middle i ≡ b → nat_lt e.before i ≡ c → images_at e i ≡ (if a then Own else (if b then e.merged else (if c then e.kept else Own)))
-tested e i a b c ea eb ec =
-    ap (λ a. if a then Own else (if nat_lt e.middle i then e.merged else (if nat_lt e.before i then e.kept else Own))) ea
-    ∙ ap (λ b. if a then Own else (if b then e.merged else (if nat_lt e.before i then e.kept else Own))) eb
-    ∙ ap (λ c. if a then Own else (if b then e.merged else (if c then e.kept else Own))) ec
+tested e i a b c ea eb ec = grind arith
 
 -- the numbers of an exchange, of a tree with count leaves after k others
 abbrev IsWithin : Exchange → ℕ → ℕ → Type 0
@@ -54,11 +48,8 @@ bounds n (Merged ∷ path) u v k (cut x a b) = let w = bounds n path u v (k + le
 
 -- the leaves of a tree that the Switch leaves alone
 own-names : (n : ℕ) (e : Exchange) (k j count : ℕ) (p : List (List ℕ)) (t : Shape) → IsWithin e k count → (j + leaf_count t ≤ k) ⊎ (k + count ≤ j) → names_by n e j (leaves_at n p t) ≡ map (λ q. map (image_name n Own) q) (leaves_at n p t)
-own-names n e k j count p t w (inl before) =
-    let long = length-leaves_at n p t in
-    names_by-same n e Own j (leaves_at n p t) (λ i l h. tested e i false false false (le-ltb e.last i (omega arith)) (le-ltb e.middle i (omega arith)) (le-ltb e.before i (omega arith)))
-own-names n e k j count p t w (inr after) =
-    names_by-same n e Own j (leaves_at n p t) (λ i l h. tested e i true (nat_lt e.middle i) (nat_lt e.before i) (lt-ltb e.last i (omega arith)) refl refl)
+own-names n e k j count p t w (inl before) = grind (arith, length-leaves_at n p t, names_by-same n e Own j (leaves_at n p t), tested e, le-ltb e.last, le-ltb e.middle, le-ltb e.before)
+own-names n e k j count p t w (inr after) = grind (arith, names_by-same n e Own j (leaves_at n p t), tested e, nat_lt e.middle, nat_lt e.before, lt-ltb e.last)
 
 -- where no leaf is below a Switch
 abbrev pub nowhere : ℕ → Exchange

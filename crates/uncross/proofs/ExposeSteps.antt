@@ -1,6 +1,6 @@
 -- The steps of exposing a shore in a tree, as the code takes them: what its two calls below the
 -- root may ask, that what comes back fits, and that the whole is exposed.
-use Rattle.std.proofs.Common.{◌≡◌, ℕ, List, Option, Some, None, sym, ap, ◌∙◌, subst}
+use Rattle.std.proofs.Common.{◌≡◌, ℕ, List, Option, Some, sym, ap, ◌∙◌, subst, arith}
 use Rattle.contraction.proofs.QuotientLaws.{covered_down}
 use Rattle.graph_core.proofs.Common.{IsCovered, Graph, IsGraph, IsPartition, complement_of, quotient}
 use Rattle.tree_core.proofs.Common.{cut-below, stands-derivation_at, IsCutAt, IsDerivationAt, kept_at, merged_at, PlainMove, Fits, Shape, cut, leaf}
@@ -14,9 +14,7 @@ use Rattle.move_laws.specs.Common.{PlainTurned}
 
 -- a partition of the graph whose quotient is covered
 pub stage_of : (g : Graph) (n : ℕ) (p : List (List ℕ)) → IsGraph g → n ≡ g.order → IsPartition n p → IsCovered (quotient g p) → Stage g p
-stage_of g n p is e list cov =
-    let at = subst (λ n. IsPartition n p) e list in
-    record { graph = is; list = at; covered = covered_down g p is at.partition cov }
+stage_of g n p is e list cov = grind (arith, covered_down g p is)
 
 -- a derivation at the root of which there is a shore to expose is not a leaf
 pub leaf_exposes : (g : Graph) (n : ℕ) (p : List (List ℕ)) (y : List ℕ) (s : Shape) (o : Option (List ℕ)) → IsGraph g → n ≡ g.order → IsPartition n p → IsCovered (quotient g p) → s ≡ leaf → IsDerivationAt g p s → o ≡ Some y → CutIf g p o → ⊥
@@ -27,10 +25,7 @@ leaf_exposes g n p y s o is e list cov l d so c =
 
 -- an exposed tree is a derivation, so it fits
 exposed_derives : (g : Graph) (p : List (List ℕ)) (s t : Shape) (o : Option (List ℕ)) (ms : Option (List PlainMove)) → IsDerivationAt g p s → IsExposed g p s o t ms → IsDerivationAt g p t
-exposed_derives g p s t None None d e = subst (IsDerivationAt g p) (sym e) d
-exposed_derives g p s t None (Some ms) d e = absurd e
-exposed_derives g p s t (Some y) None d e = absurd e
-exposed_derives g p s t (Some y) (Some ms) d e = subst (IsDerivationAt g p) (sym e.2) (script_end g p s ms (cut y e.0 e.1) d (rising-derivation_at g p s d) e.3).0
+exposed_derives g p s t o ms d e = grind (arith, script_end, rising-derivation_at)
 
 module _ (g : Graph) (n : ℕ) (p : List (List ℕ)) (x y : List ℕ) (a b whole : Shape) (plan : PlainPlan) (o : Option (List ℕ)) (is : IsGraph g) (e : n ≡ g.order) (list : IsPartition n p) (cov : IsCovered (quotient g p))
     (w : whole ≡ cut x a b) (derives : IsDerivationAt g p whole) (so : o ≡ Some y) (shore : CutIf g p o) (planned : IsPlan n p x y plan) where

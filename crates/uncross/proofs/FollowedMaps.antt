@@ -1,13 +1,13 @@
 -- The maps so far, followed by the map of a move: each leads to a leaf by names of its blocks,
 -- which the move gives the names of their images.
-use Rattle.std.proofs.Common.{All, List, Option, Some, None, [], ◌∙◌, ◌∷◌, ap, ap₂, arith, get_or, length, map, refl, subst, suc, sym, ℕ, ◌+◌, ◌-◌, ◌≡◌, ◌≤◌}
+use Rattle.std.proofs.Common.{All, List, Option, Some, None, [], ◌∙◌, ◌∷◌, ap, ap₂, arith, get_or, length, map, refl, subst, suc, ℕ, ◌+◌, ◌-◌, ◌≡◌, ◌≤◌}
 use Rattle.counting.proofs.Common.{get_or-map, Within}
 use Rattle.std.proofs.lemmas.List.Elements.{All-from_get_or}
 use Rattle.contraction.specs.Partition.{PartitionValue}
 use Rattle.graph_core.proofs.Common.{Graph, IsPartition, place, singles}
 use Rattle.tree_core.proofs.Common.{PlainLeafMap, leaf_at, map_at, maps_from, move_maps, move_order, name, position, then_map, leaves, partitions_of, PlainMove, rotate_at, switch_at, Shape}
 use Rattle.move_laws.proofs.SameLeaves.{name_within}
-use Rattle.uncross.proofs.ExchangedLeaves.{exchanged, maps_by-at, names_by, names_nowhere, nowhere, nowhere-own}
+use Rattle.uncross.proofs.ExchangedLeaves.{exchanged, maps_by-at, names_by, names_nowhere, nowhere-own}
 use Rattle.uncross.specs.Common.{exchange_at, images_at, IsMapInto, IsMapIntoIf, IsNameIn, IsSwitched, blocks_of, led_on, map_after, names_after, image_name}
 use Rattle.uncross.specs.declared.block_images.Images.{Images}
 use Rattle.uncross.specs.declared.block_images.Images.TheVariants.{Own}
@@ -26,10 +26,7 @@ names_in g p q names few qq same = All-from_get_or (IsNameIn q) names 0 (λ k l.
     subst (λ j. IsNameIn q (get_or names j 0)) (back k) (name_in (k + 1) w))
   where
     name_in : (i : ℕ) → Within (length p) i → IsNameIn q (name names i)
-    name_in i w =
-        let n = same.named i w in
-        let v = subst (Within g.order) n.1 (name_within g.order q qq.partition (image q names i) n.0) in
-        record { within = (v.0, omega arith); stands = n.0; last = n.1 }
+    name_in i w = grind (arith, name_within g.order q qq.partition (image q names i))
 
 -- the maps of a pairing lead to leaves of its second list
 pub paired_into : (g : Graph) (ps qs : List (List (List ℕ))) (maps : List PlainLeafMap) → g.order ≤ 128 → All (IsPartition g.order) qs → IsPairing g ps qs maps → All (IsMapInto qs) maps
@@ -65,12 +62,7 @@ given-names_after n images q (b ∷ names) all =
 -- a leaf's map, followed by maps that are made of the images of an exchange
 then-by : (n : ℕ) (o : List ℕ) (e : Exchange) (qs : List (List (List ℕ))) (m : PlainLeafMap) → IsMapInto qs m →
     then_map qs (maps_from o 0 (names_by n e 0 qs)) m ≡ record { to = position o m.to; images = names_after n (images_at e m.to) (leaf_at qs m.to) m.images }
-then-by n o e qs m into =
-    let w = into.within in let i : 0 + (m.to - 1) + 1 ≡ m.to = omega arith in
-    let at : map_at (maps_from o 0 (names_by n e 0 qs)) m.to ≡ record { to = position o m.to; images = map (image_name n (images_at e m.to)) (leaf_at qs m.to) } =
-    maps_by-at o n e 0 qs (m.to - 1) (record { to = 0; images = [] }) (omega arith) ∙ ap (λ i. record { to = position o i; images = map (image_name n (images_at e i)) (leaf_at qs m.to) }) i in
-    ap (λ (s : PlainLeafMap). record { to = s.to; images = map (λ b. name s.images (place (leaf_at qs m.to) b)) m.images }) at
-    ∙ ap (λ (names : List ℕ). record { to = position o m.to; images = names }) (given-names_after n (images_at e m.to) (leaf_at qs m.to) m.images into.named)
+then-by n o e qs m into = grind (arith, names_by n e 0 qs, maps_by-at o n e 0 qs (m.to - 1), given-names_after n (images_at e m.to) (leaf_at qs m.to) m.images into.named)
 
 -- maps that are equal at each item
 each : (f h : PlainLeafMap → PlainLeafMap) (P : PlainLeafMap → Type 0) → ((m : PlainLeafMap) → P m → f m ≡ h m) → (maps : List PlainLeafMap) → All P maps → map f maps ≡ map h maps
@@ -83,12 +75,7 @@ unfolding move_maps
 led n t (rotate_at path) None maps is all = each _ _ (IsMapInto (leaves n t)) step maps all
   where
     step : (m : PlainLeafMap) → IsMapInto (leaves n t) m → map_after n (move_order n (rotate_at path) t) None m ≡ then_map (leaves n t) (move_maps n t (rotate_at path)) m
-    step m into =
-        let o = move_order n (rotate_at path) t in let qs = leaves n t in let w = into.within in
-        ap (λ (names : List ℕ). record { to = position o m.to; images = names }) (sym (own-names_after n (leaf_at qs m.to) m.images into.named))
-        ∙ ap (λ (i : Images). record { to = position o m.to; images = names_after n i (leaf_at qs m.to) m.images }) (sym (nowhere-own 0 m.to (omega arith)))
-        ∙ sym (then-by n o (nowhere 0) qs m into)
-        ∙ ap (λ (ns : List (List ℕ)). then_map qs (maps_from o 0 ns) m) (names_nowhere n qs)
+    step m into = grind (arith, own-names_after n, nowhere-own 0 m.to, then-by n, names_nowhere n)
 led n t (rotate_at path) (Some s) maps is all = absurd is
 led n t (switch_at path u v) None maps is all = absurd is
 led n t (switch_at path u v) (Some s) maps is all = each _ _ (IsMapInto (leaves n t)) step maps all
@@ -96,12 +83,8 @@ led n t (switch_at path u v) (Some s) maps is all = each _ _ (IsMapInto (leaves 
     step : (m : PlainLeafMap) → IsMapInto (leaves n t) m → map_after n (move_order n (switch_at path u v) t) (Some s) m ≡ then_map (leaves n t) (move_maps n t (switch_at path u v)) m
     step m into =
         let o = move_order n (switch_at path u v) t in let qs = leaves n t in
-        ap₂ (λ (e : Exchange) (ps : List (List (List ℕ))). record { to = position o m.to; images = names_after n (images_at e m.to) (leaf_at ps m.to) m.images }) is.1 (blocks-partitions n qs s.leaves is.0)
-        ∙ sym (then-by n o (exchange_at n path u v 0 t) qs m into)
-        ∙ ap (λ (ns : List (List ℕ)). then_map qs (maps_from o 0 ns) m) (exchanged n path u v 0 (singles n) t)
+        grind (arith, blocks-partitions n qs s.leaves is.0, then-by n o (exchange_at n path u v 0 t) qs m into, exchanged n path u v 0 (singles n) t)
 
 -- the maps lead to leaves where a Switch asks for it
 pub into_if : (n : ℕ) (t : Shape) (m : PlainMove) (s : Option Switched) (maps : List PlainLeafMap) → IsSwitched n t m s → All (IsMapInto (leaves n t)) maps → All (IsMapIntoIf s) maps
-into_if n t m None maps is all = λ i d l. tt
-into_if n t (rotate_at path) (Some s) maps is all = absurd is
-into_if n t (switch_at path u v) (Some s) maps is all = subst (λ (qs : List (List (List ℕ))). All (IsMapInto qs) maps) (sym (blocks-partitions n (leaves n t) s.leaves is.0)) all
+into_if n t m s maps is all = grind (arith, blocks-partitions)

@@ -1,7 +1,7 @@
 -- The plan for exposing a shore is carried out: what is exposed first in the two trees is a cut
 -- there, and then the root is the shore.
-use Rattle.std.proofs.Common.{◌≡◌, ℕ, ◌≤◌, ◌<◌, Bool, true, false, not, ◌&&◌, List, [], ◌∷◌, ◌++◌, map, Option, Some, None, ◌⊎◌, inl, inr, if◌then◌else◌, nat_lt, refl, sym, ap, ap₂, ◌∙◌, arith, subst}
-use Rattle.counting.proofs.Common.{nat_tests, not-true, false_all_in, all_in_true, Within, is_apart, is_subset, mem, everything, minus}
+use Rattle.std.proofs.Common.{◌≡◌, ℕ, ◌≤◌, ◌<◌, Bool, true, false, not, List, [], ◌∷◌, ◌++◌, map, Option, Some, None, ◌⊎◌, inl, inr, refl, sym, ap, ap₂, ◌∙◌, arith, subst}
+use Rattle.counting.proofs.Common.{not-true, false_all_in, all_in_true, Within, is_apart, is_subset, mem, everything, minus}
 use Rattle.graph_core.proofs.Common.{mem-complement_of, Apart, Below, Graph, complement_of, merged, block_count}
 use Rattle.tree_core.proofs.Common.{IsCutAt, IsDerivationAt, kept_at, merged_at, IsBlockOf, PlainMove, below, rotate_at, meet_list, Shape, cut}
 use Rattle.tree_core.specs.declared.path.Side.TheVariants.{Kept, Merged}
@@ -48,34 +48,19 @@ module _ (g : Graph) (p : List (List ℕ)) (st : Stage g p) (x y : List ℕ) (bx
 
   -- the two cross
   pub cross_of : is_subset y x ≡ false → is_subset x y ≡ false → is_apart x y ≡ false → Cross g.order (mem x) (mem y)
-  cross_of h k a =
-      let r = false_all_in y (mem x) h in let l = false_all_in x (mem y) k in let m = false_all_in x (minus everything (mem y)) a in
-      record {
-        meet = (m.0, bounds bx.shore m.0 m.1, m.1, held (mem y m.0) m.2);
-        left = (l.0, bounds bx.shore l.0 l.1, l.1, l.2);
-        right = (r.0, bounds by.shore r.0 r.1, r.2, r.1);
-      }
-    where
-      held : (b : Bool) → (true && not b) ≡ false → b ≡ true
-      held b h = grind arith
+  cross_of h k a = grind (arith, false_all_in y (mem x) h, false_all_in x (mem y) k, false_all_in x (minus everything (mem y)) a, bounds bx.shore, bounds by.shore)
 
 -- a shore has three blocks or more, or fewer
 big_or_none : (p : List (List ℕ)) (u shore : List ℕ) → ((block_count p (mem u) < 3) × (if_big p u shore ≡ None)) ⊎ ((3 ≤ block_count p (mem u)) × (if_big p u shore ≡ Some shore))
-big_or_none p u shore = go (nat_lt (block_count p (mem u)) 3) refl
-  where
-    go : (b : Bool) → nat_lt (block_count p (mem u)) 3 ≡ b → ((block_count p (mem u) < 3) × ((if b then None else Some shore) ≡ None)) ⊎ ((3 ≤ block_count p (mem u)) × ((if b then None else Some shore) ≡ Some shore))
-    go true h = inl (grind (arith, nat_tests, h), refl)
-    go false h = inr (grind (arith, nat_tests, h), refl)
+big_or_none p u shore = grind arith
 
 -- if nothing is to be exposed no moves are made, and the tree is as it was
 exposed_nothing : (g : Graph) (q : List (List ℕ)) (a t : Shape) (m : Option (List PlainMove)) → IsExposed g q a None t m → (m ≡ None) × (t ≡ a)
-exposed_nothing g q a t None e = (refl, e)
-exposed_nothing g q a t (Some ms) e = absurd e
+exposed_nothing g q a t m e = grind arith
 
 -- and if a shore is to be exposed moves are made
 exposed_shore : (g : Graph) (q : List (List ℕ)) (a t : Shape) (m : Option (List PlainMove)) (y : List ℕ) → IsExposed g q a (Some y) t m → (ms : List PlainMove) × (m ≡ Some ms) × IsExposed g q a (Some y) t (Some ms)
-exposed_shore g q a t None y e = absurd e
-exposed_shore g q a t (Some ms) y e = (ms, refl, e)
+exposed_shore g q a t m y e = grind arith
 
 -- what the plan exposes first is a cut where it is exposed
 module _ (g : Graph) (p : List (List ℕ)) (st : Stage g p) (x y : List ℕ) (bx : Big g p x) (by : Big g p y) (nx : mem x g.order ≡ false) (ny : mem y g.order ≡ false) where
@@ -107,45 +92,21 @@ module _ (g : Graph) (p : List (List ℕ)) (st : Stage g p) (x y : List ℕ) (bx
   first_is_cut here is = tt
   first_is_cut in_kept is = cut_in_kept g p st x y bx by nx ny is.0 is.1
   first_is_cut in_merged is = tt
-  first_is_cut (crossing u v i o) is =
-      let c = (crossing_corners is.0 is.1 is.2).0 in let z = partner g.order p x y in
-      subst (CutIf g (kept_at g.order p x)) (sym (is.5 ∙ ap (λ (u : List ℕ). if_big p u u) is.3)) (elim (inner_case c) [
-        | inl s ↦ subst (CutIf g (kept_at g.order p x)) (sym s.0) tt
-        | inr s ↦ subst (CutIf g (kept_at g.order p x)) (sym s.0) (big_cut g (kept_at g.order p x) kept_stage (meet_list g.order x z) (inner_below g p x z c nx s.1) (inner_canonical g p x z c nx))
-      ])
+  first_is_cut (crossing u v i o) is = grind (arith, crossing_corners is.0 is.1 is.2, inner_case, big_cut g (kept_at g.order p x) kept_stage, kept_stage, inner_below g p x, inner_canonical g p x)
 
   -- and in `merged`
   pub second_is_cut : (plan : PlainPlan) → IsPlan g.order p x y plan → CutIf g (merged_at g.order p x) (second_shore y plan)
   second_is_cut here is = tt
   second_is_cut in_kept is = tt
   second_is_cut in_merged is = cut_in_merged g p st x y bx by nx ny is.0 is.1
-  second_is_cut (crossing u v i o) is =
-      let c = (crossing_corners is.0 is.1 is.2).0 in let z = partner g.order p x y in
-      subst (CutIf g (merged_at g.order p x)) (sym (is.6 ∙ ap (λ (v : List ℕ). if_big p v (outer_shore g.order v)) is.4)) (elim (outer_case c) [
-        | inl s ↦ subst (CutIf g (merged_at g.order p x)) (sym s.0) tt
-        | inr s ↦ subst (CutIf g (merged_at g.order p x)) (sym s.0) (let q = outer_shore_big g p x z c nx s.1 in big_cut g (merged_at g.order p x) merged_stage (outer_shore g.order (outer_of g.order x z)) q.0 q.1)
-      ])
+  second_is_cut (crossing u v i o) is = grind (arith, crossing_corners is.0 is.1 is.2, outer_case, outer_shore_big g p x, big_cut g (merged_at g.order p x) merged_stage, merged_stage)
 
   -- the two trees with their corners exposed
   inner_turned : (c : Corners g p x (partner g.order p x y)) (a ta : Shape) (mi : Option (List PlainMove)) → IsExposed g (kept_at g.order p x) a (if_big p (meet_list g.order x (partner g.order p x y)) (meet_list g.order x (partner g.order p x y))) ta mi → InnerTurned g p x (partner g.order p x y) a ta mi
-  inner_turned c a ta mi e = elim (inner_case c) [
-    | inl s ↦
-        let none = exposed_nothing g (kept_at g.order p x) a ta mi (subst (λ o. IsExposed g (kept_at g.order p x) a o ta mi) s.0 e) in
-        subst (InnerTurned g p x (partner g.order p x y) a ta) (sym none.0) (none.1, s.1)
-    | inr s ↦
-        let made = exposed_shore g (kept_at g.order p x) a ta mi (meet_list g.order x (partner g.order p x y)) (subst (λ o. IsExposed g (kept_at g.order p x) a o ta mi) s.0 e) in let q = made.2 in
-        subst (InnerTurned g p x (partner g.order p x y) a ta) (sym made.1) (s.1, q.0, q.1, q.2, q.3, q.4)
-  ]
+  inner_turned c a ta mi e = grind (arith, inner_case c, exposed_nothing g (kept_at g.order p x) a ta mi, exposed_shore g (kept_at g.order p x) a ta mi (meet_list g.order x (partner g.order p x y)))
 
   outer_turned : (c : Corners g p x (partner g.order p x y)) (b tb : Shape) (mo : Option (List PlainMove)) → IsExposed g (merged_at g.order p x) b (if_big p (outer_of g.order x (partner g.order p x y)) (outer_shore g.order (outer_of g.order x (partner g.order p x y)))) tb mo → OuterTurned g p x (partner g.order p x y) b tb mo
-  outer_turned c b tb mo e = elim (outer_case c) [
-    | inl s ↦
-        let none = exposed_nothing g (merged_at g.order p x) b tb mo (subst (λ o. IsExposed g (merged_at g.order p x) b o tb mo) s.0 e) in
-        subst (OuterTurned g p x (partner g.order p x y) b tb) (sym none.0) (none.1, s.1)
-    | inr s ↦
-        let made = exposed_shore g (merged_at g.order p x) b tb mo (outer_shore g.order (outer_of g.order x (partner g.order p x y))) (subst (λ o. IsExposed g (merged_at g.order p x) b o tb mo) s.0 e) in let q = made.2 in
-        subst (OuterTurned g p x (partner g.order p x y) b tb) (sym made.1) (s.1, q.0, q.1, q.2, q.3, q.4)
-  ]
+  outer_turned c b tb mo e = grind (arith, outer_case, exposed_nothing, exposed_shore)
 
   -- the plan carried out
   abbrev Done : Shape → Option PlainTurned → Type 0
@@ -200,11 +161,7 @@ module _ (g : Graph) (p : List (List ℕ)) (st : Stage g p) (x y : List ℕ) (bx
     plan_done in_kept is ta tb (Some ms) None ea eb = at_kept ta tb ms ea eb
     plan_done in_kept is ta tb (Some ms) (Some ns) ea eb = absurd eb
     plan_done in_kept is ta tb None mo ea eb = absurd ea
-    plan_done in_merged is ta tb None (Some ms) ea eb = at_merged (how is.1) ta tb ms eb ea
-      where
-        how : (is_subset x y ≡ true) ⊎ (is_apart x y ≡ true) → Below g.order (mem x) (mem y) ⊎ Apart g.order (mem x) (mem y)
-        how (inl k) = inl (λ w ww m. all_in_true x (mem y) k w m)
-        how (inr k) = inr (apart_says g p st x y bx by nx ny k)
+    plan_done in_merged is ta tb None (Some ms) ea eb = at_merged (grind (arith, all_in_true x (mem y), apart_says g p st x y bx by nx ny)) ta tb ms eb ea
     plan_done in_merged is ta tb None None ea eb = absurd eb
     plan_done in_merged is ta tb (Some ms) mo ea eb = absurd ea
     plan_done (crossing u v i o) is ta tb mi mo ea eb =

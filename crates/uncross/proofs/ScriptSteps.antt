@@ -1,5 +1,5 @@
 -- The maps of a script, move by move: what holds if some of its moves are made.
-use Rattle.std.proofs.Common.{All, List, Some, ap, arith, length, map, refl, subst, subst₂, sym, unwrap_or, ℕ, ◌∙◌, ◌∷◌, ◌≡◌, ◌≤◌}
+use Rattle.std.proofs.Common.{All, List, Some, ap, arith, length, map, subst, subst₂, sym, unwrap_or, ℕ, ◌∙◌, ◌∷◌, ◌≡◌, ◌≤◌}
 use Rattle.counting.proofs.Common.{count_complement, mem}
 use Rattle.graph_core.proofs.Common.{length-singles, Graph, IsGraph, singles, blocks_in}
 use Rattle.tree_core.proofs.Common.{few-leaves, partitions-leaves, fits-derivation, stands-derivation, IsDerivation, PlainLeafMap, maps_after, move_maps, own_maps, script_maps, then_map, StandsAt, leaves, PlainMove, move_result, Fits, Shape, cut, leaf, leaf_count}
@@ -15,10 +15,7 @@ use Rattle.move_laws.specs.Common.{IsPairing, IsProperScript}
 -- a derivation of a graph of at most 128 vertices has few leaves
 pub leaves-few : (g : Graph) (t : Shape) → IsGraph g → g.order ≤ 128 → IsDerivation g t → leaf_count t ≤ 255
 leaves-few g leaf is few d = omega arith
-leaves-few g (cut x a b) is few d =
-    let cuts = d.derives.0 in let inside = cuts.nontrivial.inside in let outside = cuts.nontrivial.outside in
-    let both = count_complement (length (singles g.order)) (blocks_in (singles g.order) (mem x)) in let long = length-singles g.order in
-    let small = few-leaves g (cut x a b) is d (omega arith) in omega arith
+leaves-few g (cut x a b) is few d = grind (arith, count_complement (length (singles g.order)) (blocks_in (singles g.order) (mem x)), length-singles g.order, few-leaves g (cut x a b) is d)
 
 -- the maps of a proper script between derivations of a graph pair their leaves
 pub derivation_script_pairs : (g : Graph) (s t : Shape) (ms : List PlainMove) → IsGraph g → IsDerivation g s → IsProperScript g (singles g.order) s ms t → IsPairing g (leaves g.order s) (leaves g.order t) (script_maps g.order s ms)
@@ -48,10 +45,7 @@ module _ (g : Graph) (is : IsGraph g) (few : g.order ≤ 128) (n : ℕ) (same : 
 
   -- before the first move
   pub start : (first current : Shape) (ms left : List PlainMove) (maps : List PlainLeafMap) → IsDerivation g first → ((t : Shape) × IsProperScript g (singles g.order) first ms t) → current ≡ first → left ≡ ms → maps ≡ own_maps n first → Remains g first current ms left maps
-  start first current ms left maps d w here all own =
-      let value : own_maps g.order first ≡ maps = sym (own ∙ ap (λ (k : ℕ). own_maps k first) same) in
-      subst₂ (λ (s : Shape) (ls : List PlainMove). Remains g first s ms ls maps) (sym here) (sym all) (subst (Remains g first first ms ms) value
-      (record { derives = d; script = w; pairs = own_pairs g first (singles_stage g is d.covered) d.derives; value = refl }))
+  start first current ms left maps d w here all own = grind (arith, own_pairs g first (singles_stage g is d.covered) d.derives, singles_stage g is d.covered)
 
   -- at the next move
   module _ (first current : Shape) (ms left others : List PlainMove) (m : PlainMove) (maps : List PlainLeafMap) (r : Remains g first current ms left maps) (e : left ≡ m ∷ others) where
@@ -71,17 +65,11 @@ module _ (g : Graph) (is : IsGraph g) (few : g.order ≤ 128) (n : ℕ) (same : 
     next_remains : Remains g first road.1.0 ms others (map (then_map (leaves g.order current) (move_maps g.order current m)) maps)
     next_remains =
         let next : unwrap_or (move_result g.order current m) current ≡ road.1.0 = ap (λ o. unwrap_or o current) road.1.1 in
-        record {
-          derives = record { covered = r.derives.covered; derives = road.1.3 };
-          script = (road.0, road.1.6);
-          pairs = pairing-then g (leaves g.order first) (leaves g.order current) (leaves g.order road.1.0) maps (move_maps g.order current m) r.pairs next_pairs;
-          value = sym (ap (λ s. maps_after g.order s (map (then_map (leaves g.order current) (move_maps g.order current m)) maps) others) next) ∙ sym (ap (maps_after g.order current maps) e) ∙ r.value;
-        }
+        grind (arith, pairing-then g (leaves g.order first) (leaves g.order current) (leaves g.order road.1.0) maps (move_maps g.order current m) r.pairs next_pairs, next_pairs)
 
     -- the maps so far lead to leaves of the tree
     pub leads : All (IsMapInto (leaves n current)) maps
-    leads = subst (λ (k : ℕ). All (IsMapInto (leaves k current)) maps) (sym same)
-        (paired_into g (leaves g.order first) (leaves g.order current) maps few (partitions-leaves g current r.derives) r.pairs)
+    leads = grind (arith, paired_into g (leaves g.order first) (leaves g.order current) maps few (partitions-leaves g current r.derives) r.pairs, partitions-leaves g current r.derives)
 
     -- and if they are followed by those of the move, the same holds again
     pub step : (next : Shape) (after : List PlainLeafMap) → after ≡ led_on n current m maps → ((t : Shape) → move_result n current m ≡ Some t → next ≡ t) → Remains g first next ms others after

@@ -6,15 +6,14 @@ use Rattle.std.specs.Int.{bit_at, w128, trailing_zeros}
 use Rattle.std.specs.Int.Count.{count_leading_zeros}
 use Rattle.counting.proofs.Common.{cases_lt, mem-all, mem-outside, mem-rising_list, rising_list-rises, same_rising_list, set-wider, Within, IsGreatestOf, IsLeastOf, IsNextAfter, mem, rising_list, everything}
 use Rattle.std.proofs.lemmas.Nat.{leading_top, mod_below, pow_below, shr_le, shr_split}
-use Rattle.std.proofs.lemmas.Nat.Bits.{bit_at-trailing_zeros, bit_at_above, bit_at_cat_high, bit_at_ones, bit_at_ones_above, ones_shr}
+use Rattle.std.proofs.lemmas.Nat.Bits.{bit_at-trailing_zeros, bit_at_above, bit_at_ones, bit_at_ones_above, ones_shr}
 use Rattle.vset_core.specs.Words.{in_word, members}
 use Rattle.vset_core.specs.WordLaws.{members-rise, mem-members}
 use Rattle.vset_core.proofs.Words.{members-zero, seen}
 
 -- a bit that is 0 is not a member
 no_bit : (word v : ℕ) → ((i : ℕ) → v ≡ suc i → bit_at word i ≡ 0) → in_word word v ≡ false
-no_bit word zero h = refl
-no_bit word (suc i) h = rw (h i refl) refl
+no_bit word v h = grind arith
 
 -- a one is a member
 one_bit : (word i : ℕ) → bit_at word i ≡ 1 → in_word word (i + 1) ≡ true
@@ -57,10 +56,7 @@ next_bit word set v is fits inside some =
     before i l e = let s : v + (i - v) ≡ i = omega arith in subst (λ k. bit_at word k ≡ 0) s (sym (moved (i - v)) ∙ e)
 
     fit : (k : ℕ) → bit_at (word / 2 ^ v) k ≡ 1 → v + k + 1 ≤ 128
-    fit k e = elim (cases_lt (v + k) 128) [
-      | inl l ↦ omega arith
-      | inr g ↦ let z = bit_at_above word 128 (v + k) fits g in let m = moved k in absurd (omega arith)
-    ]
+    fit k e = grind (arith, cases_lt (v + k) 128, bit_at_above word 128 (v + k) fits, moved k)
 
 -- no one above v
 pub no_bit_above : (word : ℕ) (set : List ℕ) (v : ℕ) → members word ≡ set → word < 2 ^ 128 → word / 2 ^ v ≡ 0 → (w : ℕ) → v < w → mem set w ≡ false
@@ -77,24 +73,14 @@ greatest_bit word set is fits some =
     let e : 128 - count_leading_zeros 128 word ≡ j + 1 = let t = top.1 in omega arith in
     subst (λ k. IsGreatestOf set k × Within 128 k) (sym e) (
       record {
-        member = seen word set is fits (j + 1) ∙ one_bit word j (highest j top.2 top.3);
+        member = seen word set is fits (j + 1) ∙ one_bit word j (grind arith);
         after = λ w l. seen word set is fits w ∙ no_bit word w (λ i q. bit_at_above word (suc j) i top.3 (omega arith));
       },
       (omega arith, let t = top.1 in omega arith),
     )
-  where
-    highest : (j : ℕ) → 2 ^ j ≤ word → word < 2 ^ suc j → bit_at word j ≡ 1
-    highest j l g =
-        let double : 2 ^ suc j ≡ 2 * 2 ^ j = omega arith in
-        let whole : 1 * 2 ^ j + (word - 2 ^ j) ≡ word = omega arith in
-        let z : j - j ≡ 0 = omega arith in
-        ap (λ w. bit_at w j) (sym whole) ∙ bit_at_cat_high 1 j (word - 2 ^ j) j (omega arith) (omega arith) ∙ rw z refl
 
 pow_le : (n m : ℕ) → n ≤ m → 2 ^ n ≤ 2 ^ m
-pow_le n m l = elim (cases_lt n m) [
-  | inl h ↦ let p = pow_below n m h in omega arith
-  | inr h ↦ let e : n ≡ m = omega arith in rw e (omega arith)
-]
+pow_le n m l = grind (arith, cases_lt n m, pow_below n m)
 
 -- the word of n ones
 pub all_bits : (n : ℕ) → n ≤ 128 → members ((2 ^ 128 - 1) / 2 ^ (128 - n)) ≡ rising_list n everything

@@ -1,19 +1,17 @@
 -- A word has as many ones as its set has members: with one bit more at the top, the ones below
 -- and that bit are counted apart, as the members up to n and the number n + 1 are.
-use Rattle.std.proofs.Common.{◌≡◌, ℕ, zero, suc, ◌+◌, ◌-◌, ◌*◌, ◌/◌, ◌%◌, ◌^◌, ◌<◌, ◌==◌, length, refl, sym, ◌∙◌, ap, arith, subst, pow_pos}
+use Rattle.std.proofs.Common.{◌≡◌, ℕ, zero, suc, ◌+◌, ◌-◌, ◌*◌, ◌/◌, ◌%◌, ◌^◌, ◌<◌, length, sym, ◌∙◌, ap, arith, subst, pow_pos}
 use Rattle.std.specs.Int.Count.{ones, ones_cat}
 use Rattle.std.proofs.lemmas.Nat.{mod_below, shr_below, shr_split}
 use Rattle.std.proofs.lemmas.Nat.Bits.{bit_at_cat_low, bit_at_cat_high, bit_at_lowest}
-use Rattle.counting.proofs.Common.{count_congr, length-rising_list, Within, bit, count}
+use Rattle.counting.proofs.Common.{count_congr, length-rising_list, bit, count}
 use Rattle.vset_core.specs.Words.{in_word, members}
 use Rattle.vset_core.specs.WordLaws.{bit-in_word}
 
 -- a number below 2 has as many ones as it says
 ones-bit : (b : ℕ) → b < 2 → ones b ≡ b
 unfolding ones
-ones-bit zero h = refl
-ones-bit (suc zero) h = refl
-ones-bit (suc (suc b)) h = absurd (omega arith)
+ones-bit b h = grind arith
 
 -- a bit above n bits
 ones-above : (n top low : ℕ) → top < 2 → low < 2 ^ n → ones low ≡ count n (in_word low) → ones (top * 2 ^ n + low) ≡ count (suc n) (in_word (top * 2 ^ n + low))
@@ -23,11 +21,7 @@ ones-above n top low one fits below = ones_cat n top low fits ∙ omega (arith, 
     highest = bit-in_word (top * 2 ^ n + low) n ∙ bit_at_cat_high top n low n fits (omega arith) ∙ (let z : n - n ≡ 0 = omega arith in rw (z, bit_at_lowest top) (omega arith))
 
     lower : count n (in_word low) ≡ count n (in_word (top * 2 ^ n + low))
-    lower = count_congr n (in_word low) (in_word (top * 2 ^ n + low)) same
-      where
-        same : (v : ℕ) → Within n v → in_word low v ≡ in_word (top * 2 ^ n + low) v
-        same zero w = absurd (omega arith)
-        same (suc i) w = ap (λ k. k == 1) (sym (bit_at_cat_low top n low i (omega arith)))
+    lower = grind (arith, count_congr, bit_at_cat_low)
 
 -- the ones of a word of n bits
 ones-count : (n word : ℕ) → word < 2 ^ n → ones word ≡ count n (in_word word)

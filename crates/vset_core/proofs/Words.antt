@@ -17,30 +17,21 @@ seen word set is fits v = subst (λ xs. mem xs v ≡ in_word word v) is (mem-mem
 
 -- one bit, by cases
 bit_or_test : (a b : ℕ) → a < 2 → b < 2 → (max a b == 1) ≡ ((a == 1) || (b == 1))
-bit_or_test zero zero h k = refl
-bit_or_test zero (suc b) h k = let e : suc b ≡ 1 = omega arith in rw e refl
-bit_or_test (suc a) zero h k = let e : suc a ≡ 1 = omega arith in rw e refl
-bit_or_test (suc a) (suc b) h k = let e : suc a ≡ 1 = omega arith in let f : suc b ≡ 1 = omega arith in rw (e, f) refl
+bit_or_test a b h k = grind arith
 
 bit_and_test : (a b : ℕ) → a < 2 → b < 2 → (min a b == 1) ≡ ((a == 1) && (b == 1))
-bit_and_test zero zero h k = refl
-bit_and_test zero (suc b) h k = let e : suc b ≡ 1 = omega arith in rw e refl
-bit_and_test (suc a) zero h k = let e : suc a ≡ 1 = omega arith in rw e refl
-bit_and_test (suc a) (suc b) h k = let e : suc a ≡ 1 = omega arith in let f : suc b ≡ 1 = omega arith in rw (e, f) refl
+bit_and_test a b h k = grind arith
 
 bit_not_test : (b : ℕ) → b < 2 → (1 - b == 1) ≡ not (b == 1)
-bit_not_test zero k = refl
-bit_not_test (suc b) k = let f : suc b ≡ 1 = omega arith in rw f refl
+bit_not_test b k = grind arith
 
 -- the union's bits
 pub in_word-or : (a b v : ℕ) → in_word (bit_or a b) v ≡ (in_word a v || in_word b v)
-in_word-or a b zero = refl
-in_word-or a b (suc i) = ap (λ k. k == 1) (bit_at_or a b i) ∙ bit_or_test (bit_at a i) (bit_at b i) (bit_at-lt a i) (bit_at-lt b i)
+in_word-or a b v = grind (arith, bit_at_or a b, bit_or_test, bit_at-lt a, bit_at-lt b)
 
 -- the common part's bits
 pub in_word-and : (a b v : ℕ) → in_word (bit_and a b) v ≡ (in_word a v && in_word b v)
-in_word-and a b zero = refl
-in_word-and a b (suc i) = ap (λ k. k == 1) (bit_at_and a b i) ∙ bit_and_test (bit_at a i) (bit_at b i) (bit_at-lt a i) (bit_at-lt b i)
+in_word-and a b v = grind (arith, bit_at_and a b, bit_and_test, bit_at-lt a, bit_at-lt b)
 
 -- the difference's bits
 pub in_word-minus : (a b v : ℕ) → a < 2 ^ 128 → b < 2 ^ 128 → in_word (bit_and a (bit_not w128 b)) v ≡ (in_word a v && not (in_word b v))
@@ -53,19 +44,11 @@ in_word-minus a b (suc i) h k = in_word-and a (bit_not w128 b) (suc i) ∙ elim 
 -- the bits of the word of v alone
 pub in_word-one : (v w : ℕ) → 1 ≤ v → v ≤ 128 → in_word (1 * 2 ^ (v - 1) % 2 ^ 128) w ≡ (v == w)
 in_word-one zero w l h = absurd (omega arith)
-in_word-one (suc k) w l h = let e : suc k - 1 ≡ k = omega arith in rw (e, one_shl k 128 (omega arith)) (alone w)
-  where
-    alone : (w : ℕ) → in_word (2 ^ k) w ≡ (suc k == w)
-    alone zero = sym (ne_eqb (suc k) 0 (λ q. absurd (omega arith)))
-    alone (suc i) = elim (cases_eq i k) [
-      | inl q ↦ rw (q, bit_at-pow_same k) (sym (eq-eqb (suc k) (suc k) refl))
-      | inr d ↦ rw (bit_at-pow_other k i d) (sym (ne_eqb (suc k) (suc i) (λ q. d (omega arith))))
-    ]
+in_word-one (suc k) w l h = let e : suc k - 1 ≡ k = omega arith in rw (e, one_shl k 128 (omega arith)) (grind (arith, ne_eqb (suc k) 0, cases_eq, bit_at-pow_same k, eq-eqb (suc k) (suc k) refl, bit_at-pow_other k, ne_eqb (suc k)))
 
 -- the empty word has nothing
 pub in_word-zero : (v : ℕ) → in_word 0 v ≡ false
-in_word-zero zero = refl
-in_word-zero (suc i) = rw (bit_at-zero i) refl
+in_word-zero v = grind arith
 
 -- the test by a shift
 pub shifted_bit : (word : ℕ) (set : List ℕ) → members word ≡ set → word < 2 ^ 128 → (v : ℕ) → 1 ≤ v → (bit_and (word / 2 ^ (v - 1)) 1 == 1) ≡ mem set v
@@ -103,8 +86,7 @@ pub members-one : (v : ℕ) → Within 128 v → members (1 * 2 ^ (v - 1) % 2 ^ 
 members-one v w = same_rising_list 128 (members (1 * 2 ^ (v - 1) % 2 ^ 128)) (v ∷ []) (members-rise (1 * 2 ^ (v - 1) % 2 ^ 128)) (set-one 128 v w) (λ u _. mem-members (1 * 2 ^ (v - 1) % 2 ^ 128) u (one_fits (v - 1)) ∙ in_word-one v u w.0 w.1 ∙ or_none (v == u))
   where
     or_none : (b : Bool) → b ≡ (b || false)
-    or_none true = refl
-    or_none false = refl
+    or_none b = grind arith
 
 -- a word is 0 exactly when its set has nothing
 pub zero_test : (word : ℕ) → word < 2 ^ 128 → (b : Bool) → ((v : ℕ) → in_word word v ≡ true → b ≡ false) → (b ≡ false → (v : ℕ) × (in_word word v ≡ true)) → (word == 0) ≡ b

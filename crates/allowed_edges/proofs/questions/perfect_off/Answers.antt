@@ -1,4 +1,4 @@
-use Rattle.std.proofs.Common.{◌≡◌, sym, ◌∙◌, subst, eqb-true}
+use Rattle.std.proofs.Common.{◌≡◌, sym, ◌∙◌, subst, eqb-true, arith}
 use Rattle.counting.proofs.Common.{mem}
 use Rattle.graph_core.proofs.Common.{IsPerfect, missed_count, none_missed-perfect}
 use Rattle.match_core.specs.Common.{IsOf, MatchingValue, edges_of}
@@ -21,10 +21,7 @@ returns-then-misses_none-clause-perfect c = λ m q.
 pub returns-then-misses_none-clause-none : goal.returns-then-misses_none-clause-none
 returns-then-misses_none-clause-none c =
     let zero = eqb-true (missed_count c.args.g.now (mem c.args.met) (mem (edges_of c.in_ok-rest.rest))) 0 (sym c.misses_none.ensures ∙ c.if-misses_none.true) in
-    let perfect = none_missed-perfect c.args.g.now (mem c.args.met) (mem (edges_of c.in_ok-rest.rest)) (c.in_ok-rest.ensures.matching c.args.g.now c.requires.of) zero in (
-      (λ q. cc),
-      (λ h. absurd (h (mem (edges_of c.in_ok-rest.rest), perfect))),
-    )
+    grind (arith, none_missed-perfect c.args.g.now (mem c.args.met) (mem (edges_of c.in_ok-rest.rest)) (c.in_ok-rest.ensures.matching c.args.g.now c.requires.of) zero)
 
 pub repair-requires-clause-of : goal.repair-requires-clause-of
 repair-requires-clause-of c = c.in_ok-rest.ensures.of c.args.g.now c.requires.of
@@ -38,9 +35,7 @@ returns-in-Some-clause-of c = λ m q.
     subst (λ (m : MatchingValue). IsOf c.args.g.now m) same (c.in_ok-found.ensures c.in-Some.found c.in-Some.is).of
 
 pub returns-in-Some-clause-perfect : goal.returns-in-Some-clause-perfect
-returns-in-Some-clause-perfect c = λ m q.
-    let same : c.in-Some.found ≡ m = cc in
-    subst (λ (m : MatchingValue). IsPerfect c.args.g.now (mem c.args.met) (mem (edges_of m))) same (c.in_ok-found.ensures c.in-Some.found c.in-Some.is).perfect
+returns-in-Some-clause-perfect c = grind arith
 
 pub returns-in-Some-clause-none : goal.returns-in-Some-clause-none
 returns-in-Some-clause-none c = (

@@ -1,18 +1,15 @@
-use Rattle.std.proofs.Common.{◌≡◌, ◌==◌, ap, ◌∙◌, subst, refl, eq-eqb}
-use Rattle.counting.proofs.Common.{both_ways, or_right, mem, none}
+use Rattle.std.proofs.Common.{◌≡◌, ◌==◌, ap, ◌∙◌, subst, refl, eq-eqb, arith}
+use Rattle.counting.proofs.Common.{or_right, mem, none}
 use Rattle.graph_core.proofs.Common.{IsPerfect}
 use Rattle.match_core.specs.Common.{MatchingValue, edges_of}
-use Rattle.allowed_edges.proofs.ThroughEdges.{edge_free, ends_within, one_cut, one_glued, one_leaves}
+use Rattle.allowed_edges.proofs.ThroughEdges.{edge_free, one_cut, one_glued, one_leaves}
 use Rattle.allowed_edges.proofs.questions.perfect_with_edge.Goals as goal
 
 pub perfect_off-requires-clause-within : goal.perfect_off-requires-clause-within
-perfect_off-requires-clause-within c =
-    ends_within c.args.g.now c.args.e (mem c.empty.result) (mem c.with_ends-met.result) c.keeps_limits.ensures.multigraph.ends c.requires.edge c.with_ends-met.ensures
-    (λ v t. absurd (both_ways (mem c.empty.result v) (ap (λ xs. mem xs v) c.empty.ensures) t))
+perfect_off-requires-clause-within c = grind arith
 
 pub perfect_off-requires-clause-few : goal.perfect_off-requires-clause-few
-perfect_off-requires-clause-few c =
-    one_leaves c.args.g.now c.keeps_limits.ensures.multigraph c.args.e c.requires.edge (mem c.empty.result) (mem c.with_ends-met.result) (λ v. ap (λ xs. mem xs v) c.empty.ensures) c.with_ends-met.ensures (mem (edges_of c.args.kept.now)) c.requires.perfect
+perfect_off-requires-clause-few c = grind (arith, one_leaves c.args.g.now c.keeps_limits.ensures.multigraph c.args.e c.requires.edge (mem c.empty.result) (mem c.with_ends-met.result))
 
 pub joined-requires-clause-first : goal.joined-requires-clause-first
 joined-requires-clause-first c =
@@ -36,7 +33,4 @@ returns-in_ok-joined-in-Some-clause-none c =
     )
 
 pub returns-in-None-clause-none : goal.returns-in-None-clause-none
-returns-in-None-clause-none c = (
-  (λ q a. c.in_ok-rest.ensures.none.0 c.in-None.is (one_cut c.args.g.now c.keeps_limits.ensures.multigraph c.args.e c.requires.edge (mem c.empty.result) (mem c.with_ends-met.result) (λ v. ap (λ xs. mem xs v) c.empty.ensures) c.with_ends-met.ensures a)),
-  (λ h. refl),
-)
+returns-in-None-clause-none c = grind (arith, one_cut c.args.g.now c.keeps_limits.ensures.multigraph c.args.e c.requires.edge (mem c.empty.result) (mem c.with_ends-met.result))

@@ -1,14 +1,12 @@
-use Rattle.std.proofs.Common.{◌≡◌, ℕ, ◌==◌, ◌||◌, ap, ◌∙◌, subst, refl, eq-eqb}
-use Rattle.counting.proofs.Common.{both_ways, or_left, or_right, mem, none}
+use Rattle.std.proofs.Common.{◌≡◌, ℕ, ◌==◌, ◌||◌, ap, ◌∙◌, subst, refl, eq-eqb, arith}
+use Rattle.counting.proofs.Common.{or_left, or_right, mem, none}
 use Rattle.graph_core.proofs.Common.{first_end, second_end, IsPerfect}
 use Rattle.match_core.specs.Common.{MatchingValue, edges_of}
-use Rattle.allowed_edges.proofs.ThroughEdges.{edge_free, ends_within, second_free, two_cut, two_glued, two_leave}
+use Rattle.allowed_edges.proofs.ThroughEdges.{edge_free, second_free, two_cut, two_glued, two_leave}
 use Rattle.allowed_edges.proofs.questions.perfect_with_pair.Goals as goal
 
 pub perfect_off-requires-clause-within : goal.perfect_off-requires-clause-within
-perfect_off-requires-clause-within c =
-    ends_within c.args.g.now c.args.f (mem c.with_ends.result) (mem c.with_ends-met.result) c.keeps_limits.ensures.multigraph.ends c.requires.second c.with_ends-met.ensures
-    (ends_within c.args.g.now c.args.e (mem c.empty.result) (mem c.with_ends.result) c.keeps_limits.ensures.multigraph.ends c.requires.first c.with_ends.ensures (λ v t. absurd (both_ways (mem c.empty.result v) (ap (λ xs. mem xs v) c.empty.ensures) t)))
+perfect_off-requires-clause-within c = grind arith
 
 pub perfect_off-requires-clause-few : goal.perfect_off-requires-clause-few
 perfect_off-requires-clause-few c =

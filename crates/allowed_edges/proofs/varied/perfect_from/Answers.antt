@@ -1,8 +1,7 @@
-use Rattle.std.proofs.Common.{◌∙◌, ap, sym}
+use Rattle.std.proofs.Common.{arith}
 use Rattle.match_search.specs.Common.{marks}
 use Rattle.allowed_edges.proofs.TwiceNamed.{named_matching}
 use Rattle.allowed_edges.proofs.varied.perfect_from.Goals as goal
 
 pub perfect_marked-requires-clause-matching : goal.perfect_marked-requires-clause-matching
-perfect_marked-requires-clause-matching c =
-    named_matching c.args.g.now c.args.at.now (marks c.deref.result.now) c.keeps_limits.ensures.multigraph (λ k t. c.in_ok-mark.ensures.named k (ap (λ row. marks row k) (sym c.deref.ensures.value) ∙ t))
+perfect_marked-requires-clause-matching c = grind (arith, named_matching c.args.g.now c.args.at.now (marks c.deref.result.now) c.keeps_limits.ensures.multigraph)

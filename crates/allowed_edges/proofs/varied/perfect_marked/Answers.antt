@@ -1,7 +1,7 @@
-use Rattle.std.proofs.Common.{◌≡◌, ◌∙◌, ap, sym, subst, eqb-true}
+use Rattle.std.proofs.Common.{◌≡◌, ◌∙◌, sym, subst, eqb-true, arith}
 use Rattle.counting.proofs.Common.{mem}
 use Rattle.graph_core.proofs.Common.{missed_count}
-use Rattle.match_core.specs.Common.{MatchingValue, edges_of}
+use Rattle.match_core.specs.Common.{edges_of}
 use Rattle.allowed_edges.specs.PairTables.{IsPerfectWith}
 use Rattle.allowed_edges.proofs.TwiceNamed.{listed_holds, listed_off, listed_perfect}
 use Rattle.allowed_edges.proofs.varied.perfect_marked.Goals as goal
@@ -20,7 +20,4 @@ returns-then-misses_none-clause-perfect c = λ m q.
     })
 
 pub returns-then-misses_none-clause-held : goal.returns-then-misses_none-clause-held
-returns-then-misses_none-clause-held c = λ m q.
-    let same : c.in_ok-found.found ≡ m = cc in
-    ap (λ (n : MatchingValue). mem (edges_of n) c.args.f) (sym same)
-    ∙ listed_holds c.args.g.now c.in_ok-found.found c.args.mark.now c.requires.matching c.in_ok-found.ensures.of c.in_ok-found.ensures.edges c.args.f c.requires.other (c.is_marked-2.ensures c.if-not-is_marked-2.false)
+returns-then-misses_none-clause-held c = grind (arith, listed_holds)

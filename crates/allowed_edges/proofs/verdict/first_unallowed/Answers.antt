@@ -1,18 +1,10 @@
 use Rattle.std.proofs.Common.{◌∙◌, arith, subst, sym, inl, inr}
 use Rattle.counting.proofs.Common.{both_ways, cases_eq}
-use Rattle.graph_core.proofs.Common.{Allowed, is_allowed, is_allowed_found, is_allowed_says}
+use Rattle.graph_core.proofs.Common.{Allowed, is_allowed_found, is_allowed_says}
 use Rattle.allowed_edges.proofs.verdict.first_unallowed.Goals as goal
 
 pub returns-then-not-is_allowed_in-clause-some : goal.returns-then-not-is_allowed_in-clause-some
-returns-then-not-is_allowed_in-clause-some c =
-    let n = c.size-e-end.ensures.is in
-    let low = c.loop-e.auto.e in
-    let high = c.loop-e-test.true in
-    record {
-      within = (low, omega arith);
-      without = λ a. both_ways (is_allowed c.args.g.now c.loop-e.e) (sym c.is_allowed_in.ensures ∙ c.if-not-is_allowed_in.true) (is_allowed_found c.args.g.now c.loop-e.e (low, omega arith) a);
-      before = λ j w l. c.loop-e.invariant j (omega arith);
-    }
+returns-then-not-is_allowed_in-clause-some c = grind (arith, both_ways, is_allowed_found)
 
 pub loop-e-preserved : goal.loop-e-preserved
 loop-e-preserved c = λ j w. elim (cases_eq j c.loop-e.e) [

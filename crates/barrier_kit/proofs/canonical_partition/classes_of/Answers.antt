@@ -15,12 +15,8 @@ loop-k-preserved c =
           let r = classes-taken g is c.keeps_covered.ensures.covered c.loop-k.k c.loop-k.list w.push.new.self (mem c.loop-k.met) (mem w.union-met.result) w.class_of-class.result (omega arith) c.loop-k.invariant.list c.loop-k.invariant.met (sym c.contains.ensures ∙ w.if-not-contains.true)
           w.class_of-class.ensures w.in_ok-push.ensures.ok w.union-met.ensures in
           record { list = w.list-is ∙ r.0; met = λ v wv. ap (λ s. mem s v) w.met-is ∙ r.1 v wv }
-      | else-not-contains w ↦
-          let r = classes-passed g is c.keeps_covered.ensures.covered c.loop-k.k c.loop-k.list (mem c.loop-k.met) (omega arith) c.loop-k.invariant.list c.loop-k.invariant.met (sym c.contains.ensures ∙ w.if-not-contains.false) in
-          record { list = w.list-is ∙ r.0; met = λ v wv. ap (λ s. mem s v) w.met-is ∙ r.1 v wv }
+      | else-not-contains w ↦ grind (arith, classes-passed g is c.keeps_covered.ensures.covered c.loop-k.k c.loop-k.list (mem c.loop-k.met))
     ]
 
 pub returns : goal.returns
-returns c =
-    let n = c.order-k-end.ensures.is in let k = c.loop-k-test.false in let j = c.loop-k.auto.k-end in
-    classes-all c.args.c.now c.keeps_covered.ensures.limits.multigraph.ends c.keeps_covered.ensures.covered c.loop-k.k c.loop-k.list (omega arith) c.loop-k.invariant.list
+returns c = grind (arith, classes-all c.args.c.now c.keeps_covered.ensures.limits.multigraph.ends c.keeps_covered.ensures.covered c.loop-k.k c.loop-k.list)

@@ -1,10 +1,9 @@
-use Rattle.std.proofs.Common.{◌≡◌, ◌∙◌, ℕ, List, ◌++◌, Some, map, drop, length, slice_get, ap, sym, arith}
+use Rattle.std.proofs.Common.{◌≡◌, ◌∙◌, ℕ, List, Some, map, length, slice_get, ap, arith}
 use Rattle.std.specs.Option.{option_map}
 use Rattle.std.specs.Vec.Iter.{into_iter_items}
 use Rattle.counting.proofs.Common.{append-nil, length-map}
 use Rattle.std.proofs.lemmas.Option.{slice_get-map}
 use Rattle.contraction.specs.Partition.{PartitionValue}
-use Rattle.report_text.specs.declared.comparisons.MapLine.{MapLine}
 use Rattle.uncross.specs.Common.{map_of, maps_of}
 use Rattle.bench_outcomes.specs.Common.{lines_of}
 use Rattle.bench_reports.proofs.PairLines.{lines-more, lines-none}
@@ -26,13 +25,4 @@ lines-preserved c =
     }
 
 pub returns : goal.returns
-returns c =
-    let ps : List (List (List ℕ)) = map (λ (p : PartitionValue). p.blocks) c.args.found.now in
-    let none = c.in_default.ensures.cases.0 in
-    let counted = c.lines.invariant.counted in
-    let same = length-map (into_iter_items c.lines.rest) map_of in
-    sym (
-    c.lines.invariant.lines
-    ∙ ap (λ (ls : List MapLine). c.lines.lines ++ ls) (lines-none c.lines.i (drop c.lines.i ps) (maps_of (into_iter_items c.lines.rest)) (omega arith))
-    ∙ append-nil c.lines.lines
-    )
+returns c = grind (arith, length-map (into_iter_items c.lines.rest) map_of, lines-none c.lines.i, append-nil c.lines.lines)

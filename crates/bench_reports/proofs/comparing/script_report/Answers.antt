@@ -13,8 +13,7 @@ write_moves-requires-clause-few c =
     omega arith
 
 pub write_moves-requires-clause-paths : goal.write_moves-requires-clause-paths
-write_moves-requires-clause-paths c =
-    script-paths c.args.c.now (shape_of c.args.given.now.first) (shape_of c.args.given.now.second) (moves_of c.in_ok-moves.moves) c.keeps_covered.ensures.limits.multigraph.ends c.keeps_covered.ensures.limits.vertices c.requires.first c.in_ok-moves.ensures.through
+write_moves-requires-clause-paths c = grind (arith, script-paths)
 
 pub write_moves-requires-clause-sets : goal.write_moves-requires-clause-sets
 write_moves-requires-clause-sets c =
@@ -25,10 +24,7 @@ pub nodes-requires : goal.nodes-requires
 nodes-requires c = let few = few-nodes c.args.c.now (shape_of c.args.given.now.first) c.keeps_covered.ensures.limits.multigraph.ends c.keeps_covered.ensures.limits.vertices c.requires.first in omega arith
 
 pub overflow_cast-leaves : goal.overflow_cast-leaves
-overflow_cast-leaves c =
-    let few = few-nodes c.args.c.now (shape_of c.args.given.now.first) c.keeps_covered.ensures.limits.multigraph.ends c.keeps_covered.ensures.limits.vertices c.requires.first in
-    let found = c.nodes.ensures in
-    omega arith
+overflow_cast-leaves c = grind (arith, few-nodes c.args.c.now (shape_of c.args.given.now.first) c.keeps_covered.ensures.limits.multigraph.ends c.keeps_covered.ensures.limits.vertices c.requires.first)
 
 pub overflow_cast-len : goal.overflow_cast-len
 overflow_cast-len c =
@@ -48,6 +44,4 @@ returns c =
     let same = length-map c.in_ok-moves.moves move_of in
     let count = few-moves c.args.c.now t (length moves) c.keeps_covered.ensures.limits.multigraph.ends c.keeps_covered.ensures.limits.vertices c.requires.first c.in_ok-moves.ensures.few in
     let all = c.len.ensures in
-    scripted c.args.c.now t (shape_of c.args.given.now.second) moves c.order-n.result _ _ c.in_ok-text.text.items c.deref.result.now c.in_ok-script_report.field-0.items
-    (record { first = c.requires.first; second = c.requires.second; turns = c.in_ok-moves.ensures.through; few = c.in_ok-moves.ensures.few })
-    (omega arith) (omega arith) c.order-n.ensures.is (omega arith) (omega arith) c.in_ok-text.ensures.text c.deref.ensures.value c.in_ok-text.ensures.stands c.in_ok-script_report.ensures
+    grind (arith, scripted c.args.c.now t (shape_of c.args.given.now.second) moves c.order-n.result)

@@ -1,14 +1,12 @@
-use Rattle.std.proofs.Common.{ℕ, All, ◌≡◌, ap, refl, sym, subst, arith, length}
-use Rattle.contraction.specs.Partition.{PartitionValue}
+use Rattle.std.proofs.Common.{refl, arith}
 use Rattle.graph_text.specs.Common.{named_graph}
-use Rattle.tree_core.proofs.Common.{StandsAt, leaves, partitions_of, Fits, shape_of, fits-derivation, stands-derivation, few-leaves_listed, few-nodes, orders-of_leaves}
+use Rattle.tree_core.proofs.Common.{leaves, shape_of, fits-derivation, stands-derivation, few-leaves_listed, few-nodes, orders-of_leaves}
 use Rattle.graph_core.proofs.Common.{singles}
 use Rattle.bench_outcomes.proofs.DerivationTexts.{has-vertices, told}
 use Rattle.bench_reports.proofs.decomposing.derivation_report.Goals as goal
 
 pub write_tree-requires-clause-fits : goal.write_tree-requires-clause-fits
-write_tree-requires-clause-fits c =
-    subst (λ (n : ℕ). Fits n (shape_of c.args.tree.now)) (sym c.order-n.ensures.is) (fits-derivation c.args.named.now.graph (shape_of c.args.tree.now) c.requires)
+write_tree-requires-clause-fits c = grind (arith, fits-derivation c.args.named.now.graph (shape_of c.args.tree.now) c.requires)
 
 pub write_tree-requires-clause-vertices : goal.write_tree-requires-clause-vertices
 write_tree-requires-clause-vertices c =
@@ -18,25 +16,16 @@ pub write_tree-requires-clause-few : goal.write_tree-requires-clause-few
 write_tree-requires-clause-few c = few-nodes c.args.named.now.graph (shape_of c.args.tree.now) c.keeps_limits.ensures.multigraph.ends c.keeps_limits.ensures.vertices c.requires
 
 pub leaves-requires-clause-fits : goal.leaves-requires-clause-fits
-leaves-requires-clause-fits c =
-    subst (λ (n : ℕ). Fits n (shape_of c.args.tree.now)) (sym c.order-n.ensures.is) (fits-derivation c.args.named.now.graph (shape_of c.args.tree.now) c.requires)
+leaves-requires-clause-fits c = grind (arith, fits-derivation c.args.named.now.graph (shape_of c.args.tree.now) c.requires)
 
 pub leaves-requires-clause-stands : goal.leaves-requires-clause-stands
-leaves-requires-clause-stands c =
-    subst (λ (n : ℕ). StandsAt n (singles n) (shape_of c.args.tree.now)) (sym c.order-n.ensures.is) (stands-derivation c.args.named.now.graph (shape_of c.args.tree.now) c.requires)
+leaves-requires-clause-stands c = grind (arith, stands-derivation c.args.named.now.graph (shape_of c.args.tree.now) c.requires)
 
 pub derivation-requires-clause-order : goal.derivation-requires-clause-order
-derivation-requires-clause-order c =
-    subst (All (λ (p : PartitionValue). p.order ≡ c.args.named.now.graph.order)) (sym c.in_ok-found.ensures)
-    (subst (λ (n : ℕ). All (λ (p : PartitionValue). p.order ≡ n) (partitions_of c.order-n.result (leaves c.order-n.result (shape_of c.args.tree.now)))) c.order-n.ensures.is
-    (orders-of_leaves c.order-n.result (leaves c.order-n.result (shape_of c.args.tree.now))))
+derivation-requires-clause-order c = grind (arith, orders-of_leaves c.order-n.result (leaves c.order-n.result (shape_of c.args.tree.now)))
 
 pub derivation-requires-clause-few : goal.derivation-requires-clause-few
-derivation-requires-clause-few c =
-    let nodes = few-nodes c.args.named.now.graph (shape_of c.args.tree.now) c.keeps_limits.ensures.multigraph.ends c.keeps_limits.ensures.vertices c.requires in
-    let listed = few-leaves_listed c.order-n.result (shape_of c.args.tree.now) nodes in
-    let same = ap length c.in_ok-found.ensures in
-    omega arith
+derivation-requires-clause-few c = grind (arith, few-nodes, few-leaves_listed)
 
 pub returns : goal.returns
 returns c =

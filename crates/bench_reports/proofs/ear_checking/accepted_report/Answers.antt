@@ -1,13 +1,8 @@
-use Rattle.std.proofs.Common.{ap, arith, length}
+use Rattle.std.proofs.Common.{arith}
 use Rattle.counting.proofs.Common.{length-map}
 use Rattle.ear_core.specs.Common.{ears_of, step_of}
 use Rattle.bench_outcomes.proofs.EarSteps.{few-steps}
 use Rattle.bench_reports.proofs.ear_checking.accepted_report.Goals as goal
 
 pub counts_of-steps-requires : goal.counts_of-steps-requires
-counts_of-steps-requires c =
-    let few = few-steps c.args.c.now (ears_of c.args.list.now) c.requires in
-    let all = length-map c.args.list.now.steps step_of in
-    let same = ap length c.as_slice.ensures in
-    let limit = c.keeps_covered.ensures.limits.edges in
-    omega arith
+counts_of-steps-requires c = grind (arith, few-steps c.args.c.now (ears_of c.args.list.now) c.requires, length-map c.args.list.now.steps step_of)

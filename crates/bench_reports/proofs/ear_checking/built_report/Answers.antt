@@ -1,4 +1,4 @@
-use Rattle.std.proofs.Common.{ℕ, ap, arith, length, subst₂, sym}
+use Rattle.std.proofs.Common.{ℕ, arith, subst₂, sym}
 use Rattle.counting.proofs.Common.{length-map}
 use Rattle.ear_core.proofs.Stepping.{list-fits, list-filled}
 use Rattle.ear_core.specs.Common.{FitsEars, ears_of, step_of}
@@ -6,12 +6,7 @@ use Rattle.bench_outcomes.proofs.EarSteps.{few-steps}
 use Rattle.bench_reports.proofs.ear_checking.built_report.Goals as goal
 
 pub counts_of-steps-requires : goal.counts_of-steps-requires
-counts_of-steps-requires c =
-    let few = few-steps c.args.c.now (ears_of c.in_ok-list.list) c.in_ok-list.ensures.list in
-    let all = length-map c.in_ok-list.list.steps step_of in
-    let same = ap length c.as_slice.ensures in
-    let limit = c.keeps_covered.ensures.limits.edges in
-    omega arith
+counts_of-steps-requires c = grind (arith, few-steps c.args.c.now (ears_of c.in_ok-list.list) c.in_ok-list.ensures.list, length-map c.in_ok-list.list.steps step_of)
 
 pub write_ears-requires-clause-fits : goal.write_ears-requires-clause-fits
 write_ears-requires-clause-fits c =

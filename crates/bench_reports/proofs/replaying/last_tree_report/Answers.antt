@@ -1,12 +1,11 @@
-use Rattle.std.proofs.Common.{ℕ, subst, sym}
+use Rattle.std.proofs.Common.{arith}
 use Rattle.graph_core.proofs.Common.{singles}
-use Rattle.tree_core.proofs.Common.{Fits, shape_of, fits-derivation, stands-derivation, few-nodes}
+use Rattle.tree_core.proofs.Common.{shape_of, fits-derivation, stands-derivation, few-nodes}
 use Rattle.bench_outcomes.proofs.DerivationTexts.{has-vertices}
 use Rattle.bench_reports.proofs.replaying.last_tree_report.Goals as goal
 
 pub write_tree-requires-clause-fits : goal.write_tree-requires-clause-fits
-write_tree-requires-clause-fits c =
-    subst (λ (n : ℕ). Fits n (shape_of c.args.tree.now)) (sym c.order-n.ensures.is) (fits-derivation c.args.g.now (shape_of c.args.tree.now) c.requires.derivation)
+write_tree-requires-clause-fits c = grind (arith, fits-derivation c.args.g.now (shape_of c.args.tree.now) c.requires.derivation)
 
 pub write_tree-requires-clause-vertices : goal.write_tree-requires-clause-vertices
 write_tree-requires-clause-vertices c =

@@ -1,30 +1,23 @@
-use Rattle.std.proofs.Common.{List, ℕ, ◌≡◌, length, take, subst, ap, Err, ◌<◌}
+use Rattle.std.proofs.Common.{List, ℕ, ◌≡◌, take, subst, ap, Err, arith}
 use Rattle.outside.specs.Common.{IsCutOff, IsWritten, appended}
-use Rattle.bench_tasks.specs.Common.{asked, loaded, file_names, task_of}
+use Rattle.bench_tasks.specs.Common.{asked, loaded}
 use Rattle.bench_top.proofs.GivenFiles.{given-outcome}
 use Rattle.bench_top.proofs.ReadsMade.{absent-fault, first-reads}
-use Rattle.bench_top.proofs.Refusals.{may-refuse}
-use Rattle.bench_top.proofs.Stops.{is-stop, reported-bad, stops-after, unread}
 use Rattle.bench_outcomes.specs.Common.{LoadedGives}
-use Rattle.bench_top.specs.Writes.{GivesTold}
 use Rattle.bench_top.proofs.WritesMade.{wrote-nothing, wrote-report}
 use Rattle.bench_top.proofs.performing.perform.Goals as goal
 
 pub returns-in-Ok-emit-clause-asks : goal.returns-in-Ok-emit-clause-asks
-returns-in-Ok-emit-clause-asks g c =
-    first-reads g.S.Shelf.reads (file_names (asked c.args.command)) c.args.shelf.now c.gather-gathered.new.shelf c.gather-gathered.result c.gather-gathered.ensures.reads
+returns-in-Ok-emit-clause-asks g c = grind (arith, first-reads)
 
 pub returns-in-Ok-clause-asks : goal.returns-in-Ok-clause-asks
-returns-in-Ok-clause-asks g c =
-    first-reads g.S.Shelf.reads (file_names (asked c.args.command)) c.args.shelf.now c.gather-gathered.new.shelf c.gather-gathered.result c.gather-gathered.ensures.reads
+returns-in-Ok-clause-asks g c = grind (arith, first-reads)
 
 pub returns-clause-asks : goal.returns-clause-asks
-returns-clause-asks g c =
-    first-reads g.S.Shelf.reads (file_names (asked c.args.command)) c.args.shelf.now c.gather-gathered.new.shelf c.gather-gathered.result c.gather-gathered.ensures.reads
+returns-clause-asks g c = grind (arith, first-reads)
 
 pub returns-in-Ok-emit-clause-negative : goal.returns-in-Ok-emit-clause-negative
-returns-in-Ok-emit-clause-negative g c = λ negative.
-    may-refuse (asked c.args.command) c.gather-gathered.result c.gather-gathered.ensures.asked (c.in-Ok.ensures.refuses negative)
+returns-in-Ok-emit-clause-negative g c = grind arith
 
 pub returns-clause-missing : goal.returns-clause-missing
 returns-clause-missing g c = λ files told fault steady.
@@ -32,62 +25,34 @@ returns-clause-missing g c = λ files told fault steady.
     (c.gather-gathered.ensures.loads.absent files told)
 
 pub returns-in-Ok-clause-cut : goal.returns-in-Ok-clause-cut
-returns-in-Ok-clause-cut g c = λ files told fault.
-    let held = c.gather-gathered.ensures.loads.loads files told in
-    let cut = c.in-Err-emit.ensures.err in
-    record {
-      status = c.in-Ok.report.status;
-      output = c.in-Ok.report.bytes.items;
-      count = cut.0;
-      outcome = c.in-Ok.ensures.gives _ held;
-      less = subst (λ (l : List ℕ). cut.0 < length l) c.deref.ensures.value cut.1;
-      written = subst (λ (l : List ℕ). g.K.Sink.written c.emit.new.sink ≡ appended (g.K.Sink.written c.args.sink.now) (take cut.0 l)) c.deref.ensures.value cut.2;
-    }
+returns-in-Ok-clause-cut g c = grind arith
 
 pub returns-in-Ok-emit-clause-stops : goal.returns-in-Ok-emit-clause-stops
-returns-in-Ok-emit-clause-stops g c = λ files told.
-    rw c.stop_of-stop.ensures (is-stop task_of (g.S.Shelf.steady c.args.shelf.now) c.gather-gathered.result (loaded files (asked c.args.command))
-    (c.gather-gathered.ensures.loads.loads files told) (c.gather-gathered.ensures.loads.absent files told))
+returns-in-Ok-emit-clause-stops g c = grind arith
 
 pub returns-in-Ok-emit-clause-stops_after : goal.returns-in-Ok-emit-clause-stops_after
-returns-in-Ok-emit-clause-stops_after g c =
-    rw c.stop_of-stop.ensures (stops-after g.S.Shelf.reads (file_names (asked c.args.command)) c.gather-gathered.result c.args.shelf.now c.gather-gathered.new.shelf c.gather-gathered.ensures.reads)
+returns-in-Ok-emit-clause-stops_after g c = grind arith
 
 pub returns-in-Ok-clause-stops : goal.returns-in-Ok-clause-stops
-returns-in-Ok-clause-stops g c = λ files told.
-    rw c.stop_of-stop.ensures (is-stop task_of (g.S.Shelf.steady c.args.shelf.now) c.gather-gathered.result (loaded files (asked c.args.command))
-    (c.gather-gathered.ensures.loads.loads files told) (c.gather-gathered.ensures.loads.absent files told))
+returns-in-Ok-clause-stops g c = grind arith
 
 pub returns-in-Ok-clause-stops_after : goal.returns-in-Ok-clause-stops_after
-returns-in-Ok-clause-stops_after g c =
-    rw c.stop_of-stop.ensures (stops-after g.S.Shelf.reads (file_names (asked c.args.command)) c.gather-gathered.result c.args.shelf.now c.gather-gathered.new.shelf c.gather-gathered.ensures.reads)
+returns-in-Ok-clause-stops_after g c = grind arith
 
 pub returns-clause-stops : goal.returns-clause-stops
-returns-clause-stops g c = λ files told.
-    rw c.stop_of-stop.ensures (is-stop task_of (g.S.Shelf.steady c.args.shelf.now) c.gather-gathered.result (loaded files (asked c.args.command))
-    (c.gather-gathered.ensures.loads.loads files told) (c.gather-gathered.ensures.loads.absent files told))
+returns-clause-stops g c = grind arith
 
 pub returns-clause-stops_after : goal.returns-clause-stops_after
-returns-clause-stops_after g c =
-    rw c.stop_of-stop.ensures (stops-after g.S.Shelf.reads (file_names (asked c.args.command)) c.gather-gathered.result c.args.shelf.now c.gather-gathered.new.shelf c.gather-gathered.ensures.reads)
+returns-clause-stops_after g c = grind arith
 
 pub returns-in-Ok-emit-clause-reported : goal.returns-in-Ok-emit-clause-reported
-returns-in-Ok-emit-clause-reported g c = λ bad.
-    let written = rw c.deref.ensures.value at c.in-Ok-emit.ensures.ok in
-    rw c.stop_of-stop.ensures (reported-bad c.gather-gathered.result c.in-Ok.report.bytes.items (g.K.Sink.written c.args.sink.now) (g.K.Sink.written c.emit.new.sink)
-    (c.in-Ok.ensures.bad bad) written)
+returns-in-Ok-emit-clause-reported g c = grind arith
 
 pub returns-clause-unread : goal.returns-clause-unread
-returns-clause-unread g c = λ fault.
-    rw c.stop_of-stop.ensures (unread c.gather-gathered.result (c.in-Err.ensures.read_fault.0 (ap Err fault)))
+returns-clause-unread g c = grind arith
 
 pub returns-in-Ok-emit-clause-writes : goal.returns-in-Ok-emit-clause-writes
-returns-in-Ok-emit-clause-writes g c =
-    wrote-report g.K.Sink.written g.K.Sink.writes (GivesTold (g.S.Shelf.files c.args.shelf.now) (λ files. LoadedGives (loaded files (asked c.args.command))))
-    c.in-Ok.report.status c.in-Ok.report.bytes.items c.args.sink.now c.emit.new.sink c.in-Ok.ensures.reported
-    (λ files told. c.in-Ok.ensures.gives _ (c.gather-gathered.ensures.loads.loads files told))
-    (subst (λ (l : List ℕ). g.K.Sink.written c.emit.new.sink ≡ appended (g.K.Sink.written c.args.sink.now) l) c.deref.ensures.value c.in-Ok-emit.ensures.ok)
-    (subst (λ (l : List ℕ). IsWritten g.K.Sink.writes l c.args.sink.now c.emit.new.sink) c.deref.ensures.value c.in-Ok-emit.ensures.whole)
+returns-in-Ok-emit-clause-writes g c = grind arith
 
 pub returns-in-Ok-clause-writes : goal.returns-in-Ok-clause-writes
 returns-in-Ok-clause-writes g c =
@@ -102,9 +67,7 @@ returns-in-Ok-clause-writes g c =
     }
 
 pub returns-clause-writes : goal.returns-clause-writes
-returns-clause-writes g c =
-    wrote-nothing g.K.Sink.written g.K.Sink.writes (GivesTold (g.S.Shelf.files c.args.shelf.now) (λ files. LoadedGives (loaded files (asked c.args.command))))
-    c.in-Err.status c.args.sink.now c.in-Err.ensures.stops
+returns-clause-writes g c = grind arith
 
 -- what was written is an outcome of the files that the reads gave
 pub returns-in-Ok-emit-clause-answered : goal.returns-in-Ok-emit-clause-answered

@@ -1,5 +1,5 @@
-use Rattle.std.proofs.Common.{◌≡◌, ap, sym, ◌∙◌, arith, subst}
-use Rattle.graph_core.proofs.Common.{Graph, IsPartition, IsWithinLimits}
+use Rattle.std.proofs.Common.{◌≡◌, arith}
+use Rattle.graph_core.proofs.Common.{Graph, IsWithinLimits}
 use Rattle.contraction.specs.Contracted.{ContractedValue, KeepsContraction, contraction}
 use Rattle.contraction.specs.Partition.{KeepsPartition, PartitionValue}
 use Rattle.contraction.proofs.QuotientValues.{contraction-same, few-blocks, length-ends, pairs-limits, pairs-once}
@@ -13,20 +13,13 @@ graph_with-requires c = pairs-limits c.args.g.now c.args.p.now.blocks c.len.resu
     (few-blocks c.args.p.now c.len.result c.keeps_partition.ensures c.len.ensures) c.keeps_limits.ensures.edges
 
 pub remember-requires-clause-few : goal.remember-requires-clause-few
-remember-requires-clause-few c =
-    let l = length-ends c.args.g.now c.args.p.now.blocks c.len.result c.args.ends.now c.len.ensures c.requires.ends in
-    let f = c.keeps_limits.ensures.edges in omega arith
+remember-requires-clause-few c = grind (arith, length-ends c.args.g.now c.args.p.now.blocks c.len.result c.args.ends.now c.len.ensures c.requires.ends)
 
 pub remember-requires-clause-once : goal.remember-requires-clause-once
 remember-requires-clause-once c = pairs-once c.args.g.now c.args.p.now.blocks c.len.result c.args.ends.now c.len.ensures c.requires.ends c.args.pairs.now c.requires.pairs
 
 keeps-made : (g : Graph) (p : PartitionValue) (q : ContractedValue) → IsWithinLimits g → KeepsPartition p → p.order ≡ g.order → q.blocks ≡ p.blocks → q ≡ contraction g p.blocks → KeepsContraction q
-keeps-made g p q limits keeps order blocks is = record {
-  base = g;
-  limits = limits;
-  partition = subst (IsPartition g.order) (sym blocks) (subst (λ n. IsPartition n p.blocks) order keeps.partition);
-  is = is ∙ ap (contraction g) (sym blocks);
-}
+keeps-made g p q limits keeps order blocks is = grind arith
 
 pub returns : goal.returns
 returns c = contraction-same c.args.g.now c.args.p.now.blocks c.len.result c.args.ends.now c.len.ensures c.requires.ends c.args.pairs.now c.requires.pairs _

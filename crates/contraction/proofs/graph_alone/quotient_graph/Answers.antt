@@ -1,6 +1,5 @@
-use Rattle.std.proofs.Common.{◌≡◌, ◌∙◌, List, ap, arith, map}
-use Rattle.counting.proofs.Common.{IfOk-weaker}
-use Rattle.graph_core.proofs.Common.{Graph, graph_of, pair_of, quotient}
+use Rattle.std.proofs.Common.{◌∙◌, List, ap, arith, map}
+use Rattle.graph_core.proofs.Common.{pair_of}
 use Rattle.graph_core.specs.declared.ends.Ends.{Ends}
 use Rattle.contraction.proofs.QuotientValues.{few-blocks, pairs-limits, pairs-quotient}
 use Rattle.contraction.proofs.graph_alone.quotient_graph.Goals as goal
@@ -15,7 +14,4 @@ graph_with-requires c =
     (few-blocks c.args.p.now c.len.result c.keeps_partition.ensures c.len.ensures) c.keeps_limits.ensures.edges
 
 pub returns : goal.returns
-returns c =
-    let read = ap (λ (pairs : List Ends). map pair_of pairs) c.deref.ensures.value in
-    IfOk-weaker c.graph_with.result (λ (q : Graph). q ≡ graph_of c.len.result c.deref.result.now) (λ (q : Graph). q ≡ quotient c.args.g.now c.args.p.now.blocks)
-    (λ q is. is ∙ pairs-quotient c.args.g.now c.args.p.now.blocks c.len.result c.in_ok-pairs.field-0-0.items c.len.ensures c.in_ok-pairs.ensures.ends c.deref.result.now (read ∙ c.in_ok-pairs.ensures.pairs)) c.graph_with.ensures
+returns c = grind (arith, pairs-quotient c.args.g.now c.args.p.now.blocks c.len.result c.in_ok-pairs.field-0-0.items c.len.ensures c.in_ok-pairs.ensures.ends c.deref.result.now)

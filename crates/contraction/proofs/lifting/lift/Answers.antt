@@ -1,5 +1,5 @@
-use Rattle.std.proofs.Common.{◌≡◌, ℕ, Bool, false, ◌||◌, ◌==◌, List, ap, ap₂, ◌∙◌, subst, sym, All}
-use Rattle.counting.proofs.Common.{list_any, IfOk-weaker, Within, mem, rising_list}
+use Rattle.std.proofs.Common.{◌≡◌, ℕ, Bool, false, ◌||◌, ◌==◌, List, ap, ◌∙◌, subst, sym, All, arith}
+use Rattle.counting.proofs.Common.{list_any, IfOk-weaker, Within, mem}
 use Rattle.graph_core.proofs.Common.{size, IsPerfectAt, lifted}
 use Rattle.match_search.proofs.Marks.{no-marks}
 use Rattle.match_core.specs.Common.{edges_of}
@@ -16,9 +16,7 @@ returns-clause-edges c g p is =
     let all : All (λ (row : MatchRow). Within (size c.args.q.now.graph) row.edge) rows = λ k d h. (c.requires.rows k d h).edge in
     let none : (e : ℕ) → marks c.in_ok-mark.mark.items e ≡ false = λ e. ap (λ (row : List Bool). marks row e) (c.in_ok-mark.ensures.items_if_clones_equal (λ y q. q)) ∙ no-marks _ e in
     let each : (e : ℕ) → marks c.mark_least.new.mark.items e ≡ list_any (λ (row : MatchRow). least_at c.args.q.now row.edge == e) rows = λ e. c.mark_least.ensures.each e ∙ ap (λ b. b || list_any (λ (row : MatchRow). least_at c.args.q.now row.edge == e) rows) (none e) in
-    IfOk-weaker c.marked_numbers.result (λ (edges : List ℕ). edges ≡ rising_list c.base_size-size.result (marks c.deref.result.now)) (λ (edges : List ℕ). edges ≡ lifted g p (mem (edges_of c.args.m.now)))
-    (λ edges q. q ∙ ap₂ (λ (n : ℕ) (row : List Bool). rising_list n (marks row)) c.base_size-size.ensures.value c.deref.ensures.value ∙ marked-lifted g p c.args.q.now rows (marks c.mark_least.new.mark.items) is all each)
-    c.marked_numbers.ensures
+    grind (arith, marked-lifted g p c.args.q.now rows (marks c.mark_least.new.mark.items) is all each)
 
 pub returns-clause-perfect : goal.returns-clause-perfect
 returns-clause-perfect c g p graph is perfect =

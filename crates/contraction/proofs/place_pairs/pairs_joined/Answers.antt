@@ -1,11 +1,10 @@
-use Rattle.std.proofs.Common.{ap, ◌∙◌, arith, Result, Ok, Err, IfOk, OnOk, List, ℕ, length}
+use Rattle.std.proofs.Common.{ap, ◌∙◌, arith, Result, IfOk, OnOk, List, ℕ, length}
 use Rattle.counting.proofs.Common.{item, mem}
 use Rattle.contraction.proofs.JoinedPairs.{rows-joined}
 use Rattle.contraction.proofs.place_pairs.pairs_joined.Goals as goal
 
 both : {T E : Type 0} (r : Result T E) {P Q : T → Type 0} {R : Type 0} → IfOk r P → OnOk r R → ((x : T) → P x → R → Q x) → IfOk r Q
-both (Ok x) p r f = f x p r
-both (Err e) p r f = tt
+both h p r f = grind arith
 
 pub returns : goal.returns
 returns c =

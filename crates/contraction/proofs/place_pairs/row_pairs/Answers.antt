@@ -1,17 +1,11 @@
-use Rattle.std.proofs.Common.{◌≡◌, ◌+◌, ◌-◌, ◌++◌, ◌∷◌, [], ℕ, List, ap, ap₂, sym, ◌∙◌, map, flat_map, arith, suc, get_or, inl, inr, subst, append-nil}
+use Rattle.std.proofs.Common.{◌≡◌, ◌+◌, ◌-◌, ◌++◌, [], ℕ, List, ap, sym, ◌∙◌, map, flat_map, arith, get_or, inl, inr, subst, append-nil}
 use Rattle.counting.proofs.Common.{cases_eq, get_or_read, IsRisingIn, item, pair_with, rising_list, everything}
 use Rattle.std.proofs.lemmas.Grind.{flat_map-append}
 use Rattle.contraction.proofs.place_pairs.row_pairs.Goals as goal
 
 more : (rows : List (List ℕ)) (row : List ℕ) (i : ℕ) (before after : List (ℕ × ℕ)) → item rows (i + 1) ≡ row → before ≡ flat_map (λ a. map (pair_with a) (item rows a)) (rising_list i everything) → after ≡ before ++ map (pair_with (i + 1)) row →
     after ≡ flat_map (λ a. map (pair_with a) (item rows a)) (rising_list (i + 1) everything)
-more rows row i before after read old new =
-    let e : suc i ≡ i + 1 = omega arith in
-    new ∙ ap₂ (λ xs r. xs ++ map (pair_with (i + 1)) r) old (sym read)
-    ∙ ap (λ zs. flat_map (λ a. map (pair_with a) (item rows a)) (rising_list i everything) ++ zs) (sym (append-nil (map (pair_with (i + 1)) (item rows (i + 1)))))
-    ∙ ap (λ k. flat_map (λ a. map (pair_with a) (item rows a)) (rising_list i everything) ++ flat_map (λ a. map (pair_with a) (item rows a)) (k ∷ [])) (sym e)
-    ∙ sym (flat_map-append (λ a. map (pair_with a) (item rows a)) (rising_list i everything) (suc i ∷ []))
-    ∙ ap (λ k. flat_map (λ a. map (pair_with a) (item rows a)) (rising_list k everything)) e
+more rows row i before after read old new = grind (arith, append-nil (map (pair_with (i + 1)) (item rows (i + 1))), flat_map-append)
 
 pub loop-i-preserved : goal.loop-i-preserved
 loop-i-preserved c =

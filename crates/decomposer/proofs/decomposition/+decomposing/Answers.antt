@@ -1,6 +1,5 @@
 use Rattle.std.proofs.Common.{◌+◌, ◌≤◌, ap, length, arith, rules}
-use Rattle.counting.proofs.Common.{IfOk-weaker, count_complement, mem}
-use Rattle.graph_core.proofs.Common.{blocks_in}
+use Rattle.counting.proofs.Common.{IfOk-weaker}
 use Rattle.tree_core.proofs.Common.{cut_count, shape_of, blocks-below}
 use Rattle.decomposer.proofs.Picking.{cut-decomposes}
 use Rattle.decomposer.proofs.decomposition.+decomposing.Goals as goal

@@ -1,5 +1,4 @@
-use Rattle.std.proofs.Common.{le-leb, leb-true, nat_le}
-use Rattle.counting.proofs.Common.{and_from, and_parts, count, complement}
+use Rattle.std.proofs.Common.{arith}
 use Rattle.graph_core.proofs.Common.{is_allowed_found, is_allowed_says, is_tight_found, is_tight_says}
 use Rattle.definition_laws.proofs.matchings.tight_law.Goals as goal
 
@@ -10,7 +9,4 @@ pub returns-clause-tight : goal.returns-clause-tight
 returns-clause-tight c g x = (is_tight_says g x, is_tight_found g x)
 
 pub returns-clause-nontrivial : goal.returns-clause-nontrivial
-returns-clause-nontrivial c n x = (
-  λ h. let b = and_parts (nat_le 3 (count n x)) (nat_le 3 (count n (complement x))) h in record { inside = leb-true 3 (count n x) b.0; outside = leb-true 3 (count n (complement x)) b.1 },
-  λ t. and_from (nat_le 3 (count n x)) (nat_le 3 (count n (complement x))) (le-leb 3 (count n x) t.inside) (le-leb 3 (count n (complement x)) t.outside),
-)
+returns-clause-nontrivial c n x = grind arith

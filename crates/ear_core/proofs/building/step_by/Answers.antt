@@ -1,8 +1,7 @@
-use Rattle.std.proofs.Common.{ap, subst, sym, map, List, IfOk, arith, rules}
+use Rattle.std.proofs.Common.{ap, subst, sym, map, List, IfOk, arith}
 use Rattle.counting.proofs.Common.{IfOk-weaker, none}
-use Rattle.graph_core.proofs.Common.{size}
 use Rattle.match_search.specs.Common.{marks}
-use Rattle.ear_core.specs.Common.{AreCandidates, AreMatedEars, IsChosen, KeepsMates, row_edge, FitsStep, IsNeeded, IsSingle, IsStep, next_stage, is_met, ear_of, step_of}
+use Rattle.ear_core.specs.Common.{AreCandidates, AreMatedEars, IsChosen, KeepsMates, row_edge, IsNeeded, IsSingle, IsStep, next_stage, is_met, ear_of, step_of}
 use Rattle.ear_core.specs.declared.ears.Ear.{Ear}
 use Rattle.ear_core.proofs.LoneLeads.{lone-single}
 use Rattle.ear_core.proofs.Stepping.{both-ok, round-candidates, round-ears, step-fits, step-keeps}

@@ -1,4 +1,4 @@
-use Rattle.std.proofs.Common.{rules, ◌≡◌, ◌<◌, ap, map, length, true, ℕ, slice_set, arith}
+use Rattle.std.proofs.Common.{◌≡◌, ap, map, true, ℕ, slice_set, arith}
 use Rattle.counting.proofs.Common.{singleton}
 use Rattle.match_search.specs.Common.{marks}
 use Rattle.ear_core.specs.Common.{step_of, ears_of}

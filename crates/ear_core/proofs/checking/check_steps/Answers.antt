@@ -1,8 +1,8 @@
-use Rattle.std.proofs.Common.{rules, ◌≡◌, ◌+◌, ◌∙◌, ◌∷◌, List, ap, arith, inl, refl, subst, sym, map, Some, None}
-use Rattle.counting.proofs.Common.{AllByRecursion, count_le}
+use Rattle.std.proofs.Common.{rules, ◌≡◌, ◌∷◌, ap, arith, subst, map, None}
+use Rattle.counting.proofs.Common.{count_le}
 use Rattle.graph_core.proofs.Common.{size}
 use Rattle.match_search.specs.Common.{marks}
-use Rattle.ear_core.specs.Common.{FitsStep, PlainStep, IsJudged, IsTaken, step_of, why_of}
+use Rattle.ear_core.specs.Common.{IsTaken, step_of}
 use Rattle.ear_core.proofs.FirstStage.{stage-counts}
 use Rattle.ear_core.proofs.Judging.{taken-stage, taken-adds, judged-behind}
 use Rattle.ear_core.proofs.checking.check_steps.Goals as goal

@@ -1,6 +1,6 @@
 use Rattle.std.proofs.Common.{rules, ap, map, arith}
-use Rattle.ear_core.specs.Common.{ends_of_ear, FindsBeside, FindsTwo, NoTwoServe, NoneServesBeside, PlainEar, two, ear_of, step_of}
-use Rattle.ear_core.proofs.Searching.{none-carried, no-two-later, some-carried, two-here, two-later, at-none, at-some}
+use Rattle.ear_core.specs.Common.{ends_of_ear, FindsBeside, NoTwoServe, NoneServesBeside, PlainEar, two, ear_of}
+use Rattle.ear_core.proofs.Searching.{none-carried, no-two-later, two-here, at-none, at-some}
 use Rattle.ear_core.proofs.choosing.+double_step.Goals as goal
 
 pub returns-in-Some-2-clause-some : goal.returns-in-Some-2-clause-some

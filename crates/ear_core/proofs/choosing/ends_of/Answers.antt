@@ -1,7 +1,6 @@
-use Rattle.std.proofs.Common.{◌∙◌, sym, ap, arith, subst, All, rules}
+use Rattle.std.proofs.Common.{arith, subst, All}
 use Rattle.counting.proofs.Common.{Within}
 use Rattle.graph_core.proofs.Common.{size}
-use Rattle.ear_core.specs.Common.{last_vertex}
 use Rattle.ear_core.proofs.Mates.{other_end-within}
 use Rattle.ear_core.proofs.Walking.{all-behind}
 use Rattle.ear_core.proofs.choosing.ends_of.Goals as goal

@@ -2,7 +2,7 @@ use Rattle.std.proofs.Common.{rules, ◌≡◌, ◌∙◌, sym, ap, arith}
 use Rattle.counting.proofs.Common.{is_odd}
 use Rattle.match_search.specs.Common.{marks}
 use Rattle.ear_core.specs.Common.{has_odd_length, has_good_ends, has_free_inner, has_new_edges}
-use Rattle.ear_core.proofs.FirstFaults.{fault-length, fault-ends, fault-inner, fault-edge, fault-none, ends-same, free-same}
+use Rattle.ear_core.proofs.FirstFaults.{fault-inner, fault-edge, fault-none, ends-same, free-same}
 use Rattle.ear_core.proofs.faults.tested.Goals as goal
 use Rattle.ear_core.proofs.faults.tested.Goals.{After-is_odd, After-are_good_ends, After-is_free, After-are_new}
 

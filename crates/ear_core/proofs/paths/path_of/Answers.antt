@@ -1,7 +1,7 @@
-use Rattle.std.proofs.Common.{rules, ◌≡◌, ◌||◌, ◌∙◌, sym, ap, ap₂, subst, ℕ, All, List, false, IfNone, arith}
+use Rattle.std.proofs.Common.{rules, ◌≡◌, ◌∙◌, sym, subst, All, false, IfNone, arith}
 use Rattle.counting.proofs.Common.{Within, mem}
 use Rattle.graph_core.proofs.Common.{size}
-use Rattle.ear_core.specs.Common.{last_vertex, is_path, inner_vertices}
+use Rattle.ear_core.specs.Common.{is_path}
 use Rattle.ear_core.proofs.Walking.{goes_on, path-goes, not_joined, passed_before, first_again, walk_ends, walk_on, nothing_left, all-behind}
 use Rattle.ear_core.proofs.paths.path_of.Goals as goal
 

@@ -1,4 +1,4 @@
-use Rattle.std.proofs.Common.{rules, arith, ◌≡◌, true}
+use Rattle.std.proofs.Common.{arith, ◌≡◌, true}
 use Rattle.counting.proofs.Common.{Within}
 use Rattle.graph_core.proofs.Common.{size}
 use Rattle.ear_core.specs.Common.{with_edges, asked_too}

@@ -1,5 +1,5 @@
 use Rattle.std.proofs.Common.{rules, arith}
-use Rattle.ear_core.proofs.Settling.{settled-known, settled-allowed, settled-refused}
+use Rattle.ear_core.proofs.Settling.{settled-known, settled-allowed}
 use Rattle.ear_core.proofs.stages.settle.Goals as goal
 
 pub returns-then-is_up_to : goal.returns-then-is_up_to

@@ -1,6 +1,6 @@
-use Rattle.std.proofs.Common.{rules, ◌≡◌, ◌∙◌, ap, [], Option, Some, None, arith}
+use Rattle.std.proofs.Common.{rules, ◌≡◌, [], Option, Some, None, arith}
 use Rattle.match_search.specs.Common.{marks}
-use Rattle.ear_core.specs.Common.{PlainWhy, ear_fault, step_fault, ear_of, plain_step, step_of, why_of}
+use Rattle.ear_core.specs.Common.{PlainWhy, ear_fault, step_fault, ear_of, step_of, why_of}
 use Rattle.ear_core.proofs.Marking.{pair-fault}
 use Rattle.ear_core.proofs.steps.fault_of.Goals as goal
 use Rattle.ear_core.proofs.steps.fault_of.Goals.{After-as_slice-used}

@@ -1,4 +1,4 @@
-use Rattle.std.proofs.Common.{◌∙◌, ◌<◌, length, subst, sym, arith, rules}
+use Rattle.std.proofs.Common.{◌<◌, length, rules}
 use Rattle.counting.proofs.Common.{mem}
 use Rattle.match_search.specs.Common.{marks}
 use Rattle.allowed_edges.proofs.Marking.{length-marked}

@@ -1,8 +1,7 @@
-use Rattle.std.proofs.Common.{rules, ◌≡◌, ◌∙◌, ap, subst, refl, sym, List, Bool, ℕ, All, IfSome, Option, Some, None, inl, inr, arith}
-use Rattle.counting.proofs.Common.{Within, none}
+use Rattle.std.proofs.Common.{rules, ◌≡◌, ◌∙◌, ap, List, Bool, ℕ, None, arith}
 use Rattle.graph_core.proofs.Common.{size}
 use Rattle.match_search.specs.Common.{marks}
-use Rattle.ear_core.specs.Common.{next_stage, step_fault, Settled, step_of, why_of}
+use Rattle.ear_core.specs.Common.{next_stage, step_fault, step_of}
 use Rattle.ear_core.proofs.Taking.{first_fits, second_fits, first_marked, second_marked, step-taken, step-refused}
 use Rattle.ear_core.proofs.steps.take_step.Goals as goal
 use Rattle.ear_core.proofs.steps.take_step.Goals.{After-deref-2}

@@ -1,6 +1,4 @@
-use Rattle.std.proofs.Common.{sym, subst, arith, rules}
-use Rattle.counting.proofs.Common.{Within}
-use Rattle.graph_core.proofs.Common.{size}
+use Rattle.std.proofs.Common.{arith}
 use Rattle.ear_core.proofs.Mates.{rows-mates, other_end-within}
 use Rattle.ear_core.proofs.tracing.mate_of.Goals as goal
 

@@ -1,6 +1,6 @@
 -- Where the search closes, the nodes that it has reached are the least minimum cut.
 use Rattle.std.proofs.Common.{◌≡◌, ◌≤◌, ◌∙◌, List, ℕ, ap, subst, arith}
-use Rattle.flow_core.specs.Common.{IsFlow, IsLeastCut, IsOutcome, first_node, last_node}
+use Rattle.flow_core.specs.Common.{IsLeastCut, IsOutcome, first_node, last_node}
 use Rattle.flow_core.proofs.Duality.{flow-le-total, reached_least}
 use Rattle.flow_core.proofs.cut.grow_above.Goals as goal
 
@@ -11,10 +11,7 @@ growing-smaller c =
     let path = subst (IsOutcome net c.growing.flow.on c.args.source c.args.sink) c.in-Path.is c.in_ok-visits.ensures in
     let first : first_node c.deref.result.now ≡ c.args.source = ap first_node c.deref.ensures.value ∙ path.1 in
     let last : last_node c.deref.result.now ≡ c.args.sink = ap last_node c.deref.ensures.value ∙ path.2 in
-    let flow : IsFlow net c.args.source c.args.sink new.on new.value =
-    subst (λ source. IsFlow net source c.args.sink new.on new.value) first (subst (λ sink. IsFlow net (first_node c.deref.result.now) sink new.on new.value) last c.in_ok-grow-in-Path.ensures.flow) in
-    let most = flow-le-total net c.args.source c.args.sink new.on new.value c.requires.bounded.arcs c.requires.source flow c.requires.differ in
-    let more = c.in_ok-grow-in-Path.ensures.more in omega arith
+    grind (arith, flow-le-total net c.args.source c.args.sink new.on new.value c.requires.bounded.arcs c.requires.source)
 
 pub returns-in-Closed-clause-closed : goal.returns-in-Closed-clause-closed
 returns-in-Closed-clause-closed c = λ set q.

@@ -14,13 +14,7 @@ scanning-init c = record {
 }
 
 pub scanning-smaller : goal.scanning-smaller
-scanning-smaller c =
-    let few = visits-le-nodes c.args.net.now c.scanning.reached.visits.items c.scanning.reached.seen c.scanning.invariant.search.set in
-    let long = c.scanning.reached.visits.ok.0 in
-    let test = c.scanning-test.true in omega arith
+scanning-smaller c = grind (arith, visits-le-nodes c.args.net.now c.scanning.reached.visits.items c.scanning.reached.seen c.scanning.invariant.search.set)
 
 pub returns : goal.returns
-returns c =
-    let long = c.scanning.reached.visits.ok.0 in
-    let test = c.scanning-test.false in
-    search-ends c.args.net.now c.args.amounts.now c.args.source c.args.sink c.scanning.head c.scanning.reached.visits.items c.scanning.reached.seen c.scanning.invariant.search (omega arith) c.scanning.invariant.root c.rises.ensures
+returns c = grind (arith, search-ends c.args.net.now c.args.amounts.now c.args.source c.args.sink c.scanning.head c.scanning.reached.visits.items c.scanning.reached.seen c.scanning.invariant.search)

@@ -1,4 +1,4 @@
-use Rattle.std.proofs.Common.{◌≡◌, sym, ap, ◌∙◌, nat_le, ◌&&◌, ◌-◌, Bool, false}
+use Rattle.std.proofs.Common.{◌≡◌, sym, ap, ◌∙◌, nat_le, ◌&&◌, Bool, false, arith}
 use Rattle.counting.proofs.Common.{le-leb, lt-leb}
 use Rattle.graph_core.proofs.CutLists.{length-in, nontrivial-length}
 use Rattle.graph_core.proofs.cuts.is_nontrivial.Goals as goal
@@ -7,14 +7,10 @@ pub overflow_sub-result : goal.overflow_sub-result
 overflow_sub-result c = length-in c.args.n c.len-inside.result c.args.shore c.requires.set c.len-inside.ensures
 
 pub returns-then-inside-ge3 : goal.returns-then-inside-ge3
-returns-then-inside-ge3 c =
-    ap (λ b. b && nat_le 3 (c.args.n - c.len-inside.result)) (sym (le-leb 3 c.len-inside.result c.if-inside-ge3.true))
-    ∙ sym (nontrivial-length c.args.n c.len-inside.result c.args.shore c.requires.set c.len-inside.ensures)
+returns-then-inside-ge3 c = grind (arith, nat_le, le-leb, nontrivial-length)
 
 narrow : (a b : Bool) → a ≡ false → a ≡ (a && b)
 narrow a b h = h ∙ ap (λ x. x && b) (sym h)
 
 pub returns-else-inside-ge3 : goal.returns-else-inside-ge3
-returns-else-inside-ge3 c =
-    narrow (nat_le 3 c.len-inside.result) (nat_le 3 (c.args.n - c.len-inside.result)) (lt-leb 3 c.len-inside.result c.if-inside-ge3.false)
-    ∙ sym (nontrivial-length c.args.n c.len-inside.result c.args.shore c.requires.set c.len-inside.ensures)
+returns-else-inside-ge3 c = grind (arith, narrow, nat_le, lt-leb, nontrivial-length)

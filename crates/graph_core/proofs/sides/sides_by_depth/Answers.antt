@@ -1,4 +1,4 @@
-use Rattle.std.proofs.Common.{◌≡◌, ◌∷◌, ◌++◌, sym, length, subst, not, List, refl, All, Contains}
+use Rattle.std.proofs.Common.{◌≡◌, ◌∷◌, ◌++◌, sym, length, subst, not, List, All, Contains, arith}
 use Rattle.counting.proofs.Common.{is_odd, rising_list, none}
 use Rattle.graph_core.specs.Common.{is_least, IsGraph, depth_at, is_even_at, parent_at, IsLeftSide, IsForest, way_down, way_up, graph_of, IsOddClosedWalk}
 use Rattle.graph_core.specs.declared.ends.Ends.{Ends}
@@ -8,9 +8,7 @@ use Rattle.graph_core.proofs.View.{contained_edge, each-edge}
 use Rattle.graph_core.proofs.sides.sides_by_depth.Goals as goal
 
 pub walk_over_root-requires-clause-rooted : goal.walk_over_root-requires-clause-rooted
-walk_over_root-requires-clause-rooted c =
-    let g = graph_of (length c.args.nodes.now) c.args.edges.now in
-    forest_rooted g (is_least g none) c.args.nodes.now c.requires.graph refl c.requires.trees
+walk_over_root-requires-clause-rooted c = grind (arith, forest_rooted)
 
 pub walk_over_root-requires-clause-first : goal.walk_over_root-requires-clause-first
 walk_over_root-requires-clause-first c = (contained_edge (length c.args.nodes.now) c.args.edges.now c.in-Some.edge c.requires.graph c.in-Some.ensures.found.0).0
@@ -39,8 +37,7 @@ returns-in_ok-walk_over_root-in-Some-clause-even c =
     )
 
 pub returns-in_ok-walk_over_root-in-Some-clause-sides : goal.returns-in_ok-walk_over_root-in-Some-clause-sides
-returns-in_ok-walk_over_root-in-Some-clause-sides c =
-    odd_found c.args.edges.now c.args.nodes.now c.requires.graph c.requires.trees c.in-Some.edge c.in_ok-walk_over_root-in-Some.field-0 c.in-Some.ensures.found.0 c.in-Some.ensures.found.1 c.in_ok-walk_over_root-in-Some.ensures
+returns-in_ok-walk_over_root-in-Some-clause-sides c = grind (arith, odd_found)
 
 pub returns-in_ok-even_vertices-in-None-clause-even : goal.returns-in_ok-even_vertices-in-None-clause-even
 returns-in_ok-even_vertices-in-None-clause-even c =

@@ -13,7 +13,4 @@ loop-i-preserved c =
     (c.in_ok-push_edge.ensures ∙ ap (λ pair. string_bytes c.loop-i.text ++ written (edge_words pair ∷ [])) ends)
 
 pub returns : goal.returns
-returns c =
-    let all = c.size-size.ensures.is in
-    let test = c.loop-i-test.false in
-    lines-all edge_words (string_bytes c.args.text.now) c.args.g.now.ends c.loop-i.i (string_bytes c.loop-i.text) (omega arith) c.loop-i.invariant
+returns c = grind (arith, lines-all edge_words (string_bytes c.args.text.now) c.args.g.now.ends c.loop-i.i (string_bytes c.loop-i.text), string_bytes c.args.text.now, string_bytes c.loop-i.text)

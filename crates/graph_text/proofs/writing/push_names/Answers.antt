@@ -12,7 +12,4 @@ loop-k-preserved c =
     (c.in_ok-push_name.ensures ∙ ap (λ name. string_bytes c.loop-k.text ++ written (name_words name ∷ [])) c.get.ensures)
 
 pub returns : goal.returns
-returns c =
-    let all = c.len-count.ensures in
-    let test = c.loop-k-test.false in
-    lines-all name_words (string_bytes c.args.text.now) c.args.names.now c.loop-k.k (string_bytes c.loop-k.text) (omega arith) c.loop-k.invariant
+returns c = grind (arith, lines-all name_words (string_bytes c.args.text.now) c.args.names.now c.loop-k.k (string_bytes c.loop-k.text), string_bytes c.args.text.now, string_bytes c.loop-k.text)

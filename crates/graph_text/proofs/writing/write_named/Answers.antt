@@ -1,4 +1,4 @@
-use Rattle.std.proofs.Common.{subst, sym, ◌∙◌, ap, string_bytes, Vec, ℕ, Global, Some}
+use Rattle.std.proofs.Common.{subst, sym, string_bytes, Some, arith}
 use Rattle.line_text.specs.Common.{Stands}
 use Rattle.graph_text.specs.Common.{either_version, FitsNames}
 use Rattle.line_text.proofs.ExactlyOne.{StandsAlone-stands}
@@ -7,9 +7,7 @@ use Rattle.graph_text.proofs.NamedReadBack.{Stands-named_text}
 use Rattle.graph_text.proofs.writing.write_named.Goals as goal
 
 pub returns-clause-text : goal.returns-clause-text
-returns-clause-text c =
-    ap (λ (v : Vec ℕ Global). v.items) c.into_bytes.ensures.value
-    ∙ named_text-lines c.args.g.now c.args.names.now c.order-order.result c.size-size.result (string_bytes c.in_ok-text.text) (string_bytes c.push_names.new.text) (string_bytes c.push_named_edges.new.text) c.order-order.ensures.is c.size-size.ensures.is c.in_ok-text.ensures.ok c.in_ok-push_names.ensures c.in_ok-push_named_edges.ensures
+returns-clause-text c = grind (arith, named_text-lines, string_bytes)
 
 pub returns-clause-stands : goal.returns-clause-stands
 returns-clause-stands c =

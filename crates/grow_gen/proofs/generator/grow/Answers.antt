@@ -1,22 +1,17 @@
 use Rattle.std.proofs.Common.{◌≡◌, ℕ, suc, ◌+◌, ◌-◌, ◌≤◌, ◌<◌, ap, ap₂, sym, ◌∙◌, arith, subst}
 use Rattle.counting.proofs.Common.{IfOk-weaker}
-use Rattle.rand_pcg.specs.Lcg.{Lcg, started, increment_of}
-use Rattle.rand_pcg.specs.Pcg.{multiplier_64, pcg32}
-use Rattle.grow_gen.specs.Common.{further_piece, growth_of, Growth, MayTake, first_growth, growth_from, grown, with_piece, IsCubic}
+use Rattle.rand_pcg.specs.Lcg.{Lcg}
+use Rattle.rand_pcg.specs.Pcg.{pcg32}
+use Rattle.grow_gen.specs.Common.{further_piece, growth_of, Growth, growth_from, grown, with_piece, IsCubic}
 use Rattle.graph_core.proofs.Common.{IsSimple}
 use Rattle.grow_gen.proofs.SoundGrowth.{IsSound, sound-first, sound-next, may-take}
 use Rattle.grow_gen.proofs.generator.grow.Goals as goal
 
 pub loop-i-init : goal.loop-i-init
-loop-i-init c = record {
-  sound = subst (IsSound 0) (sym c.in_ok-growing.ensures) sound-first;
-  rest = ap (λ k. growth_from 0 k c.new-words.result (growth_of c.in_ok-growing.growing)) (let q : c.args.pieces - 1 - 0 ≡ c.args.pieces - 1 = omega arith in q)
-      ∙ ap₂ (growth_from 0 (c.args.pieces - 1)) c.new-words.ensures c.in_ok-growing.ensures;
-}
+loop-i-init c = grind (arith, sound-first)
 
 pub with_piece-requires : goal.with_piece-requires
-with_piece-requires c = subst (MayTake (growth_of c.loop-i.growing)) (sym c.further.ensures)
-    (may-take c.loop-i.i (growth_of c.loop-i.growing) c.loop-i.invariant.sound 0 (let a = c.loop-i-test.true in let b = c.requires in omega arith))
+with_piece-requires c = grind (arith, may-take c.loop-i.i (growth_of c.loop-i.growing) c.loop-i.invariant.sound 0)
 
 -- one piece of those that are left
 growth_from-more : (i n : ℕ) (words : Lcg) (s : Growth) → i < n → growth_from i (n - i) words s ≡ growth_from (i + 1) (n - (i + 1)) (pcg32 (pcg32 words).1).1 (with_piece s (further_piece i) (pcg32 words).0 (pcg32 (pcg32 words).1).0)
@@ -48,10 +43,7 @@ growth_from-none i n words s l = ap (λ k. growth_from i k words s) (let q : n -
 
 pub returns-clause-graph : goal.returns-clause-graph
 unfolding grown
-returns-clause-graph c =
-    let whole : growth_of c.loop-i.growing ≡ growth_from 0 (c.args.pieces - 1) (started 64 multiplier_64 c.args.seed (increment_of 64 1)) first_growth =
-    sym (growth_from-none c.loop-i.i (c.args.pieces - 1) c.loop-i.words (growth_of c.loop-i.growing) c.loop-i-test.false) ∙ c.loop-i.invariant.rest in
-    IfOk-weaker c.to_graph.result _ (λ g. g ≡ grown c.args.seed c.args.pieces) (λ g e. e ∙ ap (λ (s : Growth). s.graph) whole) c.to_graph.ensures
+returns-clause-graph c = grind (arith, growth_from-none c.loop-i.i (c.args.pieces - 1) c.loop-i.words (growth_of c.loop-i.growing) c.loop-i-test.false)
 
 pub returns-clause-cubic : goal.returns-clause-cubic
 returns-clause-cubic c = IfOk-weaker c.to_graph.result _ IsCubic (λ g e. subst IsCubic (sym e) c.loop-i.invariant.sound.cubic) c.to_graph.ensures

@@ -1,14 +1,11 @@
-use Rattle.std.proofs.Common.{◌≡◌, ◌==◌, ◌&&◌, ◌||◌, not, map, take, ap, ap₂, ◌∙◌, arith}
+use Rattle.std.proofs.Common.{◌≡◌, ◌==◌, ◌&&◌, ◌||◌, not, map, take, ap, ◌∙◌, arith}
 use Rattle.counting.proofs.Common.{take_all, mem}
 use Rattle.grow_gen.specs.Common.{side, new_number}
 use Rattle.grow_gen.proofs.Skeleton.{next_class-rising, mem-image_more}
 use Rattle.grow_gen.proofs.growing.next_class.Goals as goal
 
 pub loop-x-preserved : goal.loop-x-preserved
-loop-x-preserved c v =
-    c.with-next.ensures v
-    ∙ ap₂ (λ a b. a || (b == v)) (c.loop-x.invariant v) c.new_number.ensures
-    ∙ mem-image_more (new_number c.args.n c.args.w) c.side-x-items.result.now c.loop-x.x-index v (mem c.args.class v && not (c.args.w == v)) c.loop-x-test.true
+loop-x-preserved c v = grind (arith, mem-image_more (new_number c.args.n c.args.w) c.side-x-items.result.now c.loop-x.x-index v (mem c.args.class v && not (c.args.w == v)) c.loop-x-test.true)
 
 pub returns : goal.returns
 returns c =

@@ -1,4 +1,4 @@
-use Rattle.std.proofs.Common.{◌+◌, ◌<◌, sym, ap₂, ◌∙◌, arith, inl, inr, length, drop}
+use Rattle.std.proofs.Common.{◌+◌, ◌<◌, ap₂, ◌∙◌, arith, inl, length, drop}
 use Rattle.std.proofs.lemmas.List.{set-get_or, drop_all}
 use Rattle.graph_core.specs.declared.ends.Ends.{Ends}
 use Rattle.grow_gen.proofs.RehangSteps.{Halfway, kept_step, rehung_step}
@@ -18,19 +18,9 @@ loop-edge-preserved c =
     let before = c.loop-edge.invariant.so_far in
     let room : k < length xs = omega (arith, c.loop-edge-test.true, c.loop-edge.auto.edge-items) in
     elim c.if-next-targets.branch [
-      | then-next-targets+then-is_at w ↦ let next = w.if-next-targets.true in record {
-        in_range = omega (arith, w.next-is, next);
-        so_far = ap₂ (λ n ys. Halfway c.args.w (drop n ts) (k + 1) ys) w.next-is w.edge-items-is
-            ∙ rehung_step c.args.w ts c.loop-edge.next k xs nothing w.with_end.result room next (sym w.is_at.ensures ∙ w.if-is_at.true) w.with_end.ensures
-            ∙ before;
-      }
+      | then-next-targets+then-is_at w ↦ grind (arith, rehung_step c.args.w ts c.loop-edge.next k xs nothing w.with_end.result room)
       | else-next-targets w ↦ elim w.else-next-targets.branch [
-        | else-next-targets-via-then-next-targets+else-is_at w' ↦ record {
-          in_range = omega (arith, w.next-is, c.loop-edge.invariant.in_range);
-          so_far = ap₂ (λ n ys. Halfway c.args.w (drop n ts) (k + 1) ys) w.next-is (w.edge-items-is ∙ w'.edge-items-is ∙ set-get_or xs k nothing)
-              ∙ kept_step c.args.w (drop c.loop-edge.next ts) k xs nothing room (inr (sym w'.is_at.ensures ∙ w'.if-is_at.false))
-              ∙ before;
-        }
+        | else-next-targets-via-then-next-targets+else-is_at w' ↦ grind (arith, set-get_or, kept_step)
         | else-next-targets-via-else-next-targets w' ↦ record {
           in_range = omega (arith, w.next-is, c.loop-edge.invariant.in_range);
           so_far = ap₂ (λ n ys. Halfway c.args.w (drop n ts) (k + 1) ys) w.next-is (w.edge-items-is ∙ w'.edge-items-is ∙ set-get_or xs k nothing)

@@ -18,12 +18,7 @@ step n whole digit amount rest others first is digits value room =
     let low : 48 ≤ digit = split.0 in
     let high : digit ≤ 57 = split.1 in
     let more : (n * 10 + amount + 1) * 10 ^ length others ≤ 10 ^ 9 = room-digit n amount (length others) (length rest) (omega arith) (ap length first ∙ omega arith) room in
-    record {
-      few = small_with_room (n * 10 + amount) (length others) more;
-      digits = split.2;
-      value = ap (λ (k : ℕ). digits_value_after 10 (n * 10 + k) others) is ∙ sym (digits_value_after-cons n digit others low high) ∙ ap (digits_value_after 10 n) (sym first) ∙ value;
-      room = more;
-    }
+    grind (arith, small_with_room (n * 10 + amount) (length others) more, digits_value_after-cons n digit others low high)
 
 pub overflow_mul-value : goal.overflow_mul-value
 overflow_mul-value c =

@@ -1,4 +1,4 @@
-use Rattle.std.proofs.Common.{◌≡◌, [], inl, inr, refl, take, rules, arith}
+use Rattle.std.proofs.Common.{◌≡◌, [], inr, refl, take, rules, arith}
 use Rattle.std.specs.declared.option.Option.TheVariants.{Some, None}
 use Rattle.outside.specs.Common.{prepended, IsEnd}
 use Rattle.list_reader.specs.declared.ending.Ending.TheVariants.{ReadFault, Memory}
@@ -7,33 +7,18 @@ use Rattle.list_reader.proofs.Streaming.{stream_stops, stream_end, stream_begun}
 use Rattle.list_reader.proofs.reading.tell_through.Goals as goal
 
 pub reading-init : goal.reading-init
-reading-init g c = record {
-  so_far =
-      so_far_none (g.T.LineTeller.tells c.args.teller.now) g.S.Source.left g.S.Source.reads g.K.Sink.written g.K.Sink.writes
-      c.first_place.result c.new.result.items c.args.source.now c.args.sink.now c.first_place.ensures c.new.ensures.items;
-  source_faults = omega arith;
-  sink_faults = omega arith;
-}
+reading-init g c = grind (arith, so_far_none)
 
 pub reading-preserved : goal.reading-preserved
-reading-preserved g c = record {
-  so_far =
-      so_far_piece c.reading.invariant.so_far c.take_piece.new.listing.place (take c.in-Ok.count c.read.new.piece)
-      c.take_piece.new.listing.held.items c.read.new.self c.take_piece.new.sink c.in-Ok.ensures.reads c.in-Ok.ensures.taken
-      c.in-Ok-take_piece.ensures.told c.in-Ok-take_piece.ensures.left c.in-Ok-take_piece.ensures.short;
-  source_faults = let h1 = c.reading.invariant.source_faults in let h2 = c.in-Ok.ensures in omega arith;
-  sink_faults = let h1 = c.reading.invariant.sink_faults in let h2 = c.in-Ok-take_piece.ensures in omega arith;
-}
+reading-preserved g c = grind (arith, so_far_piece)
 
 pub returns-in-Err-clause-tells : goal.returns-in-Err-clause-tells
-returns-in-Err-clause-tells g c =
-    so_far_begun c.reading.invariant.so_far (g.T.LineTeller.bad c.args.teller.now) (g.T.LineTeller.lacks c.args.teller.now) ReadFault (λ lines output told. told)
+returns-in-Err-clause-tells g c = grind (arith, so_far_begun c.reading.invariant.so_far (g.T.LineTeller.bad c.args.teller.now) (g.T.LineTeller.lacks c.args.teller.now) ReadFault)
 
 pub returns-in-Err-clause-streams : goal.returns-in-Err-clause-streams
 returns-in-Err-clause-streams g c =
     let reading : g.S.Source.reads c.reading.source None c.read.new.self = search rules in
-    stream_begun c.reading.invariant.so_far (g.T.LineTeller.bad c.args.teller.now) (g.T.LineTeller.lacks c.args.teller.now)
-    ReadFault c.read.new.self c.reading.sink (inr (inl (record { fault = refl; reading = reading; same_sink = refl })))
+    grind (arith, stream_begun c.reading.invariant.so_far (g.T.LineTeller.bad c.args.teller.now) (g.T.LineTeller.lacks c.args.teller.now) ReadFault c.read.new.self c.reading.sink)
 
 pub returns-in-Err-clause-torn : goal.returns-in-Err-clause-torn
 returns-in-Err-clause-torn g c is = so_far_torn c.reading.invariant.so_far c.read.new.self (search rules)
@@ -64,8 +49,7 @@ returns-in-Err-take_piece-clause-streams g c =
     c.in-Err-take_piece.ensures.stops
 
 pub returns-clause-tells : goal.returns-clause-tells
-returns-clause-tells g c =
-    so_far_begun c.reading.invariant.so_far (g.T.LineTeller.bad c.args.teller.now) (g.T.LineTeller.lacks c.args.teller.now) Memory (λ lines output told. told)
+returns-clause-tells g c = grind (arith, so_far_begun c.reading.invariant.so_far (g.T.LineTeller.bad c.args.teller.now) (g.T.LineTeller.lacks c.args.teller.now) Memory)
 
 pub returns-clause-streams : goal.returns-clause-streams
 returns-clause-streams g c =

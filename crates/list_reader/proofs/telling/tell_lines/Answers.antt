@@ -1,4 +1,4 @@
-use Rattle.std.proofs.Common.{rules}
+use Rattle.std.proofs.Common.{rules, arith}
 use Rattle.list_reader.specs.Common.{IsFirstLine}
 use Rattle.list_reader.proofs.Pieces.{through_none, through_more, through_stopped}
 use Rattle.list_reader.proofs.telling.tell_lines.Goals as goal
@@ -7,11 +7,7 @@ pub telling-init : goal.telling-init
 telling-init g c = through_none (g.T.LineTeller.tells c.args.teller.now) c.args.first c.args.text.now c.args.output.now.items
 
 pub telling-preserved : goal.telling-preserved
-telling-preserved g c =
-    let first : IsFirstLine c.telling.rest.now c.in-Some.line.now c.in-Some.behind.now = search rules in
-    through_more (g.T.LineTeller.tells c.args.teller.now) c.args.first c.telling.place c.in_ok-place.place c.args.text.now
-    c.telling.rest.now c.in-Some.line.now c.in-Some.behind.now c.args.output.now.items c.telling.output.items
-    c.tell_line.new.output.items c.telling.invariant first c.in_ok-place.ensures.next c.in-Ok.ensures.told
+telling-preserved g c = grind (arith, through_more)
 
 pub returns-in-Err-clause-bad : goal.returns-in-Err-clause-bad
 returns-in-Err-clause-bad g c =

@@ -1,7 +1,7 @@
-use Rattle.std.proofs.Common.{◌≡◌, refl, subst, sym}
+use Rattle.std.proofs.Common.{refl, subst, sym}
 use Rattle.list_reader.specs.Common.{Appended}
 use Rattle.list_top.specs.declared.status.ListStatus.{ListStatus}
-use Rattle.list_top.specs.Common.{ListOutcome, Streams, TellsSome, EncodeOutcome, EncodesSome}
+use Rattle.list_top.specs.Common.{ListOutcome, TellsSome, EncodeOutcome, EncodesSome}
 use Rattle.list_top.proofs.Ended.{appended_encoding, appended_outcome, encodes_some, tells_some}
 use Rattle.list_top.proofs.running.run.Goals as goal
 

@@ -1,4 +1,4 @@
-use Rattle.std.proofs.Common.{◌≡◌, Bool, true, false, ◌||◌, ◌==◌, ◌∷◌, [], sym, ap, ◌∙◌, refl, get_or, take, map}
+use Rattle.std.proofs.Common.{◌≡◌, Bool, true, false, ◌||◌, ◌==◌, ◌∷◌, [], sym, ap, ◌∙◌, get_or, take, map, arith}
 use Rattle.counting.proofs.Common.{take_more, map-append, mem-append, mem}
 use Rattle.match_search.specs.Common.{marks}
 use Rattle.match_core.specs.declared.matching.MatchRow.{MatchRow}
@@ -7,10 +7,7 @@ use Rattle.match_core.proofs.MatchingEdges.{edge_of}
 use Rattle.match_core.proofs.matching.mark_rows.Goals as goal
 
 or_more : (a b d : Bool) → ((a || b) || d) ≡ (a || (b || (d || false)))
-or_more true b d = refl
-or_more false true d = refl
-or_more false false true = refl
-or_more false false false = refl
+or_more a b d = grind arith
 
 pub loop-row-preserved : goal.loop-row-preserved
 loop-row-preserved c =

@@ -1,9 +1,8 @@
-use Rattle.std.proofs.Common.{◌≡◌, ap, sym, ◌∙◌, subst, subst₂, arith, IfOk}
-use Rattle.counting.proofs.Common.{fun_ext, mem, Set}
-use Rattle.graph_core.proofs.Common.{Graph, IsMatching}
+use Rattle.std.proofs.Common.{◌≡◌, ap, ◌∙◌, arith}
+use Rattle.counting.proofs.Common.{fun_ext, mem}
 use Rattle.match_core.specs.Common.{edges_of}
-use Rattle.match_search.specs.Common.{IsBest, marks}
-use Rattle.match_search.proofs.WholeGraphs.{ends_rows, limits_row, whole_graph}
+use Rattle.match_search.specs.Common.{marks}
+use Rattle.match_search.proofs.WholeGraphs.{ends_rows, limits_row}
 use Rattle.match_core.proofs.partner_table.enlarged.Goals as goal
 
 pub marks-requires-clause-within : goal.marks-requires-clause-within
@@ -18,10 +17,7 @@ best_from-requires-clause-neighbours c = ends_rows c.args.g.now c.order-n.result
 pub best_from-requires-clause-matching : goal.best_from-requires-clause-matching
 best_from-requires-clause-matching c =
     let marked : marks c.deref.result.now ≡ mem (edges_of c.in_ok-cleared.field-0) = ap marks c.deref.ensures.value ∙ fun_ext c.in_ok-mark.ensures.each in
-    subst₂ (λ (g : Graph) (s : Set). IsMatching g (mem c.args.removed) s) (sym (whole_graph c.args.g.now c.order-n.result c.edges-ends.result.now c.order-n.ensures.is c.edges-ends.ensures.edges)) (sym marked)
-    (c.in_ok-cleared.ensures.matching c.args.g.now c.requires)
+    grind arith
 
 pub returns : goal.returns
-returns c =
-    subst (λ (g : Graph). IfOk c.best_from.result (λ b. IsBest g (mem c.args.removed) b)) (whole_graph c.args.g.now c.order-n.result c.edges-ends.result.now c.order-n.ensures.is c.edges-ends.ensures.edges)
-    c.best_from.ensures
+returns c = grind arith

@@ -4,9 +4,4 @@ use Rattle.match_search.specs.Common.{marks}
 use Rattle.match_core.proofs.partner_table.marked_count.Goals as goal
 
 pub overflow_add-found : goal.overflow_add-found
-overflow_add-found c =
-    let few = count_le (c.loop-k.k - 1) (marks c.args.mark.now) in
-    let found = c.loop-k.invariant in
-    let below = c.loop-k-test.true in
-    let size = c.args.mark in
-    omega arith
+overflow_add-found c = grind (arith, count_le (c.loop-k.k - 1) (marks c.args.mark.now))

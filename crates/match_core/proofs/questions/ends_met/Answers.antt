@@ -1,4 +1,4 @@
-use Rattle.std.proofs.Common.{◌≡◌, ◌-◌, ◌==◌, ◌||◌, Bool, true, false, refl, sym, subst, ap, ◌∙◌, arith, eq-eqb, length, Vec, Global, get_or, take}
+use Rattle.std.proofs.Common.{◌≡◌, ◌-◌, ◌==◌, ◌||◌, true, false, refl, sym, subst, ap, ◌∙◌, arith, eq-eqb, length, get_or}
 use Rattle.counting.proofs.Common.{both_ways, mem-item, fun_ext, bit, Set, none, put, mem}
 use Rattle.graph_core.proofs.Common.{degree, perfect_matching}
 use Rattle.match_search.specs.Common.{marks, end_a, end_b, MeetOnce}
@@ -10,25 +10,13 @@ use Rattle.match_core.proofs.questions.ends_met.Goals as goal
 use Rattle.match_core.proofs.questions.ends_met.Goals.{then-not-is_marked+else-not-is_addable, else-not-is_marked}
 
 pub loop-edge-init : goal.loop-edge-init
-loop-edge-init c = record {
-  long = c.in_ok-mark.ensures.length;
-  edges = c.in_ok-mark.ensures.each;
-  once = λ v w. empty_degree c.args.g.now (marks c.in_ok-mark.mark.items) c.in_ok-mark.ensures.each v ∙ sym (ap (λ s. bit (mem s v)) c.empty-met.ensures);
-}
+loop-edge-init c = grind (arith, empty_degree c.args.g.now (marks c.in_ok-mark.mark.items) c.in_ok-mark.ensures.each)
 
 pub is_marked-requires : goal.is_marked-requires
-is_marked-requires c =
-    let we = c.requires c.loop-edge.edge-index 0 c.loop-edge-test.true in
-    let size = whole_size c.args.g.now c.args.g.now.order c.edges-ends.result.now refl c.edges-ends.ensures.edges in
-    let long = c.loop-edge.invariant.long in
-    let row = ap length c.deref.ensures.value in
-    omega arith
+is_marked-requires c = grind (arith, whole_size c.args.g.now c.args.g.now.order c.edges-ends.result.now refl c.edges-ends.ensures.edges)
 
 pub bounds-ends-edge : goal.bounds-ends-edge
-bounds-ends-edge c =
-    let we = c.requires c.loop-edge.edge-index 0 c.loop-edge-test.true in
-    let size = whole_size c.args.g.now c.args.g.now.order c.edges-ends.result.now refl c.edges-ends.ensures.edges in
-    omega arith
+bounds-ends-edge c = grind (arith, whole_size c.args.g.now c.args.g.now.order c.edges-ends.result.now refl c.edges-ends.ensures.edges)
 
 pub is_addable-requires-clause-a : goal.is_addable-requires-clause-a
 is_addable-requires-clause-a c =
@@ -49,11 +37,7 @@ is_addable-requires-clause-b c =
     omega arith
 
 pub mark_place-requires : goal.mark_place-requires
-mark_place-requires c =
-    let we = c.requires c.loop-edge.edge-index 0 c.loop-edge-test.true in
-    let size = whole_size c.args.g.now c.args.g.now.order c.edges-ends.result.now refl c.edges-ends.ensures.edges in
-    let long = c.loop-edge.invariant.long in
-    omega arith
+mark_place-requires c = grind (arith, whole_size c.args.g.now c.args.g.now.order c.edges-ends.result.now refl c.edges-ends.ensures.edges)
 
 pub with-requires : goal.with-requires
 with-requires c =
@@ -108,15 +92,7 @@ loop-edge-preserved c = elim c.if-not-is_marked.branch [
         edges = λ i. ap (λ (m : Set). m i) now ∙ sym (with_put (marks c.loop-edge.mark.items) e i) ∙ ap (λ b. b || (e == i)) (c.loop-edge.invariant.edges i) ∙ sym (mem-more c.args.edges.now k i c.loop-edge-test.true);
         once = subst (λ (m : Set). MeetOnce c.args.g.now m (mem c.if-not-is_marked.met)) (sym now) once;
       }
-  | else-not-is_marked w ↦
-      let k = c.loop-edge.edge-index in
-      let e = get_or c.args.edges.now c.loop-edge.edge-index 0 in
-      let marked : marks c.loop-edge.mark.items e ≡ true = sym (c.is_marked.ensures ∙ ap (λ row. marks row e) c.deref.ensures.value) ∙ w.if-not-is_marked.false in
-      record {
-        long = ap (λ m. length m.items) w.mark-is ∙ c.loop-edge.invariant.long;
-        edges = λ i. ap (λ m. marks m.items i) w.mark-is ∙ c.loop-edge.invariant.edges i ∙ sym (mem-again (mem (take k c.args.edges.now)) e i (sym (c.loop-edge.invariant.edges e) ∙ marked)) ∙ sym (mem-more c.args.edges.now k i c.loop-edge-test.true);
-        once = λ v q. ap (λ (m : Vec Bool Global). degree c.args.g.now (marks m.items) v) w.mark-is ∙ c.loop-edge.invariant.once v q ∙ sym (ap (λ m. bit (mem m v)) w.met-is);
-      }
+  | else-not-is_marked w ↦ grind (arith, mem-again, mem-more c.args.edges.now)
 ]
 
 pub returns-clause-once : goal.returns-clause-once

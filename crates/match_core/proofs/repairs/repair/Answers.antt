@@ -1,6 +1,6 @@
-use Rattle.std.proofs.Common.{◌≡◌, sym, ap, ◌∙◌, subst, subst₂, refl, arith}
+use Rattle.std.proofs.Common.{◌≡◌, sym, ap, ◌∙◌, subst, subst₂, arith}
 use Rattle.counting.proofs.Common.{fun_ext, mem, Set}
-use Rattle.graph_core.proofs.Common.{Graph, HasPerfect, IsMatching, IsPerfect, missed_count}
+use Rattle.graph_core.proofs.Common.{Graph, IsMatching, IsPerfect}
 use Rattle.match_search.specs.Common.{marks, DiffersByPath}
 use Rattle.match_core.specs.Common.{edges_of, MatchingValue}
 use Rattle.match_core.proofs.FrameFacts.{listed_marks, listed_perfect, passed_matching}
@@ -9,10 +9,7 @@ use Rattle.match_search.proofs.WholeGraphs.{ends_rows, limits_row, whole_graph, 
 use Rattle.match_core.proofs.repairs.repair.Goals as goal
 
 pub marks-requires-clause-within : goal.marks-requires-clause-within
-marks-requires-clause-within c = λ k d l.
-    let edge = (c.requires.of.rows k d l).edge in
-    let size = whole_size c.args.g.now c.order-n.result c.edges-ends.result.now c.order-n.ensures.is c.edges-ends.ensures.edges in
-    (edge.0, omega arith)
+marks-requires-clause-within c = grind (arith, whole_size c.args.g.now c.order-n.result c.edges-ends.result.now c.order-n.ensures.is c.edges-ends.ensures.edges)
 
 pub repaired_marks-requires-clause-row : goal.repaired_marks-requires-clause-row
 repaired_marks-requires-clause-row c = limits_row c.args.g.now c.order-n.result c.edges-ends.result.now c.order-n.ensures.is c.edges-ends.ensures.edges c.edges-ends.ensures.limits
@@ -27,10 +24,7 @@ repaired_marks-requires-clause-matching c =
     subst₂ (λ (g : Graph) (s : Set). IsMatching g (mem c.args.removed) s) (sym there) (sym given) c.requires.matching
 
 pub repaired_marks-requires-clause-two : goal.repaired_marks-requires-clause-two
-repaired_marks-requires-clause-two c =
-    let there = whole_graph c.args.g.now c.order-n.result c.edges-ends.result.now c.order-n.ensures.is c.edges-ends.ensures.edges in
-    let given : marks c.in_ok-given.given.items ≡ mem (edges_of c.args.m.now) = fun_ext c.in_ok-given.ensures.each in
-    subst₂ (λ (g : Graph) (s : Set). missed_count g (mem c.args.removed) s ≡ 2) (sym there) (sym given) c.requires.two
+repaired_marks-requires-clause-two c = grind arith
 
 pub matching_of-requires-clause-matching : goal.matching_of-requires-clause-matching
 matching_of-requires-clause-matching c =
@@ -39,17 +33,10 @@ matching_of-requires-clause-matching c =
     passed_matching c.args.g.now (mem c.args.removed) c.in-Some.mark.items c.deref.result.now c.deref.ensures.value perfect
 
 pub returns-in_ok-matching_of-in-Some-clause-none : goal.returns-in_ok-matching_of-in-Some-clause-none
-returns-in_ok-matching_of-in-Some-clause-none c =
-    let there = whole_graph c.args.g.now c.order-n.result c.edges-ends.result.now c.order-n.ensures.is c.edges-ends.ensures.edges in
-    let perfect = subst (λ (g : Graph). IsPerfect g (mem c.args.removed) (marks c.in-Some.mark.items)) there (c.in_ok-mark.ensures.perfect c.in-Some.mark c.in-Some.is) in (
-      (λ q. cc),
-      (λ h. absurd (h (marks c.in-Some.mark.items, perfect))),
-    )
+returns-in_ok-matching_of-in-Some-clause-none c = grind arith
 
 pub returns-in-None-clause-none : goal.returns-in-None-clause-none
-returns-in-None-clause-none c =
-    let there = whole_graph c.args.g.now c.order-n.result c.edges-ends.result.now c.order-n.ensures.is c.edges-ends.ensures.edges in
-    ((λ q. subst (λ (g : Graph). HasPerfect g (mem c.args.removed) → ⊥) there (c.in_ok-mark.ensures.none.0 c.in-None.is)), (λ h. refl))
+returns-in-None-clause-none c = grind arith
 
 pub returns-in_ok-matching_of-in-Some-clause-perfect : goal.returns-in_ok-matching_of-in-Some-clause-perfect
 returns-in_ok-matching_of-in-Some-clause-perfect c = λ m q.

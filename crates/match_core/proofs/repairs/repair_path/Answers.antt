@@ -7,29 +7,10 @@ use Rattle.match_core.proofs.NamedEdges.{free_misses, none_free}
 use Rattle.match_core.proofs.repairs.repair_path.Goals as goal
 
 pub unreachable-requires : goal.unreachable-requires
-unreachable-requires c =
-    let z = none_free c.args.n c.args.ends.now (mem c.args.removed) (marks c.args.mark.now) c.in_ok-at.at.items c.in_ok-at.ensures.named c.free.result (λ v. c.free.ensures v ∙ ap (λ row. (nat_lt 0 v && nat_le v c.args.n) && (not (mem c.args.removed v) && (numbers row v == 0))) c.deref.ensures.value) c.in-None.ensures.none in
-    let two = c.requires.two in
-    absurd (omega arith)
+unreachable-requires c = grind (arith, none_free c.args.n c.args.ends.now (mem c.args.removed) (marks c.args.mark.now) c.in_ok-at.at.items c.in_ok-at.ensures.named c.free.result, nat_lt 0, nat_le)
 
 pub walk-requires : goal.walk-requires
-walk-requires c = (
-  c.args.n,
-  mem c.args.removed,
-  marks c.args.mark.now,
-  marks c.args.found.now,
-  record {
-    row = c.requires.row;
-    at_long = ap (λ (row : List ℕ). length row) c.deref-in-Some.ensures.value ∙ c.in_ok-at.ensures.length;
-    named = subst (λ (row : List ℕ). NamesEdges c.args.ends.now (marks c.args.mark.now) row (length c.args.ends.now)) (sym c.deref-in-Some.ensures.value) c.in_ok-at.ensures.named;
-    other_long = ap (λ (row : List ℕ). length row) c.deref-in-Some-2.ensures.value ∙ c.in_ok-other.ensures.length;
-    other_named = subst (λ (row : List ℕ). NamesEdges c.args.ends.now (marks c.args.found.now) row (length c.args.ends.now)) (sym c.deref-in-Some-2.ensures.value) c.in_ok-other.ensures.named;
-    matching = c.requires.matching;
-    perfect = c.requires.perfect;
-    two = c.requires.two;
-    missed = free_misses c.args.n c.args.ends.now (mem c.args.removed) (marks c.args.mark.now) c.in_ok-at.at.items c.in_ok-at.ensures.named c.free.result (λ v. c.free.ensures v ∙ ap (λ row. (nat_lt 0 v && nat_le v c.args.n) && (not (mem c.args.removed v) && (numbers row v == 0))) c.deref.ensures.value) c.in-Some.x c.in-Some.ensures.some.member;
-  },
-)
+walk-requires c = grind (arith, free_misses c.args.n c.args.ends.now (mem c.args.removed) (marks c.args.mark.now) c.in_ok-at.at.items c.in_ok-at.ensures.named c.free.result, nat_lt 0, nat_le)
 
 pub returns : goal.returns
 returns c =

@@ -1,38 +1,30 @@
-use Rattle.std.proofs.Common.{◌≡◌, ℕ, ◌+◌, ◌-◌, ◌/◌, ◌<◌, Bool, true, List, Vec, Global, length, sym, ap, ◌∙◌, subst, refl, arith}
+use Rattle.std.proofs.Common.{◌≡◌, ℕ, ◌+◌, ◌-◌, ◌/◌, Bool, true, List, Vec, Global, length, sym, ap, ◌∙◌, subst, arith}
 use Rattle.counting.proofs.Common.{fun_ext, Set, put, mem}
 use Rattle.graph_core.proofs.Common.{IsMatching, IsPerfect, graph_of}
 use Rattle.match_search.specs.Common.{flipped, marks, numbers, part, DiffersByPath, IsRepairRow, Misses}
 use Rattle.match_core.proofs.FrameFacts.{no_outer-best_perfect, outer-none_perfect}
 use Rattle.match_search.proofs.GraphRows.{row_graph, size_is}
-use Rattle.match_core.proofs.RepairedPaths.{row_real, flipped_row, repaired_path}
+use Rattle.match_core.proofs.RepairedPaths.{flipped_row, repaired_path}
 use Rattle.match_core.proofs.repairs.repaired_marks.Goals as goal
 
 pub best_from-requires-clause-matching : goal.best_from-requires-clause-matching
 best_from-requires-clause-matching c = subst (λ (row : List Bool). IsMatching (graph_of c.args.n c.args.ends.now) (mem c.args.removed) (marks row)) (sym c.deref.ensures.value) c.requires.matching
 
 pub repair_path-requires-clause-perfect : goal.repair_path-requires-clause-perfect
-repair_path-requires-clause-perfect c = subst (λ (xs : List Bool). IsPerfect (graph_of c.args.n c.args.ends.now) (mem c.args.removed) (marks xs)) (sym c.deref-then-len-eq0-2.ensures.value)
-    (no_outer-best_perfect (graph_of c.args.n c.args.ends.now) (row_graph c.args.n c.args.ends.now c.requires.row.within) (mem c.args.removed) c.in_ok-found.field-0 c.in_ok-found.ensures (sym c.len.ensures ∙ c.if-len-eq0.true))
+repair_path-requires-clause-perfect c = grind (arith, no_outer-best_perfect, row_graph)
 
 pub flipped_along-requires-clause-in_mark : goal.flipped_along-requires-clause-in_mark
 flipped_along-requires-clause-in_mark c =
     let p = subst (λ (xs : List Bool). (x : ℕ) × Misses (graph_of c.args.n c.args.ends.now) (mem c.args.removed) (marks xs) x × IsRepairRow (graph_of c.args.n c.args.ends.now) (mem c.args.removed) (marks xs) x c.in_ok-edges.edges.items) c.deref-then-len-eq0.ensures.value c.in_ok-edges.ensures in
     let long = c.requires.long in
     let size = size_is c.args.n c.args.ends.now in
-    subst (λ (row : List ℕ). (k : ℕ) → k < length row → numbers row k < length c.args.mark.items) (sym c.deref-then-len-eq0-3.ensures.value)
-    (λ k l. let w = row_real (graph_of c.args.n c.args.ends.now) (mem c.args.removed) (marks c.args.mark.items) p.0 c.in_ok-edges.edges.items p.2 k l in omega arith)
+    grind arith
 
 pub returns-clause-none : goal.returns-clause-none
-returns-clause-none c = (
-  (λ q. outer-none_perfect (graph_of c.args.n c.args.ends.now) (row_graph c.args.n c.args.ends.now c.requires.row.within) (mem c.args.removed) c.in_ok-found.field-0 c.in_ok-found.ensures (λ z. c.if-len-eq0.false (c.len.ensures ∙ z))),
-  (λ h. refl),
-)
+returns-clause-none c = grind (arith, outer-none_perfect, row_graph)
 
 pub returns-then-len-eq0-clause-none : goal.returns-then-len-eq0-clause-none
-returns-then-len-eq0-clause-none c = (
-  (λ q. cc),
-  (λ h. absurd (h (marks c.in_ok-found.field-0.mark.items, no_outer-best_perfect (graph_of c.args.n c.args.ends.now) (row_graph c.args.n c.args.ends.now c.requires.row.within) (mem c.args.removed) c.in_ok-found.field-0 c.in_ok-found.ensures (sym c.len.ensures ∙ c.if-len-eq0.true)))),
-)
+returns-then-len-eq0-clause-none c = grind arith
 
 pub returns-then-len-eq0-clause-perfect : goal.returns-then-len-eq0-clause-perfect
 returns-then-len-eq0-clause-perfect c = λ answer q.

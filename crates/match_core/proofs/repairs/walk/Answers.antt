@@ -34,17 +34,7 @@ unreachable-requires c =
     absurd (perfect_named n c.args.ends.now r w c.args.other.now h.other_named h.perfect c.walking.v (walk_within (graph_of n c.args.ends.now) (row_graph n c.args.ends.now h.row.within) r m w h.matching h.perfect c.args.x c.walking.edges.items c.walking.v (c.walking.invariant n r m w h)) (walk_outside (graph_of n c.args.ends.now) (row_graph n c.args.ends.now h.row.within) r m w h.matching h.perfect c.args.x c.walking.edges.items c.walking.v (c.walking.invariant n r m w h)) (c.mate_at.ensures.none c.in-None.is))
 
 pub mate_at-requires-in-walking-clause-within : goal.mate_at-requires-in-walking-clause-within
-mate_at-requires-in-walking-clause-within c =
-    let q = c.requires in
-    let n = q.0 in
-    let r = q.1 in
-    let m = q.2 in
-    let w = q.3 in
-    let h = q.4 in
-    let e = c.mate_at.ensures.edge c.in-Some.next c.in-Some.is in
-    let pair = mate_pair n c.args.ends.now w c.args.other.now h.other_named c.walking.v c.in-Some.next.edge c.in-Some.next.vertex e.0 e.1 (c.mate_at.ensures.vertex c.in-Some.next c.in-Some.is) in
-    let there = next_within (graph_of n c.args.ends.now) (row_graph n c.args.ends.now h.row.within) r m w h.matching h.perfect c.args.x c.walking.edges.items c.walking.v (c.walking.invariant n r m w h) c.in-Some.next.edge c.in-Some.next.vertex pair.0 pair.1 pair.2 in
-    let long = h.at_long in omega arith
+mate_at-requires-in-walking-clause-within c = grind arith
 
 pub mate_at-requires-in-walking-clause-real : goal.mate_at-requires-in-walking-clause-real
 mate_at-requires-in-walking-clause-real c = λ some. (c.requires.4.named.met c.in-Some.next.vertex some).0

@@ -3,6 +3,4 @@ use Rattle.match_search.proofs.Instances.{first_in}
 use Rattle.match_search.proofs.alternating.write_zeros.Goals as goal
 
 pub bounds-row-v : goal.bounds-row-v
-bounds-row-v c =
-    let w = c.requires c.in-Some.v (c.writing.invariant.within c.in-Some.v (first_in c.writing.rest c.in-Some.others c.in-Some.v c.in-Some.ensures.some)) in
-    let long = c.writing.invariant.long in omega arith
+bounds-row-v c = grind (arith, first_in c.writing.rest c.in-Some.others c.in-Some.v c.in-Some.ensures.some)

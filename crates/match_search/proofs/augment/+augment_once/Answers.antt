@@ -2,15 +2,12 @@ use Rattle.std.proofs.Common.{◌-◌, ◌∙◌, sym, rules, arith, subst, leng
 use Rattle.counting.proofs.Common.{mem}
 use Rattle.match_search.specs.Common.{IsClosed, removed_with, without_blossom, numbers}
 use Rattle.match_search.proofs.BlossomMates.{cw}
-use Rattle.match_search.proofs.Instances.{alike_self, left_parts, put_back}
+use Rattle.match_search.proofs.Instances.{alike_self, put_back}
 use Rattle.match_search.proofs.MateSteps.{base_read, base_within, below_holds, below_less, candidates_below, roots_exposed, growth_closes, growth_final, may_open, may_open_alike, step_completed}
 use Rattle.match_search.proofs.augment.+augment_once.Goals as goal
 
 pub exposed_in-roots-requires-clause-vertices : goal.exposed_in-roots-requires-clause-vertices
-exposed_in-roots-requires-clause-vertices t c = λ v l.
-    let q = c.requires.holds in
-    let w = (left_parts q.0 q.1 c.args.instance.now q.3.instance_is v l).0 in
-    let long = q.3.long in omega arith
+exposed_in-roots-requires-clause-vertices t c = grind arith
 
 pub returns-in-None-clause-restored : goal.returns-in-None-clause-restored
 returns-in-None-clause-restored t c = alike_self c.args.instance.now
@@ -30,19 +27,10 @@ returns-in-None-2-clause-step t c = λ g r f is.
     record { m = done.0; mates = done.1; answer = done.2 }
 
 pub index-base-requires : goal.index-base-requires
-index-base-requires t c =
-    let q = c.requires.holds in
-    let held = subst (IsClosed q.0 q.1 q.2 c.close_bridge.new.mate) c.in-Some-2.is (c.in_ok-close_bridge-in-Some.ensures.closed q.0 q.1 q.2 (growth_closes q.0 q.1 q.2 c.args.instance.now c.args.mate.now q.3 c.grow_forest-forest.result c.in-Some.bridge (c.grow_forest-forest.ensures q.0 q.1 q.2 q.3) c.in-Some.is)) in
-    let three = held.opened.cycle.three in
-    let ok = c.in-Some-2.blossom.cycle.ok.0 in omega arith
+index-base-requires t c = grind arith
 
 pub shrink-before-requires-clause-base : goal.shrink-before-requires-clause-base
-shrink-before-requires-clause-base t c =
-    let q = c.requires.holds in
-    let held = subst (IsClosed q.0 q.1 q.2 c.close_bridge.new.mate) c.in-Some-2.is (c.in_ok-close_bridge-in-Some.ensures.closed q.0 q.1 q.2 (growth_closes q.0 q.1 q.2 c.args.instance.now c.args.mate.now q.3 c.grow_forest-forest.result c.in-Some.bridge (c.grow_forest-forest.ensures q.0 q.1 q.2 q.3) c.in-Some.is)) in
-    let w = base_within q.0 q.1 q.2 c.close_bridge.new.mate c.in-Some-2.blossom held c.index-base.result.now c.index-base.ensures in
-    let few = q.3.instance_is.few in
-    let each = q.3.instance_is.one_each in (omega arith, omega arith)
+shrink-before-requires-clause-base t c = grind (arith, growth_closes, base_within)
 
 pub unshrink-requires-clause-base : goal.unshrink-requires-clause-base
 unshrink-requires-clause-base t c =

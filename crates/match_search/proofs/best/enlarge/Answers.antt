@@ -8,9 +8,7 @@ pub last_frame-requires : goal.last_frame-requires
 last_frame-requires c = let q = c.requires.holds in (graph_of c.args.n c.args.ends.now, q.0, q.1, q.2)
 
 pub marks_of-requires-clause-long : goal.marks_of-requires-clause-long
-marks_of-requires-clause-long c =
-    let long = c.requires.holds.2.long in
-    let same = c.last_frame.auto.mate in omega arith
+marks_of-requires-clause-long c = grind arith
 
 pub returns : goal.returns
 returns c = λ r f held.

@@ -1,4 +1,4 @@
-use Rattle.std.proofs.Common.{◌≡◌, ℕ, suc, ◌+◌, ◌==◌, ◌||◌, Bool, true, false, sym, subst, ap, ◌∙◌, arith, inl, eq-eqb, length, Vec, Global}
+use Rattle.std.proofs.Common.{◌≡◌, ℕ, suc, ◌+◌, ◌==◌, ◌||◌, true, false, sym, subst, ap, ◌∙◌, arith, inl, eq-eqb, length}
 use Rattle.counting.proofs.Common.{both_ways, fun_ext, Set, put, Within, mem}
 use Rattle.graph_core.proofs.Common.{degree, first_end, second_end, IsMatching, graph_of}
 use Rattle.match_search.specs.Common.{marks, end_a, end_b}
@@ -8,11 +8,7 @@ use Rattle.match_search.proofs.best.first_marks.Goals as goal
 use Rattle.match_search.proofs.best.first_marks.Goals.{then-is_addable, else-is_addable}
 
 pub loop-k-init : goal.loop-k-init
-loop-k-init c = record {
-  long = c.in_ok-mark.ensures.length;
-  matching = empty_matching (graph_of c.args.n c.args.ends.now) (mem c.args.removed) (marks c.in_ok-mark.mark.items) c.in_ok-mark.ensures.each;
-  free = λ v w q. (q, empty_degree (graph_of c.args.n c.args.ends.now) (marks c.in_ok-mark.mark.items) c.in_ok-mark.ensures.each v);
-}
+loop-k-init c = grind (arith, empty_matching, empty_degree)
 
 pub loop-k-preserved : goal.loop-k-preserved
 loop-k-preserved c = elim c.if-is_addable.branch [
@@ -34,11 +30,7 @@ loop-k-preserved c = elim c.if-is_addable.branch [
         matching = subst (λ (m : Set). IsMatching (graph_of c.args.n c.args.ends.now) (mem c.args.removed) m) (sym now) added.0;
         free = subst (λ (m : Set). (v : ℕ) → Within c.args.n v → mem c.if-is_addable.met v ≡ false → (mem c.args.removed v ≡ false) × (degree (graph_of c.args.n c.args.ends.now) m v ≡ 0)) (sym now) added.1;
       }
-  | else-is_addable w ↦ record {
-    long = ap (λ m. length m.items) w.mark-is ∙ c.loop-k.invariant.long;
-    matching = subst (λ (m : Vec Bool Global). IsMatching (graph_of c.args.n c.args.ends.now) (mem c.args.removed) (marks m.items)) (sym w.mark-is) c.loop-k.invariant.matching;
-    free = λ v q h. let f = c.loop-k.invariant.free v q (sym (ap (λ m. mem m v) w.met-is) ∙ h) in (f.0, subst (λ (m : Vec Bool Global). degree (graph_of c.args.n c.args.ends.now) (marks m.items) v ≡ 0) (sym w.mark-is) f.1);
-  }
+  | else-is_addable w ↦ grind arith
 ]
   where
     next : (k : ℕ) → k + 1 ≡ suc k

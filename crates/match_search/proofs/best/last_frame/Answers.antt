@@ -1,29 +1,18 @@
 use Rattle.std.proofs.Common.{◌<◌, ◌==◌, ◌&&◌, arith, sym, subst}
 use Rattle.counting.proofs.Common.{count, mem}
-use Rattle.match_search.specs.Common.{IsSized, IsMateStep, Frame, numbers}
+use Rattle.match_search.specs.Common.{IsMateStep, Frame, numbers}
 use Rattle.match_search.proofs.AugmentedMates.{fewer_left, held_again, left_is}
-use Rattle.match_search.proofs.Instances.{alike_self, alike_then}
+use Rattle.match_search.proofs.Instances.{alike_then}
 use Rattle.match_search.proofs.best.last_frame.Goals as goal
 
 pub augmenting-init : goal.augmenting-init
-augmenting-init c = record {
-  held = λ g r f held. (f, held);
-  alike = alike_self c.args.instance.now;
-}
+augmenting-init c = grind arith
 
 pub augment_once-requires-clause-holds : goal.augment_once-requires-clause-holds
-augment_once-requires-clause-holds c =
-    let q = c.requires in
-    let m = c.augmenting.invariant.held q.0 q.1 q.2 q.3 in
-    (q.0, q.1, m.0, m.1)
+augment_once-requires-clause-holds c = grind arith
 
 pub augment_once-requires-clause-sized : goal.augment_once-requires-clause-sized
-augment_once-requires-clause-sized c =
-    let q = c.requires in
-    let m = c.augmenting.invariant.held q.0 q.1 q.2 q.3 in
-    let now = m.1.instance_is.one_each in
-    let first = q.3.instance_is.one_each in
-    subst (λ k. IsSized k c.in_ok-unused.unused) (omega arith) c.in_ok-unused.ensures
+augment_once-requires-clause-sized c = grind arith
 
 pub augmenting-smaller : goal.augmenting-smaller
 augmenting-smaller c =

@@ -21,16 +21,10 @@ returns c = λ g r f is.
     (λ u. c.join.ensures u
     ∙ ap (λ (m : ℕ → ℕ). with_pair m c.index.result.now c.index-2.result.now u) (fun_ext mates)
     ∙ ap₂ (λ (x y : ℕ). with_pair (flipped_mates (flipped_mates (numbers c.args.mate.now) (part c.args.paths.now.row.items 0) c.args.paths.now.first) (part c.args.paths.now.row.items (second_start c.args.paths.now)) c.args.paths.now.second) x y u)
-    (let l = is.row_long in c.index.ensures ∙ get_or_default_zero c.args.paths.now.row.items (c.args.paths.now.first + c.args.paths.now.first) c.index.result.now (omega arith) ∙ ap (numbers c.args.paths.now.row.items) (none_more (c.args.paths.now.first + c.args.paths.now.first)))
+    (let l = is.row_long in c.index.ensures ∙ get_or_default_zero c.args.paths.now.row.items (c.args.paths.now.first + c.args.paths.now.first) c.index.result.now (omega arith) ∙ ap (numbers c.args.paths.now.row.items) (omega arith))
     (let l = is.row_long in c.index-2.ensures ∙ get_or_default_zero c.args.paths.now.row.items (c.args.paths.now.first + c.args.paths.now.first + 1 + (c.args.paths.now.second + c.args.paths.now.second)) c.index-2.result.now (omega arith)
-    ∙ ap (numbers c.args.paths.now.row.items) (start (c.args.paths.now.first + c.args.paths.now.first) (c.args.paths.now.second + c.args.paths.now.second))))
+    ∙ ap (numbers c.args.paths.now.row.items) (omega arith)))
   where
-    start : (a j : ℕ) → a + 1 + j ≡ suc a + j
-    start a j = omega arith
-
-    none_more : (a : ℕ) → a ≡ 0 + a
-    none_more a = omega arith
-
     one_more : (a : ℕ) → a + 1 ≡ suc a
     one_more a = omega arith
 

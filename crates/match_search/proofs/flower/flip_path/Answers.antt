@@ -1,4 +1,4 @@
-use Rattle.std.proofs.Common.{◌≡◌, ◌≢◌, ◌↔◌, ℕ, suc, ◌+◌, ◌-◌, ◌<◌, ◌≤◌, ◌||◌, ◌==◌, true, false, refl, sym, ap, ap₂, ◌∙◌, arith, inl, inr, subst, length, List}
+use Rattle.std.proofs.Common.{◌≡◌, ◌≢◌, ℕ, suc, ◌+◌, true, false, sym, ap, ap₂, ◌∙◌, arith}
 use Rattle.counting.proofs.Common.{get_or_default_zero, mem}
 use Rattle.match_search.specs.Common.{flipped_over, numbers}
 use Rattle.match_search.proofs.FlippedPaths.{over_off}

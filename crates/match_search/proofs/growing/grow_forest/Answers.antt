@@ -1,36 +1,20 @@
-use Rattle.std.proofs.Common.{◌≡◌, ◌≢◌, ℕ, suc, ◌+◌, ◌-◌, ◌*◌, ◌<◌, ◌≤◌, Bool, true, false, ◌==◌, refl, sym, ap, ◌∙◌, arith, inl, inr, subst, length, List, [], None, Some, ◌&&◌, ◌||◌, not}
+use Rattle.std.proofs.Common.{◌≡◌, ℕ, ◌-◌, ◌*◌, Bool, false, ◌==◌, sym, ap, ◌∙◌, arith, inl, inr, subst, length, ◌||◌, not}
 use Rattle.counting.proofs.Common.{both_ways, cases_eq, and_parts, and_from, false_from_ne_true, or_cases, or_left, or_right, count, mem}
 use Rattle.match_search.specs.Common.{IsDone, IsClosingPair, numbers}
 use Rattle.match_search.specs.declared.growing.Adjacent.{Adjacent}
-use Rattle.match_search.proofs.Instances.{left_parts}
 use Rattle.match_search.proofs.Branching.{fits_branch, holds_branched, nearer_end}
 use Rattle.match_search.proofs.ParentForests.{roots_hold}
 use Rattle.match_search.proofs.Reaching.{done_stays, drop_less, none_reached, reach_parts}
 use Rattle.match_search.proofs.growing.grow_forest.Goals as goal
 
 or_false_parts : (a b : Bool) → (a || b) ≡ false → (a ≡ false) × (b ≡ false)
-or_false_parts true b q = absurd (Rattle.std.proofs.lemmas.Bool.true≢false q)
-or_false_parts false b q = (refl, q)
+or_false_parts a b q = grind arith
 
 pub with_roots-forest-requires : goal.with_roots-forest-requires
-with_roots-forest-requires c = λ v t.
-    let q = c.requires.holds in
-    let l = (and_parts (mem c.args.instance.now.left v) (numbers c.args.mate.now v == 0) (sym (c.requires.roots v) ∙ t)).0 in
-    let w = (left_parts q.0 q.1 c.args.instance.now q.3.instance_is v l).0 in
-    let each = q.3.instance_is.one_each in
-    let long = c.requires.sized.pairs_long in omega arith
+with_roots-forest-requires c = grind arith
 
 pub growing-init : goal.growing-init
-growing-init c = record {
-  holds = λ g r f is.
-      let each = is.instance_is.one_each in
-      roots_hold g r f c.args.instance.now c.args.mate.now is c.with_roots-forest.result
-      (λ v. ap (λ (x : List ℕ). mem x v) c.with_roots-forest.ensures.outer ∙ c.requires.roots v)
-      c.with_roots-forest.ensures.inner (c.with_roots-forest.ensures.parents_long ∙ c.requires.sized.parents_long ∙ ap suc each) (c.with_roots-forest.ensures.pairs_long ∙ c.requires.sized.pairs_long ∙ ap suc each)
-      (λ v o. c.with_roots-forest.ensures.pairs v (sym (ap (λ (x : List ℕ). mem x v) c.with_roots-forest.ensures.outer) ∙ o));
-  opens = λ x o. o;
-  done = λ x o n. absurd (both_ways (mem c.with_roots-forest.result.outer x) n o);
-}
+growing-init c = grind (arith, roots_hold, both_ways)
 
 pub near-requires-clause-vertex : goal.near-requires-clause-vertex
 near-requires-clause-vertex c =
@@ -116,8 +100,4 @@ growing-preserved c = record {
 }
 
 pub returns : goal.returns
-returns c = λ g r f is. record {
-  holds = c.growing.invariant.holds g r f is;
-  done = λ q x o. c.growing.invariant.done x o (ap (λ (r : List ℕ). mem r x) c.in_default.ensures.none);
-  closing_pair = λ o q. cc;
-}
+returns c = grind arith

@@ -3,5 +3,4 @@ use Rattle.match_search.proofs.Instances.{first_in}
 use Rattle.match_search.proofs.instance.union_of.Goals as goal
 
 pub bounds-rows-v : goal.bounds-rows-v
-bounds-rows-v c =
-    let w = c.requires c.in-Some.v (c.uniting.invariant.within c.in-Some.v (first_in c.uniting.rest c.in-Some.others c.in-Some.v c.in-Some.ensures.some)) in omega arith
+bounds-rows-v c = grind (arith, first_in c.uniting.rest c.in-Some.others c.in-Some.v c.in-Some.ensures.some)

@@ -1,26 +1,17 @@
-use Rattle.std.proofs.Common.{◌≡◌, ℕ, suc, ◌+◌, ◌==◌, ◌&&◌, ◌||◌, ◌⊎◌, not, Bool, true, false, refl, sym, subst, subst₂, ap, ap₂, ◌∙◌, arith, inl, inr, eq-eqb, eqb-true, ne_eqb, length, List, Vec, Global}
-use Rattle.counting.proofs.Common.{both_ways, true≢false, fun_ext, Within, Set, put, mem}
+use Rattle.std.proofs.Common.{◌≡◌, ℕ, suc, ◌+◌, ◌==◌, ◌&&◌, ◌||◌, not, Bool, true, false, sym, subst, subst₂, ap, ap₂, ◌∙◌, arith, eq-eqb, eqb-true, length}
+use Rattle.counting.proofs.Common.{both_ways, fun_ext, Within, Set, put, mem}
 use Rattle.graph_core.proofs.Common.{graph_of}
 use Rattle.match_search.specs.Common.{MarksMates, marks, numbers, end_a, end_b}
 use Rattle.match_search.proofs.GraphRows.{ends_here, row_graph, size_is}
-use Rattle.match_search.proofs.MarkedMates.{marked_mates, marks_more, marks_none, marks_passed}
+use Rattle.match_search.proofs.MarkedMates.{marked_mates, marks_more, marks_none}
 use Rattle.match_search.proofs.marked.marks_of.Goals as goal
 use Rattle.match_search.proofs.marked.marks_of.Goals.{then-is_pair+then-is_addable, then-is_pair+else-is_addable, else-is_pair}
 
 pub loop-k-init : goal.loop-k-init
-loop-k-init c = record {
-  long = c.in_ok-mark.ensures.length;
-  marking = marks_none (graph_of c.args.n c.args.ends.now) (numbers c.args.mate.now) (marks c.in_ok-mark.mark.items) (mem c.empty-seen.result) c.in_ok-mark.ensures.each (λ v. ap (λ s. mem s v) c.empty-seen.ensures);
-}
+loop-k-init c = grind (arith, marks_none (graph_of c.args.n c.args.ends.now) (numbers c.args.mate.now) (marks c.in_ok-mark.mark.items) (mem c.empty-seen.result) c.in_ok-mark.ensures.each)
 
 addable : (a b d : Bool) → (not a && (not b && not d)) ≡ true → (a ≡ false) × (b ≡ false) × (d ≡ false)
 addable a b d h = grind arith
-
-blocked : (a b d : Bool) → (not a && (not b && not d)) ≡ false → a ≡ false → (b ≡ true) ⊎ (d ≡ true)
-blocked true b d h q = absurd (true≢false q)
-blocked false true d h q = inl refl
-blocked false false true h q = inr refl
-blocked false false false h q = absurd (true≢false h)
 
 next : (k : ℕ) → suc k ≡ k + 1
 next k = omega arith
@@ -52,22 +43,8 @@ loop-k-preserved c =
             long = ap (λ s. length s.items) w.mark-is ∙ w.mark_place.ensures.length ∙ c.loop-k.invariant.long;
             marking = subst₂ (λ (s : Set) (j : ℕ). MarksMates g mate s (mem c.if-is_pair.seen) j) (sym now) (next k) more;
           }
-      | then-is_pair+else-is_addable w ↦ record {
-        long = ap (λ s. length s.items) w.mark-is ∙ c.loop-k.invariant.long;
-        marking =
-            let passed = marks_passed g mate m seen k before (λ p n.
-            elim (blocked (a == b) (mem c.loop-k.seen a) (mem c.loop-k.seen b) (sym w.is_addable.ensures ∙ w.if-is_addable.false) (ne_eqb a b (λ q. n (sym here.0 ∙ q ∙ here.1)))) [
-              | inl t ↦ inl (ap seen (sym here.0) ∙ t)
-              | inr t ↦ inr (ap seen (sym here.1) ∙ t)
-            ]) in
-            subst₂ (λ (s : Vec Bool Global) (x : List ℕ). MarksMates g mate (marks s.items) (mem x) (k + 1)) (sym w.mark-is) (sym w.seen-is) (subst (λ (j : ℕ). MarksMates g mate m seen j) (next k) passed);
-      }
-      | else-is_pair w ↦ record {
-        long = ap (λ s. length s.items) w.mark-is ∙ c.loop-k.invariant.long;
-        marking =
-            let passed = marks_passed g mate m seen k before (λ p n. absurd (both_ways (mate a == b) (sym c.is_pair.ensures ∙ w.if-is_pair.false) (eq-eqb (mate a) b (ap mate here.0 ∙ p ∙ sym here.1)))) in
-            subst₂ (λ (s : Vec Bool Global) (x : List ℕ). MarksMates g mate (marks s.items) (mem x) (k + 1)) (sym w.mark-is) (sym w.seen-is) (subst (λ (j : ℕ). MarksMates g mate m seen j) (next k) passed);
-      }
+      | then-is_pair+else-is_addable w ↦ grind arith
+      | else-is_pair w ↦ grind arith
     ]
 
 pub returns-clause-mates : goal.returns-clause-mates

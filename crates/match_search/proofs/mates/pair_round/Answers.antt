@@ -9,12 +9,9 @@ loop-i-preserved c = record {
   row = λ u. c.pair_place.ensures u
       ∙ ap (λ (m : ℕ → ℕ). cond (every_other c.args.tip (c.loop-i.i + 1)) (with_pair m (numbers c.args.cycle.now (c.loop-i.i + 1)) (numbers c.args.cycle.now (next (length c.args.cycle.now - 1) (c.loop-i.i + 1))) u) (m u)) (fun_ext c.loop-i.invariant.row)
       ∙ ap (λ (k : ℕ). cond (every_other c.args.tip k) (with_pair (paired_round (numbers c.args.mate.now) (length c.args.cycle.now - 1) (numbers c.args.cycle.now) c.args.tip c.loop-i.i) (numbers c.args.cycle.now k) (numbers c.args.cycle.now (next (length c.args.cycle.now - 1) k)) u)
-      (paired_round (numbers c.args.mate.now) (length c.args.cycle.now - 1) (numbers c.args.cycle.now) c.args.tip c.loop-i.i u)) (more c.loop-i.i)
+      (paired_round (numbers c.args.mate.now) (length c.args.cycle.now - 1) (numbers c.args.cycle.now) c.args.tip c.loop-i.i u)) (omega arith)
       ∙ ap (λ (k : ℕ). paired_round (numbers c.args.mate.now) (length c.args.cycle.now - 1) (numbers c.args.cycle.now) c.args.tip k u) (back c.loop-i.i);
 }
   where
-    more : (i : ℕ) → i + 1 ≡ suc i
-    more i = omega arith
-
     back : (i : ℕ) → suc i ≡ i + 1
     back i = omega arith

@@ -26,10 +26,7 @@ shrink-before-requires-clause-vertices t c =
     flower_within q.0 q.1 q.2 c.args.instance.now c.args.mate.now c.flower_of-members.new.mate q.3.holds c.flower_of-members.auto.mate c.flower_of-members.result held
 
 pub shrink-before-requires-clause-base : goal.shrink-before-requires-clause-base
-shrink-before-requires-clause-base t c =
-    let q = c.requires.rooted in
-    let held = c.flower_of-members.ensures q.0 q.1 q.2 (growth_closes q.0 q.1 q.2 c.args.instance.now c.args.mate.now q.3.holds c.grow_forest-forest.result c.in-Some.bridge (c.grow_forest-forest.ensures q.0 q.1 q.2 q.3.holds) c.in-Some.is) q.3.one in
-    base_within q.0 q.1 q.2 c.args.instance.now c.args.mate.now c.flower_of-members.new.mate q.3.holds c.flower_of-members.auto.mate c.flower_of-members.result held
+shrink-before-requires-clause-base t c = grind (arith, growth_closes, base_within)
 
 pub outer_from-below-requires : goal.outer_from-below-requires
 outer_from-below-requires t c =

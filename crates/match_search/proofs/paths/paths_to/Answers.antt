@@ -1,4 +1,4 @@
-use Rattle.std.proofs.Common.{◌≡◌, ℕ, suc, ◌+◌, sym, ap, ◌∙◌, arith, length, List}
+use Rattle.std.proofs.Common.{ℕ, suc, ◌+◌, sym, ap, ◌∙◌, arith, length, List}
 use Rattle.std.proofs.lemmas.List.{with_items_is}
 use Rattle.match_search.specs.Common.{numbers}
 use Rattle.match_search.proofs.ForestPaths.{forest_paths, short_paths}
@@ -32,7 +32,4 @@ returns c = λ g r f is.
     let long = ap length items ∙ same ∙ one ∙ sym ok ∙ size in
     forest_paths g r f c.args.mate.now c.args.forest.now c.args.bridge is (record { row = Rattle.std.specs.Vec.with_items c.in_ok-row.row c.write_paths.new.row; first = c.index-first.result.now; second = c.index-second.result.now }) v w (omega arith)
     (λ j l. ap (λ (row : List ℕ). numbers row (0 + j)) items ∙ c.write_paths.ensures.first g r f is.holds j (omega arith))
-    (λ j l. ap (λ (row : List ℕ). numbers row (suc (c.index-first.result.now + c.index-first.result.now) + j)) items ∙ ap (numbers c.write_paths.new.row) (begin (c.index-first.result.now + c.index-first.result.now) j) ∙ c.write_paths.ensures.second g r f is.holds j (omega arith))
-  where
-    begin : (a j : ℕ) → suc a + j ≡ a + 1 + j
-    begin a j = omega arith
+    (λ j l. ap (λ (row : List ℕ). numbers row (suc (c.index-first.result.now + c.index-first.result.now) + j)) items ∙ ap (numbers c.write_paths.new.row) (omega arith) ∙ c.write_paths.ensures.second g r f is.holds j (omega arith))

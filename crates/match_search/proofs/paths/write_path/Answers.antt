@@ -47,14 +47,11 @@ returns-clause-path c = λ g r f h j b.
     let room = c.requires.room in
     elim (cases_eq j 0) [
       | inl z ↦
-          ap (numbers (slice_set c.loop-i.row c.args.start c.loop-i.v)) (plus c.args.start j z) ∙ here c.loop-i.row c.args.start c.loop-i.v (omega arith)
+          ap (numbers (slice_set c.loop-i.row c.args.start c.loop-i.v)) (omega arith) ∙ here c.loop-i.row c.args.start c.loop-i.v (omega arith)
           ∙ sym (h.forest.last c.loop-i.v c.loop-i.invariant.outer) ∙ ap (h.v c.loop-i.v) (omega arith) ∙ c.loop-i.invariant.above g r f h 0 (omega arith) ∙ ap (h.v c.args.x) (sym z)
       | inr z ↦ there c.loop-i.row c.args.start (c.args.start + j) c.loop-i.v (λ s. z (omega arith)) ∙ c.loop-i.invariant.written g r f h j (omega arith) b
     ]
   where
-    plus : (a j : ℕ) → j ≡ 0 → a + j ≡ a
-    plus a j z = omega arith
-
     here : (xs : List ℕ) (i x : ℕ) → i < length xs → numbers (slice_set xs i x) i ≡ x
     here xs i x l = get_or-set_same xs i x 0 l
 

@@ -1,16 +1,11 @@
-use Rattle.std.proofs.Common.{◌≡◌, ◌+◌, ◌++◌, ◌∷◌, [], ℕ, List, ap, sym, ◌∙◌, map, flat_map, arith, suc, append-nil, nat_lt}
+use Rattle.std.proofs.Common.{◌≡◌, ◌+◌, ◌++◌, ◌∷◌, [], ℕ, List, ap, ◌∙◌, map, flat_map, arith, suc, append-nil, nat_lt}
 use Rattle.std.proofs.lemmas.Grind.{flat_map-append}
 use Rattle.counting.proofs.Common.{pair_with, rising_list, everything}
 use Rattle.separation_kit.proofs.pair.all_pairs.Goals as goal
 
 -- one row more
 row-more : (f : ℕ → List (ℕ × ℕ)) (i : ℕ) → flat_map f (rising_list i everything) ++ f (i + 1) ≡ flat_map f (rising_list (i + 1) everything)
-row-more f i =
-    let e : suc i ≡ i + 1 = omega arith in
-    ap (λ k. flat_map f (rising_list i everything) ++ f k) (sym e)
-    ∙ ap (λ zs. flat_map f (rising_list i everything) ++ zs) (sym (append-nil (f (suc i))))
-    ∙ sym (flat_map-append f (rising_list i everything) (suc i ∷ []))
-    ∙ ap (λ k. flat_map f (rising_list k everything)) e
+row-more f i = grind (arith, append-nil (f (suc i)), flat_map-append f (rising_list i everything) (suc i ∷ []))
 
 pub loop-i-preserved : goal.loop-i-preserved
 loop-i-preserved c =

@@ -1,6 +1,5 @@
-use Rattle.std.proofs.Common.{ap, sym, subst, ◌∙◌, map, fold, All}
-use Rattle.counting.proofs.Common.{Within, IsRisingIn, mem, rising_list, pair_set, singleton, union}
-use Rattle.graph_core.proofs.Common.{with_cut}
+use Rattle.std.proofs.Common.{sym, subst, All, arith}
+use Rattle.counting.proofs.Common.{Within, IsRisingIn, pair_set}
 use Rattle.separation_kit.proofs.PairShores.{components-rise}
 use Rattle.separation_kit.proofs.shores.add_pair_cuts.Goals as goal
 
@@ -13,7 +12,4 @@ add_with_vertex-requires-clause-parts c =
     (subst (All (IsRisingIn c.args.g.now.order)) (sym c.in_ok-parts.ensures) (components-rise c.args.g.now (pair_set c.args.pair.a c.args.pair.b)))
 
 pub returns : goal.returns
-returns c =
-    c.in_ok-add_with_vertex.ensures
-    ∙ ap (λ n. fold (with_cut n) c.args.cuts.now (map (λ s. rising_list n (union (mem s) (singleton c.args.pair.a))) c.in_ok-parts.parts)) c.order.ensures.is
-    ∙ ap (λ parts. fold (with_cut c.args.g.now.order) c.args.cuts.now (map (λ s. rising_list c.args.g.now.order (union (mem s) (singleton c.args.pair.a))) parts)) c.in_ok-parts.ensures
+returns c = grind arith

@@ -1,8 +1,5 @@
-use Rattle.std.proofs.Common.{◌≡◌, IsTrue, length, map, ◌∙◌, sym, ap, subst, ◌↔◌, arith, rules}
-use Rattle.counting.proofs.Common.{IfOk-weaker}
-use Rattle.graph_core.proofs.Common.{IsBipartite, IsPartition, quotient}
-use Rattle.tight_cuts.specs.Common.{candidates, candidates_at, lifted_candidate}
-use Rattle.tight_cuts.specs.declared.at_partition.AllAt.{AllAt}
+use Rattle.std.proofs.Common.{◌≡◌, length, ◌∙◌, sym, subst, arith}
+use Rattle.graph_core.proofs.Common.{IsPartition}
 use Rattle.tight_cuts.proofs.LiftedCandidates.{at-blocks, at-vertices, covered-single}
 use Rattle.tight_cuts.proofs.QuotientSides.{sides-at_vertices}
 use Rattle.tight_cuts.proofs.at_partition.all_at.Goals as goal

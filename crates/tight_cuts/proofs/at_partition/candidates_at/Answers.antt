@@ -1,7 +1,4 @@
-use Rattle.std.proofs.Common.{◌≡◌, ◌↔◌, All, List, [], length, sym, subst, arith, rules}
-use Rattle.counting.proofs.Common.{Set}
-use Rattle.graph_core.proofs.Common.{IsPartition, IsTightAt, blocks_in, IsNontrivial}
-use Rattle.tight_cuts.specs.Common.{Candidate, IsCandidateAt}
+use Rattle.std.proofs.Common.{arith}
 use Rattle.tight_cuts.proofs.PartitionCandidates.{found-at, none-at}
 use Rattle.tight_cuts.proofs.at_partition.candidates_at.Goals as goal
 

@@ -1,4 +1,4 @@
-use Rattle.std.proofs.Common.{◌∙◌, ap, sym, subst, arith, rules}
+use Rattle.std.proofs.Common.{◌∙◌, ap, sym, subst, arith}
 use Rattle.std.specs.Option.{option_map}
 use Rattle.graph_core.proofs.Common.{IsPartition}
 use Rattle.tight_cuts.specs.Common.{IsCandidateAt, candidates_at, candidate_of}

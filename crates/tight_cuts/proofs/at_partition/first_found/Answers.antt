@@ -1,9 +1,6 @@
-use Rattle.std.proofs.Common.{IsTrue, ◌≡◌, ◌↔◌, ◌∙◌, length, sym, ap, subst, arith, rules}
-use Rattle.counting.proofs.Common.{IfOk-weaker}
-use Rattle.std.specs.Option.{option_map}
-use Rattle.graph_core.proofs.Common.{IsBipartite, IsPartition, quotient}
-use Rattle.tight_cuts.specs.Common.{candidates, first_of, candidates_at, lifted_candidate, candidate_of}
-use Rattle.tight_cuts.specs.declared.at_partition.FirstAt.{FirstAt}
+use Rattle.std.proofs.Common.{◌≡◌, ◌∙◌, length, sym, ap, subst, arith}
+use Rattle.graph_core.proofs.Common.{IsPartition, quotient}
+use Rattle.tight_cuts.specs.Common.{candidates, first_of, lifted_candidate}
 use Rattle.tight_cuts.proofs.FirstCandidates.{first-lifted}
 use Rattle.tight_cuts.proofs.LiftedCandidates.{at-blocks, at-vertices, covered-single}
 use Rattle.tight_cuts.proofs.QuotientSides.{sides-at_vertices}

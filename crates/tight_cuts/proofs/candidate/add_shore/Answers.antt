@@ -1,4 +1,4 @@
-use Rattle.std.proofs.Common.{sym, ap, ◌∙◌, ◌++◌, ◌∷◌, [], arith, rules}
+use Rattle.std.proofs.Common.{sym, ◌∙◌, arith}
 use Rattle.graph_core.proofs.Common.{canonical-rises}
 use Rattle.tight_cuts.specs.Common.{origin_of}
 use Rattle.tight_cuts.proofs.CandidateLists.{shore-known, shore-narrow, shore-taken}

@@ -1,6 +1,4 @@
-use Rattle.std.proofs.Common.{◌∙◌, inr, sym, subst, arith, rules}
-use Rattle.counting.proofs.Common.{Within}
-use Rattle.tight_cuts.specs.Common.{IsCommonShore, greater_end, lesser_end}
+use Rattle.std.proofs.Common.{◌∙◌, inr, sym, arith}
 use Rattle.tight_cuts.proofs.EdgeShores.{named_leaders, named_leads, named_shore}
 use Rattle.tight_cuts.proofs.EdgePieces.{first_done, piece_found, piece_full, piece_none}
 use Rattle.tight_cuts.proofs.edge_search.shore_of_piece.Goals as goal

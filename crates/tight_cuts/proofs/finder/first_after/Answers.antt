@@ -1,6 +1,6 @@
-use Rattle.std.proofs.Common.{◌∙◌, ap, sym, arith, rules}
+use Rattle.std.proofs.Common.{◌∙◌, ap, sym, arith}
 use Rattle.std.specs.Option.{option_map}
-use Rattle.tight_cuts.specs.Common.{first_of, front_candidates, candidate_of}
+use Rattle.tight_cuts.specs.Common.{front_candidates, candidate_of}
 use Rattle.tight_cuts.proofs.FirstCandidates.{first-front, first-nil}
 use Rattle.tight_cuts.proofs.FrontEmpty.{front_empty}
 use Rattle.tight_cuts.proofs.finder.first_after.Goals as goal

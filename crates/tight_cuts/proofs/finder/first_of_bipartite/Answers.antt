@@ -1,5 +1,4 @@
-use Rattle.std.proofs.Common.{ap, sym, arith, rules}
-use Rattle.tight_cuts.specs.Common.{first_of}
+use Rattle.std.proofs.Common.{arith}
 use Rattle.tight_cuts.proofs.Completeness.{candidates_none}
 use Rattle.tight_cuts.proofs.finder.first_of_bipartite.Goals as goal
 

@@ -1,4 +1,4 @@
-use Rattle.std.proofs.Common.{◌∙◌, sym, eqb-true, length, arith, rules}
+use Rattle.std.proofs.Common.{eqb-true, arith}
 use Rattle.std.proofs.lemmas.List.{nil_from_length}
 use Rattle.tight_cuts.proofs.FrontEmpty.{front_empty}
 use Rattle.tight_cuts.proofs.finder.listed_after.Goals as goal

@@ -1,12 +1,8 @@
-use Rattle.std.proofs.Common.{◌≡◌, Option, sym, ap, ◌∙◌, arith, map, rules}
+use Rattle.std.proofs.Common.{sym, ap, ◌∙◌, arith}
 use Rattle.std.specs.Option.{option_map}
-use Rattle.counting.proofs.Common.{IfOk-weaker}
-use Rattle.barrier_kit.proofs.Common.{bicritical_no_cuts, barrier_cuts}
-use Rattle.graph_core.proofs.Common.{Graph}
+use Rattle.barrier_kit.proofs.Common.{bicritical_no_cuts}
 use Rattle.separation_kit.proofs.SeparationFacts.{equivalent-none}
-use Rattle.separation_kit.specs.Common.{pair_of, separation_cuts}
-use Rattle.tight_cuts.specs.Common.{Barrier, Separation, candidate_at, first_of, front_candidates, candidate_of}
-use Rattle.tight_cuts.specs.declared.candidate.Candidate.{Candidate}
+use Rattle.separation_kit.specs.Common.{pair_of}
 use Rattle.tight_cuts.proofs.FrontCandidates.{front-barriers, front-separations, order-small, equivalent-some}
 use Rattle.tight_cuts.proofs.front.first_front_candidate.Goals as goal
 

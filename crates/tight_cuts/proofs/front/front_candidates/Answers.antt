@@ -1,11 +1,11 @@
-use Rattle.std.proofs.Common.{◌≡◌, List, sym, subst, ap, ◌∙◌, arith, map, rules}
+use Rattle.std.proofs.Common.{◌≡◌, List, sym, subst, ap, ◌∙◌, arith, map}
 use Rattle.std.specs.Option.{option_map}
 use Rattle.counting.proofs.Common.{IfOk-weaker}
-use Rattle.barrier_kit.proofs.Common.{bicritical_no_cuts, barrier_cuts}
+use Rattle.barrier_kit.proofs.Common.{bicritical_no_cuts}
 use Rattle.graph_core.proofs.Common.{Graph, IsBicritical}
 use Rattle.separation_kit.proofs.SeparationFacts.{equivalent-none}
 use Rattle.separation_kit.specs.Common.{pair_of, separation_cuts}
-use Rattle.tight_cuts.specs.Common.{Barrier, Candidate, Separation, candidate_at, front_candidates}
+use Rattle.tight_cuts.specs.Common.{Candidate, Separation, candidate_at, front_candidates}
 use Rattle.tight_cuts.proofs.FrontCandidates.{front-barriers, front-separations, order-small, equivalent-some}
 use Rattle.tight_cuts.proofs.front.front_candidates.Goals as goal
 

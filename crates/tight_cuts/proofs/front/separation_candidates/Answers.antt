@@ -1,9 +1,8 @@
-use Rattle.std.proofs.Common.{◌≡◌, ◌∙◌, ap, sym, subst, List, map, All, arith, rules}
-use Rattle.counting.proofs.Common.{IfOk-weaker, IsRisingIn}
+use Rattle.std.proofs.Common.{◌∙◌, ap, sym, subst, All, arith}
+use Rattle.counting.proofs.Common.{IsRisingIn}
 use Rattle.separation_kit.proofs.SeparationFacts.{separation_cuts-canonical}
 use Rattle.graph_core.proofs.Common.{IsCanonicalCut, Graph, IsBicritical}
 use Rattle.separation_kit.specs.Common.{separation_cuts}
-use Rattle.tight_cuts.specs.Common.{Candidate, Separation, candidate_at}
 use Rattle.tight_cuts.proofs.FrontCandidates.{canonical-rising}
 use Rattle.tight_cuts.proofs.front.separation_candidates.Goals as goal
 

@@ -1,7 +1,5 @@
-use Rattle.std.proofs.Common.{◌∙◌, ap, sym, subst, arith, rules}
+use Rattle.std.proofs.Common.{ap, sym, subst, arith}
 use Rattle.counting.proofs.Common.{Within}
-use Rattle.tight_cuts.specs.Common.{group_net, row_group}
-use Rattle.tight_cuts.proofs.EdgeShores.{cut_answer, flow_answer}
 use Rattle.tight_cuts.proofs.groups.cut_of_groups.Goals as goal
 
 pub min_cut-requires-clause-source : goal.min_cut-requires-clause-source

@@ -1,4 +1,4 @@
-use Rattle.std.proofs.Common.{◌+◌, ◌++◌, ◌∙◌, refl, ap, arith, rules}
+use Rattle.std.proofs.Common.{◌+◌, ◌++◌, ◌∙◌, refl, ap, arith}
 use Rattle.flow_core.specs.Common.{Net, total_capacity}
 use Rattle.graph_core.proofs.Common.{size}
 use Rattle.tight_cuts.specs.Common.{arc_between, at_place, row_group}

@@ -1,8 +1,7 @@
-use Rattle.std.proofs.Common.{◌≡◌, ◌∙◌, Bool, None, ap₂, max, min, subst₂, true, arith, rules}
+use Rattle.std.proofs.Common.{◌≡◌, ◌∙◌, Bool, None, ap₂, max, min, subst₂, true, arith}
 use Rattle.counting.proofs.Common.{IfOk-weaker}
 use Rattle.tight_cuts.specs.Common.{first_separated, greater_end, lesser_end, AreWhole}
 use Rattle.tight_cuts.proofs.EdgePieces.{inseparable}
-use Rattle.tight_cuts.proofs.EdgeShores.{leaders_turned, named_leaders}
 use Rattle.tight_cuts.proofs.inseparable.is_inseparable.Goals as goal
 
 pub are_whole-requires-2-clause-leaders : goal.are_whole-requires-2-clause-leaders

@@ -1,4 +1,4 @@
-use Rattle.std.proofs.Common.{◌≡◌, ◌+◌, ◌∙◌, ◌<◌, length, sym, ap, subst, arith, slice_set, rules}
+use Rattle.std.proofs.Common.{◌≡◌, ◌∙◌, ◌<◌, length, sym, subst, arith, slice_set}
 use Rattle.std.proofs.lemmas.List.{get_or_default}
 use Rattle.allowed_edges.proofs.Marking.{edge-below}
 use Rattle.tight_cuts.specs.Common.{at_place}

@@ -1,4 +1,4 @@
-use Rattle.std.proofs.Common.{◌+◌, ◌∙◌, sym, subst, arith, rules}
+use Rattle.std.proofs.Common.{◌+◌, ◌∙◌, sym, subst, arith}
 use Rattle.counting.proofs.Common.{both_ways}
 use Rattle.allowed_edges.proofs.PairSteps.{held_together}
 use Rattle.allowed_edges.specs.PairTables.{edge_lists}

@@ -1,10 +1,8 @@
-use Rattle.std.proofs.Common.{◌≡◌, ◌+◌, ◌<◌, ◌∙◌, ℕ, List, All, length, ap, arith, get_or, map, subst, sym, rules}
+use Rattle.std.proofs.Common.{◌≡◌, ◌+◌, ◌<◌, ℕ, List, All, length, arith, get_or}
 use Rattle.std.proofs.lemmas.List.{length-replicate}
-use Rattle.counting.proofs.Common.{bit, mem}
 use Rattle.graph_core.proofs.Common.{Graph, size}
-use Rattle.match_core.specs.Common.{IsOf, MatchingValue, edges_of}
+use Rattle.match_core.specs.Common.{IsOf, MatchingValue}
 use Rattle.match_core.specs.declared.matching.MatchRow.{MatchRow}
-use Rattle.tight_cuts.specs.Common.{at_place, weight}
 use Rattle.tight_cuts.proofs.Weighing.{list-small, map-length, take-whole, weight-next, weight-taken, zeros}
 use Rattle.tight_cuts.proofs.pieces.weights_of.Goals as goal
 

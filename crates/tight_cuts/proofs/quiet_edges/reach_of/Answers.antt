@@ -1,7 +1,4 @@
-use Rattle.std.proofs.Common.{List, ℕ, subst, sym, arith, rules}
-use Rattle.counting.proofs.Common.{mem}
-use Rattle.allowed_edges.specs.PairTables.{IsPerfectWith, SettlesEdges}
-use Rattle.tight_cuts.specs.Common.{IsOneSided}
+use Rattle.std.proofs.Common.{arith}
 use Rattle.tight_cuts.proofs.quiet_edges.reach_of.Goals.{then-refused-lt-MOST_REFUSED+then-is_in_cut+then-not-share_end+in_ok-kept, else-refused-lt-MOST_REFUSED}
 use Rattle.tight_cuts.proofs.quiet_edges.reach_of.Goals as goal
 

@@ -1,4 +1,4 @@
-use Rattle.std.proofs.Common.{ℕ, List, subst, sym, arith, rules}
+use Rattle.std.proofs.Common.{ℕ, List, subst, sym, arith}
 use Rattle.counting.proofs.Common.{mem}
 use Rattle.graph_core.proofs.Common.{covered_perfect, HasPerfect, IsPerfect}
 use Rattle.match_core.specs.Common.{edges_of}

@@ -1,7 +1,7 @@
-use Rattle.std.proofs.Common.{List, ℕ, subst₂, sym}
+use Rattle.std.proofs.Common.{List, ℕ, subst₂, sym, arith}
 use Rattle.graph_core.proofs.Common.{Graph}
 use Rattle.tree_core.proofs.Common.{IsLeafAt}
-use Rattle.tree_check.specs.Common.{IsLeafJudgement, IsLeafOfKind}
+use Rattle.tree_check.specs.Common.{IsLeafOfKind}
 use Rattle.tree_check.proofs.leaf.scan_leaf.Goals as goal
 
 pub returns-in-Some-clause-scanned : goal.returns-in-Some-clause-scanned
@@ -11,7 +11,4 @@ returns-in-Some-clause-scanned c =
 
 pub scanned_leaf-requires-clause-judged : goal.scanned_leaf-requires-clause-judged
 unfolding IsLeafAt
-scanned_leaf-requires-clause-judged c =
-    let found = c.in_ok-found.ensures in
-    subst₂ (λ (g : Graph) (p : List (List ℕ)). IsLeafJudgement g p c.judged.result) c.graph.ensures c.partition-2.ensures.blocks
-    (c.judged.ensures c.graph.result.now c.partition-2.result.now.blocks found.first found.none.0 found.side)
+scanned_leaf-requires-clause-judged c = grind arith

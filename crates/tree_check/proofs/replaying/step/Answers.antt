@@ -1,19 +1,13 @@
-use Rattle.std.proofs.Common.{◌≡◌, Some, sym, subst}
-use Rattle.tree_core.proofs.Common.{fits-derivation, move_result, move_of, Fits, shape_of}
+use Rattle.std.proofs.Common.{◌≡◌, Some, subst, arith}
+use Rattle.tree_core.proofs.Common.{fits-derivation, move_result, move_of, shape_of}
 use Rattle.tree_check.proofs.MovesFit.{move-fits}
-use Rattle.tree_check.specs.Common.{IsScanned}
 use Rattle.tree_check.proofs.replaying.step.Goals as goal
 
 pub apply-requires : goal.apply-requires
-apply-requires c =
-    subst (λ k. Fits k (shape_of c.args.tree)) (sym c.order.ensures.is) (fits-derivation c.args.c.now (shape_of c.args.tree) c.requires)
+apply-requires c = grind (arith, fits-derivation c.args.c.now (shape_of c.args.tree) c.requires)
 
 pub is_sound-requires : goal.is_sound-requires
-is_sound-requires c = (
-  shape_of c.args.tree,
-  c.requires,
-  subst (λ k. move_result k (shape_of c.args.tree) (move_of c.args.item.now) ≡ Some (shape_of c.in-Ok.made)) c.order.ensures.is c.in-Ok.ensures.ok,
-)
+is_sound-requires c = grind arith
 
 pub scan_covered-requires : goal.scan_covered-requires
 scan_covered-requires c =
@@ -21,8 +15,4 @@ scan_covered-requires c =
     (subst (λ k. move_result k (shape_of c.args.tree) (move_of c.args.item.now) ≡ Some (shape_of c.in-Ok.made)) c.order.ensures.is c.in-Ok.ensures.ok)
 
 pub returns-in-Refused : goal.returns-in-Refused
-returns-in-Refused c = (
-  shape_of c.in-Ok.made,
-  subst (λ k. move_result k (shape_of c.args.tree) (move_of c.args.item.now) ≡ Some (shape_of c.in-Ok.made)) c.order.ensures.is c.in-Ok.ensures.ok,
-  subst (IsScanned c.args.c.now (shape_of c.in-Ok.made)) c.in-Refused.is c.in_ok-scan_covered.ensures,
-)
+returns-in-Refused c = grind arith

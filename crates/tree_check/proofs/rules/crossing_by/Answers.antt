@@ -1,6 +1,6 @@
-use Rattle.std.proofs.Common.{ℕ, List, [], length, Option, unwrap_or, sym, ap, ◌∙◌, subst}
-use Rattle.counting.proofs.Common.{is_odd, IsRisingIn, mem, rising_list}
-use Rattle.graph_core.proofs.Common.{Graph, quotient, blocks_in, IsTight}
+use Rattle.std.proofs.Common.{ℕ, List, [], length, Option, unwrap_or, sym, ap, ◌∙◌, subst, arith}
+use Rattle.counting.proofs.Common.{mem, rising_list}
+use Rattle.graph_core.proofs.Common.{Graph, quotient, blocks_in}
 use Rattle.tight_cuts.specs.Common.{CrossesTwice, IsTightness}
 use Rattle.tree_check.proofs.CutRules.{crossing-shown, places-odd, places-rise, tight-shown}
 use Rattle.tree_check.proofs.rules.crossing_by.Goals as goal
@@ -11,25 +11,13 @@ is_tight-requires-clause-shore c =
     let p = c.args.p.now.blocks in
     let x = mem c.args.shore in
     let places = c.places_in.ensures ∙ ap (λ (bs : List (List ℕ)). rising_list (length bs) (blocks_in bs x)) c.partition.ensures.blocks in
-    subst (IsRisingIn c.graph.result.now.order) (sym places)
-    (subst (λ (h : Graph). IsRisingIn h.order (rising_list (length p) (blocks_in p x))) (sym (c.graph.ensures ∙ ap (λ q. q.graph) c.requires.contracted))
-    (places-rise g p x c.keeps_place.ensures.limits.multigraph.ends c.keeps_place.ensures.partition.partition))
+    grind (arith, places-rise g p x c.keeps_place.ensures.limits.multigraph.ends c.keeps_place.ensures.partition.partition)
 
 pub is_tight-requires-clause-odd : goal.is_tight-requires-clause-odd
-is_tight-requires-clause-odd c =
-    let x = mem c.args.shore in
-    let places = c.places_in.ensures ∙ ap (λ (bs : List (List ℕ)). rising_list (length bs) (blocks_in bs x)) c.partition.ensures.blocks in
-    ap (λ (s : List ℕ). is_odd (length s)) places
-    ∙ places-odd c.args.p.now.graph c.args.p.now.blocks x c.keeps_place.ensures.limits.multigraph.ends c.keeps_place.ensures.partition.partition c.requires.odd
+is_tight-requires-clause-odd c = grind (arith, places-odd c.args.p.now.graph c.args.p.now.blocks)
 
 pub returns-in-Tight-clause-none : goal.returns-in-Tight-clause-none
-returns-in-Tight-clause-none c none =
-    let x = mem c.args.shore in
-    let places = c.places_in.ensures ∙ ap (λ (bs : List (List ℕ)). rising_list (length bs) (blocks_in bs x)) c.partition.ensures.blocks in
-    tight-shown c.args.p.now.graph c.args.p.now.blocks x c.keeps_place.ensures.limits.multigraph.ends c.keeps_place.ensures.partition.partition c.requires.union
-    (subst (λ (s : List ℕ). IsTight (quotient c.args.p.now.graph c.args.p.now.blocks) (mem s)) places
-    (subst (λ (h : Graph). IsTight h (mem c.places_in.result)) (c.graph.ensures ∙ ap (λ q. q.graph) c.requires.contracted)
-    (subst (IsTightness c.graph.result.now (mem c.places_in.result)) c.in-Tight.is c.in_ok-is_tight.ensures)))
+returns-in-Tight-clause-none c none = grind (arith, tight-shown c.args.p.now.graph c.args.p.now.blocks)
 
 pub returns-in_ok-lift-in-Crossed-clause-some : goal.returns-in_ok-lift-in-Crossed-clause-some
 returns-in_ok-lift-in-Crossed-clause-some c m is =

@@ -1,6 +1,5 @@
 use Rattle.std.proofs.Common.{◌≡◌, ℕ, ◌+◌, ◌==◌, ◌||◌, true, List, sym, ◌∙◌, subst, arith}
 use Rattle.counting.proofs.Common.{mem}
-use Rattle.graph_core.proofs.Common.{blocks_in}
 use Rattle.tree_check.proofs.PlacesInside.{added-members, added-within, all-places, left-members, left-within, room}
 use Rattle.tree_check.proofs.rules.places_in.Goals.{then-is_subset, else-is_subset}
 use Rattle.tree_check.proofs.rules.places_in.Goals as goal
@@ -24,18 +23,8 @@ loop-i-preserved c = elim c.if-is_subset.branch [
         (λ j. subst (λ (s : List ℕ). mem s j ≡ (mem c.loop-i.places j || (c.loop-i.i + 1 == j))) (sym w.places-is) (w.with-places.ensures j))
         (sym c.is_subset.ensures ∙ w.if-is_subset.true);
   }
-  | else-is_subset w ↦ record {
-    within = λ j m. left-within c.args.p.now.blocks c.args.shore c.loop-i.places c.loop-i.i c.loop-i.invariant.within c.loop-i.invariant.members c.block.result c.block.ensures j
-        (subst (λ (s : List ℕ). mem s j ≡ true) w.places-is m);
-    members = λ j u. subst (λ (s : List ℕ). mem s j ≡ blocks_in c.args.p.now.blocks (mem c.args.shore) j) (sym w.places-is)
-        (left-members c.args.p.now.blocks c.args.shore c.loop-i.places c.loop-i.i c.loop-i.invariant.within c.loop-i.invariant.members c.block.result c.block.ensures
-        (sym c.is_subset.ensures ∙ w.if-is_subset.false) j u);
-  }
+  | else-is_subset w ↦ grind (arith, left-within, left-members)
 ]
 
 pub returns : goal.returns
-returns c =
-    let t = c.loop-i-test.false in
-    let a = c.loop-i.auto.i-end in
-    let s = c.len-i-end.ensures in
-    all-places c.args.p.now.blocks c.args.shore c.loop-i.places c.loop-i.i (omega arith) c.rises.ensures c.loop-i.invariant.within c.loop-i.invariant.members
+returns c = grind (arith, all-places c.args.p.now.blocks c.args.shore c.loop-i.places c.loop-i.i)

@@ -5,7 +5,7 @@ use Rattle.tree_core.specs.declared.tallies.Tally.{Tally}
 use Rattle.tree_check.specs.Common.{IsScannedAt}
 use Rattle.tree_check.specs.declared.judgement.Scanned.{Scanned}
 use Rattle.tree_check.specs.declared.judgement.Scanned.TheVariants as scanned
-use Rattle.tree_check.proofs.Scanning.{few-beside, few-kept, few-merged, found-at, passed-both, refused-kept, refused-merged}
+use Rattle.tree_check.proofs.Scanning.{few-beside, few-kept, few-merged, passed-both, refused-kept, refused-merged}
 use Rattle.tree_check.proofs.scan.+scanning.Goals as goal
 use Rattle.tree_check.proofs.scan.+scanning.Goals.{scan_cut-In_ok-node, scan_cut-In_ok-node-2}
 
@@ -15,11 +15,7 @@ is_cut t c = c.in_ok-why.ensures.none c.in_default.is
 
 -- what is found of the tree of the side that is kept
 kept : (t : ℕ) (c : scan_cut-In_ok-node t) (found : Scanned) → c.in_ok-node.field-0 ≡ found → IsScannedAt c.args.p.now.graph (kept_at c.args.p.now.graph.order c.args.p.now.blocks c.args.shore) (shape_of c.args.kept.now) (c.args.node + 1) found
-kept t c found is =
-    let g = c.args.p.now.graph in
-    let q = kept_at g.order c.args.p.now.blocks c.args.shore in
-    subst (IsScannedAt g q (shape_of c.args.kept.now) (c.args.node + 1)) is
-    (found-at g q c.in_ok-below.below (shape_of c.args.kept.now) (c.args.node + 1) c.in_ok-node.field-0 c.in_ok-below.ensures.graph c.in_ok-below.ensures.blocks c.in_ok-node.ensures.scanned)
+kept t c found is = grind arith
 
 -- it has few leaves
 few : (t : ℕ) (c : scan_cut-In_ok-node t) (tally : Tally) → c.in_ok-node.field-0 ≡ scanned.Passed tally → 2 * tally.leaves + 2 ≤ length c.args.p.now.blocks
@@ -29,17 +25,10 @@ few t c tally is =
 
 -- what is found of the tree of the side that is merged
 merged : (t : ℕ) (c : scan_cut-In_ok-node-2 t) (found : Scanned) → c.in_ok-node-2.field-0 ≡ found → IsScannedAt c.args.p.now.graph (merged_at c.args.p.now.graph.order c.args.p.now.blocks c.args.shore) (shape_of c.args.merged.now) (c.args.node + 2 * c.in-Passed.tally.leaves) found
-merged t c found is =
-    let g = c.args.p.now.graph in
-    let q = merged_at g.order c.args.p.now.blocks c.args.shore in
-    subst (IsScannedAt g q (shape_of c.args.merged.now) (c.args.node + 2 * c.in-Passed.tally.leaves)) is
-    (found-at g q c.in_ok-beside.beside (shape_of c.args.merged.now) (c.args.node + 2 * c.in-Passed.tally.leaves) c.in_ok-node-2.field-0 c.in_ok-beside.ensures.graph c.in_ok-beside.ensures.blocks c.in_ok-node-2.ensures.scanned)
+merged t c found is = grind arith
 
 pub scan_cut-returns-in-Refused-clause-scanned : goal.scan_cut-returns-in-Refused-clause-scanned
-scan_cut-returns-in-Refused-clause-scanned t c =
-    let at = (goal.at.scan_cut-returns-in-Refused-clause-scanned t c).In_ok-node in
-    refused-kept c.args.p.now.graph c.args.p.now.blocks c.args.shore (shape_of c.args.kept.now) (shape_of c.args.merged.now) c.args.node (is_cut t at) c.in-Refused.node c.in-Refused.why
-    (kept t at (scanned.Refused c.in-Refused.node c.in-Refused.why) c.in-Refused.is)
+scan_cut-returns-in-Refused-clause-scanned t c = grind (arith, refused-kept, is_cut)
 
 pub scan_cut-overflow_mul-next : goal.scan_cut-overflow_mul-next
 scan_cut-overflow_mul-next t c =

@@ -1,11 +1,8 @@
-use Rattle.std.proofs.Common.{IsTrue, List, ◌∷◌, ◌∙◌, ℕ, ap, arith, rules, subst, subst₂, sym}
+use Rattle.std.proofs.Common.{IsTrue, ap, arith}
 use Rattle.counting.proofs.Common.{IfOk-weaker}
-use Rattle.graph_core.proofs.Common.{Graph}
-use Rattle.tree_core.proofs.Common.{Fits, IsCutAt, IsDerivationAt, Shape, shape_of}
-use Rattle.tree_core.specs.declared.path.Side.{Side}
-use Rattle.tree_core.specs.declared.tree.Tree.{Tree}
+use Rattle.tree_core.proofs.Common.{IsCutAt, IsDerivationAt, shape_of}
 use Rattle.tree_check.proofs.SoundMoves.{switched-here, switched-kept, switched-merged}
-use Rattle.tree_check.specs.Common.{IsBlock, IsSwitched}
+use Rattle.tree_check.specs.Common.{IsBlock}
 use Rattle.tree_check.proofs.sound_moves.+is_sound_switch.Goals as goal
 
 pub returns-in-None : goal.returns-in-None
@@ -27,19 +24,7 @@ is_sound_switch-requires t c =
     let arm = c.in-Some-Kept-default in
     let shorter = arm.ensures.cases.1 in
     let falls = c.decreases in
-    let switched = switched-kept g c.args.p.now.blocks arm.rest.now c.args.u c.args.v c.in-Cut.shore (shape_of c.in-Cut.kept.value) (shape_of c.in-Cut.merged.value)
-    (subst₂ (λ (path : List Side) (s : Shape). IsSwitched g c.args.p.now.blocks path c.args.u c.args.v s)
-    (arm.ensures.cases.0 ∙ ap (λ (s : Side). s ∷ arm.rest.now) arm.field-0-0-is) (ap shape_of c.in-Cut.is) c.requires.switched) in (
-      first_of (omega arith, search rules),
-      (
-        below.ensures.graph ∙ c.requires.graph,
-        (
-          subst₂ (λ (h : Graph) (u : Tree). Fits h.order (shape_of u)) (sym below.ensures.graph) (sym c.deref.ensures) (subst (λ (u : Tree). Fits g.order (shape_of u)) c.in-Cut.is c.requires.fits).1,
-          subst (λ (u : Tree). IsSwitched below.below.graph below.below.blocks arm.rest.now c.args.u c.args.v (shape_of u)) (sym c.deref.ensures)
-              (subst₂ (λ (h : Graph) (q : List (List ℕ)). IsSwitched h q arm.rest.now c.args.u c.args.v (shape_of c.in-Cut.kept.value)) (sym below.ensures.graph) (sym below.ensures.blocks) switched),
-        ),
-      ),
-    )
+    grind (arith, switched-kept g c.args.p.now.blocks arm.rest.now c.args.u c.args.v c.in-Cut.shore (shape_of c.in-Cut.kept.value) (shape_of c.in-Cut.merged.value))
 
 pub is_sound_switch-requires-in-Some-Merged-default : goal.is_sound_switch-requires-in-Some-Merged-default
 is_sound_switch-requires-in-Some-Merged-default t c =
@@ -48,16 +33,4 @@ is_sound_switch-requires-in-Some-Merged-default t c =
     let arm = c.in-Some-Merged-default in
     let shorter = arm.ensures.cases.1 in
     let falls = c.decreases in
-    let switched = switched-merged g c.args.p.now.blocks arm.rest.now c.args.u c.args.v c.in-Cut.shore (shape_of c.in-Cut.kept.value) (shape_of c.in-Cut.merged.value)
-    (subst₂ (λ (path : List Side) (s : Shape). IsSwitched g c.args.p.now.blocks path c.args.u c.args.v s)
-    (arm.ensures.cases.0 ∙ ap (λ (s : Side). s ∷ arm.rest.now) arm.field-0-0-is) (ap shape_of c.in-Cut.is) c.requires.switched) in (
-      first_of (omega arith, search rules),
-      (
-        below.ensures.graph ∙ c.requires.graph,
-        (
-          subst₂ (λ (h : Graph) (u : Tree). Fits h.order (shape_of u)) (sym below.ensures.graph) (sym c.deref-in-Some-Merged-default.ensures) (subst (λ (u : Tree). Fits g.order (shape_of u)) c.in-Cut.is c.requires.fits).2,
-          subst (λ (u : Tree). IsSwitched below.below.graph below.below.blocks arm.rest.now c.args.u c.args.v (shape_of u)) (sym c.deref-in-Some-Merged-default.ensures)
-              (subst₂ (λ (h : Graph) (q : List (List ℕ)). IsSwitched h q arm.rest.now c.args.u c.args.v (shape_of c.in-Cut.merged.value)) (sym below.ensures.graph) (sym below.ensures.blocks) switched),
-        ),
-      ),
-    )
+    grind (arith, switched-merged g c.args.p.now.blocks arm.rest.now c.args.u c.args.v c.in-Cut.shore (shape_of c.in-Cut.kept.value) (shape_of c.in-Cut.merged.value))

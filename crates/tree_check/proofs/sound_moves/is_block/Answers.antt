@@ -1,9 +1,7 @@
-use Rattle.std.proofs.Common.{eqb-true, sym, ◌∙◌}
+use Rattle.std.proofs.Common.{eqb-true, arith}
 use Rattle.counting.proofs.Common.{mem}
 use Rattle.tree_check.proofs.SoundMoves.{block-of_one}
 use Rattle.tree_check.proofs.sound_moves.is_block.Goals as goal
 
 pub returns-then-is_union : goal.returns-then-is_union
-returns-then-is_union c one =
-    let union = c.is_union.ensures.0 c.if-is_union.true in
-    (union.set, block-of_one c.args.p.now.order c.args.p.now.blocks c.keeps_partition.ensures.partition.partition (mem c.args.set) union.union (sym c.blocks_in.ensures ∙ eqb-true c.blocks_in.result 1 one))
+returns-then-is_union c one = grind (arith, block-of_one c.args.p.now.order c.args.p.now.blocks c.keeps_partition.ensures.partition.partition (mem c.args.set), eqb-true c.blocks_in.result 1 one)

@@ -1,5 +1,4 @@
-use Rattle.std.proofs.Common.{◌≤◌, ℕ, List, ap, sym, ◌∙◌, arith}
-use Rattle.counting.proofs.Common.{is_subset}
+use Rattle.std.proofs.Common.{sym, arith}
 use Rattle.tree_core.proofs.SwitchSets.{not-covered, outside-is}
 use Rattle.tree_core.proofs.switched_shores.covers_outside.Goals as goal
 
@@ -7,6 +6,4 @@ pub returns-then-n-gt-MOST_VERTICES : goal.returns-then-n-gt-MOST_VERTICES
 returns-then-n-gt-MOST_VERTICES c = sym (not-covered c.args.n c.args.v c.args.x c.rises.ensures c.requires (let z = c.if-n-gt-MOST_VERTICES.true in omega arith))
 
 pub returns : goal.returns
-returns c =
-    let small : c.args.n ≤ 128 = let z = c.if-n-gt-MOST_VERTICES.false in omega arith in
-    c.is_subset.ensures ∙ ap (λ (o : List ℕ). is_subset o c.args.v) (outside-is c.args.n c.args.x c.outside_within.result c.outside_within.ensures.rising small c.outside_within.ensures.members)
+returns c = grind (arith, outside-is c.args.n c.args.x c.outside_within.result c.outside_within.ensures.rising)

@@ -6,9 +6,7 @@ pub loop-i-init : goal.loop-i-init
 loop-i-init c = record { so_many = search rules; right = λ j w. absurd (omega arith) }
 
 pub loop-i-preserved : goal.loop-i-preserved
-loop-i-preserved c =
-    let kinds = kinds-next c.args.g.now c.args.leaves.now c.loop-i.i c.get.result.now c.loop-i.kinds.items c.push.new.self.items c.in_ok-kind.kind c.get.ensures c.in_ok-push.ensures.items c.loop-i.invariant.so_many c.loop-i.invariant.right c.in_ok-kind.ensures in
-    record { so_many = kinds.0; right = kinds.1 }
+loop-i-preserved c = grind (arith, kinds-next)
 
 pub returns : goal.returns
 returns c = kinds-all c.args.g.now c.args.leaves.now c.loop-i.i c.loop-i.kinds.items (omega arith) c.loop-i.invariant.so_many c.loop-i.invariant.right

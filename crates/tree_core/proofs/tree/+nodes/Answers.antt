@@ -1,4 +1,4 @@
-use Rattle.std.proofs.Common.{ℕ, ◌+◌, ap, ap₂, sym, ◌∙◌}
+use Rattle.std.proofs.Common.{ℕ, arith}
 use Rattle.tree_core.specs.Common.{node_count, shape_of}
 use Rattle.tree_core.specs.declared.tree.Tree.{Tree}
 use Rattle.tree_core.proofs.tree.+nodes.Goals as goal
@@ -7,6 +7,4 @@ abbrev nodes_of : Tree → ℕ
 nodes_of tree = node_count (shape_of tree)
 
 pub returns-in-Cut : goal.returns-in-Cut
-returns-in-Cut t c =
-    ap₂ (λ (a b : ℕ). 1 + a + b) (c.nodes.ensures ∙ ap nodes_of c.deref.ensures) (c.nodes-in-Cut.ensures ∙ ap nodes_of c.deref-in-Cut.ensures)
-    ∙ ap nodes_of (sym c.in-Cut.is)
+returns-in-Cut t c = grind arith

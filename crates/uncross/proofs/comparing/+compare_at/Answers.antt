@@ -1,7 +1,6 @@
-use Rattle.std.proofs.Common.{◌*◌, ◌≤◌, List, ap, arith, length, refl, subst, sym, ℕ}
+use Rattle.std.proofs.Common.{◌*◌, ◌≤◌, ap, arith, length, refl, subst, sym, ℕ}
 use Rattle.graph_core.proofs.Common.{Graph}
 use Rattle.tree_core.proofs.Common.{IsDerivationAt, moves_of, cut_count, node_count, shape_of}
-use Rattle.tree_core.specs.declared.moves.Move.{Move}
 use Rattle.tree_core.specs.declared.tree.Tree.{Tree}
 use Rattle.uncross.proofs.CompareSteps.{IsCompared, both_leaves, compared}
 use Rattle.move_laws.specs.Common.{IsProperScript}
@@ -11,10 +10,7 @@ use Rattle.uncross.proofs.comparing.+compare_at.Goals.{In_ok-brought-in-Cut, In_
 -- the trees below the root shore of the second tree, which was brought to the root of the first
 below_shore : (t : ℕ) (c : In_ok-brought-in-Cut t) →
     IsCompared c.args.p.now.graph c.args.p.now.blocks (shape_of c.args.first) (shape_of c.args.second.now) c.in-Cut.shore (shape_of c.in_ok-brought-in-Cut.brought.kept) (shape_of c.in_ok-brought-in-Cut.brought.merged) (shape_of c.in-Cut.kept.value) (shape_of c.in-Cut.merged.value) (moves_of c.in_ok-brought-in-Cut.brought.moves)
-below_shore t c =
-    compared c.args.p.now.graph c.args.p.now.graph.order c.args.p.now.blocks (shape_of c.args.first) (shape_of c.args.second.now) c.in-Cut.shore (shape_of c.in-Cut.kept.value) (shape_of c.in-Cut.merged.value)
-    c.keeps_place.ensures.limits.multigraph.ends refl c.keeps_place.ensures.partition c.keeps_place.ensures.covered (ap shape_of c.in-Cut.is) c.requires.first c.requires.second
-    (shape_of c.in_ok-brought-in-Cut.brought.kept) (shape_of c.in_ok-brought-in-Cut.brought.merged) (moves_of c.in_ok-brought-in-Cut.brought.moves) c.in_ok-brought-in-Cut.ensures.brought
+below_shore t c = grind (arith, compared)
 
 abbrev nodes_of : Tree → ℕ
 nodes_of tree = node_count (shape_of tree)
@@ -35,9 +31,7 @@ pub bring-requires-clause-shore : goal.bring-requires-clause-shore
 bring-requires-clause-shore t c = (subst (λ (tree : Tree). IsDerivationAt c.args.p.now.graph c.args.p.now.blocks (shape_of tree)) c.in-Cut.is c.requires.second).0
 
 pub returns-in-Leaf-clause-script : goal.returns-in-Leaf-clause-script
-returns-in-Leaf-clause-script t c =
-    subst (λ (ms : List Move). IsProperScript c.args.p.now.graph c.args.p.now.blocks (shape_of c.args.first) (moves_of ms) (shape_of c.args.second.now)) (sym c.new.ensures)
-    (both_leaves c.args.p.now.graph c.args.p.now.graph.order c.args.p.now.blocks (shape_of c.args.first) (shape_of c.args.second.now) c.keeps_place.ensures.limits.multigraph.ends refl c.keeps_place.ensures.partition c.keeps_place.ensures.covered (ap shape_of c.in-Leaf.is) c.requires.first c.requires.second)
+returns-in-Leaf-clause-script t c = grind (arith, both_leaves)
 
 -- the moves put together
 together : (t : ℕ) (c : In_ok-moves-in-Cut t) →

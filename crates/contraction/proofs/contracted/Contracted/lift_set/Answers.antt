@@ -6,8 +6,7 @@ use Rattle.contraction.proofs.ContractedValues.{few-blocks, union-blocks}
 use Rattle.contraction.proofs.contracted.Contracted.lift_set.Goals as goal
 
 pub union_at-union-requires : goal.union_at-union-requires
-union_at-union-requires c = let f = few-blocks c.args.self.now c.keeps_contraction.ensures in
-    let e = ap length (c.deref.ensures.value ∙ ap (λ (q : ContractedValue). q.blocks) c.self.view_is) in omega arith
+union_at-union-requires c = grind (arith, few-blocks c.args.self.now c.keeps_contraction.ensures)
 
 pub returns : goal.returns
 returns c = λ g p is. union-blocks g p c.args.self.now c.union_at-union.result c.args.s c.keeps_contraction.ensures is c.rises.ensures

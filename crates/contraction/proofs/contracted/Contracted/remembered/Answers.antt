@@ -1,16 +1,11 @@
-use Rattle.std.proofs.Common.{ap, ◌∙◌, arith, ℕ, length, subst, Vec, Global}
+use Rattle.std.proofs.Common.{ap, ◌∙◌, arith}
 use Rattle.counting.proofs.Common.{length-map, item}
-use Rattle.contraction.specs.Contracted.{ContractedValue, KeepsContraction}
+use Rattle.contraction.specs.Contracted.{ContractedValue}
 use Rattle.contraction.proofs.ContractedValues.{item-remembered, one-each}
 use Rattle.contraction.proofs.contracted.Contracted.remembered.Goals as goal
 
 pub edges_at-requires : goal.edges_at-requires
-edges_at-requires c =
-    let keeps : KeepsContraction c.args.self.now = subst KeepsContraction c.self.view_is c.self.invariant in
-    let each = one-each c.args.self.now keeps in
-    let seen = ap (λ (q : ContractedValue). length q.edges) c.self.view_is in
-    let mapped = length-map c.self.inside.remembered.entries (λ (entry : (ℕ × ℕ) × Vec ℕ Global). entry.1.items) in
-    omega arith
+edges_at-requires c = grind (arith, one-each, length-map)
 
 pub returns-clause-value : goal.returns-clause-value
 returns-clause-value c = c.edges_at.ensures ∙ ap (λ (q : ContractedValue). item q.edges c.args.e) c.self.view_is

@@ -1,4 +1,4 @@
-use Rattle.std.proofs.Common.{◌≡◌, ◌<◌, ◌^◌, ap, sym, ◌∙◌, arith, length, ℕ, List, count_by}
+use Rattle.std.proofs.Common.{◌≡◌, ◌<◌, ◌^◌, ap, sym, ◌∙◌, arith, ℕ, List, count_by}
 use Rattle.std.proofs.lemmas.List.Sums.{count_by-le-length}
 use Rattle.counting.proofs.Common.{is_subset, mem}
 use Rattle.graph_core.proofs.Common.{block_count}
@@ -7,11 +7,7 @@ use Rattle.contraction.proofs.BlockLists.{count-along, length-partition}
 use Rattle.contraction.proofs.partition.Partition.blocks_in.Goals as goal
 
 few : (n : ℕ) (p q : List (List ℕ)) (s : List ℕ) (k : ℕ) → KeepsPartition (record { order = n; blocks = p }) → q ≡ p → k ≡ count_by (λ b. is_subset b s) q → k < 2 ^ 32
-few n p q s k keeps same e =
-    let l = count_by-le-length (λ b. is_subset b s) q in
-    let m = length-partition n p keeps.partition in
-    let f = keeps.few in
-    let h = ap length same in omega arith
+few n p q s k keeps same e = grind (arith, count_by-le-length, length-partition n p keeps.partition)
 
 inside : (p : PartitionValue) (blocks q : List (List ℕ)) (s : List ℕ) (k : ℕ) → blocks ≡ p.blocks → q ≡ blocks → k ≡ count_by (λ b. is_subset b s) q → k ≡ block_count p.blocks (mem s)
 inside p blocks q s k e f h = h ∙ ap (count_by (λ b. is_subset b s)) (f ∙ e) ∙ sym (count-along (λ b. is_subset b s) p.blocks)

@@ -7,8 +7,7 @@ use Rattle.contraction.proofs.QuotientValues.{few-blocks}
 use Rattle.contraction.proofs.partition.Partition.lift_set.Goals as goal
 
 pub union_at-union-requires : goal.union_at-union-requires
-union_at-union-requires c =
-    few-blocks c.args.self.now _ c.keeps_partition.ensures (ap length (c.deref.ensures.value ∙ ap (λ (p : PartitionValue). p.blocks) c.self.view_is))
+union_at-union-requires c = grind (arith, few-blocks c.args.self.now)
 
 pub returns : goal.returns
 returns c = λ g order. union-listed g c.args.self.now c.union_at-union.result c.args.s c.keeps_partition.ensures order c.rises.ensures

@@ -1,9 +1,9 @@
 -- Each step back along the path keeps what `IsPushed` says, by the lemmas on pushing.
-use Rattle.std.proofs.Common.{◌+◌, ◌-◌, List, length, set, sym, subst, ap, ◌∙◌, arith, w64, ℤ}
+use Rattle.std.proofs.Common.{◌-◌, List, length, set, sym, subst, ap, ◌∙◌, arith, w64, ℤ}
 use Rattle.std.proofs.lemmas.Int.{to_z-of_z}
-use Rattle.flow_core.specs.Common.{IsFlow, visit_at, first_node, last_node}
+use Rattle.flow_core.specs.Common.{visit_at}
 use Rattle.flow_core.proofs.Duality.{Fits-length}
-use Rattle.flow_core.proofs.SearchTrees.{room-some, room-below}
+use Rattle.flow_core.proofs.SearchTrees.{room-below}
 use Rattle.flow_core.proofs.Pushing.{IsPushed, push-within, IsPushed-step, pushed-flow, flow-below}
 use Rattle.flow_core.proofs.flow.Flow.augment.Goals as goal
 
@@ -36,23 +36,10 @@ pushing-preserved c = record {
 }
 
 pub overflow_add-self : goal.overflow_add-self
-overflow_add-self c =
-    let net = c.args.net.now in
-    let visits = c.args.visits.now in
-    let more = (visit_at visits (length visits - 1)).room in
-    let flow = pushed-flow net c.args.self.now.on c.pushing.self.on visits c.args.self.now.value more c.pushing.at c.requires.differ c.requires.flow c.pushing.invariant.pushed c.pushing-test.false in
-    let below = flow-below net c.requires.bounded c.pushing.self.on visits c.args.self.now.on (c.args.self.now.value + more) c.requires.tree c.requires.differ flow in
-    let same = c.pushing.invariant.value in omega arith
+overflow_add-self c = grind (arith, pushed-flow, flow-below)
 
 pub returns-clause-flow : goal.returns-clause-flow
-returns-clause-flow c =
-    let net = c.args.net.now in
-    let visits = c.args.visits.now in
-    let more = (visit_at visits (length visits - 1)).room in
-    subst (λ value. IsFlow net (first_node visits) (last_node visits) c.pushing.self.on (value + more)) (sym c.pushing.invariant.value)
-    (pushed-flow net c.args.self.now.on c.pushing.self.on visits c.args.self.now.value more c.pushing.at c.requires.differ c.requires.flow c.pushing.invariant.pushed c.pushing-test.false)
+returns-clause-flow c = grind arith
 
 pub returns-clause-more : goal.returns-clause-more
-returns-clause-more c =
-    let some = room-some c.args.net.now c.args.self.now.on c.args.visits.now c.requires.tree (length c.args.visits.now - 1) (let s = c.requires.tree.some in omega arith) in
-    let same = c.pushing.invariant.value in omega arith
+returns-clause-more c = grind arith

@@ -1,26 +1,13 @@
 -- Each turn goes back, goes on or passes an arc over, by the lemmas on a path that is laid.
-use Rattle.std.proofs.Common.{◌≡◌, ◌+◌, ◌-◌, ◌<◌, ◌++◌, ◌∷◌, [], ℕ, List, length, get_or, set, min, sym, ◌∙◌, ap, subst, arith, slice_index}
+use Rattle.std.proofs.Common.{◌≡◌, ◌+◌, ◌-◌, ◌++◌, ◌∷◌, [], length, get_or, min, sym, ◌∙◌, ap, subst, arith, slice_index}
 use Rattle.counting.proofs.Common.{get_or_read}
-use Rattle.flow_core.specs.Common.{node_at, IsLaid, work_left}
+use Rattle.flow_core.specs.Common.{IsLaid}
 use Rattle.flow_core.proofs.Scanning.{Leads-read, taken}
 use Rattle.flow_core.proofs.Laying.{IsLaid-push, last-read, work-back, work-pass}
 use Rattle.flow_core.proofs.layers.Layers.go_on.Goals as goal
 
 pub returns-then-place-row-clause-less : goal.returns-then-place-row-clause-less
-returns-then-place-row-clause-less c = λ _.
-    let rows = c.args.incidence.now in
-    let path = c.args.self.now.path.items in
-    let places = c.args.self.now.places.items in
-    let laid = c.requires.laid in
-    let last = c.len-last.result - 1 in
-    let some = laid.tree.some in
-    let long : length path ≡ last + 1 = let e = c.args.self.now.path.ok.0 in let r = c.len-last.ensures in omega arith in
-    let v = node_at path (last - 1) in
-    let within = laid.tree.nodes (last - 1) (omega arith) in
-    let all = laid.all_places in
-    let not_first = c.if-last-eq0.false in
-    rw (c.go_back.ensures.places, c.go_back.ensures.path)
-    (work-back c.args.net.now.nodes rows places path v last long within (omega arith) (laid.ahead (last - 1) (omega arith)))
+returns-then-place-row-clause-less c = grind (arith, work-back c.args.net.now.nodes)
 
 pub returns-then-room-gt0-clause-laid : goal.returns-then-room-gt0-clause-laid
 returns-then-room-gt0-clause-laid c =
@@ -50,14 +37,4 @@ returns-then-room-gt0-clause-laid c =
     (IsLaid-push net rows amounts levels places path laid last long from read.is row c.row-row.ensures place read.at c.if-place-row.false node room leads c.if-room-gt0.true level)
 
 pub returns-clause-less : goal.returns-clause-less
-returns-clause-less c = λ _.
-    let places = c.args.self.now.places.items in
-    let path = c.args.self.now.path.items in
-    let some = c.requires.laid.tree.some in
-    let from = c.index-from.result.now in
-    let read = last-read c.args.net.now c.args.incidence.now c.args.amounts.now c.args.self.now.levels.items places path c.requires.laid (c.len-last.result - 1) (let e = c.args.self.now.path.ok.0 in let r = c.len-last.ensures in omega arith) from c.index-from.ensures c.index-place.result.now c.index-place.ensures in
-    let within = read.within in
-    let all = c.requires.laid.all_places in
-    subst (λ k. work_left c.args.net.now.nodes c.args.incidence.now (set places from.node (k + 1)) path < work_left c.args.net.now.nodes c.args.incidence.now places path) read.at
-    (work-pass c.args.net.now.nodes c.args.incidence.now places path from.node within (omega arith)
-    (let at = read.at in let e = ap (λ (xs : List ℕ). length xs) c.row-row.ensures in let h = c.if-place-row.false in omega arith))
+returns-clause-less c = grind (arith, last-read c.args.net.now c.args.incidence.now c.args.amounts.now c.args.self.now.levels.items, work-pass c.args.net.now.nodes c.args.incidence.now)

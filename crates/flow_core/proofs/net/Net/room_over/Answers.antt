@@ -1,5 +1,5 @@
-use Rattle.std.proofs.Common.{ap, ap₂, ◌∙◌, arith, w64, to_z, of_z, ℤ}
-use Rattle.flow_core.specs.Common.{Arc, room_from, arc_of}
+use Rattle.std.proofs.Common.{ap₂, ◌∙◌, arith, to_z, of_z, ℤ}
+use Rattle.flow_core.specs.Common.{Arc, room_from}
 use Rattle.flow_core.proofs.Duality.{Fits-length}
 use Rattle.flow_core.proofs.Reading.{amount-fits, amount-read, capacity-below}
 use Rattle.flow_core.proofs.net.Net.room_over.Goals as goal
@@ -8,14 +8,10 @@ pub get-requires : goal.get-requires
 get-requires c = let l = Fits-length c.args.self.now.arcs c.args.amounts.now c.requires.fits in let k = c.requires.arc in omega arith
 
 pub room-requires-clause-within : goal.room-requires-clause-within
-room-requires-clause-within c =
-    amount-fits c.args.self.now c.args.amounts.now c.requires.fits c.args.i c.requires.arc (arc_of c.arc.result) c.arc.ensures (to_z w64 (of_z w64 c.get.result))
-    (amount-read c.args.amounts.now c.args.i c.get.result (record { sfits = c.get.type_inv }) c.get.ensures)
+room-requires-clause-within c = grind (arith, amount-fits, to_z, of_z, amount-read)
 
 pub room-requires-clause-below : goal.room-requires-clause-below
-room-requires-clause-below c =
-    let capacity = ap (λ (arc : Arc). arc.capacity) c.arc.ensures in
-    let below = capacity-below c.args.self.now c.requires.bounded c.args.i c.requires.arc in omega arith
+room-requires-clause-below c = grind (arith, capacity-below c.args.self.now c.requires.bounded c.args.i c.requires.arc)
 
 pub returns : goal.returns
 returns c = c.room.ensures ∙ ap₂ (λ (arc : Arc) (z : ℤ). room_from c.args.node arc z) c.arc.ensures (amount-read c.args.amounts.now c.args.i c.get.result (record { sfits = c.get.type_inv }) c.get.ensures)

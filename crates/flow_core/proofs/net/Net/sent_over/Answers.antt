@@ -1,6 +1,6 @@
-use Rattle.std.proofs.Common.{ap, ap₂, ◌∙◌, arith, subst, sym, w64, to_z, of_z, ℤ, pos, ◌≤ℤ◌}
+use Rattle.std.proofs.Common.{ap₂, ◌∙◌, arith, w64, of_z, ℤ}
 use Rattle.std.proofs.lemmas.Int.{to_z-of_z}
-use Rattle.flow_core.specs.Common.{Arc, room_from, sent_amount, arc_of}
+use Rattle.flow_core.specs.Common.{Arc, sent_amount}
 use Rattle.flow_core.proofs.Duality.{Fits-length}
 use Rattle.flow_core.proofs.Reading.{amount-fits, amount-read, capacity-below}
 use Rattle.flow_core.proofs.net.Net.sent_over.Goals as goal
@@ -9,19 +9,13 @@ pub get-requires : goal.get-requires
 get-requires c = let l = Fits-length c.args.self.now.arcs c.args.amounts.now c.requires.fits in let k = c.requires.arc in omega arith
 
 pub sent-requires-clause-within : goal.sent-requires-clause-within
-sent-requires-clause-within c =
-    amount-fits c.args.self.now c.args.amounts.now c.requires.fits c.args.i c.requires.arc (arc_of c.arc.result) c.arc.ensures (to_z w64 (of_z w64 c.get.result))
-    (amount-read c.args.amounts.now c.args.i c.get.result (record { sfits = c.get.type_inv }) c.get.ensures)
+sent-requires-clause-within c = grind (arith, amount-fits, of_z, amount-read)
 
 pub sent-requires-clause-below : goal.sent-requires-clause-below
-sent-requires-clause-below c =
-    let capacity = ap (λ (arc : Arc). arc.capacity) c.arc.ensures in
-    let below = capacity-below c.args.self.now c.requires.bounded c.args.i c.requires.arc in omega arith
+sent-requires-clause-below c = grind (arith, capacity-below c.args.self.now c.requires.bounded c.args.i c.requires.arc)
 
 pub sent-requires-clause-room : goal.sent-requires-clause-room
-sent-requires-clause-room c =
-    subst (λ (z : ℤ). pos c.args.more ≤ℤ z) (sym (ap₂ (λ (arc : Arc) (z : ℤ). room_from c.args.node arc z) c.arc.ensures (amount-read c.args.amounts.now c.args.i c.get.result (record { sfits = c.get.type_inv }) c.get.ensures)))
-    c.requires.room
+sent-requires-clause-room c = grind (arith, amount-read c.args.amounts.now c.args.i c.get.result)
 
 pub returns : goal.returns
 returns c = to_z-of_z w64 c.sent.result (record { sfits = c.sent.type_inv }) ∙ c.sent.ensures ∙ ap₂ (λ (arc : Arc) (z : ℤ). sent_amount arc c.args.node z c.args.more) c.arc.ensures (amount-read c.args.amounts.now c.args.i c.get.result (record { sfits = c.get.type_inv }) c.get.ensures)

@@ -1,11 +1,10 @@
 use Rattle.std.proofs.Common.{◌==◌, ◌||◌, ap, ◌∙◌, arith}
 use Rattle.counting.proofs.Common.{mem}
-use Rattle.flow_core.proofs.SearchTrees.{IsTree-root, IsSeen-root}
+use Rattle.flow_core.proofs.SearchTrees.{IsSeen-root}
 use Rattle.flow_core.proofs.search.Reached.from_source.Goals as goal
 
 pub returns-clause-tree : goal.returns-clause-tree
-returns-clause-tree c = λ amounts.
-    rw (c.in_ok-push.ensures.items, c.new-visits.ensures.items) (IsTree-root c.args.net.now amounts _ c.requires.source (omega arith))
+returns-clause-tree c = grind arith
 
 pub returns-clause-seen : goal.returns-clause-seen
 returns-clause-seen c =

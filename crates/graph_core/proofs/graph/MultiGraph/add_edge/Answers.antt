@@ -1,4 +1,4 @@
-use Rattle.std.proofs.Common.{rules, ◌≡◌, ◌<◌, ◌∙◌, refl, ◌++◌, ◌∷◌, [], ℕ, List, length, map, drop, take, ap, arith, subst, sym}
+use Rattle.std.proofs.Common.{rules, ◌≡◌, ◌<◌, ◌∙◌, refl, ◌++◌, ◌∷◌, [], ℕ, List, length, drop, take, ap, arith, subst, sym}
 use Rattle.counting.proofs.Common.{map-append}
 use Rattle.std.proofs.Math.Seq.{take-append_seam}
 use Rattle.graph_core.specs.Common.{Graph, with_edge, AreRows, graph_of, pair_of, IsWithinLimits}
@@ -13,8 +13,7 @@ written_back len new rows long = ap (λ k. take k (new ++ drop (length new) rows
 
 -- the graph of the longer list has one edge more
 graph_of-more : (n : ℕ) (items pushed : List Ends) (a b : ℕ) → pushed ≡ items ++ record { a = a; b = b } ∷ [] → with_edge (graph_of n items) a b ≡ graph_of n pushed
-graph_of-more n items pushed a b more =
-    ap (λ ends. record { order = n; ends = ends }) (sym (map-append pair_of items (record { a = a; b = b } ∷ [])) ∙ ap (map pair_of) (sym more))
+graph_of-more n items pushed a b more = grind (arith, map-append pair_of items)
 
 pub invariant_of-self-2 : goal.invariant_of-self-2
 invariant_of-self-2 c =

@@ -1,4 +1,4 @@
-use Rattle.std.proofs.Common.{◌≡◌, ℕ, ap, sym, subst, ◌∙◌, length, List, [], arith}
+use Rattle.std.proofs.Common.{◌≡◌, ℕ, ◌∙◌, length, List, [], arith}
 use Rattle.counting.proofs.Common.{mem, none}
 use Rattle.graph_core.specs.Common.{component_count, components, Graph, IsGraph, AreRows, graph_of}
 use Rattle.graph_core.proofs.Components.{component_count_le, length-components}
@@ -7,8 +7,7 @@ use Rattle.graph_core.proofs.graph.MultiGraph.components.Goals as goal
 -- the list of the components is as long as there are components
 as_long : (g : Graph) (rows kept parts : List (List ℕ)) (removed : List ℕ) → IsGraph g → AreRows g kept → rows ≡ kept → removed ≡ [] →
     ((g : Graph) → IsGraph g → AreRows g rows → parts ≡ components g (mem removed)) → length parts ≡ component_count g none
-as_long g rows kept parts removed is are same empty found =
-    ap length (found g is (subst (AreRows g) (sym same) are)) ∙ ap (λ (xs : List ℕ). length (components g (mem xs))) empty ∙ length-components g none
+as_long g rows kept parts removed is are same empty found = grind (arith, length-components g none)
 
 pub overflow_cast-result : goal.overflow_cast-result
 overflow_cast-result c =
@@ -18,7 +17,4 @@ overflow_cast-result c =
     let n = c.self.invariant.limits.vertices in omega arith
 
 pub returns : goal.returns
-returns c =
-    let g = graph_of c.self.inside.order c.self.inside.edges.items in
-    c.len.ensures ∙ as_long g c.deref.result.now c.self.inside.rows.items c.in_ok-forest.forest.parts c.empty.result c.self.invariant.limits.multigraph.ends c.self.invariant.neighbours c.deref.ensures.value c.empty.ensures c.in_ok-forest.ensures.parts
-    ∙ ap (λ (g : Graph). component_count g none) c.self.view_is
+returns c = grind (arith, as_long)

@@ -1,6 +1,6 @@
-use Rattle.std.proofs.Common.{Option, List, ℕ, subst, IfSome}
-use Rattle.counting.proofs.Common.{IsLeastWithout, mem, none}
-use Rattle.graph_core.proofs.Common.{Allowed, HasPerfect, size, covered_perfect}
+use Rattle.std.proofs.Common.{Option, List, ℕ, subst, IfSome, arith}
+use Rattle.counting.proofs.Common.{mem, none}
+use Rattle.graph_core.proofs.Common.{HasPerfect, covered_perfect}
 use Rattle.match_core.specs.Common.{edges_of, ArePartners}
 use Rattle.allowed_edges.proofs.AllowedPartners.{perfect_unless_none}
 use Rattle.graph_facts.proofs.CoveredFacts.{maximum_is_perfect, told_reason}
@@ -15,12 +15,7 @@ pub returns-in-None-clause-uncovered : goal.returns-in-None-clause-uncovered
 returns-in-None-clause-uncovered c = λ why same covered. c.in_ok-partners_where_perfect.ensures.perfect.0 c.in-None.is (covered_perfect c.args.g.now c.keeps_limits.ensures.multigraph.ends covered)
 
 pub returns-in-Some-first_unallowed-clause-reason : goal.returns-in-Some-first_unallowed-clause-reason
-returns-in-Some-first_unallowed-clause-reason c = λ why same. told_reason c.args.g.now _ why same (
-  c.requires.two,
-  c.requires.connected,
-  perfect_by_table (goal.at.returns-in-Some-first_unallowed-clause-reason c).In-Some,
-  subst (λ (o : Option ℕ). IfSome o (IsLeastWithout (size c.args.g.now) (Allowed c.args.g.now))) c.in-Some-first_unallowed.is c.first_unallowed.ensures.some,
-)
+returns-in-Some-first_unallowed-clause-reason c = grind (arith, told_reason, perfect_by_table)
 
 pub invariant_of-result : goal.invariant_of-result
 invariant_of-result c =

@@ -17,7 +17,4 @@ returns-clause-perfect c =
     let m = mem (edges_of c.in_ok-own.own) in
     let same : (i : ℕ) → m i ≡ k i = λ i. c.in_ok-own.ensures.edges g c.matching.ensures.of i ∙ ap (λ (xs : List ℕ). left_over g (mem xs) k i) c.empty.ensures ∙ and_true (k i) in
     let perfect = c.matching.ensures.perfect in
-    record {
-      once = λ v w h. degree_congr g m k v (λ e we. same e) ∙ perfect.once v w h;
-      away = λ v w h. degree_congr g m k v (λ e we. same e) ∙ perfect.away v w h;
-    }
+    grind (arith, degree_congr g m k)

@@ -4,11 +4,7 @@ use Rattle.graph_core.proofs.Common.{component_count, Graph, component_count_le,
 use Rattle.graph_facts.proofs.facts.Facts.components.Goals as goal
 
 pub overflow_cast-result : goal.overflow_cast-result
-overflow_cast-result c =
-    let e = c.len.ensures ∙ ap length c.self.invariant.parts_are ∙ length-components c.self.inside.graph.now none in
-    let few = component_count_le c.self.inside.graph.now none in
-    let n = c.keeps_limits.ensures.vertices in
-    omega arith
+overflow_cast-result c = grind (arith, length-components c.self.inside.graph.now none, component_count_le c.self.inside.graph.now none)
 
 pub returns : goal.returns
 returns c = c.len.ensures ∙ ap length c.self.invariant.parts_are ∙ length-components c.self.inside.graph.now none ∙ ap (λ (g : Graph). component_count g none) c.self.view_is

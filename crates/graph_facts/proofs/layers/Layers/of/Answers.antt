@@ -1,12 +1,11 @@
-use Rattle.std.proofs.Common.{◌≡◌, ◌==◌, ◌&&◌, ◌||◌, ◌∙◌, ap, arith, not, refl, subst, sym, true, List, ℕ}
+use Rattle.std.proofs.Common.{◌&&◌, ◌||◌, ◌∙◌, ap, arith, not, subst, sym, List, ℕ}
 use Rattle.counting.proofs.Common.{Within, mem, or_false}
-use Rattle.graph_core.proofs.Common.{adjacent, row-adjacent}
+use Rattle.graph_core.proofs.Common.{row-adjacent}
 use Rattle.graph_facts.proofs.Parities.{flood_end, flood_less, flood_start, flood_step}
 use Rattle.graph_facts.proofs.layers.Layers.of.Goals as goal
 
 pub flooding-init : goal.flooding-init
-flooding-init c = flood_start c.args.g.now c.keeps_limits.ensures.multigraph (mem c.one.result) (mem c.empty.result) (mem c.one.result) (omega arith)
-    (λ v. ap (λ (xs : List ℕ). mem xs v) c.one.ensures ∙ or_false (1 == v)) (λ v. ap (λ (xs : List ℕ). mem xs v) c.empty.ensures) (λ v. refl)
+flooding-init c = grind (arith, flood_start c.args.g.now c.keeps_limits.ensures.multigraph (mem c.one.result) (mem c.empty.result) (mem c.one.result), or_false)
 
 pub flooding-preserved : goal.flooding-preserved
 flooding-preserved c =

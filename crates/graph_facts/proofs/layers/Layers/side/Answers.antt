@@ -1,4 +1,4 @@
-use Rattle.std.proofs.Common.{◌≡◌, ◌∙◌, ap, refl, sym, subst, List, ℕ}
+use Rattle.std.proofs.Common.{◌≡◌, ◌∙◌, ap, sym, subst, List, ℕ, arith}
 use Rattle.counting.proofs.Common.{mem, and_parts}
 use Rattle.graph_core.proofs.Common.{IsSide}
 use Rattle.graph_facts.proofs.Parities.{even_side, no_side}
@@ -9,10 +9,7 @@ even_is : (c : In-None) → IsSide c.args.g.now (mem c.args.self.now.even)
 even_is c = even_side c.args.g.now (mem c.args.self.now.even) (mem c.args.self.now.odd) c.requires.layers c.keeps_limits.ensures.multigraph c.requires.connected (λ v. sym (c.meet.ensures v) ∙ ap (λ (xs : List ℕ). mem xs v) c.in-None.ensures.none)
 
 pub returns-in-Some-clause-none : goal.returns-in-Some-clause-none
-returns-in-Some-clause-none c =
-    let v = c.in-Some.field-0 in
-    let p = and_parts (mem c.args.self.now.even v) (mem c.args.self.now.odd v) (sym (c.meet.ensures v) ∙ c.in-Some.ensures.some.member) in
-    (λ e b. no_side c.args.g.now (mem c.args.self.now.even) (mem c.args.self.now.odd) c.requires.layers c.keeps_limits.ensures.multigraph v p.0 p.1 b, λ h. refl)
+returns-in-Some-clause-none c = grind (arith, and_parts, no_side c.args.g.now (mem c.args.self.now.even) (mem c.args.self.now.odd) c.requires.layers c.keeps_limits.ensures.multigraph)
 
 pub returns-in-None-clause-some : goal.returns-in-None-clause-some
 returns-in-None-clause-some c = λ side e. let same : c.args.self.now.even ≡ side = cc in subst (λ (s : List ℕ). IsSide c.args.g.now (mem s)) same (even_is (goal.at.returns-in-None-clause-some c).In-None)

@@ -1,16 +1,11 @@
-use Rattle.std.proofs.Common.{sym, ◌∙◌, ap, position, map}
+use Rattle.std.proofs.Common.{sym, arith}
 use Rattle.std.specs.String.{string_bytes}
 use Rattle.std.specs.Str.{bytes_eq}
 use Rattle.graph_text.proofs.NameLists.{position-map, position-nameless}
 use Rattle.graph_text.proofs.names.Names.place.Goals as goal
 
 pub returns-in_err-name : goal.returns-in_err-name
-returns-in_err-name c =
-    c.from_residual.ensures ∙ sym (position-nameless c.args.self.now c.args.word.now c.are_names.ensures (sym c.in_err-name.ensures.is))
+returns-in_err-name c = grind (arith, position-nameless c.args.self.now c.args.word.now c.are_names.ensures (sym c.in_err-name.ensures.is))
 
 pub returns : goal.returns
-returns c =
-    c.get_index_of.ensures.index
-    ∙ sym (position-map (bytes_eq c.in_ok-name.name.now) string_bytes c.self.inside.names.keys)
-    ∙ ap (λ name. position (bytes_eq name) (map string_bytes c.self.inside.names.keys)) c.in_ok-name.ensures.same
-    ∙ ap (λ names. position (bytes_eq c.args.word.now) names) c.self.view_is
+returns c = grind (arith, position-map (bytes_eq c.in_ok-name.name.now) string_bytes c.self.inside.names.keys)

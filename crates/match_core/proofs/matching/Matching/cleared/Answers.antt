@@ -1,15 +1,13 @@
-use Rattle.std.proofs.Common.{◌≡◌, List, sym, subst, ap, ◌∙◌, filter}
+use Rattle.std.proofs.Common.{◌≡◌, List, sym, subst, ap, ◌∙◌, filter, arith}
 use Rattle.counting.proofs.Common.{mem}
-use Rattle.graph_core.proofs.Common.{IsMatching}
-use Rattle.match_core.specs.Common.{KeepsMatching, IsOf, MatchingValue, edges_of, is_clear}
+use Rattle.match_core.specs.Common.{KeepsMatching, IsOf, MatchingValue, is_clear}
 use Rattle.match_core.specs.declared.matching.MatchRow.{MatchRow}
 use Rattle.match_core.proofs.ClearedMatchings.{cleared, cleared_edges, cleared_matching, cleared_of}
 use Rattle.match_core.proofs.MatchingEdges.{keeps-filter}
 use Rattle.match_core.proofs.matching.Matching.cleared.Goals as goal
 
 pub returns-clause-rows : goal.returns-clause-rows
-returns-clause-rows c =
-    c.in_ok-clear_rows.ensures ∙ ap (filter (is_clear (mem c.args.removed))) c.deref.ensures.value ∙ ap (λ (m : MatchingValue). filter (is_clear (mem c.args.removed)) m.rows) c.self.view_is
+returns-clause-rows c = grind arith
 
 pub invariant_of-result : goal.invariant_of-result
 invariant_of-result c = subst (λ (rows : List MatchRow). KeepsMatching (record { order = c.self.inside.order; rows = rows })) (sym (c.in_ok-clear_rows.ensures ∙ ap (filter (is_clear (mem c.args.removed))) c.deref.ensures.value))
@@ -23,15 +21,7 @@ returns-clause-of c = λ g of.
     subst (λ (m : MatchingValue). IsOf g m) (sym is) (cleared_of g (mem c.args.removed) c.args.self.now of)
 
 pub returns-clause-matching : goal.returns-clause-matching
-returns-clause-matching c = λ g of.
-    let rows = c.in_ok-clear_rows.ensures ∙ ap (filter (is_clear (mem c.args.removed))) c.deref.ensures.value in
-    let made : MatchingValue = record { order = c.self.inside.order; rows = c.in_ok-clear_rows.field-0.items } in
-    let is : made ≡ cleared (mem c.args.removed) c.args.self.now = ap (λ (rows : List MatchRow). let m : MatchingValue = record { order = c.self.inside.order; rows = rows } in m) rows ∙ ap (cleared (mem c.args.removed)) c.self.view_is in
-    subst (λ (m : MatchingValue). IsMatching g (mem c.args.removed) (mem (edges_of m))) (sym is) (cleared_matching g (mem c.args.removed) c.args.self.now of c.keeps_matching.ensures)
+returns-clause-matching c = grind (arith, cleared_matching)
 
 pub returns-clause-edges : goal.returns-clause-edges
-returns-clause-edges c = λ g of i.
-    let rows = c.in_ok-clear_rows.ensures ∙ ap (filter (is_clear (mem c.args.removed))) c.deref.ensures.value in
-    let made : MatchingValue = record { order = c.self.inside.order; rows = c.in_ok-clear_rows.field-0.items } in
-    let is : made ≡ cleared (mem c.args.removed) c.args.self.now = ap (λ (rows : List MatchRow). let m : MatchingValue = record { order = c.self.inside.order; rows = rows } in m) rows ∙ ap (cleared (mem c.args.removed)) c.self.view_is in
-    ap (λ (m : MatchingValue). mem (edges_of m) i) is ∙ cleared_edges g (mem c.args.removed) c.args.self.now of i
+returns-clause-edges c = grind (arith, cleared_edges)

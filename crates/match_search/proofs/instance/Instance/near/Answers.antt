@@ -4,11 +4,7 @@ use Rattle.match_search.proofs.Instances.{first_in, near_found}
 use Rattle.match_search.proofs.instance.Instance.near.Goals as goal
 
 pub index-requires : goal.index-requires
-index-requires c =
-    let q = c.requires.instance in
-    let here = first_in c.blossoms.rest c.in-Some.others c.in-Some.b c.in-Some.ensures.some in
-    let w = q.2.blossoms_in c.in-Some.b (c.blossoms.invariant.within c.in-Some.b here) in
-    let e = q.2.members_each in omega arith
+index-requires c = grind (arith, first_in c.blossoms.rest c.in-Some.others c.in-Some.b c.in-Some.ensures.some)
 
 pub returns : goal.returns
 returns c =

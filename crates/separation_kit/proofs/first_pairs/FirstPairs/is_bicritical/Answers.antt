@@ -1,4 +1,4 @@
-use Rattle.std.proofs.Common.{◌∙◌, None, ap, refl, subst, sym}
+use Rattle.std.proofs.Common.{◌∙◌, ap, refl, subst, sym}
 use Rattle.std.specs.Option.{option_map}
 use Rattle.counting.proofs.Common.{both_ways}
 use Rattle.graph_core.proofs.Common.{Graph, IsBicritical}
