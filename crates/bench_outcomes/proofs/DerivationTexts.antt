@@ -34,13 +34,7 @@ few-told g t kinds limits derived right =
     let listed = length-leaves_at g.order (singles g.order) t in
     let cuts = leaf_count-cuts t in
     let counted = node_count-cuts t in
-    record {
-      order = omega arith;
-      edges = omega arith;
-      leaves = omega arith;
-      each_one = right.each_one;
-      partitions = partitions-leaves g t derived;
-    }
+    grind (arith, partitions-leaves g t derived)
 
 -- the report with comments after it stands for the tree
 stands-told : (g : Graph) (t : Shape) (kinds : List LeafKind) (bytes : List ℕ) → IsWithinLimits g → IsDerivation g t → AreLeafKinds g (leaves g.order t) kinds →

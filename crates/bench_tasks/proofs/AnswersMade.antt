@@ -1,10 +1,10 @@
 -- Answers of reads, put together: one more after those that were given, and a stop at it. What was
 -- loaded of the first files is what all files hold that give the first answers, and so on with the
 -- next: nothing is known of the files but what the answers say.
-use Rattle.std.proofs.Common.{◌≡◌, ℕ, ◌+◌, ◌≤◌, List, [], ◌∷◌, ◌++◌, length, take, refl, ap, sym, subst, ◌∙◌, arith, length-append, Result, Ok, Err, IfErr, IsOkAnd, MatchResult}
+use Rattle.std.proofs.Common.{◌≡◌, ℕ, ◌+◌, ◌≤◌, List, [], ◌∷◌, ◌++◌, length, take, refl, ap, sym, subst, arith, length-append, Result, Ok, Err, IfErr, IsOkAnd, MatchResult}
 use Rattle.counting.proofs.Common.{take_all}
 use Rattle.outside.specs.Common.{Answer, AnswersInTurn, NamedFile, ReadsInTurn, file_named}
-use Rattle.bench_tasks.specs.Common.{CountsAs, GathersAnswered, GaveFile, HoldGiven, LoadsAnswered, ReadsOnce, by_place, place_name, Command, file_names, Loaded, All, and_then, loaded, loaded_as, StopsAs, task_of, ReadsAs, StopsAt}
+use Rattle.bench_tasks.specs.Common.{CountsAs, GathersAnswered, GaveFile, HoldGiven, LoadsAnswered, ReadsOnce, by_place, place_name, Command, file_names, Loaded, and_then, loaded, loaded_as, task_of, ReadsAs, StopsAt}
 use Rattle.bench_tasks.specs.declared.stop.Stop.{Stop}
 use Rattle.bench_tasks.specs.declared.stop.Stop.TheVariants.{ReadFault, Bad, Memory}
 use Rattle.bench_tasks.specs.declared.tasks.Task.TheVariants as code
@@ -34,23 +34,15 @@ module _ {S : Type 0} (reads : S → List ℕ → Answer → S → Type 0) where
   in_turn-names [] [] first last in_turn = (omega arith, in_turn)
   in_turn-names (other ∷ names) [] first last in_turn = (omega arith, in_turn)
   in_turn-names [] (given ∷ answers) first last in_turn = absurd in_turn
-  in_turn-names (other ∷ names) (given ∷ answers) first last in_turn =
-      let rest = in_turn-names names answers in_turn.0 last in_turn.1.1 in
-      (omega (arith, rest.0), (given, in_turn.0, (in_turn.1.0, rest.1)))
+  in_turn-names (other ∷ names) (given ∷ answers) first last in_turn = grind (arith, in_turn-names names answers in_turn.0 last in_turn.1.1)
 
   names-up_to : (names : List (List ℕ)) (answers : List Answer) (file : ℕ) (first last : S) → length answers ≡ file → AnswersInTurn reads names answers first last →
       (file ≤ length names) × ReadsInTurn reads (take file names) first last
-  names-up_to names answers file first last counts in_turn =
-      subst (λ (k : ℕ). (k ≤ length names) × ReadsInTurn reads (take k names) first last) counts (in_turn-names names answers first last in_turn)
+  names-up_to names answers file first last counts in_turn = grind (arith, in_turn-names names answers first last in_turn)
 
   -- the reads of what was answered are those of all names, or of those up to the stop
   reads-answered : {X A : Type 0} (names : List (List ℕ)) (view : X → A) (held : List NamedFile → Loaded A) (result : Result X Stop) (first last : S) → LoadsAnswered reads names view held result first last → ReadsAs reads names result first last
-  reads-answered names view held (Ok x) first last made =
-      let all = names-up_to names made.answers (length names) first last made.counts made.in_turn in
-      subst (λ (ns : List (List ℕ)). ReadsInTurn reads ns first last) (take_all (length names) names (omega arith)) all.1
-  reads-answered names view held (Err (ReadFault file)) first last made = names-up_to names made.answers file first last made.counts made.in_turn
-  reads-answered names view held (Err (Bad file line kind)) first last made = names-up_to names made.answers file first last made.counts made.in_turn
-  reads-answered names view held (Err Memory) first last made = (length made.answers, in_turn-names names made.answers first last made.in_turn)
+  reads-answered names view held result first last made = grind (arith, names-up_to, take_all, in_turn-names)
 
 -- a command's answers are those of each command that is the same, and its files were read
 pub gathered-as : {S : Type 0} (reads : S → List ℕ → Answer → S → Type 0) (command other : Command) (result : Result code.the_data Stop) (first last : S) → command ≡ other → GathersAnswered reads command result first last →
@@ -62,13 +54,8 @@ gathered-as reads command other result first last is made =
 -- files that give some answers and one more
 hold-split : (files : List NamedFile) (place : ℕ) (answers : List Answer) (answer : Answer) → HoldGiven files place (answers ++ answer ∷ []) →
     HoldGiven files place answers × GaveFile answer (file_named (place_name (place + length answers)) files)
-hold-split files place [] answer given =
-    let same : place ≡ place + length {A = Answer} [] = omega arith in
-    (tt, subst (λ (p : ℕ). GaveFile answer (file_named (place_name p) files)) same given.0)
-hold-split files place (other ∷ answers) answer given =
-    let rest = hold-split files (place + 1) answers answer given.1 in
-    let same : place + 1 + length answers ≡ place + length (other ∷ answers) = omega arith in
-    ((given.0, rest.0), subst (λ (p : ℕ). GaveFile answer (file_named (place_name p) files)) same rest.1)
+hold-split files place [] answer given = grind arith
+hold-split files place (other ∷ answers) answer given = grind (arith, hold-split files (place + 1) answers answer given.1)
 
 -- a stop at the place after so many answers is counted by one answer more
 counts-at : (X : Type 0) (n m : ℕ) (stopped : Stop) → StopsAt m stopped → CountsAs {X = X} n m (Err stopped)
@@ -93,8 +80,7 @@ answered-first {S} {X} reads name view held result first last stops once = recor
 }
   where
     go : (result : Result X Stop) → IfErr result (StopsAt 1) → CountsAs 1 1 result
-    go (Ok x) stops = refl
-    go (Err stopped) stops = counts-at X 1 1 stopped stops
+    go result stops = grind arith
 
 -- what is made of what was loaded: of a value the one that it stands for, and of a stop the same
 abbrev pub IsMade : {X Z A C : Type 0} (view : X → A) (out : Z → C) (make : A → C) → Result X Stop → Result Z Stop → Type 0
@@ -104,39 +90,12 @@ module _ {S X Z A C : Type 0} (reads : S → List ℕ → Answer → S → Type 
   -- the first load stops
   pub answered-stopped : (more : List (List ℕ)) (next : List NamedFile → A → Loaded C) (stopped : Stop) (first last : S) → LoadsAnswered reads names view held (Err stopped) first last →
       LoadsAnswered reads (names ++ more) out (λ files. and_then (held files) (next files)) (Err stopped) first last
-  answered-stopped more next stopped first last made = record {
-    answers = made.answers;
-    in_turn = in_turn-more reads names more made.answers first last made.in_turn;
-    counts = counts-stopped X Z (length names) (length (names ++ more)) (length made.answers) stopped made.counts;
-    loads = λ files given. stops-then stopped (held files) (next files) (made.loads files given);
-  }
-
-  -- one load stops, and nothing is made
-  answered-made-stopped : (make : A → C) (stopped : Stop) (first last : S) → LoadsAnswered reads names view held (Err stopped) first last →
-      LoadsAnswered reads names out (λ files. loaded_as make (held files)) (Err stopped) first last
-  answered-made-stopped make stopped first last made = record {
-    answers = made.answers;
-    in_turn = made.in_turn;
-    counts = counts-stopped X Z (length names) (length names) (length made.answers) stopped made.counts;
-    loads = λ files given. stops-made stopped (held files) make (made.loads files given);
-  }
-
-  -- something is made of the value of one load
-  answered-made : (make : A → C) (x : X) (z : Z) (first last : S) → out z ≡ make (view x) → LoadsAnswered reads names view held (Ok x) first last →
-      LoadsAnswered reads names out (λ files. loaded_as make (held files)) (Ok z) first last
-  answered-made make x z first last is made = record {
-    answers = made.answers;
-    in_turn = made.in_turn;
-    counts = made.counts;
-    loads = λ files given. ap (loaded_as make) (made.loads files given) ∙ ap All (sym is);
-  }
+  answered-stopped more next stopped first last made = grind (arith, in_turn-more, counts-stopped, stops-then)
 
   -- something is made of what is loaded, if it is
   pub answered-mapped : (make : A → C) (loaded : Result X Stop) (made : Result Z Stop) (first last : S) → IsMade view out make loaded made →
       LoadsAnswered reads names view held loaded first last → LoadsAnswered reads names out (λ files. loaded_as make (held files)) made first last
-  answered-mapped make (Ok x) (Ok z) first last is one = answered-made make x z first last is one
-  answered-mapped make (Ok x) (Err stopped) first last is one = absurd is
-  answered-mapped make (Err stopped) made first last is one = rw is (answered-made-stopped make stopped first last one)
+  answered-mapped make loaded made first last is one = grind arith
 
   module _ {Y B : Type 0} (second_view : Y → B) (further : List NamedFile → A → Loaded B) (make : A → B → C) (x : X) (name : List ℕ) (first mid last : S) (one : LoadsAnswered reads names view held (Ok x) first mid) where
     -- the answers of both
@@ -149,11 +108,7 @@ module _ {S X Z A C : Type 0} (reads : S → List ℕ → Answer → S → Type 
     -- files that give them give the first file and the second
     both-given : (files : List NamedFile) (answer : Answer) → HoldGiven files 1 (one.answers ++ answer ∷ []) →
         HoldGiven files 1 one.answers × GaveFile answer (file_named (place_name (length names + 1)) files)
-    both-given files answer given =
-        let parts = hold-split files 1 one.answers answer given in
-        let all = one.counts in
-        let same : 1 + length one.answers ≡ length names + 1 = omega (arith, all) in
-        (parts.0, subst (λ (p : ℕ). GaveFile answer (file_named (place_name p) files)) same parts.1)
+    both-given files answer given = grind (arith, hold-split files 1 one.answers answer given)
 
     -- what is made where the first is good
     made-then : (files : List NamedFile) → HoldGiven files 1 one.answers →
@@ -163,25 +118,9 @@ module _ {S X Z A C : Type 0} (reads : S → List ℕ → Answer → S → Type 
     -- the second load stops
     pub answered-stopped-second : (stopped : Stop) → StopsAt (length names + 1) stopped → ReadsOnce reads name (length names + 1) second_view (λ files. further files (view x)) (Err stopped) mid last →
         LoadsAnswered reads (names ++ name ∷ []) out (λ files. and_then (held files) (λ a. loaded_as (make a) (further files a))) (Err stopped) first last
-    answered-stopped-second stopped at two = record {
-      answers = one.answers ++ two.answer ∷ [];
-      in_turn = both-in_turn two.answer two.read;
-      counts =
-          subst (λ (k : ℕ). CountsAs {X = Z} (length (names ++ name ∷ [])) k (Err stopped)) (sym (both-count two.answer))
-          (counts-at Z (length (names ++ name ∷ [])) (length names + 1) stopped at);
-      loads = λ files given.
-          let parts = both-given files two.answer given in
-          subst (StopsAs stopped) (sym (made-then files parts.0)) (stops-made stopped (further files (view x)) (make (view x)) (two.loads files parts.1));
-    }
+    answered-stopped-second stopped at two = grind (arith, both-in_turn, both-count, counts-at, both-given, made-then, stops-made)
 
     -- neither stops
     pub answered-both : (y : Y) (z : Z) → out z ≡ make (view x) (second_view y) → ReadsOnce reads name (length names + 1) second_view (λ files. further files (view x)) (Ok y) mid last →
         LoadsAnswered reads (names ++ name ∷ []) out (λ files. and_then (held files) (λ a. loaded_as (make a) (further files a))) (Ok z) first last
-    answered-both y z is two = record {
-      answers = one.answers ++ two.answer ∷ [];
-      in_turn = both-in_turn two.answer two.read;
-      counts = both-count two.answer ∙ sym (length-append names (name ∷ []));
-      loads = λ files given.
-          let parts = both-given files two.answer given in
-          made-then files parts.0 ∙ (ap (loaded_as (make (view x))) (two.loads files parts.1) ∙ ap All (sym is));
-    }
+    answered-both y z is two = grind (arith, both-in_turn two.answer two.read, both-count two.answer, length-append names (name ∷ []), both-given, made-then)

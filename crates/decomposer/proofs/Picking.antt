@@ -1,17 +1,17 @@
 -- Steps of a decomposition. A candidate at a partition is a cut there; where an order takes the
 -- first candidate, its shore is picked; and a cut with two trees is the tree that the order
 -- picks, and a derivation, where both trees are.
-use Rattle.std.proofs.Common.{◌≡◌, ℕ, zero, suc, ◌+◌, ◌<◌, List, [], ◌∷◌, length, map, All, unwrap_or, refl, sym, ap, ◌∙◌, arith, subst, slice_get, Option, Some, true, false, ◌==◌}
-use Rattle.counting.proofs.Common.{both_ways, length-map, get_or_from_slice_get, none-some}
+use Rattle.std.proofs.Common.{◌≡◌, ℕ, ◌+◌, ◌<◌, List, length, map, All, refl, ap, ◌∙◌, arith, subst, slice_get, Option, Some, true, false, ◌==◌}
+use Rattle.counting.proofs.Common.{both_ways, length-map, get_or_from_slice_get}
 use Rattle.std.proofs.lemmas.Option.{slice_get_within}
 use Rattle.graph_core.proofs.Common.{IsCovered, Graph, IsGraph, singles}
 use Rattle.tight_cuts.proofs.FirstCandidates.{first-one, first-place}
 use Rattle.tight_cuts.proofs.PartitionCandidates.{found-root, root-candidates}
 use Rattle.tight_cuts.specs.Common.{Candidate, candidates, first_of, first_shore, IsCandidateAt, candidates_at, candidate_of}
 use Rattle.tight_cuts.specs.declared.candidate.Candidate.{Candidate as StoredCandidate}
-use Rattle.tree_core.proofs.Common.{adds-both, IsCutAt, PlaceValue, Shape, cut, kept_at, leaves_at, merged_at}
+use Rattle.tree_core.proofs.Common.{adds-both, IsCutAt, PlaceValue, Shape, cut, kept_at, merged_at}
 use Rattle.tree_core.specs.declared.tallies.LeafKind.{LeafKind}
-use Rattle.decomposer.specs.Common.{NamedPicks, Decomposes, IsPickedAt, IsPickedShore, PicksShore}
+use Rattle.decomposer.specs.Common.{NamedPicks, Decomposes, IsPickedShore, PicksShore}
 use Rattle.decomposer.specs.declared.orders.NamedOrder.TheVariants.{First}
 
 -- a candidate is a cut
@@ -30,26 +30,11 @@ pub cut-decomposes : (picks : List Candidate → ℕ → ℕ → Type 0) (place 
     q ≡ record { graph = place.graph; blocks = kept_at place.graph.order place.blocks x } → r ≡ record { graph = place.graph; blocks = merged_at place.graph.order place.blocks x } → t ≡ cut x kept merged →
     IsCutAt place.graph place.blocks x → PicksShore picks (candidates_at place.graph place.blocks) before x →
     Decomposes picks q (before + 1) old kept between mid → Decomposes picks r between mid merged after new → Decomposes picks place before old t after new
-cut-decomposes picks place q r x before between after t kept merged old mid new is_q is_r is_t cuts picked k m =
-    let g = place.graph in
-    let inside = subst (λ (s : PlaceValue). Decomposes picks s (before + 1) old kept between mid) is_q k in
-    let outside = subst (λ (s : PlaceValue). Decomposes picks s between mid merged after new) is_r m in
-    let kept_cuts = inside.cuts in
-    let merged_cuts = outside.cuts in
-    subst (λ (s : Shape). Decomposes picks place before old s after new) (sym is_t) (record {
-      derives = (cuts, inside.derives, outside.derives);
-      picked = (picked, inside.picked, subst (λ j. IsPickedAt picks g (merged_at g.order place.blocks x) j merged) inside.cuts outside.picked);
-      kinds = adds-both g (leaves_at g.order (kept_at g.order place.blocks x) kept) (leaves_at g.order (merged_at g.order place.blocks x) merged) old mid new inside.kinds outside.kinds;
-      cuts = omega arith;
-    })
+cut-decomposes picks place q r x before between after t kept merged old mid new is_q is_r is_t cuts picked k m = grind (arith, adds-both)
 
 -- a list that is not empty has a candidate in store
 pub some-stored : (stored : List StoredCandidate) (list : List Candidate) → map candidate_of stored ≡ list → (length list == 0) ≡ false → 0 < length stored
-some-stored stored list shows some = let l = length-map stored candidate_of in let e = ap length shows in positive (length stored) (ap (λ k. k == 0) (sym l ∙ e) ∙ some)
-  where
-    positive : (k : ℕ) → (k == 0) ≡ false → 0 < k
-    positive zero e = absurd (both_ways true e refl)
-    positive (suc k) e = omega arith
+some-stored stored list shows some = grind (arith, length-map stored candidate_of, both_ways true)
 
 pub stored-length : (stored : List StoredCandidate) (list : List Candidate) (place : ℕ) → map candidate_of stored ≡ list → place < length stored → place < length list
 stored-length stored list place shows l = let a = length-map stored candidate_of in let e = ap length shows in omega arith
@@ -58,20 +43,11 @@ stored-length stored list place shows l = let a = length-map stored candidate_of
 -- picks is one that it picks
 pub first-picked : (picks : List Candidate → ℕ → ℕ → Type 0) (g : Graph) (p : List (List ℕ)) (k : ℕ) (o : Option (List ℕ)) → ((list : List Candidate) → 0 < length list → picks list k 0) →
     IsPickedShore (NamedPicks First) g p k o → IsPickedShore picks g p k o
-first-picked picks g p k o takes is = record {
-  none = is.none;
-  leaf = is.leaf;
-  picked = λ x same.
-      let at = is.picked x same in
-      let within = slice_get_within (candidates_at g p) at.0 at.1 at.3 in
-      (0, at.1, takes (candidates_at g p) (omega arith), subst (λ i. slice_get (candidates_at g p) i ≡ Some at.1) at.2 at.3, at.4);
-  cut = is.cut;
-}
+first-picked picks g p k o takes is = grind (arith, slice_get_within (candidates_at g p), slice_get (candidates_at g p))
 
 -- the shore of the first candidate of a list that has one
 has_first : (list : List Candidate) (x : List ℕ) → first_shore list ≡ Some x → (c : Candidate) × (first_of list ≡ Some c) × (c.shore ≡ x)
-has_first [] x h = absurd (none-some x h)
-has_first (c ∷ list) x h = (c, refl, ap (λ (o : Option (List ℕ)). unwrap_or o []) h)
+has_first list x h = grind arith
 
 -- at single vertices the order of the first candidates picks the shore of the first, a cut there
 pub first-shore-picked : (g : Graph) → IsGraph g → IsCovered g → (x : List ℕ) → first_shore (candidates g) ≡ Some x → PicksShore (NamedPicks First) (candidates_at g (singles g.order)) 0 x × IsCutAt g (singles g.order) x

@@ -1,14 +1,14 @@
 -- What is read of a text can be written again. Along the lines of a text the numbers of the ears
 -- read so far are in range and no ear is empty: each line keeps this, since it passed the tests
 -- of the table.
-use Rattle.std.proofs.Common.{◌≡◌, ◌<◌, ◌==◌, ◌||◌, ◌&&◌, ◌++◌, codes, not, nat_le, if◌then◌else◌, ℕ, List, [], ◌∷◌, Bool, length, map, true, false, Option, Some, None, is_some, Result, Ok, Err, IfOk, refl, sym, ◌∙◌, ap, subst, arith}
+use Rattle.std.proofs.Common.{◌≡◌, ◌<◌, ◌==◌, ◌||◌, ◌&&◌, ◌++◌, codes, not, nat_le, if◌then◌else◌, ℕ, List, [], ◌∷◌, Bool, length, map, true, Option, Some, None, is_some, Result, Ok, Err, IfOk, refl, sym, subst, arith}
 use Rattle.counting.proofs.Common.{AllByRecursion, list_all, list_any, and_parts, or_parts, both_ways, not-false, Within}
 use Rattle.line_text.specs.Common.{Begins, Stands, finish, has_form, word_at, is_number, value_of}
 use Rattle.line_text.proofs.Tables.{all_passed, no_value, value_or}
 use Rattle.text_faults.proofs.InRange.{all-in_range, in_range}
 use Rattle.text_faults.specs.declared.faults.FaultKind.{FaultKind}
 use Rattle.text_faults.specs.declared.faults.FaultKind.TheVariants as kind
-use Rattle.ear_core.specs.Common.{PlainEar, PlainStep, one, two, PlainEars, FitsEar, FitsStep, FitsEars, HasEdges}
+use Rattle.ear_core.specs.Common.{PlainEar, PlainStep, PlainEars, FitsEar, FitsStep, FitsEars, HasEdges}
 use Rattle.text_faults.specs.Common.{is_out_of_range}
 use Rattle.ear_text.specs.EarFormat.{EarsSoFar, headed, started, ear_format, ear_line, line_behind, ears_end, behind_two, is_ear_line, is_with_line, ear_at, closed, paired}
 
@@ -37,12 +37,10 @@ keeps-one_more n m (t ∷ steps) s keeps fits some =
     ((first.0, rest.0), (second.0, rest.1))
 
 keeps-closed : (n m : ℕ) (steps : List PlainStep) (last : Option PlainEar) → KeepsSteps n m steps → KeepsLast n m last → KeepsSteps n m (closed steps last)
-keeps-closed n m steps None keeps kept = keeps
-keeps-closed n m steps (Some a) keeps kept = keeps-one_more n m steps (one a) keeps kept.0 kept.1
+keeps-closed n m steps last keeps kept = grind (arith, keeps-one_more n m steps)
 
 keeps-paired : (n m : ℕ) (steps : List PlainStep) (last : Option PlainEar) (b : PlainEar) → KeepsSteps n m steps → KeepsLast n m last → KeepsEar n m b → KeepsSteps n m (paired steps last b)
-keeps-paired n m steps None b keeps kept ear = keeps
-keeps-paired n m steps (Some a) b keeps kept ear = keeps-one_more n m steps (two a b) keeps (kept.0, ear.0) (kept.1, ear.1)
+keeps-paired n m steps last b keeps kept ear = grind (arith, keeps-one_more n m steps)
 
 three_words : (words : List (List ℕ)) → nat_le 3 (length words) ≡ true → 0 < length (map value_of (behind_two words))
 three_words [] is = absurd (both_ways (nat_le 3 0) refl is)
@@ -66,19 +64,10 @@ ear_line-keeps n m start steps last words next keeps same =
     let through = all_passed (line_tests n m last words) (line_read start steps last words) next same in
     let tests = through.0 in
     let range = or_parts (is_out_of_range n (value_of (word_at words 1))) (list_any (is_out_of_range m) (map value_of (behind_two words))) tests.1.1.0 in
-    subst (Keeps n m) through.1 (go (is_ear_line words) refl keeps.0 keeps.1 keeps.2 (not-false (is_ear_line words || (is_some last && is_with_line words)) tests.0)
-    (in_range n (value_of (word_at words 1)) range.0, all-in_range m (map value_of (behind_two words)) range.1))
+    grind (arith, go, not-false, is_some, in_range, all-in_range)
   where
     go : (first : Bool) → is_ear_line words ≡ first → Within m start → KeepsSteps n m steps → KeepsLast n m last → (is_ear_line words || (is_some last && is_with_line words)) ≡ true → FitsEar n m (ear_at words) → Keeps n m (line_read start steps last words)
-    go true is begins kept ear known fits =
-        let long = and_parts (nat_le 3 (length words)) _ is in
-        subst (λ b. Keeps n m (if b then started start (closed steps last) (Some (ear_at words)) else started start (paired steps last (ear_at words)) None)) (sym is)
-        (begins, keeps-closed n m steps last kept ear, (fits, three_words words long.0))
-    go false is begins kept ear known fits =
-        let both = and_parts (is_some last) (is_with_line words) (sym (ap (λ b. b || (is_some last && is_with_line words)) is) ∙ known) in
-        let long = and_parts (nat_le 3 (length words)) _ both.1 in
-        subst (λ b. Keeps n m (if b then started start (closed steps last) (Some (ear_at words)) else started start (paired steps last (ear_at words)) None)) (sym is)
-        (begins, keeps-paired n m steps last (ear_at words) kept ear (fits, three_words words long.0), tt)
+    go first is begins kept ear known fits = grind (arith, and_parts, nat_le, keeps-closed, three_words, is_some, keeps-paired)
 
 -- and so does each line after the header
 abbrev start_tests : ℕ → List (List ℕ) → List (Bool × FaultKind)
@@ -89,10 +78,7 @@ start_tests m words =
     ∷ []
 
 line-keeps : (n m : ℕ) (body : EarsSoFar) (words : List (List ℕ)) (next : EarsSoFar) → Keeps n m body → line_behind n m body words ≡ Ok next → Keeps n m next
-line-keeps n m headed words next keeps same =
-    let through = all_passed (start_tests m words) (started (value_of (word_at words 1)) [] None) next same in
-    let tests = through.0 in
-    subst (Keeps n m) through.1 (in_range m (value_of (word_at words 1)) tests.1.1.0, (tt, tt), tt)
+line-keeps n m headed words next keeps same = grind arith
 line-keeps n m (started start steps last) words next keeps same = ear_line-keeps n m start steps last words next keeps same
 
 -- what is said of the state that the lines lead to
@@ -114,9 +100,7 @@ header_tests n m words =
 
 all-keep : (n m : ℕ) (lines : List (List (List ℕ))) (reached : Option EarsSoFar) → Begins (ear_format n m) None lines reached → KeepsReached n m reached
 all-keep n m [] reached begins = subst (KeepsReached n m) (sym begins) tt
-all-keep n m (words ∷ lines) reached begins =
-    let through = all_passed (header_tests n m words) headed begins.0 begins.1 in
-    lines-keep n m begins.0 lines reached (subst (Keeps n m) through.1 tt) begins.2
+all-keep n m (words ∷ lines) reached begins = grind (arith, all_passed (header_tests n m words) headed begins.0 begins.1, lines-keep n m begins.0 lines reached)
 
 -- the list at the end
 abbrev pub KeepsList : ℕ → ℕ → PlainEars → Type 0
@@ -124,13 +108,10 @@ KeepsList n m list = FitsEars n m list × AllByRecursion HasEdges list.steps
 
 end-keeps : (n m : ℕ) (body : EarsSoFar) (list : PlainEars) → Keeps n m body → ears_end body ≡ Ok list → KeepsList n m list
 end-keeps n m headed list keeps ends = absurd (no_value _ list ends)
-end-keeps n m (started start steps last) list keeps ends =
-    let all = keeps-closed n m steps last keeps.1 keeps.2 in
-    subst (KeepsList n m) (ap (value_or (record { start = start; steps = closed steps last })) ends) (record { start = keeps.0; steps = all.0 }, all.1)
+end-keeps n m (started start steps last) list keeps ends = grind (arith, keeps-closed n m steps last keeps.1 keeps.2, value_or)
 
 reached-keeps : (n m : ℕ) (reached : Option EarsSoFar) (list : PlainEars) → KeepsReached n m reached → finish (ear_format n m) reached ≡ Ok list → KeepsList n m list
-reached-keeps n m None list keeps ends = absurd (no_value _ list ends)
-reached-keeps n m (Some body) list keeps ends = end-keeps n m body list keeps ends
+reached-keeps n m reached list keeps ends = grind (arith, no_value, end-keeps n m)
 
 -- the list that a text stands for
 pub list-read : (n m : ℕ) (text : List ℕ) (list : PlainEars) → Stands (ear_format n m) text list → KeepsList n m list

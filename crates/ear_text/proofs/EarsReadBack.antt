@@ -1,7 +1,7 @@
 -- What is written of an ear list is read as this list. Line by line the tests of the table pass,
 -- since the numbers are in range and no ear is empty; the ear that stands apart goes to the steps
 -- with the next line, or at the end.
-use Rattle.std.proofs.Common.{◌≡◌, ◌<◌, ◌==◌, ◌&&◌, ◌^◌, ◌++◌, codes, nat_le, ℕ, List, [], ◌∷◌, All, Bool, length, map, true, false, Option, Some, None, Ok, refl, sym, ◌∙◌, ap, subst, arith, append_assoc}
+use Rattle.std.proofs.Common.{◌≡◌, ◌<◌, ◌^◌, ◌++◌, codes, ℕ, List, [], ◌∷◌, All, length, map, true, false, Option, Some, None, Ok, refl, sym, ◌∙◌, ap, subst, arith, append_assoc}
 use Rattle.counting.proofs.Common.{AllByRecursion, list_all, length-map, append-nil, nat_tests, Within}
 use Rattle.std.specs.Fmt.{decimal}
 use Rattle.line_text.specs.Common.{Begins, Stands, has_form, IsSignificant, is_number, value_of}
@@ -20,30 +20,20 @@ header-taken n m order size = rw (number_of-decimal n order, number_of-decimal m
 -- the line of the first stage
 start-taken : (n m e : ℕ) → m < 10 ^ 9 → Within m e → (ear_format n m).line headed (start_words e) ≡ Ok (started e [] None)
 unfolding has_form
-start-taken n m e size within =
-    let high = within.1 in
-    rw (number_of-decimal e (omega arith), in_range-test m e within) (grind (arith, nat_tests))
+start-taken n m e size within = grind (arith, number_of-decimal e, in_range-test m e within, nat_tests)
 
 -- which line it is
 is-ear : (word : List ℕ) (words : List (List ℕ)) → 0 < length words → is_ear_line (codes "ear" ∷ word ∷ words) ≡ true
 unfolding has_form
-is-ear word [] some = absurd (omega arith)
-is-ear word (next ∷ words) some = grind (arith, nat_tests)
+is-ear word words some = grind arith
 
 is-with : (word : List ℕ) (words : List (List ℕ)) → 0 < length words → is_with_line (codes "with" ∷ word ∷ words) ≡ true
 unfolding has_form
-is-with word [] some = absurd (omega arith)
-is-with word (next ∷ words) some = grind (arith, nat_tests)
+is-with word words some = grind arith
 
 not-ear : (word : List ℕ) (words : List (List ℕ)) → is_ear_line (codes "with" ∷ word ∷ words) ≡ false
 unfolding has_form
-not-ear word [] = refl
-not-ear word (next ∷ words) = with-false (nat_le 3 (length (codes "with" ∷ word ∷ next ∷ words))) (length (codes "with" ∷ word ∷ next ∷ words) == length (codes "with" ∷ word ∷ next ∷ words))
-  where
-    with-false : (a b : Bool) → (a && (b && false)) ≡ false
-    with-false true true = refl
-    with-false true false = refl
-    with-false false b = refl
+not-ear word words = grind arith
 
 -- the line of the first ear of a step
 ear-taken : (n m start : ℕ) (steps : List PlainStep) (last : Option PlainEar) (a : PlainEar) → n < 10 ^ 9 → m < 10 ^ 9 → FitsEar n m a → 0 < length a.edges → (ear_format n m).line (started start steps last) (ear_words (codes "ear") a) ≡ Ok (started start (closed steps last) (Some a))
@@ -104,20 +94,15 @@ after-ends start before last (two a b ∷ steps) = after-ends start (closed befo
 
 -- each line is significant
 ear-significant : (n m : ℕ) (a : PlainEar) → n < 10 ^ 9 → m < 10 ^ 9 → FitsEar n m a → IsSignificant (ear_words (codes "ear") a)
-ear-significant n m a order size fits =
-    let high = fits.0.1 in
-    record { kept = refl; each = (refl, (is_word-decimal a.begin (omega arith), words-decimal a.edges (few-digits m a.edges size fits.1))) }
+ear-significant n m a order size fits = grind (arith, is_word-decimal a.begin, words-decimal a.edges (few-digits m a.edges size fits.1), few-digits m a.edges size fits.1)
 
 with-significant : (n m : ℕ) (a : PlainEar) → n < 10 ^ 9 → m < 10 ^ 9 → FitsEar n m a → IsSignificant (ear_words (codes "with") a)
-with-significant n m a order size fits =
-    let high = fits.0.1 in
-    record { kept = refl; each = (refl, (is_word-decimal a.begin (omega arith), words-decimal a.edges (few-digits m a.edges size fits.1))) }
+with-significant n m a order size fits = grind (arith, is_word-decimal a.begin, words-decimal a.edges (few-digits m a.edges size fits.1), few-digits m a.edges size fits.1)
 
 steps-significant : (n m : ℕ) (steps : List PlainStep) → n < 10 ^ 9 → m < 10 ^ 9 → AllByRecursion (FitsStep n m) steps → AllByRecursion IsSignificant (step_words steps)
 steps-significant n m [] order size fits = tt
 steps-significant n m (one a ∷ steps) order size fits = (ear-significant n m a order size fits.0, steps-significant n m steps order size fits.1)
-steps-significant n m (two a b ∷ steps) order size fits =
-    let ears = fits.0 in (ear-significant n m a order size ears.0, (with-significant n m b order size ears.1, steps-significant n m steps order size fits.1))
+steps-significant n m (two a b ∷ steps) order size fits = grind (arith, ear-significant n m a order size, with-significant n m b order size, steps-significant n m steps order size fits.1)
 
 -- the text of an ear list stands for it
 pub Stands-ears_text : (n m : ℕ) (list : PlainEars) → IsWritable n m list → Stands (ear_format n m) (ears_text n m list) list

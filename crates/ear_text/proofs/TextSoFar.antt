@@ -2,7 +2,7 @@
 use Rattle.std.proofs.Common.{◌≡◌, ℕ, List, [], ◌∷◌, ◌++◌, codes, length, map, sym, ◌∙◌, ap, append_assoc, arith}
 use Rattle.counting.proofs.Common.{append-nil}
 use Rattle.std.specs.Fmt.{decimal}
-use Rattle.line_text.specs.Common.{unwords, written}
+use Rattle.line_text.specs.Common.{written}
 use Rattle.line_text.proofs.WrittenLines.{spaced, unwords-spaced, written-append}
 use Rattle.ear_core.specs.Common.{PlainEar, PlainStep, two, PlainEars}
 use Rattle.ear_text.specs.Writing.{ear_words, header_words, start_words, step_words, ears_text}
@@ -10,17 +10,11 @@ use Rattle.ear_text.specs.Writing.{ear_words, header_words, start_words, step_wo
 -- the line of an ear is whole when no edge is left
 pub ear_text-line : (old text new keyword edges rest : List ℕ) (v : ℕ) → length rest ≡ 0 → old ++ (keyword ++ spaced (map decimal (v ∷ edges))) ≡ text ++ spaced (map decimal rest) → new ≡ text ++ 10 ∷ [] → new ≡ old ++ written (ear_words keyword (record { begin = v; edges = edges }) ∷ [])
 ear_text-line old text new keyword edges (e ∷ rest) v none same is = absurd (omega arith)
-ear_text-line old text new keyword edges [] v none same is =
-    let words : List (List ℕ) = ear_words keyword (record { begin = v; edges = edges }) in
-    let whole : text ≡ old ++ unwords words = sym (same ∙ append-nil text) ∙ ap (λ t. old ++ t) (sym (unwords-spaced keyword (map decimal (v ∷ edges)))) in
-    is ∙ ap (λ t. t ++ 10 ∷ []) whole ∙ append_assoc old (unwords words) (10 ∷ [])
+ear_text-line old text new keyword edges [] v none same is = grind (arith, append-nil text, unwords-spaced keyword (map decimal (v ∷ edges)), append_assoc old)
 
 -- the lines of two ears, one after the other
 pub pair_lines : (old first second : List ℕ) (a b : PlainEar) → first ≡ old ++ written (ear_words (codes "ear") a ∷ []) → second ≡ first ++ written (ear_words (codes "with") b ∷ []) → second ≡ old ++ written (step_words (two a b ∷ []))
-pair_lines old first second a b is_first is_second =
-    is_second ∙ ap (λ t. t ++ written (ear_words (codes "with") b ∷ [])) is_first
-    ∙ append_assoc old (written (ear_words (codes "ear") a ∷ [])) (written (ear_words (codes "with") b ∷ []))
-    ∙ ap (λ t. old ++ t) (sym (written-append (ear_words (codes "ear") a ∷ []) (ear_words (codes "with") b ∷ [])))
+pair_lines old first second a b is_first is_second = grind (arith, append_assoc, written-append)
 
 -- the bytes of the first two lines
 abbrev pub first_lines : ℕ → ℕ → ℕ → List ℕ

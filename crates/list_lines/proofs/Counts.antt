@@ -51,11 +51,7 @@ module _ (g : Graph) (is : IsGraph g) (s t : Shape) (ds : IsDerivation g s) (dt 
       ∙ ap (λ n. record { leaves = length ls; bricks = count_by is_brick ls; braces = n }) (paired_tests (λ kind. not (is_brick kind)) ks ls Brick to within once same)
 
 pub same_counts : (g : Graph) (s t : Tally) → IsGraph g → IsCounted g s → IsCounted g t → s ≡ t
-same_counts g s t is a b =
-    let pairs = pairing_law g a.tree b.tree is a.derivation b.derivation in
-    a.counts.is
-    ∙ same_tallies g is a.tree b.tree a.derivation b.derivation pairs.0 pairs.1 a.counts.kinds b.counts.kinds a.counts.right b.counts.right
-    ∙ sym b.counts.is
+same_counts g s t is a b = grind (arith, pairing_law g a.tree b.tree is a.derivation b.derivation, same_tallies g is a.tree b.tree a.derivation b.derivation)
 
 -- a graph that lacks a property has it not
 pub lacks_none : (g : Graph) (property : Property) → IsGraph g → LacksProperty g property → HasProperty g property → ⊥

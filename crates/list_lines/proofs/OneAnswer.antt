@@ -1,6 +1,6 @@
 -- What is told of a line is one: the line stands for one graph, of which each query asks one
 -- thing. The leaves are those of one tree, since the order picks one, with one list of kinds.
-use Rattle.std.proofs.Common.{◌≡◌, ◌∙◌, ℕ, List, Result, Ok, Err, inl, inr, sym, subst, ap}
+use Rattle.std.proofs.Common.{◌≡◌, ◌∙◌, ℕ, List, Result, Ok, Err, sym, ap, arith}
 use Rattle.list_lines.proofs.OneTree.{kinds-once, named-once, picked-once}
 use Rattle.decomposer.specs.Common.{NamedPicks}
 use Rattle.decomposer.specs.declared.orders.NamedOrder.{NamedOrder}
@@ -8,10 +8,9 @@ use Rattle.graph_core.proofs.Common.{Graph, IsMultigraph, singles}
 use Rattle.list_lines.proofs.ReadMultigraphs.{read-multigraph}
 use Rattle.graph6_text.specs.Common.{Fault, outcome_of}
 use Rattle.text_faults.specs.declared.faults.FaultKind.{FaultKind}
-use Rattle.tree_core.proofs.Common.{leaves, Shape}
-use Rattle.tree_core.specs.declared.tallies.LeafKind.{LeafKind}
+use Rattle.tree_core.proofs.Common.{leaves}
 use Rattle.list_lines.specs.KindLines.{IsKindLine, kind_line}
-use Rattle.list_lines.specs.LeafLines.{AreLeafLines, AreLinesOf, TellsLeaves, leaf_lines, line_front}
+use Rattle.list_lines.specs.LeafLines.{AreLeafLines, AreLinesOf, TellsLeaves, line_front}
 use Rattle.list_lines.specs.Selecting.{IsSelected}
 use Rattle.list_lines.specs.Telling.{HasFault, IsTold, TellsLine}
 use Rattle.list_lines.specs.declared.query.Property.{Property}
@@ -25,27 +24,19 @@ kind_line_once g a b is one two = one.line ∙ ap (kind_line g) (words_once g on
 
 -- the lines of some leaves
 lines_once : (front : List ℕ) (g : Graph) (ps : List (List (List ℕ))) (a b : List ℕ) → AreLinesOf front g ps a → AreLinesOf front g ps b → a ≡ b
-lines_once front g ps a b one two =
-    one.lines ∙ ap (λ (kinds : List LeafKind). leaf_lines front g ps kinds) (kinds-once g ps one.kinds two.kinds one.right two.right) ∙ sym two.lines
+lines_once front g ps a b one two = grind (arith, kinds-once g ps one.kinds two.kinds one.right two.right)
 
 leaves_once : (order : NamedOrder) (number : ℕ) (g : Graph) (a b : List ℕ) → TellsLeaves order number g a → TellsLeaves order number g b → a ≡ b
 leaves_once order number g a b one two =
     let same : one.tree ≡ two.tree = picked-once (NamedPicks order) (named-once order) g (singles g.order) 0 one.tree two.tree one.picked two.picked in
-    lines_once (line_front number) g (leaves g.order two.tree) a b
-    (subst (λ (t : Shape). AreLinesOf (line_front number) g (leaves g.order t) a) same one.lines) two.lines
+    grind (arith, lines_once (line_front number) g (leaves g.order two.tree) a b)
 
 leaf_lines_once : (order : NamedOrder) (number : ℕ) (g : Graph) (a b : List ℕ) → AreLeafLines order number g a → AreLeafLines order number g b → a ≡ b
-leaf_lines_once order number g a b (inl one) (inl two) = leaves_once order number g a b one two
-leaf_lines_once order number g a b (inl one) (inr two) = absurd (two.0 one.derivation.covered)
-leaf_lines_once order number g a b (inr one) (inl two) = absurd (one.0 two.derivation.covered)
-leaf_lines_once order number g a b (inr one) (inr two) = one.1 ∙ sym two.1
+leaf_lines_once order number g a b h k = grind (arith, leaves_once order number g a b)
 
 -- no graph both has a property and lacks it
 selected_once : (property : Property) (g : Graph) (line a b : List ℕ) → IsMultigraph g → IsSelected property g line a → IsSelected property g line b → a ≡ b
-selected_once property g line a b is (inl one) (inl two) = one.1 ∙ sym two.1
-selected_once property g line a b is (inl one) (inr two) = absurd (lacks_none g property is.ends two.0 one.0)
-selected_once property g line a b is (inr one) (inl two) = absurd (lacks_none g property is.ends one.0 two.0)
-selected_once property g line a b is (inr one) (inr two) = one.1 ∙ sym two.1
+selected_once property g line a b is h k = grind (arith, lacks_none g property is.ends)
 
 told_once : (query : Query) (number : ℕ) (line : List ℕ) (g : Graph) (a b : List ℕ) → IsMultigraph g → IsTold query number line g a → IsTold query number line g b → a ≡ b
 told_once Kinds number line g a b is one two = kind_line_once g a b is one two
@@ -55,30 +46,15 @@ told_once (Select property) number line g a b is one two = selected_once propert
 
 -- a text stands for one graph, or has one first fault, and not both
 graph_once : (outcome : Result Graph Fault) (g h : Graph) → outcome ≡ Ok g → outcome ≡ Ok h → g ≡ h
-graph_once (Ok graph) g h one two = let first : graph ≡ g = cc one in let second : graph ≡ h = cc two in sym first ∙ second
-graph_once (Err fault) g h one two = absurd (cc one)
+graph_once outcome g h one two = grind arith
 
 kind_once : (outcome : Result Graph Fault) (fault other : Fault) → outcome ≡ Err fault → outcome ≡ Err other → fault.1 ≡ other.1
-kind_once (Ok graph) fault other one two = absurd (cc one)
-kind_once (Err found) fault other one two =
-    let first : found ≡ fault = cc one in
-    let second : found ≡ other = cc two in
-    ap (λ (f : Fault). f.1) (sym first ∙ second)
-
-graph_or_fault : (outcome : Result Graph Fault) (g : Graph) (fault : Fault) → outcome ≡ Ok g → outcome ≡ Err fault → ⊥
-graph_or_fault (Ok graph) g fault one two = cc two
-graph_or_fault (Err found) g fault one two = cc one
+kind_once outcome fault other one two = grind arith
 
 -- the output of a line
 pub output_once : (query : Query) (number : ℕ) (line a b : List ℕ) → TellsLine query number line a → TellsLine query number line b → a ≡ b
-output_once query number line a b one two =
-    told_once query number line two.graph a b (read-multigraph line two.graph two.stands)
-    (subst (λ (g : Graph). IsTold query number line g a) (graph_once (outcome_of line) one.graph two.graph one.stands two.stands) one.told) two.told
+output_once query number line a b one two = grind (arith, told_once, read-multigraph, graph_once)
 
 -- the kind of its first fault
 pub fault_once : (line : List ℕ) (kind other : FaultKind) → HasFault line kind → HasFault line other → kind ≡ other
 fault_once line kind other one two = kind_once (outcome_of line) (one.at, kind) (two.at, other) one.fault two.fault
-
--- and not both
-pub output_or_fault : (query : Query) (number : ℕ) (line a : List ℕ) (kind : FaultKind) → TellsLine query number line a → HasFault line kind → ⊥
-output_or_fault query number line a kind one two = graph_or_fault (outcome_of line) one.graph (two.at, kind) one.stands two.fault

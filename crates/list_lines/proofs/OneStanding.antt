@@ -1,30 +1,18 @@
 -- The words on how a graph stands are one: its first reasons differ at most in the Berge set, no
 -- reason is one of a covered graph, a kind without its shore is one, and so are the numbers of
 -- bricks and braces.
-use Rattle.std.proofs.Common.{◌≡◌, ◌∙◌, List, ℕ, ◌++◌, Bool, refl, sym, ap, codes}
+use Rattle.std.proofs.Common.{◌≡◌, ◌∙◌, List, ℕ, ◌++◌, Bool, refl, sym, codes, arith}
 use Rattle.std.specs.Fmt.{decimal}
 use Rattle.counting.proofs.Common.{same_tests, mem}
-use Rattle.definition_laws.proofs.Reasons.{reason-one}
-use Rattle.definition_laws.specs.Words.{without_berge}
 use Rattle.graph_core.proofs.Common.{reason-uncovered, Graph, IsMultigraph, reason_of}
 use Rattle.graph_core.specs.declared.verdict.Kind.{Kind}
 use Rattle.graph_core.specs.declared.verdict.Kind.TheVariants.{Brace, Brick, Composite}
-use Rattle.graph_core.specs.declared.verdict.Reason.{Reason}
-use Rattle.graph_core.specs.declared.verdict.Reason.TheVariants.{Small, Parted, Unmatched, Unallowed}
 use Rattle.leaf_kinds.specs.LeafKinds.{IsKind}
-use Rattle.report_text.specs.Common.{kind_word, reason_word, yes_or_no}
+use Rattle.report_text.specs.Common.{kind_word, yes_or_no}
 use Rattle.tree_core.specs.declared.tallies.Tally.{Tally}
 use Rattle.list_lines.specs.KindLines.{TellsStanding, standing_words}
 use Rattle.list_lines.specs.Standings.{IsStanding, IsStructured, Standing, Uncovered, Structured}
 use Rattle.list_lines.proofs.Counts.{same_counts}
-
--- the word of a reason does not tell the Berge set
-reason_words_once : (q r : Reason) → without_berge (reason_of q) ≡ without_berge (reason_of r) → reason_word q ≡ reason_word r
-reason_words_once Small Small same = refl
-reason_words_once (Parted a b) (Parted c d) same = refl
-reason_words_once (Unmatched s) (Unmatched t) same = refl
-reason_words_once (Unallowed e) (Unallowed f) same = refl
-reason_words_once q r same = absurd (cc same)
 
 -- a kind without its shore is one
 kind_words_once : (g : Graph) (kind other : Kind) → IsKind g kind → IsKind g other → kind_word kind ≡ kind_word other
@@ -48,8 +36,7 @@ structure_words_once g kind other tally more bicritical too is one two =
     λ i. words i ++ codes " " ++ decimal (tallies i).bricks ++ codes " " ++ decimal (tallies i).braces ++ codes " bicritical " ++ yes_or_no (answers i)
 
 standing_words_once : (g : Graph) (standing other : Standing) → IsMultigraph g → IsStanding g standing → IsStanding g other → standing_words standing ≡ standing_words other
-standing_words_once g (Uncovered q) (Uncovered r) is one two =
-    ap (λ (word : List ℕ). codes "uncovered " ++ word) (reason_words_once q r (reason-one g (reason_of q) (reason_of r) one two))
+standing_words_once g (Uncovered q) (Uncovered r) is one two = grind arith
 standing_words_once g (Uncovered q) (Structured kind tally bicritical) is one two = absurd (reason-uncovered g (reason_of q) is one two.covered)
 standing_words_once g (Structured kind tally bicritical) (Uncovered r) is one two = absurd (reason-uncovered g (reason_of r) is two one.covered)
 standing_words_once g (Structured kind tally bicritical) (Structured other more too) is one two =

@@ -1,13 +1,13 @@
 -- How many trees can an order pick? One: at each node it picks one place, and there stands one
 -- candidate. The kinds of the leaves are determined, since a quotient is bipartite or not, and so
 -- are their counts.
-use Rattle.std.proofs.Common.{◌≡◌, ◌∙◌, ℕ, ◌+◌, ◌-◌, ◌<◌, List, length, map, Option, Some, None, inl, inr, refl, sym, subst, ap, arith, slice_get, option_map, suc, get_or, ext_get_or}
-use Rattle.counting.proofs.Common.{cases_lt, length-map, none-some, same_Some, Within}
+use Rattle.std.proofs.Common.{◌≡◌, ◌∙◌, ℕ, ◌+◌, ◌-◌, ◌<◌, List, length, map, Option, Some, None, refl, sym, subst, ap, arith, slice_get, option_map, suc, get_or, ext_get_or}
+use Rattle.counting.proofs.Common.{cases_lt, length-map, none-some, Within}
 use Rattle.std.proofs.lemmas.Option.{slice_get-map}
 use Rattle.graph_core.proofs.Common.{Graph}
 use Rattle.tight_cuts.specs.Common.{Candidate, candidates_at, candidate_of}
 use Rattle.tight_cuts.specs.declared.candidate.Candidate.{Candidate as StoredCandidate}
-use Rattle.decomposer.specs.Common.{PicksBalanced, gap, gap_of, IsPickedAt, PicksShore, NamedPicks, ScriptPicks}
+use Rattle.decomposer.specs.Common.{PicksBalanced, gap, IsPickedAt, PicksShore, NamedPicks, ScriptPicks}
 use Rattle.tree_core.proofs.Common.{kept_at, merged_at, leaf_at, Shape, leaf, cut, cut_count, AreLeafKinds, IsLeafKind, IsTally, kind_at, tally_of}
 use Rattle.tree_core.specs.declared.tallies.LeafKind.{LeafKind}
 use Rattle.tree_core.specs.declared.tallies.LeafKind.TheVariants.{Brick, Brace}
@@ -25,36 +25,17 @@ gap_in None = 0
 gap_in (Some c) = (c.inside - c.outside) + (c.outside - c.inside)
 
 gap-seen : (stored : List StoredCandidate) (i : ℕ) → gap stored i ≡ gap_in (slice_get (map candidate_of stored) i)
-gap-seen stored i = go (slice_get stored i) ∙ ap gap_in (sym (slice_get-map candidate_of stored i))
-  where
-    go : (o : Option StoredCandidate) → gap_of o ≡ gap_in (option_map candidate_of o)
-    go None = refl
-    go (Some c) = refl
+gap-seen stored i = grind (arith, slice_get-map, option_map)
 
 -- the first place whose sides differ least is one
 gap-same : (list : List Candidate) (a b : ℕ) (one : PicksBalanced list a) (two : PicksBalanced list b) → (i : ℕ) → gap one.stored i ≡ gap two.stored i
 gap-same list a b one two i = gap-seen one.stored i ∙ ap (λ (l : List Candidate). gap_in (slice_get l i)) (one.shows ∙ sym two.shows) ∙ sym (gap-seen two.stored i)
 
 balanced-later : (list : List Candidate) (a b : ℕ) → PicksBalanced list a → PicksBalanced list b → a < b → ⊥
-balanced-later list a b one two before =
-    let long = length-map one.stored candidate_of in
-    let wide = length-map two.stored candidate_of in
-    let same = ap length (one.shows ∙ sym two.shows) in
-    let held = two.balanced.held in
-    let least = one.balanced.least b (omega arith) in
-    let first = two.balanced.first a before in
-    let here = gap-same list a b one two a in
-    let there = gap-same list a b one two b in
-    omega arith
+balanced-later list a b one two before = grind (arith, length-map one.stored candidate_of, length-map two.stored candidate_of, gap-same list a b one two a, gap-same list a b one two b)
 
 balanced-once : PicksOnce (λ list k place. PicksBalanced list place)
-balanced-once list k a b one two = elim (cases_lt a b) [
-  | inl before ↦ absurd (balanced-later list a b one two before)
-  | inr not_before ↦ elim (cases_lt b a) [
-    | inl after ↦ absurd (balanced-later list b a two one after)
-    | inr not_after ↦ omega arith
-  ]
-]
+balanced-once list k a b one two = grind (arith, cases_lt a b, balanced-later list a b one two, cases_lt b a, balanced-later list b a two one)
 
 pub named-once : (order : NamedOrder) → PicksOnce (NamedPicks order)
 named-once First list k a b one two = one ∙ sym two
@@ -70,10 +51,7 @@ shore_in c = c.shore
 
 module _ (picks : List Candidate → ℕ → ℕ → Type 0) (once : PicksOnce picks) where
   shore-once : (list : List Candidate) (k : ℕ) (x y : List ℕ) → PicksShore picks list k x → PicksShore picks list k y → x ≡ y
-  shore-once list k x y one two =
-      let place : one.0 ≡ two.0 = once list k one.0 two.0 one.2 two.2 in
-      let candidate : one.1 ≡ two.1 = same_Some _ _ (sym one.3 ∙ ap (slice_get list) place ∙ two.3) in
-      sym one.4 ∙ ap shore_in candidate ∙ two.4
+  shore-once list k x y one two = grind arith
 
   pub picked-once : (g : Graph) (p : List (List ℕ)) (k : ℕ) (s t : Shape) → IsPickedAt picks g p k s → IsPickedAt picks g p k t → s ≡ t
   picked-once g p k leaf leaf one two = refl

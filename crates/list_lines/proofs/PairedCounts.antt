@@ -1,6 +1,6 @@
 -- If the items of two lists are paired one to one so that partners are equal, as many items of
 -- each pass a test.
-use Rattle.std.proofs.Common.{Bool, List, ◌∷◌, ap, arith, cond, eq-eqb, eqb-true, false, get_or, length, refl, suc, sym, true, ℕ, ◌+◌, ◌-◌, ◌==◌, ◌∙◌, ◌≡◌, count_by}
+use Rattle.std.proofs.Common.{Bool, List, ◌∷◌, ap, arith, cond, eq-eqb, eqb-true, get_or, length, refl, suc, sym, true, ℕ, ◌+◌, ◌-◌, ◌==◌, ◌∙◌, ◌≡◌, count_by}
 use Rattle.std.proofs.lemmas.List.Recursion.{is_count_by}
 use Rattle.counting.proofs.Common.{bit_true, only_one, least_of, least_of_is, true_some, some_term, total-first, total_congr, total_ones, Within, bit, count, Set}
 use Rattle.graph_core.proofs.Common.{count_over}
@@ -12,10 +12,6 @@ passing test d xs = count (length xs) (λ i. test (get_or xs (i - 1) d))
 pub count_by-places : {A : Type 0} (test : A → Bool) (xs : List A) (d : A) → count_by test xs ≡ passing test d xs
 count_by-places {A} test xs d = sym (is_count_by (passing test d) test refl step xs)
   where
-    as_cond : (b : Bool) (n : ℕ) → bit b + n ≡ cond b (1 + n) n
-    as_cond true n = refl
-    as_cond false n = omega arith
-
     shifted : (x : A) (ys : List A) (i : ℕ) → Within (length ys) i → bit (test (get_or (x ∷ ys) (i + 1 - 1) d)) ≡ bit (test (get_or ys (i - 1) d))
     shifted x ys i w = let e : i + 1 - 1 ≡ suc (i - 1) = omega arith in ap (λ k. bit (test (get_or (x ∷ ys) k d))) e
 
@@ -23,7 +19,7 @@ count_by-places {A} test xs d = sym (is_count_by (passing test d) test refl step
     step x ys =
         total-first (length ys) (λ i. bit (test (get_or (x ∷ ys) (i - 1) d)))
         ∙ ap (λ n. bit (test x) + n) (total_congr (length ys) (λ i. bit (test (get_or (x ∷ ys) (i + 1 - 1) d))) (λ i. bit (test (get_or ys (i - 1) d))) (shifted x ys))
-        ∙ as_cond (test x) (passing test d ys)
+        ∙ (grind arith)
 
 -- a map of 1 to n to 1 to m that meets each exactly once
 module _ (n m : ℕ) (to : ℕ → ℕ) (within : (i : ℕ) → Within n i → Within m (to i)) (once : (j : ℕ) → Within m j → count n (λ i. to i == j) ≡ 1) where
@@ -44,9 +40,7 @@ module _ (n m : ℕ) (to : ℕ → ℕ) (within : (i : ℕ) → Within n i → W
       only_one n (λ k. to k == to i) (once (to i) (within i w)) (from (to i)) i f.0 w (eq-eqb (to (from (to i))) (to i) f.1) (eq-eqb (to i) (to i) refl)
 
   pub paired_count : (x y : Set) → ((i : ℕ) → Within n i → x i ≡ y (to i)) → count n x ≡ count m y
-  paired_count x y same = count_over n m x y to from
-      (λ i w t. (within i w, sym (same i w) ∙ t, from_to i w))
-      (λ j w t. let f = from_is j w in (f.0, same (from j) f.0 ∙ ap y f.1 ∙ t, f.1))
+  paired_count x y same = grind (arith, count_over n m x y to from, from_to, from_is)
 
   pub paired_length : n ≡ m
   paired_length = sym (total_ones n) ∙ paired_count (λ i. true) (λ j. true) (λ i w. refl) ∙ total_ones m
@@ -55,7 +49,4 @@ module _ (n m : ℕ) (to : ℕ → ℕ) (within : (i : ℕ) → Within n i → W
 pub paired_tests : {A : Type 0} (test : A → Bool) (xs ys : List A) (d : A) (to : ℕ → ℕ) →
     ((i : ℕ) → Within (length xs) i → Within (length ys) (to i)) → ((j : ℕ) → Within (length ys) j → count (length xs) (λ i. to i == j) ≡ 1) →
     ((i : ℕ) → Within (length xs) i → get_or xs (i - 1) d ≡ get_or ys (to i - 1) d) → count_by test xs ≡ count_by test ys
-paired_tests test xs ys d to within once same =
-    count_by-places test xs d
-    ∙ paired_count (length xs) (length ys) to within once (λ i. test (get_or xs (i - 1) d)) (λ j. test (get_or ys (j - 1) d)) (λ i w. ap test (same i w))
-    ∙ sym (count_by-places test ys d)
+paired_tests test xs ys d to within once same = grind (arith, count_by-places test xs d, paired_count (length xs) (length ys) to within once, count_by-places test ys d)

@@ -1,7 +1,7 @@
 -- A line has one output or one kind of a first fault, and not both. So the bytes of a list leave
 -- open neither whether its lines are told whole nor what is written.
-use Rattle.std.proofs.Common.{◌≡◌, ◌∙◌, ℕ, List, true, false, inl, inr, sym}
-use Rattle.list_lines.proofs.OneAnswer.{fault_once, output_once, output_or_fault}
+use Rattle.std.proofs.Common.{◌≡◌, ℕ, List, arith}
+use Rattle.list_lines.proofs.OneAnswer.{output_once}
 use Rattle.list_lines.specs.declared.query.Query.{Query}
 use Rattle.list_reader.proofs.OneEnding.{stop_once, whole_not_bad}
 use Rattle.list_reader.proofs.OneOutput.{one_output}
@@ -14,14 +14,10 @@ pub one_output_each : (query : Query) → HasOneOutput (TellsLineOf query)
 one_output_each query place line a b one two = output_once query place.number line a b one.1 two.1
 
 pub one_fault_each : (query : Query) → HasOneFault (IsBadLine query)
-one_fault_each query place line kind other (inl one) (inl two) = one.1 ∙ sym two.1
-one_fault_each query place line kind other (inl one) (inr two) = let no : true ≡ false = sym one.0 ∙ two.0 in absurd (cc no)
-one_fault_each query place line kind other (inr one) (inl two) = let no : true ≡ false = sym two.0 ∙ one.0 in absurd (cc no)
-one_fault_each query place line kind other (inr one) (inr two) = fault_once line kind other one.1 two.1
+one_fault_each query place line kind other h k = grind arith
 
 pub told_or_bad : (query : Query) → TellsApart (TellsLineOf query) (IsBadLine query)
-told_or_bad query place line output kind told (inl bad) = let no : true ≡ false = sym bad.0 ∙ told.0 in cc no
-told_or_bad query place line output kind told (inr bad) = output_or_fault query place.number line output kind told.1 bad.1
+told_or_bad query place line output kind told h = grind arith
 
 -- a list that is done has no bad line
 pub done_or_bad : (query : Query) (bytes a b : List ℕ) → ListOutcome query bytes Done a → ListOutcome query bytes BadInput b → ⊥

@@ -32,9 +32,7 @@ some_letters letter letters = le-leb 1 (length (letter ∷ letters)) (omega arit
 
 -- the word of a path
 pub is_path-path_word : (path : List Side) → length path ≤ most_steps → is_path (path_word path) ≡ true
-is_path-path_word [] few = refl
-is_path-path_word (Kept ∷ path) few = and_from _ _ (some_letters 107 (map letter_of path)) (and_from _ _ (few-letters (Kept ∷ path) few) (letters-steps (Kept ∷ path)))
-is_path-path_word (Merged ∷ path) few = and_from _ _ (some_letters 109 (map letter_of path)) (and_from _ _ (few-letters (Merged ∷ path) few) (letters-steps (Merged ∷ path)))
+is_path-path_word path few = grind (arith, and_from, some_letters 107 (map letter_of path), few-letters, letters-steps, some_letters 109 (map letter_of path))
 
 pub path_of-path_word : (path : List Side) → path_of (path_word path) ≡ path
 path_of-path_word [] = refl

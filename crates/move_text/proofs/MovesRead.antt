@@ -1,19 +1,18 @@
 -- What is read of a text can be written again. Along the lines of a text the moves read so far
 -- keep the limits, and their sets are nonempty and rise within 1 to n: each line keeps this,
 -- since it passed the tests of the table.
-use Rattle.std.proofs.Common.{◌≡◌, ◌≤◌, ◌<◌, ◌==◌, ◌&&◌, ◌||◌, ◌^◌, codes, not, nat_le, if◌then◌else◌, ℕ, List, [], ◌∷◌, ◌++◌, Bool, length, map, true, false, Option, Some, None, Result, Ok, Err, IfOk, refl, sym, ◌∙◌, ap, subst, arith}
+use Rattle.std.proofs.Common.{◌≡◌, ◌≤◌, ◌<◌, ◌==◌, ◌&&◌, ◌||◌, ◌^◌, codes, not, nat_le, if◌then◌else◌, ℕ, List, [], ◌∷◌, ◌++◌, Bool, length, true, false, Option, Some, None, Result, Ok, Err, IfOk, refl, sym, ◌∙◌, ap, subst, arith}
 use Rattle.counting.proofs.Common.{AllByRecursion, list_all, list_any, and_parts, or_parts, not-false, nat_tests, length-map, length-append}
-use Rattle.std.specs.Str.{bytes_eq}
 use Rattle.std.proofs.lemmas.List.Splits.{length-slice_split}
 use Rattle.line_text.specs.Common.{Begins, Stands, finish, has_form, word_at, is_number, value_of}
 use Rattle.line_text.proofs.Tables.{all_passed, no_value, value_or}
 use Rattle.text_faults.specs.declared.faults.FaultKind.{FaultKind}
 use Rattle.text_faults.specs.declared.faults.FaultKind.TheVariants as kind
 use Rattle.text_faults.specs.Common.{is_out_of_range}
-use Rattle.tree_core.proofs.Common.{PlainMove, rotate_at, switch_at}
+use Rattle.tree_core.proofs.Common.{PlainMove, switch_at}
 use Rattle.tree_text.specs.Common.{is_rising}
 use Rattle.tree_text.proofs.ShoreLists.{rising_read}
-use Rattle.move_text.specs.Common.{move_format, move_line, rotate_line, switch_line, is_rotate_line, is_switch_line, is_path, is_step, is_comma, side_of, path_of, parts_of, are_numbers, vertices_of, most_moves, most_steps, HasShortPath, HasSets, SetsRise, IsWritable}
+use Rattle.move_text.specs.Common.{move_format, move_line, rotate_line, switch_line, is_rotate_line, is_switch_line, is_path, is_comma, path_of, parts_of, are_numbers, vertices_of, most_moves, most_steps, HasShortPath, HasSets, SetsRise, IsWritable}
 
 -- what is said of the moves read so far
 record Keeps (n : ℕ) (moves : List PlainMove) : Type 0 where
@@ -28,34 +27,18 @@ all-more P [] x each last = (last, tt)
 all-more P (y ∷ xs) x each last = (each.0, all-more P xs x each.1 last)
 
 keeps-more : (n : ℕ) (moves : List PlainMove) (m : PlainMove) → length moves < most_moves → Keeps n moves → HasShortPath m → HasSets n m → SetsRise m → Keeps n (moves ++ m ∷ [])
-keeps-more n moves m few keeps short sets rising = record {
-  few = omega (arith, length-append moves (m ∷ []));
-  paths = all-more HasShortPath moves m keeps.paths short;
-  sets = all-more (HasSets n) moves m keeps.sets sets;
-  rising = all-more SetsRise moves m keeps.rising rising;
-}
+keeps-more n moves m few keeps short sets rising = grind (arith, length-append, all-more)
 
 -- a word that writes a path writes a short one
 at_most : (k : ℕ) → nat_le k most_steps ≡ true → k ≤ most_steps
 at_most k is = grind (arith, nat_tests)
 
 short-path : (word : List ℕ) → is_path word ≡ true → length (path_of word) ≤ most_steps
-short-path word is = go (bytes_eq word (codes ".")) refl
-  where
-    go : (root : Bool) → bytes_eq word (codes ".") ≡ root → length (path_of word) ≤ most_steps
-    go true root = subst (λ (b : Bool). length (if b then [] else map side_of word) ≤ most_steps) (sym root) (omega arith)
-    go false root =
-        let letters = and_parts (nat_le 1 (length word)) (nat_le (length word) most_steps && list_all is_step word) (sym (ap (λ b. b || (nat_le 1 (length word) && (nat_le (length word) most_steps && list_all is_step word))) root) ∙ is) in
-        let few = at_most (length word) (and_parts (nat_le (length word) most_steps) (list_all is_step word) letters.1).0 in
-        let same : length (map side_of word) ≡ length word = length-map word side_of in
-        subst (λ (b : Bool). length (if b then [] else map side_of word) ≤ most_steps) (sym root) (omega arith)
+short-path word is = grind (arith, and_parts, nat_le, list_all, at_most, length-map)
 
 -- a word between blanks has at least one part
 some-vertices : (word : List ℕ) → 0 < length (vertices_of word)
-some-vertices word =
-    let parts = length-slice_split is_comma word in
-    let same : length (vertices_of word) ≡ length (parts_of word) = length-map (parts_of word) value_of in
-    omega arith
+some-vertices word = grind (arith, length-slice_split is_comma word, length-map (parts_of word) value_of)
 
 -- the line of a Switch
 abbrev switch_tests : ℕ → (u v : List ℕ) → List (Bool × FaultKind)
@@ -87,7 +70,7 @@ abbrev behind_limit : ℕ → List PlainMove → List (List ℕ) → Result (Lis
 behind_limit n moves words = if is_rotate_line words then rotate_line moves words else behind_rotate n moves words
 
 line-keeps : (n : ℕ) (moves : List PlainMove) (words : List (List ℕ)) (next : List PlainMove) → Keeps n moves → move_line n moves words ≡ Ok next → Keeps n next
-line-keeps n moves words next keeps same = limit (nat_le most_moves (length moves)) refl
+line-keeps n moves words next keeps same = grind (arith, no_value, rotated, few_moves)
   where
     switched : length moves < most_moves → (is : Bool) → is_switch_line words ≡ is → behind_rotate n moves words ≡ Ok next → Keeps n next
     switched few true is same =
@@ -96,15 +79,8 @@ line-keeps n moves words next keeps same = limit (nat_le most_moves (length move
     switched few false is same = absurd (no_value kind.Word next (sym (ap (λ b. if b then switch_line n moves (word_at words 1) (word_at words 2) (word_at words 3) else Err kind.Word) is) ∙ same))
 
     rotated : length moves < most_moves → (is : Bool) → is_rotate_line words ≡ is → behind_limit n moves words ≡ Ok next → Keeps n next
-    rotated few true is same =
-        let path = (and_parts (has_form words 2 (codes "rotate" ∷ [])) (is_path (word_at words 1)) is).1 in
-        let m : PlainMove = rotate_at (path_of (word_at words 1)) in
-        subst (Keeps n) (ap (value_or (moves ++ m ∷ [])) (sym (ap (λ b. if b then rotate_line moves words else behind_rotate n moves words) is) ∙ same)) (keeps-more n moves m few keeps (short-path (word_at words 1) path) tt tt)
+    rotated few true is same = grind (arith, and_parts (has_form words 2 (codes "rotate" ∷ [])) (is_path (word_at words 1)) is, value_or, keeps-more n moves, short-path (word_at words 1))
     rotated few false is same = switched few (is_switch_line words) refl (sym (ap (λ b. if b then rotate_line moves words else behind_rotate n moves words) is) ∙ same)
-
-    limit : (many : Bool) → nat_le most_moves (length moves) ≡ many → Keeps n next
-    limit true is = absurd (no_value kind.Limit next (sym (ap (λ b. if b then Err kind.Limit else behind_limit n moves words) is) ∙ same))
-    limit false is = rotated (few_moves moves is) (is_rotate_line words) refl (sym (ap (λ b. if b then Err kind.Limit else behind_limit n moves words) is) ∙ same)
 
 -- what is said of the state that the lines lead to
 abbrev KeepsReached : ℕ → Option (List PlainMove) → Type 0
@@ -128,23 +104,16 @@ keeps-none n = record { few = omega arith; paths = tt; sets = tt; rising = tt }
 
 all-keep : (n : ℕ) (lines : List (List (List ℕ))) (reached : Option (List PlainMove)) → Begins (move_format n) None lines reached → KeepsReached n reached
 all-keep n [] reached begins = subst (KeepsReached n) (sym begins) tt
-all-keep n (words ∷ lines) reached begins =
-    let through = all_passed (header_tests n words) [] begins.0 begins.1 in
-    lines-keep n begins.0 lines reached (subst (Keeps n) through.1 (keeps-none n)) begins.2
+all-keep n (words ∷ lines) reached begins = grind (arith, all_passed, lines-keep, keeps-none)
 
 -- the moves at the end
 reached-keeps : (n : ℕ) (reached : Option (List PlainMove)) (moves : List PlainMove) → n < 10 ^ 9 → KeepsReached n reached → finish (move_format n) reached ≡ Ok moves → IsWritable n moves
-reached-keeps n None moves small keeps ends = absurd (no_value _ moves ends)
-reached-keeps n (Some read) moves small keeps ends =
-    subst (IsWritable n) (ap (value_or read) ends)
-    (record { order = small; few = keeps.few; paths = keeps.paths; sets = keeps.sets; rising = keeps.rising })
+reached-keeps n reached moves small keeps ends = grind arith
 
 -- the moves that a text stands for
 pub writable-read : (n : ℕ) (text : List ℕ) (moves : List PlainMove) → n < 10 ^ 9 → Stands (move_format n) text moves → IsWritable n moves
-writable-read n text moves small stands =
-    reached-keeps n stands.reached moves small (all-keep n _ stands.reached stands.begins) stands.ends
+writable-read n text moves small stands = grind (arith, reached-keeps n stands.reached moves small, all-keep n)
 
 -- whatever a reader answered
 pub all-read : {X Fault : Type 0} (n : ℕ) (text : List ℕ) (view : X → List PlainMove) (result : Result X Fault) → n ≤ 128 → IfOk result (λ x. Stands (move_format n) text (view x)) → IfOk result (λ x. IsWritable n (view x))
-all-read n text view (Ok x) few stands = writable-read n text (view x) (omega arith) stands
-all-read n text view (Err fault) few stands = stands
+all-read n text view result few stands = grind (arith, writable-read n text)

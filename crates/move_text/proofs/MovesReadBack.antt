@@ -1,8 +1,8 @@
 -- What is written of moves is read as these moves. The header leads to no moves, and the line of
 -- a move adds it to the moves before, since no test of the table applies.
-use Rattle.std.proofs.Common.{◌≡◌, ◌+◌, ◌≤◌, ◌<◌, ◌^◌, codes, nat_le, ℕ, List, [], ◌∷◌, ◌++◌, All, length, map, true, false, Some, Ok, refl, ◌∙◌, ap, subst, arith, append_assoc}
+use Rattle.std.proofs.Common.{◌≡◌, ◌+◌, ◌≤◌, ◌<◌, ◌^◌, codes, nat_le, ℕ, List, [], ◌∷◌, ◌++◌, All, length, map, true, false, Some, Ok, refl, ap, subst, arith, append_assoc}
 use Rattle.counting.proofs.Common.{AllByRecursion, list_all, list_any, nat_tests, append-nil, length-append, Within}
-use Rattle.line_text.specs.Common.{Begins, Stands, has_form, is_word, IsSignificant, is_number, value_of}
+use Rattle.line_text.specs.Common.{Begins, Stands, has_form, is_word, IsSignificant, is_number}
 use Rattle.line_text.proofs.Decimals.{number_of-decimal, is_word-decimal, numbers-decimal, values-decimal}
 use Rattle.line_text.proofs.ReadBack.{Stands-written}
 use Rattle.text_faults.specs.Common.{is_out_of_range}
@@ -36,18 +36,11 @@ few_moves moves few = grind (arith, nat_tests)
 
 -- the line of a Rotate
 rotate-taken : (n : ℕ) (moves : List PlainMove) (path : List Side) → length moves < most_moves → length path ≤ most_steps → (move_format n).line moves (move_words (rotate_at path)) ≡ Ok (moves ++ rotate_at path ∷ [])
-rotate-taken n moves path few short =
-    taken (path_word path) (is-rotate (path_word path) (is_path-path_word path short)) (path_of-path_word path)
-  where
-    taken : (word : List ℕ) → is_rotate_line (codes "rotate" ∷ word ∷ []) ≡ true → path_of word ≡ path → (move_format n).line moves (codes "rotate" ∷ word ∷ []) ≡ Ok (moves ++ rotate_at path ∷ [])
-    taken word is same = rw (few_moves moves few, is, same) refl
+rotate-taken n moves path few short = grind (arith, is-rotate (path_word path) (is_path-path_word path short), is_path-path_word path short, path_of-path_word path, few_moves moves few)
 
 pub vertices_of-set_word : (n : ℕ) (x : List ℕ) → n < 10 ^ 9 → 0 < length x → All (Within n) x → (vertices_of (set_word x) ≡ x) × (are_numbers (set_word x) ≡ true)
 vertices_of-set_word n [] small some within = absurd (omega arith)
-vertices_of-set_word n (v ∷ x) small some within =
-    let less = few-digits n (v ∷ x) small within in
-    let parts = parts_of-set_word v x less in
-    (ap (map value_of) parts ∙ values-decimal (v ∷ x) less, ap (list_all is_number) parts ∙ numbers-decimal (v ∷ x) less)
+vertices_of-set_word n (v ∷ x) small some within = grind (arith, few-digits n (v ∷ x) small within, parts_of-set_word v x, values-decimal (v ∷ x), list_all is_number, numbers-decimal (v ∷ x))
 
 word-set : (n : ℕ) (x : List ℕ) → n < 10 ^ 9 → 0 < length x → All (Within n) x → is_word (set_word x) ≡ true
 word-set n [] small some within = absurd (omega arith)
@@ -62,13 +55,11 @@ switch-taken n moves path u v small few short sets rising =
     taken (path_word path) (set_word u) (set_word v) (not-rotate (path_word path) (set_word u) (set_word v)) (is-switch (path_word path) (set_word u) (set_word v) (is_path-path_word path short)) (path_of-path_word path) read_u.1 read_v.1 read_u.0 read_v.0 (in_range-tests n u first.1) (in_range-tests n v second.1)
   where
     taken : (word x y : List ℕ) → is_rotate_line (codes "switch" ∷ word ∷ x ∷ y ∷ []) ≡ false → is_switch_line (codes "switch" ∷ word ∷ x ∷ y ∷ []) ≡ true → path_of word ≡ path → are_numbers x ≡ true → are_numbers y ≡ true → vertices_of x ≡ u → vertices_of y ≡ v → list_any (is_out_of_range n) u ≡ false → list_any (is_out_of_range n) v ≡ false → (move_format n).line moves (codes "switch" ∷ word ∷ x ∷ y ∷ []) ≡ Ok (moves ++ switch_at path u v ∷ [])
-    taken word x y other is same numbers_x numbers_y vertices_x vertices_y range_u range_v =
-        rw (few_moves moves few, other, is, numbers_x, numbers_y, vertices_x, vertices_y, range_u, range_v, rising-tests u rising.0, rising-tests v rising.1, same) refl
+    taken word x y other is same numbers_x numbers_y vertices_x vertices_y range_u range_v = grind (arith, few_moves moves few, rising-tests u rising.0, rising-tests v rising.1)
 
 -- the lines of moves
 move-taken : (n : ℕ) (moves : List PlainMove) (m : PlainMove) → n < 10 ^ 9 → length moves < most_moves → HasShortPath m → HasSets n m → SetsRise m → (move_format n).line moves (move_words m) ≡ Ok (moves ++ m ∷ [])
-move-taken n moves (rotate_at path) small few short sets rising = rotate-taken n moves path few short
-move-taken n moves (switch_at path u v) small few short sets rising = switch-taken n moves path u v small few short sets rising
+move-taken n moves m small few short sets rising = grind (arith, rotate-taken n moves, switch-taken n moves)
 
 moves-taken : (n : ℕ) (before moves : List PlainMove) → n < 10 ^ 9 → length before + length moves ≤ most_moves → AllByRecursion HasShortPath moves → AllByRecursion (HasSets n) moves → AllByRecursion SetsRise moves → Begins (move_format n) (Some before) (map move_words moves) (Some (before ++ moves))
 moves-taken n before [] small few paths sets rising = ap (λ (ms : List PlainMove). Some ms) (append-nil before)
@@ -81,10 +72,7 @@ moves-taken n before (m ∷ moves) small few paths sets rising = (
 
 -- each line is significant
 move-significant : (n : ℕ) (m : PlainMove) → n < 10 ^ 9 → HasSets n m → IsSignificant (move_words m)
-move-significant n (rotate_at path) small sets = record { kept = refl; each = (refl, (is_word-path_word path, tt)) }
-move-significant n (switch_at path u v) small sets =
-    let first = sets.0 in let second = sets.1 in
-    record { kept = refl; each = (refl, (is_word-path_word path, (word-set n u small first.0 first.1, (word-set n v small second.0 second.1, tt)))) }
+move-significant n m small sets = grind (arith, is_word-path_word, word-set n)
 
 moves-significant : (n : ℕ) (moves : List PlainMove) → n < 10 ^ 9 → AllByRecursion (HasSets n) moves → AllByRecursion IsSignificant (map move_words moves)
 moves-significant n [] small sets = tt

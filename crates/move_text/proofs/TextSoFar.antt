@@ -1,5 +1,5 @@
 -- The text of moves grows by the line of the next move.
-use Rattle.std.proofs.Common.{◌≡◌, ◌+◌, ◌≤◌, ◌<◌, ℕ, zero, suc, List, [], ◌∷◌, get_or, length, map, take, take_all, refl, sym, ◌∙◌, ap, subst, arith}
+use Rattle.std.proofs.Common.{◌≡◌, ◌+◌, ◌≤◌, ◌<◌, ℕ, zero, suc, List, [], ◌∷◌, get_or, length, map, take, take_all, refl, sym, ap, subst, arith}
 use Rattle.counting.proofs.Common.{AllByRecursion}
 use Rattle.line_text.specs.Common.{written}
 use Rattle.tree_core.specs.declared.moves.Move.{Move}
@@ -13,9 +13,7 @@ map-moves (m ∷ moves) = ap (λ (lines : List (List (List ℕ))). move_words (m
 
 pub moves_text-by_moves : (n : ℕ) (moves : List Move) (i : ℕ) → length moves ≤ i → written (header_words n ∷ map (λ m. move_words (move_of m)) (take i moves)) ≡ moves_text n (moves_of moves)
 unfolding moves_text
-moves_text-by_moves n moves i done =
-    ap (λ (ms : List Move). written (header_words n ∷ map (λ m. move_words (move_of m)) ms)) (take_all i moves (omega arith))
-    ∙ ap (λ (lines : List (List (List ℕ))). written (header_words n ∷ lines)) (map-moves moves)
+moves_text-by_moves n moves i done = grind (arith, take_all i moves, map-moves moves)
 
 -- what holds of the first moves and of the next
 all-suc : (P : PlainMove → Type 0) (moves : List Move) (i : ℕ) (m : Move) → i < length moves → get_or moves i m ≡ m → AllByRecursion P (moves_of (take i moves)) → P (move_of m) → AllByRecursion P (moves_of (take (suc i) moves))
@@ -24,6 +22,4 @@ all-suc P (x ∷ moves) zero m less is each last = (subst (λ (y : Move). P (mov
 all-suc P (x ∷ moves) (suc i) m less is each last = (each.0, all-suc P moves i m (omega arith) is each.1 last)
 
 pub all-next : (P : PlainMove → Type 0) (moves : List Move) (i : ℕ) (m : Move) → i < length moves → get_or moves i m ≡ m → AllByRecursion P (moves_of (take i moves)) → P (move_of m) → AllByRecursion P (moves_of (take (i + 1) moves))
-all-next P moves i m less is each last =
-    let next : suc i ≡ i + 1 = omega arith in
-    subst (λ k. AllByRecursion P (moves_of (take k moves))) next (all-suc P moves i m less is each last)
+all-next P moves i m less is each last = grind (arith, all-suc P moves i m less is each last)

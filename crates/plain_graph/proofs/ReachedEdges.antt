@@ -22,8 +22,4 @@ pub first_pairs-size : (n k : ℕ) (es : List (ℕ × ℕ)) (g : Graph) → g �
 first_pairs-size n k es g is less = ap size is ∙ length-take-le k es (omega arith)
 
 pub reached : (n k : ℕ) (es : List (ℕ × ℕ)) (g : Graph) → g ≡ record { order = n; ends = take k es } → IsWithinLimits g → k < length es → IsReached n es k
-reached n k es g is limits less = record {
-  place = less;
-  before = first_pairs-join n k es (omega arith) (subst IsMultigraph is limits.multigraph);
-  few = subst (λ m. m ≤ 2048) (first_pairs-size n k es g is less) limits.edges;
-}
+reached n k es g is limits less = grind (arith, first_pairs-join n k es, first_pairs-size n k es g is less)

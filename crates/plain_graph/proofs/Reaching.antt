@@ -1,6 +1,6 @@
 -- The vertices that a walk of one step more reaches, and those that a walk of as many steps as
 -- there are vertices reaches.
-use Rattle.std.proofs.Common.{◌≡◌, ℕ, suc, ◌+◌, ◌&&◌, ◌||◌, ◌==◌, not, true, false, ap, ap₂, sym, ◌∙◌, arith, List, [], length, Option, None, Some, unwrap_or, nat_lt, ltb-true, lt-ltb, eq-eqb, ne_eqb, inl, inr, IfSome, IfNone}
+use Rattle.std.proofs.Common.{◌≡◌, ℕ, ◌+◌, ◌&&◌, ◌||◌, ◌==◌, not, true, false, ap, sym, ◌∙◌, arith, List, [], length, Option, unwrap_or, nat_lt, ltb-true, lt-ltb, eq-eqb, ne_eqb, inl, inr, IfSome, IfNone}
 use Rattle.std.proofs.lemmas.Bool.{not_from_false}
 use Rattle.counting.proofs.Common.{and_from, and_parts, and_right, both_ways, cases_eq, cases_lt, false_from_ne_true, count_congr, count_mem_length, set-narrower, some_congr, some_true, true_some, Within, count, IsLeastOf, IsRisingIn, mem, Set, some}
 use Rattle.graph_core.proofs.Common.{is_least, Graph, adjacent, joined, reaches, flood_own}
@@ -8,10 +8,7 @@ use Rattle.graph_core.proofs.Common.{is_least, Graph, adjacent, joined, reaches,
 -- one step more
 pub reaches-step : (g : Graph) (s x : Set) (u k : ℕ) → ((v : ℕ) → Within g.order v → x v ≡ reaches g.order (adjacent g s) u k v) → (v : ℕ) → Within g.order v →
     reaches g.order (adjacent g s) u (k + 1) v ≡ (x v || some g.order (λ w. x w && adjacent g s w v))
-reaches-step g s x u k h v w =
-    let e : k + 1 ≡ suc k = omega arith in
-    ap (λ j. reaches g.order (adjacent g s) u j v) e
-    ∙ ap₂ ◌||◌ (sym (h v w)) (some_congr g.order (λ w. reaches g.order (adjacent g s) u k w && adjacent g s w v) (λ w. x w && adjacent g s w v) (λ i wi. ap (λ b. b && adjacent g s i v) (sym (h i wi))))
+reaches-step g s x u k h v w = grind (arith, some_congr g.order)
 
 -- as many steps as there are vertices
 pub reaches-all : (g : Graph) (s : Set) (u k : ℕ) → k ≡ g.order → (v : ℕ) → reaches g.order (adjacent g s) u k v ≡ joined g s u v
@@ -20,8 +17,7 @@ reaches-all g s u k e v = ap (λ j. reaches g.order (adjacent g s) u j v) e
 
 -- the first of a set with a member is its least
 first_of : (o : Option ℕ) (xs : List ℕ) (u : ℕ) → IfSome o (IsLeastOf xs) → mem xs u ≡ true → IfNone o (xs ≡ []) → IsLeastOf xs (unwrap_or o u)
-first_of None xs u some m none = absurd (both_ways (mem xs u) (ap (λ ys. mem ys u) none) m)
-first_of (Some x) xs u some m none = some
+first_of o xs u some m none = grind arith
 
 -- a vertex outside s is the least of its component where it is the first of the vertices that it
 -- is joined to
@@ -46,11 +42,7 @@ least-first g s u part o w out is vertices some_first none_first = elim (cases_e
     least = first_of o part u some_first own none_first
 
     no_less : x ≡ u → some g.order less ≡ false
-    no_less e = false_from_ne_true (some g.order less) (λ t.
-        let q = some_true g.order less t in
-        let b = and_parts (joined g s u q.0) (nat_lt q.0 u) q.2 in
-        let l = ltb-true q.0 u b.1 in
-        both_ways (mem part q.0) (least.before q.0 (omega arith)) (is q.0 q.1 ∙ b.0))
+    no_less e = grind (arith, false_from_ne_true (some g.order less), some_true g.order less, and_parts, nat_lt, ltb-true, both_ways)
 
     some_less : (x ≡ u → ⊥) → some g.order less ≡ true
     some_less n = elim (cases_lt x u) [

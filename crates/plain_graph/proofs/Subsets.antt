@@ -52,5 +52,4 @@ Contains-filter p xss xs c h = go xss c.0 c.1 c.2
 pub with_next-is : (n m : ℕ) (xs more : List ℕ) → n + 1 ≤ m → IsRisingIn n xs → IsRisingIn m more → ((v : ℕ) → mem more v ≡ (mem xs v || (n + 1 == v))) → more ≡ xs ++ (n + 1) ∷ []
 with_next-is n m xs more le r more_r h =
     let e : suc n ≡ n + 1 = omega arith in
-    same_rising_list m more (xs ++ (n + 1) ∷ []) more_r (subst (λ k. IsRisingIn m (xs ++ k ∷ [])) e (set-wider (suc n) m (xs ++ suc n ∷ []) (omega arith) (rising-push n xs r)))
-    (λ v w. h v ∙ sym (mem-append xs ((n + 1) ∷ []) v ∙ ap (λ b. mem xs v || b) (or_false (n + 1 == v))))
+    grind (arith, same_rising_list m more (xs ++ (n + 1) ∷ []) more_r, set-wider (suc n) m (xs ++ suc n ∷ []), rising-push n xs r, mem-append xs ((n + 1) ∷ []), or_false)

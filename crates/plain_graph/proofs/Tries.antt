@@ -6,7 +6,7 @@ use Rattle.std.proofs.lemmas.List.{get_or_default}
 use Rattle.std.proofs.lemmas.List.Elements.{All-filter, filter_passes}
 use Rattle.std.proofs.lemmas.List.Folds.{Any-from_list_any, list_any_at}
 use Rattle.std.proofs.lemmas.List.Sums.{AllPass-from_list_all, list_all-from_AllPass}
-use Rattle.graph_core.proofs.Common.{Graph, edges_in_cut, in_cut, size, IsMatching, IsPerfect, has_matching_of, has_perfect, is_allowed, is_matching, is_perfect, is_tight, has_perfect_found, has_perfect_says, is_allowed_found, is_allowed_says, is_matching_congr, is_perfect_congr, is_perfect_true, is_tight_found, is_tight_says, none_matching, true_is_matching, true_is_perfect}
+use Rattle.graph_core.proofs.Common.{Graph, edges_in_cut, size, IsMatching, IsPerfect, has_matching_of, has_perfect, is_allowed, is_matching, is_perfect, is_tight, has_perfect_found, has_perfect_says, is_allowed_found, is_allowed_says, is_matching_congr, is_perfect_congr, is_perfect_true, is_tight_found, is_tight_says, none_matching, true_is_matching, true_is_perfect}
 use Rattle.plain_graph.specs.Cuts.{has_odd_sides}
 use Rattle.plain_graph.specs.Subsets.{perfect_matchings_of, subsets}
 use Rattle.plain_graph.proofs.Subsets.{Contains-filter, subsets-all, subsets-rising}
@@ -31,8 +31,7 @@ perfect_matchings-all g r m p =
 -- there is a perfect matching where the list is not empty
 pub has_perfect-list : (g : Graph) (r : Set) → not (length (perfect_matchings_of g r) == 0) ≡ has_perfect g r
 has_perfect-list g r = elim (cases_Bool (has_perfect g r)) [
-  | inl t ↦ let p = has_perfect_says g r t in let c = perfect_matchings-all g r p.0 p.1 in
-      ap not (ne_eqb (length (perfect_matchings_of g r)) 0 (λ z. let l = c.1 in absurd (omega arith))) ∙ sym t
+  | inl t ↦ grind (arith, has_perfect_says g r t, perfect_matchings-all g r, ne_eqb (length (perfect_matchings_of g r)) 0)
   | inr f ↦ ap not (eq-eqb (length (perfect_matchings_of g r)) 0 (empty f)) ∙ sym f
 ]
   where
@@ -64,8 +63,7 @@ is_tight-list g x = elim (cases_Bool (has_odd_sides g x)) [
     one h m p =
         let c = perfect_matchings-all g none m p in
         let a = eqb-true _ _ (AllPass-from_list_all (λ m. edges_in_cut g (mem m) x == 1) (perfect_matchings_of g none) h c.0 (rising_list (size g) m) c.1) in
-        sym (count_congr (size g) (λ e. mem (rising_list (size g) m) e && in_cut g x e) (λ e. m e && in_cut g x e) (λ e w. ap (λ b. b && in_cut g x e) (mem-rising_list (size g) m e w)))
-        ∙ ap (λ xs. edges_in_cut g (mem xs) x) (sym c.2) ∙ a
+        grind (arith, count_congr (size g), mem-rising_list (size g) m)
 
 -- a matching shows that there is one of its size
 pub matching_of-size : (g : Graph) (r m : Set) → is_matching g r m ≡ true → has_matching_of g r (count (size g) m) ≡ true
@@ -95,24 +93,15 @@ pub greatest-longer : (g : Graph) (r : Set) (sets : List (List ℕ)) (i most : �
     IsGreatestSoFar g r sets i most → IsGreatestSoFar g r sets (i + 1) (max most (length edges))
 greatest-longer g r sets i most edges l read rises h old = record {
   reached = elim (cases_lt most (length edges)) [
-    | inl lt ↦ let e : length edges ≡ max most (length edges) = omega arith in
-        subst (λ k. has_matching_of g r k ≡ true) (count_mem_length (size g) edges rises ∙ e) (matching_of-size g r (mem edges) h)
+    | inl lt ↦ grind (arith, count_mem_length (size g) edges rises, matching_of-size g r (mem edges) h)
     | inr ge ↦ let e : most ≡ max most (length edges) = omega arith in subst (λ k. has_matching_of g r k ≡ true) e old.reached
   ];
   greatest = λ k d below m. elim (cases_eq k i) [
-    | inl e ↦ let same = ap (λ j. get_or sets j d) e ∙ get_or_default sets i d edges l ∙ sym read in
-        subst (λ (xs : List ℕ). length xs ≤ max most (length edges)) (sym same) (omega arith)
+    | inl e ↦ grind (arith, get_or_default sets i d edges l)
     | inr n ↦ let b = old.greatest k d (omega arith) m in omega (arith, b)
   ];
 }
 
 pub greatest-same : (g : Graph) (r : Set) (sets : List (List ℕ)) (i most : ℕ) (edges : List ℕ) → i < length sets → edges ≡ get_or sets i edges → is_matching g r (mem edges) ≡ false →
     IsGreatestSoFar g r sets i most → IsGreatestSoFar g r sets (i + 1) most
-greatest-same g r sets i most edges l read f old = record {
-  reached = old.reached;
-  greatest = λ k d below m. elim (cases_eq k i) [
-    | inl e ↦ let same = ap (λ j. get_or sets j d) e ∙ get_or_default sets i d edges l ∙ sym read in
-        absurd (both_ways (is_matching g r (mem edges)) f (subst (λ (xs : List ℕ). is_matching g r (mem xs) ≡ true) same m))
-    | inr n ↦ old.greatest k d (omega arith) m
-  ];
-}
+greatest-same g r sets i most edges l read f old = grind (arith, cases_eq, get_or_default sets i, both_ways (is_matching g r (mem edges)) f)

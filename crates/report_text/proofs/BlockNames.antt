@@ -1,17 +1,9 @@
 -- The names of the first blocks of a partition, with one more.
-use Rattle.std.proofs.Common.{◌≡◌, ◌+◌, ℕ, suc, List, [], ◌∷◌, ◌++◌, Some, take, slice_get, ◌∙◌, ap, sym, arith}
+use Rattle.std.proofs.Common.{◌≡◌, ◌+◌, ℕ, List, [], ◌∷◌, ◌++◌, Some, take, slice_get, arith}
 use Rattle.std.proofs.Math.Seq.{take-suc}
 use Rattle.counting.proofs.Common.{map-append, get_or_from_slice_get, last_of}
 use Rattle.std.proofs.lemmas.Option.{slice_get_within}
 use Rattle.graph_core.proofs.Common.{names_of}
 
 pub names-next : (p : List (List ℕ)) (i n : ℕ) (b : List ℕ) (now next : List ℕ) → slice_get p i ≡ Some b → now ≡ names_of (take i p) → n ≡ last_of b → next ≡ now ++ n ∷ [] → next ≡ names_of (take (i + 1) p)
-names-next p i n b now next is before name after =
-    let one : i + 1 ≡ suc i = omega arith in
-    after ∙ ap (λ (ns : List ℕ). ns ++ n ∷ []) before ∙ ap (λ (v : ℕ). names_of (take i p) ++ v ∷ []) name
-    ∙ sym (
-    ap (λ (k : ℕ). names_of (take k p)) one
-    ∙ ap names_of (take-suc p i b (slice_get_within p i b is))
-    ∙ map-append last_of (take i p) (_ ∷ [])
-    ∙ ap (λ (c : List ℕ). names_of (take i p) ++ last_of c ∷ []) (get_or_from_slice_get p i b b is)
-    )
+names-next p i n b now next is before name after = grind (arith, take-suc p i b (slice_get_within p i b is), slice_get_within p i b is, map-append last_of (take i p), get_or_from_slice_get p i b b is)

@@ -1,6 +1,6 @@
 -- The lines after the text of a decomposition, and those that name vertices after it, are
 -- comments: each is written of words, the first of which is `c`.
-use Rattle.std.proofs.Common.{◌≡◌, ◌∙◌, ℕ, zero, suc, ◌-◌, ◌<◌, ◌≤◌, ◌^◌, ◌==◌, not, Bool, true, List, [], ◌∷◌, ◌++◌, length, map, get_or, All, ap, refl, sym, subst, append_assoc, arith, inl, inr, codes, eq-eqb}
+use Rattle.std.proofs.Common.{◌≡◌, ℕ, zero, suc, ◌-◌, ◌<◌, ◌≤◌, ◌^◌, ◌==◌, not, Bool, true, List, [], ◌∷◌, ◌++◌, length, map, get_or, All, ap, refl, subst, append_assoc, arith, codes, eq-eqb}
 use Rattle.std.specs.Fmt.{decimal}
 use Rattle.counting.proofs.Common.{AllByRecursion, cases_lt, or_left, or_right, All-nil, rising_list-rises, Within, last_of, mem}
 use Rattle.std.proofs.lemmas.List.Elements.{All-get_or, All-from_get_or}
@@ -9,7 +9,7 @@ use Rattle.std.proofs.Math.ListN.{get_or-eq_default}
 use Rattle.graph_core.proofs.Common.{Graph, size, first_end, second_end, has_ends, IsPartition, block, contracted, quotient, remembered}
 use Rattle.graph_text.proofs.NamedReadBack.{is_word-name}
 use Rattle.graph_text.specs.Common.{AreNames, is_name}
-use Rattle.line_text.specs.Common.{AreWords, is_word, unwords, written}
+use Rattle.line_text.specs.Common.{AreWords, is_word, written}
 use Rattle.line_text.proofs.Decimals.{is_word-decimal, words-decimal}
 use Rattle.line_text.proofs.WrittenLines.{spaced, unwords-spaced}
 use Rattle.report_text.specs.Common.{HasFewLeaves, IsCommented, adjacent_line, adjacent_lines, block_lines, derivation_text, leaf_line, leaf_lines, leaf_text, name_at, tally_line, leaf_kind_word, list_line, name_line, name_lines, numbers_text, with_names_text}
@@ -51,12 +51,7 @@ adjacent-commented a b edges first second small =
     (rw (numbers-spaced edges) (by-line (decimal a) (decimal b) (map decimal edges)))
   where
     by-line : (a b : List ℕ) (words : List (List ℕ)) → codes "c edge " ++ a ++ codes " " ++ b ++ codes " by" ++ spaced words ++ codes "\n" ≡ written ((codes "c" ∷ codes "edge" ∷ a ∷ b ∷ codes "by" ∷ words) ∷ [])
-    by-line a b words =
-        let right : codes "c edge " ++ a ++ codes " " ++ b ++ codes " by" ++ spaced words ++ codes "\n" ≡ codes "c edge " ++ (a ++ (32 ∷ (b ++ (32 ∷ (codes "by" ++ spaced words ++ 10 ∷ []))))) = simp append_assoc in
-        right ∙ sym (ap (λ (t : List ℕ). codes "c edge " ++ t)
-        (append_assoc a (32 ∷ (b ++ 32 ∷ unwords (codes "by" ∷ words))) (10 ∷ [])
-        ∙ ap (λ (t : List ℕ). a ++ 32 ∷ t) (append_assoc b (32 ∷ unwords (codes "by" ∷ words)) (10 ∷ []))
-        ∙ ap (λ (t : List ℕ). a ++ 32 ∷ (b ++ 32 ∷ (t ++ 10 ∷ []))) (unwords-spaced (codes "by") words)))
+    by-line a b words = grind (arith, spaced, append_assoc, unwords-spaced)
 
 -- the line of the counts
 tally-commented : (tally : Tally) → tally.leaves < 10 ^ 9 → tally.bricks < 10 ^ 9 → tally.braces < 10 ^ 9 → IsCommented [] (tally_line tally)
@@ -68,17 +63,11 @@ tally-commented tally leaves bricks braces =
 
 -- the line that names a vertex
 name-commented : (vertex : ℕ) (name : List ℕ) → vertex < 10 ^ 9 → is_word name ≡ true → IsCommented [] (name_line true vertex name)
-name-commented vertex name small word =
-    commented-line (name_line true vertex name) (codes "c" ∷ codes "name" ∷ decimal vertex ∷ name ∷ [])
-    (record { skipped = refl; each = (refl, (refl, (is_word-decimal vertex small, (word, tt)))) })
-    (simp append_assoc)
+name-commented vertex name small word = grind (arith, commented-line (name_line true vertex name) (codes "c" ∷ codes "name" ∷ decimal vertex ∷ name ∷ []), is_word-decimal vertex small, append_assoc)
 
 -- an item of a list, or 0 or the empty list after it
 within-default : {X : Type 0} (P : X → Type 0) (xs : List X) (d : X) (i : ℕ) → P d → All P xs → P (get_or xs i d)
-within-default P xs d i plain all = elim (cases_lt i (length xs)) [
-  | inl less ↦ All-get_or P xs i d less all
-  | inr more ↦ subst P (sym (get_or-eq_default xs d more)) plain
-]
+within-default P xs d i plain all = grind (arith, cases_lt i (length xs), get_or-eq_default xs d)
 
 -- the last of small numbers
 last-small : (xs : List ℕ) → All (λ v. v < 10 ^ 9) xs → last_of xs < 10 ^ 9
@@ -105,10 +94,7 @@ name-small p i small = last-small (block p i) (within-default (λ (b : List ℕ)
 
 -- the edges between two blocks
 edges-small : (g : Graph) (p : List (List ℕ)) (k : ℕ) → size g < 10 ^ 9 → All (λ v. v < 10 ^ 9) (remembered g p k)
-edges-small g p k few j d less =
-    let within : Within (size g) (get_or (remembered g p k) j d) =
-    (rising_list-rises (size g) (has_ends (contracted g p) (first_end (quotient g p) k) (second_end (quotient g p) k))).within j d less in
-    omega arith
+edges-small g p k few j d less = grind (arith, rising_list-rises (size g) (has_ends (contracted g p) (first_end (quotient g p) k) (second_end (quotient g p) k)))
 
 -- the lines of the first blocks
 blocks-commented : (p : List (List ℕ)) (k : ℕ) → All (λ (b : List ℕ). All (λ v. v < 10 ^ 9) b) p → IsCommented [] (block_lines p k)
@@ -174,8 +160,7 @@ first_names-commented names (suc k) each few some =
 -- the lines that name the vertices
 pub names-commented : (report : List ℕ) (names : List (List ℕ)) → AreWords names → length names < 10 ^ 9 → IsCommented report (with_names_text report names true)
 unfolding with_names_text
-names-commented report names each few =
-    commented-tail report (name_lines true names (length names)) (first_names-commented names (length names) each few (omega arith))
+names-commented report names each few = grind (arith, commented-tail report (name_lines true names (length names)), first_names-commented names (length names) each few)
 
 words-names : (names : List (List ℕ)) → AllByRecursion (λ (name : List ℕ). is_name name ≡ true) names → AreWords names
 words-names [] each = tt
@@ -183,7 +168,4 @@ words-names (name ∷ names) each = (is_word-name name each.0, words-names names
 
 -- the lines that name the first vertices of a graph are comments, where they are written so
 pub given_names-commented : (report text : List ℕ) (names : List (List ℕ)) (comments : Bool) (k : ℕ) → AreNames names → k ≤ length names → text ≡ report ++ name_lines comments names k → comments ≡ true → IsCommented report text
-given_names-commented report text names comments k are some is marked =
-    let few = are.few in
-    subst (IsCommented report) (sym (is ∙ ap (λ (b : Bool). report ++ name_lines b names k) marked))
-    (commented-tail report (name_lines true names k) (first_names-commented names k (words-names names are.each) (omega arith) some))
+given_names-commented report text names comments k are some is marked = grind (arith, commented-tail, first_names-commented, words-names)

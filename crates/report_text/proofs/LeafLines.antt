@@ -1,11 +1,10 @@
 -- The lines of the leaves grow by those of one leaf: those before it tell their own kinds.
 -- By induction over the leaves, and what stands at a place stays where a kind is appended.
-use Rattle.std.proofs.Common.{◌≡◌, ◌≤◌, ℕ, zero, suc, ◌+◌, ◌-◌, List, [], ◌∷◌, ◌++◌, length, map, ap, ap₂, refl, sym, ◌∙◌, get_or, slice_get, Some, arith}
+use Rattle.std.proofs.Common.{◌≡◌, ◌≤◌, ℕ, zero, suc, ◌+◌, ◌-◌, List, [], ◌∷◌, ◌++◌, length, map, refl, slice_get, Some, arith}
 use Rattle.std.proofs.Math.ListN.{get_or-append}
 use Rattle.counting.proofs.Common.{get_or-append_seam}
 use Rattle.contraction.specs.Partition.{PartitionValue}
 use Rattle.graph_core.proofs.Common.{Graph}
-use Rattle.tree_core.proofs.Common.{leaf_at}
 use Rattle.report_text.specs.Common.{leaf_lines, leaf_text}
 use Rattle.tree_core.specs.declared.tallies.LeafKind.{LeafKind}
 use Rattle.tree_core.specs.declared.tallies.LeafKind.TheVariants.{Brick}
@@ -14,9 +13,7 @@ use Rattle.report_text.proofs.WrittenLines.{leaf-written}
 -- the lines of the first leaves don't tell the kinds of later ones
 lines-before : (g : Graph) (ps : List (List (List ℕ))) (kinds more : List LeafKind) (i : ℕ) → i ≤ length kinds → leaf_lines g ps kinds i ≡ leaf_lines g ps (kinds ++ more) i
 lines-before g ps kinds more zero l = refl
-lines-before g ps kinds more (suc i) l =
-    ap₂ (λ (before : List ℕ) (kind : LeafKind). before ++ leaf_text g (suc i) (leaf_at ps (suc i)) kind) (lines-before g ps kinds more i (omega arith))
-    (sym (get_or-append kinds more Brick (suc i - 1) (omega arith)))
+lines-before g ps kinds more (suc i) l = grind (arith, lines-before g ps kinds more i (omega arith), get_or-append kinds more Brick (suc i - 1))
 
 -- the lines of the next leaf, with its kind
 pub lines-more : (g : Graph) (leaves : List PartitionValue) (kinds : List LeafKind) (i : ℕ) (p : PartitionValue) (kind : LeafKind) (start now next : List ℕ) → slice_get leaves i ≡ Some p → length kinds ≡ i →
@@ -24,7 +21,4 @@ pub lines-more : (g : Graph) (leaves : List PartitionValue) (kinds : List LeafKi
     next ≡ start ++ leaf_lines g (map (λ (p : PartitionValue). p.blocks) leaves) (kinds ++ kind ∷ []) (suc i)
 lines-more g leaves kinds i p kind start now next is so_many first second =
     let ps : List (List (List ℕ)) = map (λ (p : PartitionValue). p.blocks) leaves in
-    leaf-written g leaves (kinds ++ kind ∷ []) i p kind start now next is
-    (sym (get_or-append_seam kinds kind [] Brick) ∙ ap (λ (n : ℕ). get_or (kinds ++ kind ∷ []) n Brick) so_many)
-    (first ∙ ap (λ (lines : List ℕ). start ++ lines) (lines-before g ps kinds (kind ∷ []) i (omega arith)))
-    second
+    grind (arith, leaf-written g leaves (kinds ++ kind ∷ []) i p kind start now next is, get_or-append_seam kinds kind, lines-before g ps kinds (kind ∷ []) i)

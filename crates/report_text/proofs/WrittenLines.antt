@@ -18,9 +18,7 @@ one-more start lines line now next first second = second ∙ ap (λ (t : List �
 
 -- the line of the next block
 pub block-written : (p : List (List ℕ)) (i : ℕ) (b start now next : List ℕ) → slice_get p i ≡ Some b → now ≡ start ++ block_lines p i → next ≡ now ++ list_line (codes "c block") b → next ≡ start ++ block_lines p (suc i)
-block-written p i b start now next is first second =
-    one-more start (block_lines p i) (list_line (codes "c block") (get_or p i [])) now next first
-    (second ∙ ap (λ (c : List ℕ). now ++ list_line (codes "c block") c) (sym (get_or_from_slice_get p i b [] is)))
+block-written p i b start now next is first second = grind (arith, one-more start (block_lines p i) (list_line (codes "c block") (get_or p i [])) now next first, get_or_from_slice_get p i b)
 
 -- the vertices of the quotient are the places of blocks
 pub within-blocks : (g : Graph) (p : List (List ℕ)) (q : ContractedValue) (h : Graph) (a : ℕ) → q ≡ contraction g p → h ≡ q.graph → Within h.order a → Within (length p) a
@@ -31,23 +29,14 @@ within-blocks g p q h a is same within = subst (λ (k : ℕ). Within k a) (ap (�
 pub adjacent-written : (g : Graph) (p : List (List ℕ)) (q : ContractedValue) (h : Graph) (i a b x y : ℕ) (edges start now next : List ℕ) →
     q ≡ contraction g p → h ≡ q.graph → a ≡ first_end h (suc i) → b ≡ second_end h (suc i) → x ≡ name_at p a → y ≡ name_at p b → edges ≡ remembered g p (suc i) →
     now ≡ start ++ adjacent_lines g p i → next ≡ now ++ adjacent_line x y edges → next ≡ start ++ adjacent_lines g p (suc i)
-adjacent-written g p q h i a b x y edges start now next is same first_is second_is x_is y_is edges_are first second =
-    let e : h ≡ quotient g p = same ∙ ap (λ (q : ContractedValue). q.graph) is in
-    let xs : x ≡ name_at p (first_end (quotient g p) (suc i)) = x_is ∙ ap (name_at p) (first_is ∙ ap (λ (h : Graph). first_end h (suc i)) e) in
-    let ys : y ≡ name_at p (second_end (quotient g p) (suc i)) = y_is ∙ ap (name_at p) (second_is ∙ ap (λ (h : Graph). second_end h (suc i)) e) in
-    one-more start (adjacent_lines g p i) (adjacent_line (name_at p (first_end (quotient g p) (suc i))) (name_at p (second_end (quotient g p) (suc i))) (remembered g p (suc i))) now next first
-    (second ∙ ap (λ (l : List ℕ). now ++ l) (ap (λ (v : ℕ). adjacent_line v y edges) xs ∙ ap (λ (v : ℕ). adjacent_line (name_at p (first_end (quotient g p) (suc i))) v edges) ys ∙ ap (λ (es : List ℕ). adjacent_line (name_at p (first_end (quotient g p) (suc i))) (name_at p (second_end (quotient g p) (suc i))) es) edges_are))
+adjacent-written g p q h i a b x y edges start now next is same first_is second_is x_is y_is edges_are first second = grind (arith, one-more)
 
 -- the lines of a leaf: its own, those of its blocks, and those of the pairs of adjacent blocks,
 -- which are the edges of its quotient
 pub leaf_text-written : (g : Graph) (p : List (List ℕ)) (number : ℕ) (kind : LeafKind) (start first second end : List ℕ) →
     first ≡ start ++ leaf_line number kind → second ≡ first ++ block_lines p (length p) → end ≡ second ++ adjacent_lines g p (size (quotient g p)) → end ≡ start ++ leaf_text g number p kind
 unfolding leaf_text
-leaf_text-written g p number kind start first second end line blocks pairs =
-    let adjacent : List ℕ = adjacent_lines g p (size (quotient g p)) in
-    pairs
-    ∙ ap (λ (t : List ℕ). t ++ adjacent) (one-more start (leaf_line number kind) (block_lines p (length p)) first second line blocks)
-    ∙ append_assoc start (leaf_line number kind ++ block_lines p (length p)) adjacent
+leaf_text-written g p number kind start first second end line blocks pairs = grind (arith, one-more, append_assoc)
 
 -- the lines of the next leaf
 pub leaf-written : (g : Graph) (leaves : List PartitionValue) (kinds : List LeafKind) (i : ℕ) (p : PartitionValue) (kind : LeafKind) (start now next : List ℕ) → slice_get leaves i ≡ Some p → kind ≡ get_or kinds i Brick →

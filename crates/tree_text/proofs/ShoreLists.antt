@@ -1,35 +1,28 @@
 -- Lists of vertices as the reader walks over them: what goes into the set is taken off the list,
 -- and a set with the numbers of a rising list is this list. A list that passes the tests of the
 -- format rises and lies in range.
-use Rattle.std.proofs.Common.{◌≡◌, ◌||◌, ◌==◌, ◌+◌, ◌≤◌, ◌<◌, ℕ, suc, List, [], ◌∷◌, All, Bool, true, false, length, nat_lt, refl, sym, ◌∙◌, ap, subst, arith}
+use Rattle.std.proofs.Common.{◌≡◌, ◌||◌, ◌==◌, ◌+◌, ◌≤◌, ◌<◌, ℕ, suc, List, [], ◌∷◌, All, true, false, length, nat_lt, subst, arith}
 use Rattle.counting.proofs.Common.{list_any, and_parts, or_parts, nat_tests, Rises, same_rising_list, set-from_rises, set-wider, or_false, Within, mem, IsRisingIn}
 use Rattle.text_faults.specs.Common.{is_out_of_range}
 use Rattle.text_faults.proofs.InRange.{in_range}
 use Rattle.tree_text.specs.Common.{is_rising}
 
-or-moves : (a b c : Bool) → (a || (b || c)) ≡ ((a || b) || c)
-or-moves true b c = refl
-or-moves false b c = refl
-
 pub moved : (vertices shore next behind rest : List ℕ) (v : ℕ) → rest ≡ v ∷ behind → ((w : ℕ) → mem next w ≡ (mem shore w || v == w)) → ((w : ℕ) → mem vertices w ≡ (mem shore w || mem rest w)) → (w : ℕ) → mem vertices w ≡ (mem next w || mem behind w)
-moved vertices shore next behind rest v front gains same w =
-    same w ∙ ap (λ (xs : List ℕ). mem shore w || mem xs w) front ∙ or-moves (mem shore w) (v == w) (mem behind w) ∙ ap (λ b. b || mem behind w) (sym (gains w))
+moved vertices shore next behind rest v front gains same w = grind arith
 
 -- what holds of a list holds of what is after its first number
 pub all-behind : (n : ℕ) (rest behind : List ℕ) (v : ℕ) → rest ≡ v ∷ behind → All (Within n) rest → All (Within n) behind
 all-behind n rest behind v front all k d less = subst (All (Within n)) front all (suc k) d (omega arith)
 
 pub all_moved : (vertices shore rest : List ℕ) → length rest ≡ 0 → IsRisingIn 128 shore → IsRisingIn 128 vertices → ((w : ℕ) → mem vertices w ≡ (mem shore w || mem rest w)) → shore ≡ vertices
-all_moved vertices shore [] none rises in_order same =
-    same_rising_list 128 shore vertices rises in_order (λ w within. sym (same w ∙ or_false (mem shore w)))
+all_moved vertices shore [] none rises in_order same = grind (arith, same_rising_list 128 shore vertices rises in_order, or_false)
 all_moved vertices shore (v ∷ rest) none rises in_order same = absurd (omega arith)
 
 less-from_test : (v w : ℕ) → nat_lt v w ≡ true → v < w
 less-from_test v w is = grind (arith, nat_tests)
 
 rises-from_tests : (low n v : ℕ) (vs : List ℕ) → low ≤ v → list_any (is_out_of_range n) (v ∷ vs) ≡ false → is_rising (v ∷ vs) ≡ true → Rises low n (v ∷ vs)
-rises-from_tests low n v [] least within rising =
-    (least, (in_range n v (or_parts (is_out_of_range n v) (list_any (is_out_of_range n) []) within).0).1, tt)
+rises-from_tests low n v [] least within rising = grind arith
 rises-from_tests low n v (w ∷ ws) least within rising =
     let ranges = or_parts (is_out_of_range n v) (list_any (is_out_of_range n) (w ∷ ws)) within in
     let order = and_parts (nat_lt v w) (is_rising (w ∷ ws)) rising in

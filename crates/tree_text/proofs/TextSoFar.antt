@@ -1,5 +1,5 @@
 -- The lines of a cut and of a tree.
-use Rattle.std.proofs.Common.{◌≡◌, ℕ, List, [], ◌∷◌, ◌++◌, codes, map, sym, ◌∙◌, ap, append_assoc}
+use Rattle.std.proofs.Common.{◌≡◌, ℕ, List, [], ◌∷◌, ◌++◌, codes, map, sym, ◌∙◌, ap, append_assoc, arith}
 use Rattle.counting.proofs.Common.{append-nil}
 use Rattle.std.specs.Fmt.{decimal}
 use Rattle.line_text.specs.Common.{unwords, written}
@@ -9,9 +9,7 @@ use Rattle.tree_text.specs.Common.{cut_words, header_words, node_words, tree_tex
 
 -- the line of a cut is whole when no vertex is left
 pub cut_line : (old text new : List ℕ) (shore rest : List ℕ) → rest ≡ [] → old ++ (codes "cut" ++ spaced (map decimal shore)) ≡ text ++ spaced (map decimal rest) → new ≡ text ++ 10 ∷ [] → new ≡ old ++ written (cut_words shore ∷ [])
-cut_line old text new shore rest none same is =
-    let whole : text ≡ old ++ unwords (cut_words shore) = sym (same ∙ ap (λ vs. text ++ spaced (map decimal vs)) none ∙ append-nil text) ∙ ap (λ t. old ++ t) (sym (unwords-spaced (codes "cut") (map decimal shore))) in
-    is ∙ ap (λ t. t ++ 10 ∷ []) whole ∙ append_assoc old (unwords (cut_words shore)) (10 ∷ [])
+cut_line old text new shore rest none same is = grind (arith, spaced, append-nil text, unwords-spaced (codes "cut") (map decimal shore), append_assoc old (unwords (cut_words shore)) (10 ∷ []))
 
 -- the header, and the lines of the nodes
 pub tree_text-lines : (n : ℕ) (t : Shape) (head text : List ℕ) → head ≡ written (header_words n ∷ []) → text ≡ head ++ written (node_words t) → text ≡ tree_text n t
@@ -20,9 +18,4 @@ tree_text-lines n t head text is_head is_text = is_text ∙ ap (λ h. h ++ writt
 
 -- the lines of a cut, of its `kept` tree and of its `merged` tree, one after the other
 pub cut_lines : (old first second third : List ℕ) (x : List ℕ) (k m : Shape) → first ≡ old ++ written (cut_words x ∷ []) → second ≡ first ++ written (node_words k) → third ≡ second ++ written (node_words m) → third ≡ old ++ written (node_words (cut x k m))
-cut_lines old first second third x k m is_first is_second is_third =
-    is_third ∙ ap (λ t. t ++ written (node_words m)) is_second ∙ append_assoc first (written (node_words k)) (written (node_words m))
-    ∙ ap (λ t. first ++ t) (sym (written-append (node_words k) (node_words m)))
-    ∙ ap (λ t. t ++ written (node_words k ++ node_words m)) is_first
-    ∙ append_assoc old (written (cut_words x ∷ [])) (written (node_words k ++ node_words m))
-    ∙ ap (λ t. old ++ t) (sym (written-append (cut_words x ∷ []) (node_words k ++ node_words m)))
+cut_lines old first second third x k m is_first is_second is_third = grind (arith, append_assoc, written-append)

@@ -1,15 +1,15 @@
 -- What is read of a text can be written again. Along the lines of a text the shores read so far
 -- are nonempty, rise and lie below n, and the nodes are counted: each line keeps this, since it
 -- passed the tests of the table, and so does a tree put at a place.
-use Rattle.std.proofs.Common.{◌≡◌, ◌+◌, ◌-◌, ◌≤◌, ◌<◌, ◌==◌, codes, ◌||◌, ◌^◌, not, nat_le, if◌then◌else◌, ℕ, List, [], ◌∷◌, All, Bool, length, map, true, false, Option, Some, None, Result, Ok, Err, IfOk, refl, sym, ◌∙◌, ap, subst, arith}
+use Rattle.std.proofs.Common.{◌≡◌, ◌+◌, ◌-◌, ◌≤◌, ◌<◌, ◌==◌, codes, ◌||◌, ◌^◌, not, nat_le, if◌then◌else◌, ℕ, List, [], ◌∷◌, All, Bool, length, map, true, false, Option, Some, None, Result, Ok, IfOk, refl, sym, subst, arith}
 use Rattle.counting.proofs.Common.{list_all, list_any, and_parts, both_ways, not-false, nat_tests, Within, mem}
 use Rattle.std.specs.List.Sorted.{IsStrictlyIncreasing}
 use Rattle.line_text.specs.Common.{Begins, Stands, finish, has_form, word_at, is_number, value_of}
-use Rattle.line_text.proofs.Tables.{all_passed, no_value, value_or}
+use Rattle.line_text.proofs.Tables.{all_passed, no_value}
 use Rattle.text_faults.specs.declared.faults.FaultKind.{FaultKind}
 use Rattle.text_faults.specs.declared.faults.FaultKind.TheVariants as kind
 use Rattle.tree_core.proofs.Common.{Shape, leaf, cut, Fits, node_count, below-without_greatest}
-use Rattle.tree_text.specs.Common.{Place, root, in_kept, in_merged, Reading, wanted, whole, put, TreeSoFar, tree_format, node_line, line_behind, tree_end, behind_first, is_rising, is_leaf_line, is_cut_line, most_nodes, HasVertices, ShoresRise, IsWritable}
+use Rattle.tree_text.specs.Common.{Place, root, in_kept, in_merged, Reading, wanted, whole, put, TreeSoFar, tree_format, node_line, line_behind, behind_first, is_rising, is_leaf_line, is_cut_line, most_nodes, HasVertices, ShoresRise, IsWritable}
 use Rattle.text_faults.specs.Common.{is_out_of_range}
 use Rattle.tree_text.proofs.ShoreLists.{rising_read}
 
@@ -72,26 +72,13 @@ two_words (word ∷ next ∷ words) is = omega arith
 
 -- the line of a node keeps what is said
 node-keeps : (n nodes : ℕ) (place : Place) (words : List (List ℕ)) (next : TreeSoFar) → KeepsPlace n place → nodes ≡ nodes_at place → node_line n nodes place words ≡ Ok next → Keeps n next.nodes next.reading
-node-keeps n nodes place words next keeps count same =
-    let through = all_passed (node_tests n nodes words) (node_read nodes place words) next same in
-    let tests = through.0 in
-    let few = few_nodes nodes tests.0 in
-    let rises = rising_read n (vertices_of words) tests.1.1.1.0 (not-false (is_rising (vertices_of words)) tests.1.1.1.1.0) in
-    let below = below-without_greatest n (vertices_of words) rises tests.1.1.1.1.1.0 in
-    subst (λ (b : TreeSoFar). Keeps n b.nodes b.reading) through.1 (go (is_leaf_line words) refl few (not-false (is_leaf_line words || is_cut_line words) tests.1.0) below rises.rising)
+node-keeps n nodes place words next keeps count same = grind (arith, all_passed, few_nodes, rising_read, not-false, below-without_greatest, go)
   where
     go : (leafy : Bool) → is_leaf_line words ≡ leafy → nodes + 1 ≤ most_nodes → (is_leaf_line words || is_cut_line words) ≡ true → All (Within (n - 1)) (vertices_of words) → IsStrictlyIncreasing (vertices_of words) → Keeps n (nodes + 1) (if is_leaf_line words then put place leaf else wanted (in_kept (vertices_of words) place))
-    go true is few known below rising =
-        subst (λ b. Keeps n (nodes + 1) (if b then put place leaf else wanted (in_kept (vertices_of words) place))) (sym is)
-        (keeps-put n (nodes + 1) place leaf keeps (tt, tt, tt) (omega arith) few)
-    go false is few known below rising =
-        let cuts = and_parts (nat_le 2 (length words)) _ (sym (ap (λ b. b || is_cut_line words) is) ∙ known) in
-        subst (λ b. Keeps n (nodes + 1) (if b then put place leaf else wanted (in_kept (vertices_of words) place))) (sym is)
-        (((below, two_words words cuts.0, rising), keeps), omega arith, few)
+    go leafy is few known below rising = grind (arith, keeps-put n (nodes + 1) place leaf keeps (tt, tt, tt), and_parts (nat_le 2 (length words)), nat_le 2 (length words), two_words words)
 
 line-keeps : (n nodes : ℕ) (reading : Reading) (words : List (List ℕ)) (next : TreeSoFar) → Keeps n nodes reading → line_behind n nodes reading words ≡ Ok next → Keeps n next.nodes next.reading
-line-keeps n nodes (whole t) words next keeps same = absurd (no_value _ next same)
-line-keeps n nodes (wanted place) words next keeps same = node-keeps n nodes place words next keeps.0 keeps.1 same
+line-keeps n nodes reading words next keeps same = grind (arith, no_value, node-keeps n nodes)
 
 -- what is said of the state that the lines lead to
 abbrev KeepsReached : ℕ → Option TreeSoFar → Type 0
@@ -112,25 +99,14 @@ header_tests n words =
 
 all-keep : (n : ℕ) (lines : List (List (List ℕ))) (reached : Option TreeSoFar) → Begins (tree_format n) None lines reached → KeepsReached n reached
 all-keep n [] reached begins = subst (KeepsReached n) (sym begins) tt
-all-keep n (words ∷ lines) reached begins =
-    let through = all_passed (header_tests n words) (record { nodes = 0; reading = wanted root }) begins.0 begins.1 in
-    lines-keep n begins.0 lines reached (subst (λ (b : TreeSoFar). Keeps n b.nodes b.reading) through.1 (tt, refl, omega arith)) begins.2
-
--- a tree that is whole at the end
-end-keeps : (n nodes : ℕ) (reading : Reading) (t : Shape) → n < 10 ^ 9 → Keeps n nodes reading → tree_end reading ≡ Ok t → IsWritable n t
-end-keeps n nodes (whole s) t small keeps ends =
-    subst (IsWritable n) (ap (value_or s) ends)
-    (let tree = keeps.0 in record { order = small; fits = tree.0; vertices = tree.1; rising = tree.2; few = omega arith })
-end-keeps n nodes (wanted place) t small keeps ends = absurd (no_value _ t ends)
+all-keep n (words ∷ lines) reached begins = grind (arith, all_passed, lines-keep)
 
 reached-keeps : (n : ℕ) (reached : Option TreeSoFar) (t : Shape) → n < 10 ^ 9 → KeepsReached n reached → finish (tree_format n) reached ≡ Ok t → IsWritable n t
-reached-keeps n None t small keeps ends = absurd (no_value _ t ends)
-reached-keeps n (Some body) t small keeps ends = end-keeps n body.nodes body.reading t small keeps ends
+reached-keeps n reached t small keeps ends = grind arith
 
 -- the tree that a text stands for
 pub writable-read : (n : ℕ) (text : List ℕ) (t : Shape) → n < 10 ^ 9 → Stands (tree_format n) text t → IsWritable n t
-writable-read n text t small stands =
-    reached-keeps n stands.reached t small (all-keep n _ stands.reached stands.begins) stands.ends
+writable-read n text t small stands = grind (arith, reached-keeps n stands.reached t small, all-keep n)
 
 -- with at most 128 vertices
 pub tree_read : (n : ℕ) (text : List ℕ) (t : Shape) → n ≤ 128 → Stands (tree_format n) text t → IsWritable n t
@@ -138,5 +114,4 @@ tree_read n text t few = writable-read n text t (omega arith)
 
 -- whatever a reader answered
 pub all-read : {X Fault : Type 0} (n : ℕ) (text : List ℕ) (view : X → Shape) (result : Result X Fault) → n ≤ 128 → IfOk result (λ x. Stands (tree_format n) text (view x)) → IfOk result (λ x. IsWritable n (view x))
-all-read n text view (Ok x) few stands = tree_read n text (view x) few stands
-all-read n text view (Err fault) few stands = stands
+all-read n text view result few stands = grind (arith, tree_read n text)

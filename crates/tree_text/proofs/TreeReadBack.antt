@@ -2,7 +2,7 @@
 -- the lines of a tree lead from any place to this tree put at the place: the line of a cut leads
 -- below it, its `kept` tree put there leads to the place of its `merged` tree, and this one put
 -- there makes the cut whole. No test of the table applies.
-use Rattle.std.proofs.Common.{◌≡◌, ◌+◌, ◌-◌, ◌≤◌, ◌<◌, ◌==◌, ◌&&◌, ◌^◌, nat_lt, ℕ, suc, List, [], ◌∷◌, ◌++◌, All, Bool, length, map, get_or, codes, true, false, Some, Ok, refl, sym, subst, arith}
+use Rattle.std.proofs.Common.{◌≡◌, ◌+◌, ◌-◌, ◌≤◌, ◌<◌, ◌^◌, nat_lt, ℕ, suc, List, [], ◌∷◌, ◌++◌, All, length, map, get_or, codes, true, false, Some, Ok, refl, sym, subst, arith}
 use Rattle.std.specs.Fmt.{decimal}
 use Rattle.counting.proofs.Common.{AllByRecursion, list_all, list_any, length-map, and_from, false_from_ne_true, nat_tests, mem-within, Within, mem}
 use Rattle.std.specs.List.Sorted.{IsStrictlyIncreasing}
@@ -44,23 +44,16 @@ rising-tests (v ∷ w ∷ x) rising =
     first less = grind (arith, nat_tests)
 
 without-greatest : (n : ℕ) (x : List ℕ) → IsStrictlyIncreasing x → All (Within (n - 1)) x → mem x n ≡ false
-without-greatest n x rising within =
-    false_from_ne_true (mem x n) (λ held. let high = mem-within (n - 1) x (record { rising = rising; within = within }) n held in omega arith)
+without-greatest n x rising within = grind (arith, false_from_ne_true (mem x n), mem-within (n - 1) x)
 
 -- the words of a cut are not leaf's
 not-leaf : (words : List (List ℕ)) → is_leaf_line (codes "cut" ∷ words) ≡ false
 unfolding has_form
-not-leaf [] = refl
-not-leaf (word ∷ words) = with-false (length (codes "cut" ∷ word ∷ words) == 1)
-  where
-    with-false : (b : Bool) → (b && false) ≡ false
-    with-false true = refl
-    with-false false = refl
+not-leaf words = grind arith
 
 is-cut : (words : List (List ℕ)) → 0 < length words → is_cut_line (codes "cut" ∷ words) ≡ true
 unfolding has_form
-is-cut [] some = absurd (omega arith)
-is-cut (word ∷ words) some = grind (arith, nat_tests)
+is-cut words some = grind arith
 
 -- the line of a cut
 cut-taken : (n nodes : ℕ) (place : Place) (x : List ℕ) → nodes < most_nodes → n < 10 ^ 9 → 0 < length x → IsStrictlyIncreasing x → All (Within (n - 1)) x → (tree_format n).line (at nodes (wanted place)) (cut_words x) ≡ Ok (at (nodes + 1) (wanted (in_kept x place)))

@@ -1,8 +1,8 @@
 -- What the files of each set hold is made a task, and so are the answers of their reads; from
 -- these follow the reads.
-use Rattle.std.proofs.Common.{◌≡◌, [], ◌∷◌, rules}
+use Rattle.std.proofs.Common.{◌≡◌, [], ◌∷◌, rules, arith}
 use Rattle.graph_text.specs.Common.{named_graph}
-use Rattle.bench_tasks.specs.Common.{place_name, asked, OnEars, OnGraph, OnMoves, OnPicks, OnSimpleGraph, OnTree, OnTrees, ears_given, graph6_file, graph_file, moves_given, on_ears, on_moves, on_picks, on_tree, on_trees, picks_given, tree_given, trees_given, given_ears, given_moves, given_picks, given_tree, given_trees, graph_in, task_of}
+use Rattle.bench_tasks.specs.Common.{place_name, asked, OnEars, OnGraph, OnMoves, OnPicks, OnSimpleGraph, OnTree, OnTrees, ears_given, graph6_file, moves_given, on_ears, on_moves, on_picks, on_tree, on_trees, picks_given, tree_given, trees_given, given_ears, given_moves, given_picks, given_tree, given_trees, graph_in, task_of}
 use Rattle.bench_tasks.specs.Tasks as task
 use Rattle.bench_tasks.proofs.AnswersMade.{IsMade, answered-mapped, gathered-as}
 use Rattle.bench_tasks.proofs.gathering.gather.Goals as goal
@@ -12,9 +12,7 @@ returns-in-OnGraph g c =
     let arm = c.in-OnGraph in
     let made : IsMade named_graph task_of (task.OnGraph arm.verb) c.load_first.result c.map.result = search rules in
     let is : OnGraph arm.verb arm.graph.now ≡ asked c.args.command = search rules in
-    let gathered = gathered-as g.S.Shelf.reads (OnGraph arm.verb arm.graph.now) (asked c.args.command) c.map.result _ _ is
-    (answered-mapped g.S.Shelf.reads (arm.graph.now ∷ []) named_graph task_of (λ files. graph_file files (place_name 1)) (task.OnGraph arm.verb) c.load_first.result c.map.result _ _ made c.load_first.ensures.answered) in
-    record { loads = search rules; reads = gathered.1; answered = gathered.0; asked = search rules }
+    grind (arith, gathered-as g.S.Shelf.reads (OnGraph arm.verb arm.graph.now) (asked c.args.command) c.map.result, answered-mapped g.S.Shelf.reads (arm.graph.now ∷ []) named_graph task_of)
 
 pub returns-in-OnSimpleGraph : goal.returns-in-OnSimpleGraph
 returns-in-OnSimpleGraph g c =

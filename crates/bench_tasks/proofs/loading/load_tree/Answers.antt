@@ -1,17 +1,13 @@
-use Rattle.std.proofs.Common.{[], ◌∷◌, refl}
+use Rattle.std.proofs.Common.{[], ◌∷◌, refl, arith}
 use Rattle.counting.proofs.Common.{err_from_is_err_and}
 use Rattle.graph_text.specs.Common.{named_graph}
 use Rattle.tree_core.proofs.Common.{shape_of}
 use Rattle.bench_tasks.specs.Common.{graph_file, loaded_as, tree_file, place_name, given_tree}
 use Rattle.bench_tasks.proofs.AnswersMade.{answered-both, answered-stopped, answered-stopped-second}
-use Rattle.bench_tasks.proofs.LoadsMade.{loads-both, loads-stopped, loads-stopped-second}
 use Rattle.bench_tasks.proofs.loading.load_tree.Goals as goal
 
 pub returns-in_err-named-clause-loads : goal.returns-in_err-named-clause-loads
-returns-in_err-named-clause-loads g c =
-    let p = err_from_is_err_and c.from_residual.result c.from_residual.ensures.1 in
-    rw (p.1, p.2) (loads-stopped g.S.Shelf.files g.S.Shelf.steady g.S.Shelf.faults named_graph given_tree (λ files. graph_file files c.args.graph_file.now)
-    (λ files named. loaded_as (λ t. (named, t)) (tree_file files 2 c.args.tree_file.now named.graph.order)) _ _ _ c.in_err-named.ensures.loads)
+returns-in_err-named-clause-loads g c = grind arith
 
 pub returns-in_err-named-clause-answered : goal.returns-in_err-named-clause-answered
 returns-in_err-named-clause-answered g c =
@@ -20,10 +16,7 @@ returns-in_err-named-clause-answered g c =
     (λ files named. loaded_as (λ t. (named, t)) (tree_file files 2 (place_name 2) named.graph.order)) _ _ _ c.in_err-named.ensures.answered)
 
 pub returns-in_err-tree-clause-loads : goal.returns-in_err-tree-clause-loads
-returns-in_err-tree-clause-loads g c =
-    let p = err_from_is_err_and c.from_residual-in_err-tree.result c.from_residual-in_err-tree.ensures.1 in
-    rw (p.1, p.2) (loads-stopped-second g.S.Shelf.files g.S.Shelf.steady g.S.Shelf.faults named_graph given_tree (λ files. graph_file files c.args.graph_file.now) shape_of
-    (λ files named. tree_file files 2 c.args.tree_file.now named.graph.order) (λ named t. (named, t)) _ _ _ _ c.in_ok-named.ensures.loads _ c.in_err-tree.ensures.loads)
+returns-in_err-tree-clause-loads g c = grind arith
 
 pub returns-in_err-tree-clause-answered : goal.returns-in_err-tree-clause-answered
 returns-in_err-tree-clause-answered g c =
@@ -32,9 +25,7 @@ returns-in_err-tree-clause-answered g c =
     (λ files named. tree_file files 2 (place_name 2) named.graph.order) (λ named t. (named, t)) _ c.args.tree_file.now _ _ _ c.in_ok-named.ensures.answered _ c.in_err-tree.ensures.stops c.in_err-tree.ensures.answered)
 
 pub returns-clause-loads : goal.returns-clause-loads
-returns-clause-loads g c =
-    loads-both g.S.Shelf.files g.S.Shelf.steady g.S.Shelf.faults named_graph given_tree (λ files. graph_file files c.args.graph_file.now) shape_of
-    (λ files named. tree_file files 2 c.args.tree_file.now named.graph.order) (λ named t. (named, t)) _ _ _ _ c.in_ok-named.ensures.loads _ _ refl c.in_ok-tree.ensures.loads
+returns-clause-loads g c = grind arith
 
 pub returns-clause-answered : goal.returns-clause-answered
 returns-clause-answered g c =

@@ -1,5 +1,4 @@
-use Rattle.std.proofs.Common.{◌+◌, ◌≤◌, ap, length, arith, rules}
-use Rattle.counting.proofs.Common.{IfOk-weaker}
+use Rattle.std.proofs.Common.{ap, length, arith, rules}
 use Rattle.tree_core.proofs.Common.{cut_count, shape_of, blocks-below}
 use Rattle.decomposer.proofs.Picking.{cut-decomposes}
 use Rattle.decomposer.proofs.decomposition.+decomposing.Goals as goal
@@ -10,10 +9,7 @@ decompose_at-decompose_cut-requires g t c κs within =
     (first_of (omega arith, search rules), (within, (c.in_ok-picked.ensures.shore.cut c.in-Some.shore c.in-Some.is, (c.in_ok-picked.ensures.shore.picked c.in-Some.shore c.in-Some.is, c.requires.few))))
 
 pub decompose_at-returns-in-Some-clause-few : goal.decompose_at-returns-in-Some-clause-few
-decompose_at-returns-in-Some-clause-few g t c =
-    IfOk-weaker c.decompose_cut.result (λ made. cut_count (shape_of made.0) + 3 ≤ length c.args.place.now.blocks) (λ made. 4 ≤ length c.args.place.now.blocks → cut_count (shape_of made.0) + 3 ≤ length c.args.place.now.blocks)
-    (λ made few some. few)
-    c.decompose_cut.ensures.few
+decompose_at-returns-in-Some-clause-few g t c = grind arith
 
 pub decompose_cut-decompose_at-requires-2 : goal.decompose_cut-decompose_at-requires-2
 decompose_cut-decompose_at-requires-2 g t c κs within =

@@ -1,4 +1,4 @@
-use Rattle.std.proofs.Common.{ℕ, All, List, [], ap, sym, subst, ◌∙◌, slice_get, unwrap_or, Option, length, eqb-true}
+use Rattle.std.proofs.Common.{ℕ, All, List, [], ap, sym, subst, ◌∙◌, slice_get, unwrap_or, Option, eqb-true, arith}
 use Rattle.std.proofs.lemmas.List.{nil_from_length}
 use Rattle.counting.proofs.Common.{none-some}
 use Rattle.tight_cuts.specs.Common.{Candidate, IsCandidateAt, candidate_of}
@@ -7,14 +7,7 @@ use Rattle.decomposer.proofs.Picking.{picked-shore, some-stored, stored-length}
 use Rattle.decomposer.proofs.shores.listed_shore.Goals as goal
 
 pub returns-then-is_empty : goal.returns-then-is_empty
-returns-then-is_empty t c = λ g p at.
-    let empty = nil_from_length c.args.list.now (eqb-true (length c.args.list.now) 0 (sym c.is_empty.ensures ∙ c.if-is_empty.true)) in
-    record {
-      none = λ is. sym at.all ∙ empty;
-      leaf = λ is. at.leaf empty;
-      picked = λ s is. absurd (none-some s is);
-      cut = λ s is. absurd (none-some s is);
-    }
+returns-then-is_empty t c = grind (arith, nil_from_length, eqb-true, none-some)
 
 pub pick-place-requires : goal.pick-place-requires
 pick-place-requires t c = some-stored c.as_slice.result.now c.args.list.now c.as_slice.ensures (sym c.is_empty.ensures ∙ c.if-is_empty.false)

@@ -1,9 +1,9 @@
-use Rattle.std.proofs.Common.{List, Option, [], ℕ, ap, refl, sym, subst, ◌∙◌, unwrap_or}
+use Rattle.std.proofs.Common.{List, Option, [], ℕ, ap, refl, sym, subst, ◌∙◌, unwrap_or, arith}
 use Rattle.counting.proofs.Common.{none-some}
 use Rattle.std.specs.Option.{option_map}
 use Rattle.tight_cuts.specs.Common.{candidates_at, candidate_of}
 use Rattle.tree_core.proofs.Common.{IsCutAt}
-use Rattle.tight_cuts.proofs.FirstCandidates.{first-nil, first-place}
+use Rattle.tight_cuts.proofs.FirstCandidates.{first-place}
 use Rattle.decomposer.proofs.Picking.{cut-from_candidate}
 use Rattle.decomposer.proofs.shores.shore_of.Goals as goal
 
@@ -23,9 +23,4 @@ returns-in-Some c = λ g p k is_first. record {
 }
 
 pub returns-in-None : goal.returns-in-None
-returns-in-None c = λ g p k is_first. record {
-  none = λ is. first-nil (candidates_at g p) (sym (ap (option_map candidate_of) c.in-None.is) ∙ is_first.first);
-  leaf = λ is. is_first.leaf c.in-None.is;
-  picked = λ s is. absurd (none-some s is);
-  cut = λ s is. absurd (none-some s is);
-}
+returns-in-None c = grind arith

@@ -1,7 +1,7 @@
-use Rattle.std.proofs.Common.{◌∙◌, ap, subst, sym, string_bytes, Vec, ℕ, Global, map, arith}
+use Rattle.std.proofs.Common.{subst, sym, string_bytes, arith}
 use Rattle.line_text.specs.Common.{Stands}
 use Rattle.line_text.proofs.ExactlyOne.{StandsAlone-stands}
-use Rattle.ear_core.specs.Common.{ears_of, step_of}
+use Rattle.ear_core.specs.Common.{ears_of}
 use Rattle.ear_text.specs.EarFormat.{ear_format}
 use Rattle.ear_text.specs.Writing.{IsWritable}
 use Rattle.ear_text.proofs.TextSoFar.{ears_text-lines}
@@ -9,9 +9,7 @@ use Rattle.ear_text.proofs.EarsReadBack.{Stands-ears_text}
 use Rattle.ear_text.proofs.writing.write_ears.Goals as goal
 
 pub returns-clause-text : goal.returns-clause-text
-returns-clause-text c =
-    ap (λ (v : Vec ℕ Global). v.items) c.into_bytes.ensures.value
-    ∙ ears_text-lines c.args.n c.args.m (ears_of c.args.list.now) (map step_of c.as_slice.result.now) (string_bytes c.in_ok-text.text) (string_bytes c.push_steps.new.text) (ap (map step_of) c.as_slice.ensures) c.in_ok-text.ensures.ok c.in_ok-push_steps.ensures
+returns-clause-text c = grind (arith, ears_text-lines, string_bytes)
 
 pub returns-clause-stands : goal.returns-clause-stands
 returns-clause-stands c =

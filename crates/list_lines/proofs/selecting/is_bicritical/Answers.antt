@@ -3,7 +3,4 @@ use Rattle.list_lines.proofs.BicriticalEdges.{bicritical_with_edge}
 use Rattle.list_lines.proofs.selecting.is_bicritical.Goals as goal
 
 pub returns-then-branch-2 : goal.returns-then-branch-2
-returns-then-branch-2 c =
-    let size = c.size.ensures.is in
-    let some = c.if-size-eq0.false in
-    bicritical_with_edge c.args.g.now c.keeps_limits.ensures.multigraph (omega arith) (c.in_ok-is_critical.ensures.0 c.if-branch-2.true)
+returns-then-branch-2 c = grind (arith, bicritical_with_edge c.args.g.now c.keeps_limits.ensures.multigraph)

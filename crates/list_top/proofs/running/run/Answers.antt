@@ -1,7 +1,7 @@
-use Rattle.std.proofs.Common.{refl, subst, sym}
+use Rattle.std.proofs.Common.{refl, subst, sym, arith}
 use Rattle.list_reader.specs.Common.{Appended}
 use Rattle.list_top.specs.declared.status.ListStatus.{ListStatus}
-use Rattle.list_top.specs.Common.{ListOutcome, TellsSome, EncodeOutcome, EncodesSome}
+use Rattle.list_top.specs.Common.{ListOutcome, EncodeOutcome, EncodesSome}
 use Rattle.list_top.proofs.Ended.{appended_encoding, appended_outcome, encodes_some, tells_some}
 use Rattle.list_top.proofs.running.run.Goals as goal
 
@@ -13,18 +13,10 @@ returns-in-Some-clause-outcome g c command bytes is left =
     (c.in-Some.ensures.outcome command bytes c.in-Some.ending is left refl))
 
 pub returns-in-Some-clause-tells : goal.returns-in-Some-clause-tells
-returns-in-Some-clause-tells g c command is =
-    subst (λ (s : ListStatus). TellsSome command.query s (g.S.Source.left c.args.source.now) (g.K.Sink.written c.args.sink.now) (g.K.Sink.written c.run_to_ending.new.sink))
-    (sym c.status_of.ensures.status)
-    (tells_some command.query c.in-Some.ending (g.S.Source.left c.args.source.now) (g.K.Sink.written c.args.sink.now) (g.K.Sink.written c.run_to_ending.new.sink)
-    (c.in-Some.ensures.tells command c.in-Some.ending is refl))
+returns-in-Some-clause-tells g c command is = grind (arith, tells_some)
 
 pub returns-in-Some-clause-streams : goal.returns-in-Some-clause-streams
-returns-in-Some-clause-streams g c command is = record {
-  ending = c.in-Some.ending;
-  of_status = c.status_of.ensures.status;
-  stream = c.in-Some.ensures.streams command c.in-Some.ending is refl;
-}
+returns-in-Some-clause-streams g c command is = grind arith
 
 pub returns-in-Some-clause-encodes : goal.returns-in-Some-clause-encodes
 returns-in-Some-clause-encodes g c name file asked left =

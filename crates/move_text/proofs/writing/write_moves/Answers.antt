@@ -1,4 +1,4 @@
-use Rattle.std.proofs.Common.{◌≡◌, ◌<◌, ◌≤◌, ◌^◌, [], ◌∷◌, ◌++◌, ℕ, List, length, get_or, take, take_all, subst, sym, ◌∙◌, ap, ap₂, arith, Vec, Global}
+use Rattle.std.proofs.Common.{◌≡◌, ◌<◌, ◌≤◌, ◌^◌, [], ◌∷◌, ◌++◌, ℕ, List, length, get_or, take, take_all, subst, sym, ◌∙◌, ap, ap₂, arith}
 use Rattle.counting.proofs.Common.{AllByRecursion, length-map, get_or_from_slice_get}
 use Rattle.line_text.specs.Common.{Stands, written}
 use Rattle.line_text.proofs.ExactlyOne.{StandsAlone-stands}
@@ -12,13 +12,7 @@ use Rattle.move_text.proofs.writing.write_moves.Goals as goal
 
 -- moves all of which have been written
 writable : (n : ℕ) (moves : List Move) (i : ℕ) → n < 10 ^ 9 → length moves ≤ most_moves → AllByRecursion HasShortPath (moves_of moves) → AllByRecursion (HasSets n) (moves_of moves) → take i moves ≡ moves → AllByRecursion SetsRise (moves_of (take i moves)) → IsWritable n (moves_of moves)
-writable n moves i order few paths sets all rising = record {
-  order = order;
-  few = subst (λ k. k ≤ most_moves) (sym (length-map moves move_of)) few;
-  paths = paths;
-  sets = sets;
-  rising = subst (λ (ms : List Move). AllByRecursion SetsRise (moves_of ms)) all rising;
-}
+writable n moves i order few paths sets all rising = grind (arith, length-map moves move_of)
 
 pub loop-i-preserved : goal.loop-i-preserved
 loop-i-preserved c =
@@ -36,9 +30,7 @@ loop-i-preserved c =
     }
 
 pub returns-clause-text : goal.returns-clause-text
-returns-clause-text c =
-    ap (λ (v : Vec ℕ Global). v.items) c.into_bytes.ensures.value ∙ c.loop-i.invariant.text
-    ∙ moves_text-by_moves c.args.n c.args.moves.now c.loop-i.i (let all = c.len-i-end.ensures in let test = c.loop-i-test.false in omega arith)
+returns-clause-text c = grind (arith, moves_text-by_moves c.args.n c.args.moves.now c.loop-i.i)
 
 pub returns-clause-stands : goal.returns-clause-stands
 returns-clause-stands c =

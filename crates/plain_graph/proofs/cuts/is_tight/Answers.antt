@@ -1,4 +1,4 @@
-use Rattle.std.proofs.Common.{ℕ, List, ◌==◌, ◌&&◌, ap, sym, ◌∙◌}
+use Rattle.std.proofs.Common.{ℕ, List, ◌==◌, ◌&&◌, ap, sym, ◌∙◌, arith}
 use Rattle.counting.proofs.Common.{list_all, mem, none}
 use Rattle.graph_core.proofs.Common.{edges_in_cut}
 use Rattle.plain_graph.specs.Subsets.{perfect_matchings_of}
@@ -13,6 +13,5 @@ returns c =
       | then-has_odd_sides w ↦ w.result-is ∙ w.each_has_one.ensures
           ∙ ap (list_all (λ m. edges_in_cut g (mem m) x == 1)) (w.as_slice.ensures ∙ c.in_ok-matchings.ensures.list ∙ ap (λ (xs : List ℕ). perfect_matchings_of g (mem xs)) c.empty.ensures)
           ∙ sym (ap (λ b. b && list_all (λ m. edges_in_cut g (mem m) x == 1) (perfect_matchings_of g none)) (sym c.has_odd_sides.ensures ∙ w.if-has_odd_sides.true)) ∙ is_tight-list g x
-      | else-has_odd_sides w ↦ w.result-is ∙ w.if-has_odd_sides.false
-          ∙ sym (ap (λ b. b && list_all (λ m. edges_in_cut g (mem m) x == 1) (perfect_matchings_of g none)) (sym c.has_odd_sides.ensures ∙ w.if-has_odd_sides.false)) ∙ is_tight-list g x
+      | else-has_odd_sides w ↦ grind arith
     ]

@@ -1,11 +1,8 @@
-use Rattle.std.proofs.Common.{◌+◌, sym, ◌∙◌, arith, ne_eqb}
+use Rattle.std.proofs.Common.{arith, ne_eqb}
 use Rattle.counting.proofs.Common.{mem}
 use Rattle.graph_core.proofs.Common.{right_degree}
 use Rattle.plain_graph.proofs.Tries.{every_not}
 use Rattle.plain_graph.proofs.degrees.is_perfect.Goals as goal
 
 pub returns-then-degree-wanted_at : goal.returns-then-degree-wanted_at
-returns-then-degree-wanted_at c =
-    let v = c.loop-i.i + 1 in
-    sym (every_not c.args.graph.now.order (right_degree c.args.graph.now (mem c.args.removed) (mem c.args.edges)) v (let n = c.order-i-end.ensures.is in omega arith)
-    (ne_eqb _ _ (λ e. c.if-degree-wanted_at.true (c.degree.ensures ∙ e ∙ sym c.wanted_at.ensures))))
+returns-then-degree-wanted_at c = grind (arith, every_not c.args.graph.now.order (right_degree c.args.graph.now (mem c.args.removed) (mem c.args.edges)), ne_eqb)

@@ -1,7 +1,7 @@
-use Rattle.std.proofs.Common.{◌+◌, max, ap, sym, ◌∙◌, arith, subst}
+use Rattle.std.proofs.Common.{sym, ◌∙◌, arith, subst}
 use Rattle.counting.proofs.Common.{IsRisingIn, mem}
 use Rattle.graph_core.proofs.Common.{size}
-use Rattle.plain_graph.proofs.Tries.{IsGreatestSoFar, greatest-longer, greatest-same, matching_of-none}
+use Rattle.plain_graph.proofs.Tries.{greatest-longer, greatest-same, matching_of-none}
 use Rattle.plain_graph.proofs.matchings.greatest_among.Goals as goal
 use Rattle.plain_graph.proofs.matchings.greatest_among.Goals.{then-is_matching, else-is_matching}
 
@@ -15,9 +15,6 @@ loop-edges-preserved c =
     elim c.if-is_matching.branch [
       | then-is_matching w ↦
           let rises = subst (IsRisingIn (size g)) (sym c.edges-item.is) (c.requires.edges i edges c.loop-edges-test.true) in
-          subst (IsGreatestSoFar g r sets (i + 1)) (sym (w.most-is ∙ w.max-most.ensures ∙ ap (max c.loop-edges.most) w.len.ensures))
-          (greatest-longer g r sets i c.loop-edges.most edges c.loop-edges-test.true c.edges-item.is rises (sym c.is_matching.ensures ∙ w.if-is_matching.true) c.loop-edges.invariant)
-      | else-is_matching w ↦
-          subst (IsGreatestSoFar g r sets (i + 1)) (sym w.most-is)
-          (greatest-same g r sets i c.loop-edges.most edges c.loop-edges-test.true c.edges-item.is (sym c.is_matching.ensures ∙ w.if-is_matching.false) c.loop-edges.invariant)
+          grind (arith, greatest-longer g r sets i c.loop-edges.most edges c.loop-edges-test.true c.edges-item.is rises (sym c.is_matching.ensures ∙ w.if-is_matching.true) c.loop-edges.invariant)
+      | else-is_matching w ↦ grind (arith, greatest-same)
     ]

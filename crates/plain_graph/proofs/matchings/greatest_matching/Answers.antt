@@ -1,6 +1,6 @@
-use Rattle.std.proofs.Common.{◌≡◌, ℕ, ◌≤◌, List, length, true, ap, sym, ◌∙◌, subst, All}
+use Rattle.std.proofs.Common.{◌≡◌, ℕ, List, ap, sym, ◌∙◌, subst, All, arith}
 use Rattle.counting.proofs.Common.{IsRisingIn, mem}
-use Rattle.graph_core.proofs.Common.{size, is_matching}
+use Rattle.graph_core.proofs.Common.{size}
 use Rattle.plain_graph.specs.Subsets.{subsets}
 use Rattle.plain_graph.proofs.Subsets.{subsets-rising}
 use Rattle.plain_graph.proofs.Tries.{greatest-list}
@@ -16,7 +16,4 @@ greatest_among-requires-clause-edges c =
     subst (All (IsRisingIn n)) (sym (all_sets n c.size.result c.in_ok-sets.sets c.as_slice.result.now c.as_slice.ensures c.in_ok-sets.ensures c.size.ensures.is)) (subsets-rising n)
 
 pub returns-clause-greatest : goal.returns-clause-greatest
-returns-clause-greatest c =
-    let n = size c.args.graph.now in
-    greatest-list c.args.graph.now (mem c.args.removed) c.greatest_among.result
-    (subst (All (λ (m : List ℕ). is_matching c.args.graph.now (mem c.args.removed) (mem m) ≡ true → length m ≤ c.greatest_among.result)) (all_sets n c.size.result c.in_ok-sets.sets c.as_slice.result.now c.as_slice.ensures c.in_ok-sets.ensures c.size.ensures.is) c.greatest_among.ensures.greatest)
+returns-clause-greatest c = grind (arith, greatest-list c.args.graph.now (mem c.args.removed) c.greatest_among.result, all_sets)

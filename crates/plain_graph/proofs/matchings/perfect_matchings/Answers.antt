@@ -1,5 +1,5 @@
-use Rattle.std.proofs.Common.{◌≡◌, ℕ, List, filter, ap, sym, ◌∙◌, subst, All, Contains}
-use Rattle.counting.proofs.Common.{IsRisingIn, mem, rising_list, Set}
+use Rattle.std.proofs.Common.{◌≡◌, ℕ, List, filter, ap, sym, ◌∙◌, subst, All, arith}
+use Rattle.counting.proofs.Common.{IsRisingIn, mem, Set}
 use Rattle.graph_core.proofs.Common.{Graph, size, IsPerfect, is_perfect}
 use Rattle.plain_graph.specs.Subsets.{perfect_matchings_of, subsets}
 use Rattle.plain_graph.proofs.Tries.{perfect_matchings-all, perfect_matchings-perfect}
@@ -16,7 +16,4 @@ returns-clause-perfect c =
     (sym (kept g r c.size.result c.in_ok-sets.sets c.as_slice.result.now c.in_ok-found.found c.in_ok-found.ensures c.as_slice.ensures c.in_ok-sets.ensures c.size.ensures.is)) (perfect_matchings-perfect g r)
 
 pub returns-clause-all : goal.returns-clause-all
-returns-clause-all c m p =
-    let g = c.args.graph.now in let r = mem c.args.removed in
-    subst (λ (ms : List (List ℕ)). Contains ms (rising_list (size g) m))
-    (sym (kept g r c.size.result c.in_ok-sets.sets c.as_slice.result.now c.in_ok-found.found c.in_ok-found.ensures c.as_slice.ensures c.in_ok-sets.ensures c.size.ensures.is)) (perfect_matchings-all g r m p)
+returns-clause-all c m p = grind (arith, perfect_matchings-all)

@@ -1,4 +1,4 @@
-use Rattle.std.proofs.Common.{◌∙◌, ℕ, ap, subst, sym, string_bytes, Vec, Global, arith}
+use Rattle.std.proofs.Common.{subst, sym, string_bytes, arith}
 use Rattle.line_text.specs.Common.{Stands}
 use Rattle.line_text.proofs.ExactlyOne.{StandsAlone-stands}
 use Rattle.tree_core.proofs.Common.{shape_of}
@@ -8,9 +8,7 @@ use Rattle.tree_text.proofs.TreeReadBack.{Stands-tree_text}
 use Rattle.tree_text.proofs.writing.write_tree.Goals as goal
 
 pub returns-clause-text : goal.returns-clause-text
-returns-clause-text c =
-    ap (λ (v : Vec ℕ Global). v.items) c.into_bytes.ensures.value
-    ∙ tree_text-lines c.args.n (shape_of c.args.tree.now) (string_bytes c.in_ok-text.text) (string_bytes c.push_nodes.new.text) c.in_ok-text.ensures.ok c.in_ok-push_nodes.ensures.text
+returns-clause-text c = grind (arith, tree_text-lines, string_bytes)
 
 pub returns-clause-stands : goal.returns-clause-stands
 returns-clause-stands c =

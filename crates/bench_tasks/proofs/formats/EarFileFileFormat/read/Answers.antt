@@ -1,7 +1,7 @@
-use Rattle.std.proofs.Common.{ℕ, IfOk, subst₂}
+use Rattle.std.proofs.Common.{ℕ, subst₂, arith}
 use Rattle.text_faults.specs.Common.{ReadsText}
 use Rattle.line_text.specs.Common.{reading_of}
-use Rattle.ear_core.specs.Common.{FitsEars, ears_of}
+use Rattle.ear_core.specs.Common.{ears_of}
 use Rattle.ear_text.specs.EarFormat.{ear_format}
 use Rattle.bench_tasks.proofs.TextReads.{ReadsText-reading_of}
 use Rattle.bench_tasks.proofs.formats.EarFileFileFormat.read.Goals as goal
@@ -12,5 +12,4 @@ returns-clause-reads c =
     (ReadsText-reading_of (ear_format c.order-n.result c.size-m.result) ears_of c.args.bytes.now c.read_ears.result c.read_ears.ensures.value c.read_ears.ensures.fault)
 
 pub returns-clause-keeps : goal.returns-clause-keeps
-returns-clause-keeps c =
-    subst₂ (λ (n m : ℕ). IfOk c.read_ears.result (λ list. FitsEars n m (ears_of list))) c.order-n.ensures.is c.size-m.ensures.is c.read_ears.ensures.fits
+returns-clause-keeps c = grind arith

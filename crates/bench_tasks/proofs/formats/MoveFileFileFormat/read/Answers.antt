@@ -1,9 +1,9 @@
-use Rattle.std.proofs.Common.{ℕ, ◌≤◌, length, subst}
-use Rattle.counting.proofs.Common.{length-map, IfOk-weaker}
+use Rattle.std.proofs.Common.{ℕ, subst, arith}
+use Rattle.counting.proofs.Common.{length-map}
 use Rattle.text_faults.specs.Common.{ReadsText}
 use Rattle.line_text.specs.Common.{reading_of}
-use Rattle.tree_core.proofs.Common.{move_of, moves_of}
-use Rattle.move_text.specs.Common.{most_moves, move_format}
+use Rattle.tree_core.proofs.Common.{moves_of}
+use Rattle.move_text.specs.Common.{move_format}
 use Rattle.bench_tasks.proofs.TextReads.{ReadsText-reading_of}
 use Rattle.bench_tasks.proofs.formats.MoveFileFileFormat.read.Goals as goal
 
@@ -13,5 +13,4 @@ returns-clause-reads c =
     (ReadsText-reading_of (move_format c.order-n.result) moves_of c.args.bytes.now c.read_moves.result c.read_moves.ensures.value c.read_moves.ensures.fault)
 
 pub returns-clause-keeps : goal.returns-clause-keeps
-returns-clause-keeps c =
-    IfOk-weaker c.read_moves.result _ (λ moves. length moves ≤ most_moves) (λ moves is. subst (λ (k : ℕ). k ≤ most_moves) (length-map moves move_of) is.few) c.read_moves.ensures.writable
+returns-clause-keeps c = grind (arith, length-map)
