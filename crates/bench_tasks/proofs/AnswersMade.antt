@@ -4,11 +4,21 @@
 use Rattle.std.proofs.Common.{◌≡◌, ℕ, ◌+◌, ◌≤◌, List, [], ◌∷◌, ◌++◌, length, take, refl, ap, sym, subst, arith, length-append, Result, Ok, Err, IfErr, IsOkAnd, MatchResult}
 use Rattle.counting.proofs.Common.{take_all}
 use Rattle.outside.specs.Common.{Answer, AnswersInTurn, NamedFile, ReadsInTurn, file_named}
-use Rattle.bench_tasks.specs.Common.{CountsAs, GathersAnswered, GaveFile, HoldGiven, LoadsAnswered, ReadsOnce, by_place, place_name, Command, file_names, Loaded, and_then, loaded, loaded_as, task_of, ReadsAs, StopsAt}
+use Rattle.bench_tasks.specs.Common.{CountsAs, StopsAs, GathersAnswered, GaveFile, HoldGiven, LoadsAnswered, ReadsOnce, by_place, place_name, Command, file_names, Loaded, and_then, loaded, loaded_as, task_of, ReadsAs, StopsAt}
 use Rattle.bench_tasks.specs.declared.stop.Stop.{Stop}
 use Rattle.bench_tasks.specs.declared.stop.Stop.TheVariants.{ReadFault, Bad, Memory}
 use Rattle.bench_tasks.specs.declared.tasks.Task.TheVariants as code
-use Rattle.bench_tasks.proofs.LoadsMade.{stops-made, stops-then}
+
+-- a stop stays where more is made of what is loaded
+stops-then : {A B : Type 0} (stopped : Stop) (loaded : Loaded A) (next : A → Loaded B) → StopsAs stopped loaded → StopsAs stopped (and_then loaded next)
+stops-then (ReadFault file) loaded next stops = tt
+stops-then (Bad file line kind) loaded next stops = ap (λ (l : Loaded _). and_then l next) stops
+stops-then Memory loaded next stops = tt
+
+stops-made : {A B : Type 0} (stopped : Stop) (loaded : Loaded A) (make : A → B) → StopsAs stopped loaded → StopsAs stopped (loaded_as make loaded)
+stops-made (ReadFault file) loaded make stops = tt
+stops-made (Bad file line kind) loaded make stops = ap (loaded_as make) stops
+stops-made Memory loaded make stops = tt
 
 module _ {S : Type 0} (reads : S → List ℕ → Answer → S → Type 0) where
   -- one answer more

@@ -1,3 +1,2 @@
 pub mod TextReads
-pub mod LoadsMade
 pub mod AnswersMade

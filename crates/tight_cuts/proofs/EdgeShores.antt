@@ -4,7 +4,7 @@
 use Rattle.std.proofs.Common.{◌≡◌, ℕ, suc, zero, ◌*◌, ◌≤◌, ◌<◌, ◌^◌, ◌≢◌, true, false, ◌&&◌, ◌||◌, not, get_or, refl, sym, ap, ap₂, ◌∙◌, arith, inl, inr, List, [], ◌∷◌, length, subst, subst₂, Option, Some, None, All, rules}
 use Rattle.counting.proofs.Common.{cases_lt, count_congr, sum_by-cons, bit_le_one, complement, count, is_odd, Within, total, mem, Set, pair_set}
 use Rattle.graph_core.proofs.Common.{tight-same, components, is_least, IsCovered, Graph, size, edges_in_cut, first_end, second_end, has_ends, IsGraph, IsTight, Allowed, IsWithinLimits}
-use Rattle.flow_core.specs.Common.{Net, HasCutWithin, IsLeastCut}
+use Rattle.flow_core.specs.Common.{HasCutWithin, IsLeastCut}
 use Rattle.tight_cuts.proofs.LeanLists.{grown_length}
 use Rattle.tight_cuts.proofs.LeaderGroups.{leaders_group}
 use Rattle.tight_cuts.proofs.Leaders.{leader-least, leader-fixed}
@@ -190,5 +190,3 @@ named_leads g a b leaders x qa qb at = subst₂ (λ i j. Leads g i j leaders x) 
 
 pub named_leaders : (g : Graph) (a b e : ℕ) (leaders : List ℕ) {l h : ℕ} → a ≡ l → b ≡ h → AreLeadersAt g l h e leaders → AreLeadersAt g a b e leaders
 named_leaders g a b e leaders qa qb at = subst₂ (λ i j. AreLeadersAt g i j e leaders) (sym qa) (sym qb) at
-
-module _ (g : Graph) (weights leaders : List ℕ) (bound x y a b : ℕ) (net : Net) (is_net : net ≡ group_net g weights leaders a b x y) where
