@@ -1,6 +1,6 @@
 -- The first pair that a search through the pairs a < b finds is the first in lexicographic order.
 -- The list rises row by row, so every pair before the one found comes earlier in the list.
-use Rattle.std.proofs.Common.{◌≡◌, ℕ, ◌<◌, ◌≤◌, Bool, true, false, List, [], ◌∷◌, ◌++◌, map, flat_map, Option, Some, None, refl, arith, inl, inr, not, nat_lt, nat_le, lt-ltb, ltb-true, leb-true, subst, leb-false, find}
+use Rattle.std.proofs.Common.{◌≡◌, ℕ, ◌<◌, ◌≤◌, Bool, true, false, List, [], ◌∷◌, ◌++◌, map, flat_map, Some, None, refl, arith, inl, inr, not, nat_lt, nat_le, lt-ltb, ltb-true, leb-true, subst, leb-false, find}
 use Rattle.counting.proofs.Common.{both_ways, not-true, not-false, HasPair, rows_hold, rows_only, map_pair, append_pair, above_first, mem-all, rising-tail, rising_list-rises, Within, IsRisingIn, pair_with, rising_list, rising_pairs, ComesBefore, everything, pair_set}
 use Rattle.graph_core.proofs.Common.{has_perfect_found, has_perfect_says, component_count, Graph, HasPerfect, has_perfect, cut_pair, equivalent_pair}
 use Rattle.definition_laws.specs.Words.{IsFirstPair}
@@ -31,14 +31,9 @@ rows_rise n (x ∷ xs) r =
     (row_rises x n (rising_list n (nat_lt x)) (rising_list-rises n (nat_lt x))) (rows_rise n xs (rising-tail n x xs r))
     (λ i j a b m h. let q = map_pair x (rising_list n (nat_lt x)) i j m in let s = rows_only n a b xs h in inl (subst (λ z. z < a) q.0 (above_first n x xs r a s.0)))
 
--- what an answer holds
-value : ℕ × ℕ → Option (ℕ × ℕ) → ℕ × ℕ
-value d h = grind arith
-
 -- the first of a rising list that passes: it passes, and none before it does
 found_first : (t : ℕ → ℕ → Bool) (ks : List (ℕ × ℕ)) (k : ℕ × ℕ) → Rising ks → find (λ l. t l.0 l.1) ks ≡ Some k →
     HasPair ks k.0 k.1 × (t k.0 k.1 ≡ true) × ((i j : ℕ) → HasPair ks i j → ComesBefore (i, j) k → t i j ≡ false)
-unfolding value
 found_first t [] k r h = let z : None ≡ Some k = h in absurd cc
 found_first t (l ∷ ks) k r h = go (t l.0 l.1) refl (found_first t ks k r.1)
   where
