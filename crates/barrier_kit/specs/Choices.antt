@@ -1,5 +1,5 @@
 -- Choices as in Hall's theorem (Hall 1935): each member of a set gets a partner of its own.
--- Stated by no contract. Rests on it: barrier_kit, quick_kinds.
+-- Stated by no contract. Rests on it: barrier_kit, quick_kinds, theorems.
 use Rattle.std.specs.Prelude.{◌≡◌, ℕ, Bool, true, ◌&&◌}
 use Rattle.counting.specs.Common.{Within, Set, some}
 

@@ -8,10 +8,9 @@ use Rattle.std.specs.declared.option.Option.TheVariants.{Some, None}
 use Rattle.std.specs.declared.result.Result.{Result}
 use Rattle.std.specs.declared.result.Result.TheVariants.{Ok, Err}
 use Rattle.outside.specs.Common.{NamedFile, file_named}
-use Rattle.line_text.specs.Common.{reading_of}
+use Rattle.line_text.specs.Common.{reading_of, kind_number}
 use Rattle.graph_core.specs.Common.{Graph, size}
-use Rattle.text_faults.specs.Common.{kind_number}
-use Rattle.text_faults.specs.declared.faults.FaultKind.{FaultKind}
+use Rattle.line_text.specs.declared.faults.FaultKind.{FaultKind}
 use Rattle.graph_text.specs.Common.{NamedGraph, either_version}
 use Rattle.graph6_text.specs.Common.{outcome_of}
 use Rattle.tree_core.specs.Common.{Shape, PlainMove}

@@ -1,9 +1,8 @@
 //! The formats of the files that commands name.
 ghost use Rattle.std.specs.Prelude.{◌<◌, ◌≤◌, ◌-◌, ◌^◌, ℕ, List, length, Result, IfOk};
-ghost use Rattle.line_text.specs.Common.{reading_of};
-ghost use Rattle.text_faults.specs.Common.{ReadsText};
+ghost use Rattle.line_text.specs.Common.{reading_of, ReadsText};
 ghost use Rattle.graph_core.specs.Common.{Graph, size};
-ghost use Rattle.text_faults.specs.declared.faults.FaultKind.{FaultKind};
+ghost use Rattle.line_text.specs.declared.faults.FaultKind.{FaultKind};
 ghost use Rattle.graph_text.specs.Common.{NamedGraph, either_version, named_graph};
 ghost use Rattle.graph6_text.specs.Common.{outcome_of};
 ghost use Rattle.tree_core.specs.Common.{Fits, Shape, shape_of, PlainMove, moves_of};
@@ -19,17 +18,17 @@ use ear_text::read_ears;
 use graph_core::{MultiGraph, Numbers};
 use graph_text::{Named, read_any};
 use graph6_text::read_graph6;
+use line_text::TextFault;
 use move_text::read_moves;
 use std::alloc::Global;
-use text_faults::TextFault;
 use tree_core::{Moves, Tree};
 use tree_text::{read_picks, read_tree};
 
 /// A format of files. The ghost member `reading` says what a text stands for, or its first fault.
 pub trait FileFormat {
     ghost use Rattle.std.specs.Prelude.{List, ℕ, Result, ◌<◌, ◌-◌, ◌^◌, length, IfOk};
-    ghost use Rattle.text_faults.specs.Readings.{ReadsText};
-    ghost use Rattle.text_faults.specs.declared.faults.FaultKind.{FaultKind};
+    ghost use Rattle.line_text.specs.TextReads.{ReadsText};
+    ghost use Rattle.line_text.specs.declared.faults.FaultKind.{FaultKind};
 
     /// What a text stands for.
     type Value: Drop;

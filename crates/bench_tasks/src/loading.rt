@@ -13,9 +13,9 @@ use crate::stop::Stop;
 use crate::tasks::{GivenEars, GivenMoves, GivenPicks, GivenTree, GivenTrees};
 use ear_core::EarList;
 use graph_core::MultiGraph;
+use line_text::TextFault;
 use outside::{Shelf, ShelfFault};
 use std::alloc::Global;
-use text_faults::TextFault;
 use tree_core::{Moves, Tree};
 
 /// The most bytes that a file may have.

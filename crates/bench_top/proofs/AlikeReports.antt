@@ -19,7 +19,7 @@ use Rattle.decomposer.specs.declared.orders.NamedOrder.TheVariants.{First, Last}
 use Rattle.bench_outcomes.specs.declared.status.Status.TheVariants.{Done}
 use Rattle.bench_top.proofs.AlikeAnalyses.{analyses-alike}
 use Rattle.bench_top.proofs.AlikeTexts.{alike-along, graph6-alike, named-alike}
-use Rattle.list_lines.proofs.OneTree.{PicksOnce, named-once, picked-once, kinds-once, tally-once}
+use Rattle.mcg6_lines.proofs.OneTree.{PicksOnce, named-once, picked-once, kinds-once, tally-once}
 
 -- what is reported on a derivation
 tells-once : (named : NamedGraph) (t : Shape) (output other : List ℕ) → TellsDerivation named t Done output → TellsDerivation named t Done other → output ≡ other

@@ -20,7 +20,7 @@ use Rattle.bench_top.specs.Fixed.{ChosenBy, DifferAtMostIn, HasChosenText, HasOn
 use Rattle.bench_top.proofs.AlikeRefusals.{check-alike, compare-alike, decompose-alike, ears-alike, list-alike, replay-alike, script-alike}
 use Rattle.bench_top.proofs.AlikeReports.{analysed-alike, analysed6-alike, check-once, decompose-once, ears-once, grow-once, replay-once}
 use Rattle.bench_top.proofs.AlikeTexts.{alike-none}
-use Rattle.list_lines.proofs.OneTree.{named-once, script-once}
+use Rattle.mcg6_lines.proofs.OneTree.{named-once, script-once}
 
 -- what a conduct promises of two reports of a done task
 abbrev DoneAlike : Conduct → (output other : List ℕ) → Type 0

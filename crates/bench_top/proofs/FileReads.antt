@@ -2,7 +2,7 @@
 -- Each lemma looks the file up, leaves the test of its length after, and computes.
 use Rattle.std.proofs.Common.{◌≡◌, ℕ, ◌≤◌, List, length, Ok, Result, false, ap, ◌∙◌, arith, Some, Option, Bool, cond, nat_lt}
 use Rattle.counting.proofs.Common.{nat_tests}
-use Rattle.text_faults.specs.declared.faults.FaultKind.{FaultKind}
+use Rattle.line_text.specs.declared.faults.FaultKind.{FaultKind}
 use Rattle.bench_tasks.specs.Common.{Loaded, All, Bad, file_read, from_reading}
 
 -- within the limit of bytes the text is read

@@ -6,7 +6,7 @@ use Rattle.line_text.specs.Common.{reading_of}
 use Rattle.graph6_text.specs.Common.{outcome_of}
 use Rattle.ear_core.specs.Common.{PlainEars}
 use Rattle.graph_core.proofs.Common.{Graph, IsMultigraph}
-use Rattle.text_faults.specs.declared.faults.FaultKind.{FaultKind}
+use Rattle.line_text.specs.declared.faults.FaultKind.{FaultKind}
 use Rattle.graph_text.specs.Common.{NamedGraph, either_version}
 use Rattle.tree_core.proofs.Common.{PlainMove, Shape}
 use Rattle.bench_tasks.specs.Common.{Command, OnGraph, OnSimpleGraph, OnTree, OnPicks, OnEars, OnMoves, OnTrees, OnNumbers, Loaded, All, Bad, Absent, and_then, ear_file, ears_given, file_read, graph6_file, graph_file, loaded, loaded_as, move_file, moves_given, on_ears, on_moves, on_picks, on_tree, on_trees, pick_file, picks_given, tree_file, tree_given, trees_given}

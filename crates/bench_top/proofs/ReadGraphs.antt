@@ -8,9 +8,9 @@ use Rattle.std.specs.Result.{result_map_both}
 use Rattle.std.specs.Str.{bytes_eq}
 use Rattle.std.proofs.lemmas.Bool.{eqb-false}
 use Rattle.graph_core.proofs.Common.{Graph, HasNoLoop, IsGraph, IsMultigraph, size}
-use Rattle.text_faults.specs.declared.faults.FaultKind.TheVariants as kind
+use Rattle.line_text.specs.declared.faults.FaultKind.TheVariants as kind
 use Rattle.line_text.specs.Common.{checked, finish, step, go_on, reading_from, reading_of, SignificantLine, significant_lines_of, lines_of}
-use Rattle.text_faults.proofs.InRange.{in_range}
+use Rattle.line_text.proofs.InRange.{in_range}
 use Rattle.graph_text.specs.Common.{EitherSoFar, NamedGraph, either_header, either_version, end_behind, line_behind, named_edge_line, vertex_line, GraphSoFar, edge_line, graph_line, is_among, vertex_of}
 
 -- the two are different vertices

@@ -2,7 +2,7 @@
 use Rattle.std.proofs.Common.{ℕ, List, arith}
 use Rattle.graph_core.proofs.Common.{IsMultigraph}
 use Rattle.graph6_text.specs.Common.{outcome_of}
-use Rattle.list_lines.proofs.ReadMultigraphs.{read-multigraph}
+use Rattle.mcg6_lines.proofs.ReadMultigraphs.{read-multigraph}
 use Rattle.bench_top.proofs.ReadGraphs.{GoesOn}
 
 pub read-simple_graph : (text : List ℕ) → GoesOn IsMultigraph (outcome_of text)

@@ -7,7 +7,7 @@ use Rattle.outside.specs.Common.{NamedFile, file_named}
 use Rattle.line_text.specs.Common.{Stands, reading_of}
 use Rattle.line_text.proofs.ExactlyOne.{Stands-from_reading, Stands-reading_of}
 use Rattle.graph_core.proofs.Common.{size}
-use Rattle.text_faults.specs.declared.faults.FaultKind.{FaultKind}
+use Rattle.line_text.specs.declared.faults.FaultKind.{FaultKind}
 use Rattle.graph_text.specs.Common.{NamedGraph, either_version, FitsVersionOne}
 use Rattle.grow_gen.specs.Common.{grown}
 use Rattle.tight_cuts.specs.Common.{Candidate}

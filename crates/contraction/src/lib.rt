@@ -6,7 +6,8 @@
 //! `Partitions` and `Shores`. `quotient` answers a `Contracted`: the quotient graph with one edge
 //! for each two adjacent blocks, in lexicographic order of their places, and for each edge the
 //! `remembered` edges of the graph between its two blocks; `lift_set` leads a set of places back
-//! to vertices.
+//! to vertices. `quotient_graph` returns the graph alone, and `PlacedEdges` the edges between any
+//! two blocks, after one pass over the edges.
 //!
 //! `lift` leads a matching of the quotient up to edges of the graph, the least remembered edge of
 //! each row. `lift_law` and `projection_law` say that perfect matchings go up and down, with as
@@ -25,6 +26,7 @@ mod laws;
 mod lifting;
 mod partition;
 mod place_pairs;
+mod placed_edges;
 
 pub use contracted::{Contracted, quotient};
 pub use graph_alone::quotient_graph;
@@ -33,3 +35,4 @@ pub use laws::{
 };
 pub use lifting::lift;
 pub use partition::{Partition, name_of};
+pub use placed_edges::PlacedEdges;

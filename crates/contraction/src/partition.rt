@@ -127,6 +127,18 @@ impl Partition {
         })
     }
 
+    /// A copy.
+    pub fn copy(&self, alloc: Global) -> Result<Partition, Memory>
+        ensures order { IfOk result (λ p. p.order ≡ self.now.order) }
+        ensures blocks { IfOk result (λ p. p.blocks ≡ self.now.blocks) }
+    {
+        self.keeps_partition();
+        Ok(Partition {
+            order: self.order,
+            blocks: self.copy_blocks(alloc)?,
+        })
+    }
+
     /// The blocks, copied.
     pub(crate) fn copy_blocks(&self, alloc: Global) -> Result<Vec<VSet>, Memory>
         ensures { IfOk result (λ blocks. blocks.items ≡ self.now.blocks) }
@@ -134,8 +146,9 @@ impl Partition {
         Vec::from_slice(alloc, &self.blocks)
     }
 
-    /// The place of the block that holds `v`, counted from 1. Takes no memory.
-    pub(crate) fn place(&self, v: u32) -> u32
+    /// The place of the block that holds `v`, counted from 1, and one past the end if none does.
+    /// Takes no memory.
+    pub fn place(&self, v: u32) -> u32
         requires { Within MOST_VERTICES v }
         ensures { result ≡ place self.now.blocks v }
     {

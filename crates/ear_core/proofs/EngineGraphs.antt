@@ -1,11 +1,13 @@
 -- The edges of a stage in a graph of their own. The degree by rank is the degree in g, so a
 -- perfect matching of the listed edges is one of the graph of the stage; and an edge lies in one
 -- if its two ends may be left out.
-use Rattle.std.proofs.Common.{◌≡◌, ℕ, suc, zero, ◌+◌, ◌*◌, ◌≢◌, Bool, true, false, cond, ◌==◌, refl, sym, ap, ◌∙◌, arith, ◌&&◌, not, eq-eqb, eqb-true, inl, inr, [], ◌∷◌, ◌++◌, length, ◌↔◌}
-use Rattle.counting.proofs.Common.{same_tests, or_right, cases_Bool, and_parts, and_from, both_ways, false_from_ne_true, not-true, or_left, or_cases, or_parts, or_from, rank_once, some_true, true_some, bit, count, Within, Set, union, put, pair_set, complement, some}
+use Rattle.std.proofs.Common.{◌≡◌, ℕ, suc, zero, ◌+◌, ◌*◌, ◌≢◌, Bool, true, false, cond, List, ◌==◌, refl, sym, ap, ap₂, ◌∙◌, arith, ◌&&◌, ◌||◌, not, subst, eq-eqb, eqb-true, inl, inr, [], ◌∷◌, ◌++◌, length, ◌↔◌}
+use Rattle.counting.proofs.Common.{same_tests, or_right, cases_Bool, and_parts, and_from, both_ways, false_from_ne_true, not-true, or_left, or_cases, or_parts, or_from, rank_once, some_true, true_some, bit, count, mem, Within, Set, union, put, pair_set, complement, some}
 use Rattle.std.proofs.lemmas.Bool.{true_from_ne_false}
 use Rattle.ear_core.proofs.TraceEdges.{some-met, unmet, degree_le}
-use Rattle.ear_core.specs.Common.{by_rank, listed, is_met, IsPerfectOff, IsPerfectOf}
+use Rattle.barrier_kit.proofs.Common.{perfect_congr}
+use Rattle.ear_core.specs.Common.{by_rank, listed, is_met, IsAsked, IsPerfectOff, IsPerfectOf, Serves}
+use Rattle.ear_core.specs.declared.asking.Asked.{Asked}
 use Rattle.two_ears.proofs.AddedEdges.{size-added, degree-added}
 use Rattle.graph_core.proofs.Common.{degree_congr, ends_of, ends_le_degree, degree_put, Graph, size, first_end, second_end, degree, IsGraph, with_ends, IsPerfect, HasPerfect}
 
@@ -126,3 +128,24 @@ edge_serves g f e is w d fe = (there, back)
             let o = or_left (first_end g e == first_end g e) (second_end g e == first_end g e) (eq-eqb (first_end g e) (first_end g e) refl) in
             let b = p.away (first_end g e) (is e w).0 o in
             let c = ends_two (first_end g e) o in omega arith)
+
+-- the graph of the listed edges is asked about their stage
+pub asked-listed : (g : Graph) (f : Set) (asked : Asked) → asked.stage ≡ with_ends g (listed g f (size g)) → ((v : ℕ) → Within g.order v → mem asked.outside v ≡ not (is_met g f v)) → IsAsked g f asked
+asked-listed g f asked is outside = record {
+  order = ap (λ (h : Graph). h.order) is;
+  edges = ap size is ∙ listed_size g f (size g);
+  outside = outside;
+  serves = λ r. let s = served_listed g f r in subst (λ (h : Graph). HasPerfect h (union (complement (is_met g f)) r) ↔ Serves g f r) (sym is) (s.1, s.0);
+}
+
+-- what it is asked about the vertices x of the stage
+pub asked-perfect : (g : Graph) (f : Set) (asked : Asked) → IsAsked g f asked → (removed x : Set) → ((v : ℕ) → Within g.order v → removed v ≡ (mem asked.outside v || x v)) → HasPerfect asked.stage removed ↔ Serves g f x
+asked-perfect g f asked is removed x joined =
+    let same : (v : ℕ) → Within asked.stage.order v → removed v ≡ union (complement (is_met g f)) x v = λ v w. let ww = subst (λ n. Within n v) is.order w in joined v ww ∙ ap (λ b. b || x v) (is.outside v ww) in (
+      λ p. (is.serves x).0 (p.0, perfect_congr asked.stage removed (union (complement (is_met g f)) x) p.0 same p.1),
+      λ q. let p = (is.serves x).1 q in (p.0, perfect_congr asked.stage (union (complement (is_met g f)) x) removed p.0 (λ v w. sym (same v w)) p.1),
+    )
+
+-- the vertices off the stage
+pub outside-is : (g : Graph) (f : Set) (n : ℕ) (full met off : List ℕ) → n ≡ g.order → ((v : ℕ) → (mem full v ≡ true) ↔ Within n v) → ((v : ℕ) → mem met v ≡ is_met g f v) → ((v : ℕ) → mem off v ≡ (mem full v && not (mem met v))) → (v : ℕ) → Within g.order v → mem off v ≡ not (is_met g f v)
+outside-is g f n full met off order all same is v w = is v ∙ ap₂ (λ a b. a && not b) ((all v).1 (subst (λ k. Within k v) (sym order) w)) (same v)

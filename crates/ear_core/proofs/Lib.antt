@@ -29,3 +29,9 @@ pub mod MarkedMatchings
 pub mod Rests
 pub mod LoneMatchings
 pub mod LoneLeads
+pub mod StagePartners
+pub mod GoingOn
+pub mod MatchedStages
+pub mod LoneParts
+pub mod LoneWholes
+pub mod LoneTables

@@ -1,11 +1,9 @@
 -- From a single ear to a matching. If a stage with an ear is matching covered and the rest has a
 -- perfect matching, then this one, the odd edges of the ear and a perfect matching of the stage
 -- without the two ends are a perfect matching that leads out of the stage at the two ends alone.
-use Rattle.std.proofs.Common.{◌≡◌, ◌≢◌, ℕ, ◌<◌, ◌≤◌, true, false, cond, ◌==◌, ◌&&◌, ◌||◌, not, refl, sym, ap, ◌∙◌, arith, eq-eqb, inl, inr, List, [], ◌∷◌}
-use Rattle.std.proofs.Math.Path.{fun_ext}
-use Rattle.counting.proofs.Common.{both_ways, cases_Bool, cases_order, false_from_ne_true, or_cases, or_from, or_left, or_right, true≢false, or_comm, or_false, or_false_back, Within, mem, Set, none, pair_set, union}
+use Rattle.std.proofs.Common.{◌≡◌, ◌≢◌, ℕ, ◌≤◌, true, false, not, refl, sym, ap, arith, eq-eqb, inl, inr, List, ◌∷◌}
+use Rattle.counting.proofs.Common.{both_ways, cases_Bool, false_from_ne_true, or_cases, or_from, or_left, or_right, true≢false, or_false_back, Within, mem, Set, none, pair_set, union}
 use Rattle.graph_core.proofs.Common.{ends_le_degree, ends_of, IsCovered, Graph, IsGraph, IsMultigraph, first_end, second_end, size, IsEnd, IsPerfect}
-use Rattle.match_core.specs.Common.{has_end_in}
 use Rattle.ear_core.proofs.AddedEars.{evens_at, odd_on}
 use Rattle.ear_core.proofs.NeededPairs.{stage-serves}
 use Rattle.ear_core.proofs.NextStages.{met-within}
@@ -15,29 +13,12 @@ use Rattle.ear_core.proofs.Stepping.{still-met}
 use Rattle.ear_core.proofs.TraceEdges.{mem_odds, trail_has}
 use Rattle.ear_core.specs.Common.{AreSteps, IsForced, IsSingle, PlainEar, PlainStep, one, two, IsEar, last_vertex, IsPerfectBy, LeadsAtTwo, barred, is_open, odds, IsPerfectOff, IsStage, is_met, with_edges}
 
--- the two vertices of a pair
-pub pair-is : (first both : List ℕ) (u v : ℕ) → first ≡ u ∷ [] → ((w : ℕ) → mem both w ≡ (mem first w || v == w)) → (w : ℕ) → mem both w ≡ pair_set u v w
-pair-is first both u v is joined w = joined w ∙ ap (λ (xs : List ℕ). mem xs w || v == w) is ∙ ap (λ b. b || v == w) (or_false (u == w))
-
--- by the same edges
-pub same-by : (g : Graph) (x y : Set) → ((e : ℕ) → Within (size g) e → x e ≡ y e) → (m : Set) → IsPerfectBy g x m → IsPerfectBy g y m
-same-by g x y same m p = record { perfect = p.perfect; part = λ e w t. sym (same e w) ∙ p.part e w t }
-
--- the two vertices may be named in either order
-open-turned : (g : Graph) (f : Set) (u v e : ℕ) → is_open g f u v e ≡ is_open g f v u e
-open-turned g f u v e = ap (λ (p : Set). not (has_end_in g (λ w. cond (f e) (p w) (is_met g f w && not (p w))) e)) (fun_ext (λ w. or_comm (u == w) (v == w)))
-
--- so the pairs with the lesser vertex first are all
-pub none-lone : (g : Graph) → IsGraph g → (f met : Set) → ((v : ℕ) → met v ≡ is_met g f v) →
-    ((u v : ℕ) → Within g.order u → u < v → Within g.order v → met u ≡ true → met v ≡ true → (m : Set) → IsPerfectBy g (is_open g f u v) m → ⊥) → (m : Set) → LeadsAtTwo g f m → ⊥
-none-lone g is f met same never m leads = grind (arith, met-within g is f, cases_order, same-by g, open-turned g f)
-
 -- an edge with no barred end is open
-open-ends : (g : Graph) (f : Set) (u v e : ℕ) → ((w : ℕ) → IsEnd g e w → barred g f u v e w ≡ false) → is_open g f u v e ≡ true
+pub open-ends : (g : Graph) (f : Set) (u v e : ℕ) → ((w : ℕ) → IsEnd g e w → barred g f u v e w ≡ false) → is_open g f u v e ≡ true
 open-ends g f u v e free = ap not (or_from (barred g f u v e (first_end g e)) (barred g f u v e (second_end g e)) (free (first_end g e) (inl refl)) (free (second_end g e) (inr refl)))
 
 -- an end counts
-end-counts : (g : Graph) (e w : ℕ) → IsEnd g e w → 1 ≤ ends_of g e w
+pub end-counts : (g : Graph) (e w : ℕ) → IsEnd g e w → 1 ≤ ends_of g e w
 unfolding ends_of
 end-counts g e w h = grind arith
 

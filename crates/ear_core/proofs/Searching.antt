@@ -3,12 +3,11 @@
 -- do.
 use Rattle.std.proofs.Common.{◌≡◌, ℕ, ◌+◌, ◌≤◌, true, ◌==◌, ◌||◌, ◌⊎◌, ◌↔◌, inl, inr, refl, sym, ap, ◌∙◌, arith, subst, eq-eqb, List, [], ◌∷◌, Option, Some, None, Result, IfOk, IfSome, IfNone, All, get_or}
 use Rattle.counting.proofs.Common.{AllByRecursion, mem-item, or_comm, bit, Within, mem, IsIn, Set, union}
-use Rattle.barrier_kit.proofs.Common.{perfect_congr}
 use Rattle.graph_core.proofs.Common.{Graph, size, IsGraph, HasPerfect}
 use Rattle.two_ears.specs.VertexPairs.{pairs_at}
-use Rattle.ear_core.specs.Common.{AreCandidates, Serves, ends_of_ear, ends_of_ears, IsChosen, IsAsked, IsBefore, FindsBeside, FindsTwo, NoneServes, NoneServesBeside, NoTwoServe, PlainEar, PlainStep, one, two, FitsEar, IsStep, next_stage, last_vertex, trail, IsEar, IsStage}
+use Rattle.ear_core.specs.Common.{AreCandidates, Serves, ends_of_ear, ends_of_ears, IsChosen, IsAsked, IsBefore, AreEars, FindsAlone, FindsBeside, FindsTwo, NoneServes, NoneServesBeside, NoTwoServe, PlainEar, PlainStep, one, two, FitsEar, IsStep, next_stage, last_vertex, trail, IsEar, IsStage}
 use Rattle.ear_core.specs.declared.asking.Asked.{Asked}
-use Rattle.ear_core.proofs.EngineGraphs.{served_listed}
+use Rattle.ear_core.proofs.EngineGraphs.{asked-perfect}
 use Rattle.ear_core.proofs.TraceEdges.{edges-within}
 use Rattle.ear_core.proofs.NextStages.{met-within}
 use Rattle.ear_core.proofs.ServingEars.{off-same}
@@ -16,7 +15,7 @@ use Rattle.ear_core.proofs.ServingPairs.{apart-pair, serving-one, serving-two, s
 
 -- what the engine answers
 pub asked-serves : (g : Graph) (f : Set) (asked : Asked) → IsAsked g f asked → (ends removed : List ℕ) → ((v : ℕ) → mem removed v ≡ (mem asked.outside v || mem ends v)) → HasPerfect asked.stage (mem removed) ↔ Serves g f (mem ends)
-asked-serves g f asked is ends removed joined = grind (arith, served_listed g f (mem ends), perfect_congr)
+asked-serves g f asked is ends removed joined = asked-perfect g f asked is (mem removed) (mem ends) (λ v w. joined v)
 
 -- sets that agree serve alike
 pub serves-same : (g : Graph) (f x y : Set) → ((v : ℕ) → x v ≡ y v) → Serves g f x → Serves g f y
@@ -38,6 +37,22 @@ module _ (g : Graph) (f : Set) (a : PlainEar) (ears others : List PlainEar) (beg
 
   pub none-beside-later : (x : Set) → (Serves g f (union x (ends_of_ear g a)) → ⊥) → NoneServesBeside g f x others → NoneServesBeside g f x ears
   none-beside-later x here later b i q = grind arith
+
+  -- the same of an ear that serves alone
+  pub alone-here : (b : PlainEar) → b ≡ a → Serves g f (ends_of_ear g a) → FindsAlone g f ears b
+  alone-here b is q = (subst (IsIn b) (sym begins) (inl is), subst (λ (c : PlainEar). Serves g f (ends_of_ear g c)) (sym is) q)
+
+  pub alone-later : (b : PlainEar) → FindsAlone g f others b → FindsAlone g f ears b
+  alone-later b found = (subst (IsIn b) (sym begins) (inr found.0), found.1)
+
+  pub none-alone-later : (Serves g f (ends_of_ear g a) → ⊥) → NoneServes g f others → NoneServes g f ears
+  none-alone-later here later b i q = grind arith
+
+  pub ears-behind : AreEars g f ears → AreEars g f others
+  ears-behind each b i = each b (subst (IsIn b) (sym begins) (inr i))
+
+  pub ear-first : AreEars g f ears → IsEar g f a.begin a.edges
+  ear-first each = each a (subst (IsIn a) (sym begins) (inl refl))
 
   pub two-here : (b : PlainEar) (s : PlainStep) → s ≡ two a b → FindsBeside g f (ends_of_ear g a) others b → FindsTwo g f ears s
   two-here b s is found = (a, b, subst (IsBefore a b) (sym begins) (inl (refl, found.0)), is, found.1)
@@ -81,7 +96,7 @@ ends-before g a b (c ∷ ears) w i = elim i [
 
 module _ (g : Graph) (is : IsGraph g) (f : Set) (stage : IsStage g f) (ears : List PlainEar) (c : AreCandidates g f ears) where
   -- what a step that is found is
-  pub found-one : (a : PlainEar) → FindsBeside g f (mem []) ears a → IsChosen ears (one a) × IsStep g f (one a) × IsStage g (next_stage f (one a))
+  pub found-one : (a : PlainEar) → FindsAlone g f ears a → IsChosen ears (one a) × IsStep g f (one a) × IsStage g (next_stage f (one a))
   found-one a found = (found.0, c.each a found.0, serving-one g is f stage a (c.each a found.0) found.1)
 
   apart-before : (a b : PlainEar) → IsBefore a b ears → (w : ℕ) → mem (trail g a.begin a.edges) w ≡ true → mem (trail g b.begin b.edges) w ≡ true → ⊥
@@ -110,7 +125,7 @@ module _ (g : Graph) (is : IsGraph g) (f : Set) (stage : IsStage g f) (ears : Li
       ]
 
 -- the numbers of an ear are in range
-all-edges : (m : ℕ) (es : List ℕ) → ((e : ℕ) → mem es e ≡ true → Within m e) → All (Within m) es
+pub all-edges : (m : ℕ) (es : List ℕ) → ((e : ℕ) → mem es e ≡ true → Within m e) → All (Within m) es
 all-edges m es h k d less = h (get_or es k d) (mem-item es k d less)
 
 pub ear-fits : (g : Graph) → IsGraph g → (f : Set) (a : PlainEar) → IsEar g f a.begin a.edges → FitsEar g.order (size g) a

@@ -1,19 +1,8 @@
--- The edges of the ears of a step, asked one by one: what an answer of the engine says of an
--- edge, and what is known after it.
-use Rattle.std.proofs.Common.{◌≡◌, ℕ, arith, true, ◌==◌, sym, ap₂, ◌∙◌, ◌||◌, None, Option, Result, IfOk, [], ◌∷◌, List, ◌↔◌}
-use Rattle.counting.proofs.Common.{true≢false, Within, mem, Set, none, pair_set}
-use Rattle.graph_core.proofs.Common.{Graph, IsMultigraph, first_end, second_end, size}
-use Rattle.ear_core.specs.Common.{Serves, AllowedBy, with_edges, IsUpTo, Settled, asked_too}
-use Rattle.ear_core.proofs.EngineGraphs.{edge_serves}
-use Rattle.ear_core.proofs.LoneMatchings.{pair-is}
-use Rattle.ear_core.proofs.Searching.{serves-same}
-
--- an edge of the stage lies in a perfect matching of it if its two ends serve
-pub ends-serve : (g : Graph) → IsMultigraph g → (f : Set) (e a b : ℕ) (first both : List ℕ) → Within (size g) e → f e ≡ true → a ≡ first_end g e → b ≡ second_end g e → first ≡ a ∷ [] → ((w : ℕ) → mem both w ≡ (mem first w || b == w)) → Serves g f (mem both) ↔ AllowedBy g f e
-ends-serve g is f e a b first both w on at_a at_b one joined =
-    let ends = edge_serves g f e is.ends w (is.no_loop e w) on in
-    let same : (v : ℕ) → mem both v ≡ pair_set (first_end g e) (second_end g e) v = λ v. pair-is first both a b one joined v ∙ ap₂ (λ x y. pair_set x y v) at_a at_b in
-    (λ q. ends.1 (serves-same g f (mem both) (pair_set (first_end g e) (second_end g e)) same q), λ q. serves-same g f (pair_set (first_end g e) (second_end g e)) (mem both) (λ v. sym (same v)) (ends.0 q))
+-- The edges of the ears of a step, asked one by one: what is known after each.
+use Rattle.std.proofs.Common.{◌≡◌, ℕ, arith, sym, None, Option, Result, IfOk, ◌∷◌, List}
+use Rattle.counting.proofs.Common.{true≢false, Set, none}
+use Rattle.graph_core.proofs.Common.{Graph}
+use Rattle.ear_core.specs.Common.{AllowedBy, with_edges, IsUpTo, Settled, asked_too}
 
 -- an edge up to e is known
 pub settled-known : (g : Graph) (f asked : Set) (known : Option ℕ) (e : ℕ) → IsUpTo e known → Settled g f asked known → Settled g f (asked_too asked e) known

@@ -46,7 +46,7 @@ trail-met g f v es ear w h = grind (arith, odds_at g f v es ear w, mem_times (tr
 pub still-met : (g : Graph) (f : Set) (es : List ℕ) (w : ℕ) → is_met g f w ≡ true → is_met g (with_edges f es) w ≡ true
 still-met g f es w t = grind (arith, met-some g f w t, degree_le g f (with_edges f es) w, or_left, some-met g (with_edges f es) w)
 
-ear-keeps : (g : Graph) (f : Set) (n : ℕ → ℕ) (v : ℕ) (es : List ℕ) → IsEar g f v es → ((w : ℕ) → mem (trail g v es) w ≡ true → is_met g f w ≡ false → mem (trail g v es) (mate g n w) ≡ true) → KeepsMates g n (is_met g f) → KeepsMates g n (is_met g (with_edges f es))
+pub ear-keeps : (g : Graph) (f : Set) (n : ℕ → ℕ) (v : ℕ) (es : List ℕ) → IsEar g f v es → ((w : ℕ) → mem (trail g v es) w ≡ true → is_met g f w ≡ false → mem (trail g v es) (mate g n w) ≡ true) → KeepsMates g n (is_met g f) → KeepsMates g n (is_met g (with_edges f es))
 ear-keeps g f n v es ear by_n keeps w ww t = elim (cases_Bool (is_met g f w)) [
   | inl x ↦ still-met g f es (mate g n w) (keeps w ww x)
   | inr x ↦ grind (arith, new-met g f v es ear w t, both_ways (is_met g f w) x, trail-met g f v es ear (mate g n w))

@@ -8,6 +8,10 @@ pub use Rattle.ear_core.specs.EarTests.{PlainWhy, not_path, even_length, bad_end
 pub use Rattle.ear_core.specs.Refusals.{first_of, step_fault, IsLeastUnallowed, IsStepRefused, IsFirstRefusal, IsJudged, IsRefused}
 pub use Rattle.ear_core.specs.StageGraphs.{listed, by_rank, Settled, asked_too, IsUpTo, IsBehind}
 pub use Rattle.ear_core.specs.AlternatingEars.{IsPerfectRows, row_edge, mate, KeepsMates, IsAlternating, IsTraced, IsClear, HoldsMates, IsMatedEar, ends_of_ears, AreApart, AreMatedEars, is_left, Serves, ends_of_ear, AreCandidates, IsChosen}
-pub use Rattle.ear_core.specs.Asking.{IsAsked, IsBefore, FindsBeside, FindsTwo, NoneServes, NoneServesBeside, NoTwoServe}
+pub use Rattle.ear_core.specs.Asking.{IsAsked, IsBefore, AreEars, FindsAlone, FindsBeside, FindsTwo, NoneServes, NoneServesBeside, NoTwoServe}
 pub use Rattle.ear_core.specs.TakenSteps.{IsTaken}
-pub use Rattle.ear_core.specs.LoneEars.{barred, is_open, IsPerfectBy, LeadsAtTwo}
+pub use Rattle.ear_core.specs.LoneEars.{barred, is_open, IsPerfectBy, LeadsAtTwo, LeadsOff}
+pub use Rattle.ear_core.specs.LoneTables.{in_rows, AreTables, reached}
+pub use Rattle.ear_core.specs.StagePartners.{ArePartnersOn, PairsAll}
+pub use Rattle.ear_core.specs.Building.{LeadTo, GoesOn, IsBuilt, IsFilled}
+pub use Rattle.ear_core.specs.MatchedStages.{NamesMatching, IsAskedBefore}

@@ -10,4 +10,8 @@ pub mod AlternatingEars
 pub mod Asking
 pub mod TakenSteps
 pub mod LoneEars
+pub mod LoneTables
+pub mod StagePartners
+pub mod Building
+pub mod MatchedStages
 pub mod Common

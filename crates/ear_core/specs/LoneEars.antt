@@ -1,11 +1,11 @@
 -- Perfect matchings that lead out of a stage at two of its vertices alone. Together with a perfect
 -- matching that keeps the stage such a one makes a single ear, and all single ears are found so.
 -- Stated by: ear_core. Rests on it: theorems.
-use Rattle.std.specs.Prelude.{◌≡◌, ◌≢◌, ℕ, true, ◌&&◌, not, cond}
-use Rattle.counting.specs.Common.{Within, Set, none, pair_set}
-use Rattle.graph_core.specs.Common.{Graph, size, IsPerfect}
+use Rattle.std.specs.Prelude.{◌≡◌, ◌≢◌, ◌⊎◌, ℕ, true, false, ◌&&◌, not, cond}
+use Rattle.counting.specs.Common.{Within, Set, complement, none, pair_set, union}
+use Rattle.graph_core.specs.Common.{Graph, size, HasPerfect, IsPerfect}
 use Rattle.match_core.specs.Common.{has_end_in}
-use Rattle.ear_core.specs.Stages.{is_met}
+use Rattle.ear_core.specs.Stages.{adjacent_by, is_met}
 
 -- where edge e must have no end: an edge of f at u and v, another one at other vertices of f
 abbrev pub barred : Graph → Set → ℕ → ℕ → ℕ → Set
@@ -23,3 +23,10 @@ pub record IsPerfectBy (g : Graph) (x m : Set) : Type 0 where
 -- m leads out of f at two of its vertices alone
 abbrev pub LeadsAtTwo : Graph → Set → Set → Type 0
 LeadsAtTwo g f m = (u : ℕ) × (v : ℕ) × (u ≢ v) × (is_met g f u ≡ true) × (is_met g f v ≡ true) × IsPerfectBy g (is_open g f u v) m
+
+-- off f an edge joins u and v and the rest has a perfect matching, or u and v have neighbours
+-- there without which it has one
+abbrev pub LeadsOff : Graph → Set → ℕ → ℕ → Type 0
+LeadsOff g f u v =
+    ((adjacent_by g (complement f) u v ≡ true) × HasPerfect g (is_met g f))
+    ⊎ ((w : ℕ) × (x : ℕ) × (w ≢ x) × (is_met g f w ≡ false) × (is_met g f x ≡ false) × (adjacent_by g (complement f) u w ≡ true) × (adjacent_by g (complement f) v x ≡ true) × HasPerfect g (union (is_met g f) (pair_set w x)))

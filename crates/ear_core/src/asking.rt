@@ -40,10 +40,9 @@ pub fn asked_about(alloc: Global, g: &MultiGraph, mark: &[bool], met: VSet) -> R
     ensures { IfOk result (IsAsked g.now (marks mark.now)) }
 {
     g.keeps_limits();
-    Ok(Asked {
-        stage: marked_graph(alloc, g, mark)?,
-        outside: VSet::full(g.order()).minus(met),
-    })
+    let stage = marked_graph(alloc, g, mark)?;
+    let outside = VSet::full(g.order()).minus(met);
+    Ok(Asked { stage, outside })
 }
 
 /// Whether the stage has a perfect matching without the vertices of a set.

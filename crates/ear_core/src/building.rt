@@ -1,17 +1,18 @@
 //! The builder of ear lists.
-ghost use Rattle.std.specs.Prelude.{◌≡◌, ◌+◌, ◌&&◌, ◌||◌, ℕ, true, false, not, length, map, IfOk, IfSome, IfNone};
+ghost use Rattle.std.specs.Prelude.{◌≡◌, ◌+◌, ◌≤◌, ◌&&◌, ◌||◌, ℕ, true, false, not, length, map, IfOk, IfSome, IfNone, OnOk};
 ghost use Rattle.std.specs.List.{AllByRecursion};
-ghost use Rattle.counting.specs.Common.{Within, mem};
+ghost use Rattle.counting.specs.Common.{Set, Within, complement, count, mem};
 ghost use Rattle.graph_core.specs.Common.{IsCovered, size, first_end, second_end, IsBipartite};
 ghost use Rattle.match_core.specs.Common.{edges_of};
 ghost use Rattle.match_search.specs.Common.{marks};
-ghost use Rattle.ear_core.specs.Common.{IsPerfectRows, KeepsMates, row_edge, AreForced, AreNeeded, AreSteps, IsEarList, IsForced, IsNeeded, IsSingle, IsStep, IsUnrefinable, next_stage, FitsEars, FitsStep, HasEdges, TakesSingles, LeadsAtTwo, is_met, IsStage, ears_of, step_of};
+ghost use Rattle.ear_core.specs.Common.{IsPerfectRows, KeepsMates, row_edge, AreForced, AreNeeded, AreSteps, IsAsked, IsBuilt, IsEarList, IsForced, IsNeeded, IsSingle, IsStep, IsUnrefinable, next_stage, FitsEars, FitsStep, HasEdges, TakesSingles, LeadsAtTwo, is_met, IsStage, ears_of, step_of};
 
+use crate::built::Built;
 use crate::choosing::choose;
 use crate::ears::{EarList, Step, Steps};
 use crate::faults::met_by;
 use crate::lone_ears::lone_matching;
-use crate::steps::mark_step;
+use crate::stage::Stage;
 use crate::tracing::collect;
 use allowed_edges::perfect_with_edge;
 use graph_core::MultiGraph;
@@ -23,12 +24,14 @@ use vset_core::VSet;
 /// An ear list of a matching covered graph, from its edge 1. Two ears are added at once only at a
 /// stage from which no ear list goes on by a single ear; neither of the two alone keeps the stage
 /// matching covered, so no step can be refined. If the graph is bipartite, each step has one ear.
-/// One perfect matching is kept. At each stage another one that holds an edge leading out of it
-/// makes ears together with the kept one. The first of these that keeps the stage matching covered
-/// is added. If there is none, a perfect matching is sought that leads out of the stage at two
-/// vertices alone: it makes a single ear. Only where there is none are the first two ears added
-/// that keep the stage matching covered together. The numbers of the list are in range and no ear
-/// is empty. `Memory` is want of memory alone. Lovász and Plummer, "Matching Theory", section 5.4.
+/// One perfect matching is kept. At each stage the edges between two partners on it, which are
+/// vertices without which it has a perfect matching, are added as single ears. If there is none,
+/// another perfect matching that holds an edge leading out of the stage makes ears together with
+/// the kept one, and the first of these that keeps the stage matching covered is added. If there is
+/// none, a perfect matching is sought that leads out of the stage at two vertices alone: it makes a
+/// single ear. Only where there is none are the first two ears added that keep the stage matching
+/// covered together. The numbers of the list are in range and no ear is empty. `Memory` is want of
+/// memory alone. Lovász and Plummer, "Matching Theory", section 5.4.
 pub fn build_ears(alloc: Global, g: &MultiGraph) -> Result<EarList, Memory>
     requires { IsCovered g.now }
     ensures list { IfOk result (λ list. IsEarList g.now (ears_of list)) }
@@ -59,40 +62,71 @@ pub fn build_ears_of(alloc: Global, c: &Covered) -> Result<EarList, Memory>
     let kept = matching_with_first(alloc, c)?;
     let mut mark = vec![in alloc; false; c.size() as usize + 1]?;
     mark[1] = true;
-    let steps = steps_from(alloc, c, &mut mark, &kept)?;
+    let steps = steps_from(alloc, c, mark, &kept)?;
     Ok(EarList { start: 1, steps })
 }
 
 // Steps from the stage of the marked edges to all edges. The stage holds the mates of its
 // vertices by the kept matching.
-fn steps_from(
-    alloc: Global,
-    c: &Covered,
-    mark: &mut Vec<bool>,
-    kept: &Matching,
-) -> Result<Steps, Memory>
-    requires long { length mark.old.items ≡ size c.now + 1 }
-    requires stage { IsStage c.now (marks mark.old.items) }
+fn steps_from(alloc: Global, c: &Covered, mark: Vec<bool>, kept: &Matching) -> Result<Steps, Memory>
+    requires long { length mark.items ≡ size c.now + 1 }
+    requires stage { IsStage c.now (marks mark.items) }
     requires kept { IsPerfectRows c.now kept.now }
-    requires mates { KeepsMates c.now (row_edge kept.now.rows)
-        (is_met c.now (marks mark.old.items)) }
+    requires mates { KeepsMates c.now (row_edge kept.now.rows) (is_met c.now (marks mark.items)) }
     ensures steps { IfOk result
-        (λ steps. AreSteps c.now (marks mark.old.items) (map step_of steps)) }
+        (λ steps. AreSteps c.now (marks mark.items) (map step_of steps)) }
     ensures needed { IfOk result
-        (λ steps. AreNeeded c.now (marks mark.old.items) (map step_of steps)) }
+        (λ steps. AreNeeded c.now (marks mark.items) (map step_of steps)) }
     ensures forced { IfOk result
-        (λ steps. AreForced c.now (marks mark.old.items) (map step_of steps)) }
+        (λ steps. AreForced c.now (marks mark.items) (map step_of steps)) }
     ensures single { IfOk result
         (λ steps. IsBipartite c.now → AllByRecursion IsSingle (map step_of steps)) }
 {
     c.keeps_covered();
-    let mut steps = Steps::new(alloc);
-    'stages: while let Some(edge) = leaving_edge(c.graph(), mark) {
-        let step = next_step(alloc, c, mark, kept, edge)?;
-        mark_step(mark, c.size(), &step);
-        steps.push(step)?;
+    let steps = Steps::new(alloc);
+    let mut built = Built { mark, steps };
+    let mut met = met_by(c.graph(), &built.mark);
+    'stages: while let Some(edge) = leaving_edge(c.graph(), &built.mark, met) {
+        go_on(alloc, c, &mut built, met, kept, edge)?;
+        met = met_by(c.graph(), &built.mark);
     }
-    Ok(steps)
+    Ok(built.steps)
+}
+
+// Goes on from a stage, which meets the vertices `met`: by each edge off it that joins two
+// partners on it, and where there is none by one step. Edge `edge` leads out of it.
+fn go_on(
+    alloc: Global,
+    c: &Covered,
+    built: &mut Built,
+    met: VSet,
+    kept: &Matching,
+    edge: u32,
+) -> Result<(), Memory>
+    requires built { (first : Set) × IsBuilt c.now (row_edge kept.now.rows) first built.old }
+    requires met { (v : ℕ) → mem met v ≡ is_met c.now (marks built.old.mark.items) v }
+    requires kept { IsPerfectRows c.now kept.now }
+    requires edge { Within (size c.now) edge }
+    requires off { marks built.old.mark.items edge ≡ false }
+    requires leads { (is_met c.now (marks built.old.mark.items) (first_end c.now edge) ||
+        is_met c.now (marks built.old.mark.items) (second_end c.now edge)) ≡ true }
+    ensures built { OnOk result ((first : Set) →
+        IsBuilt c.now (row_edge kept.now.rows) first built.old →
+        IsBuilt c.now (row_edge kept.now.rows) first built.new) }
+    ensures fewer { OnOk result
+        (count (size c.now) (complement (marks built.new.mark.items)) + 1 ≤
+        count (size c.now) (complement (marks built.old.mark.items))) }
+{
+    c.keeps_covered();
+    let g = c.graph();
+    let stage = Stage::of(alloc, g, &built.mark, met)?;
+    match built.first_between(g, &stage) {
+        Some(e) => built.add_between(alloc, g, &stage, e),
+        None => {
+            let step = next_step(alloc, c, &built.mark, met, kept, &stage, edge)?;
+            built.add(g, step)
+        }
+    }
 }
 
 // A perfect matching that holds edge 1.
@@ -108,9 +142,11 @@ fn matching_with_first(alloc: Global, c: &Covered) -> Result<Matching, Memory>
     }
 }
 
-// The least edge off the stage of the marked edges with an end on it.
-fn leaving_edge(g: &MultiGraph, mark: &[bool]) -> Option<u32>
-    requires { length mark.now ≡ size g.now + 1 }
+// The least edge off the stage of the marked edges, which meets the vertices `met`, with an end on
+// it.
+fn leaving_edge(g: &MultiGraph, mark: &[bool], met: VSet) -> Option<u32>
+    requires long { length mark.now ≡ size g.now + 1 }
+    requires met { (v : ℕ) → mem met v ≡ is_met g.now (marks mark.now) v }
     ensures some { IfSome result (λ e. Within (size g.now) e × (marks mark.now e ≡ false)
         × ((is_met g.now (marks mark.now) (first_end g.now e) ||
         is_met g.now (marks mark.now) (second_end g.now e)) ≡ true)) }
@@ -120,7 +156,6 @@ fn leaving_edge(g: &MultiGraph, mark: &[bool]) -> Option<u32>
         is_met g.now (marks mark.now) (second_end g.now e))) ≡ false) }
 {
     g.keeps_limits();
-    let met = met_by(g, mark);
     for k in 0..g.size() {
         let e = k + 1;
         let ends = g.ends(e);
@@ -131,16 +166,20 @@ fn leaving_edge(g: &MultiGraph, mark: &[bool]) -> Option<u32>
     None
 }
 
-// A step from the stage of the marked edges, which holds the mates of its vertices by the kept
-// matching. An edge leads out of it.
+// A step from the stage of the marked edges, which meets the vertices `met` and holds their mates
+// by the kept matching. An edge leads out of it.
 fn next_step(
     alloc: Global,
     c: &Covered,
     mark: &[bool],
+    met: VSet,
     kept: &Matching,
+    stage: &Stage,
     edge: u32,
 ) -> Result<Step, Memory>
     requires long { length mark.now ≡ size c.now + 1 }
+    requires met { (v : ℕ) → mem met v ≡ is_met c.now (marks mark.now) v }
+    requires asked { IsAsked c.now (marks mark.now) stage.now }
     requires stage { IsStage c.now (marks mark.now) }
     requires kept { IsPerfectRows c.now kept.now }
     requires mates { KeepsMates c.now (row_edge kept.now.rows) (is_met c.now (marks mark.now)) }
@@ -161,16 +200,15 @@ fn next_step(
 {
     c.keeps_covered();
     let g = c.graph();
-    let met = met_by(g, mark);
     let Some(leading) = perfect_with_edge(alloc, g, kept, edge)? else {
         unreachable!()
     };
-    let step = step_by(alloc, g, mark, met, kept, &leading)?;
+    let step = step_by(alloc, g, mark, met, kept, stage, &leading)?;
     if is_single(&step) {
         return Ok(step);
     }
-    match lone_matching(alloc, g, mark, met)? {
-        Some(lone) => step_by(alloc, g, mark, met, kept, &lone),
+    match lone_matching(alloc, g, mark, met, stage, kept)? {
+        Some(lone) => step_by(alloc, g, mark, met, kept, stage, &lone),
         None => Ok(step),
     }
 }
@@ -193,10 +231,12 @@ fn step_by(
     mark: &[bool],
     met: VSet,
     kept: &Matching,
+    stage: &Stage,
     leading: &Matching,
 ) -> Result<Step, Memory>
     requires long { length mark.now ≡ size g.now + 1 }
     requires met { (v : ℕ) → mem met v ≡ is_met g.now (marks mark.now) v }
+    requires asked { IsAsked g.now (marks mark.now) stage.now }
     requires stage { IsStage g.now (marks mark.now) }
     requires kept { IsPerfectRows g.now kept.now }
     requires mates { KeepsMates g.now (row_edge kept.now.rows) (is_met g.now (marks mark.now)) }
@@ -218,5 +258,5 @@ fn step_by(
     g.keeps_limits();
     let mut ears = Vec::new(alloc);
     collect(alloc, g, mark, met, leading, kept, VSet::empty(), &mut ears)?;
-    choose(alloc, g, mark, met, &ears)
+    choose(alloc, g, mark, stage, &ears)
 }

@@ -4,10 +4,12 @@ ghost use Rattle.std.specs.List.{AllByRecursion};
 ghost use Rattle.counting.specs.Common.{Within, IsLeastWithout};
 ghost use Rattle.graph_core.specs.Common.{size};
 ghost use Rattle.match_search.specs.Common.{marks};
-ghost use Rattle.ear_core.specs.Common.{FitsEars, FitsStep, IsEarList, PlainWhy, IsJudged, IsRefused, IsStage, ears_of, refusal_of, step_of};
+ghost use Rattle.ear_core.specs.Common.{FitsEars, FitsStep, IsEarList, PlainWhy, IsAskedBefore, IsJudged, IsRefused, IsStage, ears_of, refusal_of, step_of};
 
 use crate::ears::{EarList, Step};
+use crate::faults::met_by;
 use crate::judgement::{EarJudgement, EarWhy};
+use crate::matched::MatchedStage;
 use crate::steps::take_step;
 use graph_core::MultiGraph;
 use std::alloc::{AllocError as Memory, Global};
@@ -28,18 +30,22 @@ pub fn check_ears(alloc: Global, g: &MultiGraph, list: &EarList) -> Result<EarJu
     g.keeps_limits();
     let mut mark = vec![in alloc; false; g.size() as usize + 1]?;
     mark[list.start as usize] = true;
-    check_steps(alloc, g, &mut mark, list.steps.as_slice())
+    let met = met_by(g, &mark);
+    let mut stage = MatchedStage::of(alloc, g, &mark, met)?;
+    check_steps(alloc, g, &mut mark, &mut stage, list.steps.as_slice())
 }
 
-// What is answered of steps from the stage of the marked edges.
+// What is returned for steps from the stage of the marked edges.
 fn check_steps(
     alloc: Global,
     g: &MultiGraph,
     mark: &mut Vec<bool>,
+    stage: &mut MatchedStage,
     steps: &[Step],
 ) -> Result<EarJudgement, Memory>
     requires long { length mark.old.items ≡ size g.now + 1 }
     requires stage { IsStage g.now (marks mark.old.items) }
+    requires asked { IsAskedBefore g.now (marks mark.old.items) stage.old }
     requires fits { AllByRecursion (FitsStep g.now.order (size g.now)) (map step_of steps.now) }
     ensures { IfOk result
         (λ judgement. IsJudged g.now (marks mark.old.items) 0 (map step_of steps.now)
@@ -50,7 +56,7 @@ fn check_steps(
     let mut rest = steps;
     'steps: while let Some((step, others)) = rest.split_first() {
         number += 1;
-        if let Some(why) = take_step(alloc, g, mark, step)? {
+        if let Some(why) = take_step(alloc, g, mark, stage, step)? {
             return Ok(EarJudgement::Refused { step: number, why });
         }
         rest = others;
@@ -74,7 +80,7 @@ fn least_left(g: &MultiGraph, mark: &[bool]) -> Option<u32>
     None
 }
 
-// What is answered after the last step, from the stage of the marked edges.
+// What is returned after the last step, from the stage of the marked edges.
 fn judge_end(g: &MultiGraph, mark: &[bool], number: u32) -> EarJudgement
     requires { length mark.now ≡ size g.now + 1 }
     ensures { IsJudged g.now (marks mark.now) number [] (refusal_of result) }

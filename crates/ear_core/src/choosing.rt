@@ -1,13 +1,14 @@
 //! The choice of a step among ears that two perfect matchings make.
-ghost use Rattle.std.specs.Prelude.{◌≡◌, ◌+◌, ℕ, length, map, IfOk, IfSome, IfNone};
+ghost use Rattle.std.specs.Prelude.{◌≡◌, ℕ, map, IfOk, IfSome, IfNone};
 ghost use Rattle.std.specs.List.{AllByRecursion};
-ghost use Rattle.counting.specs.Common.{mem, Set};
+ghost use Rattle.counting.specs.Common.{Within, mem, Set};
 ghost use Rattle.graph_core.specs.Common.{size, IsBipartite};
 ghost use Rattle.match_search.specs.Common.{marks};
-ghost use Rattle.ear_core.specs.Common.{ends_of_ear, AreCandidates, IsChosen, IsAsked, FindsBeside, FindsTwo, NoneServesBeside, NoTwoServe, next_stage, IsStep, IsSingle, IsNeeded, FitsEar, is_met, IsStage, ear_of, step_of};
+ghost use Rattle.ear_core.specs.Common.{ends_of_ear, AreCandidates, AreEars, IsChosen, IsAsked, FindsAlone, FindsBeside, FindsTwo, NoneServes, NoneServesBeside, NoTwoServe, next_stage, IsStep, IsSingle, IsNeeded, FitsEar, IsStage, ear_of, last_vertex, step_of};
 
-use crate::asking::{Asked, asked_about, serves};
+use crate::asking::{Asked, serves};
 use crate::ears::{Ear, Step};
+use crate::stage::Stage;
 use crate::tracing::across;
 use graph_core::{MultiGraph, Numbers};
 use std::alloc::{AllocError as Memory, Global};
@@ -29,10 +30,11 @@ fn copy_of(alloc: Global, ear: &Ear) -> Result<Ear, Memory>
     })
 }
 
-// The two ends of an ear.
-fn ends_of(g: &MultiGraph, ear: &Ear) -> VSet
+/// The last vertex of an ear.
+pub fn last_of(g: &MultiGraph, ear: &Ear) -> u32
     requires { FitsEar g.now.order (size g.now) (ear_of ear.now) }
-    ensures { (w : ℕ) → mem result w ≡ ends_of_ear g.now (ear_of ear.now) w }
+    ensures last { result ≡ last_vertex g.now ear.now.from ear.now.edges }
+    ensures within { Within g.now.order result }
 {
     g.keeps_limits();
     let mut last = ear.from;
@@ -41,7 +43,43 @@ fn ends_of(g: &MultiGraph, ear: &Ear) -> VSet
         last = across(g, *e, last);
         rest = others;
     }
-    VSet::one(ear.from).with(last)
+    last
+}
+
+// The two ends of an ear.
+fn ends_of(g: &MultiGraph, ear: &Ear) -> VSet
+    requires { FitsEar g.now.order (size g.now) (ear_of ear.now) }
+    ensures { (w : ℕ) → mem result w ≡ ends_of_ear g.now (ear_of ear.now) w }
+{
+    g.keeps_limits();
+    VSet::one(ear.from).with(last_of(g, ear))
+}
+
+// A copy of the first ear that serves alone: its ends are partners on the stage.
+fn first_alone(
+    alloc: Global,
+    g: &MultiGraph,
+    stage: &Stage,
+    ears: &[Ear],
+) -> Result<Option<Ear>, Memory>
+    requires fits { AllByRecursion (FitsEar g.now.order (size g.now)) (map ear_of ears.now) }
+    requires order { stage.now.stage.order ≡ g.now.order }
+    ensures some { (f : Set) → IsAsked g.now f stage.now →
+        AreEars g.now f (map ear_of ears.now) → IfOk result
+        (λ o. IfSome o (λ ear. FindsAlone g.now f (map ear_of ears.now) (ear_of ear))) }
+    ensures none { (f : Set) → IsAsked g.now f stage.now →
+        AreEars g.now f (map ear_of ears.now) →
+        IfOk result (λ o. IfNone o (NoneServes g.now f (map ear_of ears.now))) }
+{
+    g.keeps_limits();
+    let Some((ear, others)) = ears.split_first() else {
+        return Ok(None);
+    };
+    if stage.partners(ear.from).contains(last_of(g, ear)) {
+        let found = copy_of(alloc, ear)?;
+        return Ok(Some(found));
+    }
+    first_alone(alloc, g, stage, others)
 }
 
 // A copy of the first ear whose ends serve together with the vertices `beside`.
@@ -94,18 +132,17 @@ fn double_step(
     double_step(alloc, g, asked, others)
 }
 
-/// A step of candidates on the stage of the marked edges, which meets the vertices `met`: the
-/// first ear that serves alone, else the first two that serve together, neither of which then
-/// keeps the stage matching covered alone. One or two do, by the two-ear theorem.
+/// A step of candidates on the stage of the marked edges: the first ear that serves alone, else the
+/// first two that serve together, neither of which then keeps the stage matching covered alone. One
+/// or two do, by the two-ear theorem.
 pub fn choose(
     alloc: Global,
     g: &MultiGraph,
     mark: &[bool],
-    met: VSet,
+    stage: &Stage,
     ears: &[Ear],
 ) -> Result<Step, Memory>
-    requires long { length mark.now ≡ size g.now + 1 }
-    requires met { (v : ℕ) → mem met v ≡ is_met g.now (marks mark.now) v }
+    requires asked { IsAsked g.now (marks mark.now) stage.now }
     requires stage { IsStage g.now (marks mark.now) }
     requires candidates { AreCandidates g.now (marks mark.now) (map ear_of ears.now) }
     ensures chosen { IfOk result (λ step. IsChosen (map ear_of ears.now) (step_of step)) }
@@ -116,12 +153,11 @@ pub fn choose(
     ensures single { IfOk result (λ step. IsBipartite g.now → IsSingle (step_of step)) }
 {
     g.keeps_limits();
-    let asked = asked_about(alloc, g, mark, met)?;
-    if let Some(first) = first_serving(alloc, g, &asked, VSet::empty(), ears)? {
+    if let Some(first) = first_alone(alloc, g, stage, ears)? {
         let second = None;
         return Ok(Step { first, second });
     }
-    match double_step(alloc, g, &asked, ears)? {
+    match double_step(alloc, g, stage.asked(), ears)? {
         Some(step) => Ok(step),
         None => unreachable!(),
     }

@@ -1,8 +1,8 @@
 //! Laws of ear lists. Each is the contract of a function that does nothing.
-ghost use Rattle.std.specs.Prelude.{◌≡◌, ◌↔◌, ℕ, true, List, [], ◌∷◌, None};
-ghost use Rattle.counting.specs.Common.{Within, Set, everything};
-ghost use Rattle.graph_core.specs.Common.{IsCovered, Graph, IsGraph, IsMultigraph, size, HasPerfect};
-ghost use Rattle.ear_core.specs.Common.{LeadsAtTwo, IsStage, AllowedBy, is_met, PlainEar, PlainEars, PlainStep, next_stage, one, IsEarList, IsStep, AreSteps, step_fault, IsFirstRefusal, IsEar, IsEarPair, Passes, PlainWhy, inner_vertices};
+ghost use Rattle.std.specs.Prelude.{◌≡◌, ◌≢◌, ◌↔◌, ℕ, false, true, List, [], ◌∷◌, None};
+ghost use Rattle.counting.specs.Common.{Within, Set, everything, pair_set};
+ghost use Rattle.graph_core.specs.Common.{IsCovered, Graph, IsGraph, IsMultigraph, first_end, second_end, size, HasPerfect};
+ghost use Rattle.ear_core.specs.Common.{ArePartnersOn, LeadsAtTwo, LeadsOff, PairsAll, IsPerfectBy, is_open, Serves, IsStage, AllowedBy, is_met, PlainEar, PlainEars, PlainStep, next_stage, one, IsEarList, IsStep, AreSteps, step_fault, IsFirstRefusal, IsEar, IsEarPair, Passes, PlainWhy, inner_vertices, with_edges};
 
 /// The five tests of an ear say that it is an ear of the stage; those of the second ear of a
 /// step, that the two are ears without a common inner vertex and without a common edge.
@@ -54,4 +54,29 @@ pub fn single_ears_law()
     ensures leads { (g : Graph) → IsMultigraph g → IsCovered g → (f : Set) → IsStage g f →
         (c : PlainEar) (steps : List PlainStep) → AreSteps g f (one c ∷ steps) →
         (m : Set) × LeadsAtTwo g f m }
+{}
+
+/// A perfect matching that leads out of a stage at two of its vertices alone is a perfect matching
+/// of the stage without these two, and one of the rest with what leads out at them.
+pub fn lone_parts_law()
+    ensures parts { (g : Graph) → IsMultigraph g → (f : Set) (u v : ℕ) → u ≢ v →
+        is_met g f u ≡ true → is_met g f v ≡ true → (m : Set) → IsPerfectBy g (is_open g f u v) m →
+        Serves g f (pair_set u v) × LeadsOff g f u v }
+    ensures whole { (g : Graph) → IsMultigraph g → (f : Set) (u v : ℕ) → u ≢ v →
+        is_met g f u ≡ true → is_met g f v ≡ true → Serves g f (pair_set u v) × LeadsOff g f u v →
+        (m : Set) × IsPerfectBy g (is_open g f u v) m }
+{}
+
+/// Partners on a stage are partners on the next. An edge off the stage that joins two partners on
+/// it is an ear with which the stage stays matching covered. Where all vertices are on the stage
+/// and any two of them are partners, this is so of each edge that is left, and it stays so.
+pub fn stage_partners_law()
+    ensures stay { (g : Graph) (f : Set) (s : PlainStep) → IsStep g f s → (u v : ℕ) →
+        ArePartnersOn g f u v → ArePartnersOn g (next_stage f s) u v }
+    ensures edge { (g : Graph) → IsGraph g → (f : Set) → IsStage g f → (e : ℕ) → Within (size g) e
+        → f e ≡ false → ArePartnersOn g f (first_end g e) (second_end g e) →
+        IsEar g f (first_end g e) (e ∷ []) × IsStage g (with_edges f (e ∷ [])) }
+    ensures all { (g : Graph) → IsMultigraph g → (f : Set) → IsStage g f → PairsAll g f →
+        (e : ℕ) → Within (size g) e → f e ≡ false → IsEar g f (first_end g e) (e ∷ []) ×
+        IsStage g (with_edges f (e ∷ [])) × PairsAll g (with_edges f (e ∷ [])) }
 {}

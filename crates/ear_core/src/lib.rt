@@ -18,13 +18,24 @@
 //! list has no refusal, and another list one at most. `laws::whole_stage_law`: the stage of all
 //! vertices and edges is matching covered exactly when the graph is. `laws::single_ears_law`: an
 //! ear list goes on by a single ear only where some perfect matching of the graph leads out of the
-//! stage at two vertices alone (`LeadsAtTwo` of `specs/LoneEars`).
+//! stage at two vertices alone (`LeadsAtTwo` of `specs/LoneEars`). `laws::lone_parts_law`: such a
+//! matching is made of a perfect matching of the stage without the two, and of edges off the stage
+//! that lead out at them (`LeadsOff`). `laws::stage_partners_law`: two vertices of a stage without
+//! which it has a perfect matching (`ArePartnersOn` of `specs/StagePartners`) are so on the next
+//! stage, and an edge that joins two such vertices is a single ear.
 //!
-//! Inside, a step is taken on a row of marks, and the edges of its ears are asked of the matching
-//! engine one by one. The builder keeps one perfect matching; at each stage another one leads out
-//! and makes ears together with it (`AreMatedEars` of `specs/AlternatingEars`), of which one serves
-//! or two do by the two-ear theorem. Where two do, a matching that leads out at two vertices alone
-//! is sought first: it makes a single ear.
+//! Inside, a step is taken on a row of marks. The checker keeps a stage with the mates of a
+//! matching (`MatchedStage`) and asks for the partners of one vertex at a time: a single ear
+//! between partners on it is taken at once; else the stage after the step is asked edge by edge and
+//! kept from then on.
+//!
+//! The builder keeps one perfect matching. It makes the table of partners on a stage (`Stage`) and
+//! adds each edge between two partners; the table is made again only when no such edge is left.
+//! Then another perfect matching leads out and makes ears together with the kept one
+//! (`AreMatedEars` of `specs/AlternatingEars`), of which one serves or two do by the two-ear
+//! theorem. Where two do, a matching that leads out at two vertices alone is sought first: it makes
+//! a single ear. The partners on the stage and those off it tell whether there is one
+//! (`specs/LoneTables`).
 //!
 //! Stands on `match_core`, `allowed_edges`, `graph_facts` and `two_ears`. Source: Lovász and
 //! Plummer, "Matching Theory", chapter 5.
@@ -32,6 +43,7 @@
 
 mod asking;
 mod building;
+mod built;
 mod checking;
 mod choosing;
 mod ears;
@@ -39,7 +51,10 @@ mod faults;
 mod judgement;
 pub mod laws;
 mod lone_ears;
+mod lone_tables;
+mod matched;
 mod paths;
+mod stage;
 mod stages;
 mod steps;
 mod tracing;

@@ -4,9 +4,11 @@ ghost use Rattle.counting.specs.Common.{Within, mem, rising_list, Set, pair_set}
 ghost use Rattle.graph_core.specs.Common.{size};
 ghost use Rattle.match_core.specs.Common.{edges_of};
 ghost use Rattle.match_search.specs.Common.{marks};
-ghost use Rattle.ear_core.specs.Common.{IsPerfectRows, is_open, IsPerfectBy, LeadsAtTwo, by_rank, is_met};
+ghost use Rattle.ear_core.specs.Common.{IsAsked, IsPerfectBy, IsPerfectRows, KeepsMates, LeadsAtTwo, by_rank, is_met, is_open, row_edge};
 
 use crate::asking::marked_graph;
+use crate::lone_tables::{lone_with, tables_of};
+use crate::stage::Stage;
 use graph_core::{MultiGraph, Numbers};
 use match_core::{Matching, perfect_with, perfect_without};
 use std::alloc::{AllocError as Memory, Global};
@@ -112,48 +114,49 @@ fn perfect_by(alloc: Global, g: &MultiGraph, row: &[bool]) -> Result<Option<Matc
 }
 
 // A perfect matching that leads out of the stage of the marked edges, which meets the vertices
-// `met`, at `u` and a vertex after it alone.
-fn lone_from(
+// `met`, at `u` and `v` alone, where there is one.
+fn matching_at(
     alloc: Global,
     g: &MultiGraph,
     mark: &[bool],
     met: VSet,
     u: u32,
-) -> Result<Option<Matching>, Memory>
+    v: u32,
+) -> Result<Matching, Memory>
     requires long { length mark.now ≡ size g.now + 1 }
-    requires met { (v : ℕ) → mem met v ≡ is_met g.now (marks mark.now) v }
-    requires vertex { Within g.now.order u }
-    requires on { mem met u ≡ true }
-    ensures rows { IfOk result (λ o. IfSome o (IsPerfectRows g.now)) }
-    ensures two { IfOk result
-        (λ o. IfSome o (λ m. LeadsAtTwo g.now (marks mark.now) (mem (edges_of m)))) }
-    ensures none { IfOk result
-        (λ o. IfNone o ((v : ℕ) → u < v → Within g.now.order v → mem met v ≡ true → (m : Set) →
-        IsPerfectBy g.now (is_open g.now (marks mark.now) u v) m → ⊥)) }
+    requires met { (w : ℕ) → mem met w ≡ is_met g.now (marks mark.now) w }
+    requires first { Within g.now.order u }
+    requires second { Within g.now.order v }
+    requires there { (m : Set) × IsPerfectBy g.now (is_open g.now (marks mark.now) u v) m }
+    ensures rows { IfOk result (IsPerfectRows g.now) }
+    ensures part { IfOk result
+        (λ m. IsPerfectBy g.now (is_open g.now (marks mark.now) u v) (mem (edges_of m))) }
 {
     g.keeps_limits();
-    for k in u..g.order() {
-        let v = k + 1;
-        if met.contains(v) {
-            let row = open_edges(alloc, g, mark, met, VSet::one(u).with(v))?;
-            if let Some(m) = perfect_by(alloc, g, &row)? {
-                return Ok(Some(m));
-            }
-        }
+    let row = open_edges(alloc, g, mark, met, VSet::one(u).with(v))?;
+    match perfect_by(alloc, g, &row)? {
+        Some(m) => Ok(m),
+        None => unreachable!(),
     }
-    Ok(None)
 }
 
-/// A perfect matching that leads out of the stage of the marked edges, which meets the vertices
-/// `met`, at two of its vertices alone; `None` exactly when there is none.
+/// A perfect matching that leads out of the stage of the marked edges at two of its vertices
+/// alone; `None` exactly when there is none. The stage meets the vertices `met` and holds their
+/// mates by the kept matching. The partners on it and those off it tell the two vertices; then one
+/// matching is made.
 pub fn lone_matching(
     alloc: Global,
     g: &MultiGraph,
     mark: &[bool],
     met: VSet,
+    stage: &Stage,
+    kept: &Matching,
 ) -> Result<Option<Matching>, Memory>
     requires long { length mark.now ≡ size g.now + 1 }
     requires met { (v : ℕ) → mem met v ≡ is_met g.now (marks mark.now) v }
+    requires stage { IsAsked g.now (marks mark.now) stage.now }
+    requires kept { IsPerfectRows g.now kept.now }
+    requires mates { KeepsMates g.now (row_edge kept.now.rows) (is_met g.now (marks mark.now)) }
     ensures rows { IfOk result (λ o. IfSome o (IsPerfectRows g.now)) }
     ensures two { IfOk result
         (λ o. IfSome o (λ m. LeadsAtTwo g.now (marks mark.now) (mem (edges_of m)))) }
@@ -161,10 +164,12 @@ pub fn lone_matching(
         (λ o. IfNone o ((m : Set) → LeadsAtTwo g.now (marks mark.now) m → ⊥)) }
 {
     g.keeps_limits();
+    let tables = tables_of(alloc, g, mark, met, kept)?;
     for k in 0..g.order() {
         let u = k + 1;
         if met.contains(u) {
-            if let Some(m) = lone_from(alloc, g, mark, met, u)? {
+            if let Some(v) = lone_with(g, mark, stage, &tables, u).first() {
+                let m = matching_at(alloc, g, mark, met, u, v)?;
                 return Ok(Some(m));
             }
         }

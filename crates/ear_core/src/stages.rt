@@ -1,25 +1,31 @@
-//! Whether the stage of an asked graph is matching covered, edge by edge.
+//! Whether a stage is matching covered, edge by edge.
 ghost use Rattle.std.specs.Prelude.{◌≡◌, ◌<◌, true, false, All, IfOk};
 ghost use Rattle.counting.specs.Common.{Within, Set};
 ghost use Rattle.graph_core.specs.Common.{size};
 ghost use Rattle.ear_core.specs.Common.{IsAsked, AllowedBy, with_edges, IsBehind, IsUpTo, Settled, asked_too};
 
-use crate::asking::{Asked, serves};
+use crate::matched::MatchedStage;
 use graph_core::MultiGraph;
 use std::alloc::{AllocError as Memory, Global};
-use vset_core::VSet;
 
-// Whether an edge of the stage lies in a perfect matching of it: whether its two ends serve.
-fn is_allowed_by(alloc: Global, g: &MultiGraph, asked: &Asked, e: u32) -> Result<bool, Memory>
-    requires { Within (size g.now) e }
-    ensures yes { (f : Set) → IsAsked g.now f asked.now → f e ≡ true →
+// Whether an edge of the stage lies in a perfect matching of it: whether its two ends are partners.
+fn is_allowed_by(
+    alloc: Global,
+    g: &MultiGraph,
+    stage: &MatchedStage,
+    e: u32,
+) -> Result<bool, Memory>
+    requires edge { Within (size g.now) e }
+    requires order { stage.now.stage.order ≡ g.now.order }
+    ensures yes { (f : Set) → IsAsked g.now f stage.now → f e ≡ true →
         IfOk result (λ b. b ≡ true → AllowedBy g.now f e) }
-    ensures no { (f : Set) → IsAsked g.now f asked.now → f e ≡ true →
+    ensures no { (f : Set) → IsAsked g.now f stage.now → f e ≡ true →
         IfOk result (λ b. b ≡ false → AllowedBy g.now f e → ⊥) }
 {
     g.keeps_limits();
     let ends = g.ends(e);
-    serves(alloc, asked, VSet::one(ends.a).with(ends.b))
+    let row = stage.partners(alloc, ends.a)?;
+    Ok(row.contains(ends.b))
 }
 
 // Whether the known edge is not after `e`.
@@ -37,18 +43,19 @@ fn is_up_to(known: Option<u32>, e: u32) -> bool
 fn settle(
     alloc: Global,
     g: &MultiGraph,
-    asked: &Asked,
+    stage: &MatchedStage,
     known: Option<u32>,
     e: u32,
 ) -> Result<Option<u32>, Memory>
-    requires { Within (size g.now) e }
-    ensures { (f done : Set) → IsAsked g.now f asked.now → f e ≡ true → Settled g.now f done known →
+    requires edge { Within (size g.now) e }
+    requires order { stage.now.stage.order ≡ g.now.order }
+    ensures { (f done : Set) → IsAsked g.now f stage.now → f e ≡ true → Settled g.now f done known →
         IfOk result (Settled g.now f (asked_too done e)) }
 {
     if is_up_to(known, e) {
         return Ok(known);
     }
-    if is_allowed_by(alloc, g, asked, e)? {
+    if is_allowed_by(alloc, g, stage, e)? {
         Ok(known)
     } else {
         Ok(Some(e))
@@ -59,17 +66,18 @@ fn settle(
 pub fn least_refused(
     alloc: Global,
     g: &MultiGraph,
-    asked: &Asked,
+    stage: &MatchedStage,
     known: Option<u32>,
     edges: &[u32],
 ) -> Result<Option<u32>, Memory>
-    requires { All (Within (size g.now)) edges.now }
-    ensures { (f done : Set) → IsAsked g.now f asked.now → All (λ e. f e ≡ true) edges.now
+    requires edges { All (Within (size g.now)) edges.now }
+    requires order { stage.now.stage.order ≡ g.now.order }
+    ensures { (f done : Set) → IsAsked g.now f stage.now → All (λ e. f e ≡ true) edges.now
         → Settled g.now f done known → IfOk result (Settled g.now f (with_edges done edges.now)) }
 {
     let Some((e, others)) = edges.split_first() else {
         return Ok(known);
     };
-    let next = settle(alloc, g, asked, known, *e)?;
-    least_refused(alloc, g, asked, next, others)
+    let next = settle(alloc, g, stage, known, *e)?;
+    least_refused(alloc, g, stage, next, others)
 }

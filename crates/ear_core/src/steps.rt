@@ -1,14 +1,15 @@
 //! A step of an ear list, taken on the row of marks of a stage.
 ghost use Rattle.std.specs.Prelude.{◌≡◌, ◌+◌, ◌<◌, ◌||◌, ℕ, true, length, All, Some, None, IfOk, IfSome, IfNone};
-ghost use Rattle.counting.specs.Common.{Within, mem, none};
+ghost use Rattle.counting.specs.Common.{Set, Within, mem, none};
 ghost use Rattle.graph_core.specs.Common.{size};
 ghost use Rattle.match_search.specs.Common.{marks};
-ghost use Rattle.ear_core.specs.Common.{FitsStep, next_stage, step_fault, Settled, IsStage, IsTaken, step_of, why_of};
+ghost use Rattle.ear_core.specs.Common.{FitsStep, IsAsked, IsAskedBefore, IsStep, next_stage, step_fault, Settled, IsStage, IsTaken, step_of, why_of};
 
-use crate::asking::asked_about;
+use crate::choosing::last_of;
 use crate::ears::Step;
 use crate::faults::{met_by, tested};
 use crate::judgement::EarWhy;
+use crate::matched::MatchedStage;
 use crate::stages::least_refused;
 use graph_core::MultiGraph;
 use std::alloc::{AllocError as Memory, Global};
@@ -68,14 +69,15 @@ pub fn mark_step(mark: &mut Vec<bool>, size: u32, step: &Step)
     }
 }
 
-// The least edge of a step in no perfect matching of the stage of the marked edges.
+// The least edge of a step in no perfect matching of a stage that holds it.
 fn refused_edge(
     alloc: Global,
     g: &MultiGraph,
     mark: &[bool],
+    stage: &MatchedStage,
     step: &Step,
 ) -> Result<Option<u32>, Memory>
-    requires long { length mark.now ≡ size g.now + 1 }
+    requires asked { IsAsked g.now (marks mark.now) stage.now }
     requires first { All (Within (size g.now)) step.now.first.edges }
     requires second { IfSome step.now.second (λ ear. All (Within (size g.now)) ear.edges) }
     requires marked_first { All (λ e. marks mark.now e ≡ true) step.now.first.edges }
@@ -83,35 +85,70 @@ fn refused_edge(
         (λ ear. All (λ e. marks mark.now e ≡ true) ear.edges) }
     ensures { IfOk result (Settled g.now (marks mark.now) (next_stage none (step_of step.now))) }
 {
-    let asked = asked_about(alloc, g, mark, met_by(g, mark))?;
-    let least = least_refused(alloc, g, &asked, None, step.first.edges.as_slice())?;
+    let least = least_refused(alloc, g, stage, None, step.first.edges.as_slice())?;
     match &step.second {
         None => Ok(least),
-        Some(second) => least_refused(alloc, g, &asked, least, second.edges.as_slice()),
+        Some(second) => least_refused(alloc, g, stage, least, second.edges.as_slice()),
+    }
+}
+
+// Whether the step adds one ear, whose ends are known to be partners on the stage before it: they
+// are partners on an earlier one.
+fn joins_partners(
+    alloc: Global,
+    g: &MultiGraph,
+    stage: &MatchedStage,
+    step: &Step,
+) -> Result<bool, Memory>
+    requires fits { FitsStep g.now.order (size g.now) (step_of step.now) }
+    requires order { stage.now.stage.order ≡ g.now.order }
+    ensures { IfOk result (λ b. b ≡ true → (f : Set) → IsAskedBefore g.now f stage.now →
+        IsStage g.now f → IsStep g.now f (step_of step.now) →
+        IsStage g.now (next_stage f (step_of step.now))) }
+{
+    g.keeps_limits();
+    match &step.second {
+        Some(_) => Ok(false),
+        None => {
+            let row = stage.partners(alloc, step.first.from)?;
+            Ok(row.contains(last_of(g, &step.first)))
+        }
     }
 }
 
 /// Takes a step on the stage of the marked edges: then its edges are marked too, or it is
-/// refused, with the reason.
+/// refused, with the reason. A single ear between partners on an earlier stage is not asked
+/// further; else the stage after the step is asked edge by edge, and is the one that is known from
+/// then on.
 pub fn take_step(
     alloc: Global,
     g: &MultiGraph,
     mark: &mut Vec<bool>,
+    stage: &mut MatchedStage,
     step: &Step,
 ) -> Result<Option<EarWhy>, Memory>
     requires long { length mark.old.items ≡ size g.now + 1 }
     requires fits { FitsStep g.now.order (size g.now) (step_of step.now) }
     requires stage { IsStage g.now (marks mark.old.items) }
+    requires asked { IsAskedBefore g.now (marks mark.old.items) stage.old }
     ensures length { length mark.new.items ≡ length mark.old.items }
     ensures taken { IfOk result
         (IsTaken g.now (marks mark.old.items) (step_of step.now) (marks mark.new.items)) }
+    ensures asked { IfOk result
+        (λ why. IfNone why (IsAskedBefore g.now (marks mark.new.items) stage.new)) }
 {
     g.keeps_limits();
     if let Some(why) = fault_of(g, mark, step) {
         return Ok(Some(why));
     }
+    let known = joins_partners(alloc, g, stage, step)?;
     mark_step(mark, g.size(), step);
-    match refused_edge(alloc, g, mark, step)? {
+    if known {
+        return Ok(None);
+    }
+    let met = met_by(g, mark);
+    *stage = MatchedStage::of(alloc, g, mark, met)?;
+    match refused_edge(alloc, g, mark, stage, step)? {
         Some(edge) => Ok(Some(EarWhy::StageNotCovered { edge })),
         None => Ok(None),
     }

@@ -1,6 +1,6 @@
 -- The line of an ear is decided by the tests of its numbers.
 use Rattle.std.proofs.Common.{ℕ, List, Option}
-use Rattle.text_faults.specs.declared.faults.FaultKind.TheVariants as kind
+use Rattle.line_text.specs.declared.faults.FaultKind.TheVariants as kind
 use Rattle.ear_core.specs.Common.{PlainEar, PlainStep}
 use Rattle.ear_text.specs.EarFormat.{EarsSoFar, ear_at, is_ear_line, with_ear}
 

@@ -3,13 +3,12 @@
 -- of the table.
 use Rattle.std.proofs.Common.{◌≡◌, ◌<◌, ◌==◌, ◌||◌, ◌&&◌, ◌++◌, codes, not, nat_le, if◌then◌else◌, ℕ, List, [], ◌∷◌, Bool, length, map, true, Option, Some, None, is_some, Result, Ok, Err, IfOk, refl, sym, subst, arith}
 use Rattle.counting.proofs.Common.{AllByRecursion, list_all, list_any, and_parts, or_parts, both_ways, not-false, Within}
-use Rattle.line_text.specs.Common.{Begins, Stands, finish, has_form, word_at, is_number, value_of}
+use Rattle.line_text.specs.Common.{Begins, Stands, finish, has_form, word_at, is_number, value_of, is_out_of_range}
 use Rattle.line_text.proofs.Tables.{all_passed, no_value, value_or}
-use Rattle.text_faults.proofs.InRange.{all-in_range, in_range}
-use Rattle.text_faults.specs.declared.faults.FaultKind.{FaultKind}
-use Rattle.text_faults.specs.declared.faults.FaultKind.TheVariants as kind
+use Rattle.line_text.proofs.InRange.{all-in_range, in_range}
+use Rattle.line_text.specs.declared.faults.FaultKind.{FaultKind}
+use Rattle.line_text.specs.declared.faults.FaultKind.TheVariants as kind
 use Rattle.ear_core.specs.Common.{PlainEar, PlainStep, PlainEars, FitsEar, FitsStep, FitsEars, HasEdges}
-use Rattle.text_faults.specs.Common.{is_out_of_range}
 use Rattle.ear_text.specs.EarFormat.{EarsSoFar, headed, started, ear_format, ear_line, line_behind, ears_end, behind_two, is_ear_line, is_with_line, ear_at, closed, paired}
 
 -- the numbers of an ear are in range, and it is not empty

@@ -6,7 +6,7 @@ use Rattle.counting.proofs.Common.{AllByRecursion, list_all, length-map, append-
 use Rattle.std.specs.Fmt.{decimal}
 use Rattle.line_text.specs.Common.{Begins, Stands, has_form, IsSignificant, is_number, value_of}
 use Rattle.line_text.proofs.Decimals.{number_of-decimal, is_word-decimal, value-decimal, number-decimal, values-decimal, numbers-decimal, words-decimal}
-use Rattle.text_faults.proofs.InRange.{in_range-test, in_range-tests, few-digits}
+use Rattle.line_text.proofs.InRange.{in_range-test, in_range-tests, few-digits}
 use Rattle.line_text.proofs.ReadBack.{Stands-written}
 use Rattle.ear_core.specs.Common.{PlainEar, PlainStep, one, two, PlainEars, FitsEar, FitsStep, HasEdges}
 use Rattle.ear_text.specs.EarFormat.{EarsSoFar, headed, started, ear_format, is_ear_line, is_with_line, closed, ears_end}

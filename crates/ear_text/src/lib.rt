@@ -7,7 +7,7 @@
 //! `specs/Writing`, and reading it gives the list again: `laws::written_ears_stand`. That the
 //! ears make matching covered stages is not asked here.
 //!
-//! Stands on `line_text` for what a format is, on `text_faults` for the reader and on `ear_core`
+//! Stands on `line_text` for what a format is and for the reader, and on `ear_core`
 //! for ear lists. The manner of the format is that of the graph files of the DIMACS challenges
 //! (1990 to 1993).
 #![tactic(auto)]

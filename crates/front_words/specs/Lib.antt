@@ -1,8 +1,10 @@
 pub mod Saying
 pub mod Showing
+pub mod UnitsSeen
 pub mod Pieces
 pub mod Faults
 pub mod Reasons
+pub mod Openings
 pub mod LinesAt
 pub mod Messages
 pub mod ListMessages

@@ -1,14 +1,17 @@
 -- The messages on lists of graphs: each is a line that begins with the name of the program, or two
 -- such lines.
--- Stated by: front_words. Rests on it: list_front.
-use Rattle.std.specs.Prelude.{ℕ, ◌==◌, ◌&&◌, List, ◌++◌, codes, length, nat_lt, if◌then◌else◌}
+-- Stated by: front_words. Rests on it: mcg6_front_top.
+use Rattle.std.specs.Prelude.{ℕ, ◌==◌, ◌||◌, Bool, List, ◌++◌, codes, length, nat_lt, if◌then◌else◌}
 use Rattle.std.specs.Fmt.{decimal}
 use Rattle.std.specs.declared.option.Option.{Option}
 use Rattle.std.specs.declared.option.Option.TheVariants.{None, Some}
+use Rattle.std.specs.Str.{bytes_eq}
+use Rattle.outside.specs.Common.{most_line}
 use Rattle.outside.specs.declared.explain.FailureReason.{FailureReason}
 use Rattle.front_words.specs.Faults.{graph6_fault}
 use Rattle.front_words.specs.LinesAt.{line_at}
 use Rattle.front_words.specs.Messages.{line_shown, some_line, unread_text}
+use Rattle.front_words.specs.Openings.{opening_note}
 use Rattle.front_words.specs.Reasons.{reason_words}
 
 -- the list in the file of that name, or with none that of standard input, could not be read, for
@@ -17,13 +20,26 @@ abbrev pub unread_list_text : (program : List ℕ) → Option (List ℕ) → Opt
 unread_list_text program None reason = program ++ (codes ": cannot read standard input: " ++ (reason_words reason ++ codes "\n"))
 unread_list_text program (Some name) reason = unread_text program name reason
 
--- a fault of that kind in a line of a list with this text: the empty text is that of a line which
--- is missing at the end of the list
+-- a line of a list of which only its line end is left
+abbrev pub is_blank_line : (text : List ℕ) → Bool
+is_blank_line text = bytes_eq text (codes "\n") || bytes_eq text (codes "\r\n")
+
+-- a line of a list that ends too early: the empty text is that of a line which is missing at the
+-- end of the list
+abbrev pub short_line : (text : List ℕ) → List ℕ
+short_line text =
+    if length text == 0 then codes "the list ends before a graph" else
+    if is_blank_line text then codes "it is empty (to_graph6_bytes ends its text with a line feed, so print adds a second)" else
+    graph6_fault 7
+
+-- a line of a list that passes a limit
+abbrev pub long_line : (text : List ℕ) → List ℕ
+long_line text =
+    if nat_lt most_line (length text) then codes "it has more than 65,536 bytes, the most that a line of a list may have" else graph6_fault 6
+
+-- a fault of that kind in a line of a list with this text
 abbrev pub list_fault : (kind : ℕ) (text : List ℕ) → List ℕ
-list_fault kind text =
-    if kind == 7 && length text == 0 then codes "the list ends before a graph" else
-    if kind == 6 && nat_lt 65536 (length text) then codes "it has more than 65,536 bytes, the most that a line of a list may have" else
-    graph6_fault kind
+list_fault kind text = if kind == 7 then short_line text else if kind == 6 then long_line text else graph6_fault kind
 
 -- the line of a text, without its line feed, unless nothing is in it
 abbrev pub line_kept : (text : List ℕ) → Option (List ℕ)
@@ -33,4 +49,4 @@ line_kept text = some_line (line_at text 1)
 -- it was kept
 abbrev pub bad_line_text : (program : List ℕ) (number kind : ℕ) (text : List ℕ) → List ℕ
 bad_line_text program number kind text =
-    program ++ (codes ": line " ++ (decimal number ++ (codes ": " ++ (list_fault kind text ++ (codes "\n" ++ line_shown program number (line_kept text))))))
+    program ++ (codes ": line " ++ (decimal number ++ (codes ": " ++ (list_fault kind text ++ (opening_note text ++ (codes "\n" ++ line_shown program number (line_kept text)))))))

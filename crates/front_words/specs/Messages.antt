@@ -1,5 +1,5 @@
 -- The messages: each is a line that begins with the name of the program, or a few such lines.
--- Stated by: front_words. Rests on it: front_top, list_front.
+-- Stated by: front_words. Rests on it: front_top, mcg6_front_top.
 use Rattle.std.specs.Prelude.{ℕ, ◌==◌, List, [], ◌∷◌, ◌++◌, codes, if◌then◌else◌}
 use Rattle.std.specs.Fmt.{decimal}
 use Rattle.std.specs.declared.option.Option.{Option}

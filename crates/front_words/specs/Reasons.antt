@@ -4,7 +4,7 @@ use Rattle.std.specs.Prelude.{ℕ, List, codes}
 use Rattle.std.specs.declared.option.Option.{Option}
 use Rattle.std.specs.declared.option.Option.TheVariants.{None, Some}
 use Rattle.outside.specs.declared.explain.FailureReason.{FailureReason}
-use Rattle.outside.specs.declared.explain.FailureReason.TheVariants.{Absent, Dangling, Folder, NotInFolder, Forbidden, Other}
+use Rattle.outside.specs.declared.explain.FailureReason.TheVariants.{Absent, Dangling, Folder, NotInFolder, Forbidden, LongName, LinkLoop, Socket, ManyOpen, Other}
 
 -- the words for a reason
 abbrev pub reason_words : Option FailureReason → List ℕ
@@ -14,4 +14,8 @@ reason_words (Some Dangling) = codes "it is a link to what is not there"
 reason_words (Some Folder) = codes "it is a folder"
 reason_words (Some NotInFolder) = codes "a part of its name is not a folder"
 reason_words (Some Forbidden) = codes "no permission to read it"
+reason_words (Some LongName) = codes "its name is too long"
+reason_words (Some LinkLoop) = codes "links lead around in a circle"
+reason_words (Some Socket) = codes "it is a socket, or a device that is not there"
+reason_words (Some ManyOpen) = codes "too many files are open"
 reason_words (Some Other) = codes "a read of it failed"

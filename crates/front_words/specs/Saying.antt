@@ -1,5 +1,5 @@
 -- What a call that says a text to a sink answers.
--- Stated by: front_words, front_top, list_front.
+-- Stated by: front_words, front_top, mcg6_front_top.
 use Rattle.std.specs.Prelude.{◌≡◌, ◌≤◌, ℕ, List, ◌++◌, OnOk, OnErr}
 use Rattle.std.specs.declared.option.Option.{Option}
 use Rattle.std.specs.declared.result.Result.{Result}

@@ -1,25 +1,68 @@
--- How bytes of the outside are shown in a line: those that print as they are, and every other by
--- an escape.
+-- How bytes of the outside are shown in a line: characters that print as they are, and every other
+-- byte by an escape.
 -- Stated by: front_words.
-use Rattle.std.specs.Prelude.{ℕ, zero, suc, ◌+◌, ◌/◌, ◌%◌, ◌==◌, ◌||◌, List, [], ◌∷◌, ◌++◌, Bool, nat_lt, codes, if◌then◌else◌}
+use Rattle.std.specs.Prelude.{ℕ, zero, suc, ◌+◌, ◌-◌, ◌/◌, ◌%◌, ◌==◌, ◌||◌, ◌&&◌, not, List, [], ◌∷◌, ◌++◌, Bool, nat_le, nat_lt, slice_index_or, codes, if◌then◌else◌}
 
--- a byte that controls a terminal
+-- a byte that is not printable ASCII: one that controls a terminal, or a part of a character
+-- beyond ASCII that stands alone
 abbrev pub is_control : ℕ → Bool
-is_control byte = nat_lt byte 32 || byte == 127
+is_control byte = nat_lt byte 32 || nat_le 127 byte
 
--- a byte: itself if it prints or stands in a character beyond ASCII; else a backslash with a
--- `t` for a tab, with a backslash for a backslash, and with three octal digits for every other
+-- a byte by itself: as it is if it prints; else a backslash with a `t` for a tab, with a backslash
+-- for a backslash, and with three octal digits for every other
 abbrev pub byte_shown : ℕ → List ℕ
 byte_shown byte =
     if byte == 9 then 92 ∷ 116 ∷ [] else
     if byte == 92 then 92 ∷ 92 ∷ [] else
     if is_control byte then 92 ∷ (48 + byte / 64) ∷ (48 + byte / 8 % 8) ∷ (48 + byte % 8) ∷ [] else byte ∷ []
 
--- at most so many bytes of a text, and dots if there are more
-unfoldable pub begin_shown : ℕ → List ℕ → List ℕ
-begin_shown most [] = []
-begin_shown zero (byte ∷ text) = codes "..."
-begin_shown (suc most) (byte ∷ text) = byte_shown byte ++ begin_shown most text
+-- the byte at that place, or 0 where the text ends before it
+abbrev pub byte_at : List ℕ → ℕ → ℕ
+byte_at text place = slice_index_or text place 0
+
+-- a further byte of a character beyond ASCII
+abbrev pub is_further : ℕ → Bool
+is_further byte = nat_le 128 byte && nat_le byte 191
+
+-- a character of two bytes begins the text, and it is not one of the control characters U+0080 to
+-- U+009F. UTF-8 by RFC 3629, section 4
+abbrev pub begins_two : List ℕ → Bool
+begins_two text =
+    (nat_le 194 (byte_at text 0) && nat_le (byte_at text 0) 223) && (is_further (byte_at text 1) && not (byte_at text 0 == 194 && nat_lt (byte_at text 1) 160))
+
+-- a character of three bytes begins the text
+abbrev pub begins_three : List ℕ → Bool
+begins_three text =
+    (nat_le 224 (byte_at text 0) && nat_le (byte_at text 0) 239) && ((is_further (byte_at text 1) && is_further (byte_at text 2))
+    && (not (byte_at text 0 == 224 && nat_lt (byte_at text 1) 160) && not (byte_at text 0 == 237 && nat_le 160 (byte_at text 1))))
+
+-- a character of four bytes begins the text
+abbrev pub begins_four : List ℕ → Bool
+begins_four text =
+    (nat_le 240 (byte_at text 0) && nat_le (byte_at text 0) 244) && ((is_further (byte_at text 1) && (is_further (byte_at text 2) && is_further (byte_at text 3)))
+    && (not (byte_at text 0 == 240 && nat_lt (byte_at text 1) 144) && not (byte_at text 0 == 244 && nat_le 144 (byte_at text 1))))
+
+-- how many bytes of the text are shown together: those of a character beyond ASCII that prints, or
+-- one
+abbrev pub unit_size : List ℕ → ℕ
+unit_size text = if begins_two text then 2 else if begins_three text then 3 else if begins_four text then 4 else 1
+
+-- the first byte of a unit of that size: as it is in a character beyond ASCII
+abbrev pub first_shown : (size : ℕ) → ℕ → List ℕ
+first_shown size byte = if size == 1 then byte_shown byte else byte ∷ []
+
+-- units of a text, at most `most` bytes of them, and dots if there are more; of the unit at the
+-- front `inside` bytes are still to be shown, each as it is
+unfoldable pub units_shown : (most inside : ℕ) → List ℕ → List ℕ
+units_shown most inside [] = []
+units_shown most (suc inside) (byte ∷ text) = byte ∷ units_shown most inside text
+units_shown most zero (byte ∷ text) =
+    if nat_lt most (unit_size (byte ∷ text)) then codes "..." else
+    first_shown (unit_size (byte ∷ text)) byte ++ units_shown (most - unit_size (byte ∷ text)) (unit_size (byte ∷ text) - 1) text
+
+-- at most so many bytes of a text, whole characters alone, and dots if there are more
+abbrev pub begin_shown : ℕ → List ℕ → List ℕ
+begin_shown most text = units_shown most 0 text
 
 -- the same, and two quotes for the empty text
 unfoldable pub shown : ℕ → List ℕ → List ℕ

@@ -1,18 +1,13 @@
--- The usage of each program, which is also said of words that match no command, and its version.
--- Stated by: front_words. Rests on it: front_top, list_front.
+-- The version of each program; the usage is that of the tables of commands.
+-- Stated by: front_words. Rests on it: front_top, mcg6_front_top.
 use Rattle.std.specs.Prelude.{ℕ, List}
-use Rattle.front_words.specs.declared.table.TheConstants.{LIST_USAGE, LIST_VERSION, USAGE, VERSION}
+use Rattle.front_words.specs.declared.table.TheConstants.{LIST_VERSION, VERSION}
+unfoldable pub use Rattle.command_table.specs.Table.{list_usage_text, usage_text}
 
--- the usage, with the table of commands; and the version, with the line of the kit
-unfoldable pub usage_text : List ℕ
-usage_text = USAGE.now
-
+-- the version, with the line of the kit
 unfoldable pub version_text : List ℕ
 version_text = VERSION.now
 
 -- the same of the program for lists
-unfoldable pub list_usage_text : List ℕ
-list_usage_text = LIST_USAGE.now
-
 unfoldable pub list_version_text : List ℕ
 list_version_text = LIST_VERSION.now

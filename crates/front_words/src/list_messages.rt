@@ -1,19 +1,17 @@
 //! The messages on lists of graphs.
 ghost use Rattle.std.specs.Prelude.{◌≡◌, None};
 ghost use Rattle.std.specs.Option.{option_map};
-ghost use Rattle.front_words.specs.ListMessages.{bad_line_text, line_kept, list_fault, unread_list_text};
+ghost use Rattle.front_words.specs.ListMessages.{bad_line_text, line_kept, list_fault, long_line, short_line, unread_list_text};
 ghost use Rattle.front_words.specs.Saying.{Says};
 
 use crate::faults::{Role, fault_words};
 use crate::lines::line_at;
 use crate::messages::{MOST_OF_LINE, say_unread, some_line};
+use crate::openings::opening_note;
 use crate::pieces::MessagePiece::{Number, Shown, Text};
 use crate::pieces::say;
 use crate::reasons::reason_words;
-use outside::{FailureReason, Sink, SinkFailed};
-
-// The most bytes of a line of a list.
-const MOST_LINE: usize = 65536;
+use outside::{FailureReason, MOST_LINE, Sink, SinkFailed};
 
 /// Says that a list could not be read, the one in the file of that name or, with none, that of
 /// standard input, and why. Takes no memory.
@@ -47,17 +45,39 @@ fn say_unread_input<'a, K: Sink>(
     say(sink, &[Text(program), words, why, Text("\n")])
 }
 
-// A fault of that kind in a line of a list with this text: the empty text is that of a line which
-// is missing at the end of the list.
+// A line of a list that ends too early: the empty text is that of a line which is missing at the
+// end of the list.
+fn short_line(text: &[u8]) -> &'static str
+    ensures { result.now ≡ short_line text.now }
+{
+    if text.is_empty() {
+        "the list ends before a graph"
+    } else if text == b"\n".as_slice() || text == b"\r\n".as_slice() {
+        "it is empty (to_graph6_bytes ends its text with a line feed, so print adds a second)"
+    } else {
+        fault_words(Role::Graph6, 7)
+    }
+}
+
+// A line of a list that passes a limit.
+fn long_line(text: &[u8]) -> &'static str
+    ensures { result.now ≡ long_line text.now }
+{
+    if text.len() > MOST_LINE {
+        "it has more than 65,536 bytes, the most that a line of a list may have"
+    } else {
+        fault_words(Role::Graph6, 6)
+    }
+}
+
+// A fault of that kind in a line of a list with this text.
 fn list_fault(kind: u32, text: &[u8]) -> &'static str
     ensures { result.now ≡ list_fault kind text.now }
 {
-    if kind == 7 && text.is_empty() {
-        "the list ends before a graph"
-    } else if kind == 6 && text.len() > MOST_LINE {
-        "it has more than 65,536 bytes, the most that a line of a list may have"
-    } else {
-        fault_words(Role::Graph6, kind)
+    match kind {
+        6 => long_line(text),
+        7 => short_line(text),
+        _ => fault_words(Role::Graph6, kind),
     }
 }
 
@@ -84,6 +104,7 @@ pub fn say_bad_line<'a, K: Sink>(
     let by = Text(program);
     let line = Number(number);
     let what = Text(list_fault(kind, text));
+    let opening = Text(opening_note(text));
     let end = Text("\n");
     match line_kept(text) {
         Some(kept) => {
@@ -96,6 +117,7 @@ pub fn say_bad_line<'a, K: Sink>(
                     line,
                     Text(": "),
                     what,
+                    opening,
                     end,
                     by,
                     Text(": line "),
@@ -106,6 +128,9 @@ pub fn say_bad_line<'a, K: Sink>(
                 ],
             )
         }
-        None => say(sink, &[by, Text(": line "), line, Text(": "), what, end]),
+        None => say(
+            sink,
+            &[by, Text(": line "), line, Text(": "), what, opening, end],
+        ),
     }
 }

@@ -14,6 +14,10 @@ pub fn reason_words(reason: Option<FailureReason>) -> &'static str
         Some(FailureReason::Folder) => "it is a folder",
         Some(FailureReason::NotInFolder) => "a part of its name is not a folder",
         Some(FailureReason::Forbidden) => "no permission to read it",
+        Some(FailureReason::LongName) => "its name is too long",
+        Some(FailureReason::LinkLoop) => "links lead around in a circle",
+        Some(FailureReason::Socket) => "it is a socket, or a device that is not there",
+        Some(FailureReason::ManyOpen) => "too many files are open",
         Some(FailureReason::Other) | None => "a read of it failed",
     }
 }

@@ -1,15 +1,85 @@
 //! Showing bytes of the outside in a line.
-ghost use Rattle.std.specs.Prelude.{◌≡◌};
+ghost use Rattle.std.specs.Prelude.{◌≡◌, ◌≤◌, ◌<◌, ◌&&◌, length};
 ghost use Rattle.front_words.specs.Saying.{Says};
-ghost use Rattle.front_words.specs.Showing.{begin_shown, byte_shown, is_control, shown};
+ghost use Rattle.front_words.specs.Showing.{begin_shown, begins_four, begins_three, begins_two, byte_at, byte_shown, is_control, is_further, shown, unit_size};
+ghost use Rattle.front_words.specs.UnitsSeen.{unit_shown};
 
 use outside::{Sink, SinkFailed, emit};
 
-// Whether the byte controls a terminal.
+// Whether the byte is not printable ASCII.
 fn is_control(byte: u8) -> bool
     ensures { result ≡ is_control byte }
 {
-    byte < 32 || byte == 127
+    byte < 32 || byte >= 127
+}
+
+// The byte at that place, or 0 where the text ends before it.
+fn byte_at(text: &[u8], place: usize) -> u8
+    ensures { result ≡ byte_at text.now place }
+{
+    match text.get(place) {
+        Some(byte) => *byte,
+        None => 0,
+    }
+}
+
+// Whether the byte is a further one of a character beyond ASCII.
+fn is_further(byte: u8) -> bool
+    ensures { result ≡ is_further byte }
+{
+    byte >= 128 && byte <= 191
+}
+
+// Whether a character of two bytes begins the text that is not a control character.
+fn begins_two(text: &[u8]) -> bool
+    ensures { result ≡ begins_two text.now }
+{
+    let first = byte_at(text, 0);
+    let second = byte_at(text, 1);
+    let is_control = first == 194 && second < 160;
+    (first >= 194 && first <= 223) && (is_further(second) && !is_control)
+}
+
+// Whether a character of three bytes begins the text.
+fn begins_three(text: &[u8]) -> bool
+    ensures { result ≡ begins_three text.now }
+{
+    let first = byte_at(text, 0);
+    let second = byte_at(text, 1);
+    let is_long = first == 224 && second < 160;
+    let is_half = first == 237 && second >= 160;
+    (first >= 224 && first <= 239)
+        && ((is_further(second) && is_further(byte_at(text, 2))) && (!is_long && !is_half))
+}
+
+// Whether a character of four bytes begins the text.
+fn begins_four(text: &[u8]) -> bool
+    ensures { result ≡ begins_four text.now }
+{
+    let first = byte_at(text, 0);
+    let second = byte_at(text, 1);
+    let is_long = first == 240 && second < 144;
+    let is_beyond = first == 244 && second >= 144;
+    (first >= 240 && first <= 244)
+        && ((is_further(second) && (is_further(byte_at(text, 2)) && is_further(byte_at(text, 3))))
+            && (!is_long && !is_beyond))
+}
+
+// How many bytes of the text are shown together.
+fn unit_size(text: &[u8]) -> usize
+    ensures size { result ≡ unit_size text.now }
+    ensures some { 0 < result }
+    ensures few { result ≤ 4 }
+{
+    if begins_two(text) {
+        2
+    } else if begins_three(text) {
+        3
+    } else if begins_four(text) {
+        4
+    } else {
+        1
+    }
 }
 
 // Says these bytes as they are.
@@ -36,26 +106,38 @@ fn say_byte<K: Sink>(sink: &mut K, byte: u8) -> Result<(), SinkFailed>
     }
 }
 
-// Says at most so many bytes of the text as they can stand in a line, and dots if there are
-// more.
+// Says bytes that are shown together.
+fn say_unit<K: Sink>(sink: &mut K, unit: &[u8]) -> Result<(), SinkFailed>
+    ensures { Says K.written K.faults (unit_shown unit.now) result sink.old sink.new }
+{
+    match unit {
+        [byte] => say_byte(sink, *byte),
+        _ => say_bytes(sink, unit),
+    }
+}
+
+// Says at most so many bytes of the text as they can stand in a line, whole characters alone, and
+// dots if there are more.
 fn say_begin<K: Sink>(sink: &mut K, text: &[u8], most: u32) -> Result<(), SinkFailed>
     ensures { Says K.written K.faults (begin_shown most text.now) result sink.old sink.new }
 {
     let mut rest = text;
-    let mut left = most;
-    'showing: while let Some((byte, others)) = rest.split_first() {
-        if left == 0 {
+    let mut left = most as usize;
+    'showing: while !rest.is_empty() {
+        let size = unit_size(rest);
+        if left < size {
             return say_bytes(sink, b"...");
         }
-        say_byte(sink, *byte)?;
+        let (unit, others) = rest.split_at(size);
+        say_unit(sink, unit)?;
         rest = others;
-        left -= 1;
+        left -= size;
     }
     Ok(())
 }
 
-/// Says at most so many bytes of the text as they can stand in a line, and dots if there are
-/// more; and two quotes for the empty text. Takes no memory.
+/// Says at most so many bytes of the text as they can stand in a line, whole characters alone, and
+/// dots if there are more; and two quotes for the empty text. Takes no memory.
 #[tactic(auto, unfolding(crate::specs::Showing::shown))]
 pub fn say_shown<K: Sink>(sink: &mut K, text: &[u8], most: u32) -> Result<(), SinkFailed>
     ensures { Says K.written K.faults (shown most text.now) result sink.old sink.new }

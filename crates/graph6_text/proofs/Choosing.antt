@@ -1,12 +1,12 @@
 -- The pairs whose bit is set, in order. Idea: induction on the pairs and their bits together.
 use Rattle.std.proofs.Common.{◌≡◌, ℕ, Bool, true, false, List, [], ◌∷◌, ◌++◌, length, map, refl, ap, arith, append_assoc, nat_lt, Option, Some, None, ◌⊎◌}
 use Rattle.counting.proofs.Common.{cases_Bool, nat_tests, append-nil, length-append, length-map}
-use Rattle.text_faults.specs.declared.faults.FaultKind.{FaultKind}
+use Rattle.line_text.specs.declared.faults.FaultKind.{FaultKind}
 use Rattle.std.proofs.lemmas.List.{nil_from_length}
 use Rattle.graph_core.proofs.Common.{Graph, pair_of}
 use Rattle.graph_core.specs.declared.ends.Ends.{Ends}
-use Rattle.text_faults.specs.declared.faults.TextFault.{TextFault}
-use Rattle.text_faults.specs.declared.faults.TextFault.TheVariants as fault
+use Rattle.line_text.specs.declared.faults.TextFault.{TextFault}
+use Rattle.line_text.specs.declared.faults.TextFault.TheVariants as fault
 use Rattle.graph6_text.specs.Common.{IsFirstFault, limit_row, chosen, chosen_one}
 
 chosen-no_bits : (pairs : List (ℕ × ℕ)) → chosen pairs [] ≡ []

@@ -3,10 +3,10 @@
 -- other.
 use Rattle.counting.proofs.Common.{list_all, list_any}
 use Rattle.std.proofs.Common.{◌≡◌, ℕ, ◌+◌, ◌<◌, ◌≤◌, ◌==◌, Bool, true, false, cond, List, [], ◌∷◌, ◌++◌, length, take, drop, Option, Some, None, Ok, Err, refl, ap, ◌∙◌, arith, nat_lt}
-use Rattle.text_faults.specs.Common.{IsFault}
-use Rattle.text_faults.specs.declared.faults.FaultKind.TheVariants.{Padding}
-use Rattle.text_faults.specs.declared.faults.TextFault.{TextFault}
-use Rattle.text_faults.specs.declared.faults.TextFault.TheVariants as fault
+use Rattle.line_text.specs.Common.{IsFault}
+use Rattle.line_text.specs.declared.faults.FaultKind.TheVariants.{Padding}
+use Rattle.line_text.specs.declared.faults.TextFault.{TextFault}
+use Rattle.line_text.specs.declared.faults.TextFault.TheVariants as fault
 use Rattle.graph6_text.specs.Common.{is_digit, bits_of, column_pairs, chosen, limit_row, Checks, IsFirstFault, Fault, first_fault, faults_of, is_long, order_of, data_of, data_len, graph_of, graph_unless, body_of, outcome_of}
 use Rattle.graph6_text.proofs.SixBits.{length-bits_of}
 use Rattle.graph6_text.proofs.Columns.{length-column_pairs}

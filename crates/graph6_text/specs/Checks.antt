@@ -1,9 +1,9 @@
 -- What the checks of a body answer, each for some rows of the table of faults.
 -- Stated by: graph6_text.
 use Rattle.std.specs.Prelude.{◌≡◌, ℕ, nat_lt, Bool, List, [], ◌∷◌, length, Some, None, Result, Ok, Err}
-use Rattle.text_faults.specs.declared.faults.FaultKind.TheVariants.{Limit}
-use Rattle.text_faults.specs.declared.faults.TextFault.{TextFault}
-use Rattle.text_faults.specs.declared.faults.TextFault.TheVariants as fault
+use Rattle.line_text.specs.declared.faults.FaultKind.TheVariants.{Limit}
+use Rattle.line_text.specs.declared.faults.TextFault.{TextFault}
+use Rattle.line_text.specs.declared.faults.TextFault.TheVariants as fault
 use Rattle.graph6_text.specs.Reading.{Fault, first_fault}
 
 -- a check of these rows passes, or names the first of their faults

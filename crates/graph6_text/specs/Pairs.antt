@@ -1,5 +1,5 @@
 -- Pairs of vertices, column by column of the upper triangle of the adjacency matrix.
--- Stated by: graph6_text. Rests on it: list_lines, encoder.
+-- Stated by: graph6_text. Rests on it: mcg6_lines, mcg6_encoder.
 use Rattle.std.specs.Prelude.{ℕ, zero, suc, Bool, List, [], ◌∷◌, ◌++◌, if◌then◌else◌}
 
 -- (1, j), (2, j), .., (i, j)

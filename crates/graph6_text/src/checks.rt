@@ -5,7 +5,7 @@ ghost use Rattle.graph6_text.specs.Common.{is_digit, Checks, is_long, order_of, 
 
 use crate::body::{LONG, data, is_long, order};
 use crate::digits::{BITS, is_digit};
-use text_faults::{FaultKind, TextFault};
+use line_text::{FaultKind, TextFault};
 use vset_core::MOST_VERTICES;
 
 /// The most vertices whose number one digit writes.

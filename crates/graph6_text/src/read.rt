@@ -1,7 +1,7 @@
 //! Reading graph6 texts.
 ghost use Rattle.std.specs.Prelude.{◌≡◌, ◌≤◌, ◌++◌, [], ◌∷◌, IfOk, IfErr, Ok, OnOk, None, length, drop, map, take};
 ghost use Rattle.std.specs.List.{list_any};
-ghost use Rattle.text_faults.specs.Common.{IsFault};
+ghost use Rattle.line_text.specs.Common.{IsFault};
 ghost use Rattle.graph_core.specs.Common.{Graph, size, IsSimple, pair_of};
 ghost use Rattle.graph6_text.specs.Common.{chosen, chosen_one, limit_row, Checks, IsFirstFault, outcome_of, graph_of, faults_of, first_fault, graph6_of};
 
@@ -10,8 +10,8 @@ use crate::checks::{check_body, fault};
 use crate::digits::to_bits;
 use crate::pairs::to_pairs;
 use graph_core::{Ends, MOST_EDGES, MultiGraph};
+use line_text::{FaultKind, TextFault};
 use std::alloc::Global;
-use text_faults::{FaultKind, TextFault};
 use vset_core::MOST_VERTICES;
 
 /// The graph that a graph6 text stands for. The text may begin with the header `>>graph6<<` and

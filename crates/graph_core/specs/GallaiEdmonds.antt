@@ -1,8 +1,8 @@
 -- The Gallai-Edmonds sets D, A and C (Gallai 1964, Edmonds 1965; Lovász and Plummer, "Matching
 -- Theory", chapter 3). They are said of vertices, so a statement on v stands beside `Within
 -- g.order v`.
--- Stated by: match_core, gallai_edmonds, definition_laws.
--- Rests on it: graph_facts, bench_outcomes, bench_top, theorems.
+-- Stated by: match_core, gallai_edmonds, definition_laws, theorems.
+-- Rests on it: graph_facts, bench_outcomes, bench_top.
 use Rattle.std.specs.Prelude.{◌≡◌, ℕ, true}
 use Rattle.counting.specs.Common.{Within, Set, none}
 use Rattle.graph_core.specs.Graph.{Graph, degree}

@@ -2,7 +2,7 @@
 -- loops are allowed, so that a contracted graph is a graph again. Edges keep their numbers, and
 -- parallel edges are different edges.
 -- Stated by: graph_core, grow_gen, match_search, match_core, allowed_edges and 25 more.
--- Rests on it: uncross, list_lines, bench_outcomes, bench_top.
+-- Rests on it: uncross, mcg6_lines, bench_outcomes, bench_top.
 use Rattle.std.specs.Prelude.{◌≡◌, ◌≢◌, ℕ, ◌+◌, ◌-◌, Bool, true, List, [], ◌∷◌, ◌++◌, length, ◌==◌, ◌&&◌, ◌||◌, ◌⊎◌, not, slice_index_or}
 use Rattle.counting.specs.Common.{count, Within, Set}
 

@@ -1,8 +1,8 @@
 -- Partitions of the vertices into blocks, and the graph with each block made one vertex. A
 -- block's name is its greatest vertex, and blocks stand by rising name. Lovász 1987; differs in
 -- that the blocks are listed, so that a partition is one list.
--- Stated by: graph_core, contraction, tight_cuts, tree_core, decomposer, move_laws and 5 more.
--- Rests on it: list_lines, bench_outcomes, bench_reports, bench_top.
+-- Stated by: graph_core, contraction, tree_core, tight_cuts, decomposer, move_laws and 5 more.
+-- Rests on it: mcg6_lines, bench_outcomes, bench_reports, bench_top.
 use Rattle.std.specs.Prelude.{◌≡◌, ℕ, zero, suc, ◌+◌, ◌-◌, true, false, List, [], ◌∷◌, ◌++◌, map, length, filter, cond, not, nat_lt, slice_index_or, All}
 use Rattle.std.specs.List.Sorted.{IsStrictlyIncreasing}
 use Rattle.counting.specs.Common.{count, Within, Set, none, mem, last_of}

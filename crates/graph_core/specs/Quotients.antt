@@ -2,7 +2,7 @@
 -- blocks, and for each edge of the quotient the edges of the graph that it stands for.
 -- Contraction as in Lovász 1987; differs in that parallel edges become one edge, which changes no
 -- tight cut.
--- Stated by: graph_core, contraction, tight_cuts, tree_core, tree_check, report_text and 2 more.
+-- Stated by: graph_core, contraction, tree_core, tight_cuts, tree_check, report_text and 2 more.
 -- Rests on it: decomposer, move_laws, uncross.
 use Rattle.std.specs.Prelude.{ℕ, ◌==◌, ◌&&◌, not, Bool, List, length, filter, slice_index}
 use Rattle.counting.specs.Common.{Set, some, mem, rising_list, rising_pairs}

@@ -1,5 +1,5 @@
 -- Shores at a partition: unions of blocks, tight at the partition (Lovász 1987).
--- Stated by: graph_core, contraction, tight_cuts, tree_core, move_laws, tree_check and 2 more.
+-- Stated by: graph_core, contraction, tree_core, tight_cuts, move_laws, tree_check and 2 more.
 -- Rests on it: theorems.
 use Rattle.std.specs.Prelude.{◌≡◌, ℕ, List, length}
 use Rattle.counting.specs.Common.{count, Within, Set, all_in}

@@ -19,7 +19,7 @@
 //! `definition_laws`.
 //!
 //! Stands on `counting`, `listed` and `vset_core`, and gives on `FaultKind` and `TextFault` of
-//! `text_faults`. Sources: Lovász and Plummer, "Matching Theory"; Lovász, "Matching structure and
+//! `line_text`. Sources: Lovász and Plummer, "Matching Theory"; Lovász, "Matching structure and
 //! the matching lattice" (1987); Lucchesi and Murty, "Perfect Matchings".
 #![tactic(auto)]
 
@@ -40,7 +40,7 @@ pub use cuts::{add_cut, add_cuts, canonical_shore, is_in_cut, is_nontrivial};
 pub use ends::Ends;
 pub use faults::AddFault;
 pub use graph::{MOST_EDGES, MultiGraph};
+pub use line_text::{FaultKind, TextFault};
 pub use lists::{Numbers, SetList};
 pub use sides::{Sides, side_of};
-pub use text_faults::{FaultKind, TextFault};
 pub use verdict::{Kind, Reason, Verdict};

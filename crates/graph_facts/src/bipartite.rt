@@ -49,7 +49,7 @@ impl<'c, 'g> Bipartite<'c, 'g> {
     }
 
     /// The graph.
-    pub fn graph(&self) -> &'g MultiGraph
+    pub fn graph(&self) -> &'c MultiGraph
         ensures same { result.now ≡ self.now }
         ensures covered { IsCovered result.now }
     {

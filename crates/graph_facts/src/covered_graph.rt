@@ -3,9 +3,11 @@ ghost use Rattle.std.specs.Prelude.{◌≡◌, ◌↔◌, ◌≤◌, None, Some,
 ghost use Rattle.counting.specs.Common.{mem, none};
 ghost use Rattle.graph_core.specs.Common.{IsConnected, IsCovered, IsReason, IsBipartite, size, IsPerfect, IsSide, reason_of, IsWithinLimits};
 ghost use Rattle.match_core.specs.Common.{IsOf, edges_of, ArePartners};
+ghost use Rattle.graph_facts.specs.Facts.{AreCoveredFacts};
 
 use crate::facts::Facts;
 use crate::layers::Layers;
+use crate::lent::Lent;
 use allowed_edges::{first_unallowed, partners_where_perfect};
 use graph_core::{MultiGraph, Reason};
 use match_core::{Found, Matching, PartnerTable, maximum};
@@ -14,11 +16,11 @@ use std::marker::Model;
 use vset_core::VSet;
 
 /// A graph that is matching covered: it has at least two vertices and is connected, and each edge
-/// lies in a perfect matching (Lovász and Plummer, "Matching Theory", chapter 5). Contracts see
-/// the graph.
+/// lies in a perfect matching (Lovász and Plummer, "Matching Theory", chapter 5). It keeps the
+/// graph or borrows it. Contracts see the graph.
 #[derive(Drop)]
 pub struct Covered<'g> {
-    graph: &'g MultiGraph,
+    graph: Lent<'g>,
     matching: Matching,
     table: PartnerTable,
     side: Option<VSet>,
@@ -27,12 +29,39 @@ pub struct Covered<'g> {
 impl<'g> Model for Covered<'g> {
     ghost use Rattle.graph_core.specs.Common.{Graph};
     ghost use Rattle.graph_facts.specs.Facts.{AreCoveredFacts};
+    ghost use Rattle.graph_facts.specs.Lent.{graph_in};
 
     ghost Value = { Graph };
 
-    ghost view = { λ c. c.graph.now };
+    ghost view = { λ c. graph_in c.graph };
 
-    ghost invariant = { λ c. AreCoveredFacts c.graph.now c.matching c.table c.side };
+    ghost invariant = { λ c. AreCoveredFacts (graph_in c.graph) c.matching c.table c.side };
+}
+
+// What is known of a covered graph, without the graph.
+#[derive(Drop)]
+struct Parts {
+    matching: Matching,
+    table: PartnerTable,
+    side: Option<VSet>,
+}
+
+// What is known of a graph that is covered.
+fn parts_of(alloc: Global, g: &MultiGraph) -> Result<Parts, Memory>
+    requires { IsCovered g.now }
+    ensures { IfOk result (λ f. AreCoveredFacts g.now f.matching f.table f.side) }
+{
+    let Covered {
+        matching,
+        table,
+        side,
+        ..
+    } = Covered::known(alloc, g)?;
+    Ok(Parts {
+        matching,
+        table,
+        side,
+    })
 }
 
 impl<'g> Covered<'g> {
@@ -78,7 +107,7 @@ impl<'g> Covered<'g> {
             Some(table) => match first_unallowed(g, &table) {
                 Some(edge) => Ok(Err(Reason::Unallowed { edge })),
                 None => Ok(Ok(Covered {
-                    graph: g,
+                    graph: Lent::Of(g),
                     matching,
                     table,
                     side,
@@ -98,6 +127,24 @@ impl<'g> Covered<'g> {
         }
     }
 
+    /// A graph that is known to be covered, which is kept.
+    pub fn kept(alloc: Global, g: MultiGraph) -> Result<Covered<'g>, Memory>
+        requires { IsCovered g }
+        ensures { IfOk result (λ c. c ≡ g) }
+    {
+        let Parts {
+            matching,
+            table,
+            side,
+        } = parts_of(alloc, &g)?;
+        Ok(Covered {
+            graph: Lent::Own(g),
+            matching,
+            table,
+            side,
+        })
+    }
+
     /// A graph of which the facts are at hand, where it is known to be covered. Takes no memory.
     pub fn from_facts(facts: Facts<'g>) -> Covered<'g>
         requires { IsCovered facts }
@@ -113,7 +160,7 @@ impl<'g> Covered<'g> {
         } = facts;
         match table {
             Some(table) => Covered {
-                graph,
+                graph: Lent::Of(graph),
                 matching: frame.found.matching,
                 table,
                 side,
@@ -123,11 +170,11 @@ impl<'g> Covered<'g> {
     }
 
     /// The graph.
-    pub fn graph(&self) -> &'g MultiGraph
+    pub fn graph(&self) -> &MultiGraph
         ensures same { result.now ≡ self.now }
         ensures covered { IsCovered result.now }
     {
-        self.graph
+        self.graph.graph()
     }
 
     /// The number of vertices, at least two.
@@ -136,7 +183,7 @@ impl<'g> Covered<'g> {
         ensures two { 2 ≤ self.now.order }
         ensures limits { IsWithinLimits self.now }
     {
-        self.graph.order()
+        self.graph().order()
     }
 
     /// The number of edges.
@@ -144,8 +191,8 @@ impl<'g> Covered<'g> {
         ensures is { result ≡ size self.now }
         ensures limits { IsWithinLimits self.now }
     {
-        self.graph.keeps_limits();
-        self.graph.size()
+        self.keeps_covered();
+        self.graph().size()
     }
 
     /// The law that the graph is covered. It does nothing: a caller states it where it needs it.
@@ -153,7 +200,7 @@ impl<'g> Covered<'g> {
         ensures covered { IsCovered self.now }
         ensures limits { IsWithinLimits self.now }
     {
-        self.graph.keeps_limits();
+        self.graph().keeps_limits();
     }
 
     /// One side; `None` exactly when the graph is not bipartite.
@@ -168,8 +215,8 @@ impl<'g> Covered<'g> {
     pub fn is_bipartite(&self) -> bool
         ensures { IsTrue result ↔ IsBipartite self.now }
     {
-        self.graph.keeps_limits();
-        match self.side {
+        self.keeps_covered();
+        match self.side() {
             Some(_) => true,
             None => false,
         }

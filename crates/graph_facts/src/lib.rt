@@ -10,10 +10,11 @@
 //! invariant says that the graph is covered (`IsCovered`): who holds one has no need to test it
 //! again. `Covered::of` answers one, or the first reason why the graph is not covered, and seeks
 //! nothing after that reason; one flood (`layers`) tells whether the graph is connected and has
-//! two sides. `Covered::known` takes a graph that a theorem says to be covered, and
-//! `Covered::from_facts` one of which the facts are at hand. `keeps_covered` states the fact,
-//! `table` answers the table of partners, and `matching` a perfect matching. `Bipartite` is a
-//! covered graph with one of its sides.
+//! two sides. `Covered::known` takes a graph that a theorem says to be covered, `Covered::kept`
+//! keeps such a graph, and `Covered::from_facts` takes one of which the facts are at hand (`Lent`
+//! is a graph that is kept or borrowed). `keeps_covered` states the fact, `table` returns the
+//! table of partners, and `matching` a perfect matching. `Bipartite` is a covered graph with one
+//! of its sides.
 //!
 //! Stands on `match_core` and `allowed_edges`. Source: Lovász and Plummer, "Matching Theory",
 //! chapters 3 and 5.
@@ -23,7 +24,9 @@ mod bipartite;
 mod covered_graph;
 mod facts;
 mod layers;
+mod lent;
 
 pub use bipartite::Bipartite;
 pub use covered_graph::Covered;
 pub use facts::Facts;
+pub use lent::Lent;

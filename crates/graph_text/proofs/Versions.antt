@@ -9,8 +9,8 @@ use Rattle.counting.proofs.Common.{cases_Bool, and_parts, bytes_eq-Decides}
 use Rattle.line_text.specs.Common.{checked, Stands, FirstFault, lines_of, go_on, reading_from, SignificantLine, significant_lines_of, has_form, begin_with}
 use Rattle.line_text.proofs.ExactlyOne.{Stands-reading_of, Stands-from_reading, FirstFault-reading_of, FirstFault-from_reading}
 use Rattle.graph_core.proofs.Common.{Graph}
-use Rattle.text_faults.specs.declared.faults.FaultKind.{FaultKind}
-use Rattle.text_faults.specs.declared.faults.FaultKind.TheVariants as kind
+use Rattle.line_text.specs.declared.faults.FaultKind.{FaultKind}
+use Rattle.line_text.specs.declared.faults.FaultKind.TheVariants as kind
 use Rattle.graph_text.specs.Common.{EitherSoFar, NamedGraph, is_named_header, is_plain_header, either_header, line_behind, end_behind, either_version, begin_named, is_version_two, GraphSoFar, graph_line, graph_end, version_one, header}
 
 -- what has been read without names, and a graph without names

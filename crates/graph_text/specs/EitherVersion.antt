@@ -1,14 +1,14 @@
 -- Both versions of the graph format. The second word of the header tells which one it is: version
 -- 2 has a header `p mcg2 N M`, N lines `v NAME` and M lines `e X Y` between names.
--- Stated by: graph_text, encoder, bench_tasks, theorems, own_order.
+-- Stated by: graph_text, mcg6_encoder, bench_tasks, theorems, example_order.
 -- Rests on it: bench_outcomes, bench_top.
 use Rattle.std.specs.Prelude.{ℕ, ◌==◌, ◌&&◌, ◌||◌, not, nat_lt, Bool, false, List, [], ◌∷◌, ◌++◌, codes, length, Option, Some, None, Result, Ok, Err, if◌then◌else◌}
 use Rattle.std.specs.Str.{bytes_eq}
 use Rattle.std.specs.Result.{result_map_both}
 use Rattle.line_text.specs.Common.{Rules, checked, SignificantLine, significant_lines_of, has_form, word_at, is_number, value_of}
 use Rattle.graph_core.specs.Common.{Graph, size, with_edge}
-use Rattle.text_faults.specs.declared.faults.FaultKind.{FaultKind}
-use Rattle.text_faults.specs.declared.faults.FaultKind.TheVariants as kind
+use Rattle.line_text.specs.declared.faults.FaultKind.{FaultKind}
+use Rattle.line_text.specs.declared.faults.FaultKind.TheVariants as kind
 use Rattle.graph_text.specs.GraphLines.{GraphSoFar, graph_line, graph_end}
 use Rattle.graph_text.specs.Names.{is_name, is_among, vertex_of}
 use Rattle.graph_text.specs.VersionOne.{most_vertices, most_edges}

@@ -2,11 +2,10 @@
 -- between numbered vertices.
 -- Stated by: graph_text. Rests on it: bench_top, theorems.
 use Rattle.std.specs.Prelude.{ℕ, ◌==◌, ◌&&◌, ◌||◌, not, List, [], ◌∷◌, codes, Result, Ok, Err, if◌then◌else◌}
-use Rattle.line_text.specs.Common.{checked, has_form, word_at, is_number, value_of}
+use Rattle.line_text.specs.Common.{checked, has_form, word_at, is_number, value_of, is_out_of_range}
 use Rattle.graph_core.specs.Common.{Graph, size, with_edge}
-use Rattle.text_faults.specs.Common.{is_out_of_range}
-use Rattle.text_faults.specs.declared.faults.FaultKind.{FaultKind}
-use Rattle.text_faults.specs.declared.faults.FaultKind.TheVariants as kind
+use Rattle.line_text.specs.declared.faults.FaultKind.{FaultKind}
+use Rattle.line_text.specs.declared.faults.FaultKind.TheVariants as kind
 
 -- the edges read so far, and how many there are to be
 pub record GraphSoFar : Type 0 where

@@ -6,8 +6,7 @@ ghost use Rattle.graph_text.specs.Common.{GraphSoFar, edge_line, graph_line, gra
 
 use crate::body::Body;
 use graph_core::MultiGraph;
-use line_text::{Refusal, has_form, number, word};
-use text_faults::FaultKind;
+use line_text::{FaultKind, Refusal, has_form, number, word};
 
 // A line of an edge between numbered vertices.
 fn add_edge(body: &mut Body, words: &[&[u8]]) -> Result<(), Refusal<FaultKind>>

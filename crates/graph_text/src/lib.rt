@@ -9,7 +9,7 @@
 //! `laws::written_names_stand`. A tail of comments changes nothing:
 //! `laws::comments_change_nothing`.
 //!
-//! Stands on `line_text` for what a format is, on `text_faults` for the reader, on `graph_core`
+//! Stands on `line_text` for what a format is and for the reader, on `graph_core`
 //! for graphs and on `indexmap` for the names. The manner of the format is that of the graph
 //! files of the DIMACS challenges (1990 to 1993).
 #![tactic(auto)]

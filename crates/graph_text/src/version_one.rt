@@ -1,8 +1,7 @@
 //! Version 1 of the graph format.
 ghost use Rattle.std.specs.Prelude.{◌≡◌, ◌<◌, ◌-◌, ◌^◌, ℕ, length, IfOk, IfErr, Ok, Err};
-ghost use Rattle.line_text.specs.Common.{Gives, Stands, FirstFault, texts_of};
-ghost use Rattle.text_faults.specs.Common.{IsFirstFault, ReadsText};
-ghost use Rattle.text_faults.specs.declared.faults.FaultKind.{FaultKind};
+ghost use Rattle.line_text.specs.Common.{Gives, Stands, FirstFault, texts_of, IsFirstFault, ReadsText};
+ghost use Rattle.line_text.specs.declared.faults.FaultKind.{FaultKind};
 ghost use Rattle.graph_core.specs.Common.{Graph};
 ghost use Rattle.graph_text.specs.GraphLines.{GraphSoFar};
 ghost use Rattle.graph_text.specs.SoFar.{so_far};
@@ -11,9 +10,8 @@ ghost use Rattle.graph_text.specs.VersionOne.{version_one, header};
 use crate::body::Body;
 use crate::graph_lines::{close_graph, read_edge};
 use graph_core::MultiGraph;
-use line_text::{LineFormat, Refusal, has_form, number, word};
+use line_text::{FaultKind, LineFormat, Refusal, TextFault, has_form, number, read_text, word};
 use std::alloc::Global;
-use text_faults::{FaultKind, TextFault, read_text};
 
 /// The most vertices of a graph in version 1.
 pub const VERSION_ONE_VERTICES: u32 = 64;

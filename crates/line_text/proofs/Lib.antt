@@ -7,3 +7,4 @@ pub mod ExactlyOne
 pub mod ReadBack
 pub mod Tables
 pub mod WrittenLines
+pub mod InRange

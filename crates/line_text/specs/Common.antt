@@ -7,3 +7,7 @@ unfoldable pub use Rattle.line_text.specs.Numerals.{number_of}
 pub use Rattle.line_text.specs.Reading.{Refuses, Gives, Fails, Reads, placed, go_on, state_after, reading_from, reading_of, IsFirst, ReadingTells}
 pub use Rattle.line_text.specs.Words.{texts_of, is_blank, word_at, begin_with, is_skipped, SignificantLine, significant_lines_of, unwords, written, is_word, AreWords, IsSignificant, IsComment, numbered_from}
 unfoldable pub use Rattle.line_text.specs.Words.{words_of, has_form, significant_from}
+pub use Rattle.line_text.specs.FaultKinds.{kind_number}
+pub use Rattle.line_text.specs.Faults.{IsFault}
+pub use Rattle.line_text.specs.TextReads.{IsFirstFault, ReadsText}
+pub use Rattle.line_text.specs.Ranges.{is_out_of_range}

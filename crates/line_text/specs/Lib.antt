@@ -3,4 +3,8 @@ pub mod Lines
 pub mod Numerals
 pub mod Reading
 pub mod Words
+pub mod FaultKinds
+pub mod Faults
+pub mod TextReads
+pub mod Ranges
 pub mod Common

@@ -17,19 +17,29 @@
 //! (4) For its writer an induction over the value: its lines lead to it (`Begins`). The rest is
 //! `written_text_stands`.
 //!
-//! It stands on std alone. The manner of the texts is that of the graph files of the DIMACS
-//! challenges (1990 to 1993).
+//! The formats of this program share one table of kinds of errors, `FaultKind`, with a number for
+//! each (`kind_number`). `read_text` reads any of them: it returns the value, or a `TextFault` with
+//! the line and the kind of the first error. `is_out_of_range` tests a number of a graph file.
+//!
+//! It depends on `counting` for its proofs. The manner of the texts is that of the graph files of
+//! the DIMACS challenges (1990 to 1993).
 #![tactic(auto)]
 
+mod faults;
 mod format;
 pub mod laws;
 mod lines;
 mod numerals;
+mod ranges;
+mod reader;
 mod reading;
 mod words;
 
+pub use faults::{FaultKind, TextFault};
 pub use format::{LineFault, LineFormat, Refusal};
 pub use lines::split_line;
 pub use numerals::{number, numbers};
+pub use ranges::{has_out_of_range, is_out_of_range};
+pub use reader::read_text;
 pub use reading::read;
 pub use words::{has_form, is_skipped, split_words, word};

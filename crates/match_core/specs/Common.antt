@@ -3,3 +3,4 @@ pub use Rattle.match_core.specs.HeldMates.{HoldsMates}
 pub use Rattle.match_core.specs.RepairWalks.{StartsWalk}
 pub use Rattle.match_core.specs.MatchingRows.{MatchingValue, ends_at, edges_of, KeepsMatching, IsRowOf, IsOf, is_clear, row_at, has_end_in, left_over}
 pub use Rattle.match_core.specs.Partners.{are_partners, AreEmptyRows, ArePartners}
+pub use Rattle.match_core.specs.PartnersOnDemand.{RowsValue, AreKnownRows}

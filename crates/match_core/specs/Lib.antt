@@ -2,4 +2,5 @@ pub mod HeldMates
 pub mod RepairWalks
 pub mod MatchingRows
 pub mod Partners
+pub mod PartnersOnDemand
 pub mod Common

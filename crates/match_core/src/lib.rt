@@ -6,7 +6,8 @@
 //! the search. `perfect_without` and `perfect_with` answer a perfect matching under conditions,
 //! and `None` exactly when there is none; `Matching::cleared` and `Matching::joined` take rows
 //! out of a matching and put one in, and `matching_of` makes one of marked edges. `partners`
-//! answers the table of the pairs of vertices that can be missed together (`ArePartners`).
+//! answers the table of the pairs of vertices that can be missed together (`ArePartners`), and
+//! `LazyPartners` single rows of it.
 //!
 //! The search itself stands below, in `match_search`: a matching enlarged until a frame shows that
 //! none is larger. The law of Tutte and Berge stands beside the questions (`tutte_berge_law`).
@@ -17,12 +18,14 @@
 
 mod frames;
 pub mod laws;
+mod lazy_partners;
 mod matching;
 mod partner_table;
 mod questions;
 mod repairs;
 
 pub use frames::{Found, FrameSets, frame, maximum};
+pub use lazy_partners::LazyPartners;
 pub use matching::{MatchRow, Matching, matching_of};
 pub use partner_table::{PartnerTable, all_partners, partners};
 pub use questions::{perfect_with, perfect_without};

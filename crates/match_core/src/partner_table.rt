@@ -76,7 +76,12 @@ pub fn partners(
 }
 
 // The mates of a matching of G - removed.
-fn mates_in(alloc: Global, g: &MultiGraph, removed: VSet, mark: &[bool]) -> Result<Vec<u32>, Memory>
+pub(crate) fn mates_in(
+    alloc: Global,
+    g: &MultiGraph,
+    removed: VSet,
+    mark: &[bool],
+) -> Result<Vec<u32>, Memory>
     requires long { length mark.now ≡ size g.now + 1 }
     requires matching { IsMatching g.now (mem removed) (marks mark.now) }
     ensures long { IfOk result (λ mate. length mate.items ≡ g.now.order + 1) }
@@ -135,7 +140,7 @@ pub fn all_partners(alloc: Global, g: &MultiGraph) -> Result<PartnerTable, Memor
 
 // The partners of one vertex: the vertices that matchings without it can miss alone. What is
 // changed of the instance is put back.
-fn partners_of(
+pub(crate) fn partners_of(
     alloc: Global,
     g: &MultiGraph,
     instance: &mut Instance,

@@ -1,4 +1,4 @@
-//! The program `mcg6`: the words after its name are a command of `list_top::run`, which answers a
+//! The program `mcg6`: the words after its name are a command of `mcg6_top::run`, which answers a
 //! list of graphs line by line to standard output, and whose status becomes the exit status.
 //!
 //! The list is standard input, or the file that the last word names. It is read by `InSource` and
@@ -7,7 +7,7 @@
 //! memory, and 7, which no status has, for words that are not UTF-8.
 #![tactic(auto)]
 
-use list_top::{file_name, run};
+use mcg6_top::{file_name, run};
 use outside::{InSource, OutSink};
 use std::io::ErrorKind;
 use std::process::ExitCode;

@@ -1,5 +1,5 @@
 //! The program `mcg6_front`, which users call as `mcg6`: the words after its name are a command of
-//! `list_front::run_list_front`, which answers a list of graphs line by line on standard output,
+//! `mcg6_front_top::run_list_front`, which answers a list of graphs line by line on standard output,
 //! whose words for a person go to standard error, and whose status becomes the exit status.
 //!
 //! The list is standard input, or the file that the last word names. It is read by `InSource`,
@@ -9,8 +9,8 @@
 //! has, for words that are not UTF-8.
 #![tactic(auto)]
 
-use list_front::run_list_front;
-use list_top::{ListStatus, file_name};
+use mcg6_front_top::run_list_front;
+use mcg6_top::{ListStatus, file_name};
 use outside::{DirShelf, Explain, FailureReason, InSource, LineSink, OutSink, Shelf, Sink, emit};
 use std::io::ErrorKind;
 use std::process::ExitCode;

@@ -4,11 +4,10 @@
 use Rattle.std.proofs.Common.{◌≡◌, ◌≤◌, ◌<◌, ◌==◌, ◌&&◌, ◌||◌, ◌^◌, codes, not, nat_le, if◌then◌else◌, ℕ, List, [], ◌∷◌, ◌++◌, Bool, length, true, false, Option, Some, None, Result, Ok, Err, IfOk, refl, sym, ◌∙◌, ap, subst, arith}
 use Rattle.counting.proofs.Common.{AllByRecursion, list_all, list_any, and_parts, or_parts, not-false, nat_tests, length-map, length-append}
 use Rattle.std.proofs.lemmas.List.Splits.{length-slice_split}
-use Rattle.line_text.specs.Common.{Begins, Stands, finish, has_form, word_at, is_number, value_of}
+use Rattle.line_text.specs.Common.{Begins, Stands, finish, has_form, word_at, is_number, value_of, is_out_of_range}
 use Rattle.line_text.proofs.Tables.{all_passed, no_value, value_or}
-use Rattle.text_faults.specs.declared.faults.FaultKind.{FaultKind}
-use Rattle.text_faults.specs.declared.faults.FaultKind.TheVariants as kind
-use Rattle.text_faults.specs.Common.{is_out_of_range}
+use Rattle.line_text.specs.declared.faults.FaultKind.{FaultKind}
+use Rattle.line_text.specs.declared.faults.FaultKind.TheVariants as kind
 use Rattle.tree_core.proofs.Common.{PlainMove, switch_at}
 use Rattle.tree_text.specs.Common.{is_rising}
 use Rattle.tree_text.proofs.ShoreLists.{rising_read}

@@ -2,11 +2,10 @@
 -- a move adds it to the moves before, since no test of the table applies.
 use Rattle.std.proofs.Common.{◌≡◌, ◌+◌, ◌≤◌, ◌<◌, ◌^◌, codes, nat_le, ℕ, List, [], ◌∷◌, ◌++◌, All, length, map, true, false, Some, Ok, refl, ap, subst, arith, append_assoc}
 use Rattle.counting.proofs.Common.{AllByRecursion, list_all, list_any, nat_tests, append-nil, length-append, Within}
-use Rattle.line_text.specs.Common.{Begins, Stands, has_form, is_word, IsSignificant, is_number}
+use Rattle.line_text.specs.Common.{Begins, Stands, has_form, is_word, IsSignificant, is_number, is_out_of_range}
 use Rattle.line_text.proofs.Decimals.{number_of-decimal, is_word-decimal, numbers-decimal, values-decimal}
 use Rattle.line_text.proofs.ReadBack.{Stands-written}
-use Rattle.text_faults.specs.Common.{is_out_of_range}
-use Rattle.text_faults.proofs.InRange.{in_range-tests, few-digits}
+use Rattle.line_text.proofs.InRange.{in_range-tests, few-digits}
 use Rattle.tree_core.proofs.Common.{PlainMove, rotate_at, switch_at}
 use Rattle.tree_core.specs.declared.path.Side.{Side}
 use Rattle.tree_text.proofs.TreeReadBack.{rising-tests}

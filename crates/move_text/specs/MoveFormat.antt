@@ -7,10 +7,9 @@
 use Rattle.std.specs.Prelude.{ℕ, ◌==◌, ◌&&◌, ◌||◌, not, nat_le, Bool, List, [], ◌∷◌, ◌++◌, length, map, codes, Result, Ok, Err, if◌then◌else◌}
 use Rattle.std.specs.List.{list_all, list_any, slice_split}
 use Rattle.std.specs.Str.{bytes_eq}
-use Rattle.line_text.specs.Common.{Rules, checked, has_form, word_at, is_number, value_of}
-use Rattle.text_faults.specs.Common.{is_out_of_range}
-use Rattle.text_faults.specs.declared.faults.FaultKind.{FaultKind}
-use Rattle.text_faults.specs.declared.faults.FaultKind.TheVariants as kind
+use Rattle.line_text.specs.Common.{Rules, checked, has_form, word_at, is_number, value_of, is_out_of_range}
+use Rattle.line_text.specs.declared.faults.FaultKind.{FaultKind}
+use Rattle.line_text.specs.declared.faults.FaultKind.TheVariants as kind
 use Rattle.tree_core.specs.Common.{PlainMove, rotate_at, switch_at}
 use Rattle.tree_core.specs.declared.path.Side.{Side}
 use Rattle.tree_core.specs.declared.path.Side.TheVariants.{Kept, Merged}

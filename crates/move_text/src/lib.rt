@@ -7,7 +7,7 @@
 //! `laws::written_moves_stand`. What a text stands for can be written: `laws::read_moves_fit`.
 //! That a move has a result on a tree is not asked here.
 //!
-//! Stands on `line_text` for what a format is, on `text_faults` for the reader, on `tree_text`
+//! Stands on `line_text` for what a format is and for the reader, on `tree_text`
 //! for lists of vertices and on `tree_core` for moves. The manner of the format is that of the
 //! graph files of the DIMACS challenges (1990 to 1993).
 #![tactic(auto)]

@@ -1,16 +1,16 @@
 //! The move format.
 ghost use Rattle.std.specs.Prelude.{◌≡◌, ◌<◌, ◌≤◌, ◌-◌, ◌^◌, ◌++◌, ◌∷◌, [], ℕ, List, length, IfOk, IfErr, Ok, Err};
-ghost use Rattle.line_text.specs.Common.{Gives, Stands, FirstFault, texts_of};
-ghost use Rattle.text_faults.specs.Common.{IsFirstFault, ReadsText};
-ghost use Rattle.text_faults.specs.declared.faults.FaultKind.{FaultKind};
+ghost use Rattle.line_text.specs.Common.{Gives, Stands, FirstFault, texts_of, IsFirstFault, ReadsText};
+ghost use Rattle.line_text.specs.declared.faults.FaultKind.{FaultKind};
 ghost use Rattle.tree_core.specs.Common.{PlainMove, switch_at, moves_of};
 ghost use Rattle.move_text.specs.MoveFormat.{move_format, moves_header, move_line, path_of, switch_line};
 ghost use Rattle.move_text.specs.Writing.{IsWritable};
 
 use crate::move_words::{is_rotate, is_switch, read_path, read_vertices};
-use line_text::{LineFormat, Refusal, has_form, number, word};
+use line_text::{
+    FaultKind, LineFormat, Refusal, TextFault, has_form, has_out_of_range, number, read_text, word,
+};
 use std::alloc::Global;
-use text_faults::{FaultKind, TextFault, has_out_of_range, read_text};
 use tree_core::{Move, Moves};
 use tree_text::shores::{rise, shore_of};
 use vset_core::{MOST_VERTICES, VSet};

@@ -1,5 +1,6 @@
 -- The definitions of this crate, passed on from one place to the crates above. Declares nothing.
 pub use Rattle.outside.specs.Faults.{next_fault, faults_after, MayCount, next_call, Rose}
+pub use Rattle.outside.specs.Limits.{most_bytes, most_line}
 pub use Rattle.outside.specs.Shelf.{NamedFile, file_named, HoldsLonger, Answer, answer_of, AnswersInTurn, ReadsInTurn, ReadsFirst, TellsFile, IsLonger}
 pub use Rattle.outside.specs.Sink.{appended, taken_by, WritesTake, IsWritten, IsCutOff}
 pub use Rattle.outside.specs.Keeping.{bytes_kept, IsFileOf, bytes_in, KeepsRead}

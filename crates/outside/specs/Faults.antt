@@ -1,6 +1,6 @@
 -- Counts of faults and of calls, which never fall and stay at their greatest value.
--- Stated by: outside, list_reader, encoder, bench_top, list_top.
--- Rests on it: front_words, bench_tasks, front_top, list_front.
+-- Stated by: outside, mcg6_reader, mcg6_encoder, bench_top, mcg6_top.
+-- Rests on it: front_words, bench_tasks, front_top, mcg6_front_top.
 use Rattle.std.specs.Prelude.{◌≡◌, ℕ, ◌+◌, ◌-◌, ◌^◌, ◌≤◌, ◌⊎◌, ◌==◌, ◌&&◌, min, nat_lt, if◌then◌else◌}
 
 -- a count of faults after one more

@@ -1,6 +1,6 @@
 -- What a shelf that keeps what it read last has kept.
 -- Stated by: outside.
-use Rattle.std.specs.Prelude.{◌≡◌, ◌⊎◌, ℕ, List}
+use Rattle.std.specs.Prelude.{◌≡◌, ◌⊎◌, ℕ, List, IsOk}
 use Rattle.std.specs.declared.option.Option.{Option}
 use Rattle.std.specs.declared.option.Option.TheVariants.{None, Some}
 use Rattle.std.specs.declared.result.Result.TheVariants.{Ok, Err}
@@ -25,10 +25,10 @@ bytes_in (Ok bytes) = Some bytes
 bytes_in (Err fault) = None
 
 -- a read of that name leads from the first shelf to the second, and leaves this kept, which are
--- the bytes that are given on; memory may run out for their copy
+-- the bytes that are given on; memory may run out for the copy of bytes that were given
 pub record KeepsRead {S : Type 0} (files : S → Option (List NamedFile)) (reads : S → List ℕ → Answer → S → Type 0) (before : S) (name : List ℕ) (answer : Answer) (now : S) (kept : Option (List ℕ)) : Type 0 where
   pub given : Answer
   pub read : reads before name given now
-  pub passed : (answer ≡ given) ⊎ (answer ≡ Err Memory)
+  pub passed : (answer ≡ given) ⊎ ((answer ≡ Err Memory) × IsOk given)
   pub kept_is : kept ≡ bytes_in answer
   pub is_file : IsFileOf (files before) name kept

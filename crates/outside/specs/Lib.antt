@@ -1,4 +1,5 @@
 pub mod Faults
+pub mod Limits
 pub mod Shelf
 pub mod Sink
 pub mod Keeping

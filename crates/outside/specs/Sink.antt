@@ -1,6 +1,6 @@
 -- What a sink tells of its bytes, and which writes lead from one sink to another.
 -- Stated by: outside.
--- Rests on it: list_reader, encoder, front_words, bench_outcomes, bench_top, front_top, list_front.
+-- Rests on it: mcg6_reader, mcg6_encoder, front_words, bench_outcomes, bench_top and 2 more.
 use Rattle.std.specs.Prelude.{◌≡◌, ℕ, ◌+◌, ◌<◌, zero, suc, List, ◌++◌, length, drop}
 use Rattle.std.specs.declared.result.Result.{Result}
 use Rattle.std.specs.declared.result.Result.TheVariants.{Ok, Err}

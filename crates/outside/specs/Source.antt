@@ -1,5 +1,5 @@
 -- What a source tells of the bytes that are left to read, and what a read gave.
--- Stated by: outside. Rests on it: list_reader, encoder.
+-- Stated by: outside. Rests on it: mcg6_reader, mcg6_encoder.
 use Rattle.std.specs.Prelude.{◌≡◌, ℕ, List, [], ◌++◌, take}
 use Rattle.std.specs.declared.result.Result.{Result}
 use Rattle.std.specs.declared.result.Result.TheVariants.{Ok, Err}

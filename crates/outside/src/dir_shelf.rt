@@ -9,12 +9,20 @@ use crate::retries::read_some;
 use crate::{Explain, FailureReason, Shelf, ShelfFault};
 use std::alloc::Global;
 use std::fs;
-use std::io::ErrorKind;
+use std::io::{Error, ErrorKind};
 use std::marker::Model;
 use std::rt::Files;
 
 // how many bytes one turn of a read asks for
 const PIECE: usize = 4096;
+
+// The numbers of errors of the system that have no kind: of a socket that is opened as a file, and
+// of one more file than the system, or a process, may have open.
+const NO_SUCH_DEVICE: i32 = 6;
+
+const ALL_OPEN: i32 = 23;
+
+const MOST_OPEN: i32 = 24;
 
 /// A shelf of the files that a runtime reaches by name: the trusted edge, which tells nothing of
 /// content and is never steady.
@@ -55,20 +63,33 @@ impl<'a, R: Files> DirShelf<'a, R> {
     }
 }
 
+// Why a call failed that gave this number of an error of the system, which has no kind.
+fn reason_of_number(number: i32) -> FailureReason {
+    if number == NO_SUCH_DEVICE {
+        FailureReason::Socket
+    } else if number == ALL_OPEN || number == MOST_OPEN {
+        FailureReason::ManyOpen
+    } else {
+        FailureReason::Other
+    }
+}
+
 // Why a call failed that opens or reads a file.
-fn reason_of(kind: ErrorKind) -> FailureReason {
-    match kind {
+fn reason_of(error: &Error) -> FailureReason {
+    match error.kind() {
         ErrorKind::NotFound => FailureReason::Absent,
         ErrorKind::IsADirectory => FailureReason::Folder,
         ErrorKind::NotADirectory => FailureReason::NotInFolder,
         ErrorKind::PermissionDenied => FailureReason::Forbidden,
-        _ => FailureReason::Other,
+        ErrorKind::InvalidFilename => FailureReason::LongName,
+        ErrorKind::FilesystemLoop => FailureReason::LinkLoop,
+        _ => reason_of_number(error.raw_os_error().unwrap_or(0)),
     }
 }
 
 // Why the file of that name was not opened: a link is there where it leads to nothing.
-fn reason_unopened<R: Files>(runtime: &R, name: &str, kind: ErrorKind) -> FailureReason {
-    match reason_of(kind) {
+fn reason_unopened<R: Files>(runtime: &R, name: &str, error: &Error) -> FailureReason {
+    match reason_of(error) {
         FailureReason::Absent if fs::symlink_metadata(runtime, name).is_ok() =>
             FailureReason::Dangling,
         reason => reason,
@@ -94,7 +115,7 @@ fn fill<R: Files>(
     let mut file = match fs::open(runtime, name) {
         Ok(file) => file,
         Err(error) => {
-            *reason = Some(reason_unopened(runtime, name, error.kind()));
+            *reason = Some(reason_unopened(runtime, name, &error));
             return Err(ShelfFault::Failed);
         }
     };
@@ -103,7 +124,7 @@ fn fill<R: Files>(
         let room = PIECE.min(limit + 1 - bytes.len());
         match read_some(&mut file, &mut piece[..room]) {
             Err(error) => {
-                *reason = Some(reason_of(error.kind()));
+                *reason = Some(reason_of(&error));
                 return Err(ShelfFault::Failed);
             }
             Ok(0) => return Ok(()),

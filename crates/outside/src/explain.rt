@@ -17,6 +17,14 @@ pub enum FailureReason {
     NotInFolder,
     /// It may not be read.
     Forbidden,
+    /// The name, or a part of it, is too long.
+    LongName,
+    /// Links lead around in a circle.
+    LinkLoop,
+    /// A socket has that name, or a device that is not there.
+    Socket,
+    /// Too many files are open.
+    ManyOpen,
     /// Something else went wrong, as a fault of the device.
     Other,
 }

@@ -13,8 +13,9 @@
 //! stand in memory, and their contracts give every answer and every next state, the planned
 //! faults among them: a caller is tried over them. `DirShelf`, `InSource` and `OutSink` are the
 //! files, the standard input and the standard output of the runtime, and `LineSink` its standard
-//! error, line by line, the trusted edge: they tell nothing of content. A call of theirs that a
-//! signal interrupts is tried again. `emit` writes a whole output to a sink.
+//! error, line by line, the trusted edge: they tell nothing of content. A read or a write of
+//! theirs that a signal interrupts is tried again, 1,024 times. `emit` writes a whole output to a
+//! sink.
 //!
 //! For who has to say in words what went wrong, a `KeepingShelf` keeps the bytes of the file that
 //! it read last (`Keeping`), a shelf may `Explain` why a read failed, and an `Outlet` is a sink
@@ -30,6 +31,7 @@ mod emitting;
 mod explain;
 mod in_source;
 mod keeping_shelf;
+mod limits;
 mod line_sink;
 mod mem_shelf;
 mod mem_sink;
@@ -48,6 +50,7 @@ pub use emitting::emit;
 pub use explain::{Explain, FailureReason};
 pub use in_source::InSource;
 pub use keeping_shelf::{Keeping, KeepingShelf};
+pub use limits::{MOST_BYTES, MOST_LINE};
 pub use line_sink::LineSink;
 pub use mem_shelf::MemShelf;
 pub use mem_sink::MemSink;

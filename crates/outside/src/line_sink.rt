@@ -3,7 +3,9 @@ ghost use Rattle.std.specs.Prelude.{◌≡◌, ◌≤◌, ◌<◌, IfOk, OnErr, 
 ghost use Rattle.std.specs.declared.option.Option.TheVariants.{None};
 ghost use Rattle.outside.specs.Faults.{Rose, MayCount};
 
+use crate::retries::write_whole;
 use crate::{Sink, SinkFailed};
+use std::io;
 use std::marker::Model;
 
 // How many bytes of a line are held before they go out.
@@ -12,10 +14,10 @@ const ROOM: usize = 512;
 /// A stream of a runtime to which lines go out whole, as its standard error: the trusted edge,
 /// which tells nothing of content.
 ///
-/// What is written is held until a line feed comes or the room is full, and then goes out by one
-/// call, so that lines of several programs do not mix. What does not end with a line feed stays
-/// held. A contract sees it as the count of faults, which stays at the greatest u64 once it is
-/// there.
+/// What is written is held until a line feed comes or 512 bytes are held, and then goes out by one
+/// call, so that lines of several programs do not mix; more calls follow only where that one took a
+/// part. What does not end with a line feed stays held. A contract sees it as the count of faults,
+/// which stays at the greatest u64 once it is there.
 #[derive(Drop)]
 pub struct LineSink<'a, P: Print> {
     stream: &'a P,
@@ -73,11 +75,11 @@ impl<P: Print> Sink for LineSink<'_, P> {
             return Ok(count);
         }
         self.held = 0;
-        match self.stream.write_all(&self.line[..end]) {
+        match write_whole(&mut io::writer(self.stream), &self.line[..end]) {
             Ok(()) => Ok(count),
-            Err(_) => {
+            Err(failed) => {
                 self.faults = self.faults.saturating_add(1);
-                Err(SinkFailed)
+                Err(failed)
             }
         }
     }

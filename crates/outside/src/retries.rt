@@ -1,14 +1,16 @@
 //! Reads and writes that are tried again where a signal interrupts them.
 ghost use Rattle.std.specs.Prelude.{◌≤◌, IfOk, length};
 
-use std::io::{ErrorKind, Read, Result, Write};
+use crate::SinkFailed;
+use std::io;
+use std::io::{ErrorKind, Read, Write};
 
 // How often a call is tried again.
 const RETRIES: u32 = 1024;
 
 /// Reads some bytes into the piece. A read that a signal interrupts has taken none and is tried
 /// again.
-pub(crate) fn read_some<F: Read>(file: &mut F, piece: &mut [u8]) -> Result<usize>
+pub(crate) fn read_some<F: Read>(file: &mut F, piece: &mut [u8]) -> io::Result<usize>
     ensures { IfOk result (λ count. count ≤ length piece.new) }
 {
     for _ in 0..RETRIES {
@@ -21,7 +23,7 @@ pub(crate) fn read_some<F: Read>(file: &mut F, piece: &mut [u8]) -> Result<usize
 }
 
 /// Writes some of the bytes. A write that a signal interrupts has written none and is tried again.
-pub(crate) fn write_some<W: Write>(out: &mut W, bytes: &[u8]) -> Result<usize>
+pub(crate) fn write_some<W: Write>(out: &mut W, bytes: &[u8]) -> io::Result<usize>
     ensures { IfOk result (λ count. count ≤ length bytes.now) }
 {
     for _ in 0..RETRIES {
@@ -31,4 +33,17 @@ pub(crate) fn write_some<W: Write>(out: &mut W, bytes: &[u8]) -> Result<usize>
         }
     }
     out.write(bytes)
+}
+
+/// Writes all of the bytes, by repeated writes of the rest. A write that fails or takes nothing is
+/// the last.
+pub(crate) fn write_whole<W: Write>(out: &mut W, bytes: &[u8]) -> Result<(), SinkFailed> {
+    let mut done = 0;
+    'writing: while done < bytes.len() {
+        match write_some(out, &bytes[done..]) {
+            Ok(count) if count > 0 => done += count,
+            Ok(_) | Err(_) => return Err(SinkFailed),
+        }
+    }
+    Ok(())
 }

@@ -1,6 +1,6 @@
 -- Words that lines of several reports share: answers, reasons why a graph is not matching covered,
 -- kinds of graphs and of leaves, and counts of leaves.
--- Stated by: report_text. Rests on it: list_lines.
+-- Stated by: report_text. Rests on it: mcg6_lines.
 use Rattle.std.specs.Prelude.{List, ℕ, Bool, ◌++◌, if◌then◌else◌, codes}
 use Rattle.std.specs.Fmt.{decimal}
 use Rattle.graph_core.specs.declared.verdict.Kind.{Kind}

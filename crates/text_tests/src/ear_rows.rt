@@ -1,7 +1,7 @@
 //! Texts of ear lists.
 
 use crate::formats::TextRow;
-use text_faults::FaultKind;
+use line_text::FaultKind;
 
 /// Ear lists for 2 vertices and 1 edge.
 pub const EARS_OF_2: [TextRow; 1] = [("r mcg 2 1\nstart 1", Ok("r mcg 2 1\nstart 1\n"))];

@@ -6,10 +6,10 @@ use ear_text::{read_ears, write_ears};
 use graph_core::MultiGraph;
 use graph_text::{Names, read_any, read_graph, write_graph, write_named};
 use graph6_text::{read_graph6, write_graph6};
+use line_text::{FaultKind, TextFault};
 use move_text::{read_moves, write_moves};
 use std::alloc::{AllocError as Memory, Global};
 use std::test::Fail;
-use text_faults::{FaultKind, TextFault};
 use tree_text::{read_picks, read_tree, write_tree};
 use vset_core::MOST_VERTICES;
 

@@ -2,9 +2,9 @@
 
 use crate::formats::{Format, LongText, TextRow, has_answer, long_has_answer, long_text};
 use graph6_text::read_graph6;
+use line_text::FaultKind;
 use std::alloc::Global;
 use std::test::Fail;
-use text_faults::FaultKind;
 
 /// Header and line end are set aside; then each fault of a text.
 pub const TEXTS: [TextRow; 21] = [

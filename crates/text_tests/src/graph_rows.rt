@@ -2,8 +2,8 @@
 
 use crate::formats::TextRow;
 use graph_text::{Names, plain_names};
+use line_text::FaultKind;
 use std::test::Fail;
-use text_faults::FaultKind;
 
 /// The graph format in version 1.
 pub const VERSION_ONE: [TextRow; 15] = [

@@ -2,13 +2,13 @@
 //! small size, with a read that fails, and with too little room for the output.
 ghost use Rattle.std.specs.Prelude.{◌==◌, if◌then◌else◌};
 ghost use Rattle.std.specs.declared.option.Option.TheVariants.{Some, None};
-ghost use Rattle.text_faults.specs.declared.faults.FaultKind.TheVariants.{Missing};
+ghost use Rattle.line_text.specs.declared.faults.FaultKind.TheVariants.{Missing};
 
-use list_reader::{Ending, LineAnswer, LinePlace, LineTeller, tell_all};
+use line_text::FaultKind;
+use mcg6_reader::{Ending, LineAnswer, LinePlace, LineTeller, tell_all};
 use outside::{MemSink, MemSource};
 use std::alloc::{AllocError as Memory, Global};
 use std::test::Fail;
-use text_faults::FaultKind;
 
 // Answers a line by its number and the line itself, and calls one bad that holds a `!`; a list
 // without lines is bad.

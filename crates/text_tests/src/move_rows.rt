@@ -1,9 +1,9 @@
 //! Texts of moves.
 
 use crate::formats::{LongText, TextRow};
+use line_text::FaultKind;
 use move_text::{read_moves, write_moves};
 use std::test::Fail;
-use text_faults::FaultKind;
 use tree_core::{Move, Moves, Path, Side};
 use vset_core::VSet;
 

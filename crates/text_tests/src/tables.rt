@@ -4,8 +4,8 @@ use crate::formats::{Format, TextRow, first_wrong, long_has_answer};
 use crate::graph6_rows::FULL;
 use crate::move_rows::LONG_MOVES;
 use crate::{ear_rows, graph_rows, graph6_rows, move_rows, tree_rows};
+use line_text::FaultKind;
 use std::test::Fail;
-use text_faults::FaultKind;
 
 static TABLES: [(Format, &[TextRow]); 14] = [
     (Format::VersionOne, &graph_rows::VERSION_ONE),

@@ -1,7 +1,7 @@
 //! Texts of derivations and of picks.
 
 use crate::formats::TextRow;
-use text_faults::FaultKind;
+use line_text::FaultKind;
 
 /// Derivations over 1 to 2.
 pub const TREES_OF_2: [TextRow; 1] = [("t mcg 2\nleaf", Ok("t mcg 2\nleaf\n"))];

@@ -4,10 +4,10 @@
 -- and only if the graph is, by induction on the tree.
 use Rattle.std.proofs.Common.{◌≡◌, ◌∙◌, ◌↔◌, ℕ, ◌+◌, ◌*◌, ◌≤◌, List, refl, sym, ap, arith}
 use Rattle.counting.proofs.Common.{AllByRecursion, mem}
-use Rattle.list_lines.proofs.Counts.{same_counts}
+use Rattle.mcg6_lines.proofs.Counts.{same_counts}
 use Rattle.graph_core.proofs.Common.{complement_of-rises, mem-complement_of, complement-tight, singles-partition, IsCovered, Graph, IsBipartite, IsGraph, IsMultigraph, IsPartition, complement_of, singles, quotient}
-use Rattle.tight_cuts.proofs.QuotientSides.{bipartite_from_singles, singles_from_bipartite}
-use Rattle.list_lines.specs.Standings.{IsCounted}
+use Rattle.tree_core.proofs.QuotientSides.{bipartite_from_singles, singles_from_bipartite}
+use Rattle.mcg6_lines.specs.Standings.{IsCounted}
 use Rattle.tree_core.specs.declared.tallies.Tally.{Tally}
 use Rattle.theorems.proofs.LeafKindLists.{HasSides, all-joined, all-separated, count-from_sides, kinds-in_order, sides-from_count, tally-exists, tally-sum}
 use Rattle.theorems.proofs.PartitionSides.{HasSideAt, bipartite-from_side, side-from_bipartite}

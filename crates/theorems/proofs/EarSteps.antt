@@ -97,7 +97,7 @@ module _ (g : Graph) (is : IsMultigraph g) (cov : IsCovered g) (kept : MatchingV
         (s.0, none-forced g is cov f stage never s.0.0)
   ]
 
-  steps-exist : (fuel : ℕ) (f : Set) → IsStage g f → KeepsMates g n (is_met g f) → count (size g) (complement f) < fuel →
+  pub steps-exist : (fuel : ℕ) (f : Set) → IsStage g f → KeepsMates g n (is_met g f) → count (size g) (complement f) < fuel →
       (steps : List PlainStep) × AreSteps g f steps × AreNeeded g f steps × (IsBipartite g → AllByRecursion IsSingle steps) × AreForced g f steps
   steps-exist zero f stage keeps less = absurd (omega arith)
   steps-exist (suc fuel) f stage keeps less = elim (cases_eq (count (size g) (leads_out g f)) 0) [

@@ -4,7 +4,7 @@
 use Rattle.std.proofs.Common.{◌≡◌, ℕ, ◌+◌, ◌≤◌, Bool, true, false, ◌==◌, ◌&&◌, ◌||◌, not, refl, sym, ◌∙◌, arith, eq-eqb, ◌↔◌, inl, inr}
 use Rattle.counting.proofs.Common.{both_ways, count_member, total_add, total_le, Within, bit, Set, none}
 use Rattle.graph_core.proofs.Common.{IsSide, IsConnected, IsCovered, Graph, IsMultigraph, first_end, second_end, size, HasPerfect, HasOnlyTrivialTightCuts, covered_perfect}
-use Rattle.theorems.proofs.CubicCuts.{perfect_size}
+use Rattle.theorems.proofs.RegularDegrees.{perfect_size}
 use Rattle.theorems.specs.Braces.{IsTwoExtendable}
 use Rattle.theorems.proofs.TwoExtendable.{AreApart, extendable, not_extendable}
 

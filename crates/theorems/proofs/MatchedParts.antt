@@ -169,10 +169,10 @@ module _ (g : Graph) (is : IsGraph g) (d a c : Set) (sets : AreThreeSets g d a c
       omega arith
 
   -- a vertex of A is met, and its edge goes to D
-  a_met : (v : ℕ) → Within g.order v → a v ≡ true → degree g m v ≡ 1
+  pub a_met : (v : ℕ) → Within g.order v → a v ≡ true → degree g m v ≡ 1
   a_met v w t = let x : bit true ≡ bit true * degree g m v = subst (λ b. bit b ≡ bit b * degree g m v) t (tight_a v w) in omega arith
 
-  a_edge : (e v w : ℕ) → Within (size g) e → m e ≡ true → HasEnds g e v w → a v ≡ true → d w ≡ true
+  pub a_edge : (e v w : ℕ) → Within (size g) e → m e ≡ true → HasEnds g e v w → a v ≡ true → d w ≡ true
   a_edge e v w we me h av =
       let wv = (ends_within g e v w is we h).0 in
       let dv = false_from_ne_true (d v) (λ t. both_ways (a v) (d_out g is d a c sets v wv t) av) in
@@ -191,6 +191,13 @@ module _ (g : Graph) (is : IsGraph g) (d a c : Set) (sets : AreThreeSets g d a c
 
   pub apart : (u : ℕ) → Within g.order u → d u ≡ true → edges_in_cut g m (component_in g d u) ≤ 1
   apart u w du = subst (λ (k : Set). edges_in_cut g m k ≤ 1) (sym (component_is g is d a c sets u w du)) (let x = one_open u w du in omega arith)
+
+  -- no edge leaves a component of which a vertex is missed
+  pub missed_part : (u w : ℕ) → Within g.order u → Within g.order w → d u ≡ true → component_in g d u w ≡ true → degree g m w ≡ 0 → edges_in_cut g m (component_in g d u) ≡ 0
+  missed_part u w wu ww du j z = subst (λ (k : Set). edges_in_cut g m k ≡ 0) (sym (component_is g is d a c sets u wu du)) (
+      let x = one_open u wu du in
+      let y = member_count g.order (λ v. joined g a u v && (degree g m v == 0)) w ww (and_from (joined g a u w) (degree g m w == 0) (ap (λ (k : Set). k w) (sym (component_is g is d a c sets u wu du)) ∙ j) (eq-eqb (degree g m w) 0 z)) in
+      omega arith)
 
   pub near : (u : ℕ) → Within g.order u → d u ≡ true → MatchesAllButOne g m (component_in g d u)
   near u w du = subst (λ (k : Set). MatchesAllButOne g m k) (sym (component_is g is d a c sets u w du)) (let x = one_open u w du in let y = size_of u in omega arith)

@@ -7,8 +7,8 @@ use Rattle.std.specs.Option.{ForSome}
 use Rattle.std.specs.Result.{result_map_both}
 use Rattle.std.specs.Str.{bytes_eq}
 use Rattle.graph_core.proofs.Common.{Graph, size, with_edge}
-use Rattle.text_faults.specs.declared.faults.FaultKind.{FaultKind}
-use Rattle.text_faults.specs.declared.faults.FaultKind.TheVariants as kind
+use Rattle.line_text.specs.declared.faults.FaultKind.{FaultKind}
+use Rattle.line_text.specs.declared.faults.FaultKind.TheVariants as kind
 use Rattle.graph_text.proofs.NameLists.{AreNames-more}
 use Rattle.graph_text.specs.Common.{EitherSoFar, NamedGraph, either_header, either_version, end_behind, is_named_header, is_over, is_plain_header, line_behind, named_edge_line, vertex_line, GraphSoFar, graph_end, graph_line, AreNames, is_among, is_name, vertex_of}
 use Rattle.line_text.specs.Common.{checked, finish, step, lines_of, is_number, value_of, go_on, reading_from, reading_of, SignificantLine, has_form, significant_lines_of, word_at}

@@ -9,7 +9,7 @@ use Rattle.ear_text.proofs.EarsRead.{list-read}
 use Rattle.ear_text.specs.EarFormat.{ear_format}
 use Rattle.graph6_text.specs.Common.{outcome_of}
 use Rattle.graph_core.proofs.Common.{Graph, IsMultigraph, size}
-use Rattle.text_faults.specs.declared.faults.FaultKind.{FaultKind}
+use Rattle.line_text.specs.declared.faults.FaultKind.{FaultKind}
 use Rattle.graph_text.specs.Common.{NamedGraph, either_version}
 use Rattle.line_text.proofs.ExactlyOne.{Stands-from_reading}
 use Rattle.line_text.specs.Common.{reading_of}

@@ -4,7 +4,7 @@
 use Rattle.std.proofs.Common.{◌≡◌, ◌≢◌, ◌∙◌, ℕ, ◌<◌, Bool, true, false, not, ◌&&◌, ◌||◌, ◌==◌, List, length, inl, inr, refl, sym, ap, ap₂, arith, subst, subst₂, ne_eqb}
 use Rattle.counting.proofs.Common.{and_from, and_parts, both_ways, cases_eq, true≢false, not_not, count_congr, some_true, true_some, Within, count, Set, complement, meet, minus, some}
 use Rattle.graph_core.proofs.Common.{IsSide, IsCovered, Graph, IsBipartite, IsGraph, first_end, has_ends, in_cut, second_end, size, AreBlocks, contracted, place, blocks_adjacent, quotient, IsTightAt, IsUnion, blocks_in, at_place, at_rep, contracted-ends, contracted-graph, contracted-order, contracted-size, place_in, covered_perfect, has_ends-cases, has_ends-own}
-use Rattle.tight_cuts.proofs.QuotientSides.{Parts, differ, differ-back, parted, parts_from_sides, sides_from_parts}
+use Rattle.tree_core.proofs.QuotientSides.{Parts, differ, differ-back, parted, parts_from_sides, sides_from_parts}
 use Rattle.matching_digraph.proofs.Balance.{balance, leaves_right, none_right}
 
 -- c is one side at p: a union of blocks that each edge between two blocks leaves

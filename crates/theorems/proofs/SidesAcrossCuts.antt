@@ -5,7 +5,7 @@ use Rattle.std.proofs.Common.{◌≡◌, ◌≢◌, ◌∙◌, ℕ, Bool, true, 
 use Rattle.counting.proofs.Common.{both_ways, mem-within, member-of_set, Within, IsRisingIn, mem, Set, complement}
 use Rattle.contraction.proofs.QuotientLaws.{covered_down}
 use Rattle.graph_core.proofs.Common.{Some, alike_down, alike_in, alike_up, closed_up, merge_of, same_side, shore-some, IsCovered, Graph, IsGraph, first_end, in_cut, second_end, size, AreBlocks, IsMerge, merged, place, quotient, IsTightAt, IsUnion}
-use Rattle.tight_cuts.proofs.QuotientSides.{differ, differ-back}
+use Rattle.tree_core.proofs.QuotientSides.{differ, differ-back}
 use Rattle.theorems.proofs.PartitionSides.{HasSideAt, IsSideAt, LeavesFrom, other-side_at, side-chosen}
 
 -- sides below a cut

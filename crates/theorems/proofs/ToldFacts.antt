@@ -18,7 +18,7 @@ use Rattle.line_text.specs.Common.{Stands}
 use Rattle.move_laws.proofs.SingleVertices.{singles_stage}
 use Rattle.report_text.specs.declared.structures.Structure.{Structure}
 use Rattle.tight_cuts.specs.Common.{Candidate}
-use Rattle.tree_core.proofs.Common.{IsDerivation, leaves, Shape}
+use Rattle.tree_core.proofs.Common.{tight-shores, IsDerivation, leaves, Shape}
 use Rattle.decomposer.specs.Common.{order_named}
 use Rattle.bench_tasks.specs.Common.{OnTrees, decompose_in, All, Loaded, and_then, graph_file, loaded_as, on_picks, on_trees, pick_file, picks_given, trees_given, Task}
 use Rattle.bench_tasks.specs.Tasks as task
@@ -108,6 +108,8 @@ decomposed picks named status output read cov (inl made) =
         tree = made.tree;
         cuts = tree-words named.graph (singles named.graph.order) made.tree (singles_stage named.graph read.ends cov) d.derives;
         ends = bricks-and_braces named.graph made.tree read.ends d;
+        derivation = d;
+        tight = tight-shores named.graph made.tree read.ends d;
         stands = made.told.stands;
       },
     )

@@ -31,14 +31,14 @@ end_is g u v e w h i = elim (has_ends-cases g u v e h) [
 ]
 
 -- an edge of which one end is in z is in its cut if the other is not
-cut_from_ends : (g : Graph) (z : Set) (u v e : ℕ) → has_ends g u v e ≡ true → z u ≡ true → z v ≡ false → in_cut g z e ≡ true
+pub cut_from_ends : (g : Graph) (z : Set) (u v e : ℕ) → has_ends g u v e ≡ true → z u ≡ true → z v ≡ false → in_cut g z e ≡ true
 cut_from_ends g z u v e h zu zv = elim (has_ends-cases g u v e h) [
   | inl p ↦ rw (p.0, p.1, zu, zv) refl
   | inr p ↦ rw (p.0, p.1, zu, zv) refl
 ]
 
 -- an edge of a cut has one end in the set
-cut_ends : (g : Graph) (z : Set) (e : ℕ) → in_cut g z e ≡ true → (u v : ℕ) × (has_ends g u v e ≡ true) × (z u ≡ true) × (z v ≡ false)
+pub cut_ends : (g : Graph) (z : Set) (e : ℕ) → in_cut g z e ≡ true → (u v : ℕ) × (has_ends g u v e ≡ true) × (z u ≡ true) × (z v ≡ false)
 cut_ends g z e h = go (z (first_end g e)) (z (second_end g e)) refl refl h
   where
     go : (p q : Bool) → z (first_end g e) ≡ p → z (second_end g e) ≡ q → ((p && not q) || (not p && q)) ≡ true → (u v : ℕ) × (has_ends g u v e ≡ true) × (z u ≡ true) × (z v ≡ false)
@@ -48,7 +48,7 @@ cut_ends g z e h = go (z (first_end g e)) (z (second_end g e)) refl refl h
     go false false i j k = absurd (true≢false (sym k))
 
 -- two edges of a tight cut have a common end in a 2-extendable graph
-no_two_apart : (g : Graph) (z : Set) (u v s t e f : ℕ) → IsTwoExtendable g → IsTight g z → Within (size g) e → Within (size g) f → has_ends g u v e ≡ true → has_ends g s t f ≡ true →
+pub no_two_apart : (g : Graph) (z : Set) (u v s t e f : ℕ) → IsTwoExtendable g → IsTight g z → Within (size g) e → Within (size g) f → has_ends g u v e ≡ true → has_ends g s t f ≡ true →
     z u ≡ true → z v ≡ false → z s ≡ true → z t ≡ false → u ≢ s → v ≢ t → ⊥
 no_two_apart g z u v s t e f two tight we wf he hf zu zv zs zt us vt =
     let m = two e f we wf apart in

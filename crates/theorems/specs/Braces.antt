@@ -1,4 +1,4 @@
--- Neighbourhoods and 2-extendable graphs, and the digraph of a perfect matching (Plummer 1986;
+-- Neighbourhoods, 2-extendability, and the digraph of a perfect matching (Plummer 1980, 1986;
 -- Lovász and Plummer, "Matching Theory").
 -- Stated by: theorems.
 use Rattle.std.specs.Prelude.{◌≡◌, ◌≢◌, ℕ, ◌+◌, ◌≤◌, Bool, ◌==◌, ◌&&◌, not, true, List}
@@ -14,7 +14,9 @@ neighbourhood g s v = some g.order (λ u. s u && adjacent g none u v)
 abbrev pub HasWideNeighbourhoods : Graph → Set → Type 0
 HasWideNeighbourhoods g a = (s : Set) → ((v : ℕ) → Within g.order v → s v ≡ true → a v ≡ true) → 1 ≤ count g.order s → count g.order s + 2 ≤ count g.order a → count g.order s + 2 ≤ count g.order (neighbourhood g s)
 
--- any two edges without a common end lie together in a perfect matching
+-- any two edges without a common end are together in a perfect matching. A 2-extendable graph
+-- (Plummer) is one of which this holds that is also connected, has a perfect matching, and has at
+-- least six vertices
 abbrev pub IsTwoExtendable : Graph → Type 0
 IsTwoExtendable g = (e f : ℕ) → Within (size g) e → Within (size g) f → ((v : ℕ) → Within g.order v → IsEnd g e v → IsEnd g f v → ⊥) → Together g e f
 

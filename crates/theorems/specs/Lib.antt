@@ -1,10 +1,13 @@
+pub mod Barriers
+pub mod Bipartite
 pub mod Braces
 pub mod Bricks
-pub mod CubicGraphs
 pub mod CutWords
 pub mod Derivations
 pub mod Ears
 pub mod Matchings
 pub mod Outcomes
 pub mod Preorder
+pub mod RegularGraphs
+pub mod Separating
 pub mod TightCuts

@@ -2,8 +2,8 @@
 -- (Gallai 1964; Edmonds 1965; Lovász and Plummer, "Matching Theory", section 3.2).
 -- Stated by: theorems.
 use Rattle.std.specs.Prelude.{◌≡◌, ◌↔◌, ℕ, ◌+◌, ◌*◌, ◌&&◌, true}
-use Rattle.counting.specs.Common.{count, Within, Set, complement, minus, singleton}
-use Rattle.graph_core.specs.Common.{InA, InC, InD, Graph, inside, size, HasPerfect, IsPerfect, joined}
+use Rattle.counting.specs.Common.{count, Within, Set, complement, minus, singleton, some}
+use Rattle.graph_core.specs.Common.{InA, InC, InD, Graph, connects, inside, is_least, size, HasPerfect, IsPerfect, joined}
 
 -- d, a and c are the Gallai-Edmonds sets D, A and C of g
 pub record AreThreeSets (g : Graph) (d a c : Set) : Type 0 where
@@ -31,3 +31,7 @@ MatchesWithin g m k = IsPerfect g (complement k) (λ e. m e && inside g k e)
 -- inside k have ends
 abbrev pub MatchesAllButOne : Graph → Set → Set → Type 0
 MatchesAllButOne g m k = 2 * count (size g) (λ e. m e && inside g k e) + 1 ≡ count g.order k
+
+-- the components of G[D] with an edge to s, each given by its least vertex
+abbrev pub parts_beside : Graph → (d s : Set) → Set
+parts_beside g d s u = is_least g (complement d) u && some (size g) (connects g s (component_in g d u))

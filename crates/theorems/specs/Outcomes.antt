@@ -9,7 +9,7 @@ use Rattle.counting.specs.Common.{Lists, mem}
 use Rattle.graph_core.specs.Common.{InA, InC, InD, Graph, IsBipartite, size, singles, IsBicritical, IsCutPair, HasOnlyTrivialTightCuts, IsNontrivial, IsTight, IsWithinLimits}
 use Rattle.graph_core.specs.declared.verdict.Kind.TheVariants.{Brace, Brick, Composite}
 use Rattle.graph_text.specs.Common.{NamedGraph, AreNames}
-use Rattle.tree_core.specs.Common.{PlainLeafMap, leaf_at, map_at, leaves, PlainMove, TurnsThrough, Shape}
+use Rattle.tree_core.specs.Common.{IsDerivation, IsTightShore, PlainLeafMap, leaf_at, map_at, leaves, PlainMove, TurnsThrough, Shape, shores}
 use Rattle.tree_text.specs.Common.{tree_format}
 use Rattle.line_text.specs.Common.{Stands}
 use Rattle.move_laws.specs.Common.{image}
@@ -32,12 +32,15 @@ pub record TellsSets (named : NamedGraph) (output : List ℕ) : Type 0 where
   pub c : Lists named.graph.order lines.c (InC named.graph)
   pub text : output ≡ with_given_names (analysis_text lines) named.names false
 
--- the output of `decompose` gives a tree of nontrivial tight cuts from single vertices on, and at
--- its ends are bricks and braces
+-- the output of `decompose` gives a tight cut decomposition: a tree of nontrivial tight cuts from
+-- single vertices on, with bricks and braces at its ends. It is a derivation, and each of its shores
+-- is a nontrivial tight shore of the graph itself
 pub record TellsDecomposition (g : Graph) (output : List ℕ) : Type 0 where
   pub tree : Shape
   pub cuts : IsTightCutTreeAt g (singles g.order) tree
   pub ends : All (EndsInBrickOrBrace g) (leaves g.order tree)
+  pub derivation : IsDerivation g tree
+  pub tight : All (IsTightShore g) (shores tree)
   pub stands : Stands (tree_format g.order) output tree
 
 -- the output of `compare` gives a one-to-one pairing of the leaves of two derivations, with

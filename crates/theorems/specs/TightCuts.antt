@@ -2,9 +2,9 @@
 -- (Lovász 1987; Lucchesi and Murty, "Perfect Matchings"). A cut is given by its canonical shore,
 -- the one without the greatest vertex.
 -- Stated by: theorems.
-use Rattle.std.specs.Prelude.{◌≡◌, ℕ, ◌≤◌, true, false, List, [], ◌∷◌, length}
-use Rattle.counting.specs.Common.{Within, IsIn, mem, Set, complement}
-use Rattle.graph_core.specs.Common.{Graph, edges_in_cut, IsPerfectAt, blocks_adjacent, IsUnion, block_count}
+use Rattle.std.specs.Prelude.{◌≡◌, ℕ, ◌≤◌, Bool, true, false, List, [], ◌∷◌, length}
+use Rattle.counting.specs.Common.{Within, IsIn, mem, Set, complement, every, none, some_set}
+use Rattle.graph_core.specs.Common.{Graph, IsGraph, adjacent, edges_in_cut, in_cut, size, IsPerfectAt, blocks_adjacent, IsUnion, block_count}
 use Rattle.tree_core.specs.Common.{IsTightShore, kept_at, merged_at, leaf_at, Shape, cut, leaf}
 
 -- the cuts of x and y cross: each of the four corners holds one of 1 to n
@@ -56,3 +56,17 @@ pub record IsSameGraph (g : Graph) (p q : List (List ℕ)) (f : ℕ → ℕ) : T
 pub record PairsLeaves (g : Graph) (ps qs : List (List (List ℕ))) (partner : ℕ → ℕ) (blocks : ℕ → ℕ → ℕ) : Type 0 where
   pub pairs : IsBijection (length ps) (length qs) partner
   pub same : (i : ℕ) → Within (length ps) i → IsSameGraph g (leaf_at ps i) (leaf_at qs (partner i)) (blocks i)
+
+-- f is an isomorphism of the underlying simple graphs of g and h: a bijection of their vertices
+-- that preserves adjacency both ways
+pub record IsIsomorphism (g h : Graph) (f : ℕ → ℕ) : Type 0 where
+  pub bijection : IsBijection g.order h.order f
+  pub edges : (u v : ℕ) → Within g.order u → Within g.order v → adjacent g none u v ≡ adjacent h none (f u) (f v)
+
+-- isomorphic graphs pass the test alike
+abbrev pub RespectsIsomorphism : (Graph → Bool) → Type 0
+RespectsIsomorphism test = (g h : Graph) (f : ℕ → ℕ) → IsGraph g → IsGraph h → IsIsomorphism g h f → test g ≡ test h
+
+-- bipartite, as a test: some vertex set has all edges in its cut
+abbrev pub is_two_sided : Graph → Bool
+is_two_sided g = some_set g.order (λ x. every (size g) (in_cut g x))

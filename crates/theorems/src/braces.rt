@@ -12,9 +12,10 @@ ghost use Rattle.theorems.specs.Braces.{HasWideNeighbourhoods, IsStrongWithout, 
 /// Braces in four ways: of a matching covered bipartite graph with the sides A and B these say
 /// the same. It has no nontrivial tight cut; G - a - a' - b - b' has a perfect matching for any
 /// two vertices a, a' of A and any two b, b' of B; each S of 1 to |A| - 2 vertices of A has at
-/// least |S| + 2 neighbours; any two edges without a common end lie together in a perfect
+/// least |S| + 2 neighbours; any two edges without a common end are together in a perfect
 /// matching. A bipartite graph of six vertices or more is a brace if and only if it is connected,
-/// has a perfect matching and is 2-extendable (Lovász 1987; Plummer 1986).
+/// has a perfect matching and any two edges without a common end are together in one, that is, if
+/// it is 2-extendable (Lovász 1987; Plummer 1986).
 pub fn braces_law()
     ensures fours { (g : Graph) (a : Set) → IsGraph g → IsCovered g → IsSide g a →
         HasOnlyTrivialTightCuts g ↔ AreFoursMatched g a }

@@ -1,11 +1,15 @@
-//! Ear decompositions of matching covered graphs. Each theorem is the contract of a function that
-//! does nothing.
-ghost use Rattle.std.specs.Prelude.{◌≡◌, ◌+◌, ℕ, true, not, List};
+//! Ear decompositions of matching covered graphs.
+//!
+//! Sources: Hetyei (1964); Lovász and Plummer, "Matching Theory" (1986), sections 4.1 and 5.4;
+//! Carvalho, Lucchesi and Murty, "Ear decompositions of matching covered graphs" (1999).
+ghost use Rattle.std.specs.Prelude.{◌≡◌, ◌+◌, ℕ, true, not, List, ◌≢◌, ◌⊎◌, false, [], ◌∷◌};
 ghost use Rattle.std.specs.List.{AllByRecursion};
-ghost use Rattle.counting.specs.Common.{Within, count, Set, everything};
-ghost use Rattle.ear_core.specs.Common.{IsEarList, IsSingle, IsUnrefinable, PlainEars, TakesSingles, IsEar, last_vertex, IsStage, is_met, with_edges};
-ghost use Rattle.graph_core.specs.Common.{IsCovered, Graph, IsBipartite, IsGraph, IsMultigraph, in_cut, size};
-ghost use Rattle.theorems.specs.Ears.{ear_count};
+ghost use Rattle.counting.specs.Common.{Within, count, Set, everything, IsIn, pair_set, union};
+ghost use Rattle.ear_core.specs.Common.{IsEarList, IsSingle, IsUnrefinable, PlainEars, TakesSingles, IsEar, last_vertex, IsStage, is_met, with_edges, AreForced, AreNeeded, AreSteps, PlainStep};
+ghost use Rattle.graph_core.specs.Common.{IsCovered, Graph, IsBipartite, IsGraph, IsMultigraph, in_cut, size, HasPerfect, IsSide, with_ends};
+ghost use Rattle.theorems.specs.Ears.{ear_count, IsConformal};
+ghost use Rattle.two_ears.specs.AddedEdges.{with_pairs};
+ghost use Rattle.two_ears.specs.VertexPairs.{AreDisjoint, in_pairs, vertices_of};
 
 /// Each matching covered graph has an edge, and from each edge an ear decomposition with steps of
 /// one ear or two, where two ears are added only at a stage from which no ear decomposition goes on
@@ -18,6 +22,41 @@ pub fn ear_list_exists_law()
         (IsBipartite g → AllByRecursion IsSingle list.steps) × TakesSingles g list }
 {}
 
+/// Ear decompositions from a subgraph: from a matching covered subgraph of a matching covered graph
+/// ears lead on, single and double, to the whole graph if and only if the subgraph is conformal,
+/// that is, the graph has a perfect matching without its vertices. The ears can be chosen so that
+/// two are added at once only where neither alone keeps the stage matching covered and no ear
+/// decomposition goes on by a single ear, and all are single if the graph is bipartite (Lovász and
+/// Plummer, "Matching Theory", section 5.4).
+pub fn ear_decomposition_law()
+    ensures goes_on { (g : Graph) (f : Set) → IsMultigraph g → IsCovered g → IsStage g f →
+        IsConformal g f → (steps : List PlainStep) × AreSteps g f steps × AreNeeded g f steps ×
+        (IsBipartite g → AllByRecursion IsSingle steps) × AreForced g f steps }
+    ensures conformal { (g : Graph) (f : Set) (steps : List PlainStep) → IsMultigraph g →
+        IsCovered g → AreSteps g f steps → IsConformal g f }
+{}
+
+/// The two-ear theorem, in three forms. If a matching covered graph has a perfect matching without
+/// all vertices of some disjoint pairs, it has one without those of two of the pairs, or of one.
+/// If it stays matching covered with further edges, it does with one of them, or with two. A
+/// bipartite one has a perfect matching without any two vertices on opposite sides (Lovász and
+/// Plummer, "Matching Theory", section 5.4).
+pub fn two_ear_law()
+    ensures pairs { (g : Graph) (ps : List (ℕ × ℕ)) → IsGraph g → IsCovered g → ps ≢ [] →
+        AreDisjoint g.order ps → HasPerfect g (in_pairs ps) →
+        (p : ℕ × ℕ) × (q : ℕ × ℕ) × IsIn p ps × IsIn q ps ×
+        HasPerfect g (union (vertices_of p) (vertices_of q)) }
+    ensures edges { (g : Graph) (ps : List (ℕ × ℕ)) → IsGraph g → IsCovered g → ps ≢ [] →
+        ((p : ℕ × ℕ) → IsIn p ps → Within g.order p.0 × Within g.order p.1) →
+        ((p : ℕ × ℕ) → IsIn p ps → p.0 ≢ p.1) → IsCovered (with_ends g (with_pairs g.ends ps)) →
+        ((p : ℕ × ℕ) × IsIn p ps × IsCovered (with_ends g (with_pairs g.ends (p ∷ [])))) ⊎
+        ((p : ℕ × ℕ) × (q : ℕ × ℕ) × IsIn p ps × IsIn q ps ×
+        IsCovered (with_ends g (with_pairs g.ends (p ∷ q ∷ [])))) }
+    ensures sides { (g : Graph) (a : Set) (x z : ℕ) → IsGraph g → IsCovered g → IsSide g a →
+        Within g.order x → Within g.order z → a x ≡ true → a z ≡ false →
+        HasPerfect g (pair_set x z) }
+{}
+
 /// Each ear decomposition of a matching covered graph with n vertices and m edges has m - n + 1
 /// ears, a double ear counted as two (Lovász and Plummer, "Matching Theory", section 5.4). In any
 /// graph n is the number of vertices that edges meet.
@@ -28,10 +67,10 @@ pub fn ear_count_law()
         IsEarList g list → ear_count list.steps + g.order ≡ size g + 1 }
 {}
 
-/// A bipartite matching covered graph with a single ear whose ends lie on opposite sides is
-/// matching covered and bipartite (Hetyei 1964; Lovász and Plummer, "Matching Theory", section
-/// 4.1).
-pub fn hetyei_law()
+/// Ears of bipartite graphs: a bipartite matching covered graph with a single ear whose ends are on
+/// opposite sides is matching covered and bipartite (Hetyei 1964; Lovász and Plummer, "Matching
+/// Theory", section 4.1).
+pub fn bipartite_ear_law()
     ensures covered { (g : Graph) (f a : Set) (v : ℕ) (es : List ℕ) → IsGraph g → IsStage g f →
         ((e : ℕ) → Within (size g) e → f e ≡ true → in_cut g a e ≡ true) → IsEar g f v es →
         a (last_vertex g v es) ≡ not (a v) → IsStage g (with_edges f es) }

@@ -2,48 +2,55 @@
 //!
 //! Each theorem is a public function with an empty body, and its contract is the statement. A file
 //! is a chapter:
-//! - `braces`: braces
+//! - `matchings`: Tutte, Berge, Gallai, and the structure theorem of Gallai and Edmonds
+//! - `barriers`: the canonical partition of Kotzig and Lovász
+//! - `bipartite`: Hall and Hetyei
+//! - `cuts`: uncrossing and laminar families
+//! - `decompositions`: tight cut decompositions, their uniqueness, and the number of bricks
 //! - `bricks`: bricks and 3-connected graphs
-//! - `candidates`: the third part of the candidates
-//! - `cubic_graphs`: cubic graphs
-//! - `cuts`: laminar families of tight cuts
-//! - `decompositions`: where tight cut decompositions end
-//! - `derivations`: tight cut decompositions and the number of bricks
+//! - `braces`: braces
+//! - `extendable`: 2-extendable graphs
+//! - `regular_graphs`: regular and cubic graphs
+//! - `separating`: separating cuts
 //! - `ears`: ear decompositions
-//! - `leaf_counts`: the counts of leaves
-//! - `matchings`: the Gallai-Edmonds structure theorem
 //! - `outcomes`: what the program reports
-//! - `trees`: the nodes of a derivation
+//! - `program`: an appendix on definitions of the program
 //!
-//! The words of a chapter that the lower crates lack stand in a file of `specs/`. No part of the
-//! program stands on this crate. `docs/THEOREMS.md` is the book that follows it.
+//! What a chapter defines beyond the lower crates is in a file of `specs/`. No part of the program
+//! depends on this crate. `docs/THEOREMS.md` is the book that follows it.
 //!
 //! Sources: Lovász and Plummer, "Matching Theory" (1986); Lucchesi and Murty, "Perfect Matchings"
 //! (2024).
 #![tactic(auto)]
 
+mod barriers;
+mod bipartite;
 mod braces;
 mod bricks;
-mod candidates;
-mod cubic_graphs;
 mod cuts;
 mod decompositions;
-mod derivations;
 mod ears;
-mod leaf_counts;
+mod extendable;
 mod matchings;
 mod outcomes;
-mod trees;
+mod program;
+mod regular_graphs;
+mod separating;
 
+pub use barriers::kotzig_lovasz_law;
+pub use bipartite::{hetyei_law, marriage_law};
 pub use braces::{braces_law, strong_digraph_law};
 pub use bricks::elp_law;
-pub use candidates::{first_separated_law, third_part_law};
-pub use cubic_graphs::cubic_law;
-pub use cuts::laminar_law;
-pub use decompositions::{bricks_and_braces_law, leaf_law};
-pub use derivations::{brick_number_law, derivation_exists_law};
-pub use ears::{ear_count_law, ear_list_exists_law, hetyei_law};
-pub use leaf_counts::{counts_law, selection_law};
-pub use matchings::gallai_edmonds_law;
+pub use cuts::{laminar_law, uncrossing_law};
+pub use decompositions::{
+    brick_number_law, bricks_and_braces_law, derivation_exists_law, leaf_law, uniqueness_law,
+};
+pub use ears::{
+    bipartite_ear_law, ear_count_law, ear_decomposition_law, ear_list_exists_law, two_ear_law,
+};
+pub use extendable::extendable_law;
+pub use matchings::{berge_law, gallai_edmonds_law, gallai_lemma_law, tutte_law};
 pub use outcomes::{headline_law, report_exists_law};
-pub use trees::tree_nodes_law;
+pub use program::{counts_law, first_separated_law, selection_law, third_part_law, tree_nodes_law};
+pub use regular_graphs::{cubic_law, regular_law};
+pub use separating::separating_law;

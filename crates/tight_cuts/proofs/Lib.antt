@@ -19,10 +19,9 @@ pub mod BesideGraphs
 pub mod FrontCandidates
 pub mod FirstCandidates
 mod CrossingMatchings
-pub mod SingleVertices
-pub mod QuotientSides
 pub mod LiftedCandidates
 pub mod PartitionCandidates
 pub mod FrontEmpty
 pub mod BipartiteShores
 pub mod OneSided
+pub mod PartnersOfEnds

@@ -5,7 +5,7 @@ use Rattle.std.proofs.Common.{◌≡◌, ℕ, ◌≤◌, Bool, true, false, not,
 use Rattle.counting.proofs.Common.{and_parts, and_from, both_ways, cases_Bool, count_congr, count_le, mem-rising_list, rising_list-rises, some_true, true_some, Within, count, mem, Set, complement, some}
 use Rattle.contraction.proofs.QuotientLaws.{covered_down, tight_at_down, tight_at_up}
 use Rattle.graph_core.proofs.Common.{place_in, place_is, at_rep, rep, rep_in, rep_place, quotient_graph, tight-same, nontrivial-same, blocks-singles, contracted-singles, singles-tight, tight-singles, length-singles, singles-partition, IsCovered, Graph, IsGraph, AreBlocks, IsPartition, block, place, singles, quotient, union_of_blocks, IsTightAt, IsUnion, blocks_in, IsNontrivial, IsTight}
-use Rattle.tight_cuts.proofs.SingleVertices.{as_many-singles, last-place}
+use Rattle.tree_core.proofs.SingleVertices.{as_many-singles, last-place}
 use Rattle.tight_cuts.specs.Common.{Candidate, IsTightCandidate, candidates, IsCandidateAt, candidates_at, lifted_candidate}
 
 pub map-none : {X Y : Type 0} (f : X → Y) (xs : List X) → map f xs ≡ [] → xs ≡ []

@@ -1,10 +1,10 @@
 -- What the test of one cut answers: the cut is tight, or a perfect matching crosses it more than
 -- once.
 -- Stated by: tight_cuts. Rests on it: tree_check.
-use Rattle.std.specs.Prelude.{◌≡◌, ℕ, ◌<◌, ◌≤◌, true}
+use Rattle.std.specs.Prelude.{◌≡◌, ℕ, ◌<◌, ◌≤◌, ◌==◌, ◌||◌, true}
 use Rattle.counting.specs.Common.{Set, none, mem}
-use Rattle.graph_core.specs.Common.{Graph, edges_in_cut, in_cut, size, IsPerfect, Together, IsTight}
-use Rattle.match_core.specs.Common.{IsOf, MatchingValue, edges_of}
+use Rattle.graph_core.specs.Common.{Graph, edges_in_cut, first_end, in_cut, second_end, size, IsPerfect, Together, IsTight}
+use Rattle.match_core.specs.Common.{IsOf, MatchingValue, RowsValue, are_partners, edges_of}
 use Rattle.tight_cuts.specs.declared.tightness.Tightness.{Tightness}
 use Rattle.tight_cuts.specs.declared.tightness.Tightness.TheVariants.{Tight, Crossed}
 
@@ -22,3 +22,12 @@ IsTightness g x (Crossed m) = (IsTight g x → ⊥) × CrossesTwice g x m
 -- no later edge of the cut of x lies in a perfect matching together with edge e
 abbrev pub NoLaterWith : Graph → Set → ℕ → Type 0
 NoLaterWith g x e = (f : ℕ) → e < f → f ≤ size g → in_cut g x f ≡ true → Together g e f → ⊥
+
+-- the rows are those of g without the ends of edge e
+pub record AreRowsWithout (g : Graph) (e : ℕ) (rows : RowsValue) : Type 0 where
+  pub graph : rows.graph ≡ g
+  pub removed : (v : ℕ) → mem rows.removed v ≡ ((first_end g e == v) || (second_end g e == v))
+
+-- the ends of edge f are partners in g without r, seen from both of them
+abbrev pub AreEndsPartners : Graph → Set → ℕ → Type 0
+AreEndsPartners g r f = (are_partners g r (first_end g f) (second_end g f) ≡ true) × (are_partners g r (second_end g f) (first_end g f) ≡ true)

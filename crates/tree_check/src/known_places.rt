@@ -23,7 +23,7 @@ pub(crate) struct KnownLeaf<'g> {
 #[derive(Drop)]
 pub struct KnownPlaces<'c, 'g> {
     covered: &'c Covered<'g>,
-    leaves: Vec<KnownLeaf<'g>>,
+    leaves: Vec<KnownLeaf<'c>>,
     quotients: Vec<Contracted>,
 }
 
@@ -72,7 +72,7 @@ impl<'c, 'g> KnownPlaces<'c, 'g> {
     }
 
     /// The leaf at the place is known from now on.
-    pub(crate) fn add_leaf(&mut self, place: Place<'g>, kind: LeafKind) -> Result<(), Memory>
+    pub(crate) fn add_leaf(&mut self, place: Place<'c>, kind: LeafKind) -> Result<(), Memory>
         requires { IsLeafOfKind self.old place.blocks kind }
         ensures { self.new ≡ self.old }
     {

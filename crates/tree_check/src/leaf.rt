@@ -34,7 +34,7 @@ pub(crate) fn scan_root_leaf(alloc: Global, known: &mut KnownPlaces) -> Result<S
 pub(crate) fn scan_leaf<'c, 'g>(
     alloc: Global,
     known: &mut KnownPlaces<'c, 'g>,
-    p: Place<'g>,
+    p: Place<'c>,
     node: u32,
 ) -> Result<Scanned, Memory>
     requires { p.graph ≡ known.old }
@@ -51,7 +51,7 @@ pub(crate) fn scan_leaf<'c, 'g>(
 // What the scan finds at a leaf that was judged, which is known from now on.
 fn scanned_leaf<'c, 'g>(
     known: &mut KnownPlaces<'c, 'g>,
-    p: Place<'g>,
+    p: Place<'c>,
     judged: Result<LeafKind, Why>,
     node: u32,
 ) -> Result<Scanned, Memory>

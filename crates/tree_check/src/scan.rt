@@ -91,7 +91,7 @@ fn scan_from_root(alloc: Global, known: &mut KnownPlaces, tree: &Tree) -> Result
 fn scan_cut<'c, 'g>(
     alloc: Global,
     known: &mut KnownPlaces<'c, 'g>,
-    p: &Place<'g>,
+    p: &Place<'c>,
     shore: VSet,
     kept: &Tree,
     merged: &Tree,
@@ -128,7 +128,7 @@ fn scan_cut<'c, 'g>(
 fn scan_at<'c, 'g>(
     alloc: Global,
     known: &mut KnownPlaces<'c, 'g>,
-    p: Place<'g>,
+    p: Place<'c>,
     tree: &Tree,
     node: u32,
 ) -> Result<Scanned, Memory>

@@ -10,4 +10,8 @@ pub mod SwitchSets
 pub mod FewLeaves
 pub mod KindsOfLeaves
 pub mod AddedKinds
+pub mod LeafPlaces
+pub mod SingleVertices
+pub mod QuotientSides
+pub mod SeenGraphs
 pub mod Common

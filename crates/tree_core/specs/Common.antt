@@ -2,7 +2,8 @@
 pub use Rattle.tree_core.specs.Shapes.{Shape, leaf, cut, Fits, node_count, cut_count, leaf_count, depth, shores}
 pub use Rattle.tree_core.specs.Derivations.{kept_at, merged_at, IsCutAt, IsDerivationAt, IsDerivation, IsTightShore}
 unfoldable pub use Rattle.tree_core.specs.Derivations.{IsLeafAt}
-pub use Rattle.tree_core.specs.Places.{PlaceValue}
+pub use Rattle.tree_core.specs.Places.{PlaceValue, place_of, IsSeen}
+unfoldable pub use Rattle.tree_core.specs.Places.{seen_at}
 pub use Rattle.tree_core.specs.Leaves.{leaves_at, leaves, StandsAt, partitions_of, LeadsTo}
 pub use Rattle.tree_core.specs.View.{shape_of}
 pub use Rattle.tree_core.specs.Moves.{PlainMove, rotate_at, switch_at, result_at, with_child, rotate_result_kept, rotate_result_merged, rotate_result_at, parent_path, last_step, rotate_result, below, union_list, minus_list, meet_list, inner_rest, outer_rest, list_if, kept_if_greatest_comes, merged_if_greatest_comes, kept_if_greatest_stays, merged_shore_if_greatest_stays, merged_if_greatest_stays, is_proper, switch_result_at, switch_result, move_result, TurnsThrough, IsBlockOf, BlocksAt, IsProper}

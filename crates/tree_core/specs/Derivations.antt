@@ -1,6 +1,6 @@
 -- Tight cut decompositions as trees (Lovász 1987): a tree of cuts that derives a matching covered
 -- graph.
--- Stated by: tree_core, decomposer, move_laws, tree_check, uncross, list_lines and 4 more.
+-- Stated by: tree_core, decomposer, move_laws, tree_check, uncross, mcg6_lines and 4 more.
 -- Rests on it: bench_outcomes, bench_top.
 use Rattle.std.specs.Prelude.{◌≡◌, ℕ, false, List, length}
 use Rattle.counting.specs.Common.{Set, mem, IsRisingIn}

@@ -1,6 +1,6 @@
 -- How the code's tree is seen: by its plain shape. Two trees that say the same may stand in
 -- different boxes.
--- Stated by: tree_core, decomposer, tree_check, uncross, tree_text, list_lines and 4 more.
+-- Stated by: tree_core, decomposer, tree_check, uncross, tree_text, mcg6_lines and 4 more.
 use Rattle.tree_core.specs.declared.tree.Tree.{Tree, Leaf, Cut'}
 use Rattle.tree_core.specs.Shapes.{Shape, leaf, cut}
 

@@ -17,7 +17,7 @@ use vset_core::{MOST_VERTICES, VSet};
 /// leads to the places `kept` and `merged` (Lovász 1987).
 #[derive(Drop)]
 pub struct Place<'g> {
-    graph: &'g MultiGraph,
+    root: &'g Covered<'g>,
     partition: Partition,
 }
 
@@ -28,24 +28,21 @@ impl<'g> Model for Place<'g> {
 
     ghost Value = { PlaceValue };
 
-    ghost view = { λ p. record { graph = p.graph.now; blocks = p.partition.blocks } };
+    ghost view = { λ p. record { graph = p.root.now; blocks = p.partition.blocks } };
 
-    ghost invariant = { λ p. (p.partition.order ≡ p.graph.now.order) × IsCovered (quotient p.graph.now p.partition.blocks) };
+    ghost invariant = { λ p. (p.partition.order ≡ p.root.now.order) × IsCovered (quotient p.root.now p.partition.blocks) };
 }
 
 impl<'g> Place<'g> {
     /// The place at the root: the single vertices of a covered graph. The quotient at it is the
     /// graph itself up to parallel edges.
-    pub fn root(alloc: Global, c: &Covered<'g>) -> Result<Place<'g>, Memory>
+    pub fn root(alloc: Global, c: &'g Covered<'g>) -> Result<Place<'g>, Memory>
         ensures graph { IfOk result (λ p. p.graph ≡ c.now) }
         ensures blocks { IfOk result (λ p. p.blocks ≡ singles c.now.order) }
     {
         c.keeps_covered();
         let partition = Partition::singles(alloc, c.order())?;
-        Ok(Place {
-            graph: c.graph(),
-            partition,
-        })
+        Ok(Place { root: c, partition })
     }
 
     /// The place below a cut where the shore is kept: its complement becomes one block. The
@@ -63,7 +60,7 @@ impl<'g> Place<'g> {
         let complement = complement_in(&self.partition, shore);
         let partition = self.partition.merge(alloc, complement)?;
         Ok(Place {
-            graph: self.graph,
+            root: self.root,
             partition,
         })
     }
@@ -82,7 +79,19 @@ impl<'g> Place<'g> {
         self.keeps_place();
         let partition = self.partition.merge(alloc, shore)?;
         Ok(Place {
-            graph: self.graph,
+            root: self.root,
+            partition,
+        })
+    }
+
+    /// A copy.
+    pub fn copy(&self, alloc: Global) -> Result<Place<'g>, Memory>
+        ensures { IfOk result (λ p. p ≡ self.now) }
+    {
+        self.keeps_place();
+        let partition = self.partition.copy(alloc)?;
+        Ok(Place {
+            root: self.root,
             partition,
         })
     }
@@ -95,15 +104,22 @@ impl<'g> Place<'g> {
         ensures limits { IsWithinLimits self.now.graph }
         ensures few { length self.now.blocks ≤ MOST_VERTICES }
     {
-        self.graph.keeps_limits();
+        self.root.keeps_covered();
         self.partition.keeps_partition();
+    }
+
+    /// The covered graph at whose derivations the place is.
+    pub(crate) fn root_graph(&self) -> &'g Covered<'g>
+        ensures { result.now ≡ self.now.graph }
+    {
+        self.root
     }
 
     /// The graph.
     pub fn graph(&self) -> &'g MultiGraph
         ensures { result.now ≡ self.now.graph }
     {
-        self.graph
+        self.root.graph()
     }
 
     /// The partition.

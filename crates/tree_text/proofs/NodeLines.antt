@@ -2,7 +2,7 @@
 -- tests of its vertices.
 use Rattle.std.proofs.Common.{◌≡◌, ◌<◌, ◌+◌, ℕ, false, nat_le, List, arith}
 use Rattle.counting.proofs.Common.{nat_tests}
-use Rattle.text_faults.specs.declared.faults.FaultKind.TheVariants as kind
+use Rattle.line_text.specs.declared.faults.FaultKind.TheVariants as kind
 use Rattle.tree_text.specs.Common.{Place, TreeSoFar, is_leaf_line, most_nodes, shore_told, with_node}
 
 -- what is read after a node

@@ -3,8 +3,8 @@
 -- format rises and lies in range.
 use Rattle.std.proofs.Common.{◌≡◌, ◌||◌, ◌==◌, ◌+◌, ◌≤◌, ◌<◌, ℕ, suc, List, [], ◌∷◌, All, true, false, length, nat_lt, subst, arith}
 use Rattle.counting.proofs.Common.{list_any, and_parts, or_parts, nat_tests, Rises, same_rising_list, set-from_rises, set-wider, or_false, Within, mem, IsRisingIn}
-use Rattle.text_faults.specs.Common.{is_out_of_range}
-use Rattle.text_faults.proofs.InRange.{in_range}
+use Rattle.line_text.specs.Common.{is_out_of_range}
+use Rattle.line_text.proofs.InRange.{in_range}
 use Rattle.tree_text.specs.Common.{is_rising}
 
 pub moved : (vertices shore next behind rest : List ℕ) (v : ℕ) → rest ≡ v ∷ behind → ((w : ℕ) → mem next w ≡ (mem shore w || v == w)) → ((w : ℕ) → mem vertices w ≡ (mem shore w || mem rest w)) → (w : ℕ) → mem vertices w ≡ (mem next w || mem behind w)

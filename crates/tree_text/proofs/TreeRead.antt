@@ -4,13 +4,12 @@
 use Rattle.std.proofs.Common.{◌≡◌, ◌+◌, ◌-◌, ◌≤◌, ◌<◌, ◌==◌, codes, ◌||◌, ◌^◌, not, nat_le, if◌then◌else◌, ℕ, List, [], ◌∷◌, All, Bool, length, map, true, false, Option, Some, None, Result, Ok, IfOk, refl, sym, subst, arith}
 use Rattle.counting.proofs.Common.{list_all, list_any, and_parts, both_ways, not-false, nat_tests, Within, mem}
 use Rattle.std.specs.List.Sorted.{IsStrictlyIncreasing}
-use Rattle.line_text.specs.Common.{Begins, Stands, finish, has_form, word_at, is_number, value_of}
+use Rattle.line_text.specs.Common.{Begins, Stands, finish, has_form, word_at, is_number, value_of, is_out_of_range}
 use Rattle.line_text.proofs.Tables.{all_passed, no_value}
-use Rattle.text_faults.specs.declared.faults.FaultKind.{FaultKind}
-use Rattle.text_faults.specs.declared.faults.FaultKind.TheVariants as kind
+use Rattle.line_text.specs.declared.faults.FaultKind.{FaultKind}
+use Rattle.line_text.specs.declared.faults.FaultKind.TheVariants as kind
 use Rattle.tree_core.proofs.Common.{Shape, leaf, cut, Fits, node_count, below-without_greatest}
 use Rattle.tree_text.specs.Common.{Place, root, in_kept, in_merged, Reading, wanted, whole, put, TreeSoFar, tree_format, node_line, line_behind, behind_first, is_rising, is_leaf_line, is_cut_line, most_nodes, HasVertices, ShoresRise, IsWritable}
-use Rattle.text_faults.specs.Common.{is_out_of_range}
 use Rattle.tree_text.proofs.ShoreLists.{rising_read}
 
 -- a nonempty rising list below n

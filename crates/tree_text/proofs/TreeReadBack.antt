@@ -6,13 +6,12 @@ use Rattle.std.proofs.Common.{◌≡◌, ◌+◌, ◌-◌, ◌≤◌, ◌<◌, �
 use Rattle.std.specs.Fmt.{decimal}
 use Rattle.counting.proofs.Common.{AllByRecursion, list_all, list_any, length-map, and_from, false_from_ne_true, nat_tests, mem-within, Within, mem}
 use Rattle.std.specs.List.Sorted.{IsStrictlyIncreasing}
-use Rattle.line_text.specs.Common.{Begins, Stands, has_form, words_of, unwords, is_skipped, IsSignificant, lines_of, is_number, value_of}
+use Rattle.line_text.specs.Common.{Begins, Stands, has_form, words_of, unwords, is_skipped, IsSignificant, lines_of, is_number, value_of, is_out_of_range}
 use Rattle.line_text.proofs.Decimals.{number_of-decimal, is_word-decimal, numbers-decimal, values-decimal, words-decimal}
-use Rattle.text_faults.proofs.InRange.{in_range-tests}
+use Rattle.line_text.proofs.InRange.{in_range-tests}
 use Rattle.line_text.proofs.ReadBack.{Stands-written, Stands-comments, is_closed-unlines, Begins-append, significant-append}
 use Rattle.tree_core.proofs.Common.{Shape, leaf, cut, Fits, node_count}
 use Rattle.tree_text.specs.Common.{Place, root, in_kept, in_merged, Reading, wanted, whole, put, TreeSoFar, tree_format, is_rising, is_leaf_line, is_cut_line, most_nodes, header_words, cut_words, node_words, tree_text, HasVertices, ShoresRise, IsWritable}
-use Rattle.text_faults.specs.Common.{is_out_of_range}
 
 -- so many nodes read, and what they say
 abbrev at : ℕ → Reading → TreeSoFar

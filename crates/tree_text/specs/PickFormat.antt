@@ -3,8 +3,8 @@
 -- Stated by: tree_text, bench_tasks.
 use Rattle.std.specs.Prelude.{ℕ, ◌==◌, not, nat_lt, List, [], ◌∷◌, ◌++◌, length, codes, Result, Ok, Err, if◌then◌else◌}
 use Rattle.line_text.specs.Common.{Rules, checked, has_form, word_at, is_number, value_of}
-use Rattle.text_faults.specs.declared.faults.FaultKind.{FaultKind}
-use Rattle.text_faults.specs.declared.faults.FaultKind.TheVariants as kind
+use Rattle.line_text.specs.declared.faults.FaultKind.{FaultKind}
+use Rattle.line_text.specs.declared.faults.FaultKind.TheVariants as kind
 
 -- the most picks
 abbrev pub most_picks : ℕ

@@ -9,7 +9,7 @@
 //! and its shores are nonempty and rise: `laws::read_tree_fits`. `shores` has the tests of lists
 //! of vertices, which the format of moves shares.
 //!
-//! Stands on `line_text` for what a format is, on `text_faults` for the reader and on `tree_core`
+//! Stands on `line_text` for what a format is and for the reader, and on `tree_core`
 //! for trees. The manner of the formats is that of the graph files of the DIMACS challenges (1990
 //! to 1993).
 #![tactic(auto)]

@@ -1,15 +1,13 @@
 //! The pick format.
 ghost use Rattle.std.specs.Prelude.{◌≡◌, ◌<◌, ◌≤◌, ◌-◌, ◌^◌, ℕ, List, length, IfOk, IfErr, Ok, Err};
-ghost use Rattle.line_text.specs.Common.{Gives, Stands, FirstFault, texts_of};
-ghost use Rattle.text_faults.specs.Common.{IsFirstFault, ReadsText};
-ghost use Rattle.text_faults.specs.declared.faults.FaultKind.{FaultKind};
+ghost use Rattle.line_text.specs.Common.{Gives, Stands, FirstFault, texts_of, IsFirstFault, ReadsText};
+ghost use Rattle.line_text.specs.declared.faults.FaultKind.{FaultKind};
 ghost use Rattle.tree_text.specs.PickFormat.{PicksSoFar, pick_header, pick_line, pick_end, pick_format};
 ghost use Rattle.tree_text.specs.SoFar.{picks_so_far};
 
 use graph_core::Numbers;
-use line_text::{LineFormat, Refusal, has_form, number, word};
+use line_text::{FaultKind, LineFormat, Refusal, TextFault, has_form, number, read_text, word};
 use std::alloc::Global;
-use text_faults::{FaultKind, TextFault, read_text};
 
 const MOST_PICKS: u32 = 127;
 

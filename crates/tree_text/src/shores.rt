@@ -2,7 +2,7 @@
 ghost use Rattle.std.specs.Prelude.{◌≡◌, ◌≤◌};
 ghost use Rattle.std.specs.List.{list_any};
 ghost use Rattle.counting.specs.Common.{mem, IsRisingIn};
-ghost use Rattle.text_faults.specs.Common.{is_out_of_range};
+ghost use Rattle.line_text.specs.Common.{is_out_of_range};
 ghost use Rattle.tree_text.specs.Common.{is_rising};
 
 use vset_core::{MOST_VERTICES, VSet};

@@ -1,5 +1,5 @@
 -- A graph with further edges, which get the numbers after those of its own.
--- Stated by: two_ears.
+-- Stated by: two_ears, theorems.
 use Rattle.std.specs.Prelude.{◌≡◌, ℕ, true, List, [], ◌∷◌, ◌++◌}
 use Rattle.counting.specs.Common.{Within, some}
 use Rattle.graph_core.specs.Common.{Graph, size, first_end, second_end, IsGraph, has_ends, with_ends}

@@ -1,7 +1,6 @@
 //! Leaf maps: where each leaf of a tree goes, and its blocks; and what they are after a move more.
 ghost use Rattle.std.specs.Prelude.{◌≡◌, ◌≤◌, ◌+◌, List, ℕ, length, All, IfOk, map};
 ghost use Rattle.counting.specs.Common.{Within};
-ghost use Rattle.graph_core.specs.Common.{place};
 ghost use Rattle.tree_core.specs.Common.{PlainLeafMap, leaf_at, position};
 ghost use Rattle.uncross.specs.Common.{IsMapInto, IsMapIntoIf, IsNameIn, blocks_of, map_after, names_after, images_at, map_of, maps_of};
 
@@ -48,19 +47,6 @@ fn position_of(order: &[u32], i: u32) -> u32
     }
 }
 
-// The place of the block that holds v, counted from 0, and the number of blocks if none does.
-fn index_of(p: &Partition, v: u32) -> usize
-    requires { Within MOST_VERTICES v }
-    ensures { result + 1 ≡ place p.now.blocks v }
-{
-    for i in 0..p.len() {
-        if p.block(i).contains(v) {
-            return i;
-        }
-    }
-    p.len()
-}
-
 // The names of the images of the blocks of q with these names.
 fn names_after(
     alloc: Global,
@@ -76,7 +62,8 @@ fn names_after(
     let mut after = Numbers::new(alloc);
     let mut rest = names;
     'names: while let Some((b, others)) = rest.split_first() {
-        after.push(image_name(images, n, q.block(index_of(q, *b))))?;
+        let block = q.block(q.place(*b) as usize - 1);
+        after.push(image_name(images, n, block))?;
         rest = others;
     }
     Ok(after)

@@ -1,5 +1,5 @@
 use Rattle.graph_core.proofs.Common.{quotient, singles}
-use Rattle.tight_cuts.proofs.QuotientSides.{bipartite_from_singles, singles_from_bipartite}
+use Rattle.tree_core.proofs.QuotientSides.{bipartite_from_singles, singles_from_bipartite}
 use Rattle.decomposer.proofs.shores.picked_at_root.Goals as goal
 
 pub returns-clause-kind : goal.returns-clause-kind

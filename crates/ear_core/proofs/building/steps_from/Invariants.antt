@@ -1,21 +1,16 @@
-use Rattle.std.proofs.Common.{◌≡◌, ◌+◌, ◌++◌, List, map, length}
-use Rattle.counting.proofs.Common.{AllByRecursion, count, complement}
-use Rattle.graph_core.proofs.Common.{size, IsBipartite}
+use Rattle.std.proofs.Common.{◌≡◌, ℕ}
+use Rattle.counting.proofs.Common.{complement, count, mem}
+use Rattle.graph_core.proofs.Common.{size}
 use Rattle.match_search.specs.Common.{marks}
-use Rattle.ear_core.specs.Common.{KeepsMates, row_edge, PlainStep, AreForced, AreNeeded, AreSteps, IsSingle, is_met, IsStage, step_of}
+use Rattle.ear_core.specs.Common.{IsBuilt, is_met, row_edge}
 use Rattle.ear_core.proofs.building.steps_from.Given as goal
 
--- steps that go on from the stage make an ear list together with those so far
+-- the steps lead from the first stage to the one that is built, which meets these vertices
 abbrev pub invariant-stages : goal.invariant-stages
 invariant-stages l = record {
-  long : length l.mark.items ≡ size l.c + 1;
-  stage : IsStage l.c (marks l.mark.items);
-  mates : KeepsMates l.c (row_edge l.kept.rows) (is_met l.c (marks l.mark.items));
-  so_far : (others : List PlainStep) → AreSteps l.c (marks l.mark.items) others → AreSteps l.c (marks l.initial.mark.items) (map step_of l.steps ++ others);
-  needed : (others : List PlainStep) → AreNeeded l.c (marks l.mark.items) others → AreNeeded l.c (marks l.initial.mark.items) (map step_of l.steps ++ others);
-  forced : (others : List PlainStep) → AreForced l.c (marks l.mark.items) others → AreForced l.c (marks l.initial.mark.items) (map step_of l.steps ++ others);
-  single : IsBipartite l.c → AllByRecursion IsSingle (map step_of l.steps);
+  built : IsBuilt l.c (row_edge l.kept.rows) (marks l.initial.built.mark.items) l.built;
+  met : (v : ℕ) → mem l.met v ≡ is_met l.c (marks l.built.mark.items) v;
 }
 
 abbrev pub decreases-stages : goal.decreases-stages
-decreases-stages l = count (size l.c) (complement (marks l.mark.items))
+decreases-stages l = count (size l.c) (complement (marks l.built.mark.items))

@@ -2,8 +2,9 @@ use Rattle.std.proofs.Common.{rules, ◌≡◌, ◌∷◌, ap, arith, subst, map
 use Rattle.counting.proofs.Common.{count_le}
 use Rattle.graph_core.proofs.Common.{size}
 use Rattle.match_search.specs.Common.{marks}
-use Rattle.ear_core.specs.Common.{IsTaken, step_of}
+use Rattle.ear_core.specs.Common.{IsAskedBefore, IsTaken, step_of}
 use Rattle.ear_core.proofs.FirstStage.{stage-counts}
+use Rattle.ear_core.proofs.Searching.{at-none}
 use Rattle.ear_core.proofs.Judging.{taken-stage, taken-adds, judged-behind}
 use Rattle.ear_core.proofs.checking.check_steps.Goals as goal
 
@@ -27,6 +28,7 @@ steps-preserved c =
     let new = marks c.take_step.new.mark.items in
     let more = taken-adds g f new s passes stage same in
     let few = c.steps.invariant.few in
+    let asked = at-none c.in_ok-why.field-0 (IsAskedBefore g new c.take_step.new.stage) none c.in_ok-why.ensures.asked in
     grind (arith, taken-stage g f new s passes stage same, judged-behind g f new s passes stage same c.steps.number (map step_of c.steps.rest.now) (map step_of c.in-Some.others.now) begins)
 
 pub returns-in-Some-2 : goal.returns-in-Some-2

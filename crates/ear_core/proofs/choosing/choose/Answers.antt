@@ -1,69 +1,76 @@
-use Rattle.std.proofs.Common.{rules, ap, map, [], ℕ, List}
-use Rattle.counting.proofs.Common.{mem}
+use Rattle.std.proofs.Common.{◌≡◌, map, subst, sym, List, Option, Some, IfSome, rules}
+use Rattle.counting.proofs.Common.{Set}
+use Rattle.graph_core.proofs.Common.{Graph, IsGraph}
 use Rattle.match_search.specs.Common.{marks}
-use Rattle.ear_core.specs.Common.{IsChosen, FindsBeside, FindsTwo, NoneServes, NoTwoServe, IsStep, next_stage, one, IsStage, ear_of, step_of}
+use Rattle.ear_core.specs.Common.{AreCandidates, FindsAlone, FindsTwo, IsAsked, IsChosen, IsStage, IsStep, NoTwoServe, NoneServes, PlainEar, ear_of, next_stage, one, step_of}
+use Rattle.ear_core.specs.declared.ears.Ear.{Ear}
+use Rattle.ear_core.specs.declared.ears.Step.{Step}
 use Rattle.ear_core.proofs.BipartiteStages.{bipartite-found}
 use Rattle.ear_core.proofs.NeededPairs.{found-needed}
 use Rattle.ear_core.proofs.Searching.{at-none, at-some, ears-fit, found-one, found-two, never-none}
 use Rattle.ear_core.proofs.choosing.choose.Goals as goal
 
-pub first_serving-requires : goal.first_serving-requires
-first_serving-requires c = ears-fit c.args.g.now c.keeps_limits.ensures.multigraph.ends (marks c.args.mark.now) (map ear_of c.args.ears.now) c.requires.candidates.each
+pub first_alone-requires-clause-fits : goal.first_alone-requires-clause-fits
+first_alone-requires-clause-fits c = ears-fit c.args.g.now c.keeps_limits.ensures.multigraph.ends (marks c.args.mark.now) (map ear_of c.args.ears.now) c.requires.candidates.each
 
 pub double_step-requires : goal.double_step-requires
 double_step-requires c = ears-fit c.args.g.now c.keeps_limits.ensures.multigraph.ends (marks c.args.mark.now) (map ear_of c.args.ears.now) c.requires.candidates.each
 
 -- what one ear makes
-single : (c : goal.After-drop-asked-in-Some-2) → let s = one (ear_of c.in-Some.first) in let f = marks c.args.mark.now in
-    IsChosen (map ear_of c.args.ears.now) s × IsStep c.args.g.now f s × IsStage c.args.g.now (next_stage f s)
-single c =
-    let g = c.args.g.now in
-    let f = marks c.args.mark.now in
-    let found = at-some c.in_ok-first.field-0 c.in-Some.first (λ ear. FindsBeside g f (mem []) (map ear_of c.args.ears.now) (ear_of ear)) c.in-Some.is
-    (c.in_ok-first.ensures.some f (mem []) c.in_ok-asked.ensures (λ v. ap (λ (s : List ℕ). mem s v) c.empty.ensures)) in
-    found-one g c.keeps_limits.ensures.multigraph.ends f c.requires.stage (map ear_of c.args.ears.now) c.requires.candidates (ear_of c.in-Some.first) found
+single : (g : Graph) → IsGraph g → (f : Set) → IsStage g f → (ears : List PlainEar) → AreCandidates g f ears → (o : Option Ear) (first : Ear) → o ≡ Some first → IfSome o (λ ear. FindsAlone g f ears (ear_of ear)) →
+    IsChosen ears (one (ear_of first)) × IsStep g f (one (ear_of first)) × IsStage g (next_stage f (one (ear_of first)))
+single g is f stage ears made o first some found = found-one g is f stage ears made (ear_of first) (at-some o first (λ ear. FindsAlone g f ears (ear_of ear)) some found)
 
 pub returns-in-Some-clause-chosen : goal.returns-in-Some-clause-chosen
-returns-in-Some-clause-chosen c = (single c).0
+returns-in-Some-clause-chosen c =
+    let f = marks c.args.mark.now in
+    (single c.args.g.now c.keeps_limits.ensures.multigraph.ends f c.requires.stage (map ear_of c.args.ears.now) c.requires.candidates c.in_ok-first.field-0 c.in-Some.first c.in-Some.is (c.in_ok-first.ensures.some f c.requires.asked c.requires.candidates.each)).0
 
 pub returns-in-Some-clause-step : goal.returns-in-Some-clause-step
-returns-in-Some-clause-step c = (single c).1
+returns-in-Some-clause-step c =
+    let f = marks c.args.mark.now in
+    (single c.args.g.now c.keeps_limits.ensures.multigraph.ends f c.requires.stage (map ear_of c.args.ears.now) c.requires.candidates c.in_ok-first.field-0 c.in-Some.first c.in-Some.is (c.in_ok-first.ensures.some f c.requires.asked c.requires.candidates.each)).1
 
 pub returns-in-Some-clause-stage : goal.returns-in-Some-clause-stage
-returns-in-Some-clause-stage c = (single c).2
+returns-in-Some-clause-stage c =
+    let f = marks c.args.mark.now in
+    (single c.args.g.now c.keeps_limits.ensures.multigraph.ends f c.requires.stage (map ear_of c.args.ears.now) c.requires.candidates c.in_ok-first.field-0 c.in-Some.first c.in-Some.is (c.in_ok-first.ensures.some f c.requires.asked c.requires.candidates.each)).2
 
 pub unreachable-requires : goal.unreachable-requires
 unreachable-requires c =
     let g = c.args.g.now in
     let f = marks c.args.mark.now in
-    never-none g c.keeps_limits.ensures.multigraph.ends f c.requires.stage (map ear_of c.args.ears.now) c.requires.candidates
-    (at-none c.in_ok-first.field-0 (NoneServes g f (map ear_of c.args.ears.now)) (search rules) (c.in_ok-first.ensures.none f (mem []) c.in_ok-asked.ensures (λ v. ap (λ (s : List ℕ). mem s v) c.empty.ensures)))
-    (at-none c.in_ok-step.field-0 (NoTwoServe g f (map ear_of c.args.ears.now)) c.in-None.is (c.in_ok-step.ensures.none f c.in_ok-asked.ensures))
+    let ears = map ear_of c.args.ears.now in
+    never-none g c.keeps_limits.ensures.multigraph.ends f c.requires.stage ears c.requires.candidates
+    (at-none c.in_ok-first.field-0 (NoneServes g f ears) (search rules) (c.in_ok-first.ensures.none f c.requires.asked c.requires.candidates.each))
+    (at-none c.in_ok-step.field-0 (NoTwoServe g f ears) c.in-None.is (c.in_ok-step.ensures.none f (subst (IsAsked g f) (sym c.asked.ensures) c.requires.asked)))
 
 -- what two ears make
-double : (c : goal.After-drop-asked-3) → let s = step_of c.in-Some-2.step in let f = marks c.args.mark.now in
-    IsChosen (map ear_of c.args.ears.now) s × IsStep c.args.g.now f s × IsStage c.args.g.now (next_stage f s)
-double c =
-    let g = c.args.g.now in
-    let f = marks c.args.mark.now in
-    let found = at-some c.in_ok-step.field-0 c.in-Some-2.step (λ step. FindsTwo g f (map ear_of c.args.ears.now) (step_of step)) c.in-Some-2.is (c.in_ok-step.ensures.some f c.in_ok-asked.ensures) in
-    found-two g c.keeps_limits.ensures.multigraph.ends f c.requires.stage (map ear_of c.args.ears.now) c.requires.candidates (step_of c.in-Some-2.step) found
+double : (g : Graph) → IsGraph g → (f : Set) → IsStage g f → (ears : List PlainEar) → AreCandidates g f ears → (o : Option Step) (step : Step) → o ≡ Some step → IfSome o (λ s. FindsTwo g f ears (step_of s)) →
+    IsChosen ears (step_of step) × IsStep g f (step_of step) × IsStage g (next_stage f (step_of step))
+double g is f stage ears made o step some found = found-two g is f stage ears made (step_of step) (at-some o step (λ s. FindsTwo g f ears (step_of s)) some found)
 
 pub returns-clause-chosen : goal.returns-clause-chosen
-returns-clause-chosen c = (double c).0
+returns-clause-chosen c =
+    let f = marks c.args.mark.now in
+    (double c.args.g.now c.keeps_limits.ensures.multigraph.ends f c.requires.stage (map ear_of c.args.ears.now) c.requires.candidates c.in_ok-step.field-0 c.in-Some-2.step c.in-Some-2.is (c.in_ok-step.ensures.some f (subst (IsAsked c.args.g.now f) (sym c.asked.ensures) c.requires.asked))).0
 
 pub returns-clause-step : goal.returns-clause-step
-returns-clause-step c = (double c).1
+returns-clause-step c =
+    let f = marks c.args.mark.now in
+    (double c.args.g.now c.keeps_limits.ensures.multigraph.ends f c.requires.stage (map ear_of c.args.ears.now) c.requires.candidates c.in_ok-step.field-0 c.in-Some-2.step c.in-Some-2.is (c.in_ok-step.ensures.some f (subst (IsAsked c.args.g.now f) (sym c.asked.ensures) c.requires.asked))).1
 
 pub returns-clause-stage : goal.returns-clause-stage
-returns-clause-stage c = (double c).2
+returns-clause-stage c =
+    let f = marks c.args.mark.now in
+    (double c.args.g.now c.keeps_limits.ensures.multigraph.ends f c.requires.stage (map ear_of c.args.ears.now) c.requires.candidates c.in_ok-step.field-0 c.in-Some-2.step c.in-Some-2.is (c.in_ok-step.ensures.some f (subst (IsAsked c.args.g.now f) (sym c.asked.ensures) c.requires.asked))).2
 
 pub returns-clause-single : goal.returns-clause-single
 returns-clause-single c = λ sides.
     let g = c.args.g.now in
     let f = marks c.args.mark.now in
     absurd (bipartite-found g c.keeps_limits.ensures.multigraph.ends sides f c.requires.stage (map ear_of c.args.ears.now) c.requires.candidates
-    (at-none c.in_ok-first.field-0 (NoneServes g f (map ear_of c.args.ears.now)) (search rules) (c.in_ok-first.ensures.none f (mem []) c.in_ok-asked.ensures (λ v. ap (λ (s : List ℕ). mem s v) c.empty.ensures))))
+    (at-none c.in_ok-first.field-0 (NoneServes g f (map ear_of c.args.ears.now)) (search rules) (c.in_ok-first.ensures.none f c.requires.asked c.requires.candidates.each)))
 
 pub returns-clause-needed : goal.returns-clause-needed
 returns-clause-needed c =
@@ -71,5 +78,5 @@ returns-clause-needed c =
     let f = marks c.args.mark.now in
     let ears = map ear_of c.args.ears.now in
     found-needed g c.keeps_limits.ensures.multigraph.ends f c.requires.stage ears c.requires.candidates.each
-    (at-none c.in_ok-first.field-0 (NoneServes g f ears) (search rules) (c.in_ok-first.ensures.none f (mem []) c.in_ok-asked.ensures (λ v. ap (λ (s : List ℕ). mem s v) c.empty.ensures)))
-    (step_of c.in-Some-2.step) (at-some c.in_ok-step.field-0 c.in-Some-2.step (λ step. FindsTwo g f ears (step_of step)) c.in-Some-2.is (c.in_ok-step.ensures.some f c.in_ok-asked.ensures))
+    (at-none c.in_ok-first.field-0 (NoneServes g f ears) (search rules) (c.in_ok-first.ensures.none f c.requires.asked c.requires.candidates.each))
+    (step_of c.in-Some-2.step) (at-some c.in_ok-step.field-0 c.in-Some-2.step (λ step. FindsTwo g f ears (step_of step)) c.in-Some-2.is (c.in_ok-step.ensures.some f (subst (IsAsked c.args.g.now f) (sym c.asked.ensures) c.requires.asked)))

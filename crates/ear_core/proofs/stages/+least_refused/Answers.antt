@@ -6,11 +6,11 @@ use Rattle.ear_core.proofs.FirstFaults.{first-item, items-behind}
 use Rattle.ear_core.proofs.Settling.{settled-result, asked-edges}
 use Rattle.ear_core.proofs.stages.+least_refused.Goals as goal
 
-pub settle-requires : goal.settle-requires
-settle-requires t c = first-item (Within (size c.args.g.now)) c.in-Some.e.now c.args.edges.now c.in-Some.others.now c.in-Some.ensures.cases.0 c.requires
+pub settle-requires-clause-edge : goal.settle-requires-clause-edge
+settle-requires-clause-edge t c = first-item (Within (size c.args.g.now)) c.in-Some.e.now c.args.edges.now c.in-Some.others.now c.in-Some.ensures.cases.0 c.requires.edges
 
 pub least_refused-requires : goal.least_refused-requires
-least_refused-requires t c = grind (arith, items-behind (Within (size c.args.g.now)) c.in-Some.e.now c.args.edges.now c.in-Some.others.now c.in-Some.ensures.cases.0 c.requires)
+least_refused-requires t c = grind (arith, items-behind (Within (size c.args.g.now)) c.in-Some.e.now c.args.edges.now c.in-Some.others.now c.in-Some.ensures.cases.0 c.requires.edges)
 
 pub returns : goal.returns
 returns t c = λ f done is marked known.

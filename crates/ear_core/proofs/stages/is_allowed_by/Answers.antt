@@ -1,17 +1,17 @@
-use Rattle.counting.proofs.Common.{IfOk-weaker, mem}
-use Rattle.std.proofs.Common.{◌≡◌, false, true}
-use Rattle.ear_core.specs.Common.{Serves, AllowedBy}
-use Rattle.ear_core.proofs.Settling.{ends-serve}
+use Rattle.std.proofs.Common.{◌∙◌, sym}
+use Rattle.counting.proofs.Common.{true≢false}
+use Rattle.ear_core.proofs.MatchedStages.{partners-allowed, row-says, says-row}
 use Rattle.ear_core.proofs.stages.is_allowed_by.Goals as goal
 
 pub returns-clause-yes : goal.returns-clause-yes
-returns-clause-yes c = λ f is on.
+returns-clause-yes c = λ f is on yes.
     let g = c.args.g.now in
-    let allowed = ends-serve g c.keeps_limits.ensures.multigraph f c.args.e c.ends-ends.result.a c.ends-ends.result.b c.one.result c.with.result c.requires on c.ends-ends.ensures.first c.ends-ends.ensures.second c.one.ensures c.with.ensures in
-    IfOk-weaker c.serves.result (λ b. b ≡ true → Serves g f (mem c.with.result)) (λ b. b ≡ true → AllowedBy g f c.args.e) (λ b h yes. allowed.0 (h yes)) (c.serves.ensures.yes g f is)
+    (partners-allowed g c.keeps_limits.ensures.multigraph f c.args.e c.requires.edge on).0
+    (row-says g f c.args.e c.ends-ends.result.a c.ends-ends.result.b c.ends-ends.ensures.first c.ends-ends.ensures.second ((c.in_ok-row.ensures g f c.keeps_limits.ensures.multigraph.ends is c.ends-ends.result.b).0 (sym c.contains.ensures ∙ yes)))
 
 pub returns-clause-no : goal.returns-clause-no
-returns-clause-no c = λ f is on.
+returns-clause-no c = λ f is on no allowed.
     let g = c.args.g.now in
-    let allowed = ends-serve g c.keeps_limits.ensures.multigraph f c.args.e c.ends-ends.result.a c.ends-ends.result.b c.one.result c.with.result c.requires on c.ends-ends.ensures.first c.ends-ends.ensures.second c.one.ensures c.with.ensures in
-    IfOk-weaker c.serves.result (λ b. b ≡ false → Serves g f (mem c.with.result) → ⊥) (λ b. b ≡ false → AllowedBy g f c.args.e → ⊥) (λ b h no q. h no (allowed.1 q)) (c.serves.ensures.no g f is)
+    let p = (partners-allowed g c.keeps_limits.ensures.multigraph f c.args.e c.requires.edge on).1 allowed in
+    let q = says-row g f c.args.e c.ends-ends.result.a c.ends-ends.result.b c.ends-ends.ensures.first c.ends-ends.ensures.second p in
+    true≢false (sym (c.contains.ensures ∙ (c.in_ok-row.ensures g f c.keeps_limits.ensures.multigraph.ends is c.ends-ends.result.b).1 q) ∙ no)

@@ -13,7 +13,7 @@ first : (c : In_ok-least) → Settled c.args.g.now (marks c.args.mark.now) (with
 first c =
     let g = c.args.g.now in
     let f = marks c.args.mark.now in
-    c.in_ok-least.ensures f none c.in_ok-asked.ensures (subst (All (λ e. f e ≡ true)) (sym c.as_slice.ensures) c.requires.marked_first) (settled-none g f)
+    c.in_ok-least.ensures f none c.requires.asked (subst (All (λ e. f e ≡ true)) (sym c.as_slice.ensures) c.requires.marked_first) (settled-none g f)
 
 pub returns-in-None : goal.returns-in-None
 returns-in-None c =
@@ -25,8 +25,8 @@ returns-in-None c =
     (λ e. ap (λ second. next_stage none (plain_step (ear_of ear) second) e) c.in-None.is ∙ ap (λ (xs : List ℕ). with_edges none xs e) (sym c.as_slice.ensures))
     (first (goal.at.returns-in-None c).In_ok-least)
 
-pub returns : goal.returns
-returns c =
+pub returns-in-Some : goal.returns-in-Some
+returns-in-Some c =
     let g = c.args.g.now in
     let f = marks c.args.mark.now in
     let ear = c.args.step.now.first in
@@ -35,4 +35,4 @@ returns c =
     let marked = at-some c.args.step.now.second c.in-Some.second (λ (b : Ear). All (λ e. f e ≡ true) b.edges) c.in-Some.is c.requires.marked_second in
     settled-result g f (with_edges (with_edges none es) ds) (next_stage none (step_of c.args.step.now)) c.least_refused-in-Some.result
     (λ e. ap (λ second. next_stage none (plain_step (ear_of ear) second) e) c.in-Some.is ∙ ap₂ (λ (xs ys : List ℕ). with_edges (with_edges none xs) ys e) (sym c.as_slice.ensures) (sym c.as_slice-in-Some.ensures))
-    (c.least_refused-in-Some.ensures f (with_edges none es) c.in_ok-asked.ensures (subst (All (λ e. f e ≡ true)) (sym c.as_slice-in-Some.ensures) marked) (first (goal.at.returns c).In_ok-least))
+    (c.least_refused-in-Some.ensures f (with_edges none es) c.requires.asked (subst (All (λ e. f e ≡ true)) (sym c.as_slice-in-Some.ensures) marked) (first (goal.at.returns-in-Some c).In_ok-least))

@@ -1,17 +1,13 @@
-use Rattle.std.proofs.Common.{rules, ◌≡◌, ◌∙◌, ap, List, Bool, ℕ, None, arith}
-use Rattle.graph_core.proofs.Common.{size}
+use Rattle.std.proofs.Common.{◌≡◌, ◌∙◌, ap, arith, inr, refl, subst, List, Bool, None, ℕ}
+use Rattle.std.proofs.Math.Path.{fun_ext}
+use Rattle.counting.proofs.Common.{none}
 use Rattle.match_search.specs.Common.{marks}
-use Rattle.ear_core.specs.Common.{next_stage, step_fault, step_of}
-use Rattle.ear_core.proofs.Taking.{first_fits, second_fits, first_marked, second_marked, step-taken, step-refused}
+use Rattle.ear_core.specs.Common.{Settled, next_stage, step_fault, step_of}
+use Rattle.ear_core.proofs.MatchedStages.{asked-on}
+use Rattle.ear_core.proofs.Refusing.{step-none}
+use Rattle.ear_core.proofs.Searching.{at-none}
+use Rattle.ear_core.proofs.Taking.{first_marked, second_marked, step-taken, step-refused}
 use Rattle.ear_core.proofs.steps.take_step.Goals as goal
-use Rattle.ear_core.proofs.steps.take_step.Goals.{After-deref-2}
-
--- the marks after the step, if its tests pass
-marked : (c : After-deref-2) → (i : ℕ) → marks c.deref-2.result.now i ≡ next_stage (marks c.args.mark.now.items) (step_of c.args.step.now) i
-marked c i = ap (λ (items : List Bool). marks items i) c.deref-2.ensures.value ∙ c.mark_step.ensures.each i
-
-passes : (c : After-deref-2) → step_fault c.args.g.now (marks c.args.mark.now.items) (step_of c.args.step.now) ≡ None
-passes c = search rules
 
 pub mark_step-requires-clause-first : goal.mark_step-requires-clause-first
 mark_step-requires-clause-first c = grind arith
@@ -19,36 +15,48 @@ mark_step-requires-clause-first c = grind arith
 pub mark_step-requires-clause-second : goal.mark_step-requires-clause-second
 mark_step-requires-clause-second c = grind arith
 
-pub refused_edge-requires-clause-first : goal.refused_edge-requires-clause-first
-refused_edge-requires-clause-first c = let step = c.args.step.now in first_fits c.args.g.now.order (size c.args.g.now) step.first step.second c.requires.fits
+pub returns-then-known-clause-taken : goal.returns-then-known-clause-taken
+returns-then-known-clause-taken c =
+    let g = c.args.g.now in
+    let f = marks c.args.mark.now.items in
+    let s = step_of c.args.step.now in
+    let passes = subst (λ (items : List Bool). step_fault g (marks items) s ≡ None) c.deref.ensures.value (at-none c.fault_of.result (step_fault g (marks c.deref.result.now) s ≡ None) c.in_default.is c.fault_of.ensures.none) in
+    (passes, c.in_ok-known.ensures c.if-known.true f c.requires.asked c.requires.stage (step-none g f s passes), c.mark_step.ensures.each)
 
-pub refused_edge-requires-clause-second : goal.refused_edge-requires-clause-second
-refused_edge-requires-clause-second c = let step = c.args.step.now in second_fits c.args.g.now.order (size c.args.g.now) step.first step.second c.requires.fits
+pub returns-then-known-clause-asked : goal.returns-then-known-clause-asked
+returns-then-known-clause-asked c =
+    let g = c.args.g.now in
+    let f = marks c.args.mark.now.items in
+    let s = step_of c.args.step.now in
+    let passes = subst (λ (items : List Bool). step_fault g (marks items) s ≡ None) c.deref.ensures.value (at-none c.fault_of.result (step_fault g (marks c.deref.result.now) s ≡ None) c.in_default.is c.fault_of.ensures.none) in
+    asked-on g f (marks c.mark_step.new.mark.items) c.args.stage.now s c.requires.asked (step-none g f s passes) (fun_ext c.mark_step.ensures.each)
 
 pub refused_edge-requires-clause-marked_first : goal.refused_edge-requires-clause-marked_first
 refused_edge-requires-clause-marked_first c =
     let step = c.args.step.now in
-    first_marked (marks c.args.mark.now.items) (marks c.deref-2.result.now) step.first step.second (marked (goal.at.refused_edge-requires-clause-marked_first c).After-deref-2)
+    first_marked (marks c.args.mark.now.items) (marks c.deref-4.result.now) step.first step.second (λ i. ap (λ (items : List Bool). marks items i) c.deref-4.ensures.value ∙ c.mark_step.ensures.each i)
 
 pub refused_edge-requires-clause-marked_second : goal.refused_edge-requires-clause-marked_second
 refused_edge-requires-clause-marked_second c =
     let step = c.args.step.now in
-    second_marked (marks c.args.mark.now.items) (marks c.deref-2.result.now) step.first step.second (marked (goal.at.refused_edge-requires-clause-marked_second c).After-deref-2)
-
-pub returns-in-Some-clause-taken : goal.returns-in-Some-clause-taken
-returns-in-Some-clause-taken c = grind arith
+    second_marked (marks c.args.mark.now.items) (marks c.deref-4.result.now) step.first step.second (λ i. ap (λ (items : List Bool). marks items i) c.deref-4.ensures.value ∙ c.mark_step.ensures.each i)
 
 pub returns-in-Some-2-clause-taken : goal.returns-in-Some-2-clause-taken
 returns-in-Some-2-clause-taken c =
     let g = c.args.g.now in
+    let f = marks c.args.mark.now.items in
     let s = step_of c.args.step.now in
-    let new = marks c.deref-2.result.now in
-    let there = (goal.at.returns-in-Some-2-clause-taken c).After-deref-2 in
-    grind (arith, step-refused g c.keeps_limits.ensures.multigraph.ends (marks c.args.mark.now.items) s new (marked there) c.requires.stage (passes there) c.in-Some-2.edge)
+    let new = marks c.deref-4.result.now in
+    let same : (i : ℕ) → new i ≡ next_stage f s i = λ i. ap (λ (items : List Bool). marks items i) c.deref-4.ensures.value ∙ c.mark_step.ensures.each i in
+    let passes = subst (λ (items : List Bool). step_fault g (marks items) s ≡ None) c.deref.ensures.value (at-none c.fault_of.result (step_fault g (marks c.deref.result.now) s ≡ None) c.in_default.is c.fault_of.ensures.none) in
+    inr (passes, (c.in-Some-2.edge, step-refused g c.keeps_limits.ensures.multigraph.ends f s new same c.requires.stage passes c.in-Some-2.edge (subst (Settled g new (next_stage none s)) c.in-Some-2.is c.in_ok-edge.ensures), refl))
 
 pub returns-in-None-clause-taken : goal.returns-in-None-clause-taken
 returns-in-None-clause-taken c =
     let g = c.args.g.now in
+    let f = marks c.args.mark.now.items in
     let s = step_of c.args.step.now in
-    let new = marks c.deref-2.result.now in
-    grind (arith, step-taken g c.keeps_limits.ensures.multigraph.ends (marks c.args.mark.now.items) s new)
+    let new = marks c.deref-4.result.now in
+    let same : (i : ℕ) → new i ≡ next_stage f s i = λ i. ap (λ (items : List Bool). marks items i) c.deref-4.ensures.value ∙ c.mark_step.ensures.each i in
+    let passes = subst (λ (items : List Bool). step_fault g (marks items) s ≡ None) c.deref.ensures.value (at-none c.fault_of.result (step_fault g (marks c.deref.result.now) s ≡ None) c.in_default.is c.fault_of.ensures.none) in
+    (passes, step-taken g c.keeps_limits.ensures.multigraph.ends f s new same c.requires.stage passes (subst (Settled g new (next_stage none s)) c.in-None.is c.in_ok-edge.ensures), c.mark_step.ensures.each)

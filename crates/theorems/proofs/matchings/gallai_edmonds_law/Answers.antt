@@ -1,4 +1,5 @@
 use Rattle.theorems.proofs.MatchedParts.{apart, critical, deficiency, from_a, in_c, near, rest}
+use Rattle.theorems.proofs.SurplusOfA.{more_parts}
 use Rattle.theorems.proofs.ThreeSets.{attains, three_sets}
 use Rattle.theorems.proofs.matchings.gallai_edmonds_law.Goals as goal
 
@@ -13,4 +14,5 @@ returns x = record {
   near = λ g d a c m u is sets mm. near g is d a c sets m mm u;
   from_a = λ g d a c m v is sets mm. from_a g is d a c sets m mm v;
   apart = λ g d a c m u is sets mm. apart g is d a c sets m mm u;
+  surplus = λ g d a c s is sets sub. more_parts g is d a c sets s sub;
 }

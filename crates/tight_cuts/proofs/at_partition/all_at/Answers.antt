@@ -1,7 +1,7 @@
 use Rattle.std.proofs.Common.{◌≡◌, length, ◌∙◌, sym, subst, arith}
 use Rattle.graph_core.proofs.Common.{IsPartition}
 use Rattle.tight_cuts.proofs.LiftedCandidates.{at-blocks, at-vertices, covered-single}
-use Rattle.tight_cuts.proofs.QuotientSides.{sides-at_vertices}
+use Rattle.tree_core.proofs.QuotientSides.{sides-at_vertices}
 use Rattle.tight_cuts.proofs.at_partition.all_at.Goals as goal
 
 many : (c : goal.After-all_of_known) → length c.args.p.now.blocks ≡ c.args.g.now.order

@@ -3,7 +3,7 @@ use Rattle.graph_core.proofs.Common.{IsPartition, quotient}
 use Rattle.tight_cuts.specs.Common.{candidates, first_of, lifted_candidate}
 use Rattle.tight_cuts.proofs.FirstCandidates.{first-lifted}
 use Rattle.tight_cuts.proofs.LiftedCandidates.{at-blocks, at-vertices, covered-single}
-use Rattle.tight_cuts.proofs.QuotientSides.{sides-at_vertices}
+use Rattle.tree_core.proofs.QuotientSides.{sides-at_vertices}
 use Rattle.tight_cuts.proofs.at_partition.first_found.Goals as goal
 
 many : (c : goal.After-first_of_known) → length c.args.p.now.blocks ≡ c.args.g.now.order

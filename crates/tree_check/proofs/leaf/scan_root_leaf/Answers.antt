@@ -1,6 +1,6 @@
 use Rattle.std.proofs.Common.{List, ℕ, ◌∙◌, ap, subst, subst₂, sym}
 use Rattle.graph_core.proofs.Common.{Graph, singles}
-use Rattle.tight_cuts.proofs.QuotientSides.{bipartite_from_singles, singles_from_bipartite}
+use Rattle.tree_core.proofs.QuotientSides.{bipartite_from_singles, singles_from_bipartite}
 use Rattle.tree_core.proofs.Common.{IsLeafAt}
 use Rattle.tree_check.specs.Common.{IsLeafJudgement, IsLeafOfKind}
 use Rattle.tree_check.proofs.leaf.scan_root_leaf.Goals as goal

@@ -1,6 +1,5 @@
 use Rattle.std.proofs.Common.{ℕ, subst₂, arith}
-use Rattle.text_faults.specs.Common.{ReadsText}
-use Rattle.line_text.specs.Common.{reading_of}
+use Rattle.line_text.specs.Common.{ReadsText, reading_of}
 use Rattle.ear_core.specs.Common.{ears_of}
 use Rattle.ear_text.specs.EarFormat.{ear_format}
 use Rattle.bench_tasks.proofs.TextReads.{ReadsText-reading_of}

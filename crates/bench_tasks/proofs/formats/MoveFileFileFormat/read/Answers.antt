@@ -1,7 +1,6 @@
 use Rattle.std.proofs.Common.{ℕ, subst, arith}
 use Rattle.counting.proofs.Common.{length-map}
-use Rattle.text_faults.specs.Common.{ReadsText}
-use Rattle.line_text.specs.Common.{reading_of}
+use Rattle.line_text.specs.Common.{ReadsText, reading_of}
 use Rattle.tree_core.proofs.Common.{moves_of}
 use Rattle.move_text.specs.Common.{move_format}
 use Rattle.bench_tasks.proofs.TextReads.{ReadsText-reading_of}

@@ -1,6 +1,5 @@
 use Rattle.std.proofs.Common.{ℕ, subst}
-use Rattle.text_faults.specs.Common.{ReadsText}
-use Rattle.line_text.specs.Common.{reading_of}
+use Rattle.line_text.specs.Common.{ReadsText, reading_of}
 use Rattle.tree_core.proofs.Common.{shape_of}
 use Rattle.tree_text.specs.Common.{tree_format}
 use Rattle.bench_tasks.proofs.TextReads.{ReadsText-reading_of}

@@ -1,10 +1,9 @@
-use Rattle.std.proofs.Common.{refl, subst}
+use Rattle.std.proofs.Common.{refl}
 use Rattle.counting.proofs.Common.{mem}
-use Rattle.graph_core.proofs.Common.{Graph, IsBipartite}
 use Rattle.graph_facts.proofs.covered_graph.Covered.is_bipartite.Goals as goal
 
 pub returns-in-Some : goal.returns-in-Some
 returns-in-Some c = (
-  λ _. subst (λ (g : Graph). IsBipartite g) c.self.view_is (mem c.in-Some.field-0, λ e w. c.self.invariant.side_is c.in-Some.field-0 c.in-Some.is e w (c.keeps_limits.ensures.multigraph.no_loop e w)),
+  λ _. (mem c.in-Some.field-0, λ e w. c.in-Some.ensures.some c.in-Some.field-0 refl e w (c.keeps_covered.ensures.limits.multigraph.no_loop e w)),
   λ _. refl,
 )

@@ -1,0 +1,75 @@
+-- Why words match no row of a table.
+-- Stated by: command_table.
+use Rattle.std.specs.Prelude.{ℕ, List, [], ◌∷◌, if◌then◌else◌}
+use Rattle.std.specs.declared.option.Option.{Option}
+use Rattle.std.specs.declared.option.Option.TheVariants.{Some, None}
+use Rattle.std.specs.Str.{bytes_eq}
+use Rattle.command_table.specs.Rows.{Word, fits_word, Row}
+use Rattle.command_table.specs.RowsSeen.{word_seen}
+use Rattle.command_table.specs.declared.reasons.Reason.TheVariants as code
+
+-- no row has such a first word; there are too many words; this word is missing; or a word does not
+-- fit this one
+pub data Reason : Type 0 where
+  Unknown : Reason
+  TooMany : Reason
+  TooFew : (missing : Word) → Reason
+  Wrong : (wanted : Word) → Reason
+
+-- the reason as it is seen
+abbrev pub reason_seen : code.the_data → Reason
+reason_seen code.Unknown = Unknown
+reason_seen code.TooMany = TooMany
+reason_seen (code.TooFew missing) = TooFew (word_seen missing)
+reason_seen (code.Wrong wanted) = Wrong (word_seen wanted)
+
+-- a word that may be left out is wrong if the words without it do not fit either
+abbrev pub wrong_unless : Word → Option Reason → Option Reason
+wrong_unless wanted None = None
+wrong_unless wanted (Some reason) = Some (Wrong wanted)
+
+-- why words do not fit those of a row that may be left out, if they do not
+abbrev pub why_of_optional : List Word → List (List ℕ) → Option Reason
+why_of_optional [] [] = None
+why_of_optional [] (word ∷ words) = Some TooMany
+why_of_optional (wanted ∷ row) [] = None
+why_of_optional (wanted ∷ row) (word ∷ words) =
+    if fits_word wanted word then why_of_optional row words else wrong_unless wanted (why_of_optional row (word ∷ words))
+
+-- a number of words that does not fit comes before a word that does not
+abbrev pub wrong_behind : Word → (word : List ℕ) → Option Reason → Option Reason
+wrong_behind wanted word None = if fits_word wanted word then None else Some (Wrong wanted)
+wrong_behind wanted word (Some Unknown) = if fits_word wanted word then Some Unknown else Some (Wrong wanted)
+wrong_behind wanted word (Some TooMany) = Some TooMany
+wrong_behind wanted word (Some (TooFew missing)) = Some (TooFew missing)
+wrong_behind wanted word (Some (Wrong other)) = if fits_word wanted word then Some (Wrong other) else Some (Wrong wanted)
+
+-- why words do not fit those of a row, if they do not
+abbrev pub why_of_words : List Word → List Word → List (List ℕ) → Option Reason
+why_of_words [] optional words = why_of_optional optional words
+why_of_words (wanted ∷ row) optional [] = Some (TooFew wanted)
+why_of_words (wanted ∷ row) optional (word ∷ words) = wrong_behind wanted word (why_of_words row optional words)
+
+-- why words do not match a row, if they do not
+abbrev pub why_of_row : Row → List (List ℕ) → Option Reason
+why_of_row row [] = Some Unknown
+why_of_row row (word ∷ words) = if bytes_eq word row.command then why_of_words row.words row.optional words else Some Unknown
+
+-- the reason of the nearer of two rows: none if one is matched, and else a wrong word, too few
+-- words, too many, in this order
+abbrev pub nearer : Option Reason → Option Reason → Option Reason
+nearer None other = None
+nearer (Some reason) None = None
+nearer (Some (Wrong wanted)) (Some other) = Some (Wrong wanted)
+nearer (Some Unknown) (Some other) = Some other
+nearer (Some (TooFew missing)) (Some (Wrong wanted)) = Some (Wrong wanted)
+nearer (Some (TooFew missing)) (Some other) = Some (TooFew missing)
+nearer (Some TooMany) (Some Unknown) = Some TooMany
+nearer (Some TooMany) (Some TooMany) = Some TooMany
+nearer (Some TooMany) (Some (TooFew missing)) = Some (TooFew missing)
+nearer (Some TooMany) (Some (Wrong wanted)) = Some (Wrong wanted)
+
+-- why words match none of the rows, if they match none
+abbrev pub why_unmatched : List Row → List (List ℕ) → Option Reason
+why_unmatched [] words = Some Unknown
+why_unmatched (row ∷ rows) words = nearer (why_of_row row words) (why_unmatched rows words)

@@ -1,0 +1,122 @@
+-- The two tables of commands, of `mcg` and of `mcg6`, and the usage that is made of a table.
+-- Stated by: command_table. Rests on it: front_words.
+use Rattle.std.specs.Prelude.{ℕ, ◌-◌, List, [], ◌∷◌, ◌++◌, length, map, replicate, codes}
+use Rattle.std.specs.Fmt.{decimal}
+use Rattle.command_table.specs.Rows.{Word, Literal, File, OneOf, Number, Row}
+
+-- a word as it is shown
+abbrev pub word_form : Word → List ℕ
+word_form (Literal text) = text
+word_form (File shown) = shown
+word_form (OneOf shown choices counted note) = shown
+word_form (Number shown least most note) = shown
+
+abbrev pub words_form : List Word → List ℕ
+words_form [] = []
+words_form (word ∷ words) = codes " " ++ (word_form word ++ words_form words)
+
+-- words that may be left out are shown in brackets
+abbrev pub optional_form : List Word → List ℕ
+optional_form [] = []
+optional_form (word ∷ words) = codes " [" ++ (word_form word ++ (codes "]" ++ optional_form words))
+
+abbrev pub form_of : List ℕ → List Word → List Word → List ℕ
+form_of command words optional = command ++ (words_form words ++ optional_form optional)
+
+-- a line of the usage: the command with its words, filled up with blanks, and what it is about
+abbrev pub usage_line : (form about : List ℕ) → List ℕ
+usage_line form about = codes "  " ++ (form ++ (replicate (29 - length form) 32 ++ (about ++ codes "\n")))
+
+abbrev pub row_of : List ℕ → List Word → List Word → (about : List ℕ) → Row
+row_of command words optional about = record {
+  command = command;
+  words = words;
+  optional = optional;
+  line = usage_line (form_of command words optional) about;
+}
+
+-- choices in words, as `a, b or c`
+abbrev pub choices_text : List (List ℕ) → List ℕ
+choices_text [] = []
+choices_text (choice ∷ []) = choice
+choices_text (choice ∷ last ∷ []) = choice ++ (codes " or " ++ last)
+choices_text (choice ∷ next ∷ last ∷ choices) = choice ++ (codes ", " ++ choices_text (next ∷ last ∷ choices))
+
+-- one of these, or of the beginnings with a number K behind it
+abbrev pub one_of : List ℕ → (choices counted : List (List ℕ)) → Word
+one_of shown choices counted = OneOf shown choices counted (shown ++ (codes " is " ++ choices_text (choices ++ map (λ beginning. beginning ++ codes "K") counted)))
+
+-- a number in this range
+abbrev pub number_from : List ℕ → (least most : ℕ) → Word
+number_from shown least most = Number shown least most (shown ++ (codes " is " ++ (decimal least ++ (codes " to " ++ decimal most))))
+
+-- the notes on words, each a line
+abbrev pub word_note : Word → List ℕ
+word_note (Literal text) = []
+word_note (File shown) = []
+word_note (OneOf shown choices counted note) = note ++ codes "\n"
+word_note (Number shown least most note) = note ++ codes "\n"
+
+abbrev pub words_notes : List Word → List ℕ
+words_notes [] = []
+words_notes (word ∷ words) = word_note word ++ words_notes words
+
+abbrev pub rows_notes : List Row → List ℕ
+rows_notes [] = []
+rows_notes (row ∷ rows) = words_notes row.words ++ (words_notes row.optional ++ rows_notes rows)
+
+-- the lines of rows
+abbrev pub rows_lines : List Row → List ℕ
+rows_lines [] = []
+rows_lines (row ∷ rows) = row.line ++ rows_lines rows
+
+-- the usage: a first line, a line for each row, the notes on their words, and some last lines
+abbrev pub usage_of : (first : List ℕ) → List Row → (last : List ℕ) → List ℕ
+usage_of first rows last = first ++ (rows_lines rows ++ (rows_notes rows ++ last))
+
+-- the words of the tables
+abbrev pub file : List Word
+file = File (codes "FILE") ∷ []
+
+abbrev pub orders : List (List ℕ)
+orders = codes "first" ∷ codes "last" ∷ codes "balanced" ∷ []
+
+abbrev pub properties : List (List ℕ)
+properties = codes "covered" ∷ codes "uncovered" ∷ codes "brick" ∷ codes "brace" ∷ codes "bicritical" ∷ codes "composite" ∷ []
+
+abbrev pub counted_properties : List (List ℕ)
+counted_properties = codes "bricks=" ∷ codes "braces=" ∷ []
+
+-- the table of `mcg`
+unfoldable pub rows : List Row
+rows =
+    row_of (codes "analyse") file [] (codes "the structure of the graph in FILE") ∷
+    row_of (codes "convert") file [] (codes "its canonical text, with names for the vertices") ∷
+    row_of (codes "analyse6") file [] (codes "what analyse reports, for a graph in graph6") ∷
+    row_of (codes "decompose") (File (codes "FILE") ∷ one_of (codes "ORDER") orders [] ∷ []) [] (codes "a decomposition by tight cuts into bricks and braces") ∷
+    row_of (codes "decompose") (File (codes "FILE") ∷ Literal (codes "script") ∷ File (codes "PICKS") ∷ []) [] (codes "the same, the cuts picked by the numbers in PICKS") ∷
+    row_of (codes "check") (File (codes "FILE") ∷ File (codes "TREE") ∷ []) [] (codes "whether TREE is a derivation of the graph") ∷
+    row_of (codes "checkears") (File (codes "FILE") ∷ File (codes "EARS") ∷ []) [] (codes "whether EARS is an ear list of the graph") ∷
+    row_of (codes "ears") file [] (codes "an ear list of the graph") ∷
+    row_of (codes "compare") (File (codes "FILE") ∷ File (codes "TREE1") ∷ File (codes "TREE2") ∷ []) [] (codes "how the leaves of two derivations are paired, with moves") ∷
+    row_of (codes "script") (File (codes "FILE") ∷ File (codes "TREE1") ∷ File (codes "TREE2") ∷ []) [] (codes "these moves as a file") ∷
+    row_of (codes "replay") (File (codes "FILE") ∷ File (codes "TREE") ∷ File (codes "MOVES") ∷ []) [] (codes "the derivation that the moves make of TREE") ∷
+    row_of (codes "grow") (number_from (codes "SEED") 0 999_999_999 ∷ number_from (codes "PIECES") 1 16 ∷ []) [] (codes "a pseudo-random matching covered cubic graph") ∷ []
+
+-- the table of `mcg6`
+unfoldable pub list_rows : List Row
+list_rows =
+    row_of (codes "kinds") [] file (codes "a line for each graph: its kind, its bricks and its braces") ∷
+    row_of (codes "leaves") [] (one_of (codes "ORDER") orders [] ∷ File (codes "FILE") ∷ []) (codes "a line for each leaf of its decomposition, as a graph") ∷
+    row_of (codes "graph") [] file (codes "the file of one graph, for mcg") ∷
+    row_of (codes "select") (one_of (codes "WHAT") properties counted_properties ∷ []) file (codes "the lines whose graph has a property") ∷
+    row_of (codes "encode") file [] (codes "the line of a file for mcg; parallel edges count once") ∷ []
+
+-- the usage of `mcg`, and that of `mcg6`
+unfoldable pub usage_text : List ℕ
+usage_text = usage_of (codes "usage: mcg COMMAND WORDS..\n") rows (codes "A file may be a pipe, as /dev/stdin. FORMATS.md has the formats and reports.\n")
+
+unfoldable pub list_usage_text : List ℕ
+list_usage_text =
+    usage_of (codes "usage: mcg6 COMMAND WORDS.. <LIST\n") list_rows
+    (codes "The list has a graph in graph6 on each line, and is standard input or FILE.\nFORMATS.md has the lines that mcg6 writes.\n")

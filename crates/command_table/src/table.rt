@@ -1,0 +1,225 @@
+//! The tables of commands, and the usage of each program.
+ghost use Rattle.std.specs.Prelude.{◌≡◌, map};
+ghost use Rattle.command_table.specs.RowsSeen.{row_seen};
+ghost use Rattle.command_table.specs.Table.{list_rows, list_usage_text, rows, usage_text};
+
+use crate::rows::{Row, RowWord};
+
+/// The table of `mcg`.
+static ROWS: [Row; 12] = [
+    Row {
+        command: "analyse",
+        words: &[RowWord::File("FILE")],
+        optional: &[],
+        line: "  analyse FILE                 the structure of the graph in FILE\n",
+    },
+    Row {
+        command: "convert",
+        words: &[RowWord::File("FILE")],
+        optional: &[],
+        line: "  convert FILE                 its canonical text, with names for the vertices\n",
+    },
+    Row {
+        command: "analyse6",
+        words: &[RowWord::File("FILE")],
+        optional: &[],
+        line: "  analyse6 FILE                what analyse reports, for a graph in graph6\n",
+    },
+    Row {
+        command: "decompose",
+        words: &[
+            RowWord::File("FILE"),
+            RowWord::OneOf(
+                "ORDER",
+                &["first", "last", "balanced"],
+                &[],
+                "ORDER is first, last or balanced",
+            ),
+        ],
+        optional: &[],
+        line: "  decompose FILE ORDER         a decomposition by tight cuts into bricks and braces\n",
+    },
+    Row {
+        command: "decompose",
+        words: &[
+            RowWord::File("FILE"),
+            RowWord::Literal("script"),
+            RowWord::File("PICKS"),
+        ],
+        optional: &[],
+        line: "  decompose FILE script PICKS  the same, the cuts picked by the numbers in PICKS\n",
+    },
+    Row {
+        command: "check",
+        words: &[RowWord::File("FILE"), RowWord::File("TREE")],
+        optional: &[],
+        line: "  check FILE TREE              whether TREE is a derivation of the graph\n",
+    },
+    Row {
+        command: "checkears",
+        words: &[RowWord::File("FILE"), RowWord::File("EARS")],
+        optional: &[],
+        line: "  checkears FILE EARS          whether EARS is an ear list of the graph\n",
+    },
+    Row {
+        command: "ears",
+        words: &[RowWord::File("FILE")],
+        optional: &[],
+        line: "  ears FILE                    an ear list of the graph\n",
+    },
+    Row {
+        command: "compare",
+        words: &[
+            RowWord::File("FILE"),
+            RowWord::File("TREE1"),
+            RowWord::File("TREE2"),
+        ],
+        optional: &[],
+        line: "  compare FILE TREE1 TREE2     how the leaves of two derivations are paired, with moves\n",
+    },
+    Row {
+        command: "script",
+        words: &[
+            RowWord::File("FILE"),
+            RowWord::File("TREE1"),
+            RowWord::File("TREE2"),
+        ],
+        optional: &[],
+        line: "  script FILE TREE1 TREE2      these moves as a file\n",
+    },
+    Row {
+        command: "replay",
+        words: &[
+            RowWord::File("FILE"),
+            RowWord::File("TREE"),
+            RowWord::File("MOVES"),
+        ],
+        optional: &[],
+        line: "  replay FILE TREE MOVES       the derivation that the moves make of TREE\n",
+    },
+    Row {
+        command: "grow",
+        words: &[
+            RowWord::Number("SEED", 0, 999_999_999, "SEED is 0 to 999999999"),
+            RowWord::Number("PIECES", 1, 16, "PIECES is 1 to 16"),
+        ],
+        optional: &[],
+        line: "  grow SEED PIECES             a pseudo-random matching covered cubic graph\n",
+    },
+];
+
+/// The table of `mcg6`.
+static LIST_ROWS: [Row; 5] = [
+    Row {
+        command: "kinds",
+        words: &[],
+        optional: &[RowWord::File("FILE")],
+        line: "  kinds [FILE]                 a line for each graph: its kind, its bricks and its braces\n",
+    },
+    Row {
+        command: "leaves",
+        words: &[],
+        optional: &[
+            RowWord::OneOf(
+                "ORDER",
+                &["first", "last", "balanced"],
+                &[],
+                "ORDER is first, last or balanced",
+            ),
+            RowWord::File("FILE"),
+        ],
+        line: "  leaves [ORDER] [FILE]        a line for each leaf of its decomposition, as a graph\n",
+    },
+    Row {
+        command: "graph",
+        words: &[],
+        optional: &[RowWord::File("FILE")],
+        line: "  graph [FILE]                 the file of one graph, for mcg\n",
+    },
+    Row {
+        command: "select",
+        words: &[RowWord::OneOf(
+            "WHAT",
+            &[
+                "covered",
+                "uncovered",
+                "brick",
+                "brace",
+                "bicritical",
+                "composite",
+            ],
+            &["bricks=", "braces="],
+            "WHAT is covered, uncovered, brick, brace, bicritical, composite, bricks=K or braces=K",
+        )],
+        optional: &[RowWord::File("FILE")],
+        line: "  select WHAT [FILE]           the lines whose graph has a property\n",
+    },
+    Row {
+        command: "encode",
+        words: &[RowWord::File("FILE")],
+        optional: &[],
+        line: "  encode FILE                  the line of a file for mcg; parallel edges count once\n",
+    },
+];
+
+/// The usage: how the program is called, and the table of commands, each with what it is for. A
+/// word in capitals stands for another.
+const USAGE: &str = "usage: mcg COMMAND WORDS..
+  analyse FILE                 the structure of the graph in FILE
+  convert FILE                 its canonical text, with names for the vertices
+  analyse6 FILE                what analyse reports, for a graph in graph6
+  decompose FILE ORDER         a decomposition by tight cuts into bricks and braces
+  decompose FILE script PICKS  the same, the cuts picked by the numbers in PICKS
+  check FILE TREE              whether TREE is a derivation of the graph
+  checkears FILE EARS          whether EARS is an ear list of the graph
+  ears FILE                    an ear list of the graph
+  compare FILE TREE1 TREE2     how the leaves of two derivations are paired, with moves
+  script FILE TREE1 TREE2      these moves as a file
+  replay FILE TREE MOVES       the derivation that the moves make of TREE
+  grow SEED PIECES             a pseudo-random matching covered cubic graph
+ORDER is first, last or balanced
+SEED is 0 to 999999999
+PIECES is 1 to 16
+A file may be a pipe, as /dev/stdin. FORMATS.md has the formats and reports.
+";
+
+/// The usage of the program for lists. A word in brackets may be left out.
+const LIST_USAGE: &str = "usage: mcg6 COMMAND WORDS.. <LIST
+  kinds [FILE]                 a line for each graph: its kind, its bricks and its braces
+  leaves [ORDER] [FILE]        a line for each leaf of its decomposition, as a graph
+  graph [FILE]                 the file of one graph, for mcg
+  select WHAT [FILE]           the lines whose graph has a property
+  encode FILE                  the line of a file for mcg; parallel edges count once
+ORDER is first, last or balanced
+WHAT is covered, uncovered, brick, brace, bicritical, composite, bricks=K or braces=K
+The list has a graph in graph6 on each line, and is standard input or FILE.
+FORMATS.md has the lines that mcg6 writes.
+";
+
+/// The rows of the table of `mcg`. Takes no memory.
+pub fn all_rows() -> &'static [Row]
+    ensures { map row_seen result.now ≡ rows }
+{
+    &ROWS
+}
+
+/// The rows of the table of `mcg6`. Takes no memory.
+pub fn all_list_rows() -> &'static [Row]
+    ensures { map row_seen result.now ≡ list_rows }
+{
+    &LIST_ROWS
+}
+
+/// The usage. Takes no memory.
+pub fn usage() -> &'static str
+    ensures { result.now ≡ usage_text }
+{
+    USAGE
+}
+
+/// The usage of the program for lists. Takes no memory.
+pub fn list_usage() -> &'static str
+    ensures { result.now ≡ list_usage_text }
+{
+    LIST_USAGE
+}

@@ -1,9 +1,0 @@
-use Rattle.std.proofs.Common.{◌≡◌, ◌<◌, ℕ, true}
-use Rattle.counting.proofs.Common.{Within, mem, Set}
-use Rattle.match_search.specs.Common.{marks}
-use Rattle.ear_core.specs.Common.{IsPerfectBy, is_open}
-use Rattle.ear_core.proofs.lone_ears.lone_from.Given as goal
-
--- no such matching for the vertices so far
-abbrev pub invariant-loop-k : goal.invariant-loop-k
-invariant-loop-k l = (v : ℕ) → l.u < v → Within l.k v → mem l.met v ≡ true → (m : Set) → IsPerfectBy l.g (is_open l.g (marks l.mark) l.u v) m → ⊥

@@ -1,0 +1,12 @@
+use Rattle.std.proofs.Common.{◌≡◌, ◌&&◌, ℕ, not, length}
+use Rattle.counting.proofs.Common.{Within, item, mem, some}
+use Rattle.graph_core.proofs.Common.{has_ends}
+use Rattle.match_search.specs.Common.{marks}
+use Rattle.ear_core.proofs.lone_tables.near_rows.Given as goal
+
+-- the neighbours by the edges so far
+abbrev pub invariant-loop-k : goal.invariant-loop-k
+invariant-loop-k l = record {
+  long : length l.rows.items ≡ l.g.order;
+  each : (u v : ℕ) → Within l.g.order u → mem (item l.rows.items u) v ≡ some l.k (λ e. not (marks l.mark e) && has_ends l.g u v e);
+}

@@ -1,0 +1,8 @@
+use Rattle.std.proofs.Common.{◌≡◌, ℕ}
+use Rattle.counting.proofs.Common.{mem}
+use Rattle.ear_core.specs.Common.{in_rows}
+use Rattle.ear_core.proofs.lone_tables.partners_among.Given as goal
+
+-- the vertices in the rows so far
+abbrev pub invariant-loop-k : goal.invariant-loop-k
+invariant-loop-k l = (w : ℕ) → mem l.found w ≡ in_rows l.table l.k (mem l.x) w

@@ -1,9 +1,0 @@
-use Rattle.std.proofs.Common.{◌≡◌, ◌-◌, [], length, slice_index_or}
-use Rattle.line_text.specs.Common.{lines_of}
-use Rattle.encoder.proofs.lines.kept_line.Given as goal
-
-abbrev pub invariant-passing : goal.invariant-passing
-invariant-passing l = slice_index_or (lines_of l.file) (l.number - 1) [] ≡ slice_index_or (lines_of l.rest) l.before []
-
-abbrev pub decreases-passing : goal.decreases-passing
-decreases-passing l = length l.rest

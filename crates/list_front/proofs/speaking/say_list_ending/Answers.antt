@@ -1,6 +1,0 @@
-use Rattle.list_front.proofs.speaking.say_list_ending.Goals as goal
-
-pub returns-in-Bad : goal.returns-in-Bad
-returns-in-Bad g c =
-    let said = rw (c.number.ensures, c.deref.ensures.value) at c.say_bad_line.ensures in
-    rw c.in-Bad.is said

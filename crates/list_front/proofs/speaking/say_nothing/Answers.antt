@@ -1,6 +1,0 @@
-use Rattle.outside.specs.declared.sink.SinkFailed.{SinkFailed}
-use Rattle.front_words.proofs.Sayings.{says-none}
-use Rattle.list_front.proofs.speaking.say_nothing.Goals as goal
-
-pub returns : goal.returns
-returns g c = says-none {F = SinkFailed} g.E.Sink.written g.E.Sink.faults c.args._errors.now

@@ -1,5 +1,0 @@
-use Rattle.std.proofs.Common.{arith}
-use Rattle.list_lines.proofs.selecting.selected.Goals as goal
-
-pub returns-then-branch : goal.returns-then-branch
-returns-then-branch c = grind arith

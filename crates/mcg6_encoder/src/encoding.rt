@@ -1,0 +1,68 @@
+//! Encoding a graph file.
+ghost use Rattle.std.specs.Prelude.{◌≡◌, ◌≢◌, ◌<◌, ◌-◌, ◌^◌, ℕ, List, Some, length};
+ghost use Rattle.outside.specs.Common.{Rose};
+ghost use Rattle.mcg6_reader.specs.Common.{Appended};
+ghost use Rattle.mcg6_encoder.specs.Files.{Encodes};
+ghost use Rattle.mcg6_encoder.specs.Reads.{EncodesFile, ReadsFirst, WritesUpTo};
+
+use crate::lines::{outside_at, too_long};
+use crate::reading::{Unread, read_file};
+use crate::text::graph6_line;
+use line_text::TextFault;
+use mcg6_reader::Ending;
+use outside::{Sink, Source, emit};
+use std::alloc::Global;
+
+// Writes the graph6 text of a file with these bytes.
+fn write_encoded<K: Sink>(alloc: Global, file: &[u8], sink: &mut K) -> Ending
+    requires { length file.now < 2 ^ 32 - 1 }
+    ensures wrote { WritesUpTo K.written K.writes file.now result sink.old sink.new }
+    ensures others { result ≢ Ending.ReadFault }
+    ensures write_fault { result ≡ Ending.WriteFault →
+        Rose (K.faults sink.old) (K.faults sink.new) }
+{
+    match graph6_line(alloc, file) {
+        Ok(line) => match emit(sink, &line) {
+            Ok(()) => Ending::Done,
+            Err(_) => Ending::WriteFault,
+        },
+        Err(TextFault::At { line, kind }) => match outside_at(alloc, file, line, kind) {
+            Ok(found) => Ending::Bad { found },
+            Err(_) => Ending::Memory,
+        },
+        Err(TextFault::Memory) => Ending::Memory,
+    }
+}
+
+/// Reads the graph file that is left of the source to its end, and writes its graph6 text to the
+/// sink: the text of the simple graph beneath its graph, and a line feed. Nothing is written of a
+/// file that is outside both versions of the format, or has more than `MOST_BYTES` bytes: the
+/// ending says what is found of it, with the first bad line; a file that is too long has line 0.
+///
+/// Takes memory for a piece, the file, its graph and its text. Where memory runs out, it ends with
+/// `Memory`, and nothing is written.
+pub fn encode<S: Source, K: Sink>(alloc: Global, source: &mut S, sink: &mut K) -> Ending
+    // The file is read to its end before the first write; nothing is written of a bad file.
+    ensures reads_first { ReadsFirst S.reads K.written K.writes result source.old sink.old
+        source.new sink.new }
+    // What was written is what the file gives up to this ending, in whatever pieces it was read.
+    ensures encodes { (file : List ℕ) → S.left source.old ≡ Some file
+        → Appended (Encodes file result) (K.written sink.old) (K.written sink.new) }
+    // Where the source does not tell what is left, it is what some file gives.
+    ensures tells { EncodesFile result (S.left source.old) (K.written sink.old)
+        (K.written sink.new) }
+    // A fault of the outside comes only where its count rose in this call.
+    ensures read_fault { result ≡ Ending.ReadFault →
+        Rose (S.faults source.old) (S.faults source.new) }
+    ensures write_fault { result ≡ Ending.WriteFault →
+        Rose (K.faults sink.old) (K.faults sink.new) }
+{
+    match read_file(alloc, source) {
+        Ok(file) => write_encoded(alloc, &file, sink),
+        Err(Unread::TooLong) => Ending::Bad {
+            found: too_long(alloc),
+        },
+        Err(Unread::Failed) => Ending::ReadFault,
+        Err(Unread::Memory) => Ending::Memory,
+    }
+}

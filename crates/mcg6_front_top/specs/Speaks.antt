@@ -1,0 +1,46 @@
+-- What goes to the sinks of the front.
+-- Stated by: mcg6_front_top.
+use Rattle.std.specs.Prelude.{◌≡◌, ◌⊎◌, ℕ, List, Bool}
+use Rattle.std.specs.declared.option.Option.{Option}
+use Rattle.std.specs.declared.option.Option.TheVariants.{Some}
+use Rattle.std.specs.declared.result.Result.{Result}
+use Rattle.outside.specs.Common.{Rose, appended}
+use Rattle.outside.specs.declared.explain.FailureReason.{FailureReason}
+use Rattle.outside.specs.declared.sink.SinkFailed.{SinkFailed}
+use Rattle.mcg6_reader.specs.declared.ending.Ending.{Ending}
+use Rattle.mcg6_reader.specs.Common.{TellsList}
+use Rattle.mcg6_encoder.specs.Reads.{EncodesFile}
+use Rattle.mcg6_top.specs.Common.{ListCommand, command_of, encode_of, file_named_by, TellsLineOf, IsBadLine, lacks_of}
+use Rattle.mcg6_top.specs.declared.status.ListStatus.{ListStatus}
+use Rattle.mcg6_top.specs.declared.status.ListStatus.TheVariants.{Done, WriteFault}
+use Rattle.front_words.specs.Saying.{IsBegun, Says}
+use Rattle.mcg6_front_top.specs.Words.{status_in, words_of}
+
+-- the text was said, whole or up to a fault of the sink
+pub record IsSaid {E : Type 0} (written : E → Option (List ℕ)) (faults : E → ℕ) (text : List ℕ) (before now : E) : Type 0 where
+  pub answer : Result (Unit {0}) SinkFailed
+  pub says : Says {F = SinkFailed} written faults text answer before now
+
+-- what was said after a run of these words that ended with this status: the words for its ending,
+-- up to which what was written is what the words ask of the lines of the list, or what the graph
+-- file gives; so a bad line that is named is the first. Given why the file cannot be read, whether
+-- nobody reads the output any more, what was left of the source, and what the sink had before and
+-- has now
+pub record Speaks {E : Type 0} (written : E → Option (List ℕ)) (faults : E → ℕ) (words : List (List ℕ)) (ended : ListStatus)
+    (reason : Option FailureReason) (is_abandoned : Bool) (left sink_before sink_now : Option (List ℕ)) (before now : E) : Type 0 where
+  pub ending : Option Ending
+  pub of_status : ended ≡ status_in ending
+  pub tells : (asked : ListCommand) (last : Ending) → command_of words ≡ Some asked → ending ≡ Some last
+      → TellsList (TellsLineOf asked.query) (IsBadLine asked.query) (lacks_of asked.query) last left sink_before sink_now
+  pub encodes : (name : List ℕ) (last : Ending) → encode_of words ≡ Some name → ending ≡ Some last
+      → EncodesFile last left sink_before sink_now
+  pub said : IsSaid written faults
+      (words_of ending (record { name = file_named_by words; encoded = encode_of words; reason = reason; is_abandoned = is_abandoned })) before now
+
+-- a text was the whole answer: it was written whole and all is done, or a beginning of it if
+-- the sink failed
+pub record Answers {K : Type 0} (written : K → Option (List ℕ)) (faults : K → ℕ) (text : List ℕ) (ended : ListStatus) (before now : K) : Type 0 where
+  pub ends : (ended ≡ Done) ⊎ (ended ≡ WriteFault)
+  pub whole : ended ≡ Done → written now ≡ appended (written before) text
+  pub begun : IsBegun text (written before) (written now)
+  pub failed : ended ≡ WriteFault → Rose (faults before) (faults now)

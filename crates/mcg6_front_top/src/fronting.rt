@@ -1,0 +1,113 @@
+//! The top call.
+ghost use Rattle.std.specs.Prelude.{◌≡◌, ℕ, List, map, string_bytes, true, false, Some, None};
+ghost use Rattle.std.specs.declared.option.Option.{Option};
+ghost use Rattle.mcg6_reader.specs.declared.ending.Ending.{Ending};
+ghost use Rattle.mcg6_front_top.specs.Answers.{answer_of};
+ghost use Rattle.mcg6_front_top.specs.CluesSeen.{known_by};
+ghost use Rattle.mcg6_front_top.specs.Runs.{IsListRun};
+ghost use Rattle.mcg6_front_top.specs.Speaks.{Answers, IsSaid, Speaks};
+ghost use Rattle.mcg6_front_top.specs.Words.{words_of};
+
+use crate::answers::answer_of;
+use crate::speaking::{ListClues, say_ending, status_in};
+use front_words::say_bytes;
+use mcg6_reader::Ending;
+use mcg6_top::{ListStatus, encode_name, file_name, run_to_ending};
+use outside::{FailureReason, Outlet, Sink, SinkFailed, Source};
+use std::alloc::Global;
+
+// Writes the text as the whole answer.
+fn answer<K: Sink>(sink: &mut K, text: &str) -> ListStatus
+    ensures { Answers K.written K.faults text.now result sink.old sink.new }
+{
+    match say_bytes(sink, text.as_bytes()) {
+        Ok(()) => ListStatus::Done,
+        Err(SinkFailed) => ListStatus::WriteFault,
+    }
+}
+
+// Says what the ending means, unless it is to be quiet.
+fn say_unless_quiet<'a, E: Sink>(
+    errors: &mut E,
+    is_quiet: bool,
+    ending: &Option<Ending>,
+    clues: ListClues<'a>,
+)
+    ensures quiet { is_quiet ≡ true → errors.new ≡ errors.old }
+    ensures says { is_quiet ≡ false → IsSaid E.written E.faults
+        (words_of ending.now (known_by clues.entry)) errors.old errors.new }
+{
+    if is_quiet {
+        return;
+    }
+    let _ = say_ending(errors, ending, clues);
+}
+
+// Runs the words, and then says how that ended, unless it is to be quiet.
+fn speak<S: Source, K: Outlet, E: Sink>(
+    alloc: Global,
+    words: &[String],
+    reason: Option<FailureReason>,
+    is_quiet: bool,
+    source: &mut S,
+    sink: &mut K,
+    errors: &mut E,
+) -> ListStatus
+    ensures runs { IsListRun S.left S.faults S.reads K.written K.faults K.writes
+        (map string_bytes words.now) result source.old source.new sink.old sink.new }
+    ensures quiet { is_quiet ≡ true → errors.new ≡ errors.old }
+    ensures speaks { is_quiet ≡ false →
+        Speaks E.written E.faults (map string_bytes words.now) result reason
+        (K.is_abandoned sink.new) (S.left source.old) (K.written sink.old) (K.written sink.new)
+        errors.old errors.new }
+{
+    let ending = run_to_ending(alloc, words, source, sink);
+    let clues = ListClues {
+        name: file_name(words),
+        encoded: encode_name(words),
+        reason,
+        is_abandoned: sink.is_abandoned(),
+    };
+    say_unless_quiet(errors, is_quiet, &ending, clues);
+    status_in(&ending)
+}
+
+/// Does what the words ask for, as `run` of `mcg6_top`, and then says on the second sink how that
+/// ended, in words, unless it is to be quiet. Words that ask for the usage or the version
+/// are answered on the first sink, and nothing is read.
+///
+/// The reason is why the file cannot be read, where the caller knows that. A fault of the second
+/// sink changes nothing else.
+pub fn run_list_front<S: Source, K: Outlet, E: Sink>(
+    alloc: Global,
+    words: &[String],
+    reason: Option<FailureReason>,
+    is_quiet: bool,
+    source: &mut S,
+    sink: &mut K,
+    errors: &mut E,
+) -> ListStatus
+    // Words that are answered at once: nothing is read, and nothing is said.
+    ensures answers { (text : List ℕ) → answer_of (map string_bytes words.now) ≡ Some text →
+        Answers K.written K.faults text result sink.old sink.new }
+    ensures answers_unread { (text : List ℕ) →
+        answer_of (map string_bytes words.now) ≡ Some text → source.new ≡ source.old }
+    ensures answers_quietly { (text : List ℕ) →
+        answer_of (map string_bytes words.now) ≡ Some text → errors.new ≡ errors.old }
+
+    // For all others status, output and source are those of `run`, and what is said is the text
+    // for the ending.
+    ensures runs { answer_of (map string_bytes words.now) ≡ None →
+        IsListRun S.left S.faults S.reads K.written K.faults K.writes
+        (map string_bytes words.now) result source.old source.new sink.old sink.new }
+    ensures quiet { is_quiet ≡ true → errors.new ≡ errors.old }
+    ensures speaks { answer_of (map string_bytes words.now) ≡ None → is_quiet ≡ false →
+        Speaks E.written E.faults (map string_bytes words.now) result reason
+        (K.is_abandoned sink.new) (S.left source.old) (K.written sink.old) (K.written sink.new)
+        errors.old errors.new }
+{
+    match answer_of(words) {
+        Some(text) => answer(sink, text),
+        None => speak(alloc, words, reason, is_quiet, source, sink, errors),
+    }
+}

@@ -1,0 +1,20 @@
+//! The top call of the program `mcg6_front`: `run_list_front` does what the words ask for, as
+//! `run` of `mcg6_top`, and then says on a second sink, for a person, how that ended.
+//!
+//! `--help`, `-h`, `help` and `--version`, alone, are answered on standard output, and nothing is
+//! read. For all other words standard output, the source and the status are those of `run`: so
+//! standard output has data alone. Main definitions, in specs/: `answer_of` of `Answers` (what
+//! such words are answered), `IsListRun` of `Runs` (the clauses of `run`), and `words_of` of
+//! `Words`, what is said of each ending: of a bad line its number, its fault and its text, of a
+//! graph file also its name, and nothing where all was told. Main promises: the clauses of
+//! `run_list_front`.
+//!
+//! Stands on `mcg6_top` for the run, on `mcg6_reader` for the endings of a list, on `front_words`
+//! for the words, and on `outside` for the source and the sinks.
+#![tactic(auto)]
+
+mod answers;
+mod fronting;
+mod speaking;
+
+pub use fronting::run_list_front;

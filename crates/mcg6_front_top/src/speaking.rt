@@ -1,0 +1,168 @@
+//! What is said of each ending.
+ghost use Rattle.std.specs.Prelude.{◌≡◌, ◌↔◌, [], None, Some};
+ghost use Rattle.std.specs.Option.{option_map};
+ghost use Rattle.front_words.specs.Saying.{Says};
+ghost use Rattle.mcg6_front_top.specs.CluesSeen.{known_by};
+ghost use Rattle.mcg6_front_top.specs.Words.{bad_graph_words, ending_words, file_words, list_words, memory_words, nothing_words, status_in, unwritten_words, words_of};
+
+use front_words::{
+    BadFile, Role, list_usage, say_bad_file, say_bad_line, say_bytes, say_unread, say_unread_list,
+};
+use mcg6_reader::{BadLine, Ending};
+use mcg6_top::{ListStatus, status_of};
+use outside::{FailureReason, Sink, SinkFailed};
+
+// The name of the program.
+const PROGRAM: &str = "mcg6";
+
+/// What is known of the faults of a run.
+#[derive(Clone, Copy, Drop)]
+pub struct ListClues<'a> {
+    /// The name of the file that is read, if it is not standard input.
+    pub name: Option<&'a str>,
+    /// The name of the graph file whose graph6 text is asked for, if it is.
+    pub encoded: Option<&'a str>,
+    /// Why the file cannot be read, where that is known.
+    pub reason: Option<FailureReason>,
+    /// Nobody reads the output any more.
+    pub is_abandoned: bool,
+}
+
+/// The status of a run that ended so; with no ending the words matched no row.
+pub fn status_in(ending: &Option<Ending>) -> ListStatus
+    ensures status { result ≡ status_in ending.now }
+    ensures usage { result ≡ ListStatus.Usage ↔ (ending.now ≡ None) }
+    ensures read_fault { result ≡ ListStatus.ReadFault → ending.now ≡ Some Ending.ReadFault }
+    ensures write_fault { result ≡ ListStatus.WriteFault → ending.now ≡ Some Ending.WriteFault }
+{
+    match ending {
+        Some(ending) => status_of(ending),
+        None => ListStatus::Usage,
+    }
+}
+
+// Says nothing.
+fn say_nothing<E: Sink>(_errors: &mut E) -> Result<(), SinkFailed>
+    ensures { Says E.written E.faults [] result _errors.old _errors.new }
+{
+    Ok(())
+}
+
+/// Says what the ending of a run means, or with no ending that the words matched no row; nothing
+/// where each line was told, or the graph6 text written. Takes no memory.
+pub fn say_ending<'a, E: Sink>(
+    errors: &mut E,
+    ending: &Option<Ending>,
+    clues: ListClues<'a>,
+) -> Result<(), SinkFailed>
+    ensures { Says E.written E.faults (words_of ending.now (known_by clues.entry)) result
+        errors.old errors.new }
+{
+    match ending {
+        Some(ending) => say_some_ending(errors, ending, clues),
+        None => say_bytes(errors, list_usage().as_bytes()),
+    }
+}
+
+// Says how a list ended, or the encoding of a graph file.
+fn say_some_ending<'a, E: Sink>(
+    errors: &mut E,
+    ending: &Ending,
+    clues: ListClues<'a>,
+) -> Result<(), SinkFailed>
+    ensures { Says E.written E.faults
+        (ending_words (option_map (λ name. name.now) clues.entry.encoded) ending.now
+        (known_by clues.entry)) result errors.old errors.new }
+{
+    match clues.encoded {
+        Some(name) => say_file_ending(errors, name, ending, clues),
+        None => say_list_ending(errors, ending, clues),
+    }
+}
+
+// Says how the encoding of the graph file of that name ended; nothing where its text was written.
+fn say_file_ending<'a, E: Sink>(
+    errors: &mut E,
+    name: &'a str,
+    ending: &Ending,
+    clues: ListClues<'a>,
+) -> Result<(), SinkFailed>
+    ensures { Says E.written E.faults (file_words name.now ending.now (known_by clues.entry)) result
+        errors.old errors.new }
+{
+    match ending {
+        Ending::Done => say_nothing(errors),
+        Ending::Bad { found } => say_bad_graph(errors, name, found),
+        Ending::ReadFault => say_unread(errors, PROGRAM, name, clues.reason),
+        Ending::WriteFault => say_unwritten(errors, clues.is_abandoned),
+        Ending::Memory => say_nothing_written(errors),
+    }
+}
+
+// Says of a bad graph file its name, where it is outside the format and how, and the line.
+fn say_bad_graph<E: Sink>(errors: &mut E, name: &str, found: &BadLine) -> Result<(), SinkFailed>
+    ensures { Says E.written E.faults (bad_graph_words name.now found.now) result
+        errors.old errors.new }
+{
+    let bad = BadFile {
+        name,
+        role: Role::Graph,
+        line: found.number,
+        kind: found.kind.number(),
+    };
+    say_bad_file(errors, PROGRAM, &bad, Some(found.text.as_slice()))
+}
+
+// Says that memory ran out before anything was written.
+fn say_nothing_written<E: Sink>(errors: &mut E) -> Result<(), SinkFailed>
+    ensures { Says E.written E.faults nothing_words result errors.old errors.new }
+{
+    say_bytes(errors, b"mcg6: memory ran out; nothing was written\n")
+}
+
+// Says how a list ended; nothing where each line was told.
+fn say_list_ending<'a, E: Sink>(
+    errors: &mut E,
+    ending: &Ending,
+    clues: ListClues<'a>,
+) -> Result<(), SinkFailed>
+    ensures { Says E.written E.faults (list_words ending.now (known_by clues.entry)) result
+        errors.old errors.new }
+{
+    match ending {
+        Ending::Done => say_nothing(errors),
+        Ending::Bad { found } => {
+            say_bad_line(
+                errors,
+                PROGRAM,
+                found.number,
+                found.kind.number(),
+                &found.text,
+            )
+        }
+        Ending::ReadFault => say_unread_list(errors, PROGRAM, clues.name, clues.reason),
+        Ending::WriteFault => say_unwritten(errors, clues.is_abandoned),
+        Ending::Memory => say_out_of_memory(errors),
+    }
+}
+
+// Says that the output could not be written, unless nobody reads it any more.
+fn say_unwritten<E: Sink>(errors: &mut E, is_abandoned: bool) -> Result<(), SinkFailed>
+    ensures { Says E.written E.faults (unwritten_words is_abandoned) result errors.old errors.new }
+{
+    if is_abandoned {
+        say_nothing(errors)
+    } else {
+        say_bytes(errors, b"mcg6: the output could not be written whole\n")
+    }
+}
+
+// Says that memory ran out.
+fn say_out_of_memory<E: Sink>(errors: &mut E) -> Result<(), SinkFailed>
+    ensures { Says E.written E.faults memory_words result errors.old errors.new }
+{
+    say_bytes(
+        errors,
+        b"mcg6: memory ran out; what was written is of the first lines alone\n",
+    )
+}

@@ -1,0 +1,60 @@
+-- What is told of a line is one: the line stands for one graph, of which each query asks one
+-- thing. The leaves are those of one tree, since the order picks one, with one list of kinds.
+use Rattle.std.proofs.Common.{◌≡◌, ◌∙◌, ℕ, List, Result, Ok, Err, sym, ap, arith}
+use Rattle.mcg6_lines.proofs.OneTree.{kinds-once, named-once, picked-once}
+use Rattle.decomposer.specs.Common.{NamedPicks}
+use Rattle.decomposer.specs.declared.orders.NamedOrder.{NamedOrder}
+use Rattle.graph_core.proofs.Common.{Graph, IsMultigraph, singles}
+use Rattle.mcg6_lines.proofs.ReadMultigraphs.{read-multigraph}
+use Rattle.graph6_text.specs.Common.{Fault, outcome_of}
+use Rattle.line_text.specs.declared.faults.FaultKind.{FaultKind}
+use Rattle.tree_core.proofs.Common.{leaves}
+use Rattle.mcg6_lines.specs.KindLines.{IsKindLine, kind_line}
+use Rattle.mcg6_lines.specs.LeafLines.{AreLeafLines, AreLinesOf, TellsLeaves, line_front}
+use Rattle.mcg6_lines.specs.Selecting.{IsSelected}
+use Rattle.mcg6_lines.specs.Telling.{HasFault, IsTold, TellsLine}
+use Rattle.mcg6_lines.specs.declared.query.Property.{Property}
+use Rattle.mcg6_lines.specs.declared.query.Query.{Query}
+use Rattle.mcg6_lines.specs.declared.query.Query.TheVariants.{Kinds, Leaves, Graph as GraphFile, Select}
+use Rattle.mcg6_lines.proofs.Counts.{lacks_none}
+use Rattle.mcg6_lines.proofs.OneStanding.{words_once}
+
+kind_line_once : (g : Graph) (a b : List ℕ) → IsMultigraph g → IsKindLine g a → IsKindLine g b → a ≡ b
+kind_line_once g a b is one two = one.line ∙ ap (kind_line g) (words_once g one.words two.words is one.right two.right) ∙ sym two.line
+
+-- the lines of some leaves
+lines_once : (front : List ℕ) (g : Graph) (ps : List (List (List ℕ))) (a b : List ℕ) → AreLinesOf front g ps a → AreLinesOf front g ps b → a ≡ b
+lines_once front g ps a b one two = grind (arith, kinds-once g ps one.kinds two.kinds one.right two.right)
+
+leaves_once : (order : NamedOrder) (number : ℕ) (g : Graph) (a b : List ℕ) → TellsLeaves order number g a → TellsLeaves order number g b → a ≡ b
+leaves_once order number g a b one two =
+    let same : one.tree ≡ two.tree = picked-once (NamedPicks order) (named-once order) g (singles g.order) 0 one.tree two.tree one.picked two.picked in
+    grind (arith, lines_once (line_front number) g (leaves g.order two.tree) a b)
+
+leaf_lines_once : (order : NamedOrder) (number : ℕ) (g : Graph) (a b : List ℕ) → AreLeafLines order number g a → AreLeafLines order number g b → a ≡ b
+leaf_lines_once order number g a b h k = grind (arith, leaves_once order number g a b)
+
+-- no graph both has a property and lacks it
+selected_once : (property : Property) (g : Graph) (line a b : List ℕ) → IsMultigraph g → IsSelected property g line a → IsSelected property g line b → a ≡ b
+selected_once property g line a b is h k = grind (arith, lacks_none g property is.ends)
+
+told_once : (query : Query) (number : ℕ) (line : List ℕ) (g : Graph) (a b : List ℕ) → IsMultigraph g → IsTold query number line g a → IsTold query number line g b → a ≡ b
+told_once Kinds number line g a b is one two = kind_line_once g a b is one two
+told_once (Leaves order) number line g a b is one two = leaf_lines_once order number g a b one two
+told_once GraphFile number line g a b is one two = one ∙ sym two
+told_once (Select property) number line g a b is one two = selected_once property g line a b is one two
+
+-- a text stands for one graph, or has one first fault, and not both
+graph_once : (outcome : Result Graph Fault) (g h : Graph) → outcome ≡ Ok g → outcome ≡ Ok h → g ≡ h
+graph_once outcome g h one two = grind arith
+
+kind_once : (outcome : Result Graph Fault) (fault other : Fault) → outcome ≡ Err fault → outcome ≡ Err other → fault.1 ≡ other.1
+kind_once outcome fault other one two = grind arith
+
+-- the output of a line
+pub output_once : (query : Query) (number : ℕ) (line a b : List ℕ) → TellsLine query number line a → TellsLine query number line b → a ≡ b
+output_once query number line a b one two = grind (arith, told_once, read-multigraph, graph_once)
+
+-- the kind of its first fault
+pub fault_once : (line : List ℕ) (kind other : FaultKind) → HasFault line kind → HasFault line other → kind ≡ other
+fault_once line kind other one two = kind_once (outcome_of line) (one.at, kind) (two.at, other) one.fault two.fault

@@ -1,0 +1,46 @@
+-- The words on how a graph stands are one: its first reasons differ at most in the Berge set, no
+-- reason is one of a covered graph, a kind without its shore is one, and so are the numbers of
+-- bricks and braces.
+use Rattle.std.proofs.Common.{◌≡◌, ◌∙◌, List, ℕ, ◌++◌, Bool, refl, sym, codes, arith}
+use Rattle.std.specs.Fmt.{decimal}
+use Rattle.counting.proofs.Common.{same_tests, mem}
+use Rattle.graph_core.proofs.Common.{reason-uncovered, Graph, IsMultigraph, reason_of}
+use Rattle.graph_core.specs.declared.verdict.Kind.{Kind}
+use Rattle.graph_core.specs.declared.verdict.Kind.TheVariants.{Brace, Brick, Composite}
+use Rattle.leaf_kinds.specs.LeafKinds.{IsKind}
+use Rattle.report_text.specs.Common.{kind_word, yes_or_no}
+use Rattle.tree_core.specs.declared.tallies.Tally.{Tally}
+use Rattle.mcg6_lines.specs.KindLines.{TellsStanding, standing_words}
+use Rattle.mcg6_lines.specs.Standings.{IsStanding, IsStructured, Standing, Uncovered, Structured}
+use Rattle.mcg6_lines.proofs.Counts.{same_counts}
+
+-- a kind without its shore is one
+kind_words_once : (g : Graph) (kind other : Kind) → IsKind g kind → IsKind g other → kind_word kind ≡ kind_word other
+kind_words_once g Brick Brick one two = refl
+kind_words_once g Brick Brace one two = absurd (one.0 two.0)
+kind_words_once g Brick (Composite cut) one two = absurd (one.1 (mem cut) two.0 two.1)
+kind_words_once g Brace Brick one two = absurd (two.0 one.0)
+kind_words_once g Brace Brace one two = refl
+kind_words_once g Brace (Composite cut) one two = absurd (one.1 (mem cut) two.0 two.1)
+kind_words_once g (Composite cut) Brick one two = absurd (two.1 (mem cut) one.0 one.1)
+kind_words_once g (Composite cut) Brace one two = absurd (two.1 (mem cut) one.0 one.1)
+kind_words_once g (Composite cut) (Composite other) one two = refl
+
+structure_words_once :
+    (g : Graph) (kind other : Kind) (tally more : Tally) (bicritical too : Bool) → IsMultigraph g → IsStructured g kind tally bicritical → IsStructured g other more too →
+    standing_words (Structured kind tally bicritical) ≡ standing_words (Structured other more too)
+structure_words_once g kind other tally more bicritical too is one two =
+    let words = kind_words_once g kind other one.right_kind two.right_kind in
+    let tallies = same_counts g tally more is.ends one.counted two.counted in
+    let answers = same_tests bicritical too (λ holds. two.critical.1 (one.critical.0 holds)) (λ holds. one.critical.1 (two.critical.0 holds)) in
+    λ i. words i ++ codes " " ++ decimal (tallies i).bricks ++ codes " " ++ decimal (tallies i).braces ++ codes " bicritical " ++ yes_or_no (answers i)
+
+standing_words_once : (g : Graph) (standing other : Standing) → IsMultigraph g → IsStanding g standing → IsStanding g other → standing_words standing ≡ standing_words other
+standing_words_once g (Uncovered q) (Uncovered r) is one two = grind arith
+standing_words_once g (Uncovered q) (Structured kind tally bicritical) is one two = absurd (reason-uncovered g (reason_of q) is one two.covered)
+standing_words_once g (Structured kind tally bicritical) (Uncovered r) is one two = absurd (reason-uncovered g (reason_of r) is two one.covered)
+standing_words_once g (Structured kind tally bicritical) (Structured other more too) is one two =
+    structure_words_once g kind other tally more bicritical too is one two
+
+pub words_once : (g : Graph) (a b : List ℕ) → IsMultigraph g → TellsStanding g a → TellsStanding g b → a ≡ b
+words_once g a b is one two = one.is ∙ standing_words_once g one.standing two.standing is one.right two.right ∙ sym two.is

@@ -1,0 +1,11 @@
+use Rattle.counting.proofs.Common.{IfOk-weaker}
+use Rattle.mcg6_lines.specs.Standings.{Uncovered}
+use Rattle.mcg6_lines.proofs.kind_lines.standing_words.Goals as goal
+
+pub returns-in-Err : goal.returns-in-Err
+returns-in-Err c =
+    IfOk-weaker c.uncovered_words.result _ _ (λ words is. record {
+      standing = Uncovered c.in-Err.reason;
+      right = c.in_ok-c.ensures.reason c.in-Err.reason c.in-Err.is;
+      is = is;
+    }) c.uncovered_words.ensures

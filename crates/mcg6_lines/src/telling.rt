@@ -1,0 +1,92 @@
+//! The answer to a line.
+ghost use Rattle.std.specs.Prelude.{◌≡◌, IfOk, Ok};
+ghost use Rattle.graph6_text.specs.Common.{outcome_of};
+ghost use Rattle.graph_core.specs.Common.{IsSimple};
+ghost use Rattle.graph_text.specs.Common.{plain_names, named_text};
+ghost use Rattle.mcg6_lines.specs.Telling.{IsAnswer, file_text};
+
+use crate::kind_lines::kind_line;
+use crate::leaf_lines::leaf_lines;
+use crate::query::Query;
+use crate::selecting::selected;
+use graph_core::MultiGraph;
+use graph_text::{VERSION_ONE_EDGES, VERSION_ONE_VERTICES, plain_names, write_graph, write_named};
+use graph6_text::read_graph6;
+use line_text::{FaultKind, TextFault};
+use std::alloc::{AllocError as Memory, Global};
+
+/// The answer to a line.
+#[derive(Drop)]
+pub enum QueryAnswer {
+    /// These bytes are written for it.
+    Output { bytes: Vec<u8> },
+    /// The line is bad: this is the kind of its fault.
+    Bad { kind: FaultKind },
+}
+
+/// The answer to a line with this number, counted from 1: what the query asks of the graph that
+/// stands in the line, or the kind of the line's fault. The line may have a header before the
+/// graph6 text and a line end after it, as `read_graph6` has it.
+pub fn tell(alloc: Global, query: &Query, number: u64, line: &[u8]) -> Result<QueryAnswer, Memory>
+    ensures { IfOk result (IsAnswer query.now number line.now) }
+{
+    match read_graph6(alloc, line) {
+        Ok(g) => answer(alloc, query, number, line, &g),
+        Err(TextFault::At { kind, .. }) => Ok(QueryAnswer::Bad { kind }),
+        Err(TextFault::Memory) => Err(Memory),
+    }
+}
+
+// The answer for a line in which the graph stands.
+fn answer(
+    alloc: Global,
+    query: &Query,
+    number: u64,
+    line: &[u8],
+    g: &MultiGraph,
+) -> Result<QueryAnswer, Memory>
+    requires stands { outcome_of line.now ≡ Ok g.now }
+    requires simple { IsSimple g.now }
+    ensures { IfOk result (IsAnswer query.now number line.now) }
+{
+    match query {
+        Query::Kinds => {
+            let bytes = kind_line(alloc, g, line)?;
+            Ok(QueryAnswer::Output { bytes })
+        }
+        Query::Leaves { order } => {
+            let bytes = leaf_lines(alloc, g, *order, number)?;
+            Ok(QueryAnswer::Output { bytes })
+        }
+        Query::Graph => {
+            let bytes = file_text(alloc, g)?;
+            Ok(QueryAnswer::Output { bytes })
+        }
+        Query::Select { property } => {
+            let bytes = selected(alloc, g, *property, line)?;
+            Ok(QueryAnswer::Output { bytes })
+        }
+    }
+}
+
+// The canonical text of the graph file: of version 1, or if that has no room of version 2 with
+// plain names.
+#[tactic(auto, unfolding(crate::specs::Telling::file_text))]
+fn file_text(alloc: Global, g: &MultiGraph) -> Result<Vec<u8>, Memory>
+    ensures { IfOk result (λ bytes. bytes.items ≡ file_text g.now) }
+{
+    if g.order() > VERSION_ONE_VERTICES || g.size() > VERSION_ONE_EDGES {
+        named_file_text(alloc, g)
+    } else {
+        write_graph(alloc, g)
+    }
+}
+
+// The canonical text of the graph file of version 2 with plain names.
+fn named_file_text(alloc: Global, g: &MultiGraph) -> Result<Vec<u8>, Memory>
+    ensures { IfOk result (λ bytes. bytes.items ≡ named_text g.now (plain_names g.now.order)) }
+{
+    g.keeps_limits();
+    let names = plain_names(alloc, g.order())?;
+    write_named(alloc, g, &names)
+}

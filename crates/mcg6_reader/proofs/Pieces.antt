@@ -1,0 +1,260 @@
+-- What the pieces of a text give together: the lines that are answered so far are whole, so what
+-- stands after them begins anew.
+use Rattle.std.proofs.Common.{◌≡◌, inl, inr, ℕ, ◌<◌, ◌≤◌, List, [], ◌∷◌, ◌++◌, length, refl, sym, subst, ◌∙◌, ap, arith, append_assoc, length-append, IsTrue, IsFalse, append-nil}
+use Rattle.std.specs.declared.option.Option.{Option}
+use Rattle.outside.specs.Common.{most_line}
+use Rattle.line_text.specs.declared.faults.FaultKind.{FaultKind}
+use Rattle.line_text.specs.declared.faults.FaultKind.TheVariants.{Limit}
+use Rattle.mcg6_reader.specs.declared.ending.BadLine.{BadLine}
+use Rattle.mcg6_reader.specs.declared.ending.Ending.TheVariants.{Bad}
+use Rattle.mcg6_reader.specs.declared.ending.ListStop.{ListStop}
+use Rattle.mcg6_reader.specs.declared.ending.ListStop.TheVariants as stop
+use Rattle.mcg6_reader.specs.declared.place.LinePlace.{LinePlace}
+use Rattle.mcg6_reader.specs.Common.{is_header, lines_of, HasNoFeed, IsFirstLine, place_after, place_behind, LineTold, NamesBad, IsFound, IfBad, AllTold, BeginningTold, HasBadLine, ToldToBad, Added, ToldThrough, StopsWith}
+use Rattle.mcg6_reader.proofs.LineCuts.{lines_of-nil, lines_of-closed, lines_of-last, lines_of-begun, IsClosed-append}
+use Rattle.mcg6_reader.proofs.Joins.{place_behind-append, AllTold-append, AllTold-one, HasBadLine-first, HasBadLine-behind}
+
+-- the header alone has an empty answer
+pub told_header :
+    (tells : LinePlace → List ℕ → List ℕ → Type 0) (n : LinePlace) (line output : List ℕ) →
+    IsTrue (is_header n.number line) → Added (LineTold tells n line) output output
+told_header tells n line output header = record { more = []; right = inl (header, refl); output = sym (append-nil output) }
+
+-- any other line has what the teller answers
+pub told_line :
+    (tells : LinePlace → List ℕ → List ℕ → Type 0) (n : LinePlace) (line bytes before now : List ℕ) →
+    IsFalse (is_header n.number line) → length line ≤ most_line → tells n line bytes → now ≡ before ++ bytes →
+    Added (LineTold tells n line) before now
+told_line tells n line bytes before now other short told more = record { more = bytes; right = inr (other, short, told); output = more }
+
+-- a line that is too long is bad
+pub names_long :
+    (bad : LinePlace → List ℕ → FaultKind → Type 0) (n : LinePlace) (line : List ℕ) (why : ListStop) →
+    most_line < length line → IfBad (IsFound n.number Limit line) why → IfBad (NamesBad bad n line) why
+names_long bad n line stop.Memory long found = tt
+names_long bad n line (stop.Bad bad_line) long found = record {
+  bad_line = inl (long, found.of_kind);
+  number = found.numbered;
+  kept = inl found.kept;
+}
+
+-- a line in which the teller finds a fault is bad
+pub names_bad :
+    (bad : LinePlace → List ℕ → FaultKind → Type 0) (n : LinePlace) (line : List ℕ) (kind : FaultKind) (why : ListStop) →
+    IsFalse (is_header n.number line) → length line ≤ most_line → bad n line kind → IfBad (IsFound n.number kind line) why →
+    IfBad (NamesBad bad n line) why
+names_bad bad n line kind stop.Memory other short is found = tt
+names_bad bad n line kind (stop.Bad bad_line) other short is found = record {
+  bad_line = inr (other, short, subst (λ (k : FaultKind). bad n line k) (sym found.of_kind) is);
+  number = found.numbered;
+  kept = inl found.kept;
+}
+
+-- nothing is answered yet
+pub through_none :
+    (tells : LinePlace → List ℕ → List ℕ → Type 0) (n : LinePlace) (text output : List ℕ) →
+    Added (ToldThrough tells n text text n) output output
+through_none tells n text output = record {
+  more = [];
+  right = record {
+    whole = [];
+    cut = refl;
+    closed = inl refl;
+    told = subst (λ (ls : List (List ℕ)). AllTold tells n ls []) (sym lines_of-nil) refl;
+    place = ap (λ (ls : List (List ℕ)). place_behind n ls) (sym lines_of-nil);
+  };
+  output = sym (append-nil output);
+}
+
+-- one more line is answered
+pub through_more :
+    (tells : LinePlace → List ℕ → List ℕ → Type 0) (n k next : LinePlace) (text rest line behind a b c : List ℕ) →
+    Added (ToldThrough tells n text rest k) a b → IsFirstLine rest line behind → next ≡ place_after k line →
+    Added (LineTold tells k line) b c → Added (ToldThrough tells n text behind next) a c
+through_more tells n k next text rest line behind a b c so_far first after one =
+    let whole = so_far.right.whole in
+    let lines : lines_of (whole ++ line) ≡ lines_of whole ++ line ∷ [] =
+    lines_of-closed whole line so_far.right.closed ∙ ap (λ (ls : List (List ℕ)). lines_of whole ++ ls) first.alone in
+    record {
+      more = so_far.more ++ one.more;
+      right = record {
+        whole = whole ++ line;
+        cut =
+            so_far.right.cut
+            ∙ ap (λ (t : List ℕ). whole ++ t) first.whole
+            ∙ sym (append_assoc whole line behind);
+        closed = IsClosed-append whole line so_far.right.closed first.closed;
+        told =
+            subst (λ (ls : List (List ℕ)). AllTold tells n ls (so_far.more ++ one.more)) (sym lines)
+            (AllTold-append tells n (lines_of whole) (line ∷ []) so_far.more one.more so_far.right.told
+            (AllTold-one tells (place_behind n (lines_of whole)) line one.more
+            (subst (λ (p : LinePlace). LineTold tells p line one.more) so_far.right.place one.right)));
+        place =
+            after
+            ∙ ap (λ (p : LinePlace). place_after p line) so_far.right.place
+            ∙ sym (place_behind-append n (lines_of whole) (line ∷ []))
+            ∙ ap (λ (ls : List (List ℕ)). place_behind n ls) (sym lines);
+      };
+      output = one.output ∙ ap (λ (t : List ℕ). t ++ one.more) so_far.output ∙ append_assoc a so_far.more one.more;
+    }
+
+-- a bad line at that place stands first in a text, whatever is after it
+pub record OpensBad (bad : LinePlace → List ℕ → FaultKind → Type 0) (n : LinePlace) (text : List ℕ) (found : BadLine) : Type 0 where
+  pub line : List ℕ
+  pub others : List (List ℕ)
+  pub cut : lines_of text ≡ line ∷ others
+  pub named : NamesBad bad n line found
+
+-- a first line that is bad
+opens_first :
+    (bad : LinePlace → List ℕ → FaultKind → Type 0) (n : LinePlace) (rest line behind tail : List ℕ) (found : BadLine) →
+    IsFirstLine rest line behind → NamesBad bad n line found → OpensBad bad n (rest ++ tail) found
+opens_first bad n rest line behind tail found first named = record {
+  line = line;
+  others = lines_of (behind ++ tail);
+  cut =
+      ap (λ (t : List ℕ). lines_of (t ++ tail)) first.whole
+      ∙ ap lines_of (append_assoc line behind tail)
+      ∙ lines_of-closed line (behind ++ tail) first.closed
+      ∙ ap (λ (ls : List (List ℕ)). ls ++ lines_of (behind ++ tail)) first.alone;
+  named = named;
+}
+
+-- a line that is too long, before its end was read
+opens_long :
+    (bad : LinePlace → List ℕ → FaultKind → Type 0) (n : LinePlace) (rest tail : List ℕ) (found : BadLine) →
+    HasNoFeed rest → most_line < length rest → IsFound n.number Limit rest found → OpensBad bad n (rest ++ tail) found
+opens_long bad n rest tail found none long is =
+    let some : 0 < length rest = omega arith in
+    let begun = lines_of-begun rest tail none some in
+    record {
+      line = rest ++ begun.more;
+      others = begun.others;
+      cut = begun.first;
+      named = record {
+        bad_line = inl (omega (arith, length-append rest begun.more), is.of_kind);
+        number = is.numbered;
+        kept =
+            inr (
+              subst (λ (t : List ℕ). most_line < length t) (sym is.kept) long,
+              (begun.more, ap (λ (t : List ℕ). t ++ begun.more) (sym is.kept)),
+            );
+      };
+    }
+
+-- the lines of a text and of what is after it, if its lines are answered up to some place
+through_lines :
+    (tells : LinePlace → List ℕ → List ℕ → Type 0) (n k : LinePlace) (text rest tail output : List ℕ) →
+    (through : ToldThrough tells n text rest k output) →
+    lines_of (text ++ tail) ≡ lines_of through.whole ++ lines_of (rest ++ tail)
+through_lines tells n k text rest tail output through =
+    ap (λ (t : List ℕ). lines_of (t ++ tail)) through.cut
+    ∙ ap lines_of (append_assoc through.whole rest tail)
+    ∙ lines_of-closed through.whole (rest ++ tail) through.closed
+
+-- the next line is bad
+through_bad :
+    (tells : LinePlace → List ℕ → List ℕ → Type 0) (bad : LinePlace → List ℕ → FaultKind → Type 0) (lacks : ℕ → Option FaultKind) (n k : LinePlace)
+    (text rest a b : List ℕ) (found : BadLine) →
+    Added (ToldThrough tells n text rest k) a b → ((tail : List ℕ) → OpensBad bad k (rest ++ tail) found) →
+    Added (StopsWith tells bad lacks n text (Bad found)) a b
+through_bad tells bad lacks n k text rest a b found so_far opens =
+    let whole = so_far.right.whole in
+    record {
+      more = so_far.more;
+      right = λ tail.
+          let opened = opens tail in
+          let named = subst (λ (p : LinePlace). NamesBad bad p opened.line found) so_far.right.place opened.named in
+          inl (
+          subst (λ (ls : List (List ℕ)). HasBadLine tells bad n ls found so_far.more)
+          (sym (through_lines tells n k text rest tail so_far.more so_far.right))
+          (subst (λ (t : List ℕ). HasBadLine tells bad n (lines_of whole ++ lines_of (rest ++ tail)) found t) (append-nil so_far.more)
+          (HasBadLine-behind tells bad n (lines_of whole) (lines_of (rest ++ tail)) found so_far.more [] so_far.right.told
+          (subst (λ (ls : List (List ℕ)). HasBadLine tells bad (place_behind n (lines_of whole)) ls found []) (sym opened.cut)
+          (HasBadLine-first tells bad (place_behind n (lines_of whole)) opened.line found opened.others named))))
+          );
+      output = so_far.output;
+    }
+
+-- answering stopped at the next line
+pub through_stopped :
+    (tells : LinePlace → List ℕ → List ℕ → Type 0) (bad : LinePlace → List ℕ → FaultKind → Type 0) (lacks : ℕ → Option FaultKind) (n k : LinePlace)
+    (text rest line behind a b c : List ℕ) (why : ListStop) →
+    Added (ToldThrough tells n text rest k) a b → IsFirstLine rest line behind →
+    IfBad (NamesBad bad k line) why → IfBad (λ found. c ≡ b) why →
+    IfBad (λ found. Added (StopsWith tells bad lacks n text (Bad found)) a c) why
+through_stopped tells bad lacks n k text rest line behind a b c stop.Memory so_far first named same = tt
+through_stopped tells bad lacks n k text rest line behind a b c (stop.Bad found) so_far first named same =
+    subst (λ (t : List ℕ). Added (StopsWith tells bad lacks n text (Bad found)) a t) (sym same)
+    (through_bad tells bad lacks n k text rest a b found so_far (λ tail. opens_first bad k rest line behind tail found first named))
+
+-- what is left of the text begins a line that is too long
+pub through_long :
+    (tells : LinePlace → List ℕ → List ℕ → Type 0) (bad : LinePlace → List ℕ → FaultKind → Type 0) (lacks : ℕ → Option FaultKind) (n k : LinePlace)
+    (text rest a b : List ℕ) (why : ListStop) →
+    Added (ToldThrough tells n text rest k) a b → HasNoFeed rest → most_line < length rest →
+    IfBad (IsFound k.number Limit rest) why → IfBad (λ found. Added (StopsWith tells bad lacks n text (Bad found)) a b) why
+through_long tells bad lacks n k text rest a b stop.Memory so_far none long is = tt
+through_long tells bad lacks n k text rest a b (stop.Bad found) so_far none long is =
+    through_bad tells bad lacks n k text rest a b found so_far (λ tail. opens_long bad k rest tail found none long is)
+
+-- nothing is held at the end
+pub end_none :
+    (tells : LinePlace → List ℕ → List ℕ → Type 0) (n : LinePlace) (held output : List ℕ) →
+    length held ≡ 0 → Added (AllTold tells n (lines_of held)) output output × (n ≡ place_behind n (lines_of held))
+end_none tells n [] output empty = (
+  record {
+    more = [];
+    right = subst (λ (ls : List (List ℕ)). AllTold tells n ls []) (sym lines_of-nil) refl;
+    output = sym (append-nil output);
+  },
+  ap (λ (ls : List (List ℕ)). place_behind n ls) (sym lines_of-nil),
+)
+end_none tells n (byte ∷ held) output empty = absurd (omega arith)
+
+-- what is held at the end is answered as the last line
+pub end_told :
+    (tells : LinePlace → List ℕ → List ℕ → Type 0) (n : LinePlace) (held before now : List ℕ) →
+    HasNoFeed held → 0 < length held → Added (LineTold tells n held) before now →
+    Added (AllTold tells n (lines_of held)) before now
+end_told tells n held before now none some told = record {
+  more = told.more;
+  right =
+      subst (λ (ls : List (List ℕ)). AllTold tells n ls told.more) (sym (lines_of-last held none some))
+      (AllTold-one tells n held told.more told.right);
+  output = told.output;
+}
+
+-- and the place after it
+pub end_place :
+    (n next : LinePlace) (held : List ℕ) → HasNoFeed held → 0 < length held → next ≡ place_after n held →
+    next ≡ place_behind n (lines_of held)
+end_place n next held none some after = after ∙ ap (λ (ls : List (List ℕ)). place_behind n ls) (sym (lines_of-last held none some))
+
+-- what is held at the end is bad
+pub end_stopped :
+    (tells : LinePlace → List ℕ → List ℕ → Type 0) (bad : LinePlace → List ℕ → FaultKind → Type 0) (lacks : ℕ → Option FaultKind) (n : LinePlace)
+    (held before now : List ℕ) (why : ListStop) →
+    HasNoFeed held → 0 < length held → IfBad (NamesBad bad n held) why → IfBad (λ found. now ≡ before) why →
+    IfBad (λ found. Added (ToldToBad tells bad lacks n (lines_of held) found) before now) why
+end_stopped tells bad lacks n held before now stop.Memory none some named same = tt
+end_stopped tells bad lacks n held before now (stop.Bad found) none some named same = record {
+  more = [];
+  right =
+      inl (
+      subst (λ (ls : List (List ℕ)). HasBadLine tells bad n ls found []) (sym (lines_of-last held none some))
+      (HasBadLine-first tells bad n held found [] named)
+      );
+  output = same ∙ sym (append-nil before);
+}
+
+-- the lines that are answered through a text are some first lines, whatever is after it
+pub through_begins :
+    (tells : LinePlace → List ℕ → List ℕ → Type 0) (n k : LinePlace) (text rest tail output : List ℕ) →
+    ToldThrough tells n text rest k output → BeginningTold tells n (lines_of (text ++ tail)) output
+through_begins tells n k text rest tail output through = record {
+  before = lines_of through.whole;
+  behind = lines_of (rest ++ tail);
+  cut = through_lines tells n k text rest tail output through;
+  told = through.told;
+}

@@ -1,0 +1,204 @@
+-- A list is read piece by piece. What was read so far is lines with an answer and the bytes held
+-- after them; so what the next piece gives, after what is held, is what the lines of the list
+-- give there.
+use Rattle.std.proofs.Common.{◌≡◌, inl, ℕ, suc, ◌≤◌, List, [], ◌++◌, length, refl, sym, subst, ◌∙◌, ap, arith, append_assoc}
+use Rattle.std.specs.declared.option.Option.{Option}
+use Rattle.std.specs.declared.option.Option.TheVariants.{Some}
+use Rattle.outside.specs.Common.{appended, prepended, IsEnd, most_line}
+use Rattle.outside.proofs.Pieces.{appended-nil, appended-appended}
+use Rattle.line_text.specs.declared.faults.FaultKind.{FaultKind}
+use Rattle.mcg6_reader.specs.declared.ending.Ending.{Ending}
+use Rattle.mcg6_reader.specs.declared.ending.Ending.TheVariants.{Memory}
+use Rattle.mcg6_reader.specs.declared.place.LinePlace.{LinePlace}
+use Rattle.mcg6_reader.specs.Common.{lines_of, HasNoFeed, IsClosed, AllTold, BeginningTold, first_place, place_behind, Gives, Appended, ToldThrough, StopsWith, TellsList, ReadsTold, Wrote, WroteUpTo, Steps}
+use Rattle.mcg6_reader.proofs.LineCuts.{lines_of-nil, lines_of-closed, IsClosed-append}
+use Rattle.mcg6_reader.proofs.Joins.{place_behind-append, AllTold-append, BeginningTold-none, Gives-behind}
+use Rattle.mcg6_reader.proofs.Stages.{steps_more, wrote_appended}
+use Rattle.mcg6_reader.proofs.LeftBytes.{prepended-nil, list_is, list_ends, piece_read}
+
+-- the lines up to that place were answered, these bytes are held after them, and each step was
+-- answered as it was read
+pub record SoFar {S K : Type 0} (tells : LinePlace → List ℕ → List ℕ → Type 0) (left : S → Option (List ℕ)) (reads : S → Option (List ℕ) → S → Type 0) (written : K → Option (List ℕ)) (writes : K → List ℕ → ℕ → K → Type 0) (place : LinePlace) (held : List ℕ) (source : S) (sink : K) (now_source : S) (now_sink : K) : Type 0 where
+  pub whole : List ℕ
+  pub output : List ℕ
+  pub count : ℕ
+  pub leaves : left source ≡ prepended (whole ++ held) (left now_source)
+  pub closed : IsClosed whole
+  pub told : AllTold tells first_place (lines_of whole) output
+  pub at : place ≡ place_behind first_place (lines_of whole)
+  pub wrote : written now_sink ≡ appended (written sink) output
+  pub no_feed : HasNoFeed held
+  pub short : length held ≤ most_line
+  pub steps : Steps tells reads writes count (record { read = []; output = []; source = source; sink = sink }) (record { read = whole ++ held; output = output; source = now_source; sink = now_sink })
+
+-- nothing was read
+pub so_far_none :
+    {S K : Type 0} (tells : LinePlace → List ℕ → List ℕ → Type 0) (left : S → Option (List ℕ)) (reads : S → Option (List ℕ) → S → Type 0)
+    (written : K → Option (List ℕ)) (writes : K → List ℕ → ℕ → K → Type 0)
+    (place : LinePlace) (held : List ℕ) (source : S) (sink : K) → place ≡ first_place → held ≡ [] →
+    SoFar tells left reads written writes place held source sink source sink
+so_far_none tells left reads written writes place held source sink start empty =
+    subst (λ (t : List ℕ). SoFar tells left reads written writes place t source sink source sink) (sym empty)
+    (record {
+      whole = [];
+      output = [];
+      count = 0;
+      leaves = sym (prepended-nil (left source));
+      closed = inl refl;
+      told = subst (λ (ls : List (List ℕ)). AllTold tells first_place ls []) (sym lines_of-nil) refl;
+      at = start ∙ ap (λ (ls : List (List ℕ)). place_behind first_place ls) (sym lines_of-nil);
+      wrote = sym (appended-nil (written sink));
+      no_feed = refl;
+      short = omega arith;
+      steps = refl;
+    })
+
+written_behind :
+    (before now next : Option (List ℕ)) (first second : List ℕ) →
+    now ≡ appended before first → next ≡ appended now second → next ≡ appended before (first ++ second)
+written_behind before now next first second one two =
+    two ∙ ap (λ (o : Option (List ℕ)). appended o second) one ∙ appended-appended before first second
+
+module _ {S K : Type 0} {tells : LinePlace → List ℕ → List ℕ → Type 0} {left : S → Option (List ℕ)} {reads : S → Option (List ℕ) → S → Type 0} {written : K → Option (List ℕ)} {writes : K → List ℕ → ℕ → K → Type 0} {place : LinePlace} {held : List ℕ} {source : S} {sink : K} {now_source : S} {now_sink : K} (so_far : SoFar tells left reads written writes place held source sink now_source now_sink) where
+  -- a piece was read, and the lines that it made whole were answered
+  pub so_far_piece :
+      (more_place : LinePlace) (piece more_held : List ℕ) (next_source : S) (next_sink : K) →
+      reads now_source (Some piece) next_source → left now_source ≡ prepended piece (left next_source) →
+      Wrote written writes (ToldThrough tells place (held ++ piece) more_held more_place) now_sink next_sink →
+      HasNoFeed more_held → length more_held ≤ most_line →
+      SoFar tells left reads written writes more_place more_held source sink next_source next_sink
+  so_far_piece more_place piece more_held next_source next_sink reading taken more no_feed short =
+      let whole = so_far.whole in
+      let through = more.right in
+      let all : lines_of (whole ++ through.whole) ≡ lines_of whole ++ lines_of through.whole =
+      lines_of-closed whole through.whole so_far.closed in
+      let joined : whole ++ (held ++ piece) ≡ (whole ++ through.whole) ++ more_held =
+      ap (λ (t : List ℕ). whole ++ t) through.cut ∙ sym (append_assoc whole through.whole more_held) in
+      let closed = IsClosed-append whole through.whole so_far.closed through.closed in
+      let more_told =
+      subst (λ (p : LinePlace). AllTold tells p (lines_of through.whole) more.output) so_far.at through.told in
+      let told =
+      subst (λ (ls : List (List ℕ)). AllTold tells first_place ls (so_far.output ++ more.output)) (sym all)
+      (AllTold-append tells first_place (lines_of whole) (lines_of through.whole) so_far.output more.output so_far.told more_told) in
+      record {
+        whole = whole ++ through.whole;
+        output = so_far.output ++ more.output;
+        count = suc so_far.count;
+        leaves =
+            piece_read whole held piece (left source) (left now_source) (left next_source) so_far.leaves taken
+            ∙ ap (λ (t : List ℕ). prepended t (left next_source)) joined;
+        closed = closed;
+        told = told;
+        at =
+            through.place
+            ∙ ap (λ (p : LinePlace). place_behind p (lines_of through.whole)) so_far.at
+            ∙ sym (place_behind-append first_place (lines_of whole) (lines_of through.whole))
+            ∙ ap (λ (ls : List (List ℕ)). place_behind first_place ls) (sym all);
+        wrote =
+            more.now
+            ∙ ap (λ (o : Option (List ℕ)). appended o more.output) so_far.wrote
+            ∙ appended-appended (written sink) so_far.output more.output;
+        no_feed = no_feed;
+        short = short;
+        steps =
+            steps_more tells reads writes so_far.count _ _ _ so_far.steps
+            (record {
+              piece = piece;
+              more = more.output;
+              reading = reading;
+              read = sym joined ∙ sym (append_assoc whole held piece);
+              writing = more.whole;
+              output = refl;
+              told = record {
+                whole = whole ++ through.whole;
+                part = more_held;
+                cut = refl;
+                closed = closed;
+                no_feed = no_feed;
+                short = short;
+                told = told;
+              };
+            });
+      }
+
+  -- the answers stopped before a piece was read
+  so_far_begins : (rest : List ℕ) → BeginningTold tells first_place (lines_of ((so_far.whole ++ held) ++ rest)) so_far.output
+  so_far_begins rest = grind (arith, append_assoc so_far.whole held rest, lines_of-closed so_far.whole (held ++ rest) so_far.closed)
+
+  -- a read failed: each whole line of what was read is answered
+  pub so_far_torn : (last_source : S) → left last_source ≡ left now_source → Appended (ReadsTold tells (left source) (left last_source)) (written sink) (written now_sink)
+  so_far_torn last_source same = grind arith
+
+  module _ (bad : LinePlace → List ℕ → FaultKind → Type 0) (lacks : ℕ → Option FaultKind) (ending : Ending) where
+    -- what the lines after those answered give is what the list gives
+    pub gives_behind : (rest output : List ℕ) → Gives tells bad lacks place (lines_of rest) ending output → Gives tells bad lacks first_place (lines_of (so_far.whole ++ rest)) ending (so_far.output ++ output)
+    gives_behind rest output gives =
+        subst (λ (ls : List (List ℕ)). Gives tells bad lacks first_place ls ending (so_far.output ++ output))
+        (sym (lines_of-closed so_far.whole rest so_far.closed))
+        (Gives-behind tells bad lacks first_place (lines_of so_far.whole) (lines_of rest) so_far.output output ending so_far.told
+        (subst (λ (p : LinePlace). Gives tells bad lacks p (lines_of rest) ending output) so_far.at gives))
+
+    -- the answers stopped in a piece
+    pub so_far_stops : (piece : List ℕ) (last_source : S) (last_sink : K) → left now_source ≡ prepended piece (left last_source) →
+        WroteUpTo written writes (StopsWith tells bad lacks place (held ++ piece)) ending now_sink last_sink →
+        TellsList tells bad lacks ending (left source) (written sink) (written last_sink)
+    so_far_stops piece last_source last_sink taken wrote =
+        let whole = so_far.whole in
+        let list = list_is (left source) (left last_source) (whole ++ (held ++ piece))
+        (piece_read whole held piece (left source) (left now_source) (left last_source) so_far.leaves taken) in
+        let stops = wrote_appended written writes (StopsWith tells bad lacks place (held ++ piece))
+        (λ rest. BeginningTold-none tells place (lines_of ((held ++ piece) ++ rest))) ending now_sink last_sink wrote in
+        let joined : whole ++ ((held ++ piece) ++ list.rest) ≡ (whole ++ (held ++ piece)) ++ list.rest =
+        sym (append_assoc whole (held ++ piece) list.rest) in
+        record {
+          bytes = (whole ++ (held ++ piece)) ++ list.rest;
+          is_left = list.is_left;
+          gives = record {
+            output = so_far.output ++ stops.output;
+            right =
+                subst (λ (t : List ℕ). Gives tells bad lacks first_place (lines_of t) ending (so_far.output ++ stops.output)) joined
+                (gives_behind ((held ++ piece) ++ list.rest) stops.output (stops.right list.rest));
+            written = written_behind (written sink) (written now_sink) (written last_sink) so_far.output stops.output so_far.wrote stops.written;
+          };
+        }
+
+    -- the list ended
+    pub so_far_end : (last_source : S) (last_sink : K) → left now_source ≡ prepended [] (left last_source) → IsEnd (left last_source) →
+        WroteUpTo written writes (Gives tells bad lacks place (lines_of held)) ending now_sink last_sink →
+        TellsList tells bad lacks ending (left source) (written sink) (written last_sink)
+    so_far_end last_source last_sink taken end wrote =
+        let same : left now_source ≡ left last_source = taken ∙ prepended-nil (left last_source) in
+        let gives = wrote_appended written writes (Gives tells bad lacks place (lines_of held)) (BeginningTold-none tells place (lines_of held))
+        ending now_sink last_sink wrote in
+        record {
+          bytes = so_far.whole ++ held;
+          is_left =
+              list_ends (left source) (left last_source) (so_far.whole ++ held)
+              (so_far.leaves ∙ ap (prepended (so_far.whole ++ held)) same) end;
+          gives = record {
+            output = so_far.output ++ gives.output;
+            right = gives_behind held gives.output gives.right;
+            written = written_behind (written sink) (written now_sink) (written last_sink) so_far.output gives.output so_far.wrote gives.written;
+          };
+        }
+
+    -- the answers stopped there, with an ending that asks for no more than a beginning
+    pub so_far_begun : ((lines : List (List ℕ)) (output : List ℕ) → BeginningTold tells first_place lines output → Gives tells bad lacks first_place lines ending output) →
+        TellsList tells bad lacks ending (left source) (written sink) (written now_sink)
+    so_far_begun enough = grind (arith, list_is (left source) (left now_source) (so_far.whole ++ held) so_far.leaves, so_far_begins)
+
+-- nothing was read or written
+pub untouched :
+    (tells : LinePlace → List ℕ → List ℕ → Type 0) (bad : LinePlace → List ℕ → FaultKind → Type 0) (lacks : ℕ → Option FaultKind)
+    (left written : Option (List ℕ)) → TellsList tells bad lacks Memory left written written
+untouched tells bad lacks left written =
+    let list = list_is left left [] (sym (prepended-nil left)) in
+    record {
+      bytes = list.rest;
+      is_left = list.is_left;
+      gives = record {
+        output = [];
+        right = BeginningTold-none tells first_place (lines_of list.rest);
+        written = sym (appended-nil written);
+      };
+    }

@@ -1,0 +1,10 @@
+-- The definitions of this crate, passed on from one place to the crates above. Declares nothing.
+pub use Rattle.mcg6_reader.specs.Lines.{is_line_feed, HasNoFeed, IsClosed, IsFirstLine}
+unfoldable pub use Rattle.mcg6_reader.specs.Lines.{lines_of}
+pub use Rattle.mcg6_reader.specs.Headers.{is_header_line, is_header}
+pub use Rattle.mcg6_reader.specs.Places.{first_place, place_behind}
+unfoldable pub use Rattle.mcg6_reader.specs.Places.{place_after}
+pub use Rattle.mcg6_reader.specs.Told.{IsToldAs, LineTold, LineBad, IsKept, NamesBad, IsFound, IfBad}
+pub use Rattle.mcg6_reader.specs.Lists.{AllTold, BeginningTold, WholeTold, HasBadLine, LacksLine, ToldToBad, CutShort, HasOneOutput, HasOneFault, TellsApart}
+pub use Rattle.mcg6_reader.specs.Endings.{Gives, Appended, Added, WholeLinesTold, ToldThrough, StopsWith, Wrote, WroteCut, WroteUpTo, IsLeft, TellsList, ReadsTold}
+pub use Rattle.mcg6_reader.specs.Streams.{Stage, Step, Steps, MayFollow, GivesAfter, EndsAfter, EndsUnread, EndsTorn, Ends, IsStream}

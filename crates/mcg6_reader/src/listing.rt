@@ -1,0 +1,127 @@
+//! A list that comes in pieces.
+ghost use Rattle.std.specs.Prelude.{◌≡◌, ◌≤◌, ◌++◌, IfErr, IfOk, OnOk, length};
+ghost use Rattle.outside.specs.Common.{most_line};
+ghost use Rattle.mcg6_reader.specs.declared.ending.Ending.TheVariants as ending;
+ghost use Rattle.mcg6_reader.specs.Common.{HasNoFeed, lines_of, AllTold, ToldToBad, place_behind, IfBad, Added, Gives, ToldThrough, StopsWith};
+
+use crate::ending::{ListStop, stop_at};
+use crate::place::{LinePlace, place_after};
+use crate::teller::LineTeller;
+use crate::telling::{tell_line, tell_lines};
+use line_text::FaultKind;
+use outside::MOST_LINE;
+use std::alloc::Global;
+
+/// The state of a list that comes in pieces.
+#[derive(Drop)]
+pub struct Listing {
+    /// The place of the next line.
+    pub place: LinePlace,
+    /// The bytes of it that were read; its line feed has not come yet.
+    pub held: Vec<u8>,
+}
+
+// Answers the whole lines of a text, as `tell_lines` does, and refuses what is left of it if
+// that is too long for a line.
+fn tell_within_limit<'a, T: LineTeller>(
+    alloc: Global,
+    teller: &T,
+    first: LinePlace,
+    text: &'a [u8],
+    output: &mut Vec<u8>,
+) -> Result<(LinePlace, &'a [u8]), ListStop>
+    ensures told { IfOk result
+        (λ found. Added (ToldThrough (T.tells teller.now) first text.now found.1.now found.0)
+        output.old.items output.new.items) }
+    ensures left { IfOk result (λ found. HasNoFeed found.1.now) }
+    ensures short { IfOk result (λ found. length found.1.now ≤ most_line) }
+    ensures bad { IfErr result (IfBad (λ found. Added
+        (StopsWith (T.tells teller.now) (T.bad teller.now) (T.lacks teller.now)
+        first text.now (ending.Bad found)) output.old.items output.new.items)) }
+{
+    let (place, rest) = tell_lines(alloc, teller, first, text, output)?;
+    if rest.len() > MOST_LINE {
+        return Err(stop_at(alloc, place.number, FaultKind::Limit, rest));
+    }
+    Ok((place, rest))
+}
+
+// Answers the lines that a further piece makes whole, and holds what is left after them.
+pub fn add_piece<T: LineTeller>(
+    alloc: Global,
+    teller: &T,
+    listing: &mut Listing,
+    piece: &[u8],
+    output: &mut Vec<u8>,
+) -> Result<(), ListStop>
+    ensures told { OnOk result (Added
+        (ToldThrough (T.tells teller.now) listing.old.place (listing.old.held.items ++ piece.now)
+        listing.new.held.items listing.new.place) output.old.items output.new.items) }
+    ensures left { OnOk result (HasNoFeed listing.new.held.items) }
+    ensures short { OnOk result (length listing.new.held.items ≤ most_line) }
+    ensures bad { IfErr result (IfBad (λ found. Added
+        (StopsWith (T.tells teller.now) (T.bad teller.now) (T.lacks teller.now) listing.old.place
+        (listing.old.held.items ++ piece.now) (ending.Bad found))
+        output.old.items output.new.items)) }
+{
+    listing
+        .held
+        .extend_from_slice(piece)
+        .map_err(|_| ListStop::Memory)?;
+    let (place, rest) = tell_within_limit(alloc, teller, listing.place, &listing.held, output)?;
+    let held = rest.to_vec(alloc).map_err(|_| ListStop::Memory)?;
+    *listing = Listing { place, held };
+    Ok(())
+}
+
+// Answers what is held at the end of a list as its last line, unless nothing is; answers the place
+// after it.
+fn add_last<T: LineTeller>(
+    alloc: Global,
+    teller: &T,
+    place: LinePlace,
+    held: &[u8],
+    output: &mut Vec<u8>,
+) -> Result<LinePlace, ListStop>
+    requires { HasNoFeed held.now }
+    ensures told { IfOk result (λ _. Added (AllTold (T.tells teller.now) place (lines_of held.now))
+        output.old.items output.new.items) }
+    ensures next { IfOk result (λ next. next ≡ place_behind place (lines_of held.now)) }
+    ensures bad { IfErr result (IfBad (λ found. Added
+        (ToldToBad (T.tells teller.now) (T.bad teller.now) (T.lacks teller.now)
+        place (lines_of held.now) found) output.old.items output.new.items)) }
+{
+    if held.is_empty() {
+        return Ok(place);
+    }
+    match tell_line(alloc, teller, place, held, output) {
+        Ok(()) => place_after(place, held),
+        Err(stop) => Err(stop),
+    }
+}
+
+// Answers what is held at the end of a list as its last line, unless nothing is, and refuses a list
+// that may not end after it.
+pub fn add_end<T: LineTeller>(
+    alloc: Global,
+    teller: &T,
+    place: LinePlace,
+    held: &[u8],
+    output: &mut Vec<u8>,
+) -> Result<(), ListStop>
+    requires { HasNoFeed held.now }
+    ensures told { OnOk result (Added
+        (Gives (T.tells teller.now) (T.bad teller.now) (T.lacks teller.now)
+        place (lines_of held.now) ending.Done) output.old.items output.new.items) }
+    ensures bad { IfErr result (IfBad (λ found. Added
+        (Gives (T.tells teller.now) (T.bad teller.now) (T.lacks teller.now)
+        place (lines_of held.now) (ending.Bad found)) output.old.items output.new.items)) }
+{
+    match add_last(alloc, teller, place, held, output) {
+        Ok(next) => match teller.fault_at_end(next.graphs) {
+            None => Ok(()),
+            Some(kind) => Err(stop_at(alloc, next.number, kind, &[])),
+        },
+        Err(stop) => Err(stop),
+    }
+}

@@ -1,0 +1,161 @@
+//! Reading a list and answering its lines.
+ghost use Rattle.std.specs.Prelude.{◌≡◌, ◌≢◌, ◌≤◌, ◌<◌, ◌++◌, ℕ, List, OnOk, IfErr, Some, length};
+ghost use Rattle.outside.specs.Common.{Rose, most_line};
+ghost use Rattle.mcg6_reader.specs.Common.{HasNoFeed, lines_of, first_place, Appended, Gives, ToldThrough, StopsWith, TellsList, ReadsTold, Wrote, WroteUpTo, IsStream};
+
+use crate::ending::{Ending, ListStop};
+use crate::listing::{Listing, add_end, add_piece};
+use crate::place::first_place;
+use crate::teller::LineTeller;
+use outside::{Sink, Source, emit};
+use std::alloc::Global;
+
+/// The most bytes of a piece.
+const PIECE: usize = 65536;
+
+// Answers the lines that a further piece makes whole, and writes the answers.
+fn take_piece<T: LineTeller, K: Sink>(
+    alloc: Global,
+    teller: &T,
+    listing: &mut Listing,
+    piece: &[u8],
+    sink: &mut K,
+) -> Result<(), Ending>
+    ensures told { OnOk result (Wrote K.written K.writes
+        (ToldThrough (T.tells teller.now) listing.old.place (listing.old.held.items ++ piece.now)
+        listing.new.held.items listing.new.place) sink.old sink.new) }
+    ensures left { OnOk result (HasNoFeed listing.new.held.items) }
+    ensures short { OnOk result (length listing.new.held.items ≤ most_line) }
+    ensures stops { IfErr result (λ ending. WroteUpTo K.written K.writes
+        (StopsWith (T.tells teller.now) (T.bad teller.now) (T.lacks teller.now) listing.old.place
+        (listing.old.held.items ++ piece.now)) ending sink.old sink.new) }
+    ensures others { IfErr result (λ ending. ending ≢ Ending.ReadFault) }
+    ensures write_fault { IfErr result (λ ending. ending ≡ Ending.WriteFault →
+        Rose (K.faults sink.old) (K.faults sink.new)) }
+    ensures later { K.faults sink.old ≤ K.faults sink.new }
+{
+    let mut output = Vec::new(alloc);
+    match add_piece(alloc, teller, listing, piece, &mut output) {
+        Ok(()) => match emit(sink, &output) {
+            Ok(()) => Ok(()),
+            Err(_) => Err(Ending::WriteFault),
+        },
+        Err(ListStop::Bad { found }) => match emit(sink, &output) {
+            Ok(()) => Err(Ending::Bad { found }),
+            Err(_) => Err(Ending::WriteFault),
+        },
+        Err(ListStop::Memory) => Err(Ending::Memory),
+    }
+}
+
+// Answers what is held at the end of the list, and writes the answer.
+fn take_end<T: LineTeller, K: Sink>(
+    alloc: Global,
+    teller: &T,
+    listing: &Listing,
+    sink: &mut K,
+) -> Ending
+    requires { HasNoFeed listing.now.held.items }
+    ensures gives { WroteUpTo K.written K.writes
+        (Gives (T.tells teller.now) (T.bad teller.now) (T.lacks teller.now) listing.now.place
+        (lines_of listing.now.held.items)) result sink.old sink.new }
+    ensures others { result ≢ Ending.ReadFault }
+    ensures write_fault { result ≡ Ending.WriteFault →
+        Rose (K.faults sink.old) (K.faults sink.new) }
+{
+    let mut output = Vec::new(alloc);
+    match add_end(alloc, teller, listing.place, &listing.held, &mut output) {
+        Ok(()) => match emit(sink, &output) {
+            Ok(()) => Ending::Done,
+            Err(_) => Ending::WriteFault,
+        },
+        Err(ListStop::Bad { found }) => match emit(sink, &output) {
+            Ok(()) => Ending::Bad { found },
+            Err(_) => Ending::WriteFault,
+        },
+        Err(ListStop::Memory) => Ending::Memory,
+    }
+}
+
+// Reads the list through a piece, and answers it.
+fn tell_through<T: LineTeller, S: Source, K: Sink>(
+    alloc: Global,
+    teller: &T,
+    source: &mut S,
+    sink: &mut K,
+    piece: &mut [u8],
+) -> Ending
+    requires { 0 < length piece.old }
+    ensures streams { IsStream (T.tells teller.now) (T.bad teller.now) (T.lacks teller.now) S.reads
+        K.written K.writes result source.old sink.old source.new sink.new }
+    ensures tells { TellsList (T.tells teller.now) (T.bad teller.now) (T.lacks teller.now) result
+        (S.left source.old) (K.written sink.old) (K.written sink.new) }
+    ensures torn { result ≡ Ending.ReadFault
+        → Appended (ReadsTold (T.tells teller.now) (S.left source.old) (S.left source.new))
+        (K.written sink.old) (K.written sink.new) }
+    ensures read_fault { result ≡ Ending.ReadFault →
+        Rose (S.faults source.old) (S.faults source.new) }
+    ensures write_fault { result ≡ Ending.WriteFault →
+        Rose (K.faults sink.old) (K.faults sink.new) }
+{
+    let mut listing = Listing {
+        place: first_place(),
+        held: Vec::new(alloc),
+    };
+    'reading: for _ in 0..u64::MAX {
+        match source.read(piece) {
+            Err(_) => return Ending::ReadFault,
+            Ok(0) => return take_end(alloc, teller, &listing, sink),
+            Ok(count) => {
+                match take_piece(alloc, teller, &mut listing, &piece[..count], sink) {
+                    Ok(()) => {}
+                    Err(ending) => return ending,
+                }
+            }
+        }
+    }
+    Ending::Memory
+}
+
+/// Reads the list that is left of the source to its end, answers each of its lines, and writes what
+/// is answered to the sink: of the lines that a read made whole before the next read. The
+/// first bad line ends it; nothing is written of that one, and the ending says what is found of
+/// it. A line that is too long ends it as soon as more of it was read than a line may have.
+///
+/// Takes memory for a piece, a line, and the answers to the lines of a piece. If memory runs
+/// out, or there are more lines or reads than a u64 counts, it ends with `Memory`.
+#[tactic(auto, using(crate::proofs::Readings::untouched, crate::proofs::LeftBytes::told_list, crate::proofs::Stages::unread))]
+pub fn tell_all<T: LineTeller, S: Source, K: Sink>(
+    alloc: Global,
+    teller: &T,
+    source: &mut S,
+    sink: &mut K,
+) -> Ending
+    // After each read, all lines that are whole in what was read are answered and written before
+    // the next read; no write follows one that failed, and no read or write follows a read that
+    // failed.
+    ensures streams { IsStream (T.tells teller.now) (T.bad teller.now) (T.lacks teller.now) S.reads
+        K.written K.writes result source.old sink.old source.new sink.new }
+    // What was written is what the lines of the list give up to this ending, in whatever pieces
+    // it was read.
+    ensures gives { (bytes : List ℕ) → S.left source.old ≡ Some bytes
+        → Appended (Gives (T.tells teller.now) (T.bad teller.now) (T.lacks teller.now) first_place
+        (lines_of bytes) result) (K.written sink.old) (K.written sink.new) }
+    // If the source does not make known what is left, it is what the lines of some list give.
+    ensures tells { TellsList (T.tells teller.now) (T.bad teller.now) (T.lacks teller.now) result
+        (S.left source.old) (K.written sink.old) (K.written sink.new) }
+    // If the source fails, each whole line of what was read is answered and written.
+    ensures torn { result ≡ Ending.ReadFault
+        → Appended (ReadsTold (T.tells teller.now) (S.left source.old) (S.left source.new))
+        (K.written sink.old) (K.written sink.new) }
+    // A fault of the outside comes only if its count rose in this call.
+    ensures read_fault { result ≡ Ending.ReadFault →
+        Rose (S.faults source.old) (S.faults source.new) }
+    ensures write_fault { result ≡ Ending.WriteFault →
+        Rose (K.faults sink.old) (K.faults sink.new) }
+{
+    match vec![in alloc; 0u8; PIECE] {
+        Ok(mut piece) => tell_through(alloc, teller, source, sink, &mut piece),
+        Err(_) => Ending::Memory,
+    }
+}

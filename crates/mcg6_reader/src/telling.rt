@@ -1,0 +1,73 @@
+//! Answering the lines of a text.
+ghost use Rattle.std.specs.Prelude.{◌≡◌, IfOk, IfErr, OnOk};
+ghost use Rattle.mcg6_reader.specs.declared.ending.Ending.TheVariants as ending;
+ghost use Rattle.mcg6_reader.specs.Common.{IfBad, LineTold, NamesBad, HasNoFeed, Added, ToldThrough, StopsWith};
+
+use crate::cutting::first_line;
+use crate::ending::{ListStop, stop_at};
+use crate::place::{LinePlace, is_header, place_after};
+use crate::teller::{LineAnswer, LineTeller};
+use line_text::FaultKind;
+use outside::MOST_LINE;
+use std::alloc::Global;
+
+// Appends the answer to the line at that place, unless the line is bad.
+#[tactic(auto, using(crate::proofs::Pieces::told_line, crate::proofs::Pieces::told_header, crate::proofs::Pieces::names_long, crate::proofs::Pieces::names_bad))]
+pub fn tell_line<T: LineTeller>(
+    alloc: Global,
+    teller: &T,
+    place: LinePlace,
+    line: &[u8],
+    output: &mut Vec<u8>,
+) -> Result<(), ListStop>
+    ensures told { OnOk result
+        (Added (LineTold (T.tells teller.now) place line.now) output.old.items output.new.items) }
+    ensures bad { IfErr result (IfBad (NamesBad (T.bad teller.now) place line.now)) }
+    ensures same { IfErr result (IfBad (λ found. output.new.items ≡ output.old.items)) }
+{
+    if is_header(place.number, line) {
+        return Ok(());
+    }
+    if line.len() > MOST_LINE {
+        return Err(stop_at(alloc, place.number, FaultKind::Limit, line));
+    }
+    match teller
+        .tell(alloc, place, line)
+        .map_err(|_| ListStop::Memory)?
+    {
+        LineAnswer::Bad { kind } => Err(stop_at(alloc, place.number, kind, line)),
+        LineAnswer::Output { bytes } => output
+            .extend_from_slice(&bytes)
+            .map_err(|_| ListStop::Memory),
+    }
+}
+
+// Answers the whole lines of a text, of which the first stands at that place; answers the place of
+// the next line, and what is left of the text after its last line feed.
+pub fn tell_lines<'a, T: LineTeller>(
+    alloc: Global,
+    teller: &T,
+    first: LinePlace,
+    text: &'a [u8],
+    output: &mut Vec<u8>,
+) -> Result<(LinePlace, &'a [u8]), ListStop>
+    ensures told { IfOk result
+        (λ found. Added (ToldThrough (T.tells teller.now) first text.now found.1.now found.0)
+        output.old.items output.new.items) }
+    ensures left { IfOk result (λ found. HasNoFeed found.1.now) }
+    ensures bad { IfErr result (IfBad (λ found. Added
+        (StopsWith (T.tells teller.now) (T.bad teller.now) (T.lacks teller.now)
+        first text.now (ending.Bad found)) output.old.items output.new.items)) }
+{
+    let mut place = first;
+    let mut rest = text;
+    'telling: while let Some((line, behind)) = first_line(rest) {
+        match tell_line(alloc, teller, place, line, output) {
+            Ok(()) => {}
+            Err(stop) => return Err(stop),
+        }
+        place = place_after(place, line)?;
+        rest = behind;
+    }
+    Ok((place, rest))
+}

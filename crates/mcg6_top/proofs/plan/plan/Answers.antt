@@ -1,0 +1,12 @@
+use Rattle.std.proofs.Common.{◌≡◌, ◌≤◌, ℕ, List, length, string_bytes, arith}
+use Rattle.std.proofs.lemmas.List.{length-map}
+use Rattle.std.specs.declared.option.Option.TheVariants.{None}
+use Rattle.mcg6_top.specs.Common.{command_of}
+use Rattle.mcg6_top.proofs.plan.plan.Goals as goal
+
+-- four words and more match no row
+too_many : (words : List (List ℕ)) → 4 ≤ length words → command_of words ≡ None
+too_many words many = grind arith
+
+pub returns-in_default : goal.returns-in_default
+returns-in_default c = grind (arith, string_bytes, length-map, too_many)

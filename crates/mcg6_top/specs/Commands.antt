@@ -1,0 +1,112 @@
+-- What the words ask for: one case for each row of the table of words.
+-- Stated by: mcg6_top. Rests on it: mcg6_front_top.
+use Rattle.std.specs.Prelude.{◌≡◌, ℕ, List, [], ◌∷◌, drop, nat_eq, codes, if◌then◌else◌}
+use Rattle.std.specs.declared.option.Option.{Option}
+use Rattle.std.specs.declared.option.Option.TheVariants.{Some, None}
+use Rattle.std.specs.List.{starts_with}
+use Rattle.std.specs.Option.{option_map, option_or}
+use Rattle.std.specs.Str.{bytes_eq}
+use Rattle.line_text.specs.Common.{number_of}
+use Rattle.decomposer.specs.Common.{order_named}
+use Rattle.decomposer.specs.declared.orders.NamedOrder.TheVariants.{First}
+use Rattle.mcg6_lines.specs.declared.query.Property.{Property}
+use Rattle.mcg6_lines.specs.declared.query.Property.TheVariants.{Covered, Uncovered, Brick, Brace, Bicritical, Composite, Bricks, Braces}
+use Rattle.mcg6_lines.specs.declared.query.Query.{Query}
+use Rattle.mcg6_lines.specs.declared.query.Query.TheVariants.{Kinds, Leaves, Graph, Select}
+
+-- what is asked of each graph of a list, and the name of the file that holds the list, if it is
+-- not the standard input
+pub record ListCommand : Type 0 where
+  pub query : Query
+  pub file : Option (List ℕ)
+
+-- `bricks=` and a number
+abbrev pub bricks_property : List ℕ → Option Property
+bricks_property word =
+    if starts_with nat_eq word (codes "bricks=") then option_map Bricks (number_of (drop 7 word)) else None
+
+-- `braces=` and a number
+abbrev pub braces_property : List ℕ → Option Property
+braces_property word =
+    if starts_with nat_eq word (codes "braces=") then option_map Braces (number_of (drop 7 word)) else None
+
+-- so many bricks or so many braces
+unfoldable pub counted_property : List ℕ → Option Property
+counted_property word = option_or (bricks_property word) (braces_property word)
+
+-- the property that a word names, if it names one
+abbrev pub property_named : List ℕ → Option Property
+property_named word =
+    if bytes_eq word (codes "covered") then Some Covered else
+    if bytes_eq word (codes "uncovered") then Some Uncovered else
+    if bytes_eq word (codes "brick") then Some Brick else
+    if bytes_eq word (codes "brace") then Some Brace else
+    if bytes_eq word (codes "bicritical") then Some Bicritical else
+    if bytes_eq word (codes "composite") then Some Composite else counted_property word
+
+-- what one word asks for; leaves are those of the first order
+abbrev pub query_named : List ℕ → Option Query
+query_named word =
+    if bytes_eq word (codes "kinds") then Some Kinds else
+    if bytes_eq word (codes "leaves") then Some (Leaves First) else
+    if bytes_eq word (codes "graph") then Some Graph else None
+
+-- the leaves in the order that a word names, if it names one
+unfoldable pub leaves_named : List ℕ → Option Query
+leaves_named word = option_map Leaves (order_named word)
+
+-- the graphs with the property that a word names, if it names one
+unfoldable pub select_named : List ℕ → Option Query
+select_named word = option_map Select (property_named word)
+
+-- what two words ask for
+abbrev pub pair_named : List ℕ → List ℕ → Option Query
+pair_named word second =
+    if bytes_eq word (codes "leaves") then leaves_named second else
+    if bytes_eq word (codes "select") then select_named second else None
+
+-- a query of the list in a file
+abbrev pub command_with : Option Query → Option (List ℕ) → Option ListCommand
+command_with None file = None
+command_with (Some query) file = Some (record { query = query; file = file })
+
+-- what two words ask for: where they ask for no query, the second is the name of the file
+abbrev pub pair_or_file : Option Query → List ℕ → List ℕ → Option ListCommand
+pair_or_file (Some query) word second = Some (record { query = query; file = None })
+pair_or_file None word second = command_with (query_named word) (Some second)
+
+abbrev pub pair_command : List ℕ → List ℕ → Option ListCommand
+pair_command word second = pair_or_file (pair_named word second) word second
+
+-- the command that the words ask for; none where they match no row
+abbrev pub command_of : List (List ℕ) → Option ListCommand
+command_of [] = None
+command_of (word ∷ []) = command_with (query_named word) None
+command_of (word ∷ second ∷ []) = pair_command word second
+command_of (word ∷ second ∷ third ∷ []) = command_with (pair_named word second) (Some third)
+command_of (word ∷ second ∷ third ∷ fourth ∷ words) = None
+
+-- the name of the file of a command, if there is one
+abbrev pub file_of : Option ListCommand → Option (List ℕ)
+file_of None = None
+file_of (Some command) = command.file
+
+-- `encode` and a word: the word is the name of the graph file
+abbrev pub encode_pair : List ℕ → List ℕ → Option (List ℕ)
+encode_pair word file = if bytes_eq word (codes "encode") then Some file else None
+
+-- the name of the graph file whose graph6 text the words ask for, if they do: they then ask for
+-- nothing of a list
+abbrev pub encode_of : List (List ℕ) → Option (List ℕ)
+encode_of [] = None
+encode_of (word ∷ []) = None
+encode_of (word ∷ file ∷ []) = encode_pair word file
+encode_of (word ∷ file ∷ third ∷ words) = None
+
+-- the words match no row
+abbrev pub MatchNone : List (List ℕ) → Type 0
+MatchNone words = (command_of words ≡ None) × (encode_of words ≡ None)
+
+-- the name of the file that the words ask for, if there is one: a graph file, or that of a list
+abbrev pub file_named_by : List (List ℕ) → Option (List ℕ)
+file_named_by words = option_or (encode_of words) (file_of (command_of words))

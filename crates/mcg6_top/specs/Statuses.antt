@@ -1,0 +1,24 @@
+-- The statuses, their codes, and the endings of runs.
+-- Stated by: mcg6_top. Rests on it: mcg6_front_top.
+use Rattle.std.specs.Prelude.{ℕ}
+use Rattle.mcg6_reader.specs.declared.ending.Ending.{Ending}
+use Rattle.mcg6_reader.specs.declared.ending.Ending.TheVariants as ending
+use Rattle.mcg6_top.specs.declared.status.ListStatus.{ListStatus}
+use Rattle.mcg6_top.specs.declared.status.ListStatus.TheVariants.{Done, Usage, ReadFault, BadInput, WriteFault, Memory}
+
+-- the code with which the program ends
+abbrev pub code_of : ListStatus → ℕ
+code_of Done = 0
+code_of Usage = 2
+code_of ReadFault = 3
+code_of BadInput = 4
+code_of WriteFault = 5
+code_of Memory = 6
+
+-- the status of a run that ended so
+abbrev pub status_of : Ending → ListStatus
+status_of ending.Done = Done
+status_of (ending.Bad found) = BadInput
+status_of ending.ReadFault = ReadFault
+status_of ending.WriteFault = WriteFault
+status_of ending.Memory = Memory

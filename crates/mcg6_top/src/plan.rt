@@ -1,0 +1,188 @@
+//! Reading the words.
+ghost use Rattle.std.specs.Prelude.{◌≡◌, map, string_bytes};
+ghost use Rattle.std.specs.Option.{option_map};
+ghost use Rattle.mcg6_top.specs.Common.{command_of, encode_of, encode_pair, file_named_by, file_of, property_named, bricks_property, braces_property, counted_property, query_named, leaves_named, select_named, pair_named, pair_command, command_with, asked, text_of};
+
+use crate::command::ListCommand;
+use decomposer::NamedOrder;
+use line_text::number;
+use mcg6_lines::{Property, Query};
+
+// The property of so many bricks that the word names, if it names one.
+fn bricks_property(word: &str) -> Option<Property>
+    ensures { result ≡ bricks_property word.now }
+{
+    match word.as_bytes().strip_prefix(b"bricks=") {
+        Some(digits) => match number(digits) {
+            Some(count) => Some(Property::Bricks { count }),
+            None => None,
+        },
+        None => None,
+    }
+}
+
+// The property of so many braces that the word names, if it names one.
+fn braces_property(word: &str) -> Option<Property>
+    ensures { result ≡ braces_property word.now }
+{
+    match word.as_bytes().strip_prefix(b"braces=") {
+        Some(digits) => match number(digits) {
+            Some(count) => Some(Property::Braces { count }),
+            None => None,
+        },
+        None => None,
+    }
+}
+
+// The property of so many bricks or braces that the word names, if it names one.
+#[tactic(auto, unfolding(crate::specs::Commands::counted_property))]
+fn counted_property(word: &str) -> Option<Property>
+    ensures { result ≡ counted_property word.now }
+{
+    match bricks_property(word) {
+        Some(property) => Some(property),
+        None => braces_property(word),
+    }
+}
+
+// The property that the word names, if it names one.
+fn property_named(word: &str) -> Option<Property>
+    ensures { result ≡ property_named word.now }
+{
+    match word {
+        "covered" => Some(Property::Covered),
+        "uncovered" => Some(Property::Uncovered),
+        "brick" => Some(Property::Brick),
+        "brace" => Some(Property::Brace),
+        "bicritical" => Some(Property::Bicritical),
+        "composite" => Some(Property::Composite),
+        _ => counted_property(word),
+    }
+}
+
+// The query that the word asks for by itself, if it asks for one.
+fn query_named(word: &str) -> Option<Query>
+    ensures { result ≡ query_named word.now }
+{
+    match word {
+        "kinds" => Some(Query::Kinds),
+        "leaves" => Some(Query::Leaves {
+            order: NamedOrder::First,
+        }),
+        "graph" => Some(Query::Graph),
+        _ => None,
+    }
+}
+
+// The query for the leaves in the order that the word names, if it names one.
+#[tactic(auto, unfolding(crate::specs::Commands::leaves_named))]
+fn leaves_named(word: &str) -> Option<Query>
+    ensures { result ≡ leaves_named word.now }
+{
+    match NamedOrder::of_word(word) {
+        Some(order) => Some(Query::Leaves { order }),
+        None => None,
+    }
+}
+
+// The query for the graphs with the property that the word names, if it names one.
+#[tactic(auto, unfolding(crate::specs::Commands::select_named))]
+fn select_named(word: &str) -> Option<Query>
+    ensures { result ≡ select_named word.now }
+{
+    match property_named(word) {
+        Some(property) => Some(Query::Select { property }),
+        None => None,
+    }
+}
+
+// The query that the two words ask for, if they ask for one.
+fn pair_named(word: &str, second: &str) -> Option<Query>
+    ensures { result ≡ pair_named word.now second.now }
+{
+    match word {
+        "leaves" => leaves_named(second),
+        "select" => select_named(second),
+        _ => None,
+    }
+}
+
+// The command that the query and the name of a file make.
+fn with_file<'a>(query: Option<Query>, file: Option<&'a str>) -> Option<ListCommand<'a>>
+    ensures { option_map asked result ≡ command_with query (text_of file.entry) }
+{
+    match query {
+        Some(query) => Some(ListCommand { query, file }),
+        None => None,
+    }
+}
+
+// The command that the two words ask for: the second has more to say of the query, or is the name
+// of the file.
+fn pair_command<'a>(word: &str, second: &'a str) -> Option<ListCommand<'a>>
+    ensures { option_map asked result ≡ pair_command word.now second.now }
+{
+    match pair_named(word, second) {
+        Some(query) => Some(ListCommand { query, file: None }),
+        None => with_file(query_named(word), Some(second)),
+    }
+}
+
+/// The command that the words ask for. Takes no memory.
+pub fn plan(words: &[String]) -> Option<ListCommand<'_>>
+    ensures { option_map asked result ≡ command_of (map string_bytes words.now) }
+{
+    match words {
+        [] => None,
+        [word] => with_file(query_named(word.as_str()), None),
+        [word, second] => pair_command(word.as_str(), second.as_str()),
+        [word, second, third] => with_file(
+            pair_named(word.as_str(), second.as_str()),
+            Some(third.as_str()),
+        ),
+        _ => None,
+    }
+}
+
+// The name of the file that holds the list, where the words ask for one.
+fn list_name(words: &[String]) -> Option<&str>
+    ensures { text_of result ≡ file_of (command_of (map string_bytes words.now)) }
+{
+    match plan(words) {
+        Some(command) => command.file,
+        None => None,
+    }
+}
+
+// The file, where the word asks for its graph6 text.
+fn encode_pair<'a>(word: &str, file: &'a str) -> Option<&'a str>
+    ensures { text_of result ≡ encode_pair word.now file.now }
+{
+    match word {
+        "encode" => Some(file),
+        _ => None,
+    }
+}
+
+/// The name of the graph file whose graph6 text the words ask for, if they do. Takes no memory.
+pub fn encode_name(words: &[String]) -> Option<&str>
+    ensures { text_of result ≡ encode_of (map string_bytes words.now) }
+{
+    match words {
+        [] => None,
+        [_] => None,
+        [word, file] => encode_pair(word.as_str(), file.as_str()),
+        _ => None,
+    }
+}
+
+/// The name of the file that the words ask for: of a graph file whose graph6 text they ask for, or
+/// of the file that holds the list. Takes no memory.
+pub fn file_name(words: &[String]) -> Option<&str>
+    ensures { text_of result ≡ file_named_by (map string_bytes words.now) }
+{
+    match encode_name(words) {
+        Some(name) => Some(name),
+        None => list_name(words),
+    }
+}

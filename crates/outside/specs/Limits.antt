@@ -1,0 +1,11 @@
+-- The limits on what is read.
+-- Stated by: mcg6_reader. Rests on it: mcg6_encoder, front_words, mcg6_top.
+use Rattle.std.specs.Prelude.{ℕ}
+
+-- the most bytes that a file may have
+abbrev pub most_bytes : ℕ
+most_bytes = 1048576
+
+-- the most bytes that a line of a list may have
+abbrev pub most_line : ℕ
+most_line = 65536

@@ -1,5 +1,0 @@
-pub mod Kinds
-pub mod Faults
-pub mod Readings
-pub mod Ranges
-pub mod Common

@@ -1,7 +1,0 @@
--- Ranges of the numbers of a text.
--- Stated by: text_faults, tree_text, ear_text. Rests on it: graph_text, move_text.
-use Rattle.std.specs.Prelude.{ℕ, ◌==◌, ◌||◌, nat_lt, Bool}
-
--- v is 0 or over n
-abbrev pub is_out_of_range : ℕ → ℕ → Bool
-is_out_of_range n v = (v == 0) || nat_lt n v

@@ -1,0 +1,156 @@
+-- The canonical partition of a matching covered graph: its classes are the maximal barriers, and
+-- the components that a class leaves are factor-critical, since a barrier grows by a vertex of a
+-- component without which it has no perfect matching.
+use Rattle.std.proofs.Common.{◌≡◌, ◌≢◌, ℕ, Bool, true, false, ◌==◌, ◌&&◌, ◌||◌, not, refl, sym, ap, ◌∙◌, arith, eq-eqb, List, [], ◌∷◌, subst, ◌↔◌, inl, inr}
+use Rattle.counting.proofs.Common.{and_from, both_ways, cases_eq, cases_lt, count_congr, count_member, count_zero, member_count, not_not, same_tests, true_some, Within, count, is_odd, Set, complement, minus, none, pair_set, singleton}
+use Rattle.barrier_kit.proofs.Common.{class_barrier, class_exists, class_holds_barrier, enlarge, equivalent_back, equivalent_on, equivalent_self, leader_of, loop_free, many_parts, part_odd, part_same, perfect_congr, perfect_or_not, restrict, single_barrier}
+use Rattle.graph_core.proofs.Common.{adjacent-edge, component_count, covered_perfect, edges_in_cut, has_ends-cases, is_allowed_found, joined_outside, parity, Allowed, Equivalent, Graph, IsBarrier, IsBicritical, IsClass, IsCovered, IsGraph, Joined, Walk, adjacent, first_end, has_ends, inside, is_allowed, joined, second_end, size}
+use Rattle.theorems.proofs.AddedEdges.{allowed_from, ends_set}
+use Rattle.theorems.proofs.BrickFacts.{turned_cut}
+use Rattle.theorems.proofs.ThreeConnected.{count_pair}
+use Rattle.theorems.specs.Barriers.{IsElementary, IsMaximalBarrier, allowed_adjacent}
+use Rattle.theorems.specs.Matchings.{IsFactorCritical}
+
+module _ (g : Graph) (is : IsGraph g) (cov : IsCovered g) where
+  -- a walk is one along allowed edges, where a step along a loop is left out
+  allowed_walk : (u v : ℕ) (ws : List ℕ) → Walk (adjacent g none) u ws v → (xs : List ℕ) × Walk (allowed_adjacent g) u xs v
+  allowed_walk u v [] w = ([], w)
+  allowed_walk u v (x ∷ ws) w =
+      let r = allowed_walk x v ws w.1 in
+      elim (cases_eq u x) [
+        | inl q ↦ (r.0, subst (λ y. Walk (allowed_adjacent g) y r.0 v) (sym q) r.1)
+        | inr d ↦ (x ∷ r.0, (step d, r.1))
+      ]
+    where
+      step : u ≢ x → allowed_adjacent g u x ≡ true
+      step d =
+          let e = (adjacent-edge g none u x w.0).2 in
+          true_some (size g) (λ e. is_allowed g e && has_ends g u x e) e.0 e.1 (and_from (is_allowed g e.0) (has_ends g u x e.0) (is_allowed_found g e.0 e.1 (cov.allowed e.0 e.1 (λ q. d (no_loop e.0 e.2 q)))) e.2)
+        where
+          no_loop : (e : ℕ) → has_ends g u x e ≡ true → first_end g e ≡ second_end g e → u ≡ x
+          no_loop e h q = elim (has_ends-cases g u x e h) [
+            | inl p ↦ sym p.0 ∙ q ∙ p.1
+            | inr p ↦ sym p.1 ∙ sym q ∙ p.0
+          ]
+
+  pub elementary : IsElementary g
+  unfolding Joined
+  elementary = record {
+    two = cov.two;
+    connected = λ u v wu wv. let j = cov.connected u v wu wv in allowed_walk u v j.0 j.1;
+  }
+
+  pub class_maximal : (a : ℕ) (s : Set) → Within g.order a → IsClass g a s → IsMaximalBarrier g s
+  class_maximal a s wa cl = record {
+    barrier = class_barrier g a s is cov wa cl;
+    maximal = λ t bar holds v wv tv. class_holds_barrier g a s t is wa cl bar (holds a wa (cl.all a wa (equivalent_self g a))) v wv tv;
+  }
+
+  pub maximal_class : (s : Set) → IsMaximalBarrier g s → (a : ℕ) × Within g.order a × IsClass g a s
+  maximal_class s most =
+      let a = some_vertex in
+      let c = class_exists g is cov a.0 a.1 in
+      let within = class_holds_barrier g a.0 c.0 s is a.1 c.2 most.barrier a.2 in (
+        a.0,
+        a.1,
+        record {
+          holds = λ v wv sv. c.2.holds v wv (within v wv sv);
+          all = λ v wv q. most.maximal c.0 c.1 within v wv (c.2.all v wv q);
+        },
+      )
+    where
+      one : Within g.order 1
+      one = let t = cov.two in omega arith
+
+      some_vertex : (a : ℕ) × Within g.order a × (s a ≡ true)
+      some_vertex = elim (cases_lt 0 (count g.order s)) [
+        | inl l ↦ count_member g.order s l
+        | inr l ↦
+            let out : (v : ℕ) → Within g.order v → s v ≡ false = count_zero g.order s (omega arith) in
+            absurd (both_ways (s 1) (out 1 one) (most.maximal (singleton 1) (single_barrier g is cov 1 one) (λ v wv sv. absurd (both_ways (s v) (out v wv) sv)) 1 one refl))
+      ]
+
+  pub one_class : (s : Set) (a : ℕ) → IsBarrier g s → Within g.order a → s a ≡ true →
+      (c : Set) × IsClass g a c × ((v : ℕ) → Within g.order v → s v ≡ true → c v ≡ true) ×
+      ((b : ℕ) (d : Set) → Within g.order b → IsClass g b d → ((v : ℕ) → Within g.order v → s v ≡ true → d v ≡ true) → (v : ℕ) → Within g.order v → c v ≡ d v)
+  one_class s a bar wa sa =
+      let c = class_exists g is cov a wa in (
+        c.0,
+        c.2,
+        class_holds_barrier g a c.0 s is wa c.2 bar sa,
+        λ b d wb cd holds v wv.
+            let ba = cd.holds a wa (holds a wa sa) in
+            same_tests (c.0 v) (d v)
+            (λ h. cd.all v wv (equivalent_on g b a v is cov wb wa wv ba (c.2.holds v wv h)))
+            (λ h. c.2.all v wv (equivalent_on g a b v is cov wa wb wv (equivalent_back g b a ba) (cd.holds v wv h))),
+      )
+
+  pub barrier_parts : (s : Set) (a u : ℕ) → IsBarrier g s → Within g.order a → s a ≡ true → Within g.order u → s u ≡ false → (is_odd (count g.order (joined g s u)) ≡ true) × (component_count g s ≡ count g.order s)
+  unfolding component_count
+  barrier_parts s a u bar wa sa wu su = (part_odd g s a u is cov bar wa sa wu su, many_parts g is cov s bar a wa sa)
+
+  pub class_critical : (a u : ℕ) (s : Set) → Within g.order a → IsClass g a s → Within g.order u → s u ≡ false → IsFactorCritical g (joined g s u)
+  class_critical a u s wa cl wu su v wv uv =
+      elim (perfect_or_not g (complement (minus (joined g s u) (singleton v)))) [
+        | inl m ↦ m
+        | inr never ↦
+            let l = leader_of g s is u wu su in
+            let same = part_same g s is l.0 u l.1 wu l.3 in
+            let p = covered_perfect g is cov in
+            let bar = class_barrier g a s is cov wa cl in
+            let sa = cl.all a wa (equivalent_self g a) in
+            let odd = ap is_odd (count_congr g.order (joined g s l.0) (joined g s u) (λ w ww. same w)) ∙ part_odd g s a u is cov bar wa sa wu su in
+            let b = enlarge g is p.0 p.1 s bar l.0 l.1 l.2 odd v wv (same v ∙ uv) (λ k kp. never k (perfect_congr g _ _ k (λ w ww. ap (λ b. not (b && not (v == w))) (same w)) kp)) in
+            absurd (both_ways (s v) (joined_outside g s is u v su uv) (class_holds_barrier g a s b.0 is wa cl b.1 (b.2 a sa) v wv b.3))
+      ]
+
+-- an edge is in a perfect matching if and only if it joins two classes
+joins_classes : (g : Graph) (e : ℕ) → IsGraph g → Within (size g) e → first_end g e ≢ second_end g e → Allowed g e ↔ (¬ Equivalent g (first_end g e) (second_end g e))
+joins_classes g e is we d = (
+  apart,
+  λ h. elim (perfect_or_not g (ends_set g e)) [
+    | inl p ↦ allowed_from g e is we d p
+    | inr never ↦ absurd (h (inr (λ q. never q.0 q.1)))
+  ],
+)
+  where
+    own : inside g (ends_set g e) e ≡ true
+    own = rw (eq-eqb (first_end g e) (first_end g e) refl, eq-eqb (second_end g e) (second_end g e) refl) (or_right_true (first_end g e == second_end g e))
+      where
+        or_right_true : (b : Bool) → (b || true) ≡ true
+        or_right_true b = grind arith
+
+    apart : Allowed g e → Equivalent g (first_end g e) (second_end g e) → ⊥
+    apart m q = elim q [
+      | inl same ↦ d same
+      | inr none_left ↦
+          let x : Set = ends_set g e in
+          let few = count_pair g.order (first_end g e) (second_end g e) (is e we).0 (is e we).1 in
+          let p = parity g is m.0 x m.1 in
+          let one = member_count (size g) (λ i. m.0 i && inside g x i) e we (and_from (m.0 e) (inside g x e) m.2 own) in
+          let t = turned_cut g m.0 x in
+          let zero_cut : edges_in_cut g m.0 (complement x) ≡ 0 = omega arith in
+          none_left (_, perfect_congr g (complement (complement x)) x _ (λ v wv. not_not (x v)) (restrict g m.0 (complement x) m.1 zero_cut))
+    ]
+
+-- a loop is in none, and its two ends are one
+pub allowed_apart : (g : Graph) (e : ℕ) → IsGraph g → Within (size g) e → Allowed g e ↔ (¬ Equivalent g (first_end g e) (second_end g e))
+allowed_apart g e is we = elim (cases_eq (first_end g e) (second_end g e)) [
+  | inr d ↦ joins_classes g e is we d
+  | inl q ↦ ((λ m. absurd (loop_free g none m.0 is m.1 e we m.2 q)), (λ h. absurd (h (inl q))))
+]
+
+pub bicritical_single : (g : Graph) → IsBicritical g ↔ ((a b : ℕ) → Within g.order a → Within g.order b → Equivalent g a b → a ≡ b)
+bicritical_single g = (
+  (λ bi a b wa wb q. elim q [
+    | inl same ↦ same
+    | inr never ↦ elim (cases_eq a b) [
+      | inl same ↦ same
+      | inr d ↦ absurd (never (bi a b wa wb d))
+    ]
+  ]),
+  (λ h a b wa wb d. elim (perfect_or_not g (pair_set a b)) [
+    | inl m ↦ m
+    | inr never ↦ absurd (d (h a b wa wb (inr (λ m. never m.0 m.1))))
+  ]),
+)

@@ -1,0 +1,122 @@
+-- The marriage theorem: the partners that Hall's condition gives, each with an edge, are a perfect
+-- matching of the two sets. Conversely a perfect matching matches a set on one side into its
+-- neighbours.
+use Rattle.std.proofs.Common.{◌≡◌, ℕ, ◌≤◌, Bool, true, false, ◌==◌, ◌&&◌, ◌||◌, not, refl, sym, ap, ◌∙◌, arith, eq-eqb, eqb-true, ◌↔◌, inl, inr}
+use Rattle.counting.proofs.Common.{and_from, and_implied, and_parts, both_ways, not-true, or_cases, or_left, or_right, same_tests, some_congr, some_true, true_some, count_congr, count_mono, Within, count, some, Set, complement, meet, none, singleton, union}
+use Rattle.barrier_kit.proofs.Common.{glue_family, hall, hits, neighbours, perfect_congr, Picks}
+use Rattle.graph_core.proofs.Common.{adjacent-edge, Graph, HasPerfect, IsGraph, IsMultigraph, IsPerfect, IsSide, adjacent, has_ends, size}
+use Rattle.matching_digraph.proofs.Balance.{other_side, side_count}
+use Rattle.quick_kinds.proofs.UnmatchedFours.{one_edge}
+use Rattle.theorems.proofs.BrickFacts.{turned_cut}
+use Rattle.theorems.proofs.Neighbourhoods.{near_count, near_side}
+use Rattle.theorems.specs.Braces.{neighbourhood}
+
+-- an edge joins u and v
+abbrev pub beside : Graph → ℕ → ℕ → Bool
+beside g u v = some (size g) (has_ends g u v)
+
+module _ (g : Graph) (l r : Set) (is : IsGraph g) (apart : (v : ℕ) → l v ≡ true → r v ≡ true → ⊥) (as_many : count g.order l ≡ count g.order r)
+    (enough : (z : Set) → count g.order (meet z l) ≤ count g.order (neighbours g.order (beside g) r (meet z l))) where
+  picks : Picks g.order (beside g) l r
+  picks = hall g.order (beside g) (count g.order l) l r (omega arith) enough
+
+  star : ℕ → Set
+  star z = union (singleton z) (singleton (picks.to z))
+
+  each : (z : ℕ) → Within g.order z → l z ≡ true → (m : Set) × IsPerfect g (complement (star z)) m
+  unfolding star
+  each z w h =
+      let p = picks.lands z w h in
+      let e = some_true (size g) (has_ends g z (picks.to z)) p.2 in
+      (singleton e.0, one_edge g e.0 z (picks.to z) e.1 e.2 (λ q. apart z h (ap r q ∙ p.1)))
+
+  one_star : (y z v : ℕ) → Within g.order y → Within g.order z → Within g.order v → l y ≡ true → star y v ≡ true → l z ≡ true → star z v ≡ true → y ≡ z
+  unfolding star
+  one_star y z v wy wz wv ly sy lz sz =
+      let ry = picks.lands y wy ly in
+      let rz = picks.lands z wz lz in
+      elim (or_cases (y == v) (picks.to y == v) sy) [
+        | inl i ↦ elim (or_cases (z == v) (picks.to z == v) sz) [
+          | inl j ↦ eqb-true y v i ∙ sym (eqb-true z v j)
+          | inr j ↦ absurd (apart y ly (ap r (eqb-true y v i ∙ sym (eqb-true (picks.to z) v j)) ∙ rz.1))
+        ]
+        | inr i ↦ elim (or_cases (z == v) (picks.to z == v) sz) [
+          | inl j ↦ absurd (apart z lz (ap r (eqb-true z v j ∙ sym (eqb-true (picks.to y) v i)) ∙ ry.1))
+          | inr j ↦ picks.apart y z wy wz ly lz (eqb-true (picks.to y) v i ∙ sym (eqb-true (picks.to z) v j))
+        ]
+      ]
+
+  cover : (v : ℕ) → Within g.order v → some g.order (λ z. l z && star z v) ≡ union l r v
+  unfolding star
+  cover v w = same_tests (some g.order (λ z. l z && star z v)) (union l r v) there back
+    where
+      there : some g.order (λ z. l z && star z v) ≡ true → union l r v ≡ true
+      there h =
+          let z = some_true g.order (λ z. l z && star z v) h in
+          let p = and_parts (l z.0) (star z.0 v) z.2 in
+          elim (or_cases (z.0 == v) (picks.to z.0 == v) p.1) [
+            | inl i ↦ or_left (l v) (r v) (ap l (sym (eqb-true z.0 v i)) ∙ p.0)
+            | inr i ↦ or_right (l v) (r v) (ap r (sym (eqb-true (picks.to z.0) v i)) ∙ (picks.lands z.0 z.1 p.0).1)
+          ]
+
+      back : union l r v ≡ true → some g.order (λ z. l z && star z v) ≡ true
+      back h = elim (or_cases (l v) (r v) h) [
+        | inl t ↦ true_some g.order (λ z. l z && star z v) v w (and_from (l v) (star v v) t (or_left (v == v) (picks.to v == v) (eq-eqb v v refl)))
+        | inr t ↦
+            let k = hits g.order (beside g) l r picks as_many v w t in
+            true_some g.order (λ z. l z && star z v) k.0 k.1 (and_from (l k.0) (star k.0 v) k.2 (or_right (k.0 == v) (picks.to k.0 == v) (eq-eqb (picks.to k.0) v k.3)))
+      ]
+
+  pub matched_sides : HasPerfect g (complement (union l r))
+  matched_sides =
+      let m = glue_family g is l star each one_star in
+      (m.0, perfect_congr g (complement (λ v. some g.order (λ z. l z && star z v))) (complement (union l r)) m.0 (λ v w. ap not (cover v w)) m.1)
+
+module _ (g : Graph) (a : Set) (is : IsMultigraph g) (two : IsSide g a) where
+  -- what a set has past the last vertex plays no part
+  module _ (s : Set) (sub : (v : ℕ) → Within g.order v → s v ≡ true → a v ≡ true) where
+    pub within_side : (v : ℕ) → meet a s v ≡ true → a v ≡ true
+    within_side v h = (and_parts (a v) (s v) h).0
+
+    pub same_part : (v : ℕ) → Within g.order v → meet a s v ≡ s v
+    same_part v w = and_implied (a v) (s v) (sub v w)
+
+    pub same_count : count g.order (meet a s) ≡ count g.order s
+    same_count = count_congr g.order _ _ same_part
+
+    pub same_near : count g.order (neighbourhood g (meet a s)) ≡ count g.order (neighbourhood g s)
+    same_near = count_congr g.order _ _ (λ v w. some_congr g.order _ _ (λ u x. ap (λ k. k && adjacent g none u v) (same_part u x)))
+
+    into_near : (m : Set) → IsPerfect g none m → count g.order s ≤ count g.order (neighbourhood g s)
+    into_near m p =
+        let n = near_count g is a two (meet a s) within_side m p in
+        let c = same_count in
+        let d = same_near in omega arith
+
+  sides_alike : (m : Set) → IsPerfect g none m → count g.order a ≡ count g.order (complement a)
+  sides_alike m p =
+      let i = side_count g is.ends a a m two (λ v h. h) p in
+      let j = side_count g is.ends (complement a) (complement a) m (other_side g is.ends a two) (λ v h. h) p in
+      let c = turned_cut g m a in omega arith
+
+  -- neighbours of a part of the side are beside it, on the other side
+  pub near_beside : (s : Set) → ((v : ℕ) → s v ≡ true → a v ≡ true) → (v : ℕ) → Within g.order v → neighbourhood g s v ≡ true → neighbours g.order (beside g) (complement a) s v ≡ true
+  near_beside s sub v w h =
+      let u = some_true g.order (λ u. s u && adjacent g none u v) h in
+      let p = and_parts (s u.0) (adjacent g none u.0 v) u.2 in
+      let e = (adjacent-edge g none u.0 v p.1).2 in
+      and_from (complement a v) (some g.order (λ u. s u && beside g u v)) (near_side g is a two s sub v h) (true_some g.order (λ u. s u && beside g u v) u.0 u.1 (and_from (s u.0) (beside g u.0 v) p.0 (true_some (size g) (has_ends g u.0 v) e.0 e.1 e.2)))
+
+  pub marriage : HasPerfect g none ↔ ((count g.order a ≡ count g.order (complement a)) × ((s : Set) → ((v : ℕ) → Within g.order v → s v ≡ true → a v ≡ true) → count g.order s ≤ count g.order (neighbourhood g s)))
+  marriage = (
+    (λ m. (sides_alike m.0 m.1, λ s sub. into_near s sub m.0 m.1)),
+    (λ h. let m = matched_sides g a (complement a) is.ends (λ v i j. both_ways (a v) (not-true (a v) j) i) h.0 (λ z.
+        let sub : (v : ℕ) → meet z a v ≡ true → a v ≡ true = λ v i. (and_parts (z v) (a v) i).1 in
+        let few = h.1 (meet z a) (λ v w. sub v) in
+        let more = count_mono g.order (neighbourhood g (meet z a)) (neighbours g.order (beside g) (complement a) (meet z a)) (near_beside (meet z a) sub) in omega arith) in
+        (m.0, perfect_congr g (complement (union a (complement a))) none m.0 (λ v w. all (a v)) m.1)),
+  )
+    where
+      all : (b : Bool) → not (b || not b) ≡ false
+      all true = refl
+      all false = refl

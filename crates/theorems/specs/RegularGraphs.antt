@@ -1,0 +1,24 @@
+-- Cuts by their number of edges, graphs without a bridge, regular graphs and r-graphs. Any
+-- textbook; r-graphs: Seymour 1979.
+-- Stated by: theorems.
+use Rattle.std.specs.Prelude.{◌≡◌, ℕ, ◌≤◌, true, false}
+use Rattle.counting.specs.Common.{Within, count, is_odd, Set, everything}
+use Rattle.graph_core.specs.Common.{Graph, degree, edges_in_cut}
+
+-- how many edges are in the cut of x
+abbrev pub cut_size : Graph → Set → ℕ
+cut_size g x = edges_in_cut g everything x
+
+-- 2-edge-connected: each vertex set that is neither empty nor all has at least two edges in its
+-- cut
+abbrev pub IsTwoEdgeConnected : Graph → Type 0
+IsTwoEdgeConnected g = (x : Set) (u v : ℕ) → Within g.order u → Within g.order v → x u ≡ true → x v ≡ false → 2 ≤ cut_size g x
+
+-- r edges are at each vertex
+abbrev pub IsRegular : ℕ → Graph → Type 0
+IsRegular r g = (v : ℕ) → Within g.order v → degree g everything v ≡ r
+
+-- each vertex set of odd size has at least r edges in its cut; an r-regular graph of this kind is
+-- an r-graph
+abbrev pub HasWideOddCuts : ℕ → Graph → Type 0
+HasWideOddCuts r g = (x : Set) → is_odd (count g.order x) ≡ true → r ≤ cut_size g x

@@ -1,0 +1,43 @@
+//! Bipartite graphs: perfect matchings, and when they are matching covered.
+//!
+//! Sources: König (1916); Frobenius (1917); Hall, "On representatives of subsets" (1935); Hetyei
+//! (1964); Lovász and Plummer, "Matching Theory" (1986), sections 1.1 and 4.1.
+ghost use Rattle.std.specs.Prelude.{◌≡◌, ℕ, ◌≤◌, ◌↔◌, true, List};
+ghost use Rattle.counting.specs.Common.{Within, complement, count, everything, none, Set, singleton};
+ghost use Rattle.graph_core.specs.Common.{Graph, HasPerfect, IsConnected, IsCovered, IsMultigraph, IsSide, size};
+ghost use Rattle.ear_core.specs.Common.{is_met, PlainEar};
+ghost use Rattle.theorems.specs.Bipartite.{AreEars, ArePairsMatched, HasSurplus};
+ghost use Rattle.theorems.specs.Braces.{neighbourhood};
+
+/// The marriage theorem: a bipartite graph with the sides A and B has a perfect matching if and
+/// only if |A| = |B| and |N(S)| ≥ |S| for each subset S of A (Frobenius 1917; Hall 1935; Lovász
+/// and Plummer, "Matching Theory", section 1.1).
+pub fn marriage_law()
+    ensures { (g : Graph) (a : Set) → IsMultigraph g → IsSide g a →
+        HasPerfect g none ↔ ((count g.order a ≡ count g.order (complement a)) ×
+        ((s : Set) → ((v : ℕ) → Within g.order v → s v ≡ true → a v ≡ true) →
+        count g.order s ≤ count g.order (neighbourhood g s))) }
+{}
+
+/// Hetyei's theorem: for a bipartite graph with the sides A and B and four vertices or more these
+/// say the same. It is matching covered; |A| = |B| and |N(S)| ≥ |S| + 1 for each nonempty proper
+/// subset S of A; A and B are not empty, and G - a - b has a perfect matching for each a in A and
+/// b in B. With two vertices or more the second and the third say so together with "connected". A
+/// bipartite graph is matching covered if and only if no vertex is isolated and single ears lead
+/// from an edge to all edges (Hetyei 1964; Lovász and Plummer, "Matching Theory", section 4.1).
+pub fn hetyei_law()
+    ensures neighbours { (g : Graph) (a : Set) → IsMultigraph g → IsSide g a → 2 ≤ g.order →
+        IsCovered g ↔ (IsConnected g × (count g.order a ≡ count g.order (complement a)) ×
+        HasSurplus g a) }
+    ensures pairs { (g : Graph) (a : Set) → IsMultigraph g → IsSide g a → 2 ≤ g.order →
+        IsCovered g ↔ (IsConnected g × ArePairsMatched g a) }
+    ensures four_neighbours { (g : Graph) (a : Set) → IsMultigraph g → IsSide g a → 4 ≤ g.order →
+        IsCovered g ↔ ((count g.order a ≡ count g.order (complement a)) × HasSurplus g a) }
+    ensures four_pairs { (g : Graph) (a : Set) → IsMultigraph g → IsSide g a → 4 ≤ g.order →
+        IsCovered g ↔ ((1 ≤ count g.order a) × (1 ≤ count g.order (complement a)) ×
+        ArePairsMatched g a) }
+    ensures ears { (g : Graph) (a : Set) → IsMultigraph g → IsSide g a →
+        IsCovered g ↔ ((e : ℕ) × (ears : List PlainEar) × Within (size g) e ×
+        AreEars g (singleton e) ears ×
+        ((v : ℕ) → Within g.order v → is_met g everything v ≡ true)) }
+{}

@@ -1,0 +1,160 @@
+"""The structure of a graph, as `mcg analyse` reports it."""
+from __future__ import annotations
+
+from dataclasses import dataclass
+from typing import Any, Dict, FrozenSet, List, Optional, Tuple
+
+from .errors import NotCovered
+from .graphs import Graph, GraphLike
+from .programs import run, understood
+from .sources import Edge, Label
+
+Pair = Tuple[Label, Label]
+
+# What is known of matching covered graphs alone.
+STRUCTURE = ("classes", "bicritical", "equivalent_pair", "cut_pair", "kind", "shore")
+
+
+@dataclass(frozen=True)
+class Analysis:
+    """The structure of a graph, in the caller's labels.
+
+    For every graph: `order` and `size`; `components`, their number; `bipartite`;
+    `matching_number`, the edges of a maximum matching; `deficiency`, the vertices it misses; the
+    Gallai-Edmonds sets `D`, `A` and `C`; `allowed`, the edges that are in a perfect matching;
+    `covered`, whether the graph is matching covered; `reason` and `witness` as `NotCovered` has
+    them, both None if it is.
+
+    For a matching covered graph, and else None: `classes`, the canonical partition (two vertices
+    are in one class if deleting them leaves no perfect matching); `bicritical`;
+    `equivalent_pair`, the first two vertices of one class, None if it is bicritical; `cut_pair`,
+    the first two vertices whose deletion disconnects the graph, or None; `kind`, `"brick"`,
+    `"brace"` or `"composite"`; `shore`, one side of a nontrivial tight cut if it is composite.
+    "First" is by the order of `Graph(G).vertices`.
+
+    Sources: Lovász and Plummer, "Matching Theory" (1986), sections 3.2 and 5.2.
+    """
+
+    order: int
+    size: int
+    components: int
+    bipartite: bool
+    matching_number: int
+    deficiency: int
+    D: FrozenSet[Label]
+    A: FrozenSet[Label]
+    C: FrozenSet[Label]
+    allowed: List[Edge]
+    covered: bool
+    reason: Optional[str]
+    witness: Any
+    classes: Optional[List[FrozenSet[Label]]]
+    bicritical: Optional[bool]
+    equivalent_pair: Optional[Pair]
+    cut_pair: Optional[Pair]
+    kind: Optional[str]
+    shore: Optional[FrozenSet[Label]]
+
+    @classmethod
+    def from_text(cls, text: str, graph: GraphLike) -> Analysis:
+        """Returns the report of `mcg analyse` on the graph, in its labels. Raises `BadText`."""
+        return _understood(text.splitlines(), Graph(graph))
+
+
+def analyse(graph: GraphLike) -> Analysis:
+    """Returns the structure of a graph with at most 128 vertices and 2,048 edges.
+
+    Raises `BadGraph`, `TooLarge` and the exceptions on programs.
+    """
+    numbered = Graph(graph)
+    _status, report = run("analyse", ["graph"], {"graph": numbered.to_text()})
+    return _understood(report, numbered)
+
+
+def _understood(report: List[str], graph: Graph) -> Analysis:
+    with understood("analyse"):
+        return _read(report, graph)
+
+
+def verdict(line: str, graph: Graph) -> Optional[Tuple[str, Any]]:
+    """Returns the reason and the witness of a line `covered no ..`, and None for `covered yes`."""
+    words = line.split()
+    if words[:2] == ["covered", "yes"]:
+        return None
+    if words[:2] != ["covered", "no"]:
+        raise ValueError(line)
+    reason, numbers = words[2], [int(it) for it in words[3:]]
+    witnesses: Dict[str, Any] = {
+        "order": lambda: None,
+        "parts": lambda: tuple(graph.label(k) for k in numbers),
+        "berge": lambda: graph.labels(numbers),
+        "edge": lambda: graph.edge(numbers[0]),
+    }
+    return reason, witnesses[reason]()
+
+
+def demand_covered(report: List[str], graph: Graph) -> None:
+    """Raises `NotCovered` if a report is the line `covered no ..`."""
+    if report[:1] and report[0].startswith("covered no"):
+        found = verdict(report[0], graph)
+        assert found
+        raise NotCovered(*found)
+
+
+def _read(report: List[str], graph: Graph) -> Analysis:
+    """The report of `analyse`, line by line."""
+    words = iter([line.split() for line in report])
+
+    def due(name: str) -> List[str]:
+        found = next(words)
+        if found[:1] != [name]:
+            raise ValueError(f"{name} is expected, and not {' '.join(found)}")
+        return found[1:]
+
+    def vertices(name: str) -> FrozenSet[Label]:
+        return graph.labels(map(int, due(name)))
+
+    order, size = map(int, due("graph"))
+    if (order, size) != (graph.order, graph.size):
+        raise ValueError("the report is on another graph")
+    general: Dict[str, Any] = {
+        "order": order,
+        "size": size,
+        "components": int(due("components")[0]),
+        "bipartite": due("bipartite")[0] == "yes",
+        "matching_number": int(due("matching")[0]),
+        "deficiency": int(due("deficiency")[0]),
+        "D": vertices("D"),
+        "A": vertices("A"),
+        "C": vertices("C"),
+        "allowed": graph.edge_list(map(int, due("allowed"))),
+    }
+    found = verdict(" ".join(["covered", *due("covered")]), graph)
+    if found is not None:
+        nothing: Dict[str, Any] = dict.fromkeys(STRUCTURE)
+        return Analysis(**general, covered=False, reason=found[0], witness=found[1], **nothing)
+    return Analysis(
+        **general,
+        covered=True,
+        reason=None,
+        witness=None,
+        classes=[vertices("class") for _ in range(int(due("classes")[0]))],
+        **_pair("bicritical", "equivalent_pair", due("bicritical"), graph),
+        **_pair(None, "cut_pair", due("cutpair"), graph),
+        **_kind(due("kind"), graph),
+    )
+
+
+def _pair(flag: Optional[str], name: str, words: List[str], graph: Graph) -> Dict[str, Any]:
+    """A pair of vertices at the end of a line, None if it has none, and whether its word is yes."""
+    numbers = [int(it) for it in words if it.isdigit()]
+    pair = tuple(graph.label(k) for k in numbers) if numbers else None
+    found: Dict[str, Any] = {name: pair}
+    if flag:
+        found[flag] = words[0] == "yes"
+    return found
+
+
+def _kind(words: List[str], graph: Graph) -> Dict[str, Any]:
+    shore = graph.labels(map(int, words[1:])) if words[0] == "composite" else None
+    return {"kind": words[0], "shore": shore}

@@ -1,0 +1,171 @@
+"""The class of graphs, with their vertices and edges by number."""
+from __future__ import annotations
+
+import importlib
+import re
+from collections import Counter
+from typing import Any, Dict, FrozenSet, Iterable, List, Sequence, Tuple, Union
+
+from . import graph6, texts
+from .errors import BadGraph, BadText
+from .graph_texts import read_graph
+from .sources import Edge, Label, Source, edge_key, edge_numbers, parts_of
+
+
+class Graph:
+    """A graph as the programs see it: vertices and edges in a fixed order, without loops.
+
+    It is made of any of these:
+
+    - a graph of NetworkX or of Sage, not a directed one;
+    - a pair (vertices, edges), a tuple of two iterables;
+    - any other iterable of edges, whose vertices come in the order in which the edges have them;
+    - a text in graph6, with vertices 0, 1, .. as NetworkX and Sage number them.
+
+    Labels are any hashable values. An edge is a pair (u, v), or in a multigraph a triple
+    (u, v, key); parallel edges have different keys. Sage's edge labels are the keys if they tell
+    all parallel edges apart; if not, the keys are 0, 1, .. among parallel edges.
+
+    Attributes: `vertices`, the labels, vertex k of a report being `vertices[k - 1]`; `edges`, the
+    edges as they were given, edge k of a report being `edges[k - 1]`; `ends`, the ends of the
+    edges by number. Raises `BadGraph` for anything else.
+    """
+
+    vertices: Tuple[Label, ...]
+    edges: Tuple[Edge, ...]
+    ends: Tuple[Tuple[int, int], ...]
+
+    def __init__(self, source: GraphLike) -> None:
+        if isinstance(source, Graph):
+            self._take(source.vertices, source.edges)
+        else:
+            self._take(*parts_of(source))
+
+    def _take(self, vertices: Sequence[Label], edges: Sequence[Edge]) -> None:
+        self.vertices, self.edges = tuple(vertices), tuple(edges)
+        try:
+            self._numbers: Dict[Label, int] = {it: k for k, it in enumerate(self.vertices, 1)}
+            self._edge_numbers = edge_numbers(self.edges)
+        except TypeError as why:
+            raise BadGraph(f"labels and keys must be hashable: {why}") from None
+        if len(self._numbers) < len(self.vertices):
+            twice = next(it for it, count in Counter(self.vertices).items() if count > 1)
+            raise BadGraph(f"the vertex {twice!r} is given twice", kind=texts.SAME_NAME)
+        self.ends = tuple(self._ends_of(edge) for edge in self.edges)
+
+    def _ends_of(self, edge: Edge) -> Tuple[int, int]:
+        for it in edge[:2]:
+            if it not in self._numbers:
+                raise BadGraph(f"the edge {edge!r}: {it!r} is not a vertex", kind=texts.UNNAMED)
+        if edge[0] == edge[1]:
+            raise BadGraph(f"the edge {edge!r} is a loop", kind=texts.LOOP)
+        return self._numbers[edge[0]], self._numbers[edge[1]]
+
+    @property
+    def order(self) -> int:
+        """The number of vertices."""
+        return len(self.vertices)
+
+    @property
+    def size(self) -> int:
+        """The number of edges, parallel ones counted each."""
+        return len(self.edges)
+
+    def number(self, label: Label) -> int:
+        """Returns the number of a vertex, from 1. Raises `BadText` if it is not one."""
+        try:
+            return self._numbers[label]
+        except (KeyError, TypeError):
+            raise BadText(f"{label!r} is not a vertex of the graph") from None
+
+    def edge_number(self, edge: Sequence[Any]) -> int:
+        """Returns the number of an edge, from 1; its ends may come in either order."""
+        try:
+            return self._edge_numbers[edge_key(tuple(edge))]
+        except (KeyError, TypeError):
+            raise BadText(f"{edge!r} is not an edge of the graph") from None
+
+    def label(self, number: int) -> Label:
+        """Returns the vertex with this number, from 1. Raises `IndexError`."""
+        if number < 1:
+            raise IndexError(number)
+        return self.vertices[number - 1]
+
+    def edge(self, number: int) -> Edge:
+        """Returns the edge with this number, from 1. Raises `IndexError`."""
+        if number < 1:
+            raise IndexError(number)
+        return self.edges[number - 1]
+
+    def labels(self, numbers: Iterable[int]) -> FrozenSet[Label]:
+        """Returns the set of the vertices with these numbers."""
+        return frozenset(self.label(k) for k in numbers)
+
+    def numbers(self, labels: Iterable[Label]) -> List[int]:
+        """Returns the numbers of these vertices, rising."""
+        return sorted(self.number(it) for it in labels)
+
+    def edge_list(self, numbers: Iterable[int]) -> List[Edge]:
+        """Returns the edges with these numbers."""
+        return [self.edge(k) for k in numbers]
+
+    def to_text(self) -> str:
+        """Returns the graph file: version 1, or version 2 with the names v1, v2, .. if it is larger
+        than 64 vertices or 512 edges. It has the numbers and not the labels."""
+        rows = [f"p mcg {self.order} {self.size}"]
+        prefix = ""
+        if self.order > 64 or self.size > 512:
+            prefix = "v"
+            rows = [f"p mcg2 {self.order} {self.size}"]
+            rows += [f"v v{k}" for k in range(1, self.order + 1)]
+        rows += [f"e {prefix}{a} {prefix}{b}" for a, b in self.ends]
+        return "\n".join(rows) + "\n"
+
+    @classmethod
+    def from_text(cls, text: str) -> Graph:
+        """Returns the graph of a graph file, in either version, or of a text in graph6.
+
+        Its edges are triples (u, v, k), k being the number of the edge; its vertices are 1, 2, ..
+        or, in version 2, the names. Raises `BadGraph` or `TooLarge` with the line and the kind.
+        """
+        found = re.search(r"(?m)^[ \t\r]*(?!c(?:[ \t\r]|$))[^ \t\r\n]+", text)
+        if found and found[0].strip() != "p" and "\n" not in text.strip():
+            order, ends = graph6.decode(text)
+            return cls._numbered(range(1, order + 1), ends)
+        return cls._numbered(*read_graph(text))
+
+    @classmethod
+    def _numbered(cls, vertices: Sequence[Label], ends: Iterable[Tuple[int, int]]) -> Graph:
+        edges = [(vertices[a - 1], vertices[b - 1], k) for k, (a, b) in enumerate(ends, 1)]
+        return cls((vertices, edges))
+
+    def graph6(self) -> str:
+        """Returns the graph6 text of the simple graph beneath: parallel edges count once."""
+        return graph6.encode(self.order, self.ends)
+
+    def to_networkx(self) -> Any:
+        """Returns a `networkx.MultiGraph` if an edge has a key, and else a `networkx.Graph`."""
+        made = new_networkx(any(len(it) == 3 for it in self.edges))
+        made.add_nodes_from(self.vertices)
+        made.add_edges_from(self.edges)
+        return made
+
+    def __eq__(self, other: object) -> bool:
+        if not isinstance(other, Graph):
+            return NotImplemented
+        return (self.vertices, self.edges) == (other.vertices, other.edges)
+
+    def __hash__(self) -> int:
+        return hash((self.vertices, self.edges))
+
+    def __repr__(self) -> str:
+        return f"<mcg.Graph of {self.order} vertices and {self.size} edges>"
+
+
+def new_networkx(is_multigraph: bool) -> Any:
+    """Returns a new graph of NetworkX."""
+    networkx = importlib.import_module("networkx")
+    return networkx.MultiGraph() if is_multigraph else networkx.Graph()
+
+
+GraphLike = Union[Graph, Source]

@@ -1,0 +1,174 @@
+"""Lists of graphs, through one process of mcg6: `kinds`, `leaves` and `select`."""
+from __future__ import annotations
+
+from collections import deque
+from dataclasses import dataclass
+from itertools import islice
+from typing import Any, Deque, Iterable, Iterator, Optional, Tuple, Type, TypeVar
+
+from . import graph6
+from .errors import BadGraph, BadInput, ProgramFailed
+from .graphs import Graph, GraphLike
+from .streams import Stream
+
+GivenGraph = TypeVar("GivenGraph", bound=GraphLike)
+
+# After so many graphs `select` begins a new process, so that none is kept in memory for longer.
+SESSION = 8192
+
+
+@dataclass(frozen=True)
+class Kind:
+    """What `mcg6 kinds` reports of a graph.
+
+    `graph6` is the text of the simple graph, `order` and `size` are its numbers of vertices and
+    edges, and `covered` says whether it is matching covered. If it is not, `reason` is `"order"`
+    (fewer than two vertices), `"parts"` (not connected), `"berge"` (no perfect matching) or
+    `"edge"` (some edge is in no perfect matching), and all below are None. If it is, `reason` is
+    None, `kind` is `"brick"`, `"brace"` or `"composite"`, `bricks` and `braces` count those of
+    each of its tight cut decompositions (Lovász 1987), and `bicritical` says whether deleting any
+    two vertices leaves a graph with a perfect matching.
+    """
+
+    graph6: str
+    order: int
+    size: int
+    covered: bool
+    reason: Optional[str]
+    kind: Optional[str]
+    bricks: Optional[int]
+    braces: Optional[int]
+    bicritical: Optional[bool]
+
+
+@dataclass(frozen=True)
+class ListLeaf:
+    """A brick or brace of a graph of a list.
+
+    `index` is the place of the graph among those given, from 0; `graph6` is the text of the leaf
+    as a simple graph, and `kind` is `"brick"` or `"brace"`.
+    """
+
+    index: int
+    graph6: str
+    kind: str
+
+
+def kinds(graphs: Iterable[GraphLike]) -> Iterator[Kind]:
+    """Yields what `mcg6 kinds` reports of each graph, in order, by one process for all of them.
+
+    Graphs are taken from the iterable some way ahead of the results; the memory used does not
+    grow with the list. Parallel edges count once. If a graph is bad (`BadGraph`, `TooLarge`), or
+    the iterable raises an exception, the results for those before it come first.
+    """
+    for row in Stream(["kinds"], (line for line, _graph in _lines(_graphs(graphs)))):
+        yield _kind(row)
+
+
+def leaves(graphs: Iterable[GraphLike], order: str = "first") -> Iterator[ListLeaf]:
+    """Yields the bricks and braces of each graph, in order, by one process for all of them.
+
+    `order` is `"first"`, `"last"` or `"balanced"`. A graph that is not matching covered gives
+    none. What is said of `kinds` on memory and on bad graphs holds here too. `decompose` has the
+    leaves of one graph in its own labels.
+    """
+    for row in Stream(["leaves", order], (line for line, _graph in _lines(_graphs(graphs)))):
+        number, *_graph, leaf, kind = row.decode("ascii").split()
+        yield ListLeaf(int(number) - 1, leaf, kind)
+
+
+def select(graphs: Iterable[GivenGraph], what: str) -> Iterator[GivenGraph]:
+    """Yields the graphs that have the property, as they were given.
+
+    `what` is a word of `mcg6 select`: `"covered"`, `"uncovered"`, `"brick"`, `"brace"`,
+    `"bicritical"`, `"composite"`, `"bricks=K"` or `"braces=K"` with a number K. What is said of
+    `kinds` on memory and on bad graphs holds here too, but each 8,192 graphs have a process.
+    """
+    rest, before = iter(_graphs(graphs)), 0
+    while True:
+        session = _Session(islice(rest, SESSION))
+        try:
+            yield from session.selected(what)
+        except BadInput as fault:
+            raise _shifted(fault, before) from None
+        before += session.count
+        if session.count < SESSION:
+            return
+
+
+class _Session:
+    """Some of the graphs of `select`, and those of which nothing was heard yet."""
+
+    def __init__(self, graphs: Iterator[Any]) -> None:
+        self.graphs, self.count = graphs, 0
+        self.waiting: Deque[Tuple[bytes, Any]] = deque()
+
+    def _lines(self) -> Iterator[bytes]:
+        for line, graph in _lines(self.graphs):
+            self.count += 1
+            self.waiting.append((line, graph))
+            yield line
+
+    def selected(self, what: str) -> Iterator[Any]:
+        """The lines that come back are some of those sent, in order; equal lines all come or none."""
+        for row in Stream(["select", what], self._lines()):
+            while self.waiting:
+                line, graph = self.waiting.popleft()
+                if line == row:
+                    yield graph
+                    break
+            else:
+                raise ProgramFailed(f"mcg6 wrote a line that was not sent: {row!r}")
+
+
+def _shifted(fault: BadInput, before: int) -> BadInput:
+    """The exception with the number of the line in the whole list."""
+    if fault.line is None or not before:
+        return fault
+    made: Type[BadInput] = type(fault)
+    line = fault.line + before
+    return made(fault.words.replace(f"line {fault.line}", f"line {line}"), line, fault.kind)
+
+
+def _graphs(graphs: Iterable[Any]) -> Iterable[Any]:
+    """The graphs without a header that is alone, as the first line of a file may be."""
+    if isinstance(graphs, (str, bytes)):
+        raise TypeError("a list of graphs is an iterable of graphs, and not a text: put it in a list")
+    for place, graph in enumerate(graphs):
+        is_header = isinstance(graph, (str, bytes)) and _text(graph).rstrip("\r\n") == graph6.HEADER
+        if place or not is_header:
+            yield graph
+
+
+def _text(graph: Any) -> str:
+    return graph if isinstance(graph, str) else bytes(graph).decode("latin-1")
+
+
+def _lines(graphs: Iterable[Any]) -> Iterator[Tuple[bytes, Any]]:
+    """Each graph with its line. A graph that is none is named by its place, from 1."""
+    for number, graph in enumerate(graphs, 1):
+        try:
+            line = _line(graph)
+        except BadInput as fault:
+            made: Type[BadInput] = type(fault)
+            raise made(f"line {number}: {fault.words}", number, fault.kind) from None
+        yield line, graph
+
+
+def _line(graph: Any) -> bytes:
+    """The line of a graph, without its end."""
+    if not isinstance(graph, (str, bytes)):
+        return Graph(graph).graph6().encode("ascii")
+    text = graph6.bare(_text(graph))
+    if "\n" in text:
+        raise BadGraph(f"not one graph in graph6: there are several lines in {text[:60]!r}", kind=8)
+    return text.encode("utf-8", "surrogateescape")
+
+
+def _kind(row: bytes) -> Kind:
+    """The parts of a line of `mcg6 kinds`."""
+    text, order, size, word, *more = row.decode("ascii").split()
+    if word == "uncovered":
+        return Kind(text, int(order), int(size), False, more[0], None, None, None, None)
+    bricks, braces, _name, answer = more
+    return Kind(text, int(order), int(size), True, None, word, int(bricks), int(braces), answer == "yes")

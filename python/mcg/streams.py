@@ -1,0 +1,158 @@
+"""Sends a list of graphs through one process of mcg6 and takes its lines as they come."""
+from __future__ import annotations
+
+import os
+import re
+import select
+import subprocess
+import tempfile
+from collections import deque
+from typing import IO, Deque, Iterator, List, Optional, Sequence
+
+from .errors import BadGraph, ProgramFailed, ProgramMissing
+from .programs import BAD_INPUT, DONE, bad_line, ended, environment, program
+
+CHUNK = 65_536
+
+# The last lines that were sent are kept up to so many bytes: more than the pipe and mcg6 hold unread.
+KEPT = 400_000
+
+
+class Stream:
+    """A running `mcg6 WORDS..`: iterating yields the lines that it writes.
+
+    Lines are taken from the iterator as far ahead as the pipe holds them, and in the caller's
+    thread; no line waits for the end of the list. If the iterator raises an exception, or a line
+    is bad, the lines for what came before are yielded first. `sent` counts the lines that were
+    taken. Closing ends the process.
+    """
+
+    def __init__(self, words: Sequence[str], lines: Iterator[bytes]) -> None:
+        self.words, self.lines = list(words), lines
+        self.sent = 0
+        self.yielded = 0
+        self._unsent = b""
+        self._unread = b""
+        self._is_open = True
+        self._ended_early = False
+        self._failure: Optional[Exception] = None
+        self._kept: Deque[bytes] = deque()
+        self._kept_bytes = 0
+
+    def __iter__(self) -> Iterator[bytes]:
+        path = program("mcg6")
+        with tempfile.TemporaryFile() as said:
+            try:
+                process = subprocess.Popen(
+                    [path, *self.words],
+                    env=environment(),
+                    bufsize=0,
+                    stdin=subprocess.PIPE,
+                    stdout=subprocess.PIPE,
+                    stderr=said,
+                )
+            except OSError as why:
+                raise ProgramMissing(f"{path}: {why}") from None
+            try:
+                for line in self._run(process):
+                    self.yielded += 1
+                    yield line
+                self._end(process.wait(), said)
+            finally:
+                _stop(process)
+
+    def _run(self, process: subprocess.Popen[bytes]) -> Iterator[bytes]:
+        """Feeds the process and yields its lines until it closes its output."""
+        assert process.stdin and process.stdout
+        source, drain = process.stdout.fileno(), process.stdin.fileno()
+        os.set_blocking(drain, False)
+        poll = select.poll()
+        poll.register(source, select.POLLIN)
+        poll.register(drain, select.POLLOUT)
+        while True:
+            if self._is_open and not self._unsent:
+                self._fill()
+            if self._is_open and not self._unsent:
+                self._close(process, poll)
+            ready = dict(poll.poll())
+            if drain in ready and self._is_open and not self._write(drain):
+                self._close(process, poll)
+            if source in ready:
+                piece = os.read(source, CHUNK)
+                yield from self._whole_lines(piece)
+                if not piece:
+                    self._ended_early = self._is_open
+                    if self._is_open:
+                        self._close(process, poll)
+                    return
+
+    def _fill(self) -> None:
+        """Takes the next line, if there is one."""
+        try:
+            line = next(self.lines, None)
+        except Exception as failure:
+            self._failure, line = failure, None
+        if line is not None:
+            self.sent += 1
+            self._unsent = line + b"\n"
+            self._kept.append(line)
+            self._kept_bytes += len(line) + 1
+            while self._kept_bytes > KEPT and len(self._kept) > 1:
+                self._kept_bytes -= len(self._kept.popleft()) + 1
+
+    def _write(self, drain: int) -> bool:
+        """Writes what the pipe takes, and returns whether somebody reads it."""
+        try:
+            self._unsent = self._unsent[os.write(drain, self._unsent) :]
+        except BlockingIOError:
+            pass
+        except BrokenPipeError:
+            return False
+        return True
+
+    def _close(self, process: subprocess.Popen[bytes], poll: select.poll) -> None:
+        assert process.stdin
+        poll.unregister(process.stdin.fileno())
+        process.stdin.close()
+        self._is_open = False
+
+    def _whole_lines(self, piece: bytes) -> List[bytes]:
+        *whole, self._unread = (self._unread + piece).split(b"\n")
+        return whole
+
+    def _end(self, status: int, said: IO[bytes]) -> None:
+        """Raises what ended the list early, if something did."""
+        said.seek(0)
+        words = said.read().decode("utf-8", "replace")
+        if status == BAD_INPUT:
+            raise self._bad_line(words)
+        if status != DONE:
+            raise ended("mcg6", status, words)
+        if self._failure is not None:
+            raise self._failure
+        is_short = self.words[0] == "kinds" and self.yielded < self.sent
+        if self._unread or self._unsent or self._ended_early or is_short:
+            raise ProgramFailed("mcg6 ended before it had read the list", status)
+
+    def _bad_line(self, words: str) -> BadGraph:
+        """The exception for a bad line, which mcg6 names in words, unless it is silent."""
+        found = re.search("line ([0-9]+)", words)
+        line = self.yielded + 1 if self.words[0] == "kinds" else None
+        if found:
+            line = int(found[1])
+        place = -1 if line is None else line - 1 - (self.sent - len(self._kept))
+        text = self._kept[place] if 0 <= place < len(self._kept) else None
+        return bad_line(words, line, text)
+
+
+def _stop(process: subprocess.Popen[bytes]) -> None:
+    """Ends the process if it still runs, and closes its pipes."""
+    if process.poll() is None:
+        process.kill()
+    for pipe in (process.stdin, process.stdout):
+        if pipe:
+            try:
+                pipe.close()
+            except BrokenPipeError:
+                pass
+    process.wait()

@@ -1,0 +1,36 @@
+"""A second opinion on the reports of Mcg, for those who have the programs and not the proofs.
+
+This is the one place where the package decides something about graphs. It asks none of the
+programs and shares no code with them: matchings are found by Edmonds' search for alternating
+paths, a cut is tight if no perfect matching has two edges in it, a brick is bicritical and
+3-connected (Edmonds, Lovász and Pulleyblank 1982), a brace stays perfectly matchable without any
+two vertices of each side (Lovász 1987), an ear decomposition is checked stage by stage, and a
+comparison map by map. It is tested and not verified. A graph of 128 vertices takes some seconds.
+
+Each function takes the graph and a result of the function of `mcg` with the same name, and raises
+`Wrong` if the definitions contradict it:
+
+    >>> import mcg, mcg.verify
+    >>> edges = [("a", "b"), ("b", "c"), ("c", "d"), ("d", "a")]
+    >>> mcg.verify.decompose(edges, mcg.decompose(edges))
+
+What is free is not compared: any tight cut decomposition passes `decompose`, whatever the order
+of choice was. `python -m mcg.verify GRAPH REPORT [FILES]` checks a report in a file.
+"""
+from .files import report
+from .moves import compare, replay
+from .stages import check_ears, ears
+from .structure import Wrong, analyse
+from .trees import check, decompose
+
+__all__ = [
+    "Wrong",
+    "analyse",
+    "check",
+    "check_ears",
+    "compare",
+    "decompose",
+    "ears",
+    "replay",
+    "report",
+]

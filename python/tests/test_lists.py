@@ -1,0 +1,263 @@
+"""Lists: kinds, leaves and select, streamed through one process."""
+import itertools
+import os
+import random
+import resource
+import stat
+import tempfile
+import threading
+import unittest
+from unittest import mock
+
+from support import Brute, brute_of, cycle, drawn, mcg
+
+
+def program_of(folder, body):
+    """A program that stands for mcg6, written in sh."""
+    path = os.path.join(folder, "mcg6")
+    with open(path, "w") as file:
+        file.write(f"#!/bin/sh\n{body}\n")
+    os.chmod(path, os.stat(path).st_mode | stat.S_IXUSR)
+    return mock.patch.dict(os.environ, {"MCG6": path})
+
+
+class Kinds(unittest.TestCase):
+    def test_random_graphs(self):
+        graphs = drawn(11, 300)
+        for graph, found in itertools.zip_longest(graphs, mcg.kinds(graphs)):
+            with self.subTest(graph=graph):
+                brute = brute_of(graph)
+                kinds = brute.kinds() if brute.is_covered() else None
+                self.assertEqual((found.order, found.size), (len(graph[0]), len(brute.edges)))
+                self.assertEqual(found.graph6, mcg.Graph(graph).graph6())
+                self.assertEqual(found.covered, brute.is_covered())
+                if kinds is None:
+                    self.assertEqual(found.reason, brute.reason())
+                    self.assertEqual({found.kind, found.bricks, found.braces, found.bicritical}, {None})
+                    continue
+                self.assertIsNone(found.reason)
+                self.assertEqual(found.kind, kinds[0] if len(kinds) == 1 else "composite")
+                self.assertEqual((found.bricks, found.braces), (kinds.count("brick"), kinds.count("brace")))
+                pairs = itertools.combinations(graph[0], 2)
+                self.assertEqual(found.bicritical, all(brute.is_matched(*pair) for pair in pairs))
+
+    def test_all_forms_of_a_graph(self):
+        forms = ["C~", b"C~\n", ">>graph6<<C~\r\n", list(itertools.combinations("abcd", 2)), mcg.Graph("C~")]
+        self.assertEqual([it.kind for it in mcg.kinds(forms)], ["brick"] * 5)
+        self.assertEqual([it.kind for it in mcg.kinds(iter([">>graph6<<\n", "C~\n"]))], ["brick"])
+        self.assertEqual(list(mcg.kinds([])), [])
+        with self.assertRaises(TypeError):
+            next(mcg.kinds("C~"))
+
+    def test_results_come_before_the_list_ends(self):
+        """An iterable without an end; its results come while it is read, and closing ends the process."""
+        found = mcg.kinds(itertools.repeat("C~"))
+        self.assertEqual([next(found).kind for _ in range(1000)], ["brick"] * 1000)
+        found.close()
+
+    def test_a_long_stream_in_constant_memory(self):
+        """100,000 graphs, half of them labelled; memory grows by less than 20 MB over the last 90,000."""
+        texts = ["C~", "Bw", "Ch", "IheA@GUAo", cycle(6), "E~rG", cycle(10), "A_"]
+        wanted = ["brick", None, None, "brick", "composite", "composite", "composite", "brace"]
+        sent, peak = 0, None
+
+        def graphs():
+            nonlocal sent
+            for k in range(100_000):
+                sent += 1
+                yield texts[k % 8]
+
+        for k, found in enumerate(mcg.kinds(graphs())):
+            self.assertEqual(found.kind, wanted[k % 8])
+            self.assertLess(sent - k, 100_000 if k > 50_000 else 60_000)
+            if k == 10_000:
+                peak = resource.getrusage(resource.RUSAGE_SELF).ru_maxrss
+        self.assertEqual(k, 99_999)
+        self.assertLess(resource.getrusage(resource.RUSAGE_SELF).ru_maxrss - peak, 20_000)
+
+    def test_two_threads(self):
+        results = {}
+
+        def ask(name, text, count):
+            results[name] = [it.kind for it in mcg.kinds([text] * count)]
+
+        threads = [threading.Thread(target=ask, args=it) for it in ((1, "C~", 3000), (2, "A_", 2000), (3, "E~rG", 1000))]
+        for thread in threads:
+            thread.start()
+        for thread in threads:
+            thread.join()
+        self.assertEqual(results, {1: ["brick"] * 3000, 2: ["brace"] * 2000, 3: ["composite"] * 1000})
+
+    def test_two_lists_at_once(self):
+        pairs = zip(mcg.kinds(["C~"] * 500), mcg.kinds(["A_"] * 500))
+        self.assertEqual({(a.kind, b.kind) for a, b in pairs}, {("brick", "brace")})
+
+
+class BadLines(unittest.TestCase):
+    def asked(self, graphs):
+        """The results before the exception, and the exception."""
+        found = []
+        with self.assertRaises(mcg.BadGraph) as raised:
+            for it in mcg.kinds(graphs):
+                found.append(it)
+        return found, raised.exception
+
+    def test_a_bad_line_in_the_middle(self):
+        found, fault = self.asked(["C~", "A_", "x!", "C~"])
+        self.assertEqual([it.kind for it in found], ["brick", "brace"])
+        self.assertEqual((fault.line, fault.kind), (3, 4))
+        self.assertIn("line 3", str(fault))
+
+    def test_the_kinds_of_bad_lines(self):
+        """Of each bad text the kind is the one that `mcg analyse6` has, by which FORMATS counts."""
+        texts = ["", "x!", ":An", "\ufeffC~", "~??", "~~????", "~??C" + "?" * 9, "~?A_", "C", "C~~", "CF~", "B~", "~?C@" + "~" * 3000, "é"]
+        with tempfile.TemporaryDirectory() as folder:
+            for text in texts:
+                with self.subTest(text=text[:20]):
+                    with open(f"{folder}/text", "w", encoding="utf-8") as file:
+                        file.write(text)
+                    status, report = self.analyse6(f"{folder}/text")
+                    self.assertEqual(status, 4)
+                    found, fault = self.asked(["C~", text, "C~"])
+                    self.assertEqual((len(found), fault.line), (1, 2))
+                    self.assertEqual(report.split()[-1], str(fault.kind))
+                    self.assertEqual(isinstance(fault, mcg.TooLarge), fault.kind == 6)
+
+    def analyse6(self, path):
+        from mcg import programs
+
+        ran = programs.subprocess.run([programs.program("mcg"), "analyse6", path], capture_output=True)
+        return ran.returncode, ran.stdout.decode().strip()
+
+    def test_a_graph_that_is_too_large(self):
+        found, fault = self.asked(["C~", cycle(130), "C~"])
+        self.assertEqual((len(found), fault.line, type(fault)), (1, 2, mcg.TooLarge))
+        self.assertEqual(self.asked(["C~", (range(300_000), [])])[1].kind, 6)
+        dense = list(itertools.combinations(range(128), 2))
+        self.assertEqual(self.asked([dense])[1].kind, 6)
+
+    def test_what_is_no_graph(self):
+        for bad in ([(1, 1)], 7, "C~\nC~", [(1, 2, 3, 4)]):
+            found, fault = self.asked(["C~", "A_", bad, "C~"])
+            self.assertEqual((len(found), fault.line), (2, 3))
+
+    def test_an_iterable_that_fails(self):
+        def graphs():
+            yield "C~"
+            yield "A_"
+            raise KeyError("here")
+
+        found = []
+        with self.assertRaises(KeyError):
+            for it in mcg.kinds(graphs()):
+                found.append(it.kind)
+        self.assertEqual(found, ["brick", "brace"])
+
+
+class Leaves(unittest.TestCase):
+    def test_random_graphs(self):
+        graphs = drawn(12, 200)
+        for order in ("first", "last", "balanced"):
+            found = {}
+            for leaf in mcg.leaves(graphs, order):
+                found.setdefault(leaf.index, []).append(leaf.kind)
+                edges = mcg.Graph(leaf.graph6)
+                brute = Brute(edges.vertices, edges.edges)
+                self.assertTrue(brute.is_covered() and brute.tight_shore() is None)
+            brutes = {k: brute_of(graph) for k, graph in enumerate(graphs)}
+            self.assertEqual({k: sorted(it) for k, it in found.items()}, {k: it.kinds() for k, it in brutes.items() if it.is_covered()})
+
+    def test_a_bad_line(self):
+        found = []
+        with self.assertRaises(mcg.BadGraph) as raised:
+            for leaf in mcg.leaves(["E~rG", "Bw", "x!"]):
+                found.append(leaf.index)
+        self.assertEqual((found, raised.exception.line), ([0, 0], 3))
+
+
+class Select(unittest.TestCase):
+    def test_random_graphs(self):
+        graphs = drawn(13, 300)
+        kinds = [brute_of(it).kinds() if brute_of(it).is_covered() else None for it in graphs]
+        wanted = {
+            "covered": [it is not None for it in kinds],
+            "uncovered": [it is None for it in kinds],
+            "brick": [it == ["brick"] for it in kinds],
+            "brace": [it == ["brace"] for it in kinds],
+            "composite": [it is not None and len(it) > 1 for it in kinds],
+            "bricks=1": [it is not None and it.count("brick") == 1 for it in kinds],
+            "braces=2": [it is not None and it.count("brace") == 2 for it in kinds],
+        }
+        for what, has in wanted.items():
+            found = list(mcg.select(graphs, what))
+            self.assertEqual([id(it) for it in found], [id(it) for it, is_so in zip(graphs, has) if is_so])
+
+    def test_the_graphs_themselves_come_back(self):
+        given = [cycle(4), "C~", ">>graph6<<C~\n", cycle(3), "C~"]
+        self.assertEqual(list(mcg.select(given, "brick")), ["C~", ">>graph6<<C~\n", "C~"])
+        self.assertIs(next(mcg.select(given, "brace")), given[0])
+
+    def test_more_graphs_than_one_process_takes(self):
+        draw = random.Random(14)
+        given = [draw.choice(["C~", "Bw", "A_", "Ch"]) for _ in range(20_000)]
+        self.assertEqual(list(mcg.select(given, "brick")), [it for it in given if it == "C~"])
+        self.assertEqual(list(mcg.select(["Bw"] * 16_384, "brick")), [])
+
+    def test_a_bad_line_far_on(self):
+        with self.assertRaises(mcg.BadGraph) as raised:
+            list(mcg.select(["Bw"] * 10_000 + ["x!"], "brick"))
+        self.assertEqual(raised.exception.line, 10_001)
+        self.assertIn("line 10001", str(raised.exception))
+
+    def test_a_word_that_is_no_property(self):
+        with self.assertRaises(mcg.ProgramFailed) as raised:
+            list(mcg.select(["C~"], "brik"))
+        self.assertEqual(raised.exception.status, 2)
+
+
+class Programs(unittest.TestCase):
+    def test_a_program_that_dies(self):
+        with tempfile.TemporaryDirectory() as folder:
+            body = 'read line; echo "C~ 4 6 brick 1 0 bicritical yes"; kill -9 $$'
+            with program_of(folder, body):
+                found = []
+                with self.assertRaises(mcg.ProgramFailed) as raised:
+                    for it in mcg.kinds(["C~"] * 100_000):
+                        found.append(it)
+                self.assertEqual((len(found), raised.exception.status), (1, -9))
+
+    def test_a_program_that_ends_early(self):
+        with tempfile.TemporaryDirectory() as folder:
+            with program_of(folder, "exit 0"), self.assertRaises(mcg.ProgramFailed):
+                list(mcg.kinds(["C~"] * 100_000))
+
+    def test_a_program_that_runs_out_of_memory(self):
+        with tempfile.TemporaryDirectory() as folder:
+            with program_of(folder, "cat >/dev/null; exit 6"), self.assertRaises(mcg.OutOfMemory):
+                list(mcg.kinds(["C~"]))
+
+    def test_a_silent_program(self):
+        """The proved program that says nothing in words: the line is counted."""
+        with tempfile.TemporaryDirectory() as folder:
+            body = 'read line; echo "C~ 4 6 brick 1 0 bicritical yes"; read line; exit 4'
+            with program_of(folder, body), self.assertRaises(mcg.BadGraph) as raised:
+                list(mcg.kinds(["C~", "x!", "C~"]))
+        self.assertEqual((raised.exception.line, raised.exception.kind), (2, 4))
+
+    def test_a_missing_program(self):
+        for given in ({"MCG6": "/nowhere/mcg6"}, {"MCG6": "", "PATH": "/nowhere"}):
+            with mock.patch.dict(os.environ, given), self.assertRaises(mcg.ProgramMissing):
+                list(mcg.kinds(["C~"]))
+
+    def test_the_program_on_the_path(self):
+        real = os.path.realpath(os.environ["MCG6"])
+        with tempfile.TemporaryDirectory() as folder:
+            os.symlink(real, f"{folder}/mcg6")
+            with mock.patch.dict(os.environ, {"MCG6": "", "PATH": f"{folder}:{os.environ['PATH']}"}):
+                self.assertEqual([it.kind for it in mcg.kinds(["C~"])], ["brick"])
+
+    def test_one_process_for_all(self):
+        """`kinds` starts one process, and closing the iterator before its end stops it."""
+        with mock.patch("subprocess.Popen", side_effect=__import__("subprocess").Popen) as popen:
+            self.assertEqual(len(list(mcg.kinds(["C~"] * 5000))), 5000)
+            self.assertEqual(popen.call_count, 1)

@@ -1,0 +1,158 @@
+"""Do the documents, the manual pages and the completions say what the fronts of mcg and mcg6 say?
+
+The tables of the fronts stand in crates/front_words/src. The rows of the usage of mcg are compared with the table of README, the
+synopsis of its manual page and its completion for bash; those of mcg6, with its properties, with its manual page, its completion, the
+table of FORMATS and the words that mcg6_top reads; the words for kinds of faults with the table of FORMATS; the headers and limits with
+the sections of FORMATS; the versions with VERSION, and the kit's line with README. It lists each that differs, and ends with 1 if there
+is any.
+"""
+import re
+
+# The formats by the names that the code gives them, with their sections in FORMATS.
+SECTIONS = {"Graph": "Graph format", "Derivation": "Derivation format", "Picks": "Pick format", "Ears": "Ear format", "Moves": "Move format"}
+# The words of the usage that stand for words which the manual page writes out.
+WRITTEN_OUT = {"first | last | balanced": "ORDER"}
+wrong = []
+
+
+def read(path):
+    with open(path) as it:
+        return it.read()
+
+
+def same(what, one, other):
+    if one != other:
+        wrong.append(f"{what}:\n    the front: {one}\n    there:     {other}")
+
+
+def constant(source, name):
+    return re.search(rf'const {name}: &str = "(.*?)";', source, re.S)[1]
+
+
+def arms(source, function):
+    """The texts of a function's match, by what stands before each."""
+    body = re.search(rf"^(?:pub )?fn {function}\(.*?^}}", source, re.S | re.M)[0]
+    return dict(re.findall(r'^        (?:Role::)?(\w+) => "(.*)",$', body, re.M))
+
+
+def synopsis(page):
+    """The rows of the manual page's synopsis, as the usage has them."""
+    rows = re.findall(r"^\.Nm\n\.Cm (.*)$", page[page.index(".Sh SYNOPSIS"):page.index(".Sh DESCRIPTION")], re.M)
+    found = []
+    for row in rows:
+        for words, name in WRITTEN_OUT.items():
+            row = row.replace(f"Cm {words}", f"Ar {name.lower()}")
+        name, *parts = re.split(r" ?(?=\b(?:Ar|Cm) )", row)
+        words = [(word.upper() if part.startswith("Ar ") else word) for part in parts for word in part.split()[1:]]
+        found.append(" ".join([name, *words]))
+    return found
+
+
+def completion_places(text):
+    """The last place of a file for each command, as the completion has it."""
+    places = {}
+    for names, place in re.findall(r"^    ([a-z0-9 |]+)\) echo (\d) ;;$", text, re.M):
+        places.update({name: int(place) for name in names.split(" | ")})
+    return places
+
+
+def compare_commands(rows, readme):
+    same("the commands of README", rows, re.findall(r"^\| `([a-z0-9]+ [^`]*)` \|", readme[readme.index("## Commands"):], re.M))
+    same("the synopsis of the manual page", rows, synopsis(read("share/man/man1/mcg.1")))
+    completion = read("share/bash-completion/completions/mcg")
+    words = re.search(r"local commands='(.*)'", completion)[1].split()
+    same("the commands of the completion", sorted({row.split()[0] for row in rows}), sorted(it for it in words if it[0] != "-"))
+    places = {}
+    for row in rows:
+        files = [at for at, word in enumerate(row.split(), 1) if word.isupper() and word not in ("ORDER", "SEED", "PIECES")]
+        if files and not row.startswith("decompose "):
+            places[row.split()[0]] = files[-1]
+    same("the files of the completion", places, {name: at for name, at in completion_places(completion).items() if name in places})
+    named = set(re.findall(r'"([a-z0-9]+)"', read("crates/bench_tasks/src/words.rt"))) - {"first", "last", "balanced"}
+    same("the commands of bench_tasks", sorted({row.split()[0] for row in rows}), sorted(named))
+
+
+def compare_faults(faults, formats):
+    kinds = {**arms(faults, "graph6_fault"), **arms(faults, "line_fault")}
+    del kinds["_"]
+    table = re.findall(r"^\| (\d+) \| [A-Z]\w+ \| (.*?) \|$", formats[:formats.index("## Graph format")], re.M)
+    same("the kinds of FORMATS", {it: kinds[it] for it in sorted(kinds, key=int)}, dict(table))
+    for role, words in arms(faults, "header_note").items():
+        for header in re.findall(r"\b[a-z] mcg2?(?: [A-Z])+", words):
+            if f"`{header}`" not in section(formats, role):
+                wrong.append(f"the header `{header}` is not in the section of {role} in FORMATS")
+    for role, words in arms(faults, "limit_note").items():
+        for number in re.findall(r"\b\d[\d,]*\b", words):
+            if not re.search(rf"(?<![\d,]){number}(?![\d,])", section(formats, role)):
+                wrong.append(f"the limit {number} is not in the section of {role} in FORMATS")
+
+
+def section(formats, role):
+    """The sections of FORMATS on a format."""
+    parts = re.split(r"(?m)^## ", formats)
+    return "".join(it for it in parts if it.startswith(SECTIONS.get(role, "graph6")))
+
+
+def list_words(usage, name):
+    """The words that a name in the usage of mcg6 stands for."""
+    found = re.search(rf"{name} is (.*)", usage)[1]
+    return re.split(r", | or ", found)
+
+
+def list_synopsis(page):
+    """The rows of the synopsis of mcg6, as its usage has them, and the properties that the page writes out."""
+    text = page[page.index(".Sh SYNOPSIS"):page.index(".Sh DESCRIPTION")]
+    rows, properties = [], []
+    for part in text.split(".Nm\n")[1:]:
+        (_, name), *lines = re.findall(r"^\.(Cm|Op|Ar) (.*)$", part, re.M)
+        words = [name]
+        for kind, line in lines:
+            if line in ("Ar file", "file"):
+                words.append("[FILE]" if kind == "Op" else "FILE")
+            elif line == "Cm first | last | balanced":
+                words.append("[ORDER]")
+            else:
+                words.append("WHAT")
+                properties = [re.sub(r"= Ns Ar k", "=K", it.replace("Cm ", "")) for it in line.split(" | ")]
+        rows.append(" ".join(words))
+    return rows, properties
+
+
+def compare_lists(usage, formats):
+    """Compares the table of mcg6."""
+    rows = [re.split("  +", it)[1] for it in usage.splitlines() if it.startswith("  ")]
+    orders, properties = list_words(usage, "ORDER"), list_words(usage, "WHAT")
+    same("the synopsis and the properties of the manual page of mcg6", (rows, properties), list_synopsis(read("share/man/man1/mcg6.1")))
+    completion = read("share/bash-completion/completions/mcg6")
+    names = sorted(row.split()[0] for row in rows)
+    lists = [it.split() for it in re.findall(r"compgen -W '(.*?)'", completion)]
+    same("the commands of the completion of mcg6", names, sorted(it for it in lists[0] if it[0] != "-"))
+    same("the properties of the completion of mcg6", [it.replace("=K", "=") for it in properties], lists[1])
+    same("the orders of the completion of mcg6", orders, lists[2])
+    part = formats[formats.index("## The lines of `mcg6`"):]
+    same("the commands of FORMATS", names, sorted(re.findall(r"^\| `mcg6 (\w+)`", part, re.M)))
+    for name, words in (("leaves", orders), ("select", properties)):
+        line = re.search(rf"^\| `mcg6 {name}` and ([^|]*)", part, re.M)[1]
+        same(f"the words of `{name}` in FORMATS", words, re.findall(r"`([^`]*)`", line)[:len(words)])
+    plan = read("crates/mcg6_top/src/plan.rt")
+    same("the properties of mcg6_top", sorted(properties), sorted(
+        [*re.findall(r'"(\w+)" => Some\(Property::', plan), *(f"{it}K" for it in re.findall(r'strip_prefix\(b"(\w+=)"\)', plan))]))
+    found = {*re.findall(r'"(\w+)" => Some\((?:Query::|file)', plan), *re.findall(r'"(\w+)" => \w+_named\(second\)', plan)}
+    same("the commands of mcg6_top", names, sorted(found))
+    return rows
+
+
+def main():
+    table, faults = read("crates/command_table/src/table.rt"), read("crates/front_words/src/faults.rt")
+    versions = read("crates/front_words/src/table.rt")
+    formats, readme = read("docs/FORMATS.md"), read("README.md")
+    rows = [re.split("  +", it)[1] for it in constant(table, "USAGE").splitlines() if it.startswith("  ")]
+    compare_commands(rows, readme)
+    rows += compare_lists(constant(table, "LIST_USAGE"), formats)
+    compare_faults(faults, formats)
+    for name, which in (("mcg", "VERSION"), ("mcg6", "LIST_VERSION")):
+        version, kit = constant(versions, which).splitlines()
+        same(f"VERSION, and what {name} says", version, f"{name} {read('VERSION').strip()}")
+        same("the kit's line of README", kit, re.search(r"`(rattle-kit-\S+ logic \w+)`", readme)[1])
+    print("\n".join(wrong) if wrong else f"tables: {len(rows)} rows and the words of the fronts agree with the documents")
+    return 1 if wrong else 0
