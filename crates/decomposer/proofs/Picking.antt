@@ -1,17 +1,16 @@
 -- Steps of a decomposition. A candidate at a partition is a cut there; where an order takes the
 -- first candidate, its shore is picked; and a cut with two trees is the tree that the order
 -- picks, and a derivation, where both trees are.
-use Rattle.std.proofs.Common.{◌≡◌, ℕ, ◌+◌, ◌<◌, List, length, map, All, refl, ap, ◌∙◌, arith, subst, slice_get, Option, Some, true, false, ◌==◌}
-use Rattle.counting.proofs.Common.{both_ways, length-map, get_or_from_slice_get}
+use Rattle.std.proofs.Common.{◌≡◌, ℕ, ◌+◌, ◌<◌, List, length, map, ◌++◌, append_assoc, All, refl, ap, ap₂, sym, ◌∙◌, arith, subst, slice_get, Option, Some, true, false, ◌==◌}
+use Rattle.counting.proofs.Common.{both_ways, length-map, map-append, get_or_from_slice_get}
 use Rattle.std.proofs.lemmas.Option.{slice_get_within}
 use Rattle.graph_core.proofs.Common.{IsCovered, Graph, IsGraph, singles}
 use Rattle.tight_cuts.proofs.FirstCandidates.{first-one, first-place}
 use Rattle.tight_cuts.proofs.PartitionCandidates.{found-root, root-candidates}
 use Rattle.tight_cuts.specs.Common.{Candidate, candidates, first_of, first_shore, IsCandidateAt, candidates_at, candidate_of}
 use Rattle.tight_cuts.specs.declared.candidate.Candidate.{Candidate as StoredCandidate}
-use Rattle.tree_core.proofs.Common.{adds-both, IsCutAt, PlaceValue, Shape, cut, kept_at, merged_at}
-use Rattle.tree_core.specs.declared.tallies.LeafKind.{LeafKind}
-use Rattle.decomposer.specs.Common.{NamedPicks, Decomposes, IsPickedShore, PicksShore}
+use Rattle.tree_core.proofs.Common.{IsCutAt, PlaceValue, Shape, cut, kept_at, leaves_at, merged_at, place_of}
+use Rattle.decomposer.specs.Common.{NamedPicks, Finds, IsPickedShore, PicksShore, leaf_places}
 use Rattle.decomposer.specs.declared.orders.NamedOrder.TheVariants.{First}
 
 -- a candidate is a cut
@@ -25,12 +24,31 @@ picked-shore g p stored place c all is =
     let v = get_or_from_slice_get (map candidate_of stored) place (candidate_of c) (candidate_of c) is in
     cut-from_candidate g p (candidate_of c) (subst (IsCandidateAt g p) v (all place (candidate_of c) e))
 
--- what is made of a cut, from what is made of the two places below it
-pub cut-decomposes : (picks : List Candidate → ℕ → ℕ → Type 0) (place q r : PlaceValue) (x : List ℕ) (before between after : ℕ) (t kept merged : Shape) (old mid new : List LeafKind) →
-    q ≡ record { graph = place.graph; blocks = kept_at place.graph.order place.blocks x } → r ≡ record { graph = place.graph; blocks = merged_at place.graph.order place.blocks x } → t ≡ cut x kept merged →
-    IsCutAt place.graph place.blocks x → PicksShore picks (candidates_at place.graph place.blocks) before x →
-    Decomposes picks q (before + 1) old kept between mid → Decomposes picks r between mid merged after new → Decomposes picks place before old t after new
-cut-decomposes picks place q r x before between after t kept merged old mid new is_q is_r is_t cuts picked k m = grind (arith, adds-both)
+-- the leaves below a cut are those of the one tree and then those of the other
+both-places : (g : Graph) (p : List (List ℕ)) (x : List ℕ) (kept merged : Shape) →
+    leaf_places g p (cut x kept merged) ≡ leaf_places g (kept_at g.order p x) kept ++ leaf_places g (merged_at g.order p x) merged
+both-places g p x kept merged = map-append (place_of g) (leaves_at g.order (kept_at g.order p x) kept) (leaves_at g.order (merged_at g.order p x) merged)
+
+-- and are appended so
+appended : (old mid new one two all : List PlaceValue) → mid ≡ old ++ one → new ≡ mid ++ two → all ≡ one ++ two → new ≡ old ++ all
+appended old mid new one two all first second both = second ∙ ap (λ (ps : List PlaceValue). ps ++ two) first ∙ append_assoc old one two ∙ ap (λ (ps : List PlaceValue). old ++ ps) (sym both)
+
+-- what is found of a cut, from what is found of the two places below it
+module _ (picks : List Candidate → ℕ → ℕ → Type 0) (place q r : PlaceValue) (x : List ℕ) (before between after : ℕ) (t kept merged : Shape) (old mid new : List PlaceValue)
+    (is_q : q ≡ place_of place.graph (kept_at place.graph.order place.blocks x)) (is_r : r ≡ place_of place.graph (merged_at place.graph.order place.blocks x)) (is_t : t ≡ cut x kept merged) where
+  leaves-listed : leaf_places place.graph place.blocks t ≡ leaf_places q.graph q.blocks kept ++ leaf_places r.graph r.blocks merged
+  leaves-listed =
+      ap (leaf_places place.graph place.blocks) is_t ∙ both-places place.graph place.blocks x kept merged
+      ∙ sym (ap₂ (λ (a b : PlaceValue). leaf_places a.graph a.blocks kept ++ leaf_places b.graph b.blocks merged) is_q is_r)
+
+  pub cut-finds : IsCutAt place.graph place.blocks x → PicksShore picks (candidates_at place.graph place.blocks) before x →
+      Finds picks q (before + 1) old kept between mid → Finds picks r between mid merged after new → Finds picks place before old t after new
+  cut-finds cuts picked k m = record {
+    derives = grind arith;
+    picked = grind arith;
+    places = appended old mid new (leaf_places q.graph q.blocks kept) (leaf_places r.graph r.blocks merged) (leaf_places place.graph place.blocks t) k.places m.places leaves-listed;
+    cuts = grind arith;
+  }
 
 -- a list that is not empty has a candidate in store
 pub some-stored : (stored : List StoredCandidate) (list : List Candidate) → map candidate_of stored ≡ list → (length list == 0) ≡ false → 0 < length stored

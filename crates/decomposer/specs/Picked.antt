@@ -2,13 +2,12 @@
 -- to multiplicities of edges).
 -- Stated by: decomposer, bench_reports, theorems, example_order.
 -- Rests on it: mcg6_lines, bench_outcomes.
-use Rattle.std.specs.Prelude.{◌≡◌, ℕ, ◌+◌, List, [], All, Option, Some, None, slice_get}
+use Rattle.std.specs.Prelude.{◌≡◌, ℕ, ◌+◌, ◌++◌, List, [], All, Option, Some, None, map, slice_get}
 use Rattle.std.specs.Option.{option_map}
 use Rattle.graph_core.specs.Common.{Graph, singles}
 use Rattle.tight_cuts.specs.Common.{Candidate, first_of, IsCandidateAt, candidates_at, candidate_of}
 use Rattle.tight_cuts.specs.declared.candidate.Candidate.{Candidate as StoredCandidate}
-use Rattle.tree_core.specs.Common.{AddsKinds, IsCutAt, IsDerivationAt, IsLeafAt, PlaceValue, Shape, cut, cut_count, kept_at, leaf, leaves_at, merged_at}
-use Rattle.tree_core.specs.declared.tallies.LeafKind.{LeafKind}
+use Rattle.tree_core.specs.Common.{IsCutAt, IsDerivationAt, IsLeafAt, PlaceValue, Shape, cut, cut_count, kept_at, leaf, leaves_at, merged_at, place_of}
 
 -- the first candidate at p; none, and p is a leaf, where there is no candidate
 pub record IsFirstAt (g : Graph) (p : List (List ℕ)) (found : Option StoredCandidate) : Type 0 where
@@ -44,12 +43,16 @@ IsPickedAt picks g p k (cut x kept merged) =
     × IsPickedAt picks g (kept_at g.order p x) (k + 1) kept
     × IsPickedAt picks g (merged_at g.order p x) (k + 1 + cut_count kept) merged
 
--- a derivation at a place with so many cuts before it, which is the tree that is picked there; the
--- kinds of its leaves are appended, and so many cuts stand before what follows it
-pub record Decomposes (picks : List Candidate → ℕ → ℕ → Type 0) (place : PlaceValue) (before : ℕ) (old : List LeafKind) (t : Shape) (after : ℕ) (new : List LeafKind) : Type 0 where
+-- the leaves of the tree at p, as places
+abbrev pub leaf_places : Graph → List (List ℕ) → Shape → List PlaceValue
+leaf_places g p t = map (place_of g) (leaves_at g.order p t)
+
+-- a derivation at a place with so many cuts before it, which is the tree that is picked there; its
+-- leaves are appended, and so many cuts stand before what follows it
+pub record Finds (picks : List Candidate → ℕ → ℕ → Type 0) (place : PlaceValue) (before : ℕ) (old : List PlaceValue) (t : Shape) (after : ℕ) (new : List PlaceValue) : Type 0 where
   pub derives : IsDerivationAt place.graph place.blocks t
   pub picked : IsPickedAt picks place.graph place.blocks before t
-  pub kinds : AddsKinds place.graph (leaves_at place.graph.order place.blocks t) old new
+  pub places : new ≡ old ++ leaf_places place.graph place.blocks t
   pub cuts : after ≡ before + cut_count t
 
 -- the tree that is picked from a graph

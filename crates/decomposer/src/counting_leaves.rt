@@ -1,7 +1,7 @@
 //! The numbers of the leaves of a decomposition.
 ghost use Rattle.tree_core.specs.Common.{AreLeafKinds, IsDerivation, IsTally, leaves, shape_of};
 
-use crate::decomposition::TreeWithKinds;
+use crate::kinds::TreeWithKinds;
 use graph_facts::Covered;
 use tree_core::{Tally, tallied};
 

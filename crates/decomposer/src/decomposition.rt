@@ -1,96 +1,67 @@
-//! The decomposition of a covered graph by tight cuts, with the kinds of the leaves.
-ghost use Rattle.std.specs.Prelude.{◌≡◌, ◌≤◌, ◌+◌, length, IfOk, Some};
-ghost use Rattle.graph_core.specs.Common.{singles};
+//! The decomposition of a covered graph by tight cuts: the tree, and its leaves as places.
+ghost use Rattle.std.specs.Prelude.{◌≡◌, ◌≤◌, ◌+◌, length, map, IfOk, Some};
 ghost use Rattle.tight_cuts.specs.Common.{candidates, first_shore, candidates_at};
-ghost use Rattle.tree_core.specs.Common.{AreLeafKinds, IsCutAt, IsDerivation, cut, cut_count, leaves, shape_of};
-ghost use Rattle.decomposer.specs.Common.{NamedPicks, Decomposes, IsPicked, PicksShore};
+ghost use Rattle.tree_core.specs.Common.{IsCutAt, IsDerivation, cut, cut_count, leaves, place_of, shape_of};
+ghost use Rattle.decomposer.specs.Common.{NamedPicks, Finds, IsPicked, PicksShore};
 
 use crate::orders::{NamedOrder, Order};
-use crate::shores::{picked_at, picked_at_root};
+use crate::shores::picked_at;
 use graph_facts::Covered;
-use separation_kit::FirstPairs;
 use std::alloc::{AllocError, Global};
-use tree_core::{LeafKind, Place, Tree};
+use tree_core::{KnownPlace, Tree};
 use vset_core::VSet;
 
-/// The tree of tight cuts that an order picks, with the kinds of its leaves.
+/// The tree of tight cuts that an order picks, with its leaves as places: what the search found
+/// of their quotients is known.
 #[derive(Drop)]
-pub struct TreeWithKinds {
+pub struct Decomposition<'g> {
     /// The tree.
     pub tree: Tree,
-    /// The kinds of its leaves, in preorder.
-    pub kinds: Vec<LeafKind>,
+    /// Its leaves, in preorder.
+    pub leaves: Vec<KnownPlace<'g>>,
 }
 
 /// The tree of tight cuts that `order` picks from a covered graph, as `decompose` answers it, with
-/// the kinds of its leaves. What is known of the graph is not sought again.
-pub fn decompose_with_kinds<O: Order>(
+/// its leaves. What is known of the graph is not sought again.
+pub fn decompose_places<'g, O: Order>(
     alloc: Global,
-    c: &Covered,
+    c: &'g Covered<'g>,
     order: &O,
-) -> Result<TreeWithKinds, AllocError>
+) -> Result<Decomposition<'g>, AllocError>
     ensures derivation { IfOk result (λ found. IsDerivation c.now (shape_of found.tree)) }
     ensures picked { IfOk result
         (λ found. IsPicked (O.picks order.now) c.now (shape_of found.tree)) }
-    ensures kinds { IfOk result (λ found.
-        AreLeafKinds c.now (leaves c.now.order (shape_of found.tree)) found.kinds.items) }
+    ensures leaves { IfOk result (λ found. found.leaves.items
+        ≡ map (place_of c.now) (leaves c.now.order (shape_of found.tree))) }
 {
     c.keeps_covered();
-    let pairs = FirstPairs::of(c);
-    let picked = picked_at_root(alloc, &pairs, order)?;
-    match picked.shore {
-        None => {
-            let mut kinds = Vec::new(alloc);
-            kinds.push(picked.leaf_kind)?;
-            Ok(TreeWithKinds {
-                tree: Tree::Leaf,
-                kinds,
-            })
-        }
-        Some(shore) => decompose_root(alloc, c, order, shore),
-    }
+    let root = KnownPlace::root(alloc, c)?;
+    root.keeps_place();
+    let mut leaves = Vec::new(alloc);
+    let (tree, _) = decompose_at(alloc, order, root, 0, &mut leaves)?;
+    Ok(Decomposition { tree, leaves })
 }
 
 /// The decomposition in the order `First` of a covered graph of which the shore of the first
 /// candidate is at hand. What is known of the graph is not sought again.
-pub fn decompose_with_kinds_from_first(
+pub fn decompose_places_from_first<'g>(
     alloc: Global,
-    c: &Covered,
+    c: &'g Covered<'g>,
     cut: VSet,
-) -> Result<TreeWithKinds, AllocError>
+) -> Result<Decomposition<'g>, AllocError>
     requires { first_shore (candidates c.now) ≡ Some cut }
     ensures derivation { IfOk result (λ found. IsDerivation c.now (shape_of found.tree)) }
     ensures picked { IfOk result
         (λ found. IsPicked (NamedPicks NamedOrder.First) c.now (shape_of found.tree)) }
-    ensures kinds { IfOk result (λ found.
-        AreLeafKinds c.now (leaves c.now.order (shape_of found.tree)) found.kinds.items) }
+    ensures leaves { IfOk result (λ found. found.leaves.items
+        ≡ map (place_of c.now) (leaves c.now.order (shape_of found.tree))) }
 {
     c.keeps_covered();
-    decompose_root(alloc, c, &NamedOrder::First, cut)
-}
-
-// The decomposition of a covered graph with the cut at its root.
-fn decompose_root<O: Order>(
-    alloc: Global,
-    c: &Covered,
-    order: &O,
-    shore: VSet,
-) -> Result<TreeWithKinds, AllocError>
-    requires cut { IsCutAt c.now (singles c.now.order) shore }
-    requires picked { PicksShore (O.picks order.now)
-        (candidates_at c.now (singles c.now.order)) 0 shore }
-    ensures derivation { IfOk result (λ found. IsDerivation c.now (shape_of found.tree)) }
-    ensures picked { IfOk result
-        (λ found. IsPicked (O.picks order.now) c.now (shape_of found.tree)) }
-    ensures kinds { IfOk result (λ found.
-        AreLeafKinds c.now (leaves c.now.order (shape_of found.tree)) found.kinds.items) }
-{
-    c.keeps_covered();
-    let root = Place::root(alloc, c)?;
+    let root = KnownPlace::root(alloc, c)?;
     root.keeps_place();
-    let mut kinds = Vec::new(alloc);
-    let (tree, _) = decompose_cut(alloc, order, &root, 0, shore, &mut kinds)?;
-    Ok(TreeWithKinds { tree, kinds })
+    let mut leaves = Vec::new(alloc);
+    let (tree, _) = decompose_cut(alloc, &NamedOrder::First, &root, 0, cut, &mut leaves)?;
+    Ok(Decomposition { tree, leaves })
 }
 
 // The tree of a cut.
@@ -109,55 +80,55 @@ fn cut_tree(alloc: Global, shore: VSet, kept: Tree, merged: Tree) -> Result<Tree
 const MOST_COUNTED: usize = 256;
 
 // The tree that the order picks at a place with so many cuts before it, and the number of cuts
-// before what follows it. The kinds of its leaves are appended.
+// before what follows it. Its leaves are appended.
 #[cycle(decomposing)]
-fn decompose_at<O: Order>(
+fn decompose_at<'g, O: Order>(
     alloc: Global,
     order: &O,
-    place: &Place,
+    place: KnownPlace<'g>,
     before: usize,
-    kinds: &mut Vec<LeafKind>,
+    leaves: &mut Vec<KnownPlace<'g>>,
 ) -> Result<(Tree, usize), AllocError>
-    requires few { before + length place.now.blocks ≤ MOST_COUNTED }
-    ensures made { IfOk result (λ made. Decomposes (O.picks order.now) place.now before
-        kinds.old.items (shape_of made.0) made.1 kinds.new.items) }
-    ensures few { IfOk result (λ made.
-        4 ≤ length place.now.blocks → cut_count (shape_of made.0) + 3 ≤ length place.now.blocks) }
+    requires few { before + length place.blocks ≤ MOST_COUNTED }
+    ensures made { IfOk result (λ made. Finds (O.picks order.now) place.entry before
+        leaves.old.items (shape_of made.0) made.1 leaves.new.items) }
+    ensures few { IfOk result (λ made. 4 ≤ length place.entry.blocks →
+        cut_count (shape_of made.0) + 3 ≤ length place.entry.blocks) }
 {
-    let picked = picked_at(alloc, place, order, before)?;
-    match picked.shore {
+    let picked = picked_at(alloc, &place, order, before)?;
+    match picked {
         None => {
-            kinds.push(picked.leaf_kind)?;
+            leaves.push(place)?;
             Ok((Tree::Leaf, before))
         }
-        Some(shore) => decompose_cut(alloc, order, place, before, shore, kinds),
+        Some(shore) => decompose_cut(alloc, order, &place, before, shore, leaves),
     }
 }
 
 // The tree with the cut at a place that the order picks there, and the number of cuts before what
 // follows it.
 #[cycle(decomposing)]
-fn decompose_cut<O: Order>(
+fn decompose_cut<'g, O: Order>(
     alloc: Global,
     order: &O,
-    place: &Place,
+    place: &KnownPlace<'g>,
     before: usize,
     shore: VSet,
-    kinds: &mut Vec<LeafKind>,
+    leaves: &mut Vec<KnownPlace<'g>>,
 ) -> Result<(Tree, usize), AllocError>
     requires cut { IsCutAt place.now.graph place.now.blocks shore }
     requires picked { PicksShore (O.picks order.now)
         (candidates_at place.now.graph place.now.blocks) before shore }
     requires few { before + length place.now.blocks ≤ MOST_COUNTED }
-    ensures made { IfOk result (λ made. Decomposes (O.picks order.now) place.now before
-        kinds.old.items (shape_of made.0) made.1 kinds.new.items) }
+    ensures made { IfOk result (λ made. Finds (O.picks order.now) place.now before
+        leaves.old.items (shape_of made.0) made.1 leaves.new.items) }
     ensures few { IfOk result
         (λ made. cut_count (shape_of made.0) + 3 ≤ length place.now.blocks) }
 {
     let inside = place.kept(alloc, shore)?;
-    let (kept, between) = decompose_at(alloc, order, &inside, before + 1, kinds)?;
+    let (kept, between) = decompose_at(alloc, order, inside, before + 1, leaves)?;
     let outside = place.merged(alloc, shore)?;
-    let (merged, after) = decompose_at(alloc, order, &outside, between, kinds)?;
+    let (merged, after) = decompose_at(alloc, order, outside, between, leaves)?;
     let tree = cut_tree(alloc, shore, kept, merged)?;
     Ok((tree, after))
 }

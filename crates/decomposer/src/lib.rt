@@ -6,12 +6,13 @@
 //! (`ByFunction`), or any type with an `impl Order`. The tree is a derivation of the graph
 //! (`IsDerivation` of `tree_core`) and exactly one that the order picks (`IsPicked` of
 //! `specs/Picked`), with cuts counted in preorder. `decompose_covered` takes a covered graph of
-//! which the facts are at hand (`Covered` of `graph_facts`). `decompose_with_kinds` answers the
-//! kinds of the leaves beside the tree, which the search knows, and so does
-//! `decompose_with_kinds_from_first` where the first cut is at hand too; `tally_of_kinds` counts
+//! which the facts are at hand (`Covered` of `graph_facts`). `decompose_places` returns the leaves
+//! beside the tree, as places that know their quotients (`KnownPlace` of `tree_core`), and so does
+//! `decompose_places_from_first` where the first cut is at hand too. `decompose_with_kinds` and
+//! `decompose_with_kinds_from_first` return the kinds of the leaves alone; `tally_of_kinds` counts
 //! them.
 //!
-//! Stands on `tight_cuts` for the candidates at a partition and on `tree_core` for trees. Source:
+//! Stands on `tight_cuts` for the candidates at a place and on `tree_core` for trees. Source:
 //! Lovász, "Matching structure and the matching lattice" (1987); Lucchesi and Murty, "Perfect
 //! Matchings".
 #![tactic(auto)]
@@ -19,12 +20,14 @@
 mod by_function;
 mod counting_leaves;
 mod decomposition;
+mod kinds;
 mod orders;
 mod shores;
 mod trees;
 
 pub use by_function::{ByFunction, Function};
 pub use counting_leaves::tally_of_kinds;
-pub use decomposition::{TreeWithKinds, decompose_with_kinds, decompose_with_kinds_from_first};
+pub use decomposition::{Decomposition, decompose_places, decompose_places_from_first};
+pub use kinds::{TreeWithKinds, decompose_with_kinds, decompose_with_kinds_from_first};
 pub use orders::{NamedOrder, Order, Scripted};
 pub use trees::{Refused, decompose, decompose_covered};

@@ -1,10 +1,10 @@
-//! The trees of decompositions, without the kinds of their leaves.
+//! The trees of decompositions, without their leaves.
 ghost use Rattle.std.specs.Prelude.{◌≡◌, IfOk, Err};
 ghost use Rattle.graph_core.specs.Common.{IsCovered, IsReason, reason_of};
 ghost use Rattle.tree_core.specs.Common.{IsDerivation, shape_of};
 ghost use Rattle.decomposer.specs.Common.{IsPicked};
 
-use crate::decomposition::decompose_with_kinds;
+use crate::decomposition::decompose_places;
 use crate::orders::Order;
 use graph_core::{MultiGraph, Reason};
 use graph_facts::Covered;
@@ -51,6 +51,6 @@ pub fn decompose_covered<O: Order>(
     ensures derivation { IfOk result (λ tree. IsDerivation c.now (shape_of tree)) }
     ensures picked { IfOk result (λ tree. IsPicked (O.picks order.now) c.now (shape_of tree)) }
 {
-    let found = decompose_with_kinds(alloc, c, order)?;
+    let found = decompose_places(alloc, c, order)?;
     Ok(found.tree)
 }

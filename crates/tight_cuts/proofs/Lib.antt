@@ -21,6 +21,7 @@ pub mod FirstCandidates
 mod CrossingMatchings
 pub mod LiftedCandidates
 pub mod PartitionCandidates
+pub mod PlaceCandidates
 pub mod FrontEmpty
 pub mod BipartiteShores
 pub mod OneSided

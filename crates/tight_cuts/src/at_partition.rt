@@ -195,8 +195,12 @@ pub fn first_of_root(alloc: Global, pairs: &FirstPairs) -> Result<Option<Candida
     Ok(found)
 }
 
-// The candidates of the quotient at a partition, led back to the graph.
-fn lifted(alloc: Global, p: &Partition, found: &CandidateList) -> Result<CandidateList, Memory>
+/// The candidates of the quotient at a partition, led back to the graph.
+pub(crate) fn lifted(
+    alloc: Global,
+    p: &Partition,
+    found: &CandidateList,
+) -> Result<CandidateList, Memory>
     ensures { (g : Graph) → g.order ≡ p.now.order →
         IfOk result (λ list. list ≡ map (lifted_candidate g p.now.blocks) found.now) }
 {
@@ -207,8 +211,8 @@ fn lifted(alloc: Global, p: &Partition, found: &CandidateList) -> Result<Candida
     Ok(list)
 }
 
-// The first candidate of the quotient at a partition, led back to the graph.
-fn lifted_first(p: &Partition, found: Option<Candidate>) -> Option<Candidate>
+/// The first candidate of the quotient at a partition, led back to the graph.
+pub(crate) fn lifted_first(p: &Partition, found: Option<Candidate>) -> Option<Candidate>
     ensures { (g : Graph) → g.order ≡ p.now.order → option_map candidate_of result
         ≡ option_map (lifted_candidate g p.now.blocks) (option_map candidate_of found) }
 {

@@ -27,7 +27,8 @@
 //! quotient, led back to vertices of the graph (`IsCandidateAt`); `first_at` answers the first.
 //! Both say whether the quotient is bipartite, so that a leaf is known for a brick or a brace.
 //! `root_candidates` and `first_of_root` answer the same at single vertices of a covered graph of
-//! which the first pairs are at hand.
+//! which the first pairs are at hand. `candidates_at_place` and `first_at_place` take a place of
+//! `tree_core` that knows its quotient, the root as well as any other.
 //!
 //! Stands on `contraction`, `allowed_edges`, `barrier_kit`, `separation_kit`, `brick_kit`,
 //! `matching_digraph` and `flow_core`. Sources: Edmonds, Lovász and Pulleyblank 1982; Lovász,
@@ -36,6 +37,7 @@
 #![tactic(auto)]
 
 mod at_partition;
+mod at_places;
 mod bipartite;
 mod candidate;
 mod edge_cuts;
@@ -53,6 +55,7 @@ mod tightness;
 pub use at_partition::{
     AllAt, FirstAt, candidates_at, first_at, first_of_root, first_root_candidate, root_candidates,
 };
+pub use at_places::{candidates_at_place, first_at_place};
 pub use candidate::{Candidate, CandidateList, Origin};
 pub use finder::{candidates, find_any, first_candidate, first_cut};
 pub use tightness::{Tightness, is_tight};

@@ -1,12 +1,12 @@
 use Rattle.std.proofs.Common.{ap, length, arith, rules}
 use Rattle.tree_core.proofs.Common.{cut_count, shape_of, blocks-below}
-use Rattle.decomposer.proofs.Picking.{cut-decomposes}
+use Rattle.decomposer.proofs.Picking.{cut-finds}
 use Rattle.decomposer.proofs.decomposition.+decomposing.Goals as goal
 
 pub decompose_at-decompose_cut-requires : goal.decompose_at-decompose_cut-requires
 decompose_at-decompose_cut-requires g t c κs within =
     let falls = c.decreases in
-    (first_of (omega arith, search rules), (within, (c.in_ok-picked.ensures.shore.cut c.in-Some.shore c.in-Some.is, (c.in_ok-picked.ensures.shore.picked c.in-Some.shore c.in-Some.is, c.requires.few))))
+    (first_of (omega arith, search rules), (within, (c.in_ok-picked.ensures.cut c.in-Some.shore c.in-Some.is, (c.in_ok-picked.ensures.picked c.in-Some.shore c.in-Some.is, c.requires.few))))
 
 pub decompose_at-returns-in-Some-clause-few : goal.decompose_at-returns-in-Some-clause-few
 decompose_at-returns-in-Some-clause-few g t c = grind arith
@@ -24,8 +24,8 @@ decompose_cut-decompose_at-requires-2 g t c κs within =
 
 pub decompose_cut-returns-clause-made : goal.decompose_cut-returns-clause-made
 decompose_cut-returns-clause-made g t c =
-    cut-decomposes (g.O.Order.picks c.args.order.now) c.args.place.now c.in_ok-inside.inside c.in_ok-outside.outside c.args.shore c.args.before c.in_ok-kept.between c.in_ok-merged.after (shape_of c.in_ok-tree.tree) (shape_of c.in_ok-kept.kept) (shape_of c.in_ok-merged.merged)
-    c.args.kinds.now.items c.decompose_at.new.kinds.items c.decompose_at-2.new.kinds.items
+    cut-finds (g.O.Order.picks c.args.order.now) c.args.place.now c.in_ok-inside.inside c.in_ok-outside.outside c.args.shore c.args.before c.in_ok-kept.between c.in_ok-merged.after (shape_of c.in_ok-tree.tree) (shape_of c.in_ok-kept.kept) (shape_of c.in_ok-merged.merged)
+    c.args.leaves.now.items c.decompose_at.new.leaves.items c.decompose_at-2.new.leaves.items
     (λ i. record { graph = c.in_ok-inside.ensures.graph i; blocks = c.in_ok-inside.ensures.blocks i })
     (λ i. record { graph = c.in_ok-outside.ensures.graph i; blocks = c.in_ok-outside.ensures.blocks i })
     c.in_ok-tree.ensures c.requires.cut c.requires.picked c.in_ok-kept.ensures.made c.in_ok-merged.ensures.made

@@ -1,0 +1,11 @@
+use Rattle.std.proofs.Common.{arith}
+use Rattle.decomposer.proofs.decomposition.decompose_places.Goals as goal
+
+pub returns-clause-derivation : goal.returns-clause-derivation
+returns-clause-derivation g c = grind arith
+
+pub returns-clause-picked : goal.returns-clause-picked
+returns-clause-picked g c = grind arith
+
+pub returns-clause-leaves : goal.returns-clause-leaves
+returns-clause-leaves g c = grind arith

@@ -1,0 +1,72 @@
+//! The candidates at a place, and the first of them, from what the place knows of its quotient.
+ghost use Rattle.std.specs.Prelude.{◌≡◌, [], ◌↔◌, All, IfOk, None, Some, length};
+ghost use Rattle.std.specs.Option.{option_map};
+ghost use Rattle.counting.specs.Common.{Set};
+ghost use Rattle.graph_core.specs.Common.{IsTightAt, blocks_in, IsNontrivial};
+ghost use Rattle.tight_cuts.specs.Common.{first_of, IsCandidateAt, candidates_at, candidate_of};
+
+use crate::at_partition::{lifted, lifted_first};
+use crate::candidate::{Candidate, CandidateList};
+use crate::finder::{first_candidate, listed};
+use separation_kit::FirstPairs;
+use std::alloc::{AllocError as Memory, Global};
+use tree_core::KnownPlace;
+
+/// The candidates at a place: at single vertices those of the graph, in the order of its own
+/// edges, else those of the quotient, each shore taken to vertices of the graph, with `inside` and
+/// `outside` counted in blocks. Each is a canonical nontrivial shore that is tight at the place,
+/// and the list is empty exactly when no nontrivial shore is tight there (Lovász 1987).
+pub fn candidates_at_place(alloc: Global, place: &KnownPlace) -> Result<CandidateList, Memory>
+    ensures list { IfOk result
+        (λ list. list ≡ candidates_at place.now.graph place.now.blocks) }
+    ensures tight { IfOk result
+        (λ list. All (IsCandidateAt place.now.graph place.now.blocks) list) }
+    ensures none { IfOk result
+        (λ list. (list ≡ []) ↔ ((x : Set) → IsTightAt place.now.graph place.now.blocks x →
+        IsNontrivial (length place.now.blocks) (blocks_in place.now.blocks x) → ⊥)) }
+{
+    place.keeps_place();
+    let list = listed_at(alloc, place)?;
+    Ok(list)
+}
+
+/// The first candidate at a place, and `None` exactly when no nontrivial shore is tight there. The
+/// search ends with it.
+pub fn first_at_place(alloc: Global, place: &KnownPlace) -> Result<Option<Candidate>, Memory>
+    ensures first { IfOk result (λ found.
+        option_map candidate_of found ≡ first_of (candidates_at place.now.graph place.now.blocks)) }
+    ensures some { IfOk result (λ found. (c : _) → found ≡ Some c →
+        IsCandidateAt place.now.graph place.now.blocks (candidate_of c)) }
+    ensures none { IfOk result (λ found. (found ≡ None) ↔
+        ((x : Set) → IsTightAt place.now.graph place.now.blocks x →
+        IsNontrivial (length place.now.blocks) (blocks_in place.now.blocks x) → ⊥)) }
+{
+    place.keeps_place();
+    let found = first_listed_at(alloc, place)?;
+    Ok(found)
+}
+
+// The candidates of the graph that is seen at the place, led back if it is a quotient.
+fn listed_at(alloc: Global, place: &KnownPlace) -> Result<CandidateList, Memory>
+    ensures { IfOk result (λ list. list ≡ candidates_at place.now.graph place.now.blocks) }
+{
+    let pairs = FirstPairs::of(place.covered());
+    let list = listed(alloc, &pairs)?;
+    match place.below() {
+        Some(_) => lifted(alloc, place.place().partition(), &list),
+        None => Ok(list),
+    }
+}
+
+// The first of them.
+fn first_listed_at(alloc: Global, place: &KnownPlace) -> Result<Option<Candidate>, Memory>
+    ensures { IfOk result (λ found.
+        option_map candidate_of found ≡ first_of (candidates_at place.now.graph place.now.blocks)) }
+{
+    let pairs = FirstPairs::of(place.covered());
+    let found = first_candidate(alloc, &pairs)?;
+    match place.below() {
+        Some(_) => Ok(lifted_first(place.place().partition(), found)),
+        None => Ok(found),
+    }
+}
