@@ -11,8 +11,8 @@ use match_core::{Found, PartnerTable, maximum};
 use std::alloc::{AllocError as Memory, Global};
 use vset_core::VSet;
 
-/// Whether `g` is matching covered, and the first reason where it is not, in the order: `Small`,
-/// `Parted`, `Unmatched`, `Unallowed`.
+/// Whether `g` is matching covered, and if not, the first reason, in the order `Small`, `Parted`,
+/// `Unmatched`, `Unallowed`.
 pub fn covered(alloc: Global, g: &MultiGraph) -> Result<Verdict, Memory>
     ensures { IfOk result (IsVerdict g.now) }
 {
@@ -22,8 +22,8 @@ pub fn covered(alloc: Global, g: &MultiGraph) -> Result<Verdict, Memory>
     Ok(verdict_in(g, &parts, &found, &table))
 }
 
-/// The verdict that `covered` answers, from the components of `g`, a maximum matching with its
-/// Berge set, and the table of partners where the matching is perfect. Takes no memory.
+/// The verdict that `covered` returns, from the components of `g`, a maximum matching with its
+/// Berge set, and the table of partners if the matching is perfect. Takes no memory.
 pub fn verdict_in(
     g: &MultiGraph,
     parts: &SetList,
@@ -48,7 +48,7 @@ pub fn verdict_in(
     }
 }
 
-// The least vertex that no walk joins to 1, if there is one.
+// The least vertex of a component without vertex 1, if there is one.
 fn first_apart(g: &MultiGraph, parts: &SetList) -> Option<u32>
     requires some { 1 ≤ g.now.order }
     requires parts { parts.now ≡ components g.now none }

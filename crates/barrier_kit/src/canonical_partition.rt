@@ -8,9 +8,9 @@ use graph_facts::Covered;
 use std::alloc::{AllocError as Memory, Global};
 use vset_core::VSet;
 
-/// The canonical partition of a covered graph: its classes by least vertex. Two vertices are in
-/// one class if they are equal or the graph without them has no perfect matching (Kotzig 1959;
-/// Lovász and Plummer, "Matching Theory", chapter 5).
+/// The canonical partition of a covered graph: its classes by least vertex. Two vertices u and v
+/// are in one class if they are equal or G - u - v has no perfect matching (Kotzig 1959; Lovász and
+/// Plummer, "Matching Theory", chapter 5).
 pub fn classes(alloc: Global, g: &MultiGraph) -> Result<SetList, Memory>
     requires { IsCovered g.now }
     ensures { IfOk result (λ list. list ≡ classes g.now) }

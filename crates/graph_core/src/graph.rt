@@ -19,10 +19,10 @@ use vset_core::{MOST_VERTICES, VSet};
 /// The most edges that a graph may have.
 pub const MOST_EDGES: u32 = 2048;
 
-/// A finite undirected multigraph without loops, of at most `MOST_VERTICES` vertices and
-/// `MOST_EDGES` edges. Vertices and edges are numbered from 1; parallel edges are different
-/// edges. Contracts see it as its order and its list of ends. Beside the ends it keeps for each
-/// vertex the set of its neighbours, which `add_edge` alone changes.
+/// A finite undirected multigraph without loops, with at most `MOST_VERTICES` vertices and
+/// `MOST_EDGES` edges. Vertices and edges are numbered from 1; parallel edges are different edges.
+/// Contracts see it as its order and its list of ends. It also keeps the set of neighbours of each
+/// vertex, which only `add_edge` changes.
 #[derive(Drop)]
 pub struct MultiGraph {
     order: u32,
@@ -110,7 +110,7 @@ impl MultiGraph {
         Ok(forest.parts.len() as u32)
     }
 
-    /// The components of the graph without the vertices of `set`, by least vertex.
+    /// The components of G - `set`, by least vertex.
     pub fn components_without(&self, alloc: Global, set: VSet) -> Result<SetList, Memory>
         ensures { IfOk result (λ found. found ≡ components self.now (mem set)) }
     {
@@ -118,9 +118,9 @@ impl MultiGraph {
         Ok(forest.parts)
     }
 
-    /// Whether the graph is bipartite, with what shows it: `Even` comes exactly when it is, with
-    /// the left side, which holds the least vertex of each component, and `Odd` exactly when it
-    /// is not, with a closed walk of odd length (König 1916).
+    /// Whether the graph is bipartite, with a certificate: `Even` comes if and only if it is, with
+    /// the left side, which contains the least vertex of each component, and `Odd` if and only if
+    /// it is not, with a closed walk of odd length (König 1916).
     pub fn two_sides(&self, alloc: Global) -> Result<Sides, Memory>
         ensures even { IfOk result (λ sides. IsEven sides ↔ IsBipartite self.now) }
         ensures sides { IfOk result (AreSides self.now) }
@@ -145,9 +145,9 @@ impl MultiGraph {
         &self.rows
     }
 
-    /// Appends an edge and answers its number. `Range` comes exactly when an end is not a vertex,
-    /// `Loop` exactly when both are vertices and equal, `TooMany` exactly when neither holds and
-    /// there are `MOST_EDGES` edges; the graph is then unchanged, and after `Memory` too.
+    /// Appends an edge and returns its number. `Range` comes if and only if an end is not a vertex,
+    /// `Loop` if and only if both are vertices and equal, `TooMany` if and only if neither holds
+    /// and there are `MOST_EDGES` edges. After an error, `Memory` included, the graph is unchanged.
     pub fn add_edge(&mut self, a: u32, b: u32) -> Result<u32, AddFault>
         ensures ok { IfOk result (λ e. (self.new ≡ with_edge self.old a b) × (e ≡ size self.new)) }
         ensures err { OnErr result (self.new ≡ self.old) }
@@ -174,8 +174,8 @@ impl MultiGraph {
         Ok(self.edges.len() as u32)
     }
 
-    /// Appends an edge between two different vertices, for which there is room. After `Memory`
-    /// the graph is unchanged.
+    /// Appends an edge between two different vertices of a graph with fewer than `MOST_EDGES`
+    /// edges. After `Memory` the graph is unchanged.
     pub fn push_edge(&mut self, edge: Ends) -> Result<(), Memory>
         requires first { Within self.old.order edge.a }
         requires second { Within self.old.order edge.b }

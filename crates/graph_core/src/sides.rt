@@ -8,17 +8,17 @@ use crate::{Ends, MultiGraph, Numbers};
 use std::alloc::{AllocError as Memory, Global};
 use vset_core::{MOST_VERTICES, VSet};
 
-/// Whether a graph is bipartite, with what shows it.
+/// Whether a graph is bipartite, with a certificate.
 #[derive(Drop)]
 pub enum Sides {
-    /// Each edge has exactly one end in `left`, a rising list that holds the least vertex of each
-    /// component.
+    /// Each edge has exactly one end in `left`, an increasing list that contains the least vertex
+    /// of each component.
     Even { left: Numbers },
     /// A closed walk of odd length, its first vertex not repeated at the end.
     Odd { walk: Numbers },
 }
 
-/// The first edge whose ends lie at depths of one parity.
+/// The first edge whose ends have depths of the same parity.
 fn level_edge(edges: &[Ends], nodes: &[TreeNode]) -> Option<Ends>
     requires { IsGraph (graph_of (length nodes.now) edges.now) }
     ensures found { IfSome result (λ edge. Contains edges.now edge ×

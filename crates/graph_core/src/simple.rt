@@ -18,7 +18,7 @@ impl MultiGraph {
         true
     }
 
-    /// Whether an edge before edge `e` joins the same two vertices.
+    /// Whether an earlier edge joins the same two vertices as edge `e`.
     fn repeats(&self, e: u32) -> bool
         requires { Within (size self.now) e }
         ensures { result ≡
