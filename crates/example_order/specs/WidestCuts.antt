@@ -21,7 +21,7 @@ pub record IsWidest (g : Graph) (list : List StoredCandidate) (place : ℕ) : Ty
   pub most : (i : ℕ) → i < length list → width g list i ≤ width g list place
   pub first : (i : ℕ) → i < place → width g list i < width g list place
 
--- the order picks this place of these candidates, however many cuts stand before
+-- the order picks this place in this list of candidates, however many cuts come before
 pub record PicksWidest (g : Graph) (list : List Candidate) (k place : ℕ) : Type 0 where
   pub stored : List StoredCandidate
   pub shows : map candidate_of stored ≡ list

@@ -1,11 +1,10 @@
 //! Input and output, as three traits with contracts, and their implementations.
 //!
 //! A `Shelf` returns the bytes of a file by its name, a `Source` the bytes of an input piece by
-//! piece, and a `Sink` takes those of an output. Each counts its errors, and an error is returned
-//! only if that count rose in the call (`Rose`). A shelf may make its files known (`file_named`), a
-//! source the bytes that are left (`prepended`), a sink its bytes (`appended`): then it is known
-//! exactly what was read and written. A steady shelf makes its files known and fails only at a name
-//! that it does not have.
+//! piece, and a `Sink` takes those of an output. An error is returned only if its count rose in the
+//! call (`Rose`). A shelf may make its files known (`file_named`), a source the bytes that are left
+//! (`prepended`), a sink its bytes (`appended`): then it is known exactly what was read and
+//! written. A steady shelf makes its files known and fails only at a name that it does not have.
 //!
 //! `MemShelf`, `MemSource`, `MemSink` and `CountSink` are in memory; their contracts give every
 //! result and every next state, with planned errors: they are for tests. `DirShelf`, `InSource`,

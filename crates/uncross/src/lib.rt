@@ -10,10 +10,9 @@
 //! How: the root shore of the second derivation is exposed in the first, and then the same is done
 //! in the two subtrees (`comparing`). If the shore to be exposed crosses the root shore, the
 //! corners with at least three blocks are exposed first, and then a Switch is made at the root
-//! (`plans`, `turning`, `exposing`). The maps are composed move by move (`move_maps`).
+//! (`plans`, `turning`, `exposing`). The maps are composed move by move.
 //!
-//! Depends on `move_laws` and `tree_core`. Sources: Lovász 1987; Lucchesi and Murty, "Perfect
-//! Matchings".
+//! Depends on `move_laws` and `tree_core`. Sources: Lovász 1987; Lucchesi and Murty 2024.
 #![tactic(auto)]
 
 mod block_images;
