@@ -10,7 +10,7 @@ use Rattle.barrier_kit.proofs.Matched.{even_order}
 use Rattle.barrier_kit.specs.Common.{BarrierCut}
 use Rattle.graph_core.proofs.Common.{IsSide, is_least, IsCovered, Graph, size, first_end, second_end, IsGraph, HasNoLoop, in_cut, inside, IsBipartite, IsPerfect, IsBarrier, IsBicritical, IsClass, IsTight, IsNontrivial, joined, walk_joined, covered_perfect, joined_self}
 
--- a component of a covered graph without a barrier has a nontrivial cut exactly when the barrier
+-- a component of a covered graph without a barrier has a nontrivial cut if and only if the barrier
 -- has two vertices and the component more than one
 pub part_nontrivial : (g : Graph) (s : Set) (a u : ℕ) → IsGraph g → IsCovered g → IsBarrier g s → Within g.order a → s a ≡ true → Within g.order u → s u ≡ false →
     IsNontrivial g.order (joined g s u) ↔ ((2 ≤ count g.order s) × (count g.order (joined g s u) ≢ 1))

@@ -42,7 +42,7 @@ shore_reason g x is cov tx wide = elim (critical_or_pair g) [
 pub no_shore : (g : Graph) → IsMultigraph g → IsCovered g → IsBicritical g → ((a b : ℕ) → IsCutPair g a b → ⊥) → (x : Set) → IsTight g x → IsNontrivial g.order x → ⊥
 no_shore g is cov bi none_pair x tx wide = let p = shore_pair g x is cov bi tx wide in none_pair p.0 p.1 p.2
 
--- a covered multigraph that is not bipartite is a brick exactly when it is bicritical and has no
+-- a covered multigraph that is not bipartite is a brick if and only if it is bicritical and has no
 -- cut pair
 pub brick_or_not : (g : Graph) → IsMultigraph g → IsCovered g → (IsBipartite g → ⊥) → ((x : Set) → IsTight g x → IsNontrivial g.order x → ⊥) ↔ (IsBicritical g × ((u v : ℕ) → IsCutPair g u v → ⊥))
 brick_or_not g is cov odd_cycle = grind (arith, brick_facts g is.ends cov (no_sides g is.no_loop odd_cycle), no_sides g is.no_loop odd_cycle, no_shore g is cov)

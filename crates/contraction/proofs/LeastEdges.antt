@@ -30,7 +30,7 @@ any-more t rows i row q =
     ∙ list_any-append t (take i rows) (get_or rows i row ∷ [])
     ∙ ap (λ (b : Bool). list_any t (take i rows) || b) (or_false (t (get_or rows i row)) ∙ ap t (get_or_from_slice_get rows i row row q))
 
--- some row passes exactly when some edge of the rows does
+-- some row passes if and only if some edge of the rows does
 pub any-edge : (n : ℕ) (t : ℕ → Bool) (rows : List MatchRow) → All (λ (row : MatchRow). Within n row.edge) rows → list_any (λ (row : MatchRow). t row.edge) rows ≡ some n (λ k. mem (map edge_of rows) k && t k)
 any-edge n t rows all = same_tests _ _ (there rows all) (λ h. let r = some_true n (λ k. mem (map edge_of rows) k && t k) h in let b = and_parts (mem (map edge_of rows) r.0) (t r.0) r.2 in back rows r.0 b.0 b.1)
   where

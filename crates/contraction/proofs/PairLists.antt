@@ -1,6 +1,6 @@
--- Lists of pairs in which no pair stands twice: rows of rising lists, one after another, and what
--- a filter keeps of them. A pair that is in the list has one place, so a map keyed by the pairs
--- gets a new key at each step.
+-- Lists of pairs in which no pair stands twice: rows of increasing lists, one after another, and
+-- what a filter keeps of them. A pair that is in the list has one place, so a map keyed by the
+-- pairs gets a new key at each step.
 use Rattle.std.proofs.Common.{◌≡◌, ℕ, ◌+◌, ◌<◌, Bool, true, ◌==◌, if◌then◌else◌, List, [], ◌∷◌, ◌++◌, length, refl, sym, ap, ap₂, ◌∙◌, arith, inl, inr, map, get_or, take, subst, suc, zero, ◌&&◌, eqb-true}
 use Rattle.counting.proofs.Common.{false_from_ne_true, and_parts, get_or-map, length-map, take_more, HasPair, at_pair, pair_at}
 use Rattle.std.proofs.lemmas.List.{map_push, take-map}

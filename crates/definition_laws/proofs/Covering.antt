@@ -41,7 +41,7 @@ classes-cover g is cov a w =
     any_mapped (λ b. rising_list g.order (is_equivalent g b)) (rising_list g.order (is_least_of_class g)) l.0 a
     (rising_holds g.order (is_least_of_class g) l.0 l.1 first) (rising_holds g.order (is_equivalent g l.0) a w l.2)
 
--- equal items of a rising list stand at one place
+-- equal items of an increasing list stand at one place
 place_one : (n : ℕ) (xs : List ℕ) (i j : ℕ) → IsRisingIn n xs → i < length xs → j < length xs → slice_index_or xs i 0 ≡ slice_index_or xs j 0 → i ≡ j
 place_one n xs i j r li lj e = elim (cases_order i j) [
   | inl q ↦ q

@@ -10,7 +10,7 @@ abbrev Rising : List (ℕ × ℕ) → Type 0
 Rising [] = Unit {0}
 Rising (k ∷ ks) = ((i j : ℕ) → HasPair ks i j → ComesBefore k (i, j)) × Rising ks
 
--- two rising lists in a row rise where the first is before the second
+-- two increasing lists in a row rise where the first is before the second
 parts_rise : (ks ls : List (ℕ × ℕ)) → Rising ks → Rising ls → ((i j a b : ℕ) → HasPair ks i j → HasPair ls a b → ComesBefore (i, j) (a, b)) → Rising (ks ++ ls)
 parts_rise [] ls r s h = s
 parts_rise (k ∷ ks) ls r s h = (
@@ -31,7 +31,7 @@ rows_rise n (x ∷ xs) r =
     (row_rises x n (rising_list n (nat_lt x)) (rising_list-rises n (nat_lt x))) (rows_rise n xs (rising-tail n x xs r))
     (λ i j a b m h. let q = map_pair x (rising_list n (nat_lt x)) i j m in let s = rows_only n a b xs h in inl (subst (λ z. z < a) q.0 (above_first n x xs r a s.0)))
 
--- the first of a rising list that passes: it passes, and none before it does
+-- the first of an increasing list that passes: it passes, and none before it does
 found_first : (t : ℕ → ℕ → Bool) (ks : List (ℕ × ℕ)) (k : ℕ × ℕ) → Rising ks → find (λ l. t l.0 l.1) ks ≡ Some k →
     HasPair ks k.0 k.1 × (t k.0 k.1 ≡ true) × ((i j : ℕ) → HasPair ks i j → ComesBefore (i, j) k → t i j ≡ false)
 found_first t [] k r h = let z : None ≡ Some k = h in absurd cc

@@ -1,4 +1,4 @@
--- The test for a matching with so many edges is true exactly when there is one. Like the tests
+-- The test for a matching with so many edges is true if and only if there is one. Like the tests
 -- for perfect matchings it searches through all edge sets, and its condition goes by the edge
 -- numbers alone.
 use Rattle.std.proofs.Common.{◌≡◌, ℕ, true, ◌==◌, ap, ap₂, ◌&&◌, eq-eqb, eqb-true, arith}

@@ -18,7 +18,7 @@ avoids_zero g r m av v wv o = grind (arith, degree_sum g m v, total_none (size g
 zero_avoids : (g : Graph) (r m : Set) → ((v : ℕ) → Within g.order v → r v ≡ true → degree g m v ≡ 0) → Avoids g r m
 zero_avoids g r m away e v we wv me o end = let a = ends_le_degree g m e v we me in let b = one_end g e v end in let z = away v wv o in absurd (omega arith)
 
--- no edge of a perfect matching of g without r has an end in r
+-- no edge of a perfect matching of g - r has an end in r
 pub perfect-avoids : (g : Graph) (r m : Set) → IsPerfect g r m → Avoids g r m
 perfect-avoids g r m p = zero_avoids g r m p.away
 
@@ -26,7 +26,7 @@ perfect-avoids g r m p = zero_avoids g r m p.away
 pub avoids_none : (g : Graph) (m : Set) → Avoids g none m
 avoids_none g m e v we wv me o end = absurd (true≢false (sym o))
 
--- a matching of g without r: no edge has an end in r, and no two edges share an end
+-- a matching of g - r: no edge has an end in r, and no two edges share an end
 pub matching-words : (g : Graph) (r m : Set) → IsMatching g r m → Avoids g r m × ShareNoEnd g m
 matching-words g r m mm = (zero_avoids g r m mm.away, matching_apart g m (record { once = mm.once; away = λ v w o. absurd (true≢false (sym o)) }))
 

@@ -12,7 +12,7 @@ use Rattle.match_core.proofs.TutteBerge.{tutte_berge}
 connected_from_one : (g : Graph) → ((v : ℕ) → Within g.order v → Joined g none 1 v) → IsConnected g
 connected_from_one g all u v wu wv = joined_on g none u 1 v (joined_back g none 1 u (all u wu)) (all v wv)
 
--- each graph has a Berge set, as a rising list
+-- each graph has a Berge set, as an increasing list
 berge_list : (g : Graph) → IsGraph g → (s : List ℕ) × IsRisingIn g.order s × IsBergeSet g none (mem s)
 berge_list g is =
     let t = tutte_berge g none is in

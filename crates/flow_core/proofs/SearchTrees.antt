@@ -138,7 +138,7 @@ tree-reaches net amounts visits tree j l = go (suc j) j (omega arith) l
 pub arcs-differ : (net : Net) (amounts : List ℤ) (visits : List Visit) → IsTree net amounts visits → (i j : ℕ) → 0 < i → i < j → j < length visits → (visit_at visits i).arc ≢ (visit_at visits j).arc
 arcs-differ net amounts visits tree i j p k l e = grind arith
 
--- a rising list whose members are numbers 1 to n
+-- an increasing list whose members are numbers 1 to n
 rising-within : (m n : ℕ) (xs : List ℕ) → IsRisingIn m xs → ((v : ℕ) → mem xs v ≡ true → Within n v) → IsRisingIn n xs
 rising-within m n xs r h = grind (arith, mem-item xs)
 

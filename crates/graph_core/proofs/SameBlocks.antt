@@ -41,7 +41,7 @@ ordered_same (b ∷ p) (c ∷ q) o r f k = ap₂ ◌∷◌ head (ordered_same p 
       | inr h ↦ elim (k c (inl refl)) [ inl e ↦ e | inr j ↦ let a = r.0 b h in let s = o.0 c j in absurd (omega arith) ]
     ]
 
--- a block is a rising list within 1 to n
+-- a block is an increasing list within 1 to n
 pub block_rises : (n : ℕ) (p : List (List ℕ)) (c : List ℕ) → IsPartition n p → Has p c → IsRisingIn n c
 block_rises n p c is h = grind (arith, has_block p c h, slice_index_or c, mem-item c)
 

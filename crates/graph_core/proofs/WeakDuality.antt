@@ -129,8 +129,8 @@ berge_raw g s m is mm =
         ∙ total_swap g.order g.order (λ u v. bit (is_least g s u) * (bit (joined g s u v) * bit (loose g s m v)))
         ∙ total_congr g.order _ _ (λ v w. total_congr g.order _ _ (λ u x. omega (arith, ap (λ k. bit (loose g s m v) * k) (bit-and (is_least g s u) (joined g s u v)))) ∙ total_mul g.order (bit (loose g s m v)) (λ u. bit (is_least g s u && joined g s u v)))
 
--- a matching of g without r misses at least as many vertices as there are odd components more
--- than s has vertices
+-- a matching of g - r misses at least as many vertices as there are odd components more than s has
+-- vertices
 pub berge_bound : (g : Graph) (r s m : Set) → IsGraph g → IsMatching g r m → odd_component_count g (union r s) ≤ missed_count g r m + count g.order s
 unfolding missed_count
 berge_bound g r s m is mm =

@@ -1,7 +1,7 @@
 -- What is left of a matching when the edges with an end in a set are taken out, and how many
--- vertices it then misses. A row is left exactly when its edge has no end in the set. If the set
--- holds the ends of edges of a perfect matching and of one more edge, then at most one edge more
--- is taken out than there are such edges, since that one has two ends.
+-- vertices it then misses. A row is left if and only if its edge has no end in the set. If the set
+-- holds the ends of edges of a perfect matching and of one more edge, then at most one edge more is
+-- taken out than there are such edges, since that one has two ends.
 use Rattle.std.proofs.Common.{◌≡◌, ℕ, suc, ◌+◌, ◌*◌, ◌≤◌, ◌≢◌, Bool, true, false, ◌==◌, ◌&&◌, ◌||◌, ◌⊎◌, not, refl, ap, ap₂, ◌∙◌, arith, List, [], ◌∷◌, length, map, filter, cond, inl, inr, All}
 use Rattle.counting.proofs.Common.{both_ways, cases_Bool, cases_eq, and_parts, or_cases, or_left, or_right, not-true, length-map, count_put, count_complement, count_mem_length, count_split, total_add, total_congr, total_le, total_none, bit_le_one, Within, bit, count, total, IsRisingIn, mem, Set, none, put, meet}
 use Rattle.std.proofs.lemmas.List.Elements.{All-filter}

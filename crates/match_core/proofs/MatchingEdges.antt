@@ -1,6 +1,6 @@
--- The edges of the rows of a matching are a matching: a vertex stands in the rows as often as
--- edges meet it. A degree is a sum over the edges in the set, and that sum goes along the rising
--- list of the rows.
+-- The edges of the rows of a matching are a matching: a vertex stands in the rows as often as edges
+-- meet it. A degree is a sum over the edges in the set, and that sum goes along the increasing list
+-- of the rows.
 use Rattle.counting.proofs.Common.{both_ways, cases_Bool, false_from_ne_true, or_cases, map-append, All-map, sum_by-cons, Rises, total_mem, rises-from_set, rising_holds, rising_only, mem-within, set-from_rises, rising_list-rises, mem-rising_list, Within, bit, Set, none, mem, rising_list, IsRisingIn}
 use Rattle.std.proofs.Common.{length, inr, eqb-true, ◌||◌, ◌≡◌, ℕ, suc, ◌+◌, ◌≤◌, Bool, false, ◌==◌, refl, sym, ap, ap₂, ◌∙◌, arith, List, [], ◌∷◌, ◌++◌, map, filter, cond, subst, inl, All, sum_by, slice_index_or, rules}
 use Rattle.std.proofs.lemmas.List.Elements.{All-filter}
@@ -98,7 +98,7 @@ keeps-filter p m keeps = record {
   once = λ v w. let a = filter-ends_at p m.rows v in let b = keeps.once v w in omega arith;
 }
 
--- an edge more in the rising list of a set
+-- an edge more in the increasing list of a set
 pub joined_edges : (n : ℕ) (es : List ℕ) (x : Set) (e : ℕ) → Within n e → IsRisingIn n es → ((i : ℕ) → x i ≡ (mem es i || (e == i))) → (i : ℕ) → mem (rising_list n x) i ≡ (mem es i || (e == i))
 joined_edges n es x e we rises h i = elim (cases_Bool (mem es i || (e == i))) [
   | inl t ↦ rising_holds n x i (grind (arith, or_cases (mem es i) (e == i) t, mem-within n es rises i, eqb-true e i)) (h i ∙ t) ∙ sym t

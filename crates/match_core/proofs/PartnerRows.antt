@@ -88,7 +88,7 @@ perfect-two g r p u v is wu wv ru rv d perfect = (mm, two)
         let own_both = missed_edges g (union r (pair_set u v)) p is (perfect_matching g (union r (pair_set u v)) p perfect) in
         omega arith
 
--- m is a matching of g without r, with its frame
+-- m is a matching of g - r, with its frame
 module _ (g : Graph) (is : IsGraph g) (r m outer inner : Set) (mm : IsMatching g r m) (frame : Frame g r (count (size g) m) outer inner) where
   -- a matching has as many edges as m at most
   most_edges : (p : Set) → IsMatching g r p → count (size g) p ≤ count (size g) m

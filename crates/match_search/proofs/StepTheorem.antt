@@ -195,6 +195,6 @@ step_within : (n : ℕ) (g : Graph) → IsGraph g → (r f : Set) → IsMatching
 step_within zero g is r f mm l = one_step g is r f mm (λ h ih s k km less. absurd (omega arith))
 step_within (suc n) g is r f mm l = one_step g is r f mm (λ h ih s k km less. step_within n h ih s k km (omega arith))
 
--- each matching of g without r can be made greater by one edge, or has a frame
+-- each matching of g - r can be made greater by one edge, or has a frame
 pub step : (g : Graph) (r f : Set) → IsGraph g → IsMatching g r f → Step g r f
 step g r f is mm = step_within (count g.order (complement r)) g is r f mm (omega arith)

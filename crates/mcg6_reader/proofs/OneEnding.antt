@@ -1,6 +1,6 @@
--- Where no line has both an output and a fault, a list that is told whole has no bad line, and
--- the first bad line of any other is one: by induction on the lines before it. A header is short,
--- so that it is not bad.
+-- Where no line has both an output and an error, a list that is told whole has no bad line, and the
+-- first bad line of any other is one: by induction on the lines before it. A header is short, so
+-- that it is not bad.
 use Rattle.std.proofs.Common.{◌≡◌, inl, inr, ℕ, ◌≤◌, List, [], ◌∷◌, ◌++◌, length, refl, sym, ◌∙◌, ap, ap₂, subst, arith, IsTrue}
 use Rattle.std.specs.declared.option.Option.{Option}
 use Rattle.std.proofs.lemmas.Bool.{and_parts}

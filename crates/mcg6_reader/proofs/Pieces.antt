@@ -38,7 +38,7 @@ names_long bad n line (stop.Bad bad_line) long found = record {
   kept = inl found.kept;
 }
 
--- a line in which the teller finds a fault is bad
+-- a line in which the teller finds an error is bad
 pub names_bad :
     (bad : LinePlace → List ℕ → FaultKind → Type 0) (n : LinePlace) (line : List ℕ) (kind : FaultKind) (why : ListStop) →
     IsFalse (is_header n.number line) → length line ≤ most_line → bad n line kind → IfBad (IsFound n.number kind line) why →

@@ -4,7 +4,7 @@ use Rattle.std.proofs.Common.{◌≡◌, ℕ, suc, zero, ◌+◌, ◌≤◌, ◌
 use Rattle.counting.proofs.Common.{cases_lt, bit, times}
 use Rattle.tree_core.proofs.Common.{numbers, position}
 
--- numbers and partitions side by side, each two related by R
+-- numbers and partitions side by side, any two related by R
 abbrev pub Aligned : (ℕ → List (List ℕ) → Type 0) → List ℕ → List (List (List ℕ)) → Type 0
 Aligned R [] [] = Unit {0}
 Aligned R [] (q ∷ qs) = ⊥

@@ -11,7 +11,7 @@ use Rattle.move_laws.proofs.Switches.{Each, each_up, same_cut}
 use Rattle.move_laws.specs.Common.{Isomorphism, carry, carry_cut, AreRising}
 
 -- where the shores of a tree stand, each is a canonical union of blocks of the partition at its
--- root, and a rising list
+-- root, and an increasing list
 each-stands : (n : ℕ) (p : List (List ℕ)) (t : Shape) → IsPartition n p → Fits n t → StandsAt n p t → Each n p t × AreRising n t
 each-stands n p leaf pp fits stands = (tt, tt)
 each-stands n p (cut x k m) pp fits stands =

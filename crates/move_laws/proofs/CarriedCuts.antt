@@ -80,7 +80,7 @@ nontrivial_congr n p pp x y u h t =
     let i = t.inside in let o = t.outside in
     record { inside = omega arith; outside = omega arith }
 
--- ys at q is the image of xs at p: both are tight rising lists, and not empty
+-- ys at q is the image of xs at p: both are tight increasing lists, and not empty
 pub record IsImage (g : Graph) (p q : List (List ℕ)) (k : ℕ → ℕ) (xs ys : List ℕ) : Type 0 where
   pub tight : IsTightAt g p (mem xs)
   pub image_tight : IsTightAt g q (mem ys)
@@ -140,8 +140,8 @@ module _ (g : Graph) (is : IsGraph g) (h k : ℕ → ℕ) (p q : List (List ℕ)
     rest-rises : IsRisingIn g.order rest
     rest-rises = rising_list-rises g.order (λ v. not (mem x (k v)))
 
-    -- the image is the shore of the carried cut where the greatest vertex is in no image, and
-    -- else the complement is
+    -- the image is the shore of the carried cut where the highest-numbered vertex is in no image,
+    -- and else the complement is
     pub image-cut : mem x (k g.order) ≡ false → IsCutAt g q image
     image-cut off = record { set = image-rises; tight = image_is_tight; nontrivial = image_is_nontrivial; canonical = image-mem g.order greatest ∙ off }
 

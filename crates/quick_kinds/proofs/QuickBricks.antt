@@ -54,7 +54,7 @@ module _ (g : Graph) (is : IsMultigraph g) (cov : IsCovered g) (odd : IsBipartit
   pub no_cut-pair : barrier_cuts g ≡ [] → separation_cuts g ≡ [] → (u v : ℕ) → IsCutPair g u v → ⊥
   no_cut-pair e f u v c = pair_some_cut g is.ends (no_cuts-bicritical e) at_least_four u v c f
 
--- what holds exactly when the graph is bicritical and has no cut pair holds exactly when no
+-- what holds if and only if the graph is bicritical and has no cut pair holds if and only if no
 -- nontrivial shore is tight
 pub none-brick : (g : Graph) (A : Type 0) → IsMultigraph g → IsCovered g → (IsBipartite g → ⊥) → A ↔ (IsBicritical g × ((u v : ℕ) → IsCutPair g u v → ⊥)) → A ↔ ((x : Set) → IsTight g x → IsNontrivial g.order x → ⊥)
 none-brick g A is cov odd h = let b = brick_or_not g is cov odd in ((λ a. b.1 (h.0 a)), (λ none. h.1 (b.0 none)))

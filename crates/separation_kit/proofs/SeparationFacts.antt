@@ -35,7 +35,7 @@ equivalent-none g = (
     matched e a b wa wb l = has_perfect_says g (pair_set a b) (not-false (has_perfect g (pair_set a b))
         (pair_holds g.order (λ k. not (has_perfect g (pair_set k.0 k.1)) ≡ false) (all_unfound (λ k. not (has_perfect g (pair_set k.0 k.1))) (rising_pairs g.order) e) a b wa wb l))
 
--- the first cut pair is there exactly when there is one
+-- the first cut pair is there if and only if there is one
 pub cut_pair-none : (g : Graph) → (cut_pair g ≡ None) ↔ ((u v : ℕ) → IsCutPair g u v → ⊥)
 unfolding cut_pair
 cut_pair-none g = (

@@ -12,7 +12,7 @@ use Rattle.tree_core.proofs.Common.{Shape, leaf, cut, Fits, node_count, below-wi
 use Rattle.tree_text.specs.Common.{Place, root, in_kept, in_merged, Reading, wanted, whole, put, TreeSoFar, tree_format, node_line, line_behind, behind_first, is_rising, is_leaf_line, is_cut_line, most_nodes, HasVertices, ShoresRise, IsWritable}
 use Rattle.tree_text.proofs.ShoreLists.{rising_read}
 
--- a nonempty rising list below n
+-- a nonempty increasing list below n
 abbrev KeepsShore : ℕ → List ℕ → Type 0
 KeepsShore n x = All (Within (n - 1)) x × (0 < length x) × IsStrictlyIncreasing x
 

@@ -74,8 +74,8 @@ module _ (g : Graph) (is : IsGraph g) (cov : IsCovered g) where
 
   module _ (s : Set) (bar : IsBarrier g s) (xs : List (ℕ × ℕ)) (h : KeepsEdges g xs) (a : Set) (less : (v : ℕ) → Within g.order v → a v ≡ true → s v ≡ true)
       (a0 : ℕ) (w0 : Within g.order a0) (in0 : a a0 ≡ true) where
-    -- the components of g without s in one of x without a: one for each vertex of s in it, and
-    -- one for each edge of m that leaves it
+    -- the components of g - s in one of x without a: one for each vertex of s in it, and one for
+    -- each edge of m that leaves it
     pub exact : (u : ℕ) → Within g.order u → a u ≡ false → (m : Set) → IsPerfect g none m →
         count g.order (λ w. is_least g s w && joined (with_ends g xs) a u w) ≡ count g.order (λ v. joined (with_ends g xs) a u v && s v) + edges_in_cut g m (joined (with_ends g xs) a u)
     exact u wu ou m p =

@@ -56,7 +56,7 @@ pub adjacent_joined : (g : Graph) (s : Set) → IsGraph g → (u v : ℕ) → ad
 unfolding Joined
 adjacent_joined g s is u v h = walk_joined g s is u v (adjacent_within g s is u v h).0 (v ∷ [], (h, refl))
 
--- g without s joins no more than g with further edges without a part of s
+-- g - s joins no more than g with further edges without a part of s
 pub joined_more : (g : Graph) (xs : List (ℕ × ℕ)) (s a : Set) → IsGraph g → KeepsEdges g xs → ((v : ℕ) → Within g.order v → a v ≡ true → s v ≡ true) → IsFiner g.order (joined g s) (joined (with_ends g xs) a)
 joined_more g xs s a is h less u v wu wv = joined_steps g xs s a is h.graph (λ c d wc wd cd.
     let p = adjacent-edge g s c d cd in
