@@ -26,7 +26,7 @@ module _ (g : Graph) (is : IsMultigraph g) (e : ℕ) (we : Within (size g) e) wh
       (λ t. is_allowed_found g e we (perfect-allowed (has_perfect_says g (pair_set (first_end g e) (second_end g e)) t)))
       (λ t. has_perfect_found g (pair_set (first_end g e) (second_end g e)) (allowed-perfect (is_allowed_says g e t)))
 
--- the row of one end tells whether the edge is allowed
+-- the row of one end says whether the edge is allowed
 pub row-allowed : (g : Graph) (table : List (List ℕ)) (row : List ℕ) (e a b : ℕ) → IsMultigraph g → Within (size g) e → ArePartners g none table → row ≡ item table a → a ≡ first_end g e → b ≡ second_end g e → mem row b ≡ is_allowed g e
 row-allowed g table row e a b is we are row_is first second = grind (arith, partners-allowed g is e we)
 

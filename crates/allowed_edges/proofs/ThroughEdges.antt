@@ -11,7 +11,7 @@ use Rattle.match_core.proofs.ClearedMatchings.{left_misses}
 use Rattle.match_search.proofs.Gluing.{cut_off, glued, meet_more}
 use Rattle.allowed_edges.specs.Leaving.{LeavesFew, ShareNone}
 
--- a perfect matching is what it answers at the edges
+-- being a perfect matching depends only on the values at the edges
 pub perfect_alike : (g : Graph) (r m n : Set) → ((e : ℕ) → n e ≡ m e) → IsPerfect g r m → IsPerfect g r n
 perfect_alike g r m n h p = grind arith
 

@@ -1,5 +1,6 @@
--- Rising lists as sets: an increasing list of numbers 1 to n has as many items as its test counts,
--- and is fixed by its test. By induction on the list, with the least number that may still come.
+-- Increasing lists as sets: an increasing list of numbers 1 to n has as many items as its test
+-- counts, and is fixed by its test. By induction on the list, with the least number that may still
+-- come.
 use Rattle.std.proofs.Common.{◌≡◌, ℕ, ◌+◌, ◌≤◌, ◌<◌, Bool, true, false, ◌==◌, ◌||◌, List, [], ◌∷◌, length, refl, sym, ap, ap₂, ◌∙◌, arith, ◌⊎◌, inl, inr, eq-eqb, ne_eqb, cond, subst, true≢false, suc, zero, ◌*◌, ◌++◌, eqb-true, sum_by, take, get_or, slice_index, slice_index_or, All}
 use Rattle.std.specs.List.Sorted.{IsStrictlyIncreasing}
 use Rattle.std.proofs.lemmas.Bool.{cases_eq, cases_order, both_ways, cases_lt, or_cases, or_right, or_left, cases_Bool}
@@ -119,7 +120,7 @@ rising_only (suc n) x v h = elim (or_cases (mem (rising_list n x) v) (mem (cond 
     ]
     last false e m = absurd (both_ways false refl m)
 
--- a list of 1 to n that rises by neighbours rises from its first item on
+-- a list of 1 to n in which each number is less than the next is increasing from its first item on
 pub rises-from_neighbours : (low n : ℕ) (xs : List ℕ) → IsStrictlyIncreasing xs → All (Within n) xs → (0 < length xs → low ≤ slice_index_or xs 0 0) → Rises low n xs
 rises-from_neighbours low n [] i a l = tt
 rises-from_neighbours low n (x ∷ xs) i a l = (l (omega arith), (a 0 0 (omega arith)).1, rises-from_neighbours (x + 1) n xs tail_rises tail_within first_above)
@@ -133,7 +134,7 @@ rises-from_neighbours low n (x ∷ xs) i a l = (l (omega arith), (a 0 0 (omega a
     first_above : 0 < length xs → x + 1 ≤ slice_index_or xs 0 0
     first_above h = let r = i 0 (omega arith) in omega (arith, r)
 
--- a set of numbers 1 to n as a list rises from 1
+-- a set of numbers 1 to n as a list is increasing from 1
 pub rises-from_set : (n : ℕ) (xs : List ℕ) → IsRisingIn n xs → Rises 1 n xs
 rises-from_set n [] r = tt
 rises-from_set n (x ∷ xs) r = rises-from_neighbours 1 n (x ∷ xs) r.rising r.within (λ h. (r.within 0 0 h).0)

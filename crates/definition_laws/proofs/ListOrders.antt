@@ -1,6 +1,6 @@
--- The lists of components and of classes stand by their least vertices: each is the list of what
--- belongs to its least vertex, and the least vertices stand in increasing order. The odd lists are
--- counted at these vertices.
+-- The lists of components and of classes are ordered by their least vertices: each is the list of
+-- what belongs to its least vertex, and the least vertices are in increasing order. The odd lists
+-- are counted at these vertices.
 use Rattle.std.proofs.Common.{◌≡◌, ℕ, zero, suc, Bool, true, cond, ◌&&◌, ◌∷◌, [], List, length, map, refl, sym, arith, inl, inr, nat_lt, lt-ltb, subst, ◌≤◌, count_by, slice_index}
 use Rattle.counting.proofs.Common.{and_from, both_ways, cases_order, false_from_ne_true, not-true, true≢false, map-append, count_congr, rising_holds, rising_only, first-least, length-rising_list, rising_list-rises, true_some, Within, count, is_odd, IsLeastOf, IsRisingIn, mem, rising_list, Set, some}
 use Rattle.std.proofs.lemmas.List.Sums.{sum_by-append}
@@ -32,7 +32,7 @@ first_of-lists n f (u ∷ us) least =
 least-of_list : (n : ℕ) (x : Set) (u : ℕ) → Within n u → x u ≡ true → ((v : ℕ) → Within n v → x v ≡ true → u ≤ v) → IsLeastOf (rising_list n x) u
 least-of_list n x u w held below = grind (arith, rising_holds n x u w held, false_from_ne_true, rising_only n x)
 
--- the components stand by their least vertices
+-- the components are ordered by their least vertices
 pub components-order : (g : Graph) (s : Set) → IsGraph g → IsStrictlyIncreasing (map (λ (c : List ℕ). slice_index c 0) (components g s))
 unfolding components
 components-order g s is =

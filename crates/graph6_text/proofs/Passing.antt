@@ -1,5 +1,6 @@
--- What the checks of a body tell of it. Idea: where no error of a list of tests is first, each test
--- fails; and the first error of two lists of tests is that of the one, or else that of the other.
+-- What the checks of a body say about it. Idea: where no error of a list of tests is first, each
+-- test fails; and the first error of two lists of tests is that of the one, or else that of the
+-- other.
 use Rattle.counting.proofs.Common.{list_all, list_any}
 use Rattle.std.proofs.Common.{◌≡◌, ℕ, ◌+◌, ◌<◌, ◌≤◌, ◌==◌, Bool, true, false, cond, List, [], ◌∷◌, ◌++◌, length, take, drop, Option, Some, None, Ok, Err, refl, ap, ◌∙◌, arith, nat_lt}
 use Rattle.line_text.specs.Common.{IsFault}
@@ -70,7 +71,7 @@ pub is_first-behind : (xs ys : List (Bool × Fault)) (e : TextFault) → first_f
 is_first-behind xs ys (fault.At line kind) none h = first_fault-append xs ys none ∙ h
 is_first-behind xs ys fault.Memory none h = tt
 
--- the last two rows of the table, which the bits tell
+-- the last two rows of the table, which depend on the bits
 abbrev pub padding_row : ℕ → List Bool → List (Bool × Fault)
 padding_row from bits = (list_any (λ bit. bit) (drop from bits), (1, Padding)) ∷ []
 

@@ -50,7 +50,7 @@ no_line_feed (byte ∷ text) h =
     let least = digit_bounds byte p.0 in
     or_from (byte == 10) (list_any (λ byte. byte == 10) text) (ne_eqb byte 10 (omega arith)) (no_line_feed text p.1)
 
--- the size is read as the number that it was written for, and tells no error
+-- the size is read as the number that it was written for, and has no error
 record Sized (n : ℕ) (rest body : List ℕ) : Type 0 where
   order : order_of body ≡ n
   behind : data_of body ≡ rest

@@ -132,6 +132,6 @@ module _ (g : Graph) (s : Set) (is : IsGraph g) where
           keep : (a b l : Bool) → (b ≡ true → a ≡ true) → (l ≡ true → (a && not b) ≡ false) → (b && l) ≡ ((a && l) && true)
           keep a b l f h = grind arith
 
-  -- with nothing left, the list is that of the components, and the tree stands in g - s
+  -- with nothing left, the list is that of the components, and the trees are search trees of g - s
   pub stage_end : (left : Set) (parts : List (List ℕ)) (parent depth : ℕ → ℕ) → IsStage g s left parts parent depth → ((v : ℕ) → left v ≡ false) → (parts ≡ components g s) × IsForest g s (is_least g s) parent depth
   stage_end left parts parent depth old none_left = grind (arith, append-nil parts, rising_list-nothing g.order (meet left (is_least g s)), hangs_more g (union s left) s parent depth, or_fails_first)

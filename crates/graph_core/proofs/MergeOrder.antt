@@ -35,7 +35,7 @@ ordered_insert b (c ∷ p) o d = go (nat_lt (last_of b) (last_of c)) refl (order
     go : (t : Bool) → nat_lt (last_of b) (last_of c) ≡ t → Ordered (insert_block b p) → Ordered (cond t (b ∷ c ∷ p) (c ∷ insert_block b p))
     go m t ih = grind (arith, lower, insert_has, upper, cases_lt)
 
--- the names of a merged list rise
+-- the names of a merged list are increasing
 pub merged_order : (p : List (List ℕ)) (x : List ℕ) (v : ℕ) → mem x v ≡ true → IsStrictlyIncreasing (names_of p) → IsStrictlyIncreasing (names_of (merged p x))
 merged_order p x v m h = grind (arith, ordered_rising (merged p x), ordered_insert x, ordered_filter, rising_ordered p h, new_name, filter_test)
   where

@@ -122,7 +122,7 @@ module _ (n : ℕ) (p : List (List ℕ)) (x : List ℕ) (is : AreBlocks n p) (un
   pub merged_partition : AreBlocks n (merged p x)
   merged_partition = grind (arith, count_held (merged p x), held_merged, block_within, block_of, block_has (merged p x), block_full)
 
-  -- two vertices outside x that stand in one new block stood in one block, and back
+  -- two vertices outside x are in one new block if and only if they were in one block
   apart_down : (u v : ℕ) → Within n u → Within n v → mem x u ≡ false → place (merged p x) u ≡ place (merged p x) v → place p u ≡ place p v
   apart_down u v wu wv nu e =
       let a = place_in n (merged p x) merged_partition u wu in

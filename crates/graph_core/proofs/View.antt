@@ -1,4 +1,4 @@
--- The code's list of edges and the graph that it stands for: edge e of the graph is item e - 1 of
+-- The code's list of edges and the graph that it represents: edge e of the graph is item e - 1 of
 -- the list, so that "some edge" of the graph is "some item" of the list.
 use Rattle.std.proofs.Common.{◌≡◌, ℕ, ◌+◌, ◌≤◌, ◌<◌, ◌||◌, refl, sym, ap, ap₂, ◌∙◌, arith, suc, zero, List, length, get_or, take, take_all, le_refl, subst, eq-eqb, true}
 use Rattle.counting.proofs.Common.{list_any, get_or-map, length-map, Within, none, some}

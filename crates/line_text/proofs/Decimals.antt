@@ -1,5 +1,5 @@
--- What is written of a number is a word of digits, and std tells that they read as that number.
--- Below 10 ^ 9 they are nine at most, so the word is a number.
+-- A number is written as a word of digits, and by std they are read as that number. Below 10 ^ 9
+-- they are nine at most, so the word is a number.
 use Rattle.std.proofs.Common.{◌≡◌, ℕ, suc, ◌^◌, ◌≤◌, ◌<◌, List, [], ◌∷◌, All, length, map, Bool, true, not, ◌||◌, ◌==◌, Some, refl, ◌∙◌, ap, ap₂, arith, rules}
 use Rattle.std.specs.Char.{is_ascii_digit}
 use Rattle.std.specs.Fmt.{decimal}

@@ -96,8 +96,8 @@ module _ {Body Value Kind : Type 0} (rules : Rules Body Value Kind) where
   pub FirstFault-from_reading : (text : List ℕ) (number : ℕ) (kind : Kind) → reading_of rules text ≡ Err (number, kind) → FirstFault rules text number kind
   FirstFault-from_reading text number kind is = FirstFault-from_explains text _ (explains None _ _) number kind is
 
-  -- so a reader whose answer comes of the text names the value that it stands for, or its first
-  -- error
+  -- so a reader whose result follows from the text returns the value that it stands for, or its
+  -- first error
   pub IfOk-reads : {X : Type 0} (meaning : X → Value) (text : List ℕ) (result : Result X (LineFault Kind)) → Reads meaning result (reading_of rules text) → IfOk result (λ x. Stands rules text (meaning x))
   IfOk-reads meaning text (Ok x) reads = Stands-from_reading text (meaning x) reads
   IfOk-reads meaning text (Err failed) reads = tt

@@ -28,7 +28,7 @@ module _ (g : Graph) (r : Set) (mark passed : List Bool) (passed_is : passed ≡
   pub listed_perfect : (es : List ℕ) → es ≡ rising_list (size g) (marks passed) → IsPerfect g r (mem es)
   listed_perfect es es_is = grind (arith, degree_congr, listed_marks)
 
--- what the engine answers where nothing is removed, with its marks passed on
+-- what the engine returns if nothing is removed, with its marks passed on
 module _ (g : Graph) (is : IsGraph g) (removed : List ℕ) (b : Best) (nothing : removed ≡ []) (found : IsBest g (mem removed) b) (passed : List Bool) (passed_is : passed ≡ b.mark.items) where
   best : IsBest g none b
   best = subst (λ (r : Set). IsBest g r b) (fun_ext (λ v. ap (λ s. mem s v) nothing)) found
@@ -126,7 +126,8 @@ some-mem : (xs : List ℕ) → 0 < length xs → (v : ℕ) × (mem xs v ≡ true
 some-mem [] l = absurd (omega arith)
 some-mem (x ∷ xs) l = (x, Rattle.std.proofs.lemmas.Bool.or_left (x == x) (mem xs x) (eq-eqb x x refl))
 
--- what the engine answers is perfect if and only if its list of outer vertices is empty
+-- the matching that the engine returns is perfect if and only if its list of outer vertices is
+-- empty
 module _ (g : Graph) (is : IsGraph g) (r : Set) (b : Best) (best : IsBest g r b) where
   pub no_outer-best_perfect : length b.sets.outer ≡ 0 → IsPerfect g r (marks b.mark.items)
   no_outer-best_perfect nothing = no_outer-perfect g is r (marks b.mark.items) (mem b.sets.outer) (mem b.sets.inner) best.matching best.frame (empty-mem b.sets.outer nothing)

@@ -1,4 +1,4 @@
--- The edges of the rows of a matching are a matching: a vertex stands in the rows as often as edges
+-- The edges of the rows of a matching are a matching: a vertex occurs in the rows as often as edges
 -- meet it. A degree is a sum over the edges in the set, and that sum goes along the increasing list
 -- of the rows.
 use Rattle.counting.proofs.Common.{both_ways, cases_Bool, false_from_ne_true, or_cases, map-append, All-map, sum_by-cons, Rises, total_mem, rises-from_set, rising_holds, rising_only, mem-within, set-from_rises, rising_list-rises, mem-rising_list, Within, bit, Set, none, mem, rising_list, IsRisingIn}
@@ -71,7 +71,7 @@ marked_more g m k rows b h is = grind (arith, map-append (row_at g) (rising_list
 pub marked_none : (g : Graph) (m : Set) (k : ℕ) (rows : List MatchRow) → m (suc k) ≡ false → rows ≡ map (row_at g) (rising_list k m) → rows ≡ map (row_at g) (rising_list (suc k) m)
 marked_none g m k rows h is = search (rules, marked_more g m k rows false h is)
 
--- fewer rows rise too
+-- a part of the rows is increasing too
 rises-lower : (low high n : ℕ) (xs : List ℕ) → low ≤ high → Rises high n xs → Rises low n xs
 rises-lower low high n [] l r = tt
 rises-lower low high n (x ∷ xs) l r = let a = r.0 in (omega arith, r.1, r.2)

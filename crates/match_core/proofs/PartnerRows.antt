@@ -147,7 +147,7 @@ missable-partners g is r u row out missable v w = here ∙ ap (λ (s : Set). not
       | inr q ↦ missable.other q v ∙ sym (no_row g is (union r (singleton u)) missable.m missable.outer missable.inner missable.matching missable.frame q v w)
     ]
 
--- what the engine answers, with the number of vertices that it misses, as the code counts them
+-- what the engine returns, with the number of vertices that it misses, as the code counts them
 module _ (g : Graph) (is : IsGraph g) (r : Set) (b : Best) (best : IsBest g r b) (mark : List Bool) (missed : ℕ) (mark_is : mark ≡ b.mark.items) (missed_is : missed ≡ missed_count g r (marks mark)) where
   counted : missed ≡ missed_count g r (marks b.mark.items)
   counted = missed_is ∙ ap (λ row. missed_count g r (marks row)) mark_is

@@ -15,7 +15,7 @@ use Rattle.match_search.proofs.MatePairs.{flipped_exposes, flipped_pairs, joined
 use Rattle.match_search.proofs.OddCycles.{cycle_holds, every_other-near_perfect, same_ends}
 use Rattle.match_search.proofs.NearPerfectSets.{bit_minus, degree_split}
 
--- the mates of a set that answers the same
+-- the mates of a set with the same members
 pub mates_alike : (g : Graph) (r m : Set) (mate new : ℕ → ℕ) → ((u : ℕ) → new u ≡ mate u) → HasMates g r m mate → HasMates g r m new
 mates_alike g r m mate new h has = subst (λ (x : ℕ → ℕ). HasMates g r m x) (sym (fun_ext h)) has
 

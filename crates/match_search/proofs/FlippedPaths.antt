@@ -68,7 +68,7 @@ mates_second mate v (suc k) top t apart in_top b =
       | inr q ↦ grind (arith, pair_off (flipped_mates mate v k) (v (k + k)) (v (suc (k + k))) (v (suc (t + t))), mates_second mate v k top t apart (omega arith) (omega arith))
     ]
 
--- a place up to the top where the vertex stands, or none
+-- a place up to the top that holds the vertex, or none
 place : (v : ℕ → ℕ) (u top : ℕ) → ((j : ℕ) × (j ≤ top) × (u ≡ v j)) ⊎ ((j : ℕ) → j ≤ top → u ≢ v j)
 place v u zero = grind (arith, cases_eq u (v 0))
 place v u (suc top) = elim (cases_eq u (v (suc top))) [

@@ -39,7 +39,7 @@ meet_none g c met e a b is we ends wa wb ce once closed m mm holds me = go (a ==
     go false false true h p q k = at b wb ends_b k
     go false false false h p q k = absurd (true≢false h)
 
--- a perfect matching of g without the ends of c, and c
+-- the union of a perfect matching of G - V(c) and c
 pub glued : (g : Graph) (c met p : Set) → IsGraph g → MeetOnce g c met → IsPerfect g met p → IsPerfect g none (union p c)
 glued g c met p is once perfect = record { once = λ v w q. both v w; away = λ v w q. absurd (true≢false (sym q)) }
   where

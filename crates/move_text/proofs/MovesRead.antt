@@ -113,6 +113,6 @@ reached-keeps n reached moves small keeps ends = grind arith
 pub writable-read : (n : ℕ) (text : List ℕ) (moves : List PlainMove) → n < 10 ^ 9 → Stands (move_format n) text moves → IsWritable n moves
 writable-read n text moves small stands = grind (arith, reached-keeps n stands.reached moves small, all-keep n)
 
--- whatever a reader answered
+-- whatever a reader returned
 pub all-read : {X Fault : Type 0} (n : ℕ) (text : List ℕ) (view : X → List PlainMove) (result : Result X Fault) → n ≤ 128 → IfOk result (λ x. Stands (move_format n) text (view x)) → IfOk result (λ x. IsWritable n (view x))
 all-read n text view result few stands = grind (arith, writable-read n text)

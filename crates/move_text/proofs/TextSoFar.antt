@@ -1,4 +1,5 @@
--- The text of moves grows by the line of the next move.
+-- The text of moves grows by the line of the next move. Idea: the lines of the first i + 1 moves
+-- are those of the first i and one more, and what is true of each move is carried along.
 use Rattle.std.proofs.Common.{◌≡◌, ◌+◌, ◌≤◌, ◌<◌, ℕ, zero, suc, List, [], ◌∷◌, get_or, length, map, take, take_all, refl, sym, ap, subst, arith}
 use Rattle.counting.proofs.Common.{AllByRecursion}
 use Rattle.line_text.specs.Common.{written}

@@ -22,7 +22,7 @@ pub fold-map_more : (n a i : ℕ) (d : List ℕ) (parts cuts start after : List 
     after ≡ fold (with_cut n) start (map (λ s. rising_list n (union (mem s) (singleton a))) (take (i + 1) parts))
 fold-map_more n a i d parts cuts start after shore l is old new = grind (arith, fold-append (with_cut n) start, map-append, take_more parts i d l)
 
--- the components rise
+-- the components are increasing lists
 pub components-rise : (g : Graph) (s : Set) → All (IsRisingIn g.order) (components g s)
 unfolding components
 components-rise g s = All-map (IsRisingIn g.order) (λ u. rising_list g.order (joined g s u)) (rising_list g.order (is_least g s))

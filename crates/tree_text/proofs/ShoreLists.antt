@@ -29,7 +29,7 @@ rises-from_tests low n v (w ∷ ws) least within rising =
     let less = less-from_test v w order.0 in
     (least, (in_range n v ranges.0).1, rises-from_tests (v + 1) n w ws (omega arith) ranges.1 order.1)
 
--- the tests of the format say that the list rises within 1 to n
+-- the tests of the format say that the list is increasing and lies within 1 to n
 pub rising_read : (n : ℕ) (vs : List ℕ) → list_any (is_out_of_range n) vs ≡ false → is_rising vs ≡ true → IsRisingIn n vs
 rising_read n [] within rising = set-from_rises n [] tt
 rising_read n (v ∷ vs) within rising =

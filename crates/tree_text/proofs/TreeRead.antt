@@ -26,7 +26,7 @@ KeepsPlace n root = Unit {0}
 KeepsPlace n (in_kept x above) = KeepsShore n x × KeepsPlace n above
 KeepsPlace n (in_merged x k above) = KeepsShore n x × KeepsTree n k × KeepsPlace n above
 
--- the nodes that have been read where the next one stands at a place
+-- the nodes that have been read if the next one is at a place
 abbrev nodes_at : Place → ℕ
 nodes_at root = 0
 nodes_at (in_kept x above) = 1 + nodes_at above
@@ -111,6 +111,6 @@ writable-read n text t small stands = grind (arith, reached-keeps n stands.reach
 pub tree_read : (n : ℕ) (text : List ℕ) (t : Shape) → n ≤ 128 → Stands (tree_format n) text t → IsWritable n t
 tree_read n text t few = writable-read n text t (omega arith)
 
--- whatever a reader answered
+-- whatever a reader returned
 pub all-read : {X Fault : Type 0} (n : ℕ) (text : List ℕ) (view : X → Shape) (result : Result X Fault) → n ≤ 128 → IfOk result (λ x. Stands (tree_format n) text (view x)) → IfOk result (λ x. IsWritable n (view x))
 all-read n text view result few stands = grind (arith, tree_read n text)

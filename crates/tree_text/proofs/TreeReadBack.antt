@@ -27,7 +27,7 @@ leaf-taken : (n nodes : ℕ) (place : Place) → nodes < most_nodes → (tree_fo
 unfolding has_form
 leaf-taken n nodes place few = grind (arith, nat_tests)
 
--- they lie in range, and rise
+-- they lie in range, and are increasing
 shore-in_range : (n : ℕ) (x : List ℕ) → All (Within (n - 1)) x → list_any (is_out_of_range n) x ≡ false
 shore-in_range n x within = in_range-tests n x (λ k d less. let in_order = within k d less in (in_order.0, (let high = in_order.1 in omega arith)))
 

@@ -11,7 +11,7 @@ use Rattle.std.proofs.lemmas.Nat.{or_lt, one_shl, and_le_l}
 use Rattle.vset_core.specs.Words.{in_word, members, word_of_list}
 use Rattle.vset_core.specs.WordLaws.{word_of_list-members, in_word_above, mem-members, members-rise}
 
--- a number of the set, by the word that stands for it
+-- a number of the set, by the word that represents it
 pub seen : (word : ℕ) (set : List ℕ) → members word ≡ set → word < 2 ^ 128 → (v : ℕ) → mem set v ≡ in_word word v
 seen word set is fits v = subst (λ xs. mem xs v ≡ in_word word v) is (mem-members word v fits)
 
