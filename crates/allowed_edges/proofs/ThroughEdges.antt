@@ -91,7 +91,7 @@ module _ (g : Graph) (is : IsMultigraph g) (e f : ℕ) (we : Within (size g) e) 
       let free = ends_free g e f x y empty first apart in
       meet_more g (put none e true) y z f (first_end g f) (second_end g f) wf (inl (refl, refl)) (is.no_loop f wf) (put_off none e true f (apart_differ g e f apart)) (one_meets g is e x y we empty first) free.0 free.1 second
 
-  -- a perfect matching that holds the first leaves few vertices missed
+  -- a perfect matching that contains the first leaves few vertices missed
   pub two_leave : (m : Set) → IsPerfect g none m → m e ≡ true → LeavesFew g z m
   two_leave m perfect me = left_misses g is.ends m pair z f perfect two_meet wf (put_at (put none e true) f true) (λ i wi ci other. elim (put_only (put none e true) f i ci) [
     | inl q ↦ absurd (other q)

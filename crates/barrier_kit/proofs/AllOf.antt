@@ -1,4 +1,4 @@
--- What holds of each item of a list that is made of other lists, and of each item of such a list
+-- What is true of each item of a list that is made of other lists, and of each item of such a list
 -- read back. Inductions over the list.
 use Rattle.std.proofs.Common.{◌≡◌, ℕ, suc, zero, ◌<◌, Bool, true, false, cond, refl, sym, ap, ◌∙◌, arith, inl, inr, List, [], ◌∷◌, ◌++◌, map, flat_map, filter, Some, None, nat_lt, ltb-true, subst, All, find}
 use Rattle.counting.proofs.Common.{cases_Bool, cases_lt, All-cons, All-head, All-map, All-nil, All-tail, Within, pair_with, rising_list, rising_pairs, Set, everything}

@@ -23,7 +23,7 @@ least-is g p q k is w = ap (λ (es : List ℕ). slice_index es 0) (item-remember
 pub least-within : (q : ContractedValue) (k : ℕ) → KeepsContraction q → Within (size q.graph) k → Within q.size (least_at q k)
 least-within q k keeps w = grind (arith, least-remembered keeps.base q.blocks keeps.limits.multigraph.ends keeps.partition.partition k, least-is keeps.base q.blocks q k keeps.is w)
 
--- one row more
+-- one more row
 pub any-more : (t : MatchRow → Bool) (rows : List MatchRow) (i : ℕ) (row : MatchRow) → slice_get rows i ≡ Some row → list_any t (take (i + 1) rows) ≡ (list_any t (take i rows) || t row)
 any-more t rows i row q =
     ap (list_any t) (take_more rows i row (slice_get_within rows i row q))

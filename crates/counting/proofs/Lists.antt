@@ -94,7 +94,7 @@ mem-append (x ∷ xs) ys v = ap (λ b. (x == v) || b) (mem-append xs ys v) ∙ p
 pub mem-more : (xs : List ℕ) (k v : ℕ) → k < length xs → mem (take (k + 1) xs) v ≡ (mem (take k xs) v || (get_or xs k 0 == v))
 mem-more xs k v l = ap (λ ys. mem ys v) (take_more xs k 0 l) ∙ mem-append (take k xs) (get_or xs k 0 ∷ []) v ∙ ap (λ b. mem (take k xs) v || b) (or_false (get_or xs k 0 == v))
 
--- an increasing list holds what passes, and nothing else
+-- an increasing list contains what passes, and nothing else
 pub rising_holds : (n : ℕ) (x : Set) (v : ℕ) → Within n v → x v ≡ true → mem (rising_list n x) v ≡ true
 rising_holds zero x v w h = absurd (omega arith)
 rising_holds (suc n) x v w h = mem-append (rising_list n x) (cond (x (suc n)) (suc n ∷ []) []) v ∙ elim (cases_lt v (suc n)) [

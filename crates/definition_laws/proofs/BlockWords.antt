@@ -32,7 +32,7 @@ module _ (g : Graph) (p : List (List ℕ)) (is : IsGraph g) (pp : AreBlocks g.or
   pub perfect-leaves : (m : Set) → IsPerfectAt g p m → LeavesBlocks g p m
   perfect-leaves m h e we me q = grind (arith, contracted-ends g p e we, perfect-no_loop (contracted g p) none m (contracted-graph g p is pp) h e (there e we) me, contracted-graph g p is pp)
 
-  -- and each block holds an end of exactly one of its edges
+  -- and each block contains an end of exactly one of its edges
   pub perfect-meets_blocks : (m : Set) → IsPerfectAt g p m → MeetsEachBlockOnce g p m
   perfect-meets_blocks m h i wi =
       let wc : Within (contracted g p).order i = (let o = contracted-order g p in omega arith) in

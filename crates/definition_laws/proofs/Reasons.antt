@@ -44,7 +44,7 @@ covered_or_reason g is = grind (arith, cases_Bool (nat_le 2 g.order), nat_le 2 g
       | inr f ↦ inr (Parted 1 f.0, (two, refl, f.1))
     ]
 
--- two reasons of one graph are equal but for the Berge set
+-- two reasons of one graph are equal except for the Berge set
 pub reason-one : (g : Graph) (q r : Reason) → IsReason g q → IsReason g r → without_berge q ≡ without_berge r
 reason-one g Small Small a b = refl
 reason-one g Small (Parted c d) a b = let two = b.0 in absurd (omega arith)

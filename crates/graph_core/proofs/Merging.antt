@@ -67,7 +67,7 @@ filter_has t c (d ∷ p) h = go (filter_has t c p) (t d) h
     go : (Has (filter t p) c → Has p c) → (b : Bool) → Has (cond b (d ∷ filter t p) (filter t p)) c → Has (d ∷ p) c
     go ih b h = grind arith
 
--- each block that holds v goes with v
+-- each block that contains v goes with v
 held_filter : (x : List ℕ) (p : List (List ℕ)) (v : ℕ) → ((b : List ℕ) → Has p b → mem b v ≡ true → mem x (last_of b) ≡ mem x v) →
     held (filter (λ b. not (mem x (last_of b))) p) v ≡ bit (not (mem x v)) * held p v
 held_filter x [] v h = omega arith

@@ -22,7 +22,7 @@ place (b ∷ p) v = cond (mem b v) 1 (place p v + 1)
 abbrev pub names_of : List (List ℕ) → List ℕ
 names_of p = map last_of p
 
--- each of 1 to n is in exactly one block, no block holds another number, and no block is empty
+-- each of 1 to n is in exactly one block, no block contains another number, and no block is empty
 pub record AreBlocks (n : ℕ) (p : List (List ℕ)) : Type 0 where
   pub once : (v : ℕ) → Within n v → count (length p) (λ i. mem (block p i) v) ≡ 1
   pub within : (i v : ℕ) → Within (length p) i → mem (block p i) v ≡ true → Within n v

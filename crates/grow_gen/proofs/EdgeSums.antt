@@ -117,7 +117,7 @@ length-marks_where p (b ∷ bs) (e ∷ es) l = grind (arith, by_test (p e), leng
 abbrev pub StandsAt : (ℕ × ℕ → Bool) → List (ℕ × ℕ) → ℕ → ℕ → Type 0
 StandsAt p es c i = Within (length es) i × ((bs : List Bool) → length bs ≡ length es → slice_index_or (marks_where p bs es) c false ≡ marked bs i)
 
--- the same after one edge more, of which the test is known
+-- the same after one more edge, of which the test is known
 abbrev StandsBehind : (ℕ × ℕ → Bool) → List (ℕ × ℕ) → ℕ → ℕ → Bool → Type 0
 StandsBehind p es c i s = Within (suc (length es)) i × ((b : Bool) (bs : List Bool) → length bs ≡ length es → slice_index_or (cond s (b ∷ marks_where p bs es) (marks_where p bs es)) c false ≡ marked (b ∷ bs) i)
 

@@ -42,6 +42,6 @@ next_class-rising n m w p class next opposite l ww rc rn h = rising_list-of (n +
       | inr a ↦ grind arith
     ]
 
--- one vertex more
+-- one more vertex
 pub mem-image_more : (f : ℕ → ℕ) (xs : List ℕ) (i v : ℕ) (b : Bool) → i < length xs → ((b || mem (map f (take i xs)) v) || (f (get_or xs i 0) == v)) ≡ (b || mem (map f (take (i + 1) xs)) v)
 mem-image_more f xs i v b l = grind (arith, take_more xs i 0 l, map-append f (take i xs) (get_or xs i 0 ∷ []), mem-append (map f (take i xs)) (f (get_or xs i 0) ∷ []) v)

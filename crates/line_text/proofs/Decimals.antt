@@ -22,7 +22,7 @@ numerals = numerals_by_value (λ ds. list_all is_ascii_digit ds ≡ true) tells_
 pub digits-decimal : (n : ℕ) → n < 10 ^ 9 → list_all is_ascii_digit (decimal n) ≡ true
 digits-decimal n small = digits_decimal numerals n (omega arith)
 
--- what holds of each digit holds of each byte of a number
+-- what is true of each digit is true of each byte of a number
 pub list_all-digits : (test : ℕ → Bool) → ((byte : ℕ) → 48 ≤ byte → byte ≤ 57 → test byte ≡ true) → (word : List ℕ) → list_all is_ascii_digit word ≡ true → list_all test word ≡ true
 list_all-digits test holds [] digits = refl
 list_all-digits test holds (byte ∷ word) digits =

@@ -49,7 +49,7 @@ pub is_closed-unlines : (lines : List (List ℕ)) → is_closed (unlines lines) 
 is_closed-unlines [] = refl
 is_closed-unlines (line ∷ lines) = is_closed-line line (unlines lines) (is_closed-unlines lines)
 
--- a word holds no line feed and no blank, and it has bytes
+-- a word contains no line feed and no blank, and it has bytes
 abbrev is_one_word : List ℕ → Bool
 is_one_word word = list_all (λ byte. not (is_blank byte)) word
 

@@ -33,7 +33,7 @@ module _ (g : Graph) (is : IsGraph g) (r f m : Set) (n : ℕ) (c e : ℕ → ℕ
   abbrev cyc : IsOddCycle g r n c e
   cyc = opened.cycle
 
-  -- a blossom has one vertex more than so many pairs
+  -- a blossom has one more vertex than so many pairs
   abbrev pairs : ℕ
   pairs = (halves g is r f m n c e opened).0
 

@@ -1,5 +1,5 @@
 -- Two closing paths by mates: where they do not meet, the exchanged pairs and the pair of their
--- last vertices are a matching with one edge more; where they meet, the mates without the blossom
+-- last vertices are a matching with one more edge; where they meet, the mates without the blossom
 -- are those of the opened matching.
 use Rattle.std.proofs.Common.{◌≡◌, ◌≢◌, ℕ, suc, ◌+◌, ◌-◌, ◌/◌, ◌≤◌, ◌<◌, true, false, cond, ◌==◌, refl, sym, ap, ◌∙◌, arith, ne_eqb, inl, inr, subst, length, List, ◌&&◌, not}
 use Rattle.counting.proofs.Common.{fun_ext, cases_Bool, cases_eq, both_ways, false_from_ne_true, half, Within, bit, count, Set, minus, put, mem}

@@ -17,7 +17,7 @@ use Rattle.match_search.specs.Common.{IsOddCycle, listed, every_other, picked, I
 pub shrunk_ends_shrunk : (g : Graph) (c : Set) (z : ℕ) → IsShrunk g c z (shrunk_ends g c z)
 shrunk_ends_shrunk g c z = grind (arith, length-map, get_or-map)
 
--- a matching with one edge more, or a frame
+-- a matching with one more edge, or a frame
 abbrev pub Step : Graph → Set → Set → Type 0
 Step g r f = ((m : Set) × IsMatching g r m × (count (size g) m ≡ count (size g) f + 1)) ⊎ ((outer : Set) × (inner : Set) × Frame g r (count (size g) f) outer inner)
 

@@ -35,7 +35,7 @@ pub record ClosesForest (g : Graph) (r f : Set) (mate : List ℕ) (t : Alternati
 abbrev pub second_start : Paths → ℕ
 second_start w = suc (w.first + w.first)
 
--- the row holds two alternating paths for the matching f, which has these mates, with outer and
+-- the row contains two alternating paths for the matching f, which has these mates, with outer and
 -- inner vertices in turn; an edge outside f joins their last vertices
 pub record AreClosingPaths (g : Graph) (r f : Set) (mate : List ℕ) (w : Paths) : Type 0 where
   pub graph : IsGraph g

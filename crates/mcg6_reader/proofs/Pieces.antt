@@ -198,7 +198,7 @@ through_long tells bad lacks n k text rest a b stop.Memory so_far none long is =
 through_long tells bad lacks n k text rest a b (stop.Bad found) so_far none long is =
     through_bad tells bad lacks n k text rest a b found so_far (λ tail. opens_long bad k rest tail found none long is)
 
--- nothing is held at the end
+-- nothing is left at the end
 pub end_none :
     (tells : LinePlace → List ℕ → List ℕ → Type 0) (n : LinePlace) (held output : List ℕ) →
     length held ≡ 0 → Added (AllTold tells n (lines_of held)) output output × (n ≡ place_behind n (lines_of held))

@@ -47,7 +47,7 @@ iso_merged g is p q h k pp qp iso x y ux uy sx sy nx ny e = record {
     my : IsMerge g.order q (mem y) (merged q y)
     my = merged_merges g.order q y qp uy ny (bounds sy)
 
--- some vertex is in a set that holds a block
+-- some vertex is in a set that contains a block
 pub some_of : (n : ℕ) (p : List (List ℕ)) → AreBlocks n p → (x : Set) → IsUnion n p x → 1 ≤ block_count p x → Some n x
 some_of n p pp x u h =
     let r = some_term (length p) (λ i. bit (blocks_in p x i)) (omega (arith, h)) in

@@ -16,7 +16,7 @@ pub moves_text-by_moves : (n : ℕ) (moves : List Move) (i : ℕ) → length mov
 unfolding moves_text
 moves_text-by_moves n moves i done = grind (arith, take_all i moves, map-moves moves)
 
--- what holds of the first moves and of the next
+-- what is true of the first moves and of the next
 all-suc : (P : PlainMove → Type 0) (moves : List Move) (i : ℕ) (m : Move) → i < length moves → get_or moves i m ≡ m → AllByRecursion P (moves_of (take i moves)) → P (move_of m) → AllByRecursion P (moves_of (take (suc i) moves))
 all-suc P [] i m less is each last = absurd (omega arith)
 all-suc P (x ∷ moves) zero m less is each last = (subst (λ (y : Move). P (move_of y)) (sym is) last, tt)

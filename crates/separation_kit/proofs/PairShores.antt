@@ -12,7 +12,7 @@ use Rattle.separation_kit.specs.Common.{pair_of, is_cut_pair, separation_cuts, s
 use Rattle.separation_kit.specs.declared.pair.Pair.{Pair}
 use Rattle.separation_kit.proofs.PairSearch.{pair_at}
 
--- a set with one vertex more
+-- a set with one more vertex
 pub shore-with : (n a : ℕ) (part shore : List ℕ) → n ≤ 128 → Within n a → IsRisingIn n part → IsRisingIn 128 shore → ((v : ℕ) → mem shore v ≡ (mem part v || a == v)) → shore ≡ rising_list n (union (mem part) (singleton a))
 shore-with n a part shore few wa rises wide same = grind (arith, list-from_test n shore (union (mem part) (singleton a)), set-narrower 128 n shore wide, or_cases, mem-within n part rises, eqb-true a)
 
@@ -28,7 +28,7 @@ unfolding components
 components-rise g s = All-map (IsRisingIn g.order) (λ u. rising_list g.order (joined g s u)) (rising_list g.order (is_least g s))
     (all_rising g.order (is_least g s) (λ u. IsRisingIn g.order (rising_list g.order (joined g s u))) (λ u w t. rising_list-rises g.order (joined g s u)))
 
--- one pair more
+-- one more pair
 module _ (g : Graph) (i : ℕ) (items : List Pair) (l : i < length items) where
   next_pairs : filter (is_cut_pair g) (take (i + 1) (map pair_of items)) ≡ filter (is_cut_pair g) (take i (map pair_of items)) ++ cond (is_cut_pair g (pair_of (pair_at items i))) (pair_of (pair_at items i) ∷ []) []
   next_pairs =

@@ -10,7 +10,7 @@ use Rattle.tree_text.specs.Common.{is_rising}
 pub moved : (vertices shore next behind rest : List ℕ) (v : ℕ) → rest ≡ v ∷ behind → ((w : ℕ) → mem next w ≡ (mem shore w || v == w)) → ((w : ℕ) → mem vertices w ≡ (mem shore w || mem rest w)) → (w : ℕ) → mem vertices w ≡ (mem next w || mem behind w)
 moved vertices shore next behind rest v front gains same w = grind arith
 
--- what holds of a list holds of what is after its first number
+-- what is true of a list is true of what is after its first number
 pub all-behind : (n : ℕ) (rest behind : List ℕ) (v : ℕ) → rest ≡ v ∷ behind → All (Within n) rest → All (Within n) behind
 all-behind n rest behind v front all k d less = subst (All (Within n)) front all (suc k) d (omega arith)
 

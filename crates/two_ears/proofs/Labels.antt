@@ -56,7 +56,7 @@ merge_joins f x y = ap (λ t. cond t (f y) (f x)) (eq-eqb (f x) (f x) refl) ∙ 
     same true k = refl
     same false k = refl
 
--- a partition that holds f and joins x and y holds the merged one
+-- a partition that contains f and joins x and y holds the merged one
 pub merge_in : (n : ℕ) (f z : ℕ → ℕ) (x y : ℕ) → Within n x → Within n y → Finer n f z → z x ≡ z y → Finer n (merge f x y) z
 merge_in n f z x y wx wy fin e a b wa wb h = elim (cases_eq (f a) (f x)) [
   | inl p ↦ grind arith
