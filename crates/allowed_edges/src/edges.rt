@@ -10,7 +10,8 @@ use match_core::{PartnerTable, maximum};
 use std::alloc::{AllocError as Memory, Global};
 
 /// The edges that lie in perfect matchings, in increasing order. A graph without a perfect matching
-/// has none.
+/// has none. Takes one maximum matching, at most n searches and O(m) further steps; the only error
+/// is `Memory`.
 pub fn allowed(alloc: Global, g: &MultiGraph) -> Result<Numbers, Memory>
     ensures { IfOk result (λ edges. Lists (size g.now) edges (Allowed g.now)) }
 {
@@ -20,7 +21,7 @@ pub fn allowed(alloc: Global, g: &MultiGraph) -> Result<Numbers, Memory>
 }
 
 /// The edges that `allowed` returns, from the table of partners of `g` if it has a perfect
-/// matching.
+/// matching. Takes O(m) time; the only error is `Memory`.
 pub fn allowed_in(
     alloc: Global,
     g: &MultiGraph,
@@ -51,7 +52,7 @@ fn partnered(alloc: Global, g: &MultiGraph, table: &PartnerTable) -> Result<Numb
 }
 
 /// Whether edge `e` lies in a perfect matching: it does if and only if its ends are partners. Takes
-/// no memory.
+/// no memory. Takes constant time.
 pub fn is_allowed_in(g: &MultiGraph, table: &PartnerTable, e: u32) -> bool
     requires edge { Within (size g.now) e }
     requires table { ArePartners g.now none table.now }

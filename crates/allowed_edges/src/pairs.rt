@@ -19,7 +19,7 @@ use vset_core::VSet;
 /// perfect matching contains both edges, and `list` is a pair list, in which each matching contains
 /// an edge or a pair of edges that no earlier one contains. There is one search for each edge and
 /// for each pair of edges that share no end and lie together in no matching found before; each
-/// takes at most one augmentation.
+/// takes at most one augmentation. The only error is `Memory`.
 pub fn together(alloc: Global, g: &MultiGraph) -> Result<PairTable, Memory>
     ensures size { IfOk result (λ pairs. pairs.size ≡ size g.now) }
     ensures of { IfOk result (λ pairs. All (IsOf g.now) pairs.list) }

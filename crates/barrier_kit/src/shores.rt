@@ -21,7 +21,7 @@ fn add_class_cuts(alloc: Global, c: &Covered, class: VSet, cuts: &mut SetList) -
 
 /// The nontrivial cuts that the classes of a covered graph give: ∂(V(K)) for each class B and each
 /// component K of G - B. Each cut is listed once, by its canonical shore, and is tight (Edmonds,
-/// Lovász and Pulleyblank 1982).
+/// Lovász and Pulleyblank 1982). The only error is `Memory`.
 pub fn barrier_cuts(alloc: Global, g: &MultiGraph) -> Result<SetList, Memory>
     requires { IsCovered g.now }
     ensures { IfOk result (λ cuts. cuts ≡ barrier_cuts g.now) }
@@ -29,7 +29,8 @@ pub fn barrier_cuts(alloc: Global, g: &MultiGraph) -> Result<SetList, Memory>
     barrier_cuts_of(alloc, &Covered::known(alloc, g)?)
 }
 
-/// The cuts that `barrier_cuts` lists, of a `Covered`.
+/// The cuts that `barrier_cuts` lists, of a `Covered`. Takes one search for components per class;
+/// the only error is `Memory`.
 pub fn barrier_cuts_of(alloc: Global, c: &Covered) -> Result<SetList, Memory>
     ensures { IfOk result (λ cuts. cuts ≡ barrier_cuts c.now) }
 {

@@ -118,7 +118,8 @@ fn edges_at(kept: &IndexMap<(u32, u32), Vec<u32>>, i: usize) -> &[u32]
 }
 
 /// The quotient of `g` at `p`, a partition of its vertices: one edge for each pair of adjacent
-/// blocks, in lexicographic order of their places, with its remembered edges.
+/// blocks, in lexicographic order of their places, with its remembered edges. The only error is
+/// `Memory`.
 pub fn quotient(alloc: Global, g: &MultiGraph, p: &Partition) -> Result<Contracted, Memory>
     requires { p.now.order ≡ g.now.order }
     ensures { IfOk result (λ q. q ≡ contraction g.now p.now.blocks) }

@@ -19,7 +19,7 @@ pub struct ThreeSets {
     pub c: VSet,
 }
 
-/// The Gallai-Edmonds sets of `g`.
+/// The Gallai-Edmonds sets of `g`. The only error is `Memory`.
 pub fn sets(alloc: Global, g: &MultiGraph) -> Result<ThreeSets, Memory>
     ensures d { IfOk result (λ s. Lists g.now.order s.d (InD g.now)) }
     ensures a { IfOk result (λ s. Lists g.now.order s.a (InA g.now)) }

@@ -56,7 +56,7 @@ fn holds(cuts: &[VSet], shore: VSet) -> bool
 
 /// Appends ∂(`shore`) by its canonical shore, the one without the highest-numbered vertex `n`. The
 /// cut is left out if a side has fewer than three vertices or the list has it already. After
-/// `Memory` the list is unchanged.
+/// `Memory` the list is unchanged. Takes one pass over the list.
 pub fn add_cut(cuts: &mut SetList, n: u32, shore: VSet) -> Result<(), Memory>
     requires { Within MOST_VERTICES n }
     ensures ok { OnOk result (cuts.new ≡ with_cut n cuts.old shore) }

@@ -44,7 +44,7 @@ impl Model for MultiGraph {
 impl MultiGraph {
     ghost use Rattle.graph_core.specs.View.{IsWithinLimits};
 
-    /// The graph of `n` vertices without edges.
+    /// The graph of `n` vertices without edges. Takes O(n) time; the only error is `Memory`.
     pub fn new(alloc: Global, n: u32) -> Result<MultiGraph, Memory>
         requires { n ≤ MOST_VERTICES }
         ensures { IfOk result (λ g. g ≡ record { order = n; ends = [] }) }
@@ -93,7 +93,7 @@ impl MultiGraph {
         self.edges[e as usize - 1]
     }
 
-    /// Whether some edge joins `a` and `b`. Takes no memory.
+    /// Whether some edge joins `a` and `b`. Takes no memory. Takes constant time.
     pub fn adjacent(&self, a: u32, b: u32) -> bool
         requires first { Within self.now.order a }
         requires second { Within self.now.order b }
@@ -102,7 +102,7 @@ impl MultiGraph {
         self.rows[a as usize - 1].contains(b)
     }
 
-    /// The number of components.
+    /// The number of components. Takes O(n) steps on words; the only error is `Memory`.
     pub fn components(&self, alloc: Global) -> Result<u32, Memory>
         ensures { IfOk result (λ found. found ≡ component_count self.now none) }
     {
@@ -110,7 +110,8 @@ impl MultiGraph {
         Ok(forest.parts.len() as u32)
     }
 
-    /// The components of G - `set`, by least vertex.
+    /// The components of G - `set`, by least vertex. Takes O(n) steps on words; the only error is
+    /// `Memory`.
     pub fn components_without(&self, alloc: Global, set: VSet) -> Result<SetList, Memory>
         ensures { IfOk result (λ found. found ≡ components self.now (mem set)) }
     {
@@ -120,7 +121,8 @@ impl MultiGraph {
 
     /// Whether the graph is bipartite, with a certificate: `Even` comes if and only if it is, with
     /// the left side, which contains the least vertex of each component, and `Odd` if and only if
-    /// it is not, with a closed walk of odd length (König 1916).
+    /// it is not, with a closed walk of odd length (König 1916). Takes O(n + m) time; the only
+    /// error is `Memory`.
     pub fn two_sides(&self, alloc: Global) -> Result<Sides, Memory>
         ensures even { IfOk result (λ sides. IsEven sides ↔ IsBipartite self.now) }
         ensures sides { IfOk result (AreSides self.now) }

@@ -87,7 +87,8 @@ fn set_of(numbers: &[u32]) -> VSet
     set
 }
 
-/// One side of a bipartite graph; `None` exactly when the graph is not bipartite.
+/// One side of a bipartite graph; `None` if and only if the graph is not bipartite. Takes O(n + m)
+/// time; the only error is `Memory`.
 pub fn side_of(alloc: Global, g: &MultiGraph) -> Result<Option<VSet>, Memory>
     ensures some { IfOk result (λ o. (side : _) → o ≡ Some side → IsSide g.now (mem side)) }
     ensures none { IfOk result (λ o. (o ≡ None) ↔ ¬ (IsBipartite g.now)) }

@@ -6,7 +6,8 @@ ghost use Rattle.graph_core.specs.Common.{size, first_end, second_end, has_ends,
 use crate::MultiGraph;
 
 impl MultiGraph {
-    /// Whether the graph is simple: no two edges join the same two vertices. Takes no memory.
+    /// Whether the graph is simple: no two edges join the same two vertices. Takes no memory. Takes
+    /// O(m * m) time.
     pub fn simple(&self) -> bool
         ensures { IsTrue result ↔ IsSimple self.now }
     {

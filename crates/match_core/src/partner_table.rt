@@ -58,7 +58,7 @@ impl PartnerTable {
 /// `removed` are partners if there is a perfect matching of G - removed without these two. The row
 /// of a vertex of `removed` is empty. `m` is first made maximum in G - removed. If it then misses
 /// neither 0 nor 2 vertices, no row is searched; otherwise a row takes one search, after at most
-/// one augmentation.
+/// one augmentation. The only error is `Memory`.
 pub fn partners(
     alloc: Global,
     g: &MultiGraph,
@@ -131,7 +131,7 @@ fn empty_rows(alloc: Global, n: u32) -> Result<PartnerTable, Memory>
 }
 
 /// The partners of each vertex of `g`: u and v, different, are partners if G - u - v has a perfect
-/// matching.
+/// matching. Takes one maximum matching and at most n searches; the only error is `Memory`.
 pub fn all_partners(alloc: Global, g: &MultiGraph) -> Result<PartnerTable, Memory>
     ensures { IfOk result (ArePartners g.now none) }
 {

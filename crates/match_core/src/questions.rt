@@ -12,7 +12,7 @@ use std::alloc::{AllocError as Memory, Global};
 use vset_core::VSet;
 
 /// A perfect matching of G - removed, as a matching of `g`; `None` if and only if G - removed has
-/// none.
+/// none. Takes one maximum matching; the only error is `Memory`.
 pub fn perfect_without(
     alloc: Global,
     g: &MultiGraph,

@@ -61,7 +61,7 @@ fn add_pair_cuts(
 
 /// The nontrivial cuts that the cut pairs u < v of a bicritical covered graph give: ∂(V(K) + u) for
 /// each component K of G - u - v. Each cut is listed once, by its canonical shore, and is tight
-/// (Edmonds, Lovász and Pulleyblank 1982).
+/// (Edmonds, Lovász and Pulleyblank 1982). The only error is `Memory`.
 pub fn separation_cuts(alloc: Global, g: &MultiGraph) -> Result<SetList, Memory>
     requires covered { IsCovered g.now }
     requires bicritical { IsBicritical g.now }
