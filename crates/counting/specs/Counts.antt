@@ -17,7 +17,7 @@ abbrev pub total : ℕ → (ℕ → ℕ) → ℕ
 total zero f = 0
 total (suc n) f = total n f + f (suc n)
 
--- |{v in {1, .., n} : x v}|, the number of members of x from 1 to n
+-- |{v in {1, .., n} : p v}|: how many of 1 to n pass the test p
 abbrev pub count : ℕ → (ℕ → Bool) → ℕ
 count n p = total n (λ v. bit (p v))
 

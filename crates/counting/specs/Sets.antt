@@ -19,7 +19,7 @@ everything v = true
 abbrev pub singleton : ℕ → Set
 singleton v w = v == w
 
--- {u, v}
+-- {a, b}
 abbrev pub pair_set : ℕ → ℕ → Set
 pair_set a b v = (a == v) || (b == v)
 

@@ -6,7 +6,7 @@ use Rattle.graph_core.specs.Common.{Graph, in_cut, size}
 use Rattle.tight_cuts.specs.Common.{Candidate, candidate_of}
 use Rattle.tight_cuts.specs.declared.candidate.Candidate.{Candidate as StoredCandidate}
 
--- how many edges are in the cut of a candidate
+-- |∂(X)|, where X is the shore of a candidate
 abbrev pub width_of : Graph → Option StoredCandidate → ℕ
 width_of g None = 0
 width_of g (Some c) = count (size g) (in_cut g (mem c.shore))

@@ -15,7 +15,7 @@ is_least g s u = not (s u) && not (some g.order (λ v. joined g s u v && nat_lt 
 unfoldable pub component_count : Graph → Set → ℕ
 component_count g s = count g.order (is_least g s)
 
--- o(S): the number of components of g - s that have an odd number of vertices
+-- o(s): the number of components of g - s that have an odd number of vertices
 unfoldable pub odd_component_count : Graph → Set → ℕ
 odd_component_count g s = count g.order (λ u. is_least g s u && is_odd (count g.order (joined g s u)))
 

@@ -29,7 +29,7 @@ is_least_of_class g a = not (some g.order (λ b. nat_lt b a && is_equivalent g b
 unfoldable pub classes : Graph → List (List ℕ)
 classes g = map (λ a. rising_list g.order (is_equivalent g a)) (rising_list g.order (is_least_of_class g))
 
--- s is a barrier: o(S) = |S|
+-- s is a barrier: o(s) = |s|
 abbrev pub IsBarrier : Graph → Set → Type 0
 IsBarrier g s = odd_component_count g s ≡ count g.order s
 

@@ -6,11 +6,11 @@ use Rattle.counting.specs.Common.{count, is_odd, Within, Set, none, complement, 
 use Rattle.graph_core.specs.Graph.{Graph, size, first_end, second_end, edges_in_cut}
 use Rattle.graph_core.specs.Matchings.{IsPerfect, is_perfect}
 
--- each perfect matching has exactly one edge in ∂(x)
+-- |m ∩ ∂(x)| = 1 for each perfect matching m
 abbrev pub CutIsTight : Graph → Set → Type 0
 CutIsTight g x = (m : Set) → IsPerfect g none m → edges_in_cut g m x ≡ 1
 
--- x is a tight shore: both sides are odd, and each perfect matching has exactly one edge in ∂(x)
+-- x is a tight shore: |x| and |V - x| are odd, and |m ∩ ∂(x)| = 1 for each perfect matching m
 pub record IsTight (g : Graph) (x : Set) : Type 0 where
   pub odd : is_odd (count g.order x) ≡ true
   pub odd_complement : is_odd (count g.order (complement x)) ≡ true
@@ -20,7 +20,7 @@ pub record IsTight (g : Graph) (x : Set) : Type 0 where
 abbrev pub is_tight : Graph → Set → Bool
 is_tight g x = is_odd (count g.order x) && is_odd (count g.order (complement x)) && each_set (size g) (λ m. not (is_perfect g none m) || (edges_in_cut g m x == 1))
 
--- nontrivial: at least three of 1 to n are inside, and at least three outside
+-- nontrivial: |x| and |{1, .., n} - x| are at least 3
 pub record IsNontrivial (n : ℕ) (x : Set) : Type 0 where
   pub inside : 3 ≤ count n x
   pub outside : 3 ≤ count n (complement x)

@@ -25,7 +25,7 @@ pub record IsOpened (g : Graph) (r f m : Set) (n : ℕ) (c e : ℕ → ℕ) : Ty
 abbrev pub AreVertexSets : Graph → FinalSets → Type 0
 AreVertexSets g sets = (v : ℕ) → (mem sets.outer v ≡ true → Within g.order v) × (mem sets.inner v ≡ true → Within g.order v)
 
--- one more edge, or a frame for the same number of edges
+-- |m| = |f| + 1, or |m| = |f| and a frame for as many edges
 abbrev pub StepAnswer : Graph → Set → Set → Set → Answer → Type 0
 StepAnswer g r f m Grown = count (size g) m ≡ count (size g) f + 1
 StepAnswer g r f m (Final sets) = (count (size g) m ≡ count (size g) f) × Frame g r (count (size g) f) (mem sets.outer) (mem sets.inner) × AreVertexSets g sets
