@@ -105,7 +105,7 @@ pub record MayOpen (g : Graph) (r f m n : Set) (s : Instance) (mate : List ℕ) 
   pub opened : IsOpened g r f m (blossom_length b) (numbers b.cycle.items) edge
   pub mates : HasMates (without_blossom g b) (removed_with r b) n (numbers mate)
 
--- the mates are those of a matching `full` of g - r with |full| + |m| = |n| + |f|: it is larger than
--- f by as much as n is larger than m
+-- the mates are those of a matching `full` of g - r with |full| + |m| = |n| + |f|: it is larger
+-- than f by as much as n is larger than m
 abbrev pub IsCompleted : Graph → Set → Set → Set → Set → List ℕ → Type 0
 IsCompleted g r f m n mate = (full : Set) × HasMates g r full (numbers mate) × (count (size g) full + count (size g) m ≡ count (size g) n + count (size g) f)
