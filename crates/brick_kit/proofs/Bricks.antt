@@ -1,7 +1,7 @@
--- A nontrivial tight shore of a covered multigraph has a reason: a barrier of two vertices or
--- more, or a cut pair. A shore of a bicritical graph gives a list of balanced shores, which is
--- uncrossed to a cut pair; a graph that is not bicritical has a barrier by the law of Tutte and
--- Berge.
+-- A nontrivial tight shore of a covered multigraph has a reason: a barrier of at least two
+-- vertices, or a cut pair. A shore of a bicritical graph gives a list of balanced shores, which is
+-- uncrossed until it gives a cut pair; a graph that is not bicritical has a barrier by the theorem
+-- of Tutte and Berge.
 use Rattle.std.proofs.Common.{ℕ, suc, ◌+◌, ◌≤◌, ◌≢◌, ◌∷◌, ◌⊎◌, ◌↔◌, inl, inr, arith}
 use Rattle.counting.proofs.Common.{cases_eq, two_members, scan, Within, bit, count, Set, pair_set}
 use Rattle.graph_core.proofs.Common.{covered_perfect, IsCovered, Graph, IsBipartite, IsMultigraph, in_cut, HasPerfect, IsPerfect, IsBarrier, IsBicritical, IsCutPair, IsNontrivial, IsTight}

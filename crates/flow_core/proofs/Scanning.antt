@@ -1,6 +1,6 @@
--- The arcs at one node, scanned one by one: each has no room out of the node, or leads to a node
--- that is seen then. Idea: the arcs scanned so far stay scanned while the seen nodes grow, and
--- the rows list every arc at the node.
+-- The arcs at one node, scanned one by one: each is not residual out of the node, or leads to a
+-- node that has then been seen. Idea: the arcs scanned so far stay scanned while the set of seen
+-- nodes grows, and the rows list every arc at the node.
 use Rattle.std.proofs.Common.{◌≡◌, ◌≢◌, ℕ, ◌+◌, ◌≤◌, ◌<◌, ◌==◌, ◌||◌, true, false, List, [], ◌∷◌, ◌++◌, length, get_or, min, refl, sym, ◌∙◌, ap, subst, arith, inl, inr, eq-eqb, ne_eqb, below_more, length-append, ℤ, pos, ◌<ℤ◌, Contains}
 use Rattle.counting.proofs.Common.{or_right, or_left, get_or_read, get_or-append_seam, Within, Set, mem, row_of}
 use Rattle.std.proofs.lemmas.Int.{ints}

@@ -1,6 +1,6 @@
 -- The text of a graph is accepted, with a graph of the same order and the same adjacent pairs.
--- Idea: each of its bytes writes a digit, so that nothing is set aside; the bits that are read
--- are those that were written, with zeros after them.
+-- Idea: each of its bytes writes a digit, so nothing is removed from it; the bits that are read are
+-- those that were written, with zeros after them.
 use Rattle.std.proofs.Common.{◌≡◌, ℕ, ◌+◌, ◌-◌, ◌/◌, ◌%◌, ◌<◌, ◌≤◌, ◌≢◌, ◌==◌, ◌&&◌, Bool, true, false, cond, List, [], ◌∷◌, ◌++◌, length, map, take, drop, None, refl, sym, ap, ap₂, ◌∙◌, arith, leb, ltb, inl, inr, subst, codes, nat_eq, get_or, ne_eqb, le-ltb, drop_at}
 use Rattle.std.proofs.lemmas.Bool.{not_from_true, cond-false}
 use Rattle.counting.proofs.Common.{and_parts, and_from, and_left, or_from, both_ways, cases_lt, cases_order, false_from_ne_true, lt-leb, length-map, list_all, list_any, none}

@@ -1,4 +1,4 @@
--- The plain names `v1`, `v2` and so on are different names: a number below 10 ^ 9 is written in
+-- The default names `v1`, `v2` and so on are different names: a number below 10 ^ 9 is written in
 -- one to nine digits, and is read again, so that equal names have equal numbers. Each name after
 -- the others is therefore new, by induction over their number.
 use Rattle.std.proofs.Common.{◌≡◌, ◌≤◌, ◌<◌, ◌^◌, ℕ, zero, suc, true, false, [], ◌∷◌, ◌++◌, length, refl, ◌∙◌, ap, ap₂, ◌||◌, arith}

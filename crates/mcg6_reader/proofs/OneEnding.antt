@@ -1,5 +1,5 @@
--- Where no line has both an output and an error, a list that was processed to its end has no bad
--- line, and the first bad line of any other is one: by induction on the lines before it. A header
+-- If no line has both an output and an error, a list that was processed to its end has no bad line,
+-- and the first bad line of any other list is unique: by induction on the lines before it. A header
 -- is short, so that it is not bad.
 use Rattle.std.proofs.Common.{◌≡◌, inl, inr, ℕ, ◌≤◌, List, [], ◌∷◌, ◌++◌, length, refl, sym, ◌∙◌, ap, ap₂, subst, arith, IsTrue}
 use Rattle.std.specs.declared.option.Option.{Option}

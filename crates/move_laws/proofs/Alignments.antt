@@ -1,5 +1,4 @@
--- Two lists side by side, and orders: lists of numbers that hold k + 1 to k + n once each and no
--- other number.
+-- Two lists side by side, and orders: lists that contain k + 1 to k + n once each and nothing else.
 use Rattle.std.proofs.Common.{◌≡◌, ℕ, suc, zero, ◌+◌, ◌≤◌, ◌<◌, cond, List, [], ◌∷◌, ◌++◌, length, ◌⊎◌, inl, inr, refl, sym, ap, ap₂, ◌∙◌, arith, eq-eqb, ne_eqb, slice_index, slice_index_or}
 use Rattle.counting.proofs.Common.{cases_lt, bit, times}
 use Rattle.tree_core.proofs.Common.{numbers, position}

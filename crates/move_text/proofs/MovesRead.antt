@@ -1,5 +1,5 @@
--- What is read of a text can be written again. Along the lines of a text the moves read so far
--- keep the limits, and their sets are nonempty and rise within 1 to n: each line keeps this,
+-- What is read of a text can be written again. Along the lines of a text the moves read so far keep
+-- the limits, and their sets are nonempty, increasing and within 1 to n: each line keeps this,
 -- since it passed the tests of the table.
 use Rattle.std.proofs.Common.{◌≡◌, ◌≤◌, ◌<◌, ◌==◌, ◌&&◌, ◌||◌, ◌^◌, codes, not, nat_le, if◌then◌else◌, ℕ, List, [], ◌∷◌, ◌++◌, Bool, length, true, false, Option, Some, None, Result, Ok, Err, IfOk, refl, sym, ◌∙◌, ap, subst, arith}
 use Rattle.counting.proofs.Common.{AllByRecursion, list_all, list_any, and_parts, or_parts, not-false, nat_tests, length-map, length-append}

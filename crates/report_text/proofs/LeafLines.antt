@@ -1,5 +1,5 @@
 -- The lines of the leaves grow by those of one leaf: those before it give their own kinds. By
--- induction over the leaves, and what stands at a place stays where a kind is appended.
+-- induction over the leaves, and the items before stay when a kind is appended.
 use Rattle.std.proofs.Common.{◌≡◌, ◌≤◌, ℕ, zero, suc, ◌+◌, ◌-◌, List, [], ◌∷◌, ◌++◌, length, map, refl, slice_get, Some, arith}
 use Rattle.std.proofs.Math.ListN.{get_or-append}
 use Rattle.counting.proofs.Common.{get_or-append_seam}

@@ -1,6 +1,6 @@
 -- The shores of all cut pairs as the code goes through them: the pairs in order, and at each cut
--- pair the components in order. A step of the loop is a step of the fold; where no cut pair is,
--- nothing is added.
+-- pair the components in order. A step of the loop is a step of the fold; a pair that is not a cut
+-- pair adds nothing.
 use Rattle.std.proofs.Common.{◌≡◌, ℕ, ◌+◌, ◌<◌, ◌≤◌, true, false, ◌==◌, ◌||◌, cond, not, ap, arith, List, [], ◌∷◌, ◌++◌, map, flat_map, filter, fold, length, take, get_or, append-nil, All, is_none, eqb-true}
 use Rattle.counting.proofs.Common.{le-leb, or_cases, get_or-map, length-map, map-append, take_all, take_more, All-map, mem-within, list-from_test, rising_list-rises, set-narrower, Within, IsRisingIn, mem, rising_list, rising_pairs, Set, pair_set, singleton, union}
 use Rattle.std.proofs.lemmas.Grind.{flat_map-append}

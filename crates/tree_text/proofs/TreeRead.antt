@@ -1,5 +1,5 @@
--- What is read of a text can be written again. Along the lines of a text the shores read so far
--- are nonempty, rise and lie below n, and the nodes are counted: each line keeps this, since it
+-- What is read of a text can be written again. Along the lines of a text the shores read so far are
+-- nonempty, increasing and below n, and the nodes are counted: each line keeps this, since it
 -- passed the tests of the table, and so does a tree put at a place.
 use Rattle.std.proofs.Common.{◌≡◌, ◌+◌, ◌-◌, ◌≤◌, ◌<◌, ◌==◌, codes, ◌||◌, ◌^◌, not, nat_le, if◌then◌else◌, ℕ, List, [], ◌∷◌, All, Bool, length, map, true, false, Option, Some, None, Result, Ok, IfOk, refl, sym, subst, arith}
 use Rattle.counting.proofs.Common.{list_all, list_any, and_parts, both_ways, not-false, nat_tests, Within, mem}

@@ -1,7 +1,7 @@
--- What is written of a tree is read as this tree. The header leads to the root, and by induction
+-- The text written for a tree is read as this tree. The header leads to the root, and by induction
 -- the lines of a tree lead from any place to this tree put at the place: the line of a cut leads
 -- below it, its `kept` tree put there leads to the place of its `merged` tree, and this one put
--- there makes the cut whole. No test of the table applies.
+-- there completes the cut. No test of the table applies.
 use Rattle.std.proofs.Common.{◌≡◌, ◌+◌, ◌-◌, ◌≤◌, ◌<◌, ◌^◌, nat_lt, ℕ, suc, List, [], ◌∷◌, ◌++◌, All, length, map, get_or, codes, true, false, Some, Ok, refl, sym, subst, arith}
 use Rattle.std.specs.Fmt.{decimal}
 use Rattle.counting.proofs.Common.{AllByRecursion, list_all, list_any, length-map, and_from, false_from_ne_true, nat_tests, mem-within, Within, mem}

@@ -1,6 +1,7 @@
--- A barrier of a covered graph without further edges: each component is odd, and each perfect
--- matching has one edge that leaves it. A part of a barrier leaves no more components than it has
--- vertices, and parts that leave as many have such a meet.
+-- A barrier of a covered graph to which no edges are added: each component it leaves is odd, and
+-- each perfect matching has one edge that leaves the component. A part of a barrier leaves at most
+-- as many components as it has vertices, and if two parts leave as many, so does their
+-- intersection.
 use Rattle.std.proofs.Common.{◌≡◌, ℕ, suc, zero, ◌+◌, ◌*◌, ◌≤◌, ◌≢◌, Bool, true, false, refl, sym, ap, ◌∙◌, arith, ◌&&◌, ◌||◌, not, inl, inr, nat_lt, lt-ltb, List}
 use Rattle.counting.proofs.Common.{same_tests, cases_Bool, and_parts, and_from, both_ways, true≢false, false_from_ne_true, not-true, count_meet_union, bit_true, count_congr, count_le_one, some_none, some_true, at_le_total, total_add, total_congr, total_le, total_mul, total_none, total_tight, Within, bit, count, is_odd, Set, meet, none, singleton, union, some}
 use Rattle.barrier_kit.proofs.Common.{cut_edge, crosses_apart, loop_free}
