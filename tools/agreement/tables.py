@@ -10,7 +10,7 @@ import re
 
 # The formats by the names that the code gives them, with their sections in FORMATS.
 SECTIONS = {"Graph": "Graph format", "Derivation": "Derivation format", "Picks": "Pick format", "Ears": "Ear format", "Moves": "Move format"}
-# The words of the usage that stand for words which the manual page writes out.
+# The abbreviations of the usage that the manual page writes out.
 WRITTEN_OUT = {"first | last | balanced": "ORDER"}
 wrong = []
 

@@ -1,4 +1,4 @@
--- An edge is allowed exactly when its ends are partners; the list of the allowed edges, the least
+-- An edge is allowed if and only if its ends are partners; the list of the allowed edges, the least
 -- edge that is none, and whether a maximum matching is perfect. A perfect matching with the edge,
 -- less the edge, is perfect without its ends, and back. A perfect matching is as large as any.
 use Rattle.std.proofs.Common.{◌≡◌, ◌↔◌, ℕ, ◌==◌, ◌||◌, List, refl, ◌∙◌, arith, eq-eqb, inl, inr}
@@ -26,7 +26,7 @@ module _ (g : Graph) (is : IsMultigraph g) (e : ℕ) (we : Within (size g) e) wh
       (λ t. is_allowed_found g e we (perfect-allowed (has_perfect_says g (pair_set (first_end g e) (second_end g e)) t)))
       (λ t. has_perfect_found g (pair_set (first_end g e) (second_end g e)) (allowed-perfect (is_allowed_says g e t)))
 
--- the row of one end tells whether the edge is allowed
+-- the row of one end says whether the edge is allowed
 pub row-allowed : (g : Graph) (table : List (List ℕ)) (row : List ℕ) (e a b : ℕ) → IsMultigraph g → Within (size g) e → ArePartners g none table → row ≡ item table a → a ≡ first_end g e → b ≡ second_end g e → mem row b ≡ is_allowed g e
 row-allowed g table row e a b is we are row_is first second = grind (arith, partners-allowed g is e we)
 
@@ -34,7 +34,7 @@ row-allowed g table row e a b is we are row_is first second = grind (arith, part
 pub listed-allowed : (g : Graph) (es : List ℕ) → es ≡ rising_list (size g) (is_allowed g) → Lists (size g) es (Allowed g)
 listed-allowed g es q = grind (arith, rising_list-rises (size g) (is_allowed g), rising_only (size g) (is_allowed g), is_allowed_says g, mem-rising_list (size g) (is_allowed g), is_allowed_found g)
 
--- a maximum matching misses no vertex exactly when there is a perfect matching
+-- a maximum matching misses no vertex if and only if there is a perfect matching
 pub maximum-perfect : (g : Graph) (m : Set) → IsGraph g → IsMaximum g none m → (missed_count g none m ≡ 0) ↔ HasPerfect g none
 maximum-perfect g m is max = grind (arith, none_missed-perfect g none m max.is, perfect_matching g none, missed_edges g none m is max.is, missed_edges g none, perfect_misses g none)
 

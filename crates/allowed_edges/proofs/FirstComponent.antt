@@ -4,7 +4,7 @@ use Rattle.std.proofs.Common.{◌≡◌, ℕ, suc, zero, ◌≤◌, ◌<◌, tru
 use Rattle.counting.proofs.Common.{both_ways, and_parts, false_from_ne_true, mem-rising_list, some_true, but_fails_second, Within, IsLeastOf, mem, rising_list, Set, none, IsLeastWithout}
 use Rattle.graph_core.proofs.Common.{IsConnected, components, is_least, Graph, IsGraph, Joined, joined, joined_walk, walk_joined, joined_back, joined_on}
 
--- a rising list that may begin with 1 does
+-- an increasing list that may begin with 1 does
 begins_with_one : (n : ℕ) (x : Set) → 1 ≤ n → x 1 ≡ true → (ys : List ℕ) × (rising_list n x ≡ 1 ∷ ys)
 begins_with_one zero x l h = absurd (omega arith)
 begins_with_one (suc zero) x l h = ([], ap (λ b. cond b (1 ∷ []) []) h)
@@ -27,7 +27,7 @@ pub some_component : (g : Graph) → 1 ≤ g.order → 0 < length (components g 
 unfolding components
 some_component g l = grind (arith, begins_with_one g.order (is_least g none) l (one_is_least g), one_is_least g)
 
--- a vertex is in this list exactly when a walk joins it to 1
+-- a vertex is in this list if and only if a walk joins it to 1
 in_first : (g : Graph) → IsGraph g → 1 ≤ g.order → (v : ℕ) → Within g.order v → mem (rising_list g.order (joined g none 1)) v ≡ true → Joined g none 1 v
 in_first g is l v w m = joined_walk g none 1 v (sym (mem-rising_list g.order (joined g none 1) v w) ∙ m)
 

@@ -1,5 +1,5 @@
--- A listed matching that holds an edge. It is one of the list, so it is perfect; and a row with the
--- edge is a place of it in the list of its edges.
+-- A listed matching that contains an edge. It is one of the list, so it is perfect; and a row with
+-- the edge is a place of it in the list of its edges.
 use Rattle.std.proofs.Common.{◌≡◌, ℕ, suc, zero, ◌<◌, true, ◌==◌, List, [], ◌∷◌, length, get_or, map, sym, ap, ◌∙◌, arith, eq-eqb, subst, Some, slice_get}
 use Rattle.counting.proofs.Common.{get_or-map, length-map, or_left, or_right, mem, none}
 use Rattle.graph_core.proofs.Common.{Graph, IsPerfect}

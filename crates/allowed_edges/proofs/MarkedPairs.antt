@@ -45,7 +45,7 @@ blank_length n (row ∷ rows) all (suc e) l = blank_length n rows (All-tail (λ 
 pub blank_square : (n : ℕ) (rows : List (Vec Bool)) → All (λ (row : Vec Bool). row.items ≡ replicate n false) rows → length rows ≡ n → IsSquare (rows_of rows)
 blank_square n rows all long e l = let m = length-map rows marks_in in blank_length n rows all e (omega arith) ∙ sym long ∙ sym m
 
--- one row more is marked
+-- one more row is marked
 module _ (old now after : List (List Bool)) (rows : List MatchRow) (i : ℕ) (row : MatchRow) (m : ℕ → Bool) (read : slice_get rows i ≡ Some row) (others : (d : ℕ) → d ≢ row.edge → row_of after d ≡ row_of now d) where
   pub square_more : length after ≡ length now → length (row_of after row.edge) ≡ length (row_of now row.edge) → IsSquare now → IsSquare after
   square_more long same square e l = grind arith

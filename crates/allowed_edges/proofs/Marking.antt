@@ -23,7 +23,7 @@ edge-below n rows i row all q = subst (λ (r : MatchRow). r.edge < n) (get_or_fr
 pub length-marked : (xs : List Bool) (e : ℕ) → length (slice_set xs e true) ≡ length xs
 length-marked xs e = search rules
 
--- one row more is taken
+-- one more row is taken
 pub edges-more : (rows : List MatchRow) (i : ℕ) (row : MatchRow) (j : ℕ) → slice_get rows i ≡ Some row → mem (map edge_of (take (suc i) rows)) j ≡ (mem (map edge_of (take i rows)) j || (row.edge == j))
 edges-more [] i row j q = cc
 edges-more (r ∷ rows) zero row j q = let e : r ≡ row = cc in ap (λ (r : MatchRow). (r.edge == j) || false) e ∙ (grind arith)
@@ -32,7 +32,7 @@ edges-more (r ∷ rows) (suc i) row j q = ap (λ b. (r.edge == j) || b) (edges-m
     assoc : (a b d : Bool) → (a || (b || d)) ≡ ((a || b) || d)
     assoc a b d = grind arith
 
--- the marks of one row more
+-- the marks of one more row
 pub marks-more : (old now : List Bool) (rows : List MatchRow) (i : ℕ) (row : MatchRow) → slice_get rows i ≡ Some row → row.edge < length now →
     ((j : ℕ) → marks now j ≡ (marks old j || mem (map edge_of (take i rows)) j)) → (j : ℕ) → marks (slice_set now row.edge true) j ≡ (marks old j || mem (map edge_of (take (i + 1) rows)) j)
 marks-more old now rows i row q l h j =

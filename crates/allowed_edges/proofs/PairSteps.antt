@@ -1,6 +1,6 @@
--- One perfect matching more in a list of them, each of which holds something new; and what such a
--- list settles. What a list holds it still holds when it is longer; the new matching holds a pair
--- that no listed one holds.
+-- One more perfect matching in a list of them, each of which holds something new; and what such a
+-- list settles. What a list contains it still holds when it is longer; the new matching holds a
+-- pair that no listed one holds.
 use Rattle.std.proofs.Common.{◌≡◌, ◌≢◌, ℕ, ◌+◌, ◌-◌, ◌<◌, true, false, ◌&&◌, ◌||◌, ◌==◌, ◌↔◌, List, [], ◌∷◌, ◌++◌, length, get_or, map, filter, refl, sym, ap, ap₂, ◌∙◌, arith, inl, inr, subst, eqb-true, length-append, All, Any}
 use Rattle.counting.proofs.Common.{and_from, and_parts, both_ways, cases_eq, cases_order, false_from_ne_true, or_cases, or_left, or_right, get_or_append_left, map-append, list_any-append, or_false, get_or-append_seam, Within, IsRisingIn, mem, none}
 use Rattle.std.proofs.lemmas.List.Elements.{All-push}
@@ -23,11 +23,11 @@ still_held ms es e f h = held_more ms es e f ∙ or_left (holds_both ms e f) (me
 pub now_held : (ms : List (List ℕ)) (es : List ℕ) (e f : ℕ) → mem es e ≡ true → mem es f ≡ true → holds_both (ms ++ es ∷ []) e f ≡ true
 now_held ms es e f he hf = held_more ms es e f ∙ or_right (holds_both ms e f) (mem es e && mem es f) (and_from (mem es e) (mem es f) he hf)
 
--- a list of matchings that holds both edges of no pair is not part of what holds them
+-- a list of matchings that contains both edges of no pair is not part of what holds them
 not_held : (ms : List (List ℕ)) (e f : ℕ) → holds_both ms e f ≡ false → (j : ℕ) → j < length ms → (mem (get_or ms j []) e && mem (get_or ms j []) f) ≡ false
 not_held ms e f h j l = false_from_ne_true (mem (get_or ms j []) e && mem (get_or ms j []) f) (λ t. both_ways (holds_both ms e f) h (list_any_at (λ m. mem m e && mem m f) ms j [] l t))
 
--- one matching more, which holds a pair that no listed one holds
+-- one more matching, which holds a pair that no listed one holds
 pub lean_more : (ms : List (List ℕ)) (es : List ℕ) (e f : ℕ) → IsLean ms → mem es e ≡ true → mem es f ≡ true → holds_both ms e f ≡ false → IsLean (ms ++ es ∷ [])
 lean_more ms es e f lean he hf new k w = elim (cases_eq k (length ms + 1)) [
   | inl q ↦ record {
@@ -54,11 +54,11 @@ grown_more g ms es e f grown rises perfect he hf new = record {
   lean = lean_more ms es e f grown.lean he hf new;
 }
 
--- the values with one matching more
+-- the values with one more matching
 pub lists_more : (p q : PairsValue) (m : MatchingValue) → q.list ≡ p.list ++ m ∷ [] → edge_lists q ≡ edge_lists p ++ edges_of m ∷ []
 lists_more p q m list = ap (λ (ms : List MatchingValue). map edges_of ms) list ∙ map-append edges_of p.list (m ∷ [])
 
--- one matching more, which holds a pair that no listed one holds, settles no less
+-- one more matching, which holds a pair that no listed one holds, settles no less
 pub settles_more : (g : Graph) (e : ℕ) (p q : PairsValue) (m : MatchingValue) (a b : ℕ) → SettlesEdges g e p → q.size ≡ p.size → q.list ≡ p.list ++ m ∷ [] → IsOf g m → KeepsMatching m → IsPerfect g none (mem (edges_of m)) →
     mem (edges_of m) a ≡ true → mem (edges_of m) b ≡ true → holds_both (edge_lists p) a b ≡ false → SettlesEdges g e q
 settles_more g e p q m a b s same list of keeps perfect ha hb new = record {
@@ -68,7 +68,7 @@ settles_more g e p q m a b s same list of keeps perfect ha hb new = record {
   done = λ x y wx wy l k t. ap (λ ms. holds_both ms x y) (lists_more p q m list) ∙ still_held (edge_lists p) (edges_of m) x y (s.done x y wx wy l k t);
 }
 
--- one pair more that is held, or that does not lie together
+-- one more pair that is held, or that does not lie together
 pub settles_pair : (g : Graph) (e f : ℕ) (p : PairsValue) → SettlesPairs g e f p → (Together g e f → holds_both (edge_lists p) e f ≡ true) → SettlesPairs g e (f + 1) p
 settles_pair g e f p s h = grind arith
 

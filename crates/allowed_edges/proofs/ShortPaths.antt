@@ -40,7 +40,7 @@ module _ (g : Graph) (m : MatchingValue) (of : IsOf g m) (keeps : KeepsMatching 
       matching_alike g r (put (mem (edges_of m)) k true) n (λ e we. h e ∙ with_put (mem (edges_of m)) k e)
       (add_edge g r (mem (edges_of m)) k (first_end g k) (second_end g k) mm wk (is.no_loop k wk) ra rb (inl (refl, refl)) (no_edge (first_end g k) fa) (no_edge (second_end g k) fb)).0
 
--- what a matching of g without met misses, with its ends and with met, are all vertices
+-- what a matching of g - met misses, with its ends and with met, are all vertices
 pub off_size : (g : Graph) (met : List ℕ) (m : MatchingValue) → IsGraph g → IsRisingIn 128 met → KeepsMatching m → IsMatchingOff g met m → missed_count g (mem met) (mem (edges_of m)) + 2 * length m.rows + length met ≡ g.order
 off_size g met m is rises keeps off = left_size g met m is (set-narrower 128 g.order met rises (λ v t. (off.within v t).1)) off.of keeps off.matching
 

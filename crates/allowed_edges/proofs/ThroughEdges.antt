@@ -11,7 +11,7 @@ use Rattle.match_core.proofs.ClearedMatchings.{left_misses}
 use Rattle.match_search.proofs.Gluing.{cut_off, glued, meet_more}
 use Rattle.allowed_edges.specs.Leaving.{LeavesFew, ShareNone}
 
--- a perfect matching is what it answers at the edges
+-- being a perfect matching depends only on the values at the edges
 pub perfect_alike : (g : Graph) (r m n : Set) → ((e : ℕ) → n e ≡ m e) → IsPerfect g r m → IsPerfect g r n
 perfect_alike g r m n h p = grind arith
 
@@ -91,7 +91,7 @@ module _ (g : Graph) (is : IsMultigraph g) (e f : ℕ) (we : Within (size g) e) 
       let free = ends_free g e f x y empty first apart in
       meet_more g (put none e true) y z f (first_end g f) (second_end g f) wf (inl (refl, refl)) (is.no_loop f wf) (put_off none e true f (apart_differ g e f apart)) (one_meets g is e x y we empty first) free.0 free.1 second
 
-  -- a perfect matching that holds the first leaves few vertices missed
+  -- a perfect matching that contains the first leaves few vertices missed
   pub two_leave : (m : Set) → IsPerfect g none m → m e ≡ true → LeavesFew g z m
   two_leave m perfect me = left_misses g is.ends m pair z f perfect two_meet wf (put_at (put none e true) f true) (λ i wi ci other. elim (put_only (put none e true) f i ci) [
     | inl q ↦ absurd (other q)

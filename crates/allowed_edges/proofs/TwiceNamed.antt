@@ -20,7 +20,7 @@ named_matching g at m is names = grind (arith, apart_matching g m is.ends is.no_
 pub length_tested : (mark : List Bool) (e : ℕ) (b : Bool) → length (slice_set mark e b) ≡ length mark
 length_tested mark e b = search rules
 
--- one edge more is tested
+-- one more edge is tested
 pub named_more : (g : Graph) (at : List ℕ) (mark : List Bool) (e : ℕ) (b : Bool) → e < length mark → ((k : ℕ) → marks mark k ≡ true → NamesEdge g at k) → (b ≡ true → NamesEdge g at e) → (k : ℕ) → marks (slice_set mark e b) k ≡ true → NamesEdge g at k
 named_more g at mark e b l before here k t = grind (arith, cases_eq e k, get_or-set_same mark e b false l, slice_set mark e b, get_or-set_other mark e k b false)
 

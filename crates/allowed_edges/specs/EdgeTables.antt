@@ -9,11 +9,12 @@ use Rattle.match_search.specs.Common.{marks}
 abbrev pub rows_of : List (Vec Bool) → List (List Bool)
 rows_of rows = map (λ (row : Vec Bool). row.items) rows
 
--- as many marks in each row as rows
+-- each row has as many marks as there are rows
 abbrev pub IsSquare : List (List Bool) → Type 0
 IsSquare table = (e : ℕ) → e < length table → length (row_of table e) ≡ length table
 
--- a square table for the edges 1 to n, which marks f in the row of e exactly when both answers true
+-- a square table for the edges 1 to n, which marks f in the row of e if and only if both tests are
+-- true
 pub record MarksPairs (n : ℕ) (both : ℕ → ℕ → Bool) (table : List (List Bool)) : Type 0 where
   pub long : length table ≡ n + 1
   pub square : IsSquare table

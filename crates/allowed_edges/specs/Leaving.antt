@@ -1,23 +1,22 @@
--- Matchings off a set of vertices, and what a matching leaves when the edges with an end in the
--- set are taken out of it.
+-- Matchings of G - X, and what is left of a matching when the edges with an end in X are removed.
 -- Stated by: allowed_edges, tight_cuts.
 use Rattle.std.specs.Prelude.{◌≡◌, ℕ, ◌⊎◌, Bool, true, List, ◌||◌, ◌==◌}
 use Rattle.counting.specs.Common.{Within, mem, Set}
 use Rattle.graph_core.specs.Common.{Graph, first_end, second_end, IsEnd, IsMatching, IsPerfect, missed_count}
 use Rattle.match_core.specs.Common.{IsOf, MatchingValue, edges_of, left_over}
 
--- m is a matching of g without met, a set of vertices of g
+-- m is a matching of g - met, where met is a set of vertices of g
 pub record IsMatchingOff (g : Graph) (met : List ℕ) (m : MatchingValue) : Type 0 where
   pub of : IsOf g m
   pub within : (v : ℕ) → mem met v ≡ true → Within g.order v
   pub matching : IsMatching g (mem met) (mem (edges_of m))
 
--- m is a perfect matching of g without met
+-- m is a perfect matching of g - met
 pub record IsPerfectOff (g : Graph) (met : List ℕ) (m : MatchingValue) : Type 0 where
   pub of : IsOf g m
   pub perfect : IsPerfect g (mem met) (mem (edges_of m))
 
--- the edges of m without an end in x miss no vertex outside x, or two
+-- the edges of m without an end in x miss no vertex outside x, or exactly two
 abbrev pub LeavesFew : Graph → Set → Set → Type 0
 LeavesFew g x m = (missed_count g x (left_over g x m) ≡ 0) ⊎ (missed_count g x (left_over g x m) ≡ 2)
 

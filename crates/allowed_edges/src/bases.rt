@@ -1,4 +1,4 @@
-//! Perfect matchings from which pairs of an edge are sought.
+//! Perfect matchings from which a search for another one starts.
 ghost use Rattle.std.specs.Prelude.{◌≡◌, true, IfOk, Some, None};
 ghost use Rattle.counting.specs.Common.{Within, mem, none};
 ghost use Rattle.graph_core.specs.Common.{size, Allowed, IsPerfect};
@@ -12,8 +12,8 @@ use match_core::Matching;
 use std::alloc::{AllocError as Memory, Global};
 use vset_core::VSet;
 
-/// A perfect matching that holds `e`: a listed one if there is one, and else one by one
-/// augmentation of `kept`; `None` only if no perfect matching holds it.
+/// A perfect matching that contains `e`: a listed one if there is one, otherwise one that at most
+/// one augmentation of `kept` gives; `None` only if no perfect matching contains it.
 pub fn base_with_edge(
     alloc: Global,
     g: &MultiGraph,
@@ -34,7 +34,7 @@ pub fn base_with_edge(
     }
 }
 
-// The first listed matching that holds `e`.
+// The first listed matching that contains `e`.
 fn listed_base(
     alloc: Global,
     g: &MultiGraph,
@@ -55,7 +55,7 @@ fn listed_base(
     Ok(None)
 }
 
-// Whether the matching holds `e`.
+// Whether the matching contains `e`.
 fn holds(m: &Matching, e: u32) -> bool
     ensures { result ≡ true → mem (edges_of m.now) e ≡ true }
 {
@@ -67,7 +67,7 @@ fn holds(m: &Matching, e: u32) -> bool
     false
 }
 
-/// The same matching once more.
+/// A copy of the matching.
 pub(crate) fn copied(alloc: Global, m: &Matching) -> Result<Matching, Memory>
     ensures { IfOk result (λ copy. copy ≡ m.now) }
 {

@@ -1,4 +1,4 @@
-//! The edges that lie in perfect matchings.
+//! The allowed edges: those in perfect matchings.
 ghost use Rattle.std.specs.Prelude.{◌≡◌, ◌↔◌, None, IfSome, IfOk};
 ghost use Rattle.counting.specs.Common.{Within, none, Lists};
 ghost use Rattle.graph_core.specs.Common.{size, Allowed, HasPerfect, is_allowed};
@@ -9,8 +9,9 @@ use graph_core::{MultiGraph, Numbers};
 use match_core::{PartnerTable, maximum};
 use std::alloc::{AllocError as Memory, Global};
 
-/// The edges that lie in perfect matchings, in rising order. A graph without a perfect matching
-/// has none.
+/// The edges that lie in perfect matchings, in increasing order. A graph without a perfect matching
+/// has none. Takes one maximum matching, at most n searches and O(m) further steps; the only error
+/// is `Memory`.
 pub fn allowed(alloc: Global, g: &MultiGraph) -> Result<Numbers, Memory>
     ensures { IfOk result (λ edges. Lists (size g.now) edges (Allowed g.now)) }
 {
@@ -19,8 +20,8 @@ pub fn allowed(alloc: Global, g: &MultiGraph) -> Result<Numbers, Memory>
     allowed_in(alloc, g, &table)
 }
 
-/// The edges that `allowed` answers, from the table of partners of `g` where it has a perfect
-/// matching.
+/// The edges that `allowed` returns, from the table of partners of `g` if it has a perfect
+/// matching. Takes O(m) time; the only error is `Memory`.
 pub fn allowed_in(
     alloc: Global,
     g: &MultiGraph,
@@ -50,8 +51,8 @@ fn partnered(alloc: Global, g: &MultiGraph, table: &PartnerTable) -> Result<Numb
     Ok(edges)
 }
 
-/// Whether edge `e` lies in a perfect matching: exactly when its ends are partners. Takes no
-/// memory.
+/// Whether edge `e` lies in a perfect matching: it does if and only if its ends are partners. Takes
+/// no memory. Takes constant time.
 pub fn is_allowed_in(g: &MultiGraph, table: &PartnerTable, e: u32) -> bool
     requires edge { Within (size g.now) e }
     requires table { ArePartners g.now none table.now }

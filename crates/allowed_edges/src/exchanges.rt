@@ -1,5 +1,5 @@
-//! Perfect matchings exchanged along alternating cycles of four edges. Nothing is promised of what
-//! comes out, and it is tested before it is used (`varied`).
+//! Perfect matchings exchanged along alternating cycles of length four. Nothing is promised about
+//! the result; it is tested before it is used (`varied`).
 ghost use Rattle.std.specs.Prelude.{◌≡◌, ◌≢◌, true};
 ghost use Rattle.counting.specs.Common.{Within};
 ghost use Rattle.graph_core.specs.Common.{size};
@@ -13,7 +13,7 @@ use vset_core::MOST_VERTICES;
 // One place for each vertex number, and one for 0.
 const PLACES: usize = MOST_VERTICES as usize + 1;
 
-/// For each two vertices an edge that joins them, 0 if there is none.
+/// For any two vertices an edge that joins them, or 0 if there is none.
 #[derive(Drop)]
 pub(crate) struct Joins {
     row: Vec<u32>,
@@ -37,18 +37,18 @@ impl Joins {
     }
 }
 
-/// The number at a place of a row; past its end 0.
+/// The number at a place of a row, or 0 past its end.
 pub(crate) fn number_at(row: &[u32], i: usize) -> u32
     ensures { result ≢ 0 → result ≡ numbers row.now i }
 {
     if i < row.len() { row[i] } else { 0 }
 }
 
-/// For each vertex the edge at it after exchanges in a perfect matching that holds `e` and `f`:
-/// each
-/// edge that is not marked is put in if two edges in place of two allow it, and both that go are
-/// marked and neither `e` nor `f`. Marked are first the edges that are known to lie together with
-/// `e`, then those with `f`; what goes then is marked for both.
+/// For each vertex the edge at it after exchanges in a perfect matching that contains `e` and `f`.
+/// Each edge that is not marked is put in if an exchange of two edges for two allows it, provided
+/// that both edges that are taken out are marked and neither is `e` or `f`. In a first pass the
+/// marked edges are those known to lie together with `e`, in a second those with `f`; the edges
+/// taken out are always marked for `e`.
 pub(crate) fn exchanged(
     alloc: Global,
     g: &MultiGraph,
@@ -65,7 +65,7 @@ pub(crate) fn exchanged(
     Ok(at)
 }
 
-// Puts in the edges that are not marked in the first row; what goes is marked in both.
+// Puts in edges that are not marked in the first row; the edges taken out are marked in both.
 fn put_in(
     at: &mut [u32],
     g: &MultiGraph,
@@ -93,7 +93,7 @@ fn edges_at(alloc: Global, m: &Matching) -> Result<Vec<u32>, Memory> {
     Ok(at)
 }
 
-// Puts edge `k` in, with the edge between the far ends of the two that go.
+// Puts edge `k` in, with the edge between the far ends of the two that are taken out.
 fn exchange(
     at: &mut [u32],
     g: &MultiGraph,
@@ -127,7 +127,7 @@ fn exchange(
     put(at, b as usize, closing);
 }
 
-// Whether edge `d` may go: it is marked in both rows.
+// Whether edge `d` may be taken out: it is marked in both rows.
 fn may_go(marked: &[bool], also: &[bool], d: u32) -> bool {
     is_marked(marked, d) && is_marked(also, d)
 }

@@ -1,24 +1,18 @@
-//! Allowed edges, the verdict on a graph, and the table of the pairs of edges that lie together.
+//! Allowed edges, whether a graph is matching covered, and which pairs of edges lie together.
 //!
-//! An edge is allowed if some perfect matching contains it (`Allowed` of `graph_core`), and a
-//! graph is matching covered if it has at least two vertices, is connected, and all its edges are
-//! allowed (`IsCovered`). `allowed` lists exactly the allowed edges. `covered` answers whether the
-//! graph is matching covered and, where it is not, the first reason that applies (`IsVerdict`):
-//! fewer than two vertices, no connection, no perfect matching, or the least edge that is not
-//! allowed. Both are read off the table of partners: an edge is allowed exactly when its ends are
-//! partners. `allowed_in` and `verdict_in` take a table that is at hand.
+//! An edge is allowed if some perfect matching contains it (`Allowed`). `allowed` lists the allowed
+//! edges. `covered` says whether a graph is matching covered (`IsCovered`) or returns the first
+//! reason why not (`IsVerdict`): too few vertices, disconnected, no perfect matching, or the least
+//! edge that is not allowed. `allowed_in` and `verdict_in` read a given table of partners.
 //!
-//! Two edges lie together if some perfect matching contains both (`Together`). `together` answers
-//! a `PairTable`: `both` is true exactly for the edges that lie together, and `list` is a pair
-//! list (`IsPairList`), in which each matching holds an edge or a pair of edges that no earlier
-//! one holds (`IsLean`). A caller that needs a few matchings begins a table by `no_pairs` and lists
-//! what it needs by `seek_pair`, `list_with_edge` and `list_new`; it stays lean (`SettlesEdges`).
+//! Two edges lie together if some perfect matching contains both (`Together`). `together` returns a
+//! `PairTable`: `both` is the relation, and `list` a pair list (`IsPairList`) in which each
+//! matching has an edge or pair that no earlier one has (`IsLean`). `no_pairs`, `seek_pair`,
+//! `list_with_edge` and `list_new` build a part of such a table. Each pair takes at most one
+//! augmentation.
 //!
-//! Each question on a pair is answered from a perfect matching at hand by one augmentation at
-//! most. What is found is varied along short alternating cycles before it is listed, so that it
-//! holds many new pairs; the varied one is taken only if it passes a test. Stands on `match_core`,
-//! which makes the table of partners and repairs a matching along one path. Source: Lovász and
-//! Plummer, "Matching Theory", chapter 5; Lucchesi and Murty, "Perfect Matchings".
+//! Depends on `match_core`, `graph_core` and `vset_core`. Sources: Lovász and Plummer, "Matching
+//! Theory", chapter 5; Lucchesi and Murty, "Perfect Matchings".
 #![tactic(auto)]
 
 mod bases;

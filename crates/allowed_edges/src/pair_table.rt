@@ -13,7 +13,7 @@ use match_core::Matching;
 use std::alloc::{AllocError as Memory, Global};
 use std::marker::Model;
 
-/// Perfect matchings of a graph, and for each two edges whether one of them contains both.
+/// Perfect matchings of a graph, and for any two edges whether one of the matchings contains both.
 /// Contracts see the number of edges of the graph and the list of the matchings.
 #[derive(Drop)]
 pub struct PairTable {
@@ -68,8 +68,8 @@ impl PairTable {
         })
     }
 
-    /// A perfect matching that holds `e` and `f`, from one, varied so that it holds pairs of `e`
-    /// and `f` that no listed one holds.
+    /// A perfect matching that contains `e` and `f`, made from a given one and varied so that it
+    /// contains pairs with `e` or `f` that no listed one contains.
     pub(crate) fn varied(
         &self,
         alloc: Global,
@@ -91,7 +91,7 @@ impl PairTable {
         varied(alloc, g, &self.joins, with_e, with_f, found, e, f)
     }
 
-    /// Lists one matching more, and marks all pairs of its edges.
+    /// Lists one more matching, and marks all pairs of its edges.
     pub(crate) fn add(&mut self, found: Matching) -> Result<(), Memory>
         requires { All (λ row. Within self.old.size row.edge) found.rows }
         ensures size { OnOk result (self.new.size ≡ self.old.size) }

@@ -15,11 +15,11 @@ use match_core::{Matching, perfect_without};
 use std::alloc::{AllocError as Memory, Global};
 use vset_core::VSet;
 
-/// The table of the pairs of edges of `g` that lie together: `both` is true exactly when some
-/// perfect matching contains both edges, and `list` is a pair list, in which each matching holds
-/// an edge or a pair of edges that no earlier one holds. One question is asked for each edge and
-/// for each two edges that share no end and lie together in no matching found before; each is
-/// answered by one augmentation at most.
+/// The table of the pairs of edges of `g` that lie together: `both` is true if and only if some
+/// perfect matching contains both edges, and `list` is a pair list, in which each matching contains
+/// an edge or a pair of edges that no earlier one contains. There is one search for each edge and
+/// for each pair of edges that share no end and lie together in no matching found before; each
+/// takes at most one augmentation. The only error is `Memory`.
 pub fn together(alloc: Global, g: &MultiGraph) -> Result<PairTable, Memory>
     ensures size { IfOk result (λ pairs. pairs.size ≡ size g.now) }
     ensures of { IfOk result (λ pairs. All (IsOf g.now) pairs.list) }
@@ -34,7 +34,7 @@ pub fn together(alloc: Global, g: &MultiGraph) -> Result<PairTable, Memory>
     Ok(pairs)
 }
 
-/// The table of `g` without a matching.
+/// The table of `g` with no matching listed.
 pub fn no_pairs(alloc: Global, g: &MultiGraph) -> Result<PairTable, Memory>
     ensures { IfOk result (SettlesEdges g.now 1) }
 {
@@ -42,8 +42,9 @@ pub fn no_pairs(alloc: Global, g: &MultiGraph) -> Result<PairTable, Memory>
     Ok(pairs)
 }
 
-/// Seeks a perfect matching that holds `e` and `f` if no listed one holds both, and lists it. The
-/// answer holds `e`, and is the one from which to seek further: the last that was found.
+/// Looks for a perfect matching that contains `e` and `f` if no listed one does, and lists it. The
+/// returned matching contains `e`, and is the one from which the next search starts: the last that
+/// was found.
 pub fn seek_pair(
     alloc: Global,
     g: &MultiGraph,
@@ -69,7 +70,7 @@ pub fn seek_pair(
     Ok(next)
 }
 
-/// Lists a perfect matching that holds an edge, or two, that no listed one holds.
+/// Lists a perfect matching that contains an edge, or a pair of edges, that no listed one contains.
 pub fn list_new(g: &MultiGraph, pairs: &mut PairTable, found: Matching) -> Result<(), Memory>
     requires begun { SettlesEdges g.now 1 pairs.old }
     requires new { IsNew g.now pairs.old found }
@@ -81,8 +82,8 @@ pub fn list_new(g: &MultiGraph, pairs: &mut PairTable, found: Matching) -> Resul
     Ok(())
 }
 
-/// Lists a perfect matching that holds `e` if there is one and no listed one does, by one
-/// augmentation of `kept` at most.
+/// Lists a perfect matching that contains `e` if there is one and no listed one does, by at most
+/// one augmentation of `kept`.
 pub fn list_with_edge(
     alloc: Global,
     g: &MultiGraph,
@@ -159,9 +160,9 @@ fn settle_edge(
     }
 }
 
-// Settles the pairs of `e` with the edges above it, from a perfect matching that holds it; the
-// answer is such a matching too. Each matching that is found is the one from which the next is
-// sought, so that the list comes to hold many pairs soon.
+// Settles the pairs of `e` with the edges above it, from a perfect matching that contains it; the
+// returned matching contains it too. The search for the next matching starts from the last that was
+// found, so the list soon has many pairs.
 fn settle_pairs(
     alloc: Global,
     g: &MultiGraph,
@@ -206,8 +207,8 @@ fn settle_pair(
     list_pair(alloc, g, kept, pairs, e, f)
 }
 
-// Lists a perfect matching that holds `e` and `f`, of which no listed one holds both, if there is
-// one. The answer is the matching to seek from further.
+// Lists a perfect matching that contains `e` and `f`, if there is one; no listed one contains both.
+// Returns the matching from which the next search starts.
 fn list_pair(
     alloc: Global,
     g: &MultiGraph,
@@ -235,7 +236,7 @@ fn list_pair(
     }
 }
 
-// Lists a matching, and answers the same once more.
+// Lists a matching, and returns a copy of it.
 fn listed(alloc: Global, pairs: &mut PairTable, found: Matching) -> Result<Matching, Memory>
     requires { All (λ row. Within pairs.old.size row.edge) found.rows }
     ensures { IfOk result
@@ -247,8 +248,7 @@ fn listed(alloc: Global, pairs: &mut PairTable, found: Matching) -> Result<Match
     Ok(next)
 }
 
-// Whether nothing has to be asked of two edges: a listed matching contains both, or they share an
-// end.
+// Whether no search is needed for two edges: a listed matching contains both, or they share an end.
 fn is_settled(g: &MultiGraph, pairs: &PairTable, e: u32, f: u32) -> bool
     requires edge { Within (size g.now) e }
     requires other { Within (size g.now) f }
@@ -266,7 +266,7 @@ fn is_settled(g: &MultiGraph, pairs: &PairTable, e: u32, f: u32) -> bool
     share_end(g, e, f)
 }
 
-// Lists a perfect matching that holds `e`, unless a listed one holds it; the pairs of `e` are
+// Lists a perfect matching that contains `e`, unless a listed one does; the pairs of `e` are
 // settled.
 fn list_unless_held(
     g: &MultiGraph,

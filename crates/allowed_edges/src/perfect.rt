@@ -1,4 +1,4 @@
-//! Whether a graph has a perfect matching, and its table of partners where it has one.
+//! Whether a graph has a perfect matching, and its table of partners if it has one.
 ghost use Rattle.std.specs.Prelude.{◌≡◌, ◌↔◌, None, IsTrue, IfSome, IfOk};
 ghost use Rattle.counting.specs.Common.{mem, none};
 ghost use Rattle.graph_core.specs.Common.{HasPerfect, IsMaximum};
@@ -10,8 +10,8 @@ use match_core::{Matching, PartnerTable, partners};
 use std::alloc::{AllocError as Memory, Global};
 use vset_core::VSet;
 
-/// The table of partners of `g`, from a maximum matching: `None` exactly when the graph has no
-/// perfect matching. There a table would say nothing of its edges, and none is made.
+/// The table of partners of `g`, from a maximum matching; `None` if and only if the graph has no
+/// perfect matching. No table is made then, since it would say nothing about the edges.
 pub fn partners_where_perfect(
     alloc: Global,
     g: &MultiGraph,

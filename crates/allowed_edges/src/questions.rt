@@ -1,5 +1,5 @@
-//! Perfect matchings that hold one edge or two, each from a perfect matching at hand by one
-//! augmentation at most.
+//! Perfect matchings that contain one edge or two, each from a given perfect matching by at most
+//! one augmentation.
 ghost use Rattle.std.specs.Prelude.{◌≡◌, ◌||◌, ◌==◌, ◌⊎◌, ℕ, true, ◌↔◌, IfOk, Some, None};
 ghost use Rattle.counting.specs.Common.{Within, none, mem};
 ghost use Rattle.graph_core.specs.Common.{size, first_end, second_end, Allowed, HasPerfect, IsPerfect, Together, missed_count};
@@ -12,8 +12,8 @@ use match_core::{Matching, repair};
 use std::alloc::{AllocError as Memory, Global};
 use vset_core::VSet;
 
-/// A perfect matching that holds `e`, from a perfect matching; `None` exactly when no perfect
-/// matching does.
+/// A perfect matching that contains `e`, from a perfect matching; `None` if and only if there is
+/// none.
 pub fn perfect_with_edge(
     alloc: Global,
     g: &MultiGraph,
@@ -37,8 +37,8 @@ pub fn perfect_with_edge(
     }
 }
 
-/// A perfect matching that holds `e` and `f`, which share no end, from a perfect matching that
-/// holds `e`; `None` exactly where no perfect matching does.
+/// A perfect matching that contains `e` and `f`, which share no end, from a perfect matching that
+/// contains `e`; `None` if and only if there is none.
 pub fn perfect_with_pair(
     alloc: Global,
     g: &MultiGraph,
@@ -70,8 +70,8 @@ pub fn perfect_with_pair(
     }
 }
 
-/// A perfect matching of G - met, from a perfect matching of G whose edges without an end in
-/// `met` miss at most two of the other vertices; `None` exactly when G - met has none.
+/// A perfect matching of G - met, from a perfect matching of G whose edges without an end in `met`
+/// miss at most two of the other vertices; `None` if and only if G - met has none.
 fn perfect_off(
     alloc: Global,
     g: &MultiGraph,

@@ -6,7 +6,7 @@ ghost use Rattle.allowed_edges.specs.Leaving.{share_end};
 
 use graph_core::MultiGraph;
 
-/// Whether two edges share an end; two that do, and differ, lie in no matching together. Takes no
+/// Whether two edges share an end; if they do and differ, no matching contains both. Takes no
 /// memory.
 pub fn share_end(g: &MultiGraph, e: u32, f: u32) -> bool
     requires first { Within (size g.now) e }

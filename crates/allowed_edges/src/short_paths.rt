@@ -1,6 +1,6 @@
-//! Short alternating paths: a matching that misses two vertices made perfect by one edge between
-//! them, or by two edges in place of one. In a graph with many edges such a path is found far
-//! sooner than by the search for any path.
+//! Short alternating paths: a matching that misses two vertices is made perfect by one edge between
+//! them, or by two edges in place of one. In a dense graph such a path is found much faster than by
+//! a search for any path.
 ghost use Rattle.std.specs.Prelude.{◌≡◌, ◌<◌, ◌≤◌, ℕ, false, length, slice_get, IfOk, Some, None};
 ghost use Rattle.counting.specs.Common.{Within, mem};
 ghost use Rattle.graph_core.specs.Common.{size};
@@ -13,9 +13,9 @@ use match_core::{MatchRow, Matching};
 use std::alloc::{AllocError as Memory, Global};
 use vset_core::{MOST_VERTICES, VSet};
 
-/// A perfect matching of G - met, from a matching of it: with an edge more between two vertices
-/// that it misses, or with two edges in place of one. `None` where neither serves, which says
-/// nothing of G - met.
+/// A perfect matching of G - met, from a matching of it: with one more edge between two vertices
+/// that it misses, or with two edges in place of one. `None` if neither is possible, which says
+/// nothing about G - met.
 pub fn completed(
     alloc: Global,
     g: &MultiGraph,
@@ -41,7 +41,7 @@ pub fn completed(
     }
 }
 
-// With edge `k` more.
+// With edge `k` added.
 fn with_one(
     alloc: Global,
     g: &MultiGraph,
@@ -65,7 +65,7 @@ fn with_one(
     }
 }
 
-// With an edge at `x` and one at `y` in place of the first edge that they enclose.
+// With an edge at `x` and one at `y` in place of the first edge between their other ends.
 fn with_two(
     alloc: Global,
     g: &MultiGraph,
@@ -120,7 +120,7 @@ fn in_place_of(
     }
 }
 
-// The matching with edge `k` more, if the ends of `k` are neither in `met` nor ends of its edges.
+// The matching with edge `k` added, if the ends of `k` are neither in `met` nor ends of its edges.
 fn with_edge(
     alloc: Global,
     g: &MultiGraph,
@@ -156,8 +156,7 @@ fn met_vertices(m: &Matching) -> VSet
     met
 }
 
-// The first row whose ends are in the two sets, one in each; its `a` is then the one in the first
-// set.
+// The first row with one end in each of the two sets; its `a` is the end in the first set.
 fn enclosed(m: &Matching, near: VSet, far: VSet) -> Option<MatchRow>
     ensures { (row : _) → result ≡ Some row → Within m.now.order row.a × Within m.now.order row.b }
 {
@@ -178,7 +177,7 @@ fn enclosed(m: &Matching, near: VSet, far: VSet) -> Option<MatchRow>
     None
 }
 
-// The first edge with the ends `x` and `y`. The edges are gone through only where there is one.
+// The first edge with the ends `x` and `y`. The edges are searched only if there is one.
 fn edge_between(g: &MultiGraph, x: u32, y: u32) -> Option<u32>
     requires first { Within MOST_VERTICES x }
     requires second { Within MOST_VERTICES y }

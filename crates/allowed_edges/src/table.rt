@@ -10,8 +10,7 @@ use match_core::Matching;
 use std::alloc::{AllocError as Memory, Global};
 use std::marker::Model;
 
-/// For each edge marks on the edges, at the places of their numbers. Contracts see the rows of
-/// marks.
+/// For each edge a row of marks, one for each edge. Contracts see the rows of marks.
 #[derive(Drop)]
 pub struct EdgeTable {
     rows: Vec<Vec<bool>>,

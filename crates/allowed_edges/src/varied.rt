@@ -1,5 +1,6 @@
-//! Perfect matchings varied, so that they hold many pairs of edges that no earlier one holds: what
-//! exchanges give is tested, and taken if it is a perfect matching with the two edges.
+//! Perfect matchings varied so that they contain many pairs of edges that no earlier one contains:
+//! the result of the exchanges is tested, and used only if it is a perfect matching with the two
+//! edges.
 ghost use Rattle.std.specs.Prelude.{◌≡◌, ℕ, ◌+◌, true, length, IfOk, Some};
 ghost use Rattle.counting.specs.Common.{Within, mem, none};
 ghost use Rattle.graph_core.specs.Common.{size, IsMatching};
@@ -14,9 +15,9 @@ use match_core::{Matching, matching_of};
 use std::alloc::{AllocError as Memory, Global};
 use vset_core::VSet;
 
-/// A perfect matching that holds `e` and `f`, from one: exchanged so that it holds more of the
-/// edges that are not marked in the rows of `e` and of `f`, if this gives a perfect matching, and
-/// else the same.
+/// A perfect matching that contains `e` and `f`, made from a given one: exchanged so that it
+/// contains more of the edges that are not marked in the rows of `e` and of `f`, if the result is a
+/// perfect matching, and otherwise the same.
 pub(crate) fn varied(
     alloc: Global,
     g: &MultiGraph,
@@ -41,7 +42,8 @@ pub(crate) fn varied(
     }
 }
 
-// The matching of the edges that both of their ends name, if it is perfect and holds `e` and `f`.
+// The matching of the edges that both of their ends name, if it is perfect and contains `e` and
+// `f`.
 fn perfect_from(
     alloc: Global,
     g: &MultiGraph,
@@ -59,7 +61,7 @@ fn perfect_from(
     perfect_marked(alloc, g, &mark, e, f)
 }
 
-// The matching of the marked edges, if it is perfect and holds `e` and `f`.
+// The matching of the marked edges, if it is perfect and contains `e` and `f`.
 fn perfect_marked(
     alloc: Global,
     g: &MultiGraph,

@@ -159,7 +159,7 @@ leader_same g s is u v w wu wv ww lu ju lw jw =
 pub part_same : (g : Graph) (s : Set) → IsGraph g → (u a : ℕ) → Within g.order u → Within g.order a → joined g s u a ≡ true → (v : ℕ) → joined g s u v ≡ joined g s a v
 part_same g s is u a wu wa j v = grind (arith, same_tests, walk_joined, joined_on, joined_back, joined_walk)
 
--- each component of a covered graph without a barrier is odd
+-- each component of g - s, s a barrier of a covered graph, is odd
 pub part_odd : (g : Graph) (s : Set) (a u : ℕ) → IsGraph g → IsCovered g → IsBarrier g s → Within g.order a → s a ≡ true → Within g.order u → s u ≡ false → is_odd (count g.order (joined g s u)) ≡ true
 part_odd g s a u is cov bar wa sa wu su = let l = leader_of g s is u wu su in
     ap is_odd (count_congr g.order _ _ (λ v w. sym (part_same g s is l.0 u l.1 wu l.3 v))) ∙ odd_part g is cov s bar l.0 a l.1 l.2 wa sa

@@ -1,6 +1,6 @@
--- Barriers and perfect matchings: without a set of vertices there are at most as many odd
--- components as it has vertices. Parity decides the rest: two vertices of a barrier have no
--- perfect matching without them, and two such vertices lie in a barrier.
+-- Barriers and perfect matchings: if G has a perfect matching, o(G - S) is at most |S|. Parity does
+-- the rest: if two vertices u and v lie in a barrier, G - u - v has no perfect matching, and if it
+-- has none, u and v lie in a barrier.
 use Rattle.std.proofs.Common.{◌≡◌, ℕ, suc, zero, ◌+◌, ◌*◌, ◌≤◌, ◌≢◌, Bool, true, false, ◌==◌, refl, sym, ap, ap₂, ◌∙◌, arith, ◌&&◌, ◌||◌, not, eq-eqb, ne_eqb, eqb-true}
 use Rattle.counting.proofs.Common.{true≢false, count_complement, count_congr, odd-add, odd-double, odd_total, total_add, total_at, total_congr, total_mul, total_none, total_swap, fun_ext, Within, bit, count, is_odd, total, pair_set, Set, complement, minus, none, union}
 use Rattle.graph_core.proofs.Common.{joined_outside, one_leader, some_leader, missed_edges, none_missed-perfect, perfect_matching, perfect_misses, berge_bound, is_least, odd_component_count, Graph, IsGraph, size, IsPerfect, missed_count, IsBarrier, joined}
@@ -26,7 +26,7 @@ odd_component_count-parity g s is = grind (arith, by_components g s is, odd_tota
 pub few_odd_components : (g : Graph) (s m : Set) → IsGraph g → IsPerfect g none m → odd_component_count g s ≤ count g.order s
 few_odd_components g s m is p = let a = berge_bound g none s m is (perfect_matching g none m p) in let b = perfect_misses g none m p in omega arith
 
--- a set that holds a and b, without them
+-- a set that contains a and b, less these two
 pub two_less : (n : ℕ) (s : Set) (a b : ℕ) → Within n a → Within n b → a ≢ b → s a ≡ true → s b ≡ true → count n s ≡ count n (minus s (pair_set a b)) + 2
 two_less n s a b wa wb d sa sb =
     total_congr n _ _ (λ v w. grind arith)

@@ -1,6 +1,6 @@
--- A covered graph that is not bicritical has a class with a nontrivial tight cut, and a
--- bicritical one has none. Without a barrier of two vertices some component has three: else each
--- edge would have one end in the barrier.
+-- A covered graph that is not bicritical has a class with a nontrivial tight cut, and a bicritical
+-- one has none. If B is a barrier with at least two vertices, some component of G - B has at least
+-- three: otherwise each edge would have one end in B.
 use Rattle.std.proofs.Common.{◌≡◌, ℕ, suc, zero, ◌≤◌, ◌≢◌, Bool, true, false, ◌==◌, refl, sym, ap, ◌∙◌, arith, not, ◌⊎◌, ◌↔◌, inl, inr}
 use Rattle.counting.proofs.Common.{cases_eq, cases_lt, cases_Bool, true≢false, both_ways, only_one, member_count, two_members, two_of, odd_three, count_singleton, count_mono, scan, count, Within, is_odd, Set, pair_set, complement, singleton}
 use Rattle.barrier_kit.proofs.BarrierCuts.{leader_of, leads_out, part_out, part_step, part_same, none_inside, part_tight, many_parts}
@@ -10,8 +10,8 @@ use Rattle.barrier_kit.proofs.Matched.{even_order}
 use Rattle.barrier_kit.specs.Common.{BarrierCut}
 use Rattle.graph_core.proofs.Common.{IsSide, is_least, IsCovered, Graph, size, first_end, second_end, IsGraph, HasNoLoop, in_cut, inside, IsBipartite, IsPerfect, IsBarrier, IsBicritical, IsClass, IsTight, IsNontrivial, joined, walk_joined, covered_perfect, joined_self}
 
--- a component of a covered graph without a barrier has a nontrivial cut exactly when the barrier
--- has two vertices and the component more than one
+-- if B is a barrier of a covered graph, a component of G - B has a nontrivial cut if and only if B
+-- has at least two vertices and the component more than one
 pub part_nontrivial : (g : Graph) (s : Set) (a u : ℕ) → IsGraph g → IsCovered g → IsBarrier g s → Within g.order a → s a ≡ true → Within g.order u → s u ≡ false →
     IsNontrivial g.order (joined g s u) ↔ ((2 ≤ count g.order s) × (count g.order (joined g s u) ≢ 1))
 part_nontrivial g s a u is cov bar wa sa wu su = (there, back)
@@ -60,7 +60,7 @@ module _ (g : Graph) (is : IsGraph g) (cov : IsCovered g) (odd_cycle : (x : Set)
           let r = leader_of g s is (first_end g e) (is e w).0 p in
           absurd (d (only_one g.order (joined g s r.0) (f r.0 r.1 r.2) (first_end g e) (second_end g e) (is e w).0 (is e w).1 r.3 (sym (part_step g s r.0 e is r.1 w p q) ∙ r.3)))
 
-  -- two vertices without which there is no perfect matching
+  -- two vertices u and v such that g - u - v has no perfect matching
   pub critical_pair : (IsBicritical g → ⊥) → (a b : ℕ) × Within g.order a × Within g.order b × (a ≢ b) × ((m : Set) → IsPerfect g (pair_set a b) m → ⊥)
   critical_pair n = elim (scan g.order (λ a. (b : ℕ) × Within g.order b × ((a ≢ b) × ((m : Set) → IsPerfect g (pair_set a b) m → ⊥))) (λ a. (b : ℕ) → Within g.order b → a ≢ b → (m : Set) × IsPerfect g (pair_set a b) m) (λ a w. row a)) [
     | inl r ↦ (r.0, r.2.0, r.1, r.2.1, r.2.2.0, r.2.2.1)

@@ -1,5 +1,5 @@
--- What holds of the cuts that shores give: each is a canonical nontrivial shore, tight where the
--- shores are, and there is none exactly when each shore is trivial. Inductions over the shores; a
+-- What is true of the cuts that shores give: each is a canonical nontrivial shore, tight where the
+-- shores are, and there is none if and only if each shore is trivial. Inductions over the shores; a
 -- step appends at most one canonical shore.
 use Rattle.std.proofs.Common.{◌≡◌, ℕ, ◌≤◌, Bool, true, false, refl, sym, ap, ◌∙◌, arith, ◌&&◌, not, cond, List, [], ◌∷◌, ◌++◌, fold, length, nat_le, leb-true, inl, inr, All}
 use Rattle.counting.proofs.Common.{and_from, and_parts, cases_Bool, le-leb, length-append, All-cons, All-head, All-nil, All-tail, mem-rising_list, rising_list-rises, Within, count, mem, rising_list, Set, complement}
@@ -14,7 +14,7 @@ cuts-length : (n : ℕ) (cuts shores : List (List ℕ)) → length cuts ≤ leng
 cuts-length n cuts [] = omega arith
 cuts-length n cuts (s ∷ shores) = let a = step-length n cuts s in let b = cuts-length n (with_cut n cuts s) shores in omega arith
 
--- what holds of each canonical nontrivial shore holds of each cut
+-- what is true of each canonical nontrivial shore is true of each cut
 cuts-keep : (n : ℕ) (P : List ℕ → Type 0) (cuts shores : List (List ℕ)) → All P cuts → All (λ s. is_nontrivial n (canonical_shore n (mem s)) ≡ true → P (canonical_list n s)) shores → All P (fold (with_cut n) cuts shores)
 cuts-keep n P cuts [] kept each = kept
 cuts-keep n P cuts (s ∷ shores) kept each =

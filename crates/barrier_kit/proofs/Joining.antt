@@ -1,6 +1,6 @@
--- A covered graph without a vertex of a barrier and one component of the rest has a perfect
--- matching. Hall's theorem gives each other vertex of the barrier a component of its own, and the
--- matchings of the components are joined.
+-- Deleting a vertex of a barrier B and one component of G - B from a covered graph leaves a graph
+-- with a perfect matching. Hall's theorem gives the other vertices of the barrier different
+-- components, and the matchings of the components are joined.
 use Rattle.std.proofs.Common.{◌≡◌, ℕ, ◌+◌, ◌*◌, ◌≤◌, ◌≢◌, Bool, true, false, ◌==◌, refl, sym, ap, ◌∙◌, arith, ◌&&◌, ◌||◌, not, eq-eqb, ne_eqb, eqb-true, ◌⊎◌, inl, inr}
 use Rattle.counting.proofs.Common.{cases_eq, cases_Bool, false_from_ne_true, both_ways, and_parts, and_from, count_member, count_minus, count_zero, count_singleton, some_true, true_some, at_le_total, total_add, total_congr, total_le, total_none, and_fails_second, same_tests, Within, bit, count, Set, complement, meet, minus, none, singleton, union, some}
 use Rattle.barrier_kit.proofs.BarrierCuts.{cover_in, covers, covers_out, cut_family, leader_of, leader_same, leads_out, many_parts, none_inside, one_cut, part_out, sat_inside}
@@ -90,7 +90,7 @@ module _ (g : Graph) (is : IsGraph g) (cov : IsCovered g) (s : Set) (bar : IsBar
       let q : edges_in_cut g m (union (singleton z) (joined g s u)) ≡ 0 = omega arith in
       (_, restrict g m (union (singleton z) (joined g s u)) a.1 q)
 
-  -- the graph without a vertex of the barrier and a component
+  -- g less a vertex of the barrier and a component
   module _ (l : ℕ) (wl : Within g.order l) (ll : is_least g s l ≡ true) where
     abbrev from : Set
     from = minus s (singleton b)

@@ -1,6 +1,6 @@
--- The classes found one after the other: a vertex is the least of its class exactly when no class
--- before it holds it. A class is met by its least vertex, and by transitivity a vertex that was
--- met adds no vertex to those met.
+-- The classes found one after the other: a vertex is the least of its class if and only if no class
+-- before it holds it. A class is met by its least vertex, and by transitivity a vertex that was met
+-- adds no vertex to those met.
 use Rattle.std.proofs.Common.{◌≡◌, ℕ, suc, ◌+◌, ◌<◌, ◌≤◌, ◌↔◌, Bool, true, false, refl, sym, ap, ◌∙◌, arith, ◌&&◌, ◌||◌, not, cond, List, [], ◌∷◌, ◌++◌, map, nat_lt, ltb-true, lt-ltb, subst, append-nil}
 use Rattle.counting.proofs.Common.{same_tests, cases_Bool, and_parts, and_from, both_ways, false_from_ne_true, map-append, rising_only, mem-rising_list, rising_list-rises, same_rising_list, set-wider, some_true, true_some, Within, IsRisingIn, mem, rising_list, Set, none, some}
 use Rattle.graph_core.proofs.Common.{has_perfect_found, is_equivalent_found, is_equivalent_says, IsCovered, Graph, IsGraph, HasPerfect, has_perfect, classes, is_equivalent, is_least_of_class}
@@ -8,11 +8,11 @@ use Rattle.match_core.specs.Common.{are_partners}
 use Rattle.barrier_kit.proofs.ClassLaw.{equivalent_on}
 use Rattle.barrier_kit.proofs.Matched.{perfect_congr}
 
--- the test is true exactly when there is a perfect matching
+-- the test is true if and only if there is a perfect matching
 pub has_perfect-true : (g : Graph) (r s : Set) → ((v : ℕ) → r v ≡ s v) → HasPerfect g r → has_perfect g s ≡ true
 has_perfect-true g r s same m = has_perfect_found g s (m.0, perfect_congr g r s m.0 (λ v w. same v) m.1)
 
--- a rising list by its last number
+-- an increasing list by its last number
 pub rising_list-more : (k : ℕ) (x : Set) → rising_list (k + 1) x ≡ rising_list k x ++ cond (x (k + 1)) ((k + 1) ∷ []) []
 rising_list-more k x = grind arith
 
@@ -25,7 +25,7 @@ class-row g full row class a few rises all outside partners =
     here : (v : ℕ) → mem class v ≡ mem (rising_list g.order (is_equivalent g a)) v
     here v = grind (arith, cases_Bool, mem-rising_list, false_from_ne_true, both_ways, rising_only)
 
--- some number below k + 1 passes exactly when one of 1 to k does
+-- some number below k + 1 passes if and only if one of 1 to k does
 some_below : (n k : ℕ) (p : Set) → k < n → some n (λ b. nat_lt b (k + 1) && p b) ≡ some k p
 some_below n k p l = same_tests _ _
     (λ t. let b = some_true n (λ b. nat_lt b (k + 1) && p b) t in

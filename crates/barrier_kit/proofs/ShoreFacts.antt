@@ -1,6 +1,6 @@
 -- The shores of the classes: each is tight, none is nontrivial in a bicritical graph, and in
--- another that is not bipartite some is. A class is a barrier, and what holds of each component
--- of each class holds of each item of the list.
+-- another that is not bipartite some is. A class is a barrier, and what is true of each component
+-- of each class is true of each item of the list.
 use Rattle.std.proofs.Common.{◌≡◌, ◌≢◌, ℕ, ◌≤◌, true, false, refl, sym, ap, arith, ◌&&◌, not, inl, inr, List, [], map, nat_lt, ltb-true, All, rules}
 use Rattle.counting.proofs.Common.{and_parts, both_ways, false_from_ne_true, All-map, two_members, mem-rising_list, least_true, some_true, true_some, Within, count, mem, rising_list, Set, some}
 use Rattle.graph_core.proofs.Common.{is_equivalent_found, is_equivalent_says, nontrivial-same, tight-same, components, is_least, IsCovered, Graph, HasNoLoop, IsGraph, IsBicritical, IsClass, classes, is_equivalent, is_least_of_class, IsNontrivial, IsTight, canonical_shore, is_nontrivial, joined, IsSide, IsCanonicalCut}
@@ -32,7 +32,7 @@ class_list g a = grind (arith, is_equivalent_says g a, mem-rising_list g.order (
 class_own : (g : Graph) (a : ℕ) → Within g.order a → class_set g a a ≡ true
 class_own g a w = (class_list g a).all a w (inl refl)
 
--- what holds of each component of each class
+-- what is true of each component of each class
 pub all_shores : (g : Graph) (P : List ℕ → Type 0) → ((a u : ℕ) → Within g.order a → Within g.order u → class_set g a u ≡ false → P (rising_list g.order (joined g (class_set g a) u))) → All P (barrier_shores g)
 unfolding barrier_shores classes components
 all_shores g P h =

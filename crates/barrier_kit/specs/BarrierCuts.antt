@@ -5,7 +5,7 @@ use Rattle.std.specs.Prelude.{◌≡◌, ◌≤◌, ℕ, false}
 use Rattle.counting.specs.Common.{Within, count, Set}
 use Rattle.graph_core.specs.Common.{Graph, size, inside, IsClass, joined, IsTight, IsNontrivial}
 
--- a component of g without s whose cut is tight and nontrivial
+-- a component of g - s whose cut is tight and nontrivial
 pub record BarrierCut (g : Graph) (s : Set) : Type 0 where
   pub vertex : ℕ
   pub within : Within g.order vertex
@@ -13,8 +13,8 @@ pub record BarrierCut (g : Graph) (s : Set) : Type 0 where
   pub tight : IsTight g (joined g s vertex)
   pub nontrivial : IsNontrivial g.order (joined g s vertex)
 
--- a class with at least two vertices that no edge joins, and without it a component with at least
--- three
+-- a class B with at least two vertices, no two adjacent, and a component of G - B with at least
+-- three vertices
 pub record WideClass (g : Graph) : Type 0 where
   pub vertex : ℕ
   pub class : Set

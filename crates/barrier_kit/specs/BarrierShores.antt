@@ -4,7 +4,7 @@ use Rattle.std.specs.Prelude.{ℕ, List, flat_map}
 use Rattle.counting.specs.Common.{mem}
 use Rattle.graph_core.specs.Common.{Graph, components, classes, cuts_of}
 
--- for each class by least vertex, each component of the graph without it by least vertex
+-- for each class B by least vertex, each component of G - B by least vertex
 unfoldable pub barrier_shores : Graph → List (List ℕ)
 barrier_shores g = flat_map (λ s. components g (mem s)) (classes g)
 

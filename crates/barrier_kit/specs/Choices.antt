@@ -1,4 +1,4 @@
--- Choices as in Hall's theorem (Hall 1935): each member of a set gets a partner of its own.
+-- Choices as in Hall's theorem (Hall 1935): different members of a set get different partners.
 -- Stated by no contract. Rests on it: barrier_kit, quick_kinds, theorems.
 use Rattle.std.specs.Prelude.{◌≡◌, ℕ, Bool, true, ◌&&◌}
 use Rattle.counting.specs.Common.{Within, Set, some}
@@ -7,7 +7,7 @@ use Rattle.counting.specs.Common.{Within, Set, some}
 abbrev pub neighbours : ℕ → (ℕ → ℕ → Bool) → Set → Set → Set
 neighbours n f c z v = c v && some n (λ u. z u && f u v)
 
--- each member of a gets a member of c of its own that f relates to it
+-- the members of a get different members of c that f relates to them
 pub record Picks (n : ℕ) (f : ℕ → ℕ → Bool) (a c : Set) : Type 0 where
   pub to : ℕ → ℕ
   pub lands : (u : ℕ) → Within n u → a u ≡ true → Within n (to u) × (c (to u) ≡ true) × (f u (to u) ≡ true)

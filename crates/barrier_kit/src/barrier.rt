@@ -21,9 +21,9 @@ fn count_odd(sets: &[VSet]) -> usize
     sets.iter().filter(|set| is_odd_set(**set)).count()
 }
 
-/// Whether `set`, a set of vertices, is a barrier of `g`, covered or not: without it there are as
-/// many components with an odd number of vertices as it has vertices (Lovász and Plummer,
-/// "Matching Theory", chapter 3).
+/// Whether `set`, a set S of vertices, is a barrier of `g`, covered or not: o(G - S) = |S|, where o
+/// counts the odd components (Lovász and Plummer, "Matching Theory", chapter 3). Takes O(n) steps
+/// on words; the only error is `Memory`.
 pub fn is_barrier(alloc: Global, g: &MultiGraph, set: VSet) -> Result<bool, Memory>
     requires { IsRisingIn g.now.order set }
     ensures { IfOk result (λ barrier. IsTrue barrier ↔ IsBarrier g.now (mem set)) }

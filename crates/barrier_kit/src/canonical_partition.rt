@@ -8,9 +8,10 @@ use graph_facts::Covered;
 use std::alloc::{AllocError as Memory, Global};
 use vset_core::VSet;
 
-/// The canonical partition of a covered graph: its classes by least vertex. Two vertices are in
-/// one class if they are equal or the graph without them has no perfect matching (Kotzig 1959;
-/// Lovász and Plummer, "Matching Theory", chapter 5).
+/// The canonical partition of a covered graph: its classes by least vertex. Two vertices u and v
+/// are in one class if they are equal or G - u - v has no perfect matching (Kotzig 1959; Lovász and
+/// Plummer, "Matching Theory", chapter 5). Takes one maximum matching and at most n searches; the
+/// only error is `Memory`.
 pub fn classes(alloc: Global, g: &MultiGraph) -> Result<SetList, Memory>
     requires { IsCovered g.now }
     ensures { IfOk result (λ list. list ≡ classes g.now) }
@@ -18,7 +19,8 @@ pub fn classes(alloc: Global, g: &MultiGraph) -> Result<SetList, Memory>
     classes_of(alloc, &Covered::known(alloc, g)?)
 }
 
-/// The classes of a covered graph, read off its table of partners.
+/// The classes of a covered graph, read off its table of partners. Takes O(n) steps on words; the
+/// only error is `Memory`.
 pub fn classes_of(alloc: Global, c: &Covered) -> Result<SetList, Memory>
     ensures { IfOk result (λ list. list ≡ classes c.now) }
 {

@@ -1,11 +1,11 @@
-//! The laws of barriers and classes. Each is the contract of a function that does nothing.
+//! The laws of barriers and classes. Each law is the contract of a function that does nothing.
 ghost use Rattle.std.specs.Prelude.{◌≡◌, ◌≢◌, ℕ, true, false, ◌⊎◌, ◌↔◌, ◌≤◌, All, []};
 ghost use Rattle.counting.specs.Common.{Within, count, is_odd, mem, Set};
 ghost use Rattle.graph_core.specs.Common.{Graph, IsBipartite, IsGraph, IsMultigraph, size, first_end, second_end, inside, joined, component_count, IsCovered, IsTight, Equivalent, IsBarrier, IsBicritical, IsClass, IsCanonicalCut};
 ghost use Rattle.barrier_kit.specs.Common.{WideClass, barrier_cuts, barrier_shores};
 
-/// The relation "equal, or without the two there is no perfect matching" is an equivalence in a
-/// covered graph, and it is decided (Kotzig; Lovász and Plummer, "Matching Theory", chapter 5).
+/// The relation "u = v, or G - u - v has no perfect matching" is an equivalence in a covered graph,
+/// and it is decidable (Kotzig; Lovász and Plummer, "Matching Theory", chapter 5).
 pub fn equivalence_law()
     ensures reflexive { (g : Graph) (a : ℕ) → Equivalent g a a }
     ensures symmetric { (g : Graph) (a b : ℕ) → Equivalent g a b → Equivalent g b a }
@@ -15,7 +15,7 @@ pub fn equivalence_law()
     ensures decided { (g : Graph) (a b : ℕ) → (Equivalent g a b) ⊎ (Equivalent g a b → ⊥) }
 {}
 
-/// In a covered graph the classes of this relation are the greatest barriers: each class is a
+/// In a covered graph the classes of this relation are the maximal barriers: each class is a
 /// barrier, and each barrier lies in the class of each of its vertices.
 pub fn class_law()
     ensures found { (g : Graph) (a : ℕ) → IsGraph g → IsCovered g → Within g.order a →
@@ -27,8 +27,8 @@ pub fn class_law()
         s v ≡ true }
 {}
 
-/// A nonempty barrier of a covered graph: without it all components are odd, there are as many as
-/// it has vertices, and the cut of each is tight; no edge joins two of its vertices.
+/// A nonempty barrier B of a covered graph: all components of G - B are odd, there are |B| of them,
+/// and the cut of each is tight; no edge joins two vertices of B.
 pub fn barrier_law()
     ensures odd { (g : Graph) (s : Set) (a u : ℕ) → IsGraph g → IsCovered g → IsBarrier g s →
         Within g.order a → s a ≡ true → Within g.order u → s u ≡ false →
@@ -41,8 +41,8 @@ pub fn barrier_law()
         Within (size g) e → first_end g e ≢ second_end g e → inside g s e ≡ false }
 {}
 
-/// In a covered graph the cut of each component without a class is tight, and the cuts that
-/// `barrier_cuts` lists are canonical shores of nontrivial tight cuts (Edmonds, Lovász and
+/// In a covered graph, if K is a component of G - B for a class B, then ∂(V(K)) is tight. The cuts
+/// that `barrier_cuts` lists are canonical shores of nontrivial tight cuts (Edmonds, Lovász and
 /// Pulleyblank 1982).
 pub fn barrier_cuts_law()
     ensures tight { (g : Graph) → IsGraph g → IsCovered g →
@@ -51,9 +51,9 @@ pub fn barrier_cuts_law()
         All (IsCanonicalCut g) (barrier_cuts g) }
 {}
 
-/// In a covered graph that is neither bicritical nor bipartite some class has at least two
-/// vertices, no edge joins two of them, and some component without it has at least three, so that
-/// it gives a cut. In a bicritical graph no class does.
+/// In a covered graph that is neither bicritical nor bipartite some class B has at least two
+/// vertices, no edge joins two of them, and some component of G - B has at least three vertices, so
+/// it gives a cut. In a bicritical graph no class gives a cut.
 pub fn wide_class_law()
     ensures class { (g : Graph) → IsMultigraph g → IsCovered g → ¬ (IsBicritical g) →
         ¬ (IsBipartite g) → WideClass g }

@@ -1,18 +1,17 @@
 //! Barriers, the classes of the canonical partition, and the cuts that they give.
 //!
-//! A set of vertices is a barrier if without it there are as many components with an odd number of
-//! vertices as it has vertices (`IsBarrier`); two vertices of a covered graph are in one class if
-//! they are equal or the graph without them has no perfect matching (`Equivalent`). `is_barrier`
-//! decides the first for every graph, `classes` lists the second, and `barrier_cuts` lists the
-//! nontrivial cuts of the components without a class, by canonical shores and each once.
+//! A set S of vertices is a barrier if o(G - S) = |S| (`IsBarrier`). Two vertices u and v of a
+//! covered graph are in one class if they are equal or G - u - v has no perfect matching
+//! (`Equivalent`). `is_barrier` decides the first for every graph, `classes` lists the classes, and
+//! `barrier_cuts` lists the nontrivial cuts ∂(V(K)), K a component of G - B for a class B, each
+//! once by its canonical shore. `classes_of`, `barrier_cuts_of` and `first_barrier_cut`, which
+//! stops at the first, take a `Covered` of `graph_facts`, which has its table of partners.
 //!
-//! The laws: the classes are the greatest barriers (`equivalence_law`, `class_law`), what a
-//! barrier leaves has tight cuts (`barrier_law`, `barrier_cuts_law`), and a graph that is neither
-//! bicritical nor bipartite has such a cut (`wide_class_law`). `classes_of`, `barrier_cuts_of` and
-//! `first_barrier_cut`, which stops at the first, take a covered graph as a value that has its
-//! table of partners (`Covered` of `graph_facts`).
+//! The laws: the classes are the maximal barriers (`equivalence_law`, `class_law`), barriers give
+//! tight cuts (`barrier_law`, `barrier_cuts_law`), and a graph that is neither bicritical nor
+//! bipartite has such a cut (`wide_class_law`).
 //!
-//! Stands on `graph_facts`. Source: Lovász and Plummer, "Matching Theory", chapters 3 and 5;
+//! Depends on `graph_facts`. Sources: Lovász and Plummer, "Matching Theory", chapters 3 and 5;
 //! Edmonds, Lovász and Pulleyblank 1982.
 #![tactic(auto)]
 

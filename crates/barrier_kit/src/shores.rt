@@ -1,4 +1,4 @@
-//! The cuts that the classes of a graph give.
+//! The cuts that the classes of a covered graph give.
 ghost use Rattle.std.specs.Prelude.{◌≡◌, fold, slice_get, IfOk, OnOk};
 ghost use Rattle.counting.specs.Common.{mem};
 ghost use Rattle.graph_core.specs.Common.{with_cut, components, IsCovered};
@@ -19,9 +19,9 @@ fn add_class_cuts(alloc: Global, c: &Covered, class: VSet, cuts: &mut SetList) -
     add_cuts(cuts, c.order(), &parts)
 }
 
-/// The nontrivial cuts that the classes of a covered graph give: for each class, each component of
-/// the graph without it. Each cut is given once, by its canonical shore, and is tight (Edmonds,
-/// Lovász and Pulleyblank 1982).
+/// The nontrivial cuts that the classes of a covered graph give: ∂(V(K)) for each class B and each
+/// component K of G - B. Each cut is listed once, by its canonical shore, and is tight (Edmonds,
+/// Lovász and Pulleyblank 1982). The only error is `Memory`.
 pub fn barrier_cuts(alloc: Global, g: &MultiGraph) -> Result<SetList, Memory>
     requires { IsCovered g.now }
     ensures { IfOk result (λ cuts. cuts ≡ barrier_cuts g.now) }
@@ -29,7 +29,8 @@ pub fn barrier_cuts(alloc: Global, g: &MultiGraph) -> Result<SetList, Memory>
     barrier_cuts_of(alloc, &Covered::known(alloc, g)?)
 }
 
-/// The cuts that `barrier_cuts` lists, of a covered graph.
+/// The cuts that `barrier_cuts` lists, of a `Covered`. Takes one search for components per class;
+/// the only error is `Memory`.
 pub fn barrier_cuts_of(alloc: Global, c: &Covered) -> Result<SetList, Memory>
     ensures { IfOk result (λ cuts. cuts ≡ barrier_cuts c.now) }
 {
@@ -41,7 +42,7 @@ pub fn barrier_cuts_of(alloc: Global, c: &Covered) -> Result<SetList, Memory>
     Ok(cuts)
 }
 
-/// The first of the cuts that `barrier_cuts` lists. The search ends with it.
+/// The first of the cuts that `barrier_cuts` lists. The search stops there.
 pub fn first_barrier_cut(alloc: Global, c: &Covered) -> Result<Option<VSet>, Memory>
     ensures { IfOk result (λ cut. cut ≡ slice_get (barrier_cuts c.now) 0) }
 {

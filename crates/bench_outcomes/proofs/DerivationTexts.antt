@@ -15,7 +15,7 @@ use Rattle.report_text.proofs.CommentLines.{derivation-commented}
 use Rattle.bench_outcomes.specs.Common.{TellsDerivation, with_given_names}
 use Rattle.bench_outcomes.specs.declared.status.Status.TheVariants.{Done}
 
--- a shore that stands is not empty
+-- a shore of a derivation is not empty
 pub has-vertices : (n : ℕ) (p : List (List ℕ)) (t : Shape) → StandsAt n p t → HasVertices t
 has-vertices n p leaf stands = tt
 has-vertices n p (cut x k m) stands = (stands.1, has-vertices n (kept_at n p x) k stands.3, has-vertices n (merged_at n p x) m stands.4)

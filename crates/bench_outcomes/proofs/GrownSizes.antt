@@ -1,6 +1,6 @@
--- A graph that grows of at most sixteen pieces has at most 64 vertices: the numbers of vertices
--- are those of the pieces, each less two, wherever these are spliced. And it has few edges, as
--- each graph on the way.
+-- A graph grown from at most sixteen pieces has at most 64 vertices: the numbers of vertices are
+-- those of the pieces, each less two, wherever these are spliced. And it has few edges, as each
+-- graph on the way.
 use Rattle.std.proofs.Common.{◌≡◌, ℕ, zero, suc, ◌+◌, ◌-◌, ◌≤◌, nat_le, true, refl, sym, subst, arith, leb-true}
 use Rattle.counting.proofs.Common.{every_true}
 use Rattle.graph_core.proofs.Common.{IsMultigraph, size}
@@ -33,7 +33,7 @@ unfolding grown
 few-vertices seed pieces some few =
     subst (λ (k : ℕ). k ≤ 64) (sym (growth-order 0 (pieces - 1) (started 64 multiplier_64 seed (increment_of 64 1)) first_growth)) (few-further (pieces - 1) (omega arith))
 
--- what holds of each graph on the way
+-- what is true of each graph on the way
 pub sound-from : (i n : ℕ) (words : Lcg) (s : Growth) → IsSound i s → IsSound (i + n) (growth_from i n words s)
 unfolding growth_from
 sound-from i zero words s is = subst (λ (k : ℕ). IsSound k s) (let e : i ≡ i + zero = omega arith in e) is

@@ -1,6 +1,6 @@
--- What a task gives is settled by whether it succeeds: it is done if it succeeds, and refused
--- if not, which it then may be. A refused tree is not a derivation, a refused list not an ear list,
--- and moves that fail lead through no derivations to a last tree.
+-- The result of a task is determined by whether it succeeds: success, or a refusal, which is then
+-- possible. A refused tree is not a derivation, a refused list not an ear list, and moves that fail
+-- lead through no derivations to a last tree.
 use Rattle.std.proofs.Common.{◌≡◌, ◌∙◌, ℕ, List, [], ◌∷◌, ◌⊎◌, inl, inr, sym, subst}
 use Rattle.counting.proofs.Common.{none-some, same_Some, singleton}
 use Rattle.graph_core.proofs.Common.{Graph, IsGraph, IsMultigraph, IsCovered}

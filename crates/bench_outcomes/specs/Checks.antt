@@ -1,5 +1,5 @@
--- What is answered on a tree of cuts that is to be a derivation of a graph: its leaves, counted, or
--- its first refusal.
+-- The report on a tree of cuts that is meant to be a derivation of a graph: the number of its
+-- leaves, or its first refusal.
 -- Stated by: bench_reports. Rests on it: bench_outcomes, bench_top, theorems.
 use Rattle.std.specs.Prelude.{◌≡◌, ◌⊎◌, ℕ, List}
 use Rattle.std.specs.declared.option.Option.{Option}
@@ -17,8 +17,8 @@ use Rattle.bench_outcomes.specs.declared.report.Report.{Report}
 use Rattle.bench_outcomes.specs.declared.status.Status.{Status}
 use Rattle.bench_outcomes.specs.declared.status.Status.TheVariants.{Done, Negative}
 
--- what is shown of the reason of a refusal: a perfect matching that crosses the cut more than
--- once, or the shore of a cut
+-- what shows the reason of a refusal: a perfect matching that crosses the cut more than once, or
+-- the shore of a cut
 abbrev pub shown_of : Why → Shown
 shown_of not_blocks = Nothing
 shown_of even = Nothing
@@ -34,7 +34,7 @@ pub record AcceptedTree (g : Graph) (t : Shape) (status : Status) (output : List
   pub done : status ≡ Done
   pub text : output ≡ judgement_text (line.Accepted tally)
 
--- the tree of this place among those that are named, counted from 1, is not one: the output is its
+-- the tree at this place among those that are named, counted from 1, is not one: the output is its
 -- first refusal
 pub record RefusedTree (g : Graph) (t : Shape) (place : ℕ) (status : Status) (output : List ℕ) : Type 0 where
   pub node : ℕ
@@ -43,15 +43,15 @@ pub record RefusedTree (g : Graph) (t : Shape) (place : ℕ) (status : Status) (
   pub negative : status ≡ Negative
   pub text : output ≡ judgement_text (line.Refused place node (why_number why) (shown_of why))
 
--- the graph is not covered, or the tree of this place is refused
+-- the graph is not covered, or the tree at this place is refused
 abbrev pub Refuses : Graph → Shape → ℕ → Status → List ℕ → Type 0
 Refuses g t place status output = RefusedTree g t place status output ⊎ Uncovered g status output
 
--- there is a report that refuses the tree of this place, or none, and the tree is a derivation
+-- there is a report that refuses the tree at this place, or none, and the tree is a derivation
 abbrev pub RefusesIfAny : Graph → Shape → ℕ → Option Report → Type 0
 RefusesIfAny g t place None = IsDerivation g t
 RefusesIfAny g t place (Some report) = Refuses g t place report.status report.bytes.items
 
--- what `check` gives
+-- the result of `check`
 abbrev pub CheckGives : Graph → Shape → Status → List ℕ → Type 0
 CheckGives g t status output = AcceptedTree g t status output ⊎ Refuses g t 1 status output

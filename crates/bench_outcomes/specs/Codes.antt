@@ -1,10 +1,10 @@
--- The codes of the statuses.
+-- The exit statuses of the program.
 -- Stated by: bench_outcomes.
 use Rattle.std.specs.Prelude.{ℕ}
 use Rattle.bench_outcomes.specs.declared.status.Status.{Status}
 use Rattle.bench_outcomes.specs.declared.status.Status.TheVariants.{Done, Negative, Usage, ReadFault, BadInput, WriteFault, Memory}
 
--- the code with which the program ends
+-- the exit status of the program
 abbrev pub code_of : Status → ℕ
 code_of Done = 0
 code_of Negative = 1

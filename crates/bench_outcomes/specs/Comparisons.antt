@@ -1,4 +1,4 @@
--- What is answered on two trees of cuts that are to be derivations of one graph: how their leaves
+-- The report on two trees of cuts that are meant to be derivations of one graph: how their leaves
 -- are paired, and a script of moves that turns the first into the second (Lovász 1987: any two
 -- decompositions have the same leaves, up to multiplicities of edges); or why one of them is
 -- refused.
@@ -68,10 +68,10 @@ abbrev pub RefusesPairIfAny : Graph → Shape → Shape → Option Report → Ty
 RefusesPairIfAny g s t None = IsDerivation g s × IsDerivation g t
 RefusesPairIfAny g s t (Some report) = RefusesPair g s t report.status report.bytes.items
 
--- what `compare` gives
+-- the result of `compare`
 abbrev pub CompareGives : Graph → Shape → Shape → Status → List ℕ → Type 0
 CompareGives g s t status output = Compared g s t status output ⊎ RefusesPair g s t status output
 
--- what `script` gives
+-- the result of `script`
 abbrev pub ScriptGives : Graph → Shape → Shape → Status → List ℕ → Type 0
 ScriptGives g s t status output = Scripted g s t status output ⊎ RefusesPair g s t status output

@@ -1,6 +1,6 @@
--- How each task behaves, said once: whether it may be refused and if it is done, whether its
--- text is chosen, and which lists of numbers its report may show. If a task succeeds
--- (`Success`) and what is free in a report (`Fixed` of `bench_top`) are read off this.
+-- How each task behaves, stated once: whether it can be refused and when it succeeds, whether its
+-- text is determined, and which lists of numbers its report may show. When a task succeeds
+-- (`Success`) and what is not determined in a report (`Fixed` of `bench_top`) follow from this.
 -- Stated by no contract. Rests on it: bench_outcomes, bench_top.
 use Rattle.std.specs.Prelude.{ℕ, List}
 use Rattle.graph_core.specs.Common.{IsCovered, Graph}
@@ -18,17 +18,17 @@ use Rattle.bench_tasks.specs.declared.verbs.MovesVerb.TheVariants.{Replay}
 use Rattle.bench_tasks.specs.declared.verbs.TreesVerb.TheVariants.{Compare, Script}
 use Rattle.bench_tasks.specs.declared.verbs.NumbersVerb.TheVariants.{Grow}
 
--- the ways to behave; what may be shown are numbers of which there may be many
+-- the ways to behave; numbers that may be shown need not be unique
 pub data Conduct : Type 1 where
-  -- always done, with one output: to convert a graph, to grow one
+  -- always succeeds, with one output: to convert a graph, to generate one
   Writes : Conduct
-  -- always done, with one output but for such numbers: to analyse a graph
+  -- always succeeds, with one output except for such numbers: to analyse a graph
   Tells : (shown : List ℕ → Type 0) → Conduct
-  -- done if the fact holds, with one output, and else refused, for a reason that may show such
-  -- numbers: to decompose, to check, to replay
+  -- succeeds if the condition is true, with one output, and is otherwise refused, for a reason that
+  -- may show such numbers: to decompose, to check, to replay
   Needs : (fact : Type 0) (shown : List ℕ → Type 0) → Conduct
-  -- the same, but if it is done any right text may be written: to find an ear list, a script
-  -- or a pairing
+  -- the same, but on success any correct text may be written: to find an ear list, a script or a
+  -- pairing
   Chooses : (fact : Type 0) (shown : List ℕ → Type 0) → Conduct
 
 -- both trees are derivations of the graph

@@ -1,5 +1,5 @@
--- What is answered on ear lists of a graph: of one that is given whether it is an ear list, and of
--- one that is built its text.
+-- The report on ear lists of a graph: for a given one whether it is an ear list, and for one that
+-- is built its text.
 -- Stated by: bench_reports. Rests on it: bench_outcomes, bench_top, theorems.
 use Rattle.std.specs.Prelude.{◌≡◌, ◌⊎◌, ℕ, List, length, count_by, not, Bool, true, false, Option, Some, None}
 use Rattle.std.specs.List.{AllByRecursion}
@@ -21,7 +21,7 @@ is_single (two a b) = false
 abbrev pub single_count : List PlainStep → ℕ
 single_count steps = count_by is_single steps
 
--- how many add two
+-- how many steps add two ears
 abbrev pub double_count : List PlainStep → ℕ
 double_count steps = count_by (λ step. not (is_single step)) steps
 
@@ -65,9 +65,9 @@ pub record RefusedEars (g : Graph) (list : PlainEars) (status : Status) (output 
 abbrev pub EarCheckGives : Graph → PlainEars → Status → List ℕ → Type 0
 EarCheckGives g list status output = AcceptedEars g list status output ⊎ (RefusedEars g list status output ⊎ Uncovered g status output)
 
--- an ear list of the covered graph, with two ears at once only where neither of them serves
--- alone and no ear list goes on by a single ear, and with single ears where the graph is
--- bipartite: the output is its text, and then the numbers of its steps as a comment
+-- an ear list of the covered graph, with a double ear only if neither of its ears serves alone and
+-- no ear list continues with a single ear, and with single ears only if the graph is bipartite: the
+-- output is its text, and then the numbers of its steps as a comment
 pub record BuiltEars (g : Graph) (status : Status) (output : List ℕ) : Type 0 where
   pub covered : IsCovered g
   pub list : PlainEars
@@ -78,6 +78,6 @@ pub record BuiltEars (g : Graph) (status : Status) (output : List ℕ) : Type 0 
   pub done : status ≡ Done
   pub text : output ≡ ears_report_text (ears_text g.order (size g) list) (length list.steps) (single_count list.steps) (double_count list.steps)
 
--- what `ears` gives: of a covered graph an ear list, and of any other the reason
+-- the result of `ears`: for a covered graph an ear list, and for any other the reason
 abbrev pub EarsGives : Graph → Status → List ℕ → Type 0
 EarsGives g status output = BuiltEars g status output ⊎ Uncovered g status output

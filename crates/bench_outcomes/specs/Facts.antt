@@ -20,10 +20,10 @@ pub record HasMaximum (g : Graph) (edges missed : ℕ) : Type 0 where
   pub size_is : count (size g) matching ≡ edges
   pub misses : missed_count g none matching ≡ missed
 
--- each line on the structure of a covered graph is right: the classes are those of the canonical
--- partition; the pairs are the first without which there is no perfect matching, and without
--- which at least two components are left; the kind is shown by the shore of the first candidate,
--- if there is one
+-- each line on the structure of a covered graph is correct: the classes are those of the canonical
+-- partition; the pairs are the first u < v such that G - u - v has no perfect matching, and the
+-- first such that it has at least two components; the kind comes with the shore of the first
+-- candidate, if there is one
 pub record IsStructure (g : Graph) (structure : Structure) : Type 0 where
   pub partition : structure.classes ≡ classes g
   pub unlike : option_map pair_of structure.unlike ≡ equivalent_pair g
@@ -31,14 +31,14 @@ pub record IsStructure (g : Graph) (structure : Structure) : Type 0 where
   pub kind : IsKind g structure.kind
   pub cut : cut_of structure.kind ≡ first_shore (candidates g)
 
--- the structure is given if and only if the graph is covered, and is right
+-- the structure is given if and only if the graph is covered, and is correct
 abbrev pub TellsStructure : Graph → Verdict → Option Structure → Type 0
 TellsStructure g Covered None = ⊥
 TellsStructure g Covered (Some structure) = IsStructure g structure
 TellsStructure g (NotCovered reason) None = Unit {0}
 TellsStructure g (NotCovered reason) (Some structure) = ⊥
 
--- each line of `analyse` is right
+-- each line of `analyse` is correct
 pub record IsAnalysis (g : Graph) (lines : AnalysisLines) : Type 0 where
   pub order : lines.order ≡ g.order
   pub edges : lines.size ≡ size g

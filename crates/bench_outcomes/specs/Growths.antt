@@ -1,5 +1,5 @@
--- What is answered on a graph that grows from a seed: its text, the leaves of its decompositions by
--- the first and by the last candidates, counted, and how many of them are paired.
+-- The report on a graph that is generated from a seed: its text, the numbers of leaves of its
+-- decompositions by the first and by the last candidates, and how many of them are paired.
 -- Stated by: bench_reports. Rests on it: bench_outcomes, bench_top, theorems.
 use Rattle.std.specs.Prelude.{◌≡◌, ℕ, List, length}
 use Rattle.graph_core.specs.Common.{Graph}
@@ -27,7 +27,7 @@ pub record ArePaired (g : Graph) (s t : Shape) (pairs : ℕ) : Type 0 where
   pub paired : IsPairing g (leaves g.order s) (leaves g.order t) maps
   pub so_many : pairs ≡ length maps
 
--- what `grow` gives: the text of the graph, and then as comments the leaves of two
+-- the result of `grow`: the text of the graph, and then as comments the leaves of two
 -- decompositions, and how many are paired
 pub record Grown (seed pieces : ℕ) (status : Status) (output : List ℕ) : Type 0 where
   pub s : Shape

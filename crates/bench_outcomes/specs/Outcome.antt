@@ -1,5 +1,5 @@
--- Which status and which output the words and the files stand for. A named file that is not held
--- fits no case.
+-- The status and the output that belong to the arguments and the files. If a named file is missing,
+-- no case applies.
 -- Stated by: bench_reports, bench_top, theorems. Rests on it: bench_outcomes, front_top.
 use Rattle.std.specs.Prelude.{◌≡◌, ℕ, ◌<◌, ◌⊎◌, List, length, take, Bool, true, false}
 use Rattle.std.specs.declared.option.Option.{Option}
@@ -41,19 +41,19 @@ abbrev pub with_given_names : List ℕ → Option (List (List ℕ)) → (comment
 with_given_names report None comments = report
 with_given_names report (Some names) comments = with_names_text report names comments
 
--- the names of the vertices of a graph of that order, or the plain ones if it has none
+-- the names of the vertices of a graph of that order, or the default ones if it has none
 abbrev pub given_or_plain : ℕ → Option (List (List ℕ)) → List (List ℕ)
 given_or_plain order None = plain_names order
 given_or_plain order (Some names) = names
 
--- the structure of a graph: the output is the text of lines that are right, and then the names
+-- the structure of a graph: the output is the text of correct lines, and then the names
 pub record Analysed (named : NamedGraph) (status : Status) (output : List ℕ) : Type 0 where
   pub lines : AnalysisLines
   pub right : IsAnalysis named.graph lines
   pub done : status ≡ Done
   pub text : output ≡ with_given_names (analysis_text lines) named.names false
 
--- the canonical text of a graph with its names or the plain ones; it stands for the graph with
+-- the canonical text of a graph with its names or the default ones; it stands for the graph with
 -- these names
 pub record Converted (named : NamedGraph) (status : Status) (output : List ℕ) : Type 0 where
   pub done : status ≡ Done
@@ -78,19 +78,19 @@ pub record TellsDerivation (named : NamedGraph) (tree : Shape) (status : Status)
   pub text : output ≡ with_given_names (derivation_text (tree_text named.graph.order tree) named.graph (leaves named.graph.order tree) kinds) named.names true
   pub stands : Stands (tree_format named.graph.order) output tree
 
--- the decomposition of a covered graph by tight cuts: a derivation of it is given, which is the
--- tree that the order picks
+-- the decomposition of a covered graph by tight cuts: the tree is a derivation of it, the one that
+-- the order picks
 pub record Decomposed (picks : List Candidate → ℕ → ℕ → Type 0) (named : NamedGraph) (status : Status) (output : List ℕ) : Type 0 where
   pub tree : Shape
   pub picked : IsPicked picks named.graph tree
   pub told : TellsDerivation named tree status output
 
--- what `decompose` gives by an order that picks so: of a covered graph a derivation, and of any
--- other the reason
+-- the result of `decompose` with an order that picks so: for a covered graph a derivation, and for
+-- any other the reason
 abbrev pub DecomposeGives : (List Candidate → ℕ → ℕ → Type 0) → NamedGraph → Status → List ℕ → Type 0
 DecomposeGives picks named status output = Decomposed picks named status output ⊎ Uncovered named.graph status output
 
--- what a command gives for what it works on: one case for each row of the table of words
+-- the result of a command for its data: one case for each row of the table of commands
 abbrev pub ResultOf : Task → Status → List ℕ → Type 0
 ResultOf (task.OnGraph Analyse named) status output = Analysed named status output
 ResultOf (task.OnGraph Convert named) status output = Converted named status output
@@ -105,22 +105,22 @@ ResultOf (task.OnTrees Compare named first second) status output = CompareGives 
 ResultOf (task.OnTrees Script named first second) status output = ScriptGives named.graph first second status output
 ResultOf (task.OnNumbers Grow seed pieces) status output = Grown seed pieces status output
 
--- what a command gives for what its files hold
+-- the result of a command for the contents of its files
 abbrev pub LoadedGives : Loaded Task → Status → List ℕ → Type 0
 LoadedGives (All given) status output = ResultOf given status output
 LoadedGives (Bad file line kind) status output = (status ≡ BadInput) × (output ≡ bad_input_text file line kind)
 LoadedGives (Absent file) status output = ⊥
 
--- the same for the words, which may match no row
+-- the same for the arguments, which may match no row
 abbrev pub CommandGives : List NamedFile → Option Command → Status → List ℕ → Type 0
 CommandGives files None status output = ⊥
 CommandGives files (Some command) status output = LoadedGives (loaded files command) status output
 
--- the words and the files stand for this status and this output
+-- this status and this output belong to the arguments and the files
 abbrev pub Outcome : List (List ℕ) → List NamedFile → Status → List ℕ → Type 0
 Outcome words files status output = CommandGives files (command_of words) status output
 
--- the output of some outcome of this status was appended to what the sink had
+-- the output of some outcome with this status was appended to what the sink had
 pub record Appended (gives : Status → List ℕ → Type 0) (status : Status) (before now : Option (List ℕ)) : Type 0 where
   pub output : List ℕ
   pub outcome : gives status output
@@ -135,10 +135,10 @@ pub record CutShort (gives : Status → List ℕ → Type 0) (before now : Optio
   pub less : count < length output
   pub written : now ≡ appended before (take count output)
 
--- a run that wrote its report: done, refused, or with a bad file named
+-- a run that wrote its report: success, a refusal, or a bad file
 abbrev pub IsReported : Status → Type 0
 IsReported status = (status ≡ Done) ⊎ ((status ≡ Negative) ⊎ (status ≡ BadInput))
 
--- a run that wrote its report on good files: done or refused
+-- a run that wrote its report on good files: success or a refusal
 abbrev pub IsSettled : Status → Type 0
 IsSettled status = (status ≡ Done) ⊎ (status ≡ Negative)

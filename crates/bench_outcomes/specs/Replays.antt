@@ -1,4 +1,4 @@
--- What is answered on a script of moves on a tree of cuts that is to be a derivation of a graph:
+-- The report on a script of moves on a tree of cuts that is meant to be a derivation of a graph:
 -- the last tree if each tree on the way is a derivation, or the first move that fails, or why the
 -- tree itself is refused.
 -- Stated by: bench_reports. Rests on it: bench_outcomes, bench_top, theorems.
@@ -40,10 +40,10 @@ pub record RefusedMove (g : Graph) (t : Shape) (moves : List PlainMove) (status 
   pub negative : status ≡ Negative
   pub text : output ≡ refused_move_text at node (why_number why) (shown_of why)
 
--- what the moves make of a derivation
+-- the result of the moves on a derivation
 abbrev pub MovesGive : Graph → Shape → List PlainMove → Status → List ℕ → Type 0
 MovesGive g t moves status output = ReplayedTree g t moves status output ⊎ (StuckMove g t moves status output ⊎ RefusedMove g t moves status output)
 
--- what `replay` gives
+-- the result of `replay`
 abbrev pub ReplayGives : Graph → Shape → List PlainMove → Status → List ℕ → Type 0
 ReplayGives g t moves status output = MovesGive g t moves status output ⊎ Refuses g t 1 status output

@@ -1,4 +1,4 @@
--- What a report may show of which there may be many: a Berge set of a connected graph without a
+-- What a report may show that need not be unique: a Berge set of a connected graph without a
 -- perfect matching, or a perfect matching that crosses a refused cut.
 -- Stated by no contract. Rests on it: bench_outcomes, bench_top.
 use Rattle.std.specs.Prelude.{◌⊎◌, ℕ, List}
@@ -15,19 +15,19 @@ MayBeBerge g set = IsReason g (Unmatched set)
 abbrev pub MayCross : Graph → Shape → List ℕ → Type 0
 MayCross g tree matching = (node : ℕ) × IsRefused g tree node (not_tight matching)
 
--- the same of the tree that the first failing move makes
+-- the same for the tree that the first failing move makes
 abbrev pub MayCrossBehind : Graph → Shape → List PlainMove → List ℕ → Type 0
 MayCrossBehind g tree moves matching = (at : ℕ) × ((node : ℕ) × IsRefusedMoveAt g tree moves at node (not_tight matching))
 
--- the numbers that a report on a tree may show, of which there may be many
+-- the numbers that a report on a tree may show, which need not be unique
 abbrev pub MayShowOfTree : Graph → Shape → List ℕ → Type 0
 MayShowOfTree g tree numbers = MayBeBerge g numbers ⊎ MayCross g tree numbers
 
--- the same of a tree and moves
+-- the same for a tree and moves
 abbrev pub MayShowOfMoves : Graph → Shape → List PlainMove → List ℕ → Type 0
 MayShowOfMoves g tree moves numbers = MayBeBerge g numbers ⊎ (MayCross g tree numbers ⊎ MayCrossBehind g tree moves numbers)
 
--- the same of two trees
+-- the same for two trees
 abbrev pub MayShowOfTwo : Graph → (first second : Shape) → List ℕ → Type 0
 MayShowOfTwo g first second numbers =
     MayBeBerge g numbers ⊎ (MayCross g first numbers ⊎ (IsDerivation g first × MayCross g second numbers))

@@ -1,17 +1,16 @@
--- What a task needs to be done and not refused: a matching covered graph, trees that are
--- derivations of it, a list that is an ear list of it, moves that lead through derivations; or
--- nothing.
+-- When a task succeeds and is not refused: the graph is matching covered, the trees are derivations
+-- of it, the list is an ear list of it, the moves lead through derivations; or always.
 -- Stated by: bench_top. Rests on it: bench_outcomes, front_top.
 use Rattle.bench_outcomes.specs.Conducts.{Conduct, Writes, Tells, Needs, Chooses, conduct_of}
 use Rattle.bench_tasks.specs.Common.{Task}
 
--- what a conduct asks for
+-- the condition of a conduct
 abbrev pub NeedOf : Conduct → Type 0
 NeedOf Writes = Unit {0}
 NeedOf (Tells shown) = Unit {0}
 NeedOf (Needs fact shown) = fact
 NeedOf (Chooses fact shown) = fact
 
--- the task is done
+-- the task succeeds
 abbrev pub Succeeds : Task → Type 0
 Succeeds t = NeedOf (conduct_of t)

@@ -1,4 +1,4 @@
--- What the commands on matching covered graphs answer on a graph that is not one.
+-- The report of the commands on matching covered graphs for any other graph.
 -- Stated by: bench_reports. Rests on it: bench_outcomes, bench_top, theorems.
 use Rattle.std.specs.Prelude.{◌≡◌, ℕ, List}
 use Rattle.graph_core.specs.Common.{IsCovered, IsReason, Graph, reason_of}

@@ -10,20 +10,20 @@ pub enum Status {
     /// The report says that the graph is not matching covered, that a tree or a list is not what
     /// it claims to be, or that a move fails.
     Negative,
-    /// The words match no command; nothing was read or written.
+    /// Unknown command, or wrong number of arguments; nothing was read or written.
     Usage,
     /// A file could not be read; nothing was written.
     ReadFault,
     /// A file is too long or outside its format; the report is one line.
     BadInput,
-    /// The output could not be written whole; a part of it may have been.
+    /// The output could not be written completely; a part of it may have been.
     WriteFault,
     /// Memory ran out; nothing was written.
     Memory,
 }
 
 impl Status {
-    /// The code with which the program ends. Takes no memory.
+    /// The exit status of the program. Takes no memory.
     pub fn code(self) -> u8
         ensures { result ≡ code_of self }
     {

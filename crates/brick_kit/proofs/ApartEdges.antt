@@ -1,6 +1,6 @@
--- A set with three vertices on both sides has two edges in its cut without a common end, or the
--- ends of one edge separate. Where each edge of the cut has an end of the first one, no other
--- edge leaves the set.
+-- A set with at least three vertices on both sides has two edges in its cut without a common end,
+-- or the ends of one edge of its cut separate the graph. If each edge of the cut has an end of the
+-- first one, no other edge leaves the set.
 use Rattle.std.proofs.Common.{◌≡◌, ℕ, true, false, ◌==◌, ◌&&◌, ◌||◌, not, sym, ap, ◌∙◌, arith, inl, inr, ◌⊎◌, ne_eqb}
 use Rattle.std.proofs.lemmas.Bool.{eqb-false}
 use Rattle.counting.proofs.Common.{and_parts, both_ways, cases_Bool, not-true, or_from, or_parts, count_member, count_minus, some_none, some_true, Within, Set, complement, minus, pair_set, singleton, some}

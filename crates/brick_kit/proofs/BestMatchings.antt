@@ -1,7 +1,7 @@
--- Matchings that are heaviest where each edge inside k weighs one less, and among those have most
--- edges inside k. Such a one is heaviest for one weight in which the lowered weights count for
+-- Matchings that are heaviest when each edge inside k weighs one less, and among these have most
+-- edges inside k. Such a matching is heaviest for one weight in which the lowered weights count for
 -- more than all edges inside; with its edges inside a swap set replaced by those of a heaviest
--- matching it is best again.
+-- matching it is again best.
 use Rattle.std.proofs.Common.{◌≡◌, ◌≢◌, ℕ, suc, ◌+◌, ◌*◌, ◌≤◌, ◌<◌, true, false, ◌&&◌, nat_lt, refl, sym, ap, ap₂, ◌∙◌, arith, lt-ltb}
 use Rattle.counting.proofs.Common.{cases_Bool, count_congr, count_le, Within, bit, count, Set, none, put}
 use Rattle.graph_core.proofs.Common.{add_edge, bit_same, ends_le_degree, ends_of_is, Graph, HasEnds, IsGraph, degree, inside, size, IsMatching}

@@ -1,7 +1,7 @@
--- A nontrivial tight shore of a covered multigraph has a reason: a barrier of two vertices or
--- more, or a cut pair. A shore of a bicritical graph gives a list of balanced shores, which is
--- uncrossed to a cut pair; a graph that is not bicritical has a barrier by the law of Tutte and
--- Berge.
+-- A nontrivial tight shore of a covered multigraph has a reason: a barrier of at least two
+-- vertices, or a cut pair. A shore of a bicritical graph gives a list of balanced shores, which is
+-- uncrossed until it gives a cut pair; a graph that is not bicritical has a barrier by the theorem
+-- of Tutte and Berge.
 use Rattle.std.proofs.Common.{ℕ, suc, ◌+◌, ◌≤◌, ◌≢◌, ◌∷◌, ◌⊎◌, ◌↔◌, inl, inr, arith}
 use Rattle.counting.proofs.Common.{cases_eq, two_members, scan, Within, bit, count, Set, pair_set}
 use Rattle.graph_core.proofs.Common.{covered_perfect, IsCovered, Graph, IsBipartite, IsMultigraph, in_cut, HasPerfect, IsPerfect, IsBarrier, IsBicritical, IsCutPair, IsNontrivial, IsTight}
@@ -42,7 +42,7 @@ shore_reason g x is cov tx wide = elim (critical_or_pair g) [
 pub no_shore : (g : Graph) → IsMultigraph g → IsCovered g → IsBicritical g → ((a b : ℕ) → IsCutPair g a b → ⊥) → (x : Set) → IsTight g x → IsNontrivial g.order x → ⊥
 no_shore g is cov bi none_pair x tx wide = let p = shore_pair g x is cov bi tx wide in none_pair p.0 p.1 p.2
 
--- a covered multigraph that is not bipartite is a brick exactly when it is bicritical and has no
+-- a covered multigraph that is not bipartite is a brick if and only if it is bicritical and has no
 -- cut pair
 pub brick_or_not : (g : Graph) → IsMultigraph g → IsCovered g → (IsBipartite g → ⊥) → ((x : Set) → IsTight g x → IsNontrivial g.order x → ⊥) ↔ (IsBicritical g × ((u v : ℕ) → IsCutPair g u v → ⊥))
 brick_or_not g is cov odd_cycle = grind (arith, brick_facts g is.ends cov (no_sides g is.no_loop odd_cycle), no_sides g is.no_loop odd_cycle, no_shore g is cov)

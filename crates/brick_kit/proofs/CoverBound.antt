@@ -1,5 +1,5 @@
--- No matching weighs more than a cover, and where one weighs as much the cover is exact at its
--- edges and its sets. The weight of a cover is summed vertex by vertex and set by set.
+-- No matching weighs more than a cover, and if one weighs as much, the cover is exact at its edges
+-- and its sets. The weight of a cover is summed vertex by vertex and set by set.
 use Rattle.std.proofs.Common.{◌≡◌, ℕ, ◌+◌, ◌*◌, ◌/◌, ◌≤◌, Bool, true, ◌&&◌, List, sym, ap₂, ◌∙◌, arith, All}
 use Rattle.counting.proofs.Common.{total_le, total_tight, Within, bit, count, total, Set, none}
 use Rattle.graph_core.proofs.Common.{degrees, Graph, IsGraph, degree, first_end, in_cut, inside, second_end, size, IsMatching}

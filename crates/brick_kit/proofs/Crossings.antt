@@ -1,6 +1,6 @@
--- Two tight shores that cross: the meet or the union is nontrivial, or the vertex in both and the
--- one in neither separate. Where the meet is even the complement of the second is taken. No edge
--- joins the two differences.
+-- Two tight shores X and Y that cross: X ∩ Y or X ∪ Y is nontrivial, or the vertex in X ∩ Y and the
+-- vertex outside X ∪ Y separate the graph. If |X ∩ Y| is even, the complement of Y is taken
+-- instead. No edge joins X - Y with Y - X.
 use Rattle.std.proofs.Common.{◌≡◌, ℕ, ◌≤◌, Bool, true, false, cond, ◌==◌, ◌&&◌, ◌||◌, not, sym, ap, ◌∙◌, arith, inl, inr, ◌⊎◌, ne_eqb}
 use Rattle.std.proofs.lemmas.Bool.{eqb-false}
 use Rattle.counting.proofs.Common.{and_from, and_parts, both_ways, cases_Bool, not-true, or_from, or_parts, true≢false, or_left, only_one, count_member, odd-add, odd_three, count_mono, count_split, Within, count, is_odd, Set, complement, meet, minus, pair_set, union}

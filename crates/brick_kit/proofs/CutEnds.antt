@@ -1,5 +1,4 @@
--- An edge by its two ends, whichever is the first.
--- Tables of the two bits at the ends.
+-- An edge by its two ends, in either order. Idea: a truth table of the two bits at the ends.
 use Rattle.std.proofs.Common.{◌≡◌, ℕ, true, false, ◌&&◌, arith}
 use Rattle.counting.proofs.Common.{Within, Set}
 use Rattle.graph_core.proofs.Common.{Graph, HasEnds, IsGraph, in_cut, inside, size}

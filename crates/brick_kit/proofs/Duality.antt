@@ -1,7 +1,7 @@
 -- Each weight has a matching and a cover of the same weight. By induction on the sum of all
--- weights. Where each heaviest matching meets some vertex, the edges at that vertex are lowered;
--- else a component of the edges that have weight is an odd set, and the edges inside it are
--- lowered.
+-- weights. If each heaviest matching meets some vertex, the weights of the edges at that vertex are
+-- lowered; otherwise a component of the edges of positive weight is an odd set, and the weights of
+-- the edges inside it are lowered.
 use Rattle.std.proofs.Common.{◌≡◌, ℕ, suc, zero, ◌≤◌, ◌<◌, ◌⊎◌, List, refl, sym, ◌∙◌, arith, inl, inr}
 use Rattle.counting.proofs.Common.{and_from, cases_lt, scan, at_le_total, some_term, total_none, total_zero, Within, total, Set, none}
 use Rattle.graph_core.proofs.Common.{none_matching, Graph, IsGraph, degree, first_end, inside, second_end, size}

@@ -1,5 +1,5 @@
--- Weights lowered by one at the edges of a set that have any.
--- Edge by edge the old weight is the new one, and one more where there was some.
+-- Weights lowered by one at those edges of a set that have positive weight. Edge by edge the old
+-- weight is the new one, plus one if it was positive.
 use Rattle.std.proofs.Common.{◌≡◌, ℕ, ◌+◌, ◌-◌, ◌*◌, ◌≤◌, ◌<◌, true, ◌&&◌, nat_lt, ap, arith}
 use Rattle.counting.proofs.Common.{total_congr, total_le, Within, bit, count, total, Set}
 use Rattle.graph_core.proofs.Common.{Graph, size}

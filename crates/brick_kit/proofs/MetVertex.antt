@@ -1,7 +1,8 @@
--- A vertex that each heaviest matching meets gets one more in a cover of the weight that is
--- lowered at its edges. The cover's value rises by one. The heaviest weight does too: else a
--- matching that is heaviest for the lowered weight would be heaviest for the weight, and have an
--- edge at the vertex where the two differ.
+-- If each heaviest matching meets a vertex, the weights of the edges at it are lowered by one, and
+-- the vertex gets one more in a cover of the lowered weights. The value of the cover increases by
+-- one. So does the weight of a heaviest matching: otherwise a matching that is heaviest for the
+-- lowered weights would be heaviest for the weights, and have an edge at the vertex, where the two
+-- differ.
 use Rattle.std.proofs.Common.{◌≡◌, ℕ, ◌+◌, ◌≤◌, ◌<◌, true, ◌==◌, ◌||◌, arith, eq-eqb}
 use Rattle.counting.proofs.Common.{or_left, or_right, count_singleton, total_add, Within, bit, Set}
 use Rattle.graph_core.proofs.Common.{edge_at, Graph, IsGraph, degree, first_end, second_end, size}

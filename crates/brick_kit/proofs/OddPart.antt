@@ -1,7 +1,7 @@
--- Where each vertex of a part is missed by some heaviest matching, the part is odd and a best
--- matching fills it but for one vertex. By induction on a walk between two vertices that a best
--- matching would miss: the swap makes another one miss a vertex of the walk. So the part goes
--- into a cover of the lowered weights, and makes it a cover of the weights.
+-- If each vertex of a part is missed by some heaviest matching, the part is odd, and a best
+-- matching misses just one vertex of it. By induction on a walk between two vertices that a best
+-- matching would miss: the exchange makes another one miss a vertex of the walk. So the part
+-- becomes a set of a cover of the lowered weights, and makes it a cover of the weights.
 use Rattle.std.proofs.Common.{◌≡◌, ◌≢◌, ℕ, suc, ◌+◌, ◌*◌, ◌/◌, ◌≤◌, ◌<◌, Bool, true, false, cond, ◌==◌, ◌&&◌, not, ◌⊎◌, nat_lt, List, [], ◌∷◌, sym, ap, ◌∙◌, arith, inl, inr, eqb-true, eq-eqb, subst}
 use Rattle.counting.proofs.Common.{and_from, and_parts, cases_eq, All-cons, count_le_one, member_count, odd-double, Within, bit, count, is_odd, total, Set}
 use Rattle.graph_core.proofs.Common.{Graph, HasEnds, IsGraph, degree, in_cut, inside, size, Walk}

@@ -1,6 +1,6 @@
--- A balanced list with two members uncrossed is balanced, and its members part fewer pairs.
--- Vertex by vertex the meet and the union part as often as the two members, and twice less where
--- these cross.
+-- A balanced list in which two members X and Y are replaced by X ∩ Y and X ∪ Y is balanced, and its
+-- members separate fewer pairs. For each pair of vertices X ∩ Y and X ∪ Y separate it as often as X
+-- and Y do, and twice less if one vertex is in X - Y and the other in Y - X.
 use Rattle.std.proofs.Common.{◌≡◌, ℕ, ◌+◌, ◌*◌, ◌≤◌, ◌<◌, Bool, true, false, ◌&&◌, ◌||◌, not, List, ◌∷◌, refl, ap, ◌∙◌, arith}
 use Rattle.counting.proofs.Common.{All-cons, All-head, All-tail, total_congr, total_le, Within, bit, count, is_odd, total, Set, complement, meet, minus, union}
 use Rattle.graph_core.proofs.Common.{meet_tight, no_edge_joins, union_tight, IsCovered, Graph, IsGraph, first_end, second_end, IsTight}

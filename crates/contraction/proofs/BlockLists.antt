@@ -11,7 +11,7 @@ use Rattle.graph_core.proofs.Common.{mem_last, IsPartition, block, insert_block,
 pub name-option : (n : ℕ) (b : List ℕ) (r : Option ℕ) → IsRisingIn n b → IfSome r (IsGreatestOf b) → IfNone r (b ≡ []) → unwrap_or r 0 ≡ last_of b
 name-option n b r rises some none = grind (arith, last-greatest n)
 
--- the block that a scan finds stands at the place of v, one less
+-- the index of the block that a scan finds is the place of v less one
 pub place-find : (p : List (List ℕ)) (v i : ℕ) → MatchOption (find_at (λ b. mem b v) i p) (place p v ≡ length p + 1) (λ found. (found.0 + 1 ≡ place p v + i) × (found.0 < length p + i))
 place-find [] v i = refl
 place-find (b ∷ p) v i = go (mem b v) (place-find p v (i + 1))

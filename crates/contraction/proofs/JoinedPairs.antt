@@ -90,7 +90,7 @@ pub joined-once : (g : Graph) → EachOnce (joined_pairs g)
 unfolding joined_pairs
 joined-once g = each-once (joined_pairs g) (once-filter (λ a b. some (size g) (has_ends g a b)) (rising_pairs g.order) (once-rows 1 g.order (rising_list g.order everything) (rises-from_set g.order (rising_list g.order everything) (rising_list-rises g.order everything))))
 
--- each joins two vertices in rising order by some edge
+-- each joins two vertices in increasing order by some edge
 pub joined-at : (g : Graph) (i : ℕ) → i < length (joined_pairs g) →
     Within g.order (get_or (joined_pairs g) i (0, 0)).0 × Within g.order (get_or (joined_pairs g) i (0, 0)).1 × ((get_or (joined_pairs g) i (0, 0)).0 < (get_or (joined_pairs g) i (0, 0)).1) × (some (size g) (has_ends g (get_or (joined_pairs g) i (0, 0)).0 (get_or (joined_pairs g) i (0, 0)).1) ≡ true)
 unfolding joined_pairs

@@ -8,7 +8,7 @@ use Rattle.graph_core.proofs.Common.{Graph, are_ends, has_ends, graph_of, has_en
 use Rattle.graph_core.specs.declared.ends.Ends.{Ends}
 use Rattle.contraction.specs.PlacedEdges.{ArePlaced, joins_blocks}
 
--- a filter of a rising list by a test that only its members pass
+-- a filter of an increasing list by a test that only its members pass
 filter-rising : (n : ℕ) (x y : Set) → ((k : ℕ) → y k ≡ true → x k ≡ true) → filter y (rising_list n x) ≡ rising_list n y
 filter-rising zero x y h = refl
 filter-rising (suc n) x y h = grind (arith, filter-append, filter-rising n x y h, cases_Bool, h (suc n))

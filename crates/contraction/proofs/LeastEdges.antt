@@ -1,6 +1,5 @@
--- Each edge of the quotient has a least remembered edge, and the places that are marked row by
--- row are the lifted matching. A list of rows is gone through one row at a time; a row is found
--- by its edge.
+-- Each edge of the quotient has a least remembered edge, and the places that are marked row by row
+-- are the lifted matching. A list of rows is read row by row; a row is found by its edge.
 use Rattle.std.proofs.Common.{◌≡◌, ℕ, ◌+◌, ◌<◌, Bool, true, false, ◌&&◌, ◌||◌, ◌==◌, List, [], ◌∷◌, length, map, take, get_or, refl, ap, ◌∙◌, inl, inr, eq-eqb, eqb-true, All, Some, slice_get, slice_index, arith}
 use Rattle.counting.proofs.Common.{list_any, and_from, and_parts, both_ways, or_cases, or_right, or_left, take_more, All-head, All-tail, list_any-append, get_or_from_slice_get, rising_list-congr, some_congr, some_true, true_some, or_false, same_tests, Within, item, mem, rising_list, Set, some}
 use Rattle.std.proofs.lemmas.Option.{slice_get_within}
@@ -23,14 +22,14 @@ least-is g p q k is w = ap (λ (es : List ℕ). slice_index es 0) (item-remember
 pub least-within : (q : ContractedValue) (k : ℕ) → KeepsContraction q → Within (size q.graph) k → Within q.size (least_at q k)
 least-within q k keeps w = grind (arith, least-remembered keeps.base q.blocks keeps.limits.multigraph.ends keeps.partition.partition k, least-is keeps.base q.blocks q k keeps.is w)
 
--- one row more
+-- one more row
 pub any-more : (t : MatchRow → Bool) (rows : List MatchRow) (i : ℕ) (row : MatchRow) → slice_get rows i ≡ Some row → list_any t (take (i + 1) rows) ≡ (list_any t (take i rows) || t row)
 any-more t rows i row q =
     ap (list_any t) (take_more rows i row (slice_get_within rows i row q))
     ∙ list_any-append t (take i rows) (get_or rows i row ∷ [])
     ∙ ap (λ (b : Bool). list_any t (take i rows) || b) (or_false (t (get_or rows i row)) ∙ ap t (get_or_from_slice_get rows i row row q))
 
--- some row passes exactly when some edge of the rows does
+-- some row passes if and only if some edge of the rows does
 pub any-edge : (n : ℕ) (t : ℕ → Bool) (rows : List MatchRow) → All (λ (row : MatchRow). Within n row.edge) rows → list_any (λ (row : MatchRow). t row.edge) rows ≡ some n (λ k. mem (map edge_of rows) k && t k)
 any-edge n t rows all = same_tests _ _ (there rows all) (λ h. let r = some_true n (λ k. mem (map edge_of rows) k && t k) h in let b = and_parts (mem (map edge_of rows) r.0) (t r.0) r.2 in back rows r.0 b.0 b.1)
   where

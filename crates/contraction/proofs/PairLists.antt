@@ -1,6 +1,6 @@
--- Lists of pairs in which no pair stands twice: rows of rising lists, one after another, and what
--- a filter keeps of them. A pair that is in the list has one place, so a map keyed by the pairs
--- gets a new key at each step.
+-- Lists of pairs in which no pair occurs twice: rows of increasing lists, one after another, and
+-- what a filter keeps of them. A pair that is in the list has one place, so a map keyed by the
+-- pairs gets a new key at each step.
 use Rattle.std.proofs.Common.{◌≡◌, ℕ, ◌+◌, ◌<◌, Bool, true, ◌==◌, if◌then◌else◌, List, [], ◌∷◌, ◌++◌, length, refl, sym, ap, ap₂, ◌∙◌, arith, inl, inr, map, get_or, take, subst, suc, zero, ◌&&◌, eqb-true}
 use Rattle.counting.proofs.Common.{false_from_ne_true, and_parts, get_or-map, length-map, take_more, HasPair, at_pair, pair_at}
 use Rattle.std.proofs.lemmas.List.{map_push, take-map}
@@ -16,7 +16,7 @@ insert-fresh eq same (e ∷ es) k v fresh =
     ap (λ b. if b then (e.0, v) ∷ es else e ∷ insert_entry eq es k v) (false_from_ne_true (eq k e.0) (λ t. let s = same k e.0 t in fresh (inl (sym s.0, sym s.1))))
     ∙ ap (λ l. e ∷ l) (insert-fresh eq same es k v (λ h. fresh (inr h)))
 
--- no pair stands before its place
+-- no pair occurs before its place
 pub once-before : (ks : List (ℕ × ℕ)) (i : ℕ) → EachOnce ks → i < length ks → HasPair (take i ks) (get_or ks i (0, 0)).0 (get_or ks i (0, 0)).1 → ⊥
 once-before ks i once l h =
     let r = pair_at (take i ks) (get_or ks i (0, 0)).0 (get_or ks i (0, 0)).1 h in

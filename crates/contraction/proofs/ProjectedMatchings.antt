@@ -10,7 +10,7 @@ use Rattle.contraction.proofs.QuotientLaws.{same_pairs}
 use Rattle.contraction.proofs.QuotientValues.{joined-quotient}
 use Rattle.contraction.specs.Pairs.{EachOnce}
 
--- two pairs in rising order with the same ends
+-- two pairs in increasing order with the same ends
 rising-same : (a b c d x y : ℕ) → a < b → c < d → ((a ≡ x) × (b ≡ y)) ⊎ ((a ≡ y) × (b ≡ x)) → ((c ≡ x) × (d ≡ y)) ⊎ ((c ≡ y) × (d ≡ x)) → (a ≡ c) × (b ≡ d)
 rising-same a b c d x y l m h k = grind arith
 

@@ -1,5 +1,5 @@
 -- The quotient of a graph at a partition as contracts see it: the quotient graph, the blocks that
--- its vertices stand for, and for each of its edges the edges of the graph that it stands for.
+-- are its vertices, and for each of its edges the edges of the graph between the two blocks.
 -- Stated by: contraction, tree_check, report_text.
 use Rattle.std.specs.Prelude.{◌≡◌, ℕ, List, map}
 use Rattle.graph_core.specs.Common.{Graph, size, IsPartition, edges_between, quotient, IsWithinLimits}

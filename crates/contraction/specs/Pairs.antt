@@ -4,7 +4,7 @@ use Rattle.std.specs.Prelude.{◌≡◌, ◌<◌, ◌-◌, ℕ, List, length, fi
 use Rattle.counting.specs.Common.{Within, some, rising_pairs}
 use Rattle.graph_core.specs.Common.{Graph, has_ends, place, size}
 
--- no pair stands twice
+-- no pair occurs twice
 abbrev pub EachOnce : List (ℕ × ℕ) → Type 0
 EachOnce ks = (i j : ℕ) → i < j → j < length ks → slice_index_or ks i (0, 0) ≡ slice_index_or ks j (0, 0) → ⊥
 
@@ -12,6 +12,6 @@ EachOnce ks = (i j : ℕ) → i < j → j < length ks → slice_index_or ks i (0
 unfoldable pub joined_pairs : Graph → List (ℕ × ℕ)
 joined_pairs g = filter (λ k. some (size g) (has_ends g k.0 k.1)) (rising_pairs g.order)
 
--- by vertex, the place of the block that holds it
+-- for each vertex the place of the block that contains it
 pub record ArePlaces (p : List (List ℕ)) (places : List ℕ) : Type 0 where
   pub at : (v : ℕ) → Within (length places) v → slice_index places (v - 1) ≡ place p v

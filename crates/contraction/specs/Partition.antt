@@ -6,7 +6,7 @@ use Rattle.std.specs.Prelude.{ℕ, ◌≤◌, List}
 use Rattle.counting.specs.Common.{mem, IsRisingIn}
 use Rattle.graph_core.specs.Common.{IsPartition, IsUnion}
 
--- the number of vertices, and the blocks by rising name
+-- the number of vertices, and the blocks in increasing order of their names
 pub record PartitionValue : Type 0 where
   pub order : ℕ
   pub blocks : List (List ℕ)

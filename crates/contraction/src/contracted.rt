@@ -1,4 +1,4 @@
-//! The quotient of a graph at a partition, with remembered edges.
+//! The quotient of a graph at a partition, with its remembered edges.
 ghost use Rattle.std.specs.Prelude.{◌≡◌, ◌↔◌, slice_index_or, ◌<◌, ◌≤◌, ◌+◌, ◌&&◌, ℕ, List, [], length, map, IfOk, IsTrue};
 ghost use Rattle.counting.specs.Common.{Within, mem, item, rising_list, some};
 ghost use Rattle.graph_core.specs.Common.{Graph, has_ends, size, block, contracted, remembered, union_of_blocks, graph_of, pair_of};
@@ -16,10 +16,10 @@ use std::alloc::{AllocError as Memory, Global};
 use std::marker::Model;
 use vset_core::{MOST_VERTICES, VSet};
 
-/// The quotient of a graph at a partition: the graph with one vertex for each block, by place,
-/// and one edge for each two adjacent blocks, in lexicographic order of their places. Each edge
-/// of it remembers the edges of the graph between its two blocks. Contracts see the quotient
-/// graph, the blocks and the remembered edges.
+/// The quotient of a graph at a partition: the graph with one vertex for each block, by place, and
+/// one edge for each pair of adjacent blocks, in lexicographic order of their places. Each of its
+/// edges remembers the edges of the graph between its two blocks. Contracts see the quotient graph,
+/// the blocks and the remembered edges.
 #[derive(Drop)]
 pub struct Contracted {
     order: u32,
@@ -63,7 +63,7 @@ impl Contracted {
         &self.graph
     }
 
-    /// The edges of g between the two blocks that edge `e` of the quotient joins, in rising
+    /// The edges of g between the two blocks that edge `e` of the quotient joins, in increasing
     /// order. Takes no memory.
     pub fn remembered(&self, e: u32) -> &[u32]
         requires { Within (size self.now.graph) e }
@@ -96,7 +96,7 @@ impl Contracted {
         self.remembered(e)[0]
     }
 
-    /// The number of edges of the graph.
+    /// The number of edges of the original graph.
     pub(crate) fn base_size(&self) -> u32
         ensures value { result ≡ self.now.size }
         ensures few { result ≤ MOST_EDGES }
@@ -117,8 +117,9 @@ fn edges_at(kept: &IndexMap<(u32, u32), Vec<u32>>, i: usize) -> &[u32]
     }
 }
 
-/// The quotient of `g` at `p`, a partition of its vertices, with one edge for each two adjacent
-/// blocks, in lexicographic order of their places, and its remembered edges.
+/// The quotient of `g` at `p`, a partition of its vertices: one edge for each pair of adjacent
+/// blocks, in lexicographic order of their places, with its remembered edges. The only error is
+/// `Memory`.
 pub fn quotient(alloc: Global, g: &MultiGraph, p: &Partition) -> Result<Contracted, Memory>
     requires { p.now.order ≡ g.now.order }
     ensures { IfOk result (λ q. q ≡ contraction g.now p.now.blocks) }
@@ -155,7 +156,7 @@ fn quotient_by(
     })
 }
 
-// The edges with the ends a and b, in rising order.
+// The edges with the ends a and b, in increasing order.
 fn edges_with(alloc: Global, ends: &[Ends], a: u32, b: u32) -> Result<Vec<u32>, Memory>
     requires { length ends.now ≤ MOST_EDGES }
     ensures { IfOk result

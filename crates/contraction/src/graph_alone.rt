@@ -1,4 +1,4 @@
-//! The quotient graph of a graph at a partition, without what a quotient remembers.
+//! The quotient graph of a graph at a partition, without remembered edges.
 ghost use Rattle.std.specs.Prelude.{◌≡◌, IfOk};
 ghost use Rattle.graph_core.specs.Common.{quotient};
 
@@ -7,7 +7,8 @@ use crate::place_pairs::{graph_with, joined_places};
 use graph_core::MultiGraph;
 use std::alloc::{AllocError as Memory, Global};
 
-/// The graph of the quotient that `quotient` answers. No remembered edges are listed.
+/// The graph of the quotient that `quotient` returns. No remembered edges are listed. The only
+/// error is `Memory`.
 pub fn quotient_graph(alloc: Global, g: &MultiGraph, p: &Partition) -> Result<MultiGraph, Memory>
     requires { p.now.order ≡ g.now.order }
     ensures { IfOk result (λ q. q ≡ quotient g.now p.now.blocks) }

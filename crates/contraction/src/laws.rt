@@ -1,17 +1,17 @@
-//! The laws that lead from a quotient to the partition and back. Each is the contract of a
-//! function that does nothing.
+//! The laws that relate a quotient to the contraction at the partition. Each law is the contract of
+//! a function that does nothing.
 ghost use Rattle.std.specs.Prelude.{◌≡◌, ℕ, List, true, ◌↔◌};
 ghost use Rattle.counting.specs.Common.{Set, none, IsRisingIn, mem};
 ghost use Rattle.graph_core.specs.Common.{Graph, IsGraph, edges_in_cut, IsPerfect, IsCovered, AreBlocks, IsPerfectAt, complement_of, contracted, merged, lifted, projected, quotient, IsTightAt, IsUnion, blocks_in, IsTight};
 
-/// The quotient is matching covered exactly when the contracted graph is, which has the edges of
-/// the graph itself.
+/// The quotient is matching covered if and only if the contraction is, whose edges are those of the
+/// graph itself.
 pub fn covered_quotient_law()
     ensures { (g : Graph) (p : List (List ℕ)) → IsGraph g → AreBlocks g.order p →
         (IsCovered (quotient g p) ↔ IsCovered (contracted g p)) }
 {}
 
-/// A union of blocks is tight at the partition exactly when the set of its blocks is tight in the
+/// A union of blocks is tight at the partition if and only if the set of its blocks is tight in the
 /// quotient.
 pub fn tight_quotient_law()
     ensures { (g : Graph) (p : List (List ℕ)) (x : Set) → IsGraph g → AreBlocks g.order p →
@@ -29,9 +29,9 @@ pub fn lift_law()
         edges_in_cut (contracted g p) (mem (lifted g p m)) y ≡ edges_in_cut (quotient g p) m y }
 {}
 
-/// The projection of a perfect matching at the partition, to the edges of the quotient between
-/// the two blocks of each of its edges, is a perfect matching of the quotient, with as many edges
-/// in the cut of each set of blocks.
+/// The projection of a perfect matching at the partition, which takes each edge to the edge of the
+/// quotient between its two blocks, is a perfect matching of the quotient, with as many edges in
+/// the cut of each set of blocks.
 pub fn projection_law()
     ensures perfect { (g : Graph) (p : List (List ℕ)) (m : Set) → IsGraph g → AreBlocks g.order p →
         IsPerfectAt g p m → IsPerfect (quotient g p) none (projected g p m) }
@@ -40,10 +40,10 @@ pub fn projection_law()
         edges_in_cut (quotient g p) (projected g p m) y ≡ edges_in_cut (contracted g p) m y }
 {}
 
-/// The law of contraction, said of quotients (Lovász 1987). Let the quotient at a partition be
-/// matching covered, and a shore tight at it. Merging either shore of the cut gives a partition
-/// whose quotient is matching covered; a shore that is tight at it was tight before, and a shore
-/// that was tight and is a union of its blocks is tight at it.
+/// The law of contraction for quotients (Lovász 1987). Let the quotient at a partition be matching
+/// covered, and let a shore be tight at the partition. Merging either shore of the cut gives a
+/// partition whose quotient is matching covered; a shore that is tight there was tight before, and
+/// a shore that was tight and is a union of the new blocks is tight there.
 pub fn merged_quotients_law()
     ensures blocks { (g : Graph) (p : List (List ℕ)) (x : List ℕ) → IsGraph g →
         AreBlocks g.order p → IsRisingIn g.order x → IsTightAt g p (mem x) →

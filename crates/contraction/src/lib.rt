@@ -1,23 +1,18 @@
-//! Partitions of the vertices of a graph into blocks, and the quotient: the graph with each block
-//! made one vertex.
+//! Partitions of the vertices of a graph into blocks, and the quotient: the underlying simple graph
+//! of the contraction at a partition.
 //!
-//! `Partition` keeps blocks by rising name, which is the greatest vertex: `singles`, `merge`, the
-//! test `is_union` and the number `blocks_in` are exactly the definitions of graph_core's specs
-//! `Partitions` and `Shores`. `quotient` answers a `Contracted`: the quotient graph with one edge
-//! for each two adjacent blocks, in lexicographic order of their places, and for each edge the
-//! `remembered` edges of the graph between its two blocks; `lift_set` leads a set of places back
-//! to vertices. `quotient_graph` returns the graph alone, and `PlacedEdges` the edges between any
-//! two blocks, after one pass over the edges.
+//! `Partition` keeps its blocks in increasing order of their names; the name of a block is its
+//! highest-numbered vertex. Its calls `singles`, `merge`, `is_union` and `blocks_in` are the
+//! definitions of graph_core's specs `Partitions` and `Shores`. `quotient` returns a `Contracted`:
+//! the quotient graph, and for each of its edges the `remembered` edges of the graph between the
+//! two blocks; `lift_set` maps a set of places to vertices. `PlacedEdges` has the edges between any
+//! two blocks.
 //!
-//! `lift` leads a matching of the quotient up to edges of the graph, the least remembered edge of
-//! each row. `lift_law` and `projection_law` say that perfect matchings go up and down, with as
-//! many edges in each cut; `covered_quotient_law` and `tight_quotient_law`, that the quotient is
-//! covered, and a shore tight in it, where it is so at the partition. The law of contraction is
-//! graph_core's; `merged_quotients_law` says it of quotients, for both shores of a tight cut.
+//! `lift` takes a matching of the quotient to edges of the graph. `lift_law` and `projection_law`
+//! carry perfect matchings up and down; `covered_quotient_law`, `tight_quotient_law` and
+//! `merged_quotients_law` relate the quotient to the contraction.
 //!
-//! Stands on `graph_core` and `match_core`; remembered edges are kept in an `indexmap` by the
-//! pair of places, and `itertools` finds the block that holds a vertex. Contraction of tight
-//! cuts: Lovász, "Matching structure and the matching lattice" (1987).
+//! Depends on `graph_core`, `match_core`, `indexmap` and `itertools`. Source: Lovász 1987.
 #![tactic(auto)]
 
 mod contracted;

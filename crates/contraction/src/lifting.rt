@@ -14,8 +14,8 @@ use match_core::Matching;
 use std::alloc::{AllocError as Memory, Global};
 
 /// The matching `m` of the quotient graph lifted to the graph: the least remembered edge of each
-/// row, in rising order. Where `m` is perfect, the lifted edges are a perfect matching at the
-/// partition: each block has an end of exactly one of them.
+/// row, in increasing order. If `m` is perfect, the lifted edges are a perfect matching at the
+/// partition: each block contains an end of exactly one of them.
 pub fn lift(alloc: Global, q: &Contracted, m: &Matching) -> Result<Numbers, Memory>
     requires { IsOf q.now.graph m.now }
     ensures edges { (g : Graph) (p : List (List ℕ)) → q.now ≡ contraction g p →
@@ -56,7 +56,7 @@ fn mark_place(mark: &mut Vec<bool>, place: usize)
     mark[place] = true;
 }
 
-// The marked numbers of 1 to `size`, in rising order.
+// The marked numbers of 1 to `size`, in increasing order.
 fn marked_numbers(alloc: Global, size: u32, mark: &[bool]) -> Result<Numbers, Memory>
     requires few { size ≤ MOST_EDGES }
     requires long { length mark.now ≡ size + 1 }

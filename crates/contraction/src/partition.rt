@@ -11,8 +11,9 @@ use std::alloc::{AllocError as Memory, Global};
 use std::marker::Model;
 use vset_core::{MOST_VERTICES, VSet};
 
-/// A partition of the vertices 1 to n into blocks. The name of a block is its greatest vertex,
-/// and blocks stand by rising name. Contracts see it as n and the list of the blocks.
+/// A partition of the vertices 1 to n into blocks. The name of a block is its highest-numbered
+/// vertex, and blocks are in increasing order of their names. Contracts see it as n and the list of
+/// the blocks.
 #[derive(Drop)]
 pub struct Partition {
     order: u32,
@@ -43,7 +44,7 @@ impl Partition {
     }
 
     /// The law that the blocks are a partition: each of 1 to n is in exactly one, none is empty,
-    /// and the names rise. It does nothing: a caller states it where it needs it.
+    /// and the names are increasing. It does nothing: a caller states it where it needs it.
     pub fn keeps_partition(&self)
         ensures { KeepsPartition self.now }
     {
@@ -86,7 +87,7 @@ impl Partition {
         self.blocks == other.blocks
     }
 
-    /// Whether `set` is a union of blocks; a set with a vertex beyond n is none. Takes no memory.
+    /// Whether `set` is a union of blocks; false if it has a vertex beyond n. Takes no memory.
     pub fn is_union(&self, set: VSet) -> bool
         ensures { IsTrue result ↔ IsUnionAt self.now set }
     {
@@ -112,7 +113,7 @@ impl Partition {
         union
     }
 
-    /// The partition with the blocks in `shore`, a nonempty union of blocks, made one block.
+    /// The partition after all blocks in `shore`, a nonempty union of blocks, are merged into one.
     pub fn merge(&self, alloc: Global, shore: VSet) -> Result<Partition, Memory>
         requires union { IsUnionAt self.now shore }
         requires nonempty { 0 < length shore }
@@ -146,7 +147,7 @@ impl Partition {
         Vec::from_slice(alloc, &self.blocks)
     }
 
-    /// The place of the block that holds `v`, counted from 1, and one past the end if none does.
+    /// The place of the block that contains `v`, counted from 1, or one past the end if none does.
     /// Takes no memory.
     pub fn place(&self, v: u32) -> u32
         requires { Within MOST_VERTICES v }
@@ -171,7 +172,7 @@ pub(crate) fn union_at(blocks: &[VSet], s: VSet) -> VSet
     union
 }
 
-// The place of the block that holds v, counted from 1, and one past the end if none does.
+// The place of the block that contains v, counted from 1, or one past the end if none does.
 fn place_of(blocks: &[VSet], v: u32) -> usize
     requires { Within MOST_VERTICES v }
     ensures { result ≡ place blocks.now v }
@@ -182,7 +183,7 @@ fn place_of(blocks: &[VSet], v: u32) -> usize
     }
 }
 
-// The first block that holds v, with its place, counted from 0.
+// The first block that contains v, with its place, counted from 0.
 fn first_holding(blocks: &[VSet], v: u32) -> Option<(usize, VSet)>
     requires { Within MOST_VERTICES v }
     ensures { result ≡ find_at (λ block. mem block v) 0 blocks.now }
@@ -203,14 +204,14 @@ fn single_vertices(alloc: Global, n: u32) -> Result<Vec<VSet>, Memory>
     Ok(blocks)
 }
 
-// Whether the block has all of its vertices in the set, or none.
+// Whether the set contains all of the block, or none of it.
 fn in_or_apart(block: VSet, set: VSet) -> bool
     ensures { result ≡ (is_subset block set || is_apart block set) }
 {
     block.is_subset(set) || block.meet(set).len() == 0
 }
 
-// Whether each block has all of its vertices in the set, or none.
+// Whether the set contains all of each block, or none of it.
 fn each_in_or_apart(blocks: &[VSet], set: VSet) -> bool
     ensures { result ≡ list_all (λ block. is_subset block set || is_apart block set) blocks.now }
 {
@@ -224,7 +225,7 @@ fn count_inside(blocks: &[VSet], set: VSet) -> usize
     blocks.iter().filter(|block| block.is_subset(set)).count()
 }
 
-/// The name of a block: its greatest vertex, and 0 where it is empty. Takes no memory.
+/// The name of a block: its highest-numbered vertex, or 0 if it is empty. Takes no memory.
 pub fn name_of(block: VSet) -> u32
     ensures { result ≡ last_of block }
 {
@@ -244,21 +245,21 @@ fn blocks_outside(alloc: Global, blocks: &[VSet], set: VSet) -> Result<Vec<VSet>
         .collect(alloc)
 }
 
-// The place of the first block with a greater name, counted from 0.
+// The place of the first block with a larger name, counted from 0.
 fn first_above(blocks: &[VSet], name: u32) -> Option<usize>
     ensures { result ≡ position (λ block. nat_lt name (last_of block)) blocks.now }
 {
     blocks.iter().position(|block| name < name_of(*block))
 }
 
-// How many blocks stand before the first with a greater name.
+// How many blocks come before the first with a larger name.
 fn place_by_name(blocks: &[VSet], name: u32) -> usize
     ensures { result ≡ position_or_len (λ block. nat_lt name (last_of block)) blocks.now }
 {
     first_above(blocks, name).unwrap_or(blocks.len())
 }
 
-// Puts the block among the blocks by its name.
+// Inserts the block at the place of its name.
 fn insert_by_name(blocks: &mut Vec<VSet>, block: VSet) -> Result<(), Memory>
     ensures { IfOk result (λ _. blocks.new.items ≡ insert_block block blocks.old.items) }
 {

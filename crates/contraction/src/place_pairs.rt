@@ -10,7 +10,7 @@ use graph_core::{Ends, MultiGraph};
 use std::alloc::{AllocError as Memory, Global};
 use vset_core::{MOST_VERTICES, VSet};
 
-// The place of the block that holds each vertex, by vertex.
+// For each vertex the place of the block that contains it.
 fn places(alloc: Global, p: &Partition) -> Result<Vec<u32>, Memory>
     ensures each { IfOk result (λ places. length places.items ≡ p.now.order) }
     ensures right { IfOk result (λ places. ArePlaces p.now.blocks places.items) }

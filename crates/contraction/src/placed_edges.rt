@@ -47,7 +47,7 @@ impl PlacedEdges {
         })
     }
 
-    /// The edges between the blocks at the two different places, in rising order: one pass over
+    /// The edges between the blocks at the two different places, in increasing order: one pass over
     /// the edges that join two blocks.
     pub fn between(&self, alloc: Global, a: u32, b: u32) -> Result<Vec<u32>, Memory>
         requires { a ≢ b }
@@ -64,7 +64,7 @@ impl PlacedEdges {
     }
 }
 
-// The edges that join two different blocks, in rising order.
+// The edges that join two different blocks, in increasing order.
 fn joining_blocks(alloc: Global, ends: &[Ends]) -> Result<Vec<u32>, Memory>
     requires { length ends.now ≤ MOST_EDGES }
     ensures { IfOk result (λ joining. joining.items ≡

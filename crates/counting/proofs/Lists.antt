@@ -1,5 +1,6 @@
--- Rising lists as sets: a rising list of numbers 1 to n has as many items as its test counts, and
--- is fixed by its test. By induction on the list, with the least number that may still come.
+-- Increasing lists as sets: an increasing list of numbers 1 to n has as many items as its test
+-- counts, and is fixed by its test. By induction on the list, with the least number that may still
+-- come.
 use Rattle.std.proofs.Common.{◌≡◌, ℕ, ◌+◌, ◌≤◌, ◌<◌, Bool, true, false, ◌==◌, ◌||◌, List, [], ◌∷◌, length, refl, sym, ap, ap₂, ◌∙◌, arith, ◌⊎◌, inl, inr, eq-eqb, ne_eqb, cond, subst, true≢false, suc, zero, ◌*◌, ◌++◌, eqb-true, sum_by, take, get_or, slice_index, slice_index_or, All}
 use Rattle.std.specs.List.Sorted.{IsStrictlyIncreasing}
 use Rattle.std.proofs.lemmas.Bool.{cases_eq, cases_order, both_ways, cases_lt, or_cases, or_right, or_left, cases_Bool}
@@ -9,7 +10,7 @@ use Rattle.counting.proofs.Totals.{total_add, total_at, total_congr, total_none,
 use Rattle.counting.specs.Common.{Within, bit, count, total, IsRisingIn, mem, rising_list, times, Set}
 use Rattle.counting.proofs.Booleans.{or_false}
 
--- rising numbers from low to n
+-- increasing numbers from low to n
 abbrev pub Rises : ℕ → ℕ → List ℕ → Type 0
 Rises low n [] = Unit {0}
 Rises low n (x ∷ xs) = (low ≤ x) × (x ≤ n) × Rises (x + 1) n xs
@@ -38,7 +39,7 @@ count_mem low n (x ∷ xs) l r =
     apart true false p = refl
     apart false t p = sym (omega arith)
 
--- a rising list is fixed by its test
+-- an increasing list is fixed by its test
 pub same_list : (low n : ℕ) (xs ys : List ℕ) → Rises low n xs → Rises low n ys → ((v : ℕ) → mem xs v ≡ mem ys v) → xs ≡ ys
 same_list low n [] [] r s h = refl
 same_list low n [] (y ∷ ys) r s h = absurd (both_ways (mem (y ∷ ys) y) (sym (h y)) (rw (eq-eqb y y refl) refl))
@@ -60,7 +61,7 @@ same_list low n (x ∷ xs) (y ∷ ys) r s h = ap₂ ◌∷◌ same_head (same_li
       | inr e ↦ let k = h v in let a = ne_eqb x v e in let b = ne_eqb y v (λ q. e (same_head ∙ q)) in grind arith
     ]
 
--- a sum over the members of a rising list is a sum over the list
+-- a sum over the members of an increasing list is a sum over the list
 pub total_mem : (low n : ℕ) (f : ℕ → ℕ) (xs : List ℕ) → 1 ≤ low → Rises low n xs → total n (λ v. bit (mem xs v) * f v) ≡ sum_by f xs
 total_mem low n f [] l r = total_none n _ (λ v w. omega arith)
 total_mem low n f (x ∷ xs) l r =
@@ -93,7 +94,7 @@ mem-append (x ∷ xs) ys v = ap (λ b. (x == v) || b) (mem-append xs ys v) ∙ p
 pub mem-more : (xs : List ℕ) (k v : ℕ) → k < length xs → mem (take (k + 1) xs) v ≡ (mem (take k xs) v || (get_or xs k 0 == v))
 mem-more xs k v l = ap (λ ys. mem ys v) (take_more xs k 0 l) ∙ mem-append (take k xs) (get_or xs k 0 ∷ []) v ∙ ap (λ b. mem (take k xs) v || b) (or_false (get_or xs k 0 == v))
 
--- a rising list holds what passes, and nothing else
+-- an increasing list contains what passes, and nothing else
 pub rising_holds : (n : ℕ) (x : Set) (v : ℕ) → Within n v → x v ≡ true → mem (rising_list n x) v ≡ true
 rising_holds zero x v w h = absurd (omega arith)
 rising_holds (suc n) x v w h = mem-append (rising_list n x) (cond (x (suc n)) (suc n ∷ []) []) v ∙ elim (cases_lt v (suc n)) [
@@ -119,7 +120,7 @@ rising_only (suc n) x v h = elim (or_cases (mem (rising_list n x) v) (mem (cond 
     ]
     last false e m = absurd (both_ways false refl m)
 
--- a list of 1 to n that rises by neighbours rises from its first item on
+-- a list of 1 to n in which each number is less than the next is increasing from its first item on
 pub rises-from_neighbours : (low n : ℕ) (xs : List ℕ) → IsStrictlyIncreasing xs → All (Within n) xs → (0 < length xs → low ≤ slice_index_or xs 0 0) → Rises low n xs
 rises-from_neighbours low n [] i a l = tt
 rises-from_neighbours low n (x ∷ xs) i a l = (l (omega arith), (a 0 0 (omega arith)).1, rises-from_neighbours (x + 1) n xs tail_rises tail_within first_above)
@@ -133,7 +134,7 @@ rises-from_neighbours low n (x ∷ xs) i a l = (l (omega arith), (a 0 0 (omega a
     first_above : 0 < length xs → x + 1 ≤ slice_index_or xs 0 0
     first_above h = let r = i 0 (omega arith) in omega (arith, r)
 
--- a set of numbers 1 to n as a list rises from 1
+-- a set of numbers 1 to n as a list is increasing from 1
 pub rises-from_set : (n : ℕ) (xs : List ℕ) → IsRisingIn n xs → Rises 1 n xs
 rises-from_set n [] r = tt
 rises-from_set n (x ∷ xs) r = rises-from_neighbours 1 n (x ∷ xs) r.rising r.within (λ h. (r.within 0 0 h).0)

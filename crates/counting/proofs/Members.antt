@@ -1,4 +1,4 @@
--- Members of sets of numbers 1 to n: what a count tells of them, and counts where one comes or
+-- Members of sets of numbers 1 to n: what a count says about them, and counts where one comes or
 -- goes. A set that is counted has a member; without it the count is one less, and so on.
 use Rattle.std.proofs.Common.{◌≡◌, ℕ, ◌+◌, ◌≤◌, ◌<◌, ◌≢◌, Bool, true, false, ◌==◌, ◌&&◌, ◌||◌, not, refl, sym, ap, ◌∙◌, arith, eq-eqb, ne_eqb, eqb-true, true≢false}
 use Rattle.std.proofs.lemmas.Bool.{both_ways}

@@ -1,6 +1,6 @@
--- Rising lists of numbers 1 to n and their tests: the list is fixed by its test, the test by the
--- list, and the length is the count. A list is read from its first item on, and `rising_list` is
--- made from its last item on; `Rises` joins the two.
+-- Increasing lists of numbers 1 to n and their tests: the list is fixed by its test, the test by
+-- the list, and the length is the count. A list is read from its first item on, and `rising_list`
+-- is made from its last item on; `Rises` joins the two.
 use Rattle.std.proofs.Common.{◌≡◌, ℕ, ◌+◌, ◌≤◌, ◌<◌, Bool, true, false, ◌==◌, ◌||◌, ◌&&◌, not, List, [], ◌∷◌, length, ◌↔◌, refl, sym, ap, ap₂, ◌∙◌, arith, inl, inr, eq-eqb, ne_eqb, cond, subst, suc, zero, ◌++◌, eqb-true, slice_index, slice_index_or, All}
 use Rattle.std.specs.List.Sorted.{IsStrictlyIncreasing}
 use Rattle.std.proofs.lemmas.Bool.{both_ways, cases_eq, cases_lt, cases_order, or_cases, false_from_ne_true, and_parts, and_from, or_left, or_right}
@@ -14,7 +14,7 @@ rises_first : (low n : ℕ) (xs : List ℕ) → Rises low n xs → 0 < length xs
 rises_first low n [] r h = absurd (omega arith)
 rises_first low n (x ∷ xs) r h = r.0
 
--- neighbours rise
+-- each number is less than the next
 increasing-from_rises : (low n : ℕ) (xs : List ℕ) → Rises low n xs → IsStrictlyIncreasing xs
 increasing-from_rises low n [] r k h = absurd (omega arith)
 increasing-from_rises low n (x ∷ xs) r zero h = let a = rises_first (x + 1) n xs r.2 (omega arith) in omega (arith, a)
@@ -28,7 +28,7 @@ within-from_rises low n [] l r k d h = absurd (omega arith)
 within-from_rises low n (x ∷ xs) l r zero d h = let a = r.0 in let b = r.1 in (omega arith, omega arith)
 within-from_rises low n (x ∷ xs) l r (suc k) d h = let a = r.0 in within-from_rises (x + 1) n xs (omega arith) r.2 k d (omega arith)
 
--- a list that rises from 1 is a set of numbers 1 to n
+-- an increasing list from 1 on is a set of numbers 1 to n
 pub set-from_rises : (n : ℕ) (xs : List ℕ) → Rises 1 n xs → IsRisingIn n xs
 set-from_rises n xs r = record { rising = increasing-from_rises 1 n xs r; within = within-from_rises 1 n xs (omega arith) r }
 
@@ -198,7 +198,7 @@ mem-item [] k d h = absurd (omega arith)
 mem-item (x ∷ xs) zero d h = or_left (x == x) (mem xs x) (eq-eqb x x refl)
 mem-item (x ∷ xs) (suc k) d h = or_right (x == slice_index_or xs k d) (mem xs (slice_index_or xs k d)) (mem-item xs k d (omega arith))
 
--- a set is the list of each test that it answers
+-- a set is the list of each test that agrees with it
 pub list-from_test : (n : ℕ) (xs : List ℕ) (x : Set) → IsRisingIn n xs → ((v : ℕ) → Within n v → mem xs v ≡ x v) → xs ≡ rising_list n x
 list-from_test n xs x r h = same_rising_list n xs (rising_list n x) r (rising_list-rises n x) (λ v w. h v w ∙ sym (mem-rising_list n x v w))
 

@@ -1,4 +1,4 @@
--- Sizes of sets given as rising lists, after a number comes or goes, and of two sets' union,
+-- Sizes of sets given as increasing lists, after a number comes or goes, and of two sets' union,
 -- common part and difference: each length is the count of a test, and the counts add up number by
 -- number.
 use Rattle.std.proofs.Common.{◌≡◌, ℕ, ◌+◌, ◌≤◌, Bool, true, false, List, length, refl, sym, ◌∙◌, arith}

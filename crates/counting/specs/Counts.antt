@@ -1,13 +1,13 @@
--- Sums over the numbers 1 to n, and how many of them pass a test.
+-- Sums over the numbers 1 to n, and the number of those that pass a test.
 -- Stated by: counting, vset_core, graph_core, grow_gen, match_search, match_core and 24 more.
 -- Rests on it: line_text, gallai_edmonds, graph6_text, tree_text, move_text, ear_text and 4 more.
 use Rattle.std.specs.Prelude.{ℕ, ◌+◌, ◌≤◌, Bool, true, false, not, suc, zero}
 
--- v is one of 1 to n
+-- v is in {1, .., n}
 abbrev pub Within : ℕ → ℕ → Type 0
 Within n v = (1 ≤ v) × (v ≤ n)
 
--- 1 where the test holds, else 0
+-- 1 if the test is true, otherwise 0
 abbrev pub bit : Bool → ℕ
 bit true = 1
 bit false = 0
@@ -17,7 +17,7 @@ abbrev pub total : ℕ → (ℕ → ℕ) → ℕ
 total zero f = 0
 total (suc n) f = total n f + f (suc n)
 
--- how many of 1 to n pass the test
+-- |{v in {1, .., n} : p v}|: how many of 1 to n pass the test p
 abbrev pub count : ℕ → (ℕ → Bool) → ℕ
 count n p = total n (λ v. bit (p v))
 

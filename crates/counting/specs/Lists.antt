@@ -1,4 +1,4 @@
--- Sets as rising lists of numbers, and lists of pairs in lexicographic order.
+-- Sets as increasing lists of numbers, and lists of pairs in lexicographic order.
 -- Stated by: counting, vset_core, graph_core, grow_gen, match_search, match_core and 23 more.
 -- Rests on it: report_text, mcg6_lines, bench_outcomes, bench_reports, bench_top.
 use Rattle.std.specs.Prelude.{◌≡◌, ◌⊎◌, ℕ, zero, suc, ◌+◌, ◌-◌, ◌<◌, Bool, true, false, List, [], ◌∷◌, ◌++◌, ◌==◌, ◌&&◌, ◌||◌, cond, map, flat_map, slice_index_or, nat_lt, All}
@@ -16,7 +16,7 @@ abbrev pub IsIn : {A : Type 0} → A → List A → Type 0
 IsIn x [] = ⊥
 IsIn x (y ∷ ys) = (x ≡ y) ⊎ IsIn x ys
 
--- how often v stands in the list
+-- how often v occurs in the list
 abbrev pub times : List ℕ → ℕ → ℕ
 times [] v = 0
 times (x ∷ xs) v = bit (x == v) + times xs v
@@ -34,23 +34,23 @@ is_subset x y = all_in x (mem y)
 abbrev pub is_apart : List ℕ → List ℕ → Bool
 is_apart x y = all_in x (minus everything (mem y))
 
--- a set of numbers 1 to n as a list: it rises
+-- a set of numbers 1 to n as a list: it is increasing
 pub record IsRisingIn (n : ℕ) (xs : List ℕ) : Type 0 where
   pub rising : IsStrictlyIncreasing xs
   pub within : All (Within n) xs
 
--- the numbers of 1 to n in x, in rising order
+-- x ∩ {1, .., n}, in increasing order
 abbrev pub rising_list : ℕ → Set → List ℕ
 rising_list zero x = []
 rising_list (suc n) x = rising_list n x ++ cond (x (suc n)) (suc n ∷ []) []
 
--- the rising list of those of 1 to n of which P holds
+-- {v in {1, .., n} : P v}, as an increasing list
 pub record Lists (n : ℕ) (xs : List ℕ) (P : ℕ → Type 0) : Type 0 where
   pub rising : IsRisingIn n xs
   pub sound : (v : ℕ) → mem xs v ≡ true → P v
   pub complete : (v : ℕ) → Within n v → P v → mem xs v ≡ true
 
--- the last of a list, which is the greatest of a rising one; 0 where the list is empty
+-- the last item of a list, which is the largest of an increasing one; 0 if the list is empty
 abbrev pub last_of : List ℕ → ℕ
 last_of [] = 0
 last_of (x ∷ []) = x
@@ -61,7 +61,7 @@ pub record IsLeastOf (xs : List ℕ) (v : ℕ) : Type 0 where
   pub member : mem xs v ≡ true
   pub before : (w : ℕ) → w < v → mem xs w ≡ false
 
--- v is the greatest number of the list
+-- v is the largest number of the list
 pub record IsGreatestOf (xs : List ℕ) (v : ℕ) : Type 0 where
   pub member : mem xs v ≡ true
   pub after : (w : ℕ) → v < w → mem xs w ≡ false
@@ -76,7 +76,7 @@ pub record IsNextAfter (xs : List ℕ) (a v : ℕ) : Type 0 where
 abbrev pub item : {A : Type 0} → List (List A) → ℕ → List A
 item xs i = slice_index_or xs (i - 1) []
 
--- the row of v in a table that has one for 0 too
+-- the row of v in a table that also has a row for 0
 abbrev pub row_of : {A : Type 0} → List (List A) → ℕ → List A
 row_of table v = slice_index_or table v []
 

@@ -1,4 +1,4 @@
--- Sets of numbers as tests. What a set answers at 0 and past the last number means nothing.
+-- Sets of numbers as tests. Their values at 0 and past the last number are meaningless.
 -- Stated by: vset_core, graph_core, match_search, match_core, allowed_edges and 18 more.
 -- Rests on it: counting, grow_gen, gallai_edmonds, tree_check, graph6_text, mcg6_lines and 4 more.
 use Rattle.std.specs.Prelude.{◌≡◌, ℕ, Bool, true, false, not, ◌&&◌, ◌||◌, ◌==◌, cond}
@@ -15,34 +15,34 @@ none v = false
 abbrev pub everything : Set
 everything v = true
 
--- the set of v alone
+-- {v}
 abbrev pub singleton : ℕ → Set
 singleton v w = v == w
 
--- the set of a and b
+-- {a, b}
 abbrev pub pair_set : ℕ → ℕ → Set
 pair_set a b v = (a == v) || (b == v)
 
--- the numbers in x or in y
+-- x ∪ y
 abbrev pub union : Set → Set → Set
 union x y v = x v || y v
 
--- the numbers in x and in y
+-- x ∩ y
 abbrev pub meet : Set → Set → Set
 meet x y v = x v && y v
 
--- the numbers in x and not in y
+-- x - y
 abbrev pub minus : Set → Set → Set
 minus x y v = x v && not (y v)
 
--- the numbers outside x
+-- the complement of x
 abbrev pub complement : Set → Set
 complement x v = not (x v)
 
--- the set x with the answer b at v
+-- the set x, changed at v: v is in it if and only if b is true
 abbrev pub put : Set → ℕ → Bool → Set
 put x v b w = cond (w == v) b (x w)
 
--- x has no number of r
+-- x and r are disjoint
 abbrev pub Outside : Set → Set → Type 0
 Outside r x = (v : ℕ) → x v ≡ true → r v ≡ false

@@ -1,12 +1,13 @@
-//! Counting on the numbers 1 to n.
+//! Counting on the numbers 1 to n: the definitions and lemmas on which every other crate rests.
 //!
-//! Vertices and edges are numbered from 1, a set of them is a test, and a set's size is a sum
-//! over 1 to n: `count n x`. This crate holds these words (`total`, `count`, `Within`), sets as
-//! tests (`union`, `meet`, `complement`), "some" and "each" over numbers and over sets as tests
-//! that compute, sets as rising lists (`mem`, `rising_list`, `IsRisingIn`), and the lemmas on
-//! them. It has no code of its own: every other crate stands on its definitions and lemmas.
+//! Vertices and edges are numbered from 1. A set of them is a test, a function from numbers to
+//! truth values, and its size is `count n x`, the number of members in {1, .., n}. Main
+//! definitions: sums and sizes (`total`, `count`, `Within`), sets as tests (`union`, `meet`,
+//! `complement`), "some" and "each" over numbers and over sets as tests that compute, sets as
+//! increasing lists (`mem`, `rising_list`, `IsRisingIn`). The lemmas on them are in proofs/. The
+//! crate has no code of its own.
 //!
-//! Stands on std alone. Double counting and parity arguments are those of any textbook on graphs
+//! Depends on `std` alone. Double counting and parity arguments are those of any textbook on graphs
 //! (Lovász and Plummer, "Matching Theory", 1986).
 #![tactic(auto)]
 

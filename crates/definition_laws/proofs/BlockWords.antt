@@ -1,6 +1,6 @@
--- A perfect matching and a tight shore at a partition, in words that do not name the contracted
--- graph. They are the wordings for the contracted graph, whose ends are places of blocks and
--- whose cuts are those of the graph.
+-- A perfect matching and a tight shore at a partition, defined without the contracted graph. They
+-- are the wordings for the contracted graph, whose ends are places of blocks and whose cuts are
+-- those of the graph.
 use Rattle.std.proofs.Common.{◌≡◌, ℕ, true, List, length, refl, sym, ap, ◌∙◌, arith, subst, ◌↔◌}
 use Rattle.counting.proofs.Common.{Within, is_odd, mem, Set, complement, none}
 use Rattle.graph_core.proofs.Common.{contracted-ends, contracted-graph, contracted-order, contracted-size, place_in, place_is, block_count_rest, edges-in-cut-at, Graph, IsGraph, edges_in_cut, size, IsEnd, AreBlocks, IsPerfectAt, block, contracted, place, IsTightAt, IsUnion, block_count}
@@ -32,7 +32,7 @@ module _ (g : Graph) (p : List (List ℕ)) (is : IsGraph g) (pp : AreBlocks g.or
   pub perfect-leaves : (m : Set) → IsPerfectAt g p m → LeavesBlocks g p m
   perfect-leaves m h e we me q = grind (arith, contracted-ends g p e we, perfect-no_loop (contracted g p) none m (contracted-graph g p is pp) h e (there e we) me, contracted-graph g p is pp)
 
-  -- and each block holds an end of exactly one of its edges
+  -- and each block contains an end of exactly one of its edges
   pub perfect-meets_blocks : (m : Set) → IsPerfectAt g p m → MeetsEachBlockOnce g p m
   perfect-meets_blocks m h i wi =
       let wc : Within (contracted g p).order i = (let o = contracted-order g p in omega arith) in
@@ -47,8 +47,8 @@ module _ (g : Graph) (p : List (List ℕ)) (is : IsGraph g) (pp : AreBlocks g.or
       (λ i wc out. let wi : Within (length p) i = (let o = contracted-order g p in omega arith) in let f = meets i wi in
       (f.0, there f.0 f.1, f.2, in_end f.0 i f.1 wi f.3, λ e we me ee. f.4 e (back e we) me (end_in e i (back e we) wi ee)))
 
-  -- a tight shore at p, in words: its blocks and those outside are odd in number, and its cut in
-  -- g has one edge of each perfect matching at p
+  -- a tight shore at p: its blocks and those outside are odd in number, and its cut in g has one
+  -- edge of each perfect matching at p
   pub tight-words : (x : Set) → IsTightAt g p x → IsUnion g.order p x × (is_odd (block_count p x) ≡ true) × (is_odd (block_count p (complement x)) ≡ true) × ((m : Set) → IsPerfectAt g p m → edges_in_cut g m x ≡ 1)
   unfolding contracted
   tight-words x t = (t.union, t.tight.odd, ap is_odd (sym (block_count_rest g.order p pp x t.union)) ∙ t.tight.odd_complement, λ m h. sym (edges-in-cut-at g p x is pp t.union m) ∙ t.tight.cut m h)

@@ -1,6 +1,6 @@
 -- Each vertex outside the removed set is in exactly one listed component, and each vertex of a
 -- covered graph in exactly one listed class. The list of the least vertices holds the one that
--- stands for it, and holds it once.
+-- represents it, once.
 use Rattle.std.proofs.Common.{◌≡◌, ℕ, suc, ◌<◌, true, false, List, [], ◌∷◌, length, map, refl, sym, ap, ◌∙◌, arith, inl, inr, ◌&&◌, ◌==◌, not, eqb-true, nat_lt, lt-ltb, ltb-true, Any, ◌-◌, slice_index_or}
 use Rattle.counting.proofs.Common.{and_from, and_parts, both_ways, cases_order, false_from_ne_true, or_cases, true≢false, not-true, get_or-map, length-map, rising_holds, rising_only, mem-item, rising_list-rises, least_true, some_true, true_some, Within, IsRisingIn, item, mem, rising_list, Set, some}
 use Rattle.std.proofs.lemmas.List.Kept.{AllPairs-from_increasing}
@@ -8,7 +8,7 @@ use Rattle.barrier_kit.proofs.Common.{equivalent_back, equivalent_on}
 use Rattle.graph_core.proofs.Common.{joined_walk, walk_joined, is_equivalent_found, is_equivalent_says, least_same, joined_back, joined_on, components, is_least, IsCovered, Graph, IsGraph, Equivalent, classes, is_equivalent, is_least_of_class, joined}
 use Rattle.definition_laws.proofs.Leaders.{leader}
 
--- a number of a list stands at some place
+-- a number of a list is at some place
 item_at : (xs : List ℕ) (u : ℕ) → mem xs u ≡ true → (k : ℕ) × (k < length xs) × ((d : ℕ) → slice_index_or xs k d ≡ u)
 item_at [] u h = absurd (true≢false (sym h))
 item_at (x ∷ xs) u h = elim (or_cases (x == u) (mem xs u) h) [
@@ -41,7 +41,7 @@ classes-cover g is cov a w =
     any_mapped (λ b. rising_list g.order (is_equivalent g b)) (rising_list g.order (is_least_of_class g)) l.0 a
     (rising_holds g.order (is_least_of_class g) l.0 l.1 first) (rising_holds g.order (is_equivalent g l.0) a w l.2)
 
--- equal items of a rising list stand at one place
+-- equal items of an increasing list are at one place
 place_one : (n : ℕ) (xs : List ℕ) (i j : ℕ) → IsRisingIn n xs → i < length xs → j < length xs → slice_index_or xs i 0 ≡ slice_index_or xs j 0 → i ≡ j
 place_one n xs i j r li lj e = elim (cases_order i j) [
   | inl q ↦ q

@@ -1,5 +1,5 @@
 -- The first pair that a search through the pairs a < b finds is the first in lexicographic order.
--- The list rises row by row, so every pair before the one found comes earlier in the list.
+-- The list is increasing row by row, so every pair before the one found comes earlier in the list.
 use Rattle.std.proofs.Common.{◌≡◌, ℕ, ◌<◌, ◌≤◌, Bool, true, false, List, [], ◌∷◌, ◌++◌, map, flat_map, Some, None, refl, arith, inl, inr, not, nat_lt, nat_le, lt-ltb, ltb-true, leb-true, subst, leb-false, find}
 use Rattle.counting.proofs.Common.{both_ways, not-true, not-false, HasPair, rows_hold, rows_only, map_pair, append_pair, above_first, mem-all, rising-tail, rising_list-rises, Within, IsRisingIn, pair_with, rising_list, rising_pairs, ComesBefore, everything, pair_set}
 use Rattle.graph_core.proofs.Common.{has_perfect_found, has_perfect_says, component_count, Graph, HasPerfect, has_perfect, cut_pair, equivalent_pair}
@@ -10,7 +10,7 @@ abbrev Rising : List (ℕ × ℕ) → Type 0
 Rising [] = Unit {0}
 Rising (k ∷ ks) = ((i j : ℕ) → HasPair ks i j → ComesBefore k (i, j)) × Rising ks
 
--- two rising lists in a row rise where the first is before the second
+-- one increasing list after another is increasing if all of the first comes before the second
 parts_rise : (ks ls : List (ℕ × ℕ)) → Rising ks → Rising ls → ((i j a b : ℕ) → HasPair ks i j → HasPair ls a b → ComesBefore (i, j) (a, b)) → Rising (ks ++ ls)
 parts_rise [] ls r s h = s
 parts_rise (k ∷ ks) ls r s h = (
@@ -18,12 +18,12 @@ parts_rise (k ∷ ks) ls r s h = (
   parts_rise ks ls r.1 s (λ i j a b m. h i j a b (inr m)),
 )
 
--- a row rises
+-- a row is increasing
 row_rises : (a n : ℕ) (xs : List ℕ) → IsRisingIn n xs → Rising (map (pair_with a) xs)
 row_rises a n [] r = tt
 row_rises a n (x ∷ xs) r = (λ i j m. let q = map_pair a xs i j m in inr (q.0, above_first n x xs r j q.1), row_rises a n xs (rising-tail n x xs r))
 
--- the rows one after the other rise
+-- the rows one after another are increasing
 rows_rise : (n : ℕ) (xs : List ℕ) → IsRisingIn n xs → Rising (flat_map (λ a. map (pair_with a) (rising_list n (nat_lt a))) xs)
 rows_rise n [] r = tt
 rows_rise n (x ∷ xs) r =
@@ -31,7 +31,7 @@ rows_rise n (x ∷ xs) r =
     (row_rises x n (rising_list n (nat_lt x)) (rising_list-rises n (nat_lt x))) (rows_rise n xs (rising-tail n x xs r))
     (λ i j a b m h. let q = map_pair x (rising_list n (nat_lt x)) i j m in let s = rows_only n a b xs h in inl (subst (λ z. z < a) q.0 (above_first n x xs r a s.0)))
 
--- the first of a rising list that passes: it passes, and none before it does
+-- the first of an increasing list that passes: it passes, and none before it does
 found_first : (t : ℕ → ℕ → Bool) (ks : List (ℕ × ℕ)) (k : ℕ × ℕ) → Rising ks → find (λ l. t l.0 l.1) ks ≡ Some k →
     HasPair ks k.0 k.1 × (t k.0 k.1 ≡ true) × ((i j : ℕ) → HasPair ks i j → ComesBefore (i, j) k → t i j ≡ false)
 found_first t [] k r h = let z : None ≡ Some k = h in absurd cc

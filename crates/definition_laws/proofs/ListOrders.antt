@@ -1,6 +1,6 @@
--- The lists of components and of classes stand by their least vertices: each is the list of what
--- belongs to its least vertex, and the least vertices stand in rising order. The odd lists are
--- counted at these vertices.
+-- The lists of components and of classes are ordered by their least vertices: each is the list of
+-- what belongs to its least vertex, and the least vertices are in increasing order. The odd lists
+-- are counted at these vertices.
 use Rattle.std.proofs.Common.{◌≡◌, ℕ, zero, suc, Bool, true, cond, ◌&&◌, ◌∷◌, [], List, length, map, refl, sym, arith, inl, inr, nat_lt, lt-ltb, subst, ◌≤◌, count_by, slice_index}
 use Rattle.counting.proofs.Common.{and_from, both_ways, cases_order, false_from_ne_true, not-true, true≢false, map-append, count_congr, rising_holds, rising_only, first-least, length-rising_list, rising_list-rises, true_some, Within, count, is_odd, IsLeastOf, IsRisingIn, mem, rising_list, Set, some}
 use Rattle.std.proofs.lemmas.List.Sums.{sum_by-append}
@@ -9,7 +9,7 @@ use Rattle.barrier_kit.proofs.Common.{equivalent_back}
 use Rattle.graph_core.proofs.Common.{joined_walk, walk_joined, is_equivalent_found, is_equivalent_says, joined_self, components, is_least, odd_component_count, Graph, IsGraph, classes, is_equivalent, is_least_of_class, joined}
 use Rattle.definition_laws.proofs.Leaders.{least_says}
 
--- the first number of a rising list is its least
+-- the first number of an increasing list is its least
 first-of_rising : (n : ℕ) (xs : List ℕ) (v : ℕ) → IsRisingIn n xs → IsLeastOf xs v → slice_index xs 0 ≡ v
 first-of_rising n [] v rises least = absurd (true≢false (sym least.member))
 first-of_rising n (x ∷ xs) v rises least = first-least n x v xs rises least
@@ -32,7 +32,7 @@ first_of-lists n f (u ∷ us) least =
 least-of_list : (n : ℕ) (x : Set) (u : ℕ) → Within n u → x u ≡ true → ((v : ℕ) → Within n v → x v ≡ true → u ≤ v) → IsLeastOf (rising_list n x) u
 least-of_list n x u w held below = grind (arith, rising_holds n x u w held, false_from_ne_true, rising_only n x)
 
--- the components stand by their least vertices
+-- the components are ordered by their least vertices
 pub components-order : (g : Graph) (s : Set) → IsGraph g → IsStrictlyIncreasing (map (λ (c : List ℕ). slice_index c 0) (components g s))
 unfolding components
 components-order g s is =

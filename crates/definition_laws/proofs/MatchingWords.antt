@@ -1,6 +1,6 @@
--- Matchings by degrees are matchings in the words of a textbook: no edge has an end in the
--- removed set, each vertex is met once. A degree is a sum of ends over the edges, so an edge with
--- an end at a vertex of degree 1 is its only one, and the other way round.
+-- Matchings by degrees are the textbook's matchings: no edge has an end in the removed set, each
+-- vertex is met once. A degree is a sum of ends over the edges, so an edge with an end at a vertex
+-- of degree 1 is its only one, and the other way round.
 use Rattle.std.proofs.Common.{◌≡◌, ℕ, ◌*◌, ◌≤◌, ◌≢◌, true, false, refl, sym, ap, arith, inl, inr, eq-eqb, ne_eqb}
 use Rattle.counting.proofs.Common.{cases_eq, true≢false, total_at, total_none, Within, bit, Set, none}
 use Rattle.graph_core.proofs.Common.{degree_sum, edge_at, ends_le_degree, ends_of, ends_of_is, perfect_matching, apart_matching, ends_one, matching_apart, one_end, Graph, HasNoLoop, IsGraph, degree, first_end, second_end, size, IsEnd, IsMatching, IsPerfect, ShareNoEnd}
@@ -18,7 +18,7 @@ avoids_zero g r m av v wv o = grind (arith, degree_sum g m v, total_none (size g
 zero_avoids : (g : Graph) (r m : Set) → ((v : ℕ) → Within g.order v → r v ≡ true → degree g m v ≡ 0) → Avoids g r m
 zero_avoids g r m away e v we wv me o end = let a = ends_le_degree g m e v we me in let b = one_end g e v end in let z = away v wv o in absurd (omega arith)
 
--- no edge of a perfect matching of g without r has an end in r
+-- no edge of a perfect matching of g - r has an end in r
 pub perfect-avoids : (g : Graph) (r m : Set) → IsPerfect g r m → Avoids g r m
 perfect-avoids g r m p = zero_avoids g r m p.away
 
@@ -26,7 +26,7 @@ perfect-avoids g r m p = zero_avoids g r m p.away
 pub avoids_none : (g : Graph) (m : Set) → Avoids g none m
 avoids_none g m e v we wv me o end = absurd (true≢false (sym o))
 
--- a matching of g without r: no edge has an end in r, and no two edges share an end
+-- a matching of g - r: no edge has an end in r, and no two edges share an end
 pub matching-words : (g : Graph) (r m : Set) → IsMatching g r m → Avoids g r m × ShareNoEnd g m
 matching-words g r m mm = (zero_avoids g r m mm.away, matching_apart g m (record { once = mm.once; away = λ v w o. absurd (true≢false (sym o)) }))
 

@@ -12,7 +12,7 @@ use Rattle.match_core.proofs.TutteBerge.{tutte_berge}
 connected_from_one : (g : Graph) → ((v : ℕ) → Within g.order v → Joined g none 1 v) → IsConnected g
 connected_from_one g all u v wu wv = joined_on g none u 1 v (joined_back g none 1 u (all u wu)) (all v wv)
 
--- each graph has a Berge set, as a rising list
+-- each graph has a Berge set, as an increasing list
 berge_list : (g : Graph) → IsGraph g → (s : List ℕ) × IsRisingIn g.order s × IsBergeSet g none (mem s)
 berge_list g is =
     let t = tutte_berge g none is in
@@ -44,7 +44,7 @@ covered_or_reason g is = grind (arith, cases_Bool (nat_le 2 g.order), nat_le 2 g
       | inr f ↦ inr (Parted 1 f.0, (two, refl, f.1))
     ]
 
--- two reasons of one graph are equal but for the Berge set
+-- two reasons of one graph are equal except for the Berge set
 pub reason-one : (g : Graph) (q r : Reason) → IsReason g q → IsReason g r → without_berge q ≡ without_berge r
 reason-one g Small Small a b = refl
 reason-one g Small (Parted c d) a b = let two = b.0 in absurd (omega arith)

@@ -1,25 +1,26 @@
-//! Adjacency and components in the words of a textbook.
+//! Adjacency and components, as a textbook defines them.
 //!
-//! A component is named by its least vertex, and the numbers of components are counts of these.
-//! Each law here is the contract of a function that does nothing.
+//! A component is named by its least vertex, and the numbers of components count these. Each law
+//! here is the contract of a function that does nothing.
 ghost use Rattle.std.specs.Prelude.{◌≡◌, ℕ, List, ◌≤◌, ◌&&◌, true, false, length, map, count_by, slice_index, ◌↔◌, All, Any};
 ghost use Rattle.std.specs.List.Sorted.{IsStrictlyIncreasing};
 ghost use Rattle.counting.specs.Common.{Within, count, is_odd, item, mem, Set};
 ghost use Rattle.graph_core.specs.Common.{component_count, components, is_least, odd_component_count, Graph, HasEnds, IsGraph, has_ends, size, Joined, adjacent, joined};
 ghost use Rattle.definition_laws.specs.Words.{IsComponent};
 
-/// Two vertices are adjacent in G - S exactly when both are outside S and some edge has them as
-/// its ends.
+/// Two vertices are adjacent in G - S if and only if both are outside S and they are the two ends
+/// of some edge.
 pub fn adjacency_law()
     ensures ends { (g : Graph) (u v e : ℕ) → ((has_ends g u v e ≡ true) ↔ HasEnds g e u v) }
     ensures edge { (g : Graph) (s : Set) (u v : ℕ) → ((adjacent g s u v ≡ true) ↔
         ((s u ≡ false) × (s v ≡ false) × ((e : ℕ) × Within (size g) e × HasEnds g e u v))) }
 {}
 
-/// Components: being joined by a walk is an equivalence, each vertex outside S is joined to
-/// exactly one vertex that is the least of its component, and the numbers of components count
-/// these. The lists are as many, each is a component, each vertex outside S is in exactly one,
-/// and they stand by their least vertices; o(S) is the number of those of odd length.
+/// Components: being joined by a walk is an equivalence, each vertex outside S is joined to exactly
+/// one vertex that is the least of its component, and the numbers of components count these. The
+/// list of components has that length, each item is a component, each vertex outside S is in
+/// exactly one, and they are ordered by their least vertices; o(S) is the number of those of odd
+/// size.
 pub fn component_law()
     ensures same { (g : Graph) (s : Set) (u v w : ℕ) →
         Joined g s u u × (Joined g s u v → Joined g s v u) ×

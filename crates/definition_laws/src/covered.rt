@@ -1,5 +1,5 @@
 //! Matching covered graphs, the reasons why a graph is not one, the canonical partition and the
-//! pairs, in the words of a textbook.
+//! pairs, as a textbook defines them.
 //!
 //! Each law here is the contract of a function that does nothing.
 ghost use Rattle.std.specs.Prelude.{◌≡◌, ℕ, List, ◌≤◌, ◌⊎◌, true, length, map, slice_index, ◌↔◌, All, Any, Some};
@@ -9,7 +9,7 @@ ghost use Rattle.graph_core.specs.Common.{component_count, IsCovered, IsReason, 
 ghost use Rattle.definition_laws.specs.Words.{IsFirstPair, IsListOfClass, without_berge};
 
 /// Each graph is matching covered or has a reason, and a multigraph never both. Two reasons of a
-/// graph are equal but for the Berge set, of which there may be many.
+/// graph are equal except for the Berge set, which need not be unique.
 pub fn reason_law()
     ensures uncovered { (g : Graph) (r : Reason) → IsMultigraph g → IsReason g r → IsCovered g → ⊥ }
     ensures one { (g : Graph) (q r : Reason) → IsReason g q → IsReason g r →
@@ -17,9 +17,9 @@ pub fn reason_law()
     ensures some { (g : Graph) → IsGraph g → (IsCovered g) ⊎ ((r : Reason) × IsReason g r) }
 {}
 
-/// The test `is_equivalent` says that two vertices are equal or leave no perfect matching, and
-/// each list of the canonical partition is the class of one of its vertices. The lists stand by
-/// their least vertices. In a covered graph each vertex is in exactly one of them.
+/// The test `is_equivalent` says that u = v or G - u - v has no perfect matching, and each list of
+/// the canonical partition is the class of one of its vertices. The lists are ordered by their
+/// least vertices. In a covered graph each vertex is in exactly one of them.
 pub fn canonical_partition_law()
     ensures test { (g : Graph) (a b : ℕ) → ((is_equivalent g a b ≡ true) ↔ Equivalent g a b) }
     ensures lists { (g : Graph) → All (IsListOfClass g) (classes g) }
@@ -32,10 +32,10 @@ pub fn canonical_partition_law()
         IsStrictlyIncreasing (map (λ (c : List ℕ). slice_index c 0) (classes g)) }
 {}
 
-/// The pairs that `equivalent_pair` and `cut_pair` answer are the first in lexicographic order: the
-/// first a < b without which there is not a perfect matching, and the first without which at
-/// least two components are left. That they answer one exactly when there is one is
-/// `first_pairs_law` of `separation_kit`.
+/// The pairs that `equivalent_pair` and `cut_pair` return are lexicographically first: the first a
+/// < b such that G - a - b has no perfect matching, and the first such that G - a - b has at least
+/// two components. That each returns a pair if and only if there is one is `first_pairs_law` of
+/// `separation_kit`.
 pub fn first_pair_law()
     ensures equivalent { (g : Graph) (k : ℕ × ℕ) → equivalent_pair g ≡ Some k →
         IsFirstPair g.order (λ a b. HasPerfect g (pair_set a b) → ⊥) k }

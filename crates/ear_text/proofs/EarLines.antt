@@ -1,4 +1,5 @@
--- The line of an ear is decided by the tests of its numbers.
+-- The state after the line of an ear, under one name for the proofs of the reader. Idea: the line
+-- has passed its tests, so its ear begins a step or joins the pending one.
 use Rattle.std.proofs.Common.{ℕ, List, Option}
 use Rattle.line_text.specs.declared.faults.FaultKind.TheVariants as kind
 use Rattle.ear_core.specs.Common.{PlainEar, PlainStep}

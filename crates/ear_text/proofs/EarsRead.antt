@@ -116,7 +116,7 @@ reached-keeps n m reached list keeps ends = grind (arith, no_value, end-keeps n 
 pub list-read : (n m : ℕ) (text : List ℕ) (list : PlainEars) → Stands (ear_format n m) text list → KeepsList n m list
 list-read n m text list stands = reached-keeps n m stands.reached list (all-keep n m _ stands.reached stands.begins) stands.ends
 
--- and of what a reader answered
+-- and of what a reader returned
 pub fits-read : {X Fault : Type 0} (n m : ℕ) (text : List ℕ) (view : X → PlainEars) (result : Result X Fault) → IfOk result (λ x. Stands (ear_format n m) text (view x)) → IfOk result (λ x. FitsEars n m (view x))
 fits-read n m text view (Ok x) stands = (list-read n m text (view x) stands).0
 fits-read n m text view (Err fault) stands = tt

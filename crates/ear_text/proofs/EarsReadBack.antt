@@ -1,6 +1,6 @@
--- What is written of an ear list is read as this list. Line by line the tests of the table pass,
--- since the numbers are in range and no ear is empty; the ear that stands apart goes to the steps
--- with the next line, or at the end.
+-- The text written for an ear list is read as this list. Line by line the tests of the table pass,
+-- since the numbers are in range and no ear is empty; the pending ear goes to the steps with the
+-- next line, or at the end.
 use Rattle.std.proofs.Common.{◌≡◌, ◌<◌, ◌^◌, ◌++◌, codes, ℕ, List, [], ◌∷◌, All, length, map, true, false, Option, Some, None, Ok, refl, sym, ◌∙◌, ap, subst, arith, append_assoc}
 use Rattle.counting.proofs.Common.{AllByRecursion, list_all, length-map, append-nil, nat_tests, Within}
 use Rattle.std.specs.Fmt.{decimal}

@@ -1,4 +1,5 @@
--- The lines of an ear, of a step and of a list of ears.
+-- The lines of an ear, of a step and of an ear list. Idea: the text written so far is always a list
+-- of complete lines, and appending the line of an ear makes a longer such list.
 use Rattle.std.proofs.Common.{◌≡◌, ℕ, List, [], ◌∷◌, ◌++◌, codes, length, map, sym, ◌∙◌, ap, append_assoc, arith}
 use Rattle.counting.proofs.Common.{append-nil}
 use Rattle.std.specs.Fmt.{decimal}

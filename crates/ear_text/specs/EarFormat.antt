@@ -10,8 +10,8 @@ use Rattle.line_text.specs.declared.faults.FaultKind.{FaultKind}
 use Rattle.line_text.specs.declared.faults.FaultKind.TheVariants as kind
 use Rattle.ear_core.specs.Common.{PlainEar, PlainStep, one, two, PlainEars}
 
--- what has been read: the header alone, or also the edge of the first stage and further lines.
--- The last ear stands apart as long as a line `with` may follow it.
+-- what has been read: the header, or also the edge of the first stage and further lines. The last
+-- ear is pending as long as a line `with` may follow it.
 pub data EarsSoFar : Type 0 where
   headed : EarsSoFar
   started : (start : ℕ) (steps : List PlainStep) (last : Option PlainEar) → EarsSoFar
@@ -34,12 +34,12 @@ is_with_line words = nat_le 3 (length words) && has_form words (length words) (c
 abbrev pub ear_at : List (List ℕ) → PlainEar
 ear_at words = record { begin = value_of (word_at words 1); edges = map value_of (behind_two words) }
 
--- the steps, the last of which has one ear if an ear stands apart
+-- the steps; if an ear is pending, the last step has that one ear
 abbrev pub closed : List PlainStep → Option PlainEar → List PlainStep
 closed steps None = steps
 closed steps (Some a) = steps ++ one a ∷ []
 
--- the steps, the last of which is the ear that stands apart with the other one
+-- the steps, the last of which has the pending ear and this one
 abbrev pub paired : List PlainStep → Option PlainEar → PlainEar → List PlainStep
 paired steps None b = steps
 paired steps (Some a) b = steps ++ two a b ∷ []
@@ -62,7 +62,7 @@ start_line m words =
     ∷ [])
     (started (value_of (word_at words 1)) [] None)
 
--- the words of a step's first ear, or of a second one if an ear stands apart
+-- the words of a step's first ear, or of a second one if an ear is pending
 abbrev pub is_either_ear_line : (stands_apart : Bool) → List (List ℕ) → Bool
 is_either_ear_line stands_apart words = is_ear_line words || (stands_apart && is_with_line words)
 
@@ -73,7 +73,7 @@ ear_tests n m words =
     ∷ (is_out_of_range n (value_of (word_at words 1)) || list_any (is_out_of_range m) (map value_of (behind_two words)), kind.Range)
     ∷ []
 
--- what is read with one ear more, which is a step's first one or else its second one
+-- what has been read after one more ear, which is a step's first one or else its second one
 abbrev pub with_ear : ℕ → List PlainStep → Option PlainEar → (is_first : Bool) → PlainEar → EarsSoFar
 with_ear start steps last is_first ear =
     if is_first then started start (closed steps last) (Some ear) else started start (paired steps last ear) None
@@ -89,7 +89,7 @@ abbrev pub line_behind : ℕ → ℕ → EarsSoFar → List (List ℕ) → Resul
 line_behind n m headed words = start_line m words
 line_behind n m (started start steps last) words = ear_line n m start steps last words
 
--- the end of the text may come after the line `start`
+-- the text may end after the line `start`
 abbrev pub ears_end : EarsSoFar → Result PlainEars FaultKind
 ears_end headed = Err kind.Missing
 ears_end (started start steps last) = Ok (record { start = start; steps = closed steps last })

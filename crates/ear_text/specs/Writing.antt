@@ -1,4 +1,4 @@
--- The text that is written of an ear list.
+-- The text that is written for an ear list.
 -- Stated by: ear_text. Rests on it: bench_outcomes, bench_top, theorems.
 use Rattle.std.specs.Prelude.{ℕ, ◌<◌, ◌^◌, List, [], ◌∷◌, codes, map}
 use Rattle.std.specs.Fmt.{decimal}

@@ -80,7 +80,7 @@ fn behind_two<'a, 'b>(words: &'a [&'b [u8]]) -> &'a [&'b [u8]]
     &words[words.len().min(2)..]
 }
 
-// The numbers as a list of their own.
+// The numbers as an owned list.
 fn copied(alloc: Global, items: &[u32]) -> Result<Numbers, Memory>
     ensures { IfOk result (λ list. list ≡ items.now) }
 {
@@ -93,8 +93,8 @@ fn copied(alloc: Global, items: &[u32]) -> Result<Numbers, Memory>
     Ok(list)
 }
 
-// Whether these are the words of an ear: a step's first one, or a second one after an ear that
-// stands apart.
+// Whether these are the words of an ear: a step's first one, or a second one after an ear that is
+// not yet part of a step.
 fn is_either_ear(stands_apart: bool, words: &[&[u8]]) -> bool
     ensures { result ≡ is_either_ear_line stands_apart (texts_of words.now) }
 {
@@ -118,7 +118,7 @@ fn ear_told(format: &EarFormat, words: &[&[u8]]) -> Result<Ear, Refusal<FaultKin
     Ok(Ear { from, edges })
 }
 
-// What has been read with one ear more, which is a step's first one or else its second one.
+// The state after one more ear, which is a step's first one or else its second one.
 fn with_ear(
     start: u32,
     steps: Steps,
@@ -209,9 +209,9 @@ impl LineFormat for EarFormat {
     }
 }
 
-/// Reads an ear list for a graph of `n` vertices and `m` edges: the list that the bytes stand
-/// for, or the first line outside the format with the kind of its fault. All numbers of the list
-/// are in range, and no ear is empty. Lack of memory may come at any time.
+/// Reads an ear list for a graph of `n` vertices and `m` edges: the list that the bytes stand for,
+/// or the first line outside the format with the kind of its error. All numbers of the list are in
+/// range, and no ear is empty. Memory may run out at any time.
 pub fn read_ears(alloc: Global, bytes: &[u8], n: u32, m: u32) -> Result<EarList, TextFault>
     requires { length bytes.now < 2 ^ 32 - 1 }
     ensures fits { IfOk result (λ list. FitsEars n m (ears_of list)) }

@@ -6,21 +6,21 @@ ghost use Rattle.ear_text.specs.EarFormat.{closed, paired};
 use ear_core::{Ear, Step, Steps};
 use std::alloc::AllocError as Memory;
 
-/// What the lines read so far say.
+/// What has been read so far.
 #[derive(Drop)]
 pub enum EarsRead {
-    /// The header alone.
+    /// The header.
     Headed,
-    /// The line of the first stage too.
+    /// The header and the line of the first stage.
     Started {
         start: u32,
         steps: Steps,
-        /// The first ear of a step to which a second one may come.
+        /// The first ear of a step, which a second one may follow.
         last: Option<Ear>,
     },
 }
 
-/// The steps, the last of which has one ear if an ear stands apart.
+/// The steps; if an ear is pending, the last step has that one ear.
 pub fn close_last(steps: Steps, last: Option<Ear>) -> Result<Steps, Memory>
     ensures { IfOk result
         (λ all. map step_of all ≡ closed (map step_of steps) (option_map ear_of last)) }
@@ -35,7 +35,7 @@ pub fn close_last(steps: Steps, last: Option<Ear>) -> Result<Steps, Memory>
     Ok(all)
 }
 
-/// The steps, the last of which is the ear that stands apart with the other one.
+/// The steps, the last of which has the pending ear and this one.
 pub fn pair_last(steps: Steps, last: Option<Ear>, other: Ear) -> Result<Steps, Memory>
     ensures { IfOk result
         (λ all. map step_of all ≡

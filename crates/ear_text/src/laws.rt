@@ -1,4 +1,4 @@
-//! Laws of the texts of ear lists. Each is the contract of a function that does nothing.
+//! Laws of the texts of ear lists. Each law is the contract of a function that does nothing.
 ghost use Rattle.std.specs.Prelude.{ℕ, List};
 ghost use Rattle.std.specs.List.{AllByRecursion};
 ghost use Rattle.line_text.specs.Common.{Stands, StandsAlone};
@@ -6,7 +6,7 @@ ghost use Rattle.ear_core.specs.Common.{PlainEars, FitsEars, HasEdges};
 ghost use Rattle.ear_text.specs.EarFormat.{ear_format};
 ghost use Rattle.ear_text.specs.Writing.{ears_text, IsWritable};
 
-/// What is written of an ear list stands for this list, for no other, and has no fault.
+/// The text written for an ear list stands for this list and for no other, and has no error.
 pub fn written_ears_stand()
     ensures stands { (n m : ℕ) (list : PlainEars) → IsWritable n m list →
         Stands (ear_format n m) (ears_text n m list) list }
@@ -14,7 +14,7 @@ pub fn written_ears_stand()
         StandsAlone (ear_format n m) (ears_text n m list) }
 {}
 
-/// The numbers of a list for which a text stands are in range, and no ear of it is empty.
+/// If a text stands for a list, its numbers are in range, and no ear of it is empty.
 pub fn read_ears_fit()
     ensures fits { (n m : ℕ) (text : List ℕ) (list : PlainEars) →
         Stands (ear_format n m) text list → FitsEars n m list }

@@ -1,4 +1,4 @@
--- What is said of a text of which there is no decomposition.
+-- What is known about a text that gives no decomposition.
 -- Stated by: example_order.
 use Rattle.std.specs.Prelude.{ℕ, List}
 use Rattle.graph_core.specs.Common.{IsReason, reason_of}

@@ -6,7 +6,7 @@ use Rattle.graph_core.specs.Common.{Graph, in_cut, size}
 use Rattle.tight_cuts.specs.Common.{Candidate, candidate_of}
 use Rattle.tight_cuts.specs.declared.candidate.Candidate.{Candidate as StoredCandidate}
 
--- how many edges are in the cut of a candidate
+-- |∂(X)|, where X is the shore of a candidate
 abbrev pub width_of : Graph → Option StoredCandidate → ℕ
 width_of g None = 0
 width_of g (Some c) = count (size g) (in_cut g (mem c.shore))
@@ -21,7 +21,7 @@ pub record IsWidest (g : Graph) (list : List StoredCandidate) (place : ℕ) : Ty
   pub most : (i : ℕ) → i < length list → width g list i ≤ width g list place
   pub first : (i : ℕ) → i < place → width g list i < width g list place
 
--- the order picks this place of these candidates, however many cuts stand before
+-- the order picks this place in this list of candidates, however many cuts come before
 pub record PicksWidest (g : Graph) (list : List Candidate) (k place : ℕ) : Type 0 where
   pub stored : List StoredCandidate
   pub shows : map candidate_of stored ≡ list

@@ -1,13 +1,13 @@
-//! An example for users of the library: decompositions in orders of their own.
+//! An example for users of the library: decompositions in a user's own order of choice.
 //!
 //! `decompose_widest` reads the text of a graph, decomposes the graph by tight cuts, at each node
-//! by the candidate whose cut has the most edges, and hands the derivation to `check`. Its
+//! by the candidate whose cut has the most edges, and passes the derivation to `check`. Its
 //! contract says what one then knows: the tree is a derivation of the graph that the text stands
 //! for (`IsDerivation` of `tree_core`), it is the one that this order picks (`IsPicked` of
 //! `decomposer`, `PicksWidest` of `specs/WidestCuts`), and `check` accepts it.
 //!
-//! The order is a type with an `impl Order`, which holds the graph. `decompose_by_turns` shows
-//! the other way, a closure. `docs/LIBRARY.md` goes through these files.
+//! The order is a type with an `impl Order`, which holds the graph. `decompose_by_turns` shows the
+//! other way, a closure. `docs/LIBRARY.md` explains these files.
 #![tactic(auto)]
 
 mod turns;

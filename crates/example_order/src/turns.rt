@@ -1,4 +1,4 @@
-//! A decomposition in the order of a closure: the first and the last candidates by turns.
+//! A decomposition in the order of a closure: alternately by the first and by the last candidate.
 ghost use Rattle.std.specs.Prelude.{◌≡◌, ◌<◌, ◌-◌, ℕ, length, IfOk, Err};
 ghost use Rattle.graph_core.specs.Common.{IsCovered};
 ghost use Rattle.tree_core.specs.Common.{IsDerivation, shape_of};
@@ -9,8 +9,8 @@ use std::alloc::Global;
 use tight_cuts::Candidate;
 use tree_core::Tree;
 
-/// Decomposes the graph by the first candidate if the number of cuts before the node is even,
-/// and else by the last one. `NotCovered` comes if and only if the graph is not matching covered.
+/// Decomposes the graph by the first candidate if the number of cuts before the node is even, and
+/// otherwise by the last one. `NotCovered` comes if and only if the graph is not matching covered.
 pub fn decompose_by_turns(alloc: Global, g: &MultiGraph) -> Result<Tree, Refused>
     ensures derivation { IfOk result (λ tree. IsDerivation g.now (shape_of tree)) }
     ensures uncovered { (r : _) → result ≡ Err (Refused.NotCovered r) → ¬ IsCovered g.now }

@@ -1,4 +1,4 @@
-//! A decomposition in this order, and its judgement.
+//! A decomposition in this order, and its check.
 ghost use Rattle.std.specs.Prelude.{◌≡◌, ◌<◌, ◌-◌, ◌^◌, ℕ, length, IfOk, Err};
 ghost use Rattle.graph_core.specs.Common.{IsReason, reason_of};
 ghost use Rattle.line_text.specs.declared.faults.TextFault.{TextFault};
@@ -22,12 +22,11 @@ use tree_core::Tree;
 /// Why there is no decomposition.
 #[derive(Drop)]
 pub enum Failed {
-    /// The text does not stand for a graph: its first fault, which may be that there is not
-    /// enough memory.
+    /// The text does not stand for a graph: its first error, which may be lack of memory.
     Text(TextFault),
     /// The graph is not matching covered, for this reason.
     NotCovered(Reason),
-    /// There is not enough memory.
+    /// Out of memory.
     Memory,
 }
 
@@ -55,9 +54,9 @@ fn widest_tree(alloc: Global, g: &MultiGraph) -> Result<Tree, Failed>
 }
 
 /// Reads the text of a graph, in either version of the graph format, decomposes the graph by the
-/// widest cuts, and has the derivation judged. `Text` comes if and only if the text does not
-/// stand for a graph, with its first fault, or if there is not enough memory; `NotCovered` comes
-/// if and only if the graph is not matching covered.
+/// widest cuts, and has the derivation checked. `Text` comes if and only if the text does not stand
+/// for a graph, with its first error, or if memory runs out; `NotCovered` comes if and only if the
+/// graph is not matching covered.
 pub fn decompose_widest(alloc: Global, text: &[u8]) -> Result<Decomposed, Failed>
     requires { length text.now < 2 ^ 32 - 1 }
     ensures stands { IfOk result (λ made. Stands either_version text.now (named_graph made.named)) }

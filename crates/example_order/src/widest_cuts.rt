@@ -1,4 +1,4 @@
-//! The order: at each choice the first candidate whose cut has the most edges.
+//! The order: at each node the first candidate whose cut has the most edges.
 ghost use Rattle.std.specs.Prelude.{◌≡◌, ◌<◌, ◌≤◌, length};
 ghost use Rattle.counting.specs.Common.{count, mem};
 ghost use Rattle.graph_core.specs.Common.{in_cut, size};
@@ -37,8 +37,8 @@ fn widest_place(g: &MultiGraph, list: &[Candidate]) -> usize
     best
 }
 
-/// The order of the widest cuts of a graph: at each node the first candidate is picked whose cut
-/// has the most edges.
+/// The order of the widest cuts of a graph: at each node it picks the first candidate whose cut has
+/// the most edges.
 #[derive(Clone, Copy)]
 pub struct Widest<'g> {
     pub graph: &'g MultiGraph,

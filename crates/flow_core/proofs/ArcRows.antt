@@ -36,7 +36,7 @@ kept rows v i w j l h = elim (cases_eq w v) [
 added : (rows : List (List ℕ)) (v i : ℕ) → v < length rows → Contains (row_of (with_place rows v i) v) i
 added rows v i l = subst (λ (r : List ℕ). Contains r i) (sym (row_of-same rows v i l)) (Contains-last (row_of rows v) i)
 
--- what holds of all places in a row, and of the new one, holds after it too
+-- what is true of all places in a row, and of the new one, holds after it too
 each : (P : ℕ → Type 0) (rows : List (List ℕ)) (v i w : ℕ) → v < length rows → All P (row_of rows w) → (w ≡ v → P i) → All P (row_of (with_place rows v i) w)
 each P rows v i w l h p = elim (cases_eq w v) [
   | inl e ↦

@@ -1,6 +1,6 @@
--- Max flow and min cut: a flow is at most each cut, and where a set of nodes is left by no arc
--- with room, it is the least minimum cut. Idea: sum what goes out of the nodes of a set, node by
--- node and arc by arc.
+-- Max flow and min cut: the value of a flow is at most that of each cut, and a set of nodes that no
+-- residual arc leaves is the least minimum cut. Idea: sum the amounts out of the nodes of a set,
+-- node by node and arc by arc.
 use Rattle.std.proofs.Common.{◌≡◌, ℕ, suc, zero, ◌≤◌, ◌<◌, ◌≢◌, Bool, true, false, cond, ◌==◌, refl, sym, ap, ap₂, ◌∙◌, arith, ◌&&◌, ◌||◌, not, inl, inr, List, [], ◌∷◌, length, sum_by, eq-eqb, ne_eqb, All, if◌then◌else◌, ℤ, pos, neg_ℤ, ◌+ℤ◌, ◌-ℤ◌, ◌≤ℤ◌, ◌<ℤ◌, unsigned_abs}
 use Rattle.counting.proofs.Common.{cases_Bool, true≢false, All-head, All-tail, sum_by-cons, Within, Set, singleton, mem}
 use Rattle.std.proofs.lemmas.Int.{ints}

@@ -1,6 +1,6 @@
--- A path that goes from level to level: how it grows, goes back and starts again, and that there
--- is always less left to do. Idea: visit j is at level j, so no node comes twice; each arc is
--- passed over once, and a path is no longer than there are levels.
+-- A path that goes from level to level: how it grows, goes back and starts again, and that the
+-- remaining work always decreases. Idea: visit j is at level j, so no node comes twice; each arc is
+-- skipped once, and a path is no longer than the number of levels.
 use Rattle.std.proofs.Common.{◌≡◌, ◌≢◌, ℕ, zero, suc, ◌+◌, ◌-◌, ◌≤◌, ◌<◌, List, [], ◌∷◌, ◌++◌, length, get_or, set, take, min, sym, ◌∙◌, ap, subst, arith, inl, inr, length-append, slice_index, ℤ, get_or-set_same, get_or-set_other, length-take}
 use Rattle.counting.proofs.Common.{get_or-append_seam, cases_eq, get_or_read, total_congr, Within, total, row_of}
 use Rattle.std.proofs.lemmas.Int.{ints}

@@ -1,6 +1,6 @@
--- Sending d along a path with room: each amount stays within its capacity, and only the two ends
--- of the path see a change. Idea: from the last visit back to the first, each step moves the
--- change from a visit's node to its parent's node.
+-- Sending d along an augmenting path: each amount stays within its capacity, and the balance
+-- changes only at the two ends of the path. Idea: from the last visit back to the first, each step
+-- moves the change from a visit's node to its parent's node.
 use Rattle.std.proofs.Common.{◌≡◌, ◌≢◌, ℕ, zero, suc, ◌+◌, ◌≤◌, ◌<◌, ◌^◌, ◌==◌, List, [], ◌∷◌, length, set, replicate, refl, ◌∙◌, arith, eq-eqb, ne_eqb, ℤ, pos, ◌+ℤ◌, ◌-ℤ◌, ◌≤ℤ◌, unsigned_abs, if◌then◌else◌, get_or-set_other, rules}
 use Rattle.std.proofs.lemmas.Int.{ints}
 use Rattle.flow_core.specs.Common.{Arc, Net, IsArc, IsNet, IsBounded, out_by, goes_out, Fits, IsFlow, arc_at, amount_at, Joins, room_from, sent_amount, visit_at, node_at, first_node, last_node, IsVisit, IsTree}

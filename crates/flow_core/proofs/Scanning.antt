@@ -1,6 +1,6 @@
--- The arcs at one node, scanned one by one: each has no room out of the node, or leads to a node
--- that is seen then. Idea: the arcs scanned so far stay scanned while the seen nodes grow, and
--- the rows list every arc at the node.
+-- The arcs at one node, scanned one by one: each is not residual out of the node, or leads to a
+-- node that has then been seen. Idea: the arcs scanned so far stay scanned while the set of seen
+-- nodes grows, and the rows list every arc at the node.
 use Rattle.std.proofs.Common.{◌≡◌, ◌≢◌, ℕ, ◌+◌, ◌≤◌, ◌<◌, ◌==◌, ◌||◌, true, false, List, [], ◌∷◌, ◌++◌, length, get_or, min, refl, sym, ◌∙◌, ap, subst, arith, inl, inr, eq-eqb, ne_eqb, below_more, length-append, ℤ, pos, ◌<ℤ◌, Contains}
 use Rattle.counting.proofs.Common.{or_right, or_left, get_or_read, get_or-append_seam, Within, Set, mem, row_of}
 use Rattle.std.proofs.lemmas.Int.{ints}
@@ -27,7 +27,7 @@ other_end n arc u v w is h k = grind arith
 pub end_within : (n : ℕ) (arc : Arc) (u w : ℕ) → IsArc n arc → Joins arc u w → Within n w
 end_within n arc u w is h = grind arith
 
--- what stands at a place of a row: an arc of the net with an end at the row's node
+-- the item at a place of a row: an arc of the net with an end at the row's node
 pub record IsPlaced (net : Net) (u : ℕ) (row : List ℕ) (place : ℕ) : Type 0 where
   pub is_arc : get_or row place 0 < length net.arcs
   pub end : HasEnd (arc_at net.arcs (get_or row place 0)) u
@@ -49,8 +49,8 @@ Leads-read net is rows lists amounts u row e place l node joins room r = grind a
 abbrev pub taken : ℕ → ℕ → ℕ → ℕ → Visit
 taken node parent arc room = record { node = node; parent = parent; arc = arc; room = room }
 
--- what stands after an arc is taken to a new node: the tree with a visit more, and where the node
--- is not the sink, a search that scans on
+-- the state after an arc is taken to a new node: the tree with a visit more, and where the node is
+-- not the sink, a search that scans on
 pub record IsTaken (net : Net) (amounts : List ℤ) (sink head : ℕ) (from : Visit) (row : List ℕ) (place : ℕ) (visits : List Visit) (node : ℕ) (longer : List Visit) (more : List ℕ) : Type 0 where
   pub first : first_node longer ≡ first_node visits
   pub tree : IsTree net amounts longer

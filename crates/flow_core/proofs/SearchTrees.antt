@@ -1,6 +1,6 @@
--- Search trees: how they grow, that each node is reached from the root over arcs with room, and
--- that no arc is used twice. Idea: a visit is at a new node, so its arc has an end that no
--- earlier arc has.
+-- Search trees: how they grow, that each node is reached from the root over residual arcs, and that
+-- no arc is used twice. Idea: a visit is at a new node, so its arc has an end that no earlier arc
+-- has.
 use Rattle.std.proofs.Common.{◌≡◌, ◌≢◌, ℕ, zero, suc, ◌+◌, ◌≤◌, ◌<◌, ◌^◌, ◌==◌, ◌||◌, true, false, List, [], ◌∷◌, ◌++◌, length, refl, sym, ◌∙◌, ap, subst, arith, inl, inr, eq-eqb, ne_eqb, length-append, ℤ}
 use Rattle.counting.proofs.Common.{get_or-append_seam, cases_eq, both_ways, or_right, or_left, get_or_append_left, mem-item, count_of_one, count_congr, count_le, count_put, Within, count, bit, Set, put, everything, mem, IsRisingIn}
 use Rattle.flow_core.specs.Common.{Arc, Net, HasRoom, IsReached, IsScanned, IsReachedSet, visit_at, node_at, IsStep, IsVisit, IsTree, IsSeen, IsSearch}
@@ -138,7 +138,7 @@ tree-reaches net amounts visits tree j l = go (suc j) j (omega arith) l
 pub arcs-differ : (net : Net) (amounts : List ℤ) (visits : List Visit) → IsTree net amounts visits → (i j : ℕ) → 0 < i → i < j → j < length visits → (visit_at visits i).arc ≢ (visit_at visits j).arc
 arcs-differ net amounts visits tree i j p k l e = grind arith
 
--- a rising list whose members are numbers 1 to n
+-- an increasing list whose members are numbers 1 to n
 rising-within : (m n : ℕ) (xs : List ℕ) → IsRisingIn m xs → ((v : ℕ) → mem xs v ≡ true → Within n v) → IsRisingIn n xs
 rising-within m n xs r h = grind (arith, mem-item xs)
 

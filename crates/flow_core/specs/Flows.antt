@@ -4,11 +4,11 @@ use Rattle.std.specs.Prelude.{◌≡◌, ℕ, ◌≤◌, ◌≢◌, List, [], �
 use Rattle.counting.specs.Common.{Within}
 use Rattle.flow_core.specs.Nets.{Arc, Net}
 
--- what an arc with this amount takes out of v; below zero where it brings in
+-- the amount that an arc takes out of v; negative if it brings in
 abbrev pub out_by : ℕ → Arc → ℤ → ℤ
 out_by v arc amount = (if arc.a == v then amount else pos 0) -ℤ (if arc.b == v then amount else pos 0)
 
--- what goes out of v less what comes in
+-- the amount out of v less the amount into v
 abbrev pub goes_out : List Arc → List ℤ → ℕ → ℤ
 goes_out [] amounts v = pos 0
 goes_out (arc ∷ arcs) [] v = pos 0
@@ -21,9 +21,8 @@ Fits [] (amount ∷ amounts) = ⊥
 Fits (arc ∷ arcs) [] = ⊥
 Fits (arc ∷ arcs) (amount ∷ amounts) = (unsigned_abs amount ≤ arc.capacity) × Fits arcs amounts
 
--- a flow from source to sink: amounts, positive from a to b, within the capacities; as much comes
--- into each other node as goes out; its value is what goes out of the source less what comes into
--- it
+-- a flow from source to sink: amounts, positive from a to b, within the capacities; as much flows
+-- into each other node as out; its value is the amount out of the source less the amount into it
 pub record IsFlow (net : Net) (source sink : ℕ) (amounts : List ℤ) (value : ℕ) : Type 0 where
   pub fits : Fits net.arcs amounts
   pub kept : (v : ℕ) → Within net.nodes v → v ≢ source → v ≢ sink → goes_out net.arcs amounts v ≡ pos 0

@@ -9,7 +9,7 @@ use Rattle.flow_core.specs.Residual.{arc_at}
 abbrev pub HasEnd : Arc → ℕ → Type 0
 HasEnd arc v = (arc.a ≡ v) ⊎ (arc.b ≡ v)
 
--- a row for each node, 0 among them; the row of v has those of the first n arcs that have an end
+-- a row for each node, including 0; the row of v lists those of the first n arcs that have an end
 -- at v
 pub record ListsArcs (net : Net) (n : ℕ) (rows : List (List ℕ)) : Type 0 where
   pub size : length rows ≡ suc net.nodes

@@ -1,5 +1,5 @@
--- Paths that go from level to level of a search, with the place in each node's row where they go
--- on.
+-- Paths that go from level to level of a search, with the place in each node's row where they
+-- continue.
 -- Stated by: flow_core.
 use Rattle.std.specs.Prelude.{◌≡◌, ℕ, suc, ◌+◌, ◌-◌, ◌*◌, ◌<◌, List, length, slice_index, ℤ}
 use Rattle.counting.specs.Common.{total, row_of}
@@ -7,7 +7,7 @@ use Rattle.flow_core.specs.Nets.{Net}
 use Rattle.flow_core.specs.Search.{node_at, IsTree}
 use Rattle.flow_core.specs.declared.search.Visit.{Visit}
 
--- a path as a search tree: visit j is at level j, and the row of each node but the last has an
+-- a path as a search tree: visit j is at level j, and the row of each node except the last has an
 -- arc at its place
 pub record IsLaid (net : Net) (rows : List (List ℕ)) (amounts : List ℤ) (levels places : List ℕ) (path : List Visit) : Type 0 where
   pub tree : IsTree net amounts path
@@ -20,7 +20,7 @@ pub record IsLaid (net : Net) (rows : List (List ℕ)) (amounts : List ℤ) (lev
 abbrev pub arcs_left : ℕ → List (List ℕ) → List ℕ → ℕ
 arcs_left nodes rows places = total nodes (λ v. length (row_of rows v) - slice_index places v)
 
--- what is left to do: it falls with each step of the path, forward or back, and with each arc
--- that is passed over
+-- a measure of the remaining work: it decreases with each step of the path, forward or back, and
+-- with each arc that is skipped
 abbrev pub work_left : ℕ → List (List ℕ) → List ℕ → List Visit → ℕ
 work_left nodes rows places path = 2 * arcs_left nodes rows places + (256 - length path)

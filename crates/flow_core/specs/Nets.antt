@@ -4,7 +4,7 @@
 use Rattle.std.specs.Prelude.{◌≡◌, ℕ, ◌≤◌, ◌<◌, ◌^◌, ◌≢◌, Bool, true, false, List, [], ◌∷◌, ◌++◌, ◌&&◌, ◌||◌, not, cond, sum_by, All}
 use Rattle.counting.specs.Common.{Within, Set, mem, IsRisingIn}
 
--- an arc between a and b, to be used in both directions
+-- an arc between a and b, which can be used in both directions
 pub record Arc : Type 0 where
   pub a : ℕ
   pub b : ℕ
@@ -21,11 +21,11 @@ pub record IsArc (k : ℕ) (arc : Arc) : Type 0 where
   pub to_b : Within k arc.b
   pub differ : arc.a ≢ arc.b
 
--- a net in order: the ends of each arc are nodes and differ
+-- a valid net: the ends of each arc are nodes and differ
 abbrev pub IsNet : Net → Type 0
 IsNet net = All (IsArc net.nodes) net.arcs
 
--- the net with one arc more, which comes last
+-- the net with one more arc, which comes last
 abbrev pub with_arc : Net → ℕ → ℕ → ℕ → Net
 with_arc net a b capacity = record net { arcs = net.arcs ++ record { a = a; b = b; capacity = capacity } ∷ [] }
 
@@ -33,7 +33,7 @@ with_arc net a b capacity = record net { arcs = net.arcs ++ record { a = a; b = 
 abbrev pub total_capacity : Net → ℕ
 total_capacity net = sum_by (λ (arc : Arc). arc.capacity) net.arcs
 
--- a net in order and within the limits: at most 128 nodes, and a total capacity below 2^63
+-- a valid net within the limits: at most 128 nodes, and a total capacity below 2^63
 pub record IsBounded (net : Net) : Type 0 where
   pub nodes : net.nodes ≤ 128
   pub arcs : IsNet net
@@ -47,19 +47,19 @@ leaves_set x arc = (x arc.a && not (x arc.b)) || (not (x arc.a) && x arc.b)
 abbrev pub value_of : Net → Set → ℕ
 value_of net x = sum_by (λ (arc : Arc). cond (leaves_set x arc) arc.capacity 0) net.arcs
 
--- x has the source and not the sink
+-- x contains the source but not the sink
 pub record Separates (source sink : ℕ) (x : Set) : Type 0 where
   pub holds : x source ≡ true
   pub lacks : x sink ≡ false
 
--- some set with the source and without the sink has a value of at most `above`
+-- some set with the source but not the sink has a value of at most `above`
 pub record HasCutWithin (net : Net) (source sink above : ℕ) : Type 0 where
   pub set : Set
   pub separates : Separates source sink set
   pub within : value_of net set ≤ above
 
--- the least minimum cut: its value is the least of all sets with the source and without the sink,
--- and it lies inside each other such set of that value
+-- the least minimum cut: its value is minimum among all sets with the source but not the sink, and
+-- it lies inside each other such set of that value
 pub record IsLeastCut (net : Net) (source sink : ℕ) (set : List ℕ) (value : ℕ) : Type 0 where
   pub nodes : IsRisingIn net.nodes set
   pub separates : Separates source sink (mem set)

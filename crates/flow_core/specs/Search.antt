@@ -1,5 +1,4 @@
--- The tree of a search over arcs with room: the visits in the order in which the nodes were
--- reached.
+-- The tree of a search over residual arcs: the visits in the order in which the nodes were reached.
 -- Stated by: flow_core.
 use Rattle.std.specs.Prelude.{◌≡◌, ◌≢◌, ℕ, ◌-◌, ◌≤◌, ◌<◌, ◌^◌, true, false, List, length, slice_index_or, ℤ, pos, ◌≤ℤ◌}
 use Rattle.counting.specs.Common.{Within, count, mem}
@@ -15,7 +14,7 @@ visit_at visits j = slice_index_or visits j (record { node = 0; parent = 0; arc 
 abbrev pub node_at : List Visit → ℕ → ℕ
 node_at visits j = (visit_at visits j).node
 
--- the visit comes from another over an arc with room; its own room can go all the way from the
+-- the visit comes from another over a residual arc; its own amount can be sent all the way from the
 -- first visit
 pub record IsStep (arcs : List Arc) (amounts : List ℤ) (from visit : Visit) : Type 0 where
   pub is_arc : visit.arc < length arcs
@@ -38,7 +37,7 @@ pub record IsTree (net : Net) (amounts : List ℤ) (visits : List Visit) : Type 
   pub nodes : (j : ℕ) → j < length visits → Within net.nodes (node_at visits j)
   pub distinct : (i j : ℕ) → i < j → j < length visits → node_at visits i ≢ node_at visits j
 
--- a search tree at some amounts
+-- a search tree for some amounts
 pub record HasTree (net : Net) (visits : List Visit) : Type 0 where
   pub amounts : List ℤ
   pub tree : IsTree net amounts visits

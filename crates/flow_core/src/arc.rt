@@ -1,8 +1,8 @@
-//! Arcs, and how much more they can take.
+//! Arcs, and their residual capacity.
 ghost use Rattle.std.specs.Prelude.{◌≡◌, ◌≤◌, ◌<◌, ◌^◌, pos, ◌≤ℤ◌, unsigned_abs};
 ghost use Rattle.flow_core.specs.Common.{Joins, room_from, sent_amount, HasEnd};
 
-/// An arc between two nodes, to be used in both directions.
+/// An arc between two nodes, which can be used in both directions.
 #[derive(Clone, Copy)]
 pub struct Arc {
     pub a: u32,
@@ -21,9 +21,8 @@ impl Arc {
         if self.a == from { self.b } else { self.a }
     }
 
-    /// How much more the arc with this amount, which is positive from `a` to `b`, can take out of
-    /// its end `from`. This is at most twice the capacity, so it needs a type wider than that of
-    /// amounts.
+    /// The residual capacity of the arc out of its end `from`, if its amount, positive from `a` to
+    /// `b`, is this. It is at most twice the capacity, so it needs a wider type than amounts.
     pub fn room(self, from: u32, amount: i64) -> u64
         requires within { unsigned_abs amount ≤ self.capacity }
         requires below { self.capacity < 2 ^ 63 }
@@ -37,7 +36,7 @@ impl Arc {
         }
     }
 
-    /// The amount after `more` is sent out of the end `from`. It is within the capacity again.
+    /// The amount after `more` is sent out of the end `from`. It is again within the capacity.
     pub fn sent(self, from: u32, amount: i64, more: u64) -> i64
         requires within { unsigned_abs amount ≤ self.capacity }
         requires room { pos more ≤ℤ room_from from (arc_of self) amount }

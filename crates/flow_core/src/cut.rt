@@ -11,27 +11,27 @@ use crate::search::{SearchOutcome, search};
 use std::alloc::{AllocError as Memory, Global};
 use vset_core::VSet;
 
-/// What `min_cut` answers: a cut within the bound, or a flow above it.
+/// The result of `min_cut`: a cut within the bound, or a flow above it.
 #[derive(Drop)]
 pub enum CutAnswer {
-    /// The least minimum cut: its nodes, the source among them and the sink not, and its value.
+    /// The least minimum cut: its nodes, with the source but not the sink, and its value.
     Cut { set: VSet, value: u64 },
-    /// A flow whose value is above the bound. No set of nodes with the source and without the
-    /// sink has a value below it.
+    /// A flow whose value is above the bound. No set of nodes with the source but not the sink has
+    /// a smaller value.
     Exceeds { flow: Flow },
 }
 
-/// The least minimum cut between source and sink, up to a bound. The sets meant here are those of
-/// nodes that hold the source and not the sink.
+/// The least minimum cut between source and sink, up to a bound. Below, a set means a set of nodes
+/// that contains the source but not the sink.
 ///
-/// The answer is `Cut` exactly when some such set has a value of at most `above`. Its value is
-/// then the least of all, and its set lies inside each other such set of that value. Otherwise
-/// the answer is `Exceeds` with a flow of a value above `above`: by the theorem of Ford and
-/// Fulkerson on flows and cuts this shows that each such set has a value above `above`.
+/// The result is `Cut` if and only if some set has a value of at most `above`. Its value is then
+/// the minimum, and its set lies inside each other set of that value. Otherwise the result is
+/// `Exceeds` with a flow of a value above `above`, which shows that each set has a value above
+/// `above` (Ford and Fulkerson).
 ///
-/// In each round the flow grows along all shortest paths with room (Dinic), so that there are
-/// fewer rounds than nodes, whatever the capacities are; it stops as soon as it passes the bound.
-/// Out of memory is the only error.
+/// In each round the flow grows along all shortest paths with residual capacity (Dinic), so there
+/// are fewer rounds than nodes, whatever the capacities are; it stops as soon as the flow exceeds
+/// the bound. The only error is lack of memory.
 pub fn min_cut(
     alloc: Global,
     net: &Net,
@@ -62,8 +62,8 @@ pub fn min_cut(
     }
 }
 
-// Lets a flow grow until it is above the bound, or until no path has room: the nodes that a search
-// reaches then are answered. After `Memory` the flow is to be given up.
+// Lets a flow grow until it is above the bound, or until no path has residual capacity: the nodes
+// that a search then reaches are returned. After `Memory` the flow is meaningless.
 fn grow_above(
     alloc: Global,
     net: &Net,

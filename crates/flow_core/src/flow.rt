@@ -1,4 +1,4 @@
-//! Flows, and how they grow along a path with room.
+//! Flows, and how they grow along an augmenting path.
 ghost use Rattle.std.specs.Prelude.{◌≡◌, ◌≢◌, ℕ, ◌<◌, IfOk};
 ghost use Rattle.flow_core.specs.Common.{IsBounded, IsFlow, IsTree, first_node, last_node};
 
@@ -8,9 +8,9 @@ use crate::signed_list::{SignedList, zeros};
 use std::alloc::{AllocError as Memory, Global};
 
 /// A flow from a source to a sink of a net: one amount for each arc, in the order of the arcs and
-/// positive from `a` to `b`. No amount exceeds its arc's capacity in either direction, and at
-/// each node but source and sink as much comes in as goes out. Its value is what goes out of the
-/// source less what comes into it.
+/// positive from `a` to `b`. No amount exceeds its arc's capacity in either direction, and at each
+/// node other than source and sink as much flows in as out. Its value is the amount out of the
+/// source less the amount into it.
 #[derive(Drop)]
 pub struct Flow {
     pub on: SignedList,
@@ -18,7 +18,7 @@ pub struct Flow {
 }
 
 impl Flow {
-    /// Nothing on each arc.
+    /// The flow that is 0 on each arc.
     pub(crate) fn zero(alloc: Global, net: &Net) -> Result<Flow, Memory>
         ensures flow { IfOk result
             (λ flow. (source sink : ℕ) → IsFlow net.now source sink flow.on flow.value) }
@@ -30,7 +30,7 @@ impl Flow {
         })
     }
 
-    /// Sends as much as can go from the first visit to the last, over the arcs of the visits
+    /// Sends as much as possible from the first visit to the last, over the arcs of the visits
     /// between them.
     pub(crate) fn augment(&mut self, net: &Net, visits: &[Visit])
         requires bounded { IsBounded net.now }

@@ -1,11 +1,11 @@
-//! The law of flows and cuts, the contract of a function that does nothing.
+//! The theorem on flows and cuts, the contract of a function that does nothing.
 ghost use Rattle.std.specs.Prelude.{ℕ, ◌≤◌, List, ℤ};
 ghost use Rattle.counting.specs.Common.{Within, Set};
 ghost use Rattle.flow_core.specs.Common.{Net, IsNet, Separates, IsLeastCut, value_of, IsFlow, IsReachedSet};
 
-/// Flows and cuts (Ford and Fulkerson, 1956): no flow is more than the value of a set with the
-/// source and without the sink; and where the sink is not reached from the source over arcs with
-/// room, the nodes that are reached are the least minimum cut, whose value is that of the flow.
+/// Flows and cuts (Ford and Fulkerson 1956): no flow has a value above that of a set with the
+/// source but not the sink. If no path of residual arcs leads from the source to the sink, the
+/// nodes that such paths reach are the least minimum cut, whose value is that of the flow.
 pub fn flow_law()
     ensures bound { (net : Net) (source sink : ℕ) (amounts : List ℤ) (value : ℕ) → IsNet net →
         Within net.nodes source → IsFlow net source sink amounts value

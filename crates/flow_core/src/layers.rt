@@ -1,4 +1,4 @@
-//! Many shortest paths after one search: paths that go from each node to one of the next level.
+//! All shortest paths after one search: paths from each node to one of the next level.
 ghost use Rattle.std.specs.Prelude.{◌≡◌, ◌≢◌, ℕ, suc, ◌≤◌, ◌<◌, ◌+◌, ◌-◌, length, IfOk, OnOk, IsTrue, List, ℤ, slice_index, slice_set, take};
 ghost use Rattle.flow_core.specs.Common.{IsBounded, Fits, IsFlow, IsIncidence, first_node, last_node, node_at, IsTree, HasTree, IsLaid, work_left};
 ghost use Rattle.counting.specs.Common.{row_of};
@@ -14,7 +14,7 @@ use std::alloc::{AllocError as Memory, Global};
 const FAR: u8 = u8::MAX;
 
 /// The levels of a search, and a path that goes from level to level. Each node has a place in its
-/// row: the arcs before it lead no further.
+/// row: the arcs before it are dead ends.
 #[derive(Drop)]
 pub struct Layers {
     levels: Vec<u8>,
@@ -22,7 +22,7 @@ pub struct Layers {
     path: Vec<Visit>,
 }
 
-// How far each node is from the first visit, in steps of the search.
+// The distance of each node from the first visit, in steps of the search.
 fn levels_of(alloc: Global, net: &Net, visits: &[Visit]) -> Result<Vec<u8>, Memory>
     requires bounded { IsBounded net.now }
     requires tree { HasTree net.now visits.now }
@@ -39,7 +39,7 @@ fn levels_of(alloc: Global, net: &Net, visits: &[Visit]) -> Result<Vec<u8>, Memo
 }
 
 impl Layers {
-    /// The levels of a search, with a path that is at the first visit alone.
+    /// The levels of a search, with the path that consists of the first visit.
     pub fn new(alloc: Global, net: &Net, visits: &[Visit]) -> Result<Layers, Memory>
         requires bounded { IsBounded net.now }
         requires tree { HasTree net.now visits.now }
@@ -59,8 +59,8 @@ impl Layers {
         })
     }
 
-    /// Takes the path one step back from visit `last`, which is its last one, and passes over the
-    /// arc that it came by.
+    /// Takes the path one step back from visit `last`, which is its last one, and skips the arc by
+    /// which it came.
     fn go_back(&mut self, incidence: &Incidence, last: usize)
         requires last { length self.old.path.items ≡ last + 1 }
         requires some { 0 < last }
@@ -82,9 +82,9 @@ impl Layers {
         self.places[from as usize] = place + 1;
     }
 
-    /// Takes the next arc at the last node of the path: goes on over it where it has room and
-    /// leads to the next level, and passes it over otherwise. Where no arc is left, goes one step
-    /// back; answers false where there is no step to go back.
+    /// Takes the next arc at the last node of the path: follows it if it has residual capacity and
+    /// leads to the next level, and skips it otherwise. If no arc is left, goes one step back;
+    /// returns false if there is no step to go back.
     fn go_on(
         &mut self,
         net: &Net,
@@ -134,8 +134,8 @@ impl Layers {
         Ok(true)
     }
 
-    /// Lets the flow grow along paths from level to level until there is no more, or until it is
-    /// above the bound. After `Memory` the flow is to be given up.
+    /// Lets the flow grow along paths from level to level until there is none left, or until it is
+    /// above the bound. After `Memory` the flow is meaningless.
     pub fn fill(
         &mut self,
         net: &Net,
@@ -168,9 +168,9 @@ impl Layers {
     }
 }
 
-/// Lets the flow grow along the path of a search to its last visit, and then along the other
-/// paths of its levels until there is no more, or until it is above the bound. After `Memory` the
-/// flow is to be given up.
+/// Lets the flow grow along the path of a search to its last visit, and then along the other paths
+/// of its levels until there is none left, or until it is above the bound. After `Memory` the flow
+/// is meaningless.
 pub fn grow(
     alloc: Global,
     net: &Net,

@@ -95,7 +95,7 @@ impl Net {
         self.arcs[i]
     }
 
-    /// The end of arc `i` that is not the node, which is the other one.
+    /// The end of arc `i` that is not the given node, which is its other end.
     pub(crate) fn end_over(&self, node: u32, i: usize) -> u32
         requires bounded { IsBounded self.now }
         requires arc { i < length self.now.arcs }
@@ -107,7 +107,7 @@ impl Net {
         self.arc(i).far_end(node)
     }
 
-    /// How much more arc `i` can take out of the node, its end, over these amounts.
+    /// The residual capacity of arc `i` out of the node, one of its ends, with these amounts.
     pub(crate) fn room_over(&self, amounts: &SignedList, node: u32, i: usize) -> u64
         requires bounded { IsBounded self.now }
         requires fits { Fits self.now.arcs amounts.now }
@@ -117,7 +117,7 @@ impl Net {
         self.arc(i).room(node, amounts.get(i))
     }
 
-    /// The amount on arc `i` after `more` is sent over it out of the node, its end.
+    /// The amount on arc `i` after `more` is sent over it out of the node, one of its ends.
     pub(crate) fn sent_over(&self, amounts: &SignedList, node: u32, i: usize, more: u64) -> i64
         requires bounded { IsBounded self.now }
         requires fits { Fits self.now.arcs amounts.now }

@@ -1,4 +1,4 @@
-//! The search for a shortest path over arcs with room, breadth first.
+//! Breadth-first search for a shortest path over arcs with residual capacity.
 ghost use Rattle.std.specs.Prelude.{◌≡◌, ℕ, ◌+◌, ◌<◌, ◌≢◌, ◌||◌, ◌==◌, [], ◌∷◌, ◌++◌, length, IfOk, OnOk, MatchBool, ℤ, List};
 ghost use Rattle.counting.specs.Common.{Within, mem};
 ghost use Rattle.flow_core.specs.Common.{IsBounded, Fits, IsIncidence, first_node, last_node, IsTree, IsSeen, IsSearch, IsOutcome};
@@ -10,7 +10,7 @@ use std::alloc::{AllocError as Memory, Global};
 use vset_core::{MOST_VERTICES, VSet};
 
 /// A node that the search has reached: from which earlier visit, over which arc, and how much can
-/// go there from the root.
+/// be sent there from the root.
 #[derive(Clone, Copy)]
 pub struct Visit {
     pub node: u32,
@@ -26,8 +26,8 @@ pub struct Reached {
     pub seen: VSet,
 }
 
-/// What a search answers: its visits, of which the last is at the sink, or all nodes that it has
-/// reached, the sink not among them.
+/// The result of a search: its visits, the last of which is at the sink, or all nodes that it has
+/// reached, without the sink.
 #[derive(Drop)]
 pub enum SearchOutcome {
     Path(Vec<Visit>),
@@ -35,7 +35,7 @@ pub enum SearchOutcome {
 }
 
 impl Reached {
-    /// The source alone.
+    /// The search that has reached only the source.
     fn from_source(alloc: Global, net: &Net, source: u32) -> Result<Reached, Memory>
         requires bounded { IsBounded net.now }
         requires source { Within net.now.nodes source }
@@ -71,8 +71,8 @@ impl Reached {
     }
 }
 
-/// Scans the arcs at visit `head`: the far end of each arc with room is visited, if it was not
-/// seen before. Stops at the sink and then answers true.
+/// Scans the arcs at visit `head`: the far end of each arc with residual capacity is visited, if it
+/// is new. Stops at the sink and then returns true.
 fn scan(
     net: &Net,
     incidence: &Incidence,
@@ -117,7 +117,7 @@ fn scan(
     Ok(false)
 }
 
-/// Searches, breadth first, for a path from the source to the sink over arcs with room.
+/// Breadth-first search for a path from the source to the sink over arcs with residual capacity.
 pub fn search(
     alloc: Global,
     net: &Net,

@@ -8,18 +8,18 @@ use graph_facts::Facts;
 use std::alloc::{AllocError as Memory, Global};
 use vset_core::VSet;
 
-/// The Gallai-Edmonds sets: no vertex is in two of them, and each is in one.
+/// The Gallai-Edmonds sets: each vertex is in exactly one of them.
 #[derive(Clone, Copy)]
 pub struct ThreeSets {
     /// The vertices that some maximum matching misses.
     pub d: VSet,
-    /// The vertices outside `d` that are adjacent to one of it.
+    /// The vertices outside `d` that are adjacent to a vertex of `d`.
     pub a: VSet,
     /// The rest.
     pub c: VSet,
 }
 
-/// The Gallai-Edmonds sets of `g`.
+/// The Gallai-Edmonds sets of `g`. The only error is `Memory`.
 pub fn sets(alloc: Global, g: &MultiGraph) -> Result<ThreeSets, Memory>
     ensures d { IfOk result (λ s. Lists g.now.order s.d (InD g.now)) }
     ensures a { IfOk result (λ s. Lists g.now.order s.a (InA g.now)) }
@@ -28,7 +28,7 @@ pub fn sets(alloc: Global, g: &MultiGraph) -> Result<ThreeSets, Memory>
     Ok(sets_of(&Facts::of(alloc, g)?))
 }
 
-/// The sets that `sets` answers, of a graph whose facts are known. Takes no memory.
+/// The sets that `sets` returns, of a graph whose facts are known. Takes no memory.
 pub fn sets_of(facts: &Facts) -> ThreeSets
     ensures d { Lists facts.now.order result.d (InD facts.now) }
     ensures a { Lists facts.now.order result.a (InA facts.now) }

@@ -1,4 +1,5 @@
--- The pairs whose bit is set, in order. Idea: induction on the pairs and their bits together.
+-- The pairs whose bit is set, in order: they are the edges that the loop has collected at its end.
+-- Idea: induction on the pairs and their bits together.
 use Rattle.std.proofs.Common.{◌≡◌, ℕ, Bool, true, false, List, [], ◌∷◌, ◌++◌, length, map, refl, ap, arith, append_assoc, nat_lt, Option, Some, None, ◌⊎◌}
 use Rattle.counting.proofs.Common.{cases_Bool, nat_tests, append-nil, length-append, length-map}
 use Rattle.line_text.specs.declared.faults.FaultKind.{FaultKind}

@@ -44,7 +44,7 @@ pub columns_more : (b : ℕ) (front more : List (ℕ × ℕ)) → 1 ≤ b → fr
 columns_more zero front more h inv e = absurd (omega arith)
 columns_more (suc b) front more h inv e = grind (arith, column_pairs-suc b)
 
--- the loop over a column: one pair more
+-- the loop over a column: one more pair
 pub column_more : (a b : ℕ) (old front more : List (ℕ × ℕ)) → 1 ≤ a → front ≡ old ++ column (a - 1) b → more ≡ front ++ (a, b) ∷ [] → more ≡ old ++ column a b
 column_more a b old front more h inv e = grind (arith, append_assoc)
 

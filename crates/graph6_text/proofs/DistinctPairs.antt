@@ -5,7 +5,7 @@ use Rattle.counting.proofs.Common.{or_from, or_left, both_ways, cases_order, lis
 use Rattle.graph_core.proofs.Common.{Graph, IsSimple, joins}
 use Rattle.graph6_text.specs.Common.{chosen}
 
--- what holds of each pair of the list
+-- what is true of each pair of the list
 abbrev pub Each : (ℕ × ℕ → Type 0) → List (ℕ × ℕ) → Type 0
 Each P [] = Unit {0}
 Each P (p ∷ ps) = P p × Each P ps

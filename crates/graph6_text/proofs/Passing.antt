@@ -1,5 +1,5 @@
--- What the checks of a body tell of it. Idea: where no fault of a list of tests is first, each
--- test fails; and the first fault of two lists of tests is that of the one, or else that of the
+-- What the checks of a body say about it. Idea: where no error of a list of tests is first, each
+-- test fails; and the first error of two lists of tests is that of the one, or else that of the
 -- other.
 use Rattle.counting.proofs.Common.{list_all, list_any}
 use Rattle.std.proofs.Common.{◌≡◌, ℕ, ◌+◌, ◌<◌, ◌≤◌, ◌==◌, Bool, true, false, cond, List, [], ◌∷◌, ◌++◌, length, take, drop, Option, Some, None, Ok, Err, refl, ap, ◌∙◌, arith, nat_lt}
@@ -62,7 +62,7 @@ digits-data body h = grind arith
 pub enough_bits : (body : List ℕ) → IsFormed body → length (column_pairs (order_of body)) ≤ length (bits_of (data_of body))
 enough_bits body h = grind (arith, length-column_pairs (order_of body), length-bits_of (data_of body))
 
--- the first fault of two lists of tests
+-- the first error of two lists of tests
 pub is_first-front : (xs ys : List (Bool × Fault)) (e : TextFault) → Checks (Err e) xs → IsFirstFault (xs ++ ys) e
 is_first-front xs ys (fault.At line kind) h = first_fault-front xs ys (line, kind) h
 is_first-front xs ys fault.Memory h = tt
@@ -71,7 +71,7 @@ pub is_first-behind : (xs ys : List (Bool × Fault)) (e : TextFault) → first_f
 is_first-behind xs ys (fault.At line kind) none h = first_fault-append xs ys none ∙ h
 is_first-behind xs ys fault.Memory none h = tt
 
--- the last two rows of the table, which the bits tell
+-- the last two rows of the table, which depend on the bits
 abbrev pub padding_row : ℕ → List Bool → List (Bool × Fault)
 padding_row from bits = (list_any (λ bit. bit) (drop from bits), (1, Padding)) ∷ []
 
@@ -84,7 +84,7 @@ pub last_rows : (body : List ℕ) (n from : ℕ) (pairs : List (ℕ × ℕ)) (bi
     bits ≡ bits_of (data_of body) → again ≡ bits_of (data_of body) → padding_row from bits ++ limit_row (chosen pairs again) ≡ drop 9 (faults_of body)
 last_rows body n from pairs bits again order columns place turned same = grind (arith, length-column_pairs, list_any, nat_lt, graph-from_bits)
 
--- a text whose body has this first fault, or none
+-- a text whose body has this first error, or none
 pub outcome-fault : (text : List ℕ) (e : TextFault) → IsFirstFault (faults_of (body_of text)) e → IsFault e (outcome_of text)
 unfolding outcome_of
 outcome-fault text (fault.At line kind) h = ap (λ (f : Option Fault). graph_unless f (graph_of (body_of text))) h

@@ -1,6 +1,6 @@
 -- The text of a graph is accepted, with a graph of the same order and the same adjacent pairs.
--- Idea: each of its bytes writes a digit, so that nothing is set aside; the bits that are read
--- are those that were written, with zeros after them.
+-- Idea: each of its bytes writes a digit, so nothing is removed from it; the bits that are read are
+-- those that were written, with zeros after them.
 use Rattle.std.proofs.Common.{◌≡◌, ℕ, ◌+◌, ◌-◌, ◌/◌, ◌%◌, ◌<◌, ◌≤◌, ◌≢◌, ◌==◌, ◌&&◌, Bool, true, false, cond, List, [], ◌∷◌, ◌++◌, length, map, take, drop, None, refl, sym, ap, ap₂, ◌∙◌, arith, leb, ltb, inl, inr, subst, codes, nat_eq, get_or, ne_eqb, le-ltb, drop_at}
 use Rattle.std.proofs.lemmas.Bool.{not_from_true, cond-false}
 use Rattle.counting.proofs.Common.{and_parts, and_from, and_left, or_from, both_ways, cases_lt, cases_order, false_from_ne_true, lt-leb, length-map, list_all, list_any, none}
@@ -50,7 +50,7 @@ no_line_feed (byte ∷ text) h =
     let least = digit_bounds byte p.0 in
     or_from (byte == 10) (list_any (λ byte. byte == 10) text) (ne_eqb byte 10 (omega arith)) (no_line_feed text p.1)
 
--- the size is read as the number that it was written for, and tells no fault
+-- the size is read as the number that it was written for, and has no error
 record Sized (n : ℕ) (rest body : List ℕ) : Type 0 where
   order : order_of body ≡ n
   behind : data_of body ≡ rest
@@ -105,7 +105,7 @@ module _ (g : Graph) (limits : IsWithinLimits g) where
       let make : ℕ → List (ℕ × ℕ) → Graph = λ k es. record { order = k; ends = es } in
       ap₂ make size-text.order (ap₂ chosen (ap column_pairs size-text.order) read_bits.behind ∙ chosen-filled pairs bits read_bits.filling length-bits)
 
-  -- no fault
+  -- no error
   many_pairs : length pairs ≡ pair_count g.order
   many_pairs = length-column_pairs g.order
 

@@ -1,6 +1,6 @@
--- Bits that are written as bytes are read again, with zeros after them; and bytes that are read
--- as bits are written again, where only zeros stand after the bits. Idea: six bits and a digit
--- determine each other, by division; then six by six.
+-- Bits that are written as bytes are read again, with zeros after them; and bytes that are read as
+-- bits are written again, if only zeros follow the bits. Idea: six bits and a digit determine each
+-- other, by division; then six by six.
 use Rattle.std.proofs.Common.{◌≡◌, ℕ, suc, zero, ◌+◌, ◌*◌, ◌/◌, ◌%◌, ◌<◌, ◌==◌, Bool, true, false, cond, List, [], ◌∷◌, ◌++◌, length, take, drop, refl, sym, ap, ap₂, ◌∙◌, arith, leb, leb-true}
 use Rattle.counting.proofs.Common.{and_parts, and_from, or_parts, or_from, le-leb, append-nil, list_all, list_any, bit}
 use Rattle.std.proofs.lemmas.List.{nil_from_length}
@@ -10,14 +10,14 @@ use Rattle.graph6_text.proofs.SixBits.{digit_of_bits-lt, bits_of-nil, bits_of-co
 bit_lt : (b : Bool) → bit b < 2
 bit_lt b = grind arith
 
--- a bit's weight, and a bit that is told by a number below 2
+-- a bit's weight, and a bit given by a number below 2
 weight_is : (b : Bool) (w : ℕ) → cond b w 0 ≡ w * bit b
 weight_is b w = grind arith
 
 test_is : (x w : ℕ) → x < 2 → cond (x == 1) w 0 ≡ w * x
 test_is x w h = grind arith
 
--- the quotients of a digit by the weights tell its bits
+-- the quotients of a digit by the weights are its bits
 places : (n a b c d e f : ℕ) → a < 2 → b < 2 → c < 2 → d < 2 → e < 2 → f < 2 → n ≡ 32 * a + (16 * b + (8 * c + (4 * d + (2 * e + (1 * f + 0))))) →
     ((n / 32) % 2 ≡ a) × ((n / 16) % 2 ≡ b) × ((n / 8) % 2 ≡ c) × ((n / 4) % 2 ≡ d) × ((n / 2) % 2 ≡ e) × ((n / 1) % 2 ≡ f)
 places n a b c d e f ha hb hc hd he hf h = (omega arith, omega arith, omega arith, omega arith, omega arith, omega arith)
@@ -110,7 +110,7 @@ digits-bytes_of (a ∷ b ∷ c ∷ d ∷ []) = digit_first (a ∷ b ∷ c ∷ d 
 digits-bytes_of (a ∷ b ∷ c ∷ d ∷ e ∷ []) = digit_first (a ∷ b ∷ c ∷ d ∷ e ∷ []) [] refl
 digits-bytes_of (a ∷ b ∷ c ∷ d ∷ e ∷ f ∷ bits) = digit_first (a ∷ b ∷ c ∷ d ∷ e ∷ f ∷ []) (bytes_of bits) (digits-bytes_of bits)
 
--- where only zeros stand after the first k bits, these weigh as much as all
+-- if only zeros follow the first k bits, their values have the same sum as all
 weight_of-take : (ws : List ℕ) (bits : List Bool) (k : ℕ) → AreZeros (drop k bits) → weight_of ws (take k bits) ≡ weight_of ws bits
 weight_of-take [] bits k h = refl
 weight_of-take (w ∷ ws) [] zero h = refl

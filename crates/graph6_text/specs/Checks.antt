@@ -1,4 +1,4 @@
--- What the checks of a body answer, each for some rows of the table of faults.
+-- What the checks of a body return, each for some rows of the table of errors.
 -- Stated by: graph6_text.
 use Rattle.std.specs.Prelude.{◌≡◌, ℕ, nat_lt, Bool, List, [], ◌∷◌, length, Some, None, Result, Ok, Err}
 use Rattle.line_text.specs.declared.faults.FaultKind.TheVariants.{Limit}
@@ -6,17 +6,17 @@ use Rattle.line_text.specs.declared.faults.TextFault.{TextFault}
 use Rattle.line_text.specs.declared.faults.TextFault.TheVariants as fault
 use Rattle.graph6_text.specs.Reading.{Fault, first_fault}
 
--- a check of these rows passes, or names the first of their faults
+-- a check of these rows passes, or returns the first of their errors
 abbrev pub Checks : Result (Unit {0}) TextFault → List (Bool × Fault) → Type 0
 Checks (Ok passed) rows = first_fault rows ≡ None
 Checks (Err (fault.At line kind)) rows = first_fault rows ≡ Some (line, kind)
 Checks (Err fault.Memory) rows = ⊥
 
--- the first fault of these rows, or want of memory
+-- the first error of these rows, or lack of memory
 abbrev pub IsFirstFault : List (Bool × Fault) → TextFault → Type 0
 IsFirstFault rows (fault.At line kind) = first_fault rows ≡ Some (line, kind)
 IsFirstFault rows fault.Memory = Unit {0}
 
--- the row of the limit of edges
+-- the row of the limit on edges
 abbrev pub limit_row : List (ℕ × ℕ) → List (Bool × Fault)
 limit_row edges = (nat_lt 2048 (length edges), (1, Limit)) ∷ []

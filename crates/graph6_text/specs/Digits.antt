@@ -12,7 +12,7 @@ base = 64
 abbrev pub zero_byte : ℕ
 zero_byte = 63
 
--- the byte that writes the greatest digit
+-- the byte that writes the largest digit
 abbrev pub last_byte : ℕ
 last_byte = 126
 
@@ -28,7 +28,7 @@ digit_of byte = byte - zero_byte
 abbrev pub is_digit : ℕ → Bool
 is_digit byte = nat_le zero_byte byte && nat_le byte last_byte
 
--- what the six bits of a digit weigh, the most significant first
+-- the values of the six bits of a digit, the most significant first
 abbrev pub weights : List ℕ
 weights = 32 ∷ 16 ∷ 8 ∷ 4 ∷ 2 ∷ 1 ∷ []
 
@@ -36,13 +36,13 @@ weights = 32 ∷ 16 ∷ 8 ∷ 4 ∷ 2 ∷ 1 ∷ []
 abbrev pub bits_of_digit : ℕ → List Bool
 bits_of_digit digit = map (λ weight. (digit / weight) % 2 == 1) weights
 
--- what the set bits weigh together
+-- the sum of the values of the set bits
 abbrev pub weight_of : List ℕ → List Bool → ℕ
 weight_of [] bits = 0
 weight_of (weight ∷ ws) [] = 0
 weight_of (weight ∷ ws) (bit ∷ bits) = (if bit then weight else 0) + weight_of ws bits
 
--- the digit that begins with these bits and goes on with zeros
+-- the digit that begins with these bits, padded with zeros
 abbrev pub digit_of_bits : List Bool → ℕ
 digit_of_bits bits = weight_of weights bits
 
@@ -50,7 +50,7 @@ digit_of_bits bits = weight_of weights bits
 unfoldable pub bits_of : List ℕ → List Bool
 bits_of bytes = flat_map (λ byte. bits_of_digit (digit_of byte)) bytes
 
--- the bytes that write these bits, six in each, the last filled up with zeros
+-- the bytes that write these bits, six in each, the last padded with zeros
 unfoldable pub bytes_of : List Bool → List ℕ
 bytes_of [] = []
 bytes_of (a ∷ b ∷ c ∷ d ∷ e ∷ f ∷ bits) = byte_of (digit_of_bits (a ∷ b ∷ c ∷ d ∷ e ∷ f ∷ [])) ∷ bytes_of bits

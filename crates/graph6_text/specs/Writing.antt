@@ -8,8 +8,8 @@ use Rattle.graph6_text.specs.Digits.{base, byte_of, bytes_of}
 use Rattle.graph6_text.specs.Pairs.{column_pairs}
 use Rattle.graph6_text.specs.Reading.{long_byte, most_short, outcome_of}
 
--- the size: one digit, or from 63 vertices on the byte of the long form and three digits, the most
--- significant first
+-- the size: one digit, or for 63 or more vertices the byte of the long form and three digits, the
+-- most significant first
 unfoldable pub size_of : ℕ → List ℕ
 size_of n =
     if nat_le n most_short then byte_of n ∷ [] else

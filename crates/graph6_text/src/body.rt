@@ -1,4 +1,4 @@
-//! The parts of a graph6 text: header and line end, which are set aside, and then size and data.
+//! The parts of a graph6 text: header and line end, which are removed first, then size and data.
 ghost use Rattle.std.specs.Prelude.{◌≡◌, ◌<◌, ◌≤◌, IsTrue, length};
 ghost use Rattle.std.specs.List.{list_all};
 ghost use Rattle.graph6_text.specs.Common.{is_digit, without_header, without_line_end, body_of, is_long, digit_at, order_of, data_of};
@@ -11,7 +11,7 @@ const HEADER: &[u8] = b">>graph6<<";
 /// The first byte of a size in the long form.
 pub const LONG: u8 = 126;
 
-/// What remains of a text when header and line end are set aside.
+/// The rest of a text after header and line end are removed.
 #[tactic(auto, unfolding(crate::specs::Reading::body_of))]
 pub fn body(text: &[u8]) -> &[u8]
     ensures { result.now ≡ body_of text.now }
@@ -19,14 +19,14 @@ pub fn body(text: &[u8]) -> &[u8]
     without_line_end(without_header(text))
 }
 
-/// A text without the header that it may begin with.
+/// A text without its header, if it has one.
 fn without_header(text: &[u8]) -> &[u8]
     ensures { result.now ≡ without_header text.now }
 {
     text.strip_prefix(HEADER).unwrap_or(text)
 }
 
-/// A text without the line end that it may end with.
+/// A text without its line end, if it has one.
 fn without_line_end(text: &[u8]) -> &[u8]
     ensures { result.now ≡ without_line_end text.now }
 {

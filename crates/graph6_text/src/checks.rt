@@ -1,4 +1,4 @@
-//! The checks of a body, in the order of its faults.
+//! The checks of a body, in the order of its errors.
 ghost use Rattle.std.specs.Prelude.{◌≡◌, ◌≤◌, ◌<◌, IsTrue, length, take, drop};
 ghost use Rattle.std.specs.List.{list_all};
 ghost use Rattle.graph6_text.specs.Common.{is_digit, Checks, is_long, order_of, data_len, pair_count, faults_of};
@@ -8,10 +8,10 @@ use crate::digits::{BITS, is_digit};
 use line_text::{FaultKind, TextFault};
 use vset_core::MOST_VERTICES;
 
-/// The most vertices whose number one digit writes.
+/// The largest number of vertices that one digit writes.
 pub const MOST_SHORT: u32 = 62;
 
-/// A fault of this kind in the one line that a text has.
+/// An error of this kind in the only line of a text.
 pub fn fault(kind: FaultKind) -> TextFault
     ensures { result ≡ TextFault.At 1 kind }
 {
@@ -27,7 +27,7 @@ pub fn check_body(body: &[u8]) -> Result<(), TextFault>
     check_length(body)
 }
 
-/// Something remains, no line feed is in it, and each of its bytes writes a digit.
+/// The body is not empty, has no line feed, and each of its bytes writes a digit.
 fn check_bytes(body: &[u8]) -> Result<(), TextFault>
     ensures { Checks result (take 3 (faults_of body.now)) }
 {
@@ -51,7 +51,7 @@ fn are_digits(body: &[u8]) -> bool
     body.iter().all(|byte| is_digit(*byte))
 }
 
-/// The size is whole, in the form that is due, and within the limit.
+/// The size is complete, in the form that is expected, and within the limit.
 fn check_size(body: &[u8]) -> Result<(), TextFault>
     requires digits { IsTrue (list_all is_digit body.now) }
     requires some { 0 < length body.now }
@@ -66,7 +66,7 @@ fn check_size(body: &[u8]) -> Result<(), TextFault>
     Ok(())
 }
 
-/// A size in the long form has its three digits and is not one for which the short form is due.
+/// A size in the long form has its three digits and is too large for the short form.
 fn check_long(body: &[u8]) -> Result<(), TextFault>
     requires digits { IsTrue (list_all is_digit body.now) }
     requires some { 0 < length body.now }
@@ -85,7 +85,7 @@ fn check_long(body: &[u8]) -> Result<(), TextFault>
     Ok(())
 }
 
-/// The data are as long as the order asks for.
+/// The data have the length that the order requires.
 fn check_length(body: &[u8]) -> Result<(), TextFault>
     requires digits { IsTrue (list_all is_digit body.now) }
     requires some { 0 < length body.now }

@@ -8,7 +8,7 @@ use std::alloc::{AllocError as Memory, Global};
 /// The byte that writes the digit 0.
 pub const ZERO: u8 = 63;
 
-/// The byte that writes the greatest digit.
+/// The byte that writes the largest digit.
 const LAST: u8 = 126;
 
 /// How many bits a digit has.
@@ -17,7 +17,7 @@ pub const BITS: usize = 6;
 /// How many digits there are.
 pub const BASE: u32 = 64;
 
-/// What the bits of a digit weigh, the most significant first.
+/// The values of the bits of a digit, the most significant first.
 const WEIGHTS: [u8; BITS] = [32, 16, 8, 4, 2, 1];
 
 /// Whether a byte writes a digit.
@@ -49,7 +49,7 @@ fn push_bits(bits: &mut Vec<bool>, digit: u8) -> Result<(), Memory>
     Ok(())
 }
 
-/// The bytes that write these bits, six in each, the last filled up with zeros.
+/// The bytes that write these bits, six in each, the last padded with zeros.
 pub fn to_bytes(alloc: Global, bits: &[bool]) -> Result<Vec<u8>, Memory>
     ensures { IfOk result (λ v. v.items ≡ bytes_of bits.now) }
 {
@@ -60,7 +60,7 @@ pub fn to_bytes(alloc: Global, bits: &[bool]) -> Result<Vec<u8>, Memory>
     Ok(bytes)
 }
 
-/// The digit that begins with these bits and goes on with zeros.
+/// The digit that begins with these bits, padded with zeros.
 fn to_digit(bits: &[bool]) -> u8
     requires { length bits.now ≤ BITS }
     ensures value { result ≡ digit_of_bits bits.now }

@@ -14,14 +14,14 @@ use line_text::{FaultKind, TextFault};
 use std::alloc::Global;
 use vset_core::MOST_VERTICES;
 
-/// The graph that a graph6 text stands for. The text may begin with the header `>>graph6<<` and
-/// may end with one line end; it holds one graph. The edges come column by column of the
-/// adjacency matrix. `At` comes exactly when the text stands for no graph, with line and kind of
-/// its first fault, in this order: nothing remains (Missing); a line feed remains (Extra, at line
-/// 2, where every other fault is at line 1); a byte is outside 63 to 126 (Range); a long size is
-/// cut short (Missing) or is of 36 bits (Limit) or of at most 62 vertices (LongForm); more than
+/// The graph that a graph6 text stands for. The text may begin with the header `>>graph6<<` and may
+/// end with one line end; it is a single graph. The edges are in the order of the columns of the
+/// adjacency matrix. `At` comes if and only if the text stands for no graph, with line and kind of
+/// its first error, in this order: the body is empty (Missing); it has a line feed (Extra, at line
+/// 2, while every other error is at line 1); a byte is outside 63 to 126 (Range); a long size is
+/// cut short (Missing), is of 36 bits (Limit) or is at most 62 (LongForm); more than
 /// `MOST_VERTICES` vertices (Limit); the data are too short (Missing) or too long (Extra); a
-/// filling bit is set (Padding); more than `MOST_EDGES` edges (Limit).
+/// padding bit is set (Padding); more than `MOST_EDGES` edges (Limit).
 pub fn read_graph6(alloc: Global, bytes: &[u8]) -> Result<MultiGraph, TextFault>
     ensures value { IfOk result (λ g. outcome_of bytes.now ≡ Ok g) }
     ensures simple { IfOk result IsSimple }
@@ -32,8 +32,8 @@ pub fn read_graph6(alloc: Global, bytes: &[u8]) -> Result<MultiGraph, TextFault>
     to_graph(alloc, body)
 }
 
-/// A text without the header and the line end that it may have. If the text stands for a graph,
-/// this is what `write_graph6` writes of it. Takes no memory.
+/// A text without its header and line end, if it has them. If the text stands for a graph, this is
+/// what `write_graph6` writes for it. Takes no memory.
 #[tactic(auto, using(crate::proofs::Canonical::bare_written))]
 pub fn bare_text(text: &[u8]) -> &[u8]
     ensures { (g : Graph) → outcome_of text.now ≡ Ok g → result.now ≡ graph6_of g }
@@ -41,7 +41,7 @@ pub fn bare_text(text: &[u8]) -> &[u8]
     body(text)
 }
 
-/// The graph of a body whose size and length are checked.
+/// The graph of a body whose size and length have been checked.
 fn to_graph(alloc: Global, body: &[u8]) -> Result<MultiGraph, TextFault>
     requires { first_fault (take 9 (faults_of body.now)) ≡ None }
     ensures graph { IfOk result (λ g. g ≡ graph_of body.now) }
@@ -74,7 +74,7 @@ fn is_any_set(bits: &[bool]) -> bool
     bits.iter().any(|bit| *bit)
 }
 
-/// Adds the pair where its bit is set.
+/// Adds the pair if its bit is set.
 fn add_chosen(graph: &mut MultiGraph, pair: Ends, bit: bool) -> Result<(), TextFault>
     requires { size graph.old ≤ 2048 }
     ensures order { OnOk result (graph.new.order ≡ graph.old.order) }

@@ -10,9 +10,9 @@ use crate::pairs::to_pairs;
 use graph_core::MultiGraph;
 use std::alloc::{AllocError as Memory, Global};
 
-/// The graph6 text of a simple graph, without header and line end. Reading it gives a simple
-/// graph of the same order with the same adjacent pairs. Takes memory for the text and for one
-/// bit a pair of vertices.
+/// The graph6 text of a simple graph, without header and line end. Reading it gives a simple graph
+/// of the same order with the same adjacent pairs. Takes memory for the text and for one bit per
+/// pair of vertices.
 pub fn write_graph6(alloc: Global, g: &MultiGraph) -> Result<Vec<u8>, Memory>
     requires { IsSimple g.now }
     ensures text { IfOk result (λ text. text.items ≡ graph6_of g.now) }

@@ -7,7 +7,7 @@ use Rattle.graph_core.proofs.Carrying.{carried_set, cut_carried, image, perfect_
 use Rattle.graph_core.proofs.Walks.{adjacent-edge, adjacent_from, adjacent_within, has_ends-cases, has_ends-own}
 use Rattle.graph_core.specs.Common.{IsCovered, Graph, IsGraph, first_end, has_ends, second_end, size, HasEnds, Allowed, CutIsTight, Joined, Walk, adjacent}
 
--- h has an edge between two vertices exactly when g has one between those that move takes there
+-- h has an edge between two vertices if and only if g has one between those that move takes there
 pub record Alike (g h : Graph) (move : ℕ → ℕ) : Type 0 where
   pub order : h.order ≡ g.order
   pub within : (v : ℕ) → Within g.order v → Within h.order (move v)

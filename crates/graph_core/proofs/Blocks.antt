@@ -5,7 +5,7 @@ use Rattle.std.proofs.Common.{◌≡◌, ℕ, suc, ◌+◌, ◌-◌, ◌≢◌, 
 use Rattle.counting.proofs.Common.{cases_Bool, both_ways, true≢false, or_cases, and_from, and_left, get_or-map, length-map, bit_true, only_one, some_term, Within, bit, all_in, mem, Set, union}
 use Rattle.graph_core.specs.Common.{Graph, IsGraph, first_end, second_end, size, AreBlocks, IsMerge, block, contracted, place, IsUnion, blocks_in, Merges}
 
--- the block at the place of v holds v, where some block does
+-- the block at the place of v contains v, if some block does
 place_holds : (p : List (List ℕ)) (v i : ℕ) → Within (length p) i → mem (block p i) v ≡ true → Within (length p) (place p v) × (mem (block p (place p v)) v ≡ true)
 place_holds [] v i w h = absurd (omega arith)
 place_holds (b ∷ p) v i w h = go (place_holds p v (i - 1)) (mem b v) refl

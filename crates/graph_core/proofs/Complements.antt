@@ -1,10 +1,10 @@
--- The numbers of 1 to n outside a list, as a list: it rises, it has a number exactly when the
--- list has not, and where the list is a union of blocks so is it.
+-- The numbers of 1 to n outside a list, as a list: it is increasing, it has a number if and only if
+-- the list has not, and where the list is a union of blocks so is it.
 use Rattle.std.proofs.Common.{◌≡◌, ℕ, zero, suc, List, not, refl, ap₂, subst, sym, ◌++◌, arith}
 use Rattle.counting.proofs.Common.{Within, complement, mem, rising_list, IsRisingIn, rising_list-rises, mem-rising_list}
 use Rattle.graph_core.specs.Common.{complement_of, IsUnion}
 
--- it is the rising list of the other numbers
+-- it is the increasing list of the other numbers
 pub complement_of-rising_list : (n : ℕ) (x : List ℕ) → complement_of n x ≡ rising_list n (complement (mem x))
 complement_of-rising_list zero x = refl
 complement_of-rising_list (suc n) x = ap₂ (λ (xs ys : List ℕ). xs ++ ys) (complement_of-rising_list n x) (grind arith)

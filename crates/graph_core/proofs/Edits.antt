@@ -121,6 +121,6 @@ add_edge g r m e x y mm w d rx ry ends mx my = (record { once = once; away = awa
         let a = bit_other x v (λ p. both_ways (r v) (ap r (sym p) ∙ rx) o) in
         let b = bit_other y v (λ p. both_ways (r v) (ap r (sym p) ∙ ry) o) in omega arith
 
--- an edge of g without r
+-- an edge of g - r
 pub edge_of : (g : Graph) (r : Set) (x y : ℕ) → adjacent g r x y ≡ true → (e : ℕ) × Within (size g) e × (r x ≡ false) × (r y ≡ false) × (((first_end g e ≡ x) × (second_end g e ≡ y)) ⊎ ((first_end g e ≡ y) × (second_end g e ≡ x)))
 edge_of g r x y h = let p = adjacent-edge g r x y h in (p.2.0, p.2.1, p.0, p.1, has_ends-cases g x y p.2.0 p.2.2)

@@ -14,7 +14,7 @@ rising_list-nothing : (n : ℕ) (x : Set) → ((v : ℕ) → Within n v → x v 
 rising_list-nothing zero x h = refl
 rising_list-nothing (suc n) x h = ap₂ ◌++◌ (rising_list-nothing n x (λ v w. h v (omega arith))) (ap (λ b. cond b (suc n ∷ []) []) (h (suc n) (omega arith)))
 
--- the first of a rising list is the least that passes
+-- the first of an increasing list is the least that passes
 rising_list-first : (n : ℕ) (x y : Set) (u : ℕ) → Within n u → x u ≡ true → ((v : ℕ) → v < u → x v ≡ false) → ((v : ℕ) → Within n v → y v ≡ (x v && not (u == v))) → rising_list n x ≡ u ∷ rising_list n y
 rising_list-first zero x y u w t low h = absurd (omega arith)
 rising_list-first (suc n) x y u w t low h = elim (cases_eq u (suc n)) [
@@ -132,6 +132,6 @@ module _ (g : Graph) (s : Set) (is : IsGraph g) where
           keep : (a b l : Bool) → (b ≡ true → a ≡ true) → (l ≡ true → (a && not b) ≡ false) → (b && l) ≡ ((a && l) && true)
           keep a b l f h = grind arith
 
-  -- with nothing left, the list is that of the components, and the tree stands in g without s
+  -- with nothing left, the list is that of the components, and the trees are search trees of g - s
   pub stage_end : (left : Set) (parts : List (List ℕ)) (parent depth : ℕ → ℕ) → IsStage g s left parts parent depth → ((v : ℕ) → left v ≡ false) → (parts ≡ components g s) × IsForest g s (is_least g s) parent depth
   stage_end left parts parent depth old none_left = grind (arith, append-nil parts, rising_list-nothing g.order (meet left (is_least g s)), hangs_more g (union s left) s parent depth, or_fails_first)

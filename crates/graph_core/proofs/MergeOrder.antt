@@ -1,5 +1,5 @@
--- Merging keeps the names of blocks in rising order.
--- Each name is below all later ones, and the new name is none of the kept ones.
+-- Merging keeps the names of blocks in increasing order. Each name is below all later ones, and the
+-- new name is none of the kept ones.
 use Rattle.std.proofs.Common.{◌≡◌, ℕ, suc, zero, ◌+◌, ◌-◌, ◌≤◌, ◌<◌, Bool, true, false, not, cond, List, [], ◌∷◌, length, refl, sym, ap, ◌∙◌, arith, ◌⊎◌, inl, inr, subst, filter, nat_lt, All, slice_index, slice_index_or}
 use Rattle.std.specs.List.Sorted.{IsStrictlyIncreasing}
 use Rattle.counting.proofs.Common.{both_ways, cases_lt, nat_tests, Within, last_of, mem}
@@ -7,7 +7,7 @@ use Rattle.graph_core.proofs.Merging.{Has, block_of, filter_has, has_block, inse
 use Rattle.graph_core.proofs.SameBlocks.{Ordered, rising_ordered}
 use Rattle.graph_core.specs.Common.{IsPartition, insert_block, merged, names_of, IsUnion}
 
--- an ordered list has rising names
+-- an ordered list has increasing names
 ordered_rising : (p : List (List ℕ)) → Ordered p → IsStrictlyIncreasing (names_of p)
 ordered_rising [] o k l = absurd (omega arith)
 ordered_rising (b ∷ []) o k l = absurd (omega arith)
@@ -35,7 +35,7 @@ ordered_insert b (c ∷ p) o d = go (nat_lt (last_of b) (last_of c)) refl (order
     go : (t : Bool) → nat_lt (last_of b) (last_of c) ≡ t → Ordered (insert_block b p) → Ordered (cond t (b ∷ c ∷ p) (c ∷ insert_block b p))
     go m t ih = grind (arith, lower, insert_has, upper, cases_lt)
 
--- the names of a merged list rise
+-- the names of a merged list are increasing
 pub merged_order : (p : List (List ℕ)) (x : List ℕ) (v : ℕ) → mem x v ≡ true → IsStrictlyIncreasing (names_of p) → IsStrictlyIncreasing (names_of (merged p x))
 merged_order p x v m h = grind (arith, ordered_rising (merged p x), ordered_insert x, ordered_filter, rising_ordered p h, new_name, filter_test)
   where
@@ -57,7 +57,7 @@ item_has [] k d l = absurd (omega arith)
 item_has (b ∷ p) zero d l = inl refl
 item_has (b ∷ p) (suc k) d l = inr (item_has p k d (omega arith))
 
--- a block list stays one when a rising nonempty union of its blocks is merged
+-- a block list stays one when an increasing nonempty union of its blocks is merged
 pub merged_blocks : (n : ℕ) (p : List (List ℕ)) (x : List ℕ) → IsPartition n p → IsUnion n p (mem x) → IsStrictlyIncreasing x → ((v : ℕ) × Within n v × (mem x v ≡ true)) → ((v : ℕ) → mem x v ≡ true → Within n v) → IsPartition n (merged p x)
 merged_blocks n p x is union rising some low = record {
   partition = merged_partition n p x is.partition union some low;

@@ -67,7 +67,7 @@ filter_has t c (d ∷ p) h = go (filter_has t c p) (t d) h
     go : (Has (filter t p) c → Has p c) → (b : Bool) → Has (cond b (d ∷ filter t p) (filter t p)) c → Has (d ∷ p) c
     go ih b h = grind arith
 
--- each block that holds v goes with v
+-- each block that contains v goes with v
 held_filter : (x : List ℕ) (p : List (List ℕ)) (v : ℕ) → ((b : List ℕ) → Has p b → mem b v ≡ true → mem x (last_of b) ≡ mem x v) →
     held (filter (λ b. not (mem x (last_of b))) p) v ≡ bit (not (mem x v)) * held p v
 held_filter x [] v h = omega arith
@@ -122,7 +122,7 @@ module _ (n : ℕ) (p : List (List ℕ)) (x : List ℕ) (is : AreBlocks n p) (un
   pub merged_partition : AreBlocks n (merged p x)
   merged_partition = grind (arith, count_held (merged p x), held_merged, block_within, block_of, block_has (merged p x), block_full)
 
-  -- two vertices outside x that stand in one new block stood in one block, and back
+  -- two vertices outside x are in one new block if and only if they were in one block
   apart_down : (u v : ℕ) → Within n u → Within n v → mem x u ≡ false → place (merged p x) u ≡ place (merged p x) v → place p u ≡ place p v
   apart_down u v wu wv nu e =
       let a = place_in n (merged p x) merged_partition u wu in

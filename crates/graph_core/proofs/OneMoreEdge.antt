@@ -1,7 +1,6 @@
--- A graph with one edge more: its ends, that it keeps the limits of size where there is room, and
+-- A graph with one more edge: its ends, that it keeps the limits of size where there is room, and
 -- that its rows are the old rows with each end of the new edge in the row of the other. Idea: the
--- new edge is the last item of the list of ends, and "some edge joins v and w" is "some item
--- does".
+-- new edge is the last item of the list of ends, and "some edge joins v and w" is "some item does".
 use Rattle.std.proofs.Common.{◌≡◌, ◌≢◌, ℕ, ◌+◌, ◌-◌, ◌<◌, ◌∷◌, [], List, length, Bool, false, ◌==◌, ◌&&◌, ◌||◌, arith}
 use Rattle.counting.proofs.Common.{cases_eq, get_or_append_left, length-append, list_any-append, Within, item, mem, none}
 use Rattle.std.proofs.lemmas.List.{get_or_push}
@@ -11,8 +10,8 @@ use Rattle.graph_core.proofs.EndLists.{adjacent-ends, joins}
 size-with_edge : (g : Graph) (a b : ℕ) → size (with_edge g a b) ≡ size g + 1
 size-with_edge g a b = length-append g.ends ((a, b) ∷ [])
 
--- what holds of the ends of each edge, and of the new ends, holds of the ends of each edge of the
--- larger graph
+-- what is true of the ends of each edge, and of the new ends, is true of the ends of each edge of
+-- the larger graph
 each_end : (P : ℕ → ℕ → Type 0) (g : Graph) (a b : ℕ) → P a b → ((e : ℕ) → Within (size g) e → P (first_end g e) (second_end g e)) →
     (e : ℕ) → Within (size (with_edge g a b)) e → P (first_end (with_edge g a b) e) (second_end (with_edge g a b) e)
 each_end P g a b new old e w = grind (arith, cases_eq (e - 1) (size g), get_or_push g.ends (a, b) (0, 0) (e - 1), size-with_edge g a b, get_or_append_left g.ends ((a, b) ∷ []) (0, 0) (e - 1))

@@ -1,5 +1,6 @@
--- The vertices of a set are the edges of a perfect matching in its cut and twice those inside;
--- two cuts against their meet and union. Degrees are summed vertex by vertex and edge by edge.
+-- |X| is the number of edges of a perfect matching in ∂(X) plus twice the number of those inside X;
+-- two cuts compared with those of X ∩ Y and X ∪ Y. Degrees are summed vertex by vertex and edge by
+-- edge.
 use Rattle.std.proofs.Common.{◌≡◌, ℕ, ◌+◌, ◌*◌, Bool, ◌==◌, refl, sym, ap, mul-add, ap₂, ◌∙◌, arith, ◌&&◌, ◌||◌, not}
 use Rattle.counting.proofs.Common.{bit-and, count_of_one, total_add, total_congr, total_mul, total_swap, Within, bit, count, total, Set, meet, minus, none, union}
 use Rattle.graph_core.specs.Common.{Graph, IsGraph, connects, degree, first_end, in_cut, inside, second_end, size, IsPerfect}
@@ -27,7 +28,7 @@ module _ (g : Graph) (is : IsGraph g) (m : Set) where
       ∙ total_add (size g) (λ e. bit (m e && in_cut g x e)) (λ e. 2 * bit (m e && inside g x e))
       ∙ ap (λ k. count (size g) (λ e. m e && in_cut g x e) + k) (total_mul (size g) 2 (λ e. bit (m e && inside g x e)))
 
-  -- a perfect matching of G: the vertices of x are the edges in its cut and twice those inside
+  -- a perfect matching of G: |x| is |m ∩ ∂(x)| plus twice the number of edges of m inside x
   pub parity : (x : Set) → IsPerfect g none m → count g.order x ≡ count (size g) (λ e. m e && in_cut g x e) + 2 * count (size g) (λ e. m e && inside g x e)
   parity x perfect = total_congr g.order _ _ (λ v w. omega (arith, ap (λ k. bit (x v) * k) (perfect.once v w refl))) ∙ degrees x
 

@@ -9,7 +9,7 @@ pub quotient-order : (g : Graph) (p : List (List ℕ)) → (quotient g p).order 
 unfolding quotient
 quotient-order g p = refl
 
--- each edge of the quotient joins two adjacent places in rising order
+-- each edge of the quotient joins two adjacent places in increasing order
 pub quotient_edge : (g : Graph) (p : List (List ℕ)) (e : ℕ) → Within (size (quotient g p)) e →
     Within (length p) (first_end (quotient g p) e) × Within (length p) (second_end (quotient g p) e) × (first_end (quotient g p) e < second_end (quotient g p) e) × (blocks_adjacent g p (first_end (quotient g p) e) (second_end (quotient g p) e) ≡ true)
 unfolding quotient
@@ -19,7 +19,7 @@ quotient_edge g p e w =
     let q = rising_only (length p) everything _ r.0 in
     (q.0, r.1, grind (arith, nat_tests, h), h.1)
 
--- and each two adjacent places have an edge
+-- and any two adjacent places have an edge
 pub edge_of_pair : (g : Graph) (p : List (List ℕ)) (i j : ℕ) → Within (length p) i → Within (length p) j → i < j → blocks_adjacent g p i j ≡ true → (e : ℕ) × Within (size (quotient g p)) e × (first_end (quotient g p) e ≡ i) × (second_end (quotient g p) e ≡ j)
 unfolding quotient
 edge_of_pair g p i j wi wj l h =

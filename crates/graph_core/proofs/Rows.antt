@@ -1,5 +1,5 @@
--- What a row of the adjacency matrix, met with the set of the vertices that are left, tells of
--- the neighbours that are left.
+-- The intersection of a row of the adjacency matrix with the set of vertices that are left is the
+-- set of neighbours that are left.
 use Rattle.std.proofs.Common.{◌≡◌, ℕ, ◌-◌, true, false, ◌&&◌, sym, ◌∙◌, arith, List, [], length, get_or}
 use Rattle.counting.proofs.Common.{and_parts, both_ways, false_from_ne_true, and_from, get_or_read, Within, mem, none}
 use Rattle.graph_core.specs.Common.{Graph, AreRows, adjacent}

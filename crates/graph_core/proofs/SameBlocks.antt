@@ -1,5 +1,5 @@
 -- A partition is fixed by its relation "in the same block": two partitions with the same relation
--- are equal as lists. They have the same blocks, and names that rise leave one order.
+-- are equal as lists. They have the same blocks, and increasing names allow only one order.
 use Rattle.std.proofs.Common.{List, [], ap, ap₂, arith, inl, inr, refl, subst, suc, sym, true, ℕ, ◌+◌, ◌<◌, ◌∙◌, ◌∷◌, ◌≡◌, slice_index, slice_index_or}
 use Rattle.counting.proofs.Common.{same_tests, mem-item, same_rising_list, Within, IsRisingIn, last_of, mem}
 use Rattle.std.specs.List.Sorted.{IsStrictlyIncreasing}
@@ -12,11 +12,11 @@ abbrev pub Ordered : List (List ℕ) → Type 0
 Ordered [] = Unit {0}
 Ordered (b ∷ p) = ((c : List ℕ) → Has p c → last_of b < last_of c) × Ordered p
 
--- the names without the first rise too
+-- the names without the first are increasing too
 rising_rest : (b : List ℕ) (p : List (List ℕ)) → IsStrictlyIncreasing (names_of (b ∷ p)) → IsStrictlyIncreasing (names_of p)
 rising_rest b p h k l = let e : suc k + 1 ≡ suc (k + 1) = omega arith in subst (λ j. slice_index (names_of p) k < slice_index (names_of (b ∷ p)) j) e (h (suc k) (omega arith))
 
--- names that rise step by step are below all later ones
+-- if each name is below the next, it is below all later ones
 pub rising_ordered : (p : List (List ℕ)) → IsStrictlyIncreasing (names_of p) → Ordered p
 rising_ordered [] h = tt
 rising_ordered (b ∷ p) h = (below p h (rising_ordered p (rising_rest b p h)), rising_ordered p (rising_rest b p h))
@@ -41,7 +41,7 @@ ordered_same (b ∷ p) (c ∷ q) o r f k = ap₂ ◌∷◌ head (ordered_same p 
       | inr h ↦ elim (k c (inl refl)) [ inl e ↦ e | inr j ↦ let a = r.0 b h in let s = o.0 c j in absurd (omega arith) ]
     ]
 
--- a block is a rising list within 1 to n
+-- a block is an increasing list within 1 to n
 pub block_rises : (n : ℕ) (p : List (List ℕ)) (c : List ℕ) → IsPartition n p → Has p c → IsRisingIn n c
 block_rises n p c is h = grind (arith, has_block p c h, slice_index_or c, mem-item c)
 

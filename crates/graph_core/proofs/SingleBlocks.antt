@@ -25,7 +25,7 @@ pub contracted-singles : (g : Graph) → IsGraph g → contracted g (singles g.o
 unfolding contracted
 contracted-singles g is = ap₂ (λ (n : ℕ) (ends : List (ℕ × ℕ)). record { order = n; ends = ends }) (length-singles g.order) (same-pairs g.order g.ends is)
 
--- every set is a union of single vertices, and holds those that it has
+-- every set is a union of single vertices, and contains its members
 pub union-singles : (n : ℕ) (x : Set) → IsUnion n (singles n) x
 union-singles n x u v wu wv e = ap x (sym (own-place n u wu) ∙ e ∙ own-place n v wv)
 

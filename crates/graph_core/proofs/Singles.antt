@@ -6,7 +6,7 @@ use Rattle.std.proofs.lemmas.List.{get_or_default}
 use Rattle.std.specs.List.Sorted.{IsStrictlyIncreasing}
 use Rattle.graph_core.specs.Common.{IsPartition, block, names_of, place, singles}
 
--- single vertices stand at their own places
+-- single vertices have their own numbers as places
 place_early : (p q : List (List ℕ)) (v : ℕ) → place p v ≤ length p → place (p ++ q) v ≡ place p v
 place_early [] q v h = absurd (omega arith)
 place_early (b ∷ p) q v h = go (place_early p q v) (mem b v) h

@@ -22,7 +22,7 @@ joined_more g s t h u v j = (j.0, Walk_more (adjacent g s) (adjacent g t) (adjac
 pub hangs_more : (g : Graph) (s t : Set) (parent depth : ℕ → ℕ) (v : ℕ) → ((w : ℕ) → s w ≡ false → t w ≡ false) → Hangs g s parent depth v → Hangs g t parent depth v
 hangs_more g s t parent depth v h k = record { joins = adjacent_more g s t h (parent v) v k.joins; deeper = k.deeper }
 
--- where a vertex stands that is k deep
+-- the place of a vertex of depth k
 pub record StandsAt (g : Graph) (s roots : Set) (parent depth : ℕ → ℕ) (k v : ℕ) : Type 0 where
   pub within : Within g.order v
   pub outside : s v ≡ false

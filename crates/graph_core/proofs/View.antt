@@ -1,4 +1,4 @@
--- The code's list of edges and the graph that it stands for: edge e of the graph is item e - 1 of
+-- The code's list of edges and the graph that it represents: edge e of the graph is item e - 1 of
 -- the list, so that "some edge" of the graph is "some item" of the list.
 use Rattle.std.proofs.Common.{◌≡◌, ℕ, ◌+◌, ◌≤◌, ◌<◌, ◌||◌, refl, sym, ap, ap₂, ◌∙◌, arith, suc, zero, List, length, get_or, take, take_all, le_refl, subst, eq-eqb, true}
 use Rattle.counting.proofs.Common.{list_any, get_or-map, length-map, Within, none, some}
@@ -46,7 +46,7 @@ contained_edge n es edge is c =
     let h : has_ends (graph_of n es) edge.a edge.b (suc c.0) ≡ true = has_ends-graph_of n es edge.a edge.b c.0 edge c.1 ∙ ap (are_ends edge.a edge.b) c.2 ∙ rw (eq-eqb edge.a edge.a refl, eq-eqb edge.b edge.b refl) refl in
     (wa, wb, adjacent_from (graph_of n es) none edge.a edge.b (suc c.0) refl refl (let s = size-graph_of n es in let l = c.1 in omega arith) h)
 
--- what holds of the ends of each item holds of the ends of each edge
+-- what is true of the ends of each item is true of the ends of each edge
 pub each-edge : (P : ℕ → ℕ → Type 0) (n : ℕ) (es : List Ends) → All (λ (e : Ends). P e.a e.b) es → (e : ℕ) → Within (size (graph_of n es)) e → P (first_end (graph_of n es) e) (second_end (graph_of n es) e)
 each-edge P n es h zero w = absurd (omega arith)
 each-edge P n es h (suc i) w =

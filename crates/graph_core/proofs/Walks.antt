@@ -113,7 +113,7 @@ pub joined_or_not : (g : Graph) (s : Set) → IsGraph g → (u v : ℕ) → With
 unfolding Joined
 joined_or_not g s is u v w = grind (arith, walk_or_not g.order (adjacent g s) (adjacent_within g s is) u v w, adjacent_within g s is)
 
--- two vertices are not joined where a set parts them that no edge leaves
+-- two vertices are not joined if a set that no edge leaves separates them
 pub parted : (g : Graph) (u v : ℕ) → IsGraph g → Within g.order u → Within g.order v → (Joined g none u v → ⊥) ↔ ((x : Set) × (x u ≡ true) × (x v ≡ false) × ((e : ℕ) → Within (size g) e → in_cut g x e ≡ false))
 unfolding Joined IsClosed
 parted g u v is wu wv = (there, back)

@@ -1,6 +1,5 @@
--- Weak duality: a matching misses at least as many vertices as there are odd components more than
--- the removed set has vertices. Each odd component has a vertex that is missed or is matched into
--- the set.
+-- Weak duality: a matching of G - R misses at least o(G - R - S) - |S| vertices. Each odd component
+-- has a vertex that is missed or is matched into the set.
 use Rattle.std.proofs.Common.{◌≡◌, ℕ, ◌+◌, ◌*◌, ◌≤◌, Bool, true, false, ◌==◌, refl, sym, ap, ◌∙◌, arith, ◌&&◌, ◌||◌, not, inl, inr, [], ◌∷◌, nat_lt, le_trans, le_of_eq, mul-add, mul-le-mul_left}
 use Rattle.counting.proofs.Common.{cases_Bool, and_parts, both_ways, nat_tests, bit-and, some_le_count, odd-double, some_none, some_true, at_le_total, total_add, total_congr, total_le, total_mul, total_none, total_swap, and_fails_second, and_true, Within, bit, count, is_odd, total, Set, union, some}
 use Rattle.graph_core.proofs.Components.{joined_outside, joined_walk, one_leader, walk_joined}
@@ -129,8 +128,7 @@ berge_raw g s m is mm =
         ∙ total_swap g.order g.order (λ u v. bit (is_least g s u) * (bit (joined g s u v) * bit (loose g s m v)))
         ∙ total_congr g.order _ _ (λ v w. total_congr g.order _ _ (λ u x. omega (arith, ap (λ k. bit (loose g s m v) * k) (bit-and (is_least g s u) (joined g s u v)))) ∙ total_mul g.order (bit (loose g s m v)) (λ u. bit (is_least g s u && joined g s u v)))
 
--- a matching of g without r misses at least as many vertices as there are odd components more
--- than s has vertices
+-- a matching of g - r misses at least o(s) - |s| vertices
 pub berge_bound : (g : Graph) (r s m : Set) → IsGraph g → IsMatching g r m → odd_component_count g (union r s) ≤ missed_count g r m + count g.order s
 unfolding missed_count
 berge_bound g r s m is mm =

@@ -7,11 +7,11 @@ use Rattle.graph_core.specs.Graph.{Graph}
 use Rattle.graph_core.specs.Matchings.{IsMatching, missed_count}
 use Rattle.graph_core.specs.Components.{odd_component_count}
 
--- m misses exactly o(S) - |S| vertices of g without r, written as a sum, since the difference may
--- not be below 0
+-- m misses exactly o(s) - |s| vertices of g - r, where o(s) counts the odd components of g - r - s;
+-- written as a sum because numbers are not negative
 abbrev pub Attains : Graph → Set → Set → Set → Type 0
 Attains g r s m = missed_count g r m + count g.order s ≡ odd_component_count g (union r s)
 
--- s is a Berge set of g without r: some matching misses exactly o(S) - |S| vertices
+-- s is a Berge set of g - r: some matching misses exactly o(s) - |s| vertices
 abbrev pub IsBergeSet : Graph → Set → Set → Type 0
 IsBergeSet g r s = (m : Set) × IsMatching g r m × Attains g r s m

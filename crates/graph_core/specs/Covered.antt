@@ -10,8 +10,8 @@ use Rattle.graph_core.specs.Walks.{Joined}
 use Rattle.graph_core.specs.Components.{IsConnected}
 use Rattle.graph_core.specs.BergeSets.{IsBergeSet}
 
--- matching covered: at least two vertices, connected, and each edge lies in a perfect matching.
--- Of a contracted graph it is said of the edges that are not loops; a multigraph has no others.
+-- matching covered: at least two vertices, connected, and each edge that is not a loop lies in a
+-- perfect matching. Only a contraction has loops; a multigraph has none.
 pub record IsCovered (g : Graph) : Type 0 where
   pub two : 2 ≤ g.order
   pub connected : IsConnected g
@@ -24,9 +24,9 @@ pub data Reason : Type 0 where
   Unmatched : (berge : List ℕ) → Reason
   Unallowed : (edge : ℕ) → Reason
 
--- the reason is the first that applies, in this order: fewer than two vertices; not connected, b
--- being the least vertex outside the component of 1; no perfect matching, with any Berge set; the
--- least edge that is in no perfect matching
+-- the reason is the first that applies, in this order: fewer than two vertices; not connected,
+-- where b is the least vertex outside the component of 1; no perfect matching, with any Berge set;
+-- the least edge that is in no perfect matching
 abbrev pub IsReason : Graph → Reason → Type 0
 IsReason g Small = g.order < 2
 IsReason g (Parted a b) = (2 ≤ g.order) × (a ≡ 1) × IsLeastWithout g.order (Joined g none 1) b

@@ -1,5 +1,5 @@
--- How a search goes through a graph G without a vertex set: the states between its steps. Only
--- contracts of the search cite them; what it answers is said by Components and Sides.
+-- How a search goes through G - S: the states between its steps. Only contracts of the search cite
+-- them; its result is defined in Components and Sides.
 -- Stated by: graph_core.
 use Rattle.std.specs.Prelude.{◌≡◌, ℕ, ◌+◌, ◌≤◌, true, false, ◌&&◌, not, List, ◌++◌, map}
 use Rattle.counting.specs.Common.{Within, count, rising_list, Set, complement, meet, minus, singleton, union}
@@ -8,7 +8,7 @@ use Rattle.graph_core.specs.Graph.{Graph}
 use Rattle.graph_core.specs.Trees.{IsForest}
 use Rattle.graph_core.specs.Walks.{adjacent, joined}
 
--- a tree grows from r in the set x: `left` is what is left of x, the rest is found and stands in
+-- a tree grows from r in the set x: `left` is what is left of x, the rest has been found and is in
 -- the tree, and a found vertex with a neighbour left is still open
 pub record IsGrowth (g : Graph) (x : Set) (r : ℕ) (left open_set : Set) (parent depth : ℕ → ℕ) : Type 0 where
   pub smaller : (v : ℕ) → left v ≡ true → x v ≡ true
@@ -18,15 +18,14 @@ pub record IsGrowth (g : Graph) (x : Set) (r : ℕ) (left open_set : Set) (paren
   pub done : (v w : ℕ) → x v ≡ true → left v ≡ false → open_set v ≡ false → adjacent g (complement x) v w ≡ true → left w ≡ false
   pub shallow : (v : ℕ) → Within g.order v → x v ≡ true → left v ≡ false → depth v + count g.order left ≤ g.order
 
--- the component of r in the set x is found: `left` is x without it, and a tree with the root r
--- stands on it
+-- the component of r in the set x has been found: `left` is x without it, and it has a search tree
+-- with the root r
 pub record IsGrown (g : Graph) (x : Set) (r : ℕ) (left : Set) (parent depth : ℕ → ℕ) : Type 0 where
   pub smaller : (v : ℕ) → left v ≡ true → x v ≡ true
   pub taken : (v : ℕ) → Within g.order v → (x v && not (left v)) ≡ joined g (complement x) r v
   pub tree : IsForest g (complement (minus x left)) (singleton r) parent depth
 
--- the components found so far are the first ones of g without s; `left` holds the vertices of the
--- others
+-- the components found so far are the first ones of g - s; `left` has the vertices of the others
 pub record IsStage (g : Graph) (s left : Set) (parts : List (List ℕ)) (parent depth : ℕ → ℕ) : Type 0 where
   pub vertices : (v : ℕ) → left v ≡ true → Within g.order v × (s v ≡ false)
   pub closed : (u v : ℕ) → adjacent g s u v ≡ true → left u ≡ left v

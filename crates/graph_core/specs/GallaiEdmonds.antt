@@ -1,5 +1,5 @@
 -- The Gallai-Edmonds sets D, A and C (Gallai 1964, Edmonds 1965; Lovász and Plummer, "Matching
--- Theory", chapter 3). They are said of vertices, so a statement on v stands beside `Within
+-- Theory", chapter 3). They are defined for single vertices, so a statement on v also says `Within
 -- g.order v`.
 -- Stated by: match_core, gallai_edmonds, definition_laws, theorems.
 -- Rests on it: graph_facts, bench_outcomes, bench_top.
@@ -17,6 +17,6 @@ InD g v = (m : Set) × IsMaximum g none m × (degree g m v ≡ 0)
 abbrev pub InA : Graph → ℕ → Type 0
 InA g v = (InD g v → ⊥) × ((w : ℕ) × Within g.order w × InD g w × (adjacent g none v w ≡ true))
 
--- C: in neither
+-- C: in neither D nor A
 abbrev pub InC : Graph → ℕ → Type 0
 InC g v = (InD g v → ⊥) × (InA g v → ⊥)

@@ -1,6 +1,6 @@
--- Graphs, their edges and cuts. Any textbook; differs in that a graph is a list of pairs and that
--- loops are allowed, so that a contracted graph is a graph again. Edges keep their numbers, and
--- parallel edges are different edges.
+-- Graphs, their edges and cuts. Any textbook; but a graph is a list of pairs, and loops are
+-- allowed, so that a contraction is again a graph. Edges keep their numbers, and parallel edges are
+-- different edges.
 -- Stated by: graph_core, grow_gen, match_search, match_core, allowed_edges and 25 more.
 -- Rests on it: uncross, mcg6_lines, bench_outcomes, bench_top.
 use Rattle.std.specs.Prelude.{◌≡◌, ◌≢◌, ℕ, ◌+◌, ◌-◌, Bool, true, List, [], ◌∷◌, ◌++◌, length, ◌==◌, ◌&&◌, ◌||◌, ◌⊎◌, not, slice_index_or}
@@ -36,11 +36,11 @@ pub record IsMultigraph (g : Graph) : Type 0 where
   pub ends : IsGraph g
   pub no_loop : HasNoLoop g
 
--- g with one edge more, which gets the next number
+-- g with one more edge, which gets the next number
 abbrev pub with_edge : Graph → ℕ → ℕ → Graph
 with_edge g a b = record g { ends = g.ends ++ (a, b) ∷ [] }
 
--- the vertices of g with other edges, those of the list
+-- the graph with the vertices of g and the edges of the list
 abbrev pub with_ends : Graph → List (ℕ × ℕ) → Graph
 with_ends g es = record { order = g.order; ends = es }
 
@@ -52,7 +52,7 @@ HasEnds g e u v = ((first_end g e ≡ u) × (second_end g e ≡ v)) ⊎ ((first_
 abbrev pub has_ends : Graph → ℕ → ℕ → ℕ → Bool
 has_ends g u v e = (first_end g e == u && second_end g e == v) || (first_end g e == v && second_end g e == u)
 
--- edge e is in the cut of x: exactly one end is in x
+-- edge e is in ∂(x): exactly one end is in x
 abbrev pub in_cut : Graph → Set → ℕ → Bool
 in_cut g x e = (x (first_end g e) && not (x (second_end g e))) || (not (x (first_end g e)) && x (second_end g e))
 
@@ -64,11 +64,11 @@ inside g x e = x (first_end g e) && x (second_end g e)
 abbrev pub connects : Graph → Set → Set → ℕ → Bool
 connects g x y e = (x (first_end g e) && y (second_end g e)) || (y (first_end g e) && x (second_end g e))
 
--- how many edges of m are in the cut of x
+-- |m ∩ ∂(x)|, the number of edges of m in the cut of x
 abbrev pub edges_in_cut : Graph → Set → Set → ℕ
 edges_in_cut g m x = count (size g) (λ e. m e && in_cut g x e)
 
--- how many ends at v the edges of m have; a loop has two
+-- the degree of v in the edges m; a loop counts twice
 abbrev pub degree : Graph → Set → ℕ → ℕ
 degree g m v = count (size g) (λ e. m e && (first_end g e == v)) + count (size g) (λ e. m e && (second_end g e == v))
 

@@ -20,16 +20,16 @@ parent_at nodes v = (node_at nodes v).parent
 abbrev pub depth_at : List TreeNode → ℕ → ℕ
 depth_at nodes v = (node_at nodes v).depth
 
--- v lies an even number of steps below its root
+-- the depth of v is even
 abbrev pub is_even_at : List TreeNode → Set
 is_even_at nodes v = not (is_odd (depth_at nodes v))
 
--- each vertex below a root has a parent, which is one step less deep
+-- each vertex of positive depth has a parent, whose depth is one less
 pub record IsRooted (nodes : List TreeNode) : Type 0 where
   pub within : (v : ℕ) → Within (length nodes) v → 0 < depth_at nodes v → Within (length nodes) (parent_at nodes v)
   pub deeper : (v : ℕ) → Within (length nodes) v → 0 < depth_at nodes v →
       depth_at nodes v ≡ depth_at nodes (parent_at nodes v) + 1
 
--- a search tree for each component of g without s, with its least vertex as the root
+-- a search tree for each component of g - s, with its least vertex as the root
 abbrev pub AreTrees : Graph → Set → List TreeNode → Type 0
 AreTrees g s nodes = IsForest g s (is_least g s) (parent_at nodes) (depth_at nodes)

@@ -1,6 +1,6 @@
--- Partitions of the vertices into blocks, and the graph with each block made one vertex. A
--- block's name is its greatest vertex, and blocks stand by rising name. Lovász 1987; differs in
--- that the blocks are listed, so that a partition is one list.
+-- Partitions of the vertices into blocks, and the contraction of each block to a vertex. A block's
+-- name is its highest-numbered vertex, and blocks are in increasing order of their names. Lovász
+-- 1987; but blocks are listed, so that a partition is one list.
 -- Stated by: graph_core, contraction, tree_core, tight_cuts, decomposer, move_laws and 5 more.
 -- Rests on it: mcg6_lines, bench_outcomes, bench_reports, bench_top.
 use Rattle.std.specs.Prelude.{◌≡◌, ℕ, zero, suc, ◌+◌, ◌-◌, true, false, List, [], ◌∷◌, ◌++◌, map, length, filter, cond, not, nat_lt, slice_index_or, All}
@@ -13,22 +13,22 @@ use Rattle.graph_core.specs.Matchings.{IsPerfect}
 abbrev pub block : List (List ℕ) → ℕ → List ℕ
 block p i = slice_index_or p (i - 1) []
 
--- the place of the block that holds v, and one past the end if none does
+-- the place of the block that contains v, or one past the end if none does
 abbrev pub place : List (List ℕ) → ℕ → ℕ
 place [] v = 1
 place (b ∷ p) v = cond (mem b v) 1 (place p v + 1)
 
--- the names of the blocks: their greatest vertices
+-- the names of the blocks: their highest-numbered vertices
 abbrev pub names_of : List (List ℕ) → List ℕ
 names_of p = map last_of p
 
--- each of 1 to n is in exactly one block, no block holds another number, and no block is empty
+-- each of 1 to n is in exactly one block, no block contains another number, and no block is empty
 pub record AreBlocks (n : ℕ) (p : List (List ℕ)) : Type 0 where
   pub once : (v : ℕ) → Within n v → count (length p) (λ i. mem (block p i) v) ≡ 1
   pub within : (i v : ℕ) → Within (length p) i → mem (block p i) v ≡ true → Within n v
   pub full : (i : ℕ) → Within (length p) i → (v : ℕ) × Within n v × (mem (block p i) v ≡ true)
 
--- a partition of 1 to n: each block rises, and the names rise
+-- a partition of 1 to n: each block is increasing, and the names are increasing
 pub record IsPartition (n : ℕ) (p : List (List ℕ)) : Type 0 where
   pub partition : AreBlocks n p
   pub blocks : All IsStrictlyIncreasing p
@@ -39,7 +39,7 @@ abbrev pub singles : ℕ → List (List ℕ)
 singles zero = []
 singles (suc n) = singles n ++ ((suc n ∷ []) ∷ [])
 
--- the numbers of 1 to n outside the list, in rising order
+-- the numbers of 1 to n outside the list, in increasing order
 abbrev pub complement_of : ℕ → List ℕ → List ℕ
 complement_of zero x = []
 complement_of (suc n) x = complement_of n x ++ cond (mem x (suc n)) [] (suc n ∷ [])
@@ -53,18 +53,18 @@ insert_block b (c ∷ p) = cond (nat_lt (last_of b) (last_of c)) (b ∷ c ∷ p)
 abbrev pub merged : List (List ℕ) → List ℕ → List (List ℕ)
 merged p x = insert_block x (filter (λ b. not (mem x (last_of b))) p)
 
--- q is p with the union x of blocks made one block
+-- q is p with the union x of blocks merged into one block
 pub record IsMerge (n : ℕ) (p : List (List ℕ)) (x : Set) (q : List (List ℕ)) : Type 0 where
   pub partition : AreBlocks n q
   pub new : (c : ℕ) × Within (length q) c × ((v : ℕ) → Within n v → mem (block q c) v ≡ x v)
   pub old : (u v : ℕ) → Within n u → Within n v → x u ≡ false → x v ≡ false → (place q u ≡ place q v → place p u ≡ place p v) × (place p u ≡ place p v → place q u ≡ place q v)
 
--- g with each block made one vertex, by place; the edges keep their numbers, and those inside a
--- block are loops
+-- the contraction of g at p: each block is a vertex, by place; the edges keep their numbers, and
+-- those inside a block are loops
 unfoldable pub contracted : Graph → List (List ℕ) → Graph
 contracted g p = record { order = length p; ends = map (λ e. (place p e.0, place p e.1)) g.ends }
 
--- a perfect matching at p: a set of edges of g, none inside a block, of which each block holds an
--- end of exactly one
+-- a perfect matching at p: a set of edges of g, none inside a block, such that each block contains
+-- an end of exactly one
 abbrev pub IsPerfectAt : Graph → List (List ℕ) → Set → Type 0
 IsPerfectAt g p m = IsPerfect (contracted g p) none m

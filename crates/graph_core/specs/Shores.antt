@@ -7,15 +7,15 @@ use Rattle.graph_core.specs.Graph.{Graph}
 use Rattle.graph_core.specs.Tight.{IsTight}
 use Rattle.graph_core.specs.Partitions.{block, place, contracted}
 
--- x is a union of blocks of p, as far as 1 to n go
+-- x is a union of blocks of p, within 1 to n
 abbrev pub IsUnion : ℕ → List (List ℕ) → Set → Type 0
 IsUnion n p x = (u v : ℕ) → Within n u → Within n v → place p u ≡ place p v → x u ≡ x v
 
--- the places of the blocks whose vertices are all in x
+-- the places of the blocks inside x
 abbrev pub blocks_in : List (List ℕ) → Set → Set
 blocks_in p x i = all_in (block p i) x
 
--- how many blocks of p are in x
+-- |blocks_in p x|, the number of blocks of p inside x
 abbrev pub block_count : List (List ℕ) → Set → ℕ
 block_count p x = count (length p) (blocks_in p x)
 

@@ -1,5 +1,5 @@
--- The two sides of a bipartite graph. Any textbook; differs in that the left side is fixed: it
--- holds the least vertex of each component.
+-- The two sides of a bipartite graph. Any textbook; but the left side is fixed: it contains the
+-- least vertex of each component.
 -- Stated by: graph_core, graph_facts, matching_digraph, quick_kinds, tight_cuts and 2 more.
 -- Rests on it: barrier_kit, separation_kit, ear_core.
 use Rattle.std.specs.Prelude.{◌≡◌, ◌≢◌, ℕ, true, List}
@@ -14,19 +14,19 @@ use Rattle.graph_core.specs.declared.sides.Sides.TheVariants.{Even, Odd}
 abbrev pub IsSide : Graph → Set → Type 0
 IsSide g x = (e : ℕ) → Within (size g) e → first_end g e ≢ second_end g e → in_cut g x e ≡ true
 
--- a vertex set as a rising list: each edge has exactly one end in it, and the least vertex of
--- each component is in it
+-- a vertex set as an increasing list: each edge has exactly one end in it, and it contains the
+-- least vertex of each component
 pub record IsLeftSide (g : Graph) (left : List ℕ) : Type 0 where
   pub rising : IsRisingIn g.order left
   pub cut : (e : ℕ) → Within (size g) e → in_cut g (mem left) e ≡ true
   pub least : (v : ℕ) → Within g.order v → is_least g none v ≡ true → mem left v ≡ true
 
--- the answer shows its side: the left side of a bipartite graph, or an odd closed walk
+-- the result is a certificate: the left side of a bipartite graph, or an odd closed walk
 abbrev pub AreSides : Graph → Sides → Type 0
 AreSides g (Even left) = IsLeftSide g left
 AreSides g (Odd walk) = IsOddClosedWalk g walk
 
--- the answer is that there are two sides
+-- the result is a left side
 abbrev pub IsEven : Sides → Type 0
 IsEven (Even left) = Unit {0}
 IsEven (Odd walk) = ⊥

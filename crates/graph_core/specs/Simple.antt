@@ -4,6 +4,6 @@ use Rattle.std.specs.Prelude.{◌≡◌, ℕ, true}
 use Rattle.counting.specs.Common.{Within}
 use Rattle.graph_core.specs.Graph.{Graph, size, first_end, second_end, has_ends}
 
--- an edge that has the ends of edge e is edge e itself
+-- an edge with the same ends as edge e is edge e itself
 abbrev pub IsSimple : Graph → Type 0
 IsSimple g = (e f : ℕ) → Within (size g) e → Within (size g) f → has_ends g (first_end g e) (second_end g e) f ≡ true → e ≡ f

@@ -8,7 +8,7 @@ use Rattle.graph_core.specs.Graph.{Graph}
 use Rattle.graph_core.specs.Matchings.{HasPerfect, has_perfect}
 use Rattle.graph_core.specs.Components.{component_count, odd_component_count}
 
--- a = b, or g without a and b has no perfect matching
+-- a = b, or g - a - b has no perfect matching
 abbrev pub Equivalent : Graph → ℕ → ℕ → Type 0
 Equivalent g a b = (a ≡ b) ⊎ (HasPerfect g (pair_set a b) → ⊥)
 
@@ -25,26 +25,26 @@ pub record IsClass (g : Graph) (a : ℕ) (s : Set) : Type 0 where
 abbrev pub is_least_of_class : Graph → Set
 is_least_of_class g a = not (some g.order (λ b. nat_lt b a && is_equivalent g b a))
 
--- the canonical partition of a covered graph: its classes as rising lists, by least vertex
+-- the canonical partition of a covered graph: its classes as increasing lists, by least vertex
 unfoldable pub classes : Graph → List (List ℕ)
 classes g = map (λ a. rising_list g.order (is_equivalent g a)) (rising_list g.order (is_least_of_class g))
 
--- s is a barrier: without s there are as many odd components as s has vertices
+-- s is a barrier: o(s) = |s|
 abbrev pub IsBarrier : Graph → Set → Type 0
 IsBarrier g s = odd_component_count g s ≡ count g.order s
 
--- a perfect matching without any two different vertices
+-- bicritical: g - u - v has a perfect matching for any two different vertices u and v
 abbrev pub IsBicritical : Graph → Type 0
 IsBicritical g = (a b : ℕ) → Within g.order a → Within g.order b → a ≢ b → HasPerfect g (pair_set a b)
 
--- two different vertices without which at least two components are left
+-- a cut pair: two different vertices u and v such that g - u - v has at least two components
 pub record IsCutPair (g : Graph) (a b : ℕ) : Type 0 where
   pub first : Within g.order a
   pub second : Within g.order b
   pub different : a ≢ b
   pub parts : 2 ≤ component_count g (pair_set a b)
 
--- the first pair a < b in lexicographic order without which there is no perfect matching
+-- the first pair a < b in lexicographic order such that g - a - b has no perfect matching
 unfoldable pub equivalent_pair : Graph → Option (ℕ × ℕ)
 equivalent_pair g = find (λ k. not (has_perfect g (pair_set k.0 k.1))) (rising_pairs g.order)
 

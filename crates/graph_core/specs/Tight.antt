@@ -1,4 +1,4 @@
--- Tight cuts of a graph, and the graph with one vertex set made one vertex (Lovász 1987).
+-- Tight cuts of a graph, and the contraction of one vertex set (Lovász 1987).
 -- Stated by: graph_core, barrier_kit, matching_digraph, separation_kit, brick_kit and 8 more.
 -- Rests on it: tree_core, tree_check, mcg6_lines.
 use Rattle.std.specs.Prelude.{◌≡◌, ◌≢◌, ℕ, ◌≤◌, Bool, true, false, ◌==◌, ◌&&◌, ◌||◌, not, nat_le, if◌then◌else◌}
@@ -6,12 +6,11 @@ use Rattle.counting.specs.Common.{count, is_odd, Within, Set, none, complement, 
 use Rattle.graph_core.specs.Graph.{Graph, size, first_end, second_end, edges_in_cut}
 use Rattle.graph_core.specs.Matchings.{IsPerfect, is_perfect}
 
--- each perfect matching has exactly one edge in the cut of x
+-- |m ∩ ∂(x)| = 1 for each perfect matching m
 abbrev pub CutIsTight : Graph → Set → Type 0
 CutIsTight g x = (m : Set) → IsPerfect g none m → edges_in_cut g m x ≡ 1
 
--- x is a tight shore: an odd number of vertices on both sides, and each perfect matching has one
--- edge in the cut
+-- x is a tight shore: |x| and |V - x| are odd, and |m ∩ ∂(x)| = 1 for each perfect matching m
 pub record IsTight (g : Graph) (x : Set) : Type 0 where
   pub odd : is_odd (count g.order x) ≡ true
   pub odd_complement : is_odd (count g.order (complement x)) ≡ true
@@ -21,7 +20,7 @@ pub record IsTight (g : Graph) (x : Set) : Type 0 where
 abbrev pub is_tight : Graph → Set → Bool
 is_tight g x = is_odd (count g.order x) && is_odd (count g.order (complement x)) && each_set (size g) (λ m. not (is_perfect g none m) || (edges_in_cut g m x == 1))
 
--- at least three of 1 to n inside, and at least three outside
+-- nontrivial: |x| and |{1, .., n} - x| are at least 3
 pub record IsNontrivial (n : ℕ) (x : Set) : Type 0 where
   pub inside : 3 ≤ count n x
   pub outside : 3 ≤ count n (complement x)
@@ -30,15 +29,15 @@ pub record IsNontrivial (n : ℕ) (x : Set) : Type 0 where
 abbrev pub is_nontrivial : ℕ → Set → Bool
 is_nontrivial n x = nat_le 3 (count n x) && nat_le 3 (count n (complement x))
 
--- no tight shore of g is nontrivial; a covered graph of which this holds is a brick or a brace
+-- no tight shore of g is nontrivial; a covered graph with this property is a brick or a brace
 abbrev pub HasOnlyTrivialTightCuts : Graph → Type 0
 HasOnlyTrivialTightCuts g = (x : Set) → IsTight g x → IsNontrivial g.order x → ⊥
 
--- the shore of the cut of x that does not hold n
+-- the shore of ∂(x) that does not contain n
 abbrev pub canonical_shore : ℕ → Set → Set
 canonical_shore n x v = if x n then not (x v) else x v
 
--- h is g with the vertices of x made the one vertex c; f says which vertex of h each vertex becomes
+-- h is g with x contracted to the vertex c; f says which vertex of h each vertex becomes
 pub record Merges (g : Graph) (x : Set) (h : Graph) (f : ℕ → ℕ) (c : ℕ) : Type 0 where
   pub edges : size h ≡ size g
   pub first_ends : (e : ℕ) → Within (size g) e → first_end h e ≡ f (first_end g e)

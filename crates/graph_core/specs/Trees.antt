@@ -1,17 +1,16 @@
--- Search trees of a graph G without a vertex set S: each vertex is a root or hangs on its parent.
--- Any textbook.
+-- Search trees of G - S: each vertex is a root or a child of its parent. Any textbook.
 -- Stated by: graph_core.
 use Rattle.std.specs.Prelude.{◌≡◌, ℕ, zero, suc, ◌+◌, ◌⊎◌, true, false, List, [], ◌∷◌, ◌++◌}
 use Rattle.counting.specs.Common.{Within, Set}
 use Rattle.graph_core.specs.Graph.{Graph}
 use Rattle.graph_core.specs.Walks.{adjacent}
 
--- v hangs on its parent: an edge joins them, and v is one step deeper
+-- v is a child of its parent: an edge joins them, and v is one step deeper
 pub record Hangs (g : Graph) (s : Set) (parent depth : ℕ → ℕ) (v : ℕ) : Type 0 where
   pub joins : adjacent g s (parent v) v ≡ true
   pub deeper : depth v ≡ depth (parent v) + 1
 
--- each vertex outside s is one of the roots and has depth 0, or hangs on its parent
+-- each vertex outside s is one of the roots and has depth 0, or is a child of its parent
 pub record IsForest (g : Graph) (s roots : Set) (parent depth : ℕ → ℕ) : Type 0 where
   pub stands : (v : ℕ) → Within g.order v → s v ≡ false → ((roots v ≡ true) × (depth v ≡ 0)) ⊎ Hangs g s parent depth v
 
@@ -25,7 +24,7 @@ abbrev pub way_down : (ℕ → ℕ) → ℕ → ℕ → List ℕ
 way_down parent zero v = []
 way_down parent (suc k) v = way_down parent k (parent v) ++ v ∷ []
 
--- where k steps up from v lead
+-- the vertex k steps up from v
 abbrev pub above : (ℕ → ℕ) → ℕ → ℕ → ℕ
 above parent zero v = v
 above parent (suc k) v = above parent k (parent v)

@@ -1,4 +1,4 @@
--- The verdict on a graph, as the code answers it.
+-- The verdict on a graph, as the code returns it.
 -- Stated by: allowed_edges, graph_facts, decomposer, bench_reports, example_order.
 -- Rests on it: tree_check, mcg6_lines, bench_outcomes, bench_top, theorems.
 use Rattle.graph_core.specs.Covered
@@ -8,7 +8,7 @@ use Rattle.graph_core.specs.declared.verdict.Reason.TheVariants.{Small, Parted, 
 use Rattle.graph_core.specs.declared.verdict.Verdict.{Verdict}
 use Rattle.graph_core.specs.declared.verdict.Verdict.TheVariants.{Covered as IsSaid, NotCovered}
 
--- the reason that the code's value stands for
+-- the reason that the code's value represents
 abbrev pub reason_of : Reason → Covered.Reason
 reason_of Small = Covered.Small
 reason_of (Parted a b) = Covered.Parted a b

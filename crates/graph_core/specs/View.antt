@@ -24,7 +24,7 @@ pub record IsWithinLimits (g : Graph) : Type 0 where
   pub edges : size g ≤ 2048
   pub multigraph : IsMultigraph g
 
--- what the code's multigraph keeps: the limits of size, and beside its ends the rows of its
+-- the invariant of the code's multigraph: the limits of size, and its rows are those of the
 -- adjacency matrix
 pub record IsKept (g : Graph) (rows : List (List ℕ)) : Type 0 where
   pub limits : IsWithinLimits g

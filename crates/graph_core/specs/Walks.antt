@@ -1,11 +1,11 @@
--- Walks of a graph G without a vertex set S, as lists of vertices. Any textbook.
+-- Walks of G - S, as lists of vertices. Any textbook.
 -- Stated by: graph_core, match_core, allowed_edges, graph_facts, barrier_kit and 5 more.
 -- Rests on it: grow_gen, brick_kit, tight_cuts, two_ears, ear_core, graph6_text, mcg6_encoder.
 use Rattle.std.specs.Prelude.{◌≡◌, ℕ, zero, suc, Bool, true, List, [], ◌∷◌, ◌++◌, ◌==◌, ◌&&◌, ◌||◌, not, length}
 use Rattle.counting.specs.Common.{is_odd, Set, none, some}
 use Rattle.graph_core.specs.Graph.{Graph, size, has_ends}
 
--- an edge of g without s joins u and v
+-- an edge of g - s joins u and v
 abbrev pub adjacent : Graph → Set → ℕ → ℕ → Bool
 adjacent g s u v = (not (s u) && not (s v)) && some (size g) (has_ends g u v)
 
@@ -14,7 +14,7 @@ abbrev pub Walk : (ℕ → ℕ → Bool) → ℕ → List ℕ → ℕ → Type 0
 Walk adj u [] v = u ≡ v
 Walk adj u (w ∷ ws) v = (adj u w ≡ true) × Walk adj w ws v
 
--- a walk of g without s leads from u to v
+-- a walk of g - s leads from u to v
 unfoldable pub Joined : Graph → Set → ℕ → ℕ → Type 0
 Joined g s u v = (ws : List ℕ) × Walk (adjacent g s) u ws v
 
@@ -23,8 +23,7 @@ abbrev pub reaches : ℕ → (ℕ → ℕ → Bool) → ℕ → ℕ → ℕ → 
 reaches n adj u zero v = u == v
 reaches n adj u (suc k) v = reaches n adj u k v || some n (λ w. reaches n adj u k w && adj w v)
 
--- the vertices that a walk of g without s leads to from u, as a test: a walk of as many steps as
--- there are vertices does
+-- the vertices that walks of g - s reach from u, as a test: walks of at most n steps are enough
 unfoldable pub joined : Graph → Set → ℕ → Set
 joined g s u = reaches g.order (adjacent g s) u g.order
 

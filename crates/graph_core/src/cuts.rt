@@ -19,8 +19,8 @@ pub fn is_in_cut(g: &MultiGraph, shore: VSet, e: u32) -> bool
     (first && !second) || (!first && second)
 }
 
-/// The canonical shore of the cut of `shore`, a set of the vertices 1 to `n`: the one without the
-/// vertex `n`.
+/// The canonical shore of ∂(`shore`), a set of the vertices 1 to `n`: the shore that does not
+/// contain the vertex `n`.
 pub fn canonical_shore(n: u32, shore: VSet) -> VSet
     requires { Within MOST_VERTICES n }
     ensures { result ≡ canonical_list n shore }
@@ -35,8 +35,8 @@ pub fn canonical_shore(n: u32, shore: VSet) -> VSet
     shore
 }
 
-/// Whether the cut of `shore` is nontrivial: at least three of the vertices 1 to `n` are inside,
-/// and at least three outside.
+/// Whether ∂(`shore`) is nontrivial: at least three of the vertices 1 to `n` are inside, and at
+/// least three outside.
 pub fn is_nontrivial(n: u32, shore: VSet) -> bool
     requires vertices { n ≤ MOST_VERTICES }
     requires set { IsRisingIn n shore }
@@ -54,9 +54,9 @@ fn holds(cuts: &[VSet], shore: VSet) -> bool
         .any(|cut| shore.is_subset(*cut) && cut.is_subset(shore))
 }
 
-/// Appends the cut of `shore` by its canonical shore, the one without the greatest vertex `n`. It
-/// is left out where a side has fewer than three vertices or the cut is in the list. After
-/// `Memory` the list is unchanged.
+/// Appends ∂(`shore`) by its canonical shore, the one without the highest-numbered vertex `n`. The
+/// cut is left out if a side has fewer than three vertices or the list has it already. After
+/// `Memory` the list is unchanged. Takes one pass over the list.
 pub fn add_cut(cuts: &mut SetList, n: u32, shore: VSet) -> Result<(), Memory>
     requires { Within MOST_VERTICES n }
     ensures ok { OnOk result (cuts.new ≡ with_cut n cuts.old shore) }

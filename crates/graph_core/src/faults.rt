@@ -1,4 +1,4 @@
-//! What can be wrong with an edge that is added.
+//! Errors of an edge that is added.
 
 use thiserror::Error;
 
@@ -11,7 +11,7 @@ pub enum AddFault {
     /// Both ends are in range and equal.
     #[error("the two ends are equal")]
     Loop,
-    /// The graph has as many edges as it may have.
+    /// The graph has `MOST_EDGES` edges already.
     #[error("the graph is full")]
     TooMany,
     /// Out of memory.

@@ -19,10 +19,10 @@ use vset_core::{MOST_VERTICES, VSet};
 /// The most edges that a graph may have.
 pub const MOST_EDGES: u32 = 2048;
 
-/// A finite undirected multigraph without loops, of at most `MOST_VERTICES` vertices and
-/// `MOST_EDGES` edges. Vertices and edges are numbered from 1; parallel edges are different
-/// edges. Contracts see it as its order and its list of ends. Beside the ends it keeps for each
-/// vertex the set of its neighbours, which `add_edge` alone changes.
+/// A finite undirected multigraph without loops, with at most `MOST_VERTICES` vertices and
+/// `MOST_EDGES` edges. Vertices and edges are numbered from 1; parallel edges are different edges.
+/// Contracts see it as its order and its list of ends. It also keeps the set of neighbours of each
+/// vertex, which only `add_edge` changes.
 #[derive(Drop)]
 pub struct MultiGraph {
     order: u32,
@@ -44,7 +44,7 @@ impl Model for MultiGraph {
 impl MultiGraph {
     ghost use Rattle.graph_core.specs.View.{IsWithinLimits};
 
-    /// The graph of `n` vertices without edges.
+    /// The graph of `n` vertices without edges. Takes O(n) time; the only error is `Memory`.
     pub fn new(alloc: Global, n: u32) -> Result<MultiGraph, Memory>
         requires { n ≤ MOST_VERTICES }
         ensures { IfOk result (λ g. g ≡ record { order = n; ends = [] }) }
@@ -93,7 +93,7 @@ impl MultiGraph {
         self.edges[e as usize - 1]
     }
 
-    /// Whether some edge joins `a` and `b`. Takes no memory.
+    /// Whether some edge joins `a` and `b`. Takes no memory. Takes constant time.
     pub fn adjacent(&self, a: u32, b: u32) -> bool
         requires first { Within self.now.order a }
         requires second { Within self.now.order b }
@@ -102,7 +102,7 @@ impl MultiGraph {
         self.rows[a as usize - 1].contains(b)
     }
 
-    /// The number of components.
+    /// The number of components. Takes O(n) steps on words; the only error is `Memory`.
     pub fn components(&self, alloc: Global) -> Result<u32, Memory>
         ensures { IfOk result (λ found. found ≡ component_count self.now none) }
     {
@@ -110,7 +110,8 @@ impl MultiGraph {
         Ok(forest.parts.len() as u32)
     }
 
-    /// The components of the graph without the vertices of `set`, by least vertex.
+    /// The components of G - `set`, by least vertex. Takes O(n) steps on words; the only error is
+    /// `Memory`.
     pub fn components_without(&self, alloc: Global, set: VSet) -> Result<SetList, Memory>
         ensures { IfOk result (λ found. found ≡ components self.now (mem set)) }
     {
@@ -118,9 +119,10 @@ impl MultiGraph {
         Ok(forest.parts)
     }
 
-    /// Whether the graph is bipartite, with what shows it: `Even` comes exactly when it is, with
-    /// the left side, which holds the least vertex of each component, and `Odd` exactly when it
-    /// is not, with a closed walk of odd length (König 1916).
+    /// Whether the graph is bipartite, with a certificate: `Even` comes if and only if it is, with
+    /// the left side, which contains the least vertex of each component, and `Odd` if and only if
+    /// it is not, with a closed walk of odd length (König 1916). Takes O(n + m) time; the only
+    /// error is `Memory`.
     pub fn two_sides(&self, alloc: Global) -> Result<Sides, Memory>
         ensures even { IfOk result (λ sides. IsEven sides ↔ IsBipartite self.now) }
         ensures sides { IfOk result (AreSides self.now) }
@@ -145,9 +147,9 @@ impl MultiGraph {
         &self.rows
     }
 
-    /// Appends an edge and answers its number. `Range` comes exactly when an end is not a vertex,
-    /// `Loop` exactly when both are vertices and equal, `TooMany` exactly when neither holds and
-    /// there are `MOST_EDGES` edges; the graph is then unchanged, and after `Memory` too.
+    /// Appends an edge and returns its number. `Range` comes if and only if an end is not a vertex,
+    /// `Loop` if and only if both are vertices and equal, `TooMany` if and only if neither holds
+    /// and there are `MOST_EDGES` edges. After an error, `Memory` included, the graph is unchanged.
     pub fn add_edge(&mut self, a: u32, b: u32) -> Result<u32, AddFault>
         ensures ok { IfOk result (λ e. (self.new ≡ with_edge self.old a b) × (e ≡ size self.new)) }
         ensures err { OnErr result (self.new ≡ self.old) }
@@ -174,8 +176,8 @@ impl MultiGraph {
         Ok(self.edges.len() as u32)
     }
 
-    /// Appends an edge between two different vertices, for which there is room. After `Memory`
-    /// the graph is unchanged.
+    /// Appends an edge between two different vertices of a graph with fewer than `MOST_EDGES`
+    /// edges. After `Memory` the graph is unchanged.
     pub fn push_edge(&mut self, edge: Ends) -> Result<(), Memory>
         requires first { Within self.old.order edge.a }
         requires second { Within self.old.order edge.b }

@@ -8,8 +8,8 @@ pub fn matching_law()
     ensures { (g : Graph) (m : Set) → IsMultigraph g → (IsMatching g none m ↔ ShareNoEnd g m) }
 {}
 
-/// The vertices of a set are as many as the edges of a perfect matching in its cut, and twice
-/// those inside.
+/// Parity: |X| is the number of edges of a perfect matching in ∂(X) plus twice the number of those
+/// inside X.
 #[tactic(auto, using(crate::proofs::Parity::parity))]
 pub fn parity_law()
     ensures { (g : Graph) (m x : Set) → IsGraph g → IsPerfect g none m →
@@ -34,16 +34,14 @@ pub fn perfect_matching_law()
     ensures { (g : Graph) (r : Set) → ((has_perfect g r ≡ true) ↔ HasPerfect g r) }
 {}
 
-/// Weak duality: a matching of G - R misses at least as many vertices as G - R - S has odd
-/// components, less |S|.
+/// Weak duality: a matching of G - R misses at least o(G - R - S) - |S| vertices.
 pub fn weak_duality_law()
     ensures { (g : Graph) (r s m : Set) → IsGraph g → IsMatching g r m →
         odd_component_count g (union r s) ≤ missed_count g r m + count g.order s }
 {}
 
-/// Uncrossing: where X and Y are tight shores at a partition whose quotient is covered, and an
-/// odd number of blocks is in both, then the intersection and the union are tight, and no edge
-/// joins the two differences.
+/// Uncrossing: let X and Y be tight shores at a partition whose quotient is covered, with an odd
+/// number of blocks in X ∩ Y. Then X ∩ Y and X ∪ Y are tight, and no edge joins X - Y with Y - X.
 pub fn uncrossing_law()
     ensures tight { (g : Graph) (p : List (List ℕ)) (x y : Set) → IsGraph g → AreBlocks g.order p →
         IsCovered (contracted g p) →
@@ -62,8 +60,7 @@ pub fn complement_law()
 {}
 
 /// A tight shore as a list is not empty, and the list of the other vertices is the other shore,
-/// which is tight as well: so what is said of merging a tight shore is said of merging the other
-/// one too.
+/// which is tight too. So what is said of merging a tight shore also holds for the other shore.
 pub fn other_shore_law()
     ensures nonempty { (g : Graph) (p : List (List ℕ)) (x : List ℕ) → IsGraph g →
         AreBlocks g.order p → IsTightAt g p (mem x) → 0 < length x }
@@ -86,8 +83,8 @@ pub fn merge_law()
         IsMerge n p (mem x) (merged p x) }
 {}
 
-/// The single vertices of a graph are a partition, at which the graph is contracted to itself: a
-/// matching is perfect at it, and a shore tight at it, exactly when it is in the graph.
+/// The single vertices of a graph are a partition whose contraction is the graph itself: a matching
+/// is perfect at it, and a shore tight at it, if and only if it is in the graph.
 pub fn singles_law()
     ensures partition { (n : ℕ) → IsPartition n (singles n) }
     ensures same { (g : Graph) → IsGraph g → contracted g (singles g.order) ≡ g }
@@ -97,16 +94,16 @@ pub fn singles_law()
         (IsTightAt g (singles g.order) x ↔ IsTight g x) }
 {}
 
-/// The edges that leave a union of blocks are the same in the graph and in the contracted graph.
+/// The edges that leave a union of blocks are the same in the graph and in the contraction.
 pub fn cut_at_law()
     ensures { (g : Graph) (p : List (List ℕ)) (x m : Set) → IsGraph g → AreBlocks g.order p →
         IsUnion g.order p x →
         edges_in_cut (contracted g p) m (blocks_in p x) ≡ edges_in_cut g m x }
 {}
 
-/// Contraction: where a tight shore X of a partition with a covered quotient is merged, the
-/// quotient stays covered, a shore that is tight then was tight before, and a shore that was
-/// tight and is a union of the new blocks is tight then.
+/// Contraction: merge a tight shore X of a partition with a covered quotient. Then the quotient is
+/// still covered, a shore that is tight afterwards was tight before, and a shore that was tight and
+/// is a union of the new blocks is still tight.
 pub fn contraction_law()
     ensures covered { (g : Graph) (p : List (List ℕ)) (x : List ℕ) → IsGraph g →
         AreBlocks g.order p → IsRisingIn g.order x →
@@ -121,7 +118,7 @@ pub fn contraction_law()
         IsUnion g.order (merged p x) y → IsTightAt g (merged p x) y }
 {}
 
-/// A set of blocks is tight in the quotient exactly when it is in the contracted graph.
+/// A set of blocks is tight in the quotient if and only if it is tight in the contraction.
 pub fn quotient_law()
     ensures { (g : Graph) (p : List (List ℕ)) (y : Set) → IsGraph g → AreBlocks g.order p →
         (IsTight (quotient g p) y ↔ IsTight (contracted g p) y) }

@@ -1,26 +1,18 @@
-//! Finite undirected multigraphs without loops, and the definitions of the whole theory of their
+//! Finite undirected multigraphs without loops, and the definitions of the theory of their
 //! matchings.
 //!
-//! `MultiGraph` keeps up to 128 vertices and 2,048 edges, both numbered from 1, and answers by the
-//! definitions: `components_without`, `two_sides`, `adjacent`, `simple`, and `rows`, the sets of
-//! neighbours, which it keeps and on which its searches stand. `side_of` answers one side as a
-//! set; `is_in_cut`, `canonical_shore` and `add_cut` are for cuts by their shores and lists of
-//! them. Contracts see it as a plain `Graph` (specs/Graph, specs/View).
+//! `MultiGraph` has up to 128 vertices and 2,048 edges, numbered from 1; contracts see a `Graph`.
+//! Its main calls are `components_without`, `two_sides` and `simple`; `side_of` returns a side,
+//! `canonical_shore` and `add_cut` are for lists of cuts.
 //!
-//! The definitions, in specs/: matchings and perfect matchings of a graph without a vertex set
-//! (`Matchings`), walks and components (`Walks`, `Components`), Berge sets and the Gallai-Edmonds
-//! sets (`BergeSets`, `GallaiEdmonds`), matching covered graphs and the first reason why a graph
-//! is none (`Covered`), the canonical partition, barriers and pairs (`Structure`), tight cuts
-//! (`Tight`), and partitions into blocks with their quotients and shores (`Partitions`,
-//! `Quotients`, `Shores`).
+//! The definitions, in specs/: `Matchings`, `Walks`, `Components`, `BergeSets`, `GallaiEdmonds`,
+//! matching covered graphs (`Covered`), the canonical partition, barriers and pairs (`Structure`),
+//! tight cuts (`Tight`), `Partitions` with `Quotients` and `Shores`. The laws, in `laws`: parity of
+//! a cut, weak duality, contraction of a tight cut, uncrossing. `definition_laws` ties the
+//! definitions to a textbook's.
 //!
-//! The laws, in `laws`: parity of a cut, weak duality, merging a shore, contraction of a tight
-//! cut, and uncrossing of two. In other words for a reader the definitions stand in
-//! `definition_laws`.
-//!
-//! Stands on `counting`, `listed` and `vset_core`, and gives on `FaultKind` and `TextFault` of
-//! `line_text`. Sources: Lovász and Plummer, "Matching Theory"; Lovász, "Matching structure and
-//! the matching lattice" (1987); Lucchesi and Murty, "Perfect Matchings".
+//! Depends on `counting`, `listed`, `vset_core` and `line_text`. Sources: Lovász and Plummer,
+//! "Matching Theory"; Lovász 1987; Lucchesi and Murty, "Perfect Matchings".
 #![tactic(auto)]
 
 mod cuts;

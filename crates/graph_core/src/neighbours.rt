@@ -16,7 +16,7 @@ fn add_neighbour(rows: &mut [VSet], v: u32, w: u32)
     rows[i] = rows[i].with(w);
 }
 
-/// Makes `a` and `b` neighbours, as an edge more between them does.
+/// Makes `a` and `b` neighbours, as a new edge between them does.
 pub(crate) fn join(rows: &mut [VSet], a: u32, b: u32)
     requires few { length rows.old ≤ MOST_VERTICES }
     requires first { Within (length rows.old) a }

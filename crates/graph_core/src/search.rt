@@ -1,5 +1,4 @@
-//! The search through a graph without a vertex set: its components, and for each of them a search
-//! tree.
+//! The search through G - S: its components, and for each of them a search tree.
 ghost use Rattle.std.specs.Prelude.{◌≡◌, ◌≢◌, ◌≤◌, ◌<◌, ◌+◌, ◌^◌, ◌==◌, ◌&&◌, ◌||◌, ℕ, true, false, [], All, IfOk, OnOk, length};
 ghost use Rattle.counting.specs.Common.{Within, mem, item};
 ghost use Rattle.graph_core.specs.Common.{components, Graph, IsGraph, IsGrown, node_at, parent_at, depth_at, AreTrees, AreRows};
@@ -36,8 +35,8 @@ fn plant(nodes: &mut [TreeNode], v: u32)
     };
 }
 
-/// Takes the component of `root` out of the vertices of `within`, grows a tree on it, and answers
-/// those that are left.
+/// Takes the component of `root` out of the vertices of `within`, grows a search tree of it, and
+/// returns the vertices that are left.
 fn grow(rows: &[VSet], nodes: &mut [TreeNode], within: VSet, root: u32) -> VSet
     requires few { length rows.now ≤ MOST_VERTICES }
     requires graph { (g : Graph) × IsGraph g × AreRows g rows.now }
@@ -65,8 +64,8 @@ fn grow(rows: &[VSet], nodes: &mut [TreeNode], within: VSet, root: u32) -> VSet
     left
 }
 
-/// The components of the graph without `removed`, by least vertex. Writes for each vertex outside
-/// `removed` its place in the search tree of its component.
+/// The components of G - `removed`, by least vertex. Writes for each vertex outside `removed` its
+/// place in the search tree of its component.
 fn search(
     alloc: Global,
     rows: &[VSet],
@@ -102,7 +101,7 @@ pub(crate) struct Forest {
     pub(crate) nodes: Vec<TreeNode>,
 }
 
-/// Searches through the graph with these rows, without the vertices of `removed`.
+/// Searches G - `removed`, where G has these rows.
 pub(crate) fn grow_forest(alloc: Global, rows: &[VSet], removed: VSet) -> Result<Forest, Memory>
     requires few { length rows.now ≤ MOST_VERTICES }
     requires graph { (g : Graph) × IsGraph g × AreRows g rows.now }

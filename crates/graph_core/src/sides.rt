@@ -8,17 +8,17 @@ use crate::{Ends, MultiGraph, Numbers};
 use std::alloc::{AllocError as Memory, Global};
 use vset_core::{MOST_VERTICES, VSet};
 
-/// Whether a graph is bipartite, with what shows it.
+/// Whether a graph is bipartite, with a certificate.
 #[derive(Drop)]
 pub enum Sides {
-    /// Each edge has exactly one end in `left`, a rising list that holds the least vertex of each
-    /// component.
+    /// Each edge has exactly one end in `left`, an increasing list that contains the least vertex
+    /// of each component.
     Even { left: Numbers },
     /// A closed walk of odd length, its first vertex not repeated at the end.
     Odd { walk: Numbers },
 }
 
-/// The first edge whose ends lie at depths of one parity.
+/// The first edge whose ends have depths of the same parity.
 fn level_edge(edges: &[Ends], nodes: &[TreeNode]) -> Option<Ends>
     requires { IsGraph (graph_of (length nodes.now) edges.now) }
     ensures found { IfSome result (λ edge. Contains edges.now edge ×
@@ -87,7 +87,8 @@ fn set_of(numbers: &[u32]) -> VSet
     set
 }
 
-/// One side of a bipartite graph; `None` exactly when the graph is not bipartite.
+/// One side of a bipartite graph; `None` if and only if the graph is not bipartite. Takes O(n + m)
+/// time; the only error is `Memory`.
 pub fn side_of(alloc: Global, g: &MultiGraph) -> Result<Option<VSet>, Memory>
     ensures some { IfOk result (λ o. (side : _) → o ≡ Some side → IsSide g.now (mem side)) }
     ensures none { IfOk result (λ o. (o ≡ None) ↔ ¬ (IsBipartite g.now)) }

@@ -6,7 +6,8 @@ ghost use Rattle.graph_core.specs.Common.{size, first_end, second_end, has_ends,
 use crate::MultiGraph;
 
 impl MultiGraph {
-    /// Whether the graph is simple: no two edges join the same two vertices. Takes no memory.
+    /// Whether the graph is simple: no two edges join the same two vertices. Takes no memory. Takes
+    /// O(m * m) time.
     pub fn simple(&self) -> bool
         ensures { IsTrue result ↔ IsSimple self.now }
     {
@@ -18,7 +19,7 @@ impl MultiGraph {
         true
     }
 
-    /// Whether an edge before edge `e` joins the same two vertices.
+    /// Whether an earlier edge joins the same two vertices as edge `e`.
     fn repeats(&self, e: u32) -> bool
         requires { Within (size self.now) e }
         ensures { result ≡

@@ -6,8 +6,8 @@ ghost use Rattle.graph_core.specs.Common.{parent_at, depth_at, IsRooted, is_even
 use crate::Numbers;
 use std::alloc::{AllocError as Memory, Global};
 
-/// What a search keeps of a vertex: its parent in the search tree, and how many steps below the
-/// root it lies. A root has depth 0.
+/// What a search keeps of a vertex: its parent in the search tree, and its depth, the number of
+/// steps to the root. A root has depth 0.
 #[derive(Clone, Copy)]
 pub(crate) struct TreeNode {
     pub(crate) parent: u32,
@@ -15,7 +15,7 @@ pub(crate) struct TreeNode {
 }
 
 impl TreeNode {
-    /// Whether the vertex lies an odd number of steps below the root.
+    /// Whether the depth is odd.
     #[tactic(auto, using(counting::proofs::Odd::is_odd_remainder))]
     pub(crate) fn is_odd(self) -> bool
         ensures { result ≡ is_odd self.depth }
@@ -54,7 +54,7 @@ pub(crate) fn descend(nodes: &[TreeNode], to: u32, walk: &mut Numbers) -> Result
     Ok(())
 }
 
-/// The vertices at even depth, in rising order.
+/// The vertices at even depth, in increasing order.
 pub(crate) fn even_vertices(alloc: Global, nodes: &[TreeNode]) -> Result<Numbers, Memory>
     requires { length nodes.now ≤ 128 }
     ensures { IfOk result (λ left. left ≡ rising_list (length nodes.now) (is_even_at nodes.now)) }

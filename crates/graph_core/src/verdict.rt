@@ -1,4 +1,4 @@
-//! The answers of the crates above: whether a graph is matching covered, and of what kind it is.
+//! Verdicts of the crates above: whether a graph is matching covered, and of what kind it is.
 use vset_core::VSet;
 
 /// Why a graph is not matching covered: the first reason that applies, in this order.
@@ -6,7 +6,7 @@ use vset_core::VSet;
 pub enum Reason {
     /// There are fewer than two vertices.
     Small,
-    /// The graph is not connected: `a` is 1, and `b` is the least vertex that no walk joins to it.
+    /// The graph is not connected: `a` is 1, and `b` is the least vertex of another component.
     Parted { a: u32, b: u32 },
     /// There is no perfect matching: `berge` is a Berge set.
     Unmatched { berge: VSet },

@@ -1,5 +1,5 @@
--- What is known of a graph: what its components, its side, a maximum matching and its partners are.
--- Each is said in the words of the definitions of graphs and matchings.
+-- What is known of a graph: its components, its side, a maximum matching and its partners, stated
+-- by the definitions of graphs and matchings.
 -- Stated by: graph_facts.
 use Rattle.std.specs.Prelude.{◌≡◌, ℕ, true, List, Option, Some, None, IfSome, ◌↔◌}
 use Rattle.counting.specs.Common.{Within, mem, IsRisingIn, none}
@@ -7,7 +7,7 @@ use Rattle.graph_core.specs.Common.{Attains, components, InD, InA, Graph, IsBipa
 use Rattle.match_core.specs.Common.{IsOf, MatchingValue, edges_of, ArePartners}
 use Rattle.match_core.specs.declared.frames.FrameSets.{FrameSets}
 
--- a maximum matching of g; outer is D, inner is A, which is the Berge set
+-- a maximum matching of g; outer is D, and inner is A, the Berge set
 pub record IsFrame (g : Graph) (f : FrameSets) : Type 0 where
   pub of : IsOf g f.found.matching
   pub maximum : IsMaximum g none (mem (edges_of f.found.matching))
@@ -18,8 +18,8 @@ pub record IsFrame (g : Graph) (f : FrameSets) : Type 0 where
   pub missed : (v : ℕ) → Within g.order v → (mem f.outer v ≡ true) ↔ InD g v
   pub next : (v : ℕ) → Within g.order v → (mem f.inner v ≡ true) ↔ InA g v
 
--- the components of g, one side where g is bipartite, its frame, and its partners, known exactly
--- where g has a perfect matching
+-- the components of g, one side if g is bipartite, its frame, and its partners, known if and only
+-- if g has a perfect matching
 pub record AreFacts (g : Graph) (parts : List (List ℕ)) (side : Option (List ℕ)) (frame : FrameSets) (table : Option (List (List ℕ))) : Type 0 where
   pub parts_are : parts ≡ components g none
   pub side_is : (s : List ℕ) → side ≡ Some s → IsSide g (mem s)
@@ -28,7 +28,7 @@ pub record AreFacts (g : Graph) (parts : List (List ℕ)) (side : Option (List �
   pub partners : IfSome table (ArePartners g none)
   pub perfect : (table ≡ None) ↔ ¬ (HasPerfect g none)
 
--- g is covered, with a perfect matching, its partners, and one side where it is bipartite
+-- g is covered, with a perfect matching, its partners, and one side if it is bipartite
 pub record AreCoveredFacts (g : Graph) (matching : MatchingValue) (table : List (List ℕ)) (side : Option (List ℕ)) : Type 0 where
   pub covered : IsCovered g
   pub of : IsOf g matching

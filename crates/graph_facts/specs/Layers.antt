@@ -1,12 +1,12 @@
--- What a flood from vertex 1 finds of a graph, by the parity of the steps.
+-- What a search from vertex 1 finds in a graph, by the parity of the number of steps.
 -- Stated by: graph_facts.
 use Rattle.std.specs.Prelude.{◌≡◌, ◌↔◌, ◌||◌, ℕ, true, false, not}
 use Rattle.counting.specs.Common.{Within, Set, none}
 use Rattle.graph_core.specs.Common.{Graph, IsSide, Joined, adjacent}
 
--- walks from 1 lead to the vertices of even and odd, and to no others; in each side of g those of
--- even are where 1 is, and those of odd where it is not; a vertex of one of both alone has its
--- neighbours in the other
+-- walks from 1 reach the vertices of even and odd, and no others; for each side of g, even is
+-- inside if 1 is, and odd is inside if 1 is not; the neighbours of a vertex that is in only one of
+-- the two sets are in the other
 pub record AreLayers (g : Graph) (even odd : Set) : Type 0 where
   pub reached : (v : ℕ) → ((even v || odd v) ≡ true) ↔ Joined g none 1 v
   pub alike : (x : Set) → IsSide g x → (v : ℕ) → even v ≡ true → x v ≡ x 1
@@ -14,7 +14,7 @@ pub record AreLayers (g : Graph) (even odd : Set) : Type 0 where
   pub over : (u w : ℕ) → even u ≡ true → odd u ≡ false → adjacent g none u w ≡ true → odd w ≡ true
   pub back : (u w : ℕ) → odd u ≡ true → even u ≡ false → adjacent g none u w ≡ true → even w ≡ true
 
--- the same where the vertices of open_set wait for their neighbours
+-- the same, except that the neighbours of the vertices of open_set may be missing
 pub record IsFlood (g : Graph) (even odd open_set : Set) : Type 0 where
   pub start : even 1 ≡ true
   pub among : (v : ℕ) → open_set v ≡ true → (even v || odd v) ≡ true

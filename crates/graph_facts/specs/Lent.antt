@@ -1,4 +1,4 @@
--- The graph that is kept or borrowed.
+-- The graph that is owned or borrowed.
 -- Stated by: graph_facts, tree_core.
 use Rattle.graph_core.specs.Common.{Graph}
 use Rattle.graph_facts.specs.declared.lent.Lent.{Lent}

@@ -30,7 +30,8 @@ impl<'c, 'g> Model for Bipartite<'c, 'g> {
 }
 
 impl<'c, 'g> Bipartite<'c, 'g> {
-    /// The covered graph as a bipartite one; `None` exactly when it is not. Takes no memory.
+    /// The covered graph as a bipartite one; `None` if and only if it is not bipartite. Takes no
+    /// memory.
     pub fn of(covered: &'c Covered<'g>) -> Option<Bipartite<'c, 'g>>
         ensures some { (b : _) → result ≡ Some b → b ≡ covered.now }
         ensures none { (result ≡ None) ↔ ¬ (IsBipartite covered.now) }

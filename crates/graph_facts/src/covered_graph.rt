@@ -65,8 +65,8 @@ fn parts_of(alloc: Global, g: &MultiGraph) -> Result<Parts, Memory>
 }
 
 impl<'g> Covered<'g> {
-    /// The graph as a covered one, or the first reason why it is not matching covered, in the
-    /// order: `Small`, `Parted`, `Unmatched`, `Unallowed`. Nothing is sought after the first.
+    /// The graph as a covered one, or the first reason why it is not matching covered, in the order
+    /// `Small`, `Parted`, `Unmatched`, `Unallowed`. Nothing is computed after the first reason.
     pub fn of(alloc: Global, g: &'g MultiGraph) -> Result<Result<Covered<'g>, Reason>, Memory>
         ensures covered { IfOk result (λ r. IfOk r (λ c. c ≡ g.now)) }
         ensures reason { IfOk result
@@ -85,7 +85,7 @@ impl<'g> Covered<'g> {
         Covered::of_connected(alloc, g, side)
     }
 
-    // The same of a connected graph, of which a side is known where it is bipartite.
+    // The same for a connected graph, with a side if it is bipartite.
     fn of_connected(
         alloc: Global,
         g: &'g MultiGraph,
@@ -127,7 +127,7 @@ impl<'g> Covered<'g> {
         }
     }
 
-    /// A graph that is known to be covered, which is kept.
+    /// A graph that is known to be covered; the value owns it.
     pub fn kept(alloc: Global, g: MultiGraph) -> Result<Covered<'g>, Memory>
         requires { IsCovered g }
         ensures { IfOk result (λ c. c ≡ g) }
@@ -145,7 +145,7 @@ impl<'g> Covered<'g> {
         })
     }
 
-    /// A graph of which the facts are at hand, where it is known to be covered. Takes no memory.
+    /// A graph that is known to be covered and whose facts are given. Takes no memory.
     pub fn from_facts(facts: Facts<'g>) -> Covered<'g>
         requires { IsCovered facts }
         ensures { result ≡ facts.entry }
@@ -203,7 +203,7 @@ impl<'g> Covered<'g> {
         self.graph().keeps_limits();
     }
 
-    /// One side; `None` exactly when the graph is not bipartite.
+    /// One side; `None` if and only if the graph is not bipartite.
     pub fn side(&self) -> Option<VSet>
         ensures some { (side : _) → result ≡ Some side → IsSide self.now (mem side) }
         ensures none { (result ≡ None) ↔ ¬ (IsBipartite self.now) }
@@ -222,8 +222,8 @@ impl<'g> Covered<'g> {
         }
     }
 
-    /// The table of partners: two different vertices are partners if the graph without them has a
-    /// perfect matching.
+    /// The table of partners: two different vertices are partners if deleting them leaves a graph
+    /// with a perfect matching.
     pub fn table(&self) -> &PartnerTable
         ensures { ArePartners self.now none result.now }
     {

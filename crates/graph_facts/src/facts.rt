@@ -1,4 +1,4 @@
-//! A graph with what the searches find of it.
+//! A graph with what the searches find out about it.
 ghost use Rattle.std.specs.Prelude.{◌≡◌, ◌↔◌, None, Some, IsTrue, IfSome, IfOk};
 ghost use Rattle.counting.specs.Common.{Lists, mem, none};
 ghost use Rattle.graph_core.specs.Common.{component_count, IsBipartite, size, Allowed, HasPerfect, IsSide, IsVerdict, IsWithinLimits};
@@ -12,8 +12,8 @@ use std::alloc::{AllocError as Memory, Global};
 use std::marker::Model;
 use vset_core::VSet;
 
-/// A graph with its components, its side, a maximum matching with the Gallai-Edmonds sets, and
-/// its table of partners where the matching is perfect. Contracts see the graph.
+/// A graph with its components, its side, a maximum matching with the Gallai-Edmonds sets, and its
+/// table of partners if the matching is perfect. Contracts see the graph.
 #[derive(Drop)]
 pub struct Facts<'g> {
     pub(crate) graph: &'g MultiGraph,
@@ -35,7 +35,7 @@ impl<'g> Model for Facts<'g> {
 }
 
 impl<'g> Facts<'g> {
-    /// What is known of `g`: one search for each fact.
+    /// The facts of `g`: one search for each.
     pub fn of(alloc: Global, g: &'g MultiGraph) -> Result<Facts<'g>, Memory>
         ensures { IfOk result (λ facts. facts ≡ g.now) }
     {
@@ -86,7 +86,7 @@ impl<'g> Facts<'g> {
         self.parts.len() as u32
     }
 
-    /// One side; `None` exactly when the graph is not bipartite.
+    /// One side; `None` if and only if the graph is not bipartite.
     pub fn side(&self) -> Option<VSet>
         ensures some { (side : _) → result ≡ Some side → IsSide self.now (mem side) }
         ensures none { (result ≡ None) ↔ ¬ (IsBipartite self.now) }
@@ -105,14 +105,14 @@ impl<'g> Facts<'g> {
         }
     }
 
-    /// A maximum matching with the Gallai-Edmonds sets, as `frame` of `match_core` answers them.
+    /// A maximum matching with the Gallai-Edmonds sets, as `frame` of `match_core` returns them.
     pub fn frame(&self) -> &FrameSets
         ensures { IsFrame self.now result.now }
     {
         &self.frame
     }
 
-    /// The table of partners, `None` exactly when the graph has no perfect matching.
+    /// The table of partners; `None` if and only if the graph has no perfect matching.
     pub fn table(&self) -> &Option<PartnerTable>
         ensures table { IfSome result.now (ArePartners self.now none) }
         ensures perfect { (result.now ≡ None) ↔ ¬ (HasPerfect self.now none) }
@@ -120,15 +120,14 @@ impl<'g> Facts<'g> {
         &self.table
     }
 
-    /// Whether the graph is matching covered, and the first reason where it is not. Takes no
-    /// memory.
+    /// Whether the graph is matching covered, and if not, the first reason. Takes no memory.
     pub fn verdict(&self) -> Verdict
         ensures { IsVerdict self.now result }
     {
         verdict_in(self.graph, &self.parts, &self.frame.found, &self.table)
     }
 
-    /// The edges that lie in perfect matchings, in rising order.
+    /// The edges that lie in perfect matchings, in increasing order.
     pub fn allowed(&self, alloc: Global) -> Result<Numbers, Memory>
         ensures { IfOk result (λ edges. Lists (size self.now) edges (Allowed self.now)) }
     {

@@ -1,5 +1,5 @@
-//! The vertices that walks reach from vertex 1, by the parity of their numbers of steps: one flood
-//! tells whether a graph is connected and, if it is, whether it is bipartite.
+//! The vertices that walks reach from vertex 1, by the parity of their lengths: one search tells
+//! whether a graph is connected and, if it is, whether it is bipartite.
 ghost use Rattle.std.specs.Prelude.{◌≡◌, ◌≢◌, ◌≤◌, ◌↔◌, ◌&&◌, ◌||◌, ℕ, Bool, None, Some, true, false, not, IfSome, IfNone};
 ghost use Rattle.counting.specs.Common.{Within, mem, none, IsLeastWithout};
 ghost use Rattle.graph_core.specs.Common.{IsBipartite, IsConnected, IsSide, Joined};
@@ -8,17 +8,17 @@ ghost use Rattle.graph_facts.specs.Layers.{AreLayers};
 use graph_core::MultiGraph;
 use vset_core::{MOST_VERTICES, VSet};
 
-/// The vertices that are found by walks from vertex 1. Those of a bipartite graph have one parity.
+/// The vertices that walks from vertex 1 reach. In a bipartite graph each has one parity.
 #[derive(Clone, Copy, Drop)]
 pub(crate) struct Layers {
-    /// Vertex 1 and those that are found after an odd one.
+    /// Vertex 1 and the vertices found from an odd one.
     even: VSet,
-    /// Those that are found after an even one.
+    /// The vertices found from an even one.
     odd: VSet,
 }
 
 impl Layers {
-    /// The layers of a graph with a vertex. Takes no memory.
+    /// The layers of a nonempty graph. Takes no memory.
     pub(crate) fn of(g: &MultiGraph) -> Layers
         requires { 1 ≤ g.now.order }
         ensures { AreLayers g.now (mem result.even) (mem result.odd) }
@@ -60,7 +60,8 @@ impl Layers {
         }
     }
 
-    /// The least vertex that no walk joins to 1; `None` exactly when the graph is connected.
+    /// The least vertex of a component without vertex 1; `None` if and only if the graph is
+    /// connected.
     pub(crate) fn first_apart(&self, g: &MultiGraph) -> Option<u32>
         requires some { 1 ≤ g.now.order }
         requires layers { AreLayers g.now (mem self.now.even) (mem self.now.odd) }
@@ -74,7 +75,7 @@ impl Layers {
             .first()
     }
 
-    /// One side of a connected graph; `None` exactly when it is not bipartite.
+    /// One side of a connected graph; `None` if and only if it is not bipartite.
     pub(crate) fn side(&self, g: &MultiGraph) -> Option<VSet>
         requires connected { IsConnected g.now }
         requires layers { AreLayers g.now (mem self.now.even) (mem self.now.odd) }

@@ -1,14 +1,14 @@
-//! A graph that is kept or borrowed.
+//! A graph that is owned or borrowed.
 ghost use Rattle.std.specs.Prelude.{◌≡◌};
 ghost use Rattle.graph_facts.specs.Lent.{graph_in};
 
 use graph_core::MultiGraph;
 
-/// A graph, kept here or borrowed.
+/// A graph, owned or borrowed.
 pub enum Lent<'g> {
-    /// The graph is kept here.
+    /// The graph is owned.
     Own(MultiGraph),
-    /// The graph is kept elsewhere.
+    /// The graph is borrowed.
     Of(&'g MultiGraph),
 }
 

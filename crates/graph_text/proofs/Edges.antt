@@ -1,10 +1,10 @@
--- The edges of a multigraph, one by one down its list of ends: what holds of the ends of each
--- edge by its number holds of each pair of the list.
+-- The edges of a multigraph, one by one down its list of ends: what is true of the ends of each
+-- edge by its number is true of each pair of the list.
 use Rattle.std.proofs.Common.{◌≡◌, ◌≢◌, ◌<◌, ◌-◌, ℕ, suc, List, [], ◌∷◌, length, get_or, arith, subst}
 use Rattle.counting.proofs.Common.{AllByRecursion, Within}
 use Rattle.graph_core.proofs.Common.{Graph, size, IsMultigraph}
 
--- what holds at each place holds of each item
+-- what holds at each place is true of each item
 all-places : (P : ℕ × ℕ → Type 0) (xs : List (ℕ × ℕ)) → ((i : ℕ) → i < length xs → P (get_or xs i (0, 0))) → AllByRecursion P xs
 all-places P [] each = tt
 all-places P (x ∷ xs) each = (each 0 (omega arith), all-places P xs (λ i h. each (suc i) (omega arith)))

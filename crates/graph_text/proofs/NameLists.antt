@@ -110,7 +110,7 @@ module _ (same : String Global → String Global → Bool) (tells : (a b : Strin
       subst AreNames (sym (ap (map string_bytes) keys ∙ keys-inserted old text name text_is none)) (AreNames-more (map string_bytes old) name are is none few)
   AreNames-inserted (Err e) old new text name keys err text_is is none few are = subst AreNames (sym (ap (map string_bytes) err)) are
 
--- a word has a place exactly when it is one of the names
+-- a word has a place if and only if it is one of the names
 place-within : (names : List (List ℕ)) (word : List ℕ) → nat_lt (position_or_len (bytes_eq word) names) (length names) ≡ is_among names word
 place-within [] word = refl
 place-within (name ∷ names) word = elim (cases_Bool (bytes_eq word name)) [

@@ -1,6 +1,6 @@
--- What is written of a graph with names is read as this graph with these names: the header leads
--- to no names and no edges, the lines of the names put them one after the other, and the line of
--- each edge adds it, since different names have different places.
+-- The text written for a graph with names is read as this graph with these names: the header leads
+-- to no names and no edges, the lines of the names add them one by one, and the line of each edge
+-- adds it, since different names have different places.
 use Rattle.std.proofs.Common.{nat_le, ◌≡◌, ◌≢◌, ◌+◌, ◌-◌, ◌≤◌, ◌<◌, ◌==◌, ◌||◌, ◌&&◌, not, ℕ, List, [], ◌∷◌, ◌++◌, length, map, get_or, true, false, Some, Ok, refl, sym, ap, subst, arith, append_assoc}
 use Rattle.counting.proofs.Common.{AllByRecursion, list_all, cases_Bool, and_parts, and_from, nat_tests, append-nil, length-append, bytes_eq-Decides, get_or-append_seam, Within}
 use Rattle.std.specs.Str.{bytes_eq}

@@ -1,4 +1,4 @@
--- The plain names `v1`, `v2` and so on are different names: a number below 10 ^ 9 is written in
+-- The default names `v1`, `v2` and so on are different names: a number below 10 ^ 9 is written in
 -- one to nine digits, and is read again, so that equal names have equal numbers. Each name after
 -- the others is therefore new, by induction over their number.
 use Rattle.std.proofs.Common.{◌≡◌, ◌≤◌, ◌<◌, ◌^◌, ℕ, zero, suc, true, false, [], ◌∷◌, ◌++◌, length, refl, ◌∙◌, ap, ap₂, ◌||◌, arith}
@@ -9,7 +9,7 @@ use Rattle.std.proofs.lemmas.Fmt.{length-decimal-le}
 use Rattle.line_text.proofs.Decimals.{number_of-decimal, digits-decimal, list_all-digits}
 use Rattle.graph_text.specs.Common.{is_name, is_name_byte, is_among, plain_name, plain_names}
 
--- a digit may stand in a name
+-- a digit may occur in a name
 digit-name_byte : (byte : ℕ) → 48 ≤ byte → byte ≤ 57 → is_name_byte byte ≡ true
 unfolding is_name_byte
 digit-name_byte byte low high = grind (arith, nat_tests)

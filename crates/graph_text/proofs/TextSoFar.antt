@@ -1,6 +1,6 @@
--- The text of the first items of a list grows by the line of the next item: a written list of
--- lines with one line more is the text of the list and then the text of that line. The text of a
--- graph is its header and then the lines of its parts.
+-- The text of the first items of a list grows by the line of the next item: a written list of lines
+-- with one more line is the text of the list and then the text of that line. The text of a graph is
+-- its header and then the lines of its parts.
 use Rattle.std.proofs.Common.{◌≡◌, ◌≤◌, ◌<◌, ◌+◌, ℕ, List, [], ◌∷◌, ◌++◌, length, get_or, map, take, take_all, append_assoc, sym, ◌∙◌, ap, arith, codes}
 use Rattle.std.specs.Fmt.{decimal}
 use Rattle.line_text.specs.Common.{written}

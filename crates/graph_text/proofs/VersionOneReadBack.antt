@@ -1,4 +1,4 @@
--- What is written of a graph in version 1 is read as this graph: the header leads to the graph
+-- The text written for a graph in version 1 is read as this graph: the header leads to the graph
 -- without edges, and the line of each edge adds it, by induction over the edges. No test of the
 -- tables applies.
 use Rattle.std.proofs.Common.{◌≡◌, ◌+◌, ◌≤◌, ◌<◌, ℕ, List, [], ◌∷◌, ◌++◌, length, map, true, Some, Ok, refl, ap, subst, arith, append_assoc}

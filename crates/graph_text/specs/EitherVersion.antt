@@ -1,5 +1,5 @@
--- Both versions of the graph format. The second word of the header tells which one it is: version
--- 2 has a header `p mcg2 N M`, N lines `v NAME` and M lines `e X Y` between names.
+-- Both versions of the graph format. The second word of the header says which one it is: version 2
+-- has a header `p mcg2 N M`, N lines `v NAME` and M lines `e X Y` between names.
 -- Stated by: graph_text, mcg6_encoder, bench_tasks, theorems, example_order.
 -- Rests on it: bench_outcomes, bench_top.
 use Rattle.std.specs.Prelude.{ℕ, ◌==◌, ◌&&◌, ◌||◌, not, nat_lt, Bool, false, List, [], ◌∷◌, ◌++◌, codes, length, Option, Some, None, Result, Ok, Err, if◌then◌else◌}
@@ -22,26 +22,28 @@ pub record EitherSoFar : Type 0 where
 abbrev pub named_so_far : GraphSoFar → List (List ℕ) → EitherSoFar
 named_so_far body names = record { so_far = body; names = Some names }
 
--- a graph, and the names of its vertices where it has names
+-- a graph, and the names of its vertices if it has names
 pub record NamedGraph : Type 0 where
   pub graph : Graph
   pub names : Option (List (List ℕ))
 
--- the most vertices and the most edges in version 2
+-- the most vertices in version 2
 abbrev pub most_named_vertices : ℕ
 most_named_vertices = 128
 
+-- the most edges in version 2
 abbrev pub most_named_edges : ℕ
 most_named_edges = 2048
 
--- a line with these words is a header of version 2, or of version 1
+-- a line with these words is a header of version 2
 abbrev pub is_named_header : List (List ℕ) → Bool
 is_named_header words = has_form words 4 (codes "p" ∷ codes "mcg2" ∷ [])
 
+-- a line with these words is a header of version 1
 abbrev pub is_plain_header : List (List ℕ) → Bool
 is_plain_header words = has_form words 4 (codes "p" ∷ codes "mcg" ∷ [])
 
--- so many vertices and edges are over the limits of the version
+-- so many vertices and edges exceed the limits of the version
 abbrev pub is_over : Bool → ℕ → ℕ → Bool
 is_over named n m =
     if named then nat_lt most_named_vertices n || nat_lt most_named_edges m else nat_lt most_vertices n || nat_lt most_edges m
@@ -114,7 +116,7 @@ abbrev pub begin_named : List SignificantLine → Bool
 begin_named [] = false
 begin_named (line ∷ lines) = is_named_header line.words
 
--- a text is judged by version 2 exactly when its first significant line is a header of that
--- version, and else by version 1
+-- version 2 applies to a text if and only if its first significant line is a header of version 2;
+-- otherwise version 1 applies
 abbrev pub is_version_two : List ℕ → Bool
 is_version_two text = begin_named (significant_lines_of text)

@@ -7,7 +7,7 @@ use Rattle.graph_core.specs.Common.{Graph, size, with_edge}
 use Rattle.line_text.specs.declared.faults.FaultKind.{FaultKind}
 use Rattle.line_text.specs.declared.faults.FaultKind.TheVariants as kind
 
--- the edges read so far, and how many there are to be
+-- the edges read so far, and how many are expected
 pub record GraphSoFar : Type 0 where
   pub graph : Graph
   pub edges : ℕ
@@ -24,10 +24,10 @@ edge_line body words =
     ∷ [])
     (record body { graph = with_edge body.graph a b })
 
--- a significant line after the header is an edge, or too much where all edges have been read
+-- a significant line after the header is an edge, or an error if all edges have been read
 abbrev pub graph_line : GraphSoFar → List (List ℕ) → Result GraphSoFar FaultKind
 graph_line body words = if size body.graph == body.edges then Err kind.Extra else edge_line body words
 
--- the end of the text comes when all edges have been read
+-- the text may end when all edges have been read
 abbrev pub graph_end : GraphSoFar → Result Graph FaultKind
 graph_end body = if size body.graph == body.edges then Ok body.graph else Err kind.Missing

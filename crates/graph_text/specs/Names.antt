@@ -28,11 +28,11 @@ pub record AreNames (names : List (List ℕ)) : Type 0 where
   pub differ : (i j : ℕ) → i < j → j < length names → slice_index_or names i [] ≢ slice_index_or names j []
   pub few : length names ≤ 128
 
--- the plain name of vertex k: `v` and its number
+-- the default name of vertex k: `v` and its number
 abbrev pub plain_name : ℕ → List ℕ
 plain_name k = codes "v" ++ decimal k
 
--- the plain names of the vertices 1 to n: `v1`, `v2` and so on
+-- the default names of the vertices 1 to n: `v1`, `v2` and so on
 unfoldable pub plain_names : ℕ → List (List ℕ)
 plain_names zero = []
 plain_names (suc n) = plain_names n ++ plain_name (suc n) ∷ []

@@ -6,7 +6,7 @@ use Rattle.graph_text.specs.declared.body.EitherBody.{EitherBody}
 use Rattle.graph_text.specs.declared.named.Named.{Named}
 use Rattle.graph_text.specs.EitherVersion.{EitherSoFar, NamedGraph}
 
--- the graph as far as it has been read, and how many edges there are to be
+-- the graph as far as it has been read, and how many edges are expected
 abbrev pub so_far : Body → GraphSoFar
 so_far body = record { graph = body.graph; edges = body.edges }
 
@@ -14,6 +14,6 @@ so_far body = record { graph = body.graph; edges = body.edges }
 abbrev pub either_so_far : EitherBody → EitherSoFar
 either_so_far either = record { so_far = so_far either.body; names = either.names }
 
--- the graph, and the names of its vertices where it has names
+-- the graph, and the names of its vertices if it has names
 abbrev pub named_graph : Named → NamedGraph
 named_graph named = record { graph = named.graph; names = named.names }

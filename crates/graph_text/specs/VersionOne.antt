@@ -7,10 +7,11 @@ use Rattle.line_text.specs.declared.faults.FaultKind.{FaultKind}
 use Rattle.line_text.specs.declared.faults.FaultKind.TheVariants as kind
 use Rattle.graph_text.specs.GraphLines.{GraphSoFar, graph_line, graph_end}
 
--- the most vertices and the most edges in version 1
+-- the most vertices in version 1
 abbrev pub most_vertices : ℕ
 most_vertices = 64
 
+-- the most edges in version 1
 abbrev pub most_edges : ℕ
 most_edges = 512
 

@@ -1,4 +1,4 @@
--- The texts that are written of a graph.
+-- The texts that are written for a graph.
 -- Stated by: graph_text, mcg6_lines. Rests on it: bench_outcomes, bench_top, theorems.
 use Rattle.std.specs.Prelude.{◌≡◌, ℕ, ◌-◌, ◌≤◌, List, [], ◌∷◌, ◌++◌, codes, length, map, slice_index_or}
 use Rattle.std.specs.Fmt.{decimal}
@@ -24,14 +24,15 @@ graph_words g = header_words g.order (size g) ∷ map edge_words g.ends
 unfoldable pub graph_text : Graph → List ℕ
 graph_text g = written (graph_words g)
 
--- the words of the header of version 2, of the line of a name, and of the line of an edge between
--- named vertices
+-- the words of the header of version 2
 abbrev pub named_header_words : ℕ → ℕ → List (List ℕ)
 named_header_words order edges = codes "p" ∷ codes "mcg2" ∷ decimal order ∷ decimal edges ∷ []
 
+-- the words of the line of a name
 abbrev pub name_words : List ℕ → List (List ℕ)
 name_words name = codes "v" ∷ name ∷ []
 
+-- the words of the line of an edge between named vertices
 abbrev pub named_edge_words : List (List ℕ) → ℕ × ℕ → List (List ℕ)
 named_edge_words names edge =
     codes "e" ∷ slice_index_or names (edge.0 - 1) [] ∷ slice_index_or names (edge.1 - 1) [] ∷ []

@@ -1,10 +1,10 @@
-//! What has been read of the text of a graph.
+//! The part of a graph's text that has been read.
 ghost use Rattle.std.specs.Prelude.{◌≤◌};
 
 use crate::names::Names;
 use graph_core::MultiGraph;
 
-/// The graph as far as its text has been read, and how many edges it is to have.
+/// The graph as far as its text has been read, and the number of edges that its header says.
 #[derive(Drop)]
 pub struct Body {
     pub graph: MultiGraph,

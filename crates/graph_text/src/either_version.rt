@@ -22,7 +22,7 @@ struct EitherVersion {
     alloc: Global,
 }
 
-// Whether so many vertices and edges are over the limits of the version.
+// Whether so many vertices and edges exceed the limits of the version.
 fn is_over_limits(named: bool, n: u32, m: u32) -> bool
     ensures is { result ≡ is_over named n m }
     ensures vertices { result ≡ false → n ≤ 128 }
@@ -193,7 +193,7 @@ impl LineFormat for EitherVersion {
 
 /// Reads a graph in either version of the format: the graph that the bytes stand for, with the
 /// names of its vertices in version 2 and none in version 1, or the first line outside the format
-/// with the kind of its fault. Want of memory may come at any time.
+/// with the kind of its error. Memory may run out at any time.
 pub fn read_any(alloc: Global, bytes: &[u8]) -> Result<Named, TextFault>
     requires { length bytes.now < 2 ^ 32 - 1 }
     ensures value { IfOk result (λ named. Stands either_version bytes.now (named_graph named)) }

@@ -7,31 +7,31 @@ ghost use Rattle.line_text.specs.declared.faults.FaultKind.TheVariants.{Header};
 ghost use Rattle.graph_core.specs.Common.{Graph};
 ghost use Rattle.graph_text.specs.Common.{version_one, FitsVersionOne, either_version, is_version_two, is_named_header, graph_text, named_text, FitsNames};
 
-/// What is written of a graph within the limits of version 1 stands for this graph, for no other,
-/// and has no fault.
+/// The text written for a graph within the limits of version 1 stands for this graph and for no
+/// other, and has no error.
 pub fn written_graph_stands()
     ensures stands { (g : Graph) → FitsVersionOne g → Stands version_one (graph_text g) g }
     ensures alone { (g : Graph) → FitsVersionOne g → StandsAlone version_one (graph_text g) }
 {}
 
-/// A tail of comments after the text of a graph changes nothing.
+/// Appending comments to the text of a graph changes nothing.
 pub fn comments_change_nothing()
     ensures { (g : Graph) (comments : List ℕ) → FitsVersionOne g
         → AllByRecursion (λ line. is_skipped (words_of line) ≡ true) (lines_of comments)
         → Stands version_one (graph_text g ++ comments) g }
 {}
 
-/// What is written of a graph with names within the limits of version 2 stands for this graph
+/// The text written for a graph with names within the limits of version 2 stands for this graph
 /// with these names.
 pub fn written_names_stand()
     ensures { (g : Graph) (names : List (List ℕ)) → FitsNames g names
         → Stands either_version (named_text g names) (record { graph = g; names = Some names }) }
 {}
 
-/// The two readers agree on version 1. A text stands for a graph without names exactly when it
-/// stands for it in version 1; a text that is not judged by version 2 has the same first fault in
-/// both formats; and where the first significant line is a header of version 2, that line is the
-/// first fault in version 1, of the kind Header.
+/// The two readers agree on version 1. A text stands for a graph without names if and only if it
+/// stands for it in version 1; a text whose header is not of version 2 has the same first error in
+/// both formats; and if the first significant line is a header of version 2, that line is the first
+/// error in version 1, of the kind Header.
 pub fn versions_law()
     ensures reads { (text : List ℕ) (g : Graph)
         → Stands version_one text g ↔

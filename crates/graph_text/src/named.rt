@@ -5,7 +5,7 @@ ghost use Rattle.std.specs.Option.{ForSome};
 use crate::names::Names;
 use graph_core::MultiGraph;
 
-/// A graph, and the names of its vertices where its text gives them: then one for each vertex.
+/// A graph, and the names of its vertices if its text has them: then there is one for each vertex.
 #[derive(Drop)]
 pub struct Named {
     pub graph: MultiGraph,

@@ -12,17 +12,17 @@ use std::str;
 use std::string::String;
 use vset_core::MOST_VERTICES;
 
-// The most bytes that a name has.
+// The most bytes of a name.
 const MOST_BYTES: usize = 16;
 
-// Whether all bytes may stand in a name.
+// Whether all bytes may occur in a name.
 fn are_name_bytes(word: &[u8]) -> bool
     ensures { result ≡ list_all is_name_byte word.now }
 {
     word.iter().all(|byte| is_name_byte(*byte))
 }
 
-// Whether the byte may stand in a name.
+// Whether the byte may occur in a name.
 #[tactic(auto, unfolding(crate::specs::Names::is_name_byte))]
 fn is_name_byte(byte: u8) -> bool
     ensures { result ≡ is_name_byte byte }
@@ -38,8 +38,8 @@ fn has_form_of_name(word: &[u8]) -> bool
     !word.is_empty() && word.len() <= MOST_BYTES && are_name_bytes(word)
 }
 
-/// The word as a name, or `None` exactly when it does not have the form of one: 1 to 16 bytes,
-/// each an ASCII letter, a digit, `_`, `-` or `.`.
+/// The word as a name; `None` if and only if it does not have the form of one: 1 to 16 bytes, each
+/// an ASCII letter, a digit, `_`, `-` or `.`.
 pub fn name_of(word: &[u8]) -> Option<&str>
     ensures is { is_some result ≡ is_name word.now }
     ensures same { IfSome result (λ name. name.now ≡ word.now) }
@@ -104,8 +104,8 @@ impl Names {
         self.names.as_slice()[i].as_str()
     }
 
-    /// The place of the name that the word is, counted from 0, or `None` exactly when it is none
-    /// of the names. Takes no memory.
+    /// The place, counted from 0, of the name that equals the word; `None` if and only if there is
+    /// none. Takes no memory.
     pub fn place(&self, word: &[u8]) -> Option<usize>
         ensures { result ≡ position (bytes_eq word.now) self.now }
     {
@@ -121,8 +121,8 @@ impl Names {
         self.place(word).is_some()
     }
 
-    /// The number of the vertex whose name the word is, or `None` exactly when it is none of the
-    /// names. Takes no memory.
+    /// The number of the vertex with the word as its name; `None` if and only if there is none.
+    /// Takes no memory.
     pub fn vertex(&self, word: &[u8]) -> Option<u32>
         ensures none { is_some result ≡ is_among self.now word.now }
         ensures some { IfSome result (λ v. v ≡ vertex_of self.now word.now) }
@@ -133,7 +133,7 @@ impl Names {
         Some(place as u32 + 1)
     }
 
-    /// Puts a further name after the others.
+    /// Appends a name.
     pub fn push(&mut self, alloc: Global, name: &str) -> Result<(), Memory>
         requires is { is_name name.now ≡ true }
         requires new { is_among self.old name.now ≡ false }
@@ -149,7 +149,7 @@ impl Names {
     }
 }
 
-// Puts the plain name of a vertex after the others.
+// Appends the default name of a vertex.
 fn push_plain(alloc: Global, names: &mut Names, vertex: u32) -> Result<(), Memory>
     requires new { is_among names.old (plain_name vertex) ≡ false }
     requires few { length names.old < MOST_VERTICES }
@@ -160,7 +160,7 @@ fn push_plain(alloc: Global, names: &mut Names, vertex: u32) -> Result<(), Memor
     names.push(alloc, &name)
 }
 
-/// The plain names of `n` vertices: `v1`, `v2` and so on, that of vertex k being `v` and k in
+/// The default names of `n` vertices: `v1`, `v2` and so on. The name of vertex k is `v` and k in
 /// decimal.
 pub fn plain_names(alloc: Global, n: u32) -> Result<Names, Memory>
     requires { n ≤ MOST_VERTICES }

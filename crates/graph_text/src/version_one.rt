@@ -79,8 +79,8 @@ impl LineFormat for VersionOne {
     }
 }
 
-/// Reads a graph in version 1 of the format: the graph that the bytes stand for, or the first
-/// line outside the format with the kind of its fault. Want of memory may come at any time.
+/// Reads a graph in version 1 of the format: the graph that the bytes stand for, or the first line
+/// outside the format with the kind of its error. Memory may run out at any time.
 pub fn read_graph(alloc: Global, bytes: &[u8]) -> Result<MultiGraph, TextFault>
     requires { length bytes.now < 2 ^ 32 - 1 }
     ensures value { IfOk result (λ g. Stands version_one bytes.now g) }

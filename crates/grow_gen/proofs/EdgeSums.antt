@@ -5,7 +5,7 @@ use Rattle.std.proofs.Common.{◌≡◌, ℕ, suc, zero, ◌+◌, ◌-◌, ◌�
 use Rattle.counting.proofs.Common.{get_or_append_left, total_add, total_congr, total-first, Within, bit, total, Set}
 use Rattle.graph_core.proofs.Common.{Graph, size, first_end, second_end, degree, degree_congr}
 
--- what holds at both answers of a test holds at its answer
+-- what is true for both values of a test is true for its value
 pub by_test : (b : Bool) (P : Bool → Type 0) → (b ≡ true → P true) → (b ≡ false → P false) → P b
 by_test b P h k = grind arith
 
@@ -113,11 +113,11 @@ length-marks_where p bs [] l = refl
 length-marks_where p [] (e ∷ es) l = absurd (omega arith)
 length-marks_where p (b ∷ bs) (e ∷ es) l = grind (arith, by_test (p e), length-marks_where p bs es (omega arith))
 
--- edge i stands at place c, counted from 0, among those that pass
+-- edge i is at place c, counted from 0, among those that pass
 abbrev pub StandsAt : (ℕ × ℕ → Bool) → List (ℕ × ℕ) → ℕ → ℕ → Type 0
 StandsAt p es c i = Within (length es) i × ((bs : List Bool) → length bs ≡ length es → slice_index_or (marks_where p bs es) c false ≡ marked bs i)
 
--- the same after one edge more, of which the test is known
+-- the same after one more edge, of which the test is known
 abbrev StandsBehind : (ℕ × ℕ → Bool) → List (ℕ × ℕ) → ℕ → ℕ → Bool → Type 0
 StandsBehind p es c i s = Within (suc (length es)) i × ((b : Bool) (bs : List Bool) → length bs ≡ length es → slice_index_or (cond s (b ∷ marks_where p bs es) (marks_where p bs es)) c false ≡ marked (b ∷ bs) i)
 

@@ -1,4 +1,5 @@
--- The parts of a graph with one more piece, and the ends of its edges as the code reads them.
+-- The parts of a graph with one more piece, and the ends of its edges as the code reads them. Idea:
+-- equal parts make equal graphs, and the edge at place k of the list is edge k + 1.
 use Rattle.std.proofs.Common.{◌≡◌, ℕ, ◌+◌, ◌-◌, ◌%◌, ◌<◌, List, ◌++◌, length, get_or, map, filter, not, sym, ap, ◌∙◌, arith, subst, slice_index}
 use Rattle.std.proofs.Math.ListN.{get_or-map}
 use Rattle.counting.proofs.Common.{length-map, Within, mem}
@@ -18,7 +19,7 @@ pub with_piece-parts : (s : Growth) (p : Piece) (x y w n : ℕ) (es : List (ℕ 
 unfolding with_piece splice
 with_piece-parts s p x y w n es a b qw qn qe qa qb = grind arith
 
--- the edge of a multigraph that stands at place k, counted from 0
+-- the edge of a multigraph at place k, counted from 0
 pub edge-ends : (n : ℕ) (es : List Ends) (k : ℕ) → IsMultigraph (graph_of n es) → k < length es → let e : Ends = get_or es k (record { a = 0; b = 0 }) in Within n e.a × Within n e.b × (e.a ≡ e.b → ⊥)
 edge-ends n es k m l = (subst (λ p. Within n p.0) here ends.0, subst (λ p. Within n p.1) here ends.1, λ q. m.no_loop (k + 1) w (ap (λ p. p.0) here ∙ q ∙ sym (ap (λ p. p.1) here)))
   where

@@ -27,7 +27,7 @@ caught-permuted x f a b c p q r = grind arith
 pub mem-three : (t x y z : ℕ) → mem (x ∷ y ∷ z ∷ []) t ≡ true → (t ≡ x) ⊎ ((t ≡ y) ⊎ (t ≡ z))
 mem-three t x y z h = grind arith
 
--- a permuted list holds what the list holds
+-- a permuted list has the items of the list
 pub mem-permuted : (f : ℕ → ℕ) (p q r t : ℕ) (i : ℕ) → i < 6 → mem (permuted_values i f (p ∷ q ∷ r ∷ [])) t ≡ true → (t ≡ f p) ⊎ ((t ≡ f q) ⊎ (t ≡ f r))
 mem-permuted f p q r t = grind arith
 

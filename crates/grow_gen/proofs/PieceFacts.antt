@@ -1,5 +1,5 @@
--- The pieces are cubic, matching covered multigraphs. Idea: tests that compute, with three
--- perfect matchings that hold all edges, and all vertices reached from vertex 1 along the edges.
+-- The pieces are cubic, matching covered multigraphs. Idea: tests that compute, with three perfect
+-- matchings that contain all edges, and all vertices reached from vertex 1 along the edges.
 use Rattle.std.proofs.Common.{◌≡◌, ℕ, ◌≤◌, Bool, true, false, cond, ◌==◌, ◌&&◌, ◌||◌, not, inl, inr, List, [], ◌∷◌, refl, sym, ap, ◌∙◌, arith, eqb-true, nat_le, leb-true}
 use Rattle.std.proofs.lemmas.Bool.{eqb-false}
 use Rattle.counting.proofs.Common.{and_parts, or_cases, not-true, true≢false, implied, every_true, Within, Set, everything, none, mem, every}
@@ -67,7 +67,7 @@ connected-says g m h = connected-steady g m.ends (λ x s u v wu wv. all x s u wu
     all : (x : Set) → Each (Stays x) g.ends → (v : ℕ) → Within g.order v → x v ≡ x 1
     all x s v w = reached-stay x (x 1) g.ends (1 ∷ []) s (own x) v (every_true g.order _ h v w)
 
--- three perfect matchings that hold all edges
+-- three perfect matchings that contain all edges
 allowed-says : (g : Graph) (k l m : List ℕ) → is_perfect g none (mem k) ≡ true → is_perfect g none (mem l) ≡ true → is_perfect g none (mem m) ≡ true → every (size g) (λ e. mem k e || (mem l e || mem m e)) ≡ true → (e : ℕ) → Within (size g) e → Allowed g e
 allowed-says g k l m pk pl pm h e w = elim (or_cases (mem k e) (mem l e || mem m e) (every_true (size g) _ h e w)) [
   | inl t ↦ (mem k, is_perfect_true g none (mem k) pk, t)

@@ -1,12 +1,12 @@
--- The classes of the skeleton as rising lists. Idea: a rising list is fixed by its members, and
--- all of them are vertices.
+-- The classes of the skeleton as increasing lists. Idea: an increasing list is fixed by its
+-- members, and all of them are vertices.
 use Rattle.std.proofs.Common.{◌≡◌, ℕ, suc, zero, ◌+◌, ◌-◌, ◌≤◌, ◌<◌, Bool, true, false, cond, ◌==◌, ◌&&◌, ◌||◌, not, ◌⊎◌, inl, inr, List, [], ◌∷◌, length, get_or, take, map, refl, ◌∙◌, arith, eq-eqb, slice_index}
 use Rattle.counting.proofs.Common.{cases_lt, or_cases, or_left, or_right, and_parts, false_from_ne_true, take_more, map-append, mem-append, rising_only, mem-within, same_rising_list, rising_list-rises, mem-rising_list, mem-outside, set-wider, Within, Set, union, mem, rising_list, IsRisingIn}
 use Rattle.grow_gen.specs.declared.pieces.Piece.{Piece}
 use Rattle.grow_gen.specs.Common.{piece_order, is_bipartite_piece, side, new_number, Growth, eligible, next_class}
 use Rattle.grow_gen.proofs.PieceFacts.{piece-two}
 
--- a rising list with the members of a set of 1 to n is the list of that set
+-- an increasing list with the members of a set of 1 to n is the list of that set
 pub rising_list-of : (n m : ℕ) (xs : List ℕ) (x : Set) → n ≤ m → IsRisingIn m xs → ((v : ℕ) → mem xs v ≡ x v) → ((v : ℕ) → x v ≡ true → Within n v) → xs ≡ rising_list n x
 rising_list-of n m xs x l r same within = same_rising_list m xs (rising_list n x) r (set-wider n m (rising_list n x) l (rising_list-rises n x)) (λ v w. same v ∙ go v w (cases_lt n v))
   where
@@ -42,6 +42,6 @@ next_class-rising n m w p class next opposite l ww rc rn h = rising_list-of (n +
       | inr a ↦ grind arith
     ]
 
--- one vertex more
+-- one more vertex
 pub mem-image_more : (f : ℕ → ℕ) (xs : List ℕ) (i v : ℕ) (b : Bool) → i < length xs → ((b || mem (map f (take i xs)) v) || (f (get_or xs i 0) == v)) ≡ (b || mem (map f (take (i + 1) xs)) v)
 mem-image_more f xs i v b l = grind (arith, take_more xs i 0 l, map-append f (take i xs) (get_or xs i 0 ∷ []), mem-append (map f (take i xs)) (f (get_or xs i 0) ∷ []) v)

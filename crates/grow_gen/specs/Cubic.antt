@@ -4,6 +4,6 @@ use Rattle.std.specs.Prelude.{◌≡◌, ℕ}
 use Rattle.counting.specs.Common.{Within, everything}
 use Rattle.graph_core.specs.Common.{Graph, degree}
 
--- three edges are at each vertex
+-- each vertex has degree three
 abbrev pub IsCubic : Graph → Type 0
 IsCubic g = (v : ℕ) → Within g.order v → degree g everything v ≡ 3

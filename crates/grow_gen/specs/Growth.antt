@@ -1,6 +1,6 @@
--- The generator: a graph that grows from K3,3 by splices of small cubic graphs, where and how by
--- the words of the generator PCG (O'Neill 2014, "PCG: a family of simple fast space-efficient
--- statistically good algorithms for random number generation").
+-- The generator: a graph that grows from K3,3 by splices of small cubic graphs, where and how
+-- determined by the words of the generator PCG (O'Neill 2014, "PCG: a family of simple fast
+-- space-efficient statistically good algorithms for random number generation").
 -- Stated by: grow_gen. Rests on it: bench_outcomes, bench_top, theorems.
 use Rattle.std.specs.Prelude.{ℕ, zero, suc, ◌+◌, ◌-◌, ◌%◌, ◌≤◌, ◌<◌, Bool, List, [], ◌∷◌, ◌==◌, ◌&&◌, ◌||◌, not, map, length, slice_index, if◌then◌else◌}
 use Rattle.counting.specs.Common.{union, mem, rising_list, IsRisingIn}
@@ -12,8 +12,8 @@ use Rattle.grow_gen.specs.declared.pieces.Piece.TheVariants.{K33}
 use Rattle.grow_gen.specs.Pieces.{piece_order, piece_graph, is_bipartite_piece, side, further_piece}
 use Rattle.grow_gen.specs.Splices.{new_number, permutation, splice}
 
--- a graph that grows, with its skeleton: the vertices where a piece may be spliced, in two
--- classes A and B
+-- a growing graph, with its skeleton: the vertices where a piece may be spliced, in two classes A
+-- and B
 pub record Growth : Type 0 where
   pub graph : Graph
   pub in_a : List ℕ
@@ -23,8 +23,8 @@ pub record Growth : Type 0 where
 abbrev pub first_growth : Growth
 first_growth = record { graph = piece_graph K33; in_a = 1 ∷ 2 ∷ 3 ∷ []; in_b = 4 ∷ 5 ∷ 6 ∷ [] }
 
--- the vertices where the piece may be spliced, in rising order: the whole skeleton for a
--- bipartite piece, else class A
+-- the vertices where the piece may be spliced, in increasing order: the whole skeleton for a
+-- bipartite piece, otherwise class A
 abbrev pub eligible : Growth → Piece → List ℕ
 eligible s p = if is_bipartite_piece p then rising_list s.graph.order (union (mem s.in_a) (mem s.in_b)) else s.in_a
 
@@ -32,9 +32,9 @@ eligible s p = if is_bipartite_piece p then rising_list s.graph.order (union (me
 abbrev pub next_class : ℕ → ℕ → Piece → List ℕ → Bool → List ℕ
 next_class n w p class opposite = rising_list (n + piece_order p - 2) (λ v. (mem class v && not (w == v)) || mem (map (new_number n w) (side p opposite)) v)
 
--- one more piece by its two draws: the first picks the vertex w where it is spliced, the second
--- the permutation; of the vertices of a bipartite piece those opposite to vertex 1 get the class
--- of w, the others the other class
+-- one more piece by its two random words: the first picks the vertex w where it is spliced, the
+-- second the permutation; of the vertices of a bipartite piece those opposite to vertex 1 get the
+-- class of w, and the others the other class
 unfoldable pub with_piece : Growth → Piece → (x y : ℕ) → Growth
 with_piece s p x y =
     let w = slice_index (eligible s p) (x % length (eligible s p)) in
@@ -54,8 +54,8 @@ growth_from i (suc n) words s = growth_from (i + 1) n (pcg32 (pcg32 words).1).1 
 unfoldable pub grown : (seed pieces : ℕ) → Graph
 grown seed pieces = (growth_from 0 (pieces - 1) (started 64 multiplier_64 seed (increment_of 64 1)) first_growth).graph
 
--- what one more piece needs: new numbers of at most 128, classes of vertices, and a vertex for
--- the piece
+-- the conditions for one more piece: its new numbers are at most 128, the classes are sets of
+-- vertices, and there is a vertex for the piece
 pub record MayTake (s : Growth) (p : Piece) : Type 0 where
   pub room : s.graph.order + piece_order p ≤ 130
   pub in_a : IsRisingIn s.graph.order s.in_a

@@ -1,6 +1,6 @@
--- Splicing (Lucchesi and Murty, "Perfect Matchings"): a vertex of one graph and a vertex of
--- another are taken away, and the edges that ended there are joined in pairs. Here the second
--- graph gives up its vertex 1.
+-- Splicing (Lucchesi and Murty, "Perfect Matchings"): a vertex of one graph and a vertex of another
+-- are deleted, and the edges that ended there are joined in pairs. The deleted vertex of the second
+-- graph is always its vertex 1.
 -- Stated by: grow_gen. Rests on it: bench_outcomes.
 use Rattle.std.specs.Prelude.{ℕ, ◌+◌, ◌-◌, Bool, List, [], ◌∷◌, ◌++◌, ◌==◌, ◌||◌, not, map, filter, slice_index, slice_index_or, if◌then◌else◌}
 use Rattle.graph_core.specs.Common.{Graph}
@@ -34,7 +34,7 @@ new_number n w x = if x == 2 then w else n + x - 2
 abbrev pub edge_with_end : ℕ → ℕ → ℕ × ℕ → ℕ × ℕ
 edge_with_end w t e = if e.0 == w then (t, e.1) else (e.0, t)
 
--- the edges with the end w replaced in those at w, by the targets in turn; all keep their places
+-- the edges, with the targets in turn as the new ends of those at w; all keep their places
 abbrev pub rehung_edges : ℕ → List ℕ → List (ℕ × ℕ) → List (ℕ × ℕ)
 rehung_edges w targets [] = []
 rehung_edges w [] (e ∷ es) = e ∷ es

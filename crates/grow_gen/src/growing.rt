@@ -10,7 +10,7 @@ use graph_core::{Ends, MultiGraph};
 use std::alloc::{AllocError as Memory, Global};
 use vset_core::{MOST_VERTICES, VSet};
 
-/// A graph that grows, with the two classes of its skeleton.
+/// A growing graph, with the two classes of its skeleton.
 #[derive(Drop)]
 pub struct Growing {
     order: u32,
@@ -63,7 +63,8 @@ impl Growing {
         member_at(from, x % from.len())
     }
 
-    /// The graph with one more piece by its two draws. After `Memory` the graph is gone.
+    /// The graph with one more piece, given by its two random words. After `Memory` the graph is
+    /// dropped.
     pub fn with_piece(mut self, piece: Piece, x: u32, y: u32) -> Result<Growing, Memory>
         requires { MayTake (growth_of self) piece }
         ensures { IfOk result (λ g. growth_of g ≡ with_piece (growth_of self) piece x y) }
@@ -94,7 +95,7 @@ impl Growing {
     }
 }
 
-/// The member of a set at a place, counted from 0 in rising order.
+/// The member of a set at a place, counted from 0 in increasing order.
 fn member_at(set: VSet, place: u32) -> u32
     requires { place < length set }
     ensures { result ≡ slice_index set place }
@@ -105,8 +106,8 @@ fn member_at(set: VSet, place: u32) -> u32
     }
 }
 
-/// A class without `w` and with the vertices that the piece brings into it: those opposite to its
-/// vertex 1 where `w` is in the class, and the others where it is not.
+/// A class without `w` and with the vertices that the piece adds to it: those opposite to its
+/// vertex 1 if `w` is in the class, and the others if not.
 fn next_class(class: VSet, piece: Piece, n: u32, w: u32) -> VSet
     requires room { n + piece_order piece ≤ MOST_VERTICES + 2 }
     requires rising { IsRisingIn n class }

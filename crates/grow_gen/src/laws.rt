@@ -4,8 +4,8 @@ ghost use Rattle.counting.specs.Common.{Within};
 ghost use Rattle.graph_core.specs.Common.{Graph, IsMultigraph, IsCovered, IsSimple};
 ghost use Rattle.grow_gen.specs.Common.{IsCubic, splice, permutation};
 
-/// Splicing: two cubic multigraphs give a cubic multigraph, without parallel edges where they
-/// have none, and covered where they are.
+/// Splicing: the splice of two cubic multigraphs is a cubic multigraph. It has no parallel edges if
+/// neither graph has any, and it is covered if both are.
 pub fn splice_law()
     ensures multigraph { (g h : Graph) (w i : ℕ) → IsMultigraph g → IsMultigraph h → IsCubic g →
         IsCubic h → 2 ≤ h.order →

@@ -1,19 +1,17 @@
-//! Large matching covered graphs from a number.
+//! Large matching covered graphs, determined by a seed.
 //!
 //! `grow` makes the graph of a seed: it begins with K3,3 and splices K4, K3,3, the prism and the
-//! cube into it in turn. Where and how each is spliced is drawn from the generator PCG, so that a
-//! seed names one graph for good. The definitions are `splice` (specs/Splices), the pieces
-//! (specs/Pieces) and `grown` (specs/Growth), which is written over the words of the generator as
-//! `rand_pcg` defines them. Promises: `grow` answers `grown`, and this graph is cubic, simple and
-//! matching covered; `splice_law` says the same of every splice of two such graphs at a vertex of
-//! each.
+//! cube into it in turn. Where and how each is spliced is pseudo-random, by the generator PCG, so a
+//! seed always gives the same graph. The definitions are `splice` (specs/Splices), the pieces
+//! (specs/Pieces) and `grown` (specs/Growth), which uses the generator as `rand_pcg` defines it.
+//! Promises: `grow` returns `grown`, and this graph is cubic, simple and matching covered;
+//! `splice_law` says the same of every splice of two such graphs.
 //!
-//! Bipartite pieces are braces and the others bricks, and the skeleton of the growth is chosen so
-//! that the cut of each piece is tight; that the pieces are the bricks and braces of the graph is
-//! no promise of this crate.
+//! The cut of each piece is meant to be tight, with braces as the bipartite pieces and bricks as
+//! the others; this crate does not promise it.
 //!
-//! Stands on `graph_core`, `vset_core`, `rand_pcg` and `rand_core`. Splicing is in Lucchesi and
-//! Murty, "Perfect Matchings" (2024); the generator of words is O'Neill's (2014).
+//! Depends on `graph_core`, `vset_core`, `rand_pcg` and `rand_core`. Splicing is in Lucchesi and
+//! Murty, "Perfect Matchings" (2024); the generator is O'Neill's (2014).
 #![tactic(auto)]
 
 mod generator;

@@ -112,7 +112,7 @@ impl Piece {
     }
 
     /// The vertices that take part in the skeleton: of a bipartite piece those opposite to vertex
-    /// 1, or the others but 1.
+    /// 1, and of any other piece all but vertex 1.
     pub fn side(self, opposite: bool) -> &'static [u32]
         ensures { result.now ≡ side self opposite }
     {

@@ -65,7 +65,7 @@ fn with_end(edge: Ends, w: u32, t: u32) -> Ends
     }
 }
 
-/// Gives the edges at `w` the targets as their ends in its place, one after the other.
+/// Gives the edges at `w` the targets as their new ends, one after the other.
 pub fn rehang(edges: &mut Vec<Ends>, w: u32, targets: &[u32])
     ensures { map pair_of edges.new.items ≡
         rehung_edges w targets.now (map pair_of edges.old.items) }
@@ -79,7 +79,7 @@ pub fn rehang(edges: &mut Vec<Ends>, w: u32, targets: &[u32])
     }
 }
 
-/// Appends the edges of the piece that are not at its vertex 1, under their new numbers.
+/// Appends the edges of the piece that do not meet its vertex 1, under their new numbers.
 pub fn append_kept(edges: &mut Vec<Ends>, piece: Piece, n: u32, w: u32) -> Result<(), Memory>
     requires { n + piece_order piece ≤ MOST_VERTICES + 2 }
     ensures { OnOk result

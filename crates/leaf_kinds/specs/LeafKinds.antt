@@ -8,7 +8,7 @@ use Rattle.graph_core.specs.declared.verdict.Kind.{Kind}
 use Rattle.graph_core.specs.declared.verdict.Kind.TheVariants.{Brace, Brick, Composite}
 
 -- a brace is bipartite and a brick is not, and neither has a nontrivial tight cut; a composite
--- graph is shown by the shore of one
+-- graph comes with the shore of one
 abbrev pub IsKind : Graph → Kind → Type 0
 IsKind g Brace = IsBipartite g × HasOnlyTrivialTightCuts g
 IsKind g Brick = (¬ IsBipartite g) × HasOnlyTrivialTightCuts g
@@ -20,7 +20,7 @@ cut_of Brace = None
 cut_of Brick = None
 cut_of (Composite cut) = Some cut
 
--- at least four vertices, bicritical, and connected without any two vertices
+-- at least four vertices, bicritical, and still connected after deleting any two vertices
 pub record IsThreeConnectedAndBicritical (g : Graph) : Type 0 where
   pub four : 4 ≤ g.order
   pub bicritical : IsBicritical g

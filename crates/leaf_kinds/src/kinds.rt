@@ -12,10 +12,10 @@ use std::alloc::{AllocError as Memory, Global};
 use tight_cuts::first_cut;
 use vset_core::VSet;
 
-/// The kind of a covered graph: composite exactly when it has a nontrivial tight cut, shown by the
-/// shore that `find_any` gives, and otherwise a brace exactly when it is bipartite, and a brick
-/// if it is not (Lovász 1987). A graph called a brick has at least four vertices, is bicritical
-/// and has no cut pair.
+/// The kind of a covered graph (Lovász 1987): composite if and only if it has a nontrivial tight
+/// cut, with the shore that `find_any` returns; otherwise a brace if it is bipartite, and a brick
+/// if not. A graph that is called a brick has at least four vertices, is bicritical and has no cut
+/// pair.
 pub fn kind(alloc: Global, g: &MultiGraph) -> Result<Kind, Memory>
     requires { IsCovered g.now }
     ensures kind { IfOk result (IsKind g.now) }
@@ -26,7 +26,7 @@ pub fn kind(alloc: Global, g: &MultiGraph) -> Result<Kind, Memory>
     kind_of(alloc, &FirstPairs::of(&covered))
 }
 
-/// The kind that `kind` answers, of a covered graph with its first pairs.
+/// The kind that `kind` returns, of a covered graph with its first pairs.
 pub fn kind_of(alloc: Global, pairs: &FirstPairs) -> Result<Kind, Memory>
     ensures kind { IfOk result (IsKind pairs.now) }
     ensures cut { IfOk result (λ kind. cut_of kind ≡ first_shore (candidates pairs.now)) }
@@ -37,7 +37,7 @@ pub fn kind_of(alloc: Global, pairs: &FirstPairs) -> Result<Kind, Memory>
     Ok(kind_by_cut(pairs, cut))
 }
 
-// The kind, from the shore of the first candidate.
+// The kind, given the shore of the first candidate.
 fn kind_by_cut(pairs: &FirstPairs, cut: Option<VSet>) -> Kind
     requires first { cut ≡ first_shore (candidates pairs.now) }
     requires some { (s : _) → cut ≡ Some s →

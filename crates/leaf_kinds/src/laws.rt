@@ -1,4 +1,4 @@
-//! The law of bricks. It is the contract of a function that does nothing.
+//! The law of bricks, the contract of a function that does nothing.
 ghost use Rattle.graph_core.specs.Common.{IsCovered, Graph, IsMultigraph};
 ghost use Rattle.graph_core.specs.declared.verdict.Kind.TheVariants.{Brick};
 ghost use Rattle.leaf_kinds.specs.LeafKinds.{IsKind, IsThreeConnectedAndBicritical};

@@ -1,5 +1,5 @@
--- What is written of a number is a word of digits, and std tells that they read as that number.
--- Below 10 ^ 9 they are nine at most, so the word is a number.
+-- A number is written as a word of digits, and by std they are read as that number. Below 10 ^ 9
+-- they are nine at most, so the word is a number.
 use Rattle.std.proofs.Common.{◌≡◌, ℕ, suc, ◌^◌, ◌≤◌, ◌<◌, List, [], ◌∷◌, All, length, map, Bool, true, not, ◌||◌, ◌==◌, Some, refl, ◌∙◌, ap, ap₂, arith, rules}
 use Rattle.std.specs.Char.{is_ascii_digit}
 use Rattle.std.specs.Fmt.{decimal}
@@ -22,7 +22,7 @@ numerals = numerals_by_value (λ ds. list_all is_ascii_digit ds ≡ true) tells_
 pub digits-decimal : (n : ℕ) → n < 10 ^ 9 → list_all is_ascii_digit (decimal n) ≡ true
 digits-decimal n small = digits_decimal numerals n (omega arith)
 
--- what holds of each digit holds of each byte of a number
+-- what is true of each digit is true of each byte of a number
 pub list_all-digits : (test : ℕ → Bool) → ((byte : ℕ) → 48 ≤ byte → byte ≤ 57 → test byte ≡ true) → (word : List ℕ) → list_all is_ascii_digit word ≡ true → list_all test word ≡ true
 list_all-digits test holds [] digits = refl
 list_all-digits test holds (byte ∷ word) digits =

@@ -23,7 +23,7 @@ module _ {Body Value Kind : Type 0} (rules : Rules Body Value Kind) where
   reading_from-at_line from [] line after count reached kind begins breaks = grind arith
   reading_from-at_line from (first ∷ before) line after count reached kind begins breaks = grind (arith, reading_from-at_line (Some begins.0) before line after count reached kind begins.2 breaks)
 
-  -- why reading from a state gives a value or a fault
+  -- why reading from a state gives a value or an error
   record FaultAtLine (from : Option Body) (lines : List SignificantLine) (number : ℕ) (kind : Kind) : Type 0 where
     before : List SignificantLine
     line : SignificantLine
@@ -76,7 +76,7 @@ module _ {Body Value Kind : Type 0} (rules : Rules Body Value Kind) where
   explains from (line ∷ lines) count =
       explains-cons from line lines count _ refl (λ body. explains (Some body) lines count)
 
-  -- reading gives the value exactly when the text stands for it
+  -- reading gives the value if and only if the text stands for it
   pub Stands-reading_of : (text : List ℕ) (value : Value) → Stands rules text value → reading_of rules text ≡ Ok value
   Stands-reading_of text value stands = reading_from-value None _ _ stands.reached value stands.begins stands.ends
 
@@ -86,7 +86,7 @@ module _ {Body Value Kind : Type 0} (rules : Rules Body Value Kind) where
   pub Stands-from_reading : (text : List ℕ) (value : Value) → reading_of rules text ≡ Ok value → Stands rules text value
   Stands-from_reading text value is = Stands-from_explains text _ (explains None _ _) value is
 
-  -- and the fault exactly when it is the first one
+  -- and the error if and only if it is the first one
   pub FirstFault-reading_of : (text : List ℕ) (number : ℕ) (kind : Kind) → FirstFault rules text number kind → reading_of rules text ≡ Err (number, kind)
   FirstFault-reading_of text number kind h = grind (arith, reading_from-at_line None, reading_from-at_end None)
 
@@ -96,8 +96,8 @@ module _ {Body Value Kind : Type 0} (rules : Rules Body Value Kind) where
   pub FirstFault-from_reading : (text : List ℕ) (number : ℕ) (kind : Kind) → reading_of rules text ≡ Err (number, kind) → FirstFault rules text number kind
   FirstFault-from_reading text number kind is = FirstFault-from_explains text _ (explains None _ _) number kind is
 
-  -- so a reader whose answer comes of the text names the value that it stands for, or its first
-  -- fault
+  -- so a reader whose result follows from the text returns the value that it stands for, or its
+  -- first error
   pub IfOk-reads : {X : Type 0} (meaning : X → Value) (text : List ℕ) (result : Result X (LineFault Kind)) → Reads meaning result (reading_of rules text) → IfOk result (λ x. Stands rules text (meaning x))
   IfOk-reads meaning text (Ok x) reads = Stands-from_reading text (meaning x) reads
   IfOk-reads meaning text (Err failed) reads = tt
@@ -115,7 +115,7 @@ module _ {Body Value Kind : Type 0} (rules : Rules Body Value Kind) where
   Reads-breaks meaning text result reads number kind first =
       subst (λ (outcome : Result Value (ℕ × Kind)). Reads meaning result outcome) (FirstFault-reading_of text number kind first) reads
 
-  -- each text stands for exactly one value or has exactly one first fault
+  -- each text stands for exactly one value or has exactly one first error
   alone-from : (text : List ℕ) (outcome : Result Value (ℕ × Kind)) → reading_of rules text ≡ outcome → StandsAlone rules text ⊎ BreaksAlone rules text
   alone-from text (Ok value) is = inl (record {
     value = value;

@@ -6,7 +6,7 @@ use Rattle.line_text.specs.declared.format.Refusal.{Refusal}
 use Rattle.line_text.specs.declared.format.Refusal.TheVariants as refusal
 use Rattle.line_text.specs.Common.{words_of, is_skipped, significant_from, Rules, step, finish, Refuses, Fails, state_after, placed, go_on, reading_from}
 
--- a reader that places a rule's refusal names the fault that the rule gives
+-- a reader that places a rule's refusal names the error that the rule gives
 pub Fails-placed : {Body Value Kind : Type 0} (number : ℕ) (refused : Refusal Kind) (given : Result Body Kind) (outcome : Result Value (ℕ × Kind)) → Refuses refused given → ((kind : Kind) → given ≡ Err kind → outcome ≡ Err (number, kind)) → Fails (placed number refused) outcome
 Fails-placed number (refusal.Fault kind) given outcome refuses follows = follows kind refuses
 Fails-placed number refusal.Memory given outcome refuses follows = tt

@@ -1,6 +1,6 @@
--- A text is cut into lines from the front: up to the first line feed stands the first line, after
--- it the others. What stands after a line feed has parts of its own, so the part before it is a
--- line, even an empty one.
+-- A text is cut into lines from the front: the first line ends at the first line feed, and the
+-- others follow. The text after a line feed has its own parts, so the part before it is a line,
+-- even an empty one.
 use Rattle.std.proofs.Common.{◌≡◌, inl, inr, ℕ, ◌+◌, ◌<◌, ◌≤◌, List, [], ◌∷◌, ◌++◌, length, position, unwrap_or, Bool, true, false, cond, refl, ◌∙◌, ap, arith, lt-ltb, take_all}
 use Rattle.std.specs.List.{slice_split, onto_first, position_or_len, before_first, after_first}
 use Rattle.std.proofs.lemmas.Bool.{cases_Bool, cases_lt}
@@ -28,7 +28,7 @@ unfolding IsCons
 IsCons-slice_split [] = (_, _, refl)
 IsCons-slice_split (byte ∷ text) = IsCons-cond (is_line_feed byte) _ _ (_, _, refl) (IsCons-onto_first byte (slice_split is_line_feed text))
 
--- the lines of parts of which the first stands before a line feed
+-- the lines of parts the first of which ends with a line feed
 lines_of_parts-cons : (part : List ℕ) (parts : List (List ℕ)) → IsCons parts → lines_of_parts (part ∷ parts) ≡ part ∷ lines_of_parts parts
 unfolding IsCons
 lines_of_parts-cons part parts more = grind arith
@@ -57,7 +57,7 @@ pub lines_of-nil : lines_of [] ≡ []
 unfolding lines_of
 lines_of-nil = refl
 
--- a text that is not empty has a first line, and the lines of what stands after its line feed
+-- a text that is not empty has a first line, and the lines of the text after its line feed
 pub lines_of-first : (text : List ℕ) → 0 < length text → lines_of text ≡ before_first is_line_feed text ∷ lines_of (after_first is_line_feed text)
 lines_of-first text some = grind (arith, cases_lt, lines_of-fed, take_all, drop_all, lines_of-unfed, lines_of-nil)
 
@@ -89,7 +89,7 @@ onto_first-append : (byte : ℕ) (lines more : List (List ℕ)) → IsCons lines
 unfolding IsCons
 onto_first-append byte lines more some = grind arith
 
--- a byte before a text that is not empty stands in that text's first line
+-- a byte before a nonempty text belongs to that text's first line
 pub onto_first-lines_of : (byte : ℕ) (text : List ℕ) (more : List (List ℕ)) → 0 < length text → onto_first byte (lines_of text ++ more) ≡ onto_first byte (lines_of text) ++ more
 unfolding IsCons
 onto_first-lines_of byte text more some = onto_first-append byte (lines_of text) more (_, _, lines_of-first text some)

@@ -1,5 +1,5 @@
 -- What is written is read as it was meant: lines by line feeds, words by spaces, numbers by their
--- digits. Byte by byte, a line feed begins a new line, and any other byte stands at the front of
+-- digits. Byte by byte, a line feed begins a new line, and any other byte is put at the front of
 -- the first line of what follows it.
 use Rattle.std.proofs.Common.{◌≡◌, inl, inr, ℕ, ◌+◌, List, [], ◌∷◌, ◌++◌, length, map, filter, Bool, true, false, not, ◌||◌, ◌==◌, cond, Option, Some, None, Ok, refl, sym, ◌∙◌, ap, subst, arith, rules}
 use Rattle.std.specs.List.{slice_split, onto_first, list_all, AllByRecursion, All}
@@ -49,7 +49,7 @@ pub is_closed-unlines : (lines : List (List ℕ)) → is_closed (unlines lines) 
 is_closed-unlines [] = refl
 is_closed-unlines (line ∷ lines) = is_closed-line line (unlines lines) (is_closed-unlines lines)
 
--- a word holds no line feed and no blank, and it has bytes
+-- a word contains no line feed and no blank, and it has bytes
 abbrev is_one_word : List ℕ → Bool
 is_one_word word = list_all (λ byte. not (is_blank byte)) word
 
@@ -159,7 +159,7 @@ pub AreSkipped-written : (comments : List (List (List ℕ))) → AllByRecursion 
 AreSkipped-written comments each =
     subst AreSkipped (sym (lines_of-written comments (AreWords-comments comments each))) (AreSkipped-unwords comments each)
 
--- what a format says to the lines of a text decides what it stands for
+-- the format's result for the lines of a text decides what it stands for
 module _ {Body Value Kind : Type 0} (rules : Rules Body Value Kind) where
   pub Begins-append : (from : Option Body) (lines : List (List (List ℕ))) (between : Option Body) (more : List (List (List ℕ))) (to : Option Body) → Begins rules from lines between → Begins rules between more to → Begins rules from (lines ++ more) to
   Begins-append from [] between more to begins goes = subst (λ (s : Option Body). Begins rules s more to) begins goes

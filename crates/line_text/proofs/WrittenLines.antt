@@ -10,7 +10,7 @@ pub written-append : (lines more : List (List (List ℕ))) → written (lines ++
 written-append [] more = refl
 written-append (words ∷ lines) more = grind (arith, written-append lines more, append_assoc (unwords words) (10 ∷ written lines) (written more))
 
--- one item more, a line each
+-- one more item, a line each
 pub written-more : {X : Type 0} (words_of : X → List (List ℕ)) (before : List (List (List ℕ))) (xs : List X) (i : ℕ) (d : X) → i < length xs → written (before ++ map words_of (take (i + 1) xs)) ≡ written (before ++ map words_of (take i xs)) ++ written (words_of (get_or xs i d) ∷ [])
 written-more words_of before xs i d less =
     let e : i + 1 ≡ suc i = omega arith in

@@ -1,4 +1,4 @@
--- The numbers of the kinds of faults in a text.
+-- The numbers of the kinds of errors in a text.
 -- Stated by: line_text. Rests on it: bench_tasks, mcg6_front_top.
 use Rattle.std.specs.Prelude.{ℕ}
 use Rattle.line_text.specs.declared.faults.FaultKind.{FaultKind}

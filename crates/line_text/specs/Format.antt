@@ -1,12 +1,12 @@
--- Formats of texts, line by line: what a text stands for, and its first fault.
+-- Formats of texts, line by line: what a text stands for, and its first error.
 -- Stated by: line_text, graph_text, tree_text, move_text, ear_text, mcg6_encoder, example_order.
 -- Rests on it: report_text, bench_tasks, bench_outcomes, bench_reports, bench_top, theorems.
 use Rattle.std.specs.Prelude.{◌≡◌, ◌⊎◌, ℕ, ◌+◌, List, [], ◌∷◌, ◌++◌, length, map, Option, Some, None, Result, Ok, Err, Bool, if◌then◌else◌}
 use Rattle.line_text.specs.Lines.{lines_of}
 use Rattle.line_text.specs.Words.{SignificantLine, significant_lines_of}
 
--- a format: a rule each for the header, for a line after the header and for the end of the text,
--- which goes on with what has been read so far or names a fault, and the fault of a text without
+-- a format: rules for the header, for a line after the header and for the end of the text, each of
+-- which continues from what has been read so far or gives an error, and the error of a text without
 -- a header
 pub record Rules (Body Value Kind : Type 0) : Type 0 where
   pub header : List (List ℕ) → Result Body Kind
@@ -14,7 +14,7 @@ pub record Rules (Body Value Kind : Type 0) : Type 0 where
   pub close : Body → Result Value Kind
   pub headless : Kind
 
--- a rule's table: the kind of the first test that applies, or the value where none does
+-- a rule's table: the kind of the first test that applies, or the value if none does
 abbrev pub checked : {A Kind : Type 0} → List (Bool × Kind) → A → Result A Kind
 checked [] value = Ok value
 checked (test ∷ tests) value = if test.0 then Err test.1 else checked tests value
@@ -30,19 +30,19 @@ module _ {Body Value Kind : Type 0} (rules : Rules Body Value Kind) where
   finish None = Err rules.headless
   finish (Some body) = rules.close body
 
-  -- the lines with these words are a good beginning, which leads on from one state to the other
+  -- the lines with these words are a valid beginning, which leads from one state to the other
   abbrev pub Begins : Option Body → List (List (List ℕ)) → Option Body → Type 0
   Begins from [] to = to ≡ from
   Begins from (words ∷ lines) to = (body : Body) × (step from words ≡ Ok body) × Begins (Some body) lines to
 
-  -- the text stands for the value: its significant lines are a good beginning, at whose end the
+  -- the text stands for the value: its significant lines are a valid beginning, and at its end the
   -- format has this value
   pub record Stands (text : List ℕ) (value : Value) : Type 0 where
     pub reached : Option Body
     pub begins : Begins None (map (λ line. line.words) (significant_lines_of text)) reached
     pub ends : finish reached ≡ Ok value
 
-  -- a line breaks the format, and the significant lines before it are a good beginning
+  -- a line breaks the format, and the significant lines before it are a valid beginning
   pub record BreaksAtLine (text : List ℕ) (number : ℕ) (kind : Kind) : Type 0 where
     pub before : List SignificantLine
     pub line : SignificantLine
@@ -53,25 +53,25 @@ module _ {Body Value Kind : Type 0} (rules : Rules Body Value Kind) where
     pub begins : Begins None (map (λ l. l.words) before) reached
     pub breaks : step reached line.words ≡ Err kind
 
-  -- all significant lines are a good beginning, but the text ends too early, after its last line
+  -- all significant lines are a valid beginning, but the text ends too early, after its last line
   pub record BreaksAtEnd (text : List ℕ) (number : ℕ) (kind : Kind) : Type 0 where
     pub numbered : number ≡ length (lines_of text) + 1
     pub reached : Option Body
     pub begins : Begins None (map (λ line. line.words) (significant_lines_of text)) reached
     pub breaks : finish reached ≡ Err kind
 
-  -- the first fault of the text stands at the line of this number and is of this kind
+  -- the first error of the text is at the line of this number and is of this kind
   abbrev pub FirstFault : List ℕ → ℕ → Kind → Type 0
   FirstFault text number kind = BreaksAtLine text number kind ⊎ BreaksAtEnd text number kind
 
-  -- the text stands for one value alone, and has no fault
+  -- the text stands for exactly one value, and has no error
   pub record StandsAlone (text : List ℕ) : Type 0 where
     pub value : Value
     pub stands : Stands text value
     pub only : (other : Value) → Stands text other → other ≡ value
     pub faultless : (number : ℕ) (kind : Kind) → FirstFault text number kind → ⊥
 
-  -- the text has one first fault alone, and stands for no value
+  -- the text has exactly one first error, and stands for no value
   pub record BreaksAlone (text : List ℕ) : Type 0 where
     pub number : ℕ
     pub kind : Kind

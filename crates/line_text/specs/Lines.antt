@@ -8,8 +8,8 @@ use Rattle.std.specs.List.{slice_split}
 abbrev pub is_line_feed : ℕ → Bool
 is_line_feed byte = byte == 10
 
--- the parts before, between and after the line feeds are the lines, but an empty part after the
--- last line feed is none
+-- the parts before, between and after the line feeds are the lines; an empty part after the last
+-- line feed does not count
 abbrev pub lines_of_parts : List (List ℕ) → List (List ℕ)
 lines_of_parts [] = []
 lines_of_parts (part ∷ []) = if length part == 0 then [] else part ∷ []
@@ -19,12 +19,12 @@ lines_of_parts (part ∷ next ∷ parts) = part ∷ lines_of_parts (next ∷ par
 unfoldable pub lines_of : List ℕ → List (List ℕ)
 lines_of text = lines_of_parts (slice_split is_line_feed text)
 
--- the text with these lines, each of which a line feed ends
+-- the text with these lines, each ended by a line feed
 abbrev pub unlines : List (List ℕ) → List ℕ
 unlines [] = []
 unlines (line ∷ lines) = line ++ 10 ∷ unlines lines
 
--- whether the text is empty or a line feed ends it, so that more text begins with a line of its own
+-- whether the text is empty or ends with a line feed, so that appended text begins with a new line
 abbrev pub is_closed : List ℕ → Bool
 is_closed [] = true
 is_closed (byte ∷ []) = is_line_feed byte

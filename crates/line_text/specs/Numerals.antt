@@ -15,10 +15,10 @@ number_of word =
 abbrev pub is_number : List ℕ → Bool
 is_number word = is_some (number_of word)
 
--- the number that a word writes, or 0 where it writes none
+-- the number that a word writes, or 0 if it writes none
 abbrev pub value_of : List ℕ → ℕ
 value_of word = unwrap_or (number_of word) 0
 
--- the numbers that words write, or nothing where one of them writes none
+-- the numbers that words write, or nothing if one of them writes none
 abbrev pub numbers_of : List (List ℕ) → Option (List ℕ)
 numbers_of words = if list_all is_number words then Some (map value_of words) else None

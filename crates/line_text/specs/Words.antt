@@ -19,7 +19,7 @@ is_blank byte = (byte == 32) || ((byte == 9) || (byte == 13))
 unfoldable pub words_of : List ℕ → List (List ℕ)
 words_of line = filter (λ run. not (length run == 0)) (slice_split is_blank line)
 
--- the word at a place, counted from 0, or the empty word where there is none
+-- the word at a place, counted from 0, or the empty word if there is none
 abbrev pub word_at : List (List ℕ) → ℕ → List ℕ
 word_at words place = slice_index_or words place []
 
@@ -63,7 +63,7 @@ unwords (word ∷ next ∷ words) = word ++ 32 ∷ unwords (next ∷ words)
 abbrev pub written : List (List (List ℕ)) → List ℕ
 written lines = unlines (map unwords lines)
 
--- a word: some bytes, none of which is a blank or a line feed
+-- a word: nonempty, without blanks and line feeds
 abbrev pub is_word : List ℕ → Bool
 is_word word = not (length word == 0) && list_all (λ byte. not (is_blank byte || is_line_feed byte)) word
 

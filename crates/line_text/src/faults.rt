@@ -5,28 +5,28 @@ ghost use Rattle.line_text.specs.FaultKinds.{kind_number};
 use std::alloc::AllocError;
 use thiserror::Error;
 
-/// The kind of a fault in a text.
+/// The kind of an error in a text.
 #[derive(Clone, Copy, Debug, PartialEq, Eq)]
 pub enum FaultKind {
     /// The first significant line is not the header, or there is none.
     Header,
-    /// A line has a wrong first word or a wrong number of words.
+    /// A line has a wrong first word or the wrong number of words.
     Word,
     /// A word that must be a number is not one.
     Number,
-    /// A vertex or edge number is 0 or too great.
+    /// A vertex or edge number is 0 or too large.
     Range,
     /// The two ends of an edge are equal.
     Loop,
-    /// A stated limit is passed.
+    /// A stated limit is exceeded.
     Limit,
     /// The text ends before the format does.
     Missing,
-    /// A significant line stands after the end.
+    /// A significant line follows the end.
     Extra,
-    /// The vertices of a shore are not strictly rising.
+    /// The vertices of a shore are not strictly increasing.
     NotRising,
-    /// A shore holds the greatest vertex.
+    /// A shore contains the highest-numbered vertex.
     HasGreatest,
     /// A name is not the name of a vertex.
     Unnamed,
@@ -49,9 +49,9 @@ impl FaultKind {
     }
 }
 
-/// Why a text was not read: the first line outside its format with the kind of its fault, or want
-/// of memory. Lines are counted from 1; where lines are missing at the end, the line is one more
-/// than there are.
+/// Why a text was not read: the first line outside its format with the kind of its error, or lack
+/// of memory. Lines are counted from 1. If lines are missing at the end, the line is one past the
+/// last.
 #[derive(Clone, Copy, Debug, PartialEq, Eq, Error)]
 pub enum TextFault {
     #[error("line {line} is not in the format")]
@@ -60,7 +60,7 @@ pub enum TextFault {
     Memory,
 }
 
-/// Want of memory, for `?` in a reader.
+/// Out of memory, for `?` in a reader.
 impl From<AllocError> for TextFault {
     ghost use Rattle.line_text.specs.declared.faults.TextFault.TheVariants.{Memory};
 

@@ -3,8 +3,8 @@ ghost use Rattle.std.specs.Prelude.{◌≡◌};
 
 use std::alloc::{AllocError, AllocFailed};
 
-/// Why a rule of a format does not go on: a fault of the text, by its kind, or memory. `?` makes
-/// `Memory` of an allocator's error.
+/// Why a rule of a format stops: an error of the text, by its kind, or lack of memory. `?` turns an
+/// allocator's error into `Memory`.
 #[derive(Clone, Copy, Debug, PartialEq, Eq, Drop)]
 pub enum Refusal<K> {
     /// The line, or the end of the text, breaks the format in this way.
@@ -36,8 +36,8 @@ impl<K, T: Drop> From<AllocFailed<T>> for Refusal<K> {
 /// Why a text is not read.
 #[derive(Clone, Copy, Debug, PartialEq, Eq, Drop)]
 pub enum LineFault<K> {
-    /// The first fault of the text and the number of its line, counted from 1. Where the text
-    /// ends too early, that is the number of its lines plus one.
+    /// The first error of the text and the number of its line, counted from 1. If the text ends too
+    /// early, that is one past its last line.
     At { line: u32, kind: K },
     /// Memory ran out, whatever the text says.
     Memory,
@@ -45,11 +45,10 @@ pub enum LineFault<K> {
 
 /// A format of texts, line by line, with its parameters: a value of the type is one format.
 ///
-/// The ghost member `rules` says what the format is, over plain values: a `State` for what has
-/// been read so far, seen by `state`, and a `Meaning` for what a text stands for, seen by
-/// `meaning`. Each method answers what its rule says, or that memory ran out. The tests within a
-/// line are made in the order of the rule's table, each for all words of the line before the
-/// next.
+/// The ghost member `rules` says what the format is, over plain values: a `State` for what has been
+/// read so far, seen by `state`, and a `Meaning` for what a text stands for, seen by `meaning`.
+/// Each method returns what its rule says, or that memory ran out. The tests within a line are made
+/// in the order of the rule's table, each for all words of the line before the next.
 pub trait LineFormat {
     ghost use Rattle.line_text.specs.Format.{Rules};
     ghost use Rattle.line_text.specs.Reading.{Gives};
@@ -59,7 +58,7 @@ pub trait LineFormat {
     type Body: Drop;
     /// What a text stands for.
     type Value;
-    /// The kinds of the faults of a text.
+    /// The kinds of the errors of a text.
     type Kind;
 
     // What has been read so far, and what a text stands for, as plain values.
@@ -78,16 +77,16 @@ pub trait LineFormat {
     fn header(&self, words: &[&[u8]]) -> Result<Self::Body, Refusal<Self::Kind>>
         ensures { Gives state result ((rules self.now).header (texts_of words.now)) };
 
-    /// What has been read once a further line is, by the words of the line, after what had been
-    /// read before it.
+    /// What has been read after a further line, from the words of the line and what was read before
+    /// it.
     fn line(&self, body: Self::Body, words: &[&[u8]]) -> Result<Self::Body, Refusal<Self::Kind>>
         ensures { Gives state result ((rules self.now).line (state body) (texts_of words.now)) };
 
-    /// What the text stands for, which ends here.
+    /// What the text stands for if it ends here.
     fn close(&self, body: Self::Body) -> Result<Self::Value, Refusal<Self::Kind>>
         ensures { Gives meaning result ((rules self.now).close (state body)) };
 
-    /// The kind of the fault of a text without a header.
+    /// The kind of the error of a text without a header.
     fn headless(&self) -> Self::Kind
         ensures { result ≡ (rules self.now).headless };
 }

@@ -1,4 +1,4 @@
-//! Laws of formats: a text stands for one value or has one first fault, and comments change
+//! Laws of formats: a text stands for one value or has one first error, and comments change
 //! neither.
 ghost use Rattle.std.specs.Prelude.{◌≡◌, ◌<◌, ◌⊎◌, ◌^◌, ℕ, List, ◌++◌, true, Option, Some, None, Ok};
 ghost use Rattle.std.specs.Fmt.{decimal};
@@ -7,7 +7,7 @@ ghost use Rattle.line_text.specs.Common.{Begins, finish, Stands, StandsAlone, Br
 
 use crate::format::LineFormat;
 
-/// Each text stands for exactly one value of a format or has exactly one first fault, and not both.
+/// Each text either stands for exactly one value of a format or has exactly one first error.
 pub fn exactly_one<F: LineFormat>()
     ensures { (format : F) (text : List ℕ) →
         StandsAlone (F.rules format) text ⊎ BreaksAlone (F.rules format) text }
@@ -41,7 +41,7 @@ pub fn comments_add_nothing()
         → significant_lines_of (text ++ comments) ≡ significant_lines_of text }
 {}
 
-/// What is written of a number below 1,000,000,000 is a word, and is read as that number.
+/// A number below 1,000,000,000 is written as a word, and the word is read as that number.
 pub fn written_numbers_are_read()
     ensures word { (n : ℕ) → n < 10 ^ 9 → is_word (decimal n) ≡ true }
     ensures number { (n : ℕ) → n < 10 ^ 9 → number_of (decimal n) ≡ Some n }

@@ -18,11 +18,11 @@ fn line_len(text: &[u8]) -> usize
     first_line_feed(text).unwrap_or(text.len())
 }
 
-/// The first line of a text, without its line feed, and the text after that line feed; `None`
-/// where nothing is left.
+/// The first line of a text, without its line feed, and the text after that line feed; `None` if
+/// the text is empty.
 ///
-/// By calls on what is left, a text is walked over line by line: `a` and `a` with a line feed
-/// have one line, a line feed alone has one empty line, and no bytes have no line.
+/// Called on the rest each time, it walks through a text line by line: `a` and `a` with a line feed
+/// have one line, a line feed alone has one empty line, and an empty text has no line.
 pub fn split_line(text: &[u8]) -> Option<(&[u8], &[u8])>
     ensures none { IsNone result ↔ (text.now ≡ []) }
     ensures line { IfSome result (λ found. found.0.now ≡ before_first is_line_feed text.now) }

@@ -17,7 +17,7 @@ fn are_digits(word: &[u8]) -> bool
     word.iter().all(|byte| byte.is_ascii_digit())
 }
 
-// The number that nine digits at most write.
+// The number that at most nine digits write.
 fn value_of_digits(digits: &[u8]) -> u32
     requires digits { list_all is_ascii_digit digits.now ≡ true }
     requires few { length digits.now ≤ 9 }
@@ -35,8 +35,8 @@ fn value_of_digits(digits: &[u8]) -> u32
 /// The number that a word writes in decimal, from 0 to 999,999,999: one to nine ASCII digits,
 /// leading zeros allowed.
 ///
-/// `None` exactly when the word is not a number: where it has no byte, more than nine, or one
-/// that is no ASCII digit.
+/// `None` if and only if the word is not a number: it is empty, has more than nine bytes, or one
+/// that is not an ASCII digit.
 #[tactic(auto, unfolding(crate::specs::Numerals::number_of))]
 pub fn number(word: &[u8]) -> Option<u32>
     ensures { result ≡ number_of word.now }
@@ -48,7 +48,7 @@ pub fn number(word: &[u8]) -> Option<u32>
     }
 }
 
-/// The numbers that words write, in their order, or `None` exactly when one of the words is not a
+/// The numbers that words write, in their order; `None` if and only if one of the words is not a
 /// number.
 pub fn numbers(alloc: Global, words: &[&[u8]]) -> Result<Option<Vec<u32>>, Memory>
     ensures { IfOk result

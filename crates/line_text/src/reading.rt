@@ -1,5 +1,5 @@
-//! One reader for all formats: it takes the significant lines in order, and answers the value
-//! that the text stands for, or its first fault.
+//! One reader for all formats: it takes the significant lines in order, and returns the value that
+//! the text stands for, or its first error.
 ghost use Rattle.std.specs.Prelude.{◌≡◌, ◌<◌, ◌-◌, ◌^◌, ℕ, map, length, IfOk, IfErr, Ok, Err};
 ghost use Rattle.std.specs.Option.{option_map};
 ghost use Rattle.line_text.specs.Common.{words_of, finish, Stands, FirstFault, Gives, Reads, state_after, reading_of, placed, IsFirst};
@@ -9,7 +9,7 @@ use crate::lines::split_line;
 use crate::words::{is_skipped, split_words};
 use std::alloc::Global;
 
-// What has been read once this line is; before the header it is nothing.
+// What has been read after this line; before the header it is nothing.
 fn read_line<F: LineFormat>(
     alloc: Global,
     format: &F,
@@ -30,7 +30,7 @@ fn read_line<F: LineFormat>(
     next.map(Some)
 }
 
-// What the text stands for, which ends here.
+// What the text stands for if it ends here.
 fn read_end<F: LineFormat>(format: &F, body: Option<F::Body>) -> Result<F::Value, Refusal<F::Kind>>
     ensures { Gives F.meaning result (finish (F.rules format.now) (option_map F.state body)) }
 {
@@ -40,7 +40,7 @@ fn read_end<F: LineFormat>(format: &F, body: Option<F::Body>) -> Result<F::Value
     }
 }
 
-// The fault of a rule at a line.
+// The error of a rule at a line.
 fn place<K>(refusal: Refusal<K>, line: u32) -> LineFault<K>
     ensures { result ≡ placed line refusal }
 {
@@ -76,19 +76,19 @@ fn read_lines<F: LineFormat>(
     }
 }
 
-/// What a text stands for in a format, or its first fault.
+/// The value that a text stands for in a format, or its first error.
 ///
-/// `Ok` comes exactly when the text stands for a value, which is then the answer, and
-/// `LineFault::At` exactly when it has a first fault, with its line and kind; `LineFault::Memory`
-/// may come in place of either. Nothing but `header`, `line` and `close` of the format is asked,
-/// each once for a line that is not skipped and once for the end, and the time of the rest grows
-/// with the number of bytes.
+/// `Ok` comes if and only if the text stands for a value, which is then returned, and
+/// `LineFault::At` if and only if it has a first error, with its line and kind; `LineFault::Memory`
+/// may come instead of either. Of the format only `header`, `line` and `close` are called, once for
+/// each line that is not skipped and once for the end. The time of the rest is linear in the number
+/// of bytes.
 pub fn read<F: LineFormat>(
     alloc: Global,
     format: &F,
     text: &[u8],
 ) -> Result<F::Value, LineFault<F::Kind>>
-    // The number of a line, and that after the last, fits 32 bits.
+    // The number of a line, and the number one past the last line, fit 32 bits.
     requires { length text.now < 2 ^ 32 - 1 }
     ensures value { IfOk result (λ value. Stands (F.rules format.now) text.now (F.meaning value)) }
     ensures fault { IfErr result (IsFirst (F.rules format.now) text.now) }

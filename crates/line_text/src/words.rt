@@ -13,10 +13,10 @@ fn is_blank(byte: u8) -> bool
     matches!(byte, b' ' | b'\t' | b'\r')
 }
 
-/// The words of a line, as pieces of it: its longest runs of bytes that are neither space, tab
-/// nor carriage return.
+/// The words of a line, as pieces of it: its longest runs of bytes that are neither space, tab nor
+/// carriage return.
 ///
-/// Takes memory for the list of the pieces alone.
+/// Takes memory only for the list of the pieces.
 pub fn split_words(alloc: Global, line: &[u8]) -> Result<Vec<&[u8]>, Memory>
     ensures { IfOk result (λ found. texts_of found.items ≡ words_of line.now) }
 {
@@ -36,14 +36,14 @@ pub fn is_skipped(words: &[&[u8]]) -> bool
     }
 }
 
-/// The word at a place, counted from 0, or the empty word where there is none.
+/// The word at a place, counted from 0, or the empty word if there is none.
 pub fn word<'a>(words: &[&'a [u8]], place: usize) -> &'a [u8]
     ensures { result.now ≡ word_at (texts_of words.now) place }
 {
     words.get(place).copied().unwrap_or(&[])
 }
 
-// Whether the words and the keywords are the same, as far as the shorter list goes.
+// Whether the words and the keywords agree, up to the end of the shorter list.
 fn are_same(words: &[&[u8]], keywords: &[&str]) -> bool
     ensures { result ≡ list_all (λ pair. bytes_eq pair.0.now pair.1.now)
         (zip words.now keywords.now) }

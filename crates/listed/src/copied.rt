@@ -1,10 +1,10 @@
-//! Lists that copy their items out.
+//! Lists that return copies of their items.
 ghost use Rattle.std.specs.Prelude.{◌≡◌, ◌<◌, ◌++◌, ◌∷◌, [], ◌==◌, OnOk, OnErr, length, slice_get, slice_set, Some};
 
 use std::alloc::{AllocError as Memory, Global};
 use std::marker::Model;
 
-/// A list of items that are `Copy`, seen by contracts as the list of them, each by its view.
+/// A list of items that are `Copy`. Contracts see it as the list of its items, each by its view.
 #[derive(Drop)]
 pub struct CopyList<T> {
     items: Vec<T>,

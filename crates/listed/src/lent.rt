@@ -1,10 +1,11 @@
-//! Lists that lend their items.
+//! Lists that return references to their items.
 ghost use Rattle.std.specs.Prelude.{◌≡◌, ◌<◌, ◌++◌, ◌∷◌, [], ◌==◌, OnOk, OnErr, length, slice_get, Some};
 
 use std::alloc::{AllocError as Memory, Global};
 use std::marker::Model;
 
-/// A list that lends its items, seen by contracts as the list of them, each by its view.
+/// A list that returns references to its items. Contracts see it as the list of its items, each by
+/// its view.
 #[derive(Drop)]
 pub struct Listed<T> {
     items: Vec<T>,
@@ -50,7 +51,7 @@ impl<T: Drop> Listed<T> {
         &self.items[i]
     }
 
-    /// Appends an item. After `Memory` the list is unchanged, and the item is given up.
+    /// Appends an item. After `Memory` the list is unchanged, and the item is dropped.
     pub fn push(&mut self, item: T) -> Result<(), Memory>
         ensures ok { OnOk result (self.new ≡ self.old ++ item ∷ []) }
         ensures err { OnErr result (self.new ≡ self.old) }
@@ -66,7 +67,7 @@ impl<T: Drop> Listed<T> {
         &self.items
     }
 
-    /// The items, to be taken apart. Takes no memory.
+    /// The items as an owned `Vec`. Takes no memory.
     pub fn into_items(self) -> Vec<T>
         ensures { result.items ≡ self }
     {

@@ -1,6 +1,6 @@
 -- What is left of a matching when the edges with an end in a set are taken out, and how many
--- vertices it then misses. A row is left exactly when its edge has no end in the set. If the set
--- holds the ends of edges of a perfect matching and of one more edge, then at most one edge more
+-- vertices it then misses. A row is left if and only if its edge has no end in the set. If the set
+-- contains the ends of edges of a perfect matching and of one more edge, then at most one more edge
 -- is taken out than there are such edges, since that one has two ends.
 use Rattle.std.proofs.Common.{◌≡◌, ℕ, suc, ◌+◌, ◌*◌, ◌≤◌, ◌≢◌, Bool, true, false, ◌==◌, ◌&&◌, ◌||◌, ◌⊎◌, not, refl, ap, ap₂, ◌∙◌, arith, List, [], ◌∷◌, length, map, filter, cond, inl, inr, All}
 use Rattle.counting.proofs.Common.{both_ways, cases_Bool, cases_eq, and_parts, or_cases, or_left, or_right, not-true, length-map, count_put, count_complement, count_mem_length, count_split, total_add, total_congr, total_le, total_none, bit_le_one, Within, bit, count, total, IsRisingIn, mem, Set, none, put, meet}
@@ -36,7 +36,7 @@ rows_left g x (row ∷ rows) all i =
 pub cleared_edges : (g : Graph) (x : Set) (m : MatchingValue) → IsOf g m → (i : ℕ) → mem (edges_of (cleared x m)) i ≡ left_over g x (mem (edges_of m)) i
 cleared_edges g x m of i = rows_left g x m.rows of.rows i
 
--- the edges of a matching with no end in x are a matching of the graph without x
+-- the edges of a matching with no end in x are a matching of g - x
 pub left_matching : (g : Graph) (x m : Set) → IsMatching g none m → IsMatching g x (left_over g x m)
 left_matching g x m mm = grind (arith, degree_split g m (left_over g x m) (meet m (has_end_in g x)), edge_at g (left_over g x m), and_parts, not-true, both_ways, or_left, or_right)
 

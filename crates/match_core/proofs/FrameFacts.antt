@@ -1,6 +1,6 @@
 -- What a matching with a frame is: maximum, with the Gallai-Edmonds sets as its outer and inner
--- vertices; perfect exactly where there is no outer vertex. A missed vertex is outer, and an
--- outer vertex is missed by some matching as large.
+-- vertices; perfect if and only if there is no outer vertex. A missed vertex is outer, and an outer
+-- vertex is missed by some matching of the same size.
 use Rattle.std.proofs.Common.{◌≡◌, ℕ, ◌≤◌, ◌<◌, ◌≢◌, Bool, true, false, ◌==◌, ◌↔◌, refl, sym, ap, ◌∙◌, arith, List, [], ◌∷◌, length, subst, inl, inr, eq-eqb}
 use Rattle.counting.proofs.Common.{both_ways, true≢false, false_from_ne_true, count_congr, mem-rising_list, set-narrower, fun_ext, Within, count, is_odd, Set, none, mem, rising_list, IsRisingIn}
 use Rattle.graph_core.proofs.Common.{Graph, IsGraph, degree, size, IsMatching, IsMaximum, IsPerfect, HasPerfect, Attains, InD, InA, joined, degree_congr, edge_of, missed_edges, has_ends-from, perfect_matching, perfect_misses, missed_one, adjacent_from}
@@ -11,7 +11,7 @@ use Rattle.match_search.proofs.Certificates.{certificate_bound}
 use Rattle.match_core.proofs.OddComponents.{certificate_components, certificate_maximum, outer_free, outer_missable, missable_outer, inner_next, next_inner}
 use Rattle.match_core.proofs.OuterComponents.{outer_odd, odd_outer}
 
--- a matching of g without r is one of g
+-- a matching of g - r is one of g
 pub whole_matching : (g : Graph) (r m : Set) → IsMatching g r m → IsMatching g none m
 whole_matching g r m mm = record { once = mm.once; away = λ v w q. absurd (true≢false (sym q)) }
 
@@ -28,7 +28,7 @@ module _ (g : Graph) (r : Set) (mark passed : List Bool) (passed_is : passed ≡
   pub listed_perfect : (es : List ℕ) → es ≡ rising_list (size g) (marks passed) → IsPerfect g r (mem es)
   listed_perfect es es_is = grind (arith, degree_congr, listed_marks)
 
--- what the engine answers where nothing is removed, with its marks passed on
+-- what the engine returns if nothing is removed, with its marks passed on
 module _ (g : Graph) (is : IsGraph g) (removed : List ℕ) (b : Best) (nothing : removed ≡ []) (found : IsBest g (mem removed) b) (passed : List Bool) (passed_is : passed ≡ b.mark.items) where
   best : IsBest g none b
   best = subst (λ (r : Set). IsBest g r b) (fun_ext (λ v. ap (λ s. mem s v) nothing)) found
@@ -95,7 +95,7 @@ module _ (g : Graph) (is : IsGraph g) (removed : List ℕ) (b : Best) (nothing :
     pub inner_rises : IsRisingIn 128 b.sets.inner → IsRisingIn g.order b.sets.inner
     inner_rises rises = set-narrower 128 g.order b.sets.inner rises (λ v q. ((best.sets v).1 q).1)
 
--- a matching with a frame is perfect exactly when there is no outer vertex
+-- a matching with a frame is perfect if and only if there is no outer vertex
 module _ (g : Graph) (is : IsGraph g) (r m outer inner : Set) (mm : IsMatching g r m) (frame : Frame g r (count (size g) m) outer inner) where
   no_outer-perfect : ((v : ℕ) → outer v ≡ false) → IsPerfect g r m
   no_outer-perfect h = record { once = λ v w rv. one (degree g m v) (mm.once v w) (λ z. met v w rv z); away = mm.away }
@@ -126,7 +126,8 @@ some-mem : (xs : List ℕ) → 0 < length xs → (v : ℕ) × (mem xs v ≡ true
 some-mem [] l = absurd (omega arith)
 some-mem (x ∷ xs) l = (x, Rattle.std.proofs.lemmas.Bool.or_left (x == x) (mem xs x) (eq-eqb x x refl))
 
--- what the engine answers is perfect exactly when its list of outer vertices is empty
+-- the matching that the engine returns is perfect if and only if its list of outer vertices is
+-- empty
 module _ (g : Graph) (is : IsGraph g) (r : Set) (b : Best) (best : IsBest g r b) where
   pub no_outer-best_perfect : length b.sets.outer ≡ 0 → IsPerfect g r (marks b.mark.items)
   no_outer-best_perfect nothing = no_outer-perfect g is r (marks b.mark.items) (mem b.sets.outer) (mem b.sets.inner) best.matching best.frame (empty-mem b.sets.outer nothing)

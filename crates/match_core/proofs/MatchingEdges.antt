@@ -1,6 +1,6 @@
--- The edges of the rows of a matching are a matching: a vertex stands in the rows as often as
--- edges meet it. A degree is a sum over the edges in the set, and that sum goes along the rising
--- list of the rows.
+-- The edges of the rows of a matching are a matching: a vertex occurs in the rows as often as edges
+-- meet it. A degree is a sum over the edges in the set, and that sum goes along the increasing list
+-- of the rows.
 use Rattle.counting.proofs.Common.{both_ways, cases_Bool, false_from_ne_true, or_cases, map-append, All-map, sum_by-cons, Rises, total_mem, rises-from_set, rising_holds, rising_only, mem-within, set-from_rises, rising_list-rises, mem-rising_list, Within, bit, Set, none, mem, rising_list, IsRisingIn}
 use Rattle.std.proofs.Common.{length, inr, eqb-true, ◌||◌, ◌≡◌, ℕ, suc, ◌+◌, ◌≤◌, Bool, false, ◌==◌, refl, sym, ap, ap₂, ◌∙◌, arith, List, [], ◌∷◌, ◌++◌, map, filter, cond, subst, inl, All, sum_by, slice_index_or, rules}
 use Rattle.std.proofs.lemmas.List.Elements.{All-filter}
@@ -71,7 +71,7 @@ marked_more g m k rows b h is = grind (arith, map-append (row_at g) (rising_list
 pub marked_none : (g : Graph) (m : Set) (k : ℕ) (rows : List MatchRow) → m (suc k) ≡ false → rows ≡ map (row_at g) (rising_list k m) → rows ≡ map (row_at g) (rising_list (suc k) m)
 marked_none g m k rows h is = search (rules, marked_more g m k rows false h is)
 
--- fewer rows rise too
+-- a part of the rows is increasing too
 rises-lower : (low high n : ℕ) (xs : List ℕ) → low ≤ high → Rises high n xs → Rises low n xs
 rises-lower low high n [] l r = tt
 rises-lower low high n (x ∷ xs) l r = let a = r.0 in (omega arith, r.1, r.2)
@@ -98,7 +98,7 @@ keeps-filter p m keeps = record {
   once = λ v w. let a = filter-ends_at p m.rows v in let b = keeps.once v w in omega arith;
 }
 
--- an edge more in the rising list of a set
+-- an edge more in the increasing list of a set
 pub joined_edges : (n : ℕ) (es : List ℕ) (x : Set) (e : ℕ) → Within n e → IsRisingIn n es → ((i : ℕ) → x i ≡ (mem es i || (e == i))) → (i : ℕ) → mem (rising_list n x) i ≡ (mem es i || (e == i))
 joined_edges n es x e we rises h i = elim (cases_Bool (mem es i || (e == i))) [
   | inl t ↦ rising_holds n x i (grind (arith, or_cases (mem es i) (e == i) t, mem-within n es rises i, eqb-true e i)) (h i ∙ t) ∙ sym t

@@ -1,5 +1,5 @@
--- The row of mates names an edge of the matching at each vertex that it meets. What does a row
--- tell? The other end of the edge at a vertex, that a perfect matching has one at each, and which
+-- The row of mates names an edge of the matching at each vertex that it meets. What does a row say?
+-- The other end of the edge at a vertex, that a perfect matching has one at each, and which
 -- vertices the matching misses.
 use Rattle.std.proofs.Common.{◌≡◌, ℕ, ◌-◌, ◌≢◌, true, false, cond, ◌==◌, ◌&&◌, not, arith, List, [], length, nat_lt, nat_le, lt-ltb}
 use Rattle.counting.proofs.Common.{le-leb, and_parts, total_none, Within, Set, mem}

@@ -64,8 +64,7 @@ module _ (g : Graph) (is : IsGraph g) (x : Set) (label : ℕ → ℕ) (p : ℕ) 
               parity : (s t : Bool) → t ≡ false → cond s (not t) t ≡ true → s ≡ true
               parity s t p q = grind arith
 
--- the outer vertices of a frame are those in odd components of what is left without r and the
--- inner ones
+-- the outer vertices of a frame are those in odd components of g - r less the inner ones
 module _ (g : Graph) (is : IsGraph g) (r : Set) (k : ℕ) (outer inner : Set) (frame : Frame g r k outer inner) (m : Set) (mm : IsMatching g r m) (full : count (size g) m ≡ k) where
   pub outer_odd : (v : ℕ) → Within g.order v → outer v ≡ true → is_odd (count g.order (joined g (union r inner) v)) ≡ true
   outer_odd v w t = elim (cases_Bool (is_odd (count g.order (joined g (union r inner) v)))) [

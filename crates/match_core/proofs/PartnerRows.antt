@@ -1,9 +1,9 @@
--- The outer vertices of a maximum matching that misses one vertex are exactly the vertices
--- without which there is a perfect matching. A matching as large that misses v misses v alone, so
--- it is perfect without v; and a perfect matching without v is as large, since both leave one
--- vertex of an odd number. Where more than one vertex is missed, no matching misses one alone. A
--- perfect matching without two vertices misses just these, so where there are partners, a maximum
--- matching misses none or two.
+-- The outer vertices of a maximum matching of G - R that misses one vertex are exactly the vertices
+-- v such that G - R - v has a perfect matching. A matching of the same size that misses v misses
+-- only v, so it is perfect in G - R - v; and a perfect matching of G - R - v has the same size,
+-- since both miss one vertex of an odd number. If more than one vertex is missed, no matching
+-- misses only one. A perfect matching of G - R - u - v misses just u and v, so if there are
+-- partners, a maximum matching misses none or two.
 use Rattle.std.proofs.Common.{◌≡◌, ◌≢◌, ℕ, ◌+◌, ◌-◌, ◌*◌, ◌≤◌, ◌↔◌, List, length, Bool, true, false, ◌==◌, ◌&&◌, ◌||◌, not, refl, sym, ap, ◌∙◌, arith, inl, inr, eq-eqb, ne_eqb}
 use Rattle.counting.proofs.Common.{or_false, both_ways, cases_Bool, cases_eq, false_from_ne_true, and_from, and_parts, not-true, or_left, or_right, count_complement, count_congr, count_le, count_le_one, only_one, count_mem_length, count_plus, set-narrower, Within, count, Set, complement, pair_set, singleton, union, mem, IsRisingIn}
 use Rattle.graph_core.proofs.Common.{Graph, IsGraph, degree, size, HasPerfect, IsMatching, IsPerfect, has_perfect, missed_count, has_perfect_found, has_perfect_says, missed_edges, missed_one, perfect_matching, perfect_misses}
@@ -23,7 +23,7 @@ module _ (r : Set) (v : ℕ) where
   with_other : (w : ℕ) → v ≢ w → union r (singleton v) w ≡ r w
   with_other w d = rw (ne_eqb v w d) (or_false (r w))
 
--- a matching that misses one vertex, v, is perfect without v
+-- a matching of g - r that misses one vertex, v, is perfect in g - r - v
 pub alone-perfect : (g : Graph) (r m : Set) (v : ℕ) → IsMatching g r m → missed_count g r m ≡ 1 → Within g.order v → r v ≡ false → degree g m v ≡ 0 → IsPerfect g (union r (singleton v)) m
 unfolding missed_count
 alone-perfect g r m v mm one w rv z = record { once = once; away = away }
@@ -43,7 +43,7 @@ alone-perfect g r m v mm one w rv z = record { once = once; away = away }
     away : (u : ℕ) → Within g.order u → union r (singleton v) u ≡ true → degree g m u ≡ 0
     away u wu out = grind arith
 
--- a perfect matching without r and v is a matching without r that misses v alone
+-- a perfect matching of g - r - v is a matching of g - r that misses only v
 pub perfect-alone : (g : Graph) (r p : Set) (v : ℕ) → Within g.order v → r v ≡ false → IsPerfect g (union r (singleton v)) p → IsMatching g r p × (degree g p v ≡ 0) × (missed_count g r p ≡ 1)
 unfolding missed_count
 perfect-alone g r p v w rv perfect = (record { once = once; away = away }, z, one)
@@ -66,7 +66,7 @@ perfect-alone g r p v w rv perfect = (record { once = once; away = away }, z, on
     one : count g.order (λ u. not (r u) && (degree g p u == 0)) ≡ 1
     one = let some = missed_one g r p v w rv z in let f = few in omega arith
 
--- a perfect matching without r, u and v is a matching without r that misses two vertices
+-- a perfect matching of g - r - u - v is a matching of g - r that misses two vertices
 pub perfect-two : (g : Graph) (r p : Set) (u v : ℕ) → IsGraph g → Within g.order u → Within g.order v → r u ≡ false → r v ≡ false → u ≢ v → IsPerfect g (union r (pair_set u v)) p → IsMatching g r p × (missed_count g r p ≡ 2)
 perfect-two g r p u v is wu wv ru rv d perfect = (mm, two)
   where
@@ -88,7 +88,7 @@ perfect-two g r p u v is wu wv ru rv d perfect = (mm, two)
         let own_both = missed_edges g (union r (pair_set u v)) p is (perfect_matching g (union r (pair_set u v)) p perfect) in
         omega arith
 
--- m is a matching of g without r, with its frame
+-- m is a matching of g - r, with its frame
 module _ (g : Graph) (is : IsGraph g) (r m outer inner : Set) (mm : IsMatching g r m) (frame : Frame g r (count (size g) m) outer inner) where
   -- a matching has as many edges as m at most
   most_edges : (p : Set) → IsMatching g r p → count (size g) p ≤ count (size g) m
@@ -98,7 +98,7 @@ module _ (g : Graph) (is : IsGraph g) (r m outer inner : Set) (mm : IsMatching g
   outer-perfect : (v : ℕ) → missed_count g r m ≡ 1 → Within g.order v → outer v ≡ true → HasPerfect g (union r (singleton v))
   outer-perfect v one w t = grind (arith, outer_missable, mm, missed_edges, alone-perfect)
 
-  -- a vertex without which there is a perfect matching is outer, and m misses one vertex
+  -- v is outer if g - r - v has a perfect matching, and m misses one vertex
   perfect-outer : (v : ℕ) → Within g.order v → r v ≡ false → HasPerfect g (union r (singleton v)) → (missed_count g r m ≡ 1) × (outer v ≡ true)
   perfect-outer v w rv p =
       let a = perfect-alone g r p.0 v w rv p.1 in
@@ -147,7 +147,7 @@ missable-partners g is r u row out missable v w = here ∙ ap (λ (s : Set). not
       | inr q ↦ missable.other q v ∙ sym (no_row g is (union r (singleton u)) missable.m missable.outer missable.inner missable.matching missable.frame q v w)
     ]
 
--- what the engine answers, with the number of vertices that it misses, as the code counts them
+-- what the engine returns, with the number of vertices that it misses, as the code counts them
 module _ (g : Graph) (is : IsGraph g) (r : Set) (b : Best) (best : IsBest g r b) (mark : List Bool) (missed : ℕ) (mark_is : mark ≡ b.mark.items) (missed_is : missed ≡ missed_count g r (marks mark)) where
   counted : missed ≡ missed_count g r (marks b.mark.items)
   counted = missed_is ∙ ap (λ row. missed_count g r (marks row)) mark_is

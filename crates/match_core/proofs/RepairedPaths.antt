@@ -101,7 +101,7 @@ flipped_row g r m x es row =
     zero_plus : (j : ℕ) → 0 + j ≡ j
     zero_plus j = omega arith
 
--- what is said of the answered edges alone
+-- what is said about the returned edges only
 pub differs_alike : (g : Graph) (r m n n' : Set) → ((e : ℕ) → Within (size g) e → n' e ≡ n e) → DiffersByPath g r m n → DiffersByPath g r m n'
 differs_alike g r m n n' same d = record {
   x = d.x;

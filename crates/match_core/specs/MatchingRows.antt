@@ -11,7 +11,7 @@ pub record MatchingValue : Type 0 where
   pub order : ℕ
   pub rows : List MatchRow
 
--- how often v stands in the rows
+-- how often v occurs in the rows
 abbrev pub ends_at : List MatchRow → ℕ → ℕ
 ends_at [] v = 0
 ends_at (row ∷ rows) v = bit (row.a == v) + bit (row.b == v) + ends_at rows v
@@ -20,8 +20,8 @@ ends_at (row ∷ rows) v = bit (row.a == v) + bit (row.b == v) + ends_at rows v
 abbrev pub edges_of : MatchingValue → List ℕ
 edges_of m = map (λ row. row.edge) m.rows
 
--- the edge numbers rise, the ends are 1 to the order, and no vertex stands twice; edges and
--- vertices are within the limits of a multigraph
+-- the edge numbers are increasing, the ends are from 1 to the order, and no vertex occurs twice;
+-- edges and vertices are within the limits of a multigraph
 pub record KeepsMatching (m : MatchingValue) : Type 0 where
   pub few : m.order ≤ 128
   pub edges : IsRisingIn 2048 (edges_of m)
@@ -51,6 +51,6 @@ row_at g e = record { edge = e; a = first_end g e; b = second_end g e }
 abbrev pub has_end_in : Graph → Set → Set
 has_end_in g x e = x (first_end g e) || x (second_end g e)
 
--- the edges of m that have no end in x
+-- the edges of m without an end in x
 abbrev pub left_over : Graph → Set → Set → Set
 left_over g x m e = m e && not (has_end_in g x e)

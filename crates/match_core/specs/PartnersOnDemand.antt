@@ -1,4 +1,4 @@
--- Rows of partners that are searched for one at a time.
+-- Rows of partners that are computed one at a time.
 -- Stated by: match_core. Rests on it: tight_cuts.
 use Rattle.std.specs.Prelude.{◌≡◌, ℕ, ◌+◌, List, length, true}
 use Rattle.counting.specs.Common.{Within, Set, item, mem}
@@ -12,7 +12,7 @@ pub record RowsValue : Type 0 where
   pub removed : List ℕ
 
 -- the mates are those of a matching of g without the removed vertices, and the row of each known
--- vertex holds exactly its partners
+-- vertex is exactly its set of partners
 pub record AreKnownRows (g : Graph) (removed mate known : List ℕ) (rows : List (List ℕ)) : Type 0 where
   pub long : length mate ≡ g.order + 1
   pub mates : (f : Set) × HasMates g (mem removed) f (numbers mate)

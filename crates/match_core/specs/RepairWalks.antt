@@ -1,4 +1,4 @@
--- Where the walk of a repair begins.
+-- The start of the walk of a repair.
 -- Stated by: match_core.
 use Rattle.std.specs.Prelude.{◌≡◌, ℕ, ◌+◌, List, length}
 use Rattle.counting.specs.Common.{Set}
@@ -6,8 +6,8 @@ use Rattle.graph_core.specs.Common.{IsMatching, IsPerfect, missed_count, graph_o
 use Rattle.graph_core.specs.declared.ends.Ends.{Ends}
 use Rattle.match_search.specs.Common.{IsGraphRow, NamesEdges, Misses}
 
--- the matching m misses x and one vertex more, w is perfect, and for each vertex the rows name
--- its edges of m and of w
+-- the matching m misses x and exactly one other vertex, w is perfect, and the rows name for each
+-- vertex its edges of m and of w
 pub record StartsWalk (n : ℕ) (r m w : Set) (ends : List Ends) (at other : List ℕ) (x : ℕ) : Type 0 where
   pub row : IsGraphRow n ends
   pub at_long : length at ≡ n + 1

@@ -1,4 +1,4 @@
-//! Maximum matchings with their Berge set, and the frame that gives the Gallai-Edmonds sets.
+//! Maximum matchings with a Berge set, and the frame that gives the Gallai-Edmonds sets.
 ghost use Rattle.std.specs.Prelude.{◌≡◌, ℕ, true, false, ◌↔◌, IfOk};
 ghost use Rattle.counting.specs.Common.{Within, count, is_odd, none, mem, IsRisingIn};
 ghost use Rattle.graph_core.specs.Common.{IsMaximum, Attains, InD, InA, joined};
@@ -10,9 +10,8 @@ use match_search::{Best, FinalSets, find_best};
 use std::alloc::{AllocError as Memory, Global};
 use vset_core::VSet;
 
-/// A maximum matching and a Berge set, which shows it to be maximum: the matching misses exactly
-/// o(S) - |S| vertices, where o(S) counts the components with an odd number of vertices that are
-/// left without S.
+/// A maximum matching and a Berge set S, which shows it to be maximum: the matching misses exactly
+/// o(S) - |S| vertices, where o(S) is the number of odd components of G - S.
 #[derive(Drop)]
 pub struct Found {
     pub matching: Matching,
@@ -20,8 +19,8 @@ pub struct Found {
 }
 
 /// A maximum matching with the Gallai-Edmonds sets: `outer` is D, the vertices that some maximum
-/// matching misses, and `inner` is A, the other vertices adjacent to these, which is the Berge
-/// set of `found`.
+/// matching misses, and `inner` is A, the other vertices adjacent to D. A is the Berge set of
+/// `found`.
 #[derive(Drop)]
 pub struct FrameSets {
     pub found: Found,
@@ -29,8 +28,9 @@ pub struct FrameSets {
     pub inner: VSet,
 }
 
-/// A maximum matching of `g` and a Berge set: the matching misses exactly o(berge) - |berge|
-/// vertices (Tutte 1947, Berge 1958; found as by Edmonds 1965).
+/// A maximum matching of `g` and a Berge set S, here `berge`: the matching misses exactly o(S) -
+/// |S| vertices (Tutte 1947, Berge 1958; found as by Edmonds 1965). Costs as much as `frame`; the
+/// only error is `Memory`.
 pub fn maximum(alloc: Global, g: &MultiGraph) -> Result<Found, Memory>
     ensures of { IfOk result (λ f. IsOf g.now f.matching) }
     ensures maximum { IfOk result (λ f. IsMaximum g.now none (mem (edges_of f.matching))) }
@@ -42,9 +42,11 @@ pub fn maximum(alloc: Global, g: &MultiGraph) -> Result<Found, Memory>
 }
 
 /// A maximum matching of `g` with the Gallai-Edmonds sets, read off the last forest of the search
-/// (Lovász and Plummer, "Matching Theory", chapter 3): `outer` is the union of the odd components
-/// of g - inner and holds the vertices that some maximum matching misses; `inner` holds the other
-/// vertices adjacent to an outer one and is the Berge set.
+/// (Lovász and Plummer, "Matching Theory", chapter 3). `outer` is D, the vertices that some maximum
+/// matching misses; it is the union of the odd components of G - `inner`. `inner` is A, the other
+/// vertices adjacent to D, and is the Berge set. Takes at most n/2 augmentations, each with at most
+/// n/2 shrinkings and a search after each; the list of edges is read only at the beginning and at
+/// the end. The only error is `Memory`.
 pub fn frame(alloc: Global, g: &MultiGraph) -> Result<FrameSets, Memory>
     ensures of { IfOk result (λ f. IsOf g.now f.found.matching) }
     ensures maximum { IfOk result (λ f. IsMaximum g.now none (mem (edges_of f.found.matching))) }

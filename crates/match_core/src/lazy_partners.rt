@@ -1,7 +1,7 @@
 //! The partners of single vertices, one row at a time.
 //!
-//! Where only some rows of the table of partners are read, each is searched for when it is first
-//! read, and kept.
+//! If only some rows of the table of partners are read, each is computed when it is first read, and
+//! kept.
 ghost use Rattle.std.specs.Prelude.{◌≡◌, ℕ, ◌+◌, length, IfOk};
 ghost use Rattle.counting.specs.Common.{Within, Set, mem};
 ghost use Rattle.match_core.specs.MatchingRows.{IsOf};
@@ -38,8 +38,8 @@ impl<'g> Model for LazyPartners<'g> {
 }
 
 impl<'g> LazyPartners<'g> {
-    /// No row yet. Each search starts from the edges of `m`, a matching of `g`, that meet no
-    /// vertex of `removed`; the fewer vertices of G - removed they miss, the faster it ends.
+    /// No row yet. Each search starts from the edges of `m`, a matching of `g`, that meet no vertex
+    /// of `removed`; the fewer vertices of G - removed they miss, the faster the search ends.
     pub fn new(
         alloc: Global,
         g: &'g MultiGraph,
@@ -61,7 +61,7 @@ impl<'g> LazyPartners<'g> {
         })
     }
 
-    /// The partners of `u`. The first call for a vertex costs one search.
+    /// The partners of `u`. The first call for a vertex takes one search, later calls none.
     pub fn of(&mut self, alloc: Global, u: u32) -> Result<VSet, Memory>
         requires { Within self.old.graph.order u }
         ensures row { IfOk result

@@ -1,19 +1,17 @@
-//! The questions asked of the matching engine.
+//! Maximum and perfect matchings, and partners.
 //!
-//! What is a maximum matching of a graph, and why is it one? `maximum` answers a matching with a
-//! Berge set S: it misses exactly o(S) - |S| vertices, so no matching misses fewer (`Attains`,
-//! `IsMaximum`). `frame` answers the Gallai-Edmonds sets beside it, read off the last forest of
-//! the search. `perfect_without` and `perfect_with` answer a perfect matching under conditions,
-//! and `None` exactly when there is none; `Matching::cleared` and `Matching::joined` take rows
-//! out of a matching and put one in, and `matching_of` makes one of marked edges. `partners`
-//! answers the table of the pairs of vertices that can be missed together (`ArePartners`), and
-//! `LazyPartners` single rows of it.
+//! `maximum` returns a maximum matching with a Berge set S: the matching misses exactly o(S) - |S|
+//! vertices, so no matching misses fewer (`Attains`, `IsMaximum`). `frame` also returns the
+//! Gallai-Edmonds sets, read off the last forest of the search. `perfect_without` and
+//! `perfect_with` return a perfect matching of G - R, or one that contains given edges; `None`
+//! means that there is none. `Matching::cleared` and `Matching::joined` delete rows from a matching
+//! and add one, and `matching_of` makes one from marked edges. `partners` returns the table of
+//! partners (`ArePartners`), and `LazyPartners` single rows of it. `tutte_berge_law` is the theorem
+//! of Tutte and Berge.
 //!
-//! The search itself stands below, in `match_search`: a matching enlarged until a frame shows that
-//! none is larger. The law of Tutte and Berge stands beside the questions (`tutte_berge_law`).
-//!
-//! Stands on `match_search`, `graph_core` and `vset_core`. Sources: Tutte 1947, Berge 1958, Gallai
-//! 1964, Edmonds 1965; Lovász and Plummer, "Matching Theory", chapters 1, 3 and 9.
+//! Depends on `match_search`, which has the search, on `graph_core` and `vset_core`. Sources: Tutte
+//! 1947, Berge 1958, Gallai 1964, Edmonds 1965; Lovász and Plummer, "Matching Theory", chapters 1,
+//! 3 and 9.
 #![tactic(auto)]
 
 mod frames;

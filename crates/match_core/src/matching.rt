@@ -19,8 +19,8 @@ pub struct MatchRow {
     pub b: u32,
 }
 
-/// A matching: an order and rows with rising edge numbers, whose ends are 1 to the order; no
-/// vertex stands twice. It is "of g" if its order is that of g and each row is an edge of g with
+/// A matching: an order and rows with increasing edge numbers, whose ends are from 1 to the order;
+/// no vertex occurs twice. It is "of g" if its order is that of g and each row is an edge of g with
 /// its ends. Contracts see the order and the list of rows.
 #[derive(Drop)]
 pub struct Matching {
@@ -54,16 +54,16 @@ impl Matching {
         self.rows[i]
     }
 
-    /// The law that the edge numbers rise, that the ends are 1 to the order, and that no vertex
-    /// stands twice. It does nothing: a caller states it where it needs it.
+    /// The law that the edge numbers are increasing, that the ends are from 1 to the order, and
+    /// that no vertex occurs twice. It does nothing: a caller states it where it needs it.
     pub fn keeps_matching(&self)
         ensures { KeepsMatching self.now }
     {
         let _ = &self.rows;
     }
 
-    /// The matching with the same order and those rows that meet no vertex of `removed`. Of each
-    /// graph that it was of, it is a matching without `removed`.
+    /// The matching with the same order and the rows that meet no vertex of `removed`. If it is a
+    /// matching of a graph G, the new one is a matching of G - removed.
     pub fn cleared(&self, alloc: Global, removed: VSet) -> Result<Matching, Memory>
         ensures order { IfOk result (λ m. m.order ≡ self.now.order) }
         ensures rows { IfOk result (λ m. m.rows ≡ filter (is_clear (mem removed)) self.now.rows) }
@@ -81,7 +81,7 @@ impl Matching {
         })
     }
 
-    /// The matching of `g` with the same edges and edge `e`, whose ends it does not meet.
+    /// The matching of `g` with the same edges and also edge `e`, whose ends it does not meet.
     pub fn joined(&self, alloc: Global, g: &MultiGraph, e: u32) -> Result<Matching, Memory>
         requires of { IsOf g.now self.now }
         requires edge { Within (size g.now) e }

@@ -1,17 +1,18 @@
 //! Which two vertices can be missed together?
 //!
-//! Two vertices u and v outside a set R are partners if G - R - u - v has a perfect matching. A
-//! table of them tells much of the structure of a graph: an edge is allowed exactly when its ends
-//! are partners, the class of u in the canonical partition is what is left outside its row, and G
-//! is bicritical exactly when each row has all vertices but its own.
+//! Two vertices u and v outside a set R are partners if G - R - u - v has a perfect matching. The
+//! table of partners says much about the structure of a graph: an edge is allowed if and only if
+//! its ends are partners; the class of u in the canonical partition is the set of all vertices that
+//! are not partners of u; and G is bicritical if and only if any two different vertices are
+//! partners.
 //!
-//! The table is made from a maximum matching of G - R. A perfect matching without two vertices
-//! misses just these two, so where a maximum matching misses another number than none or two, no
-//! vertex has a partner, and no row is searched. Else a row costs one search. Where none is
-//! missed, the matching less its edge at u misses one vertex of G - R - u, the mate of u; no step
-//! can enlarge it, so the first step answers a frame, and the outer vertices of a frame are
-//! exactly those that some matching as large misses. Where two are missed, a row costs one
-//! augmentation more at most.
+//! The table is made from a maximum matching of G - R. A perfect matching of G - R - u - v misses
+//! just u and v in G - R. So if a maximum matching misses neither 0 nor 2 vertices, no vertex has a
+//! partner, and no row is searched. Otherwise a row takes one search. If no vertex is missed, the
+//! matching less its edge at u misses one vertex of G - R - u, the mate of u; it cannot be
+//! augmented, so the first step returns a frame, and the outer vertices of a frame are exactly
+//! those that some matching of the same size misses. If two are missed, a row takes at most one
+//! more augmentation.
 ghost use Rattle.std.specs.Prelude.{◌≡◌, ℕ, ◌+◌, ◌-◌, ◌≤◌, ◌==◌, ◌&&◌, ◌||◌, not, true, length, IfOk, OnOk};
 ghost use Rattle.counting.specs.Common.{Within, count, Set, none, item, mem};
 ghost use Rattle.graph_core.specs.Common.{size, IsMatching, missed_count};
@@ -54,10 +55,10 @@ impl PartnerTable {
 }
 
 /// The partners of each vertex in G - removed, from any matching `m` of `g`: two vertices outside
-/// `removed` are partners if there is a perfect matching without `removed` and these two. The row
-/// of a vertex of `removed` is empty. `m` is made maximum without `removed` once. Where it then
-/// misses another number of vertices than none or two, no row is searched; else a row costs one
-/// search, after one augmentation at most.
+/// `removed` are partners if there is a perfect matching of G - removed without these two. The row
+/// of a vertex of `removed` is empty. `m` is first made maximum in G - removed. If it then misses
+/// neither 0 nor 2 vertices, no row is searched; otherwise a row takes one search, after at most
+/// one augmentation. The only error is `Memory`.
 pub fn partners(
     alloc: Global,
     g: &MultiGraph,
@@ -93,7 +94,7 @@ pub(crate) fn mates_in(
     mates_of(alloc, n, ends, mark)
 }
 
-// Whether there can be partners where a maximum matching misses so many vertices.
+// Whether there can be partners if a maximum matching misses so many vertices.
 fn leaves_partners(missed: usize) -> bool
     ensures { result ≡ (missed == 0 || missed == 2) }
 {
@@ -129,8 +130,8 @@ fn empty_rows(alloc: Global, n: u32) -> Result<PartnerTable, Memory>
     Ok(PartnerTable { rows })
 }
 
-/// The partners of each vertex of `g`: of two different vertices, where there is a perfect
-/// matching without them.
+/// The partners of each vertex of `g`: u and v, different, are partners if G - u - v has a perfect
+/// matching. Takes one maximum matching and at most n searches; the only error is `Memory`.
 pub fn all_partners(alloc: Global, g: &MultiGraph) -> Result<PartnerTable, Memory>
     ensures { IfOk result (ArePartners g.now none) }
 {
@@ -138,8 +139,8 @@ pub fn all_partners(alloc: Global, g: &MultiGraph) -> Result<PartnerTable, Memor
     partners(alloc, g, VSet::empty(), &found.matching)
 }
 
-// The partners of one vertex: the vertices that matchings without it can miss alone. What is
-// changed of the instance is put back.
+// The partners of one vertex: the vertices that matchings without it can miss alone. The instance
+// is restored at the end.
 pub(crate) fn partners_of(
     alloc: Global,
     g: &MultiGraph,

@@ -1,4 +1,4 @@
-//! Perfect matchings on request.
+//! Perfect matchings under conditions.
 ghost use Rattle.std.specs.Prelude.{◌≡◌, ◌+◌, length, ◌↔◌, IfOk, Some, None, All};
 ghost use Rattle.counting.specs.Common.{Within, none, mem};
 ghost use Rattle.graph_core.specs.Common.{size, IsPerfect, HasPerfect};
@@ -11,8 +11,8 @@ use match_search::{Best, falses, find_best, is_addable, is_marked, mark_place, m
 use std::alloc::{AllocError as Memory, Global};
 use vset_core::VSet;
 
-/// A perfect matching of G - removed, as a matching of `g`; `None` exactly when G - removed has
-/// none.
+/// A perfect matching of G - removed, as a matching of `g`; `None` if and only if G - removed has
+/// none. Takes one maximum matching; the only error is `Memory`.
 pub fn perfect_without(
     alloc: Global,
     g: &MultiGraph,
@@ -29,7 +29,7 @@ pub fn perfect_without(
     }
 }
 
-/// A perfect matching of `g` that holds all the edges; `None` exactly when there is none.
+/// A perfect matching of `g` that contains all the edges; `None` if and only if there is none.
 pub fn perfect_with(
     alloc: Global,
     g: &MultiGraph,
@@ -49,7 +49,7 @@ pub fn perfect_with(
     }
 }
 
-// The marks of a perfect matching that holds the edges, if there is one.
+// The marks of a perfect matching that contains the edges, if there is one.
 fn marks_with(alloc: Global, g: &MultiGraph, edges: &[u32]) -> Result<Option<Vec<bool>>, Memory>
     requires { All (Within (size g.now)) edges.now }
     ensures long { IfOk result
@@ -73,7 +73,7 @@ fn marks_with(alloc: Global, g: &MultiGraph, edges: &[u32]) -> Result<Option<Vec
     }
 }
 
-// The ends of the edges, if no two of them share one.
+// The ends of the edges, if no two edges share an end.
 fn ends_met(alloc: Global, g: &MultiGraph, edges: &[u32]) -> Result<Option<VSet>, Memory>
     requires { All (Within (size g.now)) edges.now }
     ensures once { IfOk result

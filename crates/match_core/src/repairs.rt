@@ -1,4 +1,4 @@
-//! A matching that misses two vertices made perfect along one path.
+//! A matching that misses two vertices is made perfect by one augmenting path.
 ghost use Rattle.std.specs.Prelude.{◌≡◌, ℕ, ◌+◌, ◌-◌, ◌/◌, ◌≢◌, ◌==◌, ◌&&◌, not, nat_lt, nat_le, cond, true, ◌<◌, ◌≤◌, length, slice_index, ◌↔◌, IfOk, Some, None};
 ghost use Rattle.counting.specs.Common.{Within, mem, Set, put};
 ghost use Rattle.graph_core.specs.Common.{AreRows, graph_of, IsMatching, IsPerfect, HasPerfect, missed_count};
@@ -19,8 +19,8 @@ pub struct Mate {
 }
 
 /// A perfect matching of G - removed, where `m` is a matching of it that misses exactly two
-/// vertices: the edges in exactly one of the two matchings form one path between these vertices.
-/// `None` exactly when G - removed has no perfect matching.
+/// vertices: the symmetric difference of the two matchings is one path between these vertices.
+/// `None` if and only if G - removed has no perfect matching.
 pub fn repair(
     alloc: Global,
     g: &MultiGraph,
@@ -47,8 +47,8 @@ pub fn repair(
     }
 }
 
-// The marks of the repaired matching. The engine enlarges the given one, if it can; its exchange
-// with what is found then is the path.
+// The marks of the repaired matching. The engine augments the given one, if it can; the path is
+// then a part of the symmetric difference.
 fn repaired_marks(
     alloc: Global,
     n: u32,
@@ -83,7 +83,7 @@ fn repaired_marks(
 }
 
 // Exchanges the marks along a path, whose edges are a part of a row, pair by pair: the first edge
-// of each pair is marked, the second no more.
+// of each pair becomes marked, the second unmarked.
 fn exchange(mark: &mut [bool], edges: &[u32], from: usize, pairs: usize)
     requires long { from + (pairs + pairs) ≤ length edges.now }
     requires in_mark { (k : ℕ) → k < pairs + pairs →
@@ -96,7 +96,7 @@ fn exchange(mark: &mut [bool], edges: &[u32], from: usize, pairs: usize)
     }
 }
 
-// The marks exchanged along a path with an odd number of edges.
+// The marks exchanged along a path of odd length.
 fn flipped_along(mark: Vec<bool>, edges: &[u32]) -> Vec<bool>
     requires some { 1 ≤ length edges.now }
     requires in_mark { (k : ℕ) → k < length edges.now → numbers edges.now k < length mark.items }
@@ -113,8 +113,8 @@ fn flipped_along(mark: Vec<bool>, edges: &[u32]) -> Vec<bool>
     flipped
 }
 
-// The edges of the path from one missed vertex to the other, by edges of the found matching and
-// of the given one in turn.
+// The edges of the path from one missed vertex to the other, alternately from the found matching
+// and from the given one.
 fn repair_path(
     alloc: Global,
     n: u32,
@@ -141,7 +141,7 @@ fn repair_path(
     }
 }
 
-// The edges of that path from its first vertex, from the rows that name the edges of the matchings.
+// The edges of that path from its first vertex, given rows that name the edges of the matchings.
 fn walk(alloc: Global, ends: &[Ends], at: &[u32], other: &[u32], x: u32) -> Result<Vec<u32>, Memory>
     requires { (n : ℕ) × (r : Set) × (m : Set) × (w : Set) ×
         StartsWalk n r m w ends.now at.now other.now x }
@@ -167,7 +167,7 @@ fn walk(alloc: Global, ends: &[Ends], at: &[u32], other: &[u32], x: u32) -> Resu
     }
 }
 
-// For each vertex the marked edge that meets it, 0 if there is none.
+// For each vertex the marked edge that meets it, or 0 if there is none.
 fn matched_edges(alloc: Global, n: u32, ends: &[Ends], mark: &[bool]) -> Result<Vec<u32>, Memory>
     requires row { IsGraphRow n ends.now }
     requires long { length mark.now ≡ length ends.now + 1 }
@@ -201,7 +201,7 @@ fn free(n: u32, removed: VSet, at: &[u32]) -> VSet
     outer
 }
 
-// The edge of the row at a vertex with its other end; none exactly when the row has 0 there.
+// The edge of the row at a vertex with its other end; none if and only if the row has 0 there.
 fn mate_at(ends: &[Ends], at: &[u32], v: u32) -> Option<Mate>
     requires within { v < length at.now }
     requires real { numbers at.now v ≢ 0 → Within (length ends.now) (numbers at.now v) }

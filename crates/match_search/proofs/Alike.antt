@@ -1,12 +1,12 @@
--- Paths, forests, matchings and cycles are what stands at their places. Each condition speaks of
--- places within range alone, so functions that agree there meet the same conditions.
+-- Paths, forests, matchings and cycles depend only on the values at their places. Each condition
+-- uses only places within range, so functions that agree there satisfy the same conditions.
 use Rattle.std.proofs.Common.{◌≡◌, ℕ, suc, ◌+◌, ◌≤◌, ◌<◌, true, sym, ap, ◌∙◌, arith, subst}
 use Rattle.counting.proofs.Common.{Within, Set}
 use Rattle.graph_core.proofs.Common.{degree_congr, Graph, degree, first_end, second_end, size, IsMatching}
 use Rattle.match_search.proofs.LongerPaths.{ends_by}
 use Rattle.match_search.specs.Common.{IsOddCycle, IsAlternating, IsForest}
 
--- a path is what stands at its places
+-- a path depends only on the values at its places
 pub path_alike : (g : Graph) (r f : Set) (k : ℕ) (v e v' e' : ℕ → ℕ) → ((j : ℕ) → j ≤ k + k → v' j ≡ v j) → ((j : ℕ) → j < k + k → e' j ≡ e j) → IsAlternating g r f k v e → IsAlternating g r f k v' e'
 path_alike g r f k v e v' e' hv he p = record {
   path = record {
@@ -20,7 +20,7 @@ path_alike g r f k v e v' e' hv he p = record {
   turns = λ i l. ap f (he i l) ∙ p.turns i l;
 }
 
--- a forest is what its sets answer, and what stands at the places of its paths
+-- a forest depends only on its sets and on the values at the places of its paths
 pub forest_alike : (g : Graph) (r f outer inner : Set) (k : ℕ → ℕ) (v e : ℕ → ℕ → ℕ) (outer' inner' : Set) (k' : ℕ → ℕ) (v' e' : ℕ → ℕ → ℕ) →
     ((u : ℕ) → outer' u ≡ outer u) → ((u : ℕ) → inner' u ≡ inner u) → ((u : ℕ) → outer u ≡ true → k' u ≡ k u) →
     ((u : ℕ) → outer u ≡ true → (j : ℕ) → j ≤ k u + k u → v' u j ≡ v u j) → ((u : ℕ) → outer u ≡ true → (j : ℕ) → j < k u + k u → e' u j ≡ e u j) →
@@ -38,10 +38,10 @@ forest_alike g r f outer inner k v e outer' inner' k' v' e' ho hi hk hv he fores
       (ap outer' (hv u o j lj) ∙ ho (v u j) ∙ s.0, ap inner' (hv u o j lj) ∙ hi (v u j) ∙ s.1);
 }
 
--- a matching is what it answers at the edges
+-- a matching depends only on its values at the edges
 pub matching_alike : (g : Graph) (r m n : Set) → ((e : ℕ) → Within (size g) e → n e ≡ m e) → IsMatching g r m → IsMatching g r n
 matching_alike g r m n h mm = grind (arith, degree_congr g n m)
 
--- a cycle is what stands at its places
+-- a cycle depends only on the values at its places
 pub cycle_alike : (g : Graph) (r : Set) (n : ℕ) (c e c' e' : ℕ → ℕ) → ((i : ℕ) → Within n i → c' i ≡ c i) → ((i : ℕ) → Within n i → e' i ≡ e i) → IsOddCycle g r n c e → IsOddCycle g r n c' e'
 cycle_alike g r n c e c' e' hc he cyc = grind arith

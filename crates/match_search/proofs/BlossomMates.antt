@@ -117,7 +117,7 @@ module _ (g : Graph) (is : IsGraph g) (r f m : Set) (n : ℕ) (c e : ℕ → ℕ
     removed_in : (v : ℕ) → cs v ≡ true → v ≢ z → rs v ≡ true
     removed_in v t s = or_right (r v) (cs v && not (v == z)) (and_from (cs v) (not (v == z)) t (ap not (ne_eqb v z s)))
 
-    -- a vertex with a mate, but for the base, is outside the blossom
+    -- a vertex with a mate, except for the base, is outside the blossom
     mate_out : (v : ℕ) → Within g.order v → mate v ≢ 0 → v ≢ z → cs v ≡ false
     mate_out v w q s = false_from_ne_true (cs v) (λ t. q (removed_mate H graph rs m2 mate has v w (removed_in v t s)))
 

@@ -33,7 +33,7 @@ module _ (g : Graph) (is : IsGraph g) (r f m : Set) (n : ℕ) (c e : ℕ → ℕ
   abbrev cyc : IsOddCycle g r n c e
   cyc = opened.cycle
 
-  -- a blossom has one vertex more than so many pairs
+  -- a blossom has one more vertex than so many pairs
   abbrev pairs : ℕ
   pairs = (halves g is r f m n c e opened).0
 
@@ -44,7 +44,7 @@ module _ (g : Graph) (is : IsGraph g) (r f m : Set) (n : ℕ) (c e : ℕ → ℕ
   round_count : (t : ℕ) → Within n t → count (size g) (round t) ≡ pairs
   round_count t w = near_perfect_count g is cs (c t) (round t) (every_other-near_perfect g r n c e cyc t w) pairs (cycle_holds g r n c e cyc t w) (cyc.within t w) (halves g is r f m n c e opened).1
 
-  -- the answer of the shrunk graph is one of the graph
+  -- the result for the shrunk graph is one for the graph
   pub step_up : (m2 full : Set) → count (size g) full ≡ count (size H) m2 + pairs → (below result : Answer) → (members : List ℕ) → ((v : ℕ) → mem members v ≡ cs v) → StepAnswer H rs m m2 below → IsWidened below (mem members) result → StepAnswer g r f full result
   step_up m2 full u Grown Grown members is_cs a w = let b = (downs g is r f m n c e opened).2 in let s = opened.same in omega arith
   step_up m2 full u Grown (Final sets) members is_cs a w = absurd w

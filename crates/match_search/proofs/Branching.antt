@@ -43,7 +43,7 @@ module _ (s : Instance) (mate : List ℕ) (t : AlternatingForest) (x y : ℕ) (m
   pub holds_branched : (h : AlternatingForest) → HasBranched t h x y (numbers mate y) → HoldsAlternating g r f mate h
   holds_branched = branch_holds g r f s mate is t holds x y ox parts.0 parts.1 parts.2 oy parts.3
 
-  -- one vertex more is inner, and one more is open
+  -- one more vertex is inner, and one more is open
   pub nearer_end : (opens opens' inner' : List ℕ) → ((v : ℕ) → mem opens v ≡ true → mem t.outer v ≡ true) → ((v : ℕ) → mem inner' v ≡ (mem t.inner v || (y == v))) → ((v : ℕ) → mem opens' v ≡ (mem opens v || (numbers mate y == v))) →
       2 * (length s.rows.items - count (length s.rows.items) (mem inner')) + count (length s.rows.items) (mem opens') < 2 * (length s.rows.items - count (length s.rows.items) (mem t.inner)) + count (length s.rows.items) (mem opens)
   nearer_end opens opens' inner' outer inner_is opens_is =

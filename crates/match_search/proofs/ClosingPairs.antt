@@ -1,5 +1,5 @@
 -- Two closing paths by mates: where they do not meet, the exchanged pairs and the pair of their
--- last vertices are a matching with one edge more; where they meet, the mates without the blossom
+-- last vertices are a matching with one more edge; where they meet, the mates without the blossom
 -- are those of the opened matching.
 use Rattle.std.proofs.Common.{◌≡◌, ◌≢◌, ℕ, suc, ◌+◌, ◌-◌, ◌/◌, ◌≤◌, ◌<◌, true, false, cond, ◌==◌, refl, sym, ap, ◌∙◌, arith, ne_eqb, inl, inr, subst, length, List, ◌&&◌, not}
 use Rattle.counting.proofs.Common.{fun_ext, cases_Bool, cases_eq, both_ways, false_from_ne_true, half, Within, bit, count, Set, minus, put, mem}
@@ -15,7 +15,7 @@ use Rattle.match_search.proofs.MatePairs.{flipped_exposes, flipped_pairs, joined
 use Rattle.match_search.proofs.OddCycles.{cycle_holds, every_other-near_perfect, same_ends}
 use Rattle.match_search.proofs.NearPerfectSets.{bit_minus, degree_split}
 
--- the mates of a set that answers the same
+-- the mates of a set with the same members
 pub mates_alike : (g : Graph) (r m : Set) (mate new : ℕ → ℕ) → ((u : ℕ) → new u ≡ mate u) → HasMates g r m mate → HasMates g r m new
 mates_alike g r m mate new h has = subst (λ (x : ℕ → ℕ). HasMates g r m x) (sym (fun_ext h)) has
 

@@ -68,7 +68,7 @@ mates_second mate v (suc k) top t apart in_top b =
       | inr q ↦ grind (arith, pair_off (flipped_mates mate v k) (v (k + k)) (v (suc (k + k))) (v (suc (t + t))), mates_second mate v k top t apart (omega arith) (omega arith))
     ]
 
--- a place up to the top where the vertex stands, or none
+-- a place up to the top that holds the vertex, or none
 place : (v : ℕ → ℕ) (u top : ℕ) → ((j : ℕ) × (j ≤ top) × (u ≡ v j)) ⊎ ((j : ℕ) → j ≤ top → u ≢ v j)
 place v u zero = grind (arith, cases_eq u (v 0))
 place v u (suc top) = elim (cases_eq u (v (suc top))) [
@@ -82,7 +82,7 @@ place v u (suc top) = elim (cases_eq u (v (suc top))) [
   ]
 ]
 
--- both exchanges give the same mates, but for the last vertex
+-- both exchanges give the same mates, except for the last vertex
 pub over_mates : (mate v w : ℕ → ℕ) (k : ℕ) → AreApart v (k + k) → ((j : ℕ) → j ≤ k + k → w j ≡ v j) → (u : ℕ) → u ≢ v (k + k) → flipped_over mate w 0 k u ≡ flipped_mates mate v k u
 over_mates mate v w k apart same u off = elim (place v u (k + k)) [
   | inr none ↦ over_off mate w 0 k u (λ j a b e. none j (omega arith) (e ∙ same j (omega arith))) ∙ sym (mates_off mate v k u none)

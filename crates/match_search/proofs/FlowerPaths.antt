@@ -13,7 +13,7 @@ pub path_more : (p : ℕ → ℕ) (old new top inner at : ℕ) (path after : Lis
     → ((v : ℕ) → (mem path v ≡ true) ↔ ((j : ℕ) × (old ≤ j) × (j ≤ top) × (p j ≡ v))) → (v : ℕ) → (mem after v ≡ true) ↔ ((j : ℕ) × (new ≤ j) × (j ≤ top) × (p j ≡ v))
 path_more p old new top inner at path after low fits at_inner at_new after_is path_is v = grind arith
 
--- one pair more exchanged
+-- one more pair exchanged
 pub flip_more : (mate v old new : ℕ → ℕ) (s more n at inner : ℕ) → more ≡ suc s → v (s + s) ≡ at → v (suc (s + s)) ≡ inner → ((u : ℕ) → old u ≡ flipped_over mate v more n u) → ((u : ℕ) → new u ≡ with_pair old at inner u) → (u : ℕ) → new u ≡ flipped_over mate v s (n + 1) u
 flip_more mate v old new s more n at inner up at_is inner_is old_is new_is u = grind arith
 

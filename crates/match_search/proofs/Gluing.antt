@@ -39,7 +39,7 @@ meet_none g c met e a b is we ends wa wb ce once closed m mm holds me = go (a ==
     go false false true h p q k = at b wb ends_b k
     go false false false h p q k = absurd (true≢false h)
 
--- a perfect matching of g without the ends of c, and c
+-- the union of a perfect matching of G - V(c) and c
 pub glued : (g : Graph) (c met p : Set) → IsGraph g → MeetOnce g c met → IsPerfect g met p → IsPerfect g none (union p c)
 glued g c met p is once perfect = record { once = λ v w q. both v w; away = λ v w q. absurd (true≢false (sym q)) }
   where
@@ -52,7 +52,7 @@ glued g c met p is once perfect = record { once = λ v w q. both v w; away = λ 
         let o = once v w in
         grind arith
 
--- a perfect matching that holds c, without c
+-- a perfect matching that contains c, without c
 pub cut_off : (g : Graph) (c met m : Set) → MeetOnce g c met → IsPerfect g none m → ((i : ℕ) → c i ≡ true → m i ≡ true) → IsPerfect g met (minus m c)
 cut_off g c met m once perfect holds = grind (arith, degree_split g m (minus m c) c, bit_minus)
 
@@ -77,7 +77,7 @@ mem-again x v w h = grind arith
 pub mem-take_all : (xs : List ℕ) (k v : ℕ) → length xs ≤ k → mem (take k xs) v ≡ mem xs v
 mem-take_all xs k v l = ap (λ ys. mem ys v) (take_all k xs l)
 
--- what holds of each item holds of each member
+-- what is true of each item is true of each member
 pub mem-holds : (P : ℕ → Type 0) (xs : List ℕ) (v : ℕ) → All P xs → mem xs v ≡ true → P v
 mem-holds P [] v all h = absurd (true≢false (sym h))
 mem-holds P (x ∷ xs) v all h = elim (Rattle.std.proofs.lemmas.Bool.or_cases (x == v) (mem xs v) h) [

@@ -63,7 +63,7 @@ module _ (n : ℕ) (ends : List Ends) where
 pub ends_here : (n : ℕ) (ends : List Ends) (k : ℕ) → k < length ends → (end_a ends k ≡ first_end (graph_of n ends) (suc k)) × (end_b ends k ≡ second_end (graph_of n ends) (suc k))
 ends_here n ends k l = grind (arith, near_is n ends (suc k), far_is n ends (suc k))
 
--- a vertex has no edge in the row exactly when the matching misses it
+-- a vertex has no edge in the row if and only if the matching misses it
 pub free_degree : (n : ℕ) (ends : List Ends) (m : Set) (at : List ℕ) → NamesEdges ends m at (length ends) → (u : ℕ) → (numbers at u == 0) ≡ (degree (graph_of n ends) m u == 0)
 free_degree n ends m at mates u = elim (cases_eq (numbers at u) 0) [
   | inl q ↦ eq-eqb (numbers at u) 0 q ∙ sym (eq-eqb (degree (graph_of n ends) m u) 0 (missed_degree n ends m at mates u q))

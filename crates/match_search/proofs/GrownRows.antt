@@ -1,4 +1,5 @@
--- A set with one member more.
+-- A set with one more member. Idea: the disjunction with "v is w" and the set changed at v to true
+-- agree at each w, by the two values of that test.
 use Rattle.std.proofs.Common.{◌≡◌, ℕ, true, ◌==◌, ◌||◌, arith}
 use Rattle.counting.proofs.Common.{Set, put}
 

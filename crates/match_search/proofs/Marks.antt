@@ -1,4 +1,5 @@
--- Rows of marks: a new row marks nothing.
+-- Rows of marks: a new row marks nothing. Idea: each item of a repeated value is that value, and
+-- past the end a row is false by definition.
 use Rattle.std.proofs.Common.{◌≡◌, ℕ, suc, zero, false, refl, replicate}
 use Rattle.match_search.specs.Common.{marks}
 

@@ -1,4 +1,5 @@
--- One augmentation by mates: what its parts hand to one another.
+-- One augmentation by mates: the facts that its parts pass to one another. Idea: each is read off
+-- the relation that the one part ensures, in the form that the next requires.
 use Rattle.std.proofs.Common.{◌≡◌, ℕ, ◌<◌, ◌∙◌, arith, subst₂, length, List, get_or, nat_lt, nat_le, lt-ltb, Some, None, true, ◌==◌, ◌||◌, ◌⊎◌, eq-eqb}
 use Rattle.counting.proofs.Common.{fun_ext, and_from, le-leb, total_congr, get_or_default_zero, Within, count, Set, complement, mem}
 use Rattle.graph_core.proofs.Common.{Graph}

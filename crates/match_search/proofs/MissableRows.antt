@@ -15,7 +15,7 @@ use Rattle.match_search.proofs.SameMates.{mates_degree}
 or_none : (a b : Bool) → (a || b) ≡ false → (a ≡ false) × (b ≡ false)
 or_none a b h = grind arith
 
--- the instance without one vertex more
+-- the instance with one vertex fewer
 pub instance_without : (g : Graph) (r : Set) (u : ℕ) (s : Instance) (left : List ℕ) → IsInstance g r s → ((v : ℕ) → mem left v ≡ (mem s.left v && not (u == v))) → IsInstance g (union r (singleton u)) (record s { left = left })
 instance_without g r u s left is less = search (rules, nat_lt 0, nat_le, or_none)
 
@@ -74,7 +74,7 @@ module _ (g : Graph) (is : IsGraph g) (r m : Set) (mate : ℕ → ℕ) (has : Ha
     ];
   }
 
--- the instance and the mates without one vertex more hold a matching
+-- the instance and the mates with one vertex fewer represent a matching
 pub held_without : (g : Graph) (r f : Set) (u : ℕ) (s : Instance) (mate own left : List ℕ) → HoldsMatching g r f s mate → Within g.order u → ((v : ℕ) → mem left v ≡ (mem s.left v && not (u == v))) → length own ≡ length mate →
     ((v : ℕ) → numbers own v ≡ with_mate (with_mate (numbers mate) (numbers mate u) 0) u 0 v) → (m : Set) × HoldsMatching g (union r (singleton u)) m (record s { left = left }) own
 held_without g r f u s mate own left held wu out long each = (

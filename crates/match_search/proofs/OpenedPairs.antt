@@ -91,7 +91,7 @@ module _ (g : Graph) (is : IsGraph g) (r : Set) (n : ℕ) (c e : ℕ → ℕ) (c
               close : u ≡ c (suc k) → ⊥
               close h = apart j (suc k) u v (c (next n (suc k))) w_j wk q_j o s wu ends (subst (λ (x : ℕ). HasEnds g (e (suc k)) x (c (next n (suc k)))) (sym h) (cyc.ends (suc k) wk))
 
-  -- a matching that misses the cycle but for place t, with these edges
+  -- a matching that misses the cycle except for place t, with these edges
   module _ (m : Set) (mate : ℕ → ℕ) (has : HasMates g r m mate) (missed : (v : ℕ) → Within g.order v → listed n c v ≡ true → v ≢ c t → degree g m v ≡ 0) (cr : (v : ℕ) → listed n c v ≡ true → r v ≡ false) where
     abbrev pub full : Set
     full = union m et

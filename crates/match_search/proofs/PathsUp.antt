@@ -1,4 +1,6 @@
--- One step of the path up from an outer vertex: over its mate to its grandparent.
+-- One step of the path up from an outer vertex: over its mate to its grandparent. Idea: the path of
+-- the vertex is that of its grandparent with two more vertices, so writing these two leaves the
+-- grandparent's path to be written.
 use Rattle.std.proofs.Common.{◌≡◌, ◌≢◌, ℕ, suc, ◌+◌, ◌≤◌, ◌<◌, true, sym, ap, ◌∙◌, arith, inl, inr, subst, List, get_or, rules}
 use Rattle.counting.proofs.Common.{get_or_default_zero, cases_eq, Within, Set, mem}
 use Rattle.graph_core.proofs.Common.{Graph}
@@ -28,8 +30,8 @@ module _ (g : Graph) (r f : Set) (mate : List ℕ) (t : AlternatingForest) (h : 
   pub up_within : Within g.order (numbers mate u)
   up_within = search (rules, up_parts)
 
-  -- the row with the last two vertices of the path of u, which are those of the path of x, told
-  -- from place 2 k on
+  -- the row with the last two vertices of the path of u, which are those of the path of x, from
+  -- place 2 k on
   pub path_written : (x : ℕ) (row new : List ℕ) (start : ℕ) → ((j : ℕ) → j ≤ numbers t.pairs.items u + numbers t.pairs.items u → h.v u j ≡ h.v x j) → ((j : ℕ) → numbers t.pairs.items u + numbers t.pairs.items u < j → j ≤ numbers t.pairs.items x + numbers t.pairs.items x → numbers row (start + j) ≡ h.v x j) →
       (place : ℕ) → suc place ≡ start + (numbers t.pairs.items u + numbers t.pairs.items u) → ((j : ℕ) → numbers new j ≡ with_mate (with_mate (numbers row) (suc place) u) place (numbers mate u) j) →
       (j : ℕ) → numbers t.pairs.items grandparent + numbers t.pairs.items grandparent < j → j ≤ numbers t.pairs.items x + numbers t.pairs.items x → numbers new (start + j) ≡ h.v x j

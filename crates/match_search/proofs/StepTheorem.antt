@@ -17,7 +17,7 @@ use Rattle.match_search.specs.Common.{IsOddCycle, listed, every_other, picked, I
 pub shrunk_ends_shrunk : (g : Graph) (c : Set) (z : ℕ) → IsShrunk g c z (shrunk_ends g c z)
 shrunk_ends_shrunk g c z = grind (arith, length-map, get_or-map)
 
--- a matching with one edge more, or a frame
+-- a matching with one more edge, or a frame
 abbrev pub Step : Graph → Set → Set → Type 0
 Step g r f = ((m : Set) × IsMatching g r m × (count (size g) m ≡ count (size g) f + 1)) ⊎ ((outer : Set) × (inner : Set) × Frame g r (count (size g) f) outer inner)
 
@@ -195,6 +195,6 @@ step_within : (n : ℕ) (g : Graph) → IsGraph g → (r f : Set) → IsMatching
 step_within zero g is r f mm l = one_step g is r f mm (λ h ih s k km less. absurd (omega arith))
 step_within (suc n) g is r f mm l = one_step g is r f mm (λ h ih s k km less. step_within n h ih s k km (omega arith))
 
--- each matching of g without r can be made greater by one edge, or has a frame
+-- each matching of g - r can be made greater by one edge, or has a frame
 pub step : (g : Graph) (r f : Set) → IsGraph g → IsMatching g r f → Step g r f
 step g r f is mm = step_within (count g.order (complement r)) g is r f mm (omega arith)

@@ -14,7 +14,7 @@ module _ (g : Graph) (n : ℕ) (ends : List Ends) (order : n ≡ g.order) (same 
   pub whole_size : length ends ≡ size g
   whole_size = sym (size_is n ends) ∙ ap size whole_graph
 
-  -- the ends of an edge stand one place before it
+  -- the ends of edge e are item e - 1 of the list
   pub whole_ends : (e : ℕ) → Within (size g) e → (first_end g e ≡ end_a ends (e - 1)) × (second_end g e ≡ end_b ends (e - 1))
   whole_ends e w = grind (arith, whole_graph, whole_size, near_is n ends e, far_is n ends e)
 

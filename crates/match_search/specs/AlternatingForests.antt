@@ -1,5 +1,5 @@
--- How the code keeps an alternating forest: an inner vertex names its parent, and the path goes on
--- from there by mates.
+-- How the code represents an alternating forest: an inner vertex names its parent, and the path
+-- goes on from there by mates.
 -- Stated by: match_search. Rests on it: match_core.
 use Rattle.std.specs.Prelude.{◌≢◌, ◌≡◌, ℕ, suc, ◌+◌, ◌≤◌, ◌==◌, ◌&&◌, ◌||◌, true, length, List, Some, None}
 use Rattle.counting.specs.Common.{Set, mem}
@@ -13,13 +13,13 @@ use Rattle.match_search.specs.declared.alternating.AlternatingForest.{Alternatin
 use Rattle.match_search.specs.declared.growing.GrownForest.{GrownForest}
 use Rattle.match_search.specs.declared.growing.Adjacent.{Adjacent}
 
--- the instance is g without r, and the mates are those of a matching f of it
+-- the instance is g - r, and the mates are those of a matching f of it
 pub record HoldsMatching (g : Graph) (r f : Set) (s : Instance) (mate : List ℕ) : Type 0 where
   pub instance_is : IsInstance g r s
   pub long : length mate ≡ suc g.order
   pub mates : HasMates g r f (numbers mate)
 
--- the candidates hold each vertex that is left and has no mate
+-- the candidates contain each vertex that is left and has no mate
 abbrev pub MayBeExposed : List ℕ → List ℕ → List ℕ → Type 0
 MayBeExposed left mate candidates = (v : ℕ) → mem left v ≡ true → numbers mate v ≡ 0 → mem candidates v ≡ true
 
@@ -32,7 +32,8 @@ pub record IsSized (n : ℕ) (t : AlternatingForest) : Type 0 where
   pub parents_long : length t.parent.items ≡ suc n
   pub pairs_long : length t.pairs.items ≡ suc n
 
--- the path up from u: its mate hangs on p, and the path of u is that of p and on by its mate
+-- the path up from u: its mate is a child of p, and the path of u is that of p extended by its mate
+-- and u
 pub record GoesUp (mate : List ℕ) (t : AlternatingForest) (v : ℕ → ℕ → ℕ) (u p : ℕ) : Type 0 where
   pub parent : numbers t.parent.items (numbers mate u) ≡ p
   pub outer : mem t.outer p ≡ true
@@ -40,8 +41,8 @@ pub record GoesUp (mate : List ℕ) (t : AlternatingForest) (v : ℕ → ℕ →
   pub inner : v u (suc (numbers t.pairs.items p + numbers t.pairs.items p)) ≡ numbers mate u
   pub before : (j : ℕ) → j ≤ numbers t.pairs.items p + numbers t.pairs.items p → v u j ≡ v p j
 
--- the sets, the parents and the mates are a forest for f in g without r; v and e are the vertices
--- and edges of its paths
+-- the sets, the parents and the mates are a forest for f in g - r; v and e are the vertices and
+-- edges of its paths
 pub record HoldsAlternating (g : Graph) (r f : Set) (mate : List ℕ) (t : AlternatingForest) : Type 0 where
   pub v : ℕ → ℕ → ℕ
   pub e : ℕ → ℕ → ℕ
@@ -63,11 +64,11 @@ pub record HasBranched (t h : AlternatingForest) (x y z : ℕ) : Type 0 where
 pub record IsMember (set : List ℕ) (x : ℕ) : Type 0 where
   pub member : mem set x ≡ true
 
--- x is done: each neighbour of it that is left, but for itself, is inner
+-- x is done: each neighbour of it that is left, except x itself, is inner
 abbrev pub IsDone : Instance → AlternatingForest → ℕ → Type 0
 IsDone s t x = (y : ℕ) → Touches s x y → mem s.left y ≡ true → x ≢ y → mem t.inner y ≡ true
 
--- two outer vertices of the forest, different ones, which an edge joins
+-- two different outer vertices of the forest that an edge joins
 pub record IsClosingPair (s : Instance) (t : AlternatingForest) (o : Adjacent) : Type 0 where
   pub v_outer : mem t.outer o.v ≡ true
   pub w_outer : mem t.outer o.w ≡ true

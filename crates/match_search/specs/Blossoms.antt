@@ -1,5 +1,5 @@
--- What an edge between two outer vertices closes: a path that augments the matching, or a
--- blossom, an odd cycle with as many edges of the matching as it may have.
+-- What an edge between two outer vertices closes: an augmenting path, or a blossom, an odd cycle
+-- with as many edges of the matching as possible.
 -- Stated by: match_search.
 use Rattle.std.specs.Prelude.{◌≡◌, ◌≢◌, ℕ, suc, ◌+◌, ◌-◌, ◌≤◌, ◌⊎◌, true, false, length, List, Option, Some, None}
 use Rattle.counting.specs.Common.{Within, count, is_odd, Set, mem}
@@ -35,7 +35,7 @@ pub record ClosesForest (g : Graph) (r f : Set) (mate : List ℕ) (t : Alternati
 abbrev pub second_start : Paths → ℕ
 second_start w = suc (w.first + w.first)
 
--- the row holds two alternating paths for the matching f, which has these mates, with outer and
+-- the row contains two alternating paths for the matching f, which has these mates, with outer and
 -- inner vertices in turn; an edge outside f joins their last vertices
 pub record AreClosingPaths (g : Graph) (r f : Set) (mate : List ℕ) (w : Paths) : Type 0 where
   pub graph : IsGraph g
@@ -56,12 +56,12 @@ pub record AreClosingPaths (g : Graph) (r f : Set) (mate : List ℕ) (w : Paths)
   pub ends : HasEnds g edge (part w.row.items 0 (w.first + w.first)) (part w.row.items (second_start w) (w.second + w.second))
   pub off : f edge ≡ false
 
--- the number of vertices of a blossom, which stand in its row from place 1 on
+-- the number of vertices of a blossom, which are in its row from place 1 on
 abbrev pub blossom_length : Blossom → ℕ
 blossom_length b = length b.cycle.items - 1
 
--- the blossom is an odd cycle, and the mates are those of a matching m that misses it: m is f
--- with the path to the base, the first vertex, exchanged, and without its edges in the cycle
+-- the blossom is an odd cycle, and the mates are those of a matching m that misses it: m is f with
+-- the edges exchanged on the path to the base, the first vertex, and without its edges in the cycle
 pub record HoldsBlossom (g : Graph) (r f : Set) (mate : List ℕ) (b : Blossom) : Type 0 where
   pub members : (v : ℕ) → mem b.members v ≡ listed (blossom_length b) (numbers b.cycle.items) v
   pub m : Set
@@ -69,11 +69,11 @@ pub record HoldsBlossom (g : Graph) (r f : Set) (mate : List ℕ) (b : Blossom) 
   pub opened : IsOpened g r f m (blossom_length b) (numbers b.cycle.items) edge
   pub mates : HasMates g r m (numbers mate)
 
--- each vertex without a mate is in the blossom, or it had none before
+-- each vertex without a mate is in the blossom, or had none before
 abbrev pub ExposesOnly : List ℕ → List ℕ → Blossom → Type 0
 ExposesOnly before after b = (v : ℕ) → numbers after v ≡ 0 → (mem b.members v ≡ true) ⊎ (numbers before v ≡ 0)
 
--- the mates are those of a matching with one edge more
+-- the mates are those of a matching m with |m| = |f| + 1
 abbrev pub IsAugmented : Graph → Set → Set → List ℕ → Type 0
 IsAugmented g r f mate = (m : Set) × HasMates g r m (numbers mate) × (count (size g) m ≡ count (size g) f + 1)
 
@@ -82,21 +82,22 @@ abbrev pub IsClosed : Graph → Set → Set → List ℕ → Option Blossom → 
 IsClosed g r f mate None = IsAugmented g r f mate
 IsClosed g r f mate (Some b) = HoldsBlossom g r f mate b
 
--- the mates are those of a matching m of g without r, which f became by one step
+-- the mates are those of a matching m of g - r, which one step made from f
 pub record IsMateStep (g : Graph) (r f : Set) (mate : List ℕ) (s : Answer) : Type 0 where
   pub m : Set
   pub mates : HasMates g r m (numbers mate)
   pub answer : StepAnswer g r f m s
 
--- g with a blossom shrunk to its base, and what is removed then
+-- g with a blossom shrunk to its base
 abbrev pub without_blossom : Graph → Blossom → Graph
 without_blossom g b = with_ends g (shrunk_ends g (listed (blossom_length b) (numbers b.cycle.items)) (numbers b.cycle.items 1))
 
+-- the vertices that are removed when a blossom is shrunk: r, and the blossom except its base
 abbrev pub removed_with : Set → Blossom → Set
 removed_with r b = shrunk_removed r (listed (blossom_length b) (numbers b.cycle.items)) (numbers b.cycle.items 1)
 
--- the instance is g without r, the blossom was opened as m, and the mates are those of a matching
--- n of g with it shrunk
+-- the instance is g - r, the blossom was expanded as m, and the mates are those of a matching n of
+-- g with the blossom shrunk
 pub record MayOpen (g : Graph) (r f m n : Set) (s : Instance) (mate : List ℕ) (b : Blossom) : Type 0 where
   pub instance_is : IsInstance g r s
   pub long : length mate ≡ suc g.order
@@ -104,7 +105,7 @@ pub record MayOpen (g : Graph) (r f m n : Set) (s : Instance) (mate : List ℕ) 
   pub opened : IsOpened g r f m (blossom_length b) (numbers b.cycle.items) edge
   pub mates : HasMates (without_blossom g b) (removed_with r b) n (numbers mate)
 
--- the mates are those of a matching of g without r that has as many edges more than f as n has
--- more than m
+-- the mates are those of a matching `full` of g - r with |full| + |m| = |n| + |f|: it is larger
+-- than f by as much as n is larger than m
 abbrev pub IsCompleted : Graph → Set → Set → Set → Set → List ℕ → Type 0
 IsCompleted g r f m n mate = (full : Set) × HasMates g r full (numbers mate) × (count (size g) full + count (size g) m ≡ count (size g) n + count (size g) f)

@@ -1,5 +1,5 @@
--- A blossom by its set of vertices and its base alone, and the outer vertices of a matching that
--- misses one vertex.
+-- A blossom given by its set of vertices and its base only, and the outer vertices of a matching
+-- that misses one vertex.
 -- Stated by: match_search.
 use Rattle.std.specs.Prelude.{◌≡◌, ℕ, suc, ◌+◌, ◌≤◌, ◌⊎◌, true, length, List}
 use Rattle.counting.specs.Common.{Within, count, Set, mem}
@@ -15,8 +15,8 @@ use Rattle.match_search.specs.declared.flower.Flower.{Flower}
 use Rattle.match_search.specs.declared.instance.Instance.{Instance}
 
 -- the members are the vertices of an odd cycle, whose first vertex is the base, and the mates are
--- those of a matching m that misses it: m is f with the path to the base exchanged, and without
--- its edges in the cycle
+-- those of a matching m that misses it: m is f with the edges exchanged on the path to the base,
+-- and without its edges in the cycle
 pub record HoldsFlower (g : Graph) (r f : Set) (mate : List ℕ) (b : Flower) : Type 0 where
   pub length_of : ℕ
   pub vertex : ℕ → ℕ
@@ -41,17 +41,17 @@ pub record HoldsForest (mate : List ℕ) (t : AlternatingForest) : Type 0 where
   pub long : length mate ≡ suc g.order
   pub few : g.order ≤ 128
 
--- the outer vertex u is where the path to the outer vertex y comes last to the set, or the root
+-- u is an outer vertex that is in the set or is the root, and its path is not longer than that of y
 pub record IsLastIn (t : AlternatingForest) (path : List ℕ) (y u : ℕ) : Type 0 where
   pub outer : mem t.outer u ≡ true
   pub pairs : numbers t.pairs.items u ≤ numbers t.pairs.items y
   pub member : (mem path u ≡ true) ⊎ (numbers t.pairs.items u ≡ 0)
 
--- the path to y goes over the path to u
+-- the path to y contains the path to u
 abbrev pub GoesOver : AlternatingForest → (ℕ → ℕ → ℕ) → ℕ → ℕ → Type 0
 GoesOver t v u y = (j : ℕ) → j ≤ numbers t.pairs.items u + numbers t.pairs.items u → v u j ≡ v y j
 
--- the instance is g without r, and the mates are those of a matching f of it that misses one
+-- the instance is g - r, and the mates are those of a matching f of it that misses exactly one
 -- vertex, the root
 pub record HoldsRooted (g : Graph) (r f : Set) (s : Instance) (mate : List ℕ) (root : ℕ) : Type 0 where
   pub holds : HoldsMatching g r f s mate
@@ -59,7 +59,7 @@ pub record HoldsRooted (g : Graph) (r f : Set) (s : Instance) (mate : List ℕ) 
   pub left : mem s.left root ≡ true
   pub free : numbers mate root ≡ 0
 
--- the set is that of the outer vertices of a frame for the matching f
+-- the set is the set of outer vertices of a frame for the matching f
 pub record HasOuter (g : Graph) (r f : Set) (outer : List ℕ) : Type 0 where
   pub inner : Set
   pub frame : Frame g r (count (size g) f) (mem outer) inner

@@ -1,4 +1,4 @@
--- What the last step of a search says of a matching by its mates.
+-- What the last step of a search proves about a matching given by its mates.
 -- Stated by: match_search. Rests on it: match_core.
 use Rattle.std.specs.Prelude.{◌≡◌, ◌≢◌, ℕ, true, false, List}
 use Rattle.counting.specs.Common.{Within, count, Set, mem}
@@ -9,15 +9,15 @@ use Rattle.match_search.specs.Rows.{numbers}
 use Rattle.match_search.specs.Steps.{AreVertexSets}
 use Rattle.match_search.specs.declared.answer.FinalSets.{FinalSets}
 
--- the mates are those of a matching of g without r, and the sets are its frame
+-- the mates are those of a matching of g - r, and the sets are its frame
 pub record HasFrame (g : Graph) (r : Set) (mate : List ℕ) (sets : FinalSets) : Type 0 where
   pub m : Set
   pub mates : HasMates g r m (numbers mate)
   pub frame : Frame g r (count (size g) m) (mem sets.outer) (mem sets.inner)
   pub vertices : AreVertexSets g sets
 
--- the row has the outer vertices of the frame of a matching m of g without r if m misses one
--- vertex, and else none
+-- the row has the outer vertices of the frame of a matching m of g - r if m misses one vertex, and
+-- otherwise none
 pub record IsMissableRow (g : Graph) (r : Set) (row : List ℕ) : Type 0 where
   pub m : Set
   pub outer : Set

@@ -4,19 +4,19 @@ use Rattle.std.specs.Prelude.{◌≡◌, ℕ, suc, ◌≤◌, Bool, true, false,
 use Rattle.counting.specs.Common.{Within, is_odd, Set, some}
 use Rattle.graph_core.specs.Common.{Graph, HasEnds, size}
 
--- the numbers that pick makes of those of 1 to k in m
+-- {pick i : i in m ∩ {1, .., k}}
 abbrev pub picked : ℕ → Set → (ℕ → ℕ) → Set
 picked k m pick i = some k (λ e. m e && (pick e == i))
 
--- the numbers that c makes of 1 to n
+-- {c 1, .., c n}
 abbrev pub listed : ℕ → (ℕ → ℕ) → Set
 listed n c v = some n (λ i. c i == v)
 
--- the place after i, round 1 to n
+-- the place after i, cyclically in 1 to n
 abbrev pub next : ℕ → ℕ → ℕ
 next n i = cond (i == n) 1 (suc i)
 
--- both or neither
+-- both are true or both false
 abbrev pub same_answer : Bool → Bool → Bool
 same_answer a b = cond a b (not b)
 

@@ -1,4 +1,4 @@
--- What the engine answers on a whole graph.
+-- The result of the engine for a whole graph.
 -- Stated by: match_search, match_core.
 use Rattle.std.specs.Prelude.{◌≡◌, ◌+◌, length}
 use Rattle.counting.specs.Common.{count, Set, mem}
@@ -8,7 +8,7 @@ use Rattle.match_search.specs.Rows.{marks}
 use Rattle.match_search.specs.Steps.{AreVertexSets}
 use Rattle.match_search.specs.declared.best.Best.{Best}
 
--- the marks are a matching of g without r, and the sets are its frame
+-- the marks are a matching of g - r, and the sets are its frame
 pub record IsBest (g : Graph) (r : Set) (b : Best) : Type 0 where
   pub long : length b.mark.items ≡ size g + 1
   pub matching : IsMatching g r (marks b.mark.items)

@@ -1,4 +1,4 @@
--- Perfect matchings that hold given edges.
+-- Perfect matchings that contain given edges.
 -- Stated by: match_core. Rests on it: match_search, allowed_edges, ear_core.
 use Rattle.std.specs.Prelude.{◌≡◌, ℕ, true, List}
 use Rattle.counting.specs.Common.{Within, bit, Set, none, mem}
@@ -8,10 +8,10 @@ use Rattle.graph_core.specs.Common.{Graph, degree, IsPerfect}
 abbrev pub HoldsAll : List ℕ → Set → Type 0
 HoldsAll es m = (e : ℕ) → mem es e ≡ true → m e ≡ true
 
--- some perfect matching of g holds each edge of the list
+-- some perfect matching of g contains each edge of the list
 abbrev pub HasPerfectWith : Graph → List ℕ → Type 0
 HasPerfectWith g es = (m : Set) × IsPerfect g none m × HoldsAll es m
 
--- the edges c share no vertex, and met is the set of their ends
+-- no two of the edges c share a vertex, and met is the set of their ends
 abbrev pub MeetOnce : Graph → Set → Set → Type 0
 MeetOnce g c met = (v : ℕ) → Within g.order v → degree g c v ≡ bit (met v)

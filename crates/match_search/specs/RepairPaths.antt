@@ -1,4 +1,5 @@
--- Repaired matchings: perfect ones that differ from a given matching by one path.
+-- Repaired matchings: perfect matchings whose symmetric difference with a given matching is one
+-- path.
 -- Stated by: match_core.
 use Rattle.std.specs.Prelude.{◌≡◌, ℕ, suc, ◌+◌, ◌≤◌, ◌<◌, ◌≢◌, ◌↔◌, true, false, List, not, length}
 use Rattle.counting.specs.Common.{Within, is_odd, Set, put}
@@ -13,7 +14,7 @@ pub record Misses (g : Graph) (r m : Set) (v : ℕ) : Type 0 where
   pub outside : r v ≡ false
   pub missed : degree g m v ≡ 0
 
--- the edges that are in exactly one of m and n
+-- the symmetric difference of m and n
 abbrev pub difference : Set → Set → Set
 difference m n e = not (same_answer (m e) (n e))
 
@@ -30,7 +31,7 @@ pub record FormPath (g : Graph) (d : Set) (x y : ℕ) : Type 0 where
   pub ends : (i : ℕ) → i < edges → HasEnds g (edge i) (vertex i) (vertex (suc i))
   pub these : (e : ℕ) → Within (size g) e → (d e ≡ true) ↔ ((i : ℕ) × (i < edges) × (edge i ≡ e))
 
--- the edges in exactly one of m and n form one path between the two vertices that m misses
+-- the symmetric difference of m and n is one path between the two vertices that m misses
 pub record DiffersByPath (g : Graph) (r m n : Set) : Type 0 where
   pub x : ℕ
   pub y : ℕ
@@ -39,8 +40,8 @@ pub record DiffersByPath (g : Graph) (r m n : Set) : Type 0 where
   pub second : Misses g r m y
   pub path : FormPath g (difference m n) x y
 
--- a walk from x by edges of n and of m in turn, which has come to v; the edges of n among them
--- are an even number of places from the start
+-- a walk from x by edges of n and of m alternately, which has reached v; the edges of n on it are
+-- an even number of places from the start
 pub record IsWalk (g : Graph) (r m n : Set) (x : ℕ) (es : List ℕ) (v : ℕ) : Type 0 where
   pub pairs : ℕ
   pub vertex : ℕ → ℕ
@@ -50,7 +51,7 @@ pub record IsWalk (g : Graph) (r m n : Set) (x : ℕ) (es : List ℕ) (v : ℕ) 
   pub start : vertex 0 ≡ x
   pub here : vertex (pairs + pairs) ≡ v
 
--- the edges of the row, an odd number, are a path that repairs m
+-- the edges of the row, an odd number, are a path that makes m perfect
 pub record IsRepairRow (g : Graph) (r m : Set) (x : ℕ) (es : List ℕ) : Type 0 where
   pub y : ℕ
   pub missed : Misses g r m y

@@ -5,7 +5,7 @@ use Rattle.counting.specs.Common.{Within, Set, mem, item}
 use Rattle.match_search.specs.declared.instance.Instance.{Instance}
 use Rattle.match_search.specs.declared.instance.Unshrunk.{Unshrunk}
 
--- the row holds what the rows of the vertices of x hold
+-- the row is the union of the rows of the vertices of x
 abbrev pub IsUnionOf : List (List ℕ) → Set → List ℕ → Type 0
 IsUnionOf rows x row = (u : ℕ) → (mem row u ≡ true) ↔ ((v : ℕ) × (x v ≡ true) × (mem (item rows v) u ≡ true))
 
@@ -22,15 +22,14 @@ pub record IsShrinking (s : Instance) (cycle : Set) (base : ℕ) (h : Instance) 
   pub blossoms : (v : ℕ) → mem h.blossoms v ≡ ((mem s.blossoms v && not (cycle v)) || (base == v))
   pub left : (v : ℕ) → mem h.left v ≡ (mem s.left v && not (cycle v && not (base == v)))
 
--- what a shrinking to the base takes from s
+-- the values of s that a shrinking to the base overwrites
 pub record IsUnshrunk (s : Instance) (base : ℕ) (before : Unshrunk) : Type 0 where
   pub row : before.row ≡ item s.rows.items base
   pub members : before.members ≡ item s.members.items base
   pub blossoms : before.blossoms ≡ s.blossoms
   pub left : before.left ≡ s.left
 
--- h is s with the row and the members of the base, and with the blossoms and the vertices left,
--- from before
+-- h is s with the row and the members of the base, the blossoms and the vertices left restored
 pub record IsPutBack (s : Instance) (base : ℕ) (before : Unshrunk) (h : Instance) : Type 0 where
   pub rows_long : length h.rows.items ≡ length s.rows.items
   pub members_long : length h.members.items ≡ length s.members.items
@@ -41,7 +40,7 @@ pub record IsPutBack (s : Instance) (base : ℕ) (before : Unshrunk) (h : Instan
   pub blossoms : h.blossoms ≡ before.blossoms
   pub left : h.left ≡ before.left
 
--- the two hold the same
+-- the two have the same values
 pub record AreAlike (s h : Instance) : Type 0 where
   pub rows_long : length h.rows.items ≡ length s.rows.items
   pub members_long : length h.members.items ≡ length s.members.items

@@ -1,5 +1,5 @@
--- What a step of the matching engine answers: a matching with one edge more or a frame. An odd
--- cycle is opened for its shrinking.
+-- What a step of the matching engine returns: a matching with one more edge, or a frame. An odd
+-- cycle is prepared for its shrinking.
 -- Stated by: match_search.
 use Rattle.std.specs.Prelude.{◌≡◌, ℕ, ◌+◌, true}
 use Rattle.counting.specs.Common.{count, Within, Set, minus, union, mem}
@@ -10,8 +10,8 @@ use Rattle.match_search.specs.declared.answer.FinalSets.{FinalSets}
 use Rattle.match_search.specs.declared.answer.Answer.{Answer}
 use Rattle.match_search.specs.declared.answer.Answer.TheVariants.{Grown, Final}
 
--- m is f with the path to an odd cycle exchanged, so that its first vertex is missed, and with
--- the edges at even places of the cycle taken out
+-- m is f with the edges exchanged on the path to an odd cycle, so that its first vertex is missed,
+-- and without the edges at even places of the cycle
 pub record IsOpened (g : Graph) (r f m : Set) (n : ℕ) (c e : ℕ → ℕ) : Type 0 where
   pub cycle : IsOddCycle g r n c e
   pub stem : Set
@@ -25,12 +25,12 @@ pub record IsOpened (g : Graph) (r f m : Set) (n : ℕ) (c e : ℕ → ℕ) : Ty
 abbrev pub AreVertexSets : Graph → FinalSets → Type 0
 AreVertexSets g sets = (v : ℕ) → (mem sets.outer v ≡ true → Within g.order v) × (mem sets.inner v ≡ true → Within g.order v)
 
--- one edge more, or a frame for as many edges
+-- |m| = |f| + 1, or |m| = |f| and a frame for as many edges
 abbrev pub StepAnswer : Graph → Set → Set → Set → Answer → Type 0
 StepAnswer g r f m Grown = count (size g) m ≡ count (size g) f + 1
 StepAnswer g r f m (Final sets) = (count (size g) m ≡ count (size g) f) × Frame g r (count (size g) f) (mem sets.outer) (mem sets.inner) × AreVertexSets g sets
 
--- the outer vertices of a final answer, and the set c with them
+-- the outer vertices of a final result, together with the set c
 abbrev pub IsWidened : Answer → Set → Answer → Type 0
 IsWidened Grown c Grown = Unit {0}
 IsWidened (Final below) c (Final sets) = ((v : ℕ) → mem sets.outer v ≡ union (mem below.outer) c v) × (sets.inner ≡ below.inner)

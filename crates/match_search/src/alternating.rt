@@ -1,9 +1,9 @@
 //! Alternating forests by parents.
 //!
-//! A vertex is outer if an alternating path of an even number of edges leads to it from an
-//! exposed vertex, and inner if it is the vertex before an outer one on such a path. An outer
-//! vertex is exposed, a root, or hangs on its mate, which is inner; an inner vertex hangs on its
-//! parent, an outer neighbour.
+//! A vertex is outer if an alternating path of even length leads to it from an exposed vertex, and
+//! inner if it comes just before an outer vertex on such a path. An outer vertex is exposed, a
+//! root, or the child of its mate, which is inner; an inner vertex is the child of its parent, an
+//! outer neighbour.
 ghost use Rattle.std.specs.Prelude.{◌≡◌, ℕ, ◌+◌, ◌<◌, ◌≤◌, ◌==◌, ◌&&◌, true, false, length, suc, IfOk};
 ghost use Rattle.counting.specs.Common.{Within, mem};
 ghost use Rattle.match_search.specs.Common.{AreExposed, HasBranched, IsSized, MayBeExposed, numbers};
@@ -12,7 +12,7 @@ use std::alloc::{AllocError as Memory, Global};
 use vset_core::{MOST_VERTICES, VSet};
 
 /// An alternating forest: its outer and its inner vertices, for each inner vertex its parent, and
-/// for each outer vertex the number of pairs of edges on its path to the root.
+/// for each outer vertex half the length of its path to the root.
 #[derive(Drop)]
 pub struct AlternatingForest {
     pub outer: VSet,
@@ -21,7 +21,7 @@ pub struct AlternatingForest {
     pub pairs: Vec<usize>,
 }
 
-/// The vertices that are left and exposed, where the candidates hold all of these.
+/// The exposed vertices of those that are left, if the candidates contain all of them.
 pub fn exposed_in(candidates: VSet, left: VSet, mate: &[u32]) -> VSet
     requires vertices { (v : ℕ) → mem left v ≡ true → v < length mate.now }
     requires candidates { MayBeExposed left mate.now candidates }
@@ -51,7 +51,7 @@ fn write_zeros(row: &mut [usize], places: VSet)
 }
 
 impl AlternatingForest {
-    /// The forest of 1 to `n` without a vertex.
+    /// The empty forest on 1 to `n`.
     pub fn empty(alloc: Global, n: u32) -> Result<AlternatingForest, Memory>
         requires { n ≤ MOST_VERTICES }
         ensures { IfOk result (IsSized n) }
@@ -64,8 +64,8 @@ impl AlternatingForest {
         })
     }
 
-    /// The forest in which the vertices of a set are the roots, and all outer vertices. It keeps
-    /// the memory of this one.
+    /// The forest in which the vertices of a set are the roots and there are no other vertices. It
+    /// reuses the memory of this one.
     pub fn with_roots(self, roots: VSet) -> AlternatingForest
         requires { (v : ℕ) → mem roots v ≡ true → v < length self.pairs.items }
         ensures outer { result.outer ≡ roots }
@@ -85,8 +85,8 @@ impl AlternatingForest {
         }
     }
 
-    /// Hangs the vertex `y`, which becomes inner, on the outer vertex `x`, and its mate `z`,
-    /// which becomes outer, on `y`.
+    /// Makes the vertex `y`, which becomes inner, a child of the outer vertex `x`, and its mate
+    /// `z`, which becomes outer, a child of `y`.
     pub fn branch(&mut self, x: u32, y: u32, z: u32)
         requires x_in { x < length self.old.pairs.items }
         requires y_in { y < length self.old.parent.items }

@@ -1,9 +1,10 @@
-//! What a step of the engine answers: one edge more, or a frame.
+//! What a step of the engine returns: a larger matching, or a frame.
 //!
-//! A frame is what the last forest proves. Its outer vertices are those that some matching as
-//! large misses, its inner vertices the others beside them. Without the inner vertices the outer
-//! ones form components of odd order, of which a matching can serve no more than there are inner
-//! vertices: it misses a vertex in each of the others, so none is larger.
+//! A frame is what the last forest proves. Its outer vertices are those that some matching of the
+//! same size misses; its inner vertices are the other vertices adjacent to them. If the inner
+//! vertices are deleted, the outer ones form odd components. A matching can match at most as many
+//! of these components as there are inner vertices, and misses a vertex in each of the others, so
+//! none is larger.
 ghost use Rattle.counting.specs.Common.{mem};
 ghost use Rattle.match_search.specs.Common.{IsWidened};
 
@@ -16,15 +17,15 @@ pub struct FinalSets {
     pub inner: VSet,
 }
 
-/// What a step gives: one edge more, or a frame.
+/// The result of a step: a larger matching, or a frame.
 #[derive(Drop)]
 pub enum Answer {
     Grown,
     Final(FinalSets),
 }
 
-/// The answer for the graph before the shrinking of a blossom: its vertices are outer as its base
-/// is.
+/// The frame of the graph before a blossom was shrunk: the vertices of the blossom are outer if its
+/// base is.
 pub fn widen(below: Answer, members: VSet) -> Answer
     ensures { IsWidened below (mem members) result }
 {

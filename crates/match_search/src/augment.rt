@@ -1,14 +1,15 @@
 //! One augmentation on rows of neighbours, by mates.
 //!
-//! From the exposed vertices a forest of alternating paths grows. An edge between two of its
-//! outer vertices gives a path that augments the matching, or a blossom. A blossom is shrunk to
-//! its base: a matching of the smaller graph can be completed in it, and a proof that there is no
-//! larger one holds for the graph too. Where no edge leaves the forest, its inner vertices show
-//! that the matching is maximum: without them each outer vertex, a blossom or not, is in an odd
-//! component of its own.
+//! A forest of alternating paths grows from the exposed vertices. An edge between two of its outer
+//! vertices gives a path that augments the matching, or a blossom. A blossom is shrunk to its base:
+//! a matching of the smaller graph can be completed inside it, and a proof that there is no larger
+//! one holds for the graph too. If no edge leaves the forest, its inner vertices show that the
+//! matching is maximum: if they are deleted, each outer vertex, perhaps a blossom, is an odd
+//! component by itself.
 //!
-//! After a shrinking the forest is grown anew. That takes few steps: the pairs on the path to the
-//! base were exchanged, so the base is exposed and a root, and the rest of the blossom is gone.
+//! After a blossom is shrunk, the forest is grown again. That takes few steps: the pairs on the
+//! path to the base were exchanged, so the base is exposed and a root, and the rest of the blossom
+//! is gone.
 ghost use Rattle.std.specs.Prelude.{◌≡◌, ◌<◌, length, IfOk, OnOk, Some};
 ghost use Rattle.counting.specs.Common.{Set};
 ghost use Rattle.graph_core.specs.Common.{Graph};
@@ -23,10 +24,10 @@ use crate::paths::paths_to;
 use std::alloc::{AllocError as Memory, Global};
 use vset_core::VSet;
 
-/// Makes the matching with these mates larger by one edge, or answers a frame, which shows that
-/// none is larger; the mates may then be those of another matching of the same size. The exposed
-/// vertices are looked for among the candidates. What is shrunk meanwhile is put back. The
-/// forests are grown in the memory of one that means nothing.
+/// Augments the matching with these mates, or returns a frame, which shows that none is larger; the
+/// mates may then be those of another matching of the same size. The exposed vertices are searched
+/// for among the candidates. All blossoms are expanded again at the end. The forests reuse the
+/// memory of the given one, whose content is ignored.
 pub fn augment_once(
     alloc: Global,
     instance: &mut Instance,
@@ -63,8 +64,8 @@ pub fn augment_once(
     }
 }
 
-// Closes the paths of a forest to two of its outer vertices that an edge joins: the matching is
-// augmented along them, or a blossom is answered and its vertices are exposed.
+// Closes the paths of a forest to two adjacent outer vertices: the matching is augmented along
+// them, or a blossom is returned and its vertices are exposed.
 fn close_bridge(
     alloc: Global,
     forest: &AlternatingForest,

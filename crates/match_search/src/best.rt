@@ -1,6 +1,6 @@
 //! A maximum matching of G - removed, with the frame that shows it to be one: a matching is
-//! enlarged by one edge after the other until a step answers a frame instead. Each step leaves
-//! two exposed vertices less, so there are at most half as many as vertices.
+//! augmented until a step returns a frame instead. Each step leaves two fewer exposed vertices, so
+//! there are at most n / 2 of them.
 ghost use Rattle.std.specs.Prelude.{◌≡◌, ◌+◌, ◌==◌, ◌&&◌, not, length, IfOk, OnOk};
 ghost use Rattle.counting.specs.Common.{Within, mem, Set};
 ghost use Rattle.graph_core.specs.Common.{Graph, AreRows, graph_of, IsMatching};
@@ -24,8 +24,7 @@ pub struct Best {
     pub sets: FinalSets,
 }
 
-/// Makes a maximum matching of G - removed: one edge after the other at first, then by
-/// augmentations.
+/// Makes a maximum matching of G - removed: first greedily, edge by edge, then by augmentations.
 pub fn find_best(alloc: Global, g: &MultiGraph, removed: VSet) -> Result<Best, Memory>
     ensures { IfOk result (λ b. IsBest g.now (mem removed) b) }
 {
@@ -35,8 +34,8 @@ pub fn find_best(alloc: Global, g: &MultiGraph, removed: VSet) -> Result<Best, M
     best_from(alloc, n, ends, g.rows(), removed, &mark)
 }
 
-/// Enlarges a matching of G - removed, given by its marks, until it is maximum. It is enlarged by
-/// mates; the edges are read at the beginning and at the end alone.
+/// Augments a matching of G - removed, given by its marks, until it is maximum. It works with
+/// mates; the list of edges is read only at the beginning and at the end.
 pub fn best_from(
     alloc: Global,
     n: u32,
@@ -76,8 +75,8 @@ fn enlarge(
     Ok(Best { mark, sets })
 }
 
-/// Enlarges a matching, given by its mates, until a step answers a frame. What is shrunk meanwhile
-/// is put back.
+/// Augments a matching, given by its mates, until a step returns a frame. All blossoms are expanded
+/// again at the end.
 pub(crate) fn last_frame(
     alloc: Global,
     instance: &mut Instance,
@@ -99,8 +98,7 @@ pub(crate) fn last_frame(
     }
 }
 
-// The marks of a matching that no single edge enlarges: each edge in turn, if both its ends are
-// free.
+// The marks of a greedy matching: each edge in turn, if both its ends are free.
 fn first_marks(alloc: Global, n: u32, ends: &[Ends], removed: VSet) -> Result<Vec<bool>, Memory>
     requires { IsGraphRow n ends.now }
     ensures long { IfOk result (λ mark. length mark.items ≡ length ends.now + 1) }

@@ -1,7 +1,7 @@
-//! Blossoms: where the paths to two adjacent outer vertices meet, an odd cycle closes. Its first
-//! vertex, where they meet last, is the base. Each vertex of a blossom can be the one that the
-//! edges inside it miss, so the blossom may be shrunk to its base: a matching of the smaller
-//! graph leaves it at one vertex, and is completed round the cycle from there.
+//! Blossoms: if the paths to two adjacent outer vertices meet, they close an odd cycle. The first
+//! vertex of the cycle, where the paths last meet, is the base. The cycle minus any one vertex has
+//! a perfect matching, so the blossom may be shrunk to its base: a matching of the smaller graph
+//! meets it at one vertex, and is completed round the cycle from there.
 ghost use Rattle.std.specs.Prelude.{◌≡◌, ◌≢◌, ℕ, ◌+◌, ◌-◌, ◌<◌, ◌≤◌, true, length, suc, IfOk, Some};
 ghost use Rattle.counting.specs.Common.{Within, Set, mem};
 ghost use Rattle.graph_core.specs.Common.{Graph};
@@ -14,16 +14,16 @@ use crate::paths::Paths;
 use std::alloc::{AllocError as Memory, Global};
 use vset_core::{MOST_VERTICES, VSet};
 
-/// A blossom: the vertices of an odd cycle in order, from place 1 on, the base first, and their
-/// set. Place 0 means nothing.
+/// A blossom: the vertices of an odd cycle in order, from place 1 on, with the base first, and
+/// their set. Place 0 is unused.
 #[derive(Drop)]
 pub struct Blossom {
     pub cycle: Vec<u32>,
     pub members: VSet,
 }
 
-/// The blossom of two paths that meet. The pairs are exchanged along the path to the base, and the
-/// vertices of the blossom exposed.
+/// The blossom of two paths that meet. The pairs along the path to the base are exchanged, and the
+/// vertices of the blossom are exposed.
 pub fn blossom_of(
     alloc: Global,
     paths: &Paths,
@@ -76,8 +76,8 @@ fn augment(paths: &Paths, mate: &mut [u32])
     );
 }
 
-/// Closes two paths: the matching is augmented along them, or, where they meet, a blossom is
-/// answered and its vertices are exposed.
+/// Closes two paths: the matching is augmented along them, or, if they meet, a blossom is returned
+/// and its vertices are exposed.
 pub fn close(alloc: Global, paths: &Paths, mate: &mut [u32]) -> Result<Option<Blossom>, Memory>
     requires { (g : Graph) × (r : Set) × (f : Set) × AreClosingPaths g r f mate.old paths.now }
     ensures closed { IfOk result (λ b. (g : Graph) (r f : Set) →
@@ -95,7 +95,7 @@ pub fn close(alloc: Global, paths: &Paths, mate: &mut [u32]) -> Result<Option<Bl
     }
 }
 
-// The place of a vertex of the cycle that is in a row.
+// The place of the first vertex of the cycle that is in a row.
 fn place_in(row: VSet, cycle: &[u32]) -> usize
     requires some { 1 ≤ length cycle.now }
     requires within { (i : ℕ) → Within (length cycle.now - 1) i →
@@ -113,9 +113,9 @@ fn place_in(row: VSet, cycle: &[u32]) -> usize
     1
 }
 
-/// Opens a blossom after its shrinking: where the base has a mate, this becomes the mate of a
-/// neighbour of it in the cycle, and the other vertices of the cycle are paired round from there;
-/// else they are paired round from the base.
+/// Expands a blossom that was shrunk: if the base has a mate, that mate is matched to a neighbour
+/// in the cycle, and the other vertices of the cycle are paired round from there; otherwise they
+/// are paired round from the base.
 pub fn open(instance: &Instance, blossom: &Blossom, mate: &mut [u32])
     requires { (g : Graph) × (r : Set) × (f : Set) × (m : Set) × (n : Set) ×
         MayOpen g r f m n instance.now mate.old blossom.now }

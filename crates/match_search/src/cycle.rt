@@ -1,4 +1,4 @@
-//! The odd cycle that an edge between two outer vertices makes of their paths, which meet.
+//! The odd cycle that an edge between two outer vertices closes with their paths, which meet.
 ghost use Rattle.std.specs.Prelude.{◌≡◌, ◌≢◌, ℕ, ◌+◌, ◌-◌, ◌<◌, ◌≤◌, length, slice_index, IfOk, Some, None};
 ghost use Rattle.counting.specs.Common.{Within, is_odd, mem};
 ghost use Rattle.match_search.specs.Common.{every_other, listed, numbers, IsLastMeeting};
@@ -38,8 +38,8 @@ pub fn last_meeting(
     None
 }
 
-/// The vertices of a cycle from place 1 on: a part of a row, and another part backwards. A 0
-/// stands at place 0.
+/// The vertices of a cycle from place 1 on: a part of a row, and another part backwards. There is a
+/// 0 at place 0.
 pub fn cycle_vertices(
     alloc: Global,
     row: &[u32],
@@ -85,7 +85,7 @@ fn is_odd_place(i: usize) -> bool
     i % 2 == 1
 }
 
-/// Whether place i is every other one on the way round from place t to place t.
+/// Whether place i is an odd number of steps after place t, going round an odd cycle.
 pub fn is_every_other(t: usize, i: usize) -> bool
     ensures { result ≡ every_other t i }
 {

@@ -1,6 +1,7 @@
-//! Blossoms by their vertices and their base alone, where one vertex is missed and no matching is
-//! completed in them. The paths to two outer vertices begin at the one root. Where they part is
-//! the base, and the other vertices of the blossom lie on one of them alone.
+//! Blossoms given by their vertices and their base only, for matchings that miss one vertex; no
+//! matching is completed inside them. The paths to two outer vertices begin at the only root. The
+//! last vertex they share is the base, and each other vertex of the blossom lies on just one of
+//! them.
 ghost use Rattle.std.specs.Prelude.{◌≡◌, ◌↔◌, ℕ, ◌+◌, ◌<◌, ◌≤◌, true, false, cond, length};
 ghost use Rattle.counting.specs.Common.{Set, mem};
 ghost use Rattle.graph_core.specs.Common.{Graph, missed_count};
@@ -36,8 +37,8 @@ fn path_of(forest: &AlternatingForest, mate: &[u32], x: u32) -> VSet
     path
 }
 
-// The last outer vertex of the path to an outer vertex that is in a set, and the root where none
-// is.
+// The last outer vertex of the path to an outer vertex that is in a set, or the root if there is
+// none.
 fn last_in(forest: &AlternatingForest, mate: &[u32], y: u32, path: VSet) -> u32
     requires forest { HoldsForest mate.now forest.now }
     requires outer { mem forest.now.outer y ≡ true }
@@ -60,7 +61,7 @@ fn last_in(forest: &AlternatingForest, mate: &[u32], y: u32, path: VSet) -> u32
 }
 
 // Exchanges the pairs along the path to an outer vertex, from it up to the root. The mate of the
-// vertex itself means nothing then.
+// vertex itself is then meaningless.
 fn flip_path(mate: &mut [u32], forest: &AlternatingForest, x: u32)
     requires forest { HoldsForest mate.old forest.now }
     requires outer { mem forest.now.outer x ≡ true }
@@ -91,8 +92,8 @@ fn expose_all(mate: &mut [u32], set: VSet)
     }
 }
 
-/// The blossom that an edge between two outer vertices closes, where one vertex is missed, so that
-/// their paths meet. The pairs are exchanged along the path to the base, and the vertices of the
+/// The blossom that an edge between two outer vertices closes. One vertex is missed, so the paths
+/// to the two meet. The pairs along the path to the base are exchanged, and the vertices of the
 /// blossom exposed. Takes no memory.
 pub fn flower_of(forest: &AlternatingForest, bridge: Adjacent, mate: &mut [u32]) -> Flower
     requires { (g : Graph) × (r : Set) × (f : Set) × ClosesForest g r f mate.old forest.now bridge ×

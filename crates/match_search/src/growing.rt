@@ -1,7 +1,6 @@
 //! The search of the engine: an alternating forest grows until an edge joins two of its outer
-//! vertices, or no edge leads from an outer vertex to one that is not inner. The last forest of a
-//! search without such an edge shows that the matching is maximum: without its inner vertices
-//! each of its outer vertices is a component by itself.
+//! vertices, or each edge at an outer vertex leads to an inner one. In the second case the matching
+//! is maximum: if the inner vertices are deleted, each outer vertex is a component by itself.
 ghost use Rattle.std.specs.Prelude.{◌≡◌, ℕ, ◌+◌, ◌<◌, ◌≤◌, length, suc, IfOk, IfSome, IfNone, []};
 ghost use Rattle.counting.specs.Common.{Set, Within, mem};
 ghost use Rattle.graph_core.specs.Common.{Graph};
@@ -18,16 +17,17 @@ pub struct Adjacent {
     pub w: u32,
 }
 
-/// What a search ends with: a forest, and two of its outer vertices that are adjacent, if there
-/// are such.
+/// The result of a search: a forest, and two of its outer vertices that are adjacent, if there are
+/// any.
 #[derive(Drop)]
 pub struct GrownForest {
     pub forest: AlternatingForest,
     pub closing: Option<Adjacent>,
 }
 
-/// From which of its open vertices a forest grows: the least, or the one that became outer last.
-/// The latest soon comes back to a vertex of the forest, and its blossoms are large.
+/// Which open vertex a forest grows from next: the least one, or the one that became outer last.
+/// With the latest the search soon comes back to a vertex of the forest, and its blossoms are
+/// large.
 #[derive(Clone, Copy, Drop)]
 pub enum Growth {
     Least,
@@ -49,8 +49,8 @@ fn next_of(rest: VSet, latest: VSet, growth: Growth) -> Option<u32>
     }
 }
 
-/// Grows the forest of the matching with these mates from its exposed vertices. It is written
-/// into the memory of a forest that means nothing.
+/// Grows the forest of the matching with these mates from its exposed vertices. It reuses the
+/// memory of the given forest, whose content is ignored.
 pub fn grow_forest(
     instance: &Instance,
     unused: AlternatingForest,

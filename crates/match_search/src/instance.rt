@@ -1,12 +1,11 @@
-//! A graph without its removed vertices as the search reads it, and the shrinking of a blossom to
-//! its base.
+//! G - R as the search reads it, and the shrinking of a blossom to its base.
 //!
-//! A vertex that is left stands for its members: at first itself alone, and after a shrinking all
-//! vertices that became it. Its row keeps the neighbours that its members had before any
-//! shrinking. So two vertices are adjacent where the row of one holds a member of the other
-//! (`Touches`), and a shrinking writes no more than the row and the members of the base, each as
-//! the union over the blossom. No neighbour is told of it, and it is undone by putting back what
-//! stood there.
+//! A vertex that is left has members: at first only itself, and after a shrinking all vertices that
+//! were merged into it. Its row keeps the neighbours that its members had before any shrinking. So
+//! two vertices are adjacent if the row of one has a member of the other (`Touches`), and a
+//! shrinking writes only the row and the members of the base, each as the union over the blossom.
+//! The rows of the neighbours stay as they are, and a shrinking is undone by putting back what was
+//! there.
 ghost use Rattle.std.specs.Prelude.{◌≡◌, ◌≢◌, ℕ, ◌+◌, ◌-◌, ◌<◌, ◌≤◌, true, false, length, IfOk, ◌∷◌, [], ◌↔◌};
 ghost use Rattle.counting.specs.Common.{Within, Set, mem, item};
 ghost use Rattle.graph_core.specs.Common.{Graph, IsGraph, AreRows};
@@ -15,10 +14,10 @@ ghost use Rattle.match_search.specs.Common.{AreNear, IsInstance, IsGathered, IsP
 use std::alloc::{AllocError as Memory, Global};
 use vset_core::{MOST_VERTICES, VSet};
 
-/// The graph: for each vertex its members, which are the vertices that became it by shrinkings,
-/// and the neighbours that these had before any shrinking; the vertices that a blossom was shrunk
-/// to; and the vertices that are left. What stands at a removed vertex, and which removed
-/// vertices the rows hold, means nothing.
+/// The graph: for each vertex its members, which are the vertices that were merged into it by
+/// shrinkings, and the neighbours that these had before any shrinking; the vertices to which
+/// blossoms were shrunk; and the vertices that are left. The rows of removed vertices, and removed
+/// vertices in other rows, are meaningless.
 #[derive(Drop)]
 pub struct Instance {
     pub rows: Vec<VSet>,
@@ -27,7 +26,7 @@ pub struct Instance {
     pub left: VSet,
 }
 
-/// The graph with these rows of neighbours, without a set of vertices.
+/// G - `removed`, where G has these rows of neighbours.
 pub fn instance_of(alloc: Global, rows: &[VSet], removed: VSet) -> Result<Instance, Memory>
     requires { length rows.now ≤ MOST_VERTICES }
     ensures { IfOk result (λ s. (g : Graph) → IsGraph g → AreRows g rows.now →
@@ -69,7 +68,7 @@ fn is_met(row: VSet, set: VSet) -> bool
 }
 
 impl Instance {
-    /// The vertices that are left and adjacent to `v`, and maybe `v` itself.
+    /// The vertices that are left and adjacent to `v`, possibly with `v` itself.
     pub fn near(&self, v: u32) -> VSet
         requires vertex { Within (length self.now.rows.items) v }
         requires instance { (g : Graph) × (r : Set) × IsInstance g r self.now }
@@ -111,7 +110,7 @@ fn write_row(rows: &mut [VSet], v: u32, row: VSet)
     rows[v as usize - 1] = row;
 }
 
-// Makes the row of the base the union of those of the cycle, and answers what it was.
+// Makes the row of the base the union of those of the cycle, and returns its old value.
 fn gather(rows: &mut [VSet], cycle: VSet, base: u32) -> VSet
     requires vertices { (v : ℕ) → mem cycle v ≡ true → Within (length rows.old) v }
     requires base { Within (length rows.old) base }
@@ -124,8 +123,8 @@ fn gather(rows: &mut [VSet], cycle: VSet, base: u32) -> VSet
     before
 }
 
-/// What a shrinking takes from an instance: the row and the members of the base, and the sets of
-/// blossoms and of vertices left.
+/// The values of an instance that a shrinking overwrites: the row and the members of the base, and
+/// the sets of blossoms and of vertices left.
 #[derive(Clone, Copy, Drop)]
 pub struct Unshrunk {
     pub row: VSet,
@@ -135,9 +134,9 @@ pub struct Unshrunk {
 }
 
 impl Instance {
-    /// Shrinks a cycle of vertices to its base: the base has then the neighbours and the members
-    /// of the cycle, and the other vertices of the cycle are removed. Takes no memory, and answers
-    /// what `unshrink` puts back.
+    /// Shrinks a cycle of vertices to its base: afterwards the base has the neighbours and the
+    /// members of the cycle, and the other vertices of the cycle are removed. Takes no memory, and
+    /// returns what `unshrink` puts back.
     pub fn shrink(&mut self, cycle: VSet, base: u32) -> Unshrunk
         requires few { length self.old.rows.items ≤ MOST_VERTICES }
         requires one_each { length self.old.members.items ≡ length self.old.rows.items }
@@ -160,7 +159,7 @@ impl Instance {
         }
     }
 
-    /// Puts back what a shrinking to the base took.
+    /// Undoes a shrinking to the base.
     pub fn unshrink(&mut self, base: u32, before: Unshrunk)
         requires one_each { length self.old.members.items ≡ length self.old.rows.items }
         requires base { Within (length self.old.rows.items) base }

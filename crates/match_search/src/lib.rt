@@ -1,16 +1,15 @@
 //! The search for a maximum matching.
 //!
-//! `augment_once` makes a matching larger by one edge or answers a frame, on a row of neighbours
-//! for each vertex and a mate for each vertex, without a list of edges: it grows an alternating
-//! forest, augments along two of its paths, or shrinks a blossom, after which all vertices keep
-//! their numbers (`IsInstance`, `HoldsMatching`, `HoldsAlternating`, `HoldsBlossom`,
-//! `IsMateStep`). A frame is what the last forest proves: its inner vertices show that no matching
-//! is larger (`Frame`).
+//! `augment_once` augments a matching or returns a frame. It works on a row of neighbours and a
+//! mate for each vertex, without a list of edges: it grows an alternating forest, augments along
+//! two of its paths, or shrinks a blossom, after which all vertices keep their numbers
+//! (`IsInstance`, `HoldsMatching`, `HoldsAlternating`, `HoldsBlossom`, `IsMateStep`). A frame is
+//! what the last forest proves: its inner vertices show that no matching is larger (`Frame`).
 //!
 //! `find_best` and `best_from` repeat it until the matching is maximum, and mark the edges at the
-//! end (`IsBest`). What is asked of a maximum matching stands above, in `match_core`.
+//! end (`IsBest`). The questions on maximum matchings are in `match_core`, above.
 //!
-//! Stands on `graph_core` and `vset_core`. Sources: Edmonds 1965; Lovász and Plummer, "Matching
+//! Depends on `graph_core` and `vset_core`. Sources: Edmonds 1965; Lovász and Plummer, "Matching
 //! Theory", chapters 1 and 9.
 #![tactic(auto)]
 

@@ -1,5 +1,4 @@
-//! From the mates of a matching back to its edges: of the parallel edges that join two mates the
-//! least is marked.
+//! From the mates of a matching back to its edges: of parallel edges the least is marked.
 ghost use Rattle.std.specs.Prelude.{◌≡◌, ◌+◌, ◌<◌, ◌==◌, length, IfOk};
 ghost use Rattle.counting.specs.Common.{Set};
 ghost use Rattle.graph_core.specs.Common.{graph_of};

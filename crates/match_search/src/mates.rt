@@ -1,4 +1,4 @@
-//! Matchings by mates: for each vertex the other end of its edge, 0 where it is exposed.
+//! Matchings by mates: for each vertex the other end of its edge, or 0 if it is exposed.
 ghost use Rattle.std.specs.Prelude.{◌≡◌, ℕ, ◌+◌, ◌-◌, ◌^◌, ◌<◌, ◌≤◌, cond, length, IfOk};
 ghost use Rattle.counting.specs.Common.{Within, Set};
 ghost use Rattle.graph_core.specs.Common.{IsMatching, graph_of};
@@ -8,7 +8,7 @@ use crate::cycle::is_every_other;
 use graph_core::Ends;
 use std::alloc::{AllocError as Memory, Global};
 
-/// Makes a vertex exposed. Its mate, if it has one, is not told of it.
+/// Makes a vertex exposed. The entry of its mate, if it has one, is not changed.
 pub fn expose(mate: &mut [u32], v: u32)
     requires within { v < length mate.old }
     ensures { (u : ℕ) → numbers mate.new u ≡ with_mate (numbers mate.old) v 0 u }
@@ -41,7 +41,7 @@ pub fn flip(mate: &mut [u32], path: &[u32], from: usize, pairs: usize)
     }
 }
 
-/// Exposes the vertices of a cycle, which stand in a row from place 1 on.
+/// Exposes the vertices of a cycle, which are in a row from place 1 on.
 pub fn clear(mate: &mut [u32], cycle: &[u32])
     requires some { 1 ≤ length cycle.now }
     requires in_mates { (i : ℕ) → Within (length cycle.now - 1) i →
@@ -63,8 +63,8 @@ fn place_after(places: usize, place: usize) -> usize
     if place == places { 1 } else { place + 1 }
 }
 
-// Pairs the vertex at a place of a cycle with the next, if it is every other one on the way round
-// from the tip.
+// Pairs the vertex at a place of a cycle with the next, if the place is an odd number of steps
+// after the tip.
 fn pair_place(mate: &mut [u32], cycle: &[u32], tip: usize, place: usize)
     requires within { Within (length cycle.now - 1) place }
     requires few { length cycle.now ≤ 2 ^ 32 }
@@ -84,8 +84,8 @@ fn pair_place(mate: &mut [u32], cycle: &[u32], tip: usize, place: usize)
     }
 }
 
-/// Pairs the vertices of a cycle of odd length round from one of them, which is left out: they
-/// stand in a row from place 1 on.
+/// Pairs the vertices of an odd cycle round from one of them, which is left out. They are in a row
+/// from place 1 on.
 pub fn pair_round(mate: &mut [u32], cycle: &[u32], tip: usize)
     requires some { 1 ≤ length cycle.now }
     requires few { length cycle.now ≤ 2 ^ 32 }

@@ -1,7 +1,7 @@
-//! Which vertices can be missed beside one vertex?
+//! Which vertices can a maximum matching of G - u miss?
 //!
-//! A vertex is taken out of a graph with a matching by mates, and its mate is exposed. The last
-//! frame of what is left says which vertices matchings as large as the largest miss.
+//! A vertex u is deleted from a graph with a matching by mates, and its mate is exposed. The last
+//! frame of G - u says which vertices some maximum matching of G - u misses.
 ghost use Rattle.std.specs.Prelude.{◌≡◌, ℕ, ◌+◌, ◌-◌, ◌<◌, ◌≤◌, ◌==◌, ◌&&◌, true, length, IfOk, OnOk, Some, ◌∷◌, []};
 ghost use Rattle.counting.specs.Common.{count, mem, Set, singleton, union};
 ghost use Rattle.graph_core.specs.Common.{Graph};
@@ -15,7 +15,7 @@ use crate::outer::outer_from;
 use std::alloc::{AllocError as Memory, Global};
 use vset_core::{MOST_VERTICES, VSet};
 
-// The mates where a vertex and its mate are exposed.
+// The mates after a vertex and its mate are exposed.
 fn mates_without(alloc: Global, mate: &[u32], u: u32) -> Result<Vec<u32>, Memory>
     requires vertex { u < length mate.now }
     requires mate { numbers mate.now u < length mate.now }
@@ -44,7 +44,7 @@ fn exposed_count(left: VSet, mate: &[u32]) -> usize
     found
 }
 
-// The one member of a set, if it has one member.
+// The only member of a set that has one member.
 fn only_member(set: VSet) -> Option<u32>
     ensures { (v : ℕ) → result ≡ Some v → set ≡ v ∷ [] }
 {
@@ -55,8 +55,8 @@ fn only_member(set: VSet) -> Option<u32>
     }
 }
 
-// The outer vertices of the last frame if a maximum matching misses one vertex, and else none.
-// Where this matching misses one, no step can make it larger.
+// The outer vertices of the last frame if a maximum matching misses one vertex, otherwise none. If
+// this matching misses one, it cannot be augmented.
 fn outer_of_one(alloc: Global, instance: &mut Instance, mate: &mut [u32]) -> Result<VSet, Memory>
     requires { (g : Graph) × (r : Set) × (f : Set) × HoldsMatching g r f instance.old mate.old }
     ensures row { IfOk result (λ row. (g : Graph) (r f : Set) →
@@ -89,9 +89,9 @@ fn outer_of_last(alloc: Global, instance: &mut Instance, mate: &mut [u32]) -> Re
     }
 }
 
-/// The vertices that matchings of the graph without `u` can miss alone: the outer vertices of the
-/// frame if a maximum matching misses one vertex, and none if it misses another number. The mates
-/// are those of a matching of the graph. What is changed of the instance is put back.
+/// The vertices that a matching of G - `u` can miss alone: the outer vertices of the frame if a
+/// maximum matching misses one vertex, and none if it misses another number. The mates are those of
+/// a matching of the graph. The instance is restored at the end.
 pub fn missable_beside(
     alloc: Global,
     instance: &mut Instance,

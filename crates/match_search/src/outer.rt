@@ -1,8 +1,8 @@
-//! Which vertices can a matching as large miss, where it misses one?
+//! Which vertices can a maximum matching miss, if it misses only one?
 //!
 //! The forest grows from the one exposed vertex, and an edge between two of its outer vertices
 //! closes a blossom, which is shrunk to its base. No step makes the matching larger, and only the
-//! outer vertices are asked for, so no blossom is opened again.
+//! outer vertices are wanted, so no blossom is expanded again.
 ghost use Rattle.std.specs.Prelude.{◌≡◌, ◌≤◌, length};
 ghost use Rattle.counting.specs.Common.{Set};
 ghost use Rattle.graph_core.specs.Common.{Graph};
@@ -14,9 +14,9 @@ use crate::growing::{GrownForest, Growth, grow_forest};
 use crate::instance::Instance;
 use vset_core::VSet;
 
-/// The outer vertices of the last forest, where the matching with these mates misses the root
-/// alone. The mates mean nothing then. What is shrunk meanwhile is put back. Takes no memory: the
-/// forests are grown in that of one that means nothing.
+/// The outer vertices of the last forest, if the matching with these mates misses only the root.
+/// The mates are meaningless afterwards. All shrinkings are undone at the end. Takes no memory: the
+/// forests reuse the memory of the given one, whose content is ignored.
 pub fn outer_from(
     instance: &mut Instance,
     unused: AlternatingForest,

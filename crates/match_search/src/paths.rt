@@ -20,7 +20,8 @@ fn write_pair(row: &mut [u32], place: usize, first: u32, second: u32)
     row[place] = first;
 }
 
-/// Writes the vertices of the path from a root to the outer vertex `x` into a row, from a place on.
+/// Writes the vertices of the path from a root to the outer vertex `x` into a row, starting at a
+/// place.
 pub fn write_path(row: &mut [u32], start: usize, forest: &AlternatingForest, mate: &[u32], x: u32)
     requires forest { (g : Graph) × (r : Set) × (f : Set) ×
         HoldsAlternating g r f mate.now forest.now × (length mate.now ≡ suc g.order) }

@@ -1,4 +1,4 @@
-//! Rows of numbers and of marks: parts of a row put at the end of another, where a number stands,
+//! Rows of numbers and of marks: parts of a row put at the end of another, the place of a number,
 //! and marked places.
 ghost use Rattle.std.specs.Prelude.{◌≡◌, ◌≢◌, ℕ, ◌+◌, ◌-◌, ◌<◌, ◌≤◌, length, slice_index, IfOk, Some, None, All, ◌||◌, false, true};
 ghost use Rattle.counting.specs.Common.{mem, put};
@@ -6,7 +6,7 @@ ghost use Rattle.match_search.specs.Common.{marks};
 
 use std::alloc::{AllocError as Memory, Global};
 
-/// Puts `count` numbers of another row, from a place on, at the end of the row.
+/// Appends `count` numbers of another row, starting at a place, to the row.
 pub fn push_part(row: &mut Vec<u32>, of: &[u32], from: usize, count: usize) -> Result<(), Memory>
     requires within { from + count ≤ length of.now }
     ensures length { IfOk result (λ _. length row.new.items ≡ length row.old.items + count) }

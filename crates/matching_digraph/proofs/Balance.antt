@@ -1,6 +1,6 @@
--- How a vertex set of a bipartite graph stands to a perfect matching: it has as many vertices
--- more on the one side as edges leave it from there more than from the other. So a tight set has
--- one vertex more of one side, and all edges of its cut leave it there.
+-- A vertex set of a bipartite graph and a perfect matching: the set's surplus of vertices on one
+-- side equals the surplus of matching edges that leave it from that side. So a tight set has one
+-- more vertex of one side, and all edges of its cut leave it there.
 use Rattle.std.proofs.Common.{◌≡◌, ℕ, ◌+◌, Bool, true, false, ap, arith, ◌&&◌, ◌||◌, not, inl, inr}
 use Rattle.counting.proofs.Common.{cases_eq, and_parts, count_zero, total_congr, total_add, total_none, and_fails_second, bit, count, Within, Set, none, minus, meet, complement}
 use Rattle.barrier_kit.proofs.Common.{inner, loop_free}
@@ -61,7 +61,7 @@ module _ (g : Graph) (is : IsGraph g) where
             ≡ bit (k && ((c && not d) || (not c && d)))
         second k a b c d h = grind arith
 
-    -- where each perfect matching leaves y by one edge and y has one vertex more on the left, no
+    -- where each perfect matching leaves y by one edge and y has one more vertex on the left, no
     -- edge leaves it from the and_fails_second
     pub none_right : IsCovered g → (y : Set) → CutIsTight g y → count g.order (meet y x) ≡ count g.order (minus y x) + 1 → (e : ℕ) → Within (size g) e → leaves_right y e ≡ false
     none_right cov y tight more e w = elim (cases_eq (first_end g e) (second_end g e)) [

@@ -12,7 +12,7 @@ use match_core::Matching;
 use std::alloc::{AllocError as Memory, Global};
 use vset_core::{MOST_VERTICES, VSet};
 
-// The neighbours of a vertex outside the side, and none for a vertex of the side.
+// The neighbours of a vertex outside the side; none for a vertex of the side.
 fn outer_row(g: &MultiGraph, side: VSet, v: u32) -> VSet
     requires { Within g.now.order v }
     ensures { (w : ℕ) → mem result w ≡ (not (mem side v) && adjacent g.now none v w) }
@@ -24,7 +24,7 @@ fn outer_row(g: &MultiGraph, side: VSet, v: u32) -> VSet
     g.rows()[v as usize - 1]
 }
 
-// For each vertex outside the side its neighbours, and none for each vertex of the side.
+// For each vertex outside the side its neighbours; none for each vertex of the side.
 fn outer_rows(alloc: Global, g: &MultiGraph, side: VSet) -> Result<Vec<VSet>, Memory>
     ensures long { IfOk result (λ rows. length rows.items ≡ g.now.order) }
     ensures each { IfOk result (λ rows. (v w : ℕ) → Within g.now.order v →
@@ -63,7 +63,7 @@ fn add_mates(rows: &mut [VSet], m: &Matching)
     }
 }
 
-/// The arcs of the digraph of a matching: from each vertex of the side to its mates, from each
+/// The arcs of the digraph of a matching: from each vertex of the side to its mates, and from each
 /// other vertex to its neighbours.
 pub(crate) fn arcs_of(
     alloc: Global,

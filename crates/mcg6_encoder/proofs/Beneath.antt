@@ -1,6 +1,6 @@
--- The simple graph beneath a graph, and its graph6 text. Idea: of the first k edges those are kept
--- whose ends no kept edge joins, so the kept pairs are distinct, and they join the same vertices
--- as the first k edges do. A graph6 text depends on the order and on the adjacent pairs alone.
+-- The underlying simple graph, and its graph6 text. Idea: of the first k edges those are kept whose
+-- ends no kept edge joins, so the kept pairs are distinct, and they join the same vertices as the
+-- first k edges do. A graph6 text depends only on the order and on the adjacent pairs.
 use Rattle.std.proofs.Common.{◌≡◌, ℕ, suc, ◌+◌, ◌≤◌, ◌==◌, ◌&&◌, ◌||◌, Bool, true, false, cond, List, [], ◌∷◌, ◌++◌, map, refl, sym, subst, ap, ap₂, ◌∙◌, arith, ◌⊎◌, inl, inr}
 use Rattle.std.proofs.lemmas.Bool.{false≢true}
 use Rattle.counting.proofs.Common.{nat_tests, length-append, list_any-append, list_any, none, some}

@@ -1,4 +1,5 @@
--- What was written of a graph file, by its bytes: one case for each ending.
+-- What was written for a graph file, by its bytes: one case for each ending. Idea: an ending says
+-- what was read and whether a write failed, and in each case this determines what was written.
 use Rattle.std.proofs.Common.{◌≡◌, ◌∙◌, ◌<◌, ◌≤◌, ℕ, List, [], length, take, refl, sym, subst, ap, inl, inr}
 use Rattle.std.specs.declared.option.Option.{Option}
 use Rattle.std.specs.declared.option.Option.TheVariants.{Some, None}
@@ -90,7 +91,7 @@ no_file ending (Some all) told nothing = record {
   encodes = record { output = []; right = nothing all; written = sym (appended-nil told) };
 }
 
--- where the source tells what is left, the file is that
+-- if the source makes known what is left, the file is that
 pub told_file :
     (ending : Ending) (left before now : Option (List ℕ)) (file : List ℕ) → EncodesFile ending left before now → left ≡ Some file →
     Appended (Encodes file ending) before now

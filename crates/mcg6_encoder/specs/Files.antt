@@ -1,4 +1,4 @@
--- A graph file and the graph6 text that is made of it.
+-- A graph file and its graph6 text.
 -- Stated by: mcg6_encoder, mcg6_top. Rests on it: mcg6_front_top.
 use Rattle.std.specs.Prelude.{◌≡◌, ◌⊎◌, ℕ, ◌-◌, ◌<◌, ◌≤◌, List, [], ◌∷◌, ◌++◌, length, take, slice_index_or}
 use Rattle.outside.specs.Common.{most_bytes}
@@ -10,8 +10,8 @@ use Rattle.mcg6_reader.specs.declared.ending.BadLine.{BadLine}
 use Rattle.mcg6_reader.specs.declared.ending.Ending.{Ending}
 use Rattle.mcg6_reader.specs.declared.ending.Ending.TheVariants.{Done, Bad, ReadFault, WriteFault, Memory}
 
--- the file stands for a graph in one of the two versions, and the output is the graph6 text of
--- that graph, with a line feed: one bit for each two vertices, whether an edge joins them. So it
+-- the file stands for a graph in one of the two versions, and the output is the graph6 text of that
+-- graph, with a line feed: for any two vertices one bit that says whether an edge joins them. So it
 -- stands for a simple graph with the same adjacent pairs, whose vertex i is that of the file
 pub record IsEncoded (file output : List ℕ) : Type 0 where
   pub named : NamedGraph
@@ -19,17 +19,17 @@ pub record IsEncoded (file output : List ℕ) : Type 0 where
   pub line : output ≡ graph6_of named.graph ++ 10 ∷ []
   pub reads_back : ReadsBack (graph6_of named.graph) named.graph
 
--- the line of that number, counted from 1, without its line feed; nothing where the file has fewer
+-- the line of that number, counted from 1, without its line feed; empty if the file has fewer lines
 abbrev pub kept_line : List ℕ → ℕ → List ℕ
 kept_line file number = slice_index_or (lines_of file) (number - 1) []
 
--- the file stands for no graph, and this is found of its first fault: the line, the kind, and the
--- text of the line
+-- the file stands for no graph, and this is the report on its first error: the line, the kind, and
+-- the text of the line
 pub record IsOutside (file : List ℕ) (found : BadLine) : Type 0 where
   pub fault : FirstFault either_version file found.number found.kind
   pub text : found.text.items ≡ kept_line file found.number
 
--- a file that has more bytes than it may have is found so: no line, and the limit
+-- the report on a file that has more bytes than it may have: no line, and the limit
 pub record NamesTooLong (found : BadLine) : Type 0 where
   pub number : found.number ≡ 0
   pub kind : found.kind ≡ Limit
@@ -47,8 +47,8 @@ pub record IsCutShort (file output : List ℕ) : Type 0 where
   pub less : count < length whole
   pub part : output ≡ take count whole
 
--- what is written of a file with these bytes up to an ending: all or, at any fault before the
--- write, nothing
+-- what is written for a file with these bytes up to an ending: everything, or after any error
+-- before the write, nothing
 abbrev pub Encodes : (file : List ℕ) → Ending → (output : List ℕ) → Type 0
 Encodes file Done output = (length file ≤ most_bytes) × IsEncoded file output
 Encodes file (Bad found) output = IsBadFile file found × (output ≡ [])

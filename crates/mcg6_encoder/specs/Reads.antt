@@ -1,4 +1,4 @@
--- How a file is read from a source, and what is written once it was read.
+-- How a file is read from a source, and what is written once it has been read.
 -- Stated by: mcg6_encoder, mcg6_top. Rests on it: mcg6_front_top.
 use Rattle.std.specs.Prelude.{◌≡◌, ◌⊎◌, ℕ, ◌+◌, zero, suc, ◌<◌, ◌≤◌, List, [], ◌++◌, length, take}
 use Rattle.std.specs.declared.option.Option.{Option}
@@ -10,15 +10,16 @@ use Rattle.mcg6_reader.specs.declared.ending.Ending.TheVariants.{Done, Bad, Read
 use Rattle.mcg6_reader.specs.Common.{Appended, IsLeft}
 use Rattle.mcg6_encoder.specs.Files.{Encodes, IsEncoded, IsOutside, NamesTooLong}
 
--- so many reads gave these bytes, one piece after another, and lead from the first source to the
--- last
+-- so many reads returned these bytes, one piece after another, and lead from the first source to
+-- the last
 abbrev pub ReadsGive : {S : Type 0} → (S → Option (List ℕ) → S → Type 0) → ℕ → List ℕ → (first last : S) → Type 0
 ReadsGive reads zero bytes first last = (bytes ≡ []) × (last ≡ first)
 ReadsGive {S} reads (suc count) bytes first last =
     (before : List ℕ) × (piece : List ℕ) × (next : S) × (ReadsGive reads count before first next)
     × (bytes ≡ before ++ piece) × (reads next (Some piece) last)
 
--- the source was read to its end, where a read gives nothing, and these bytes are what it gave
+-- the source was read to its end, where a read returns nothing, and these bytes are what it
+-- returned
 pub record IsReadWhole {S : Type 0} (reads : S → Option (List ℕ) → S → Type 0) (bytes : List ℕ) (first last : S) : Type 0 where
   pub count : ℕ
   pub at : S
@@ -30,7 +31,7 @@ pub record IsReadWhole {S : Type 0} (reads : S → Option (List ℕ) → S → T
 abbrev pub most_piece : ℕ
 most_piece = 65536
 
--- the source was read until it had given more bytes than a file may have, and no further: what
+-- the source was read until it had returned more bytes than a file may have, and no further: what
 -- came before the last piece was not too long
 pub record IsReadPast {S : Type 0} (reads : S → Option (List ℕ) → S → Type 0) (first last : S) : Type 0 where
   pub held : List ℕ
@@ -59,19 +60,19 @@ pub record IsReadSome {S : Type 0} (reads : S → Option (List ℕ) → S → Ty
   pub turns : ReadsGive reads count bytes first last
   pub few : length bytes ≤ most_bytes + most_piece
 
--- where a source tells what is left, it is more than a file may have
+-- if a source makes known what is left, it is more than a file may have
 abbrev pub LeavesMore : Option (List ℕ) → Type 0
 LeavesMore None = Unit {0}
 LeavesMore (Some left) = most_bytes < length left
 
--- the graph6 text of a file was written whole, and nothing else
+-- the graph6 text of a file was written completely, and nothing else
 pub record WroteEncoded {K : Type 0} (written : K → Option (List ℕ)) (writes : K → List ℕ → ℕ → K → Type 0) (file : List ℕ) (first last : K) : Type 0 where
   pub output : List ℕ
   pub encoded : IsEncoded file output
   pub now : written last ≡ appended (written first) output
   pub whole : IsWritten writes output first last
 
--- the first bytes of the graph6 text of a file were written, and then a write of the others failed
+-- a prefix of the graph6 text of a file was written, and then a write of the rest failed
 pub record WroteCutOff {K : Type 0} (written : K → Option (List ℕ)) (writes : K → List ℕ → ℕ → K → Type 0) (file : List ℕ) (first last : K) : Type 0 where
   pub output : List ℕ
   pub encoded : IsEncoded file output
@@ -88,7 +89,7 @@ WritesUpTo written writes file ReadFault first last = ⊥
 WritesUpTo written writes file WriteFault first last = WroteCutOff written writes file first last
 WritesUpTo written writes file Memory first last = last ≡ first
 
--- the file was read whole, and then this was written of it
+-- the file was read completely, and then this was written for it
 pub record WritesAfter {S K : Type 0} (reads : S → Option (List ℕ) → S → Type 0) (written : K → Option (List ℕ)) (writes : K → List ℕ → ℕ → K → Type 0) (ending : Ending) (source : S) (sink : K) (last_source : S) (last_sink : K) : Type 0 where
   pub file : List ℕ
   pub read : IsReadWhole reads file source last_source
@@ -101,8 +102,8 @@ pub record StopsPast {S K : Type 0} (reads : S → Option (List ℕ) → S → T
   pub nothing : last_sink ≡ sink
 
 -- how the file of a source is encoded to a sink: it is read first, to its end, and the first write
--- comes after the last read; nothing is written of a file that is bad or could not be read, and
--- where memory ran out no read has failed
+-- comes after the last read; nothing is written for a file that is bad or could not be read, and if
+-- memory ran out, no read has failed
 abbrev pub ReadsFirst :
     {S K : Type 0} → (S → Option (List ℕ) → S → Type 0) → (K → Option (List ℕ)) → (K → List ℕ → ℕ → K → Type 0) → Ending → S → K → S → K →
     Type 0
@@ -114,8 +115,8 @@ ReadsFirst reads written writes WriteFault source sink last_source last_sink =
     WritesAfter reads written writes WriteFault source sink last_source last_sink
 ReadsFirst reads written writes Memory source sink last_source last_sink = IsReadSome reads source last_source × (last_sink ≡ sink)
 
--- what was written up to the ending is what some file gives: the bytes that were left of the
--- source, where it tells them
+-- what was written up to the ending is the output of some file: the bytes that were left in the
+-- source, if it makes them known
 pub record EncodesFile (ending : Ending) (left before now : Option (List ℕ)) : Type 0 where
   pub file : List ℕ
   pub is_left : IsLeft left file

@@ -35,23 +35,23 @@ fn write_encoded<K: Sink>(alloc: Global, file: &[u8], sink: &mut K) -> Ending
 }
 
 /// Reads the graph file that is left of the source to its end, and writes its graph6 text to the
-/// sink: the text of the simple graph beneath its graph, and a line feed. Nothing is written of a
-/// file that is outside both versions of the format, or has more than `MOST_BYTES` bytes: the
-/// ending says what is found of it, with the first bad line; a file that is too long has line 0.
+/// sink: the text of the underlying simple graph, and a line feed. Nothing is written for a file
+/// that is outside both versions of the format, or has more than `MOST_BYTES` bytes: the ending
+/// describes the error, with the first bad line; a file that is too long has line 0.
 ///
-/// Takes memory for a piece, the file, its graph and its text. Where memory runs out, it ends with
+/// Takes memory for a piece, the file, its graph and its text. If memory runs out, it ends with
 /// `Memory`, and nothing is written.
 pub fn encode<S: Source, K: Sink>(alloc: Global, source: &mut S, sink: &mut K) -> Ending
-    // The file is read to its end before the first write; nothing is written of a bad file.
+    // The file is read to its end before the first write; nothing is written for a bad file.
     ensures reads_first { ReadsFirst S.reads K.written K.writes result source.old sink.old
         source.new sink.new }
-    // What was written is what the file gives up to this ending, in whatever pieces it was read.
+    // The output is what the file gives up to this ending, in whatever pieces it was read.
     ensures encodes { (file : List ℕ) → S.left source.old ≡ Some file
         → Appended (Encodes file result) (K.written sink.old) (K.written sink.new) }
-    // Where the source does not tell what is left, it is what some file gives.
+    // If the source does not make known what is left, the output is what some file gives.
     ensures tells { EncodesFile result (S.left source.old) (K.written sink.old)
         (K.written sink.new) }
-    // A fault of the outside comes only where its count rose in this call.
+    // An error of the source or the sink comes only if its count rose in this call.
     ensures read_fault { result ≡ Ending.ReadFault →
         Rose (S.faults source.old) (S.faults source.new) }
     ensures write_fault { result ≡ Ending.WriteFault →

@@ -1,4 +1,4 @@
-//! A line of a file by its number, and what is found of a bad file.
+//! A line of a file by its number, and the report on a bad file.
 ghost use Rattle.std.specs.Prelude.{◌≡◌, IfOk};
 ghost use Rattle.line_text.specs.Common.{FirstFault};
 ghost use Rattle.graph_text.specs.Common.{either_version};
@@ -8,8 +8,8 @@ use line_text::{FaultKind, split_line};
 use mcg6_reader::BadLine;
 use std::alloc::{AllocError as Memory, Global};
 
-// The line of that number, counted from 1, without its line feed; nothing where the file has
-// fewer.
+// The line of that number, counted from 1, without its line feed; empty if the file has fewer
+// lines.
 fn kept_line(file: &[u8], number: u32) -> &[u8]
     ensures { result.now ≡ kept_line file.now number }
 {
@@ -25,7 +25,7 @@ fn kept_line(file: &[u8], number: u32) -> &[u8]
     &[]
 }
 
-// What is found of a file whose first fault is of this kind, at this line.
+// The report on a file whose first error is of this kind, at this line.
 pub fn outside_at(alloc: Global, file: &[u8], line: u32, kind: FaultKind) -> Result<BadLine, Memory>
     requires { FirstFault either_version file.now line kind }
     ensures { IfOk result (IsOutside file.now) }
@@ -35,7 +35,7 @@ pub fn outside_at(alloc: Global, file: &[u8], line: u32, kind: FaultKind) -> Res
     Ok(BadLine { number, kind, text })
 }
 
-// What is found of a file that is too long. It takes no memory.
+// The report on a file that is too long. Takes no memory.
 pub fn too_long(alloc: Global) -> BadLine
     ensures { NamesTooLong result }
 {

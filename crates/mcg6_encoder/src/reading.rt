@@ -10,7 +10,7 @@ use std::alloc::Global;
 /// The most bytes of a piece.
 const PIECE: usize = 65536;
 
-/// Why a file was not read whole.
+/// Why a file was not read completely.
 #[derive(Clone, Copy)]
 pub enum Unread {
     /// It has more than `MOST_BYTES` bytes.

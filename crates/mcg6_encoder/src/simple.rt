@@ -1,4 +1,4 @@
-//! The simple graph beneath a graph.
+//! The underlying simple graph of a graph.
 ghost use Rattle.std.specs.Prelude.{◌≡◌, ◌<◌, IfOk, OnOk};
 ghost use Rattle.counting.specs.Common.{Within};
 ghost use Rattle.graph_core.specs.Common.{first_end, second_end, size};
@@ -22,8 +22,8 @@ fn push_new_edge(simple: &mut MultiGraph, g: &MultiGraph, e: u32) -> Result<(), 
     simple.push_edge(edge)
 }
 
-/// The simple graph beneath a graph: the same vertices, and of the edges that join the same two
-/// vertices the first, in the order of their numbers.
+/// The underlying simple graph: the same vertices, and of the edges that join the same two vertices
+/// the first, in the order of their numbers.
 pub fn simple_beneath(alloc: Global, g: &MultiGraph) -> Result<MultiGraph, Memory>
     ensures { IfOk result (IsBeneath g.now) }
 {

@@ -12,7 +12,7 @@ use graph6_text::write_graph6;
 use line_text::TextFault;
 use std::alloc::{AllocError as Memory, Global};
 
-// The graph6 text of the simple graph beneath a graph, with a line feed.
+// The graph6 text of the underlying simple graph, with a line feed.
 fn line_of(alloc: Global, g: &MultiGraph) -> Result<Vec<u8>, Memory>
     ensures { IfOk result (λ line. line.items ≡ graph6_of g.now ++ 10 ∷ []) }
 {
@@ -22,9 +22,8 @@ fn line_of(alloc: Global, g: &MultiGraph) -> Result<Vec<u8>, Memory>
     Ok(line)
 }
 
-/// The line of a graph file: the graph6 text of the simple graph beneath its graph, with a line
-/// feed; or the first line outside the format with the kind of its fault. Want of memory may come
-/// at any time.
+/// The line of a graph file: the graph6 text of the underlying simple graph, with a line feed; or
+/// the first line outside the format with the kind of its error. Memory may run out at any time.
 pub fn graph6_line(alloc: Global, file: &[u8]) -> Result<Vec<u8>, TextFault>
     requires { length file.now < 2 ^ 32 - 1 }
     ensures line { IfOk result (λ line. IsEncoded file.now line.items) }

@@ -1,4 +1,5 @@
--- The answers to some lines, and then to the lines after them, are the answer to all of them.
+-- The outputs of some lines followed by those of the lines after them are the outputs of all of
+-- them. Idea: induction over the first lines; the place after them is where the others begin.
 use Rattle.std.proofs.Common.{◌≡◌, inl, inr, ℕ, suc, ◌+◌, List, [], ◌∷◌, ◌++◌, length, take, refl, sym, subst, ◌∙◌, ap, arith, append_assoc, length-append, append-nil}
 use Rattle.std.specs.declared.option.Option.{Option}
 use Rattle.std.specs.declared.option.Option.TheVariants.{Some, None}
@@ -119,7 +120,7 @@ WholeTold-behind tells lacks n xs ys a b told behind = record {
   ends = subst (λ (p : LinePlace). lacks p.graphs ≡ None) (sym (place_behind-append n xs ys)) behind.ends;
 }
 
--- lines that are answered, and what the lines after them give
+-- lines that have been processed, and the output of the lines after them
 pub Gives-behind :
     (tells : LinePlace → List ℕ → List ℕ → Type 0) (bad : LinePlace → List ℕ → FaultKind → Type 0) (lacks : ℕ → Option FaultKind) (n : LinePlace)
     (xs ys : List (List ℕ)) (a b : List ℕ) (ending : Ending) →

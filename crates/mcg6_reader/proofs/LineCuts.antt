@@ -1,6 +1,6 @@
 -- A text is cut into lines from the front. A byte that is not a line feed is put onto the first
--- line of what stands after it, a line feed is the end of a line: so the lines of a text that a
--- line feed ends are followed by those of the text after it.
+-- line of what follows it, a line feed is the end of a line: so the lines of a text that a line
+-- feed ends are followed by those of the text after it.
 use Rattle.std.proofs.Common.{◌≡◌, inl, inr, ℕ, suc, ◌+◌, ◌<◌, ◌≤◌, List, [], ◌∷◌, ◌++◌, length, take, drop, Some, None, position, true, false, refl, sym, subst, ◌∙◌, ap, arith, append_assoc, lt-ltb, append-nil}
 use Rattle.std.specs.List.{onto_first, position_or_len}
 use Rattle.std.proofs.lemmas.Bool.{cases_Bool, cases_lt}
@@ -113,7 +113,7 @@ no_feed_found (byte ∷ text) none = elim (cases_Bool (is_line_feed byte)) [
       rw other (no_feed_found text (omega arith))
 ]
 
--- the same, as a search for it answers
+-- the same, as a search for it returns it
 pub no_feed_position : (text : List ℕ) → position is_line_feed text ≡ None → HasNoFeed text
 no_feed_position text none = grind (arith, cases_lt (position_or_len is_line_feed text) (length text), lt-ltb (position_or_len is_line_feed text) (length text), no_feed_found text)
 
@@ -143,7 +143,7 @@ lines_of-last (byte ∷ next ∷ text) none some =
     let first = no_feed-first byte (next ∷ text) none in
     lines_of-byte byte (next ∷ text) first.0 ∙ ap (onto_first byte) (lines_of-last (next ∷ text) first.1 (omega arith))
 
--- a text without line feeds stands in the first line
+-- a text without line feeds belongs to the first line
 pub record BeginsLine (text rest : List ℕ) : Type 0 where
   pub more : List ℕ
   pub others : List (List ℕ)

@@ -1,6 +1,6 @@
--- Where no line has both an output and a fault, a list that is told whole has no bad line, and
--- the first bad line of any other is one: by induction on the lines before it. A header is short,
--- so that it is not bad.
+-- If no line has both an output and an error, a list that was processed to its end has no bad line,
+-- and the first bad line of any other list is unique: by induction on the lines before it. A header
+-- is short, so that it is not bad.
 use Rattle.std.proofs.Common.{◌≡◌, inl, inr, ℕ, ◌≤◌, List, [], ◌∷◌, ◌++◌, length, refl, sym, ◌∙◌, ap, ap₂, subst, arith, IsTrue}
 use Rattle.std.specs.declared.option.Option.{Option}
 use Rattle.std.proofs.lemmas.Bool.{and_parts}
@@ -27,7 +27,7 @@ fault_once bad place line kind other one (inr first) (inl second) = let short = 
 fault_once bad place line kind other one (inr first) (inr second) = one place line kind other first.2 second.2
 
 module _ (tells : LinePlace → List ℕ → List ℕ → Type 0) (bad : LinePlace → List ℕ → FaultKind → Type 0) (apart : TellsApart tells bad) where
-  -- a line that is told is not bad
+  -- a line with an output is not bad
   told_not_bad : (place : LinePlace) (line output : List ℕ) (kind : FaultKind) → LineTold tells place line output → LineBad bad place line kind → ⊥
   told_not_bad place line output kind h k = grind (arith, header_short place.number line)
 
@@ -38,7 +38,7 @@ module _ (tells : LinePlace → List ℕ → List ℕ → Type 0) (bad : LinePla
   all_not_bad place [] line behind kind output told is = told_not_bad place line told.0 kind told.2 is
   all_not_bad place (first ∷ before) line behind kind output told is = all_not_bad (place_after place first) before line behind kind told.1 told.3 is
 
-  -- two first bad lines stand after the same lines
+  -- two first bad lines come after the same lines
   same_before :
       (place : LinePlace) (before others : List (List ℕ)) (line another : List ℕ) (behind rest : List (List ℕ)) (kind other : FaultKind) (a b : List ℕ) →
       before ++ line ∷ behind ≡ others ++ another ∷ rest → AllTold tells place before a → AllTold tells place others b →
@@ -59,7 +59,7 @@ module _ (tells : LinePlace → List ℕ → List ℕ → Type 0) (bad : LinePla
       (subst (λ (l : List ℕ). LineBad bad (place_behind (place_after place l) others) another other) head also) in
       (ap₂ ◌∷◌ (sym head) later.0, later.1)
 
-  -- a list that is told whole has no bad line
+  -- a list that was processed to its end has no bad line
   pub whole_not_bad :
       (lacks : ℕ → Option FaultKind) (place : LinePlace) (lines : List (List ℕ)) (found : BadLine) (a b : List ℕ) →
       WholeTold tells lacks place lines a → ToldToBad tells bad lacks place lines found b → ⊥
@@ -76,7 +76,7 @@ module _ (tells : LinePlace → List ℕ → List ℕ → Type 0) (bad : LinePla
       all_not_bad place stops.before stops.line stops.behind found.kind b
       (subst (λ (ls : List (List ℕ)). AllTold tells place ls b) stops.cut ends.told) stops.named.bad_line
 
-  -- the first bad line is one, and so is what is told before it
+  -- the first bad line is unique, and so is the output before it
   module _ (one : HasOneOutput tells) (one_fault : HasOneFault bad) where
     first_bad_once :
         (place : LinePlace) (lines : List (List ℕ)) (found other : BadLine) (a b : List ℕ) →

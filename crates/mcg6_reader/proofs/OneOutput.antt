@@ -1,5 +1,5 @@
--- If a line has one output, lines have one: by induction on them. A header has none, and no
--- line is both header and not.
+-- If each line has at most one output, so has each list of lines, by induction. A header has an
+-- empty one, and no line is both a header and not.
 use Rattle.std.proofs.Common.{◌≡◌, inl, inr, ℕ, List, [], ◌∷◌, sym, ◌∙◌}
 use Rattle.mcg6_reader.specs.declared.place.LinePlace.{LinePlace}
 use Rattle.mcg6_reader.specs.Common.{place_after, LineTold, AllTold, HasOneOutput}

@@ -1,5 +1,5 @@
--- What the pieces of a text give together: the lines that are answered so far are whole, so what
--- stands after them begins anew.
+-- What the pieces of a text give together: the lines that have been processed so far are complete,
+-- so a new line begins after them.
 use Rattle.std.proofs.Common.{◌≡◌, inl, inr, ℕ, ◌<◌, ◌≤◌, List, [], ◌∷◌, ◌++◌, length, refl, sym, subst, ◌∙◌, ap, arith, append_assoc, length-append, IsTrue, IsFalse, append-nil}
 use Rattle.std.specs.declared.option.Option.{Option}
 use Rattle.outside.specs.Common.{most_line}
@@ -14,13 +14,13 @@ use Rattle.mcg6_reader.specs.Common.{is_header, lines_of, HasNoFeed, IsFirstLine
 use Rattle.mcg6_reader.proofs.LineCuts.{lines_of-nil, lines_of-closed, lines_of-last, lines_of-begun, IsClosed-append}
 use Rattle.mcg6_reader.proofs.Joins.{place_behind-append, AllTold-append, AllTold-one, HasBadLine-first, HasBadLine-behind}
 
--- the header alone has an empty answer
+-- just the header has an empty output
 pub told_header :
     (tells : LinePlace → List ℕ → List ℕ → Type 0) (n : LinePlace) (line output : List ℕ) →
     IsTrue (is_header n.number line) → Added (LineTold tells n line) output output
 told_header tells n line output header = record { more = []; right = inl (header, refl); output = sym (append-nil output) }
 
--- any other line has what the teller answers
+-- any other line has the teller's result
 pub told_line :
     (tells : LinePlace → List ℕ → List ℕ → Type 0) (n : LinePlace) (line bytes before now : List ℕ) →
     IsFalse (is_header n.number line) → length line ≤ most_line → tells n line bytes → now ≡ before ++ bytes →
@@ -38,7 +38,7 @@ names_long bad n line (stop.Bad bad_line) long found = record {
   kept = inl found.kept;
 }
 
--- a line in which the teller finds a fault is bad
+-- a line in which the teller finds an error is bad
 pub names_bad :
     (bad : LinePlace → List ℕ → FaultKind → Type 0) (n : LinePlace) (line : List ℕ) (kind : FaultKind) (why : ListStop) →
     IsFalse (is_header n.number line) → length line ≤ most_line → bad n line kind → IfBad (IsFound n.number kind line) why →
@@ -50,7 +50,7 @@ names_bad bad n line kind (stop.Bad bad_line) other short is found = record {
   kept = inl found.kept;
 }
 
--- nothing is answered yet
+-- nothing has been processed yet
 pub through_none :
     (tells : LinePlace → List ℕ → List ℕ → Type 0) (n : LinePlace) (text output : List ℕ) →
     Added (ToldThrough tells n text text n) output output
@@ -66,7 +66,7 @@ through_none tells n text output = record {
   output = sym (append-nil output);
 }
 
--- one more line is answered
+-- one more line is processed
 pub through_more :
     (tells : LinePlace → List ℕ → List ℕ → Type 0) (n k next : LinePlace) (text rest line behind a b c : List ℕ) →
     Added (ToldThrough tells n text rest k) a b → IsFirstLine rest line behind → next ≡ place_after k line →
@@ -98,7 +98,7 @@ through_more tells n k next text rest line behind a b c so_far first after one =
       output = one.output ∙ ap (λ (t : List ℕ). t ++ one.more) so_far.output ∙ append_assoc a so_far.more one.more;
     }
 
--- a bad line at that place stands first in a text, whatever is after it
+-- a bad line at that place comes first in a text, whatever is after it
 pub record OpensBad (bad : LinePlace → List ℕ → FaultKind → Type 0) (n : LinePlace) (text : List ℕ) (found : BadLine) : Type 0 where
   pub line : List ℕ
   pub others : List (List ℕ)
@@ -142,7 +142,7 @@ opens_long bad n rest tail found none long is =
       };
     }
 
--- the lines of a text and of what is after it, if its lines are answered up to some place
+-- the lines of a text and of what is after it, if its lines have been processed up to some place
 through_lines :
     (tells : LinePlace → List ℕ → List ℕ → Type 0) (n k : LinePlace) (text rest tail output : List ℕ) →
     (through : ToldThrough tells n text rest k output) →
@@ -176,7 +176,7 @@ through_bad tells bad lacks n k text rest a b found so_far opens =
       output = so_far.output;
     }
 
--- answering stopped at the next line
+-- the processing stopped at the next line
 pub through_stopped :
     (tells : LinePlace → List ℕ → List ℕ → Type 0) (bad : LinePlace → List ℕ → FaultKind → Type 0) (lacks : ℕ → Option FaultKind) (n k : LinePlace)
     (text rest line behind a b c : List ℕ) (why : ListStop) →
@@ -198,7 +198,7 @@ through_long tells bad lacks n k text rest a b stop.Memory so_far none long is =
 through_long tells bad lacks n k text rest a b (stop.Bad found) so_far none long is =
     through_bad tells bad lacks n k text rest a b found so_far (λ tail. opens_long bad k rest tail found none long is)
 
--- nothing is held at the end
+-- nothing is left at the end
 pub end_none :
     (tells : LinePlace → List ℕ → List ℕ → Type 0) (n : LinePlace) (held output : List ℕ) →
     length held ≡ 0 → Added (AllTold tells n (lines_of held)) output output × (n ≡ place_behind n (lines_of held))
@@ -212,7 +212,7 @@ end_none tells n [] output empty = (
 )
 end_none tells n (byte ∷ held) output empty = absurd (omega arith)
 
--- what is held at the end is answered as the last line
+-- what is held at the end is processed as the last line
 pub end_told :
     (tells : LinePlace → List ℕ → List ℕ → Type 0) (n : LinePlace) (held before now : List ℕ) →
     HasNoFeed held → 0 < length held → Added (LineTold tells n held) before now →
@@ -248,7 +248,7 @@ end_stopped tells bad lacks n held before now (stop.Bad found) none some named s
   output = same ∙ sym (append-nil before);
 }
 
--- the lines that are answered through a text are some first lines, whatever is after it
+-- the lines that are processed in a text are an initial segment, whatever is after it
 pub through_begins :
     (tells : LinePlace → List ℕ → List ℕ → Type 0) (n k : LinePlace) (text rest tail output : List ℕ) →
     ToldThrough tells n text rest k output → BeginningTold tells n (lines_of (text ++ tail)) output

@@ -1,6 +1,6 @@
--- A list is read piece by piece. What was read so far is lines with an answer and the bytes held
--- after them; so what the next piece gives, after what is held, is what the lines of the list
--- give there.
+-- A list is read piece by piece. What was read so far is lines that have been processed and the
+-- bytes held after them; so what the next piece gives, after what is held, is what the lines of the
+-- list give there.
 use Rattle.std.proofs.Common.{◌≡◌, inl, ℕ, suc, ◌≤◌, List, [], ◌++◌, length, refl, sym, subst, ◌∙◌, ap, arith, append_assoc}
 use Rattle.std.specs.declared.option.Option.{Option}
 use Rattle.std.specs.declared.option.Option.TheVariants.{Some}
@@ -16,8 +16,8 @@ use Rattle.mcg6_reader.proofs.Joins.{place_behind-append, AllTold-append, Beginn
 use Rattle.mcg6_reader.proofs.Stages.{steps_more, wrote_appended}
 use Rattle.mcg6_reader.proofs.LeftBytes.{prepended-nil, list_is, list_ends, piece_read}
 
--- the lines up to that place were answered, these bytes are held after them, and each step was
--- answered as it was read
+-- the lines up to that place were processed, these bytes are held after them, and each step was
+-- processed as it was read
 pub record SoFar {S K : Type 0} (tells : LinePlace → List ℕ → List ℕ → Type 0) (left : S → Option (List ℕ)) (reads : S → Option (List ℕ) → S → Type 0) (written : K → Option (List ℕ)) (writes : K → List ℕ → ℕ → K → Type 0) (place : LinePlace) (held : List ℕ) (source : S) (sink : K) (now_source : S) (now_sink : K) : Type 0 where
   pub whole : List ℕ
   pub output : List ℕ
@@ -60,7 +60,7 @@ written_behind before now next first second one two =
     two ∙ ap (λ (o : Option (List ℕ)). appended o second) one ∙ appended-appended before first second
 
 module _ {S K : Type 0} {tells : LinePlace → List ℕ → List ℕ → Type 0} {left : S → Option (List ℕ)} {reads : S → Option (List ℕ) → S → Type 0} {written : K → Option (List ℕ)} {writes : K → List ℕ → ℕ → K → Type 0} {place : LinePlace} {held : List ℕ} {source : S} {sink : K} {now_source : S} {now_sink : K} (so_far : SoFar tells left reads written writes place held source sink now_source now_sink) where
-  -- a piece was read, and the lines that it made whole were answered
+  -- a piece was read, and the lines that it completed were processed
   pub so_far_piece :
       (more_place : LinePlace) (piece more_held : List ℕ) (next_source : S) (next_sink : K) →
       reads now_source (Some piece) next_source → left now_source ≡ prepended piece (left next_source) →
@@ -121,16 +121,16 @@ module _ {S K : Type 0} {tells : LinePlace → List ℕ → List ℕ → Type 0}
             });
       }
 
-  -- the answers stopped before a piece was read
+  -- the processing stopped before a piece was read
   so_far_begins : (rest : List ℕ) → BeginningTold tells first_place (lines_of ((so_far.whole ++ held) ++ rest)) so_far.output
   so_far_begins rest = grind (arith, append_assoc so_far.whole held rest, lines_of-closed so_far.whole (held ++ rest) so_far.closed)
 
-  -- a read failed: each whole line of what was read is answered
+  -- a read failed: each complete line of what was read has been processed
   pub so_far_torn : (last_source : S) → left last_source ≡ left now_source → Appended (ReadsTold tells (left source) (left last_source)) (written sink) (written now_sink)
   so_far_torn last_source same = grind arith
 
   module _ (bad : LinePlace → List ℕ → FaultKind → Type 0) (lacks : ℕ → Option FaultKind) (ending : Ending) where
-    -- what the lines after those answered give is what the list gives
+    -- the output of the lines after the processed ones is that of the list
     pub gives_behind : (rest output : List ℕ) → Gives tells bad lacks place (lines_of rest) ending output → Gives tells bad lacks first_place (lines_of (so_far.whole ++ rest)) ending (so_far.output ++ output)
     gives_behind rest output gives =
         subst (λ (ls : List (List ℕ)). Gives tells bad lacks first_place ls ending (so_far.output ++ output))
@@ -138,7 +138,7 @@ module _ {S K : Type 0} {tells : LinePlace → List ℕ → List ℕ → Type 0}
         (Gives-behind tells bad lacks first_place (lines_of so_far.whole) (lines_of rest) so_far.output output ending so_far.told
         (subst (λ (p : LinePlace). Gives tells bad lacks p (lines_of rest) ending output) so_far.at gives))
 
-    -- the answers stopped in a piece
+    -- the processing stopped in a piece
     pub so_far_stops : (piece : List ℕ) (last_source : S) (last_sink : K) → left now_source ≡ prepended piece (left last_source) →
         WroteUpTo written writes (StopsWith tells bad lacks place (held ++ piece)) ending now_sink last_sink →
         TellsList tells bad lacks ending (left source) (written sink) (written last_sink)
@@ -182,7 +182,7 @@ module _ {S K : Type 0} {tells : LinePlace → List ℕ → List ℕ → Type 0}
           };
         }
 
-    -- the answers stopped there, with an ending that asks for no more than a beginning
+    -- the processing stopped there, with an ending that asks for no more than a beginning
     pub so_far_begun : ((lines : List (List ℕ)) (output : List ℕ) → BeginningTold tells first_place lines output → Gives tells bad lacks first_place lines ending output) →
         TellsList tells bad lacks ending (left source) (written sink) (written now_sink)
     so_far_begun enough = grind (arith, list_is (left source) (left now_source) (so_far.whole ++ held) so_far.leaves, so_far_begins)

@@ -1,4 +1,4 @@
--- The stages of a list that is answered as it is read: a chain of steps takes one more at its end,
+-- The stages of a list that is processed as it is read: a chain of steps takes one more at its end,
 -- and what the last lines give is what the list gives there.
 use Rattle.std.proofs.Common.{inr, ℕ, zero, suc, List, [], refl, sym, subst, ◌∙◌, ap}
 use Rattle.std.specs.declared.option.Option.{Option}

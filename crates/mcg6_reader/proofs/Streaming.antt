@@ -1,5 +1,5 @@
--- The reads and writes of a list that is answered as it is read, joined to one stream: what the
--- last piece gives is what the list gives there, whatever stands after it.
+-- The reads and writes of a list that is processed as it is read, joined to one stream: what the
+-- last piece gives is what the list gives there, whatever follows it.
 use Rattle.std.proofs.Common.{inl, ℕ, List, [], ◌++◌, append_assoc, append-nil, arith}
 use Rattle.std.specs.declared.option.Option.{Option}
 use Rattle.std.specs.declared.option.Option.TheVariants.{Some}
@@ -11,12 +11,12 @@ use Rattle.mcg6_reader.proofs.Stages.{wrote_otherwise}
 use Rattle.mcg6_reader.proofs.Readings.{SoFar, gives_behind}
 
 module _ {S K : Type 0} {tells : LinePlace → List ℕ → List ℕ → Type 0} {left : S → Option (List ℕ)} {reads : S → Option (List ℕ) → S → Type 0} {written : K → Option (List ℕ)} {writes : K → List ℕ → ℕ → K → Type 0} {place : LinePlace} {held : List ℕ} {source : S} {sink : K} {now_source : S} {now_sink : K} (so_far : SoFar tells left reads written writes place held source sink now_source now_sink) (bad : LinePlace → List ℕ → FaultKind → Type 0) (lacks : ℕ → Option FaultKind) where
-  -- what the lines of a piece give is what the list gives, whatever stands after it
+  -- what the lines of a piece give is what the list gives, whatever follows it
   stops_after : (piece : List ℕ) (ending : Ending) (output : List ℕ) → StopsWith tells bad lacks place (held ++ piece) ending output →
       GivesAfter tells bad lacks (so_far.whole ++ held) piece so_far.output ending output
   stops_after piece ending output stops rest follows = grind (arith, append_assoc, gives_behind so_far bad lacks ending ((held ++ piece) ++ rest) output (stops rest))
 
-  -- what the last lines give is what the list gives, since nothing stands after them
+  -- what the last lines give is what the list gives, since nothing follows them
   end_after : (ending : Ending) (output : List ℕ) → Gives tells bad lacks place (lines_of held) ending output →
       GivesAfter tells bad lacks (so_far.whole ++ held) [] so_far.output ending output
   end_after ending output gives rest follows = grind (arith, append-nil, gives_behind so_far bad lacks ending held output gives)

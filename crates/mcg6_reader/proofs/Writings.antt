@@ -27,7 +27,7 @@ wrote_cut written writes holds gives start out piece first last added none same 
   cut = cut.3;
 }
 
--- a proper prefix of the answer to a beginning
+-- a proper prefix of the output of a beginning
 pub begun_cut :
     (tells : LinePlace → List ℕ → List ℕ → Type 0) (n : LinePlace) (lines : List (List ℕ)) (bytes : List ℕ) (count : ℕ) →
     BeginningTold tells n lines bytes → count < length bytes → CutShort tells n lines (take count bytes)

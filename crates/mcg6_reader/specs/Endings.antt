@@ -12,7 +12,7 @@ use Rattle.mcg6_reader.specs.Lines.{lines_of, HasNoFeed, IsClosed}
 use Rattle.mcg6_reader.specs.Lists.{AllTold, BeginningTold, WholeTold, ToldToBad, CutShort}
 use Rattle.mcg6_reader.specs.Places.{first_place, place_behind}
 
--- what lines give up to an ending, of which the first stands at that place
+-- the output of lines up to an ending, where the first line is at that place
 abbrev pub Gives :
     (LinePlace → List ℕ → List ℕ → Type 0) → (LinePlace → List ℕ → FaultKind → Type 0) → (ℕ → Option FaultKind) → LinePlace → List (List ℕ) → Ending →
     List ℕ → Type 0
@@ -22,20 +22,20 @@ Gives tells bad lacks place lines ReadFault output = BeginningTold tells place l
 Gives tells bad lacks place lines WriteFault output = CutShort tells place lines output
 Gives tells bad lacks place lines Memory output = BeginningTold tells place lines output
 
--- bytes of which this holds were appended to what a sink had
+-- bytes with this property were appended to what a sink had
 pub record Appended (holds : List ℕ → Type 0) (before now : Option (List ℕ)) : Type 0 where
   pub output : List ℕ
   pub right : holds output
   pub written : now ≡ appended before output
 
--- bytes of which this holds were appended to an output
+-- bytes with this property were appended to an output
 pub record Added (holds : List ℕ → Type 0) (before now : List ℕ) : Type 0 where
   pub more : List ℕ
   pub right : holds more
   pub output : now ≡ before ++ more
 
--- each whole line of what was read is answered, and the part of a line after them is not too long
--- for a line
+-- each complete line of what was read has been processed, and the part of a line after them is not
+-- too long for a line
 pub record WholeLinesTold (tells : LinePlace → List ℕ → List ℕ → Type 0) (read output : List ℕ) : Type 0 where
   pub whole : List ℕ
   pub part : List ℕ
@@ -45,8 +45,8 @@ pub record WholeLinesTold (tells : LinePlace → List ℕ → List ℕ → Type 
   pub short : length part ≤ most_line
   pub told : AllTold tells first_place (lines_of whole) output
 
--- the lines of a text up to what is left of it are answered, of which the first stands at the first
--- place; the next stands at the second
+-- the lines of a text up to what is left of it have been processed; the first line is at the first
+-- place, and the next one at the second
 pub record ToldThrough (tells : LinePlace → List ℕ → List ℕ → Type 0) (before : LinePlace) (text left : List ℕ) (now : LinePlace) (output : List ℕ) : Type 0 where
   pub whole : List ℕ
   pub cut : text ≡ whole ++ left
@@ -54,23 +54,22 @@ pub record ToldThrough (tells : LinePlace → List ℕ → List ℕ → Type 0) 
   pub told : AllTold tells before (lines_of whole) output
   pub place : now ≡ place_behind before (lines_of whole)
 
--- whatever stands after the text, its lines give this up to the ending, of which the first stands
--- at that place
+-- whatever follows the text, this is the output of its lines up to the ending, where the first line
+-- is at that place
 abbrev pub StopsWith :
     (LinePlace → List ℕ → List ℕ → Type 0) → (LinePlace → List ℕ → FaultKind → Type 0) → (ℕ → Option FaultKind) → LinePlace → (text : List ℕ) → Ending →
     List ℕ → Type 0
 StopsWith tells bad lacks place text ending output =
     (rest : List ℕ) → Gives tells bad lacks place (lines_of (text ++ rest)) ending output
 
--- bytes of which this holds were written whole, and nothing else
+-- bytes with this property were written completely, and nothing else
 pub record Wrote {K : Type 0} (written : K → Option (List ℕ)) (writes : K → List ℕ → ℕ → K → Type 0) (holds : List ℕ → Type 0) (first last : K) : Type 0 where
   pub output : List ℕ
   pub right : holds output
   pub now : written last ≡ appended (written first) output
   pub whole : IsWritten writes output first last
 
--- bytes of which this holds were written, the first of some more, and then a write of the others
--- failed
+-- a prefix of bytes with this property was written, and then a write of the rest failed
 pub record WroteCut {K : Type 0} (written : K → Option (List ℕ)) (writes : K → List ℕ → ℕ → K → Type 0) (holds : List ℕ → Type 0) (first last : K) : Type 0 where
   pub whole : List ℕ
   pub count : ℕ
@@ -78,8 +77,8 @@ pub record WroteCut {K : Type 0} (written : K → Option (List ℕ)) (writes : K
   pub now : written last ≡ appended (written first) (take count whole)
   pub cut : IsCutOff writes whole count first last
 
--- what was written up to an ending, of which this holds: nothing if memory ran out, and
--- nothing after a write that failed
+-- what was written up to an ending, of which this is true: nothing if memory ran out, and nothing
+-- after a write that failed
 abbrev pub WroteUpTo :
     {K : Type 0} → (K → Option (List ℕ)) → (K → List ℕ → ℕ → K → Type 0) → (Ending → List ℕ → Type 0) → Ending → K → K → Type 0
 WroteUpTo written writes gives Done first last = Wrote written writes (gives Done) first last
@@ -93,14 +92,14 @@ abbrev pub IsLeft : Option (List ℕ) → List ℕ → Type 0
 IsLeft None bytes = Unit {0}
 IsLeft (Some left) bytes = left ≡ bytes
 
--- what was written up to the ending is what the lines of a list give: of the bytes that were left
--- of the source, if it makes them known
+-- what was written up to the ending is the output of the lines of a list: of the bytes that were
+-- left in the source, if it makes them known
 pub record TellsList (tells : LinePlace → List ℕ → List ℕ → Type 0) (bad : LinePlace → List ℕ → FaultKind → Type 0) (lacks : ℕ → Option FaultKind) (ending : Ending) (left before now : Option (List ℕ)) : Type 0 where
   pub bytes : List ℕ
   pub is_left : IsLeft left bytes
   pub gives : Appended (Gives tells bad lacks first_place (lines_of bytes) ending) before now
 
--- what was read of a source up to what is left, and each whole line of it is answered
+-- what was read of a source up to what is left, and each complete line of it has been processed
 pub record ReadsTold (tells : LinePlace → List ℕ → List ℕ → Type 0) (before now : Option (List ℕ)) (output : List ℕ) : Type 0 where
   pub read : List ℕ
   pub left : before ≡ prepended read now

@@ -7,8 +7,8 @@ use Rattle.std.specs.List.{list_all, onto_first}
 abbrev pub is_line_feed : ℕ → Bool
 is_line_feed byte = byte == 10
 
--- the lines of a text: each is cut after its line feed, which it keeps; what stands after the
--- last line feed is a line too
+-- the lines of a text: each ends with its line feed, which belongs to it; what follows the last
+-- line feed is a line too
 unfoldable pub lines_of : List ℕ → List (List ℕ)
 lines_of [] = []
 lines_of (byte ∷ text) = if is_line_feed byte then (byte ∷ []) ∷ lines_of text else onto_first byte (lines_of text)
@@ -21,7 +21,7 @@ HasNoFeed text = IsTrue (list_all (λ byte. not (is_line_feed byte)) text)
 abbrev pub IsClosed : List ℕ → Type 0
 IsClosed text = (text ≡ []) ⊎ ((front : List ℕ) × (text ≡ front ++ 10 ∷ []))
 
--- the text is a line with its line feed, and what stands after it
+-- the text is a line with its line feed, and what follows it
 pub record IsFirstLine (text line behind : List ℕ) : Type 0 where
   pub whole : text ≡ line ++ behind
   pub alone : lines_of line ≡ line ∷ []

@@ -1,4 +1,4 @@
--- The answers to the lines of a list, one after another.
+-- The outputs of the lines of a list, one after another.
 -- Stated by: mcg6_reader, mcg6_top.
 use Rattle.std.specs.Prelude.{◌≡◌, ℕ, ◌<◌, ◌⊎◌, List, [], ◌∷◌, ◌++◌, length, take}
 use Rattle.std.specs.declared.option.Option.{Option}
@@ -9,27 +9,27 @@ use Rattle.mcg6_reader.specs.declared.place.LinePlace.{LinePlace}
 use Rattle.mcg6_reader.specs.Places.{place_after, place_behind}
 use Rattle.mcg6_reader.specs.Told.{LineTold, NamesBad}
 
--- the lines, of which the first stands at that place, have this output: the outputs of the
--- lines in their order
+-- this is the output of the lines, where the first is at that place: the outputs of the lines in
+-- their order
 abbrev pub AllTold : (LinePlace → List ℕ → List ℕ → Type 0) → LinePlace → List (List ℕ) → List ℕ → Type 0
 AllTold tells place [] output = output ≡ []
 AllTold tells place (line ∷ lines) output =
     (first : List ℕ) × (others : List ℕ) × (LineTold tells place line first) × (AllTold tells (place_after place line) lines others)
     × (output ≡ first ++ others)
 
--- some first lines are answered
+-- an initial segment of the lines has been processed
 pub record BeginningTold (tells : LinePlace → List ℕ → List ℕ → Type 0) (place : LinePlace) (lines : List (List ℕ)) (output : List ℕ) : Type 0 where
   pub before : List (List ℕ)
   pub behind : List (List ℕ)
   pub cut : lines ≡ before ++ behind
   pub told : AllTold tells place before output
 
--- all lines are answered, and a list may end after them
+-- all lines have been processed, and a list may end after them
 pub record WholeTold (tells : LinePlace → List ℕ → List ℕ → Type 0) (lacks : ℕ → Option FaultKind) (place : LinePlace) (lines : List (List ℕ)) (output : List ℕ) : Type 0 where
   pub told : AllTold tells place lines output
   pub ends : lacks (place_behind place lines).graphs ≡ None
 
--- the lines before the first bad one are answered, and this is found of that one
+-- the lines before the first bad one have been processed, and this is the report on that one
 pub record HasBadLine (tells : LinePlace → List ℕ → List ℕ → Type 0) (bad : LinePlace → List ℕ → FaultKind → Type 0) (place : LinePlace) (lines : List (List ℕ)) (found : BadLine) (output : List ℕ) : Type 0 where
   pub before : List (List ℕ)
   pub line : List ℕ
@@ -38,22 +38,23 @@ pub record HasBadLine (tells : LinePlace → List ℕ → List ℕ → Type 0) (
   pub told : AllTold tells place before output
   pub named : NamesBad bad (place_behind place before) line found
 
--- all lines are answered, and no list may end after them: the line that is missing there is found,
--- with nothing in it
+-- all lines have been processed, and no list may end after them: this is the report on the missing
+-- line, with an empty text
 pub record LacksLine (tells : LinePlace → List ℕ → List ℕ → Type 0) (lacks : ℕ → Option FaultKind) (place : LinePlace) (lines : List (List ℕ)) (found : BadLine) (output : List ℕ) : Type 0 where
   pub told : AllTold tells place lines output
   pub ends : lacks (place_behind place lines).graphs ≡ Some found.kind
   pub number : found.number ≡ (place_behind place lines).number
   pub nothing : found.text.items ≡ []
 
--- the lines before the first that is bad or missing are answered, and this is found of that one
+-- the lines before the first that is bad or missing have been processed, and this is the report on
+-- that one
 abbrev pub ToldToBad :
     (LinePlace → List ℕ → List ℕ → Type 0) → (LinePlace → List ℕ → FaultKind → Type 0) → (ℕ → Option FaultKind) → LinePlace → List (List ℕ) → BadLine →
     List ℕ → Type 0
 ToldToBad tells bad lacks place lines found output =
     HasBadLine tells bad place lines found output ⊎ LacksLine tells lacks place lines found output
 
--- a proper prefix of the answer to some first lines
+-- a proper prefix of the output of an initial segment of the lines
 pub record CutShort (tells : LinePlace → List ℕ → List ℕ → Type 0) (place : LinePlace) (lines : List (List ℕ)) (output : List ℕ) : Type 0 where
   pub whole : List ℕ
   pub count : ℕ
@@ -65,10 +66,10 @@ pub record CutShort (tells : LinePlace → List ℕ → List ℕ → Type 0) (pl
 abbrev pub HasOneOutput : (LinePlace → List ℕ → List ℕ → Type 0) → Type 0
 HasOneOutput tells = (place : LinePlace) (line a b : List ℕ) → tells place line a → tells place line b → a ≡ b
 
--- each line has at most one kind of a first fault
+-- each line has at most one kind of a first error
 abbrev pub HasOneFault : (LinePlace → List ℕ → FaultKind → Type 0) → Type 0
 HasOneFault bad = (place : LinePlace) (line : List ℕ) (kind other : FaultKind) → bad place line kind → bad place line other → kind ≡ other
 
--- no line has both an output and a fault
+-- no line has both an output and an error
 abbrev pub TellsApart : (LinePlace → List ℕ → List ℕ → Type 0) → (LinePlace → List ℕ → FaultKind → Type 0) → Type 0
 TellsApart tells bad = (place : LinePlace) (line output : List ℕ) (kind : FaultKind) → tells place line output → bad place line kind → ⊥

@@ -1,4 +1,4 @@
--- The answer to a line.
+-- The result for a line.
 -- Stated by: mcg6_reader.
 use Rattle.std.specs.Prelude.{◌≡◌, ℕ, ◌<◌, ◌≤◌, ◌⊎◌, List, [], ◌++◌, length, IsTrue, IsFalse}
 use Rattle.outside.specs.Common.{most_line}
@@ -12,7 +12,7 @@ use Rattle.mcg6_reader.specs.declared.teller.LineAnswer.{LineAnswer}
 use Rattle.mcg6_reader.specs.declared.teller.LineAnswer.TheVariants.{Output, Bad}
 use Rattle.mcg6_reader.specs.Headers.{is_header}
 
--- the answer is an output for the line, or the kind of a fault that it has
+-- the result is an output of the line, or the kind of an error in it
 abbrev pub IsToldAs : (tells : List ℕ → Type 0) → (bad : FaultKind → Type 0) → LineAnswer → Type 0
 IsToldAs tells bad (Output bytes) = tells bytes.items
 IsToldAs tells bad (Bad kind) = bad kind
@@ -23,30 +23,31 @@ LineTold tells place line output =
     (IsTrue (is_header place.number line) × (output ≡ [])) ⊎
     (IsFalse (is_header place.number line) × (length line ≤ most_line) × tells place line output)
 
--- the line at that place is bad, with a first fault of this kind
+-- the line at that place is bad, with a first error of this kind
 abbrev pub LineBad : (LinePlace → List ℕ → FaultKind → Type 0) → LinePlace → List ℕ → FaultKind → Type 0
 LineBad bad place line kind =
     ((most_line < length line) × (kind ≡ Limit)) ⊎
     (IsFalse (is_header place.number line) × (length line ≤ most_line) × bad place line kind)
 
--- what is kept of a line: the whole of it, or its beginning if that is too long for a line
+-- what is kept of a line: all of it, or its beginning if it is too long for a line
 abbrev pub IsKept : (line kept : List ℕ) → Type 0
 IsKept line kept = (kept ≡ line) ⊎ ((most_line < length kept) × ((rest : List ℕ) × (line ≡ kept ++ rest)))
 
--- the line at that place is bad, and this is found of it: its number, the kind of its first
--- fault, and its text as far as it is kept
+-- the line at that place is bad, and this is the report on it: its number, the kind of its first
+-- error, and its text as far as it is kept
 pub record NamesBad (bad : LinePlace → List ℕ → FaultKind → Type 0) (place : LinePlace) (line : List ℕ) (found : BadLine) : Type 0 where
   pub bad_line : LineBad bad place line found.kind
   pub number : found.number ≡ place.number
   pub kept : IsKept line found.text.items
 
--- this is found of a line: its number, the kind of its first fault, and what is kept of its text
+-- this is the report on a line: its number, the kind of its first error, and what is kept of its
+-- text
 pub record IsFound (number : ℕ) (kind : FaultKind) (text : List ℕ) (found : BadLine) : Type 0 where
   pub numbered : found.number ≡ number
   pub of_kind : found.kind ≡ kind
   pub kept : found.text.items ≡ text
 
--- if a bad line is why the answers stop, this holds of what is found of it
+-- if a bad line is why the processing stops, its report has this property
 abbrev pub IfBad : (BadLine → Type 0) → ListStop → Type 0
 IfBad holds (stop.Bad found) = holds found
 IfBad holds stop.Memory = Unit {0}

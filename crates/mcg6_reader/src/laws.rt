@@ -1,4 +1,4 @@
-//! The laws on lists. Each is the contract of a function that does nothing.
+//! The laws on lists. Each law is the contract of a function that does nothing.
 ghost use Rattle.std.specs.Prelude.{◌≡◌, ℕ, List};
 ghost use Rattle.mcg6_reader.specs.Common.{AllTold, HasOneFault, HasOneOutput, TellsApart, ToldToBad, WholeTold};
 ghost use Rattle.mcg6_reader.specs.declared.ending.BadLine.{BadLine};
@@ -6,7 +6,7 @@ ghost use Rattle.mcg6_reader.specs.declared.place.LinePlace.{LinePlace};
 
 use crate::teller::LineTeller;
 
-/// If the teller has one output for each line, it has one for a list.
+/// If the teller has at most one output for each line, it has at most one for a list.
 #[tactic(auto, using(crate::proofs::OneOutput::one_output))]
 pub fn one_output_law<T: LineTeller>(teller: &T)
     ensures { (place : LinePlace) (lines : List (List ℕ)) (a b : List ℕ)
@@ -17,9 +17,10 @@ pub fn one_output_law<T: LineTeller>(teller: &T)
     let _ = teller;
 }
 
-/// Where the teller has no line with both an output and a fault, a list that is told whole has no
-/// bad line and lacks none. Where it also has one output and one kind of a fault for each line,
-/// the first line that is bad or missing is one, with one kind, and one output is told before it.
+/// If the teller has no line with both an output and an error, a list that was processed to its end
+/// has no bad line and no missing line. If each line also has at most one output and one kind of
+/// error, the first bad or missing line is unique, with one kind, and the output before it is
+/// unique.
 pub fn one_ending_law<T: LineTeller>(teller: &T)
     ensures whole { (place : LinePlace) (lines : List (List ℕ)) (found : BadLine) (a b : List ℕ)
         → TellsApart (T.tells teller.now) (T.bad teller.now)

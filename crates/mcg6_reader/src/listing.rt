@@ -12,7 +12,7 @@ use line_text::FaultKind;
 use outside::MOST_LINE;
 use std::alloc::Global;
 
-/// The state of a list that comes in pieces.
+/// The state of a list that arrives in pieces.
 #[derive(Drop)]
 pub struct Listing {
     /// The place of the next line.
@@ -21,7 +21,7 @@ pub struct Listing {
     pub held: Vec<u8>,
 }
 
-// Answers the whole lines of a text, as `tell_lines` does, and refuses what is left of it if
+// Processes the complete lines of a text, as `tell_lines` does, and rejects what is left of it if
 // that is too long for a line.
 fn tell_within_limit<'a, T: LineTeller>(
     alloc: Global,
@@ -46,7 +46,7 @@ fn tell_within_limit<'a, T: LineTeller>(
     Ok((place, rest))
 }
 
-// Answers the lines that a further piece makes whole, and holds what is left after them.
+// Processes the lines that a further piece completes, and holds what is left after them.
 pub fn add_piece<T: LineTeller>(
     alloc: Global,
     teller: &T,
@@ -74,8 +74,8 @@ pub fn add_piece<T: LineTeller>(
     Ok(())
 }
 
-// Answers what is held at the end of a list as its last line, unless nothing is; answers the place
-// after it.
+// Processes what is held at the end of a list as its last line, unless it is empty; returns the
+// place after it.
 fn add_last<T: LineTeller>(
     alloc: Global,
     teller: &T,
@@ -100,8 +100,8 @@ fn add_last<T: LineTeller>(
     }
 }
 
-// Answers what is held at the end of a list as its last line, unless nothing is, and refuses a list
-// that may not end after it.
+// Processes what is held at the end of a list as its last line, unless it is empty, and rejects a
+// list that may not end after it.
 pub fn add_end<T: LineTeller>(
     alloc: Global,
     teller: &T,

@@ -1,12 +1,12 @@
-//! Where a line stands in a list.
+//! The place of a line in a list.
 ghost use Rattle.std.specs.Prelude.{◌≡◌, ◌+◌, IfErr, IfOk};
 ghost use Rattle.mcg6_reader.specs.Common.{is_header, is_header_line, first_place, place_after};
 ghost use Rattle.mcg6_reader.specs.declared.ending.ListStop.TheVariants.{Memory};
 
 use crate::ending::ListStop;
 
-/// Where a line stands in a list: its number, counted from 1, and how many lines stand before it
-/// that are not the header alone.
+/// The place of a line in a list: its number, counted from 1, and how many lines before it are not
+/// just the header.
 #[derive(Clone, Copy, Debug, PartialEq, Eq)]
 pub struct LinePlace {
     pub number: u64,
@@ -20,7 +20,7 @@ const HEADER_RETURNED: &[u8; 12] = b">>graph6<<\r\n";
 
 const HEADER: &[u8; 10] = b">>graph6<<";
 
-// Whether the line is the header alone.
+// Whether the line is just the header.
 fn is_header_line(line: &[u8]) -> bool
     ensures { result ≡ is_header_line line.now }
 {
@@ -29,7 +29,7 @@ fn is_header_line(line: &[u8]) -> bool
         || line == HEADER.as_slice()
 }
 
-// Whether the line with that number is the first and the header alone.
+// Whether the line with that number is the first line and just the header.
 pub fn is_header(number: u64, line: &[u8]) -> bool
     ensures { result ≡ is_header number line.now }
 {
@@ -46,7 +46,7 @@ pub fn first_place() -> LinePlace
     }
 }
 
-// The place after the line at this place, if its number can be counted.
+// The place after the line at this place, if its number does not overflow.
 #[tactic(auto, unfolding(crate::specs::Places::place_after))]
 pub fn place_after(place: LinePlace, line: &[u8]) -> Result<LinePlace, ListStop>
     ensures next { IfOk result (λ next. next ≡ place_after place line.now) }
@@ -61,7 +61,7 @@ pub fn place_after(place: LinePlace, line: &[u8]) -> Result<LinePlace, ListStop>
     Ok(LinePlace { number, graphs })
 }
 
-// The number after this one, if it can be counted.
+// The next number, if it does not overflow.
 fn next_number(number: u64) -> Result<u64, ListStop>
     ensures next { IfOk result (λ next. next ≡ number + 1) }
     ensures memory { IfErr result (λ stop. stop ≡ Memory) }

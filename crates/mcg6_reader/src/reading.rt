@@ -1,4 +1,4 @@
-//! Reading a list and answering its lines.
+//! Reading a list and processing its lines.
 ghost use Rattle.std.specs.Prelude.{◌≡◌, ◌≢◌, ◌≤◌, ◌<◌, ◌++◌, ℕ, List, OnOk, IfErr, Some, length};
 ghost use Rattle.outside.specs.Common.{Rose, most_line};
 ghost use Rattle.mcg6_reader.specs.Common.{HasNoFeed, lines_of, first_place, Appended, Gives, ToldThrough, StopsWith, TellsList, ReadsTold, Wrote, WroteUpTo, IsStream};
@@ -13,7 +13,7 @@ use std::alloc::Global;
 /// The most bytes of a piece.
 const PIECE: usize = 65536;
 
-// Answers the lines that a further piece makes whole, and writes the answers.
+// Processes the lines that a further piece completes, and writes the outputs.
 fn take_piece<T: LineTeller, K: Sink>(
     alloc: Global,
     teller: &T,
@@ -48,7 +48,7 @@ fn take_piece<T: LineTeller, K: Sink>(
     }
 }
 
-// Answers what is held at the end of the list, and writes the answer.
+// Processes what is held at the end of the list, and writes the output.
 fn take_end<T: LineTeller, K: Sink>(
     alloc: Global,
     teller: &T,
@@ -77,7 +77,7 @@ fn take_end<T: LineTeller, K: Sink>(
     }
 }
 
-// Reads the list through a piece, and answers it.
+// Reads the list through a piece, and processes it.
 fn tell_through<T: LineTeller, S: Source, K: Sink>(
     alloc: Global,
     teller: &T,
@@ -117,13 +117,13 @@ fn tell_through<T: LineTeller, S: Source, K: Sink>(
     Ending::Memory
 }
 
-/// Reads the list that is left of the source to its end, answers each of its lines, and writes what
-/// is answered to the sink: of the lines that a read made whole before the next read. The
-/// first bad line ends it; nothing is written of that one, and the ending says what is found of
-/// it. A line that is too long ends it as soon as more of it was read than a line may have.
+/// Reads the list that is left of the source to its end, processes each of its lines, and writes
+/// the outputs to the sink: those of the lines that a read completed before the next read. The
+/// first bad line ends it; nothing is written for that line, and the ending describes it. A line
+/// that is too long ends it as soon as more of it was read than a line may have.
 ///
-/// Takes memory for a piece, a line, and the answers to the lines of a piece. If memory runs
-/// out, or there are more lines or reads than a u64 counts, it ends with `Memory`.
+/// Takes memory for a piece, a line, and the outputs of the lines of a piece. If memory runs out,
+/// or there are more lines or reads than a u64 counts, it ends with `Memory`.
 #[tactic(auto, using(crate::proofs::Readings::untouched, crate::proofs::LeftBytes::told_list, crate::proofs::Stages::unread))]
 pub fn tell_all<T: LineTeller, S: Source, K: Sink>(
     alloc: Global,
@@ -131,24 +131,25 @@ pub fn tell_all<T: LineTeller, S: Source, K: Sink>(
     source: &mut S,
     sink: &mut K,
 ) -> Ending
-    // After each read, all lines that are whole in what was read are answered and written before
-    // the next read; no write follows one that failed, and no read or write follows a read that
-    // failed.
+    // After each read, all lines that are complete in what was read are processed and written
+    // before the next read; no write follows one that failed, and no read or write follows a read
+    // that failed.
     ensures streams { IsStream (T.tells teller.now) (T.bad teller.now) (T.lacks teller.now) S.reads
         K.written K.writes result source.old sink.old source.new sink.new }
-    // What was written is what the lines of the list give up to this ending, in whatever pieces
-    // it was read.
+    // The output is what the lines of the list give up to this ending, in whatever pieces it was
+    // read.
     ensures gives { (bytes : List ℕ) → S.left source.old ≡ Some bytes
         → Appended (Gives (T.tells teller.now) (T.bad teller.now) (T.lacks teller.now) first_place
         (lines_of bytes) result) (K.written sink.old) (K.written sink.new) }
-    // If the source does not make known what is left, it is what the lines of some list give.
+    // If the source does not make known what is left, the output is what the lines of some list
+    // give.
     ensures tells { TellsList (T.tells teller.now) (T.bad teller.now) (T.lacks teller.now) result
         (S.left source.old) (K.written sink.old) (K.written sink.new) }
-    // If the source fails, each whole line of what was read is answered and written.
+    // If the source fails, each complete line of what was read is processed and written.
     ensures torn { result ≡ Ending.ReadFault
         → Appended (ReadsTold (T.tells teller.now) (S.left source.old) (S.left source.new))
         (K.written sink.old) (K.written sink.new) }
-    // A fault of the outside comes only if its count rose in this call.
+    // An error of the source or the sink comes only if its count rose in this call.
     ensures read_fault { result ≡ Ending.ReadFault →
         Rose (S.faults source.old) (S.faults source.new) }
     ensures write_fault { result ≡ Ending.WriteFault →

@@ -1,4 +1,4 @@
-//! What answers the lines of a list.
+//! A teller maps the lines of a list to their outputs.
 ghost use Rattle.std.specs.Prelude.{◌≡◌, ℕ, List, IfOk};
 ghost use Rattle.std.specs.declared.option.Option.{Option};
 ghost use Rattle.line_text.specs.declared.faults.FaultKind.{FaultKind};
@@ -9,33 +9,33 @@ use crate::place::LinePlace;
 use line_text::FaultKind;
 use std::alloc::{AllocError as Memory, Global};
 
-/// The answer to a line.
+/// The result for a line.
 #[derive(Drop)]
 pub enum LineAnswer {
-    /// These bytes are its output.
+    /// Its output is these bytes.
     Output { bytes: Vec<u8> },
-    /// It is bad: a fault of this kind is its first.
+    /// It is bad, and its first error is of this kind.
     Bad { kind: FaultKind },
 }
 
-/// What answers the lines of a list, each by itself and its place.
+/// A teller maps each line of a list, with its place, to an output or an error.
 pub trait LineTeller {
     /// The line at this place has this output. A line holds its line feed, if it has one.
     ghost tells: { Self → LinePlace → List ℕ → List ℕ → Type 0 };
 
-    /// The line at this place is bad, with a first fault of this kind.
+    /// The line at this place is bad, with a first error of this kind.
     ghost bad: { Self → LinePlace → List ℕ → FaultKind → Type 0 };
 
-    /// The kind of the fault that a list has which ends after so many graphs, if it has one.
+    /// The kind of the error of a list that ends after so many graphs, if it is one.
     ghost lacks: { Self → ℕ → Option FaultKind };
 
-    /// The output of a line, or the kind of its first fault.
+    /// The output of a line, or the kind of its first error.
     fn tell(&self, alloc: Global, place: LinePlace, line: &[u8]) -> Result<LineAnswer, Memory>
         ensures { IfOk result
             (IsToldAs (tells self.now place line.now) (bad self.now place line.now)) };
 
-    /// The kind of the fault of a list that ends after so many lines other than the header, if it
-    /// has one.
+    /// The kind of the error of a list that ends after so many lines other than the header, if it
+    /// is one.
     fn fault_at_end(&self, graphs: u64) -> Option<FaultKind>
         ensures { result ≡ lacks self.now graphs };
 }

@@ -1,4 +1,4 @@
-//! Answering the lines of a text.
+//! Processing the lines of a text.
 ghost use Rattle.std.specs.Prelude.{◌≡◌, IfOk, IfErr, OnOk};
 ghost use Rattle.mcg6_reader.specs.declared.ending.Ending.TheVariants as ending;
 ghost use Rattle.mcg6_reader.specs.Common.{IfBad, LineTold, NamesBad, HasNoFeed, Added, ToldThrough, StopsWith};
@@ -11,7 +11,7 @@ use line_text::FaultKind;
 use outside::MOST_LINE;
 use std::alloc::Global;
 
-// Appends the answer to the line at that place, unless the line is bad.
+// Appends the output of the line at that place, unless the line is bad.
 #[tactic(auto, using(crate::proofs::Pieces::told_line, crate::proofs::Pieces::told_header, crate::proofs::Pieces::names_long, crate::proofs::Pieces::names_bad))]
 pub fn tell_line<T: LineTeller>(
     alloc: Global,
@@ -42,7 +42,7 @@ pub fn tell_line<T: LineTeller>(
     }
 }
 
-// Answers the whole lines of a text, of which the first stands at that place; answers the place of
+// Processes the complete lines of a text, the first of which is at that place; returns the place of
 // the next line, and what is left of the text after its last line feed.
 pub fn tell_lines<'a, T: LineTeller>(
     alloc: Global,

@@ -1,10 +1,9 @@
--- Two lists side by side, and orders: lists of numbers that hold k + 1 to k + n once each and no
--- other number.
+-- Two lists side by side, and orders: lists that contain k + 1 to k + n once each and nothing else.
 use Rattle.std.proofs.Common.{◌≡◌, ℕ, suc, zero, ◌+◌, ◌≤◌, ◌<◌, cond, List, [], ◌∷◌, ◌++◌, length, ◌⊎◌, inl, inr, refl, sym, ap, ap₂, ◌∙◌, arith, eq-eqb, ne_eqb, slice_index, slice_index_or}
 use Rattle.counting.proofs.Common.{cases_lt, bit, times}
 use Rattle.tree_core.proofs.Common.{numbers, position}
 
--- numbers and partitions side by side, each two related by R
+-- numbers and partitions side by side, any two related by R
 abbrev pub Aligned : (ℕ → List (List ℕ) → Type 0) → List ℕ → List (List (List ℕ)) → Type 0
 Aligned R [] [] = Unit {0}
 Aligned R [] (q ∷ qs) = ⊥
@@ -45,7 +44,7 @@ mem-times [] k l = absurd (omega arith)
 mem-times (j ∷ o) zero l = let z = ap bit (eq-eqb j j refl) in omega arith
 mem-times (j ∷ o) (suc k) l = let a = mem-times o k (omega arith) in omega arith
 
--- where no number stands twice, each stands at its position
+-- if no number occurs twice, each is at its position
 pub position-once : (o : List ℕ) (k : ℕ) → ((i : ℕ) → times o i ≤ 1) → k < length o → position o (slice_index o k) ≡ k + 1
 position-once [] k h l = absurd (omega arith)
 position-once (j ∷ o) zero h l = ap (λ b. cond b 1 (position o j + 1)) (eq-eqb j j refl)
@@ -55,7 +54,7 @@ position-once (j ∷ o) (suc k) h l =
     let r = position-once o k (λ i. let a = h i in omega arith) (omega arith) in
     ap (λ b. cond b 1 (position o (slice_index o k) + 1)) (ne_eqb j (slice_index o k) d) ∙ ap (λ z. z + 1) r ∙ (let e : k + 1 + 1 ≡ suc k + 1 = omega arith in e)
 
--- k + 1 to k + n stand in the list once each, and no other number
+-- the numbers k + 1 to k + n occur in the list once each, and no others do
 pub record IsOrder (k n : ℕ) (o : List ℕ) : Type 0 where
   pub once : (i : ℕ) → k < i → i ≤ k + n → times o i ≡ 1
   pub none : (i : ℕ) → (i ≤ k) ⊎ (k + n < i) → times o i ≡ 0

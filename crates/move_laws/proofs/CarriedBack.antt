@@ -10,8 +10,8 @@ use Rattle.move_laws.proofs.Rising.{rising-derivation_at}
 use Rattle.move_laws.proofs.Switches.{Each, each_up, same_cut}
 use Rattle.move_laws.specs.Common.{Isomorphism, carry, carry_cut, AreRising}
 
--- where the shores of a tree stand, each is a canonical union of blocks of the partition at its
--- root, and a rising list
+-- at the node of each shore of a tree, the shore is a canonical union of blocks of the partition at
+-- its root, and an increasing list
 each-stands : (n : ℕ) (p : List (List ℕ)) (t : Shape) → IsPartition n p → Fits n t → StandsAt n p t → Each n p t × AreRising n t
 each-stands n p leaf pp fits stands = (tt, tt)
 each-stands n p (cut x k m) pp fits stands =
@@ -67,7 +67,7 @@ module _ (g : Graph) (p q : List (List ℕ)) (h k : ℕ → ℕ) (iso : Isomorph
   twice_at leaf rises each = refl
   twice_at (cut x a b) rises each = twice_node x a b rises.0 each.0 each.1 (twice_at a rises.1 each.2) (twice_at b rises.2 each.3)
 
--- a tree whose shores stand at p is carried back to itself
+-- a tree whose shores are unions of blocks at p is carried back to itself
 pub carried_twice : (g : Graph) (p q : List (List ℕ)) (h k : ℕ → ℕ) → Isomorphism g p q h k → IsPartition g.order p → (t : Shape) → Fits g.order t → StandsAt g.order p t → carry g.order h (carry g.order k t) ≡ t
 carried_twice g p q h k iso pp leaf fits stands = refl
 carried_twice g p q h k iso pp (cut x a b) fits stands =

@@ -47,7 +47,7 @@ iso_merged g is p q h k pp qp iso x y ux uy sx sy nx ny e = record {
     my : IsMerge g.order q (mem y) (merged q y)
     my = merged_merges g.order q y qp uy ny (bounds sy)
 
--- some vertex is in a set that holds a block
+-- some vertex is in a set that contains a block
 pub some_of : (n : ℕ) (p : List (List ℕ)) → AreBlocks n p → (x : Set) → IsUnion n p x → 1 ≤ block_count p x → Some n x
 some_of n p pp x u h =
     let r = some_term (length p) (λ i. bit (blocks_in p x i)) (omega (arith, h)) in
@@ -80,7 +80,7 @@ nontrivial_congr n p pp x y u h t =
     let i = t.inside in let o = t.outside in
     record { inside = omega arith; outside = omega arith }
 
--- ys at q is the image of xs at p: both are tight rising lists, and not empty
+-- ys at q is the image of xs at p: both are tight increasing lists, and not empty
 pub record IsImage (g : Graph) (p q : List (List ℕ)) (k : ℕ → ℕ) (xs ys : List ℕ) : Type 0 where
   pub tight : IsTightAt g p (mem xs)
   pub image_tight : IsTightAt g q (mem ys)
@@ -140,8 +140,8 @@ module _ (g : Graph) (is : IsGraph g) (h k : ℕ → ℕ) (p q : List (List ℕ)
     rest-rises : IsRisingIn g.order rest
     rest-rises = rising_list-rises g.order (λ v. not (mem x (k v)))
 
-    -- the image is the shore of the carried cut where the greatest vertex is in no image, and
-    -- else the complement is
+    -- the image is the shore of the carried cut where the highest-numbered vertex is in no image,
+    -- and else the complement is
     pub image-cut : mem x (k g.order) ≡ false → IsCutAt g q image
     image-cut off = record { set = image-rises; tight = image_is_tight; nontrivial = image_is_nontrivial; canonical = image-mem g.order greatest ∙ off }
 

@@ -1,5 +1,5 @@
--- Merges of apart or nested unions of blocks commute: the order of the two changes no pair of
--- vertices that share a block.
+-- Merges of disjoint or nested unions of blocks commute: the partition after both does not depend
+-- on their order.
 use Rattle.std.proofs.Common.{Bool, List, false, inl, inr, refl, sym, true, ℕ, ◌∙◌, ◌≡◌}
 use Rattle.counting.proofs.Common.{both_ways, cases_Bool, Within, Set}
 use Rattle.graph_core.proofs.Common.{Below, alike_down, alike_in, alike_up, same_side, Finer, AreBlocks, IsMerge, place, IsUnion}

@@ -1,5 +1,5 @@
 -- Exposing a shore that crosses the root shore: the inner and the outer corner are exposed first
--- where they are no single blocks, a Switch exchanges them, and Rotate brings the shore back over
+-- unless they are single blocks, a Switch exchanges them, and Rotate brings the shore back above
 -- both.
 use Rattle.std.proofs.Common.{Bool, List, None, Some, ap, arith, cond, false, if◌then◌else◌, inl, inr, not, refl, sym, true, ℕ, ◌&&◌, ◌∙◌, ◌≡◌, Option}
 use Rattle.counting.proofs.Common.{odd-add, Within, is_odd, IsRisingIn, mem, meet, minus}

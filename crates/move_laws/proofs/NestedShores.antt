@@ -1,5 +1,5 @@
--- Exposing a shore that is nested with the root shore or apart from it: it is exposed in the
--- child that holds it, and Rotate brings it over the root shore.
+-- Exposing a shore that is nested with the root shore or disjoint from it: it is exposed in the
+-- child that contains it, and Rotate brings it above the root shore.
 use Rattle.move_laws.specs.Common.{AreRising, IsProperScript}
 use Rattle.std.proofs.Common.{Bool, List, None, Some, [], ap, arith, cond, false, if◌then◌else◌, inl, inr, length, map, not, refl, subst, suc, sym, true, zero, ℕ, ◌&&◌, ◌*◌, ◌++◌, ◌+◌, ◌∙◌, ◌∷◌, ◌≡◌, ◌≤◌, ◌⊎◌}
 use Rattle.counting.proofs.Common.{and_parts, both_ways, cases_Bool, not-true, odd-add, same_rising_list, true_all_in, all_in_true, some_none, some_true, same_tests, Within, is_odd, is_apart, is_subset, mem, Set, everything, meet, minus, some}

@@ -1,5 +1,5 @@
--- A crossing shore is brought over the outer corner: where this is one block at once, and else
--- after it was brought to the root of `merged`, and back over it.
+-- A crossing shore is brought above the outer corner: at once if this is one block, otherwise after
+-- it was brought to the root of `merged`, and back above it.
 use Rattle.std.proofs.Common.{Bool, List, None, Some, [], ap, arith, false, if◌then◌else◌, inl, inr, length, map, not, refl, subst, sym, true, ℕ, ◌*◌, ◌++◌, ◌+◌, ◌||◌, ◌∙◌, ◌∷◌, ◌≡◌, ◌≤◌, Option, option_and_then, option_map}
 use Rattle.counting.proofs.Common.{rising_list-rises, true_all_in, all_in_false, nor_left, nor_right, Within, IsRisingIn, is_subset, mem, complement, union}
 use Rattle.graph_core.proofs.Common.{mem-complement_of, Apart, Graph, complement_of, merged}

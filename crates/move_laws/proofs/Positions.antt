@@ -1,10 +1,10 @@
--- The position of a number in a list: it is one where the number stands, and the only one where
--- the list has no number twice.
+-- The position of a number in a list: the number is there, and this is the only one if the list has
+-- no number twice.
 use Rattle.std.proofs.Common.{◌≡◌, ℕ, suc, zero, ◌+◌, ◌-◌, Bool, true, false, cond, ◌==◌, ◌||◌, List, [], ◌∷◌, length, refl, sym, ap, ◌∙◌, arith, eqb-true, slice_index}
 use Rattle.counting.proofs.Common.{both_ways, Within, mem}
 use Rattle.tree_core.proofs.Common.{position}
 
--- a number of the list stands at its place
+-- a number of the list is at its place
 pub position-item : (xs : List ℕ) (j : ℕ) → mem xs j ≡ true → Within (length xs) (position xs j) × (slice_index xs (position xs j - 1) ≡ j)
 position-item [] j h = absurd (both_ways false refl h)
 position-item (x ∷ xs) j h = go (position-item xs j) (x == j) refl h

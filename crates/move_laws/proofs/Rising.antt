@@ -1,4 +1,6 @@
--- Shores as rising lists within 1 to n, at each node of a tree. A derivation has no others.
+-- Shores as increasing lists within 1 to n, at each node of a tree. A derivation has no others.
+-- Idea: each node of a derivation has a canonical shore, which is increasing, by induction over the
+-- tree.
 use Rattle.move_laws.specs.Common.{AreRising}
 use Rattle.std.proofs.Common.{List, true, ℕ, ◌≡◌}
 use Rattle.counting.proofs.Common.{mem-within, Within, IsRisingIn, mem}

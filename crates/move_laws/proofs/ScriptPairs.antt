@@ -1,5 +1,5 @@
--- The maps of a script pair the leaves: those of no move do, and a pairing followed by the
--- pairing of a move is a pairing.
+-- The maps of a script pair the leaves: those of the empty script do, and a pairing composed with
+-- the pairing of a move is a pairing.
 use Rattle.move_laws.specs.Common.{AreRising, IsProperScript, IsPairing, IsSameLeaf, image}
 use Rattle.std.proofs.Common.{◌≡◌, ℕ, ◌-◌, ◌<◌, Bool, true, ◌==◌, List, [], ◌∷◌, length, map, unwrap_or, sym, ap, ap₂, ◌∙◌, arith, eq-eqb, ne_eqb, eqb-true, subst}
 use Rattle.counting.proofs.Common.{get_or-map, length-map, bit_true, count_congr, only_one, some_term, total_at, Within, bit, count, last_of}

@@ -44,7 +44,7 @@ block_closed n r rp i wi u v wu wv e = same_tests (mem (block r i) u) (mem (bloc
     goes_over : (u v : ℕ) → Within n u → Within n v → place r u ≡ place r v → mem (block r i) u ≡ true → mem (block r i) v ≡ true
     goes_over u v wu wv e m = ap (λ z. mem (block r z) v) (place_is n r rp u i wu wi m ∙ e) ∙ (place_in n r rp v wv).1
 
--- a rising list with the vertices that the map back takes into the block is its image
+-- an increasing list with the vertices that the map back takes into the block is its image
 names_from : (g : Graph) → IsGraph g → (h f : ℕ → ℕ) (image_of : List ℕ → List ℕ) (base : List (List ℕ)) → ((b : List ℕ) → IsRisingIn g.order (image_of b)) →
     ((b : List ℕ) → ((u v : ℕ) → Within g.order u → Within g.order v → place base u ≡ place base v → mem b u ≡ mem b v) → (w : ℕ) → Within g.order w → mem (image_of b) w ≡ mem b (f w)) →
     NamesImages g h f (λ b. last_of (image_of b)) base

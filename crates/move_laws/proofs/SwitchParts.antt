@@ -78,7 +78,7 @@ module _ (g : Graph) (p : List (List ℕ)) (stage : Stage g p) (x u v : List ℕ
       on : (x v : Bool) → x ≡ false → v ≡ false → (not x && not v) ≡ true
       on x v h k = grind arith
 
-  -- the Switch with the greatest vertex in v
+  -- the Switch with the highest-numbered vertex in v
   pub switch_part_v : (k : ℕ) (a b : Shape) → AreRising g.order (cut x a b) → IsDerivationAt g p (cut x a b) → mem v g.order ≡ true → Big g p (union_list g.order (outer_rest g.order x v) u) →
       Part g k (leaves_at g.order p (cut x a b)) (leaves_at g.order p (cut (union_list g.order (outer_rest g.order x v) u) (merged_if_greatest_comes g.order x u b) (kept_if_greatest_comes g.order x u v a)))
       (numbers (k + leaf_count a) (leaf_count b) ++ numbers k (leaf_count a)) (switch_names g.order u v p (cut x a b))

@@ -1,4 +1,5 @@
--- A proper Switch keeps derivations: its four rules say how the exchange law carries the trees.
+-- A proper Switch keeps derivations. Idea: in each of its four rows the exchange law gives
+-- partitions that are the same leaf, and the subtrees are carried along the names of the blocks.
 use Rattle.move_laws.specs.Common.{AreRising, Corner, Isomorphism, carry, carry_cut}
 use Rattle.std.proofs.Common.{Bool, List, ap, ap₂, arith, cond, false, if◌then◌else◌, inl, inr, not, refl, subst, sym, true, ℕ, ◌&&◌, ◌||◌, ◌∙◌, ◌≡◌}
 use Rattle.counting.proofs.Common.{both_ways, cases_Bool, mem-rising_list, rising_list-rises, same_rising_list, true_all_in, all_in_true, Within, IsRisingIn, all_in, is_subset, mem, rising_list, Set, minus, union}

@@ -8,7 +8,7 @@ use Rattle.tree_core.specs.declared.path.Side.TheVariants.{Merged}
 use Rattle.move_laws.proofs.Rising.{bounds}
 use Rattle.move_laws.specs.Common.{carry, carry_cut, AreRising}
 
--- a carried tree has rising shores, and as many cuts
+-- a carried tree has increasing shores, and as many cuts
 pub fits_carry : (n : ℕ) (k : ℕ → ℕ) (t : Shape) → AreRising n (carry n k t) × (cut_count (carry n k t) ≡ cut_count t)
 fits_carry n k leaf = (tt, refl)
 fits_carry n k (cut x a b) = go (mem x (k n)) (fits_carry n k a) (fits_carry n k b)

@@ -5,8 +5,8 @@ use Rattle.counting.specs.Common.{Within, Set, union, minus, complement}
 use Rattle.graph_core.specs.Common.{Graph, IsTightAt}
 use Rattle.tree_core.specs.Common.{IsBlockOf}
 
--- a tight shore x with a block u inside and a block v outside, such that u with all that is
--- outside x and v is tight too
+-- a tight shore x with a block u inside and a block v outside, such that the set of u and
+-- everything outside x and v is tight too
 pub record Corner (g : Graph) (p : List (List ℕ)) (x u v : Set) (s t : ℕ) : Type 0 where
   pub shore : IsTightAt g p x
   pub left : IsBlockOf g.order p u s

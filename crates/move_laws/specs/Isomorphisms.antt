@@ -1,5 +1,5 @@
 -- Two partitions of one graph with the same adjacency of blocks, by a map of vertices in each
--- direction; the images of shores; and trees of cuts carried along.
+-- direction; the images of shores; and trees of cuts carried along these maps.
 -- Stated by: move_laws.
 use Rattle.std.specs.Prelude.{◌≡◌, ℕ, ◌≢◌, Bool, List, not, cond, ◌⊎◌}
 use Rattle.counting.specs.Common.{Within, Set, mem, rising_list}
@@ -18,7 +18,7 @@ pub record OneWay (g : Graph) (p q : List (List ℕ)) (h k : ℕ → ℕ) : Type
   pub again : (v : ℕ) → Within g.order v → place p (k (h v)) ≡ place p v
   pub edges : (e : ℕ) → Within (size g) e → place p (first_end g e) ≢ place p (second_end g e) → (f : ℕ) × Within (size g) f × EndsAt g q f (place q (h (first_end g e))) (place q (h (second_end g e)))
 
--- both ways: the two are the same leaf
+-- in both directions: the two are the same leaf
 pub record Isomorphism (g : Graph) (p q : List (List ℕ)) (h k : ℕ → ℕ) : Type 0 where
   pub there : OneWay g p q h k
   pub back : OneWay g q p k h
@@ -33,7 +33,7 @@ abbrev pub carry_cut : ℕ → (ℕ → ℕ) → List ℕ → Bool → Shape →
 carry_cut n k x t a b = cond t (cut (rising_list n (λ v. not (mem x (k v)))) b a) (cut (rising_list n (λ v. mem x (k v))) a b)
 
 -- the tree with each shore replaced by the canonical one of its image and the image's complement,
--- and the two trees exchanged where the complement is taken
+-- and the two subtrees exchanged if the complement is taken
 abbrev pub carry : ℕ → (ℕ → ℕ) → Shape → Shape
 carry n k leaf = leaf
 carry n k (cut x a b) = carry_cut n k x (mem x (k n)) (carry n k a) (carry n k b)

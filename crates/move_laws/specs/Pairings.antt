@@ -1,5 +1,5 @@
--- Paired derivations: a one-to-one pairing of two lists of leaves, with names that make each two
--- partners the same leaf.
+-- Paired derivations: a one-to-one pairing of two lists of leaves, with names by which partners are
+-- the same leaf.
 -- Stated by: move_laws, uncross. Rests on it: mcg6_lines, bench_outcomes, theorems.
 use Rattle.std.specs.Prelude.{◌≡◌, ℕ, ◌==◌, List, length}
 use Rattle.counting.specs.Common.{count, Within}
@@ -7,7 +7,7 @@ use Rattle.graph_core.specs.Common.{Graph}
 use Rattle.tree_core.specs.Common.{PlainLeafMap, map_at, leaf_at}
 use Rattle.move_laws.specs.SameLeaf.{IsSameLeaf}
 
--- one entry for each leaf of the first list, its places those of the second, each once, and its
+-- one entry for each leaf of the first list; its places are those of the second, each once, and its
 -- names make the two the same leaf
 pub record IsPairing (g : Graph) (ps qs : List (List (List ℕ))) (maps : List PlainLeafMap) : Type 0 where
   pub one_each : length maps ≡ length ps

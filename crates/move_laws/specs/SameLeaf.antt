@@ -1,5 +1,5 @@
--- One leaf under names of blocks: two partitions of one graph whose blocks correspond so that
--- adjacency is kept (Lovász 1987, "up to multiplicities of edges").
+-- The same leaf under names of blocks: two partitions of one graph whose blocks correspond so that
+-- adjacency is preserved (Lovász 1987, "up to multiplicities of edges").
 -- Stated by: move_laws. Rests on it: uncross, mcg6_lines, theorems.
 use Rattle.std.specs.Prelude.{◌≡◌, ℕ, ◌==◌, List, length, map}
 use Rattle.counting.specs.Common.{count, Within, last_of, mem, rising_list}
@@ -10,8 +10,8 @@ use Rattle.tree_core.specs.Common.{name, position}
 abbrev pub image : List (List ℕ) → List ℕ → ℕ → ℕ
 image q names i = place q (name names i)
 
--- the names give each block of p, in order, a block of q, each block of q once, and keep
--- adjacency both ways
+-- the names give each block of p, in order, a block of q, each block of q once, and preserve
+-- adjacency in both directions
 pub record IsSameLeaf (g : Graph) (p q : List (List ℕ)) (names : List ℕ) : Type 0 where
   pub one_each : length names ≡ length p
   pub named : (i : ℕ) → Within (length p) i → Within (length q) (image q names i) × (last_of (block q (image q names i)) ≡ name names i)
@@ -26,11 +26,11 @@ to_name p names v = name names (place p v)
 abbrev pub from_name : (p q : List (List ℕ)) → List ℕ → ℕ → ℕ
 from_name p q names v = last_of (block p (position (map (place q) names) (place q v)))
 
--- the names turned round: for each block of q the name of the block of p that the names take to it
+-- the inverse names: for each block of q the name of the block of p that the names take to it
 abbrev pub turned_names : (p q : List (List ℕ)) → List ℕ → List ℕ
 turned_names p q names = map (λ b. from_name p q names (last_of b)) q
 
--- the image of a set of blocks of p: the vertices in the blocks of q that the names give those in x
+-- the image of a set of blocks of p: the vertices in the blocks of q that correspond to blocks in x
 abbrev pub image_shore : ℕ → (p q : List (List ℕ)) → List ℕ → List ℕ → List ℕ
 image_shore n p q names x = rising_list n (λ v. mem x (from_name p q names v))
 

@@ -5,7 +5,7 @@ use Rattle.counting.specs.Common.{IsRisingIn}
 use Rattle.graph_core.specs.Common.{Graph}
 use Rattle.tree_core.specs.Common.{IsDerivationAt, IsProper, PlainMove, move_result, Shape, leaf, cut, cut_count}
 
--- the shore of each node is a rising list within 1 to n
+-- the shore of each node is an increasing list within 1 to n
 abbrev pub AreRising : ℕ → Shape → Type 0
 AreRising n leaf = Unit {0}
 AreRising n (cut x a b) = IsRisingIn n x × AreRising n a × AreRising n b

@@ -1,5 +1,5 @@
--- How a shore is brought to the root of a tree of cuts, from its two trees in which corners were
--- brought to the root before: partial functions on plain trees, with the moves that they make.
+-- How a shore is brought to the root of a tree of cuts, after corners were brought to the roots of
+-- its two subtrees: partial functions on plain trees, with the moves that they make.
 -- Stated by: uncross. Rests on it: move_laws.
 use Rattle.std.specs.Prelude.{ℕ, List, [], ◌∷◌, ◌++◌, map, Option, Some, None, option_map, option_and_then, if◌then◌else◌}
 use Rattle.counting.specs.Common.{is_subset}
@@ -24,16 +24,16 @@ switched n u v t = option_map (λ r. record { tree = r; moves = switch_at [] u v
 abbrev pub followed : List PlainMove → Option PlainTurned → Option PlainTurned
 followed ms t = option_map (λ r. record { tree = r.tree; moves = ms ++ r.moves }) t
 
--- the tree `kept` turned, and its new root brought over x
+-- the tree `kept` turned, and its new root brought above x
 abbrev pub raised_kept : List ℕ → PlainTurned → Shape → Option PlainTurned
 raised_kept x k b = followed (map (below Kept) k.moves) (raised Kept (cut x k.tree b))
 
--- the tree `merged` turned, and its new root brought over x
+-- the tree `merged` turned, and its new root brought above x
 abbrev pub raised_merged : List ℕ → Shape → PlainTurned → Option PlainTurned
 raised_merged x a m = followed (map (below Merged) m.moves) (raised Merged (cut x a m.tree))
 
 -- with the outer corner, or its complement, at the root: u and v are exchanged in the child that
--- holds x, and its new root is brought up
+-- contains x, and its new root is brought up
 abbrev pub switched_below : ℕ → (x u v : List ℕ) → Shape → Option PlainTurned
 switched_below n x u v leaf = None
 switched_below n x u v (cut top c d) =
@@ -47,7 +47,7 @@ abbrev pub over_outer : ℕ → (x u v : List ℕ) → Shape → Shape → Optio
 over_outer n x u v a b None = switched n u v (cut x a b)
 over_outer n x u v a b (Some ms) = option_and_then (λ r. followed r.moves (switched_below n x u v r.tree)) (raised_merged x a (record { tree = b; moves = ms }))
 
--- with the inner corner at the root: the same in the child that holds x, and its new root is
+-- with the inner corner at the root: the same in the child that contains x, and its new root is
 -- brought up
 abbrev pub outer_below : ℕ → (x u v : List ℕ) → Option (List PlainMove) → Shape → Option PlainTurned
 outer_below n x u v moved leaf = None

@@ -1,4 +1,4 @@
-//! Laws of moves on derivations. Each is the contract of a function that does nothing.
+//! Laws of moves on derivations. Each law is the contract of a function that does nothing.
 ghost use Rattle.std.specs.Prelude.{◌≡◌, ◌+◌, ◌*◌, ◌<◌, ◌≤◌, ◌↔◌, ℕ, Some, List, [], length, map};
 ghost use Rattle.counting.specs.Common.{Within, IsRisingIn, last_of, mem, Set};
 ghost use Rattle.graph_core.specs.Common.{IsCovered, Graph, IsGraph, IsPartition, contracted, merged, singles, IsTightAt, IsUnion, blocks_in, IsNontrivial};
@@ -6,11 +6,11 @@ ghost use Rattle.tree_core.specs.Common.{IsCutAt, IsDerivation, IsDerivationAt, 
 ghost use Rattle.tree_core.specs.declared.path.Side.{Side};
 ghost use Rattle.move_laws.specs.Common.{Corner, carry, pre, IsPairing, IsSameLeaf, from_name, image_shore, merged_names, to_name, turned_names};
 
-/// Exchange (Lovász 1987, in the form of two single blocks): let x be a tight shore at p, u a
-/// block inside and v a block outside, such that u with the rest of the outside is tight too.
-/// Then the partition with the complement of x merged and that with the new shore merged are the
-/// same leaf, and so are the two others, by the names of the images that the maps of moves give.
-/// Neither shore need be nontrivial, nor be without the greatest vertex.
+/// Exchange (Lovász 1987, for two single blocks): let x be a tight shore at p, u a block inside and
+/// v a block outside, such that the set of u and all outside blocks but v is tight too. Then the
+/// partition with the complement of x merged and that with the new shore merged are the same leaf,
+/// and so are the two others, by the names of the images that the maps of moves give. The shores
+/// may be trivial, and may contain the highest-numbered vertex.
 pub fn exchange()
     ensures kept { (g : Graph) (p : List (List ℕ)) (x u v : List ℕ) (s t : ℕ) → IsGraph g →
         IsPartition g.order p → IsCovered (contracted g p) →
@@ -29,11 +29,11 @@ pub fn exchange()
 {}
 
 /// Carrying: let two partitions be the same leaf by a list of names. A set of blocks is tight, or
-/// nontrivial, at the one exactly when its image is at the other. A tree is a derivation at the
-/// one exactly when its shores stand there, each without the greatest vertex, and the carried
-/// tree is a derivation at the other: each shore is replaced by the canonical one of its image
-/// and the image's complement, and the two trees change places where the complement is taken.
-/// Carried back, such a tree is what it was.
+/// nontrivial, at the one if and only if its image is so at the other. A tree is a derivation at
+/// the one if and only if its shores are unions of blocks there, each without the highest-numbered
+/// vertex, and the carried tree is a derivation at the other: each shore is replaced by the
+/// canonical one of its image and the image's complement, and the two subtrees change places if the
+/// complement is taken. Carrying such a tree back gives the tree itself.
 pub fn carrying()
     ensures tight { (g : Graph) (p q : List (List ℕ)) (names : List ℕ) (x : Set) → IsGraph g →
         IsPartition g.order p → IsPartition g.order q → IsSameLeaf g p q names →
@@ -53,9 +53,9 @@ pub fn carrying()
         carry g.order (to_name p names) (carry g.order (from_name p q names) t) ≡ t }
 {}
 
-/// Names: let two partitions be the same leaf by a list of names. Then the second and the first
-/// are the same leaf by the names turned round, and after a union of blocks is merged in the one
-/// and its image in the other, the two are the same leaf again.
+/// Names: let two partitions be the same leaf by a list of names. Then the second and the first are
+/// the same leaf by the inverse names. After a union of blocks is merged in the one and its image
+/// in the other, the two are again the same leaf.
 pub fn same_leaves()
     ensures turned { (g : Graph) (p q : List (List ℕ)) (names : List ℕ) → IsGraph g →
         IsPartition g.order p → IsPartition g.order q → IsSameLeaf g p q names →
@@ -67,14 +67,14 @@ pub fn same_leaves()
         (merged_names p (merged p x) (merged q y) names)) }
 {}
 
-/// Rotate takes a derivation to a derivation, wherever it has a result.
+/// Rotate takes a derivation to a derivation, if it has a result.
 pub fn rotate_derives()
     ensures { (g : Graph) (path : List Side) (s t : Shape) → IsGraph g → IsDerivation g s →
         rotate_result path s ≡ Some t → IsDerivation g t }
 {}
 
-/// A proper Switch at the root takes a derivation at p to a derivation at p, if its new shore is
-/// a nontrivial tight shore there.
+/// A proper Switch at the root takes a derivation at p to a derivation at p, if its new shore is a
+/// nontrivial tight shore there.
 pub fn switch_derives()
     ensures { (g : Graph) (p : List (List ℕ)) (s : Shape) (u v z : List ℕ) (a b : Shape) →
         IsGraph g → IsPartition g.order p → IsCovered (contracted g p) → IsDerivationAt g p s →
@@ -90,8 +90,8 @@ pub fn moves_pair()
         (move_maps g.order s m) }
 {}
 
-/// Each canonical nontrivial tight shore of a graph can be brought to the root of each derivation
-/// with c cuts through derivations, by at most 3 c - 2 moves.
+/// In any derivation with c cuts each canonical nontrivial tight shore of the graph can be brought
+/// to the root through derivations, by at most 3 c - 2 moves.
 pub fn exposing()
     ensures { (g : Graph) (s : Shape) (y : List ℕ) → IsGraph g → IsDerivation g s →
         IsCutAt g (singles g.order) y →
@@ -99,8 +99,9 @@ pub fn exposing()
         (length ms + 2 ≤ 3 * cut_count s) }
 {}
 
-/// Uniqueness (Lovász 1987): each derivation with c cuts can be turned into each other of the
-/// graph through derivations, by at most 5 c * c moves, and the leaves of the two are paired.
+/// Uniqueness (Lovász 1987): of two derivations of a graph the first, with c cuts, can be turned
+/// into the second through derivations, by at most 5 c * c moves, and the leaves of the two are
+/// paired.
 pub fn uniqueness()
     ensures turns { (g : Graph) (s t : Shape) → IsGraph g → IsDerivation g s → IsDerivation g t →
         (ms : List PlainMove) × TurnsThrough g s ms t ×

@@ -1,5 +1,5 @@
--- The word of a path writes this path, and the word of a set its vertices: what stands between
--- two commas is the decimal of one vertex.
+-- The word of a path writes this path, and the word of a set its vertices: what comes between two
+-- commas is the decimal of one vertex.
 use Rattle.std.proofs.Common.{◌≡◌, ◌≤◌, ◌<◌, ◌||◌, ◌^◌, not, nat_le, ℕ, suc, List, [], ◌∷◌, Bool, length, map, true, false, refl, ◌∙◌, ap, arith, All}
 use Rattle.std.specs.Fmt.{decimal}
 use Rattle.std.specs.List.{All as AllOf, slice_split}

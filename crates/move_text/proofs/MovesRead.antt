@@ -1,5 +1,5 @@
--- What is read of a text can be written again. Along the lines of a text the moves read so far
--- keep the limits, and their sets are nonempty and rise within 1 to n: each line keeps this,
+-- What is read of a text can be written again. Along the lines of a text the moves read so far keep
+-- the limits, and their sets are nonempty, increasing and within 1 to n: each line keeps this,
 -- since it passed the tests of the table.
 use Rattle.std.proofs.Common.{◌≡◌, ◌≤◌, ◌<◌, ◌==◌, ◌&&◌, ◌||◌, ◌^◌, codes, not, nat_le, if◌then◌else◌, ℕ, List, [], ◌∷◌, ◌++◌, Bool, length, true, false, Option, Some, None, Result, Ok, Err, IfOk, refl, sym, ◌∙◌, ap, subst, arith}
 use Rattle.counting.proofs.Common.{AllByRecursion, list_all, list_any, and_parts, or_parts, not-false, nat_tests, length-map, length-append}
@@ -113,6 +113,6 @@ reached-keeps n reached moves small keeps ends = grind arith
 pub writable-read : (n : ℕ) (text : List ℕ) (moves : List PlainMove) → n < 10 ^ 9 → Stands (move_format n) text moves → IsWritable n moves
 writable-read n text moves small stands = grind (arith, reached-keeps n stands.reached moves small, all-keep n)
 
--- whatever a reader answered
+-- whatever a reader returned
 pub all-read : {X Fault : Type 0} (n : ℕ) (text : List ℕ) (view : X → List PlainMove) (result : Result X Fault) → n ≤ 128 → IfOk result (λ x. Stands (move_format n) text (view x)) → IfOk result (λ x. IsWritable n (view x))
 all-read n text view result few stands = grind (arith, writable-read n text)

@@ -1,4 +1,4 @@
--- What is written of moves is read as these moves. The header leads to no moves, and the line of
+-- The text written for moves is read as these moves. The header leads to no moves, and the line of
 -- a move adds it to the moves before, since no test of the table applies.
 use Rattle.std.proofs.Common.{◌≡◌, ◌+◌, ◌≤◌, ◌<◌, ◌^◌, codes, nat_le, ℕ, List, [], ◌∷◌, ◌++◌, All, length, map, true, false, Some, Ok, refl, ap, subst, arith, append_assoc}
 use Rattle.counting.proofs.Common.{AllByRecursion, list_all, list_any, nat_tests, append-nil, length-append, Within}

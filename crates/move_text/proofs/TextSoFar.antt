@@ -1,4 +1,5 @@
--- The text of moves grows by the line of the next move.
+-- The text of moves grows by the line of the next move. Idea: the lines of the first i + 1 moves
+-- are those of the first i and one more, and what is true of each move is carried along.
 use Rattle.std.proofs.Common.{◌≡◌, ◌+◌, ◌≤◌, ◌<◌, ℕ, zero, suc, List, [], ◌∷◌, get_or, length, map, take, take_all, refl, sym, ap, subst, arith}
 use Rattle.counting.proofs.Common.{AllByRecursion}
 use Rattle.line_text.specs.Common.{written}
@@ -15,7 +16,7 @@ pub moves_text-by_moves : (n : ℕ) (moves : List Move) (i : ℕ) → length mov
 unfolding moves_text
 moves_text-by_moves n moves i done = grind (arith, take_all i moves, map-moves moves)
 
--- what holds of the first moves and of the next
+-- what is true of the first moves and of the next
 all-suc : (P : PlainMove → Type 0) (moves : List Move) (i : ℕ) (m : Move) → i < length moves → get_or moves i m ≡ m → AllByRecursion P (moves_of (take i moves)) → P (move_of m) → AllByRecursion P (moves_of (take (suc i) moves))
 all-suc P [] i m less is each last = absurd (omega arith)
 all-suc P (x ∷ moves) zero m less is each last = (subst (λ (y : Move). P (move_of y)) (sym is) last, tt)

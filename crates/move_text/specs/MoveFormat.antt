@@ -1,7 +1,7 @@
 -- The move format for a graph of order n: a header `m mcg N`, and a line for each move, `rotate
--- PATH` or `switch PATH U V`. A path is a word with a letter for each step, `k` to the `kept`
--- tree and `m` to the `merged` tree; the path of no steps is `.`. U and V are sets of vertices,
--- written in rising order with a comma between each and the next.
+-- PATH` or `switch PATH U V`. A path is a word with a letter for each step, `k` to the `kept` tree
+-- and `m` to the `merged` tree; the empty path is `.`. U and V are sets of vertices, written in
+-- increasing order and separated by commas.
 -- Stated by: move_text, bench_tasks, bench_reports.
 -- Rests on it: bench_outcomes, bench_top, theorems.
 use Rattle.std.specs.Prelude.{ℕ, ◌==◌, ◌&&◌, ◌||◌, not, nat_le, Bool, List, [], ◌∷◌, ◌++◌, length, map, codes, Result, Ok, Err, if◌then◌else◌}
@@ -85,8 +85,8 @@ switch_line n moves path u v =
     ∷ [])
     (moves ++ switch_at (path_of path) (vertices_of u) (vertices_of v) ∷ [])
 
--- a significant line after the header, after these moves: too much after the most moves, a Rotate
--- or a Switch
+-- a significant line after the header, after these moves: an error after the most moves, otherwise
+-- a Rotate or a Switch
 abbrev pub move_line : ℕ → List PlainMove → List (List ℕ) → Result (List PlainMove) FaultKind
 move_line n moves words =
     if nat_le most_moves (length moves) then Err kind.Limit

@@ -1,4 +1,4 @@
--- The text that is written of moves.
+-- The text that is written for moves.
 -- Stated by: move_text.
 -- Rests on it: report_text, bench_outcomes, bench_reports, bench_top, theorems.
 use Rattle.std.specs.Prelude.{ℕ, ◌≤◌, ◌<◌, ◌^◌, List, [], ◌∷◌, ◌++◌, All, codes, length, map}
@@ -31,7 +31,7 @@ abbrev pub behind_commas : List ℕ → List ℕ
 behind_commas [] = []
 behind_commas (v ∷ vertices) = 44 ∷ (decimal v ++ behind_commas vertices)
 
--- the word of a set: its vertices in their order, with a comma between each and the next
+-- the word of a set: its vertices in their order, separated by commas
 abbrev pub set_word : List ℕ → List ℕ
 set_word [] = []
 set_word (v ∷ vertices) = decimal v ++ behind_commas vertices
@@ -56,13 +56,13 @@ abbrev pub HasSets : ℕ → PlainMove → Type 0
 HasSets n (rotate_at path) = Unit {0}
 HasSets n (switch_at path u v) = ((0 < length u) × All (Within n) u) × ((0 < length v) × All (Within n) v)
 
--- the sets of a Switch rise
+-- the sets of a Switch are increasing
 abbrev pub SetsRise : PlainMove → Type 0
 SetsRise (rotate_at path) = Unit {0}
 SetsRise (switch_at path u v) = IsStrictlyIncreasing u × IsStrictlyIncreasing v
 
 -- moves that can be written: there are not too many, their paths are not too long, and their sets
--- are nonempty rising lists of vertices
+-- are nonempty increasing lists of vertices
 pub record IsWritable (n : ℕ) (moves : List PlainMove) : Type 0 where
   pub order : n < 10 ^ 9
   pub few : length moves ≤ most_moves

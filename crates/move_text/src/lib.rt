@@ -1,15 +1,15 @@
 //! Texts of moves on trees of cuts: reading and writing them.
 //!
-//! A text stands for a list of moves by the rules of `specs/MoveFormat`: a header `m mcg N`, and
-//! a line for each move, `rotate PATH` or `switch PATH U V`. `read_moves` answers what a text
-//! stands for, or its first fault, each exactly when the rules say so. `write_moves` writes the
-//! canonical text of `specs/Writing`, and reading it gives the moves again:
-//! `laws::written_moves_stand`. What a text stands for can be written: `laws::read_moves_fit`.
-//! That a move has a result on a tree is not asked here.
+//! A text stands for a list of moves by the rules of `specs/MoveFormat`: a header `m mcg N`, and a
+//! line for each move, `rotate PATH` or `switch PATH U V`. `read_moves` returns what a text stands
+//! for, or its first error, as the rules say. `write_moves` writes the canonical text of
+//! `specs/Writing`, and reading it gives the same moves: `laws::written_moves_stand`. What a text
+//! stands for can be written: `laws::read_moves_fit`. Whether a move has a result on a tree is not
+//! tested here.
 //!
-//! Stands on `line_text` for what a format is and for the reader, on `tree_text`
-//! for lists of vertices and on `tree_core` for moves. The manner of the format is that of the
-//! graph files of the DIMACS challenges (1990 to 1993).
+//! Depends on `line_text` for what a format is and for the reader, on `tree_text` for lists of
+//! vertices and on `tree_core` for moves. The style of the format is that of the graph files of the
+//! DIMACS challenges (1990 to 1993).
 #![tactic(auto)]
 
 pub mod laws;

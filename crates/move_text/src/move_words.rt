@@ -75,8 +75,8 @@ fn side_of(letter: u8) -> Side
     }
 }
 
-/// The numbers that a word writes with commas between them; `None` exactly when a part between
-/// commas is not a number.
+/// The numbers that a word writes, separated by commas; `None` if and only if a part between commas
+/// is not a number.
 pub fn read_vertices(alloc: Global, word: &[u8]) -> Result<Option<Vec<u32>>, Memory>
     ensures { IfOk result
         (λ found. option_map (λ vertices. vertices.items) found ≡ numbers_of (parts_of word.now)) }

@@ -90,8 +90,8 @@ fn push_switch(text: &mut String, path: &Path, u: VSet, v: VSet) -> Result<(), M
     write!(text, "\n")
 }
 
-/// Appends the line that a text of moves has for a move: `rotate PATH`, or `switch PATH U V`
-/// where the sets are those of the move, whatever they are.
+/// Appends the line for a move in a text of moves: `rotate PATH`, or `switch PATH U V` with the
+/// sets of the move, whatever they are.
 pub fn push_move(text: &mut String, item: &Move) -> Result<(), Memory>
     ensures text { OnOk result
         (string_bytes text.new ≡ string_bytes text.old ++
@@ -112,7 +112,7 @@ pub fn push_move(text: &mut String, item: &Move) -> Result<(), Memory>
 /// `rotate PATH` or `switch PATH U V`. There are at most 20,000 moves, each path has at most 127
 /// steps, and the sets are not empty and lie within 1 to `n`.
 ///
-/// Reading the text gives the moves again, and nothing else.
+/// Reading the text gives the same moves, and nothing else.
 pub fn write_moves(alloc: Global, moves: &Moves, n: u32) -> Result<Vec<u8>, Memory>
     requires order { n ≤ 999999999 }
     requires few { length moves.now ≤ most_moves }

@@ -1,6 +1,6 @@
--- A count of faults never falls, so a rise in one call of a chain is a rise over the whole chain,
--- and where a whole chain shows no rise, none of its calls does. All of it is linear arithmetic
--- on the counts.
+-- A count of errors never decreases, so if it increases in one call of a chain, it increases over
+-- the whole chain, and if it does not increase over the whole chain, it does not in any call. All
+-- of it is linear arithmetic on the counts.
 use Rattle.std.proofs.Common.{◌≡◌, ℕ, ◌<◌, arith}
 use Rattle.std.proofs.lemmas.Bool.Decides.{nat_tests}
 use Rattle.outside.specs.Common.{Rose, next_fault, faults_after}

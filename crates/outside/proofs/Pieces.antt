@@ -1,5 +1,5 @@
--- What is written piece by piece is written as one: a piece after a piece is the two joined.
--- The told case is the associativity of lists, the other computes.
+-- What is written piece by piece is written as one: a piece after a piece is the two joined. If the
+-- bytes are known, this is the associativity of lists, otherwise it computes.
 use Rattle.std.proofs.Common.{◌≡◌, ℕ, ◌+◌, ◌-◌, List, [], ◌++◌, length, take, drop, refl, ap, sym, subst, ◌∙◌, arith, append_assoc, length-drop, append-nil, take_all}
 use Rattle.std.proofs.Math.Seq.{take-add}
 use Rattle.std.specs.declared.option.Option.{Option}

@@ -1,5 +1,5 @@
 -- A chain of writes takes one more: the piece that is written is all that is left of the bytes,
--- since nothing stands after it.
+-- since nothing follows it.
 use Rattle.std.proofs.Common.{◌≡◌, ℕ, suc, ◌+◌, ◌-◌, ◌<◌, List, length, take, drop, refl, subst, arith, length-drop, take_all}
 use Rattle.outside.specs.Common.{WritesTake}
 

@@ -1,18 +1,18 @@
--- Counts of faults and of calls, which never fall and stay at their greatest value.
+-- Counts of errors and of calls, which never decrease and saturate at their largest value.
 -- Stated by: outside, mcg6_reader, mcg6_encoder, bench_top, mcg6_top.
 -- Rests on it: front_words, bench_tasks, front_top, mcg6_front_top.
 use Rattle.std.specs.Prelude.{◌≡◌, ℕ, ◌+◌, ◌-◌, ◌^◌, ◌≤◌, ◌⊎◌, ◌==◌, ◌&&◌, min, nat_lt, if◌then◌else◌}
 
--- a count of faults after one more
+-- a count of errors after one more
 abbrev pub next_fault : ℕ → ℕ
 next_fault faults = min (faults + 1) (2 ^ 64 - 1)
 
--- the count of faults after a write that took so many bytes of a piece of that size: one more
--- where none was taken and the piece is not empty
+-- the count of errors after a write that took so many bytes of a piece of that size: one more if
+-- none was taken and the piece is not empty
 abbrev pub faults_after : ℕ → ℕ → ℕ → ℕ
 faults_after faults count size = if count == 0 && nat_lt 0 size then next_fault faults else faults
 
--- at most one fault was counted
+-- at most one error was counted
 abbrev pub MayCount : ℕ → ℕ → Type 0
 MayCount before now = (now ≡ before) ⊎ (now ≡ next_fault before)
 
@@ -20,6 +20,6 @@ MayCount before now = (now ≡ before) ⊎ (now ≡ next_fault before)
 abbrev pub next_call : ℕ → ℕ
 next_call calls = min (calls + 1) (2 ^ 32 - 1)
 
--- the count of faults is greater now than before, or stands at the greatest u64
+-- the count of errors is larger now than before, or has reached the largest u64
 abbrev pub Rose : ℕ → ℕ → Type 0
 Rose before now = next_fault before ≤ now

@@ -1,4 +1,4 @@
--- What a shelf that keeps what it read last has kept.
+-- What a shelf that keeps what it last read has kept.
 -- Stated by: outside.
 use Rattle.std.specs.Prelude.{◌≡◌, ◌⊎◌, ℕ, List, IsOk}
 use Rattle.std.specs.declared.option.Option.{Option}
@@ -13,19 +13,19 @@ use Rattle.outside.specs.declared.shelf.ShelfFault.TheVariants.{Memory}
 abbrev pub bytes_kept : Option (Vec ℕ) → Option (List ℕ)
 bytes_kept kept = option_map (λ bytes. bytes.items) kept
 
--- what is kept after a read of that name, if anything: where the files are told, the file of that
+-- what is kept after a read of that name, if anything: if the files are known, the file of that
 -- name
 abbrev pub IsFileOf : Option (List NamedFile) → List ℕ → Option (List ℕ) → Type 0
 IsFileOf files name None = Unit {0}
 IsFileOf files name (Some bytes) = TellsFile files name (Some bytes)
 
--- the bytes that a read answered, if it gave some
+-- the bytes that a read returned, if any
 abbrev pub bytes_in : Answer → Option (List ℕ)
 bytes_in (Ok bytes) = Some bytes
 bytes_in (Err fault) = None
 
--- a read of that name leads from the first shelf to the second, and leaves this kept, which are
--- the bytes that are given on; memory may run out for the copy of bytes that were given
+-- a read of that name leads from the first shelf to the second, and leaves these bytes kept, which
+-- are the bytes that it returns; memory may run out for the copy
 pub record KeepsRead {S : Type 0} (files : S → Option (List NamedFile)) (reads : S → List ℕ → Answer → S → Type 0) (before : S) (name : List ℕ) (answer : Answer) (now : S) (kept : Option (List ℕ)) : Type 0 where
   pub given : Answer
   pub read : reads before name given now

@@ -8,7 +8,7 @@ use Rattle.outside.specs.Shelf.{Answer, HoldsLonger, NamedFile, file_named}
 use Rattle.outside.specs.declared.shelf.ShelfFault.TheVariants.{Failed, TooLong, Memory}
 
 -- the files; the read calls that are to fail, by their numbers; the counts of calls, of the bytes
--- that the last read took, and of faults
+-- that the last read took, and of errors
 pub record ShelfState : Type 0 where
   pub files : List NamedFile
   pub failing : List ℕ
@@ -16,7 +16,7 @@ pub record ShelfState : Type 0 where
   pub taken : ℕ
   pub faults : ℕ
 
--- the next read of that name fails: its number is kept, or the name is not held
+-- the next read of that name fails: its number is planned, or no file has the name
 abbrev pub FailsNext : ShelfState → List ℕ → Type 0
 FailsNext shelf name = Contains shelf.failing (next_call shelf.calls) ⊎ (file_named name shelf.files ≡ None)
 
@@ -24,16 +24,16 @@ FailsNext shelf name = Contains shelf.failing (next_call shelf.calls) ⊎ (file_
 abbrev pub MayTake : List NamedFile → List ℕ → ℕ → Type 0
 MayTake files name taken = (taken ≡ 0) ⊎ ((bytes : List ℕ) × ((file_named name files ≡ Some bytes) × (length bytes ≡ taken)))
 
--- a read of that name may give this answer: the bytes of the file, all of them; that it fails,
--- if it does; that the file has more bytes than some limit; lack of memory at any time
+-- a read of that name may return this: all bytes of the file; that it fails, if it does; that the
+-- file has more bytes than some limit; lack of memory at any time
 abbrev pub MayAnswer : ShelfState → List ℕ → Answer → Type 0
 MayAnswer shelf name (Ok bytes) = file_named name shelf.files ≡ Some bytes
 MayAnswer shelf name (Err Failed) = FailsNext shelf name
 MayAnswer shelf name (Err TooLong) = (limit : ℕ) × HoldsLonger shelf.files name limit
 MayAnswer shelf name (Err Memory) = Unit {0}
 
--- a read of that name that gave this answer leads from the first state to the second: it is
--- counted, and changes no file and no plan
+-- a read of that name with this result leads from the first state to the second: it is counted, and
+-- changes no file and no plan
 pub record IsRead (before : ShelfState) (name : List ℕ) (answer : Answer) (now : ShelfState) : Type 0 where
   pub answered : MayAnswer before name answer
   pub files : now.files ≡ before.files

@@ -3,8 +3,8 @@
 use Rattle.std.specs.Prelude.{◌≡◌, ℕ, ◌-◌, List, ◌++◌, length, take, min}
 use Rattle.outside.specs.Faults.{MayCount, next_call}
 
--- what was written; how many bytes fit, and how many for one call; the calls that are to fail, by
--- their numbers; the counts of calls and of faults
+-- what was written; how many bytes fit, and how many per call; the calls that are to fail, by their
+-- numbers; the counts of calls and of errors
 pub record SinkState : Type 0 where
   pub written : List ℕ
   pub room : ℕ

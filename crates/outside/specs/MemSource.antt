@@ -6,7 +6,7 @@ use Rattle.std.specs.declared.option.Option.TheVariants.{Some, None}
 use Rattle.outside.specs.Faults.{MayCount, next_call}
 
 -- the bytes left; the most bytes for each call, in turn; the calls that are to fail, by their
--- numbers; the counts of calls and of faults
+-- numbers; the counts of calls and of errors
 pub record SourceState : Type 0 where
   pub left : List ℕ
   pub sizes : List ℕ
@@ -19,16 +19,16 @@ pub record SourceState : Type 0 where
 abbrev pub size_for : List ℕ → ℕ → ℕ
 size_for sizes call = max (slice_index_or sizes (call - 1) (2 ^ 64 - 1)) 1
 
--- how many bytes the next read gives into a piece of that length
+-- how many bytes the next read puts into a piece of that length
 abbrev pub portion : SourceState → ℕ → ℕ
 portion source size = min size (min (size_for source.sizes (next_call source.calls)) (length source.left))
 
--- the bytes of a read, none where it failed
+-- the bytes of a read, none if it failed
 abbrev pub bytes_given : Option (List ℕ) → List ℕ
 bytes_given None = []
 bytes_given (Some bytes) = bytes
 
--- a read that gave these bytes, or failed, leads from the first state to the second: it is
+-- a read that returned these bytes, or failed, leads from the first state to the second: it is
 -- counted, and changes no plan
 pub record IsGiven (before : SourceState) (given : Option (List ℕ)) (now : SourceState) : Type 0 where
   pub left : before.left ≡ bytes_given given ++ now.left

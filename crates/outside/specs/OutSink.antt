@@ -2,7 +2,7 @@
 -- Stated by: outside.
 use Rattle.std.specs.Prelude.{ℕ, Bool}
 
--- the count of faults, and whether the last write failed since nobody reads any more
+-- the count of errors, and whether the last write failed because nobody reads any more
 pub record PrintState : Type 0 where
   pub faults : ℕ
   pub is_abandoned : Bool

@@ -1,4 +1,4 @@
--- What a sink tells of its bytes, and which writes lead from one sink to another.
+-- What a sink makes known of its bytes, and which writes lead from one sink to another.
 -- Stated by: outside.
 -- Rests on it: mcg6_reader, mcg6_encoder, front_words, bench_outcomes, bench_top and 2 more.
 use Rattle.std.specs.Prelude.{◌≡◌, ℕ, ◌+◌, ◌<◌, zero, suc, List, ◌++◌, length, drop}
@@ -7,12 +7,12 @@ use Rattle.std.specs.declared.result.Result.TheVariants.{Ok, Err}
 use Rattle.std.specs.declared.option.Option.{Option}
 use Rattle.std.specs.declared.option.Option.TheVariants.{Some, None}
 
--- the bytes written once a piece is appended, where they are told
+-- the bytes written once a piece is appended, if they are known
 abbrev pub appended : Option (List ℕ) → List ℕ → Option (List ℕ)
 appended None piece = None
 appended (Some bytes) piece = Some (bytes ++ piece)
 
--- how many bytes a write took: none where it failed
+-- how many bytes a write took: none if it failed
 abbrev pub taken_by : {E : Type 0} → Result ℕ E → ℕ
 taken_by (Ok count) = count
 taken_by (Err error) = 0
@@ -25,7 +25,7 @@ WritesTake {K} writes bytes (suc calls) done first last =
     (before : ℕ) × (count : ℕ) × (next : K) × (WritesTake writes bytes calls before first next)
     × (0 < count) × (done ≡ before + count) × (writes next (drop before bytes) count last)
 
--- the bytes were written whole, and nothing else
+-- the bytes were written completely, and nothing else
 pub record IsWritten {K : Type 0} (writes : K → List ℕ → ℕ → K → Type 0) (bytes : List ℕ) (first last : K) : Type 0 where
   pub calls : ℕ
   pub turns : WritesTake writes bytes calls (length bytes) first last

@@ -1,4 +1,4 @@
--- What a source tells of the bytes that are left to read, and what a read gave.
+-- What a source makes known of the bytes that are left to read, and what a read returned.
 -- Stated by: outside. Rests on it: mcg6_reader, mcg6_encoder.
 use Rattle.std.specs.Prelude.{◌≡◌, ℕ, List, [], ◌++◌, take}
 use Rattle.std.specs.declared.result.Result.{Result}
@@ -6,17 +6,17 @@ use Rattle.std.specs.declared.result.Result.TheVariants.{Ok, Err}
 use Rattle.std.specs.declared.option.Option.{Option}
 use Rattle.std.specs.declared.option.Option.TheVariants.{Some, None}
 
--- the bytes that were left before a piece was taken off their front, where they are told
+-- the bytes that were left before a piece was taken off their front, if they are known
 abbrev pub prepended : List ℕ → Option (List ℕ) → Option (List ℕ)
 prepended piece None = None
 prepended piece (Some rest) = Some (piece ++ rest)
 
--- where they are told, no bytes are left
+-- if the bytes that are left are known, there are none
 abbrev pub IsEnd : Option (List ℕ) → Type 0
 IsEnd None = Unit {0}
 IsEnd (Some rest) = rest ≡ []
 
--- the bytes that a read gave, which stand at the front of the piece; none where it failed
+-- the bytes that a read returned, which are at the front of the piece; none if it failed
 abbrev pub given_by : {E : Type 0} → Result ℕ E → List ℕ → Option (List ℕ)
 given_by (Ok count) piece = Some (take count piece)
 given_by (Err error) piece = None

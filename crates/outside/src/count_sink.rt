@@ -5,11 +5,11 @@ ghost use Rattle.std.specs.declared.option.Option.TheVariants.{None};
 use crate::{Sink, SinkFailed};
 use std::marker::Model;
 
-/// A sink that counts bytes and keeps none: it takes every piece whole, never fails, and tells no
-/// content.
+/// A sink that counts bytes and keeps none: it takes every piece whole, never fails, and makes no
+/// content known.
 ///
-/// A contract sees it as the number of bytes written, which stays at the greatest u64 once it is
-/// there. No call takes memory.
+/// A contract sees it as the number of bytes written, which saturates at the largest u64. No call
+/// takes memory.
 #[derive(Drop)]
 pub struct CountSink {
     count: u64,
@@ -24,14 +24,14 @@ impl Model for CountSink {
 }
 
 impl CountSink {
-    /// A sink to which nothing was written.
+    /// A sink to which nothing has been written.
     pub fn new() -> CountSink
         ensures { result ≡ 0 }
     {
         CountSink { count: 0 }
     }
 
-    /// How many bytes were written, at most the greatest u64.
+    /// How many bytes were written, at most the largest u64.
     pub fn count(&self) -> u64
         ensures { result ≡ self.now }
     {

@@ -16,19 +16,19 @@ use std::rt::Files;
 // how many bytes one turn of a read asks for
 const PIECE: usize = 4096;
 
-// The numbers of errors of the system that have no kind: of a socket that is opened as a file, and
-// of one more file than the system, or a process, may have open.
+// The numbers of system errors that have no kind: a socket is opened as a file, and the system, or
+// a process, has too many files open.
 const NO_SUCH_DEVICE: i32 = 6;
 
 const ALL_OPEN: i32 = 23;
 
 const MOST_OPEN: i32 = 24;
 
-/// A shelf of the files that a runtime reaches by name: the trusted edge, which tells nothing of
-/// content and is never steady.
+/// A shelf of the files that a runtime reaches by name. It is the trusted edge: it makes no content
+/// known and is never steady.
 ///
-/// A contract sees it as an `OpenState`: the bytes that the last read took, the count of faults,
-/// which stays at the greatest u64 once it is there, and why the last read failed, where it did.
+/// A contract sees it as an `OpenState`: the bytes that the last read took, the count of errors,
+/// which saturates at the largest u64, and why the last read failed, if it did.
 #[derive(Drop)]
 pub struct DirShelf<'a, R: Files> {
     runtime: &'a R,
@@ -63,7 +63,7 @@ impl<'a, R: Files> DirShelf<'a, R> {
     }
 }
 
-// Why a call failed that gave this number of an error of the system, which has no kind.
+// The reason for a system error of this number, which has no kind.
 fn reason_of_number(number: i32) -> FailureReason {
     if number == NO_SUCH_DEVICE {
         FailureReason::Socket
@@ -87,7 +87,7 @@ fn reason_of(error: &Error) -> FailureReason {
     }
 }
 
-// Why the file of that name was not opened: a link is there where it leads to nothing.
+// Why the file of that name was not opened: `Dangling` if a link has that name and leads nowhere.
 fn reason_unopened<R: Files>(runtime: &R, name: &str, error: &Error) -> FailureReason {
     match reason_of(error) {
         FailureReason::Absent if fs::symlink_metadata(runtime, name).is_ok() =>
@@ -96,9 +96,9 @@ fn reason_unopened<R: Files>(runtime: &R, name: &str, error: &Error) -> FailureR
     }
 }
 
-// Appends the bytes of the file of that name: all of them, if they are at most `limit`, else
-// `limit + 1`. Each turn takes at least one byte or ends the read. Where a call fails, the reason
-// is put down.
+// Appends the bytes of the file of that name: all of them, if they are at most `limit`, otherwise
+// `limit + 1`. Each turn takes at least one byte or ends the read. If a call fails, the reason is
+// kept.
 fn fill<R: Files>(
     runtime: &R,
     name: &str,
@@ -149,7 +149,7 @@ impl<R: Files> Shelf for DirShelf<'_, R> {
 
     ghost steady_tells = { λ shelf is. Prim.search rules };
 
-    /// It ends at `limit + 1` bytes at the latest. An error of the runtime, at the opening or at
+    /// The read ends after at most `limit + 1` bytes. An error of the runtime, at the opening or in
     /// any turn, is `Failed`.
     fn read(&mut self, alloc: Global, name: &str, limit: usize) -> Result<Vec<u8>, ShelfFault>
         requires { limit < 2 ^ 64 - 1 }
@@ -159,7 +159,7 @@ impl<R: Files> Shelf for DirShelf<'_, R> {
         ensures too_long { IsErrOf result ShelfFault.TooLong → self.new.taken ≡ limit + 1 }
         ensures ends { self.new.taken ≤ limit + 1 }
 
-        // The count of faults goes up exactly when the call fails.
+        // The count of errors goes up if and only if the call fails.
         ensures later { self.old.faults ≤ self.new.faults }
         ensures rises { IsErrOf result ShelfFault.Failed →
             self.new.faults ≡ next_fault self.old.faults }

@@ -4,7 +4,7 @@ ghost use Rattle.outside.specs.Common.{Rose, appended, IsWritten, IsCutOff};
 
 use crate::{Sink, SinkFailed};
 
-/// Writes all the bytes, by repeated writes of the rest, or a proper prefix of them where a write
+/// Writes all the bytes, by repeated writes of the rest, or a proper prefix of them if a write
 /// fails or takes nothing. That write is the last. Takes no memory.
 pub fn emit<K: Sink>(sink: &mut K, bytes: &[u8]) -> Result<(), SinkFailed>
     ensures ok { OnOk result (K.written sink.new ≡ appended (K.written sink.old) bytes.now) }

@@ -9,7 +9,7 @@ use crate::Shelf;
 pub enum FailureReason {
     /// No file has that name.
     Absent,
-    /// A link has that name, and leads to nothing.
+    /// A link with that name leads nowhere.
     Dangling,
     /// A folder has that name.
     Folder,
@@ -19,25 +19,25 @@ pub enum FailureReason {
     Forbidden,
     /// The name, or a part of it, is too long.
     LongName,
-    /// Links lead around in a circle.
+    /// Links form a circle.
     LinkLoop,
-    /// A socket has that name, or a device that is not there.
+    /// The name is that of a socket, or of a device that does not exist.
     Socket,
     /// Too many files are open.
     ManyOpen,
-    /// Something else went wrong, as a fault of the device.
+    /// Something else went wrong, such as an error of the device.
     Other,
 }
 
-/// A shelf that can say why its last read failed. It is for words to a person: nothing is proved
-/// of the reason's truth.
+/// A shelf that can say why its last read failed. This is for messages only: nothing is proved
+/// about the reason.
 pub trait Explain: Shelf {
     ghost use Rattle.outside.specs.declared.explain.FailureReason.{FailureReason};
 
-    /// Why the last read failed, where it did and the shelf knows.
+    /// Why the last read failed, if it did and the shelf knows.
     ghost reason: { Self → Option FailureReason };
 
-    /// Why the last read failed, where it did and the shelf knows. Takes no memory.
+    /// Why the last read failed, if it did and the shelf knows. Takes no memory.
     fn reason(&self) -> Option<FailureReason>
         ensures { result ≡ reason self.now };
 }

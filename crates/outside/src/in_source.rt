@@ -8,10 +8,10 @@ use crate::{Source, SourceFailed};
 use std::io::Read;
 use std::marker::Model;
 
-/// A source over a reader of the runtime, as its standard input or a file that it opened: the
-/// trusted edge, which tells nothing of content.
+/// A source over a reader of the runtime, such as its standard input or a file that it opened. It
+/// is the trusted edge: it makes no content known.
 ///
-/// A contract sees it as the count of faults, which stays at the greatest u64 once it is there.
+/// A contract sees it as the count of errors, which saturates at the largest u64.
 #[derive(Drop)]
 pub struct InSource<R: Read + Drop> {
     reader: Option<R>,
@@ -27,8 +27,8 @@ impl<R: Read + Drop> Model for InSource<R> {
 }
 
 impl<R: Read + Drop> InSource<R> {
-    /// The source that this reader is. With none, as where a file was not opened, each read
-    /// fails. It takes no memory.
+    /// The source over this reader. Without a reader, for example if a file was not opened, each
+    /// read fails. Takes no memory.
     pub fn new(reader: Option<R>) -> InSource<R>
         ensures { result ≡ 0 }
     {

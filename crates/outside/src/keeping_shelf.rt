@@ -1,4 +1,4 @@
-//! A shelf that keeps what it read last.
+//! A shelf that keeps what it last read.
 ghost use Rattle.std.specs.Prelude.{◌≡◌, ◌≤◌, ◌<◌, ◌-◌, ◌^◌, IfOk, IsErrOf, IsTrue, OnErr, length};
 ghost use Rattle.std.specs.declared.option.Option.TheVariants.{None, Some};
 ghost use Rattle.std.specs.Option.{option_map};
@@ -9,39 +9,40 @@ ghost use Rattle.outside.specs.Shelf.{IsLonger, TellsFile, answer_of};
 use crate::{Explain, FailureReason, Shelf, ShelfFault};
 use std::alloc::Global;
 
-/// A shelf that keeps what it read last.
+/// A shelf that keeps what it last read.
 pub trait Keeping: Explain {
     ghost use Rattle.std.specs.Prelude.{ℕ, List};
     ghost use Rattle.std.specs.declared.option.Option.{Option};
     ghost use Rattle.outside.specs.Keeping.{IsFileOf};
     ghost use Rattle.outside.specs.Shelf.{Answer};
 
-    /// The bytes that the last read gave, where it gave some.
+    /// The bytes that the last read returned, if any.
     ghost kept: { Self → Option (List ℕ) };
 
-    /// The bytes that the last read gave, where it gave some. Takes no memory.
+    /// The bytes that the last read returned, if any. Takes no memory.
     fn kept(&self) -> Option<&[u8]>
         ensures { option_map (λ bytes. bytes.now) result ≡ kept self.now };
 
-    /// After a read of a name, what is kept is the file of that name, where the files are told.
+    /// After a read of a name, the kept bytes are the file of that name, if the files are known.
     ghost kept_is: { (before : Self) (name : List ℕ) (answer : Answer) (now : Self)
         → Self.reads before name answer now → IsFileOf (Self.files before) name (kept now) };
 }
 
-/// A shelf that keeps the bytes of the file that it read last, and is in all else the shelf that
-/// it is made of.
+/// A shelf that keeps the bytes of the file that it last read, and otherwise behaves like the shelf
+/// inside.
 ///
-/// Nothing is kept where the last read gave no bytes. A read takes memory for its bytes twice.
+/// Nothing is kept if the last read returned no bytes. A read takes memory for its bytes twice.
 #[derive(Drop)]
 pub struct KeepingShelf<S: Shelf + Drop> {
     /// The shelf that is read.
     pub shelf: S,
-    /// The bytes that the last read gave.
+    /// The bytes that the last read returned.
     pub kept: Option<Vec<u8>>,
 }
 
 impl<S: Shelf + Drop> KeepingShelf<S> {
-    /// The shelf that keeps what it reads of this one; nothing was read yet. Takes no memory.
+    /// The shelf that keeps what it reads from this one; nothing has been read yet. Takes no
+    /// memory.
     pub fn new(shelf: S) -> KeepingShelf<S>
         ensures shelf { result.shelf ≡ shelf }
         ensures kept { result.kept ≡ None }
@@ -69,7 +70,7 @@ impl<S: Shelf + Drop> Shelf for KeepingShelf<S> {
 
         ensures reads { KeepsRead S.files S.reads self.old.shelf name.now (answer_of result)
             self.new.shelf (bytes_kept self.new.kept) }
-        // What it gives it keeps, and where it gives nothing it keeps nothing.
+        // It keeps the bytes that it returns, and if it returns none it keeps none.
         ensures keeps { IfOk result (λ bytes. bytes_kept self.new.kept ≡ Some bytes.items) }
         ensures drops { OnErr result (self.new.kept ≡ None) }
 

@@ -1,28 +1,18 @@
-//! What a program reads from and what it writes to, as three traits with contracts, and their
-//! forms.
+//! Input and output, as three traits with contracts, and their implementations.
 //!
-//! A `Shelf` gives the bytes of a file by its name, a `Source` gives the bytes of an input piece
-//! by piece, and a `Sink` takes those of an output. Each counts its faults, and a fault comes
-//! only where that count rose in the call (`Rose`); so a caller who answers "it could not be
-//! read" or "it could not be written" can be held to it. A shelf may tell its files
-//! (`file_named`), a source the bytes that are left (`prepended`), a sink its bytes (`appended`):
-//! then what is read and written is known exactly. A steady shelf, which tells its files, fails
-//! only at a name that it does not hold.
+//! A `Shelf` returns the bytes of a file by its name, a `Source` the bytes of an input piece by
+//! piece, and a `Sink` takes those of an output. An error is returned only if its count rose in the
+//! call (`Rose`). A shelf may make its files known (`file_named`), a source the bytes that are left
+//! (`prepended`), a sink its bytes (`appended`): then it is known exactly what was read and
+//! written. A steady shelf makes its files known and fails only at a name that it does not have.
 //!
-//! Two kinds of forms keep these contracts. `MemShelf`, `MemSource`, `MemSink` and `CountSink`
-//! stand in memory, and their contracts give every answer and every next state, the planned
-//! faults among them: a caller is tried over them. `DirShelf`, `InSource` and `OutSink` are the
-//! files, the standard input and the standard output of the runtime, and `LineSink` its standard
-//! error, line by line, the trusted edge: they tell nothing of content. A read or a write of
-//! theirs that a signal interrupts is tried again, 1,024 times. `emit` writes a whole output to a
-//! sink.
+//! `MemShelf`, `MemSource`, `MemSink` and `CountSink` are in memory; their contracts give every
+//! result and every next state, with planned errors: they are for tests. `DirShelf`, `InSource`,
+//! `OutSink` and `LineSink` (standard error) are the runtime's, the trusted edge. They retry a call
+//! that a signal interrupts, up to 1,024 times. `emit` writes a whole output. For messages there
+//! are `KeepingShelf` (`Keeping`), `Explain` and `Outlet`.
 //!
-//! For who has to say in words what went wrong, a `KeepingShelf` keeps the bytes of the file that
-//! it read last (`Keeping`), a shelf may `Explain` why a read failed, and an `Outlet` is a sink
-//! that knows whether anybody still reads it.
-//!
-//! It stands on `std` alone. A read or write of a part of a piece, and one that is made to fail
-//! at its n-th call, are those of POSIX's `read` and `write` and of fault injection.
+//! Depends on `std` alone. The contracts follow POSIX's `read` and `write`.
 #![tactic(auto)]
 
 mod count_sink;

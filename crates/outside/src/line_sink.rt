@@ -1,4 +1,4 @@
-//! A sink for words to a person, which go out line by line.
+//! A sink for messages, which are written line by line.
 ghost use Rattle.std.specs.Prelude.{◌≡◌, ◌≤◌, ◌<◌, IfOk, OnErr, length};
 ghost use Rattle.std.specs.declared.option.Option.TheVariants.{None};
 ghost use Rattle.outside.specs.Faults.{Rose, MayCount};
@@ -8,16 +8,16 @@ use crate::{Sink, SinkFailed};
 use std::io;
 use std::marker::Model;
 
-// How many bytes of a line are held before they go out.
+// How many bytes of a line are held before they are written.
 const ROOM: usize = 512;
 
-/// A stream of a runtime to which lines go out whole, as its standard error: the trusted edge,
-/// which tells nothing of content.
+/// A stream of a runtime, such as its standard error, to which lines are written whole. It is the
+/// trusted edge: it makes no content known.
 ///
-/// What is written is held until a line feed comes or 512 bytes are held, and then goes out by one
-/// call, so that lines of several programs do not mix; more calls follow only where that one took a
-/// part. What does not end with a line feed stays held. A contract sees it as the count of faults,
-/// which stays at the greatest u64 once it is there.
+/// Bytes are held until a line feed comes or 512 bytes are held, and are then written by one call,
+/// so that lines of several programs do not mix; more calls follow only if that one took a part.
+/// Bytes after the last line feed stay held. A contract sees the sink as the count of errors, which
+/// saturates at the largest u64.
 #[derive(Drop)]
 pub struct LineSink<'a, P: Print> {
     stream: &'a P,
@@ -37,7 +37,7 @@ impl<'a, P: Print> Model for LineSink<'a, P> {
 }
 
 impl<'a, P: Print> LineSink<'a, P> {
-    /// The sink that is that stream of a runtime, as `rt.stderr()`. It takes no memory.
+    /// The sink over that stream of a runtime, such as `rt.stderr()`. Takes no memory.
     pub fn new(stream: &'a P) -> LineSink<'a, P>
         ensures { result ≡ 0 }
     {
@@ -57,8 +57,8 @@ impl<P: Print> Sink for LineSink<'_, P> {
 
     ghost writes = { λ before _ _ now. MayCount before now };
 
-    /// It takes as many bytes as have room. An error of the runtime is `SinkFailed`, and what was
-    /// held is lost.
+    /// It takes as many bytes as have room. An error of the runtime is `SinkFailed`, and the held
+    /// bytes are lost.
     fn write(&mut self, bytes: &[u8]) -> Result<usize, SinkFailed>
         ensures within { IfOk result (λ count. count ≤ length bytes.now) }
         ensures later { self.old ≤ self.new }

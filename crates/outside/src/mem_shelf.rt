@@ -19,12 +19,12 @@ struct StoredFile {
     bytes: Vec<u8>,
 }
 
-/// A shelf in memory, which tells its files, and whose reads of chosen numbers fail.
+/// A shelf in memory, which makes its files known, and whose reads of chosen numbers fail.
 ///
-/// A contract sees it as a `ShelfState`: the files by name and bytes, in the order they were put,
-/// the numbers kept, the counts of calls and of faults, each of which stays at its type's
-/// greatest value once it is there, and the number of bytes that the last read took. It is steady
-/// exactly when no numbers are kept.
+/// A contract sees it as a `ShelfState`: the files by name and bytes, in the order in which they
+/// were put, the planned numbers, the counts of calls and of errors, each of which saturates at its
+/// type's largest value, and the number of bytes that the last read took. It is steady if and only
+/// if no numbers are planned.
 #[derive(Drop)]
 pub struct MemShelf {
     alloc: Global,
@@ -49,7 +49,7 @@ impl Model for MemShelf {
 }
 
 impl MemShelf {
-    /// A shelf that holds no files. It takes no memory.
+    /// A shelf without files. Takes no memory.
     pub fn new(alloc: Global) -> MemShelf
         ensures { result ≡ record { files = []; failing = []; calls = 0; taken = 0; faults = 0 } }
     {
@@ -61,7 +61,8 @@ impl MemShelf {
         }
     }
 
-    /// Appends a file; of two files of one name the first is read. After `Memory` nothing changed.
+    /// Appends a file; of two files with the same name the first is read. After `Memory` nothing
+    /// has changed.
     pub fn put(&mut self, name: &str, bytes: &[u8]) -> Result<(), Memory>
         ensures ok { OnOk result
             (self.new ≡ record self.old { files = self.old.files ++ (name.now, bytes.now) ∷ [] }) }
@@ -73,8 +74,8 @@ impl MemShelf {
         Ok(())
     }
 
-    /// Plans the read call of that number to fail. Calls are counted from 1. After `Memory`
-    /// nothing changed.
+    /// Plans the read call of that number to fail. Calls are counted from 1. After `Memory` nothing
+    /// has changed.
     pub fn fail_read(&mut self, call: u32) -> Result<(), Memory>
         ensures ok { OnOk result
             (self.new ≡ record self.old { failing = self.old.failing ++ call ∷ [] }) }
@@ -115,7 +116,7 @@ impl Shelf for MemShelf {
     fn read(&mut self, alloc: Global, name: &str, limit: usize) -> Result<Vec<u8>, ShelfFault>
         requires { limit < 2 ^ 64 - 1 }
 
-        // A call fails exactly when its number is kept or the name is not held.
+        // A call fails if and only if its number is planned or there is no file of that name.
         ensures failed { IsErrOf result ShelfFault.Failed ↔ FailsNext self.old name.now }
         ensures too_long { IsErrOf result ShelfFault.TooLong
             ↔ (¬ FailsNext self.old name.now) × HoldsLonger self.old.files name.now limit }
@@ -128,7 +129,7 @@ impl Shelf for MemShelf {
         ensures taken { IfOk result (λ bytes. length bytes.items ≡ self.new.taken) }
         ensures none_taken { OnErr result (self.new.taken ≡ 0) }
 
-        // The count of faults goes up exactly when the call fails.
+        // The count of errors goes up if and only if the call fails.
         ensures later { self.old.faults ≤ self.new.faults }
         ensures rises { IsErrOf result ShelfFault.Failed →
             self.new.faults ≡ next_fault self.old.faults }

@@ -9,12 +9,12 @@ use crate::{Outlet, Sink, SinkFailed};
 use std::alloc::{AllocError as Memory, Global};
 use std::marker::Model;
 
-/// A sink in memory, which tells its bytes: it has a room, takes at most so many bytes for one
-/// call, and its writes of chosen numbers fail.
+/// A sink in memory, which makes its bytes known: it has a room, takes at most a given number of
+/// bytes per call, and its writes of chosen numbers fail.
 ///
-/// A contract sees it as a `SinkState`: the bytes written, the room, the most for one call, the
-/// numbers kept, and the counts of calls and of faults, each of which stays at its type's
-/// greatest value once it is there.
+/// A contract sees it as a `SinkState`: the bytes written, the room, the most per call, the planned
+/// numbers, and the counts of calls and of errors, each of which saturates at its type's largest
+/// value.
 #[derive(Drop)]
 pub struct MemSink {
     buffer: Vec<u8>,
@@ -42,8 +42,8 @@ impl Model for MemSink {
 }
 
 impl MemSink {
-    /// An empty sink with room for `room` bytes, all of it taken from memory now, which takes at
-    /// most `most` bytes for one call. `Memory` where the room is not to be had.
+    /// An empty sink with room for `room` bytes, all allocated now, which takes at most `most`
+    /// bytes per call. `Memory` if the room cannot be allocated.
     pub fn new(alloc: Global, room: usize, most: usize) -> Result<MemSink, Memory>
         requires { 1 ≤ most }
         ensures { IfOk result (λ sink. sink ≡ record {
@@ -64,7 +64,7 @@ impl MemSink {
     }
 
     /// Plans the write call of that number to fail. Calls are counted from 1. After `Memory`
-    /// nothing changed.
+    /// nothing has changed.
     pub fn fail_write(&mut self, call: u32) -> Result<(), Memory>
         ensures ok { OnOk result
             (self.new ≡ record self.old { failing = self.old.failing ++ call ∷ [] }) }
@@ -90,7 +90,7 @@ impl Sink for MemSink {
 
     /// It takes no memory.
     fn write(&mut self, bytes: &[u8]) -> Result<usize, SinkFailed>
-        // A call fails exactly when its number is kept; every other call takes its share.
+        // A call fails if and only if its number is planned; every other call takes its share.
         ensures failed { IsErr result ↔ Contains self.old.failing (next_call self.old.calls) }
         ensures share { IfOk result (λ count. count ≡ share self.old (length bytes.now)) }
 
@@ -120,7 +120,7 @@ impl Sink for MemSink {
     }
 }
 
-/// It is always read.
+/// Somebody always reads it.
 impl Outlet for MemSink {
     ghost is_abandoned = { λ _. false };
 

@@ -9,12 +9,12 @@ use crate::{Source, SourceFailed};
 use std::alloc::{AllocError as Memory, Global};
 use std::marker::Model;
 
-/// A source in memory, which tells the bytes that are left: each call gives at most so many as
-/// are planned for it, and the reads of chosen numbers fail.
+/// A source in memory, which makes the bytes that are left known: each call returns at most the
+/// number of bytes planned for it, and the reads of chosen numbers fail.
 ///
-/// A contract sees it as a `SourceState`: the bytes left, the most for each call, the numbers
-/// kept, and the counts of calls and of faults, each of which stays at its type's greatest value
-/// once it is there.
+/// A contract sees it as a `SourceState`: the bytes left, the most for each call, the planned
+/// numbers, and the counts of calls and of errors, each of which saturates at its type's largest
+/// value.
 #[derive(Drop)]
 pub struct MemSource {
     bytes: Vec<u8>,
@@ -59,8 +59,8 @@ impl MemSource {
         })
     }
 
-    /// Plans the most bytes for one more call, of which it gives at least one. After `Memory`
-    /// nothing changed.
+    /// Plans the most bytes for one more call, which returns at least one. After `Memory` nothing
+    /// has changed.
     pub fn plan_size(&mut self, size: usize) -> Result<(), Memory>
         ensures ok { OnOk result
             (self.new ≡ record self.old { sizes = self.old.sizes ++ size ∷ [] }) }
@@ -70,8 +70,8 @@ impl MemSource {
         Ok(())
     }
 
-    /// Plans the read call of that number to fail. Calls are counted from 1. After `Memory`
-    /// nothing changed.
+    /// Plans the read call of that number to fail. Calls are counted from 1. After `Memory` nothing
+    /// has changed.
     pub fn fail_read(&mut self, call: u32) -> Result<(), Memory>
         ensures ok { OnOk result
             (self.new ≡ record self.old { failing = self.old.failing ++ call ∷ [] }) }
@@ -99,8 +99,8 @@ impl Source for MemSource {
 
     /// It takes no memory.
     fn read(&mut self, piece: &mut [u8]) -> Result<usize, SourceFailed>
-        // A call fails exactly when its number is kept; every other call gives its portion of
-        // what is left.
+        // A call fails if and only if its number is planned; every other call returns its portion
+        // of what is left.
         ensures failed { IsErr result ↔ Contains self.old.failing (next_call self.old.calls) }
         ensures portion { IfOk result (λ count. count ≡ portion self.old (length piece.old)) }
         ensures given { IfOk result (λ count. take count piece.new ≡ take count self.old.left) }

@@ -9,10 +9,10 @@ use std::io;
 use std::io::{ErrorKind, Write};
 use std::marker::Model;
 
-/// The standard output of a runtime: the trusted edge, which tells nothing of content.
+/// The standard output of a runtime. It is the trusted edge: it makes no content known.
 ///
-/// A contract sees it as a `PrintState`: the count of faults, which stays at the greatest u64
-/// once it is there, and whether the last write failed since nobody reads any more.
+/// A contract sees it as a `PrintState`: the count of errors, which saturates at the largest u64,
+/// and whether the last write failed because nobody reads any more.
 #[derive(Drop)]
 pub struct OutSink<'a, P: Print> {
     runtime: &'a P,
@@ -40,7 +40,7 @@ impl<'a, P: Print> OutSink<'a, P> {
         }
     }
 
-    // Counts one more fault, of that kind.
+    // Counts one more error, of that kind.
     fn count_fault(&mut self, kind: ErrorKind)
         ensures later { self.old.faults ≤ self.new.faults }
         ensures faults { self.new.faults ≡ next_fault self.old.faults }
@@ -57,9 +57,9 @@ impl<P: Print> Sink for OutSink<'_, P> {
 
     ghost writes = { λ before _ _ now. MayCount before.faults now.faults };
 
-    /// Each write is flushed before it answers. An error of the runtime, at the write or at the
-    /// flush, is `SinkFailed`. No clause tells what reaches the standard output: `tests/edge`
-    /// looks at the bytes that arrive, and at a write to a full device.
+    /// Each write is flushed before it returns. An error of the runtime, at the write or at the
+    /// flush, is `SinkFailed`. No clause says what reaches the standard output: `tests/edge` looks
+    /// at the bytes that arrive, and at a write to a full device.
     fn write(&mut self, bytes: &[u8]) -> Result<usize, SinkFailed>
         ensures within { IfOk result (λ count. count ≤ length bytes.now) }
         ensures later { self.old.faults ≤ self.new.faults }

@@ -1,11 +1,11 @@
-//! The calls that are planned to fail: kept by their numbers, and counted with their faults.
+//! The calls that are planned to fail: kept by their numbers, and counted with their errors.
 ghost use Rattle.std.specs.Prelude.{◌≡◌, ◌≤◌, ◌↔◌, ◌++◌, ◌∷◌, [], Contains, IsTrue, OnErr, OnOk, if◌then◌else◌};
 ghost use Rattle.outside.specs.Common.{next_call, next_fault};
 
 use std::alloc::{AllocError as Memory, Global};
 
-/// The numbers of the calls that are to fail, counted from 1, and the counts of calls and of
-/// faults so far, each of which stays at its type's greatest value once it is there.
+/// The numbers of the calls that are to fail, counted from 1, and the counts of calls and of errors
+/// so far, each of which saturates at its type's largest value.
 #[derive(Drop)]
 pub struct CallPlan {
     pub failing: Vec<u32>,
@@ -14,7 +14,7 @@ pub struct CallPlan {
 }
 
 impl CallPlan {
-    /// No call is to fail, and none was made. Takes no memory.
+    /// No call is to fail, and none has been made. Takes no memory.
     pub fn new(alloc: Global) -> CallPlan
         ensures failing { result.failing.items ≡ [] }
         ensures calls { result.calls ≡ 0 }
@@ -27,7 +27,7 @@ impl CallPlan {
         }
     }
 
-    /// Plans the call of that number to fail. After `Memory` nothing changed.
+    /// Plans the call of that number to fail. After `Memory` nothing has changed.
     pub fn fail(&mut self, call: u32) -> Result<(), Memory>
         ensures ok { OnOk result (self.new.failing.items ≡ self.old.failing.items ++ call ∷ []) }
         ensures err { OnErr result (self.new.failing.items ≡ self.old.failing.items) }
@@ -38,7 +38,7 @@ impl CallPlan {
         Ok(())
     }
 
-    /// Counts one more fault.
+    /// Counts one more error.
     pub fn count_fault(&mut self)
         ensures failing { self.new.failing.items ≡ self.old.failing.items }
         ensures calls { self.new.calls ≡ self.old.calls }
@@ -48,7 +48,7 @@ impl CallPlan {
         self.faults = self.faults.saturating_add(1);
     }
 
-    /// Counts one more call, and its fault, if it is to fail: whether it is.
+    /// Counts one more call, and its error, if it is to fail; returns whether it is.
     pub fn fails_next(&mut self) -> bool
         ensures fails { IsTrue result ↔ Contains self.old.failing.items (next_call self.old.calls) }
         ensures failing { self.new.failing.items ≡ self.old.failing.items }

@@ -1,15 +1,14 @@
-//! Reads and writes that are tried again where a signal interrupts them.
+//! Reads and writes that are retried if a signal interrupts them.
 ghost use Rattle.std.specs.Prelude.{◌≤◌, IfOk, length};
 
 use crate::SinkFailed;
 use std::io;
 use std::io::{ErrorKind, Read, Write};
 
-// How often a call is tried again.
+// How often a call is retried.
 const RETRIES: u32 = 1024;
 
-/// Reads some bytes into the piece. A read that a signal interrupts has taken none and is tried
-/// again.
+/// Reads some bytes into the piece. A read that a signal interrupts has taken none and is retried.
 pub(crate) fn read_some<F: Read>(file: &mut F, piece: &mut [u8]) -> io::Result<usize>
     ensures { IfOk result (λ count. count ≤ length piece.new) }
 {
@@ -22,7 +21,7 @@ pub(crate) fn read_some<F: Read>(file: &mut F, piece: &mut [u8]) -> io::Result<u
     file.read(piece)
 }
 
-/// Writes some of the bytes. A write that a signal interrupts has written none and is tried again.
+/// Writes some of the bytes. A write that a signal interrupts has written none and is retried.
 pub(crate) fn write_some<W: Write>(out: &mut W, bytes: &[u8]) -> io::Result<usize>
     ensures { IfOk result (λ count. count ≤ length bytes.now) }
 {

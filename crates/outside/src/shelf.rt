@@ -1,4 +1,4 @@
-//! A place that gives the bytes of a file by its name.
+//! A shelf returns the bytes of a file by its name.
 ghost use Rattle.std.specs.Prelude.{◌≡◌, ◌≤◌, ◌<◌, ◌-◌, ◌^◌, ℕ, List, Bool, IsTrue, IsSome, IfOk, IsErrOf, length};
 ghost use Rattle.std.specs.declared.option.Option.{Option};
 ghost use Rattle.std.specs.declared.option.Option.TheVariants.{None, Some};
@@ -9,14 +9,14 @@ use std::alloc::Global;
 use std::error::Error;
 use std::fmt;
 
-/// Why a read gave no bytes.
+/// Why a read returned no bytes.
 #[derive(Clone, Copy, Debug, PartialEq, Eq)]
 pub enum ShelfFault {
-    /// The file could not be read. A name that is not held counts as such a fault.
+    /// The file could not be read. A name that the shelf does not have counts as such an error.
     Failed,
     /// The file has more bytes than the limit.
     TooLong,
-    /// Memory is short.
+    /// Out of memory.
     Memory,
 }
 
@@ -32,36 +32,36 @@ impl fmt::Display for ShelfFault {
 
 impl Error for ShelfFault {}
 
-/// A place that gives the bytes of a file by its name.
+/// A shelf: it returns the bytes of a file by its name.
 ///
-/// Where it tells its files, a read is known exactly: it gives the first file of that name. Where
-/// it does not, as over real files, the count of faults and the number of bytes taken still say
-/// why a read gave none.
+/// If it makes its files known, a read is known exactly: it returns the first file of that name. If
+/// not, as with real files, the count of errors and the number of bytes taken still say why a read
+/// returned none.
 pub trait Shelf {
-    /// The files that are held, in order, where the shelf tells them.
+    /// The files of the shelf, in order, if it makes them known.
     ghost files: { Self → Option (List NamedFile) };
 
     /// How many bytes the last read took.
     ghost taken: { Self → ℕ };
 
-    /// The count of reads that failed; it never falls.
+    /// The count of reads that failed; it never decreases.
     ghost faults: { Self → ℕ };
 
-    /// A read fails only at a name that is not held.
+    /// A read fails only if no file has the name.
     ghost steady: { Self → Bool };
 
-    /// A read of that name that gave this answer leads from the first shelf to the second. Code
-    /// that is generic over its shelf knows no other way from one shelf to the next, so by this it
-    /// tells which names it asked for, in which order, and what it was answered (`ReadsInTurn`,
-    /// `AnswersInTurn`), also over a shelf that does not tell its files.
+    /// A read of that name with this result leads from the first shelf to the second. Code that is
+    /// generic over its shelf has no other way from one shelf to the next, so this says which names
+    /// it asked for, in which order, and what each read returned (`ReadsInTurn`, `AnswersInTurn`),
+    /// even if the shelf does not make its files known.
     ghost reads: { Self → List ℕ → Answer → Self → Type 0 };
 
     /// The bytes of the first file of that name, if they are at most `limit`.
     ///
-    /// `Failed` comes only where the count of faults rose in this call, and over a steady shelf
-    /// only where the name is not held. `TooLong` comes only where the file has more bytes than
-    /// `limit`, or, where the files are not told, where more than `limit` bytes were taken.
-    /// `Memory` may come at any time. No read changes the files.
+    /// `Failed` comes only if the count of errors rose in this call, and on a steady shelf only if
+    /// no file has the name. `TooLong` comes only if the file has more bytes than `limit`, or, if
+    /// the files are not known, if more than `limit` bytes were taken. `Memory` may come at any
+    /// time. No read changes the files.
     fn read(&mut self, alloc: Global, name: &str, limit: usize) -> Result<Vec<u8>, ShelfFault>
         requires { limit < 2 ^ 64 - 1 }
 
@@ -82,6 +82,6 @@ pub trait Shelf {
         ensures too_long { IsErrOf result ShelfFault.TooLong →
             IsLonger (files self.old) name.now limit (taken self.new) };
 
-    /// A steady shelf tells its files.
+    /// A steady shelf makes its files known.
     ghost steady_tells: { (shelf : Self) → IsTrue (steady shelf) → IsSome (files shelf) };
 }

@@ -1,4 +1,4 @@
-//! A place that takes the bytes of an output piece by piece.
+//! A sink takes the bytes of an output piece by piece.
 ghost use Rattle.std.specs.Prelude.{◌≡◌, ◌≤◌, ◌<◌, ℕ, List, IfOk, OnErr, length, take};
 ghost use Rattle.std.specs.declared.option.Option.{Option};
 ghost use Rattle.outside.specs.Faults.{Rose};
@@ -19,29 +19,28 @@ impl fmt::Display for SinkFailed {
 
 impl Error for SinkFailed {}
 
-/// A place that takes the bytes of an output piece by piece.
+/// A sink: it takes the bytes of an output piece by piece.
 ///
-/// As POSIX's `write`, it may take a part of a piece. A caller writes the rest again, until
-/// nothing is left, until `SinkFailed`, or until nothing is taken of a rest that is not empty:
-/// the last two are faults, and are counted.
+/// Like POSIX's `write`, it may take a part of a piece. A caller writes the rest again, until
+/// nothing is left, until `SinkFailed`, or until nothing is taken of a nonempty rest: the last two
+/// are errors, and are counted.
 pub trait Sink {
-    /// The bytes written so far, where the sink tells them.
+    /// The bytes written so far, if the sink makes them known.
     ghost written: { Self → Option (List ℕ) };
 
-    /// The count of writes that failed or took nothing of a piece that is not empty; it never
-    /// falls.
+    /// The count of writes that failed or took nothing of a nonempty piece; it never decreases.
     ghost faults: { Self → ℕ };
 
-    /// A write of that piece, which took so many of its bytes (0 where it failed), leads from the
-    /// first sink to the second. Code that is generic over its sink knows no other way from one
-    /// sink to the next, so by this it tells which pieces it wrote, in which order, and that no
-    /// write follows a failed one (`IsWritten`, `IsCutOff`).
+    /// A write of that piece that took so many of its bytes (0 if it failed) leads from the first
+    /// sink to the second. Code that is generic over its sink has no other way from one sink to the
+    /// next, so this says which pieces it wrote, in which order, and that no write follows a failed
+    /// one (`IsWritten`, `IsCutOff`).
     ghost writes: { Self → List ℕ → ℕ → Self → Type 0 };
 
-    /// Appends the first bytes of the piece, and answers how many.
+    /// Appends the first bytes of the piece, and returns how many.
     ///
-    /// `SinkFailed`, and 0 for a piece that is not empty, come only where the count of faults
-    /// rose in this call. After `SinkFailed` what was written is as before.
+    /// `SinkFailed`, and 0 for a nonempty piece, come only if the count of errors rose in this
+    /// call. After `SinkFailed` the bytes written are as before.
     fn write(&mut self, bytes: &[u8]) -> Result<usize, SinkFailed>
         ensures writes { writes self.old bytes.now (taken_by result) self.new }
         ensures within { IfOk result (λ count. count ≤ length bytes.now) }

@@ -1,4 +1,4 @@
-//! A place that gives the bytes of an input piece by piece.
+//! A source returns the bytes of an input piece by piece.
 ghost use Rattle.std.specs.Prelude.{◌≡◌, ◌≤◌, ◌<◌, ℕ, List, IfOk, OnErr, length, take};
 ghost use Rattle.std.specs.declared.option.Option.{Option};
 ghost use Rattle.outside.specs.Faults.{Rose};
@@ -19,27 +19,26 @@ impl fmt::Display for SourceFailed {
 
 impl Error for SourceFailed {}
 
-/// A place that gives the bytes of an input piece by piece.
+/// A source: it returns the bytes of an input piece by piece.
 ///
-/// As POSIX's `read`, it may fill a part of a piece, and fills nothing of one that is not empty
-/// only at the end. So the bytes that are left are the same whatever the pieces are in which they
-/// come.
+/// Like POSIX's `read`, it may fill a part of a piece, and fills nothing of a nonempty one only at
+/// the end. So the bytes that are left are the same in whatever pieces they come.
 pub trait Source {
-    /// The bytes that are left to read, where the source tells them.
+    /// The bytes that are left to read, if the source makes them known.
     ghost left: { Self → Option (List ℕ) };
 
-    /// The count of reads that failed; it never falls.
+    /// The count of reads that failed; it never decreases.
     ghost faults: { Self → ℕ };
 
-    /// A read that gave these bytes, or failed, leads from the first source to the second. Code
-    /// that is generic over its source knows no other way from one source to the next, so by this
-    /// it tells what its reads gave, and in which order.
+    /// A read that returned these bytes, or failed, leads from the first source to the second. Code
+    /// that is generic over its source has no other way from one source to the next, so this says
+    /// what its reads returned, and in which order.
     ghost reads: { Self → Option (List ℕ) → Self → Type 0 };
 
-    /// Puts the next bytes at the front of the piece, and answers how many.
+    /// Puts the next bytes at the front of the piece, and returns how many.
     ///
-    /// 0 for a piece that is not empty comes only at the end. `SourceFailed` comes only where the
-    /// count of faults rose in this call, and then as many bytes are left as before.
+    /// 0 for a nonempty piece comes only at the end. `SourceFailed` comes only if the count of
+    /// errors rose in this call, and then as many bytes are left as before.
     fn read(&mut self, piece: &mut [u8]) -> Result<usize, SourceFailed>
         ensures reads { reads self.old (given_by result piece.new) self.new }
         ensures within { IfOk result (λ count. count ≤ length piece.old) }

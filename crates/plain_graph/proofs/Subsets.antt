@@ -1,12 +1,12 @@
--- Each set of numbers 1 to n is in the list of all of them, as its rising list: the sets without
--- n come first, then the same sets with n added. So a test that passes for a set passes for an
--- item of the list.
+-- Each set of numbers 1 to n is in the list of all of them, as its increasing list: the sets
+-- without n come first, then the same sets with n added. So a test that passes for a set passes for
+-- an item of the list.
 use Rattle.std.proofs.Common.{◌≡◌, ℕ, suc, zero, ◌+◌, ◌≤◌, ◌<◌, Bool, true, false, ◌==◌, ◌||◌, refl, sym, ap, ap₂, ◌∙◌, arith, List, [], ◌∷◌, ◌++◌, length, map, filter, get_or, subst, cond, append-nil, eq-eqb, ne_eqb, All, Contains}
 use Rattle.counting.proofs.Common.{or_right, get_or-map, length-map, All-cons, All-map, All-nil, rising_list-congr, rising_list-mem, rising_list-rises, same_rising_list, set-none, set-wider, mem-append, or_false, IsRisingIn, mem, rising_list, Set}
 use Rattle.std.proofs.lemmas.List.Elements.{All-append, All-weaker, Contains-append_left, Contains-append_right, Contains-push}
 use Rattle.plain_graph.specs.Subsets.{subsets}
 
--- the next number at the end of a rising list is the next number in its set
+-- the next number at the end of an increasing list is the next number in its set
 push-rising_list : (n : ℕ) (xs : List ℕ) → IsRisingIn n xs → rising_list (suc n) (λ v. mem xs v || (suc n == v)) ≡ xs ++ suc n ∷ []
 push-rising_list n xs r = ap₂ (λ ys b. ys ++ cond b (suc n ∷ []) [])
     (rising_list-congr n (λ v. mem xs v || (suc n == v)) (mem xs) (λ v w. rw (ne_eqb (suc n) v (λ e. absurd (omega arith))) (or_false (mem xs v))) ∙ rising_list-mem n xs r)

@@ -1,5 +1,5 @@
--- What a trial of all sets of edges tells of the tests that quantify over sets: a matching is on
--- the list as its rising list, and a test of a set of edges sees nothing but the edges.
+-- What trying all sets of edges says about the tests that quantify over sets: a matching is on the
+-- list as its increasing list, and a test of a set of edges depends only on the edges.
 use Rattle.std.proofs.Common.{◌≡◌, ℕ, ◌+◌, ◌≤◌, ◌<◌, ◌==◌, ◌&&◌, true, false, not, refl, sym, ap, ap₂, ◌∙◌, arith, List, [], length, get_or, eq-eqb, eqb-true, ne_eqb, subst, inl, inr, max, All, Contains}
 use Rattle.counting.proofs.Common.{same_tests, and_from, and_left, and_parts, both_ways, cases_Bool, cases_eq, cases_lt, false_from_ne_true, count_mem_length, set_found, count_congr, length-rising_list, mem-rising_list, every_true, total_none, list_all, list_any, Within, count, is_odd, IsRisingIn, mem, rising_list, Set, complement, none, every}
 use Rattle.std.proofs.lemmas.List.{get_or_default}

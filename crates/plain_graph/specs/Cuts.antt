@@ -4,6 +4,6 @@ use Rattle.std.specs.Prelude.{Bool, ◌&&◌}
 use Rattle.counting.specs.Common.{count, is_odd, Set, complement}
 use Rattle.graph_core.specs.Common.{Graph}
 
--- the number of vertices is odd inside and outside of x
+-- |x| and |V - x| are odd
 abbrev pub has_odd_sides : Graph → Set → Bool
 has_odd_sides g x = is_odd (count g.order x) && is_odd (count g.order (complement x))

@@ -1,4 +1,4 @@
--- The first pair of a list that no edge of a graph can be, and why.
+-- The first pair of a list that cannot be an edge of a graph, and why.
 -- Stated by: plain_graph.
 use Rattle.std.specs.Prelude.{◌≢◌, ℕ, ◌<◌, ◌≤◌, List, length, slice_index_or}
 use Rattle.counting.specs.Common.{Within}

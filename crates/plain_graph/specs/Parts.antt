@@ -4,6 +4,6 @@ use Rattle.std.specs.Prelude.{◌&&◌}
 use Rattle.counting.specs.Common.{count, is_odd, Set}
 use Rattle.graph_core.specs.Common.{is_least, Graph, joined}
 
--- u is the least vertex of a component of g without s that has an odd number of vertices
+-- u is the least vertex of a component of g - s that has an odd number of vertices
 unfoldable pub begins_odd_part : Graph → Set → Set
 begins_odd_part g s u = is_least g s u && is_odd (count g.order (joined g s u))

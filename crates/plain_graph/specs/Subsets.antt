@@ -4,11 +4,11 @@ use Rattle.std.specs.Prelude.{ℕ, zero, suc, List, [], ◌∷◌, ◌++◌, fil
 use Rattle.counting.specs.Common.{mem, Set}
 use Rattle.graph_core.specs.Common.{Graph, size, is_perfect}
 
--- all sets of numbers 1 to n as rising lists: those without n, then those with n
+-- all sets of numbers 1 to n as increasing lists: those without n, then those with n
 abbrev pub subsets : ℕ → List (List ℕ)
 subsets zero = [] ∷ []
 subsets (suc n) = subsets n ++ map (λ xs. xs ++ suc n ∷ []) (subsets n)
 
--- the perfect matchings of g without r, as rising lists of edges
+-- the perfect matchings of g - r, as increasing lists of edges
 abbrev pub perfect_matchings_of : Graph → Set → List (List ℕ)
 perfect_matchings_of g r = filter (λ m. is_perfect g r (mem m)) (subsets (size g))

@@ -1,4 +1,4 @@
-//! What most calls ask of a graph first: whether it is matching covered, and whether it is
+//! What most calls need to know of a graph first: whether it is matching covered, and whether it is
 //! bipartite.
 ghost use Rattle.std.specs.Prelude.{◌↔◌, IsTrue, IfOk};
 ghost use Rattle.graph_core.specs.Common.{IsCovered, IsBipartite};
@@ -14,7 +14,7 @@ pub fn is_covered(alloc: Global, g: &MultiGraph) -> Result<bool, Memory>
     g.keeps_limits();
     match covered(alloc, g)? {
         Verdict::Covered => Ok(true),
-        // one reason is named, so that the borrow checker is told of their type
+        // one reason is named, so that the borrow checker knows their type
         Verdict::NotCovered(Reason::Small) => Ok(false),
         Verdict::NotCovered(_) => Ok(false),
     }

@@ -31,7 +31,7 @@ pub fn degree(graph: &MultiGraph, edges: VSet, v: u32) -> u32
     found
 }
 
-/// How many edges of a perfect matching of the graph without `removed` are at `v`.
+/// The degree of `v` in a perfect matching of G - `removed`.
 fn wanted_at(removed: VSet, v: u32) -> u32
     requires { Within MOST_VERTICES v }
     ensures { result ≡ cond (mem removed v) 0 1 }
@@ -39,7 +39,7 @@ fn wanted_at(removed: VSet, v: u32) -> u32
     if removed.contains(v) { 0 } else { 1 }
 }
 
-/// Whether the edges are a matching of the graph without `removed`.
+/// Whether the edges are a matching of G - `removed`.
 pub fn is_matching(graph: &MultiGraph, removed: VSet, edges: VSet) -> bool
     requires { IsSmall graph.now }
     ensures { result ≡ is_matching graph.now (mem removed) (mem edges) }
@@ -52,7 +52,7 @@ pub fn is_matching(graph: &MultiGraph, removed: VSet, edges: VSet) -> bool
     true
 }
 
-/// Whether the edges are a perfect matching of the graph without `removed`.
+/// Whether the edges are a perfect matching of G - `removed`.
 pub fn is_perfect(graph: &MultiGraph, removed: VSet, edges: VSet) -> bool
     requires { IsSmall graph.now }
     ensures { result ≡ is_perfect graph.now (mem removed) (mem edges) }

@@ -1,22 +1,18 @@
 //! What the tests of the engine share: graphs of the literature, and a plain, slow program with
-//! which they compare its answers.
+//! which they compare its results.
 //!
-//! The graphs are constants of `worked`, and `graph_with` makes the multigraph of one; what is
-//! asked of them is worked out by hand in the tests. `is_covered` and `is_bipartite` answer what
-//! most calls ask of a graph first.
+//! The graphs are constants of `worked`, and `graph_with` makes the multigraph of one. `is_covered`
+//! and `is_bipartite` say what most calls need to know of a graph first.
 //!
 //! The program goes through all sets of edges of a graph of at most `MOST_PLAIN_VERTICES` vertices
 //! and `MOST_PLAIN_EDGES` edges (`is_small`), and tries each by the definitions' own tests:
-//! `degree`, `is_matching`, `is_perfect` and `edges_in_cut` of one edge set; `perfect_matchings`,
-//! `has_perfect`, `is_allowed` and `greatest_matching` over all of them; `is_tight` for a shore.
-//! `odd_component_count` follows walks of at most as many steps as there are vertices, step by
-//! step. A set of edges is a `VSet` of edge numbers. Each function's contract is the definition,
-//! so nothing here is clever: the crate shows on worked examples that the definitions say what is
-//! meant.
+//! `degree`, `is_matching`, `is_perfect`, `edges_in_cut`; `perfect_matchings`, `has_perfect`,
+//! `is_allowed`, `greatest_matching`; `is_tight` for a shore. `odd_component_count` follows walks
+//! of at most n steps. Each function's contract is the definition, so the crate shows on worked
+//! examples that the definitions say what is meant.
 //!
-//! Stands on `graph_core` for the graph and the definitions, and on `allowed_edges`. The graphs
-//! are those of Lovász and Plummer, "Matching Theory" (1986), and of Lucchesi and Murty, "Perfect
-//! Matchings".
+//! Depends on `graph_core` and `allowed_edges`. The graphs are in Lovász and Plummer, "Matching
+//! Theory" (1986), and in Lucchesi and Murty, "Perfect Matchings".
 #![tactic(auto)]
 
 mod asked;

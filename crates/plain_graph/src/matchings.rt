@@ -1,4 +1,4 @@
-//! All perfect matchings, and the greatest size of a matching.
+//! All perfect matchings, and the size of a maximum matching.
 ghost use Rattle.std.specs.Prelude.{◌≡◌, ◌≤◌, ℕ, true, All, Contains, IfOk, filter, length};
 ghost use Rattle.std.specs.List.{list_any};
 ghost use Rattle.counting.specs.Common.{Within, count, mem, rising_list, IsRisingIn, Set};
@@ -12,7 +12,7 @@ use graph_core::{MultiGraph, SetList};
 use std::alloc::{AllocError as Memory, Global};
 use vset_core::{MOST_VERTICES, VSet};
 
-/// Those of the sets that are perfect matchings of the graph without `removed`.
+/// Those of the sets that are perfect matchings of G - `removed`.
 fn perfect_among(
     alloc: Global,
     graph: &MultiGraph,
@@ -32,7 +32,7 @@ fn perfect_among(
     Ok(found)
 }
 
-/// All perfect matchings of the graph without `removed`, as sets of edge numbers.
+/// All perfect matchings of G - `removed`, as sets of edge numbers.
 pub fn perfect_matchings(
     alloc: Global,
     graph: &MultiGraph,
@@ -50,7 +50,7 @@ pub fn perfect_matchings(
     Ok(found)
 }
 
-/// Whether the graph without `removed` has a perfect matching.
+/// Whether G - `removed` has a perfect matching.
 pub fn has_perfect(alloc: Global, graph: &MultiGraph, removed: VSet) -> Result<bool, Memory>
     requires { IsSmall graph.now }
     ensures { IfOk result (λ found. found ≡ has_perfect graph.now (mem removed)) }
@@ -77,8 +77,7 @@ pub fn is_allowed(alloc: Global, graph: &MultiGraph, edge: u32) -> Result<bool, 
     Ok(is_in_some(matchings.as_slice(), edge))
 }
 
-/// The greatest size of those of the sets that are matchings of the graph without `removed`, and
-/// 0 where none is.
+/// The largest size of those of the sets that are matchings of G - `removed`, or 0 if none is.
 fn greatest_among(graph: &MultiGraph, removed: VSet, sets: &[VSet]) -> u32
     requires small { IsSmall graph.now }
     requires edges { All (IsRisingIn (size graph.now)) sets.now }
@@ -95,7 +94,7 @@ fn greatest_among(graph: &MultiGraph, removed: VSet, sets: &[VSet]) -> u32
     most
 }
 
-/// The greatest size of a matching of the graph without `removed`.
+/// The size of a maximum matching of G - `removed`.
 pub fn greatest_matching(alloc: Global, graph: &MultiGraph, removed: VSet) -> Result<u32, Memory>
     requires { IsSmall graph.now }
     ensures reached { IfOk result (λ most. has_matching_of graph.now (mem removed) most ≡ true) }

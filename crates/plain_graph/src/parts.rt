@@ -7,7 +7,7 @@ ghost use Rattle.plain_graph.specs.Parts.{begins_odd_part};
 use graph_core::MultiGraph;
 use vset_core::VSet;
 
-/// Whether an edge of the graph without `removed` joins the two vertices.
+/// Whether an edge of G - `removed` joins the two vertices.
 fn is_step(graph: &MultiGraph, removed: VSet, u: u32, v: u32) -> bool
     requires first { Within graph.now.order u }
     requires second { Within graph.now.order v }
@@ -31,7 +31,7 @@ fn is_next(graph: &MultiGraph, removed: VSet, reached: VSet, v: u32) -> bool
     false
 }
 
-/// The vertices that were reached, and those that one step more reaches.
+/// The vertices that were reached, and those that one more step reaches.
 fn one_step_more(graph: &MultiGraph, removed: VSet, reached: VSet) -> VSet
     requires { (v : ℕ) → mem reached v ≡ true → Within graph.now.order v }
     ensures more { (v : ℕ) → Within graph.now.order v →
@@ -48,7 +48,7 @@ fn one_step_more(graph: &MultiGraph, removed: VSet, reached: VSet) -> VSet
     more
 }
 
-/// The vertices that walks of the graph without `removed` lead to from `u`.
+/// The vertices that walks of G - `removed` reach from `u`.
 fn joined_to(graph: &MultiGraph, removed: VSet, u: u32) -> VSet
     requires { Within graph.now.order u }
     ensures joined { (v : ℕ) → Within graph.now.order v →
@@ -63,7 +63,7 @@ fn joined_to(graph: &MultiGraph, removed: VSet, u: u32) -> VSet
     reached
 }
 
-/// Whether `u` is the least vertex of a component of the graph without `removed`.
+/// Whether `u` is the least vertex of a component of G - `removed`.
 fn is_least(graph: &MultiGraph, removed: VSet, u: u32) -> bool
     requires { Within graph.now.order u }
     ensures { result ≡ is_least graph.now (mem removed) u }
@@ -75,7 +75,7 @@ fn is_least(graph: &MultiGraph, removed: VSet, u: u32) -> bool
     joined_to(graph, removed, u).first().unwrap_or(u) == u
 }
 
-/// Whether walks of the graph without `removed` lead to an odd number of vertices from `u`.
+/// Whether walks of G - `removed` reach an odd number of vertices from `u`.
 fn is_in_odd_part(graph: &MultiGraph, removed: VSet, u: u32) -> bool
     requires { Within graph.now.order u }
     ensures { result ≡ is_odd (count graph.now.order (joined graph.now (mem removed) u)) }
@@ -85,7 +85,7 @@ fn is_in_odd_part(graph: &MultiGraph, removed: VSet, u: u32) -> bool
     part.len() % 2 == 1
 }
 
-/// Whether `u` is the least vertex of an odd component of the graph without `removed`.
+/// Whether `u` is the least vertex of an odd component of G - `removed`.
 #[tactic(auto, unfolding(crate::specs::Parts::begins_odd_part))]
 fn begins_odd_part(graph: &MultiGraph, removed: VSet, u: u32) -> bool
     requires { Within graph.now.order u }
@@ -94,8 +94,7 @@ fn begins_odd_part(graph: &MultiGraph, removed: VSet, u: u32) -> bool
     is_least(graph, removed, u) && is_in_odd_part(graph, removed, u)
 }
 
-/// o(S): the number of components of the graph without `removed` that have an odd number of
-/// vertices.
+/// o(S): the number of odd components of G - S, where S is `removed`.
 #[tactic(auto, unfolding(graph_core::specs::Components::odd_component_count, crate::specs::Parts::begins_odd_part))]
 pub fn odd_component_count(graph: &MultiGraph, removed: VSet) -> u32
     ensures { result ≡ odd_component_count graph.now (mem removed) }

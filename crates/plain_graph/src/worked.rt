@@ -8,7 +8,7 @@ use graph_core::{AddFault, MOST_EDGES, MultiGraph};
 use std::alloc::Global;
 use vset_core::MOST_VERTICES;
 
-/// Two edges apart, on 4 vertices.
+/// Two disjoint edges, on 4 vertices.
 pub const TWO_EDGES: [(u32, u32); 2] = [(1, 2), (3, 4)];
 
 /// The path of three edges, on 4 vertices.
@@ -41,8 +41,8 @@ pub const CYCLE_OF_8: [(u32, u32); 8] = [
 /// The cycle of four with one edge doubled.
 pub const DOUBLED_SQUARE: [(u32, u32); 5] = [(1, 2), (1, 2), (2, 3), (3, 4), (4, 1)];
 
-/// Three odd cycles, each around the one before, and a stem, on 8 vertices: 1 2 3, then 4 5 with
-/// it, then 6 7 with these; and 8 at 7.
+/// The triangle 1 2 3 with the paths 1 4 5 2 and 4 6 7 3 and the edge 7 8 added, on 8 vertices:
+/// three nested blossoms and a stem.
 pub const FLOWER: [(u32, u32); 10] = [
     (1, 2),
     (4, 5),
@@ -136,7 +136,7 @@ pub const TRIANGLE_IN_K33: [(u32, u32); 12] = [
     (8, 6),
 ];
 
-/// Two K4 that share the edge 1-2, on 6 vertices.
+/// Two copies of K4 that share the edge 1-2, on 6 vertices.
 pub const TWO_K4: [(u32, u32); 11] = [
     (1, 2),
     (1, 3),
@@ -151,10 +151,10 @@ pub const TWO_K4: [(u32, u32); 11] = [
     (5, 6),
 ];
 
-/// The graph of `order` vertices with these edges, numbered in their order. A fault is that of
-/// the first edge that has one: `Range` where an end is not a vertex, `Loop` where the two ends
-/// are one vertex, `TooMany` where there are `MOST_EDGES` edges before it; without a fault there
-/// is no error but `Memory`.
+/// The graph of `order` vertices with these edges, numbered in their order. An error is that of the
+/// first edge that has one: `Range` if an end is not a vertex, `Loop` if the two ends are one
+/// vertex, `TooMany` if there are `MOST_EDGES` edges before it. Otherwise the only error is
+/// `Memory`.
 pub fn graph_with(alloc: Global, order: u32, edges: &[(u32, u32)]) -> Result<MultiGraph, AddFault>
     requires { order ≤ MOST_VERTICES }
     ensures graph { IfOk result (λ g. g ≡ record { order = order; ends = edges.now }) }

@@ -1,5 +1,5 @@
 -- Which bipartite covered graphs are braces? The theorem on braces: there is no nontrivial tight
--- cut exactly when a perfect matching is left without any two vertices of each side.
+-- cut if and only if deleting any two vertices of each side leaves a graph with a perfect matching.
 use Rattle.std.proofs.Common.{◌↔◌, arith}
 use Rattle.graph_core.proofs.Common.{IsSide, IsCovered, Graph, IsGraph, IsTight, IsNontrivial}
 use Rattle.counting.proofs.Common.{Set}

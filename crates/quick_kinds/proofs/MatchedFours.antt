@@ -1,7 +1,7 @@
--- Has a bipartite covered graph a nontrivial tight cut, where a perfect matching is left without
--- any two vertices of each side? No: a tight set has one vertex more of one side, and no edge
--- leaves it from the other; so two of the larger side in it, and two of the other side outside
--- it, leave no perfect matching.
+-- If deleting any two vertices of each side of a bipartite covered graph leaves a graph with a
+-- perfect matching, there is no nontrivial tight cut. A tight set has one more vertex of one side,
+-- and no edge leaves it from the other side; so deleting two vertices of the larger side inside it,
+-- and two of the other side outside it, leaves no perfect matching.
 use Rattle.std.proofs.Common.{◌≡◌, ℕ, suc, zero, ◌+◌, ◌*◌, ◌≤◌, ◌≢◌, Bool, true, false, ◌==◌, refl, ◌∙◌, arith, ◌&&◌, ◌||◌, not, ne_eqb}
 use Rattle.counting.proofs.Common.{and_parts, not-false, not-true, count_congr, count_minus, two_of, count_split, total_congr, total_le, and_comm, bit, count, Within, Set, minus, meet, complement, singleton}
 use Rattle.barrier_kit.proofs.Common.{perfect_congr}

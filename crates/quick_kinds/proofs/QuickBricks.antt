@@ -1,6 +1,6 @@
--- The first cut that classes or cut pairs give. A graph without a cut of a class is bicritical,
--- since a class of two vertices gives a cut; a bicritical graph without a cut of a cut pair has
--- no cut pair.
+-- The first cut that classes or cut pairs give. If no class gives a cut, the graph is bicritical,
+-- since a class of two vertices gives a cut; a bicritical graph in which no cut pair gives a cut
+-- has no cut pair.
 use Rattle.std.proofs.Common.{◌≡◌, ℕ, ◌≤◌, true, ◌==◌, refl, sym, ap, ◌∙◌, ◌⊎◌, inl, inr, List, [], ◌∷◌, ◌++◌, length, Option, Some, None, arith, eqb-true, subst, ◌↔◌, All, slice_get}
 use Rattle.counting.proofs.Common.{none-some, same_Some, All-head, Set}
 use Rattle.graph_core.proofs.Common.{IsCovered, Graph, IsBipartite, IsMultigraph, IsBicritical, IsCutPair, equivalent_pair, IsNontrivial, IsTight}
@@ -54,7 +54,7 @@ module _ (g : Graph) (is : IsMultigraph g) (cov : IsCovered g) (odd : IsBipartit
   pub no_cut-pair : barrier_cuts g ≡ [] → separation_cuts g ≡ [] → (u v : ℕ) → IsCutPair g u v → ⊥
   no_cut-pair e f u v c = pair_some_cut g is.ends (no_cuts-bicritical e) at_least_four u v c f
 
--- what holds exactly when the graph is bicritical and has no cut pair holds exactly when no
--- nontrivial shore is tight
+-- a condition equivalent to "bicritical without a cut pair" is equivalent to: no nontrivial shore
+-- is tight
 pub none-brick : (g : Graph) (A : Type 0) → IsMultigraph g → IsCovered g → (IsBipartite g → ⊥) → A ↔ (IsBicritical g × ((u v : ℕ) → IsCutPair g u v → ⊥)) → A ↔ ((x : Set) → IsTight g x → IsNontrivial g.order x → ⊥)
 none-brick g A is cov odd h = let b = brick_or_not g is cov odd in ((λ a. b.1 (h.0 a)), (λ none. h.1 (b.0 none)))

@@ -10,10 +10,11 @@ use separation_kit::separation_cuts;
 use std::alloc::{AllocError as Memory, Global};
 use vset_core::VSet;
 
-/// A nontrivial tight cut of a covered graph that is not bipartite, by its canonical shore: the
-/// first of `barrier_cuts`, or the first of `separation_cuts` where there is none. `None` comes
-/// exactly when no nontrivial shore is tight, so for the bricks (clause `brick`), which are those
-/// that are bicritical and have no cut pair (Edmonds, Lovász and Pulleyblank 1982).
+/// A nontrivial tight cut of a nonbipartite covered graph, by its canonical shore: the first of
+/// `barrier_cuts`, or if there is none, the first of `separation_cuts`. `None` comes if and only if
+/// no nontrivial shore is tight, that is, for the bricks (clause `brick`), which are the graphs
+/// that are bicritical and have no cut pair (Edmonds, Lovász and Pulleyblank 1982). The only error
+/// is `Memory`.
 pub fn quick_brick(alloc: Global, g: &MultiGraph) -> Result<Option<VSet>, Memory>
     requires covered { IsCovered g.now }
     requires odd { ¬ (IsBipartite g.now) }

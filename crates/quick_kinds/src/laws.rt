@@ -4,9 +4,9 @@ ghost use Rattle.counting.specs.Common.{Set};
 ghost use Rattle.graph_core.specs.Common.{IsCovered, Graph, IsGraph, HasOnlyTrivialTightCuts, IsSide};
 ghost use Rattle.quick_kinds.specs.Braces.{AreFoursMatched};
 
-/// The theorem on braces: a covered graph with the sides x and its complement has no nontrivial
-/// tight cut exactly when it has a perfect matching without any two vertices of each side (Lovász
-/// and Plummer, "Matching Theory").
+/// The theorem on braces: a covered graph whose sides are x and its complement has no nontrivial
+/// tight cut if and only if deleting any two vertices of each side leaves a graph with a perfect
+/// matching (Lovász and Plummer, "Matching Theory").
 pub fn brace_law()
     ensures { (g : Graph) (x : Set) → IsGraph g → IsCovered g → IsSide g x →
         HasOnlyTrivialTightCuts g ↔ AreFoursMatched g x }

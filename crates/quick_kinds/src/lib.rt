@@ -1,16 +1,15 @@
-//! Quick tests for braces and bricks, which do not search for all tight cuts.
+//! Fast tests for braces and bricks, which do not list all tight cuts.
 //!
-//! A brace is a bipartite and a brick a nonbipartite covered graph without nontrivial tight cut.
-//! `quick_brace` is true exactly for the braces among the bipartite covered graphs with at least
-//! four vertices, by reachability in the digraph of a perfect matching; the theorem on braces
-//! stands beside it (`brace_law`). `quick_brick` answers `None` exactly for the bricks among the
-//! covered graphs that are not bipartite, which are those that are bicritical and have no cut
-//! pair, by the theorem of Edmonds, Lovász and Pulleyblank (`bricks_law` of `brick_kit`);
-//! otherwise it answers a canonical nontrivial tight shore.
+//! A brace is a bipartite and a brick a nonbipartite covered graph without a nontrivial tight cut.
+//! `quick_brace` says whether a bipartite covered graph with at least four vertices is a brace, by
+//! reachability in the digraph of a perfect matching; `brace_law` is the theorem on braces.
+//! `quick_brick` returns `None` if and only if a nonbipartite covered graph is a brick, that is,
+//! bicritical without a cut pair, by the theorem of Edmonds, Lovász and Pulleyblank (`bricks_law`
+//! of `brick_kit`); otherwise it returns a canonical nontrivial tight shore.
 //!
-//! Stands on `match_core`, `barrier_kit`, `separation_kit`, `brick_kit` and `matching_digraph`,
-//! and not on the complete search. Sources: Lovász and Plummer, "Matching Theory"; Edmonds,
-//! Lovász and Pulleyblank 1982.
+//! Depends on `match_core`, `barrier_kit`, `separation_kit`, `brick_kit` and `matching_digraph`,
+//! but not on the complete search. Sources: Lovász and Plummer, "Matching Theory"; Edmonds, Lovász
+//! and Pulleyblank 1982.
 #![tactic(auto)]
 
 mod brace;

@@ -1,4 +1,5 @@
--- The names of the first blocks of a partition, with one more.
+-- The names of the first i + 1 blocks of a partition are those of the first i and the name of the
+-- next block. Idea: the first items of a list with one more, and a map along both.
 use Rattle.std.proofs.Common.{◌≡◌, ◌+◌, ℕ, List, [], ◌∷◌, ◌++◌, Some, take, slice_get, arith}
 use Rattle.std.proofs.Math.Seq.{take-suc}
 use Rattle.counting.proofs.Common.{map-append, get_or_from_slice_get, last_of}

@@ -131,7 +131,7 @@ leaves-commented g ps kinds (suc k) few some =
     (whole_leaf-commented g (suc k) (leaf_at ps (suc k)) (kind_at kinds (suc k)) (omega arith) few.edges
     (blocks-small g.order (leaf_at ps (suc k)) few.order (All-get_or (IsPartition g.order) ps (suc k - 1) [] (omega arith) few.partitions)))
 
--- what stands after the text of a decomposition
+-- what follows the text of a decomposition
 pub derivation-commented : (text : List ℕ) (g : Graph) (ps : List (List (List ℕ))) (kinds : List LeafKind) → HasFewLeaves g ps kinds → IsCommented text (derivation_text text g ps kinds)
 unfolding derivation_text
 derivation-commented text g ps kinds few =

@@ -1,5 +1,5 @@
--- The lines of the leaves grow by those of one leaf: those before it tell their own kinds.
--- By induction over the leaves, and what stands at a place stays where a kind is appended.
+-- The lines of the leaves grow by those of one leaf: those before it give their own kinds. By
+-- induction over the leaves, and the items before stay when a kind is appended.
 use Rattle.std.proofs.Common.{◌≡◌, ◌≤◌, ℕ, zero, suc, ◌+◌, ◌-◌, List, [], ◌∷◌, ◌++◌, length, map, refl, slice_get, Some, arith}
 use Rattle.std.proofs.Math.ListN.{get_or-append}
 use Rattle.counting.proofs.Common.{get_or-append_seam}
@@ -10,7 +10,7 @@ use Rattle.tree_core.specs.declared.tallies.LeafKind.{LeafKind}
 use Rattle.tree_core.specs.declared.tallies.LeafKind.TheVariants.{Brick}
 use Rattle.report_text.proofs.WrittenLines.{leaf-written}
 
--- the lines of the first leaves don't tell the kinds of later ones
+-- the lines of the first leaves do not give the kinds of later ones
 lines-before : (g : Graph) (ps : List (List (List ℕ))) (kinds more : List LeafKind) (i : ℕ) → i ≤ length kinds → leaf_lines g ps kinds i ≡ leaf_lines g ps (kinds ++ more) i
 lines-before g ps kinds more zero l = refl
 lines-before g ps kinds more (suc i) l = grind (arith, lines-before g ps kinds more i (omega arith), get_or-append kinds more Brick (suc i - 1))

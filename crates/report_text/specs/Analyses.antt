@@ -1,4 +1,4 @@
--- The report of `analyse` as a function of the values that it tells.
+-- The report of `analyse` as a function of the values in it.
 -- Stated by: report_text. Rests on it: bench_outcomes, bench_top, theorems.
 use Rattle.std.specs.Prelude.{List, ℕ, ◌++◌, codes}
 use Rattle.std.specs.declared.option.Option.{Option}
@@ -24,7 +24,7 @@ with_three_sets before lines = ((before ++ list_line (codes "D") lines.d) ++ lis
 abbrev pub with_verdict : List ℕ → AnalysisLines → List ℕ
 with_verdict before lines = (before ++ list_line (codes "allowed") lines.allowed) ++ verdict_text lines.verdict
 
--- the lines on the structure after others, where there is one
+-- the lines on the structure after others, if there is one
 abbrev pub with_structure : List ℕ → Option Structure → List ℕ
 with_structure before None = before
 with_structure before (Some structure) = before ++ structure_text structure

@@ -6,15 +6,15 @@ use Rattle.line_text.specs.Common.{IsComment, written}
 use Rattle.graph_core.specs.Common.{Graph, size, IsPartition}
 use Rattle.tree_core.specs.declared.tallies.LeafKind.{LeafKind}
 
--- the report is the text and after it lines that are comments
+-- the report is the text followed by lines that are comments
 pub record IsCommented (text report : List ℕ) : Type 0 where
   pub lines : List (List (List ℕ))
   pub each : AllByRecursion IsComment lines
   pub is : report ≡ text ++ written lines
 
--- what is told of leaves is told in numbers of at most nine digits: the leaves are partitions of
--- the vertices of the graph, there are no more kinds than leaves, and there are not too many
--- vertices, edges and leaves
+-- the numbers in the lines on the leaves have at most nine digits: the leaves are partitions of the
+-- vertices of the graph, there are no more kinds than leaves, and there are not too many vertices,
+-- edges and leaves
 pub record HasFewLeaves (g : Graph) (ps : List (List (List ℕ))) (kinds : List LeafKind) : Type 0 where
   pub order : g.order < 10 ^ 9
   pub edges : size g < 10 ^ 9

@@ -1,7 +1,7 @@
--- The report of `decompose` on a matching covered graph, as a function of the values that it
--- tells: a text, which is that of the tree, and after it comments: for each leaf its kind, its
--- blocks, and for each two adjacent blocks the edges of the graph between them; and last how many
--- leaves there are.
+-- The report of `decompose` on a matching covered graph, as a function of the values in it: a text,
+-- which is that of the tree, and after it comments: for each leaf its kind, its blocks, and for
+-- each pair of adjacent blocks the edges of the graph between them; and last how many leaves there
+-- are.
 -- Stated by: report_text. Rests on it: bench_outcomes, theorems.
 use Rattle.std.specs.Prelude.{ℕ, zero, suc, List, [], ◌++◌, length, slice_index_or, codes}
 use Rattle.std.specs.Fmt.{decimal}
@@ -26,7 +26,7 @@ block_lines p (suc k) = block_lines p k ++ list_line (codes "c block") (slice_in
 abbrev pub adjacent_line : (a b : ℕ) → List ℕ → List ℕ
 adjacent_line a b edges = codes "c edge " ++ decimal a ++ codes " " ++ decimal b ++ codes " by" ++ numbers_text edges ++ codes "\n"
 
--- the name of the block at a place, counted from 1: its greatest vertex
+-- the name of the block at a place, counted from 1: its highest-numbered vertex
 abbrev pub name_at : List (List ℕ) → ℕ → ℕ
 name_at p i = last_of (block p i)
 

@@ -1,4 +1,4 @@
--- The lines that judge a tree or an ear list, as functions of the values that they tell.
+-- The lines that judge a tree or an ear list, as functions of the values in them.
 -- Stated by: report_text. Rests on it: bench_outcomes, bench_top, theorems.
 use Rattle.std.specs.Prelude.{ℕ, List, [], ◌++◌, Option, Some, None, codes}
 use Rattle.std.specs.Fmt.{decimal}
@@ -26,8 +26,8 @@ accepted_line tally = codes "accepted" ++ tally_end tally
 unfoldable pub numbered : List ℕ → ℕ → List ℕ
 numbered words number = words ++ decimal number
 
--- a line that words and a number begin, and that tells the refusal of a tree: the node, the
--- reason, and what shows it
+-- a line that begins with words and a number and gives the refusal of a tree: the node, the reason,
+-- and what shows it
 abbrev pub refused_line : (words : List ℕ) (number node why : ℕ) → Shown → List ℕ
 refused_line words number node why what =
     (((numbered words number ++ numbered (codes " refused node ") node) ++ numbered (codes " why ") why) ++ shown_text what) ++ codes "\n"
@@ -42,7 +42,7 @@ abbrev pub edge_text : Option ℕ → List ℕ
 edge_text None = []
 edge_text (Some edge) = codes " edge " ++ decimal edge
 
--- at which step an ear list is refused and for which reason
+-- the step at which an ear list is refused, and the reason
 unfoldable pub step_refusal_text : (step why : ℕ) → List ℕ
 step_refusal_text step why = codes "refused step " ++ decimal step ++ codes " why " ++ decimal why
 

@@ -1,5 +1,5 @@
--- The lines of the reports as functions of the values that they tell; the report of `analyse` is
--- in Analyses.antt.
+-- The lines of the reports as functions of the values in them; the report of `analyse` is in
+-- Analyses.antt.
 -- Stated by: report_text. Rests on it: bench_outcomes, bench_top, theorems.
 use Rattle.std.specs.Prelude.{ℕ, zero, suc, List, [], ◌∷◌, ◌++◌, length, slice_index_or, Bool, if◌then◌else◌, codes}
 use Rattle.std.specs.Fmt.{decimal}
@@ -21,7 +21,7 @@ count_line word count = word ++ codes " " ++ decimal count ++ codes "\n"
 abbrev pub components_line : ℕ → List ℕ
 components_line count = count_line (codes "components") count
 
--- the line that tells whether the graph is bipartite
+-- the line that says whether the graph is bipartite
 abbrev pub bipartite_line : Bool → List ℕ
 bipartite_line holds = codes "bipartite " ++ yes_or_no holds ++ codes "\n"
 
@@ -34,7 +34,7 @@ numbers_text (n ∷ ns) = codes " " ++ (decimal n ++ numbers_text ns)
 abbrev pub list_line : List ℕ → List ℕ → List ℕ
 list_line word ns = word ++ (numbers_text ns ++ codes "\n")
 
--- the numbers that show a reason: two vertices that no walk joins, a Berge set, or an edge
+-- the numbers that show a reason: two vertices in different components, a Berge set, or an edge
 abbrev pub reason_numbers : Reason → List ℕ
 reason_numbers Small = []
 reason_numbers (Parted a b) = a ∷ b ∷ []
@@ -59,7 +59,7 @@ abbrev pub deficiency_line : ℕ → List ℕ
 deficiency_line missed = count_line (codes "deficiency") missed
 
 -- the report of a file that is outside its format: its place among the named files, the line and
--- the kind of the fault
+-- the kind of the error
 unfoldable pub bad_input_text : (file line kind : ℕ) → List ℕ
 bad_input_text file line kind = codes "file " ++ decimal file ++ codes " line " ++ decimal line ++ codes " kind " ++ decimal kind ++ codes "\n"
 

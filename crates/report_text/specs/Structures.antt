@@ -1,5 +1,4 @@
--- The lines on the structure of a matching covered graph, as functions of the values that they
--- tell.
+-- The lines on the structure of a matching covered graph, as functions of the values in them.
 -- Stated by: report_text.
 use Rattle.std.specs.Prelude.{ℕ, List, [], ◌∷◌, ◌++◌, length, codes}
 use Rattle.std.specs.declared.option.Option.{Option}
@@ -29,7 +28,7 @@ classes_lines classes = (codes "classes " ++ decimal (length classes) ++ codes "
 abbrev pub pair_line : List ℕ → Ends → List ℕ
 pair_line words pair = words ++ codes " " ++ decimal pair.a ++ codes " " ++ decimal pair.b ++ codes "\n"
 
--- the line that tells whether the graph is bicritical, and if not, two vertices that show it
+-- the line that says whether the graph is bicritical, and if not, gives two vertices that show it
 abbrev pub bicritical_line : Option Ends → List ℕ
 bicritical_line None = codes "bicritical yes\n"
 bicritical_line (Some pair) = pair_line (codes "bicritical no") pair

@@ -1,5 +1,5 @@
--- Words that lines of several reports share: answers, reasons why a graph is not matching covered,
--- kinds of graphs and of leaves, and counts of leaves.
+-- Words that lines of several reports share: yes and no, reasons why a graph is not matching
+-- covered, kinds of graphs and of leaves, and counts of leaves.
 -- Stated by: report_text. Rests on it: mcg6_lines.
 use Rattle.std.specs.Prelude.{List, ℕ, Bool, ◌++◌, if◌then◌else◌, codes}
 use Rattle.std.specs.Fmt.{decimal}
@@ -33,6 +33,6 @@ abbrev pub leaf_kind_word : LeafKind → List ℕ
 leaf_kind_word leaf.Brick = codes "brick"
 leaf_kind_word leaf.Brace = codes "brace"
 
--- the end of a line that tells how many leaves there are, and how many of each kind
+-- the end of a line that says how many leaves there are, and how many of each kind
 abbrev pub tally_end : Tally → List ℕ
 tally_end tally = codes " leaves " ++ decimal tally.leaves ++ codes " bricks " ++ decimal tally.bricks ++ codes " braces " ++ decimal tally.braces ++ codes "\n"

@@ -10,7 +10,7 @@ use graph_core::{Numbers, Verdict};
 use std::alloc::{AllocError as Memory, Global};
 use vset_core::VSet;
 
-/// What `analyse` tells of a graph.
+/// What `analyse` reports about a graph.
 #[derive(Drop)]
 pub struct AnalysisLines {
     /// The number of vertices.
@@ -27,7 +27,7 @@ pub struct AnalysisLines {
     pub deficiency: u32,
     /// The vertices that some maximum matching misses.
     pub d: VSet,
-    /// The vertices outside `d` that are adjacent to one of it.
+    /// The vertices outside `d` that are adjacent to a vertex of `d`.
     pub a: VSet,
     /// The rest.
     pub c: VSet,
@@ -35,7 +35,7 @@ pub struct AnalysisLines {
     pub allowed: Numbers,
     /// Whether the graph is matching covered, and if not, why.
     pub verdict: Verdict,
-    /// The structure, exactly when the graph is matching covered.
+    /// The structure, if and only if the graph is matching covered.
     pub structure: Option<Structure>,
 }
 
@@ -60,7 +60,7 @@ fn push_bipartite(text: &mut String, holds: bool) -> Result<(), Memory>
     write!(text, "bipartite {answer}\n")
 }
 
-// The lines from that of the graph to that of the deficiency, in a text that is empty.
+// The lines from that of the graph to that of the deficiency, appended to an empty text.
 fn push_numbers_told(text: &mut String, lines: &AnalysisLines) -> Result<(), Memory>
     requires { string_bytes text.old ≡ [] }
     ensures { OnOk result (string_bytes text.new ≡ numbers_told lines.now) }
@@ -82,7 +82,7 @@ fn push_three_sets(text: &mut String, lines: &AnalysisLines) -> Result<(), Memor
     push_set_line(text, "C", lines.c)
 }
 
-// The lines from that of the graph to that of the verdict, in a text that is empty.
+// The lines from that of the graph to that of the verdict, appended to an empty text.
 #[tactic(auto, unfolding(crate::specs::Analyses::verdict_lines))]
 fn push_to_verdict(text: &mut String, lines: &AnalysisLines) -> Result<(), Memory>
     requires { string_bytes text.old ≡ [] }
@@ -94,7 +94,7 @@ fn push_to_verdict(text: &mut String, lines: &AnalysisLines) -> Result<(), Memor
     push_verdict(text, &lines.verdict)
 }
 
-// The lines on the structure, where there is one.
+// The lines on the structure, if there is one.
 fn push_any_structure(text: &mut String, structure: &Option<Structure>) -> Result<(), Memory>
     ensures { OnOk result
         (string_bytes text.new ≡ with_structure (string_bytes text.old) structure.now) }
@@ -105,8 +105,8 @@ fn push_any_structure(text: &mut String, structure: &Option<Structure>) -> Resul
     }
 }
 
-/// Writes the lines of `analyse`: those of every graph, and then those on the structure, where
-/// there is one.
+/// Writes the lines of `analyse`: those of every graph, and then those on the structure, if there
+/// is one.
 #[tactic(auto, unfolding(crate::specs::Analyses::analysis_text))]
 pub fn analysis(alloc: Global, lines: &AnalysisLines) -> Result<Vec<u8>, Memory>
     ensures { IfOk result (λ text. text.items ≡ analysis_text lines.now) }

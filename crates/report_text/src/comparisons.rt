@@ -11,7 +11,7 @@ use move_text::push_move;
 use std::alloc::{AllocError as Memory, Global};
 use tree_core::{Move, Moves};
 
-/// What is told of one leaf of the first tree.
+/// What is reported about one leaf of the first tree.
 #[derive(Drop)]
 pub struct MapLine {
     /// The number of the leaf, counted from 1 in preorder.
@@ -24,10 +24,10 @@ pub struct MapLine {
     pub images: Numbers,
 }
 
-/// What is told of the leaves of the first tree.
+/// What is reported about the leaves of the first tree.
 pub type MapLines = Listed<MapLine>;
 
-/// The names of the blocks of a partition, in order: the greatest vertex of each.
+/// The names of the blocks of a partition, in order: the highest-numbered vertex of each.
 pub fn block_names(alloc: Global, p: &Partition) -> Result<Numbers, Memory>
     ensures { IfOk result (λ names. names ≡ names_of p.now.blocks) }
 {
@@ -115,9 +115,8 @@ fn push_maps(text: &mut String, maps: &[MapLine]) -> Result<(), Memory>
 }
 
 /// Writes how many leaves there are and how many moves, the moves in order, and for each leaf its
-/// partner and, for each of its blocks, the block's name and that of its image. Where a leaf has
-/// more names than images, or the other way round, what has no partner at the same place is left
-/// out.
+/// partner and, for each of its blocks, the block's name and that of its image. If a leaf has more
+/// names than images, or more images than names, the surplus is left out.
 #[tactic(auto, unfolding(crate::specs::Comparisons::pairing_text))]
 pub fn pairing(alloc: Global, moves: &Moves, maps: &MapLines) -> Result<Vec<u8>, Memory>
     ensures { IfOk result (λ text. text.items ≡ pairing_text (moves_of moves.now) maps.now) }

@@ -92,7 +92,7 @@ fn push_quotient(
     Ok(kind)
 }
 
-// The lines of the leaf at a partition, and its kind. Its quotient is made once for both.
+// The lines of the leaf at a partition, and its kind. Its quotient is computed once for both.
 fn push_leaf(
     alloc: Global,
     text: &mut String,
@@ -158,9 +158,9 @@ fn leaf_comments(alloc: Global, g: &MultiGraph, leaves: &Partitions) -> Result<S
 }
 
 /// Writes the text and then comments on the leaves, which are at these partitions of the vertices
-/// of `g`: for each its number and kind, its blocks, and for each two adjacent blocks their names
-/// and the edges of `g` between them; last how many leaves there are. A leaf is called a brace
-/// exactly when its quotient is bipartite, and a brick otherwise.
+/// of `g`: for each leaf its number and kind, its blocks, and for each pair of adjacent blocks
+/// their names and the edges of `g` between them; last the number of leaves. A leaf is called a
+/// brace if and only if its quotient is bipartite, and a brick otherwise.
 #[tactic(auto, unfolding(crate::specs::Derivations::derivation_text))]
 pub fn derivation(
     alloc: Global,

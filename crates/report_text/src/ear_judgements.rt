@@ -4,17 +4,16 @@ ghost use Rattle.report_text.specs.Common.{ear_judgement_text, edge_text, refuse
 
 use std::alloc::{AllocError as Memory, Global};
 
-/// What is told of an ear list.
+/// What is reported about an ear list.
 #[derive(Clone, Copy, Debug, PartialEq, Eq)]
 pub enum EarLine {
-    /// It is an ear list with so many steps, so many of one ear and so many of two.
+    /// It is an ear list with so many steps, so many with one ear and so many with two.
     Accepted {
         steps: u32,
         single: u32,
         double: u32,
     },
-    /// It is refused at a step, counted from 1, for the reason of this number, which may name an
-    /// edge.
+    /// It fails at a step, counted from 1, for the reason of this number, which may name an edge.
     Refused {
         step: u32,
         why: u32,
@@ -67,7 +66,7 @@ fn push_ear_judgement(text: &mut String, line: EarLine) -> Result<(), Memory>
     }
 }
 
-/// Writes the line on an ear list: how many steps it has, or where and why it is refused.
+/// Writes the line on an ear list: how many steps it has, or where and why it fails.
 pub fn ear_judgement(alloc: Global, line: &EarLine) -> Result<Vec<u8>, Memory>
     ensures { IfOk result (λ text. text.items ≡ ear_judgement_text line.now) }
 {

@@ -13,8 +13,8 @@ fn line_of_steps(alloc: Global, steps: u32, single: u32, double: u32) -> Result<
     Ok(line)
 }
 
-/// Writes the text and then, as a comment, how many steps there are, how many of one ear, and how
-/// many of two.
+/// Writes the text and then, as a comment, the number of steps, of those with one ear, and of those
+/// with two.
 #[tactic(auto, unfolding(crate::specs::EarReports::ears_report_text))]
 pub fn ears_report(
     alloc: Global,

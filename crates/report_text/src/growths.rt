@@ -32,8 +32,8 @@ fn growth_comments(alloc: Global, first: Tally, last: Tally, pairs: u32) -> Resu
     Ok(comments)
 }
 
-/// Writes the text and then, as comments, the numbers of the leaves of a first and of a last
-/// decomposition, and how many leaves their comparison pairs.
+/// Writes the text and then, as comments, the numbers of leaves of a decomposition by first
+/// candidates and of one by last candidates, and how many leaves their comparison pairs.
 #[tactic(auto, unfolding(crate::specs::Growths::grown_text))]
 pub fn grown(
     alloc: Global,

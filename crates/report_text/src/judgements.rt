@@ -9,7 +9,7 @@ use std::alloc::{AllocError as Memory, Global};
 use tree_core::Tally;
 use vset_core::VSet;
 
-/// What a refusal shows.
+/// What a refusal shows as its reason.
 #[derive(Drop)]
 pub enum Shown {
     Nothing,
@@ -19,14 +19,14 @@ pub enum Shown {
     Cut { shore: VSet },
 }
 
-/// What is told of a tree.
+/// What is reported about a tree.
 #[derive(Drop)]
 pub enum TreeLine {
     /// It is a derivation, with so many leaves.
     Accepted {
         tally: Tally,
     },
-    /// The tree of this place, counted from 1, is refused at a node, counted from 1 in preorder,
+    /// The tree at this place, counted from 1, is refused at a node, counted from 1 in preorder,
     /// for the reason of this number.
     Refused {
         tree: u32,

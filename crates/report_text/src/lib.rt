@@ -1,19 +1,17 @@
 //! The texts of the reports.
 //!
 //! Each call writes the lines of one report from plain values and promises that the bytes are a
-//! stated function of them (`analysis_text` with `structure_text` for a covered graph,
-//! `derivation_text`, `judgement_text`, `ear_judgement_text`, `ears_report_text`, `pairing_text`,
+//! stated function of them, in specs/: `analysis_text` with `structure_text`, `derivation_text`,
+//! `judgement_text`, `ear_judgement_text`, `ears_report_text`, `pairing_text`,
 //! `script_report_text`, `replayed_text`, `stuck_text`, `refused_move_text`, `grown_text`,
-//! `bad_input_text`, in specs/). `with_names` and `graph6_line` put further lines after a report.
-//! What stands after the text of a decomposition, and the names after it, are comments
-//! (`IsCommented`): `laws::derivation_comments_law`, `with_names`. What the values mean is said
-//! where they are computed: this crate knows no theory. The kinds of leaves and their counts are
-//! those of `tree_core`. Words of a line stand with one space between them, a list of numbers has
-//! one space before each, and each line ends with one line feed.
+//! `bad_input_text`. `with_names` and `graph6_line` put further lines after a report. The lines
+//! after the text of a decomposition, and the names after it, are comments (`IsCommented`). What
+//! the values mean is said where they are computed: this crate knows no theory. Words of a line are
+//! separated by one space, a list of numbers has one space before each, and each line ends with one
+//! line feed.
 //!
-//! Stands on the types of `graph_core`, on `graph_text` for the names of vertices, on
-//! `contraction` and `tree_core` for the leaves of a decomposition and for moves, and on
-//! `move_text` for the words of a move.
+//! Depends on `graph_core`, on `graph_text` for names, on `contraction` and `tree_core` for leaves
+//! and moves, and on `move_text` for the words of a move.
 #![tactic(auto)]
 
 mod analyses;

@@ -1,4 +1,4 @@
-//! Reports that tell the names of vertices.
+//! Reports that list the names of vertices.
 ghost use Rattle.std.specs.Prelude.{◌≡◌, ◌++◌, OnOk, IfOk, true};
 ghost use Rattle.report_text.specs.Common.{IsCommented, name_line, with_names_text};
 
@@ -20,9 +20,9 @@ fn push_name(
     text.extend_from_slice(line.as_bytes())
 }
 
-/// Writes the report and then one line `name K NAME` for each name, in order, K being the number
-/// of the vertex. Where `comments` is true each of these lines begins with `c` and a space and is
-/// a comment, so that a report that is a text of some format stays one.
+/// Writes the report and then one line `name K NAME` for each name, in order, where K is the number
+/// of the vertex. If `comments` is true, each of these lines begins with `c` and a space and is a
+/// comment, so a report that is a text of some format remains one.
 #[tactic(auto, unfolding(crate::specs::Reports::with_names_text))]
 pub fn with_names(
     alloc: Global,

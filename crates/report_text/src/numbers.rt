@@ -19,7 +19,7 @@ pub fn push_numbers(text: &mut String, numbers: &[u32]) -> Result<(), Memory>
     Ok(())
 }
 
-/// Appends each number of the set with one space before it, in rising order.
+/// Appends each number of the set with one space before it, in increasing order.
 pub fn push_set(text: &mut String, set: VSet) -> Result<(), Memory>
     ensures { OnOk result (string_bytes text.new ≡ string_bytes text.old ++ numbers_text set) }
 {

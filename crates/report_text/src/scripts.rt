@@ -39,7 +39,7 @@ pub fn replayed(alloc: Global, text: &[u8], moves: u32) -> Result<Vec<u8>, Memor
     commented(alloc, text, line.as_str())
 }
 
-/// Writes the line on a move, by its number counted from 1, that has no result.
+/// Writes the line on a move, given by its number from 1, that has no result.
 #[tactic(auto, unfolding(crate::specs::Scripts::stuck_text))]
 pub fn replay_stuck(alloc: Global, at: u32) -> Result<Vec<u8>, Memory>
     ensures { IfOk result (λ text. text.items ≡ stuck_text at) }
@@ -48,8 +48,8 @@ pub fn replay_stuck(alloc: Global, at: u32) -> Result<Vec<u8>, Memory>
     Ok(text.into_bytes())
 }
 
-/// Writes the line on a move, by its number counted from 1, whose result is refused: at which
-/// node, counted from 1 in preorder, for the reason of which number, and what shows it.
+/// Writes the line on a move, given by its number from 1, whose result is refused: at which node,
+/// counted from 1 in preorder, for which reason by its number, and what shows it.
 #[tactic(auto, unfolding(crate::specs::Scripts::refused_move_text))]
 pub fn replay_refused(
     alloc: Global,

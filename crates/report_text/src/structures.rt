@@ -8,17 +8,17 @@ use graph_core::{Ends, Kind, SetList};
 use std::alloc::AllocError as Memory;
 use vset_core::VSet;
 
-/// What `analyse` tells of a matching covered graph.
+/// What `analyse` reports about a matching covered graph.
 #[derive(Drop)]
 pub struct Structure {
     /// The classes of the canonical partition (Lovász and Plummer, "Matching Theory", chapter 5),
     /// by least vertex.
     pub classes: SetList,
-    /// The first pair of vertices in lexicographic order without which there is no perfect
-    /// matching; none where the graph is bicritical.
+    /// The first pair u < v in lexicographic order such that G - u - v has no perfect matching;
+    /// none if the graph is bicritical.
     pub unlike: Option<Ends>,
-    /// The first pair of vertices in lexicographic order without which at least two components
-    /// are left, or none.
+    /// The first pair u < v in lexicographic order such that G - u - v has at least two components,
+    /// or none.
     pub cutpair: Option<Ends>,
     /// Brace, brick, or composite with a shore of a nontrivial tight cut.
     pub kind: Kind,

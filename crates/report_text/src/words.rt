@@ -46,7 +46,7 @@ pub fn leaf_kind_word(kind: LeafKind) -> &'static str
     }
 }
 
-/// Appends the end of a line that tells how many leaves there are, and how many of each kind.
+/// Appends the end of a line that says how many leaves there are, and how many of each kind.
 pub fn push_tally(text: &mut String, tally: Tally) -> Result<(), Memory>
     ensures { OnOk result (string_bytes text.new ≡ string_bytes text.old ++ tally_end tally) }
 {

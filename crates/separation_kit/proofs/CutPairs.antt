@@ -1,6 +1,6 @@
--- The components at a cut pair of a bicritical graph give nontrivial tight cuts, and a brick has
--- four vertices, is bicritical and has no cut pair. Each fact of a brick is the tight cut that
--- there would be else.
+-- The components at a cut pair of a bicritical graph give nontrivial tight cuts, and a brick has at
+-- least four vertices, is bicritical and has no cut pair. If one of these failed, there would be a
+-- nontrivial tight cut.
 use Rattle.std.proofs.Common.{◌≡◌, ℕ, ◌≤◌, false, arith}
 use Rattle.barrier_kit.proofs.Common.{leads_out, four_vertices, bicritical}
 use Rattle.graph_core.proofs.Common.{IsSide, is_least, component_count, IsCovered, Graph, IsGraph, IsBicritical, IsCutPair, IsTight, IsNontrivial, joined}

@@ -1,5 +1,5 @@
--- The first separation cut is the first cut at the first cut pair.
--- The shores at that pair stand first, and one of them gives a cut.
+-- The first separation cut is the first cut at the first cut pair. The shores at that pair come
+-- first, and one of them gives a cut.
 use Rattle.std.proofs.Common.{◌≡◌, ◌≢◌, ℕ, ◌<◌, ◌≤◌, Bool, true, false, ◌&&◌, cond, refl, sym, ap, ap₂, ◌∙◌, arith, List, [], ◌∷◌, ◌++◌, Some, None, filter, flat_map, fold, slice_get, leb-true, le-leb, All, find}
 use Rattle.counting.proofs.Common.{All-tail, Within, rising_pairs, pair_set}
 use Rattle.graph_core.proofs.Common.{component_count, Graph, IsGraph, IsBicritical, IsCutPair, cut_pair, with_cut}
@@ -35,7 +35,7 @@ module _ (g : Graph) (k : ℕ × ℕ) (first : Some k ≡ cut_pair g) where
   pub is_pair : IsCutPair g k.0 k.1
   is_pair = let f = first_pair in let l = f.2 in record { first = f.0; second = f.1; different = λ e. omega arith; parts = leb-true 2 (component_count g (pair_set k.0 k.1)) f.3 }
 
-  -- its shores stand first
+  -- its shores come first
   shores_first : IsBicritical g → 4 ≤ g.order → (more : List (List ℕ)) × (separation_shores g ≡ shores_at_pair g k ++ more)
   unfolding cut_pair separation_shores
   shores_first bi four =

@@ -1,6 +1,6 @@
 -- The shores of all cut pairs as the code goes through them: the pairs in order, and at each cut
--- pair the components in order. A step of the loop is a step of the fold; where no cut pair is,
--- nothing is added.
+-- pair the components in order. A step of the loop is a step of the fold; a pair that is not a cut
+-- pair adds nothing.
 use Rattle.std.proofs.Common.{◌≡◌, ℕ, ◌+◌, ◌<◌, ◌≤◌, true, false, ◌==◌, ◌||◌, cond, not, ap, arith, List, [], ◌∷◌, ◌++◌, map, flat_map, filter, fold, length, take, get_or, append-nil, All, is_none, eqb-true}
 use Rattle.counting.proofs.Common.{le-leb, or_cases, get_or-map, length-map, map-append, take_all, take_more, All-map, mem-within, list-from_test, rising_list-rises, set-narrower, Within, IsRisingIn, mem, rising_list, rising_pairs, Set, pair_set, singleton, union}
 use Rattle.std.proofs.lemmas.Grind.{flat_map-append}
@@ -12,7 +12,7 @@ use Rattle.separation_kit.specs.Common.{pair_of, is_cut_pair, separation_cuts, s
 use Rattle.separation_kit.specs.declared.pair.Pair.{Pair}
 use Rattle.separation_kit.proofs.PairSearch.{pair_at}
 
--- a set with one vertex more
+-- a set with one more vertex
 pub shore-with : (n a : ℕ) (part shore : List ℕ) → n ≤ 128 → Within n a → IsRisingIn n part → IsRisingIn 128 shore → ((v : ℕ) → mem shore v ≡ (mem part v || a == v)) → shore ≡ rising_list n (union (mem part) (singleton a))
 shore-with n a part shore few wa rises wide same = grind (arith, list-from_test n shore (union (mem part) (singleton a)), set-narrower 128 n shore wide, or_cases, mem-within n part rises, eqb-true a)
 
@@ -22,13 +22,13 @@ pub fold-map_more : (n a i : ℕ) (d : List ℕ) (parts cuts start after : List 
     after ≡ fold (with_cut n) start (map (λ s. rising_list n (union (mem s) (singleton a))) (take (i + 1) parts))
 fold-map_more n a i d parts cuts start after shore l is old new = grind (arith, fold-append (with_cut n) start, map-append, take_more parts i d l)
 
--- the components rise
+-- the components are increasing lists
 pub components-rise : (g : Graph) (s : Set) → All (IsRisingIn g.order) (components g s)
 unfolding components
 components-rise g s = All-map (IsRisingIn g.order) (λ u. rising_list g.order (joined g s u)) (rising_list g.order (is_least g s))
     (all_rising g.order (is_least g s) (λ u. IsRisingIn g.order (rising_list g.order (joined g s u))) (λ u w t. rising_list-rises g.order (joined g s u)))
 
--- one pair more
+-- one more pair
 module _ (g : Graph) (i : ℕ) (items : List Pair) (l : i < length items) where
   next_pairs : filter (is_cut_pair g) (take (i + 1) (map pair_of items)) ≡ filter (is_cut_pair g) (take i (map pair_of items)) ++ cond (is_cut_pair g (pair_of (pair_at items i))) (pair_of (pair_at items i) ∷ []) []
   next_pairs =

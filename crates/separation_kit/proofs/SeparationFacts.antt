@@ -1,6 +1,6 @@
--- What holds of the cuts at cut pairs: each is tight, there is one where a bicritical graph has a
--- cut pair, and none where it has none. What holds of each component at each cut pair holds of
--- each item of the list.
+-- The cuts at cut pairs: each is tight, there is one if a bicritical graph has a cut pair, and none
+-- if it has no cut pair. What is true of each component at each cut pair is true of each item of
+-- the list.
 use Rattle.std.proofs.Common.{◌≡◌, ◌≢◌, ◌↔◌, ℕ, ◌≤◌, ◌<◌, Bool, true, false, ◌==◌, ◌&&◌, ◌||◌, not, refl, sym, ap, arith, inl, inr, List, [], map, filter, flat_map, nat_le, nat_lt, lt-ltb, leb-true, subst, ap₂, get_or, None, All, find, if◌then◌else◌}
 use Rattle.counting.proofs.Common.{both_ways, cases_lt, false_from_ne_true, le-leb, not-false, All-map, All-nil, count_member, mem-rising_list, Within, count, is_odd, mem, pair_with, rising_list, rising_pairs, Set, everything, pair_set, singleton, union}
 use Rattle.graph_core.proofs.Common.{has_perfect_found, has_perfect_says, nontrivial-same, tight-same, component_count, components, is_least, IsCovered, Graph, IsGraph, HasPerfect, has_perfect, IsBicritical, IsCutPair, cut_pair, is_bicritical, equivalent_pair, IsTight, canonical_shore, is_nontrivial, joined, IsCanonicalCut, cuts_of}
@@ -13,7 +13,7 @@ use Rattle.separation_kit.proofs.Separations.{separation_even, separation_nontri
 turned : (a b v : ℕ) → pair_set a b v ≡ pair_set b a v
 turned a b v = grind arith
 
--- what holds of each pair a < b of the list
+-- what is true of each pair a < b of the list
 pub pair_holds : (n : ℕ) (P : ℕ × ℕ → Type 0) → All P (rising_pairs n) → (a b : ℕ) → Within n a → Within n b → a < b → P (a, b)
 pair_holds n P all a b wa wb l =
     rising_all n (nat_lt a) (λ b. P (a, b)) (map_all P (pair_with a) (rising_list n (nat_lt a))
@@ -35,7 +35,7 @@ equivalent-none g = (
     matched e a b wa wb l = has_perfect_says g (pair_set a b) (not-false (has_perfect g (pair_set a b))
         (pair_holds g.order (λ k. not (has_perfect g (pair_set k.0 k.1)) ≡ false) (all_unfound (λ k. not (has_perfect g (pair_set k.0 k.1))) (rising_pairs g.order) e) a b wa wb l))
 
--- the first cut pair is there exactly when there is one
+-- the first cut pair is there if and only if there is one
 pub cut_pair-none : (g : Graph) → (cut_pair g ≡ None) ↔ ((u v : ℕ) → IsCutPair g u v → ⊥)
 unfolding cut_pair
 cut_pair-none g = (
@@ -61,7 +61,7 @@ pair_shore g u v a = union (mem (rising_list g.order (joined g (pair_set u v) a)
 pair_shore-is : (g : Graph) (u v a w : ℕ) → Within g.order w → union (joined g (pair_set u v) a) (singleton u) w ≡ pair_shore g u v a w
 pair_shore-is g u v a w ww = ap (λ b. b || (u == w)) (sym (mem-rising_list g.order (joined g (pair_set u v) a) w ww))
 
--- what holds of each shore at each cut pair
+-- what is true of each shore at each cut pair
 pub all_pair_shores : (g : Graph) (P : List ℕ → Type 0) →
     ((u v a : ℕ) → IsBicritical g → IsCutPair g u v → u < v → Within g.order a → pair_set u v a ≡ false → P (rising_list g.order (pair_shore g u v a))) → All P (separation_shores g)
 unfolding separation_shores components

@@ -9,17 +9,17 @@ use Rattle.separation_kit.specs.declared.pair.Pair.{Pair}
 abbrev pub pair_of : Pair → ℕ × ℕ
 pair_of p = (p.a, p.b)
 
--- two vertices of 1 to n, the lesser first
+-- two vertices of 1 to n, the smaller first
 pub record IsPairIn (n : ℕ) (p : Pair) : Type 0 where
   pub first : Within n p.a
   pub second : Within n p.b
   pub rising : p.a < p.b
 
--- without the two vertices there is no perfect matching
+-- g - u - v has no perfect matching, where u and v are the two vertices
 abbrev pub is_equivalent_pair : Graph → ℕ × ℕ → Bool
 is_equivalent_pair g k = not (has_perfect g (pair_set k.0 k.1))
 
--- b is the first number of a + 1 to n of which the pair with a passes the test
+-- b is the first number of a + 1 to n such that the pair of a and b passes the test
 pub record IsFirstInRow (n : ℕ) (test : ℕ × ℕ → Bool) (a b : ℕ) : Type 0 where
   pub within : Within n b
   pub above : a < b

@@ -5,16 +5,16 @@ use Rattle.std.specs.Prelude.{ℕ, Bool, List, [], ◌&&◌, flat_map, map, filt
 use Rattle.counting.specs.Common.{union, singleton, pair_set, mem, rising_list, rising_pairs}
 use Rattle.graph_core.specs.Common.{Graph, component_count, components, is_bicritical, cuts_of}
 
--- without the two vertices at least two components are left
+-- deleting the two vertices leaves at least two components
 abbrev pub is_cut_pair : Graph → ℕ × ℕ → Bool
 is_cut_pair g k = nat_le 2 (component_count g (pair_set k.0 k.1))
 
--- the first vertex of the pair with each component of the graph without the two, by least vertex
+-- the first vertex of the pair with each component of g - u - v, by least vertex
 abbrev pub shores_at_pair : Graph → ℕ × ℕ → List (List ℕ)
 shores_at_pair g k = map (λ s. rising_list g.order (union (mem s) (singleton k.0))) (components g (pair_set k.0 k.1))
 
--- these shores for each cut pair in lexicographic order, where the graph is bicritical and has
--- four vertices or more
+-- these shores for each cut pair in lexicographic order, if the graph is bicritical and has at
+-- least four vertices
 unfoldable pub separation_shores : Graph → List (List ℕ)
 separation_shores g = if is_bicritical g && nat_le 4 g.order then flat_map (shores_at_pair g) (filter (is_cut_pair g) (rising_pairs g.order)) else []
 

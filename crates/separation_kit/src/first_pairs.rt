@@ -1,4 +1,4 @@
-//! A covered graph with the pairs of vertices that tell whether it is bicritical, and then where
+//! A covered graph with the pairs of vertices that say whether it is bicritical, and if so, whether
 //! two vertices separate it.
 ghost use Rattle.std.specs.Prelude.{◌≡◌, ◌↔◌, IsTrue};
 ghost use Rattle.std.specs.Option.{option_map};
@@ -10,8 +10,8 @@ use crate::pair::Pair;
 use graph_facts::Covered;
 use std::marker::Model;
 
-/// A covered graph with the first pair of vertices that shows it not bicritical, and its first cut
-/// pair where it is bicritical. Contracts see the graph.
+/// A covered graph with the first pair of vertices that shows that it is not bicritical, and with
+/// its first cut pair if it is bicritical. Contracts see the graph.
 #[derive(Drop)]
 pub struct FirstPairs<'c, 'g> {
     covered: &'c Covered<'g>,
@@ -33,7 +33,7 @@ impl<'c, 'g> Model for FirstPairs<'c, 'g> {
 }
 
 impl<'c, 'g> FirstPairs<'c, 'g> {
-    /// The pairs of a covered graph. A cut pair is looked for only where the graph is bicritical.
+    /// The pairs of a covered graph. A cut pair is searched for only if the graph is bicritical.
     /// Takes no memory.
     pub fn of(covered: &'c Covered<'g>) -> FirstPairs<'c, 'g>
         ensures { result ≡ covered.now }
@@ -76,8 +76,8 @@ impl<'c, 'g> FirstPairs<'c, 'g> {
         self.covered.is_bipartite()
     }
 
-    /// The first pair without which the graph has no perfect matching: none exactly when it is
-    /// bicritical.
+    /// The first pair u < v such that G - u - v has no perfect matching; none if and only if the
+    /// graph is bicritical.
     pub fn equivalent(&self) -> Option<Pair>
         ensures { option_map pair_of result ≡ equivalent_pair self.now }
     {
@@ -102,7 +102,8 @@ impl<'c, 'g> FirstPairs<'c, 'g> {
         self.cut
     }
 
-    /// The first cut pair, bicritical or not. It is looked for only where it is not at hand.
+    /// The first cut pair, whether the graph is bicritical or not. It is searched for only if it is
+    /// not known.
     pub fn any_cut(&self) -> Option<Pair>
         ensures { option_map pair_of result ≡ cut_pair self.now }
     {
@@ -113,7 +114,7 @@ impl<'c, 'g> FirstPairs<'c, 'g> {
     }
 }
 
-// The first cut pair of a graph without a pair of equivalent vertices.
+// The first cut pair of a graph that has no pair of equivalent vertices.
 fn cut_where_bicritical(c: &Covered, equivalent: Option<Pair>) -> Option<Pair>
     requires { option_map pair_of equivalent ≡ equivalent_pair c.now }
     ensures { IsBicritical c.now → option_map pair_of result ≡ cut_pair c.now }

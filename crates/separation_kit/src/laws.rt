@@ -1,19 +1,19 @@
-//! The laws of separations. Each is the contract of a function that does nothing.
+//! The laws of separations. Each law is the contract of a function that does nothing.
 ghost use Rattle.std.specs.Prelude.{◌≡◌, ◌≢◌, ◌≤◌, ◌↔◌, ℕ, true, false, None, All, []};
 ghost use Rattle.counting.specs.Common.{Within, count, is_odd, mem, pair_set, singleton, union};
 ghost use Rattle.graph_core.specs.Common.{IsCovered, Graph, IsBipartite, IsGraph, IsMultigraph, HasPerfect, IsBicritical, IsCutPair, cut_pair, equivalent_pair, HasOnlyTrivialTightCuts, IsNontrivial, IsTight, joined, IsCanonicalCut};
 ghost use Rattle.separation_kit.specs.Common.{separation_cuts, separation_shores};
 
-/// There is no first pair exactly when there is none: a graph is bicritical if no two vertices are
-/// equivalent, and no two vertices separate it where there is no cut pair.
+/// `equivalent_pair` is `None` if and only if the graph is bicritical, and `cut_pair` is `None` if
+/// and only if the graph has no cut pair.
 pub fn first_pairs_law()
     ensures bicritical { (g : Graph) → (equivalent_pair g ≡ None) ↔ IsBicritical g }
     ensures separated { (g : Graph) → (cut_pair g ≡ None) ↔ ((u v : ℕ) → ¬ (IsCutPair g u v)) }
 {}
 
-/// Two vertices u and v without which a graph has a perfect matching: each component without them
-/// is even and has, with u, a tight cut, which is nontrivial where there are two components or
-/// more (Edmonds, Lovász and Pulleyblank 1982).
+/// Let G - u - v have a perfect matching. Each component of G - u - v is even, and together with u
+/// it is the shore of a tight cut, which is nontrivial if there are at least two components
+/// (Edmonds, Lovász and Pulleyblank 1982).
 pub fn separation_law()
     ensures even { (g : Graph) (u v a : ℕ) → IsGraph g → Within g.order u → Within g.order v →
         u ≢ v → HasPerfect g (pair_set u v) → Within g.order a → pair_set u v a ≡ false →
@@ -27,8 +27,8 @@ pub fn separation_law()
 {}
 
 /// The cuts that `separation_cuts` lists are canonical shores of nontrivial tight cuts. In a
-/// bicritical graph with at least four vertices and a cut pair the components without the pair are
-/// even, so that there is such a cut; without a cut pair there is none.
+/// bicritical graph with at least four vertices and a cut pair {u, v} the components of G - u - v
+/// are even, so there is such a cut; without a cut pair there is none.
 pub fn separation_cuts_law()
     ensures tight { (g : Graph) → IsGraph g → All (λ s. IsTight g (mem s)) (separation_shores g) }
     ensures canonical { (g : Graph) → IsGraph g → IsCovered g →
@@ -41,8 +41,8 @@ pub fn separation_cuts_law()
     ensures none { (g : Graph) → IsGraph g → cut_pair g ≡ None → separation_cuts g ≡ [] }
 {}
 
-/// A brick, that is a covered graph that is not bipartite and has no nontrivial tight cut, has at
-/// least four vertices, is bicritical and has no cut pair (Lovász 1987).
+/// A brick, that is, a nonbipartite covered graph without a nontrivial tight cut, has at least four
+/// vertices, is bicritical and has no cut pair (Lovász 1987).
 pub fn brick_law()
     ensures four { (g : Graph) → IsMultigraph g → IsCovered g → ¬ (IsBipartite g) → 4 ≤ g.order }
     ensures bicritical { (g : Graph) → IsMultigraph g → IsCovered g → ¬ (IsBipartite g) →

@@ -1,19 +1,17 @@
 //! Bicritical graphs, cut pairs, and the tight cuts that they give.
 //!
-//! A graph is bicritical if it has a perfect matching without any two different vertices
-//! (`IsBicritical`); a cut pair is two vertices without which at least two components are left
-//! (`IsCutPair`). `not_bicritical` and `cut_pair` answer the first pair in lexicographic order
-//! that shows a graph not bicritical, and the first cut pair; `FirstPairs` is a covered graph with
+//! A graph is bicritical if G - u - v has a perfect matching for any two different vertices u and v
+//! (`IsBicritical`). A cut pair is a 2-vertex cut: G - u - v has at least two components
+//! (`IsCutPair`). `not_bicritical` and `cut_pair` return the lexicographically first pair that
+//! shows a graph not to be bicritical, and the first cut pair; `FirstPairs` is a covered graph with
 //! these. `separation_cuts` lists the nontrivial cuts that the cut pairs of a bicritical covered
-//! graph give, by canonical shores and each once; `first_separation_cut` answers the first of
-//! them, at the first cut pair.
+//! graph give, each once by its canonical shore; `first_separation_cut` returns the first of them.
 //!
-//! The laws: what a `None` means (`first_pairs_law`), the components at two vertices are even and
-//! have tight cuts (`separation_law`), a bicritical graph with a cut pair has such a cut
-//! (`separation_cuts_law`), and a brick has at least four vertices, is bicritical and has no cut
-//! pair (`brick_law`).
+//! The laws: what `None` means (`first_pairs_law`), the components of G - u - v are even and have
+//! tight cuts (`separation_law`), a bicritical graph with a cut pair has such a cut
+//! (`separation_cuts_law`), and a brick is bicritical and has no cut pair (`brick_law`).
 //!
-//! Stands on `barrier_kit`. Source: Edmonds, Lovász and Pulleyblank 1982; Lovász 1987.
+//! Depends on `barrier_kit`. Sources: Edmonds, Lovász and Pulleyblank 1982; Lovász 1987.
 #![tactic(auto)]
 
 mod critical;

@@ -13,7 +13,7 @@ pub struct Pair {
     pub b: u32,
 }
 
-// Appends the pairs of a with the greater numbers up to n.
+// Appends the pairs of a with the larger numbers up to n.
 fn push_pairs(pairs: &mut Vec<Pair>, n: u32, a: u32) -> Result<(), Memory>
     requires few { n ≤ MOST_VERTICES }
     requires first { Within n a }

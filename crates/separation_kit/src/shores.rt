@@ -1,4 +1,4 @@
-//! The cuts that cut pairs give.
+//! The cuts that the cut pairs of a bicritical graph give.
 ghost use Rattle.std.specs.Prelude.{◌≡◌, ◌≤◌, fold, map, slice_get, All, IfOk, OnOk};
 ghost use Rattle.std.specs.Option.{option_map};
 ghost use Rattle.counting.specs.Common.{Within, singleton, union, mem, rising_list, IsRisingIn};
@@ -25,7 +25,7 @@ fn with_vertex(n: u32, part: VSet, a: u32) -> VSet
     shore
 }
 
-// Appends the cuts of the components, each with the vertex a.
+// Appends the cuts of the components, each together with the vertex a.
 fn add_with_vertex(cuts: &mut SetList, n: u32, parts: &SetList, a: u32) -> Result<(), Memory>
     requires few { n ≤ MOST_VERTICES }
     requires vertex { Within n a }
@@ -40,8 +40,8 @@ fn add_with_vertex(cuts: &mut SetList, n: u32, parts: &SetList, a: u32) -> Resul
     Ok(())
 }
 
-// Appends the cuts that a pair gives: its first vertex with each component of the graph without
-// the two.
+// Appends the cuts that a pair gives: ∂(V(K) + u) for each component K of G - u - v, where u is the
+// first vertex of the pair.
 fn add_pair_cuts(
     alloc: Global,
     g: &MultiGraph,
@@ -59,9 +59,9 @@ fn add_pair_cuts(
     Ok(())
 }
 
-/// The nontrivial cuts that the cut pairs u < v of a bicritical covered graph give: u with each
-/// component of the graph without the two. Each cut is given once, by its canonical shore, and is
-/// tight (Edmonds, Lovász and Pulleyblank 1982).
+/// The nontrivial cuts that the cut pairs u < v of a bicritical covered graph give: ∂(V(K) + u) for
+/// each component K of G - u - v. Each cut is listed once, by its canonical shore, and is tight
+/// (Edmonds, Lovász and Pulleyblank 1982). The only error is `Memory`.
 pub fn separation_cuts(alloc: Global, g: &MultiGraph) -> Result<SetList, Memory>
     requires covered { IsCovered g.now }
     requires bicritical { IsBicritical g.now }

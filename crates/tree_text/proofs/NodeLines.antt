@@ -1,4 +1,4 @@
--- The line of a node that is one of the words of a node, and not one too many, is told by the
+-- The line of a node that is one of the words of a node, and not one too many, is decided by the
 -- tests of its vertices.
 use Rattle.std.proofs.Common.{◌≡◌, ◌<◌, ◌+◌, ℕ, false, nat_le, List, arith}
 use Rattle.counting.proofs.Common.{nat_tests}

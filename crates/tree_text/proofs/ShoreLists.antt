@@ -1,6 +1,6 @@
 -- Lists of vertices as the reader walks over them: what goes into the set is taken off the list,
--- and a set with the numbers of a rising list is this list. A list that passes the tests of the
--- format rises and lies in range.
+-- and a set with the numbers of an increasing list is this list. A list that passes the tests of
+-- the format is increasing and lies in range.
 use Rattle.std.proofs.Common.{◌≡◌, ◌||◌, ◌==◌, ◌+◌, ◌≤◌, ◌<◌, ℕ, suc, List, [], ◌∷◌, All, true, false, length, nat_lt, subst, arith}
 use Rattle.counting.proofs.Common.{list_any, and_parts, or_parts, nat_tests, Rises, same_rising_list, set-from_rises, set-wider, or_false, Within, mem, IsRisingIn}
 use Rattle.line_text.specs.Common.{is_out_of_range}
@@ -10,7 +10,7 @@ use Rattle.tree_text.specs.Common.{is_rising}
 pub moved : (vertices shore next behind rest : List ℕ) (v : ℕ) → rest ≡ v ∷ behind → ((w : ℕ) → mem next w ≡ (mem shore w || v == w)) → ((w : ℕ) → mem vertices w ≡ (mem shore w || mem rest w)) → (w : ℕ) → mem vertices w ≡ (mem next w || mem behind w)
 moved vertices shore next behind rest v front gains same w = grind arith
 
--- what holds of a list holds of what is after its first number
+-- what is true of a list is true of what is after its first number
 pub all-behind : (n : ℕ) (rest behind : List ℕ) (v : ℕ) → rest ≡ v ∷ behind → All (Within n) rest → All (Within n) behind
 all-behind n rest behind v front all k d less = subst (All (Within n)) front all (suc k) d (omega arith)
 
@@ -29,7 +29,7 @@ rises-from_tests low n v (w ∷ ws) least within rising =
     let less = less-from_test v w order.0 in
     (least, (in_range n v ranges.0).1, rises-from_tests (v + 1) n w ws (omega arith) ranges.1 order.1)
 
--- the tests of the format say that the list rises within 1 to n
+-- the tests of the format say that the list is increasing and lies within 1 to n
 pub rising_read : (n : ℕ) (vs : List ℕ) → list_any (is_out_of_range n) vs ≡ false → is_rising vs ≡ true → IsRisingIn n vs
 rising_read n [] within rising = set-from_rises n [] tt
 rising_read n (v ∷ vs) within rising =

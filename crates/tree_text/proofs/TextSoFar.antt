@@ -1,4 +1,5 @@
--- The lines of a cut and of a tree.
+-- The lines of a cut and of a tree. Idea: the text written so far is always a list of complete
+-- lines, and appending the lines of a node or of a subtree makes a longer such list.
 use Rattle.std.proofs.Common.{◌≡◌, ℕ, List, [], ◌∷◌, ◌++◌, codes, map, sym, ◌∙◌, ap, append_assoc, arith}
 use Rattle.counting.proofs.Common.{append-nil}
 use Rattle.std.specs.Fmt.{decimal}

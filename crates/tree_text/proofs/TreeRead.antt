@@ -1,5 +1,5 @@
--- What is read of a text can be written again. Along the lines of a text the shores read so far
--- are nonempty, rise and lie below n, and the nodes are counted: each line keeps this, since it
+-- What is read of a text can be written again. Along the lines of a text the shores read so far are
+-- nonempty, increasing and below n, and the nodes are counted: each line keeps this, since it
 -- passed the tests of the table, and so does a tree put at a place.
 use Rattle.std.proofs.Common.{◌≡◌, ◌+◌, ◌-◌, ◌≤◌, ◌<◌, ◌==◌, codes, ◌||◌, ◌^◌, not, nat_le, if◌then◌else◌, ℕ, List, [], ◌∷◌, All, Bool, length, map, true, false, Option, Some, None, Result, Ok, IfOk, refl, sym, subst, arith}
 use Rattle.counting.proofs.Common.{list_all, list_any, and_parts, both_ways, not-false, nat_tests, Within, mem}
@@ -12,7 +12,7 @@ use Rattle.tree_core.proofs.Common.{Shape, leaf, cut, Fits, node_count, below-wi
 use Rattle.tree_text.specs.Common.{Place, root, in_kept, in_merged, Reading, wanted, whole, put, TreeSoFar, tree_format, node_line, line_behind, behind_first, is_rising, is_leaf_line, is_cut_line, most_nodes, HasVertices, ShoresRise, IsWritable}
 use Rattle.tree_text.proofs.ShoreLists.{rising_read}
 
--- a nonempty rising list below n
+-- a nonempty increasing list below n
 abbrev KeepsShore : ℕ → List ℕ → Type 0
 KeepsShore n x = All (Within (n - 1)) x × (0 < length x) × IsStrictlyIncreasing x
 
@@ -26,7 +26,7 @@ KeepsPlace n root = Unit {0}
 KeepsPlace n (in_kept x above) = KeepsShore n x × KeepsPlace n above
 KeepsPlace n (in_merged x k above) = KeepsShore n x × KeepsTree n k × KeepsPlace n above
 
--- the nodes that have been read where the next one stands at a place
+-- the nodes that have been read if the next one is at a place
 abbrev nodes_at : Place → ℕ
 nodes_at root = 0
 nodes_at (in_kept x above) = 1 + nodes_at above
@@ -111,6 +111,6 @@ writable-read n text t small stands = grind (arith, reached-keeps n stands.reach
 pub tree_read : (n : ℕ) (text : List ℕ) (t : Shape) → n ≤ 128 → Stands (tree_format n) text t → IsWritable n t
 tree_read n text t few = writable-read n text t (omega arith)
 
--- whatever a reader answered
+-- whatever a reader returned
 pub all-read : {X Fault : Type 0} (n : ℕ) (text : List ℕ) (view : X → Shape) (result : Result X Fault) → n ≤ 128 → IfOk result (λ x. Stands (tree_format n) text (view x)) → IfOk result (λ x. IsWritable n (view x))
 all-read n text view result few stands = grind (arith, tree_read n text)

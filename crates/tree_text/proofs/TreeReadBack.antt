@@ -1,7 +1,7 @@
--- What is written of a tree is read as this tree. The header leads to the root, and by induction
+-- The text written for a tree is read as this tree. The header leads to the root, and by induction
 -- the lines of a tree lead from any place to this tree put at the place: the line of a cut leads
 -- below it, its `kept` tree put there leads to the place of its `merged` tree, and this one put
--- there makes the cut whole. No test of the table applies.
+-- there completes the cut. No test of the table applies.
 use Rattle.std.proofs.Common.{◌≡◌, ◌+◌, ◌-◌, ◌≤◌, ◌<◌, ◌^◌, nat_lt, ℕ, suc, List, [], ◌∷◌, ◌++◌, All, length, map, get_or, codes, true, false, Some, Ok, refl, sym, subst, arith}
 use Rattle.std.specs.Fmt.{decimal}
 use Rattle.counting.proofs.Common.{AllByRecursion, list_all, list_any, length-map, and_from, false_from_ne_true, nat_tests, mem-within, Within, mem}
@@ -27,7 +27,7 @@ leaf-taken : (n nodes : ℕ) (place : Place) → nodes < most_nodes → (tree_fo
 unfolding has_form
 leaf-taken n nodes place few = grind (arith, nat_tests)
 
--- they lie in range, and rise
+-- they lie in range, and are increasing
 shore-in_range : (n : ℕ) (x : List ℕ) → All (Within (n - 1)) x → list_any (is_out_of_range n) x ≡ false
 shore-in_range n x within = in_range-tests n x (λ k d less. let in_order = within k d less in (in_order.0, (let high = in_order.1 in omega arith)))
 

@@ -10,7 +10,7 @@ use Rattle.line_text.specs.declared.faults.FaultKind.TheVariants as kind
 abbrev pub most_picks : ℕ
 most_picks = 127
 
--- how many picks there are to be, and those read so far
+-- how many picks are expected, and those read so far
 pub record PicksSoFar : Type 0 where
   pub count : ℕ
   pub picks : List ℕ
@@ -25,7 +25,7 @@ pick_header words =
     ∷ [])
     (record { count = count; picks = [] })
 
--- a significant line after the header is a pick, or too much where all have been read
+-- a significant line after the header is a pick, or an error if all have been read
 abbrev pub pick_line : PicksSoFar → List (List ℕ) → Result PicksSoFar FaultKind
 pick_line body words =
     checked ((length body.picks == body.count, kind.Extra)
@@ -34,7 +34,7 @@ pick_line body words =
     ∷ [])
     (record body { picks = body.picks ++ value_of (word_at words 1) ∷ [] })
 
--- the end of the text comes when all picks have been read
+-- the text may end when all picks have been read
 abbrev pub pick_end : PicksSoFar → Result (List ℕ) FaultKind
 pick_end body = if length body.picks == body.count then Ok body.picks else Err kind.Missing
 

@@ -16,7 +16,7 @@ place_of Root = root
 place_of (InKept' x at above) = in_kept x (place_of above)
 place_of (InMerged' x kept at above) = in_merged x (shape_of kept.value) (place_of above)
 
--- what the nodes read so far say
+-- what the nodes read so far give
 abbrev pub progress_of : Progress → Reading
 progress_of (Wanted above) = wanted (place_of above)
 progress_of (Whole tree) = whole (shape_of tree)
@@ -25,6 +25,6 @@ progress_of (Whole tree) = whole (shape_of tree)
 abbrev pub tree_so_far : NodesRead → TreeSoFar
 tree_so_far body = record { nodes = body.nodes; reading = progress_of body.progress }
 
--- the picks read so far, and how many there are to be
+-- the picks read so far, and how many are expected
 abbrev pub picks_so_far : PicksRead → PicksSoFar
 picks_so_far body = record { count = body.count; picks = body.picks }

@@ -15,7 +15,7 @@ use Rattle.tree_text.specs.Places.{Place, root, in_kept, Reading, wanted, whole,
 abbrev pub most_nodes : ℕ
 most_nodes = 127
 
--- how many nodes have been read, and what they say
+-- how many nodes have been read, and what they give
 pub record TreeSoFar : Type 0 where
   pub nodes : ℕ
   pub reading : Reading
@@ -65,7 +65,7 @@ shore_tests n words =
     ∷ (mem (shore_told words) n, kind.HasGreatest)
     ∷ []
 
--- what is read after a node at a place
+-- what has been read after a node at a place
 abbrev pub with_node : Place → (is_leaf : Bool) → List ℕ → Reading
 with_node place is_leaf shore = if is_leaf then put place leaf else wanted (in_kept shore place)
 
@@ -75,12 +75,12 @@ node_line n nodes place words =
     checked ((nat_le most_nodes nodes, kind.Limit) ∷ (not (is_node_line words), kind.Word) ∷ shore_tests n words)
     (record { nodes = nodes + 1; reading = with_node place (is_leaf_line words) (shore_told words) })
 
--- a significant line after the header is a node, or too much where the tree is whole
+-- a significant line after the header is a node, or an error if the tree is complete
 abbrev pub line_behind : ℕ → ℕ → Reading → List (List ℕ) → Result TreeSoFar FaultKind
 line_behind n nodes (whole t) words = Err kind.Extra
 line_behind n nodes (wanted place) words = node_line n nodes place words
 
--- the end of the text comes when the tree is whole
+-- the text may end when the tree is complete
 abbrev pub tree_end : Reading → Result Shape FaultKind
 tree_end (whole t) = Ok t
 tree_end (wanted place) = Err kind.Missing

@@ -1,4 +1,4 @@
--- The text that is written of a tree.
+-- The text that is written for a tree.
 -- Stated by: tree_text, bench_reports. Rests on it: bench_outcomes, bench_top, theorems.
 use Rattle.std.specs.Prelude.{ℕ, ◌≤◌, ◌<◌, ◌^◌, List, [], ◌∷◌, ◌++◌, codes, length, map}
 use Rattle.std.specs.Fmt.{decimal}
@@ -30,13 +30,13 @@ abbrev pub HasVertices : Shape → Type 0
 HasVertices leaf = Unit {0}
 HasVertices (cut x k m) = (0 < length x) × HasVertices k × HasVertices m
 
--- each shore rises
+-- each shore is increasing
 abbrev pub ShoresRise : Shape → Type 0
 ShoresRise leaf = Unit {0}
 ShoresRise (cut x k m) = IsStrictlyIncreasing x × ShoresRise k × ShoresRise m
 
--- a tree that can be written: it fits n, each shore is a nonempty rising list, and there are not
--- too many nodes
+-- a tree that can be written: it fits n, each shore is a nonempty increasing list, and there are
+-- not too many nodes
 pub record IsWritable (n : ℕ) (t : Shape) : Type 0 where
   pub order : n < 10 ^ 9
   pub fits : Fits n t

@@ -1,11 +1,11 @@
-//! Laws of the texts of trees. Each is the contract of a function that does nothing.
+//! Laws of the texts of trees. Each law is the contract of a function that does nothing.
 ghost use Rattle.std.specs.Prelude.{◌≡◌, ◌<◌, ◌^◌, ℕ, List, ◌++◌, true};
 ghost use Rattle.std.specs.List.{AllByRecursion};
 ghost use Rattle.line_text.specs.Common.{Stands, StandsAlone, lines_of, words_of, is_skipped};
 ghost use Rattle.tree_core.specs.Common.{Shape};
 ghost use Rattle.tree_text.specs.Common.{tree_format, tree_text, IsWritable};
 
-/// What is written of a tree stands for this tree, for no other, and has no fault.
+/// The text written for a tree stands for this tree and for no other, and has no error.
 pub fn written_tree_stands()
     ensures stands { (n : ℕ) (t : Shape) → IsWritable n t →
         Stands (tree_format n) (tree_text n t) t }
@@ -13,15 +13,15 @@ pub fn written_tree_stands()
         StandsAlone (tree_format n) (tree_text n t) }
 {}
 
-/// A tail of comments after the text of a tree changes nothing.
+/// Appending comments to the text of a tree changes nothing.
 pub fn comments_change_nothing()
     ensures { (n : ℕ) (t : Shape) (comments : List ℕ) → IsWritable n t
         → AllByRecursion (λ line. is_skipped (words_of line) ≡ true) (lines_of comments)
         → Stands (tree_format n) (tree_text n t ++ comments) t }
 {}
 
-/// What a text stands for can be written: the tree fits n, its shores are nonempty and rise, and
-/// it has at most 127 nodes.
+/// What a text stands for can be written: the tree fits n, its shores are nonempty increasing
+/// lists, and it has at most 127 nodes.
 pub fn read_tree_fits()
     ensures { (n : ℕ) (text : List ℕ) (t : Shape) → n < 10 ^ 9 → Stands (tree_format n) text t →
         IsWritable n t }

@@ -1,17 +1,16 @@
 //! Texts of derivations, and of picks: reading them, and writing a tree.
 //!
-//! A text stands for a tree of cuts over 1 to n by the rules of `specs/TreeFormat`: a header `t
-//! mcg N`, and a line for each node in preorder, `leaf` or `cut` with the vertices of the shore.
-//! It stands for a list of picks by those of `specs/PickFormat`: a header `s mcg K` and K lines
-//! `pick P`. `read_tree` and `read_picks` answer what a text stands for, or its first fault, each
-//! exactly where the rules say so. `write_tree` writes the canonical text of `specs/Writing`, and
-//! reading it gives the tree again: `laws::written_tree_stands`. What a text stands for fits n,
-//! and its shores are nonempty and rise: `laws::read_tree_fits`. `shores` has the tests of lists
-//! of vertices, which the format of moves shares.
+//! A text stands for a tree of cuts over 1 to n by the rules of `specs/TreeFormat`: a header `t mcg
+//! N`, and a line for each node in preorder, `leaf` or `cut` with the vertices of the shore. It
+//! stands for a list of picks by those of `specs/PickFormat`: a header `s mcg K` and K lines `pick
+//! P`. `read_tree` and `read_picks` return what a text stands for, or its first error, as the rules
+//! say. `write_tree` writes the canonical text of `specs/Writing`, and reading it gives the same
+//! tree: `laws::written_tree_stands`. A tree that was read fits n, and its shores are nonempty
+//! increasing lists: `laws::read_tree_fits`. `shores` has the tests of lists of vertices, which the
+//! format of moves shares.
 //!
-//! Stands on `line_text` for what a format is and for the reader, and on `tree_core`
-//! for trees. The manner of the formats is that of the graph files of the DIMACS challenges (1990
-//! to 1993).
+//! Depends on `line_text` for what a format is and for the reader, and on `tree_core` for trees.
+//! The style of the formats is that of the graph files of the DIMACS challenges (1990 to 1993).
 #![tactic(auto)]
 
 pub mod laws;

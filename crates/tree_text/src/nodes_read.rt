@@ -5,7 +5,7 @@ ghost use Rattle.tree_text.specs.TreeFormat.{most_nodes};
 use crate::place::Progress;
 use std::alloc::Global;
 
-/// The nodes read so far: their number, and what they say.
+/// The nodes read so far: their number, and the part of the tree that they give.
 #[derive(Drop)]
 pub struct NodesRead {
     pub nodes: u32,

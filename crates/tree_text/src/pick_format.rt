@@ -11,7 +11,7 @@ use std::alloc::Global;
 
 const MOST_PICKS: u32 = 127;
 
-// The picks read so far, and how many there are to be.
+// The picks read so far, and how many are expected.
 #[derive(Drop)]
 struct PicksRead {
     count: u32,
@@ -102,7 +102,7 @@ impl LineFormat for PickFormat {
 }
 
 /// Reads a list of picks: the numbers that the bytes stand for, or the first line outside the
-/// format with the kind of its fault. Want of memory may come at any time.
+/// format with the kind of its error. Memory may run out at any time.
 pub fn read_picks(alloc: Global, bytes: &[u8]) -> Result<Numbers, TextFault>
     requires { length bytes.now < 2 ^ 32 - 1 }
     ensures value { IfOk result (λ picks. Stands pick_format bytes.now picks) }

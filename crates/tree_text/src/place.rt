@@ -1,4 +1,4 @@
-//! Where the next node of a text stands.
+//! The place of the next node of a text.
 ghost use Rattle.std.specs.Prelude.{◌≡◌, IfOk};
 ghost use Rattle.tree_core.specs.Common.{shape_of};
 ghost use Rattle.tree_text.specs.Common.{put, place_of, progress_of};
@@ -7,8 +7,8 @@ use std::alloc::{AllocError as Memory, Global};
 use tree_core::Tree;
 use vset_core::VSet;
 
-/// The cuts above a node that is still to be read, from the lowest on, with the trees that hang
-/// on them already.
+/// The cuts above a node that is still to be read, from the lowest on, with their subtrees read so
+/// far.
 #[derive(Drop)]
 pub enum Above {
     Root,
@@ -26,13 +26,13 @@ pub enum Above {
 /// How far a tree has been read.
 #[derive(Drop)]
 pub enum Progress {
-    /// The next node stands below these cuts.
+    /// The next node is below these cuts.
     Wanted(Above),
     /// All nodes have been read.
     Whole(Tree),
 }
 
-/// The tree put where the next node stands.
+/// The tree after a subtree is put at the place of the next node.
 pub fn put(alloc: Global, above: Above, tree: Tree) -> Result<Progress, Memory>
     ensures { IfOk result
         (λ progress. progress_of progress ≡ put (place_of above) (shape_of tree)) }

@@ -40,7 +40,7 @@ pub fn holds(vertices: &[u32], n: u32) -> bool
     false
 }
 
-/// The set of rising numbers.
+/// The set of the numbers, which are increasing.
 pub fn shore_of(vertices: &[u32]) -> VSet
     requires { IsRisingIn MOST_VERTICES vertices.now }
     ensures { result ≡ vertices.now }

@@ -83,7 +83,7 @@ fn read_shore(alloc: Global, n: u32, words: &[&[u8]]) -> Result<VSet, Refusal<Fa
     Ok(shore_of(vertices))
 }
 
-// The tree with a node more below these cuts: a leaf, or a cut with this shore.
+// The tree with one more node below these cuts: a leaf, or a cut with this shore.
 fn with_node(alloc: Global, above: Above, is_leaf: bool, shore: VSet) -> Result<Progress, Memory>
     ensures { IfOk result
         (λ progress. progress_of progress ≡ with_node (place_of above) is_leaf shore) }
@@ -95,7 +95,7 @@ fn with_node(alloc: Global, above: Above, is_leaf: bool, shore: VSet) -> Result<
     Ok(Progress::Wanted(Above::InKept { shore, above }))
 }
 
-// The line of a node that stands below these cuts, after so many nodes.
+// The line of a node below these cuts, after so many nodes.
 fn read_node(
     alloc: Global,
     n: u32,
@@ -166,9 +166,9 @@ impl LineFormat for TreeFormat {
     }
 }
 
-/// Reads a tree of cuts over 1 to `n`: the tree that the bytes stand for, or the first line
-/// outside the format with the kind of its fault. The tree fits `n`, its shores are not empty,
-/// and it has at most 127 nodes. Want of memory may come at any time.
+/// Reads a tree of cuts over 1 to `n`: the tree that the bytes stand for, or the first line outside
+/// the format with the kind of its error. The tree fits `n`, its shores are not empty, and it has
+/// at most 127 nodes. Memory may run out at any time.
 pub fn read_tree(alloc: Global, bytes: &[u8], n: u32) -> Result<Tree, TextFault>
     requires order { n ≤ MOST_VERTICES }
     requires length { length bytes.now < 2 ^ 32 - 1 }

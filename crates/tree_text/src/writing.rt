@@ -47,10 +47,10 @@ fn push_nodes(text: &mut String, tree: &Tree) -> Result<(), Memory>
 }
 
 /// Writes a tree of cuts over 1 to `n` whose shores are not empty: a header `t mcg N`, and a line
-/// for each node in preorder, `leaf` or `cut` with the vertices of the shore, after a cut first
-/// the nodes of its `kept` tree.
+/// for each node in preorder, `leaf` or `cut` with the vertices of the shore; after a cut come
+/// first the nodes of its `kept` tree.
 ///
-/// Reading the text gives the tree again, and nothing else.
+/// Reading the text gives the same tree, and nothing else.
 pub fn write_tree(alloc: Global, tree: &Tree, n: u32) -> Result<Vec<u8>, Memory>
     requires order { n ≤ 999999999 }
     requires fits { Fits n (shape_of tree.now) }

@@ -1,6 +1,7 @@
--- A barrier of a covered graph without further edges: each component is odd, and each perfect
--- matching has one edge that leaves it. A part of a barrier leaves no more components than it has
--- vertices, and parts that leave as many have such a meet.
+-- A barrier of a covered graph to which no edges are added: each component it leaves is odd, and
+-- each perfect matching has one edge that leaves the component. A part of a barrier leaves at most
+-- as many components as it has vertices, and if two parts leave as many, so does their
+-- intersection.
 use Rattle.std.proofs.Common.{◌≡◌, ℕ, suc, zero, ◌+◌, ◌*◌, ◌≤◌, ◌≢◌, Bool, true, false, refl, sym, ap, ◌∙◌, arith, ◌&&◌, ◌||◌, not, inl, inr, nat_lt, lt-ltb, List}
 use Rattle.counting.proofs.Common.{same_tests, cases_Bool, and_parts, and_from, both_ways, true≢false, false_from_ne_true, not-true, count_meet_union, bit_true, count_congr, count_le_one, some_none, some_true, at_le_total, total_add, total_congr, total_le, total_mul, total_none, total_tight, Within, bit, count, is_odd, Set, meet, none, singleton, union, some}
 use Rattle.barrier_kit.proofs.Common.{cut_edge, crosses_apart, loop_free}
@@ -74,8 +75,8 @@ module _ (g : Graph) (is : IsGraph g) (cov : IsCovered g) where
 
   module _ (s : Set) (bar : IsBarrier g s) (xs : List (ℕ × ℕ)) (h : KeepsEdges g xs) (a : Set) (less : (v : ℕ) → Within g.order v → a v ≡ true → s v ≡ true)
       (a0 : ℕ) (w0 : Within g.order a0) (in0 : a a0 ≡ true) where
-    -- the components of g without s in one of x without a: one for each vertex of s in it, and
-    -- one for each edge of m that leaves it
+    -- the components of g - s in one of x without a: one for each vertex of s in it, and one for
+    -- each edge of m that leaves it
     pub exact : (u : ℕ) → Within g.order u → a u ≡ false → (m : Set) → IsPerfect g none m →
         count g.order (λ w. is_least g s w && joined (with_ends g xs) a u w) ≡ count g.order (λ v. joined (with_ends g xs) a u v && s v) + edges_in_cut g m (joined (with_ends g xs) a u)
     exact u wu ou m p =

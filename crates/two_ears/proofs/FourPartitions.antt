@@ -1,7 +1,7 @@
--- Take two partitions, one that is finer than both, and one that is finer than each that both are
--- finer than: how many classes have the two together? No more than the other two together. The
--- finer one becomes the first of the two by merging one pair after another; each merge takes one
--- class from it, and at most one from the second, which is merged along.
+-- Let f and h be partitions, f0 a partition finer than both, and r a partition finer than each that
+-- both are finer than. Then |f| + |h| ≤ |f0| + |r|, where |f| is the number of classes. Idea: f0
+-- becomes f by merging one pair after another; each merge takes one class from f0, and at most one
+-- from h, in which the pair is merged too.
 use Rattle.std.proofs.Common.{◌≡◌, ℕ, suc, zero, ◌+◌, ◌≤◌, arith, inl, inr}
 use Rattle.counting.proofs.Common.{Within, count}
 use Rattle.two_ears.proofs.Labels.{used, IsLabel, Finer, finer_used, merge, merge_finer, merge_joins, merge_in, merge_label, merge_used, parted_pair, merge_most}

@@ -1,6 +1,6 @@
--- Being joined without s is an equivalence, whose classes are the components without s and the
--- vertices of s alone. So the number of components is submodular over sets of vertices no two of
--- which an edge joins.
+-- Being joined in G - S is an equivalence, whose classes are the components of G - S and the single
+-- vertices of S. So the number of components is submodular over sets of vertices no two of which an
+-- edge joins.
 use Rattle.std.proofs.Common.{◌≡◌, ℕ, ◌+◌, ◌≤◌, ◌≢◌, Bool, true, false, ◌==◌, refl, sym, ap, ap₂, ◌∙◌, arith, ◌&&◌, not, eq-eqb, eqb-true, ◌⊎◌, inl, inr, nat_lt, ltb-true, [], ◌∷◌, List}
 use Rattle.counting.proofs.Common.{cases_eq, and_parts, and_from, both_ways, true≢false, false_from_ne_true, count_meet_union, some_true, true_some, total_add, total_congr, and_comm, Within, bit, count, Set, meet, union, some}
 use Rattle.graph_core.proofs.Common.{joined_walk, walk_joined, IsClosed, Walk-stays, adjacent-edge, adjacent_from, adjacent_within, has_ends-back, has_ends-cases, has_ends-own, joined_back, joined_on, joined_self, component_count, is_least, Graph, IsGraph, first_end, has_ends, second_end, size, with_ends, Joined, Walk, adjacent, joined}
@@ -56,7 +56,7 @@ pub adjacent_joined : (g : Graph) (s : Set) → IsGraph g → (u v : ℕ) → ad
 unfolding Joined
 adjacent_joined g s is u v h = walk_joined g s is u v (adjacent_within g s is u v h).0 (v ∷ [], (h, refl))
 
--- g without s joins no more than g with further edges without a part of s
+-- g - s joins no more than g with further edges without a part of s
 pub joined_more : (g : Graph) (xs : List (ℕ × ℕ)) (s a : Set) → IsGraph g → KeepsEdges g xs → ((v : ℕ) → Within g.order v → a v ≡ true → s v ≡ true) → IsFiner g.order (joined g s) (joined (with_ends g xs) a)
 joined_more g xs s a is h less u v wu wv = joined_steps g xs s a is h.graph (λ c d wc wd cd.
     let p = adjacent-edge g s c d cd in

@@ -1,5 +1,5 @@
--- Partitions of 1 to n as labels: how many labels are in use? A coarser partition has no more of
--- them, and one that joins two classes of the other has one less.
+-- Partitions of 1 to n as labels, and the number of labels in use. A coarser partition uses no more
+-- labels, and one that merges two classes uses one less.
 use Rattle.std.proofs.Common.{◌≡◌, ℕ, ◌+◌, ◌≤◌, ◌≢◌, Bool, true, false, cond, ◌==◌, refl, sym, ap, ◌∙◌, arith, ◌&&◌, not, eq-eqb, ne_eqb, eqb-true, ◌⊎◌, inl, inr, le_trans, le_of_eq}
 use Rattle.counting.proofs.Common.{same_tests, cases_eq, cases_Bool, and_parts, and_from, both_ways, false_from_ne_true, not-true, count_le_one, some_none, some_true, true_some, at_le_total, total_add, total_at, total_congr, total_le, total_none, total_swap, Within, bit, count, total, some}
 
@@ -56,7 +56,7 @@ merge_joins f x y = ap (λ t. cond t (f y) (f x)) (eq-eqb (f x) (f x) refl) ∙ 
     same true k = refl
     same false k = refl
 
--- a partition that holds f and joins x and y holds the merged one
+-- a partition that contains f and joins x and y holds the merged one
 pub merge_in : (n : ℕ) (f z : ℕ → ℕ) (x y : ℕ) → Within n x → Within n y → Finer n f z → z x ≡ z y → Finer n (merge f x y) z
 merge_in n f z x y wx wy fin e a b wa wb h = elim (cases_eq (f a) (f x)) [
   | inl p ↦ grind arith

@@ -1,4 +1,4 @@
--- A graph with further edges, which get the numbers after those of its own.
+-- A graph with further edges, whose numbers come after those of its own.
 -- Stated by: two_ears, theorems.
 use Rattle.std.specs.Prelude.{◌≡◌, ℕ, true, List, [], ◌∷◌, ◌++◌}
 use Rattle.counting.specs.Common.{Within, some}
@@ -9,7 +9,7 @@ abbrev pub with_pairs : List (ℕ × ℕ) → List (ℕ × ℕ) → List (ℕ ×
 with_pairs es [] = es
 with_pairs es (p ∷ ps) = with_pairs es ps ++ p ∷ []
 
--- g with the edges xs in place of its own has an edge wherever g has one
+-- g with the edges xs instead of its own has an edge wherever g has one
 pub record KeepsEdges (g : Graph) (xs : List (ℕ × ℕ)) : Type 0 where
   pub graph : IsGraph (with_ends g xs)
   pub old : (e : ℕ) → Within (size g) e → some (size (with_ends g xs)) (has_ends (with_ends g xs) (first_end g e) (second_end g e)) ≡ true

@@ -9,6 +9,6 @@ pub record IsEquivalence (n : ℕ) (p : ℕ → ℕ → Bool) : Type 0 where
   pub back : (a b : ℕ) → Within n a → Within n b → p a b ≡ true → p b a ≡ true
   pub on : (a b c : ℕ) → Within n a → Within n b → Within n c → p a b ≡ true → p b c ≡ true → p a c ≡ true
 
--- the number of classes, by least members
+-- the number of classes, each counted at its least member
 abbrev pub class_count : ℕ → (ℕ → ℕ → Bool) → ℕ
 class_count n p = count n (λ u. not (some n (λ v. p u v && nat_lt v u)))

@@ -5,8 +5,9 @@ ghost use Rattle.graph_core.specs.Common.{IsCovered, Graph, IsGraph, with_ends, 
 ghost use Rattle.two_ears.specs.AddedEdges.{with_pairs};
 ghost use Rattle.two_ears.specs.VertexPairs.{AreDisjoint, in_pairs, vertices_of};
 
-/// Of pairs of vertices without which together a matching covered graph has a perfect matching
-/// two are such, or one is: p and q may be one pair.
+/// Let some disjoint pairs of vertices of a matching covered graph G be such that deleting all of
+/// them leaves a graph with a perfect matching. Then so does deleting two of the pairs, or one: p
+/// and q may be the same pair.
 pub fn two_ears_law()
     ensures { (g : Graph) → IsGraph g → IsCovered g → (ps : List (ℕ × ℕ)) → ps ≢ [] →
         AreDisjoint g.order ps → HasPerfect g (in_pairs ps)
@@ -14,8 +15,8 @@ pub fn two_ears_law()
         HasPerfect g (union (vertices_of p) (vertices_of q)) }
 {}
 
-/// Where a matching covered graph is matching covered with further edges, it is with one of them,
-/// or with two.
+/// If a matching covered graph is still matching covered after adding some edges, it is so after
+/// adding one or two of them.
 pub fn further_edges_law()
     ensures { (g : Graph) → IsGraph g → IsCovered g → (ps : List (ℕ × ℕ)) → ps ≢ [] →
         ((p : ℕ × ℕ) → IsIn p ps → Within g.order p.0 × Within g.order p.1)
@@ -25,8 +26,8 @@ pub fn further_edges_law()
         IsCovered (with_ends g (with_pairs g.ends (p ∷ q ∷ [])))) }
 {}
 
-/// A bipartite matching covered graph has a perfect matching without any two vertices on opposite
-/// sides.
+/// In a bipartite matching covered graph, deleting any two vertices on opposite sides leaves a
+/// graph with a perfect matching.
 pub fn opposite_sides_law()
     ensures { (g : Graph) → IsGraph g → IsCovered g → (a : Set) → IsSide g a → (x z : ℕ) →
         Within g.order x → Within g.order z → a x ≡ true → a z ≡ false

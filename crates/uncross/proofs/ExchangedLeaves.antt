@@ -32,7 +32,7 @@ names_by-same n e images k [] same = refl
 names_by-same n e images k (p ∷ ps) same =
     ap₂ (λ (i : Images) (rest : List (List ℕ)). map (image_name n i) p ∷ rest) (same (k + 1) (omega arith) (omega arith)) (names_by-same n e images (k + 1) ps (λ i l u. same i (omega arith) (omega arith)))
 
--- the images of a leaf, by where it stands
+-- the images of a leaf, by its place
 tested : (e : Exchange) (i : ℕ) (a b c : Bool) → nat_lt e.last i ≡ a → nat_lt e.middle i ≡ b → nat_lt e.before i ≡ c → images_at e i ≡ (if a then Own else (if b then e.merged else (if c then e.kept else Own)))
 tested e i a b c ea eb ec = grind arith
 

@@ -6,7 +6,7 @@ use Rattle.tree_core.proofs.Common.{moves_of, Shape, cut, cut_count, leaf}
 use Rattle.tree_core.specs.declared.moves.Move.{Move}
 use Rattle.uncross.specs.Common.{IsBrought, IsRaised, IsExposed}
 
--- if a shore is exposed, there are moves, whatever would stand for none
+-- if a shore is exposed, there are moves, so the default for none is not used
 pub raised : (g : Graph) (p : List (List ℕ)) (s : Shape) (y : List ℕ) (t : Shape) (found : Option (List Move)) (other : List Move) → IsExposed g p s (Some y) t (option_map moves_of found) → IsRaised g p s y t (moves_of (unwrap_or found other))
 raised g p s y t found other h = grind arith
 

@@ -1,4 +1,4 @@
--- The maps so far, followed by the map of a move: each leads to a leaf by names of its blocks,
+-- The maps so far, composed with the map of a move: each leads to a leaf by names of its blocks, to
 -- which the move gives the names of their images.
 use Rattle.std.proofs.Common.{All, List, Option, Some, None, [], ◌∙◌, ◌∷◌, ap, ap₂, arith, get_or, length, map, refl, subst, suc, ℕ, ◌+◌, ◌-◌, ◌≡◌, ◌≤◌}
 use Rattle.counting.proofs.Common.{get_or-map, Within}

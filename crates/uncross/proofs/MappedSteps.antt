@@ -7,7 +7,7 @@ use Rattle.std.proofs.lemmas.List.Elements.{All-rest}
 abbrev pub IsMadeOf : {A B : Type 0} → (A → B) → (A → Type 0) → (whole made : List B) → List A → Type 0
 IsMadeOf f P whole made rest = (whole ≡ made ++ map f rest) × All P rest
 
--- after one item more
+-- after one more item
 pub made-next : {A B : Type 0} (f : A → B) (P : A → Type 0) (whole made after : List B) (rest others : List A) (x : A) (y : B) →
     IsMadeOf f P whole made rest → rest ≡ x ∷ others → after ≡ made ++ y ∷ [] → y ≡ f x → IsMadeOf f P whole after others
 made-next {A} {B} f P whole made after rest others x y so_far front pushed is = (

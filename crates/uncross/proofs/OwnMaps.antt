@@ -1,5 +1,5 @@
--- The maps of no move, leaf by leaf: leaf i goes to leaf i, whose number has place i among those of
--- all leaves, and each of its blocks keeps its name.
+-- The maps of the empty script, leaf by leaf: leaf i goes to leaf i, whose number has place i among
+-- those of all leaves, and each of its blocks keeps its name.
 use Rattle.std.proofs.Common.{◌≡◌, ℕ, zero, suc, ◌+◌, ◌<◌, List, [], ◌∷◌, ◌++◌, append_assoc, length, map, ap, ◌∙◌, arith, eq-eqb, ne_eqb}
 use Rattle.counting.proofs.Common.{length-map, map-append}
 use Rattle.contraction.specs.Partition.{PartitionValue}

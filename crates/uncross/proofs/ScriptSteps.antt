@@ -1,4 +1,6 @@
--- The maps of a script, move by move: what holds if some of its moves are made.
+-- The maps of a script, move by move: what is true after some of its moves. Idea: the maps made so
+-- far, composed with those of the moves left, are the maps of the whole script; each move keeps
+-- this.
 use Rattle.std.proofs.Common.{All, List, Some, ap, arith, length, map, subst, subst₂, sym, unwrap_or, ℕ, ◌∙◌, ◌∷◌, ◌≡◌, ◌≤◌}
 use Rattle.counting.proofs.Common.{count_complement, mem}
 use Rattle.graph_core.proofs.Common.{length-singles, Graph, IsGraph, singles, blocks_in}
@@ -39,7 +41,7 @@ module _ (g : Graph) (is : IsGraph g) (few : g.order ≤ 128) (n : ℕ) (same : 
   pub fits : (t : Shape) → IsDerivation g t → Fits n t
   fits t d = subst (λ k. Fits k t) (sym same) (fits-derivation g t d)
 
-  -- and that its shores stand where they should
+  -- and its shores are unions of blocks at their nodes
   pub stands : (t : Shape) → IsDerivation g t → StandsAt n (singles n) t
   stands t d = subst (λ k. StandsAt k (singles k) t) (sym same) (stands-derivation g t d)
 

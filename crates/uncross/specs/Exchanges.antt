@@ -14,7 +14,7 @@ abbrev pub images_at : Exchange → ℕ → Images
 images_at e i = if nat_lt e.last i then Own else (if nat_lt e.middle i then e.merged else (if nat_lt e.before i then e.kept else Own))
 
 -- the leaves below the node of a Switch of u and v at the end of the path, and the images of their
--- blocks, where k leaves stand before the tree
+-- blocks, if k leaves come before the tree
 abbrev pub exchange_at : ℕ → List Side → (u v : List ℕ) → ℕ → Shape → Exchange
 exchange_at n path u v k leaf = record { before = k; middle = k; last = k; kept = Own; merged = Own }
 exchange_at n [] u v k (cut x a b) =

@@ -1,4 +1,4 @@
--- Leaf maps that may be followed by those of a move, and what they lead to then.
+-- Leaf maps that can be composed with those of a move, and what the compositions lead to.
 -- Stated by: uncross.
 use Rattle.std.specs.Prelude.{◌≡◌, ℕ, List, Option, None, Some, All, length, map}
 use Rattle.contraction.specs.Partition.{PartitionValue}
@@ -29,7 +29,7 @@ pub record IsMapInto (qs : List (List (List ℕ))) (m : PlainLeafMap) : Type 0 w
 abbrev pub names_after : ℕ → Images → List (List ℕ) → List ℕ → List ℕ
 names_after n images q names = map (λ b. image_name n images (block q (place q b))) names
 
--- a leaf map followed by a move with this order of the leaves, and with a Switch, if it is one
+-- a leaf map composed with a move with this order of the leaves, and with a Switch, if it is one
 abbrev pub map_after : ℕ → List ℕ → Option Switched → PlainLeafMap → PlainLeafMap
 map_after n order None m = record { to = position order m.to; images = m.images }
 map_after n order (Some s) m = record { to = position order m.to; images = names_after n (images_at s.exchange m.to) (leaf_at (blocks_of s.leaves) m.to) m.images }
@@ -46,6 +46,6 @@ IsSwitched n t (rotate_at path) (Some s) = ⊥
 IsSwitched n t (switch_at path u v) None = ⊥
 IsSwitched n t (switch_at path u v) (Some s) = (s.leaves ≡ partitions_of n (leaves n t)) × (s.exchange ≡ exchange_at n path u v 0 t)
 
--- what maps to the leaves of the tree t over 1 to n lead to, followed by those of a move
+-- what maps to the leaves of the tree t over 1 to n lead to, composed with those of a move
 abbrev pub led_on : ℕ → Shape → PlainMove → List PlainLeafMap → List PlainLeafMap
 led_on n t m maps = map (then_map (leaves n t) (move_maps n t m)) maps

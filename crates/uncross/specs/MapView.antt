@@ -15,8 +15,8 @@ map_of m = record { to = m.to; images = m.images }
 abbrev pub maps_of : List LeafMap → List PlainLeafMap
 maps_of ms = map map_of ms
 
--- the image of a block t: what of it stays; what is gained, if t contains what leaves; and what
--- comes, if t contains the far side
+-- the image of a block t: the part that stays; with what is gained, if t contains what leaves; and
+-- with what comes, if t contains the far side
 abbrev pub moved_image : ℕ → (staying leaving gained far coming t : List ℕ) → List ℕ
 moved_image n staying leaving gained far coming t =
     union_list n (meet_list n t staying) (union_list n (list_if (is_subset leaving t) gained) (list_if (is_subset far t) coming))
@@ -30,6 +30,6 @@ image_name n (Moved staying leaving gained far coming) = λ t. last_of (moved_im
 abbrev pub kept_images : ℕ → (x u v : List ℕ) → Images
 kept_images n x u v = Moved (inner_rest n x u) u (union_list n (outer_rest n x v) u) (union_list n (outer_rest n x v) v) v
 
--- and below `merged`
+-- the images of blocks below `merged` of x, where u and v are exchanged
 abbrev pub merged_images : ℕ → (x u v : List ℕ) → Images
 merged_images n x u v = Moved (outer_rest n x v) v (union_list n (inner_rest n x u) v) x u

@@ -1,5 +1,5 @@
 -- How a shore y is exposed in a tree with the root shore x: what is exposed first in its two
--- trees, and what is done at the root then.
+-- subtrees, and what is then done at the root.
 -- Stated by: uncross.
 use Rattle.std.specs.Prelude.{◌≡◌, ◌+◌, ◌*◌, ◌≤◌, ℕ, true, false, List, [], length, Option, Some, None, ◌⊎◌, if◌then◌else◌, nat_lt}
 use Rattle.counting.specs.Common.{is_apart, is_subset, mem}
@@ -8,7 +8,7 @@ use Rattle.tree_core.specs.Common.{IsCutAt, PlainMove, meet_list, Shape, cut, cu
 use Rattle.move_laws.specs.Common.{outer_of, outer_shore, partner, IsProperScript, PlainTurned, over_inner, raised_kept, raised_merged}
 
 -- y is the root shore; or it is exposed in `kept` or in `merged` first; or it crosses the root
--- shore with the corners u and v, of which those with three blocks or more are exposed first, as
+-- shore with the corners u and v, of which those with at least three blocks are exposed first, as
 -- the shores inner and outer
 pub data PlainPlan : Type 0 where
   here : PlainPlan
@@ -16,7 +16,7 @@ pub data PlainPlan : Type 0 where
   in_merged : PlainPlan
   crossing : (u v : List ℕ) (inner outer : Option (List ℕ)) → PlainPlan
 
--- a shore, if it has three blocks or more
+-- a shore, if it has at least three blocks
 abbrev pub if_big : List (List ℕ) → (u shore : List ℕ) → Option (List ℕ)
 if_big p u shore = if nat_lt (block_count p (mem u)) 3 then None else Some shore
 
@@ -28,20 +28,21 @@ IsPlan n p x y in_merged = (is_subset y x ≡ false) × ((is_subset x y ≡ true
 IsPlan n p x y (crossing u v inner outer) =
     (is_subset y x ≡ false) × (is_subset x y ≡ false) × (is_apart x y ≡ false) × (u ≡ meet_list n x (partner n p x y)) × (v ≡ outer_of n x (partner n p x y)) × (inner ≡ if_big p u u) × (outer ≡ if_big p v (outer_shore n v))
 
--- what is exposed in `kept` first, and in `merged`
+-- the shore that is exposed in `kept` first
 abbrev pub first_shore : List ℕ → PlainPlan → Option (List ℕ)
 first_shore y here = None
 first_shore y in_kept = Some y
 first_shore y in_merged = None
 first_shore y (crossing u v inner outer) = inner
 
+-- the shore that is exposed in `merged` first
 abbrev pub second_shore : List ℕ → PlainPlan → Option (List ℕ)
 second_shore y here = None
 second_shore y in_kept = None
 second_shore y in_merged = Some y
 second_shore y (crossing u v inner outer) = outer
 
--- what is done at the root then, with the moves made in the two trees
+-- what is then done at the root, with the moves made in the two subtrees
 abbrev pub plan_result : ℕ → List ℕ → PlainPlan → Shape → Shape → Option (List PlainMove) → Option (List PlainMove) → Option PlainTurned
 plan_result n x here a b inner outer = Some (record { tree = cut x a b; moves = [] })
 plan_result n x in_kept a b (Some ms) outer = raised_kept x (record { tree = a; moves = ms }) b
@@ -55,7 +56,7 @@ abbrev pub CutIf : Graph → List (List ℕ) → Option (List ℕ) → Type 0
 CutIf g p None = Unit {0}
 CutIf g p (Some y) = IsCutAt g p y
 
--- the tree t is s if nothing is to be exposed, and else one that has the shore at its root,
+-- the tree t is s if nothing is to be exposed, and otherwise one that has the shore at its root,
 -- with a script of few moves from s
 abbrev pub IsExposed : Graph → List (List ℕ) → Shape → Option (List ℕ) → Shape → Option (List PlainMove) → Type 0
 IsExposed g p s None t None = t ≡ s

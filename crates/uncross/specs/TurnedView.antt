@@ -9,6 +9,6 @@ use Rattle.uncross.specs.declared.turning.Turned.{Turned}
 abbrev pub turned_of : Turned → PlainTurned
 turned_of t = record { tree = shape_of t.tree; moves = moves_of t.moves }
 
--- the tree is the turned one, and its moves stand after those before
+-- the tree is the turned one, and its moves come after those made before
 abbrev pub IsMade : Shape → (after before : List PlainMove) → PlainTurned → Type 0
 IsMade tree after before s = (tree ≡ s.tree) × (after ≡ before ++ s.moves)

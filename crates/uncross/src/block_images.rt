@@ -10,27 +10,28 @@ use graph_core::Numbers;
 use std::alloc::{AllocError as Memory, Global};
 use vset_core::{MOST_VERTICES, VSet};
 
-/// How the blocks of a leaf go over to blocks of its partner.
+/// How the blocks of a leaf correspond to the blocks of its partner.
 #[derive(Clone, Copy)]
 pub enum Images {
     /// Each block is its own image.
     Own,
-    /// The leaf stands on one side of a cut at which a Switch exchanges two sets.
+    /// The leaf is on one side of a cut at which a Switch exchanges two sets.
     Moved {
-        /// What of this side stays.
+        /// The part of this side that stays.
         staying: VSet,
-        /// What leaves this side.
+        /// The part that leaves this side.
         leaving: VSet,
-        /// What the block becomes that holds what leaves: this with the rest of the other side.
+        /// The new set of the block that contains what leaves: this with the rest of the other
+        /// side.
         gained: VSet,
         /// The other side.
         far: VSet,
-        /// What comes to this side, and stands for the other side.
+        /// The set that comes to this side, and represents the other side.
         coming: VSet,
     },
 }
 
-// What of 1 to n is in the set.
+// The part of 1 to n that is in the set.
 fn part_within(x: VSet, n: u32) -> VSet
     requires { n ≤ MOST_VERTICES }
     ensures { result ≡ rising_list n (mem x) }
@@ -48,7 +49,7 @@ fn union_of(x: VSet, y: VSet, n: u32) -> VSet
     part_within(x.union(y), n)
 }
 
-// What two sets share.
+// The intersection of two sets.
 fn meet_of(x: VSet, y: VSet, n: u32) -> VSet
     requires { n ≤ MOST_VERTICES }
     ensures { result ≡ meet_list n x y }
@@ -56,7 +57,7 @@ fn meet_of(x: VSet, y: VSet, n: u32) -> VSet
     part_within(x.meet(y), n)
 }
 
-// What of a set is not in another.
+// A set less another one.
 fn minus_of(x: VSet, y: VSet, n: u32) -> VSet
     requires { n ≤ MOST_VERTICES }
     ensures { result ≡ minus_list n x y }
@@ -64,8 +65,8 @@ fn minus_of(x: VSet, y: VSet, n: u32) -> VSet
     part_within(x.minus(y), n)
 }
 
-/// The images of the blocks below `kept` of a cut with the shore x, where u leaves the shore and
-/// v comes in its place.
+/// The images of the blocks below `kept` of a cut with the shore x, if u leaves the shore and v
+/// replaces it.
 pub fn kept_images(n: u32, x: VSet, u: VSet, v: VSet) -> Images
     requires { n ≤ MOST_VERTICES }
     ensures { result ≡ kept_images n x u v }
@@ -80,8 +81,8 @@ pub fn kept_images(n: u32, x: VSet, u: VSet, v: VSet) -> Images
     }
 }
 
-/// The images of the blocks below `merged` of a cut with the shore x, where u leaves the shore
-/// and v comes in its place.
+/// The images of the blocks below `merged` of a cut with the shore x, if u leaves the shore and v
+/// replaces it.
 pub fn merged_images(n: u32, x: VSet, u: VSet, v: VSet) -> Images
     requires { n ≤ MOST_VERTICES }
     ensures { result ≡ merged_images n x u v }
@@ -95,7 +96,7 @@ pub fn merged_images(n: u32, x: VSet, u: VSet, v: VSet) -> Images
     }
 }
 
-// A set if a test holds, and the empty set else.
+// A set if a test is true, otherwise the empty set.
 fn set_if(test: bool, x: VSet) -> VSet
     ensures { result ≡ list_if test x }
 {

@@ -16,7 +16,7 @@ use std::alloc::{AllocError as Memory, Global};
 use tree_core::{Moves, Place, Side, Tree, copy};
 use vset_core::VSet;
 
-/// The two trees below a shore that moves brought to the root, their places, and the moves.
+/// The two trees below a shore that moves have brought to the root, their places, and the moves.
 #[derive(Drop)]
 pub struct Brought<'g> {
     /// The places of the two trees.
@@ -59,7 +59,7 @@ fn bring<'g>(alloc: Global, p: &Place<'g>, tree: Tree, shore: VSet) -> Result<Br
     }
 }
 
-// Moves, and after them those made in the two trees below the root, each one step further down.
+// Moves, followed by those made in the two trees below the root, each one step further down.
 fn with_both(alloc: Global, moves: Moves, kept: Moves, merged: Moves) -> Result<Moves, Memory>
     ensures { IfOk result
         (λ ms. moves_of ms ≡ (moves_of moves ++ map (below Side.Kept) (moves_of kept)) ++
@@ -72,8 +72,8 @@ fn with_both(alloc: Global, moves: Moves, kept: Moves, merged: Moves) -> Result<
 }
 
 /// The moves that turn the first derivation at p into the second, through derivations at p: the
-/// root shore of the second is exposed in the first, then the same is done in the two trees
-/// `kept`, and then in the two trees `merged`.
+/// root shore of the second is exposed in the first, then the same is done in the two trees `kept`,
+/// and then in the two trees `merged`.
 pub fn compare_at(alloc: Global, p: &Place, first: Tree, second: &Tree) -> Result<Moves, Memory>
     requires first { IsDerivationAt p.now.graph p.now.blocks (shape_of first) }
     requires second { IsDerivationAt p.now.graph p.now.blocks (shape_of second.now) }
@@ -104,8 +104,8 @@ pub fn compare_at(alloc: Global, p: &Place, first: Tree, second: &Tree) -> Resul
 }
 
 /// The moves that turn the first derivation of a covered graph into the second, in order and with
-/// paths from the root of the whole tree. Each Switch among them is proper, and each tree between
-/// is a derivation of the graph. There are at most 5 c * c moves for a tree of c cuts.
+/// paths from the root of the whole tree. Each Switch among them is proper, and each tree in
+/// between is a derivation of the graph. There are at most 5 c * c moves for a tree of c cuts.
 pub fn moves_between_covered(
     alloc: Global,
     c: &Covered,
@@ -141,8 +141,8 @@ pub struct Pairing {
 }
 
 /// Compares two derivations of a graph: pairs each leaf of the first with one of the second, each
-/// with its partner the same leaf by names of blocks (Lovász 1987), and answers moves that turn
-/// the first tree into the second. The maps are those of the moves, each tree between is a
+/// partner being the same leaf by names of blocks (Lovász 1987), and returns moves that turn the
+/// first tree into the second. The maps are those of the moves, each tree in between is a
 /// derivation of the graph, and there are at most 5 c * c moves for a first tree of c cuts. The
 /// only error is `Memory`.
 pub fn compare(
@@ -168,7 +168,7 @@ pub fn compare(
     compare_covered(alloc, &covered, first, second)
 }
 
-/// The answer of `compare` for a covered graph, from what is known of it.
+/// What `compare` returns, of a covered graph.
 pub fn compare_covered(
     alloc: Global,
     c: &Covered,

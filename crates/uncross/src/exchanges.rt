@@ -1,5 +1,5 @@
-//! What a Switch does to the leaves of a tree: which of them stand below its node, and how their
-//! blocks go over to blocks of their partners.
+//! What a Switch does to the leaves of a tree: which of them are below its node, and how their
+//! blocks correspond to the blocks of their partners.
 ghost use Rattle.std.specs.Prelude.{◌≡◌, ◌≤◌, ◌+◌};
 ghost use Rattle.tree_core.specs.Common.{leaf_count, shape_of};
 ghost use Rattle.uncross.specs.Common.{exchange_at, images_at};
@@ -13,11 +13,11 @@ use vset_core::{MOST_VERTICES, VSet};
 /// images of their blocks.
 #[derive(Clone, Copy)]
 pub struct Exchange {
-    /// The last leaf before them.
+    /// The number of the last leaf before them.
     pub before: u32,
-    /// The last leaf below `kept`.
+    /// The number of the last leaf below `kept`.
     pub middle: u32,
-    /// The last leaf below `merged`.
+    /// The number of the last leaf below `merged`.
     pub last: u32,
     /// The images of the blocks below `kept`.
     pub kept: Images,
@@ -42,8 +42,8 @@ impl Exchange {
     }
 }
 
-/// What a Switch of u and v at the end of the path does to the leaves of a tree over 1 to `n`,
-/// where k leaves stand before the tree.
+/// What a Switch of u and v at the end of the path does to the leaves of a tree over 1 to `n`, if k
+/// leaves come before the tree.
 pub fn exchange_at(n: u32, path: &[Side], u: VSet, v: VSet, k: u32, tree: &Tree) -> Exchange
     requires order { n ≤ MOST_VERTICES }
     requires few { k + leaf_count (shape_of tree.now) ≤ MOST_NODES }

@@ -16,7 +16,7 @@ use std::alloc::{AllocError as Memory, Global};
 use tree_core::{Moves, Place, Side, Tree, copy};
 use vset_core::VSet;
 
-// The root of a child that moves have made is brought over the root.
+// Brings the root of a child, which moves have made, above the root.
 fn raise_child(
     alloc: Global,
     side: Side,
@@ -38,7 +38,7 @@ fn raise_child(
     }
 }
 
-// The plan is carried out at the root x, after moves in its two trees.
+// Carries out the plan at the root x, after moves in its two subtrees.
 fn carry_out(
     alloc: Global,
     n: u32,
@@ -74,16 +74,16 @@ fn carry_out(
     }
 }
 
-/// A tree in which a shore was brought to the root by moves, or the tree as it was and no moves.
+/// A tree in which moves brought a shore to the root, or the tree as it was and no moves.
 #[derive(Drop)]
 pub struct Exposure {
     /// The tree.
     pub tree: Tree,
-    /// The moves, if a shore was to be exposed.
+    /// The moves, if there was a shore to expose.
     pub moves: Option<Moves>,
 }
 
-// The plan is carried out at the root x, over its two trees as exposing made them.
+// Carries out the plan at the root x, above its two subtrees as exposing made them.
 fn carry_out_over(
     alloc: Global,
     n: u32,
@@ -159,10 +159,10 @@ fn plan_for(p: &Place, x: VSet, y: VSet) -> Plan
 pub struct Exposed {
     /// The derivation with the shore at its root.
     pub tree: Tree,
-    /// The moves that turn the tree as it was into this one, in order and with paths from the root.
+    /// The moves that turn the original tree into this one, in order and with paths from the root.
     pub moves: Moves,
-    /// One map for each leaf of the tree as it was, in preorder: the place of its partner among
-    /// the leaves of this one, and for each of its blocks the name of a block of the partner.
+    /// One map for each leaf of the original tree, in preorder: the place of its partner among the
+    /// leaves of this one, and for each of its blocks the name of a block of the partner.
     pub maps: LeafMaps,
 }
 
@@ -183,8 +183,8 @@ fn bring_up(alloc: Global, g: &MultiGraph, tree: Tree, shore: VSet) -> Result<Tu
 
 /// Brings a canonical nontrivial tight shore to the root of a derivation of a graph by moves,
 /// through derivations, and pairs each leaf of the tree with one of the new tree by the maps of
-/// these moves. There are at most 5 c moves for a tree of c cuts. The only error is `Memory`;
-/// after it the tree is given up.
+/// these moves. There are at most 5 c moves for a tree of c cuts. The only error is `Memory`; the
+/// tree is then dropped.
 pub fn expose(alloc: Global, g: &MultiGraph, tree: Tree, shore: VSet) -> Result<Exposed, Memory>
     requires derives { IsDerivation g.now (shape_of tree) }
     requires shore { IsCutAt g.now (singles g.now.order) shore }

@@ -1,4 +1,5 @@
-//! Leaf maps: where each leaf of a tree goes, and its blocks; and what they are after a move more.
+//! Leaf maps: where each leaf of a tree goes, and its blocks; and their composition with one more
+//! move.
 ghost use Rattle.std.specs.Prelude.{◌≡◌, ◌≤◌, ◌+◌, List, ℕ, length, All, IfOk, map};
 ghost use Rattle.counting.specs.Common.{Within};
 ghost use Rattle.tree_core.specs.Common.{PlainLeafMap, leaf_at, position};
@@ -26,7 +27,7 @@ pub struct LeafMap {
 /// The maps of the leaves of a tree, in preorder.
 pub type LeafMaps = Listed<LeafMap>;
 
-/// A Switch, as it is before it is made.
+/// A Switch, before it is made.
 #[derive(Drop)]
 pub struct Switched {
     /// The leaves of the tree.
@@ -35,7 +36,7 @@ pub struct Switched {
     pub exchange: Exchange,
 }
 
-// The place of a number in a list, counted from 1, and one past the end if it is not there.
+// The place of a number in a list, counted from 1, or one past the end if it is not there.
 fn position_of(order: &[u32], i: u32) -> u32
     requires { length order.now ≤ MOST_NODES }
     ensures place { result ≡ position order.now i }
@@ -93,7 +94,8 @@ fn images_after(
     }
 }
 
-// A leaf's map, followed by a move with this order of the leaves, and with a Switch, if it is one.
+// A leaf's map, composed with a move with this order of the leaves, and with a Switch, if it is
+// one.
 fn map_after(
     alloc: Global,
     n: u32,
@@ -118,7 +120,7 @@ fn map_after(
     })
 }
 
-/// Leaf maps, each followed by a move with this order of the leaves, and with a Switch, if it is
+/// Leaf maps, each composed with a move with this order of the leaves, and with a Switch, if it is
 /// one.
 pub(crate) fn maps_after(
     alloc: Global,

@@ -33,8 +33,8 @@ pub fn push_numbers(order: &mut Numbers, k: u32, count: u32) -> Result<(), Memor
     Ok(())
 }
 
-// Appends the order below `kept` where the greatest vertex stays: if a shore contains u the
-// two trees change places. k leaves stand before the tree.
+// Appends the order below `kept` where the highest-numbered vertex stays: the two subtrees change
+// places if a shore contains u. k leaves come before the tree.
 fn push_kept_order(order: &mut Numbers, u: VSet, k: u32, tree: &Tree) -> Result<(), Memory>
     requires { k + leaf_count (shape_of tree.now) ≤ MOST_NODES }
     ensures order { OnOk result

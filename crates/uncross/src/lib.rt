@@ -2,21 +2,17 @@
 //!
 //! Any two tight cut decompositions of a matching covered graph have the same leaves, up to
 //! multiplicities of edges (Lovász 1987). `compare` turns a derivation into another by the moves
-//! Rotate and Switch of `tree_core`, through derivations alone, and answers the maps of this
-//! script (`specs/LeafMaps` of `tree_core`), which pair the leaves (`IsPairing` of `move_laws`),
-//! each with its partner the same leaf by names of blocks (`IsSameLeaf` of `move_laws`).
-//! `compare_covered` answers the same of a `Covered`, and `moves_between_covered` the script alone.
-//! `expose` brings a given shore to the root of a derivation, and answers the same of its moves.
+//! Rotate and Switch of `tree_core`, through derivations, and returns the maps of this script,
+//! which pair the leaves (`IsPairing`), partners being the same leaf by names of blocks
+//! (`IsSameLeaf`). `compare_covered` does the same for a `Covered`, and `moves_between_covered`
+//! returns only the script. `expose` brings a given shore to the root of a derivation.
 //!
-//! How: the root shore of the second derivation is exposed in the first, and then the same is
-//! done in the two trees below (`comparing`). If the shore to be exposed crosses the root
-//! shore, the corners with three blocks or more are exposed first, and a Switch at the root does
-//! the rest (`plans`, `turning`, `exposing`). The maps are those of the moves, one after the
-//! other (`move_maps`).
+//! How: the root shore of the second derivation is exposed in the first, and then the same is done
+//! in the two subtrees (`comparing`). If the shore to be exposed crosses the root shore, the
+//! corners with at least three blocks are exposed first, and then a Switch is made at the root
+//! (`plans`, `turning`, `exposing`). The maps are composed move by move.
 //!
-//! Stands on `move_laws`, which says that all this ends well, and on `tree_core` for trees and
-//! moves. Source: Lovász, "Matching structure and the matching lattice" (1987); Lucchesi and
-//! Murty, "Perfect Matchings".
+//! Depends on `move_laws` and `tree_core`. Sources: Lovász 1987; Lucchesi and Murty 2024.
 #![tactic(auto)]
 
 mod block_images;

@@ -14,7 +14,7 @@ use std::alloc::{AllocError as Memory, Global};
 use tree_core::{MOST_NODES, Move, Moves, Tree, apply, copy, leaves};
 use vset_core::MOST_VERTICES;
 
-/// The maps of no move: each leaf and each block to itself.
+/// The maps of the empty script: each leaf and each block to itself.
 pub fn own_maps(alloc: Global, n: u32, tree: &Tree) -> Result<LeafMaps, Memory>
     requires order { n ≤ MOST_VERTICES }
     requires fits { Fits n (shape_of tree.now) }
@@ -63,7 +63,7 @@ fn moved(tree: Tree, n: u32, m: &Move) -> Tree
     }
 }
 
-// The maps so far, each followed by the map that a move of the tree gives its partner.
+// The maps so far, each composed with the map that a move of the tree gives its partner.
 fn maps_onward(
     alloc: Global,
     n: u32,

@@ -1,4 +1,4 @@
-//! The plan for exposing a shore: what is exposed first in the two trees below the root.
+//! The plan for exposing a shore: what is exposed first in the two subtrees of the root.
 ghost use Rattle.std.specs.Prelude.{◌≡◌, ◌≤◌};
 ghost use Rattle.counting.specs.Common.{is_odd, IsRisingIn, mem, meet};
 ghost use Rattle.graph_core.specs.Common.{complement_of, block_count};
@@ -19,7 +19,7 @@ pub enum Plan {
     InKept,
     /// It is exposed in `merged` first.
     InMerged,
-    /// The two cross. The corners with three blocks or more are exposed first.
+    /// The two cross. The corners with at least three blocks are exposed first.
     Crossing {
         /// The inner corner.
         u: VSet,
@@ -32,14 +32,14 @@ pub enum Plan {
     },
 }
 
-// Whether two shores share an odd number of blocks.
+// Whether two shores have an odd number of blocks in common.
 fn share_odd(p: &Partition, x: VSet, y: VSet) -> bool
     ensures { result ≡ is_odd (block_count p.now.blocks (meet (mem x) (mem y))) }
 {
     p.blocks_in(x.meet(y)) % 2 == 1
 }
 
-// What is in both sets.
+// The intersection of two sets.
 fn met(x: VSet, y: VSet, n: u32) -> VSet
     requires first { IsRisingIn n x }
     ensures { result ≡ meet_list n x y }
@@ -49,7 +49,7 @@ fn met(x: VSet, y: VSet, n: u32) -> VSet
     both
 }
 
-// What is in neither.
+// The complement of the union of two sets.
 fn around(x: VSet, y: VSet, n: u32) -> VSet
     requires { n ≤ MOST_VERTICES }
     ensures { result ≡ outer_of n x y }
@@ -70,7 +70,7 @@ pub(crate) fn complement(x: VSet, n: u32) -> VSet
     outside
 }
 
-// The one of y and its complement that shares an odd number of blocks with x.
+// The one of y and its complement that has an odd number of blocks in common with x.
 fn partner_of(p: &Partition, x: VSet, y: VSet) -> VSet
     requires { p.now.order ≤ MOST_VERTICES }
     ensures { result ≡ partner p.now.order p.now.blocks x y }
@@ -82,7 +82,7 @@ fn partner_of(p: &Partition, x: VSet, y: VSet) -> VSet
     }
 }
 
-// A shore, if u has three blocks or more.
+// A shore, if u has at least three blocks.
 fn shore_if_big(p: &Partition, u: VSet, shore: VSet) -> Option<VSet>
     ensures { result ≡ if_big p.now.blocks u shore }
 {

@@ -1,4 +1,4 @@
-//! Turned trees: a tree that moves have made, with the moves.
+//! Turned trees: a tree that moves have made, and the moves.
 ghost use Rattle.std.specs.Prelude.{◌≡◌, ◌++◌, ◌∷◌, ◌-◌, ℕ, [], Some, IfOk, OnOk, map, option_map, All};
 ghost use Rattle.counting.specs.Common.{Within};
 ghost use Rattle.tree_core.specs.Common.{moves_of, below, switch_at, with_child, Fits, cut, shape_of};
@@ -36,7 +36,7 @@ pub fn append_below(
     Ok(())
 }
 
-/// The root of the child on a side, which moves have made, is brought over the root.
+/// Brings the root of the child on a side, which moves have made, above the root.
 pub fn raise(
     alloc: Global,
     side: Side,
@@ -78,8 +78,8 @@ fn switch_root(alloc: Global, n: u32, tree: Tree, u: VSet, v: VSet) -> Result<Tu
     }
 }
 
-// A child of the root that was turned is put back, and its new root is brought up. The moves made
-// so far come first.
+// Puts back a child of the root that was turned, and brings up its new root. The moves made so far
+// come first.
 fn raise_turned(
     alloc: Global,
     opened: Opened,
@@ -101,7 +101,7 @@ fn raise_turned(
 }
 
 // With the outer corner, or its complement, at the root: u and v are exchanged in the child that
-// holds x, and its new root is brought up. The moves made so far come first.
+// contains x, and its new root is brought up. The moves made so far come first.
 fn switch_below(
     alloc: Global,
     n: u32,
@@ -136,8 +136,8 @@ fn switch_below(
     }
 }
 
-// The shore of u and v is brought to the root x: at once, or after moves in `merged` that brought
-// the outer corner to its root.
+// Brings the shore of u and v to the root x: at once, or after moves in `merged` that brought the
+// outer corner to its root.
 fn turn_over_outer(
     alloc: Global,
     n: u32,
@@ -170,8 +170,8 @@ fn turn_over_outer(
     }
 }
 
-// With the inner corner at the root: the shore of u and v is brought to the root of the child
-// that holds x, and then up. The moves made so far come first.
+// With the inner corner at the root: the shore of u and v is brought to the root of the child that
+// contains x, and then up. The moves made so far come first.
 fn turn_below_inner(
     alloc: Global,
     n: u32,
@@ -209,9 +209,8 @@ fn turn_below_inner(
     }
 }
 
-/// The shore of u and v is brought to the root x, after moves in `kept` that brought the inner
-/// corner to its root, if any, and moves in `merged` that brought the outer corner to its root,
-/// if any.
+/// Brings the shore of u and v to the root x, after moves in `kept` that brought the inner corner
+/// to its root, if any, and moves in `merged` that brought the outer corner to its root, if any.
 pub fn turn_over_inner(
     alloc: Global,
     n: u32,

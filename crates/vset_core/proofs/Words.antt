@@ -11,7 +11,7 @@ use Rattle.std.proofs.lemmas.Nat.{or_lt, one_shl, and_le_l}
 use Rattle.vset_core.specs.Words.{in_word, members, word_of_list}
 use Rattle.vset_core.specs.WordLaws.{word_of_list-members, in_word_above, mem-members, members-rise}
 
--- a number of the set, by the word that stands for it
+-- a number of the set, by the word that represents it
 pub seen : (word : ℕ) (set : List ℕ) → members word ≡ set → word < 2 ^ 128 → (v : ℕ) → mem set v ≡ in_word word v
 seen word set is fits v = subst (λ xs. mem xs v ≡ in_word word v) is (mem-members word v fits)
 
@@ -88,7 +88,7 @@ members-one v w = same_rising_list 128 (members (1 * 2 ^ (v - 1) % 2 ^ 128)) (v 
     or_none : (b : Bool) → b ≡ (b || false)
     or_none b = grind arith
 
--- a word is 0 exactly when its set has nothing
+-- a word is 0 if and only if its set has nothing
 pub zero_test : (word : ℕ) → word < 2 ^ 128 → (b : Bool) → ((v : ℕ) → in_word word v ≡ true → b ≡ false) → (b ≡ false → (v : ℕ) × (in_word word v ≡ true)) → (word == 0) ≡ b
 zero_test word h true f g = eq-eqb word 0 (same_from_bits_below 128 word 0 h (omega arith) (λ i l. none i (bit_at word i) refl (bit_at-lt word i)))
   where
@@ -97,7 +97,7 @@ zero_test word h true f g = eq-eqb word 0 (same_from_bits_below 128 word 0 h (om
     none i (suc k) e l = let one : bit_at word i ≡ 1 = omega arith in absurd (true≢false (f (suc i) (eq-eqb (bit_at word i) 1 one)))
 zero_test word h false f g = let found = g refl in ne_eqb word 0 (λ e. both_ways (in_word word found.0) (ap (λ w. in_word w found.0) e ∙ in_word-zero found.0) found.1)
 
--- nothing is left of the one set without the other exactly when it is a subset
+-- nothing is left of the one set without the other if and only if it is a subset
 pub minus-subset : (a b : ℕ) (s t : List ℕ) → members a ≡ s → members b ≡ t → a < 2 ^ 128 → b < 2 ^ 128 → (bit_and a (bit_not w128 b) == 0) ≡ is_subset s t
 minus-subset a b s t p q h k = zero_test (bit_and a (bit_not w128 b)) (and_fits a (bit_not w128 b) h) (is_subset s t) outside missing
   where
@@ -110,7 +110,7 @@ minus-subset a b s t p q h k = zero_test (bit_and a (bit_not w128 b)) (and_fits 
     missing : is_subset s t ≡ false → (v : ℕ) × (in_word (bit_and a (bit_not w128 b)) v ≡ true)
     missing f = let found = false_all_in s (mem t) f in (found.0, has found.0 ∙ rw (found.1, found.2) refl)
 
--- two words are equal exactly when their sets are
+-- two words are equal if and only if their sets are
 pub same_word : (a b : ℕ) (s t : List ℕ) → members a ≡ s → members b ≡ t → a < 2 ^ 128 → b < 2 ^ 128 → (a == b) ≡ bytes_eq s t
 same_word a b s t p q h k = same_from_decides (a == b) (bytes_eq s t) (Decides-like (a == b) same back (Decides-eqb a b)) (bytes_eq-Decides s t)
   where

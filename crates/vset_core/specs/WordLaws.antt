@@ -1,5 +1,5 @@
--- A word and its set: a word of n bits is made of the bits of its set, so that it comes back from
--- the list of its members.
+-- A word and its set: a word of n bits is determined by the bits of its set, so it can be computed
+-- from the list of its members.
 -- Stated by no contract. Rests on it: vset_core.
 use Rattle.std.specs.Prelude.{◌≡◌, ℕ, zero, suc, ◌+◌, ◌-◌, ◌*◌, ◌^◌, ◌≤◌, ◌<◌, ◌==◌, refl, Bool, true, false}
 use Rattle.std.proofs.Common.{sym, ◌∙◌, ap, arith, eq-eqb, ne_eqb, inl, inr}
@@ -15,6 +15,7 @@ word_of-suc : (n : ℕ) (x : Set) → word_of (suc n) x ≡ bit (x (suc n)) * 2 
 unfolding word_of
 word_of-suc n x = let e : suc n - 1 ≡ n = omega arith in rw e (omega arith)
 
+-- a bit is at most 1
 bit_le : (b : Bool) → bit b ≤ 1
 bit_le true = omega arith
 bit_le false = omega arith
@@ -29,11 +30,12 @@ word_of_below (suc n) x = fit (x (suc n)) (word_of n x) (word_of_below n x) (wor
     fit true r h e = let p : 2 ^ suc n ≡ 2 * 2 ^ n = omega arith in omega arith
     fit false r h e = let p : 2 ^ suc n ≡ 2 * 2 ^ n = omega arith in omega arith
 
+-- bit 0 of a word of one bit is that bit
 bit_at-bit : (b : Bool) → bit_at (bit b) 0 ≡ bit b
 bit_at-bit true = refl
 bit_at-bit false = refl
 
--- its bits are the answers of the test
+-- its bits are the values of the test
 pub bit_at-word_of : (n : ℕ) (x : Set) (i : ℕ) → i < n → bit_at (word_of n x) i ≡ bit (x (suc i))
 bit_at-word_of zero x i h = absurd (omega arith)
 bit_at-word_of (suc n) x i h = ap (λ w. bit_at w i) (word_of-suc n x) ∙ elim (cases_lt i n) [
@@ -42,7 +44,7 @@ bit_at-word_of (suc n) x i h = ap (λ w. bit_at w i) (word_of-suc n x) ∙ elim 
       bit_at_cat_high (bit (x (suc n))) n (word_of n x) i (word_of_below n x) g ∙ ap (bit_at (bit (x (suc n)))) z ∙ bit_at-bit (x (suc n)) ∙ ap (λ k. bit (x (suc k))) (sym e)
 ]
 
--- the answer at v is one bit
+-- the value at v is one bit
 pub bit-in_word : (word i : ℕ) → bit (in_word word (suc i)) ≡ bit_at word i
 bit-in_word word i = decide (bit_at word i) (bit_at-lt word i)
   where
@@ -71,16 +73,17 @@ pub mem-members : (word v : ℕ) → word < 2 ^ 128 → mem (members word) v ≡
 unfolding members
 mem-members word v h = mem-in_word 128 word v h
 
--- the members rise
+-- the members are increasing and lie from 1 to 128
 pub members-rise : (word : ℕ) → IsRisingIn 128 (members word)
 unfolding members
 members-rise word = rising_list-rises 128 (in_word word)
 
--- a word of n bits comes back from its test
+-- a word of n bits is computed from its test
 pub word_of-in_word : (n word : ℕ) (x : Set) → word < 2 ^ n → ((v : ℕ) → x v ≡ in_word word v) → word_of n x ≡ word
 word_of-in_word n word x h e =
     same_from_bits_below n (word_of n x) word (word_of_below n x) h (λ i l. bit_at-word_of n x i l ∙ ap bit (e (suc i)) ∙ bit-in_word word i)
 
+-- a word of 128 bits is computed from its list of members
 pub word_of_list-members : (word : ℕ) → word < 2 ^ 128 → word_of_list (members word) ≡ word
 unfolding word_of_list
 word_of_list-members word h = word_of-in_word 128 word (mem (members word)) h (λ v. mem-members word v h)

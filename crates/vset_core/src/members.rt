@@ -6,7 +6,8 @@ use crate::VSet;
 use std::fmt;
 use std::marker::Model;
 
-/// The members of a set that are still to come, in rising order. Contracts see it as their list.
+/// The members of a set that an iteration has not reached yet, in increasing order. Contracts see
+/// them as a list.
 #[derive(Drop)]
 pub struct Members {
     rest: VSet,
@@ -21,7 +22,7 @@ impl Model for Members {
 }
 
 impl VSet {
-    /// The members in rising order.
+    /// The members in increasing order.
     pub fn iter(self) -> Members
         ensures { result ≡ self }
     {
@@ -43,7 +44,7 @@ impl Iterator for Members {
     }
 }
 
-// The members in rising order, as in `{1, 2, 3}`.
+// The members in increasing order, as in `{1, 2, 3}`.
 impl fmt::Debug for VSet {
     fn fmt<W: fmt::Write>(&self, f: &mut fmt::Formatter<W>) -> fmt::Result {
         f.debug_set().entries(self.iter()).finish()

@@ -10,7 +10,7 @@ use std::marker::Model;
 pub const MOST_VERTICES: u32 = 128;
 
 /// A set of numbers from 1 to `MOST_VERTICES`, which contracts see as the list of its members in
-/// rising order.
+/// increasing order.
 #[derive(Clone, Copy)]
 pub struct VSet {
     word: u128,
@@ -40,7 +40,7 @@ impl VSet {
         VSet { word: 0 }
     }
 
-    /// The set of `v` alone.
+    /// The set {`v`}.
     pub fn one(v: u32) -> VSet
         requires { Within MOST_VERTICES v }
         ensures { result ≡ v ∷ [] }
@@ -62,8 +62,8 @@ impl VSet {
         }
     }
 
-    /// The law that the members rise and lie from 1 to `MOST_VERTICES`. It does nothing: a caller
-    /// states it where it needs it.
+    /// The law that the members are in increasing order and lie from 1 to `MOST_VERTICES`. It does
+    /// nothing: a caller states it where it needs it.
     pub fn rises(self)
         ensures { IsRisingIn MOST_VERTICES self }
     {
@@ -80,7 +80,7 @@ impl VSet {
         }
     }
 
-    /// The set with `v` taken out.
+    /// The set with `v` removed.
     pub fn without(self, v: u32) -> VSet
         requires { Within MOST_VERTICES v }
         ensures { (w : ℕ) → mem result w ≡ (mem self w && not (v == w)) }
@@ -139,7 +139,7 @@ impl VSet {
         self.word.count_ones()
     }
 
-    /// The least member; `None` exactly when the set is empty.
+    /// The least member; `None` if and only if the set is empty.
     pub fn first(self) -> Option<u32>
         ensures some { IfSome result (IsLeastOf self) }
         ensures within { IfSome result (Within MOST_VERTICES) }
@@ -151,7 +151,7 @@ impl VSet {
         Some(self.word.trailing_zeros() + 1)
     }
 
-    /// The greatest member; `None` exactly when the set is empty.
+    /// The greatest member; `None` if and only if the set is empty.
     pub fn last(self) -> Option<u32>
         ensures some { IfSome result (IsGreatestOf self) }
         ensures within { IfSome result (Within MOST_VERTICES) }
@@ -163,7 +163,7 @@ impl VSet {
         Some(u128::BITS - self.word.leading_zeros())
     }
 
-    /// The least member above `v`; `None` exactly when no member is above `v`.
+    /// The least member above `v`; `None` if and only if no member is above `v`.
     pub fn next_after(self, v: u32) -> Option<u32>
         requires { v ≤ MOST_VERTICES }
         ensures some { IfSome result (IsNextAfter self v) }
@@ -181,7 +181,7 @@ impl VSet {
         Some(v + above.trailing_zeros() + 1)
     }
 
-    /// The least member and the set of the others; `None` exactly when the set is empty.
+    /// The least member and the set of the others; `None` if and only if the set is empty.
     pub fn split_first(self) -> Option<(u32, VSet)>
         ensures some { IfSome result (λ p. self ≡ p.0 ∷ p.1) }
         ensures within { IfSome result (λ p. Within MOST_VERTICES p.0) }

@@ -5,7 +5,7 @@ use Rattle.grow_gen.proofs.RehangSteps.{Halfway, kept_step, rehung_step}
 use Rattle.grow_gen.proofs.splices.rehang.Goals as goal
 use Rattle.grow_gen.proofs.splices.rehang.Goals.{then-next-targets+then-is_at, else-next-targets, else-next-targets-via-then-next-targets+else-is_at, else-next-targets-via-else-next-targets}
 
--- what stands past the end of a list of edges
+-- the default past the end of a list of edges
 nothing : Ends
 nothing = record { a = 0; b = 0 }
 

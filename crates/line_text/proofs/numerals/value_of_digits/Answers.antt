@@ -5,7 +5,7 @@ use Rattle.std.specs.Str.Parse.{digits_value_after}
 use Rattle.line_text.proofs.Digits.{small_with_room, room-digit, digits-cons, digits_value_after-cons}
 use Rattle.line_text.proofs.numerals.value_of_digits.Goals as goal
 
--- what one digit more does
+-- what one more digit does
 record Step (n whole digit amount : ℕ) (rest others : List ℕ) : Type 0 where
   few : n * 10 + amount < 10 ^ 9
   digits : list_all is_ascii_digit others ≡ true

@@ -3,7 +3,7 @@ use Rattle.std.proofs.lemmas.Grind.{flat_map-append}
 use Rattle.counting.proofs.Common.{pair_with, rising_list, everything}
 use Rattle.separation_kit.proofs.pair.all_pairs.Goals as goal
 
--- one row more
+-- one more row
 row-more : (f : ℕ → List (ℕ × ℕ)) (i : ℕ) → flat_map f (rising_list i everything) ++ f (i + 1) ≡ flat_map f (rising_list (i + 1) everything)
 row-more f i = grind (arith, append-nil (f (suc i)), flat_map-append f (rising_list i everything) (suc i ∷ []))
 

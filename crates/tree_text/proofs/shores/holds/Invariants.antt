@@ -2,7 +2,7 @@ use Rattle.std.proofs.Common.{◌≡◌, length}
 use Rattle.counting.proofs.Common.{mem}
 use Rattle.tree_text.proofs.shores.holds.Given as goal
 
--- n is among those left exactly when it is among all
+-- n is among those left if and only if it is among all
 abbrev pub invariant-numbers : goal.invariant-numbers
 invariant-numbers l = mem l.vertices l.n ≡ mem l.rest l.n
 

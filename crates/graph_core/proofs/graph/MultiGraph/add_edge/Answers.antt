@@ -11,7 +11,7 @@ use Rattle.graph_core.proofs.graph.MultiGraph.add_edge.Goals as goal
 written_back : (len : ℕ) (new rows : List (List ℕ)) → length new ≡ len → take len (new ++ drop (length new) rows) ≡ new
 written_back len new rows long = ap (λ k. take k (new ++ drop (length new) rows)) (sym long) ∙ take-append_seam new (drop (length new) rows)
 
--- the graph of the longer list has one edge more
+-- the graph of the longer list has one more edge
 graph_of-more : (n : ℕ) (items pushed : List Ends) (a b : ℕ) → pushed ≡ items ++ record { a = a; b = b } ∷ [] → with_edge (graph_of n items) a b ≡ graph_of n pushed
 graph_of-more n items pushed a b more = grind (arith, map-append pair_of items)
 

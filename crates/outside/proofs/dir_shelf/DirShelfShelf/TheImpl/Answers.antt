@@ -1,4 +1,4 @@
--- A read of a real file counts a fault if it failed, and only then: one case for each answer.
+-- A read of a real file counts an error if it failed, and only then: one case for each result.
 use Rattle.std.proofs.Common.{◌≡◌, ◌⊎◌, ◌+◌, ℕ, Result, Ok, Err, IfOk, IsErrOf, length, inl, inr, refl, rules, arith}
 use Rattle.std.specs.Global.{Vec}
 use Rattle.std.proofs.lemmas.Result.{IfOk-weaker}
