@@ -17,12 +17,12 @@ def theorems():
         for line in file.read_text().splitlines():
             if line.startswith("///"):
                 comment.append(line[3:].strip())
-            elif found := re.match(r"pub fn ([a-z0-9_]+_law)\(", line):
+            elif found := re.match(r"pub fn ([a-z0-9_]+_law)(?:<[^>]*>)?\(", line):
                 law, clauses = (found[1], file, " ".join(comment)), []
                 comment = []
             elif law and (found := re.match(r" +ensures (?:([a-z0-9_]+) )?\{", line)):
                 clauses.append(f"{law[0]}.{found[1]}" if found[1] else law[0])
-            elif law and line == "{}":
+            elif law and line in ("{}", "{"):
                 yield *law, clauses
                 law = None
             elif not line.startswith("#["):

@@ -14,12 +14,18 @@ pub mod ConformalEars
 pub mod ConnectedShores
 pub mod ContractedMatchings
 pub mod CubicGraphs
+pub mod DisjointEars
+pub mod DoneRuns
 pub mod EarCounts
 pub mod EarPaths
 pub mod EarRefusals
 pub mod EarSteps
+pub mod ElementaryBarriers
+pub mod ElementaryClasses
+pub mod ElementaryJoins
 pub mod ExtendableCuts
 pub mod ExtendableGraphs
+pub mod FilesOfReads
 pub mod FirstSeparated
 pub mod HetyeiEars
 pub mod HetyeiSides
@@ -31,6 +37,7 @@ pub mod LoneSteps
 pub mod Marriages
 pub mod MatchedParts
 pub mod MatchedWithin
+pub mod MaximalBarriers
 pub mod MovedShores
 pub mod NamedCuts
 pub mod NamesRead
@@ -53,7 +60,9 @@ pub mod SameGraphs
 pub mod SameLeaves
 pub mod Separated
 pub mod SeparatingCuts
+pub mod SetsRead
 pub mod SidesAcrossCuts
+pub mod StrongBipartite
 pub mod StrongDigraphs
 pub mod SurplusOfA
 pub mod ThreeConnected
@@ -63,3 +72,4 @@ pub mod TreeNodes
 pub mod TutteBergeGallai
 pub mod TwoExtendable
 pub mod WideNeighbourhoods
+pub mod WidePairs

@@ -55,7 +55,7 @@ abbrev Reported : Task → Type 0
 Reported given = (status : Status) × (output : List ℕ) × ResultOf given status output
 
 -- what is loaded was read
-file-text : {A : Type 0} (place : ℕ) (reading : List ℕ → Result A (ℕ × FaultKind)) (file : Option (List ℕ)) (value : A) → file_read place reading file ≡ All value → (bytes : List ℕ) × (reading bytes ≡ Ok value)
+pub file-text : {A : Type 0} (place : ℕ) (reading : List ℕ → Result A (ℕ × FaultKind)) (file : Option (List ℕ)) (value : A) → file_read place reading file ≡ All value → (bytes : List ℕ) × (reading bytes ≡ Ok value)
 file-text {A} place reading None value e = let no : ⊥ = cc e in absurd no
 file-text {A} place reading (Some bytes) value e = (bytes, at (nat_lt most_bytes (length bytes)) (reading bytes) e)
   where
@@ -64,12 +64,12 @@ file-text {A} place reading (Some bytes) value e = (bytes, at (nat_lt most_bytes
     at false (Ok found) e = let same : found ≡ value = cc e in ap Ok same
     at false (Err fault) e = cc e
 
-made-of : {A B : Type 0} (make : A → B) (held : Loaded A) (b : B) → loaded_as make held ≡ All b → (a : A) × (held ≡ All a) × (make a ≡ b)
+pub made-of : {A B : Type 0} (make : A → B) (held : Loaded A) (b : B) → loaded_as make held ≡ All b → (a : A) × (held ≡ All a) × (make a ≡ b)
 made-of make (All a) b e = let same : make a ≡ b = cc e in (a, refl, same)
 made-of make (Bad file line fault) b e = let no : ⊥ = cc e in absurd no
 made-of make (Absent file) b e = let no : ⊥ = cc e in absurd no
 
-then-of : {A B : Type 0} (held : Loaded A) (next : A → Loaded B) (b : B) → and_then held next ≡ All b → (a : A) × (held ≡ All a) × (next a ≡ All b)
+pub then-of : {A B : Type 0} (held : Loaded A) (next : A → Loaded B) (b : B) → and_then held next ≡ All b → (a : A) × (held ≡ All a) × (next a ≡ All b)
 then-of (All a) next b e = (a, refl, e)
 then-of (Bad file line fault) next b e = let no : ⊥ = cc e in absurd no
 then-of (Absent file) next b e = let no : ⊥ = cc e in absurd no

@@ -33,18 +33,20 @@ use Rattle.bench_top.proofs.LoadedGraphs.{Holds, graph-holds}
 use Rattle.bench_top.proofs.ReadGraphs.{HasGraph, IsRead}
 use Rattle.bench_top.proofs.Completeness.{done-given}
 use Rattle.bench_top.proofs.TextsStand.{stands-ears}
+use Rattle.theorems.proofs.DisjointEars.{list_disjoint}
 use Rattle.theorems.proofs.PlainDecompositions.{pairing-words, tree-words}
+use Rattle.theorems.proofs.SetsRead.{a-read, c-read, d-read}
 use Rattle.theorems.specs.Outcomes.{TellsDecomposition, TellsEars, TellsKind, TellsPairing, TellsScript, TellsSets}
 
 graph-read : (files : List NamedFile) (graph : List ℕ) (named : NamedGraph) → graph_file files graph ≡ All named → IsRead named.graph
 graph-read files graph named is = subst (Holds HasGraph) is (graph-holds files graph)
 
 -- what a command makes of what is held
-of_held : {A : Type 0} (make : A → Task) (held : Loaded A) (a : A) (status : Status) (output : List ℕ) → held ≡ All a → LoadedGives (loaded_as make held) status output → ResultOf (make a) status output
+pub of_held : {A : Type 0} (make : A → Task) (held : Loaded A) (a : A) (status : Status) (output : List ℕ) → held ≡ All a → LoadedGives (loaded_as make held) status output → ResultOf (make a) status output
 of_held make held a status output is gives = subst (λ h. LoadedGives (loaded_as make h) status output) is gives
 
 -- no status is both
-never : (status : Status) → status ≡ Done → status ≡ Negative → ⊥
+pub never : (status : Status) → status ≡ Done → status ≡ Negative → ⊥
 never status done negative = let no : Done ≡ Negative = sym done ∙ negative in cc no
 
 -- `analyse`: the sets
@@ -54,7 +56,19 @@ analysed files graph named status output held gives = of_held (task.OnGraph Anal
 pub told-sets : (files : List NamedFile) (graph : List ℕ) (named : NamedGraph) (status : Status) (output : List ℕ) → graph_file files graph ≡ All named → Outcome (codes "analyse" ∷ graph ∷ []) files status output → (status ≡ Done) × TellsSets named output
 told-sets files graph named status output held gives =
     let r = analysed files graph named status output held gives in
-    (r.done, record { lines = r.lines; d = r.right.d; a = r.right.a; c = r.right.c; text = r.text })
+    let read = graph-read files graph named held in (
+      r.done,
+      record {
+        lines = r.lines;
+        d = r.right.d;
+        a = r.right.a;
+        c = r.right.c;
+        text = r.text;
+        line_d = d-read named.graph read r.lines r.right named.names output r.text;
+        line_a = a-read named.graph read r.lines r.right named.names output r.text;
+        line_c = c-read named.graph read r.lines r.right named.names output r.text;
+      },
+    )
 
 -- `analyse`: the kind of a covered graph
 covered-structure : (g : Graph) (verdict : Verdict) (structure : Option Structure) → IsMultigraph g → IsCovered g → IsVerdict g verdict → TellsStructure g verdict structure → (s : Structure) × (structure ≡ Some s) × IsStructure g s
@@ -114,7 +128,7 @@ decomposed picks named status output read cov (inl made) =
       },
     )
 
-in-order : (files : List NamedFile) (graph : List ℕ) (named : NamedGraph) (status : Status) (output : List ℕ) → graph_file files graph ≡ All named → IsCovered named.graph → (order : Option NamedOrder) → CommandGives files (option_map (decompose_in graph) order) status output → (status ≡ Done) × TellsDecomposition named.graph output
+pub in-order : (files : List NamedFile) (graph : List ℕ) (named : NamedGraph) (status : Status) (output : List ℕ) → graph_file files graph ≡ All named → IsCovered named.graph → (order : Option NamedOrder) → CommandGives files (option_map (decompose_in graph) order) status output → (status ≡ Done) × TellsDecomposition named.graph output
 in-order files graph named status output held cov None gives = absurd gives
 in-order files graph named status output held cov (Some order) gives =
     decomposed _ named status output (graph-read files graph named held) cov (of_held (task.OnGraph (Decompose order)) (graph_file files graph) named status output held gives)
@@ -122,11 +136,13 @@ in-order files graph named status output held cov (Some order) gives =
 pub told-decomposition : (files : List NamedFile) (graph order : List ℕ) (named : NamedGraph) (status : Status) (output : List ℕ) → graph_file files graph ≡ All named → IsCovered named.graph → Outcome (codes "decompose" ∷ graph ∷ order ∷ []) files status output → (status ≡ Done) × TellsDecomposition named.graph output
 told-decomposition files graph order named status output held cov gives = in-order files graph named status output held cov (order_named order) gives
 
+pub picks-held : (files : List NamedFile) (graph picks : List ℕ) (named : NamedGraph) (list : List ℕ) → graph_file files graph ≡ All named → pick_file files picks ≡ All list → picks_given files graph picks ≡ All (named, list)
+picks-held files graph picks named list held listed =
+    ap (λ (h : Loaded NamedGraph). and_then h (λ named. loaded_as (λ list. (named, list)) (pick_file files picks))) held ∙ ap (loaded_as (λ (list : List ℕ). (named, list))) listed
+
 pub told-picked : (files : List NamedFile) (graph picks list : List ℕ) (named : NamedGraph) (status : Status) (output : List ℕ) → graph_file files graph ≡ All named → pick_file files picks ≡ All list → IsCovered named.graph → Outcome (codes "decompose" ∷ graph ∷ codes "script" ∷ picks ∷ []) files status output → (status ≡ Done) × TellsDecomposition named.graph output
 told-picked files graph picks list named status output held listed cov gives =
-    decomposed _ named status output (graph-read files graph named held) cov
-    (of_held (on_picks DecomposeBy) (picks_given files graph picks) (named, list) status output
-    (ap (λ (h : Loaded NamedGraph). and_then h (λ named. loaded_as (λ list. (named, list)) (pick_file files picks))) held ∙ ap (loaded_as (λ (list : List ℕ). (named, list))) listed) gives)
+    decomposed _ named status output (graph-read files graph named held) cov (of_held (on_picks DecomposeBy) (picks_given files graph picks) (named, list) status output (picks-held files graph picks named list held listed) gives)
 
 -- `compare` and `script`: if both trees are derivations neither is refused
 compared : (named : NamedGraph) (s t : Shape) (status : Status) (output : List ℕ) → status ≡ Done → CompareGives named.graph s t status output → Compared named.graph s t status output
@@ -171,6 +187,7 @@ eared named status output read cov (inl made) = (
     ears = made.is;
     unrefinable = made.unrefinable;
     singles = made.singles;
+    disjoint = list_disjoint named.graph made.list read.ends made.is made.unrefinable;
     single = made.single;
     stands = subst (λ (o : List ℕ). Stands (ear_format named.graph.order (size named.graph)) o made.list) (sym made.text) (stands-ears named.graph made.list read made.is);
   },

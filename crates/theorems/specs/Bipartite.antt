@@ -1,10 +1,12 @@
--- Bipartite graphs: surplus, pairs of vertices on opposite sides, and sequences of single ears
--- (Hetyei 1964; Lovász and Plummer, "Matching Theory", section 4.1).
+-- Bipartite graphs: surplus, pairs of vertices on opposite sides, sequences of single ears, and
+-- the digraph of a perfect matching (Dulmage and Mendelsohn 1958; Hetyei 1964; Lovász and Plummer,
+-- "Matching Theory", section 4.1).
 -- Stated by: theorems.
 use Rattle.std.specs.Prelude.{◌≡◌, ℕ, ◌+◌, ◌≤◌, List, [], ◌∷◌, true, false}
 use Rattle.counting.specs.Common.{Within, count, Set, pair_set}
 use Rattle.ear_core.specs.Common.{IsEar, PlainEar, with_edges}
-use Rattle.graph_core.specs.Common.{Graph, HasPerfect, size}
+use Rattle.graph_core.specs.Common.{Graph, HasPerfect, Walk, size}
+use Rattle.matching_digraph.specs.Digraph.{arc}
 use Rattle.theorems.specs.Braces.{neighbourhood}
 
 -- each set of 1 to |a| - 1 vertices of the side a has a neighbour more than vertices
@@ -20,3 +22,9 @@ ArePairsMatched g a = (u v : ℕ) → Within g.order u → Within g.order v → 
 abbrev pub AreEars : Graph → Set → List PlainEar → Type 0
 AreEars g f [] = (e : ℕ) → Within (size g) e → f e ≡ true
 AreEars g f (a ∷ ears) = IsEar g f a.begin a.edges × AreEars g (with_edges f a.edges) ears
+
+-- the digraph of the matching m is strongly connected: from each vertex of x an arc leads to its
+-- mate, from each other vertex arcs lead to all its neighbours, and a walk of arcs leads from each
+-- vertex to each other
+abbrev pub IsStrong : Graph → (x m : Set) → Type 0
+IsStrong g x m = (u v : ℕ) → Within g.order u → Within g.order v → (ws : List ℕ) × Walk (arc g x m) u ws v

@@ -1,17 +1,20 @@
 -- What the outputs of the program say, in the words of a textbook: the Gallai-Edmonds sets, a
 -- tight cut decomposition, a pairing of the leaves of two decompositions, the kind of a graph, an
--- ear decomposition, a script of moves.
+-- ear decomposition, a script of moves; and what a run read and wrote.
 -- Stated by: theorems.
-use Rattle.std.specs.Prelude.{◌≡◌, ◌↔◌, ℕ, List, All, Some, false, length}
+use Rattle.std.specs.Prelude.{◌≡◌, ◌↔◌, ℕ, List, [], ◌∷◌, All, Some, None, false, length, drop, map, if◌then◌else◌, codes}
+use Rattle.std.specs.declared.option.Option.{Option}
+use Rattle.std.specs.declared.result.Result.TheVariants.{Ok}
 use Rattle.std.specs.List.{AllByRecursion}
 use Rattle.std.specs.Option.{ForSome}
+use Rattle.outside.specs.Common.{Answer, AnswersInTurn}
 use Rattle.counting.specs.Common.{Lists, mem}
 use Rattle.graph_core.specs.Common.{InA, InC, InD, Graph, IsBipartite, size, singles, IsBicritical, IsCutPair, HasOnlyTrivialTightCuts, IsNontrivial, IsTight, IsWithinLimits}
 use Rattle.graph_core.specs.declared.verdict.Kind.TheVariants.{Brace, Brick, Composite}
-use Rattle.graph_text.specs.Common.{NamedGraph, AreNames}
+use Rattle.graph_text.specs.Common.{NamedGraph, AreNames, either_version}
 use Rattle.tree_core.specs.Common.{IsDerivation, IsTightShore, PlainLeafMap, leaf_at, map_at, leaves, PlainMove, TurnsThrough, Shape, shores}
 use Rattle.tree_text.specs.Common.{tree_format}
-use Rattle.line_text.specs.Common.{Stands}
+use Rattle.line_text.specs.Common.{Stands, begin_with, lines_of as text_lines, numbers_of, words_of}
 use Rattle.move_laws.specs.Common.{image}
 use Rattle.move_text.specs.Common.{move_format}
 use Rattle.ear_core.specs.Common.{IsEarList, IsSingle, IsUnrefinable, PlainEars, TakesSingles}
@@ -19,18 +22,39 @@ use Rattle.ear_text.specs.EarFormat.{ear_format}
 use Rattle.report_text.specs.Common.{analysis_text, pairing_text}
 use Rattle.report_text.specs.declared.analyses.AnalysisLines.{AnalysisLines}
 use Rattle.report_text.specs.declared.structures.Structure.{Structure}
+use Rattle.bench_tasks.specs.Common.{pick_file}
+use Rattle.bench_tasks.specs.Common as loading
 use Rattle.bench_outcomes.specs.Common.{lines_of, with_given_names}
+use Rattle.bench_top.specs.Writes.{WroteWhole}
 use Rattle.theorems.specs.CutWords.{EndsInBrickOrBrace}
+use Rattle.theorems.specs.Ears.{IsDisjoint}
 use Rattle.theorems.specs.TightCuts.{IsTightCutTreeAt, PairsLeaves}
 
--- the output of `analyse` lists the sets D, A and C: the vertices that some maximum matching
--- misses, their other neighbours, the rest
+-- the words behind that word in the first of these lines that begins with it, if one does
+abbrev pub words_behind : List ℕ → List (List ℕ) → Option (List (List ℕ))
+words_behind word [] = None
+words_behind word (line ∷ lines) = if begin_with (words_of line) (word ∷ []) then Some (drop 1 (words_of line)) else words_behind word lines
+
+-- the text lists a set of vertices of 1 to n: the first of its lines that begins with the word has
+-- behind it numbers alone, which rise, and these are the vertices of which P holds
+pub record ListsSet (n : ℕ) (text word : List ℕ) (P : ℕ → Type 0) : Type 0 where
+  pub words : List (List ℕ)
+  pub line : words_behind word (text_lines text) ≡ Some words
+  pub numbers : List ℕ
+  pub read : numbers_of words ≡ Some numbers
+  pub lists : Lists n numbers P
+
+-- the output of `analyse` lists the sets D, A and C, each in a line that begins with its letter:
+-- the vertices that some maximum matching misses, their other neighbours, the rest
 pub record TellsSets (named : NamedGraph) (output : List ℕ) : Type 0 where
   pub lines : AnalysisLines
   pub d : Lists named.graph.order lines.d (InD named.graph)
   pub a : Lists named.graph.order lines.a (InA named.graph)
   pub c : Lists named.graph.order lines.c (InC named.graph)
   pub text : output ≡ with_given_names (analysis_text lines) named.names false
+  pub line_d : ListsSet named.graph.order output (codes "D") (InD named.graph)
+  pub line_a : ListsSet named.graph.order output (codes "A") (InA named.graph)
+  pub line_c : ListsSet named.graph.order output (codes "C") (InC named.graph)
 
 -- the output of `decompose` gives a tight cut decomposition: a tree of nontrivial tight cuts from
 -- single vertices on, with bricks and braces at its ends. It is a derivation, and each of its shores
@@ -68,13 +92,14 @@ pub record TellsKind (named : NamedGraph) (output : List ℕ) : Type 0 where
   pub text : output ≡ with_given_names (analysis_text lines) named.names false
 
 -- the output of `ears` tells an ear decomposition, with two ears at once only where neither of
--- them serves alone and no ear decomposition goes on by a single ear, and with single ears where
--- the graph is bipartite
+-- them serves alone and no ear decomposition goes on by a single ear, so that the two have no vertex
+-- in common, and with single ears where the graph is bipartite
 pub record TellsEars (g : Graph) (output : List ℕ) : Type 0 where
   pub list : PlainEars
   pub ears : IsEarList g list
   pub unrefinable : IsUnrefinable g list
   pub singles : TakesSingles g list
+  pub disjoint : AllByRecursion (IsDisjoint g) list.steps
   pub single : IsBipartite g → AllByRecursion IsSingle list.steps
   pub stands : Stands (ear_format g.order (size g)) output list
 
@@ -90,3 +115,20 @@ pub record TellsScript (g : Graph) (s t : Shape) (output : List ℕ) : Type 0 wh
 pub record IsGiven (named : NamedGraph) : Type 0 where
   pub limits : IsWithinLimits named.graph
   pub names : ForSome named.names (λ names. AreNames names × (length names ≡ named.graph.order))
+
+-- the bytes stand for a graph, in either version of the graph format; for a tree of cuts of a graph
+-- of order n; and a file of these bytes holds this list of picks
+abbrev pub StandsForGraph : List ℕ → NamedGraph → Type 0
+StandsForGraph text named = Stands either_version text named
+
+abbrev pub StandsForTree : ℕ → List ℕ → Shape → Type 0
+StandsForTree n text tree = Stands (tree_format n) text tree
+
+abbrev pub HoldsPicks : List ℕ → List ℕ → Type 0
+HoldsPicks text list = pick_file (([], text) ∷ []) [] ≡ loading.All list
+
+-- a run that is done: its reads of these names, in turn, gave these texts, and it wrote the output
+-- whole, and nothing else
+pub record IsDoneRun {S K : Type 0} (reads : S → List ℕ → Answer → S → Type 0) (written : K → Option (List ℕ)) (writes : K → List ℕ → ℕ → K → Type 0) (names texts : List (List ℕ)) (output : List ℕ) (first last : S) (before now : K) : Type 0 where
+  pub gave : AnswersInTurn reads names (map Ok texts) first last
+  pub wrote : WroteWhole written writes (λ told. told ≡ output) before now

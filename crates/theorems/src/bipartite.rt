@@ -4,9 +4,9 @@
 //! (1964); Lovász and Plummer, "Matching Theory" (1986), sections 1.1 and 4.1.
 ghost use Rattle.std.specs.Prelude.{◌≡◌, ℕ, ◌≤◌, ◌↔◌, true, List};
 ghost use Rattle.counting.specs.Common.{Within, complement, count, everything, none, Set, singleton};
-ghost use Rattle.graph_core.specs.Common.{Graph, HasPerfect, IsConnected, IsCovered, IsMultigraph, IsSide, size};
+ghost use Rattle.graph_core.specs.Common.{Graph, HasPerfect, IsConnected, IsCovered, IsMultigraph, IsPerfect, IsSide, size};
 ghost use Rattle.ear_core.specs.Common.{is_met, PlainEar};
-ghost use Rattle.theorems.specs.Bipartite.{AreEars, ArePairsMatched, HasSurplus};
+ghost use Rattle.theorems.specs.Bipartite.{AreEars, ArePairsMatched, HasSurplus, IsStrong};
 ghost use Rattle.theorems.specs.Braces.{neighbourhood};
 
 /// The marriage theorem: a bipartite graph with the sides A and B has a perfect matching if and
@@ -24,7 +24,10 @@ pub fn marriage_law()
 /// subset S of A; A and B are not empty, and G - a - b has a perfect matching for each a in A and
 /// b in B. With two vertices or more the second and the third say so together with "connected". A
 /// bipartite graph is matching covered if and only if no vertex is isolated and single ears lead
-/// from an edge to all edges (Hetyei 1964; Lovász and Plummer, "Matching Theory", section 4.1).
+/// from an edge to all edges (Hetyei 1964; Lovász and Plummer, "Matching Theory", section 4.1). One
+/// with two vertices or more and a perfect matching M is matching covered if and only if the
+/// digraph of M is strongly connected: in it an arc leads from each vertex of A to its mate, and
+/// arcs lead from each vertex of B to all its neighbours (Dulmage and Mendelsohn 1958).
 pub fn hetyei_law()
     ensures neighbours { (g : Graph) (a : Set) → IsMultigraph g → IsSide g a → 2 ≤ g.order →
         IsCovered g ↔ (IsConnected g × (count g.order a ≡ count g.order (complement a)) ×
@@ -40,4 +43,6 @@ pub fn hetyei_law()
         IsCovered g ↔ ((e : ℕ) × (ears : List PlainEar) × Within (size g) e ×
         AreEars g (singleton e) ears ×
         ((v : ℕ) → Within g.order v → is_met g everything v ≡ true)) }
+    ensures digraph { (g : Graph) (a m : Set) → IsMultigraph g → IsSide g a → 2 ≤ g.order →
+        IsPerfect g none m → IsCovered g ↔ IsStrong g a m }
 {}

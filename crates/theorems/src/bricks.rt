@@ -9,10 +9,12 @@ ghost use Rattle.barrier_kit.specs.Common.{BarrierCut};
 ghost use Rattle.theorems.specs.Bricks.{IsBarrierCutOf, IsThreeConnected, SeparationCut};
 
 /// The theorem of Edmonds, Lovász and Pulleyblank: a matching covered graph with a nontrivial
-/// tight cut has a nontrivial tight cut that is a barrier cut or a 2-separation cut; in a
-/// bipartite one each tight cut is a barrier cut; and a graph is a brick if and only if it has at
-/// least four vertices, is bicritical and has no cut pair, that is, is 3-connected and bicritical
-/// (Edmonds, Lovász and Pulleyblank 1982; Lovász 1987).
+/// tight cut has a barrier cut or a 2-separation cut, which need not be the given one. In a
+/// bipartite one each tight cut, trivial or not, has a shore that is a component of G - B for some
+/// barrier B. A graph is a brick if and only if it has at least four vertices, is bicritical and
+/// has no cut pair; a graph with at least four vertices has no cut pair if and only if it is
+/// 3-connected; so a graph is a brick if and only if it is 3-connected and bicritical (Edmonds,
+/// Lovász and Pulleyblank 1982; Lovász 1987).
 pub fn elp_law()
     ensures cut { (g : Graph) (x : Set) → IsMultigraph g → IsCovered g →
         IsTight g x → IsNontrivial g.order x →

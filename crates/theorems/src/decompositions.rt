@@ -16,11 +16,12 @@ ghost use Rattle.counting.specs.Common.{Within};
 ghost use Rattle.theorems.specs.TightCuts.{IsBijection, IsIsomorphism, PairsLeaves, RespectsIsomorphism, is_two_sided};
 
 /// Lovász's uniqueness theorem: any two tight cut decompositions of a matching covered graph have
-/// the same leaves. These are paired one to one, with bijections of their blocks that preserve
-/// adjacency; so the quotients at two partners are isomorphic as simple graphs. Both
-/// decompositions have as many cuts and as many leaves; each property of graphs that isomorphism
-/// preserves holds of as many leaves of the one as of the other. In particular both have as many
-/// leaves, and as many bipartite ones, of each order (Lovász 1987).
+/// the same leaves, up to multiplicities of edges. These are paired one to one, with bijections of
+/// their blocks that preserve adjacency; so the quotients at two partners are isomorphic as simple
+/// graphs. Both decompositions have as many cuts and as many leaves; each test of simple graphs
+/// that isomorphism respects holds of as many leaves of the one as of the other. In particular
+/// both have as many leaves, and as many bipartite ones, of each order (Lovász 1987). The
+/// multiplicities themselves may differ between partners.
 pub fn uniqueness_law()
     ensures leaves { (g : Graph) (s t : Shape) → IsGraph g → IsDerivation g s → IsDerivation g t →
         (partner : ℕ → ℕ) × (blocks : ℕ → ℕ → ℕ) ×
@@ -58,16 +59,20 @@ pub fn bricks_and_braces_law()
         All (EndsInBrickOrBrace g) (leaves g.order t) }
 {}
 
-/// A partition is a leaf exactly when its quotient has no nontrivial tight cut.
+/// Contract each block of a partition to one vertex. The contraction, which may have loops and
+/// parallel edges, has no nontrivial tight cut if and only if the quotient, its underlying simple
+/// graph, has none. `IsLeafAt` speaks of the contraction alone, and not of a decomposition that
+/// ends at the partition.
 pub fn leaf_law()
     ensures { (g : Graph) (p : List (List ℕ)) → IsGraph g → AreBlocks g.order p →
         (IsLeafAt g p ↔ HasOnlyTrivialTightCuts (quotient g p)) }
 {}
 
-/// Each matching covered graph has a tight cut decomposition: one for each rule that chooses the
-/// next cut, one that begins with any given nontrivial tight cut, and so one for each order and
-/// each list of picks of the command `decompose` (Lovász, "Matching structure and the matching
-/// lattice", 1987).
+/// Each matching covered graph has a tight cut decomposition (Lovász, "Matching structure and the
+/// matching lattice", 1987). At each node Mcg lists candidates for the next cut, and not always all
+/// nontrivial tight cuts; for each rule that picks one of these there is a decomposition that
+/// follows it, and so one for each order and each list of picks of the command `decompose`. For
+/// each nontrivial tight cut there is a decomposition that begins with it.
 pub fn derivation_exists_law()
     ensures some { (g : Graph) → IsGraph g → IsCovered g → (t : Shape) × IsDerivation g t }
     ensures picked { (choose : List Candidate → ℕ → ℕ) (g : Graph) → ChoosesPlaces choose →

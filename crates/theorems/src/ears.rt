@@ -5,9 +5,9 @@
 ghost use Rattle.std.specs.Prelude.{◌≡◌, ◌+◌, ℕ, true, not, List, ◌≢◌, ◌⊎◌, false, [], ◌∷◌};
 ghost use Rattle.std.specs.List.{AllByRecursion};
 ghost use Rattle.counting.specs.Common.{Within, count, Set, everything, IsIn, pair_set, union};
-ghost use Rattle.ear_core.specs.Common.{IsEarList, IsSingle, IsUnrefinable, PlainEars, TakesSingles, IsEar, last_vertex, IsStage, is_met, with_edges, AreForced, AreNeeded, AreSteps, PlainStep};
+ghost use Rattle.ear_core.specs.Common.{IsEarList, IsSingle, IsUnrefinable, PlainEars, TakesSingles, IsEar, last_vertex, IsStage, is_met, with_edges, AreForced, AreNeeded, AreSteps, IsNeeded, IsStep, PlainStep, next_stage};
 ghost use Rattle.graph_core.specs.Common.{IsCovered, Graph, IsBipartite, IsGraph, IsMultigraph, in_cut, size, HasPerfect, IsSide, with_ends};
-ghost use Rattle.theorems.specs.Ears.{ear_count, IsConformal};
+ghost use Rattle.theorems.specs.Ears.{ear_count, IsConformal, IsDisjoint};
 ghost use Rattle.two_ears.specs.AddedEdges.{with_pairs};
 ghost use Rattle.two_ears.specs.VertexPairs.{AreDisjoint, in_pairs, vertices_of};
 
@@ -26,14 +26,19 @@ pub fn ear_list_exists_law()
 /// ears lead on, single and double, to the whole graph if and only if the subgraph is conformal,
 /// that is, the graph has a perfect matching without its vertices. The ears can be chosen so that
 /// two are added at once only where neither alone keeps the stage matching covered and no ear
-/// decomposition goes on by a single ear, and all are single if the graph is bipartite (Lovász and
-/// Plummer, "Matching Theory", section 5.4).
+/// decomposition goes on by a single ear, and all are single if the graph is bipartite. Two ears
+/// that are added at once, of which neither alone keeps the stage matching covered, have no vertex
+/// in common (Lovász and Plummer, "Matching Theory", section 5.4).
 pub fn ear_decomposition_law()
     ensures goes_on { (g : Graph) (f : Set) → IsMultigraph g → IsCovered g → IsStage g f →
         IsConformal g f → (steps : List PlainStep) × AreSteps g f steps × AreNeeded g f steps ×
         (IsBipartite g → AllByRecursion IsSingle steps) × AreForced g f steps }
     ensures conformal { (g : Graph) (f : Set) (steps : List PlainStep) → IsMultigraph g →
         IsCovered g → AreSteps g f steps → IsConformal g f }
+    ensures disjoint { (g : Graph) (f : Set) (s : PlainStep) → IsGraph g → IsStage g f →
+        IsStep g f s → IsStage g (next_stage f s) → IsNeeded g f s → IsDisjoint g s }
+    ensures lists { (g : Graph) (list : PlainEars) → IsGraph g → IsEarList g list →
+        IsUnrefinable g list → AllByRecursion (IsDisjoint g) list.steps }
 {}
 
 /// The two-ear theorem, in three forms. If a matching covered graph has a perfect matching without
@@ -58,8 +63,9 @@ pub fn two_ear_law()
 {}
 
 /// Each ear decomposition of a matching covered graph with n vertices and m edges has m - n + 1
-/// ears, a double ear counted as two (Lovász and Plummer, "Matching Theory", section 5.4). In any
-/// graph n is the number of vertices that edges meet.
+/// ears, a double ear counted as two and the first edge not counted (Lovász and Plummer, "Matching
+/// Theory", section 5.4). The same holds for each graph without loops that has an ear
+/// decomposition, if n is the number of its vertices that are not isolated.
 pub fn ear_count_law()
     ensures met { (g : Graph) (list : PlainEars) → IsMultigraph g → IsEarList g list →
         ear_count list.steps + count g.order (is_met g everything) ≡ size g + 1 }

@@ -1,14 +1,17 @@
-//! The theorems of the field, each under its own name and in the words of a textbook.
+//! Theorems on perfect matchings and tight cuts, each under its own name and in the words of a
+//! textbook.
 //!
-//! Each theorem is a public function with an empty body, and its contract is the statement. A file
-//! is a chapter:
+//! Each theorem is a public function with an empty body, and its contract is the statement. Where
+//! this is a special case of what the literature has, or one of several forms, the comment above it
+//! and `docs/THEOREMS.md` say which. A file is a chapter:
 //! - `matchings`: Tutte, Berge, Gallai, and the structure theorem of Gallai and Edmonds
 //! - `barriers`: the canonical partition of Kotzig and Lovász
-//! - `bipartite`: Hall and Hetyei
+//! - `bipartite`: the marriage theorem of Frobenius and Hall, and Hetyei's theorem
 //! - `cuts`: uncrossing and laminar families
-//! - `decompositions`: tight cut decompositions, their uniqueness, and the number of bricks
-//! - `bricks`: bricks and 3-connected graphs
-//! - `braces`: braces
+//! - `decompositions`: tight cut decompositions, their uniqueness, and the numbers of bricks and
+//!   braces
+//! - `bricks`: where a nontrivial tight cut comes from, and which graphs are bricks
+//! - `braces`: which bipartite graphs are braces
 //! - `extendable`: 2-extendable graphs
 //! - `regular_graphs`: regular and cubic graphs
 //! - `separating`: separating cuts
@@ -50,7 +53,7 @@ pub use ears::{
 };
 pub use extendable::extendable_law;
 pub use matchings::{berge_law, gallai_edmonds_law, gallai_lemma_law, tutte_law};
-pub use outcomes::{headline_law, report_exists_law};
+pub use outcomes::{done_runs_law, headline_law, report_exists_law};
 pub use program::{counts_law, first_separated_law, selection_law, third_part_law, tree_nodes_law};
 pub use regular_graphs::{cubic_law, regular_law};
 pub use separating::separating_law;

@@ -23,7 +23,10 @@ ghost use Rattle.decomposer.specs.declared.orders.NamedOrder.{NamedOrder};
 ghost use Rattle.bench_outcomes.specs.Common.{Outcome, ResultOf};
 ghost use Rattle.bench_outcomes.specs.declared.status.Status.{Status};
 ghost use Rattle.bench_outcomes.specs.declared.status.Status.TheVariants.{Done};
-ghost use Rattle.theorems.specs.Outcomes.{IsGiven, TellsDecomposition, TellsEars, TellsKind, TellsPairing, TellsScript, TellsSets};
+ghost use Rattle.bench_top.specs.Given.{GivenOutcome};
+ghost use Rattle.theorems.specs.Outcomes.{HoldsPicks, IsDoneRun, IsGiven, StandsForGraph, StandsForTree, TellsDecomposition, TellsEars, TellsKind, TellsPairing, TellsScript, TellsSets};
+
+use outside::{Shelf, Sink};
 
 /// For every graph file, `analyse` lists the Gallai-Edmonds sets D, A and C. For every matching
 /// covered graph and every order of choice, `decompose` gives a tree of nontrivial tight cuts
@@ -75,6 +78,74 @@ pub fn headline_law()
         → Outcome (codes "ears" ∷ graph ∷ []) files status output
         → (status ≡ Done) × TellsEars named.graph output }
 {}
+
+/// The headline over what the reads gave, whatever the file store and the sink are: also over a real
+/// file system, which tells no files. A run that ends with the status Done read each file of its
+/// words once, in turn; what these reads gave stands for what the command works on, and what the run
+/// wrote, whole, says of this what the headline says. So if `decompose` ends so, its read gave bytes
+/// that stand for a matching covered graph, and it wrote a text that stands for a tight cut
+/// decomposition of this graph. The premise is the clause `answered` of `run`, for the words of the
+/// command and for Done, so each call of `run` that ends so has the conclusion.
+pub fn done_runs_law<S: Shelf, K: Sink>(shelf: &S, sink: &K)
+    ensures sets { (graph : List ℕ) (first last : S) (before now : K)
+        → GivenOutcome S.reads K.written K.writes (command_of (codes "analyse" ∷ graph ∷ []))
+        Done first last before now
+        → (text : List ℕ) × (named : NamedGraph) × (output : List ℕ)
+        × StandsForGraph text named
+        × IsDoneRun S.reads K.written K.writes (graph ∷ []) (text ∷ []) output
+        first last before now
+        × TellsSets named output × (IsCovered named.graph → TellsKind named output) }
+    ensures decompositions { (graph order : List ℕ) (first last : S) (before now : K)
+        → GivenOutcome S.reads K.written K.writes
+        (command_of (codes "decompose" ∷ graph ∷ order ∷ [])) Done first last before now
+        → (text : List ℕ) × (named : NamedGraph) × (output : List ℕ)
+        × StandsForGraph text named
+        × IsDoneRun S.reads K.written K.writes (graph ∷ []) (text ∷ []) output
+        first last before now
+        × IsCovered named.graph × TellsDecomposition named.graph output }
+    ensures picks { (graph picks : List ℕ) (first last : S) (before now : K)
+        → GivenOutcome S.reads K.written K.writes
+        (command_of (codes "decompose" ∷ graph ∷ codes "script" ∷ picks ∷ []))
+        Done first last before now
+        → (text listed : List ℕ) × (named : NamedGraph) × (list : List ℕ) × (output : List ℕ)
+        × StandsForGraph text named × HoldsPicks listed list
+        × IsDoneRun S.reads K.written K.writes (graph ∷ picks ∷ []) (text ∷ listed ∷ []) output
+        first last before now
+        × IsCovered named.graph × TellsDecomposition named.graph output }
+    ensures ears { (graph : List ℕ) (first last : S) (before now : K)
+        → GivenOutcome S.reads K.written K.writes (command_of (codes "ears" ∷ graph ∷ []))
+        Done first last before now
+        → (text : List ℕ) × (named : NamedGraph) × (output : List ℕ)
+        × StandsForGraph text named
+        × IsDoneRun S.reads K.written K.writes (graph ∷ []) (text ∷ []) output
+        first last before now
+        × IsCovered named.graph × TellsEars named.graph output }
+    ensures comparisons { (graph one two : List ℕ) (first last : S) (before now : K)
+        → GivenOutcome S.reads K.written K.writes
+        (command_of (codes "compare" ∷ graph ∷ one ∷ two ∷ [])) Done first last before now
+        → (text a b : List ℕ) × (named : NamedGraph) × (s t : Shape) × (output : List ℕ)
+        × StandsForGraph text named
+        × StandsForTree named.graph.order a s
+        × StandsForTree named.graph.order b t
+        × IsDoneRun S.reads K.written K.writes (graph ∷ one ∷ two ∷ []) (text ∷ a ∷ b ∷ []) output
+        first last before now
+        × IsDerivation named.graph s × IsDerivation named.graph t
+        × TellsPairing named.graph s t output }
+    ensures scripts { (graph one two : List ℕ) (first last : S) (before now : K)
+        → GivenOutcome S.reads K.written K.writes
+        (command_of (codes "script" ∷ graph ∷ one ∷ two ∷ [])) Done first last before now
+        → (text a b : List ℕ) × (named : NamedGraph) × (s t : Shape) × (output : List ℕ)
+        × StandsForGraph text named
+        × StandsForTree named.graph.order a s
+        × StandsForTree named.graph.order b t
+        × IsDoneRun S.reads K.written K.writes (graph ∷ one ∷ two ∷ []) (text ∷ a ∷ b ∷ []) output
+        first last before now
+        × IsDerivation named.graph s × IsDerivation named.graph t
+        × TellsScript named.graph s t output }
+{
+    let _ = shelf;
+    let _ = sink;
+}
 
 /// There is a report: for every graph one of `analyse`, one of `analyse6` and one of `ears`, and
 /// one of `decompose` in each order of choice and for each list of picks; for every tree of cuts

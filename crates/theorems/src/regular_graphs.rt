@@ -39,14 +39,13 @@ pub fn regular_law()
         IsTwoEdgeConnected g ↔ (IsConnected g × HasWideOddCuts 3 g) }
 {}
 
-/// Cubic graphs: a 2-edge-connected cubic graph is matching covered (Petersen 1891; Schönberger
-/// 1934), and each of its tight cuts has three edges (after Edmonds 1965). So a cubic graph has
-/// no nontrivial tight cut if each nontrivial cut has at least four edges. In a bipartite cubic
-/// graph each cut of three edges is tight, so that it has no nontrivial tight cut if and only if
-/// no nontrivial cut has three edges; a connected one has no bridge (Lovász and Plummer,
-/// "Matching Theory", chapter 7). A cubic graph with six vertices or more of which each
-/// nontrivial cut has at least four edges is a brick or a brace. All this is the case r = 3 of
-/// `regular_law`.
+/// Cubic graphs: a 2-edge-connected cubic graph with at least two vertices is matching covered
+/// (Petersen 1891; Schönberger 1934), and each of its tight cuts has three edges (after Edmonds
+/// 1965). A cubic graph has no nontrivial tight cut if each nontrivial cut has at least four edges;
+/// if it also has at least six vertices, it is a brick or a brace. In a bipartite cubic graph each
+/// cut of three edges is tight, so that it has no nontrivial tight cut if and only if no nontrivial
+/// cut has three edges; a connected bipartite cubic graph is 2-edge-connected (Lovász and Plummer,
+/// "Matching Theory", chapter 7). All this is the case r = 3 of `regular_law`.
 pub fn cubic_law()
     ensures covered { (g : Graph) → IsMultigraph g → IsCubic g → 2 ≤ g.order →
         IsTwoEdgeConnected g → IsCovered g }
