@@ -24,10 +24,11 @@ class Kind:
     `graph6` is the text of the simple graph, `order` and `size` are its numbers of vertices and
     edges, and `covered` says whether it is matching covered. If it is not, `reason` is `"order"`
     (fewer than two vertices), `"parts"` (not connected), `"berge"` (no perfect matching) or
-    `"edge"` (some edge is in no perfect matching), and all below are None. If it is, `reason` is
-    None, `kind` is `"brick"`, `"brace"` or `"composite"`, `bricks` and `braces` count those of
-    each of its tight cut decompositions (Lovász 1987), and `bicritical` says whether deleting any
-    two vertices leaves a graph with a perfect matching.
+    `"edge"` (some edge is in no perfect matching), and `kind`, `bricks`, `braces` and `bicritical`
+    are None. If it is, `reason` is None, `kind` is `"brick"`, `"brace"` or `"composite"`, `bricks`
+    and `braces` count those of each of its tight cut decompositions (Lovász 1987), and `bicritical`
+    says whether deleting any two vertices leaves a graph with a perfect matching. `deficiency` is
+    the number of vertices that a maximum matching misses, so 0 if the graph is covered.
     """
 
     graph6: str
@@ -35,6 +36,7 @@ class Kind:
     size: int
     covered: bool
     reason: Optional[str]
+    deficiency: int
     kind: Optional[str]
     bricks: Optional[int]
     braces: Optional[int]
@@ -45,11 +47,12 @@ class Kind:
 class ListLeaf:
     """A brick or brace of a graph of a list.
 
-    `index` is the place of the graph among those given, from 0; `graph6` is the text of the leaf
-    as a simple graph, and `kind` is `"brick"` or `"brace"`.
+    `index` is the place of the graph among those given, from 0, and `graph` is its graph6 text;
+    `graph6` is the text of the leaf as a simple graph, and `kind` is `"brick"` or `"brace"`.
     """
 
     index: int
+    graph: str
     graph6: str
     kind: str
 
@@ -73,16 +76,17 @@ def leaves(graphs: Iterable[GraphLike], order: str = "first") -> Iterator[ListLe
     leaves of one graph in its own labels.
     """
     for row in Stream(["leaves", order], (line for line, _graph in _lines(_graphs(graphs)))):
-        number, *_graph, leaf, kind = row.decode("ascii").split()
-        yield ListLeaf(int(number) - 1, leaf, kind)
+        number, graph, leaf, kind = row.decode("ascii").split()
+        yield ListLeaf(int(number) - 1, graph, leaf, kind)
 
 
 def select(graphs: Iterable[GivenGraph], what: str) -> Iterator[GivenGraph]:
     """Yields the graphs that have the property, as they were given.
 
-    `what` is a word of `mcg6 select`: `"covered"`, `"uncovered"`, `"brick"`, `"brace"`,
-    `"bicritical"`, `"composite"`, `"bricks=K"` or `"braces=K"` with a number K. What is said of
-    `kinds` on memory and on bad graphs holds here too, but each 8,192 graphs have a process.
+    `what` is a word of `mcg6 select`: `"covered"`, `"uncovered"`, `"perfect"` (with a perfect
+    matching), `"brick"`, `"brace"`, `"bicritical"`, `"composite"`, `"bricks=K"` or `"braces=K"`
+    with a number K. What is said of `kinds` on memory and on bad graphs holds here too, but each
+    8,192 graphs have a process.
     """
     rest, before = iter(_graphs(graphs)), 0
     while True:
@@ -169,6 +173,7 @@ def _kind(row: bytes) -> Kind:
     """The parts of a line of `mcg6 kinds`."""
     text, order, size, word, *more = row.decode("ascii").split()
     if word == "uncovered":
-        return Kind(text, int(order), int(size), False, more[0], None, None, None, None)
+        reason, deficiency = more
+        return Kind(text, int(order), int(size), False, reason, int(deficiency), None, None, None, None)
     bricks, braces, _name, answer = more
-    return Kind(text, int(order), int(size), True, None, word, int(bricks), int(braces), answer == "yes")
+    return Kind(text, int(order), int(size), True, None, 0, word, int(bricks), int(braces), answer == "yes")

@@ -31,6 +31,7 @@ class Kinds(unittest.TestCase):
                 self.assertEqual((found.order, found.size), (len(graph[0]), len(brute.edges)))
                 self.assertEqual(found.graph6, mcg.Graph(graph).graph6())
                 self.assertEqual(found.covered, brute.is_covered())
+                self.assertEqual(found.deficiency, found.order - 2 * brute.largest(brute.whole))
                 if kinds is None:
                     self.assertEqual(found.reason, brute.reason())
                     self.assertEqual({found.kind, found.bricks, found.braces, found.bicritical}, {None})
@@ -161,6 +162,7 @@ class Leaves(unittest.TestCase):
             found = {}
             for leaf in mcg.leaves(graphs, order):
                 found.setdefault(leaf.index, []).append(leaf.kind)
+                self.assertEqual(leaf.graph, mcg.Graph(graphs[leaf.index]).graph6())
                 edges = mcg.Graph(leaf.graph6)
                 brute = Brute(edges.vertices, edges.edges)
                 self.assertTrue(brute.is_covered() and brute.tight_shore() is None)
@@ -182,6 +184,7 @@ class Select(unittest.TestCase):
         wanted = {
             "covered": [it is not None for it in kinds],
             "uncovered": [it is None for it in kinds],
+            "perfect": [brute_of(it).is_matched() for it in graphs],
             "brick": [it == ["brick"] for it in kinds],
             "brace": [it == ["brace"] for it in kinds],
             "composite": [it is not None and len(it) > 1 for it in kinds],

@@ -8,9 +8,9 @@ from .common import (BAD_INPUT, DONE, EXAMPLES, READ_FAULT, USAGE, WRITE_FAULT, 
 # Lines of a list, and what `kinds` writes for each.
 KINDS = {
     b"C~\n": b"C~ 4 6 brick 1 0 bicritical yes\n",
-    b"A?\n": b"A? 2 0 uncovered parts\n",
+    b"A?\n": b"A? 2 0 uncovered parts 2\n",
     b"EFz_\n": b"EFz_ 6 9 brace 0 1 bicritical no\n",
-    b"D~{\n": b"D~{ 5 10 uncovered berge\n",
+    b"D~{\n": b"D~{ 5 10 uncovered berge 1\n",
 }
 
 

@@ -82,7 +82,9 @@ abbrev pub orders : List (List ℕ)
 orders = codes "first" ∷ codes "last" ∷ codes "balanced" ∷ []
 
 abbrev pub properties : List (List ℕ)
-properties = codes "covered" ∷ codes "uncovered" ∷ codes "brick" ∷ codes "brace" ∷ codes "bicritical" ∷ codes "composite" ∷ []
+properties =
+    codes "covered" ∷ codes "uncovered" ∷ codes "perfect" ∷ codes "brick" ∷ codes "brace" ∷
+    codes "bicritical" ∷ codes "composite" ∷ []
 
 abbrev pub counted_properties : List (List ℕ)
 counted_properties = codes "bricks=" ∷ codes "braces=" ∷ []

@@ -143,13 +143,14 @@ static LIST_ROWS: [Row; 5] = [
             &[
                 "covered",
                 "uncovered",
+                "perfect",
                 "brick",
                 "brace",
                 "bicritical",
                 "composite",
             ],
             &["bricks=", "braces="],
-            "WHAT is covered, uncovered, brick, brace, bicritical, composite, bricks=K or braces=K",
+            "WHAT is covered, uncovered, perfect, brick, brace, bicritical, composite, bricks=K or braces=K",
         )],
         optional: &[RowWord::File("FILE")],
         line: "  select WHAT [FILE]           the lines whose graph has a property\n",
@@ -191,7 +192,7 @@ const LIST_USAGE: &str = "usage: mcg6 COMMAND WORDS.. <LIST
   select WHAT [FILE]           the lines whose graph has a property
   encode FILE                  the line of a file for mcg; parallel edges count once
 ORDER is first, last or balanced
-WHAT is covered, uncovered, brick, brace, bicritical, composite, bricks=K or braces=K
+WHAT is covered, uncovered, perfect, brick, brace, bicritical, composite, bricks=K or braces=K
 The list has a graph in graph6 on each line, and is standard input or FILE.
 FORMATS.md has the lines that mcg6 writes.
 ";

@@ -13,7 +13,7 @@ use Rattle.mcg6_lines.specs.Selecting.{HasProperty, LacksProperty}
 use Rattle.mcg6_lines.specs.Standings.{IsCounted}
 use Rattle.mcg6_lines.specs.declared.query.Property.{Property}
 use Rattle.mcg6_lines.specs.declared.query.Property.TheVariants as property
-use Rattle.mcg6_lines.specs.declared.query.Property.TheVariants.{Covered, Uncovered, Brace, Bicritical, Composite, Bricks, Braces}
+use Rattle.mcg6_lines.specs.declared.query.Property.TheVariants.{Covered, Uncovered, Perfect, Brace, Bicritical, Composite, Bricks, Braces}
 use Rattle.mcg6_lines.proofs.PairedCounts.{paired_length, paired_tests}
 use Rattle.mcg6_lines.proofs.SameKinds.{same_kind}
 
@@ -57,6 +57,7 @@ same_counts g s t is a b = grind (arith, pairing_law g a.tree b.tree is a.deriva
 pub lacks_none : (g : Graph) (property : Property) → IsGraph g → LacksProperty g property → HasProperty g property → ⊥
 lacks_none g Covered is lacks has = lacks has
 lacks_none g Uncovered is lacks has = lacks has
+lacks_none g Perfect is lacks has = lacks has
 lacks_none g property.Brick is lacks has = lacks has
 lacks_none g Brace is lacks has = lacks has
 lacks_none g Bicritical is lacks has = lacks has

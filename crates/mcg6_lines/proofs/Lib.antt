@@ -7,5 +7,6 @@ pub mod ReadMultigraphs
 pub mod PairedCounts
 pub mod SameKinds
 pub mod Counts
+pub mod MissedVertices
 pub mod OneStanding
 pub mod OneAnswer

@@ -26,13 +26,13 @@ kind_line_once g a b is one two = one.line ∙ ap (kind_line g) (words_once g on
 lines_once : (front : List ℕ) (g : Graph) (ps : List (List (List ℕ))) (a b : List ℕ) → AreLinesOf front g ps a → AreLinesOf front g ps b → a ≡ b
 lines_once front g ps a b one two = grind (arith, kinds-once g ps one.kinds two.kinds one.right two.right)
 
-leaves_once : (order : NamedOrder) (number : ℕ) (g : Graph) (a b : List ℕ) → TellsLeaves order number g a → TellsLeaves order number g b → a ≡ b
-leaves_once order number g a b one two =
+leaves_once : (order : NamedOrder) (front : List ℕ) (g : Graph) (a b : List ℕ) → TellsLeaves order front g a → TellsLeaves order front g b → a ≡ b
+leaves_once order front g a b one two =
     let same : one.tree ≡ two.tree = picked-once (NamedPicks order) (named-once order) g (singles g.order) 0 one.tree two.tree one.picked two.picked in
-    grind (arith, lines_once (line_front number) g (leaves g.order two.tree) a b)
+    grind (arith, lines_once front g (leaves g.order two.tree) a b)
 
 leaf_lines_once : (order : NamedOrder) (number : ℕ) (g : Graph) (a b : List ℕ) → AreLeafLines order number g a → AreLeafLines order number g b → a ≡ b
-leaf_lines_once order number g a b h k = grind (arith, leaves_once order number g a b)
+leaf_lines_once order number g a b h k = grind (arith, leaves_once order (line_front number g) g a b)
 
 -- no graph both has a property and lacks it
 selected_once : (property : Property) (g : Graph) (line a b : List ℕ) → IsMultigraph g → IsSelected property g line a → IsSelected property g line b → a ≡ b

@@ -1,18 +1,20 @@
--- The words on how a graph stands are one: its first reasons differ at most in the Berge set, no
--- reason is one of a covered graph, a kind without its shore is one, and so are the numbers of
--- bricks and braces.
+-- The words on how a graph stands are one: its first reasons differ at most in the Berge set, its
+-- maximum matchings miss as many vertices, no reason is one of a covered graph, a kind without its
+-- shore is one, and so are the numbers of bricks and braces.
 use Rattle.std.proofs.Common.{◌≡◌, ◌∙◌, List, ℕ, ◌++◌, Bool, refl, sym, codes, arith}
 use Rattle.std.specs.Fmt.{decimal}
 use Rattle.counting.proofs.Common.{same_tests, mem}
-use Rattle.graph_core.proofs.Common.{reason-uncovered, Graph, IsMultigraph, reason_of}
+use Rattle.graph_core.proofs.Common.{reason-uncovered, Graph, IsMultigraph, IsReason, reason_of}
 use Rattle.graph_core.specs.declared.verdict.Kind.{Kind}
 use Rattle.graph_core.specs.declared.verdict.Kind.TheVariants.{Brace, Brick, Composite}
+use Rattle.graph_core.specs.declared.verdict.Reason.{Reason}
 use Rattle.leaf_kinds.specs.LeafKinds.{IsKind}
-use Rattle.report_text.specs.Common.{kind_word, yes_or_no}
+use Rattle.report_text.specs.Common.{kind_word, reason_word, yes_or_no}
 use Rattle.tree_core.specs.declared.tallies.Tally.{Tally}
 use Rattle.mcg6_lines.specs.KindLines.{TellsStanding, standing_words}
-use Rattle.mcg6_lines.specs.Standings.{IsStanding, IsStructured, Standing, Uncovered, Structured}
+use Rattle.mcg6_lines.specs.Standings.{IsStanding, IsStructured, IsUncovered, Standing, Uncovered, Structured}
 use Rattle.mcg6_lines.proofs.Counts.{same_counts}
+use Rattle.mcg6_lines.proofs.MissedVertices.{deficiency_once}
 
 -- a kind without its shore is one
 kind_words_once : (g : Graph) (kind other : Kind) → IsKind g kind → IsKind g other → kind_word kind ≡ kind_word other
@@ -35,10 +37,21 @@ structure_words_once g kind other tally more bicritical too is one two =
     let answers = same_tests bicritical too (λ holds. two.critical.1 (one.critical.0 holds)) (λ holds. one.critical.1 (two.critical.0 holds)) in
     λ i. words i ++ codes " " ++ decimal (tallies i).bricks ++ codes " " ++ decimal (tallies i).braces ++ codes " bicritical " ++ yes_or_no (answers i)
 
+-- a first reason without its Berge set is one
+reason_word_once : (g : Graph) (q r : Reason) → IsReason g (reason_of q) → IsReason g (reason_of r) → reason_word q ≡ reason_word r
+reason_word_once g q r one two = grind arith
+
+uncovered_words_once :
+    (g : Graph) (q r : Reason) (k l : ℕ) → IsMultigraph g → IsUncovered g q k → IsUncovered g r l → standing_words (Uncovered q k) ≡ standing_words (Uncovered r l)
+uncovered_words_once g q r k l is one two =
+    let words = reason_word_once g q r one.first two.first in
+    let missed = deficiency_once g k l is.ends one.missed two.missed in
+    λ i. codes "uncovered " ++ words i ++ codes " " ++ decimal (missed i)
+
 standing_words_once : (g : Graph) (standing other : Standing) → IsMultigraph g → IsStanding g standing → IsStanding g other → standing_words standing ≡ standing_words other
-standing_words_once g (Uncovered q) (Uncovered r) is one two = grind arith
-standing_words_once g (Uncovered q) (Structured kind tally bicritical) is one two = absurd (reason-uncovered g (reason_of q) is one two.covered)
-standing_words_once g (Structured kind tally bicritical) (Uncovered r) is one two = absurd (reason-uncovered g (reason_of r) is two one.covered)
+standing_words_once g (Uncovered q k) (Uncovered r l) is one two = uncovered_words_once g q r k l is one two
+standing_words_once g (Uncovered q k) (Structured kind tally bicritical) is one two = absurd (reason-uncovered g (reason_of q) is one.first two.covered)
+standing_words_once g (Structured kind tally bicritical) (Uncovered r l) is one two = absurd (reason-uncovered g (reason_of r) is two.first one.covered)
 standing_words_once g (Structured kind tally bicritical) (Structured other more too) is one two =
     structure_words_once g kind other tally more bicritical too is one two
 

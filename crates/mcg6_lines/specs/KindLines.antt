@@ -1,6 +1,6 @@
 -- The line of `kinds`: the graph6 text of the graph, the numbers of its vertices and edges, and
--- either `uncovered` and the word of the first reason, or `brick`, `brace` or `composite`, the
--- numbers of bricks and of braces, and `bicritical yes` or `bicritical no`.
+-- either `uncovered`, the word of the first reason and the deficiency, or `brick`, `brace` or
+-- `composite`, the numbers of bricks and of braces, and `bicritical yes` or `bicritical no`.
 -- Stated by: mcg6_lines.
 use Rattle.std.specs.Prelude.{◌≡◌, ℕ, ◌++◌, List, codes}
 use Rattle.std.specs.Fmt.{decimal}
@@ -11,7 +11,8 @@ use Rattle.mcg6_lines.specs.Standings.{IsStanding, Standing, Uncovered, Structur
 
 -- the words on the standing of a graph
 abbrev pub standing_words : Standing → List ℕ
-standing_words (Uncovered reason) = codes "uncovered " ++ reason_word reason
+standing_words (Uncovered reason deficiency) =
+    codes "uncovered " ++ reason_word reason ++ codes " " ++ decimal deficiency
 standing_words (Structured kind tally bicritical) =
     kind_word kind ++ codes " " ++ decimal tally.bricks ++ codes " " ++ decimal tally.braces ++ codes " bicritical " ++ yes_or_no bicritical
 

@@ -1,6 +1,6 @@
 -- The lines of `leaves`: for each leaf of a decomposition the number of the line in the list, the
--- graph6 text of the leaf as a simple graph, that is of the quotient at its partition, and
--- `brick` or `brace`. A graph that is not covered has no line.
+-- graph6 text of its graph, that of the leaf as a simple graph, that is of the quotient at its
+-- partition, and `brick` or `brace`. A graph that is not covered has no line.
 -- Stated by: mcg6_lines.
 use Rattle.std.specs.Prelude.{◌≡◌, ℕ, ◌++◌, ◌⊎◌, List, [], ◌∷◌, codes}
 use Rattle.std.specs.Fmt.{decimal}
@@ -12,9 +12,9 @@ use Rattle.decomposer.specs.Common.{NamedPicks, IsPicked}
 use Rattle.decomposer.specs.declared.orders.NamedOrder.{NamedOrder}
 use Rattle.tree_core.specs.declared.tallies.LeafKind.{LeafKind}
 
--- the front of a line: the number of the line in the list
-abbrev pub line_front : ℕ → List ℕ
-line_front number = decimal number ++ codes " "
+-- the front of a line: the number of the line in the list, and the graph in it
+abbrev pub line_front : ℕ → Graph → List ℕ
+line_front number g = decimal number ++ codes " " ++ graph6_of g ++ codes " "
 
 -- the end of a line: the kind of the leaf
 abbrev pub leaf_end : LeafKind → List ℕ
@@ -37,13 +37,13 @@ pub record AreLinesOf (front : List ℕ) (g : Graph) (ps : List (List (List ℕ)
   pub lines : bytes ≡ leaf_lines front g ps kinds
 
 -- the bytes are the lines of the leaves of the derivation that the order picks, in the order of
--- the leaves
-pub record TellsLeaves (order : NamedOrder) (number : ℕ) (g : Graph) (bytes : List ℕ) : Type 0 where
+-- the leaves, each with the same front
+pub record TellsLeaves (order : NamedOrder) (front : List ℕ) (g : Graph) (bytes : List ℕ) : Type 0 where
   pub tree : Shape
   pub derivation : IsDerivation g tree
   pub picked : IsPicked (NamedPicks order) g tree
-  pub lines : AreLinesOf (line_front number) g (leaves g.order tree) bytes
+  pub lines : AreLinesOf front g (leaves g.order tree) bytes
 
 -- the lines of the leaves of a covered graph, and nothing for one that is not
 abbrev pub AreLeafLines : NamedOrder → ℕ → Graph → List ℕ → Type 0
-AreLeafLines order number g bytes = TellsLeaves order number g bytes ⊎ ((¬ IsCovered g) × (bytes ≡ []))
+AreLeafLines order number g bytes = TellsLeaves order (line_front number g) g bytes ⊎ ((¬ IsCovered g) × (bytes ≡ []))

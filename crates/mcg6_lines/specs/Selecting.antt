@@ -11,7 +11,7 @@ use Rattle.leaf_kinds.specs.LeafKinds.{IsKind}
 use Rattle.tree_core.specs.declared.tallies.Tally.{Tally}
 use Rattle.mcg6_lines.specs.Standings.{IsCounted}
 use Rattle.mcg6_lines.specs.declared.query.Property.{Property}
-use Rattle.mcg6_lines.specs.declared.query.Property.TheVariants.{Covered, Uncovered, Brick, Brace, Bicritical, Composite, Bricks, Braces}
+use Rattle.mcg6_lines.specs.declared.query.Property.TheVariants.{Covered, Uncovered, Perfect, Brick, Brace, Bicritical, Composite, Bricks, Braces}
 
 -- a bicritical graph as the literature has it: it has an edge, so two vertices and a perfect
 -- matching at least, and there is a perfect matching without any two vertices
@@ -25,6 +25,7 @@ pub record IsBicriticalWithEdge (g : Graph) : Type 0 where
 abbrev pub HasProperty : Graph → Property → Type 0
 HasProperty g Covered = IsCovered g
 HasProperty g Uncovered = ¬ IsCovered g
+HasProperty g Perfect = HasPerfect g none
 HasProperty g Brick = IsCovered g × IsKind g kind.Brick
 HasProperty g Brace = IsCovered g × IsKind g kind.Brace
 HasProperty g Bicritical = IsBicriticalWithEdge g

@@ -1,8 +1,9 @@
 -- How a graph stands among the matching covered graphs (Lovász 1987; Lucchesi and Murty, "Perfect
 -- Matchings").
 -- Stated by: mcg6_lines, theorems.
-use Rattle.std.specs.Prelude.{◌↔◌, Bool, IsTrue}
-use Rattle.graph_core.specs.Common.{IsCovered, IsReason, Graph, IsBicritical, reason_of}
+use Rattle.std.specs.Prelude.{◌≡◌, ◌↔◌, ℕ, Bool, IsTrue}
+use Rattle.counting.specs.Common.{Set, none}
+use Rattle.graph_core.specs.Common.{IsCovered, IsMaximum, IsReason, Graph, IsBicritical, missed_count, reason_of}
 use Rattle.graph_core.specs.declared.verdict.Kind.{Kind}
 use Rattle.graph_core.specs.declared.verdict.Reason.{Reason}
 use Rattle.leaf_kinds.specs.LeafKinds.{IsKind}
@@ -15,11 +16,26 @@ pub record IsCounted (g : Graph) (tally : Tally) : Type 0 where
   pub derivation : IsDerivation g tree
   pub counts : IsTally g (leaves g.order tree) tally
 
--- how a graph stands: it is not covered, for this reason, or it is covered, of this kind, with so
--- many leaves, and bicritical or not
+-- this is the first reason why the graph is not covered
+abbrev pub IsFirstReason : Graph → Reason → Type 0
+IsFirstReason g reason = IsReason g (reason_of reason)
+
+-- the deficiency of the graph: so many vertices are missed by a maximum matching
+pub record IsDeficiency (g : Graph) (deficiency : ℕ) : Type 0 where
+  pub matching : Set
+  pub maximum : IsMaximum g none matching
+  pub misses : missed_count g none matching ≡ deficiency
+
+-- how a graph stands: it is not covered, for this reason and with this deficiency, or it is
+-- covered, of this kind, with so many leaves, and bicritical or not
 pub data Standing : Type 0 where
-  Uncovered : (reason : Reason) → Standing
+  Uncovered : (reason : Reason) (deficiency : ℕ) → Standing
   Structured : (kind : Kind) (tally : Tally) (bicritical : Bool) → Standing
+
+-- the graph is not covered: this is the first reason why, and this its deficiency
+pub record IsUncovered (g : Graph) (reason : Reason) (deficiency : ℕ) : Type 0 where
+  pub first : IsFirstReason g reason
+  pub missed : IsDeficiency g deficiency
 
 -- what is said of a covered graph is right
 pub record IsStructured (g : Graph) (kind : Kind) (tally : Tally) (bicritical : Bool) : Type 0 where
@@ -28,8 +44,7 @@ pub record IsStructured (g : Graph) (kind : Kind) (tally : Tally) (bicritical : 
   pub counted : IsCounted g tally
   pub critical : IsTrue bicritical ↔ IsBicritical g
 
--- the graph stands so: the reason is the first why it is not covered, or what is said of it as a
--- covered graph is right
+-- the graph stands so
 abbrev pub IsStanding : Graph → Standing → Type 0
-IsStanding g (Uncovered reason) = IsReason g (reason_of reason)
+IsStanding g (Uncovered reason deficiency) = IsUncovered g reason deficiency
 IsStanding g (Structured kind tally bicritical) = IsStructured g kind tally bicritical

@@ -4,6 +4,7 @@ ghost use Rattle.graph6_text.specs.Common.{outcome_of};
 ghost use Rattle.mcg6_lines.specs.KindLines.{IsKindLine, TellsStanding, standing_words, words_after};
 ghost use Rattle.mcg6_lines.specs.Standings.{Structured, Uncovered};
 
+use crate::deficiencies::deficiency;
 use crate::leaf_counts::tally_of_kind;
 use graph_core::{Kind, MultiGraph, Reason};
 use graph_facts::Covered;
@@ -44,16 +45,20 @@ fn standing_words(alloc: Global, g: &MultiGraph) -> Result<String, Memory>
 {
     match Covered::of(alloc, g)? {
         Ok(c) => covered_words(alloc, &c),
-        Err(reason) => uncovered_words(alloc, &reason),
+        Err(reason) => {
+            let missed = deficiency(alloc, g, &reason)?;
+            uncovered_words(alloc, &reason, missed)
+        }
     }
 }
 
-// The words on a graph that is not covered for this reason.
-fn uncovered_words(alloc: Global, reason: &Reason) -> Result<String, Memory>
-    ensures { IfOk result (λ words. string_bytes words ≡ standing_words (Uncovered reason.now)) }
+// The words on a graph that is not covered for this reason, and of this deficiency.
+fn uncovered_words(alloc: Global, reason: &Reason, missed: u32) -> Result<String, Memory>
+    ensures { IfOk result
+        (λ words. string_bytes words ≡ standing_words (Uncovered reason.now missed)) }
 {
     let word = reason_word(reason);
-    format!(in alloc; "uncovered {word}")
+    format!(in alloc; "uncovered {word} {missed}")
 }
 
 // The words on the standing of a covered graph.

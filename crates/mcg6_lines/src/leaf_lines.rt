@@ -1,32 +1,50 @@
 //! The lines of `leaves`.
-ghost use Rattle.std.specs.Prelude.{◌≡◌, ◌++◌, IfOk, OnOk, All, length, map};
+ghost use Rattle.std.specs.Prelude.{◌≡◌, ◌++◌, Ok, IfOk, OnOk, All, length, map};
 ghost use Rattle.graph_core.specs.Common.{quotient, IsSimple};
 ghost use Rattle.tree_core.specs.Common.{AreLeafKinds, IsDerivation, leaves, shape_of};
-ghost use Rattle.mcg6_lines.specs.LeafLines.{AreLeafLines, AreLinesOf, leaf_end, leaf_line, leaf_lines, line_front};
+ghost use Rattle.graph6_text.specs.Common.{outcome_of};
+ghost use Rattle.mcg6_lines.specs.LeafLines.{AreLeafLines, AreLinesOf, TellsLeaves, leaf_end, leaf_line, leaf_lines, line_front};
 
 use contraction::{Partition, quotient_graph};
 use decomposer::{NamedOrder, TreeWithKinds, decompose_with_kinds};
 use graph_core::MultiGraph;
 use graph_facts::Covered;
-use graph6_text::write_graph6;
+use graph6_text::{bare_text, write_graph6};
 use report_text::leaf_kind_word;
 use std::alloc::{AllocError as Memory, Global};
 use tree_core::{LeafKind, Partitions, leaves};
 
-/// The lines of the leaves of the derivation that the order picks, for a graph that stands in the
-/// line with this number; nothing if the graph is not matching covered.
+/// The lines of the leaves of the derivation that the order picks, for the graph that stands in
+/// the text of the line with this number; nothing if the graph is not matching covered.
 pub fn leaf_lines(
     alloc: Global,
     g: &MultiGraph,
     order: NamedOrder,
     number: u64,
+    text: &[u8],
 ) -> Result<Vec<u8>, Memory>
+    requires { outcome_of text.now ≡ Ok g.now }
     ensures { IfOk result (λ lines. AreLeafLines order number g.now lines.items) }
 {
     match Covered::of(alloc, g)? {
-        Ok(c) => covered_leaf_lines(alloc, &c, order, number),
+        Ok(c) => {
+            let front = line_front(alloc, number, text)?;
+            covered_leaf_lines(alloc, &c, order, &front)
+        }
         Err(_) => Ok(Vec::new(alloc)),
     }
+}
+
+// The front of each line: the number of the graph's line, and its graph6 text.
+fn line_front(alloc: Global, number: u64, text: &[u8]) -> Result<Vec<u8>, Memory>
+    ensures { (g : _) → outcome_of text.now ≡ Ok g
+        → IfOk result (λ front. front.items ≡ line_front number g) }
+{
+    let digits = format!(in alloc; "{number} ")?;
+    let mut front = Vec::from_slice(alloc, digits.as_bytes())?;
+    front.extend_from_slice(bare_text(text))?;
+    front.extend_from_slice(b" ")?;
+    Ok(front)
 }
 
 // The lines of the leaves of the derivation that the order picks of a covered graph.
@@ -34,32 +52,31 @@ fn covered_leaf_lines(
     alloc: Global,
     c: &Covered,
     order: NamedOrder,
-    number: u64,
+    front: &[u8],
 ) -> Result<Vec<u8>, Memory>
-    ensures { IfOk result (λ lines. AreLeafLines order number c.now lines.items) }
+    ensures { IfOk result (λ lines. TellsLeaves order front.now c.now lines.items) }
 {
     let found = decompose_with_kinds(alloc, c, &order)?;
-    lines_of_tree(alloc, c.graph(), &found, number)
+    lines_of_tree(alloc, c.graph(), &found, front)
 }
 
-// The lines of the leaves of a derivation.
+// The lines of the leaves of a derivation, each after the same front.
 fn lines_of_tree(
     alloc: Global,
     g: &MultiGraph,
     found: &TreeWithKinds,
-    number: u64,
+    front: &[u8],
 ) -> Result<Vec<u8>, Memory>
     requires derivation { IsDerivation g.now (shape_of found.now.tree) }
     requires kinds { AreLeafKinds g.now (leaves g.now.order (shape_of found.now.tree))
         found.now.kinds.items }
     ensures { IfOk result
-        (λ lines. AreLinesOf (line_front number) g.now
+        (λ lines. AreLinesOf front.now g.now
         (leaves g.now.order (shape_of found.now.tree)) lines.items) }
 {
     g.keeps_limits();
     let ps = leaves(alloc, &found.tree, g.order())?;
-    let front = format!(in alloc; "{number} ")?;
-    lines_of_leaves(alloc, g, &ps, &found.kinds, front.as_str())
+    lines_of_leaves(alloc, g, &ps, &found.kinds, front)
 }
 
 // The lines of the leaves at these partitions, of these kinds, each after the same front.
@@ -68,7 +85,7 @@ fn lines_of_leaves(
     g: &MultiGraph,
     ps: &Partitions,
     kinds: &[LeafKind],
-    front: &str,
+    front: &[u8],
 ) -> Result<Vec<u8>, Memory>
     requires order { All (λ p. p.order ≡ g.now.order) ps.now }
     requires each_one { length kinds.now ≡ length ps.now }
@@ -90,7 +107,7 @@ fn push_leaf(
     g: &MultiGraph,
     p: &Partition,
     kind: LeafKind,
-    front: &str,
+    front: &[u8],
 ) -> Result<(), Memory>
     requires { p.now.order ≡ g.now.order }
     ensures { OnOk result
@@ -98,7 +115,7 @@ fn push_leaf(
 {
     let q = leaf_quotient(alloc, g, p)?;
     let text = write_graph6(alloc, &q)?;
-    lines.extend_from_slice(front.as_bytes())?;
+    lines.extend_from_slice(front)?;
     lines.extend_from_slice(&text)?;
     push_leaf_end(lines, kind)
 }

@@ -15,6 +15,7 @@
 //! and the matching lattice", 1987).
 #![tactic(auto)]
 
+mod deficiencies;
 mod kind_lines;
 mod leaf_counts;
 mod leaf_lines;

@@ -9,6 +9,8 @@ pub enum Property {
     Covered,
     /// It is not.
     Uncovered,
+    /// It has a perfect matching.
+    Perfect,
     /// It is a brick: covered, not bipartite, and without a nontrivial tight cut.
     Brick,
     /// It is a brace: covered, bipartite, and without a nontrivial tight cut.

@@ -37,6 +37,7 @@ fn has_property(alloc: Global, g: &MultiGraph, property: Property) -> Result<boo
     match property {
         Property::Covered => is_covered(alloc, g),
         Property::Uncovered => is_uncovered(alloc, g),
+        Property::Perfect => is_perfect(alloc, g),
         Property::Brick => is_brick(alloc, g),
         Property::Brace => is_brace(alloc, g),
         Property::Bicritical => is_bicritical(alloc, g),
@@ -54,6 +55,16 @@ fn is_uncovered(alloc: Global, g: &MultiGraph) -> Result<bool, Memory>
         Ok(false)
     } else {
         Ok(true)
+    }
+}
+
+// Whether the graph has a perfect matching.
+fn is_perfect(alloc: Global, g: &MultiGraph) -> Result<bool, Memory>
+    ensures { IfOk result (Decides g.now Property.Perfect) }
+{
+    match perfect_without(alloc, g, VSet::empty())? {
+        Some(_) => Ok(true),
+        None => Ok(false),
     }
 }
 

@@ -55,7 +55,7 @@ fn answer(
             Ok(QueryAnswer::Output { bytes })
         }
         Query::Leaves { order } => {
-            let bytes = leaf_lines(alloc, g, *order, number)?;
+            let bytes = leaf_lines(alloc, g, *order, number, line)?;
             Ok(QueryAnswer::Output { bytes })
         }
         Query::Graph => {

@@ -13,7 +13,7 @@ struct Row {
     answer: Result<&'static str, FaultKind>,
 }
 
-static ROWS: [Row; 33] = [
+static ROWS: [Row; 41] = [
     Row {
         query: Query::Kinds,
         line: "C~\n",
@@ -27,22 +27,22 @@ static ROWS: [Row; 33] = [
     Row {
         query: Query::Kinds,
         line: "A?\n",
-        answer: Ok("A? 2 0 uncovered parts\n"),
+        answer: Ok("A? 2 0 uncovered parts 2\n"),
     },
     Row {
         query: Query::Kinds,
         line: "@\n",
-        answer: Ok("@ 1 0 uncovered order\n"),
+        answer: Ok("@ 1 0 uncovered order 1\n"),
     },
     Row {
         query: Query::Kinds,
         line: "Bw\r\n",
-        answer: Ok("Bw 3 3 uncovered berge\n"),
+        answer: Ok("Bw 3 3 uncovered berge 1\n"),
     },
     Row {
         query: Query::Kinds,
         line: "Ch\n",
-        answer: Ok("Ch 4 3 uncovered edge\n"),
+        answer: Ok("Ch 4 3 uncovered edge 0\n"),
     },
     Row {
         query: Query::Kinds,
@@ -53,6 +53,21 @@ static ROWS: [Row; 33] = [
         query: Query::Kinds,
         line: "EFz_\n",
         answer: Ok("EFz_ 6 9 brace 0 1 bicritical no\n"),
+    },
+    Row {
+        query: Query::Kinds,
+        line: "C`\n",
+        answer: Ok("C` 4 2 uncovered parts 0\n"),
+    },
+    Row {
+        query: Query::Kinds,
+        line: "?\n",
+        answer: Ok("? 0 0 uncovered order 0\n"),
+    },
+    Row {
+        query: Query::Kinds,
+        line: "Cs\n",
+        answer: Ok("Cs 4 3 uncovered berge 2\n"),
     },
     Row {
         query: Query::Kinds,
@@ -79,7 +94,7 @@ static ROWS: [Row; 33] = [
             order: NamedOrder::First,
         },
         line: "C~\n",
-        answer: Ok("7 C~ brick\n"),
+        answer: Ok("7 C~ C~ brick\n"),
     },
     Row {
         query: Query::Leaves {
@@ -93,7 +108,14 @@ static ROWS: [Row; 33] = [
             order: NamedOrder::Balanced,
         },
         line: "EFz_\n",
-        answer: Ok("7 EFz_ brace\n"),
+        answer: Ok("7 EFz_ EFz_ brace\n"),
+    },
+    Row {
+        query: Query::Leaves {
+            order: NamedOrder::First,
+        },
+        line: ">>graph6<<A_\r\n",
+        answer: Ok("7 A_ A_ brace\n"),
     },
     Row {
         query: Query::Graph,
@@ -145,14 +167,14 @@ static ROWS: [Row; 33] = [
             order: NamedOrder::First,
         },
         line: "GFyAHK\n",
-        answer: Ok("7 EFz_ brace\n7 C~ brick\n"),
+        answer: Ok("7 GFyAHK EFz_ brace\n7 GFyAHK C~ brick\n"),
     },
     Row {
         query: Query::Leaves {
             order: NamedOrder::Balanced,
         },
         line: "GFyAHK\n",
-        answer: Ok("7 EFz_ brace\n7 C~ brick\n"),
+        answer: Ok("7 GFyAHK EFz_ brace\n7 GFyAHK C~ brick\n"),
     },
     Row {
         query: Query::Select {
@@ -201,6 +223,34 @@ static ROWS: [Row; 33] = [
             property: Property::Uncovered,
         },
         line: "C~\n",
+        answer: Ok(""),
+    },
+    Row {
+        query: Query::Select {
+            property: Property::Perfect,
+        },
+        line: "Ch\n",
+        answer: Ok("Ch\n"),
+    },
+    Row {
+        query: Query::Select {
+            property: Property::Perfect,
+        },
+        line: "C`\r\n",
+        answer: Ok("C`\r\n"),
+    },
+    Row {
+        query: Query::Select {
+            property: Property::Perfect,
+        },
+        line: "?\n",
+        answer: Ok("?\n"),
+    },
+    Row {
+        query: Query::Select {
+            property: Property::Perfect,
+        },
+        line: "Bw\n",
         answer: Ok(""),
     },
     Row {

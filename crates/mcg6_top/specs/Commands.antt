@@ -10,7 +10,7 @@ use Rattle.line_text.specs.Common.{number_of}
 use Rattle.decomposer.specs.Common.{order_named}
 use Rattle.decomposer.specs.declared.orders.NamedOrder.TheVariants.{First}
 use Rattle.mcg6_lines.specs.declared.query.Property.{Property}
-use Rattle.mcg6_lines.specs.declared.query.Property.TheVariants.{Covered, Uncovered, Brick, Brace, Bicritical, Composite, Bricks, Braces}
+use Rattle.mcg6_lines.specs.declared.query.Property.TheVariants.{Covered, Uncovered, Perfect, Brick, Brace, Bicritical, Composite, Bricks, Braces}
 use Rattle.mcg6_lines.specs.declared.query.Query.{Query}
 use Rattle.mcg6_lines.specs.declared.query.Query.TheVariants.{Kinds, Leaves, Graph, Select}
 
@@ -39,6 +39,7 @@ abbrev pub property_named : List ℕ → Option Property
 property_named word =
     if bytes_eq word (codes "covered") then Some Covered else
     if bytes_eq word (codes "uncovered") then Some Uncovered else
+    if bytes_eq word (codes "perfect") then Some Perfect else
     if bytes_eq word (codes "brick") then Some Brick else
     if bytes_eq word (codes "brace") then Some Brace else
     if bytes_eq word (codes "bicritical") then Some Bicritical else

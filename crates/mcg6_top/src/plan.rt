@@ -52,6 +52,7 @@ fn property_named(word: &str) -> Option<Property>
     match word {
         "covered" => Some(Property::Covered),
         "uncovered" => Some(Property::Uncovered),
+        "perfect" => Some(Property::Perfect),
         "brick" => Some(Property::Brick),
         "brace" => Some(Property::Brace),
         "bicritical" => Some(Property::Bicritical),
