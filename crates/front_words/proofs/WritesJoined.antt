@@ -1,6 +1,6 @@
 -- Writes of one text and then of another are writes of the two joined. The writes of a call that
 -- writes a piece, or a beginning of it, are such writes: each took the bytes that follow.
-use Rattle.std.proofs.Common.{◌≡◌, ◌≤◌, ◌<◌, ◌+◌, ◌-◌, ℕ, zero, suc, List, [], ◌++◌, length, take, drop, refl, ap, sym, subst, subst₂, ◌∙◌, arith, append_assoc, append-nil, take-append-drop, length-drop, take_all}
+use Rattle.std.proofs.Common.{◌≡◌, ◌≤◌, ◌<◌, ℕ, zero, suc, List, [], ◌++◌, length, take, drop, refl, ap, sym, subst, subst₂, ◌∙◌, arith, append_assoc, append-nil, take-append-drop, length-drop, take_all}
 use Rattle.std.proofs.Math.Seq.{take-add}
 use Rattle.std.proofs.lemmas.List.{length-take-le}
 use Rattle.outside.specs.Common.{IsCutOff, IsWritten, WritesTake}
@@ -67,12 +67,16 @@ module _ {K : Type 0} (writes : K → List ℕ → ℕ → K → Type 0) where
   taken-turns bytes (suc calls) done first last within turns =
       let is = turns.5 in
       let rest = drop turns.0 bytes in
-      let size : length (take turns.1 rest) ≡ turns.1 = length-take-le turns.1 rest (let left = length-drop turns.0 bytes in omega (arith, left, is, within)) in
-      (take turns.0 bytes, take turns.1 rest, drop turns.1 rest, turns.2,
-      taken-turns bytes calls turns.0 first turns.2 (omega (arith, is, within)) turns.3,
-      subst (λ (n : ℕ). 0 < n) (sym size) turns.4,
-      ap (λ (n : ℕ). take n bytes) is ∙ take-add turns.0 turns.1 bytes,
-      subst₂ (λ (p : List ℕ) (n : ℕ). writes turns.2 p n last) (sym (take-append-drop turns.1 rest)) (sym size) turns.6)
+      let size : length (take turns.1 rest) ≡ turns.1 = length-take-le turns.1 rest (let left = length-drop turns.0 bytes in omega (arith, left, is, within)) in (
+        take turns.0 bytes,
+        take turns.1 rest,
+        drop turns.1 rest,
+        turns.2,
+        taken-turns bytes calls turns.0 first turns.2 (omega (arith, is, within)) turns.3,
+        subst (λ (n : ℕ). 0 < n) (sym size) turns.4,
+        ap (λ (n : ℕ). take n bytes) is ∙ take-add turns.0 turns.1 bytes,
+        subst₂ (λ (p : List ℕ) (n : ℕ). writes turns.2 p n last) (sym (take-append-drop turns.1 rest)) (sym size) turns.6,
+      )
 
   -- a piece that was written whole
   pub whole-piece : (bytes : List ℕ) (first last : K) → IsWritten writes bytes first last → WritesWhole writes bytes first last
