@@ -1,4 +1,4 @@
-use Rattle.std.proofs.Common.{inl, inr, refl}
+use Rattle.std.proofs.Common.{inl, inr, refl, ◌∙◌}
 use Rattle.front_top.proofs.fronting.answer.Goals as goal
 
 pub returns-in-Ok-clause-answers : goal.returns-in-Ok-clause-answers
@@ -10,3 +10,6 @@ pub returns-in-Err-clause-answers : goal.returns-in-Err-clause-answers
 returns-in-Err-clause-answers g c =
     let said = rw c.as_bytes.ensures.value at c.in-Err.ensures in
     record { ends = inr refl; whole = λ no. cc; begun = said.begun; writes_whole = λ no. cc; writes_until = λ fault. said.writes_until; failed = λ fault. said.failed }
+
+pub returns-in-Err-clause-says : goal.returns-in-Err-clause-says
+returns-in-Err-clause-says g c = λ fault read loud. c.say_unless_abandoned.ensures.says loud (c.is_abandoned.ensures ∙ read)
