@@ -47,6 +47,10 @@ stop_words command (Some (stop.Bad file line kind)) known = bad_words (file_in c
 stop_words command (Some (stop.ReadFault file)) known = unread_words (file_in command file) known.reason
 stop_words command (Some stop.Memory) known = []
 
+-- if the output could not be written whole
+abbrev pub lost_words : List ℕ
+lost_words = codes "mcg: the output could not be written whole\n"
+
 -- what is said of a run of a command that ended with this status and this stop; nothing if it
 -- is done or refused, and nothing if nobody reads the output any more
 abbrev pub words_of : Option Command → Status → Option Stop → Known → List ℕ
@@ -55,5 +59,5 @@ words_of command Negative stopped known = []
 words_of command Usage stopped known = usage_text
 words_of command ReadFault stopped known = stop_words command stopped known
 words_of command BadInput stopped known = stop_words command stopped known
-words_of command WriteFault stopped known = if known.is_abandoned then [] else codes "mcg: the output could not be written whole\n"
+words_of command WriteFault stopped known = if known.is_abandoned then [] else lost_words
 words_of command Memory stopped known = codes "mcg: memory ran out; nothing was written\n"

@@ -1,26 +1,51 @@
 //! The top call.
-ghost use Rattle.std.specs.Prelude.{◌≡◌, ℕ, List, map, string_bytes, true, false, Some, None};
+ghost use Rattle.std.specs.Prelude.{◌≡◌, ◌⊎◌, ℕ, List, map, string_bytes, true, false, Some, None};
 ghost use Rattle.bench_tasks.specs.Common.{command_of};
 ghost use Rattle.front_top.specs.Answers.{answer_of};
 ghost use Rattle.front_top.specs.Runs.{IsRun};
 ghost use Rattle.front_top.specs.CluesSeen.{known_by};
 ghost use Rattle.front_top.specs.Speaks.{Answers, IsSaid, Speaks};
-ghost use Rattle.front_top.specs.Words.{words_of};
+ghost use Rattle.front_top.specs.Words.{lost_words, words_of};
 
 use crate::answers::answer_of;
-use crate::speaking::{Clues, say_ending};
+use crate::speaking::{Clues, say_ending, say_lost};
 use bench_top::{RunEnding, Status, run_ending};
 use front_words::say_bytes;
 use outside::{Keeping, Outlet, Sink, SinkFailed};
 use std::alloc::Global;
 
-// Writes the text as the whole answer.
-fn answer<K: Sink>(sink: &mut K, text: &str) -> Status
-    ensures { Answers K.written K.faults text.now result sink.old sink.new }
+// Says that the answer could not be written, unless nothing is to be said or nobody reads it.
+fn say_unless_abandoned<E: Sink>(errors: &mut E, is_silent: bool, is_abandoned: bool)
+    ensures quiet { is_silent ≡ true → errors.new ≡ errors.old }
+    ensures abandoned { is_abandoned ≡ true → errors.new ≡ errors.old }
+    ensures says { is_silent ≡ false → is_abandoned ≡ false →
+        IsSaid E.written E.writes E.faults lost_words errors.old errors.new }
+{
+    if is_silent {
+        return;
+    }
+    if is_abandoned {
+        return;
+    }
+    let _ = say_lost(errors);
+}
+
+// Writes the text as the whole answer. If that fails, it says so, unless it is to be quiet or nobody
+// reads the answer any more.
+fn answer<K: Outlet, E: Sink>(text: &str, is_quiet: bool, sink: &mut K, errors: &mut E) -> Status
+    ensures answers { Answers K.written K.writes K.faults text.now result sink.old sink.new }
+    ensures quiet { is_quiet ≡ true → errors.new ≡ errors.old }
+    ensures quietly { (result ≡ Status.Done) ⊎ (K.is_abandoned sink.new ≡ true) →
+        errors.new ≡ errors.old }
+    ensures says { result ≡ Status.WriteFault → K.is_abandoned sink.new ≡ false → is_quiet ≡ false
+        → IsSaid E.written E.writes E.faults lost_words errors.old errors.new }
 {
     match say_bytes(sink, text.as_bytes()) {
         Ok(()) => Status::Done,
-        Err(SinkFailed) => Status::WriteFault,
+        Err(SinkFailed) => {
+            say_unless_abandoned(errors, is_quiet, sink.is_abandoned());
+            Status::WriteFault
+        }
     }
 }
 
@@ -33,7 +58,7 @@ fn say_unless_quiet<'a, E: Sink>(
     clues: Clues<'a>,
 )
     ensures quiet { is_quiet ≡ true → errors.new ≡ errors.old }
-    ensures says { is_quiet ≡ false → IsSaid E.written E.faults
+    ensures says { is_quiet ≡ false → IsSaid E.written E.writes E.faults
         (words_of (command_of (map string_bytes words.now)) ending.status ending.stop
         (known_by clues.entry)) errors.old errors.new }
 {
@@ -56,7 +81,7 @@ fn speak<S: Keeping, K: Outlet, E: Sink>(
         (map string_bytes words.now) result shelf.old shelf.new sink.old sink.new }
     ensures quiet { is_quiet ≡ true → errors.new ≡ errors.old }
     ensures speaks { is_quiet ≡ false →
-        Speaks E.written E.faults (command_of (map string_bytes words.now)) result
+        Speaks E.written E.writes E.faults (command_of (map string_bytes words.now)) result
         (S.kept shelf.new) (S.reason shelf.new) (K.is_abandoned sink.new)
         (K.written sink.old) (K.written sink.new) errors.old errors.new }
 {
@@ -84,13 +109,18 @@ pub fn run_front<S: Keeping, K: Outlet, E: Sink>(
     sink: &mut K,
     errors: &mut E,
 ) -> Status
-    // Words that are answered at once: nothing is read, and nothing is said.
+    // Words that are answered at once: nothing is read. Nothing is said, unless the answer could not
+    // be written whole although somebody still reads it: then the words for that.
     ensures answers { (text : List ℕ) → answer_of (map string_bytes words.now) ≡ Some text →
-        Answers K.written K.faults text result sink.old sink.new }
+        Answers K.written K.writes K.faults text result sink.old sink.new }
     ensures answers_unread { (text : List ℕ) →
         answer_of (map string_bytes words.now) ≡ Some text → shelf.new ≡ shelf.old }
     ensures answers_quietly { (text : List ℕ) →
-        answer_of (map string_bytes words.now) ≡ Some text → errors.new ≡ errors.old }
+        answer_of (map string_bytes words.now) ≡ Some text
+        → (result ≡ Status.Done) ⊎ (K.is_abandoned sink.new ≡ true) → errors.new ≡ errors.old }
+    ensures answers_lost { (text : List ℕ) → answer_of (map string_bytes words.now) ≡ Some text
+        → result ≡ Status.WriteFault → K.is_abandoned sink.new ≡ false → is_quiet ≡ false
+        → IsSaid E.written E.writes E.faults lost_words errors.old errors.new }
 
     // For all others status and output are those of `run`, and what is said is the text for the
     // ending.
@@ -99,12 +129,12 @@ pub fn run_front<S: Keeping, K: Outlet, E: Sink>(
         (map string_bytes words.now) result shelf.old shelf.new sink.old sink.new }
     ensures quiet { is_quiet ≡ true → errors.new ≡ errors.old }
     ensures speaks { answer_of (map string_bytes words.now) ≡ None → is_quiet ≡ false →
-        Speaks E.written E.faults (command_of (map string_bytes words.now)) result
+        Speaks E.written E.writes E.faults (command_of (map string_bytes words.now)) result
         (S.kept shelf.new) (S.reason shelf.new) (K.is_abandoned sink.new)
         (K.written sink.old) (K.written sink.new) errors.old errors.new }
 {
     match answer_of(words) {
-        Some(text) => answer(sink, text),
+        Some(text) => answer(text, is_quiet, sink, errors),
         None => speak(alloc, words, is_quiet, shelf, sink, errors),
     }
 }

@@ -16,6 +16,8 @@
 mod answers;
 mod files;
 mod fronting;
+mod laws;
 mod speaking;
 
 pub use fronting::run_front;
+pub use laws::table_law;

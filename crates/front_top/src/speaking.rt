@@ -6,7 +6,7 @@ ghost use Rattle.front_words.specs.Saying.{Says};
 ghost use Rattle.front_top.specs.CluesSeen.{known_by};
 ghost use Rattle.front_top.specs.Files.{file_in};
 ghost use Rattle.front_top.specs.FilesSeen.{file_seen};
-ghost use Rattle.front_top.specs.Words.{bad_words, line_kept, stop_words, unread_words, words_of};
+ghost use Rattle.front_top.specs.Words.{bad_words, line_kept, lost_words, stop_words, unread_words, words_of};
 
 use crate::files::{File, file_at};
 use bench_tasks::{Command, Stop, command_of};
@@ -30,7 +30,7 @@ pub struct Clues<'a> {
 
 // Says nothing.
 fn say_nothing<E: Sink>(_errors: &mut E) -> Result<(), SinkFailed>
-    ensures { Says E.written E.faults [] result _errors.old _errors.new }
+    ensures { Says E.written E.writes E.faults [] result _errors.old _errors.new }
 {
     Ok(())
 }
@@ -54,7 +54,7 @@ fn say_bad<'a, E: Sink>(
     kind: u32,
     kept: Option<&'a [u8]>,
 ) -> Result<(), SinkFailed>
-    ensures { Says E.written E.faults
+    ensures { Says E.written E.writes E.faults
         (bad_words (option_map file_seen file.entry) line kind
         (option_map (λ text. text.now) kept.entry)) result errors.old errors.new }
 {
@@ -78,7 +78,7 @@ fn say_unread_file<E: Sink>(
     file: Option<File<'_>>,
     reason: Option<FailureReason>,
 ) -> Result<(), SinkFailed>
-    ensures { Says E.written E.faults (unread_words (option_map file_seen file.entry) reason) result
+    ensures { Says E.written E.writes E.faults (unread_words (option_map file_seen file.entry) reason) result
         errors.old errors.new }
 {
     match file {
@@ -104,7 +104,7 @@ fn say_stop<'a, E: Sink>(
     stop: Option<Stop>,
     clues: Clues<'a>,
 ) -> Result<(), SinkFailed>
-    ensures { Says E.written E.faults
+    ensures { Says E.written E.writes E.faults
         (stop_words (option_map asked command.entry) stop (known_by clues.entry)) result
         errors.old errors.new }
 {
@@ -119,6 +119,13 @@ fn say_stop<'a, E: Sink>(
     }
 }
 
+/// Says that the output could not be written whole. Takes no memory.
+pub fn say_lost<E: Sink>(errors: &mut E) -> Result<(), SinkFailed>
+    ensures { Says E.written E.writes E.faults lost_words result errors.old errors.new }
+{
+    say_bytes(errors, b"mcg: the output could not be written whole\n")
+}
+
 /// Says what the ending of a run of these words means; nothing if it is done or refused. Takes
 /// no memory.
 pub fn say_ending<'a, E: Sink>(
@@ -127,7 +134,7 @@ pub fn say_ending<'a, E: Sink>(
     ending: RunEnding,
     clues: Clues<'a>,
 ) -> Result<(), SinkFailed>
-    ensures { Says E.written E.faults
+    ensures { Says E.written E.writes E.faults
         (words_of (command_of (map string_bytes words.now)) ending.status ending.stop
         (known_by clues.entry)) result errors.old errors.new }
 {
@@ -138,7 +145,7 @@ pub fn say_ending<'a, E: Sink>(
             say_stop(errors, command_of(words), ending.stop, clues)
         }
         Status::WriteFault if clues.is_abandoned => say_nothing(errors),
-        Status::WriteFault => say_bytes(errors, b"mcg: the output could not be written whole\n"),
+        Status::WriteFault => say_lost(errors),
         Status::Memory => say_bytes(errors, b"mcg: memory ran out; nothing was written\n"),
     }
 }

@@ -1,3 +1,4 @@
+pub mod WritesJoined
 pub mod Sayings
 pub mod ShownBytes
 pub mod SaidPieces

@@ -21,7 +21,7 @@ pub fn say_unread_list<'a, K: Sink>(
     name: Option<&'a str>,
     reason: Option<FailureReason>,
 ) -> Result<(), SinkFailed>
-    ensures { Says K.written K.faults
+    ensures { Says K.written K.writes K.faults
         (unread_list_text program.now (option_map (λ name. name.now) name.entry) reason) result
         sink.old sink.new }
 {
@@ -37,7 +37,7 @@ fn say_unread_input<'a, K: Sink>(
     program: &'a str,
     reason: Option<FailureReason>,
 ) -> Result<(), SinkFailed>
-    ensures { Says K.written K.faults (unread_list_text program.now None reason) result sink.old
+    ensures { Says K.written K.writes K.faults (unread_list_text program.now None reason) result sink.old
         sink.new }
 {
     let why = Text(reason_words(reason));
@@ -98,7 +98,7 @@ pub fn say_bad_line<'a, K: Sink>(
     kind: u32,
     text: &'a [u8],
 ) -> Result<(), SinkFailed>
-    ensures { Says K.written K.faults (bad_line_text program.now number kind text.now) result
+    ensures { Says K.written K.writes K.faults (bad_line_text program.now number kind text.now) result
         sink.old sink.new }
 {
     let by = Text(program);

@@ -36,7 +36,7 @@ pub fn say_unread<'a, K: Sink>(
     name: &'a str,
     reason: Option<FailureReason>,
 ) -> Result<(), SinkFailed>
-    ensures { Says K.written K.faults (unread_text program.now name.now reason) result sink.old
+    ensures { Says K.written K.writes K.faults (unread_text program.now name.now reason) result sink.old
         sink.new }
 {
     let name = Shown(name.as_bytes(), MOST_OF_NAME);
@@ -60,7 +60,7 @@ fn say_too_long<'a, K: Sink>(
     program: &'a str,
     name: &'a str,
 ) -> Result<(), SinkFailed>
-    ensures { Says K.written K.faults (too_long_text program.now name.now) result sink.old
+    ensures { Says K.written K.writes K.faults (too_long_text program.now name.now) result sink.old
         sink.new }
 {
     let name = Shown(name.as_bytes(), MOST_OF_NAME);
@@ -86,7 +86,7 @@ fn say_with_line<'a, K: Sink>(
     bad: &'a BadFile<'a>,
     text: &'a [u8],
 ) -> Result<(), SinkFailed>
-    ensures { Says K.written K.faults
+    ensures { Says K.written K.writes K.faults
         (fault_text program.now bad.now.name.now bad.now.role bad.now.line bad.now.kind
         (Some text.now)) result sink.old sink.new }
 {
@@ -122,7 +122,7 @@ fn say_outside<'a, K: Sink>(
     bad: &'a BadFile<'a>,
     text: Option<&'a [u8]>,
 ) -> Result<(), SinkFailed>
-    ensures { Says K.written K.faults
+    ensures { Says K.written K.writes K.faults
         (outside_text program.now bad.now.name.now bad.now.role bad.now.line bad.now.kind
         (option_map (λ line. line.now) text.entry)) result sink.old sink.new }
 {
@@ -153,7 +153,7 @@ pub fn say_bad_file<'a, K: Sink>(
     bad: &'a BadFile<'a>,
     text: Option<&'a [u8]>,
 ) -> Result<(), SinkFailed>
-    ensures { Says K.written K.faults
+    ensures { Says K.written K.writes K.faults
         (bad_file_text program.now bad.now.name.now bad.now.role bad.now.line bad.now.kind
         (option_map (λ line. line.now) text.entry)) result sink.old sink.new }
 {

@@ -21,7 +21,7 @@ pub enum MessagePiece<'a> {
 
 // Says one piece.
 fn say_piece<K: Sink>(sink: &mut K, piece: &MessagePiece<'_>) -> Result<(), SinkFailed>
-    ensures { Says K.written K.faults (piece_text piece.now) result sink.old sink.new }
+    ensures { Says K.written K.writes K.faults (piece_text piece.now) result sink.old sink.new }
 {
     match piece {
         MessagePiece::Text(text) => say_bytes(sink, text.as_bytes()),
@@ -35,7 +35,7 @@ fn say_piece<K: Sink>(sink: &mut K, piece: &MessagePiece<'_>) -> Result<(), Sink
 
 /// Says the pieces, one after another, up to the first that cannot be said whole. Takes no memory.
 pub fn say<K: Sink>(sink: &mut K, pieces: &[MessagePiece<'_>]) -> Result<(), SinkFailed>
-    ensures { Says K.written K.faults (pieces_text pieces.now) result sink.old sink.new }
+    ensures { Says K.written K.writes K.faults (pieces_text pieces.now) result sink.old sink.new }
 {
     'saying: for piece in pieces {
         say_piece(sink, piece)?;

@@ -83,16 +83,15 @@ fn unit_size(text: &[u8]) -> usize
 }
 
 // Says these bytes as they are.
-#[tactic(auto, using(crate::proofs::Sayings::says_piece))]
 pub fn say_bytes<K: Sink>(sink: &mut K, bytes: &[u8]) -> Result<(), SinkFailed>
-    ensures { Says K.written K.faults bytes.now result sink.old sink.new }
+    ensures { Says K.written K.writes K.faults bytes.now result sink.old sink.new }
 {
     emit(sink, bytes)
 }
 
 // Says a byte as it can stand in a line.
 fn say_byte<K: Sink>(sink: &mut K, byte: u8) -> Result<(), SinkFailed>
-    ensures { Says K.written K.faults (byte_shown byte) result sink.old sink.new }
+    ensures { Says K.written K.writes K.faults (byte_shown byte) result sink.old sink.new }
 {
     if byte == b'\t' {
         say_bytes(sink, b"\\t")
@@ -108,7 +107,7 @@ fn say_byte<K: Sink>(sink: &mut K, byte: u8) -> Result<(), SinkFailed>
 
 // Says bytes that are shown together.
 fn say_unit<K: Sink>(sink: &mut K, unit: &[u8]) -> Result<(), SinkFailed>
-    ensures { Says K.written K.faults (unit_shown unit.now) result sink.old sink.new }
+    ensures { Says K.written K.writes K.faults (unit_shown unit.now) result sink.old sink.new }
 {
     match unit {
         [byte] => say_byte(sink, *byte),
@@ -119,7 +118,7 @@ fn say_unit<K: Sink>(sink: &mut K, unit: &[u8]) -> Result<(), SinkFailed>
 // Says at most so many bytes of the text as they can stand in a line, whole characters alone, and
 // dots if there are more.
 fn say_begin<K: Sink>(sink: &mut K, text: &[u8], most: u32) -> Result<(), SinkFailed>
-    ensures { Says K.written K.faults (begin_shown most text.now) result sink.old sink.new }
+    ensures { Says K.written K.writes K.faults (begin_shown most text.now) result sink.old sink.new }
 {
     let mut rest = text;
     let mut left = most as usize;
@@ -140,7 +139,7 @@ fn say_begin<K: Sink>(sink: &mut K, text: &[u8], most: u32) -> Result<(), SinkFa
 /// dots if there are more; and two quotes for the empty text. Takes no memory.
 #[tactic(auto, unfolding(crate::specs::Showing::shown))]
 pub fn say_shown<K: Sink>(sink: &mut K, text: &[u8], most: u32) -> Result<(), SinkFailed>
-    ensures { Says K.written K.faults (shown most text.now) result sink.old sink.new }
+    ensures { Says K.written K.writes K.faults (shown most text.now) result sink.old sink.new }
 {
     if text.is_empty() {
         say_bytes(sink, b"''")

@@ -13,20 +13,20 @@ use Rattle.mcg6_encoder.specs.Reads.{EncodesFile}
 use Rattle.mcg6_top.specs.Common.{ListCommand, command_of, encode_of, file_named_by, TellsLineOf, IsBadLine, lacks_of}
 use Rattle.mcg6_top.specs.declared.status.ListStatus.{ListStatus}
 use Rattle.mcg6_top.specs.declared.status.ListStatus.TheVariants.{Done, WriteFault}
-use Rattle.front_words.specs.Saying.{IsBegun, Says}
+use Rattle.front_words.specs.Saying.{IsBegun, Says, WritesUntilFault, WritesWhole}
 use Rattle.mcg6_front_top.specs.Words.{status_in, words_of}
 
 -- the text was said, whole or up to a fault of the sink
-pub record IsSaid {E : Type 0} (written : E → Option (List ℕ)) (faults : E → ℕ) (text : List ℕ) (before now : E) : Type 0 where
+pub record IsSaid {E : Type 0} (written : E → Option (List ℕ)) (writes : E → List ℕ → ℕ → E → Type 0) (faults : E → ℕ) (text : List ℕ) (before now : E) : Type 0 where
   pub answer : Result (Unit {0}) SinkFailed
-  pub says : Says {F = SinkFailed} written faults text answer before now
+  pub says : Says {F = SinkFailed} written writes faults text answer before now
 
 -- what was said after a run of these words that ended with this status: the words for its ending,
 -- up to which what was written is what the words ask of the lines of the list, or what the graph
 -- file gives; so a bad line that is named is the first. Given why the file cannot be read, whether
 -- nobody reads the output any more, what was left of the source, and what the sink had before and
 -- has now
-pub record Speaks {E : Type 0} (written : E → Option (List ℕ)) (faults : E → ℕ) (words : List (List ℕ)) (ended : ListStatus)
+pub record Speaks {E : Type 0} (written : E → Option (List ℕ)) (writes : E → List ℕ → ℕ → E → Type 0) (faults : E → ℕ) (words : List (List ℕ)) (ended : ListStatus)
     (reason : Option FailureReason) (is_abandoned : Bool) (left sink_before sink_now : Option (List ℕ)) (before now : E) : Type 0 where
   pub ending : Option Ending
   pub of_status : ended ≡ status_in ending
@@ -34,13 +34,15 @@ pub record Speaks {E : Type 0} (written : E → Option (List ℕ)) (faults : E �
       → TellsList (TellsLineOf asked.query) (IsBadLine asked.query) (lacks_of asked.query) last left sink_before sink_now
   pub encodes : (name : List ℕ) (last : Ending) → encode_of words ≡ Some name → ending ≡ Some last
       → EncodesFile last left sink_before sink_now
-  pub said : IsSaid written faults
+  pub said : IsSaid written writes faults
       (words_of ending (record { name = file_named_by words; encoded = encode_of words; reason = reason; is_abandoned = is_abandoned })) before now
 
 -- a text was the whole answer: it was written whole and all is done, or a beginning of it if
--- the sink failed
-pub record Answers {K : Type 0} (written : K → Option (List ℕ)) (faults : K → ℕ) (text : List ℕ) (ended : ListStatus) (before now : K) : Type 0 where
+-- the sink failed, and the write that failed is the last
+pub record Answers {K : Type 0} (written : K → Option (List ℕ)) (writes : K → List ℕ → ℕ → K → Type 0) (faults : K → ℕ) (text : List ℕ) (ended : ListStatus) (before now : K) : Type 0 where
   pub ends : (ended ≡ Done) ⊎ (ended ≡ WriteFault)
   pub whole : ended ≡ Done → written now ≡ appended (written before) text
   pub begun : IsBegun text (written before) (written now)
+  pub writes_whole : ended ≡ Done → WritesWhole writes text before now
+  pub writes_until : ended ≡ WriteFault → WritesUntilFault writes text before now
   pub failed : ended ≡ WriteFault → Rose (faults before) (faults now)

@@ -34,9 +34,13 @@ abbrev pub status_in : Option Ending → ListStatus
 status_in None = Usage
 status_in (Some ending) = status_of ending
 
--- if the output could not be written; nothing if nobody reads it any more
+-- if the output could not be written whole
+abbrev pub lost_words : List ℕ
+lost_words = codes "mcg6: the output could not be written whole\n"
+
+-- the same; nothing if nobody reads it any more
 abbrev pub unwritten_words : (is_abandoned : Bool) → List ℕ
-unwritten_words is_abandoned = if is_abandoned then [] else codes "mcg6: the output could not be written whole\n"
+unwritten_words is_abandoned = if is_abandoned then [] else lost_words
 
 -- if memory ran out
 abbrev pub memory_words : List ℕ

@@ -1,28 +1,58 @@
 //! The top call.
-ghost use Rattle.std.specs.Prelude.{◌≡◌, ℕ, List, map, string_bytes, true, false, Some, None};
+ghost use Rattle.std.specs.Prelude.{◌≡◌, ◌⊎◌, ℕ, List, map, string_bytes, true, false, Some, None};
 ghost use Rattle.std.specs.declared.option.Option.{Option};
 ghost use Rattle.mcg6_reader.specs.declared.ending.Ending.{Ending};
 ghost use Rattle.mcg6_front_top.specs.Answers.{answer_of};
 ghost use Rattle.mcg6_front_top.specs.CluesSeen.{known_by};
 ghost use Rattle.mcg6_front_top.specs.Runs.{IsListRun};
 ghost use Rattle.mcg6_front_top.specs.Speaks.{Answers, IsSaid, Speaks};
-ghost use Rattle.mcg6_front_top.specs.Words.{words_of};
+ghost use Rattle.mcg6_front_top.specs.Words.{lost_words, words_of};
 
 use crate::answers::answer_of;
-use crate::speaking::{ListClues, say_ending, status_in};
+use crate::speaking::{ListClues, say_ending, say_lost, status_in};
 use front_words::say_bytes;
 use mcg6_reader::Ending;
 use mcg6_top::{ListStatus, encode_name, file_name, run_to_ending};
 use outside::{FailureReason, Outlet, Sink, SinkFailed, Source};
 use std::alloc::Global;
 
-// Writes the text as the whole answer.
-fn answer<K: Sink>(sink: &mut K, text: &str) -> ListStatus
-    ensures { Answers K.written K.faults text.now result sink.old sink.new }
+// Says that the answer could not be written, unless nothing is to be said or nobody reads it.
+fn say_unless_abandoned<E: Sink>(errors: &mut E, is_silent: bool, is_abandoned: bool)
+    ensures quiet { is_silent ≡ true → errors.new ≡ errors.old }
+    ensures abandoned { is_abandoned ≡ true → errors.new ≡ errors.old }
+    ensures says { is_silent ≡ false → is_abandoned ≡ false →
+        IsSaid E.written E.writes E.faults lost_words errors.old errors.new }
+{
+    if is_silent {
+        return;
+    }
+    if is_abandoned {
+        return;
+    }
+    let _ = say_lost(errors);
+}
+
+// Writes the text as the whole answer. If that fails, it says so, unless it is to be quiet or nobody
+// reads the answer any more.
+fn answer<K: Outlet, E: Sink>(
+    text: &str,
+    is_quiet: bool,
+    sink: &mut K,
+    errors: &mut E,
+) -> ListStatus
+    ensures answers { Answers K.written K.writes K.faults text.now result sink.old sink.new }
+    ensures quiet { is_quiet ≡ true → errors.new ≡ errors.old }
+    ensures quietly { (result ≡ ListStatus.Done) ⊎ (K.is_abandoned sink.new ≡ true) →
+        errors.new ≡ errors.old }
+    ensures says { result ≡ ListStatus.WriteFault → K.is_abandoned sink.new ≡ false → is_quiet ≡ false
+        → IsSaid E.written E.writes E.faults lost_words errors.old errors.new }
 {
     match say_bytes(sink, text.as_bytes()) {
         Ok(()) => ListStatus::Done,
-        Err(SinkFailed) => ListStatus::WriteFault,
+        Err(SinkFailed) => {
+            say_unless_abandoned(errors, is_quiet, sink.is_abandoned());
+            ListStatus::WriteFault
+        }
     }
 }
 
@@ -34,7 +64,7 @@ fn say_unless_quiet<'a, E: Sink>(
     clues: ListClues<'a>,
 )
     ensures quiet { is_quiet ≡ true → errors.new ≡ errors.old }
-    ensures says { is_quiet ≡ false → IsSaid E.written E.faults
+    ensures says { is_quiet ≡ false → IsSaid E.written E.writes E.faults
         (words_of ending.now (known_by clues.entry)) errors.old errors.new }
 {
     if is_quiet {
@@ -57,7 +87,7 @@ fn speak<S: Source, K: Outlet, E: Sink>(
         (map string_bytes words.now) result source.old source.new sink.old sink.new }
     ensures quiet { is_quiet ≡ true → errors.new ≡ errors.old }
     ensures speaks { is_quiet ≡ false →
-        Speaks E.written E.faults (map string_bytes words.now) result reason
+        Speaks E.written E.writes E.faults (map string_bytes words.now) result reason
         (K.is_abandoned sink.new) (S.left source.old) (K.written sink.old) (K.written sink.new)
         errors.old errors.new }
 {
@@ -87,13 +117,18 @@ pub fn run_list_front<S: Source, K: Outlet, E: Sink>(
     sink: &mut K,
     errors: &mut E,
 ) -> ListStatus
-    // Words that are answered at once: nothing is read, and nothing is said.
+    // Words that are answered at once: nothing is read. Nothing is said, unless the answer could not
+    // be written whole although somebody still reads it: then the words for that.
     ensures answers { (text : List ℕ) → answer_of (map string_bytes words.now) ≡ Some text →
-        Answers K.written K.faults text result sink.old sink.new }
+        Answers K.written K.writes K.faults text result sink.old sink.new }
     ensures answers_unread { (text : List ℕ) →
         answer_of (map string_bytes words.now) ≡ Some text → source.new ≡ source.old }
     ensures answers_quietly { (text : List ℕ) →
-        answer_of (map string_bytes words.now) ≡ Some text → errors.new ≡ errors.old }
+        answer_of (map string_bytes words.now) ≡ Some text
+        → (result ≡ ListStatus.Done) ⊎ (K.is_abandoned sink.new ≡ true) → errors.new ≡ errors.old }
+    ensures answers_lost { (text : List ℕ) → answer_of (map string_bytes words.now) ≡ Some text
+        → result ≡ ListStatus.WriteFault → K.is_abandoned sink.new ≡ false → is_quiet ≡ false
+        → IsSaid E.written E.writes E.faults lost_words errors.old errors.new }
 
     // For all others status, output and source are those of `run`, and what is said is the text
     // for the ending.
@@ -102,12 +137,12 @@ pub fn run_list_front<S: Source, K: Outlet, E: Sink>(
         (map string_bytes words.now) result source.old source.new sink.old sink.new }
     ensures quiet { is_quiet ≡ true → errors.new ≡ errors.old }
     ensures speaks { answer_of (map string_bytes words.now) ≡ None → is_quiet ≡ false →
-        Speaks E.written E.faults (map string_bytes words.now) result reason
+        Speaks E.written E.writes E.faults (map string_bytes words.now) result reason
         (K.is_abandoned sink.new) (S.left source.old) (K.written sink.old) (K.written sink.new)
         errors.old errors.new }
 {
     match answer_of(words) {
-        Some(text) => answer(sink, text),
+        Some(text) => answer(text, is_quiet, sink, errors),
         None => speak(alloc, words, reason, is_quiet, source, sink, errors),
     }
 }

@@ -15,6 +15,8 @@
 
 mod answers;
 mod fronting;
+mod laws;
 mod speaking;
 
 pub use fronting::run_list_front;
+pub use laws::list_table_law;

@@ -3,7 +3,7 @@ ghost use Rattle.std.specs.Prelude.{◌≡◌, ◌↔◌, [], None, Some};
 ghost use Rattle.std.specs.Option.{option_map};
 ghost use Rattle.front_words.specs.Saying.{Says};
 ghost use Rattle.mcg6_front_top.specs.CluesSeen.{known_by};
-ghost use Rattle.mcg6_front_top.specs.Words.{bad_graph_words, ending_words, file_words, list_words, memory_words, nothing_words, status_in, unwritten_words, words_of};
+ghost use Rattle.mcg6_front_top.specs.Words.{bad_graph_words, ending_words, file_words, list_words, lost_words, memory_words, nothing_words, status_in, unwritten_words, words_of};
 
 use front_words::{
     BadFile, Role, list_usage, say_bad_file, say_bad_line, say_bytes, say_unread, say_unread_list,
@@ -43,7 +43,7 @@ pub fn status_in(ending: &Option<Ending>) -> ListStatus
 
 // Says nothing.
 fn say_nothing<E: Sink>(_errors: &mut E) -> Result<(), SinkFailed>
-    ensures { Says E.written E.faults [] result _errors.old _errors.new }
+    ensures { Says E.written E.writes E.faults [] result _errors.old _errors.new }
 {
     Ok(())
 }
@@ -55,7 +55,7 @@ pub fn say_ending<'a, E: Sink>(
     ending: &Option<Ending>,
     clues: ListClues<'a>,
 ) -> Result<(), SinkFailed>
-    ensures { Says E.written E.faults (words_of ending.now (known_by clues.entry)) result
+    ensures { Says E.written E.writes E.faults (words_of ending.now (known_by clues.entry)) result
         errors.old errors.new }
 {
     match ending {
@@ -70,7 +70,7 @@ fn say_some_ending<'a, E: Sink>(
     ending: &Ending,
     clues: ListClues<'a>,
 ) -> Result<(), SinkFailed>
-    ensures { Says E.written E.faults
+    ensures { Says E.written E.writes E.faults
         (ending_words (option_map (λ name. name.now) clues.entry.encoded) ending.now
         (known_by clues.entry)) result errors.old errors.new }
 {
@@ -87,7 +87,7 @@ fn say_file_ending<'a, E: Sink>(
     ending: &Ending,
     clues: ListClues<'a>,
 ) -> Result<(), SinkFailed>
-    ensures { Says E.written E.faults (file_words name.now ending.now (known_by clues.entry)) result
+    ensures { Says E.written E.writes E.faults (file_words name.now ending.now (known_by clues.entry)) result
         errors.old errors.new }
 {
     match ending {
@@ -101,7 +101,7 @@ fn say_file_ending<'a, E: Sink>(
 
 // Says of a bad graph file its name, where it is outside the format and how, and the line.
 fn say_bad_graph<E: Sink>(errors: &mut E, name: &str, found: &BadLine) -> Result<(), SinkFailed>
-    ensures { Says E.written E.faults (bad_graph_words name.now found.now) result
+    ensures { Says E.written E.writes E.faults (bad_graph_words name.now found.now) result
         errors.old errors.new }
 {
     let bad = BadFile {
@@ -115,7 +115,7 @@ fn say_bad_graph<E: Sink>(errors: &mut E, name: &str, found: &BadLine) -> Result
 
 // Says that memory ran out before anything was written.
 fn say_nothing_written<E: Sink>(errors: &mut E) -> Result<(), SinkFailed>
-    ensures { Says E.written E.faults nothing_words result errors.old errors.new }
+    ensures { Says E.written E.writes E.faults nothing_words result errors.old errors.new }
 {
     say_bytes(errors, b"mcg6: memory ran out; nothing was written\n")
 }
@@ -126,7 +126,7 @@ fn say_list_ending<'a, E: Sink>(
     ending: &Ending,
     clues: ListClues<'a>,
 ) -> Result<(), SinkFailed>
-    ensures { Says E.written E.faults (list_words ending.now (known_by clues.entry)) result
+    ensures { Says E.written E.writes E.faults (list_words ending.now (known_by clues.entry)) result
         errors.old errors.new }
 {
     match ending {
@@ -146,20 +146,27 @@ fn say_list_ending<'a, E: Sink>(
     }
 }
 
+/// Says that the output could not be written whole. Takes no memory.
+pub fn say_lost<E: Sink>(errors: &mut E) -> Result<(), SinkFailed>
+    ensures { Says E.written E.writes E.faults lost_words result errors.old errors.new }
+{
+    say_bytes(errors, b"mcg6: the output could not be written whole\n")
+}
+
 // Says that the output could not be written, unless nobody reads it any more.
 fn say_unwritten<E: Sink>(errors: &mut E, is_abandoned: bool) -> Result<(), SinkFailed>
-    ensures { Says E.written E.faults (unwritten_words is_abandoned) result errors.old errors.new }
+    ensures { Says E.written E.writes E.faults (unwritten_words is_abandoned) result errors.old errors.new }
 {
     if is_abandoned {
         say_nothing(errors)
     } else {
-        say_bytes(errors, b"mcg6: the output could not be written whole\n")
+        say_lost(errors)
     }
 }
 
 // Says that memory ran out.
 fn say_out_of_memory<E: Sink>(errors: &mut E) -> Result<(), SinkFailed>
-    ensures { Says E.written E.faults memory_words result errors.old errors.new }
+    ensures { Says E.written E.writes E.faults memory_words result errors.old errors.new }
 {
     say_bytes(
         errors,

@@ -8,11 +8,11 @@ use Rattle.front_words.proofs.SaidPieces.{piece-first}
 use Rattle.front_words.proofs.pieces.say.Goals as goal
 
 pub saying-init : goal.saying-init
-saying-init g c = saying-first {F = SinkFailed} g.K.Sink.written g.K.Sink.faults (pieces_text c.args.pieces.now) c.args.sink.now
+saying-init g c = saying-first {F = SinkFailed} g.K.Sink.written g.K.Sink.writes g.K.Sink.faults (pieces_text c.args.pieces.now) c.args.sink.now
 
 pub saying-preserved : goal.saying-preserved
 saying-preserved g c =
-    saying-next {F = SinkFailed} g.K.Sink.written g.K.Sink.faults (pieces_text c.args.pieces.now) (pieces_text (drop c.saying.piece-index c.args.pieces.now))
+    saying-next {F = SinkFailed} g.K.Sink.written g.K.Sink.writes g.K.Sink.faults (pieces_text c.args.pieces.now) (pieces_text (drop c.saying.piece-index c.args.pieces.now))
     _ (pieces_text (drop (c.saying.piece-index + 1) c.args.pieces.now)) c.args.sink.now c.saying.sink c.say_piece.new.sink
     (piece-first c.args.pieces.now c.saying.piece-index _ c.saying-test.true) c.saying.invariant c.in_ok-say_piece.ensures
 
@@ -20,11 +20,11 @@ pub returns-in_err-say_piece : goal.returns-in_err-say_piece
 returns-in_err-say_piece g c =
     let p = err_from_is_err_and c.from_residual.result c.from_residual.ensures.1 in
     rw (p.1, p.2)
-    (saying-broken {F = SinkFailed} g.K.Sink.written g.K.Sink.faults (pieces_text c.args.pieces.now) (pieces_text (drop c.saying.piece-index c.args.pieces.now))
+    (saying-broken {F = SinkFailed} g.K.Sink.written g.K.Sink.writes g.K.Sink.faults (pieces_text c.args.pieces.now) (pieces_text (drop c.saying.piece-index c.args.pieces.now))
     _ (pieces_text (drop (c.saying.piece-index + 1) c.args.pieces.now)) c.in_err-say_piece.field-0.0 c.args.sink.now c.saying.sink c.say_piece.new.sink
     (piece-first c.args.pieces.now c.saying.piece-index _ c.saying-test.true) c.saying.invariant c.in_err-say_piece.ensures)
 
 pub returns : goal.returns
 returns g c =
-    saying-done {F = SinkFailed} g.K.Sink.written g.K.Sink.faults (pieces_text c.args.pieces.now) (pieces_text (drop c.saying.piece-index c.args.pieces.now))
+    saying-done {F = SinkFailed} g.K.Sink.written g.K.Sink.writes g.K.Sink.faults (pieces_text c.args.pieces.now) (pieces_text (drop c.saying.piece-index c.args.pieces.now))
     c.args.sink.now c.saying.sink (ap pieces_text (drop_all c.saying.piece-index c.args.pieces.now (omega arith))) c.saying.invariant

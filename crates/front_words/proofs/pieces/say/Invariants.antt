@@ -6,4 +6,4 @@ use Rattle.front_words.proofs.pieces.say.Given as goal
 
 abbrev pub invariant-saying : goal.invariant-saying
 invariant-saying g l =
-    IsSaying g.K.Sink.written g.K.Sink.faults SinkFailed (pieces_text l.pieces) (pieces_text (drop l.piece-index l.pieces)) l.fn.sink l.sink
+    IsSaying g.K.Sink.written g.K.Sink.writes g.K.Sink.faults SinkFailed (pieces_text l.pieces) (pieces_text (drop l.piece-index l.pieces)) l.fn.sink l.sink

@@ -1,4 +1,4 @@
-use Rattle.std.proofs.Common.{◌≡◌, ◌∙◌, ◌≤◌, ◌<◌, ◌-◌, ◌++◌, ◌==◌, ℕ, List, Bool, true, false, length, take, drop, subst, sym, ap, refl, arith}
+use Rattle.std.proofs.Common.{◌≡◌, ◌≤◌, ◌<◌, ◌-◌, ◌++◌, ◌==◌, ℕ, List, Bool, true, false, length, take, drop, subst, arith}
 use Rattle.std.proofs.lemmas.Bool.Decides.{nat_tests}
 use Rattle.std.proofs.lemmas.Result.{err_from_is_err_and}
 use Rattle.outside.specs.declared.sink.SinkFailed.{SinkFailed}
@@ -23,7 +23,7 @@ parts most size text unit others some is positive enough front back =
     (shown-first most text some (subst (λ (n : ℕ). n ≤ most) is enough) (subst (λ (n : ℕ). 0 < n) is positive))
 
 pub showing-init : goal.showing-init
-showing-init g c = saying-first {F = SinkFailed} g.K.Sink.written g.K.Sink.faults (begin_shown c.args.most c.args.text.now) c.args.sink.now
+showing-init g c = saying-first {F = SinkFailed} g.K.Sink.written g.K.Sink.writes g.K.Sink.faults (begin_shown c.args.most c.args.text.now) c.args.sink.now
 
 pub split_at-requires : goal.split_at-requires
 split_at-requires g c =
@@ -32,7 +32,7 @@ split_at-requires g c =
 
 pub showing-preserved : goal.showing-preserved
 showing-preserved g c =
-    saying-next {F = SinkFailed} g.K.Sink.written g.K.Sink.faults (begin_shown c.args.most c.args.text.now) (begin_shown c.showing.left c.showing.rest.now)
+    saying-next {F = SinkFailed} g.K.Sink.written g.K.Sink.writes g.K.Sink.faults (begin_shown c.args.most c.args.text.now) (begin_shown c.showing.left c.showing.rest.now)
     (unit_shown c.split_at.result.0.now) (begin_shown (c.showing.left - c.unit_size-size.result) c.split_at.result.1.now) c.args.sink.now c.showing.sink c.say_unit.new.sink
     (parts c.showing.left c.unit_size-size.result c.showing.rest.now c.split_at.result.0.now c.split_at.result.1.now
     (filled c.showing.rest.now c.is_empty.result c.is_empty.ensures c.showing-test.true)
@@ -43,7 +43,7 @@ pub returns-in_err-say_unit : goal.returns-in_err-say_unit
 returns-in_err-say_unit g c =
     let p = err_from_is_err_and c.from_residual.result c.from_residual.ensures.1 in
     rw (p.1, p.2)
-    (saying-broken {F = SinkFailed} g.K.Sink.written g.K.Sink.faults (begin_shown c.args.most c.args.text.now) (begin_shown c.showing.left c.showing.rest.now)
+    (saying-broken {F = SinkFailed} g.K.Sink.written g.K.Sink.writes g.K.Sink.faults (begin_shown c.args.most c.args.text.now) (begin_shown c.showing.left c.showing.rest.now)
     (unit_shown c.split_at.result.0.now) (begin_shown (c.showing.left - c.unit_size-size.result) c.split_at.result.1.now) c.in_err-say_unit.field-0.0 c.args.sink.now c.showing.sink c.say_unit.new.sink
     (parts c.showing.left c.unit_size-size.result c.showing.rest.now c.split_at.result.0.now c.split_at.result.1.now
     (filled c.showing.rest.now c.is_empty.result c.is_empty.ensures c.showing-test.true)
@@ -52,13 +52,13 @@ returns-in_err-say_unit g c =
 
 pub returns : goal.returns
 returns g c =
-    saying-done {F = SinkFailed} g.K.Sink.written g.K.Sink.faults (begin_shown c.args.most c.args.text.now) (begin_shown c.showing.left c.showing.rest.now)
+    saying-done {F = SinkFailed} g.K.Sink.written g.K.Sink.writes g.K.Sink.faults (begin_shown c.args.most c.args.text.now) (begin_shown c.showing.left c.showing.rest.now)
     c.args.sink.now c.showing.sink
     (shown-empty c.showing.left c.showing.rest.now (emptied c.showing.rest.now c.is_empty.result c.is_empty.ensures c.showing-test.false)) c.showing.invariant
 
 pub returns-then-left-size : goal.returns-then-left-size
 returns-then-left-size g c =
-    saying-last {F = SinkFailed} g.K.Sink.written g.K.Sink.faults (begin_shown c.args.most c.args.text.now) (begin_shown c.showing.left c.showing.rest.now)
+    saying-last {F = SinkFailed} g.K.Sink.written g.K.Sink.writes g.K.Sink.faults (begin_shown c.args.most c.args.text.now) (begin_shown c.showing.left c.showing.rest.now)
     c.say_bytes.result c.args.sink.now c.showing.sink c.say_bytes.new.sink c.showing.invariant
     (rw (shown-cut c.showing.left c.showing.rest.now (filled c.showing.rest.now c.is_empty.result c.is_empty.ensures c.showing-test.true)
     (subst (λ (n : ℕ). c.showing.left < n) c.unit_size-size.ensures.size c.if-left-size.true)) c.say_bytes.ensures)
