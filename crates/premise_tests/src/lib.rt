@@ -1,0 +1,61 @@
+//! The premises of the theorems are needed: for each row of a table of premises in
+//! `docs/THEOREMS.md` a test shows a graph without the premise of which the sentence is false.
+//!
+//! A `Row` of `rows` names the premise as the book words it, and the graph. It lists claims that
+//! hold of the graph and claims that fail. The first claim that fails is the premise; the others
+//! are the premises that are left, and the two sides of the sentence. `tools/agree_docs premises`
+//! compares the rows with the tables of the book, both ways.
+//!
+//! A small program decides the claims, which shares nothing with the engine. A `PairGraph` is a
+//! list of pairs of vertices, loops among them, with all its matchings and all sets of its
+//! vertices; each question goes through these, as a textbook states it. `matchings`, `cuts`,
+//! `sides`, `decompositions` and `ears` have the questions, `claims` has their names, and
+//! `deciding` joins the two. The tests of
+//! `engine_tests` ask the proved slow program of `plain_graph` about some of the graphs that have
+//! no loop.
+//!
+//! The crate has no items but these tests, and stands on `std` alone.
+#![tactic(auto)]
+
+#[cfg(test)]
+mod claims;
+#[cfg(test)]
+mod cuts;
+#[cfg(test)]
+mod deciding;
+#[cfg(test)]
+mod decompositions;
+#[cfg(test)]
+mod ears;
+#[cfg(test)]
+mod graphs;
+#[cfg(test)]
+mod matchings;
+#[cfg(test)]
+mod of_barriers;
+#[cfg(test)]
+mod of_braces;
+#[cfg(test)]
+mod of_bricks;
+#[cfg(test)]
+mod of_cubic_graphs;
+#[cfg(test)]
+mod of_decompositions;
+#[cfg(test)]
+mod of_ears;
+#[cfg(test)]
+mod of_matchings;
+#[cfg(test)]
+mod of_regular_graphs;
+#[cfg(test)]
+mod of_separating_cuts;
+#[cfg(test)]
+mod of_sides;
+#[cfg(test)]
+mod pair_graph;
+#[cfg(test)]
+mod rows;
+#[cfg(test)]
+mod sets;
+#[cfg(test)]
+mod sides;

@@ -1,0 +1,172 @@
+//! Premises of the theorems on ears, and of that on reports.
+
+use crate::claims::Claim::{Ear, EarCount, Edges, Is, Lead, Number, OneOrTwo, Set};
+use crate::claims::OfEdges::{Conformal, Stage};
+use crate::claims::OfNumber::Size;
+use crate::claims::OfSet::{Canonical, Nontrivial, Perfect, Side, Tight};
+use crate::claims::Property::{Bipartite, Covered, Loopless};
+use crate::ears::Steps;
+use crate::graphs::{
+    CHORDED_CYCLE, EDGE_AND_VERTEX, HEXAGON, K2, K2_WITH_LOOP, K4, PATH_OF_4, TRIANGLE_WITH_EAR,
+    UNCONFORMAL,
+};
+use crate::rows::{Row, first_wrong};
+use std::alloc::AllocError as Memory;
+
+static LISTS: [Row; 8] = [
+    Row {
+        premise: "ear_list_exists_law: matching covered",
+        graph: "the path with four vertices",
+        given: PATH_OF_4,
+        holds: &[Is(Loopless)],
+        fails: &[
+            Is(Covered),
+            Lead(Steps::Double, &[1]),
+            Lead(Steps::Double, &[2]),
+            Lead(Steps::Double, &[3]),
+        ],
+    },
+    Row {
+        premise: "ear_list_exists_law: no loop",
+        graph: "K2 with a loop",
+        given: K2_WITH_LOOP,
+        holds: &[Is(Covered)],
+        fails: &[
+            Is(Loopless),
+            Lead(Steps::Double, &[1]),
+            Lead(Steps::Double, &[2]),
+        ],
+    },
+    Row {
+        premise: "ear_list_exists_law: `list`: bipartite, for single ears only",
+        graph: "K4",
+        given: K4,
+        holds: &[Is(Loopless), Is(Covered), Lead(Steps::Double, &[1])],
+        fails: &[Is(Bipartite), Lead(Steps::Single, &[1])],
+    },
+    // the cycle 3 5 4 6 has the edges 4, 5, 7 and 8
+    Row {
+        premise: "ear_decomposition_law: `goes_on`: conformal",
+        graph: "the graph with the edges 13, 14, 25, 35, 45, 26, 36, 46",
+        given: UNCONFORMAL,
+        holds: &[
+            Is(Loopless),
+            Is(Covered),
+            Edges(Stage, &[4, 5, 7, 8]),
+            Lead(Steps::Double, &[1]),
+        ],
+        fails: &[
+            Edges(Conformal, &[4, 5, 7, 8]),
+            Lead(Steps::Double, &[4, 5, 7, 8]),
+        ],
+    },
+    Row {
+        premise: "ear_decomposition_law: `goes_on`: matching covered",
+        graph: "the path with four vertices and its first edge",
+        given: PATH_OF_4,
+        holds: &[Is(Loopless), Edges(Stage, &[1]), Edges(Conformal, &[1])],
+        fails: &[Is(Covered), Lead(Steps::Double, &[1])],
+    },
+    // the cycle 1 2 4 3 has the edges 1, 2, 5 and 6
+    Row {
+        premise: "ear_decomposition_law: `goes_on`: bipartite, for single ears",
+        graph: "K4 and a 4-cycle",
+        given: K4,
+        holds: &[
+            Is(Loopless),
+            Is(Covered),
+            Edges(Stage, &[1, 2, 5, 6]),
+            Edges(Conformal, &[1, 2, 5, 6]),
+            Lead(Steps::Double, &[1, 2, 5, 6]),
+        ],
+        fails: &[Is(Bipartite), Lead(Steps::Single, &[1, 2, 5, 6])],
+    },
+    Row {
+        premise: "ear_decomposition_law: `goes_on`: no loop",
+        graph: "K2 with a loop, and its edge",
+        given: K2_WITH_LOOP,
+        holds: &[Is(Covered), Edges(Stage, &[1]), Edges(Conformal, &[1])],
+        fails: &[Is(Loopless), Lead(Steps::Double, &[1])],
+    },
+    // the edge is all edges, so that no step is wanted
+    Row {
+        premise: "ear_decomposition_law: `conformal`: matching covered",
+        graph: "an edge and an isolated vertex",
+        given: EDGE_AND_VERTEX,
+        holds: &[Is(Loopless), Lead(Steps::Double, &[1])],
+        fails: &[Is(Covered), Edges(Conformal, &[1])],
+    },
+];
+
+static EARS: [Row; 7] = [
+    Row {
+        premise: "two_ear_law: `pairs`, `edges`: at least one pair or edge",
+        graph: "K2 and the empty list",
+        given: K2,
+        holds: &[Is(Covered), Set(Perfect, &[]), OneOrTwo(&[(1, 2)])],
+        fails: &[OneOrTwo(&[])],
+    },
+    Row {
+        premise: "two_ear_law: `sides`: A is a side",
+        graph: "the hexagon with A = {1}",
+        given: HEXAGON,
+        holds: &[Is(Covered)],
+        fails: &[Set(Side, &[1]), Set(Perfect, &[1, 3])],
+    },
+    Row {
+        premise: "ear_count_law: `covered`: matching covered",
+        graph: "an edge and an isolated vertex",
+        given: EDGE_AND_VERTEX,
+        holds: &[Is(Loopless), Lead(Steps::Double, &[1])],
+        fails: &[Is(Covered), EarCount(0)],
+    },
+    Row {
+        premise: "bipartite_ear_law: opposite sides",
+        graph: "the 4-cycle with the edge 13",
+        given: CHORDED_CYCLE,
+        holds: &[Edges(Stage, &[1, 2, 3, 4]), Ear(&[1, 2, 3, 4], &[5])],
+        fails: &[Is(Bipartite), Edges(Stage, &[1, 2, 3, 4, 5])],
+    },
+    Row {
+        premise: "bipartite_ear_law: bipartite",
+        graph: "the graph with the triangle abc and the edges uv, uw, va, wb, wc",
+        given: TRIANGLE_WITH_EAR,
+        holds: &[
+            Edges(Stage, &[1, 2, 3, 4, 5, 6, 7, 8]),
+            Ear(&[1, 2, 3, 4, 5, 6, 7, 8], &[9]),
+        ],
+        fails: &[Is(Bipartite), Edges(Stage, &[1, 2, 3, 4, 5, 6, 7, 8, 9])],
+    },
+    // the rules of `check` ask for an odd, nontrivial, tight shore; a derivation for one without 6
+    Row {
+        premise: "report_exists_law: `check`, `replay`, `compare`, `script`: shores without the highest-numbered vertex",
+        graph: "a tree for the hexagon with the shore {4, 5, 6}",
+        given: HEXAGON,
+        holds: &[
+            Is(Covered),
+            Set(Tight, &[4, 5, 6]),
+            Set(Nontrivial, &[4, 5, 6]),
+            Set(Canonical, &[1, 2, 3]),
+        ],
+        fails: &[Set(Canonical, &[4, 5, 6])],
+    },
+    Row {
+        premise: "report_exists_law: `check_ears`: the first edge is an edge of the graph",
+        graph: "K2 with the first edge 2",
+        given: K2,
+        holds: &[Is(Covered), Number(Size, 1)],
+        fails: &[Number(Size, 2)],
+    },
+];
+
+#[test]
+fn premises_on_ear_decompositions(rt: HostRuntime) -> Result<(), Memory> {
+    assert_eq!(rt; first_wrong(rt.alloc(), &LISTS)?, None);
+    Ok(())
+}
+
+#[test]
+fn premises_on_ears(rt: HostRuntime) -> Result<(), Memory> {
+    assert_eq!(rt; first_wrong(rt.alloc(), &EARS)?, None);
+    Ok(())
+}

@@ -1,0 +1,207 @@
+//! Premises of the theorem on regular graphs.
+
+use crate::claims::Claim::{CutSize, Edges, Is, Number, Set};
+use crate::claims::OfEdges::Together;
+use crate::claims::OfNumber::{OddCut, Order, Regular, WideCuts, WideOddCuts};
+use crate::claims::OfSet::{Odd, Side, Tight};
+use crate::claims::Property::{
+    Allowed, Bipartite, Composite, Connected, Covered, Loopless, TwoEdgeConnected,
+};
+use crate::graphs::{
+    BRIDGED, DISJOINT_K4, DOUBLED_HEXAGON, DOUBLED_STAR, EMPTY, FOUR_CYCLE, HEXAGON, K2_WITH_LOOPS,
+    LADDER, PATH_OF_3, PRISM, SEVEN_ISOLATED, THREE_ISOLATED, TWO_K4,
+};
+use crate::rows::{Row, first_wrong};
+use std::alloc::AllocError as Memory;
+
+static ROWS: [Row; 17] = [
+    Row {
+        premise: "regular_law: `allowed`, `covered`, `tight`: wide odd cuts",
+        graph: "the cubic graph with the edges 12, 13, 23, 23, 45, 46, 56, 56, 14",
+        given: BRIDGED,
+        holds: &[
+            Is(Loopless),
+            Number(Regular, 3),
+            Number(Order, 2),
+            Is(Connected),
+            Set(Tight, &[1, 2, 3]),
+            CutSize(&[1, 2, 3], 1),
+        ],
+        fails: &[
+            Number(WideOddCuts, 3),
+            Edges(Together, &[1]),
+            Is(Allowed),
+            Is(Covered),
+        ],
+    },
+    Row {
+        premise: "regular_law: `allowed`, `covered`: regular",
+        graph: "the star K1,3 with doubled edges, r = 2",
+        given: DOUBLED_STAR,
+        holds: &[
+            Is(Loopless),
+            Number(WideOddCuts, 2),
+            Number(Order, 2),
+            Is(Connected),
+        ],
+        fails: &[Number(Regular, 2), Is(Allowed), Is(Covered)],
+    },
+    Row {
+        premise: "regular_law: `covered`: connected; two vertices",
+        graph: "two disjoint copies of K4",
+        given: DISJOINT_K4,
+        holds: &[
+            Is(Loopless),
+            Number(Regular, 3),
+            Number(WideOddCuts, 3),
+            Number(Order, 2),
+            Is(Allowed),
+        ],
+        fails: &[Is(Connected), Is(Covered)],
+    },
+    Row {
+        premise: "regular_law: `covered`: connected; two vertices",
+        graph: "the empty graph",
+        given: EMPTY,
+        holds: &[Number(Regular, 3), Number(WideOddCuts, 3), Is(Connected)],
+        fails: &[Number(Order, 2), Is(Covered)],
+    },
+    Row {
+        premise: "regular_law: `tight`, `wide`: regular",
+        graph: "two copies of K4 sharing an edge, r = 3",
+        given: TWO_K4,
+        holds: &[
+            Is(Loopless),
+            Number(WideOddCuts, 3),
+            Number(WideCuts, 4),
+            Set(Tight, &[1, 3, 4]),
+            CutSize(&[1, 3, 4], 5),
+            Set(Tight, &[2, 3, 4]),
+            CutSize(&[2, 3, 4], 5),
+            Is(Composite),
+        ],
+        fails: &[Number(Regular, 3)],
+    },
+    Row {
+        premise: "regular_law: `wide`: more than r",
+        graph: "the hexagon with every other edge doubled",
+        given: DOUBLED_HEXAGON,
+        holds: &[
+            Is(Loopless),
+            Number(Regular, 3),
+            Number(WideCuts, 3),
+            Is(Composite),
+        ],
+        fails: &[Number(WideCuts, 4)],
+    },
+    Row {
+        premise: "regular_law: `bipartite`: bipartite; regular; no loop",
+        graph: "the cubic graph above",
+        given: BRIDGED,
+        holds: &[Is(Loopless), Number(Regular, 3)],
+        fails: &[Is(Bipartite), Number(WideOddCuts, 3)],
+    },
+    Row {
+        premise: "regular_law: `bipartite`: bipartite; regular; no loop",
+        graph: "the path with three vertices, r = 2",
+        given: PATH_OF_3,
+        holds: &[Is(Loopless), Set(Side, &[2])],
+        fails: &[Number(Regular, 2), Number(WideOddCuts, 2)],
+    },
+    Row {
+        premise: "regular_law: `bipartite`: bipartite; regular; no loop",
+        graph: "K2 with a loop at each vertex, r = 3",
+        given: K2_WITH_LOOPS,
+        holds: &[Set(Side, &[1]), Number(Regular, 3)],
+        fails: &[Is(Loopless), Number(WideOddCuts, 3)],
+    },
+    Row {
+        premise: "regular_law: `narrow`: bipartite; regular; odd; r ≥ 1",
+        graph: "the prism",
+        given: PRISM,
+        holds: &[
+            Is(Loopless),
+            Number(Regular, 3),
+            Set(Odd, &[1, 2, 3]),
+            CutSize(&[1, 2, 3], 3),
+        ],
+        fails: &[Is(Bipartite), Set(Tight, &[1, 2, 3])],
+    },
+    Row {
+        premise: "regular_law: `narrow`: bipartite; regular; odd; r ≥ 1",
+        graph: "the ladder with three rungs, r = 3",
+        given: LADDER,
+        holds: &[
+            Is(Loopless),
+            Set(Side, &[1, 3, 5]),
+            Set(Odd, &[1, 2, 3]),
+            CutSize(&[1, 2, 3], 3),
+        ],
+        fails: &[Number(Regular, 3), Set(Tight, &[1, 2, 3])],
+    },
+    Row {
+        premise: "regular_law: `narrow`: bipartite; regular; odd; r ≥ 1",
+        graph: "the 4-cycle with {1, 2}",
+        given: FOUR_CYCLE,
+        holds: &[
+            Is(Loopless),
+            Set(Side, &[1, 3]),
+            Number(Regular, 2),
+            CutSize(&[1, 2], 2),
+        ],
+        fails: &[Set(Odd, &[1, 2]), Set(Tight, &[1, 2])],
+    },
+    // here r = 0, and the premise is that there are edges at a vertex
+    Row {
+        premise: "regular_law: `narrow`: bipartite; regular; odd; r ≥ 1",
+        graph: "three isolated vertices",
+        given: THREE_ISOLATED,
+        holds: &[
+            Is(Loopless),
+            Set(Side, &[]),
+            Number(Regular, 0),
+            Set(Odd, &[1]),
+            CutSize(&[1], 0),
+        ],
+        fails: &[Number(Regular, 1), Set(Tight, &[1])],
+    },
+    Row {
+        premise: "regular_law: `brace`: bipartite; regular; r ≥ 1",
+        graph: "the prism",
+        given: PRISM,
+        holds: &[Is(Loopless), Number(Regular, 3), Number(OddCut, 3)],
+        fails: &[Is(Bipartite), Is(Composite)],
+    },
+    Row {
+        premise: "regular_law: `brace`: bipartite; regular; r ≥ 1",
+        graph: "the hexagon, r = 3",
+        given: HEXAGON,
+        holds: &[Is(Loopless), Set(Side, &[1, 3, 5]), Is(Composite)],
+        fails: &[Number(Regular, 3), Number(OddCut, 3)],
+    },
+    Row {
+        premise: "regular_law: `brace`: bipartite; regular; r ≥ 1",
+        graph: "seven isolated vertices",
+        given: SEVEN_ISOLATED,
+        holds: &[
+            Is(Loopless),
+            Set(Side, &[]),
+            Number(Regular, 0),
+            Number(OddCut, 0),
+        ],
+        fails: &[Number(Regular, 1), Is(Composite)],
+    },
+    Row {
+        premise: "regular_law: `cubic`: cubic",
+        graph: "the hexagon",
+        given: HEXAGON,
+        holds: &[Is(Loopless), Is(TwoEdgeConnected), Is(Connected)],
+        fails: &[Number(Regular, 3), Number(WideOddCuts, 3)],
+    },
+];
+
+#[test]
+fn premises_on_regular_graphs(rt: HostRuntime) -> Result<(), Memory> {
+    assert_eq!(rt; first_wrong(rt.alloc(), &ROWS)?, None);
+    Ok(())
+}

@@ -1,0 +1,184 @@
+//! Premises of the marriage theorem and of Hetyei's theorem.
+
+use crate::claims::Claim::{Is, Lead, Number, Set};
+use crate::claims::OfNumber::Order;
+use crate::claims::OfSet::{Half, Hall, PairsMatched, Perfect, Proper, Side, Surplus};
+use crate::claims::Property::{Bipartite, Connected, Covered, Loopless, Met};
+use crate::ears::Steps;
+use crate::graphs::{
+    DIAMOND, EDGE_AND_VERTEX, EMPTY, FOUR_ISOLATED, K2_WITH_LOOP, LOOPED_PATH, ONE_LOOP, PATH_OF_3,
+    PATH_OF_4, STAR_OF_3, TWO_ISOLATED,
+};
+use crate::rows::{Row, first_wrong};
+use std::alloc::AllocError as Memory;
+
+static MARRIAGE: [Row; 3] = [
+    Row {
+        premise: "marriage_law: |A| = |B|",
+        graph: "the path with three vertices, where A is its middle vertex",
+        given: PATH_OF_3,
+        holds: &[Is(Loopless), Set(Side, &[2]), Set(Hall, &[2])],
+        fails: &[Set(Half, &[2]), Set(Perfect, &[])],
+    },
+    Row {
+        premise: "marriage_law: A is a side",
+        graph: "the star K1,3, where A contains the centre and one other vertex",
+        given: STAR_OF_3,
+        holds: &[Is(Loopless), Set(Half, &[1, 2]), Set(Hall, &[1, 2])],
+        fails: &[Set(Side, &[1, 2]), Set(Perfect, &[])],
+    },
+    Row {
+        premise: "marriage_law: no loop",
+        graph: "two vertices and one edge, a loop at the vertex of A",
+        given: ONE_LOOP,
+        holds: &[Set(Side, &[1]), Set(Half, &[1]), Set(Hall, &[1])],
+        fails: &[Is(Loopless), Set(Perfect, &[])],
+    },
+];
+
+static HETYEI: [Row; 15] = [
+    Row {
+        premise: "hetyei_law: `neighbours`, `pairs`: two vertices",
+        graph: "the empty graph",
+        given: EMPTY,
+        holds: &[
+            Is(Connected),
+            Set(Side, &[]),
+            Set(Half, &[]),
+            Set(Surplus, &[]),
+            Set(PairsMatched, &[]),
+        ],
+        fails: &[Number(Order, 2), Is(Covered)],
+    },
+    Row {
+        premise: "hetyei_law: `neighbours`: connected; equal sides; surplus",
+        graph: "two isolated vertices",
+        given: TWO_ISOLATED,
+        holds: &[Set(Side, &[1]), Set(Half, &[1]), Set(Surplus, &[1])],
+        fails: &[Is(Connected), Is(Covered)],
+    },
+    Row {
+        premise: "hetyei_law: `neighbours`: connected; equal sides; surplus",
+        graph: "the path with three vertices, where A is its middle vertex",
+        given: PATH_OF_3,
+        holds: &[Set(Side, &[2]), Is(Connected), Set(Surplus, &[2])],
+        fails: &[Set(Half, &[2]), Is(Covered)],
+    },
+    Row {
+        premise: "hetyei_law: `neighbours`: connected; equal sides; surplus",
+        graph: "the path with four vertices",
+        given: PATH_OF_4,
+        holds: &[Set(Side, &[1, 3]), Is(Connected), Set(Half, &[1, 3])],
+        fails: &[Set(Surplus, &[1, 3]), Is(Covered)],
+    },
+    Row {
+        premise: "hetyei_law: `neighbours`, `four_neighbours`: A is a side; no loop",
+        graph: "the diamond 12, 13, 23, 24, 34 with A = {1, 2}",
+        given: DIAMOND,
+        holds: &[
+            Is(Loopless),
+            Number(Order, 4),
+            Is(Connected),
+            Set(Half, &[1, 2]),
+            Set(Surplus, &[1, 2]),
+        ],
+        fails: &[Set(Side, &[1, 2]), Is(Covered)],
+    },
+    Row {
+        premise: "hetyei_law: `neighbours`, `four_neighbours`: A is a side; no loop",
+        graph: "the path 1 2 3 4 with a loop at 1, A = {1, 3}",
+        given: LOOPED_PATH,
+        holds: &[
+            Number(Order, 4),
+            Is(Connected),
+            Set(Side, &[1, 3]),
+            Set(Half, &[1, 3]),
+            Set(Surplus, &[1, 3]),
+        ],
+        fails: &[Is(Loopless), Is(Covered)],
+    },
+    Row {
+        premise: "hetyei_law: `pairs`, `four_pairs`: A is a side",
+        graph: "the diamond with A = {1, 4}",
+        given: DIAMOND,
+        holds: &[
+            Number(Order, 4),
+            Is(Connected),
+            Set(Proper, &[1, 4]),
+            Set(PairsMatched, &[1, 4]),
+        ],
+        fails: &[Set(Side, &[1, 4]), Is(Covered)],
+    },
+    Row {
+        premise: "hetyei_law: `pairs`: connected",
+        graph: "two isolated vertices",
+        given: TWO_ISOLATED,
+        holds: &[Set(Side, &[1]), Set(PairsMatched, &[1])],
+        fails: &[Is(Connected), Is(Covered)],
+    },
+    Row {
+        premise: "hetyei_law: `four_neighbours`: four vertices; equal sides",
+        graph: "two isolated vertices",
+        given: TWO_ISOLATED,
+        holds: &[Set(Side, &[1]), Set(Half, &[1]), Set(Surplus, &[1])],
+        fails: &[Number(Order, 4), Is(Covered)],
+    },
+    Row {
+        premise: "hetyei_law: `four_neighbours`: four vertices; equal sides",
+        graph: "the star K1,3, where A is its centre",
+        given: STAR_OF_3,
+        holds: &[Number(Order, 4), Set(Side, &[1]), Set(Surplus, &[1])],
+        fails: &[Set(Half, &[1]), Is(Covered)],
+    },
+    Row {
+        premise: "hetyei_law: `four_pairs`: four vertices; both sides not empty",
+        graph: "two isolated vertices",
+        given: TWO_ISOLATED,
+        holds: &[Set(Side, &[1]), Set(Proper, &[1]), Set(PairsMatched, &[1])],
+        fails: &[Number(Order, 4), Is(Covered)],
+    },
+    Row {
+        premise: "hetyei_law: `four_pairs`: four vertices; both sides not empty",
+        graph: "four isolated vertices, where A is empty",
+        given: FOUR_ISOLATED,
+        holds: &[Number(Order, 4), Set(Side, &[]), Set(PairsMatched, &[])],
+        fails: &[Set(Proper, &[]), Is(Covered)],
+    },
+    Row {
+        premise: "hetyei_law: `ears`: A is a side; no isolated vertices",
+        graph: "the diamond",
+        given: DIAMOND,
+        holds: &[Is(Loopless), Lead(Steps::Ears, &[1]), Is(Met)],
+        fails: &[Is(Bipartite), Is(Covered)],
+    },
+    Row {
+        premise: "hetyei_law: `ears`: A is a side; no isolated vertices",
+        graph: "an edge and an isolated vertex",
+        given: EDGE_AND_VERTEX,
+        holds: &[Set(Side, &[1]), Lead(Steps::Ears, &[1])],
+        fails: &[Is(Met), Is(Covered)],
+    },
+    Row {
+        premise: "hetyei_law: `ears`: no loop",
+        graph: "K2 with a loop",
+        given: K2_WITH_LOOP,
+        holds: &[Set(Side, &[1]), Is(Covered), Is(Met)],
+        fails: &[
+            Is(Loopless),
+            Lead(Steps::Ears, &[1]),
+            Lead(Steps::Ears, &[2]),
+        ],
+    },
+];
+
+#[test]
+fn premises_of_the_marriage_theorem(rt: HostRuntime) -> Result<(), Memory> {
+    assert_eq!(rt; first_wrong(rt.alloc(), &MARRIAGE)?, None);
+    Ok(())
+}
+
+#[test]
+fn premises_of_hetyeis_theorem(rt: HostRuntime) -> Result<(), Memory> {
+    assert_eq!(rt; first_wrong(rt.alloc(), &HETYEI)?, None);
+    Ok(())
+}

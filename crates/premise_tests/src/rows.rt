@@ -1,0 +1,41 @@
+//! A row of a table: a premise of a theorem, a graph without it, and what the graph shows.
+
+use crate::claims::Claim;
+use crate::graphs::Given;
+use crate::pair_graph::PairGraph;
+use std::alloc::{AllocError as Memory, Global};
+
+/// A premise of a theorem, as `docs/THEOREMS.md` words it after the theorem's name; a graph
+/// without it, as that row of the book names it; claims that hold of the graph, and claims that
+/// do not. The first that fails is the premise. The others of both kinds are the further premises
+/// and the two sides of the sentence, which do not agree.
+pub struct Row {
+    pub premise: &'static str,
+    pub graph: &'static str,
+    pub given: Given,
+    pub holds: &'static [Claim],
+    pub fails: &'static [Claim],
+}
+
+// Whether each of the claims holds of the graph, or each fails.
+fn are_all(alloc: Global, g: &PairGraph, claims: &[Claim], wanted: bool) -> Result<bool, Memory> {
+    for claim in claims {
+        if claim.holds(alloc, g)? != wanted {
+            return Ok(false);
+        }
+    }
+    Ok(true)
+}
+
+/// The place of the first row whose graph is not as the row says.
+pub fn first_wrong(alloc: Global, rows: &[Row]) -> Result<Option<usize>, Memory> {
+    for (place, row) in rows.iter().enumerate() {
+        let (order, edges) = row.given;
+        let g = PairGraph::new(alloc, order, edges)?;
+        let holds = are_all(alloc, &g, row.holds, true)?;
+        if !holds || !are_all(alloc, &g, row.fails, false)? || row.fails.is_empty() {
+            return Ok(Some(place));
+        }
+    }
+    Ok(None)
+}

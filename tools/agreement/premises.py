@@ -1,0 +1,63 @@
+"""Has each premise of docs/THEOREMS.md a test that shows that it is needed?
+
+A row of a table of premises names a premise and a graph without it. For each a `Row` of crates/premise_tests must have the words
+`LAW: PREMISE`, and the name of the graph as the book gives it; where the book names several graphs, one `Row` for each. No `Row`
+may be of a premise or a graph that the book does not name. Lists what is missing or too much, and ends with status 1 if anything is.
+"""
+import pathlib
+import re
+
+DOCUMENT = pathlib.Path("docs/THEOREMS.md")
+TESTS = pathlib.Path("crates/premise_tests/src")
+
+# Premises that no graph of those tests can lack: the test that shows each, by its file and a text in it.
+ELSEWHERE = {
+    "report_exists_law: `convert`, `decompose`, `script`: a graph that a file can hold": (
+        pathlib.Path("crates/run_tests/src/malformed.rt"), '("p mcg2 129 129\\n", 1, 6)'),
+}
+
+
+def rows():
+    """The rows of the tables of premises: the premise after its law, and the graphs."""
+    law, is_table = None, False
+    for line in DOCUMENT.read_text().splitlines():
+        if line.startswith("### "):
+            law = re.search(r"`([a-z0-9_]+_law)`", line)[1]
+        if line.startswith("| Premise |"):
+            is_table = True
+        elif is_table and line.startswith("| "):
+            premise, graphs = [it.strip().replace("\\|", "|") for it in re.split(r"(?<!\\)\|", line.strip().strip("|"))]
+            yield f"{law}: {premise}", graphs.split("; ")
+        elif not line.startswith("|---"):
+            is_table = False
+
+
+def tests():
+    """The premises that the tests name, each with its graphs."""
+    found = {}
+    for file in sorted(TESTS.glob("*.rt")):
+        for premise, graph in re.findall(r'premise:\s*"([^"]+)",\s*graph:\s*"([^"]+)"', file.read_text()):
+            found.setdefault(premise, []).append(graph)
+    return found
+
+
+def main():
+    wrong, known, tried = [], {}, tests()
+    for premise, graphs in rows():
+        known[premise] = graphs
+        if premise in ELSEWHERE:
+            file, text = ELSEWHERE[premise]
+            if text not in file.read_text():
+                wrong.append(f"{file} does not have {text}: {premise}")
+            continue
+        shown = tried.get(premise, [])
+        wrong += [f"no test of {TESTS} shows that it is needed, by {graph!r}: {premise}"
+                  for graph in graphs if not any(it in graph for it in shown)]
+        wrong += [f"{DOCUMENT} does not name the graph {it!r} of a test: {premise}"
+                  for it in shown if not any(it in graph for graph in graphs)]
+    wrong += [f"{DOCUMENT} has no such premise: {premise}" for premise in [*tried, *ELSEWHERE] if premise not in known]
+    for line in wrong:
+        print(line)
+    if known and not wrong:
+        print(f"each of the {len(known)} premises of {DOCUMENT} has a test that shows that it is needed")
+    return 1 if wrong or not known else 0
