@@ -30,6 +30,7 @@ pub mod Rests
 pub mod LoneMatchings
 pub mod LoneLeads
 pub mod StagePartners
+pub mod StageClasses
 pub mod GoingOn
 pub mod MatchedStages
 pub mod LoneParts

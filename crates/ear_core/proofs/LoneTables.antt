@@ -1,6 +1,6 @@
 -- The partners on a stage and those off it tell at which two vertices alone a perfect matching
 -- leads out of the stage.
-use Rattle.std.proofs.Common.{◌≡◌, ◌≢◌, ◌↔◌, ℕ, List, Bool, true, suc, ◌+◌, false, ◌==◌, ◌&&◌, ◌||◌, not, length, sym, ap, ap₂, ◌∙◌, arith, eq-eqb, ne_eqb, ◌⊎◌, inl, inr, subst}
+use Rattle.std.proofs.Common.{◌≡◌, ◌≢◌, ℕ, List, Bool, true, suc, ◌+◌, false, ◌==◌, ◌&&◌, ◌||◌, not, length, sym, ap, ap₂, ◌∙◌, arith, eq-eqb, ne_eqb, ◌⊎◌, inl, inr, subst}
 use Rattle.std.proofs.Math.Path.{fun_ext}
 use Rattle.counting.proofs.Common.{and_from, and_parts, both_ways, not-true, or_cases, or_left, or_right, some_true, true_some, Within, Set, complement, item, mem, pair_set, some, union}
 use Rattle.graph_core.proofs.Common.{has_ends-from, has_perfect_found, has_perfect_says, Graph, IsGraph, IsMultigraph, first_end, has_ends, has_perfect, second_end, size, HasPerfect}
@@ -64,18 +64,15 @@ module _ (g : Graph) (is : IsMultigraph g) (f : Set) (t : Tables) (tables : AreT
           (tables.near i.1 v wx ∙ adjacent-back g f v i.1 i.6)))
     ]
 
-  -- with the partners of u on the stage
-  module _ (u : ℕ) (on : is_met g f u ≡ true) (row : Set) (partners : (v : ℕ) → (row v ≡ true) ↔ ArePartnersOn g f u v) (v : ℕ) where
-    pub row-sound : (row v && reached g t u v) ≡ true → (u ≢ v) × (is_met g f v ≡ true) × ((m : Set) × IsPerfectBy g (is_open g f u v) m)
-    row-sound h =
-        let p = and_parts (row v) (reached g t u v) h in
-        let a = (partners v).0 p.0 in
-        (a.0, a.2, lone-whole g is f u v a.0 on a.2 (a.3, reached-leads u v (met-within g is.ends f u on) p.1))
+  -- with a partner of u on the stage
+  module _ (u : ℕ) (on : is_met g f u ≡ true) (v : ℕ) where
+    pub lone-sound : ArePartnersOn g f u v → reached g t u v ≡ true → (u ≢ v) × (is_met g f v ≡ true) × ((m : Set) × IsPerfectBy g (is_open g f u v) m)
+    lone-sound p far = (p.0, p.2, lone-whole g is f u v p.0 on p.2 (p.3, reached-leads u v (met-within g is.ends f u on) far))
 
-    pub row-complete : u ≢ v → is_met g f v ≡ true → (m : Set) → IsPerfectBy g (is_open g f u v) m → (row v && reached g t u v) ≡ true
-    row-complete d on_v m by =
+    pub lone-complete : u ≢ v → is_met g f v ≡ true → (m : Set) → IsPerfectBy g (is_open g f u v) m → ArePartnersOn g f u v × (reached g t u v ≡ true)
+    lone-complete d on_v m by =
         let p = lone-parts g is f u v d on on_v m by in
-        and_from (row v) (reached g t u v) ((partners v).1 (d, on, on_v, p.0)) (leads-reached u v (met-within g is.ends f u on) p.1)
+        ((d, on, on_v, p.0), leads-reached u v (met-within g is.ends f u on) p.1)
 
 -- the tables as they are made
 pub tables-are : (g : Graph) → IsGraph g → (f : Set) (n : MatchingValue) → IsPerfectRows g n → KeepsMates g (row_edge n.rows) (is_met g f) → (t : Tables) (met : Set) → ((v : ℕ) → met v ≡ is_met g f v) → ArePartners g met t.outer →

@@ -20,7 +20,7 @@ four a b c d h = let p = and_parts ((a && b) && c) d h in let q = and_parts (a &
 pub all-four : (a b c d : Bool) → a ≡ true → b ≡ true → c ≡ true → d ≡ true → (((a && b) && c) && d) ≡ true
 all-four a b c d p q r s = and_from ((a && b) && c) d (and_from (a && b) c (and_from a b p q) r) s
 
-module _ (g : Graph) (is : IsGraph g) (f : Set) (asked : Asked) (asks : IsAsked g f asked) (u : ℕ) (su : Within asked.stage.order u) (row : Set) (within : (v : ℕ) → row v ≡ true → Within asked.stage.order v) (is_row : (v : ℕ) → Within asked.stage.order v → row v ≡ are_partners asked.stage (mem asked.outside) u v) (v : ℕ) where
+module _ (g : Graph) (is : IsGraph g) (f : Set) (asked : Asked) (asks : IsAsked g f asked) (u : ℕ) (su : Within asked.stage.order u) (v : ℕ) where
   abbrev out : Set
   out = mem asked.outside
 
@@ -30,26 +30,30 @@ module _ (g : Graph) (is : IsGraph g) (f : Set) (asked : Asked) (asks : IsAsked 
   pair-serves : HasPerfect asked.stage (union out (pair_set u v)) ↔ Serves g f (pair_set u v)
   pair-serves = asked-perfect g f asked asks (union out (pair_set u v)) (pair_set u v) (λ w ww. refl)
 
-  say : row v ≡ true → ArePartnersOn g f u v
-  say h =
-      let sv = within v h in
-      let p = four (not (out u)) (not (out v)) (not (u == v)) (has_perfect asked.stage (union out (pair_set u v))) (sym (is_row v sv) ∙ h) in (
+  -- partners in the graph of a stage are partners on the stage
+  pub asked-says : Within asked.stage.order v → are_partners asked.stage out u v ≡ true → ArePartnersOn g f u v
+  asked-says sv h =
+      let p = four (not (out u)) (not (out v)) (not (u == v)) (has_perfect asked.stage (union out (pair_set u v))) h in (
         λ e. both_ways (u == v) (not-true (u == v) p.2) (eq-eqb u v e),
         not-false (is_met g f u) (sym (asks.outside u wu) ∙ not-true (out u) p.0),
         not-false (is_met g f v) (sym (asks.outside v (subst (λ n. Within n v) asks.order sv)) ∙ not-true (out v) p.1),
         pair-serves.0 (has_perfect_says asked.stage (union out (pair_set u v)) p.3),
       )
 
-  found : ArePartnersOn g f u v → row v ≡ true
-  found q =
+  -- and the other way
+  pub says-asked : ArePartnersOn g f u v → are_partners asked.stage out u v ≡ true
+  says-asked q =
       let wv = met-within g is f v q.2 in
-      is_row v (subst (λ n. Within n v) (sym asks.order) wv)
-      ∙ all-four (not (out u)) (not (out v)) (not (u == v)) (has_perfect asked.stage (union out (pair_set u v)))
+      all-four (not (out u)) (not (out v)) (not (u == v)) (has_perfect asked.stage (union out (pair_set u v)))
       (ap not (asks.outside u wu ∙ ap not q.1)) (ap not (asks.outside v wv ∙ ap not q.2)) (ap not (ne_eqb u v q.0)) (has_perfect_found asked.stage (union out (pair_set u v)) (pair-serves.1 q.3))
 
-  -- a row of partners in the graph of a stage has the partners on the stage
-  pub partners-on : (row v ≡ true) ↔ ArePartnersOn g f u v
-  partners-on = (say, found)
+-- a row of partners in the graph of a stage has the partners on the stage
+pub partners-on : (g : Graph) → IsGraph g → (f : Set) (asked : Asked) → IsAsked g f asked → (u : ℕ) → Within asked.stage.order u → (row : Set) → ((v : ℕ) → row v ≡ true → Within asked.stage.order v) → ((v : ℕ) → Within asked.stage.order v → row v ≡ are_partners asked.stage (mem asked.outside) u v) → (v : ℕ) →
+    (row v ≡ true) ↔ ArePartnersOn g f u v
+partners-on g is f asked asks u su row within is_row v = (
+  λ h. let sv = within v h in asked-says g is f asked asks u su v sv (sym (is_row v sv) ∙ h),
+  λ q. is_row v (subst (λ n. Within n v) (sym asks.order) (met-within g is f v q.2)) ∙ says-asked g is f asked asks u su v q,
+)
 
 -- partners on a stage are partners on the stage with an ear
 ear-partners : (g : Graph) (f : Set) (v : ℕ) (es : List ℕ) → IsEar g f v es → (a b : ℕ) → ArePartnersOn g f a b → ArePartnersOn g (with_edges f es) a b

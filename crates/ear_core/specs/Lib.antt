@@ -14,4 +14,5 @@ pub mod LoneTables
 pub mod StagePartners
 pub mod Building
 pub mod MatchedStages
+pub mod StageRows
 pub mod Common

@@ -120,7 +120,7 @@ fn go_on(
     c.keeps_covered();
     let g = c.graph();
     let stage = Stage::of(alloc, g, &built.mark, met)?;
-    match built.first_between(g, &stage) {
+    match built.first_between(alloc, g, &stage)? {
         Some(e) => built.add_between(alloc, g, &stage, e),
         None => {
             let step = next_step(alloc, c, &built.mark, met, kept, &stage, edge)?;

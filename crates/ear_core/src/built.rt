@@ -35,20 +35,25 @@ impl Built {
     }
 
     /// The least edge off the stage that joins two partners on it.
-    pub fn first_between(&self, g: &MultiGraph, stage: &Stage) -> Option<u32>
+    pub fn first_between(
+        &self,
+        alloc: Global,
+        g: &MultiGraph,
+        stage: &Stage,
+    ) -> Result<Option<u32>, Memory>
         requires long { length self.now.mark.items ≡ size g.now + 1 }
         requires asked { IsAsked g.now (marks self.now.mark.items) stage.now }
-        ensures { IfSome result (λ e. Within (size g.now) e ×
+        ensures { IfOk result (λ o. IfSome o (λ e. Within (size g.now) e ×
             (marks self.now.mark.items e ≡ false) ×
             ArePartnersOn g.now (marks self.now.mark.items) (first_end g.now e)
-            (second_end g.now e)) }
+            (second_end g.now e))) }
     {
         for k in 0..g.size() {
-            if self.is_between(g, stage, k + 1) {
-                return Some(k + 1);
+            if self.is_between(alloc, g, stage, k + 1)? {
+                return Ok(Some(k + 1));
             }
         }
-        None
+        Ok(None)
     }
 
     /// Adds edge `e`, which joins two partners on the stage, and each later edge off the stage that
@@ -81,17 +86,30 @@ impl Built {
     }
 
     // Whether edge `e` is off the stage and joins two partners on an earlier stage.
-    fn is_between(&self, g: &MultiGraph, stage: &Stage, e: u32) -> bool
+    fn is_between(
+        &self,
+        alloc: Global,
+        g: &MultiGraph,
+        stage: &Stage,
+        e: u32,
+    ) -> Result<bool, Memory>
         requires long { length self.now.mark.items ≡ size g.now + 1 }
         requires edge { Within (size g.now) e }
         requires order { stage.now.stage.order ≡ g.now.order }
-        ensures off { result ≡ true → marks self.now.mark.items e ≡ false }
-        ensures joins { (f : Set) → IsAsked g.now f stage.now → result ≡ true →
-            ArePartnersOn g.now f (first_end g.now e) (second_end g.now e) }
+        ensures off { IfOk result (λ b. b ≡ true → marks self.now.mark.items e ≡ false) }
+        ensures joins { IfOk result (λ b. (f : Set) → IsAsked g.now f stage.now → b ≡ true →
+            ArePartnersOn g.now f (first_end g.now e) (second_end g.now e)) }
     {
         g.keeps_limits();
+        if self.mark[e as usize] {
+            return Ok(false);
+        }
         let ends = g.ends(e);
-        !self.mark[e as usize] && stage.partners(ends.a).contains(ends.b)
+        if stage.asked().outside.contains(ends.b) {
+            return Ok(false);
+        }
+        let row = stage.partners(alloc, ends.a)?;
+        Ok(row.contains(ends.b))
     }
 
     // Adds edge `e` as a single ear.
@@ -130,7 +148,7 @@ impl Built {
             (count (size g.now) (complement (marks self.new.mark.items)) ≤
             count (size g.now) (complement (marks self.old.mark.items))) }
     {
-        if self.is_between(g, stage, e) {
+        if self.is_between(alloc, g, stage, e)? {
             self.add_edge(alloc, g, e)
         } else {
             Ok(())

@@ -75,7 +75,8 @@ fn first_alone(
     let Some((ear, others)) = ears.split_first() else {
         return Ok(None);
     };
-    if stage.partners(ear.from).contains(last_of(g, ear)) {
+    let row = stage.partners(alloc, ear.from)?;
+    if row.contains(last_of(g, ear)) {
         let found = copy_of(alloc, ear)?;
         return Ok(Some(found));
     }

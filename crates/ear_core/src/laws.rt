@@ -69,7 +69,8 @@ pub fn lone_parts_law()
 
 /// Partners on a stage are partners on the next. An edge off the stage that joins two partners on
 /// it is an ear with which the stage stays matching covered. Where all vertices are on the stage
-/// and any two of them are partners, this is so of each edge that is left, and it stays so.
+/// and any two of them are partners, this is so of each edge that is left, and it stays so. Two
+/// vertices of a stage that are no partners have the same partners (Kotzig).
 pub fn stage_partners_law()
     ensures stay { (g : Graph) (f : Set) (s : PlainStep) → IsStep g f s → (u v : ℕ) →
         ArePartnersOn g f u v → ArePartnersOn g (next_stage f s) u v }
@@ -79,4 +80,7 @@ pub fn stage_partners_law()
     ensures all { (g : Graph) → IsMultigraph g → (f : Set) → IsStage g f → PairsAll g f →
         (e : ℕ) → Within (size g) e → f e ≡ false → IsEar g f (first_end g e) (e ∷ []) ×
         IsStage g (with_edges f (e ∷ [])) × PairsAll g (with_edges f (e ∷ [])) }
+    ensures classes { (g : Graph) → IsGraph g → (f : Set) → IsStage g f → (u v w : ℕ) →
+        is_met g f u ≡ true → is_met g f v ≡ true → ¬ (ArePartnersOn g f u v) →
+        ArePartnersOn g f u w ↔ ArePartnersOn g f v w }
 {}

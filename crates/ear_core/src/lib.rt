@@ -22,15 +22,17 @@
 //! matching is made of a perfect matching of the stage without the two, and of edges off the stage
 //! that lead out at them (`LeadsOff`). `laws::stage_partners_law`: two vertices of a stage without
 //! which it has a perfect matching (`ArePartnersOn` of `specs/StagePartners`) are so on the next
-//! stage, and an edge that joins two such vertices is a single ear.
+//! stage, an edge that joins two such vertices is a single ear, and vertices that are no partners
+//! have the same partners.
 //!
 //! Inside, a step is taken on a row of marks. The checker keeps a stage with the mates of a
 //! matching (`MatchedStage`) and asks for the partners of one vertex at a time: a single ear
 //! between partners on it is taken at once; else the stage after the step is asked edge by edge and
 //! kept from then on.
 //!
-//! The builder keeps one perfect matching. It makes the table of partners on a stage (`Stage`) and
-//! adds each edge between two partners; the table is made again only when no such edge is left.
+//! The builder keeps one perfect matching. It asks for partners on a stage (`Stage`), by one search
+//! for a class of vertices that have the same ones, and adds each edge between two partners. It asks
+//! again only when no such edge is left.
 //! Then another perfect matching leads out and makes ears together with the kept one
 //! (`AreMatedEars` of `specs/AlternatingEars`), of which one serves or two do by the two-ear
 //! theorem. Where two do, a matching that leads out at two vertices alone is sought first: it makes

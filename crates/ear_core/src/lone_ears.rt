@@ -168,7 +168,8 @@ pub fn lone_matching(
     for k in 0..g.order() {
         let u = k + 1;
         if met.contains(u) {
-            if let Some(v) = lone_with(g, mark, stage, &tables, u).first() {
+            let row = lone_with(alloc, g, mark, stage, &tables, u)?;
+            if let Some(v) = row.first() {
                 let m = matching_at(alloc, g, mark, met, u, v)?;
                 return Ok(Some(m));
             }

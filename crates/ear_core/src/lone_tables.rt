@@ -5,13 +5,13 @@
 //! edge that joins them with a perfect matching of the rest, or an edge at each of them with a
 //! perfect matching of the rest without the other ends of these edges. So the partners on the
 //! stage and those in the rest tell it for every pair.
-ghost use Rattle.std.specs.Prelude.{◌≡◌, ◌≢◌, ◌+◌, ◌≤◌, ◌&&◌, ◌||◌, ◌==◌, ℕ, length, not, true, IfOk};
+ghost use Rattle.std.specs.Prelude.{◌≡◌, ◌≢◌, ◌↔◌, ◌+◌, ◌≤◌, ◌&&◌, ◌||◌, ◌==◌, ℕ, length, not, true, IfOk};
 ghost use Rattle.counting.specs.Common.{Within, mem, Set, complement, item};
-ghost use Rattle.graph_core.specs.Common.{size};
+ghost use Rattle.graph_core.specs.Common.{Graph, IsGraph, size};
 ghost use Rattle.match_search.specs.Common.{marks};
-ghost use Rattle.ear_core.specs.Common.{AreTables, IsAsked, IsPerfectBy, IsPerfectRows, KeepsMates, adjacent_by, in_rows, is_met, is_open, reached, row_edge};
+ghost use Rattle.ear_core.specs.Common.{AreTables, ArePartnersOn, IsAsked, IsPerfectBy, IsPerfectRows, KeepsMates, adjacent_by, in_rows, is_met, is_open, reached, row_edge};
 
-use crate::stage::Stage;
+use crate::stage::{Stage, row_of};
 use graph_core::{Ends, MultiGraph};
 use match_core::{Matching, PartnerTable, partners};
 use std::alloc::{AllocError as Memory, Global};
@@ -104,14 +104,6 @@ fn partners_among(table: &PartnerTable, n: u32, x: VSet) -> VSet
     found
 }
 
-// The row of a vertex.
-fn row_of(rows: &[VSet], u: u32) -> VSet
-    requires { Within (length rows.now) u }
-    ensures { result ≡ item rows.now u }
-{
-    rows[u as usize - 1]
-}
-
 // The neighbours of those of `x`.
 fn neighbours_of(near: &[VSet], n: u32, x: VSet) -> VSet
     requires long { length near.now ≡ n }
@@ -140,18 +132,45 @@ fn reached_from(g: &MultiGraph, tables: &Tables, u: u32) -> VSet
 }
 
 /// The vertices `v` such that a perfect matching leads out of the stage of the marked edges at `u`
-/// and `v` alone. Takes no memory.
-pub fn lone_with(g: &MultiGraph, mark: &[bool], stage: &Stage, tables: &Tables, u: u32) -> VSet
+/// and `v` alone.
+pub fn lone_with(
+    alloc: Global,
+    g: &MultiGraph,
+    mark: &[bool],
+    stage: &Stage,
+    tables: &Tables,
+    u: u32,
+) -> Result<VSet, Memory>
     requires stage { IsAsked g.now (marks mark.now) stage.now }
     requires tables { AreTables g.now (marks mark.now) tables.now }
     requires on { is_met g.now (marks mark.now) u ≡ true }
     requires vertex { Within g.now.order u }
-    ensures sound { (v : ℕ) → mem result v ≡ true → (u ≢ v) ×
+    ensures sound { IfOk result (λ row. (v : ℕ) → mem row v ≡ true → (u ≢ v) ×
         (is_met g.now (marks mark.now) v ≡ true) ×
-        ((m : Set) × IsPerfectBy g.now (is_open g.now (marks mark.now) u v) m) }
-    ensures complete { (v : ℕ) → u ≢ v → is_met g.now (marks mark.now) v ≡ true → (m : Set) →
-        IsPerfectBy g.now (is_open g.now (marks mark.now) u v) m → mem result v ≡ true }
+        ((m : Set) × IsPerfectBy g.now (is_open g.now (marks mark.now) u v) m)) }
+    ensures complete { IfOk result
+        (λ row. (v : ℕ) → u ≢ v → is_met g.now (marks mark.now) v ≡ true → (m : Set) →
+        IsPerfectBy g.now (is_open g.now (marks mark.now) u v) m → mem row v ≡ true) }
 {
     g.keeps_limits();
-    stage.partners(u).meet(reached_from(g, tables, u))
+    let row = partners_of(alloc, stage, u, reached_from(g, tables, u))?;
+    Ok(row)
+}
+
+// The partners of `u` in a set. They are searched for only where it has a vertex of the stage other
+// than `u`.
+fn partners_of(alloc: Global, stage: &Stage, u: u32, set: VSet) -> Result<VSet, Memory>
+    requires { Within stage.now.stage.order u }
+    ensures { IfOk result (λ row. (g : Graph) (f : Set) → IsGraph g → IsAsked g f stage.now →
+        (v : ℕ) → (mem row v ≡ true) ↔ (ArePartnersOn g f u v × (mem set v ≡ true))) }
+{
+    stage.asked().stage.keeps_limits();
+    let others = set.minus(stage.asked().outside.with(u));
+    match others.first() {
+        None => Ok(VSet::empty()),
+        Some(_) => {
+            let row = stage.partners(alloc, u)?;
+            Ok(row.meet(set))
+        }
+    }
 }

@@ -50,10 +50,21 @@ impl MatchedStage {
         Ok(MatchedStage { asked, mate })
     }
 
+    /// What the matching engine is asked about.
+    pub fn asked(&self) -> &Asked
+        ensures { result.now ≡ self.now }
+    {
+        &self.asked
+    }
+
     /// The partners of `u` on the stage, by one search.
     pub fn partners(&self, alloc: Global, u: u32) -> Result<VSet, Memory>
         requires { Within self.now.stage.order u }
-        ensures { IfOk result (λ row. (g : Graph) (f : Set) → IsGraph g → IsAsked g f self.now →
+        ensures within { IfOk result
+            (λ row. (v : ℕ) → mem row v ≡ true → Within self.now.stage.order v) }
+        ensures row { IfOk result (λ row. (v : ℕ) → Within self.now.stage.order v →
+            mem row v ≡ are_partners self.now.stage (mem self.now.outside) u v) }
+        ensures stage { IfOk result (λ row. (g : Graph) (f : Set) → IsGraph g → IsAsked g f self.now →
             (v : ℕ) → (mem row v ≡ true) ↔ ArePartnersOn g f u v) }
     {
         self.asked.stage.keeps_limits();

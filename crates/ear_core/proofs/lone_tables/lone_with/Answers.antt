@@ -1,19 +1,18 @@
-use Rattle.std.proofs.Common.{◌∙◌, ◌&&◌, ap, sym}
-use Rattle.counting.proofs.Common.{mem}
+use Rattle.std.proofs.Common.{◌∙◌, sym}
 use Rattle.match_search.specs.Common.{marks}
-use Rattle.ear_core.proofs.LoneTables.{row-sound, row-complete}
+use Rattle.ear_core.proofs.LoneTables.{lone-sound, lone-complete}
 use Rattle.ear_core.proofs.lone_tables.lone_with.Goals as goal
 
 pub returns-clause-sound : goal.returns-clause-sound
 returns-clause-sound c = λ v t.
     let g = c.args.g.now in
     let f = marks c.args.mark.now in
-    let is = c.meet.ensures v ∙ ap (λ b. mem c.partners.result v && b) (c.reached_from.ensures v) in
-    row-sound g c.keeps_limits.ensures.multigraph f c.args.tables.now c.requires.tables c.args.u c.requires.on (mem c.partners.result) (c.partners.ensures g f c.keeps_limits.ensures.multigraph.ends c.requires.stage) v (sym is ∙ t)
+    let p = (c.in_ok-row.ensures g f c.keeps_limits.ensures.multigraph.ends c.requires.stage v).0 t in
+    lone-sound g c.keeps_limits.ensures.multigraph f c.args.tables.now c.requires.tables c.args.u c.requires.on v p.0 (sym (c.reached_from.ensures v) ∙ p.1)
 
 pub returns-clause-complete : goal.returns-clause-complete
 returns-clause-complete c = λ v d on m by.
     let g = c.args.g.now in
     let f = marks c.args.mark.now in
-    let is = c.meet.ensures v ∙ ap (λ b. mem c.partners.result v && b) (c.reached_from.ensures v) in
-    is ∙ row-complete g c.keeps_limits.ensures.multigraph f c.args.tables.now c.requires.tables c.args.u c.requires.on (mem c.partners.result) (c.partners.ensures g f c.keeps_limits.ensures.multigraph.ends c.requires.stage) v d on m by
+    let p = lone-complete g c.keeps_limits.ensures.multigraph f c.args.tables.now c.requires.tables c.args.u c.requires.on v d on m by in
+    (c.in_ok-row.ensures g f c.keeps_limits.ensures.multigraph.ends c.requires.stage v).1 (p.0, c.reached_from.ensures v ∙ p.1)

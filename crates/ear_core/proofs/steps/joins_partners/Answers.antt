@@ -12,5 +12,5 @@ returns-in_ok-row-in-None c = λ yes f before stage step.
     let g = c.args.g.now in
     let is = c.keeps_limits.ensures.multigraph.ends in
     let last = c.last_of.result in
-    let p = (c.in_ok-row-in-None.ensures g before.stage is before.asks last).0 (sym c.contains.ensures ∙ yes) in
+    let p = (c.in_ok-row-in-None.ensures.stage g before.stage is before.asks last).0 (sym c.contains.ensures ∙ yes) in
     known-step g is f (ear_of c.args.step.now.first) c.args.step.now.second c.in-None.is last c.last_of.ensures.last stage step (before.partners c.args.step.now.first.«from» last p)

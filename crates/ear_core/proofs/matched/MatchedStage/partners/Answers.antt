@@ -5,8 +5,8 @@ use Rattle.ear_core.specs.Common.{IsAsked, is_met}
 use Rattle.ear_core.specs.declared.asking.Asked.{Asked}
 use Rattle.ear_core.proofs.matched.MatchedStage.partners.Goals as goal
 
-pub returns-then-contains : goal.returns-then-contains
-returns-then-contains c = λ g f is asks v.
+pub returns-then-contains-clause-stage : goal.returns-then-contains-clause-stage
+returns-then-contains-clause-stage c = λ g f is asks v.
     let u = c.args.u in
     let asked = c.self.inside.asked in
     let here = subst (IsAsked g f) (sym c.self.view_is) asks in
@@ -15,8 +15,8 @@ returns-then-contains c = λ g f is asks v.
       λ p. absurd (both_ways (not (is_met g f u)) (ap not p.1) (sym (here.outside u wu) ∙ sym c.contains.ensures ∙ c.if-contains.true)),
     )
 
-pub returns : goal.returns
-returns c = λ g f is asks v.
+pub returns-clause-stage : goal.returns-clause-stage
+returns-clause-stage c = λ g f is asks v.
     let u = c.args.u in
     let su = subst (λ (a : Asked). Within a.stage.order u) (sym c.self.view_is) c.requires in
     partners-on g is f c.self.inside.asked (subst (IsAsked g f) (sym c.self.view_is) asks) u su (mem c.in_ok-row.row) c.in_ok-row.ensures.within c.in_ok-row.ensures.row v
