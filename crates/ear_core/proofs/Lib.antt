@@ -31,6 +31,7 @@ pub mod LoneMatchings
 pub mod LoneLeads
 pub mod StagePartners
 pub mod StageClasses
+pub mod StageMates
 pub mod GoingOn
 pub mod MatchedStages
 pub mod LoneParts

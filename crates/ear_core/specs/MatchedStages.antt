@@ -1,7 +1,7 @@
 -- What is kept of a stage while a list of ears is checked.
 -- Stated by: ear_core.
-use Rattle.std.specs.Prelude.{◌≡◌, ◌+◌, ℕ, List, length}
-use Rattle.counting.specs.Common.{Set}
+use Rattle.std.specs.Prelude.{◌≡◌, ◌+◌, ℕ, List, length, true}
+use Rattle.counting.specs.Common.{Set, none}
 use Rattle.graph_core.specs.Common.{Graph}
 use Rattle.match_search.specs.Common.{HasMates, numbers}
 use Rattle.ear_core.specs.Asking.{IsAsked}
@@ -13,6 +13,10 @@ pub record NamesMatching (g : Graph) (r : Set) (mate : List ℕ) : Type 0 where
   pub long : length mate ≡ g.order + 1
   pub m : Set
   pub mates : HasMates g r m (numbers mate)
+
+-- the mates are those of a matching of g by edges of f
+abbrev pub NamesPart : Graph → Set → List ℕ → Type 0
+NamesPart g f mate = (x : Set) × HasMates g none x (numbers mate) × ((e : ℕ) → x e ≡ true → f e ≡ true)
 
 -- it is asked about a stage on which partners are partners on the stage f
 pub record IsAskedBefore (g : Graph) (f : Set) (asked : Asked) : Type 0 where

@@ -37,7 +37,9 @@ pub struct Asked {
 pub fn asked_about(alloc: Global, g: &MultiGraph, mark: &[bool], met: VSet) -> Result<Asked, Memory>
     requires long { length mark.now ≡ size g.now + 1 }
     requires met { (v : ℕ) → mem met v ≡ is_met g.now (marks mark.now) v }
-    ensures { IfOk result (IsAsked g.now (marks mark.now)) }
+    ensures asked { IfOk result (IsAsked g.now (marks mark.now)) }
+    ensures stage { IfOk result
+        (λ asked. asked.stage ≡ with_ends g.now (listed g.now (marks mark.now) (size g.now))) }
 {
     g.keeps_limits();
     let stage = marked_graph(alloc, g, mark)?;

@@ -119,7 +119,7 @@ fn go_on(
 {
     c.keeps_covered();
     let g = c.graph();
-    let stage = Stage::of(alloc, g, &built.mark, met)?;
+    let stage = Stage::of(alloc, g, &built.mark, met, kept)?;
     match built.first_between(alloc, g, &stage)? {
         Some(e) => built.add_between(alloc, g, &stage, e),
         None => {

@@ -1,13 +1,14 @@
 //! A stage with a matching of it, from which the partners of one vertex are one search away.
-ghost use Rattle.std.specs.Prelude.{◌≡◌, ◌+◌, ◌↔◌, ℕ, false, true, length, IfOk};
+ghost use Rattle.std.specs.Prelude.{◌≡◌, ◌≢◌, ◌+◌, ◌<◌, ◌≤◌, ◌↔◌, ℕ, false, true, length, All, IfOk};
 ghost use Rattle.counting.specs.Common.{Within, mem, Set};
 ghost use Rattle.graph_core.specs.Common.{Graph, IsGraph, size};
 ghost use Rattle.match_search.specs.Common.{marks};
-ghost use Rattle.match_core.specs.Common.{are_partners};
-ghost use Rattle.ear_core.specs.Common.{ArePartnersOn, IsAsked, NamesMatching, is_met};
+ghost use Rattle.match_core.specs.Common.{are_partners, edges_of};
+ghost use Rattle.ear_core.specs.Common.{ArePartnersOn, IsAsked, IsPerfectRows, NamesMatching, NamesPart, is_met};
 
 use crate::asking::{Asked, asked_about};
-use graph_core::MultiGraph;
+use graph_core::{MOST_EDGES, MultiGraph};
+use match_core::Matching;
 use match_search::{Best, find_best, instance_of, mates_of, missable_beside};
 use std::alloc::{AllocError as Memory, Global};
 use std::marker::Model;
@@ -50,6 +51,25 @@ impl MatchedStage {
         Ok(MatchedStage { asked, mate })
     }
 
+    /// The same with the mates by the edges of a matching of the graph that are on the stage. The
+    /// fewer vertices of the stage these miss, the sooner each search ends.
+    pub fn by(
+        alloc: Global,
+        g: &MultiGraph,
+        mark: &[bool],
+        met: VSet,
+        m: &Matching,
+    ) -> Result<MatchedStage, Memory>
+        requires long { length mark.now ≡ size g.now + 1 }
+        requires met { (v : ℕ) → mem met v ≡ is_met g.now (marks mark.now) v }
+        requires matching { IsPerfectRows g.now m.now }
+        ensures { IfOk result (IsAsked g.now (marks mark.now)) }
+    {
+        let asked = asked_about(alloc, g, mark, met)?;
+        let mate = mates_on(alloc, g, mark, m)?;
+        Ok(MatchedStage { asked, mate })
+    }
+
     /// What the matching engine is asked about.
     pub fn asked(&self) -> &Asked
         ensures { result.now ≡ self.now }
@@ -74,6 +94,48 @@ impl MatchedStage {
         let row = partners_from(alloc, &self.asked.stage, self.asked.outside, &self.mate, u)?;
         Ok(row)
     }
+}
+
+// The mates by the edges of a matching that are on the stage of the marked edges.
+fn mates_on(alloc: Global, g: &MultiGraph, mark: &[bool], m: &Matching) -> Result<Vec<u32>, Memory>
+    requires long { length mark.now ≡ size g.now + 1 }
+    requires matching { IsPerfectRows g.now m.now }
+    ensures long { IfOk result (λ mate. length mate.items ≡ g.now.order + 1) }
+    ensures mates { IfOk result
+        (λ mate. NamesPart g.now (marks mark.now) mate.items) }
+{
+    g.keeps_limits();
+    let both = marks_on(alloc, mark, m)?;
+    let n = g.order();
+    let ends = g.edges();
+    mates_of(alloc, n, ends, &both)
+}
+
+fn write_mark(row: &mut Vec<bool>, e: usize, on: bool)
+    requires { e < length row.old.items }
+    ensures long { length row.new.items ≡ length row.old.items }
+    ensures own { marks row.new.items e ≡ on }
+    ensures others { (i : ℕ) → i ≢ e → marks row.new.items i ≡ marks row.old.items i }
+{
+    row[e] = on;
+}
+
+// The marks of the edges of a matching that are marked.
+fn marks_on(alloc: Global, mark: &[bool], m: &Matching) -> Result<Vec<bool>, Memory>
+    requires few { length mark.now ≤ MOST_EDGES + 1 }
+    requires within { All (λ row. row.edge < length mark.now) m.now.rows }
+    ensures long { IfOk result (λ both. length both.items ≡ length mark.now) }
+    ensures marked { IfOk result
+        (λ both. (e : ℕ) → marks both.items e ≡ true → marks mark.now e ≡ true) }
+    ensures held { IfOk result
+        (λ both. (e : ℕ) → marks both.items e ≡ true → mem (edges_of m.now) e ≡ true) }
+{
+    let mut both = vec![in alloc; false; mark.len()]?;
+    for i in 0..m.len() {
+        let e = m.row(i).edge as usize;
+        write_mark(&mut both, e, mark[e]);
+    }
+    Ok(both)
 }
 
 // The partners of `u` in G - removed, from the mates of a matching of it.

@@ -3,11 +3,12 @@ ghost use Rattle.std.specs.Prelude.{◌≡◌, ◌≢◌, ◌+◌, ◌↔◌, �
 ghost use Rattle.counting.specs.Common.{Within, item, mem, Set};
 ghost use Rattle.graph_core.specs.Common.{Graph, IsGraph, size};
 ghost use Rattle.match_search.specs.Common.{marks};
-ghost use Rattle.ear_core.specs.Common.{ArePartnersOn, IsAsked, IsStage, is_met};
+ghost use Rattle.ear_core.specs.Common.{ArePartnersOn, IsAsked, IsPerfectRows, IsStage, is_met};
 
 use crate::asking::Asked;
 use crate::matched::MatchedStage;
 use graph_core::{Ends, MultiGraph};
+use match_core::Matching;
 use std::alloc::{AllocError as Memory, Global};
 use std::marker::Model;
 use vset_core::VSet;
@@ -36,15 +37,22 @@ impl Model for Stage {
 impl Stage {
     /// The stage of the marked edges, which meet the vertices `met`. Known at once are the partners
     /// of the first end of each edge off the stage that joins two vertices of it: one search for
-    /// each class of them.
-    pub fn of(alloc: Global, g: &MultiGraph, mark: &[bool], met: VSet) -> Result<Stage, Memory>
+    /// each class of them, from the edges of a perfect matching of the graph that are on the stage.
+    pub fn of(
+        alloc: Global,
+        g: &MultiGraph,
+        mark: &[bool],
+        met: VSet,
+        kept: &Matching,
+    ) -> Result<Stage, Memory>
         requires long { length mark.now ≡ size g.now + 1 }
         requires met { (v : ℕ) → mem met v ≡ is_met g.now (marks mark.now) v }
         requires stage { IsStage g.now (marks mark.now) }
+        requires kept { IsPerfectRows g.now kept.now }
         ensures { IfOk result (IsAsked g.now (marks mark.now)) }
     {
         g.keeps_limits();
-        let mut stage = Stage::unasked(alloc, g, mark, met)?;
+        let mut stage = Stage::unasked(alloc, g, mark, met, kept)?;
         for k in 0..g.size() {
             stage.know_first(alloc, mark[k as usize + 1], g.ends(k + 1))?;
         }
@@ -52,14 +60,21 @@ impl Stage {
     }
 
     // The same where no partners are known.
-    fn unasked(alloc: Global, g: &MultiGraph, mark: &[bool], met: VSet) -> Result<Stage, Memory>
+    fn unasked(
+        alloc: Global,
+        g: &MultiGraph,
+        mark: &[bool],
+        met: VSet,
+        kept: &Matching,
+    ) -> Result<Stage, Memory>
         requires long { length mark.now ≡ size g.now + 1 }
         requires met { (v : ℕ) → mem met v ≡ is_met g.now (marks mark.now) v }
         requires stage { IsStage g.now (marks mark.now) }
+        requires kept { IsPerfectRows g.now kept.now }
         ensures { IfOk result (IsAsked g.now (marks mark.now)) }
     {
         g.keeps_limits();
-        let matched = MatchedStage::of(alloc, g, mark, met)?;
+        let matched = MatchedStage::by(alloc, g, mark, met, kept)?;
         let rows = vec![in alloc; VSet::empty(); g.order() as usize]?;
         let known = VSet::empty();
         Ok(Stage {

@@ -2,8 +2,8 @@ use Rattle.match_search.specs.Common.{marks}
 use Rattle.ear_core.proofs.EngineGraphs.{asked-listed, outside-is}
 use Rattle.ear_core.proofs.asking.asked_about.Goals as goal
 
-pub returns : goal.returns
-returns c =
+pub returns-clause-asked : goal.returns-clause-asked
+returns-clause-asked c =
     let g = c.args.g.now in
     let f = marks c.args.mark.now in
     asked-listed g f (record { stage = c.in_ok-stage.stage; outside = c.minus-outside.result }) c.in_ok-stage.ensures
