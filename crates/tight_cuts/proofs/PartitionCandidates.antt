@@ -30,7 +30,3 @@ module _ (g : Graph) (is : IsGraph g) (covered : IsCovered g) where
   pub found-root : All (IsCandidateAt g (singles g.order)) (candidates_at g (singles g.order))
   found-root = subst (All (IsCandidateAt g (singles g.order))) (sym (root-candidates g))
       (singles-found g is (singles g.order) (singles-partition g.order) (length-singles g.order) (candidates g) (candidates_found g is covered))
-
-  pub none-root : (candidates_at g (singles g.order) ≡ []) ↔ ((x : Set) → IsTightAt g (singles g.order) x → IsNontrivial (length (singles g.order)) (blocks_in (singles g.order) x) → ⊥)
-  none-root = subst (λ (list : List Candidate). (list ≡ []) ↔ ((x : Set) → IsTightAt g (singles g.order) x → IsNontrivial (length (singles g.order)) (blocks_in (singles g.order) x) → ⊥)) (sym (root-candidates g))
-      (singles-none g is (singles g.order) (singles-partition g.order) (length-singles g.order) (candidates g) (candidates_none g is covered))

@@ -1,13 +1,13 @@
 //! The candidates at a place, and the first of them, from what the place knows of its quotient.
-ghost use Rattle.std.specs.Prelude.{◌≡◌, [], ◌↔◌, All, IfOk, None, Some, length};
+ghost use Rattle.std.specs.Prelude.{◌≡◌, [], ◌↔◌, All, IfOk, None, Some, length, map};
 ghost use Rattle.std.specs.Option.{option_map};
 ghost use Rattle.counting.specs.Common.{Set};
-ghost use Rattle.graph_core.specs.Common.{IsTightAt, blocks_in, IsNontrivial};
-ghost use Rattle.tight_cuts.specs.Common.{first_of, IsCandidateAt, candidates_at, candidate_of};
+ghost use Rattle.graph_core.specs.Common.{Graph, IsTightAt, blocks_in, IsNontrivial};
+ghost use Rattle.tight_cuts.specs.Common.{first_of, IsCandidateAt, candidates_at, lifted_candidate, candidate_of};
 
-use crate::at_partition::{lifted, lifted_first};
 use crate::candidate::{Candidate, CandidateList};
 use crate::finder::{first_candidate, listed};
+use contraction::Partition;
 use separation_kit::FirstPairs;
 use std::alloc::{AllocError as Memory, Global};
 use tree_core::KnownPlace;
@@ -68,5 +68,39 @@ fn first_listed_at(alloc: Global, place: &KnownPlace) -> Result<Option<Candidate
     match place.below() {
         Some(_) => Ok(lifted_first(place.place().partition(), found)),
         None => Ok(found),
+    }
+}
+
+// The candidates of the quotient at a partition, led back to the graph.
+fn lifted(alloc: Global, p: &Partition, found: &CandidateList) -> Result<CandidateList, Memory>
+    ensures { (g : Graph) → g.order ≡ p.now.order →
+        IfOk result (λ list. list ≡ map (lifted_candidate g p.now.blocks) found.now) }
+{
+    let mut list = CandidateList::new(alloc);
+    for candidate in found.as_slice() {
+        list.push(lifted_one(p, *candidate))?;
+    }
+    Ok(list)
+}
+
+// The first candidate of the quotient at a partition, led back to the graph.
+fn lifted_first(p: &Partition, found: Option<Candidate>) -> Option<Candidate>
+    ensures { (g : Graph) → g.order ≡ p.now.order → option_map candidate_of result
+        ≡ option_map (lifted_candidate g p.now.blocks) (option_map candidate_of found) }
+{
+    match found {
+        Some(candidate) => Some(lifted_one(p, candidate)),
+        None => None,
+    }
+}
+
+// One candidate of the quotient at a partition, with the shore as vertices of the graph.
+fn lifted_one(p: &Partition, candidate: Candidate) -> Candidate
+    ensures { (g : Graph) → g.order ≡ p.now.order →
+        candidate_of result ≡ lifted_candidate g p.now.blocks (candidate_of candidate) }
+{
+    Candidate {
+        shore: p.lift_set(candidate.shore),
+        ..candidate
     }
 }

@@ -23,12 +23,10 @@
 //! nothing (`QuietEdges`). One walk over the edges, `add_edge_cuts`, asks either search (the trait
 //! `EdgeSearch`).
 //!
-//! `candidates_at` lists the candidates at a partition of the vertices into blocks: those of the
-//! quotient, led back to vertices of the graph (`IsCandidateAt`); `first_at` answers the first.
-//! Both say whether the quotient is bipartite, so that a leaf is known for a brick or a brace.
-//! `root_candidates` and `first_of_root` answer the same at single vertices of a covered graph of
-//! which the first pairs are at hand. `candidates_at_place` and `first_at_place` take a place of
-//! `tree_core` that knows its quotient, the root as well as any other.
+//! `candidates_at_place` lists the candidates at a place of a derivation (`KnownPlace` of
+//! `tree_core`): at single vertices those of the graph itself, elsewhere those of the quotient,
+//! led back to vertices of the graph (`candidates_at` of `specs/CandidatesAt`, `IsCandidateAt`).
+//! `first_at_place` returns the first. Both read what the place knows of its quotient.
 //!
 //! Stands on `contraction`, `allowed_edges`, `barrier_kit`, `separation_kit`, `brick_kit`,
 //! `matching_digraph` and `flow_core`. Sources: Edmonds, Lovász and Pulleyblank 1982; Lovász,
@@ -36,7 +34,6 @@
 //! minimum cuts.
 #![tactic(auto)]
 
-mod at_partition;
 mod at_places;
 mod bipartite;
 mod candidate;
@@ -52,9 +49,6 @@ mod pieces;
 mod quiet_edges;
 mod tightness;
 
-pub use at_partition::{
-    AllAt, FirstAt, candidates_at, first_at, first_of_root, first_root_candidate, root_candidates,
-};
 pub use at_places::{candidates_at_place, first_at_place};
 pub use candidate::{Candidate, CandidateList, Origin};
 pub use finder::{candidates, find_any, first_candidate, first_cut};

@@ -1,6 +1,7 @@
 pub mod CutRules
 pub mod LeafRules
 pub mod PlacesInside
+pub mod KnownValues
 pub mod FirstRefusals
 pub mod ThreeAnswers
 pub mod CountedLeaves

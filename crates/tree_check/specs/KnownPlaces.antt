@@ -2,19 +2,17 @@
 -- Stated by: tree_check.
 use Rattle.std.specs.Prelude.{◌≡◌, All, List}
 use Rattle.graph_core.specs.Common.{Graph}
-use Rattle.contraction.specs.Contracted.{ContractedValue, contraction}
-use Rattle.tree_check.specs.Leaves.{IsLeafOfKind}
-use Rattle.tree_check.specs.declared.known_places.KnownLeaf.{KnownLeaf}
+use Rattle.tree_core.specs.Common.{IsLeafAt, PlaceValue, place_of}
 
--- a leaf, and its kind is right
-abbrev pub IsKnownLeaf : Graph → KnownLeaf → Type 0
-IsKnownLeaf g leaf = IsLeafOfKind g leaf.place.blocks leaf.kind
+-- a place of g
+abbrev pub IsPlaceOf : Graph → PlaceValue → Type 0
+IsPlaceOf g place = place ≡ place_of g place.blocks
 
--- a quotient of g
-abbrev pub IsKnownQuotient : Graph → ContractedValue → Type 0
-IsKnownQuotient g q = q ≡ contraction g q.blocks
+-- a place of g at which no nontrivial shore is tight
+abbrev pub IsLeafOf : Graph → PlaceValue → Type 0
+IsLeafOf g place = IsPlaceOf g place × IsLeafAt g place.blocks
 
 -- what is kept of g is right
-pub record AreKnown (g : Graph) (leaves : List KnownLeaf) (quotients : List ContractedValue) : Type 0 where
-  pub leaf : All (IsKnownLeaf g) leaves
-  pub quotient : All (IsKnownQuotient g) quotients
+pub record AreKnown (g : Graph) (leaves cuts : List PlaceValue) : Type 0 where
+  pub leaf : All (IsLeafOf g) leaves
+  pub cut : All (IsPlaceOf g) cuts

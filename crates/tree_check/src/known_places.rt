@@ -1,30 +1,22 @@
 //! What is known of the places in trees of cuts, so that nothing is sought twice.
 ghost use Rattle.std.specs.Prelude.{◌≡◌, IfSome, All};
 ghost use Rattle.graph_core.specs.Common.{Graph};
-ghost use Rattle.contraction.specs.Contracted.{contraction};
-ghost use Rattle.tree_check.specs.KnownPlaces.{IsKnownLeaf, IsKnownQuotient};
-ghost use Rattle.tree_check.specs.Leaves.{IsLeafOfKind};
+ghost use Rattle.tree_core.specs.Common.{IsLeafAt, place_of};
+ghost use Rattle.tree_check.specs.KnownPlaces.{IsLeafOf, IsPlaceOf};
 
-use contraction::{Contracted, Partition};
+use contraction::Partition;
 use graph_facts::Covered;
 use std::alloc::{AllocError as Memory, Global};
 use std::marker::Model;
-use tree_core::{LeafKind, Place};
-
-/// A leaf, with its kind.
-#[derive(Drop)]
-pub(crate) struct KnownLeaf<'g> {
-    place: Place<'g>,
-    kind: LeafKind,
-}
+use tree_core::KnownPlace;
 
 /// A covered graph with what the judgement of its trees has found: the leaves that are bricks or
-/// braces, and the quotients at cuts. Contracts see the graph.
+/// braces, and the places of cuts. Contracts see the graph.
 #[derive(Drop)]
 pub struct KnownPlaces<'c, 'g> {
     covered: &'c Covered<'g>,
-    leaves: Vec<KnownLeaf<'c>>,
-    quotients: Vec<Contracted>,
+    leaves: Vec<KnownPlace<'c>>,
+    cuts: Vec<KnownPlace<'c>>,
 }
 
 impl<'c, 'g> Model for KnownPlaces<'c, 'g> {
@@ -35,7 +27,7 @@ impl<'c, 'g> Model for KnownPlaces<'c, 'g> {
 
     ghost view = { λ k. k.covered.now };
 
-    ghost invariant = { λ k. AreKnown k.covered.now k.leaves.items k.quotients.items };
+    ghost invariant = { λ k. AreKnown k.covered.now k.leaves.items k.cuts.items };
 }
 
 impl<'c, 'g> KnownPlaces<'c, 'g> {
@@ -46,7 +38,7 @@ impl<'c, 'g> KnownPlaces<'c, 'g> {
         KnownPlaces {
             covered,
             leaves: Vec::new(alloc),
-            quotients: Vec::new(alloc),
+            cuts: Vec::new(alloc),
         }
     }
 
@@ -57,60 +49,50 @@ impl<'c, 'g> KnownPlaces<'c, 'g> {
         self.covered
     }
 
-    /// The kind of the leaf at the partition, if it is known.
-    pub(crate) fn kind_at(&self, p: &Partition) -> Option<LeafKind>
-        ensures { IfSome result (IsLeafOfKind self.now p.now.blocks) }
+    /// The leaf at the partition, if it is known.
+    pub(crate) fn leaf_at(&self, p: &Partition) -> Option<&KnownPlace<'c>>
+        ensures { IfSome result
+            (λ q. (q.now ≡ place_of self.now p.now.blocks) × IsLeafAt self.now p.now.blocks) }
     {
-        kind_among(&self.leaves, p)
+        place_among(&self.leaves, p)
     }
 
-    /// The quotient at the partition, if it is known.
-    pub(crate) fn quotient_at(&self, p: &Partition) -> Option<&Contracted>
-        ensures { IfSome result (λ q. q.now ≡ contraction self.now p.now.blocks) }
+    /// The place of the cut at the partition, if it is known.
+    pub(crate) fn cut_at(&self, p: &Partition) -> Option<&KnownPlace<'c>>
+        ensures { IfSome result (λ q. q.now ≡ place_of self.now p.now.blocks) }
     {
-        quotient_among(&self.quotients, p)
+        place_among(&self.cuts, p)
     }
 
-    /// The leaf at the place is known from now on.
-    pub(crate) fn add_leaf(&mut self, place: Place<'c>, kind: LeafKind) -> Result<(), Memory>
-        requires { IsLeafOfKind self.old place.blocks kind }
+    /// The leaf is known from now on.
+    pub(crate) fn add_leaf(&mut self, place: KnownPlace<'c>) -> Result<(), Memory>
+        requires { IsLeafOf self.old place }
         ensures { self.new ≡ self.old }
     {
-        self.leaves.push(KnownLeaf { place, kind })?;
+        self.leaves.push(place)?;
         Ok(())
     }
 
-    /// The quotient is known from now on.
-    pub(crate) fn add_quotient(&mut self, q: Contracted) -> Result<(), Memory>
-        requires { IsKnownQuotient self.old q }
+    /// The place of a cut is known from now on.
+    pub(crate) fn add_cut(&mut self, place: KnownPlace<'c>) -> Result<(), Memory>
+        requires { IsPlaceOf self.old place }
         ensures { self.new ≡ self.old }
     {
-        self.quotients.push(q)?;
+        self.cuts.push(place)?;
         Ok(())
     }
 }
 
-// The kind of the leaf at the partition, if it is among these.
-fn kind_among(leaves: &[KnownLeaf], p: &Partition) -> Option<LeafKind>
-    ensures { (g : Graph) → All (IsKnownLeaf g) leaves.now →
-        IfSome result (IsLeafOfKind g p.now.blocks) }
+// The place of the partition, if it is among these.
+fn place_among<'p, 'g>(places: &'p [KnownPlace<'g>], p: &Partition) -> Option<&'p KnownPlace<'g>>
+    ensures place { (g : Graph) → All (IsPlaceOf g) places.now →
+        IfSome result (λ q. q.now ≡ place_of g p.now.blocks) }
+    ensures leaf { (g : Graph) → All (IsLeafOf g) places.now →
+        IfSome result (λ q. (q.now ≡ place_of g p.now.blocks) × IsLeafAt g p.now.blocks) }
 {
-    for leaf in leaves {
-        if leaf.place.partition().has_blocks_of(p) {
-            return Some(leaf.kind);
-        }
-    }
-    None
-}
-
-// The quotient at the partition, if it is among these.
-fn quotient_among<'q>(quotients: &'q [Contracted], p: &Partition) -> Option<&'q Contracted>
-    ensures { (g : Graph) → All (IsKnownQuotient g) quotients.now →
-        IfSome result (λ q. q.now ≡ contraction g p.now.blocks) }
-{
-    for q in quotients {
-        if q.is_at(p) {
-            return Some(q);
+    for place in places {
+        if place.place().partition().has_blocks_of(p) {
+            return Some(place);
         }
     }
     None

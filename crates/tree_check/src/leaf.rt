@@ -1,36 +1,17 @@
-//! The judgement of a leaf. What is found at its quotient tells both whether there is a candidate,
+//! The judgement of a leaf. What is known of its place tells both whether there is a candidate,
 //! and if there is none, whether the leaf is a brick or a brace.
-ghost use Rattle.std.specs.Prelude.{◌≡◌, ◌↔◌, ℕ, List, None, IsTrue, IfOk};
-ghost use Rattle.std.specs.Option.{option_map};
-ghost use Rattle.graph_core.specs.Common.{Graph, IsBipartite, quotient, singles};
-ghost use Rattle.tight_cuts.specs.Common.{first_of, candidates_at, candidate_of};
+ghost use Rattle.std.specs.Prelude.{◌≡◌, ℕ, List, None, Some, IfOk};
+ghost use Rattle.graph_core.specs.Common.{Graph};
 ghost use Rattle.tree_core.specs.Common.{IsLeafAt, leaf};
-ghost use Rattle.tree_check.specs.Common.{IsLeafJudgement, IsLeafOfKind, IsScannedAt};
+ghost use Rattle.tree_check.specs.Common.{why_of, BreaksLeaf, IsLeafOfKind, IsScannedAt};
 
 use crate::judgement::{Scanned, Why};
 use crate::known_places::KnownPlaces;
 use std::alloc::{AllocError as Memory, Global};
-use tight_cuts::{Candidate, first_at, first_root_candidate};
-use tree_core::{LeafKind, Place, kind_by_side, tallied};
+use tight_cuts::first_at_place;
+use tree_core::{KnownPlace, LeafKind, Place, tallied};
 
-/// What the scan finds of the one leaf of a tree of a covered graph. The leaf is judged if it is
-/// not known, by what is known of the graph.
-pub(crate) fn scan_root_leaf(alloc: Global, known: &mut KnownPlaces) -> Result<Scanned, Memory>
-    ensures scanned { IfOk result
-        (IsScannedAt known.old (singles known.old.order) leaf 1) }
-    ensures same { known.new ≡ known.old }
-{
-    let c = known.covered();
-    c.keeps_covered();
-    let root = Place::root(alloc, c)?;
-    if let Some(kind) = known.kind_at(root.partition()) {
-        return Ok(passed(kind));
-    }
-    let found = first_root_candidate(alloc, c)?;
-    scanned_leaf(known, root, judged(found, c.is_bipartite()), 1)
-}
-
-/// What the scan finds at a leaf. It is judged if it is not known.
+/// What the scan finds at a leaf. It is judged if it is not known, and then known from now on.
 pub(crate) fn scan_leaf<'c, 'g>(
     alloc: Global,
     known: &mut KnownPlaces<'c, 'g>,
@@ -41,47 +22,34 @@ pub(crate) fn scan_leaf<'c, 'g>(
     ensures scanned { IfOk result (IsScannedAt p.entry.graph p.entry.blocks leaf node) }
     ensures same { known.new ≡ known.old }
 {
-    if let Some(kind) = known.kind_at(p.partition()) {
-        return Ok(passed(kind));
+    if let Some(found) = known.leaf_at(p.partition()) {
+        return Ok(passed(found.kind()));
     }
-    let found = first_at(alloc, p.graph(), p.partition())?;
-    scanned_leaf(known, p, judged(found.candidate, found.is_bipartite), node)
-}
-
-// What the scan finds at a leaf that was judged, which is known from now on.
-fn scanned_leaf<'c, 'g>(
-    known: &mut KnownPlaces<'c, 'g>,
-    p: Place<'c>,
-    judged: Result<LeafKind, Why>,
-    node: u32,
-) -> Result<Scanned, Memory>
-    requires graph { p.graph ≡ known.old }
-    requires judged { IsLeafJudgement p.graph p.blocks judged }
-    ensures scanned { IfOk result (IsScannedAt p.entry.graph p.entry.blocks leaf node) }
-    ensures same { known.new ≡ known.old }
-{
-    match judged {
-        Err(why) => Ok(Scanned::Refused { node, why }),
-        Ok(kind) => {
-            known.add_leaf(p, kind)?;
+    let place = KnownPlace::of(alloc, p)?;
+    let fault = leaf_fault(alloc, &place)?;
+    match fault {
+        Some(why) => Ok(Scanned::Refused { node, why }),
+        None => {
+            let kind = place.kind();
+            known.add_leaf(place)?;
             Ok(passed(kind))
         }
     }
 }
 
-// The judgement of a leaf, from the first candidate there and from whether the quotient is
-// bipartite.
-fn judged(found: Option<Candidate>, bipartite: bool) -> Result<LeafKind, Why>
-    ensures { (g : Graph) (p : List (List ℕ)) →
-        option_map candidate_of found ≡ first_of (candidates_at g p) →
-        (found ≡ None → IsLeafAt g p) → (IsTrue bipartite ↔ IsBipartite (quotient g p)) →
-        IsLeafJudgement g p result }
+// The rule that a leaf breaks at the place; `None` if and only if no nontrivial shore is tight
+// there.
+fn leaf_fault(alloc: Global, place: &KnownPlace) -> Result<Option<Why>, Memory>
+    ensures some { IfOk result (λ o. (why : _) → o ≡ Some why →
+        BreaksLeaf place.now.graph place.now.blocks (why_of why)) }
+    ensures none { IfOk result (λ o. o ≡ None → IsLeafAt place.now.graph place.now.blocks) }
 {
+    let found = first_at_place(alloc, place)?;
     match found {
-        Some(candidate) => Err(Why::NotLeaf {
+        Some(candidate) => Ok(Some(Why::NotLeaf {
             cut: candidate.shore,
-        }),
-        None => Ok(kind_by_side(bipartite)),
+        })),
+        None => Ok(None),
     }
 }
 

@@ -1,26 +1,27 @@
 //! The rules that a cut of a derivation keeps.
 ghost use Rattle.std.specs.Prelude.{◌≡◌, ◌-◌, ℕ, true, All, length, IfOk, None, Some};
-ghost use Rattle.contraction.specs.Contracted.{contraction};
 ghost use Rattle.counting.specs.Common.{Within, is_odd, mem, rising_list};
-ghost use Rattle.graph_core.specs.Common.{IsTightAt, IsUnion, block_count, blocks_in};
+ghost use Rattle.graph_core.specs.Common.{IsTightAt, IsUnion, block_count, blocks_in, lifted, quotient};
+ghost use Rattle.match_core.specs.Common.{IsOf, edges_of};
 ghost use Rattle.tree_core.specs.Common.{IsCutAt};
 ghost use Rattle.tree_check.specs.Common.{why_of, BreaksCut, CrossesAt};
 
 use crate::judgement::Why;
 use crate::known_places::KnownPlaces;
-use contraction::{Contracted, Partition, lift, quotient};
+use contraction::{Partition, lift, quotient};
 use graph_core::Numbers;
+use match_core::Matching;
 use std::alloc::{AllocError as Memory, Global};
 use tight_cuts::{Tightness, is_tight};
-use tree_core::Place;
+use tree_core::{KnownPlace, Place};
 use vset_core::VSet;
 
 /// The first rule that the cut of `shore` breaks at `p`; `None` if and only if `shore` is a
 /// canonical nontrivial shore that is tight at `p`.
-pub(crate) fn cut_fault(
+pub(crate) fn cut_fault<'c, 'g>(
     alloc: Global,
-    known: &mut KnownPlaces,
-    p: &Place,
+    known: &mut KnownPlaces<'c, 'g>,
+    p: &Place<'c>,
     shore: VSet,
 ) -> Result<Option<Why>, Memory>
     requires graph { p.now.graph ≡ known.old }
@@ -50,12 +51,12 @@ pub(crate) fn cut_fault(
 }
 
 // A perfect matching at p with at least two edges in the cut of the shore, a union of an odd
-// number of blocks; none if and only if the shore is tight at p. The quotient at p is made if it is
-// not known.
-fn crossing_at(
+// number of blocks; none if and only if the shore is tight at p. The place is made known if it is
+// not.
+fn crossing_at<'c, 'g>(
     alloc: Global,
-    known: &mut KnownPlaces,
-    p: &Place,
+    known: &mut KnownPlaces<'c, 'g>,
+    p: &Place<'c>,
     shore: VSet,
 ) -> Result<Option<Numbers>, Memory>
     requires graph { p.now.graph ≡ known.old }
@@ -66,34 +67,47 @@ fn crossing_at(
     ensures none { IfOk result (λ o. o ≡ None → IsTightAt p.now.graph p.now.blocks (mem shore)) }
     ensures same { known.new ≡ known.old }
 {
-    if let Some(q) = known.quotient_at(p.partition()) {
-        return crossing_by(alloc, p, q, shore);
+    if let Some(place) = known.cut_at(p.partition()) {
+        return crossing_by(alloc, place, shore);
     }
-    let q = quotient(alloc, p.graph(), p.partition())?;
-    let found = crossing_by(alloc, p, &q, shore)?;
-    known.add_quotient(q)?;
+    let copy = p.copy(alloc)?;
+    let place = KnownPlace::of(alloc, copy)?;
+    let found = crossing_by(alloc, &place, shore)?;
+    known.add_cut(place)?;
     Ok(found)
 }
 
-// The same, from the quotient at p.
-fn crossing_by(
-    alloc: Global,
-    p: &Place,
-    q: &Contracted,
-    shore: VSet,
-) -> Result<Option<Numbers>, Memory>
-    requires contracted { q.now ≡ contraction p.now.graph p.now.blocks }
-    requires union { IsUnion p.now.graph.order p.now.blocks (mem shore) }
-    requires odd { is_odd (block_count p.now.blocks (mem shore)) ≡ true }
-    ensures some { IfOk result
-        (λ o. (m : _) → o ≡ Some m → CrossesAt p.now.graph p.now.blocks (mem shore) m) }
-    ensures none { IfOk result (λ o. o ≡ None → IsTightAt p.now.graph p.now.blocks (mem shore)) }
+// The same, from what is known of the place.
+fn crossing_by(alloc: Global, place: &KnownPlace, shore: VSet) -> Result<Option<Numbers>, Memory>
+    requires union { IsUnion place.now.graph.order place.now.blocks (mem shore) }
+    requires odd { is_odd (block_count place.now.blocks (mem shore)) ≡ true }
+    ensures some { IfOk result (λ o. (m : _) → o ≡ Some m →
+        CrossesAt place.now.graph place.now.blocks (mem shore) m) }
+    ensures none { IfOk result
+        (λ o. o ≡ None → IsTightAt place.now.graph place.now.blocks (mem shore)) }
 {
-    p.keeps_place();
-    match is_tight(alloc, q.graph(), places_in(p.partition(), shore))? {
+    place.keeps_place();
+    let q = place.quotient(alloc)?;
+    let places = places_in(place.place().partition(), shore);
+    match is_tight(alloc, q.graph(), places)? {
         Tightness::Tight => Ok(None),
-        Tightness::Crossed { matching } => Ok(Some(lift(alloc, q, &matching)?)),
+        Tightness::Crossed { matching } => {
+            let edges = edges_at(alloc, place.place(), &matching)?;
+            Ok(Some(edges))
+        }
     }
+}
+
+// The edges of the graph that lift a matching of the quotient at p. Remembered edges are made for
+// them alone.
+fn edges_at(alloc: Global, p: &Place, matching: &Matching) -> Result<Numbers, Memory>
+    requires { IsOf (quotient p.now.graph p.now.blocks) matching.now }
+    ensures { IfOk result (λ edges.
+        edges ≡ lifted p.now.graph p.now.blocks (mem (edges_of matching.now))) }
+{
+    let q = quotient(alloc, p.graph(), p.partition())?;
+    let edges = lift(alloc, &q, matching)?;
+    Ok(edges)
 }
 
 // The places of the blocks that are in the shore.

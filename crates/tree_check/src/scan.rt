@@ -1,12 +1,11 @@
 //! The scan of a tree in preorder.
 ghost use Rattle.std.specs.Prelude.{◌≡◌, ◌≤◌, ◌<◌, ◌+◌, ◌^◌, length, IfOk};
-ghost use Rattle.graph_core.specs.Common.{singles};
 ghost use Rattle.tree_core.specs.Common.{Fits, cut, shape_of};
 ghost use Rattle.tree_check.specs.Common.{IsJudgement, HasFewKinds, IsScanned, IsScannedAt, sum_of};
 
 use crate::judgement::{Judgement, Scanned};
 use crate::known_places::KnownPlaces;
-use crate::leaf::{scan_leaf, scan_root_leaf};
+use crate::leaf::scan_leaf;
 use crate::rules::cut_fault;
 use graph_core::MultiGraph;
 use graph_facts::Covered;
@@ -59,31 +58,9 @@ pub fn scan_known(alloc: Global, known: &mut KnownPlaces, tree: &Tree) -> Result
 {
     let c = known.covered();
     c.keeps_covered();
-    let found = scan_from_root(alloc, known, tree)?;
+    let root = Place::root(alloc, c)?;
+    let found = scan_at(alloc, known, root, tree, 1)?;
     Ok(found)
-}
-
-// What the scan finds at the root. A tree that is one leaf is judged by what is known of the
-// graph.
-fn scan_from_root(alloc: Global, known: &mut KnownPlaces, tree: &Tree) -> Result<Scanned, Memory>
-    requires { Fits known.old.order (shape_of tree.now) }
-    ensures scanned { IfOk result
-        (IsScannedAt known.old (singles known.old.order) (shape_of tree.now) 1) }
-    ensures same { known.new ≡ known.old }
-{
-    match tree {
-        Tree::Leaf => scan_root_leaf(alloc, known),
-        Tree::Cut {
-            shore,
-            kept,
-            merged,
-        } => {
-            let c = known.covered();
-            c.keeps_covered();
-            let root = Place::root(alloc, c)?;
-            scan_cut(alloc, known, &root, *shore, kept, merged, 1)
-        }
-    }
 }
 
 // Scans the cut of the shore at p and the two trees below it. The cut has the number `node`.

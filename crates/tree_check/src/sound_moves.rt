@@ -34,10 +34,10 @@ pub(crate) fn is_sound(alloc: Global, c: &Covered, made: &Tree, item: &Move) -> 
 
 // Whether the tree that the Switch at the end of the path made of a derivation at p is one by
 // the laws of moves.
-fn is_sound_switch(
+fn is_sound_switch<'c, 'g>(
     alloc: Global,
-    known: &mut KnownPlaces,
-    p: &Place,
+    known: &mut KnownPlaces<'c, 'g>,
+    p: &Place<'c>,
     made: &Tree,
     path: &[Side],
     u: VSet,
@@ -72,10 +72,10 @@ fn is_sound_switch(
 }
 
 // Whether u and v are blocks at p, and the shore is a canonical nontrivial one that is tight there.
-fn exchanges_blocks(
+fn exchanges_blocks<'c, 'g>(
     alloc: Global,
-    known: &mut KnownPlaces,
-    p: &Place,
+    known: &mut KnownPlaces<'c, 'g>,
+    p: &Place<'c>,
     shore: VSet,
     u: VSet,
     v: VSet,

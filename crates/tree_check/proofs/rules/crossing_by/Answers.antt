@@ -1,31 +1,54 @@
-use Rattle.std.proofs.Common.{ℕ, List, [], length, Option, unwrap_or, sym, ap, ◌∙◌, subst, arith}
-use Rattle.counting.proofs.Common.{mem, rising_list}
-use Rattle.graph_core.proofs.Common.{Graph, quotient, blocks_in}
+use Rattle.std.proofs.Common.{ℕ, List, [], length, Option, unwrap_or, sym, ap, ◌∙◌, subst}
+use Rattle.counting.proofs.Common.{is_odd, mem, rising_list, IsRisingIn}
+use Rattle.graph_core.proofs.Common.{Graph, IsTight, blocks_in, lifted, quotient}
+use Rattle.match_core.specs.Common.{edges_of}
 use Rattle.tight_cuts.specs.Common.{CrossesTwice, IsTightness}
+use Rattle.tree_core.proofs.Common.{PlaceValue}
 use Rattle.tree_check.proofs.CutRules.{crossing-shown, places-odd, places-rise, tight-shown}
 use Rattle.tree_check.proofs.rules.crossing_by.Goals as goal
 
 pub is_tight-requires-clause-shore : goal.is_tight-requires-clause-shore
 is_tight-requires-clause-shore c =
-    let g = c.args.p.now.graph in
-    let p = c.args.p.now.blocks in
+    let g = c.args.place.now.graph in
+    let p = c.args.place.now.blocks in
     let x = mem c.args.shore in
-    let places = c.places_in.ensures ∙ ap (λ (bs : List (List ℕ)). rising_list (length bs) (blocks_in bs x)) c.partition.ensures.blocks in
-    grind (arith, places-rise g p x c.keeps_place.ensures.limits.multigraph.ends c.keeps_place.ensures.partition.partition)
+    let blocks = c.partition.ensures.blocks ∙ ap (λ (q : PlaceValue). q.blocks) c.place.ensures in
+    let places = c.places_in-places.ensures ∙ ap (λ (bs : List (List ℕ)). rising_list (length bs) (blocks_in bs x)) blocks in
+    subst (λ (s : List ℕ). IsRisingIn c.graph.result.now.order s) (sym places)
+    (subst (λ (h : Graph). IsRisingIn h.order (rising_list (length p) (blocks_in p x))) (sym (c.graph.ensures ∙ c.in_ok-q.ensures))
+    (places-rise g p x c.keeps_place.ensures.limits.multigraph.ends c.keeps_place.ensures.partition.partition))
 
 pub is_tight-requires-clause-odd : goal.is_tight-requires-clause-odd
-is_tight-requires-clause-odd c = grind (arith, places-odd c.args.p.now.graph c.args.p.now.blocks)
+is_tight-requires-clause-odd c =
+    let x = mem c.args.shore in
+    let blocks = c.partition.ensures.blocks ∙ ap (λ (q : PlaceValue). q.blocks) c.place.ensures in
+    let places = c.places_in-places.ensures ∙ ap (λ (bs : List (List ℕ)). rising_list (length bs) (blocks_in bs x)) blocks in
+    ap (λ (s : List ℕ). is_odd (length s)) places
+    ∙ places-odd c.args.place.now.graph c.args.place.now.blocks x c.keeps_place.ensures.limits.multigraph.ends c.keeps_place.ensures.partition.partition c.requires.odd
 
 pub returns-in-Tight-clause-none : goal.returns-in-Tight-clause-none
-returns-in-Tight-clause-none c none = grind (arith, tight-shown c.args.p.now.graph c.args.p.now.blocks)
-
-pub returns-in_ok-lift-in-Crossed-clause-some : goal.returns-in_ok-lift-in-Crossed-clause-some
-returns-in_ok-lift-in-Crossed-clause-some c m is =
+returns-in-Tight-clause-none c none =
+    let g = c.args.place.now.graph in
+    let p = c.args.place.now.blocks in
     let x = mem c.args.shore in
-    let places = c.places_in.ensures ∙ ap (λ (bs : List (List ℕ)). rising_list (length bs) (blocks_in bs x)) c.partition.ensures.blocks in
-    crossing-shown c.args.p.now.graph c.args.p.now.blocks x c.keeps_place.ensures.limits.multigraph.ends c.keeps_place.ensures.partition.partition c.requires.union
+    let blocks = c.partition.ensures.blocks ∙ ap (λ (q : PlaceValue). q.blocks) c.place.ensures in
+    let places = c.places_in-places.ensures ∙ ap (λ (bs : List (List ℕ)). rising_list (length bs) (blocks_in bs x)) blocks in
+    tight-shown g p x c.keeps_place.ensures.limits.multigraph.ends c.keeps_place.ensures.partition.partition c.requires.union
+    (subst (λ (s : List ℕ). IsTight (quotient g p) (mem s)) places
+    (subst (λ (h : Graph). IsTight h (mem c.places_in-places.result)) (c.graph.ensures ∙ c.in_ok-q.ensures)
+    (subst (IsTightness c.graph.result.now (mem c.places_in-places.result)) c.in-Tight.is c.in_ok-is_tight.ensures)))
+
+pub returns-clause-some : goal.returns-clause-some
+returns-clause-some c m is =
+    let g = c.args.place.now.graph in
+    let p = c.args.place.now.blocks in
+    let x = mem c.args.shore in
+    let blocks = c.partition.ensures.blocks ∙ ap (λ (q : PlaceValue). q.blocks) c.place.ensures in
+    let places = c.places_in-places.ensures ∙ ap (λ (bs : List (List ℕ)). rising_list (length bs) (blocks_in bs x)) blocks in
+    crossing-shown g p x c.keeps_place.ensures.limits.multigraph.ends c.keeps_place.ensures.partition.partition c.requires.union
     c.in-Crossed.matching m
-    (subst (λ (s : List ℕ). CrossesTwice (quotient c.args.p.now.graph c.args.p.now.blocks) (mem s) c.in-Crossed.matching) places
-    (subst (λ (h : Graph). CrossesTwice h (mem c.places_in.result) c.in-Crossed.matching) (c.graph.ensures ∙ ap (λ q. q.graph) c.requires.contracted)
-    (subst (IsTightness c.graph.result.now (mem c.places_in.result)) c.in-Crossed.is c.in_ok-is_tight.ensures).1))
-    (sym (ap (λ (o : Option (List ℕ)). unwrap_or o []) is) ∙ c.in_ok-lift-in-Crossed.ensures.edges c.args.p.now.graph c.args.p.now.blocks c.requires.contracted)
+    (subst (λ (s : List ℕ). CrossesTwice (quotient g p) (mem s) c.in-Crossed.matching) places
+    (subst (λ (h : Graph). CrossesTwice h (mem c.places_in-places.result) c.in-Crossed.matching) (c.graph.ensures ∙ c.in_ok-q.ensures)
+    (subst (IsTightness c.graph.result.now (mem c.places_in-places.result)) c.in-Crossed.is c.in_ok-is_tight.ensures).1))
+    (sym (ap (λ (o : Option (List ℕ)). unwrap_or o []) is) ∙ c.in_ok-edges-in-Crossed.ensures
+    ∙ ap (λ (q : PlaceValue). lifted q.graph q.blocks (mem (edges_of c.in-Crossed.matching))) c.place-in-Crossed.ensures)
