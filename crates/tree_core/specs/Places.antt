@@ -1,6 +1,6 @@
 -- Places in a derivation as contracts see them: a graph and the blocks of a partition of its
 -- vertices.
--- Stated by: tree_core. Rests on it: tight_cuts, decomposer, tree_check, uncross.
+-- Stated by: tree_core, decomposer, tree_check. Rests on it: tight_cuts, uncross.
 use Rattle.std.specs.Prelude.{◌≡◌, ◌≢◌, ◌==◌, ℕ, List, length, Option, Some, None, if◌then◌else◌}
 use Rattle.graph_core.specs.Common.{Graph, quotient}
 
