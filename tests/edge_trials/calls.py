@@ -153,6 +153,8 @@ def wanted(trial, room, calls, i, how, plain):
 def try_trial(trial, room, library):
     """Tries each call of the run in turn, and returns how many there are."""
     how = {"LD_PRELOAD": library}
+    # a run without a call writes none of these files
+    write(f"{room}/calls", b"")
     plain = trial.run(**how, CALLS=f"{room}/calls")
     note(plain[0] == trial.status and (is_front(trial.program) or not plain[2]), trial.name, f"{plain}")
     calls = calls_of(trial, f"{room}/calls")
@@ -167,6 +169,7 @@ def try_trial(trial, room, library):
         errors = {"open": (errno.EIO,), "read": (errno.EIO, errno.EAGAIN), "write": (errno.ENOSPC, errno.EPIPE, errno.EAGAIN)}[call.kind]
         for way in [*errors, *([] if call.kind == "open" else ["zero"])]:
             step = {"HOW": way, "ERRNO": "0"} if way == "zero" else {"HOW": "fail", "ERRNO": str(way)}
+            write(f"{room}/failed", b"")
             ran = trial.run(**how, **step, AT=str(i), CALLS=f"{room}/failed")
             due = wanted(trial, room, calls, i, way, plain)
             note(ran == due, f"{name}: {errno.errorcode.get(way, way)}", f"{ran}, and not {due}")
