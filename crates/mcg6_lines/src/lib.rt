@@ -2,10 +2,11 @@
 //!
 //! A line holds a graph6 text. `tell` answers, for a `Query`, the bytes that are written for it,
 //! or the kind of its first fault. What the bytes say is a relation on the graph alone
-//! (`IsTold`): the line of its kind with the numbers of bricks and braces (`IsKindLine`), the
-//! lines of its leaves as graphs (`AreLeafLines`), the canonical text of its graph file, or the
-//! line itself if the graph has a property and nothing if it has not (`IsSelected`). A line
-//! is bad exactly when it stands for no graph (`HasFault`).
+//! (`IsTold`): the line of its kind with the numbers of bricks and braces, or of the first reason
+//! why it is not covered with its deficiency (`IsKindLine`), the lines of its leaves as graphs,
+//! each with the graph itself (`AreLeafLines`), the canonical text of its graph file, or the line
+//! itself if the graph has a property and nothing if it has not (`IsSelected`). A line is bad
+//! exactly when it stands for no graph (`HasFault`).
 //!
 //! Stands on `graph6_text` for the lines, on `graph_facts`, `separation_kit` and `leaf_kinds` for
 //! what a graph is, on `decomposer`, `tree_core` and `contraction` for its leaves, and on
