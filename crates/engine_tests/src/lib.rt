@@ -21,8 +21,9 @@
 //! `worked`: each call of `barrier_kit`, `separation_kit` and `quick_kinds` on graphs of the
 //! literature.
 //!
-//! `grown`: the ear lists that are built of generated graphs are accepted, and the table of pairs
-//! of a large graph ends.
+//! `grown`: `quick_brick` and `find_any` find the same cut, or none both, of generated graphs and
+//! of the quotients at their leaves; the ear lists that are built of such graphs are accepted; and
+//! the table of pairs of a large one is right.
 //!
 //! `enumerated`: `quick_brace` and `quick_brick` find no nontrivial tight cut if and only if going
 //! through all perfect matchings and all odd sets finds none, on all matching covered simple graphs

@@ -1,6 +1,6 @@
 //! Small trees: their sizes, their copies and their leaves, and what a move makes of them.
 ghost use Rattle.std.specs.Prelude.{◌≡◌, IfOk};
-ghost use Rattle.tree_core.specs.Common.{leaf, cut, shape_of};
+ghost use Rattle.tree_core.specs.Common.{leaf, cut, node_count, shape_of};
 
 use crate::built_trees::{Shores, cut_into, is_tree, same_tree, tree_of};
 use crate::made::set_of;
@@ -51,6 +51,28 @@ fn leaves_of_the_hexagon_cut_once(rt: HostRuntime) -> Result<(), Fail> {
     Ok(())
 }
 
+// A tree of four cuts whose deepest path turns to `merged` after the first cut, and the same with
+// the two trees below the root exchanged.
+fn four_cuts(alloc: Global, is_turned: bool) -> Result<Tree, Memory>
+    ensures { IfOk result (λ tree. node_count (shape_of tree) ≡ 9) }
+{
+    let below = one_cut(alloc, set_of(&[5, 6, 7]))?;
+    let deep = cut_into(alloc, VSet::full(3), Tree::Leaf, below)?;
+    let flat = one_cut(alloc, set_of(&[2, 3, 4]))?;
+    if is_turned {
+        return cut_into(alloc, set_of(&[3, 4, 5]), flat, deep);
+    }
+    cut_into(alloc, set_of(&[3, 4, 5]), deep, flat)
+}
+
+// Whether a copy of the tree has the sizes of the tree, and fits 8 vertices and no fewer.
+fn is_sized(alloc: Global, is_turned: bool) -> Result<bool, Memory> {
+    let tree = four_cuts(alloc, is_turned)?;
+    let other = copy(alloc, &tree)?;
+    let is_least = fits(&other, 8) && fits(&other, 9) && !fits(&other, 7);
+    Ok(nodes(&tree) == 9 && depth(&tree) == 4 && nodes(&other) == 9 && is_least)
+}
+
 #[test]
 fn sizes_and_copies(rt: HostRuntime) -> Result<(), Fail> {
     let leaf = Tree::Leaf;
@@ -60,6 +82,7 @@ fn sizes_and_copies(rt: HostRuntime) -> Result<(), Fail> {
     let other = copy(rt.alloc(), &tree)?;
     assert!(rt; fits(&other, 4) && !fits(&other, 3));
     assert!(rt; nodes(&other) == 3 && depth(&other) == 2);
+    assert!(rt; is_sized(rt.alloc(), false)? && is_sized(rt.alloc(), true)?);
     Ok(())
 }
 

@@ -1,6 +1,6 @@
 //! Worked trees and ear lists, given and built, and their refusals.
 use crate::graphs::{
-    CUBE, CUBE_EARS, HEXAGON, K4, PATH, PETERSEN, PRISM, TRIANGLE_IN_K33, TWO_EDGES,
+    CUBE, CUBE_EARS, HEXAGON, K4, OCTAGON, PATH, PETERSEN, PRISM, TRIANGLE_IN_K33, TWO_EDGES,
 };
 use crate::trial::{RunRow, answers, first_wrong, report};
 use bench_top::Status;
@@ -44,6 +44,38 @@ static REFUSED_TREES: [RunRow; 7] = [
 fn trees_that_are_refused(rt: HostRuntime) -> Result<(), Fail> {
     assert_eq!(rt;
         first_wrong(rt.alloc(), &CHECK, Status::Negative, &REFUSED_TREES)?,
+        None
+    );
+    Ok(())
+}
+
+// Derivations that were written by hand.
+static ACCEPTED_TREES: [RunRow; 4] = [
+    (
+        &[TRIANGLE_IN_K33, "t mcg 8\ncut 1 2 3\nleaf\nleaf\n"],
+        "accepted leaves 2 bricks 1 braces 1\n",
+    ),
+    (
+        &[HEXAGON, "c a cut\nt mcg 6\n\ncut  2 3 04\r\nleaf\nleaf"],
+        "accepted leaves 2 bricks 0 braces 2\n",
+    ),
+    (
+        &[
+            OCTAGON,
+            "t mcg 8\ncut 1 2 3 4 5\ncut 1 2 3\nleaf\nleaf\nleaf\n",
+        ],
+        "accepted leaves 3 bricks 0 braces 3\n",
+    ),
+    (
+        &[PETERSEN, "t mcg 10\nleaf\n"],
+        "accepted leaves 1 bricks 1 braces 0\n",
+    ),
+];
+
+#[test]
+fn trees_that_are_accepted(rt: HostRuntime) -> Result<(), Fail> {
+    assert_eq!(rt;
+        first_wrong(rt.alloc(), &CHECK, Status::Done, &ACCEPTED_TREES)?,
         None
     );
     Ok(())

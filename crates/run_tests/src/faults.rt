@@ -1,5 +1,6 @@
 //! Faults of the outside, over all commands: each read and each write fails in turn, each file is
-//! missing in turn, the room is too small, and nothing fails.
+//! missing in turn, the room is too small, and nothing fails. A read beyond those of the files
+//! would fail too, and none comes.
 use crate::graphs::{
     CUBE, CUBE_EARS, HEXAGON, HEXAGON_TREE, K4, NAMED_CYCLE, OTHER_HEXAGON_TREE, PATH, PRISM,
     TRIANGLE_IN_K33, TWO_EDGES,
@@ -141,6 +142,21 @@ fn needs_each_file(alloc: Global, words: &[&str], files: &[&str]) -> Result<bool
     Ok(true)
 }
 
+// Whether the run is as ever where the read call after those of the files would fail: of a command
+// without files, the first.
+fn reads_no_more(alloc: Global, words: &[&str], files: &[&str]) -> Result<bool, Fail> {
+    let (wanted, whole) = ran(alloc, words, files)?;
+    let mut shelf = shelf_of(alloc, files)?;
+    for call in 1..=4u32 {
+        if files.len() < call as usize {
+            shelf.fail_read(call)?;
+        }
+    }
+    let sink = MemSink::new(alloc, 65_536, 65_536)?;
+    let (status, written) = ran_over(alloc, words, shelf, sink)?;
+    Ok(status == wanted && written.as_str() == whole.as_str())
+}
+
 // Whether a write fault comes over a sink of this room, which takes 16 bytes a call, and the room
 // is full of the beginning of the report.
 fn fills_room(
@@ -191,6 +207,7 @@ fn each_command_and_each_fault(rt: HostRuntime) -> Result<(), Fail> {
     for (words, files, status) in &RUNS {
         assert!(rt; counts_alike(rt.alloc(), words, files, *status)?);
         assert!(rt; needs_each_file(rt.alloc(), words, files)?);
+        assert!(rt; reads_no_more(rt.alloc(), words, files)?);
         assert!(rt; fills_rooms(rt.alloc(), words, files)?);
         assert!(rt; stops_at_each_write(rt.alloc(), words, files)?);
     }
