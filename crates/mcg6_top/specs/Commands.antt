@@ -1,5 +1,5 @@
 -- What the words ask for: one case for each row of the table of words.
--- Stated by: mcg6_top. Rests on it: mcg6_front_top.
+-- Stated by: mcg6_top, mcg6_front_top.
 use Rattle.std.specs.Prelude.{◌≡◌, ℕ, List, [], ◌∷◌, drop, nat_eq, codes, if◌then◌else◌}
 use Rattle.std.specs.declared.option.Option.{Option}
 use Rattle.std.specs.declared.option.Option.TheVariants.{Some, None}
