@@ -1,5 +1,5 @@
 -- The rows of a table of commands, and which words match one.
--- Stated by: command_table, front_top, mcg6_front_top.
+-- Stated by: command_table.
 use Rattle.std.specs.Prelude.{ℕ, ◌&&◌, ◌||◌, List, [], ◌∷◌, drop, length, nat_eq, nat_le, Bool, true, false, if◌then◌else◌}
 use Rattle.std.specs.List.{list_any, starts_with}
 use Rattle.std.specs.Str.{bytes_eq}
