@@ -17,5 +17,6 @@ pub mod AlikeTasks
 pub mod OneOutput
 pub mod TextsStand
 pub mod WrittenBack
+pub mod RunsMade
 pub mod WritesMade
 pub mod GivenFiles

@@ -4,3 +4,4 @@ pub mod Fixed
 pub mod RoundTrips
 pub mod Writes
 pub mod Given
+pub mod Runs

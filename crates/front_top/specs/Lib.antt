@@ -3,5 +3,4 @@ pub mod Files
 pub mod FilesSeen
 pub mod Words
 pub mod CluesSeen
-pub mod Runs
 pub mod Speaks

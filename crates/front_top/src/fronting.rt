@@ -1,8 +1,8 @@
 //! The top call.
 ghost use Rattle.std.specs.Prelude.{◌≡◌, ◌⊎◌, ℕ, List, map, string_bytes, true, false, Some, None};
 ghost use Rattle.bench_tasks.specs.Common.{command_of};
+ghost use Rattle.bench_top.specs.Runs.{Runs};
 ghost use Rattle.front_top.specs.Answers.{answer_of};
-ghost use Rattle.front_top.specs.Runs.{IsRun};
 ghost use Rattle.front_top.specs.CluesSeen.{known_by};
 ghost use Rattle.front_top.specs.Speaks.{Answers, IsSaid, Speaks};
 ghost use Rattle.front_top.specs.Words.{lost_words, words_of};
@@ -77,13 +77,18 @@ fn speak<S: Keeping, K: Outlet, E: Sink>(
     sink: &mut K,
     errors: &mut E,
 ) -> Status
-    ensures runs { IsRun S.files S.steady S.faults S.reads K.written K.writes K.faults
-        (map string_bytes words.now) result shelf.old shelf.new sink.old sink.new }
+    ensures runs { Runs S.files S.steady S.faults S.reads K.written K.writes K.faults
+        (command_of (map string_bytes words.now)) result shelf.old shelf.new sink.old sink.new }
     ensures quiet { is_quiet ≡ true → errors.new ≡ errors.old }
     ensures speaks { is_quiet ≡ false →
-        Speaks E.written E.writes E.faults (command_of (map string_bytes words.now)) result
-        (S.kept shelf.new) (S.reason shelf.new) (K.is_abandoned sink.new)
-        (K.written sink.old) (K.written sink.new) errors.old errors.new }
+        Speaks S.files S.steady S.faults S.reads K.written K.writes K.faults
+        E.written E.writes E.faults (command_of (map string_bytes words.now)) result
+        (record {
+          kept = S.kept shelf.new;
+          reason = S.reason shelf.new;
+          is_abandoned = K.is_abandoned sink.new;
+        })
+        shelf.old shelf.new sink.old sink.new errors.old errors.new }
 {
     let ending = run_ending(alloc, words, shelf, sink);
     let clues = Clues {
@@ -122,16 +127,21 @@ pub fn run_front<S: Keeping, K: Outlet, E: Sink>(
         → result ≡ Status.WriteFault → K.is_abandoned sink.new ≡ false → is_quiet ≡ false
         → IsSaid E.written E.writes E.faults lost_words errors.old errors.new }
 
-    // For all others status and output are those of `run`, and what is said is the text for the
-    // ending.
+    // For all others the run is one of `run`, and what is said is the text for the ending, and for
+    // the file that stopped it.
     ensures runs { answer_of (map string_bytes words.now) ≡ None →
-        IsRun S.files S.steady S.faults S.reads K.written K.writes K.faults
-        (map string_bytes words.now) result shelf.old shelf.new sink.old sink.new }
+        Runs S.files S.steady S.faults S.reads K.written K.writes K.faults
+        (command_of (map string_bytes words.now)) result shelf.old shelf.new sink.old sink.new }
     ensures quiet { is_quiet ≡ true → errors.new ≡ errors.old }
     ensures speaks { answer_of (map string_bytes words.now) ≡ None → is_quiet ≡ false →
-        Speaks E.written E.writes E.faults (command_of (map string_bytes words.now)) result
-        (S.kept shelf.new) (S.reason shelf.new) (K.is_abandoned sink.new)
-        (K.written sink.old) (K.written sink.new) errors.old errors.new }
+        Speaks S.files S.steady S.faults S.reads K.written K.writes K.faults
+        E.written E.writes E.faults (command_of (map string_bytes words.now)) result
+        (record {
+          kept = S.kept shelf.new;
+          reason = S.reason shelf.new;
+          is_abandoned = K.is_abandoned sink.new;
+        })
+        shelf.old shelf.new sink.old sink.new errors.old errors.new }
 {
     match answer_of(words) {
         Some(text) => answer(text, is_quiet, sink, errors),

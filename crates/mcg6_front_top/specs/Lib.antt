@@ -1,5 +1,4 @@
 pub mod Answers
 pub mod Words
 pub mod CluesSeen
-pub mod Runs
 pub mod Speaks

@@ -10,11 +10,11 @@ use Rattle.outside.specs.declared.sink.SinkFailed.{SinkFailed}
 use Rattle.mcg6_reader.specs.declared.ending.Ending.{Ending}
 use Rattle.mcg6_reader.specs.Common.{TellsList}
 use Rattle.mcg6_encoder.specs.Reads.{EncodesFile}
-use Rattle.mcg6_top.specs.Common.{ListCommand, command_of, encode_of, file_named_by, TellsLineOf, IsBadLine, lacks_of}
+use Rattle.mcg6_top.specs.Common.{ListCommand, command_of, encode_of, file_named_by, TellsLineOf, IsBadLine, lacks_of, status_in}
 use Rattle.mcg6_top.specs.declared.status.ListStatus.{ListStatus}
 use Rattle.mcg6_top.specs.declared.status.ListStatus.TheVariants.{Done, WriteFault}
 use Rattle.front_words.specs.Saying.{IsBegun, Says, WritesUntilFault, WritesWhole}
-use Rattle.mcg6_front_top.specs.Words.{status_in, words_of}
+use Rattle.mcg6_front_top.specs.Words.{words_of}
 
 -- the text was said, whole or up to a fault of the sink
 pub record IsSaid {E : Type 0} (written : E → Option (List ℕ)) (writes : E → List ℕ → ℕ → E → Type 0) (faults : E → ℕ) (text : List ℕ) (before now : E) : Type 0 where

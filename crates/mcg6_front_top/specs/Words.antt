@@ -8,9 +8,6 @@ use Rattle.line_text.specs.Common.{kind_number}
 use Rattle.mcg6_reader.specs.declared.ending.BadLine.{BadLine}
 use Rattle.mcg6_reader.specs.declared.ending.Ending.{Ending}
 use Rattle.mcg6_reader.specs.declared.ending.Ending.TheVariants.{Done, Bad, ReadFault, WriteFault, Memory}
-use Rattle.mcg6_top.specs.Common.{status_of}
-use Rattle.mcg6_top.specs.declared.status.ListStatus.{ListStatus}
-use Rattle.mcg6_top.specs.declared.status.ListStatus.TheVariants.{Usage}
 use Rattle.front_words.specs.declared.faults.Role.TheVariants.{Graph}
 use Rattle.front_words.specs.ListMessages.{bad_line_text, unread_list_text}
 use Rattle.front_words.specs.Messages.{bad_file_text, unread_text}
@@ -28,11 +25,6 @@ pub record Known : Type 0 where
   pub encoded : Option (List ℕ)
   pub reason : Option FailureReason
   pub is_abandoned : Bool
-
--- the status of a run that ended so; with no ending the words matched no row
-abbrev pub status_in : Option Ending → ListStatus
-status_in None = Usage
-status_in (Some ending) = status_of ending
 
 -- if the output could not be written whole
 abbrev pub lost_words : List ℕ

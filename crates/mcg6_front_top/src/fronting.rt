@@ -2,9 +2,9 @@
 ghost use Rattle.std.specs.Prelude.{◌≡◌, ◌⊎◌, ℕ, List, map, string_bytes, true, false, Some, None};
 ghost use Rattle.std.specs.declared.option.Option.{Option};
 ghost use Rattle.mcg6_reader.specs.declared.ending.Ending.{Ending};
+ghost use Rattle.mcg6_top.specs.Common.{ListRuns};
 ghost use Rattle.mcg6_front_top.specs.Answers.{answer_of};
 ghost use Rattle.mcg6_front_top.specs.CluesSeen.{known_by};
-ghost use Rattle.mcg6_front_top.specs.Runs.{IsListRun};
 ghost use Rattle.mcg6_front_top.specs.Speaks.{Answers, IsSaid, Speaks};
 ghost use Rattle.mcg6_front_top.specs.Words.{lost_words, words_of};
 
@@ -83,7 +83,7 @@ fn speak<S: Source, K: Outlet, E: Sink>(
     sink: &mut K,
     errors: &mut E,
 ) -> ListStatus
-    ensures runs { IsListRun S.left S.faults S.reads K.written K.faults K.writes
+    ensures runs { ListRuns S.left S.faults S.reads K.written K.writes K.faults
         (map string_bytes words.now) result source.old source.new sink.old sink.new }
     ensures quiet { is_quiet ≡ true → errors.new ≡ errors.old }
     ensures speaks { is_quiet ≡ false →
@@ -133,7 +133,7 @@ pub fn run_list_front<S: Source, K: Outlet, E: Sink>(
     // For all others status, output and source are those of `run`, and what is said is the text
     // for the ending.
     ensures runs { answer_of (map string_bytes words.now) ≡ None →
-        IsListRun S.left S.faults S.reads K.written K.faults K.writes
+        ListRuns S.left S.faults S.reads K.written K.writes K.faults
         (map string_bytes words.now) result source.old source.new sink.old sink.new }
     ensures quiet { is_quiet ≡ true → errors.new ≡ errors.old }
     ensures speaks { answer_of (map string_bytes words.now) ≡ None → is_quiet ≡ false →

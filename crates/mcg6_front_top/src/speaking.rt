@@ -2,8 +2,9 @@
 ghost use Rattle.std.specs.Prelude.{◌≡◌, ◌↔◌, [], None, Some};
 ghost use Rattle.std.specs.Option.{option_map};
 ghost use Rattle.front_words.specs.Saying.{Says};
+ghost use Rattle.mcg6_top.specs.Common.{status_in};
 ghost use Rattle.mcg6_front_top.specs.CluesSeen.{known_by};
-ghost use Rattle.mcg6_front_top.specs.Words.{bad_graph_words, ending_words, file_words, list_words, lost_words, memory_words, nothing_words, status_in, unwritten_words, words_of};
+ghost use Rattle.mcg6_front_top.specs.Words.{bad_graph_words, ending_words, file_words, list_words, lost_words, memory_words, nothing_words, unwritten_words, words_of};
 
 use front_words::{
     BadFile, Role, list_usage, say_bad_file, say_bad_line, say_bytes, say_unread, say_unread_list,

@@ -1,12 +1,16 @@
 -- What a list or a graph file gives up to an ending is what it stands for with the status of that
 -- ending: one case for each ending.
-use Rattle.std.proofs.Common.{ℕ, List}
+use Rattle.std.proofs.Common.{◌≡◌, ◌∙◌, ℕ, List, ap, refl, sym, arith}
+use Rattle.std.proofs.lemmas.Option.{none-some}
 use Rattle.std.specs.declared.option.Option.{Option}
+use Rattle.std.specs.declared.option.Option.TheVariants.{Some, None}
 use Rattle.mcg6_lines.specs.declared.query.Query.{Query}
 use Rattle.mcg6_reader.specs.declared.ending.Ending.{Ending}
 use Rattle.mcg6_reader.specs.declared.ending.Ending.TheVariants.{Done, Bad, ReadFault, WriteFault, Memory}
 use Rattle.mcg6_reader.specs.Common.{Appended, TellsList}
-use Rattle.mcg6_top.specs.Common.{TellsLineOf, IsBadLine, lacks_of, EndsWith, ListOutcome, TellsSome, status_of, EncodeOutcome, EncodesSome}
+use Rattle.mcg6_top.specs.Common.{ListCommand, ListRuns, ListRunsTo, command_of, encode_of, TellsLineOf, IsBadLine, lacks_of, EndsWith, ListOutcome, TellsSome, status_in, status_of, EncodeOutcome, EncodesSome}
+use Rattle.mcg6_top.specs.declared.status.ListStatus.TheVariants as status
+use Rattle.mcg6_top.specs.declared.status.ListStatus.TheVariants.{Usage}
 use Rattle.mcg6_encoder.specs.Files.{Encodes}
 use Rattle.mcg6_encoder.specs.Reads.{EncodesFile}
 
@@ -64,4 +68,51 @@ encodes_some ending left before now encodes = record {
   file = encodes.file;
   is_left = encodes.is_left;
   outcome = appended_encoding encodes.file ending before now encodes.encodes;
+}
+
+-- a run that ended so ended with the status of that ending
+not_usage : (ending : Ending) → status_of ending ≡ Usage → ⊥
+not_usage ending is = grind arith
+
+read_of : (ending : Ending) → status_of ending ≡ status.ReadFault → ending ≡ ReadFault
+read_of ending is = grind arith
+
+write_of : (ending : Ending) → status_of ending ≡ status.WriteFault → ending ≡ WriteFault
+write_of ending is = grind arith
+
+pub runs_by_status :
+    {S K : Type 0} (left : S → Option (List ℕ)) (faults : S → ℕ) (reads : S → Option (List ℕ) → S → Type 0)
+    (written : K → Option (List ℕ)) (writes : K → List ℕ → ℕ → K → Type 0) (sink_faults : K → ℕ) (words : List (List ℕ)) (ended : Option Ending)
+    (first last : S) (before now : K) → ListRunsTo left faults reads written writes sink_faults words ended first last before now →
+    ListRuns left faults reads written writes sink_faults words (status_in ended) first last before now
+runs_by_status left faults reads written writes sink_faults words None first last before now runs =
+    let no_command : (command : ListCommand) → command_of words ≡ Some command → ⊥ = λ command is. none-some command (sym (runs.usage.0 refl).0 ∙ is) in
+    let no_file : (name : List ℕ) → encode_of words ≡ Some name → ⊥ = λ name is. none-some name (sym (runs.usage.0 refl).1 ∙ is) in
+    record {
+      usage = (λ e. runs.usage.0 refl, λ e. refl);
+      unread = λ e. runs.unread refl;
+      nothing = λ e. runs.nothing refl;
+      read_fault = λ e. cc e;
+      write_fault = λ e. cc e;
+      outcome = λ command bytes is told. absurd (no_command command is);
+      tells = λ command is. absurd (no_command command is);
+      torn = λ command is fault. absurd (no_command command is);
+      streams = λ command is. absurd (no_command command is);
+      encodes = λ name file is told. absurd (no_file name is);
+      encodes_some = λ name is. absurd (no_file name is);
+      reads_first = λ name is. absurd (no_file name is);
+    }
+runs_by_status left faults reads written writes sink_faults words (Some ending) first last before now runs = record {
+  usage = (λ e. absurd (not_usage ending e), λ none. absurd (none-some ending (sym (runs.usage.1 none))));
+  unread = λ e. absurd (not_usage ending e);
+  nothing = λ e. absurd (not_usage ending e);
+  read_fault = λ e. runs.read_fault (ap Some (read_of ending e));
+  write_fault = λ e. runs.write_fault (ap Some (write_of ending e));
+  outcome = λ command bytes is told. appended_outcome command.query bytes ending (written before) (written now) (runs.outcome command bytes ending is told refl);
+  tells = λ command is. tells_some command.query ending (left first) (written before) (written now) (runs.tells command ending is refl);
+  torn = λ command is fault. runs.torn command is (ap Some (read_of ending fault));
+  streams = λ command is. record { ending = ending; of_status = refl; stream = runs.streams command ending is refl };
+  encodes = λ name file is told. appended_encoding file ending (written before) (written now) (runs.encodes name file ending is told refl);
+  encodes_some = λ name is. encodes_some ending (left first) (written before) (written now) (runs.encodes_some name ending is refl);
+  reads_first = λ name is. record { ending = ending; of_status = refl; order = runs.reads_first name ending is refl };
 }

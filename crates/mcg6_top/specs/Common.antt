@@ -3,6 +3,7 @@ pub use Rattle.mcg6_top.specs.Commands.{ListCommand, bricks_property, braces_pro
 unfoldable pub use Rattle.mcg6_top.specs.Commands.{counted_property, leaves_named, select_named}
 pub use Rattle.mcg6_top.specs.Asked.{text_of, asked}
 pub use Rattle.mcg6_top.specs.Listings.{is_further, TellsLineOf, IsBadLine, lacks_of}
-pub use Rattle.mcg6_top.specs.Statuses.{code_of, status_of}
+pub use Rattle.mcg6_top.specs.Statuses.{code_of, status_of, status_in}
 pub use Rattle.mcg6_top.specs.Outcomes.{EndsWith, StopsAtBad, ListOutcome, TellsSome, StreamsTo, Streams}
 pub use Rattle.mcg6_top.specs.Encodings.{StopsAtFile, EncodeOutcome, EncodesSome, ReadsFirstTo}
+pub use Rattle.mcg6_top.specs.Runs.{ListRuns, ListRunsTo}

@@ -5,3 +5,4 @@ pub mod Statuses
 pub mod Outcomes
 pub mod Encodings
 pub mod Common
+pub mod Runs

@@ -1,6 +1,8 @@
 -- The statuses, their codes, and the endings of runs.
 -- Stated by: mcg6_top. Rests on it: mcg6_front_top.
 use Rattle.std.specs.Prelude.{ℕ}
+use Rattle.std.specs.declared.option.Option.{Option}
+use Rattle.std.specs.declared.option.Option.TheVariants.{Some, None}
 use Rattle.mcg6_reader.specs.declared.ending.Ending.{Ending}
 use Rattle.mcg6_reader.specs.declared.ending.Ending.TheVariants as ending
 use Rattle.mcg6_top.specs.declared.status.ListStatus.{ListStatus}
@@ -22,3 +24,8 @@ status_of (ending.Bad found) = BadInput
 status_of ending.ReadFault = ReadFault
 status_of ending.WriteFault = WriteFault
 status_of ending.Memory = Memory
+
+-- the status of a run that ended so; with no ending the words matched no row
+abbrev pub status_in : Option Ending → ListStatus
+status_in None = Usage
+status_in (Some ending) = status_of ending

@@ -1,38 +1,16 @@
-use Rattle.std.proofs.Common.{ℕ, List, map, string_bytes}
-use Rattle.mcg6_front_top.proofs.Ended.{ended, ended_file, ending_encodes, ending_encodes_some, ending_outcome, ending_reads_first, ending_streams, ending_tells}
+use Rattle.std.proofs.Common.{map, string_bytes, subst, sym}
+use Rattle.mcg6_top.specs.Common.{ListRuns}
+use Rattle.mcg6_top.specs.declared.status.ListStatus.{ListStatus}
+use Rattle.mcg6_top.proofs.Ended.{runs_by_status}
 use Rattle.mcg6_front_top.proofs.fronting.speak.Goals as goal
 
 pub returns-clause-runs : goal.returns-clause-runs
 returns-clause-runs g c =
     let run = c.run_to_ending-ending in
-    let of = c.status_in.ensures in
-    let words : List (List ℕ) = map string_bytes c.args.words.now in
-    record {
-      usage = (λ e. run.ensures.usage.0 (of.usage.0 e), λ none. of.usage.1 (run.ensures.usage.1 none));
-      unread = λ e. run.ensures.unread (of.usage.0 e);
-      nothing = λ e. run.ensures.nothing (of.usage.0 e);
-      read_fault = λ e. run.ensures.read_fault (of.read_fault e);
-      write_fault = λ e. run.ensures.write_fault (of.write_fault e);
-      outcome = λ command bytes is left.
-          ending_outcome command bytes run.result _ _ _ of.status (ended _ words command run.ensures.usage is)
-          (λ last at. run.ensures.outcome command bytes last is left at);
-      tells = λ command is.
-          ending_tells command run.result _ _ _ _ of.status (ended _ words command run.ensures.usage is)
-          (λ last at. run.ensures.tells command last is at);
-      torn = λ command is e. run.ensures.torn command is (of.read_fault e);
-      streams = λ command is.
-          ending_streams command _ _ _ run.result _ _ _ _ _ of.status (ended _ words command run.ensures.usage is)
-          (λ last at. run.ensures.streams command last is at);
-      encodes = λ name file is left.
-          ending_encodes file run.result _ _ _ of.status (ended_file _ words name run.ensures.usage is)
-          (λ last at. run.ensures.encodes name file last is left at);
-      encodes_some = λ name is.
-          ending_encodes_some run.result _ _ _ _ of.status (ended_file _ words name run.ensures.usage is)
-          (λ last at. run.ensures.encodes_some name last is at);
-      reads_first = λ name is.
-          ending_reads_first _ _ _ run.result _ _ _ _ _ of.status (ended_file _ words name run.ensures.usage is)
-          (λ last at. run.ensures.reads_first name last is at);
-    }
+    subst (λ (s : ListStatus). ListRuns g.S.Source.left g.S.Source.faults g.S.Source.reads g.K.Sink.written g.K.Sink.writes g.K.Sink.faults (map string_bytes c.args.words.now) s
+    c.args.source.now run.new.source c.args.sink.now run.new.sink)
+    (sym c.status_in.ensures.status)
+    (runs_by_status g.S.Source.left g.S.Source.faults g.S.Source.reads g.K.Sink.written g.K.Sink.writes g.K.Sink.faults (map string_bytes c.args.words.now) run.result _ _ _ _ run.ensures)
 
 pub returns-clause-speaks : goal.returns-clause-speaks
 returns-clause-speaks g c = λ loud.
