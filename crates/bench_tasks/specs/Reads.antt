@@ -1,5 +1,5 @@
 -- Which files a run reads, and in which order.
--- Stated by: bench_tasks, bench_top. Rests on it: front_top.
+-- Stated by: bench_tasks, bench_top.
 use Rattle.std.specs.Prelude.{◌≡◌, ◌≤◌, List, [], ℕ, Bool, IsTrue, length, take}
 use Rattle.std.specs.declared.option.Option.{Option}
 use Rattle.std.specs.declared.option.Option.TheVariants.{Some, None}

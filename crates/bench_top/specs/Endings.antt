@@ -1,6 +1,6 @@
 -- How a run ended: why its files were not loaded, which of them were read, and what was written
 -- of a bad one.
--- Stated by: bench_top. Rests on it: front_top.
+-- Stated by: bench_top.
 use Rattle.std.specs.Prelude.{◌≡◌, ◌≤◌, ℕ, List, Bool, IsTrue, length, take}
 use Rattle.std.specs.declared.option.Option.{Option}
 use Rattle.std.specs.declared.option.Option.TheVariants.{Some, None}

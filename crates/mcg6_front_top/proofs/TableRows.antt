@@ -9,7 +9,7 @@ use Rattle.std.proofs.lemmas.Slice.Eq.{bytes_eq-Decides}
 use Rattle.line_text.specs.Common.{number_of}
 use Rattle.decomposer.specs.Common.{order_named}
 use Rattle.mcg6_lines.specs.declared.query.Property.{Property}
-use Rattle.mcg6_lines.specs.declared.query.Property.TheVariants.{Covered, Uncovered, Brick, Brace, Bicritical, Composite, Bricks, Braces}
+use Rattle.mcg6_lines.specs.declared.query.Property.TheVariants.{Covered, Uncovered, Perfect, Brick, Brace, Bicritical, Composite, Bricks, Braces}
 use Rattle.mcg6_lines.specs.declared.query.Query.{Query}
 use Rattle.mcg6_top.specs.Common.{command_of, command_with, counted_property, encode_of, leaves_named, pair_named, pair_or_file, property_named, query_named, select_named}
 use Rattle.command_table.specs.Rows.{is_counted, is_listed, is_one_of}
@@ -47,23 +47,24 @@ counted_is word =
     counted_or (number_of (drop 7 word)) (number_of (drop 7 word)) (starts_with nat_eq word (codes "bricks=")) (starts_with nat_eq word (codes "braces="))
 
 -- the word of a property
-property_or : {X : Type 0} (p q r s t u : X) (o : Option X) (a b c d e f k : Bool) → is_some o ≡ k →
-    is_some (if a then Some p else (if b then Some q else (if c then Some r else (if d then Some s else (if e then Some t else (if f then Some u else o))))))
-    ≡ ((a || (b || (c || (d || (e || (f || false)))))) || k)
-property_or p q r s t u o true b c d e f k is = refl
-property_or p q r s t u o false true c d e f k is = refl
-property_or p q r s t u o false false true d e f k is = refl
-property_or p q r s t u o false false false true e f k is = refl
-property_or p q r s t u o false false false false true f k is = refl
-property_or p q r s t u o false false false false false true k is = refl
-property_or p q r s t u o false false false false false false k is = is
+property_or : {X : Type 0} (p q r s t u v : X) (o : Option X) (a b c d e f g k : Bool) → is_some o ≡ k →
+    is_some (if a then Some p else (if b then Some q else (if c then Some r else (if d then Some s else (if e then Some t else (if f then Some u else (if g then Some v else o)))))))
+    ≡ ((a || (b || (c || (d || (e || (f || (g || false))))))) || k)
+property_or p q r s t u v o true b c d e f g k is = refl
+property_or p q r s t u v o false true c d e f g k is = refl
+property_or p q r s t u v o false false true d e f g k is = refl
+property_or p q r s t u v o false false false true e f g k is = refl
+property_or p q r s t u v o false false false false true f g k is = refl
+property_or p q r s t u v o false false false false false true g k is = refl
+property_or p q r s t u v o false false false false false false true k is = refl
+property_or p q r s t u v o false false false false false false false k is = is
 
 property_is : (word : List ℕ) → is_some (select_named word) ≡ is_one_of properties counted_properties word
 unfolding select_named
 property_is word =
     some_map _ (property_named word)
-    ∙ property_or _ _ _ _ _ _ (counted_property word) (bytes_eq word (codes "covered")) (bytes_eq word (codes "uncovered")) (bytes_eq word (codes "brick")) (bytes_eq word (codes "brace"))
-    (bytes_eq word (codes "bicritical")) (bytes_eq word (codes "composite")) _ (counted_is word)
+    ∙ property_or _ _ _ _ _ _ _ (counted_property word) (bytes_eq word (codes "covered")) (bytes_eq word (codes "uncovered")) (bytes_eq word (codes "perfect")) (bytes_eq word (codes "brick"))
+    (bytes_eq word (codes "brace")) (bytes_eq word (codes "bicritical")) (bytes_eq word (codes "composite")) _ (counted_is word)
 
 -- the words of queries
 query_or : {X : Type 0} (p q r : X) (a b c : Bool) → is_some (if a then Some p else (if b then Some q else (if c then Some r else None))) ≡ (a || (b || (c || false)))

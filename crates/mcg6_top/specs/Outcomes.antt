@@ -1,5 +1,5 @@
 -- Which status and which output a list stands for.
--- Stated by: mcg6_top. Rests on it: mcg6_front_top.
+-- Stated by: mcg6_top.
 use Rattle.std.specs.Prelude.{◌≡◌, ℕ, List}
 use Rattle.std.specs.declared.option.Option.{Option}
 use Rattle.mcg6_lines.specs.declared.query.Query.{Query}

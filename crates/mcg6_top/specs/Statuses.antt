@@ -1,5 +1,5 @@
 -- The statuses, their codes, and the endings of runs.
--- Stated by: mcg6_top. Rests on it: mcg6_front_top.
+-- Stated by: mcg6_top, mcg6_front_top.
 use Rattle.std.specs.Prelude.{ℕ}
 use Rattle.std.specs.declared.option.Option.{Option}
 use Rattle.std.specs.declared.option.Option.TheVariants.{Some, None}
