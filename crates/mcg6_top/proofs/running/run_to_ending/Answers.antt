@@ -1,6 +1,6 @@
 -- Words that ask for the graph6 text of a graph file ask for nothing of a list, and the other way
 -- round: so one half of the fields has no case, and the other is what was done.
-use Rattle.std.proofs.Common.{◌≡◌, ◌∙◌, ℕ, List, map, string_bytes, sym, subst}
+use Rattle.std.proofs.Common.{◌≡◌, ◌∙◌, ℕ, List, Some, map, string_bytes, sym, subst}
 use Rattle.std.proofs.lemmas.Option.{none-some, same_Some}
 use Rattle.mcg6_encoder.specs.Files.{Encodes}
 use Rattle.mcg6_encoder.specs.Reads.{EncodesFile, ReadsFirst}
