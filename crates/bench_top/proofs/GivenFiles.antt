@@ -14,7 +14,7 @@ use Rattle.bench_tasks.specs.declared.stop.Stop.TheVariants as stop
 use Rattle.bench_tasks.specs.declared.tasks.Task.TheVariants as code
 use Rattle.bench_outcomes.specs.Common.{LoadedGives}
 use Rattle.bench_outcomes.specs.declared.status.Status.{Status}
-use Rattle.bench_outcomes.specs.declared.status.Status.TheVariants as status
+use Rattle.bench_outcomes.specs.declared.status.Status.TheVariants as ended
 use Rattle.bench_top.specs.Given.{AreGiven, BeginsWith, FailedWith, GivenOutcome}
 use Rattle.bench_top.specs.Writes.{WritesAs}
 
@@ -60,18 +60,18 @@ files-given place (Err TooLong ∷ answers) =
 files-given place (Err Memory ∷ answers) = let rest = files-given (place + 1) answers in record { files = rest.files; given = rest.given; held = (tt, rest.held) }
 
 -- no read failed
-none-failed-with : (status : Status) (answers : List Answer) → (status ≡ status.ReadFault → ⊥) → failures_of answers ≡ 0 → FailedWith status answers
-none-failed-with status.Done answers not none = none
-none-failed-with status.Negative answers not none = none
-none-failed-with status.Usage answers not none = none
-none-failed-with status.ReadFault answers not none = absurd (not refl)
-none-failed-with status.BadInput answers not none = none
-none-failed-with status.WriteFault answers not none = none
-none-failed-with status.Memory answers not none = none
+none-failed-with : (status : Status) (answers : List Answer) → (status ≡ ended.ReadFault → ⊥) → failures_of answers ≡ 0 → FailedWith status answers
+none-failed-with ended.Done answers not none = none
+none-failed-with ended.Negative answers not none = none
+none-failed-with ended.Usage answers not none = none
+none-failed-with ended.ReadFault answers not none = absurd (not refl)
+none-failed-with ended.BadInput answers not none = none
+none-failed-with ended.WriteFault answers not none = none
+none-failed-with ended.Memory answers not none = none
 
 -- a read failed exactly at that status
 failed-with : (status : Status) (result : Result code.the_data Stop) (answers : List Answer) →
-    (status ≡ status.ReadFault → IsReadFault result) → (IsReadFault result → status ≡ status.ReadFault) → FailedAs answers result → FailedWith status answers
+    (status ≡ ended.ReadFault → IsReadFault result) → (IsReadFault result → status ≡ ended.ReadFault) → FailedAs answers result → FailedWith status answers
 failed-with status (Ok task) answers to from failed = none-failed-with status answers (λ e. to e) failed
 failed-with status (Err (stop.ReadFault file)) answers to from failed = subst (λ (s : Status). FailedWith s answers) (sym (from tt)) failed
 failed-with status (Err (stop.Bad file line kind)) answers to from failed = none-failed-with status answers (λ e. to e) failed
@@ -81,7 +81,7 @@ failed-with status (Err stop.Memory) answers to from failed = none-failed-with s
 pub given-outcome :
     {S K : Type 0} (reads : S → List ℕ → Answer → S → Type 0) (written : K → Option (List ℕ)) (writes : K → List ℕ → ℕ → K → Type 0) (command : Command)
     (result : Result code.the_data Stop) (status : Status) (first last : S) (before now : K) →
-    (status ≡ status.ReadFault → IsReadFault result) → (IsReadFault result → status ≡ status.ReadFault) →
+    (status ≡ ended.ReadFault → IsReadFault result) → (IsReadFault result → status ≡ ended.ReadFault) →
     GathersAnswered reads command result first last → ((held : Held) → LoadsAs task_of result held → WritesAs written writes (LoadedGives held) status before now) →
     GivenOutcome reads written writes (Some command) status first last before now
 given-outcome reads written writes command result status first last before now to from made wrote =

@@ -21,7 +21,7 @@ reported-not-fault status P reported fault = absurd (not-reported (subst IsRepor
 read-not-fault : (result : Result code.the_data Stop) → IsRead result → IsReadFault result → ⊥
 read-not-fault result read fault = grind arith
 
-err-is : {X : Type 0} {status other : Status} → IsErrOf {X} (Err status) other → status ≡ other
+err-is : {X : Type 0} {status other : Status} → IsErrOf {T = X} (Err status) other → status ≡ other
 err-is is = grind arith
 
 pub returns-in-Ok-emit-clause-asks : goal.returns-in-Ok-emit-clause-asks
