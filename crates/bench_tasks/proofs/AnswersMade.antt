@@ -1,10 +1,10 @@
 -- Answers of reads, put together: one more after those that were given, and a stop at it. What was
 -- loaded of the first files is what all files hold that give the first answers, and so on with the
 -- next: nothing is known of the files but what the answers say.
-use Rattle.std.proofs.Common.{◌≡◌, ℕ, ◌+◌, ◌≤◌, List, [], ◌∷◌, ◌++◌, length, take, refl, ap, sym, subst, arith, length-append, Result, Ok, Err, IfErr, IsOkAnd, MatchResult}
+use Rattle.std.proofs.Common.{◌≡◌, ℕ, ◌+◌, ◌≤◌, ◌<◌, List, [], ◌∷◌, ◌++◌, length, take, refl, ap, sym, subst, arith, length-append, Result, Ok, Err, IfErr, IsOkAnd, MatchResult}
 use Rattle.counting.proofs.Common.{take_all}
 use Rattle.outside.specs.Common.{Answer, AnswersInTurn, NamedFile, ReadsInTurn, file_named}
-use Rattle.bench_tasks.specs.Common.{CountsAs, StopsAs, GathersAnswered, GaveFile, HoldGiven, LoadsAnswered, ReadsOnce, by_place, place_name, Command, file_names, Loaded, and_then, loaded, loaded_as, task_of, ReadsAs, StopsAt}
+use Rattle.bench_tasks.specs.Common.{CountsAs, FailedAs, LastFailed, failures_in, failures_of, StopsAs, GathersAnswered, GaveFile, HoldGiven, LoadsAnswered, ReadsOnce, by_place, place_name, Command, file_names, Loaded, and_then, loaded, loaded_as, task_of, ReadsAs, StopsAt}
 use Rattle.bench_tasks.specs.declared.stop.Stop.{Stop}
 use Rattle.bench_tasks.specs.declared.stop.Stop.TheVariants.{ReadFault, Bad, Memory}
 use Rattle.bench_tasks.specs.declared.tasks.Task.TheVariants as code
@@ -46,9 +46,9 @@ module _ {S : Type 0} (reads : S → List ℕ → Answer → S → Type 0) where
   in_turn-names [] (given ∷ answers) first last in_turn = absurd in_turn
   in_turn-names (other ∷ names) (given ∷ answers) first last in_turn = grind (arith, in_turn-names names answers in_turn.0 last in_turn.1.1)
 
-  names-up_to : (names : List (List ℕ)) (answers : List Answer) (file : ℕ) (first last : S) → length answers ≡ file → AnswersInTurn reads names answers first last →
-      (file ≤ length names) × ReadsInTurn reads (take file names) first last
-  names-up_to names answers file first last counts in_turn = grind (arith, in_turn-names names answers first last in_turn)
+  names-up_to : (names : List (List ℕ)) (answers : List Answer) (file : ℕ) (first last : S) → 0 < file → length answers ≡ file → AnswersInTurn reads names answers first last →
+      (0 < file) × (file ≤ length names) × ReadsInTurn reads (take file names) first last
+  names-up_to names answers file first last positive counts in_turn = grind (arith, in_turn-names names answers first last in_turn)
 
   -- the reads of what was answered are those of all names, or of those up to the stop
   reads-answered : {X A : Type 0} (names : List (List ℕ)) (view : X → A) (held : List NamedFile → Loaded A) (result : Result X Stop) (first last : S) → LoadsAnswered reads names view held result first last → ReadsAs reads names result first last
@@ -68,15 +68,40 @@ hold-split files place [] answer given = grind arith
 hold-split files place (other ∷ answers) answer given = grind (arith, hold-split files (place + 1) answers answer given.1)
 
 -- a stop at the place after so many answers is counted by one answer more
-counts-at : (X : Type 0) (n m : ℕ) (stopped : Stop) → StopsAt m stopped → CountsAs {X = X} n m (Err stopped)
-counts-at X n m (ReadFault file) at = sym at
-counts-at X n m (Bad file line kind) at = sym at
-counts-at X n m Memory at = tt
+counts-at : (X : Type 0) (n m : ℕ) (stopped : Stop) → 0 < m → StopsAt m stopped → CountsAs {X = X} n m (Err stopped)
+counts-at X n m (ReadFault file) positive at = (subst (λ (k : ℕ). 0 < k) (sym at) positive, sym at)
+counts-at X n m (Bad file line kind) positive at = (subst (λ (k : ℕ). 0 < k) (sym at) positive, sym at)
+counts-at X n m Memory positive at = tt
 
 counts-stopped : (X Z : Type 0) (n m k : ℕ) (stopped : Stop) → CountsAs {X = X} n k (Err stopped) → CountsAs {X = Z} m k (Err stopped)
 counts-stopped X Z n m k (ReadFault file) counts = counts
 counts-stopped X Z n m k (Bad file line kind) counts = counts
 counts-stopped X Z n m k Memory counts = tt
+
+-- the reads that failed of two lists
+failures-append : (first second : List Answer) → failures_of (first ++ second) ≡ failures_of first + failures_of second
+failures-append [] second = omega arith
+failures-append (answer ∷ first) second = let more = failures-append first second in omega (arith, more)
+
+-- after reads that did not fail, one that did is the last
+last-failed : (answers : List Answer) (answer : Answer) → failures_of answers ≡ 0 → failures_in answer ≡ 1 → LastFailed (answers ++ answer ∷ [])
+last-failed [] answer none is = is
+last-failed (first ∷ []) answer none is = (omega (arith, none), is)
+last-failed (first ∷ next ∷ answers) answer none is = (omega (arith, none), last-failed (next ∷ answers) answer (omega (arith, none)) is)
+
+none-failed : (answers : List Answer) (answer : Answer) → failures_of answers ≡ 0 → failures_of (answer ∷ []) ≡ 0 → failures_of (answers ++ answer ∷ []) ≡ 0
+none-failed answers answer none last = let both = failures-append answers (answer ∷ []) in omega (arith, both, none, last)
+
+-- a stop after reads that did not fail, and then one more
+failed-both : (X Z : Type 0) (answers : List Answer) (answer : Answer) (stopped : Stop) → failures_of answers ≡ 0 → FailedAs {X = X} (answer ∷ []) (Err stopped) → FailedAs {X = Z} (answers ++ answer ∷ []) (Err stopped)
+failed-both X Z answers answer (ReadFault file) none failed = last-failed answers answer none failed
+failed-both X Z answers answer (Bad file line kind) none failed = none-failed answers answer none failed
+failed-both X Z answers answer Memory none failed = none-failed answers answer none failed
+
+failed-stopped : (X Z : Type 0) (answers : List Answer) (stopped : Stop) → FailedAs {X = X} answers (Err stopped) → FailedAs {X = Z} answers (Err stopped)
+failed-stopped X Z answers (ReadFault file) failed = failed
+failed-stopped X Z answers (Bad file line kind) failed = failed
+failed-stopped X Z answers Memory failed = failed
 
 -- the first file
 pub answered-first :
@@ -86,6 +111,7 @@ answered-first {S} {X} reads name view held result first last stops once = recor
   answers = once.answer ∷ [];
   in_turn = (last, (once.read, refl));
   counts = go result stops;
+  failed = once.failed;
   loads = λ files given. once.loads files given.0;
 }
   where
@@ -100,7 +126,7 @@ module _ {S X Z A C : Type 0} (reads : S → List ℕ → Answer → S → Type 
   -- the first load stops
   pub answered-stopped : (more : List (List ℕ)) (next : List NamedFile → A → Loaded C) (stopped : Stop) (first last : S) → LoadsAnswered reads names view held (Err stopped) first last →
       LoadsAnswered reads (names ++ more) out (λ files. and_then (held files) (next files)) (Err stopped) first last
-  answered-stopped more next stopped first last made = grind (arith, in_turn-more, counts-stopped, stops-then)
+  answered-stopped more next stopped first last made = grind (arith, in_turn-more, counts-stopped, failed-stopped, stops-then)
 
   -- something is made of what is loaded, if it is
   pub answered-mapped : (make : A → C) (loaded : Result X Stop) (made : Result Z Stop) (first last : S) → IsMade view out make loaded made →
@@ -128,9 +154,20 @@ module _ {S X Z A C : Type 0} (reads : S → List ℕ → Answer → S → Type 
     -- the second load stops
     pub answered-stopped-second : (stopped : Stop) → StopsAt (length names + 1) stopped → ReadsOnce reads name (length names + 1) second_view (λ files. further files (view x)) (Err stopped) mid last →
         LoadsAnswered reads (names ++ name ∷ []) out (λ files. and_then (held files) (λ a. loaded_as (make a) (further files a))) (Err stopped) first last
-    answered-stopped-second stopped at two = grind (arith, both-in_turn, both-count, counts-at, both-given, made-then, stops-made)
+    answered-stopped-second stopped at two = record {
+      answers = one.answers ++ two.answer ∷ [];
+      in_turn = both-in_turn two.answer two.read;
+      counts =
+          subst (λ (m : ℕ). CountsAs {X = Z} (length (names ++ name ∷ [])) m (Err stopped)) (sym (both-count two.answer))
+          (counts-at Z (length (names ++ name ∷ [])) (length names + 1) stopped (omega arith) at);
+      failed = failed-both Y Z one.answers two.answer stopped one.failed two.failed;
+      loads = λ files given.
+          let parts = both-given files two.answer given in
+          subst (λ (l : Loaded C). StopsAs stopped l) (sym (made-then files parts.0))
+          (stops-made stopped (further files (view x)) (make (view x)) (two.loads files parts.1));
+    }
 
     -- neither stops
     pub answered-both : (y : Y) (z : Z) → out z ≡ make (view x) (second_view y) → ReadsOnce reads name (length names + 1) second_view (λ files. further files (view x)) (Ok y) mid last →
         LoadsAnswered reads (names ++ name ∷ []) out (λ files. and_then (held files) (λ a. loaded_as (make a) (further files a))) (Ok z) first last
-    answered-both y z is two = grind (arith, both-in_turn two.answer two.read, both-count two.answer, length-append names (name ∷ []), both-given, made-then)
+    answered-both y z is two = grind (arith, both-in_turn two.answer two.read, both-count two.answer, length-append names (name ∷ []), none-failed one.answers two.answer one.failed two.failed, both-given, made-then)

@@ -52,15 +52,42 @@ HoldGiven files place (answer ∷ answers) = GaveFile answer (file_named (place_
 -- a value comes of answers for all names, and a stop at a file of the answers up to that file
 abbrev pub CountsAs : {X : Type 0} → (names answers : ℕ) → Result X Stop → Type 0
 CountsAs names answers (Ok x) = answers ≡ names
-CountsAs names answers (Err (stop.ReadFault file)) = answers ≡ file
-CountsAs names answers (Err (stop.Bad file line kind)) = answers ≡ file
+CountsAs names answers (Err (stop.ReadFault file)) = (0 < file) × (answers ≡ file)
+CountsAs names answers (Err (stop.Bad file line kind)) = (0 < file) × (answers ≡ file)
 CountsAs names answers (Err stop.Memory) = Unit {0}
+
+-- 1 if a read failed that answered so, and 0 if not
+abbrev pub failures_in : Answer → ℕ
+failures_in (Ok bytes) = 0
+failures_in (Err Failed) = 1
+failures_in (Err TooLong) = 0
+failures_in (Err Memory) = 0
+
+-- how many of the reads failed that answered so
+abbrev pub failures_of : List Answer → ℕ
+failures_of [] = 0
+failures_of (answer ∷ answers) = failures_in answer + failures_of answers
+
+-- the last of the reads failed, and no other
+abbrev pub LastFailed : List Answer → Type 0
+LastFailed [] = ⊥
+LastFailed (answer ∷ []) = failures_in answer ≡ 1
+LastFailed (answer ∷ next ∷ answers) = (failures_in answer ≡ 0) × LastFailed (next ∷ answers)
+
+-- a read failed exactly if a failed read is the stop, and then it was the last: a read that failed
+-- is neither a bad file nor want of memory
+abbrev pub FailedAs : {X : Type 0} → List Answer → Result X Stop → Type 0
+FailedAs answers (Ok x) = failures_of answers ≡ 0
+FailedAs answers (Err (stop.ReadFault file)) = LastFailed answers
+FailedAs answers (Err (stop.Bad file line kind)) = failures_of answers ≡ 0
+FailedAs answers (Err stop.Memory) = failures_of answers ≡ 0
 
 -- one read, of that name, leads from the first shelf to the last, and what was loaded is what
 -- the file at this place holds, if it may be the one that the read gave
 pub record ReadsOnce {S X A : Type 0} (reads : S → List ℕ → Answer → S → Type 0) (name : List ℕ) (place : ℕ) (view : X → A) (held : List NamedFile → Loaded A) (result : Result X Stop) (first last : S) : Type 0 where
   pub answer : Answer
   pub read : reads first name answer last
+  pub failed : FailedAs (answer ∷ []) result
   pub loads : (files : List NamedFile) → GaveFile answer (file_named (place_name place) files) → LoadsAs view result (held files)
 
 -- reads of the first of these names, up to a stop, lead from the first shelf to the last, and
@@ -69,6 +96,7 @@ pub record LoadsAnswered {S X A : Type 0} (reads : S → List ℕ → Answer →
   pub answers : List Answer
   pub in_turn : AnswersInTurn reads names answers first last
   pub counts : CountsAs (length names) (length answers) result
+  pub failed : FailedAs answers result
   pub loads : (files : List NamedFile) → HoldGiven files 1 answers → LoadsAs view result (held files)
 
 -- the same of the files of a command

@@ -7,9 +7,11 @@ use Rattle.std.specs.declared.option.Option.TheVariants.{Some, None}
 use Rattle.std.specs.declared.result.Result.{Result}
 use Rattle.std.specs.declared.result.Result.TheVariants.{Ok, Err}
 use Rattle.outside.specs.Common.{NamedFile, file_named}
+pub use Rattle.outside.specs.Common.{most_bytes}
 use Rattle.line_text.specs.Common.{reading_of, kind_number}
 use Rattle.graph_core.specs.Common.{Graph, size}
 use Rattle.line_text.specs.declared.faults.FaultKind.{FaultKind}
+use Rattle.line_text.specs.declared.faults.FaultKind.TheVariants.{Limit}
 use Rattle.graph_text.specs.Common.{NamedGraph, either_version}
 use Rattle.graph6_text.specs.Common.{outcome_of}
 use Rattle.tree_core.specs.Common.{Shape, PlainMove}
@@ -26,10 +28,6 @@ use Rattle.bench_tasks.specs.declared.verbs.EarsVerb.{EarsVerb}
 use Rattle.bench_tasks.specs.declared.verbs.MovesVerb.{MovesVerb}
 use Rattle.bench_tasks.specs.declared.verbs.TreesVerb.{TreesVerb}
 
--- the most bytes that a file may have
-abbrev pub most_bytes : ℕ
-most_bytes = 1048576
-
 -- all is held and good; or the file at this place, counted from 1, is the first that is bad, at
 -- this line by this kind; or the file at this place is not held, and all before it are held and
 -- good
@@ -43,11 +41,11 @@ abbrev pub from_reading : {A : Type 0} → ℕ → Result A (ℕ × FaultKind) �
 from_reading place (Ok value) = All value
 from_reading place (Err fault) = Bad place fault.0 (kind_number fault.1)
 
--- one file: not held; over the limit of bytes, which is line 0 and kind 6 whatever else is wrong;
+-- one file: not held; over the limit of bytes, which is line 0 whatever else is wrong;
 -- or what its text is read as
 abbrev pub file_read : {A : Type 0} → ℕ → (List ℕ → Result A (ℕ × FaultKind)) → Option (List ℕ) → Loaded A
 file_read place reading None = Absent place
-file_read place reading (Some bytes) = if nat_lt most_bytes (length bytes) then Bad place 0 6 else from_reading place (reading bytes)
+file_read place reading (Some bytes) = if nat_lt most_bytes (length bytes) then Bad place 0 (kind_number Limit) else from_reading place (reading bytes)
 
 -- what is made of what files hold
 abbrev pub loaded_as : {A B : Type 0} → (A → B) → Loaded A → Loaded B

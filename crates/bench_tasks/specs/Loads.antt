@@ -6,6 +6,7 @@ use Rattle.std.specs.declared.option.Option.TheVariants.{Some}
 use Rattle.std.specs.declared.result.Result.{Result}
 use Rattle.std.specs.declared.result.Result.TheVariants.{Ok, Err}
 use Rattle.outside.specs.Common.{Rose, NamedFile}
+use Rattle.line_text.specs.Common.{kind_number}
 use Rattle.graph_core.specs.Common.{Graph}
 use Rattle.graph_text.specs.Common.{NamedGraph, named_graph}
 use Rattle.tree_core.specs.Common.{shape_of, moves_of, PlainMove, Shape}
@@ -61,7 +62,7 @@ task_of (code.OnNumbers verb growth) = task.OnNumbers verb growth.seed growth.pi
 
 -- a stop names the first bad file; nothing is said of a failed read or of lack of memory
 abbrev pub StopsAs : {A : Type 0} → Stop → Loaded A → Type 0
-StopsAs (stop.Bad file line kind) loaded = loaded ≡ Bad file line kind
+StopsAs (stop.Bad file line kind) loaded = loaded ≡ Bad file line (kind_number kind)
 StopsAs (stop.ReadFault file) loaded = Unit {0}
 StopsAs stop.Memory loaded = Unit {0}
 

@@ -1,6 +1,6 @@
 -- Which files a run reads, and in which order.
 -- Stated by: bench_tasks, bench_top.
-use Rattle.std.specs.Prelude.{◌≡◌, ◌≤◌, List, [], ℕ, Bool, IsTrue, length, take}
+use Rattle.std.specs.Prelude.{◌≡◌, ◌≤◌, ◌<◌, List, [], ℕ, Bool, IsTrue, length, take}
 use Rattle.std.specs.declared.option.Option.{Option}
 use Rattle.std.specs.declared.option.Option.TheVariants.{Some, None}
 use Rattle.std.specs.declared.result.Result.{Result}
@@ -33,8 +33,8 @@ StopsAt place stop.Memory = Unit {0}
 -- reads up to a stop lead from the first shelf to the last: those of the names up to the file
 -- that stops, that one included; where memory ran out, those of the first few names
 abbrev pub ReadsUntil : {S : Type 0} → (S → List ℕ → Answer → S → Type 0) → List (List ℕ) → Stop → S → S → Type 0
-ReadsUntil reads names (stop.ReadFault file) first last = (file ≤ length names) × ReadsInTurn reads (take file names) first last
-ReadsUntil reads names (stop.Bad file line kind) first last = (file ≤ length names) × ReadsInTurn reads (take file names) first last
+ReadsUntil reads names (stop.ReadFault file) first last = (0 < file) × (file ≤ length names) × ReadsInTurn reads (take file names) first last
+ReadsUntil reads names (stop.Bad file line kind) first last = (0 < file) × (file ≤ length names) × ReadsInTurn reads (take file names) first last
 ReadsUntil reads names stop.Memory first last = ReadsFirst reads names first last
 
 -- all names are read where there is an answer, and else those up to the stop

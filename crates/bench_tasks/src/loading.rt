@@ -13,13 +13,10 @@ use crate::stop::Stop;
 use crate::tasks::{GivenEars, GivenMoves, GivenPicks, GivenTree, GivenTrees};
 use ear_core::EarList;
 use graph_core::MultiGraph;
-use line_text::TextFault;
-use outside::{Shelf, ShelfFault};
+use line_text::{FaultKind, TextFault};
+use outside::{MOST_BYTES, Shelf, ShelfFault};
 use std::alloc::Global;
 use tree_core::{Moves, Tree};
-
-/// The most bytes that a file may have.
-pub const MOST_BYTES: usize = 1_048_576;
 
 // What the file of that name holds, which has this place among the named files.
 fn load<S: Shelf, F: FileFormat>(
@@ -45,7 +42,7 @@ fn load<S: Shelf, F: FileFormat>(
             return Err(Stop::Bad {
                 file: place,
                 line: 0,
-                kind: 6,
+                kind: FaultKind::Limit,
             });
         }
         Err(ShelfFault::Memory) => return Err(Stop::Memory),
@@ -55,7 +52,7 @@ fn load<S: Shelf, F: FileFormat>(
         Err(TextFault::At { line, kind }) => Err(Stop::Bad {
             file: place,
             line,
-            kind: kind.number(),
+            kind,
         }),
         Err(TextFault::Memory) => Err(Stop::Memory),
     }

@@ -2,19 +2,21 @@
 -- Each lemma looks the file up, leaves the test of its length after, and computes.
 use Rattle.std.proofs.Common.{◌≡◌, ℕ, ◌≤◌, List, length, Ok, Result, false, ap, ◌∙◌, arith, Some, Option, Bool, cond, nat_lt}
 use Rattle.counting.proofs.Common.{nat_tests}
+use Rattle.line_text.specs.Common.{kind_number}
 use Rattle.line_text.specs.declared.faults.FaultKind.{FaultKind}
-use Rattle.bench_tasks.specs.Common.{Loaded, All, Bad, file_read, from_reading}
+use Rattle.line_text.specs.declared.faults.FaultKind.TheVariants.{Limit}
+use Rattle.bench_tasks.specs.Common.{Loaded, All, Bad, file_read, from_reading, most_bytes}
 
 -- within the limit of bytes the text is read
-file_read-within : {A : Type 0} (place : ℕ) (reading : List ℕ → Result A (ℕ × FaultKind)) (file : Option (List ℕ)) (bytes : List ℕ) → file ≡ Some bytes → length bytes ≤ 1048576 → file_read place reading file ≡ from_reading place (reading bytes)
-file_read-within {A} place reading file bytes held within = ap (file_read place reading) held ∙ go (nat_lt 1048576 (length bytes)) (grind (arith, nat_tests, within))
+file_read-within : {A : Type 0} (place : ℕ) (reading : List ℕ → Result A (ℕ × FaultKind)) (file : Option (List ℕ)) (bytes : List ℕ) → file ≡ Some bytes → length bytes ≤ most_bytes → file_read place reading file ≡ from_reading place (reading bytes)
+file_read-within {A} place reading file bytes held within = ap (file_read place reading) held ∙ go (nat_lt most_bytes (length bytes)) (grind (arith, nat_tests, within))
   where
     long : Loaded A
-    long = Bad place 0 6
+    long = Bad place 0 (kind_number Limit)
 
     go : (b : Bool) → b ≡ false → cond b long (from_reading place (reading bytes)) ≡ from_reading place (reading bytes)
     go b e = ap (λ (t : Bool). cond t long (from_reading place (reading bytes))) e
 
 -- a text that is read as a value
-pub file_read-value : {A : Type 0} (place : ℕ) (reading : List ℕ → Result A (ℕ × FaultKind)) (file : Option (List ℕ)) (bytes : List ℕ) (value : A) → file ≡ Some bytes → length bytes ≤ 1048576 → reading bytes ≡ Ok value → file_read place reading file ≡ All value
+pub file_read-value : {A : Type 0} (place : ℕ) (reading : List ℕ → Result A (ℕ × FaultKind)) (file : Option (List ℕ)) (bytes : List ℕ) (value : A) → file ≡ Some bytes → length bytes ≤ most_bytes → reading bytes ≡ Ok value → file_read place reading file ≡ All value
 file_read-value place reading file bytes value held within read = file_read-within place reading file bytes held within ∙ ap (from_reading place) read

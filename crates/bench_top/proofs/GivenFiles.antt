@@ -1,6 +1,6 @@
 -- There are files that reads gave, whatever they answered: one for each answer that gave one, named
 -- by its place. They hold what was answered at each place, since places differ.
-use Rattle.std.proofs.Common.{◌≡◌, ◌<◌, ℕ, ◌+◌, List, [], ◌∷◌, length, refl, arith, Result, Ok, Err, replicate, false}
+use Rattle.std.proofs.Common.{◌≡◌, ◌<◌, ℕ, ◌+◌, List, [], ◌∷◌, length, refl, subst, sym, arith, Result, Ok, Err, replicate, false}
 use Rattle.std.proofs.lemmas.List.{length-replicate}
 use Rattle.counting.proofs.Common.{nat_tests}
 use Rattle.std.specs.declared.option.Option.{Option}
@@ -8,12 +8,14 @@ use Rattle.std.specs.declared.option.Option.TheVariants.{Some}
 use Rattle.std.specs.Str.{bytes_eq}
 use Rattle.outside.specs.Common.{Answer, NamedFile, file_named}
 use Rattle.outside.specs.declared.shelf.ShelfFault.TheVariants.{Failed, TooLong, Memory}
-use Rattle.bench_tasks.specs.Common.{GathersAnswered, HoldGiven, by_place, place_name, Command, loaded, most_bytes, Held, LoadsAs, task_of}
+use Rattle.bench_tasks.specs.Common.{FailedAs, GathersAnswered, HoldGiven, IsReadFault, failures_of, by_place, place_name, Command, loaded, most_bytes, Held, LoadsAs, task_of}
 use Rattle.bench_tasks.specs.declared.stop.Stop.{Stop}
+use Rattle.bench_tasks.specs.declared.stop.Stop.TheVariants as stop
 use Rattle.bench_tasks.specs.declared.tasks.Task.TheVariants as code
 use Rattle.bench_outcomes.specs.Common.{LoadedGives}
 use Rattle.bench_outcomes.specs.declared.status.Status.{Status}
-use Rattle.bench_top.specs.Given.{AreGiven, BeginsWith, GivenOutcome}
+use Rattle.bench_outcomes.specs.declared.status.Status.TheVariants as ended
+use Rattle.bench_top.specs.Given.{AreGiven, BeginsWith, FailedWith, GivenOutcome}
 use Rattle.bench_top.specs.Writes.{WritesAs}
 
 -- the next name is another
@@ -57,17 +59,37 @@ files-given place (Err TooLong ∷ answers) =
     grind arith
 files-given place (Err Memory ∷ answers) = let rest = files-given (place + 1) answers in record { files = rest.files; given = rest.given; held = (tt, rest.held) }
 
+-- no read failed
+none-failed-with : (status : Status) (answers : List Answer) → (status ≡ ended.ReadFault → ⊥) → failures_of answers ≡ 0 → FailedWith status answers
+none-failed-with ended.Done answers not none = none
+none-failed-with ended.Negative answers not none = none
+none-failed-with ended.Usage answers not none = none
+none-failed-with ended.ReadFault answers not none = absurd (not refl)
+none-failed-with ended.BadInput answers not none = none
+none-failed-with ended.WriteFault answers not none = none
+none-failed-with ended.Memory answers not none = none
+
+-- a read failed exactly at that status
+failed-with : (status : Status) (result : Result code.the_data Stop) (answers : List Answer) →
+    (status ≡ ended.ReadFault → IsReadFault result) → (IsReadFault result → status ≡ ended.ReadFault) → FailedAs answers result → FailedWith status answers
+failed-with status (Ok task) answers to from failed = none-failed-with status answers (λ e. to e) failed
+failed-with status (Err (stop.ReadFault file)) answers to from failed = subst (λ (s : Status). FailedWith s answers) (sym (from tt)) failed
+failed-with status (Err (stop.Bad file line kind)) answers to from failed = none-failed-with status answers (λ e. to e) failed
+failed-with status (Err stop.Memory) answers to from failed = none-failed-with status answers (λ e. to e) failed
+
 -- a run whose writes are those of an outcome of whatever was loaded
 pub given-outcome :
     {S K : Type 0} (reads : S → List ℕ → Answer → S → Type 0) (written : K → Option (List ℕ)) (writes : K → List ℕ → ℕ → K → Type 0) (command : Command)
     (result : Result code.the_data Stop) (status : Status) (first last : S) (before now : K) →
+    (status ≡ ended.ReadFault → IsReadFault result) → (IsReadFault result → status ≡ ended.ReadFault) →
     GathersAnswered reads command result first last → ((held : Held) → LoadsAs task_of result held → WritesAs written writes (LoadedGives held) status before now) →
     GivenOutcome reads written writes (Some command) status first last before now
-given-outcome reads written writes command result status first last before now made wrote =
+given-outcome reads written writes command result status first last before now to from made wrote =
     let are = files-given 1 made.answers in
     record {
       answers = made.answers;
       in_turn = made.in_turn;
+      failed = failed-with status result made.answers to from made.failed;
       files = are.files;
       given = are.given;
       wrote = wrote (loaded are.files (by_place command)) (made.loads are.files are.held);

@@ -82,7 +82,7 @@ usage-runs holds is_steady faults reads written writes sink_faults shelf sink = 
     outcome = λ files told reported. absurd (not-reported reported);
     cut = λ files told fault. cc fault;
     writes_made = refl;
-    answered = record { answers = []; in_turn = refl; files = []; given = refl; wrote = refl };
+    answered = record { answers = []; in_turn = refl; failed = refl; files = []; given = refl; wrote = refl };
     missing = λ files command told row fault is. absurd (none-row command row);
     absent = λ files command file told row held. absurd (none-row command row);
     bad = λ files command file line kind told row held calm. absurd (none-row command row);

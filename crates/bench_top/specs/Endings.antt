@@ -1,12 +1,14 @@
 -- How a run ended: why its files were not loaded, which of them were read, and what was written
 -- of a bad one.
 -- Stated by: bench_top.
-use Rattle.std.specs.Prelude.{◌≡◌, ◌≤◌, ℕ, List, Bool, IsTrue, length, take}
+use Rattle.std.specs.Prelude.{◌≡◌, ◌≤◌, ◌<◌, ℕ, List, Bool, IsTrue, length, take}
 use Rattle.std.specs.declared.option.Option.{Option}
 use Rattle.std.specs.declared.option.Option.TheVariants.{Some, None}
 use Rattle.std.specs.declared.result.Result.{Result}
 use Rattle.std.specs.declared.result.Result.TheVariants.{Ok, Err}
 use Rattle.outside.specs.Common.{Answer, ReadsInTurn, appended}
+use Rattle.line_text.specs.Common.{kind_number}
+use Rattle.line_text.specs.declared.faults.FaultKind.{FaultKind}
 use Rattle.report_text.specs.Common.{bad_input_text}
 use Rattle.bench_tasks.specs.Common.{Loaded, Bad, Absent}
 use Rattle.bench_tasks.specs.declared.stop.Stop.{Stop}
@@ -21,21 +23,21 @@ stop_in (Err stopped) = Some stopped
 -- shelf the file that is not held
 abbrev pub IsStopOf : {A : Type 0} → (steady : Bool) → Option Stop → Loaded A → Type 0
 IsStopOf steady None loaded = Unit {0}
-IsStopOf steady (Some (stop.Bad file line kind)) loaded = loaded ≡ Bad file line kind
+IsStopOf steady (Some (stop.Bad file line kind)) loaded = loaded ≡ Bad file line (kind_number kind)
 IsStopOf steady (Some (stop.ReadFault file)) loaded = IsTrue steady → loaded ≡ Absent file
 IsStopOf steady (Some stop.Memory) loaded = Unit {0}
 
 -- where the run stopped at a file, the reads are those of the names up to it, that one included
 abbrev pub StopsAfter : {S : Type 0} → (S → List ℕ → Answer → S → Type 0) → List (List ℕ) → Option Stop → S → S → Type 0
 StopsAfter reads names None first last = Unit {0}
-StopsAfter reads names (Some (stop.Bad file line kind)) first last = (file ≤ length names) × ReadsInTurn reads (take file names) first last
-StopsAfter reads names (Some (stop.ReadFault file)) first last = (file ≤ length names) × ReadsInTurn reads (take file names) first last
+StopsAfter reads names (Some (stop.Bad file line kind)) first last = (0 < file) × (file ≤ length names) × ReadsInTurn reads (take file names) first last
+StopsAfter reads names (Some (stop.ReadFault file)) first last = (0 < file) × (file ≤ length names) × ReadsInTurn reads (take file names) first last
 StopsAfter reads names (Some stop.Memory) first last = Unit {0}
 
 -- the bytes are the report of a bad file
 abbrev pub ReportsBad : {X : Type 0} → Result X Stop → List ℕ → Type 0
 ReportsBad (Ok x) bytes = ⊥
-ReportsBad (Err (stop.Bad file line kind)) bytes = bytes ≡ bad_input_text file line kind
+ReportsBad (Err (stop.Bad file line kind)) bytes = bytes ≡ bad_input_text file line (kind_number kind)
 ReportsBad (Err (stop.ReadFault file)) bytes = ⊥
 ReportsBad (Err stop.Memory) bytes = ⊥
 
@@ -43,9 +45,9 @@ ReportsBad (Err stop.Memory) bytes = ⊥
 pub record ReportedBad (stopped : Option Stop) (before now : Option (List ℕ)) : Type 0 where
   pub file : ℕ
   pub line : ℕ
-  pub kind : ℕ
+  pub kind : FaultKind
   pub is : stopped ≡ Some (stop.Bad file line kind)
-  pub written : now ≡ appended before (bad_input_text file line kind)
+  pub written : now ≡ appended before (bad_input_text file line (kind_number kind))
 
 -- a file that could not be read stopped the run
 pub record Unread (stopped : Option Stop) : Type 0 where

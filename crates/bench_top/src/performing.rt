@@ -46,7 +46,7 @@ fn report_on(alloc: Global, gathered: Result<Task, Stop>) -> Result<Report, Stat
         Ok(task) => judge(alloc, task).map_err(|_| Status::Memory),
         Err(Stop::ReadFault { .. }) => Err(Status::ReadFault),
         Err(Stop::Memory) => Err(Status::Memory),
-        Err(Stop::Bad { file, line, kind }) => match bad_input(alloc, file, line, kind) {
+        Err(Stop::Bad { file, line, kind }) => match bad_input(alloc, file, line, kind.number()) {
             Ok(bytes) => Ok(Report {
                 status: Status::BadInput,
                 bytes,

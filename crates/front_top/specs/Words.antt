@@ -4,6 +4,7 @@ use Rattle.std.specs.Prelude.{ℕ, List, [], codes, Bool, if◌then◌else◌}
 use Rattle.std.specs.declared.option.Option.{Option}
 use Rattle.std.specs.declared.option.Option.TheVariants.{Some, None}
 use Rattle.outside.specs.declared.explain.FailureReason.{FailureReason}
+use Rattle.line_text.specs.declared.faults.FaultKind.{FaultKind}
 use Rattle.bench_tasks.specs.Common.{Command}
 use Rattle.bench_tasks.specs.declared.stop.Stop.{Stop}
 use Rattle.bench_tasks.specs.declared.stop.Stop.TheVariants as stop
@@ -31,7 +32,7 @@ line_kept None line = None
 line_kept (Some text) line = line_at text line
 
 -- of a bad file: which it is, where it is outside its format and how, and the line
-abbrev pub bad_words : Option File → (line kind : ℕ) → Option (List ℕ) → List ℕ
+abbrev pub bad_words : Option File → (line : ℕ) → FaultKind → Option (List ℕ) → List ℕ
 bad_words None line kind kept = []
 bad_words (Some file) line kind kept = bad_file_text program file.0 file.1 line kind (line_kept kept line)
 

@@ -12,6 +12,7 @@ use crate::files::{File, file_at};
 use bench_tasks::{Command, Stop, command_of};
 use bench_top::{RunEnding, Status};
 use front_words::{BadFile, line_at, say_bad_file, say_bytes, say_unread, usage};
+use line_text::FaultKind;
 use outside::{FailureReason, Sink, SinkFailed};
 
 // The name of the program.
@@ -51,7 +52,7 @@ fn say_bad<'a, E: Sink>(
     errors: &mut E,
     file: Option<File<'a>>,
     line: u32,
-    kind: u32,
+    kind: FaultKind,
     kept: Option<&'a [u8]>,
 ) -> Result<(), SinkFailed>
     ensures { Says E.written E.writes E.faults

@@ -1,38 +1,49 @@
 -- What the kinds of faults are in words, with the headers and the limits of the formats.
 -- Stated by: front_words.
-use Rattle.std.specs.Prelude.{ℕ, ◌==◌, List, [], codes, if◌then◌else◌}
+use Rattle.std.specs.Prelude.{ℕ, List, [], codes}
+use Rattle.line_text.specs.declared.faults.FaultKind.{FaultKind}
+use Rattle.line_text.specs.declared.faults.FaultKind.TheVariants.{Header, Word, Number, Range, Loop, Limit, Missing, Extra, NotRising, HasGreatest, Unnamed, SameName, BadName, Padding, LongForm}
 use Rattle.front_words.specs.declared.faults.Role.{Role}
 use Rattle.front_words.specs.declared.faults.Role.TheVariants.{Graph, Graph6, Derivation, Picks, Ears, Moves}
 
 -- a fault of that kind in a text of lines
-abbrev pub line_fault : ℕ → List ℕ
-line_fault kind =
-    if kind == 1 then codes "the header is missing, or is not that of this format and graph" else
-    if kind == 2 then codes "a wrong first word, or a wrong number of words" else
-    if kind == 3 then codes "a word that must be a number is not one" else
-    if kind == 4 then codes "a vertex or edge number is 0 or too great" else
-    if kind == 5 then codes "the two ends of an edge are equal" else
-    if kind == 6 then codes "a stated limit is passed" else
-    if kind == 7 then codes "the file ends before the format does" else
-    if kind == 8 then codes "a line too many, after the end of the format" else
-    if kind == 9 then codes "numbers that must rise do not" else
-    if kind == 10 then codes "a shore holds the greatest vertex" else
-    if kind == 11 then codes "a word that must be the name of a vertex is not one" else
-    if kind == 12 then codes "a name is given twice" else
-    if kind == 13 then codes "not a name: one has 1 to 16 letters, digits, _, - or ." else codes "a fault of another kind"
+abbrev pub line_fault : FaultKind → List ℕ
+line_fault Header = codes "the header is missing, or is not that of this format and graph"
+line_fault Word = codes "a wrong first word, or a wrong number of words"
+line_fault Number = codes "a word that must be a number is not one"
+line_fault Range = codes "a vertex or edge number is 0 or too great"
+line_fault Loop = codes "the two ends of an edge are equal"
+line_fault Limit = codes "a stated limit is passed"
+line_fault Missing = codes "the file ends before the format does"
+line_fault Extra = codes "a line too many, after the end of the format"
+line_fault NotRising = codes "numbers that must rise do not"
+line_fault HasGreatest = codes "a shore holds the greatest vertex"
+line_fault Unnamed = codes "a word that must be the name of a vertex is not one"
+line_fault SameName = codes "a name is given twice"
+line_fault BadName = codes "not a name: one has 1 to 16 letters, digits, _, - or ."
+line_fault Padding = codes "a fault of another kind"
+line_fault LongForm = codes "a fault of another kind"
 
 -- a fault of that kind in a graph6 text
-abbrev pub graph6_fault : ℕ → List ℕ
-graph6_fault kind =
-    if kind == 4 then codes "a byte is outside 63 to 126, as graph6 has them" else
-    if kind == 6 then codes "more than 128 vertices or 2,048 edges" else
-    if kind == 7 then codes "the text ends before the graph does" else
-    if kind == 8 then codes "more than one graph, or bytes after its end" else
-    if kind == 14 then codes "a filling bit is set" else
-    if kind == 15 then codes "a size up to 62 is written in four bytes" else codes "a fault of another kind"
+abbrev pub graph6_fault : FaultKind → List ℕ
+graph6_fault Header = codes "a fault of another kind"
+graph6_fault Word = codes "a fault of another kind"
+graph6_fault Number = codes "a fault of another kind"
+graph6_fault Range = codes "a byte is outside 63 to 126, as graph6 has them"
+graph6_fault Loop = codes "a fault of another kind"
+graph6_fault Limit = codes "more than 128 vertices or 2,048 edges"
+graph6_fault Missing = codes "the text ends before the graph does"
+graph6_fault Extra = codes "more than one graph, or bytes after its end"
+graph6_fault NotRising = codes "a fault of another kind"
+graph6_fault HasGreatest = codes "a fault of another kind"
+graph6_fault Unnamed = codes "a fault of another kind"
+graph6_fault SameName = codes "a fault of another kind"
+graph6_fault BadName = codes "a fault of another kind"
+graph6_fault Padding = codes "a filling bit is set"
+graph6_fault LongForm = codes "a size up to 62 is written in four bytes"
 
 -- a fault of that kind in a file that is read so
-abbrev pub fault_words : Role → ℕ → List ℕ
+abbrev pub fault_words : Role → FaultKind → List ℕ
 fault_words Graph kind = line_fault kind
 fault_words Graph6 kind = graph6_fault kind
 fault_words Derivation kind = line_fault kind
@@ -68,8 +79,19 @@ reader_note Ears = []
 reader_note Moves = []
 
 -- what is added to the words of a fault: the header, the limits, or what else reads such a file
-abbrev pub note_words : Role → ℕ → List ℕ
-note_words role kind =
-    if kind == 1 then header_note role else
-    if kind == 6 then limit_note role else
-    if kind == 8 then reader_note role else []
+abbrev pub note_words : Role → FaultKind → List ℕ
+note_words role Header = header_note role
+note_words role Word = []
+note_words role Number = []
+note_words role Range = []
+note_words role Loop = []
+note_words role Limit = limit_note role
+note_words role Missing = []
+note_words role Extra = reader_note role
+note_words role NotRising = []
+note_words role HasGreatest = []
+note_words role Unnamed = []
+note_words role SameName = []
+note_words role BadName = []
+note_words role Padding = []
+note_words role LongForm = []

@@ -6,6 +6,8 @@ use Rattle.std.specs.Fmt.{decimal}
 use Rattle.std.specs.declared.option.Option.{Option}
 use Rattle.std.specs.declared.option.Option.TheVariants.{None, Some}
 use Rattle.std.specs.Str.{bytes_eq}
+use Rattle.line_text.specs.declared.faults.FaultKind.{FaultKind}
+use Rattle.line_text.specs.declared.faults.FaultKind.TheVariants.{Header, Word, Number, Range, Loop, Limit, Missing, Extra, NotRising, HasGreatest, Unnamed, SameName, BadName, Padding, LongForm}
 use Rattle.outside.specs.Common.{most_line}
 use Rattle.outside.specs.declared.explain.FailureReason.{FailureReason}
 use Rattle.front_words.specs.Faults.{graph6_fault}
@@ -30,16 +32,30 @@ abbrev pub short_line : (text : List ℕ) → List ℕ
 short_line text =
     if length text == 0 then codes "the list ends before a graph" else
     if is_blank_line text then codes "it is empty (to_graph6_bytes ends its text with a line feed, so print adds a second)" else
-    graph6_fault 7
+    graph6_fault Missing
 
 -- a line of a list that passes a limit
 abbrev pub long_line : (text : List ℕ) → List ℕ
 long_line text =
-    if nat_lt most_line (length text) then codes "it has more than 65,536 bytes, the most that a line of a list may have" else graph6_fault 6
+    if nat_lt most_line (length text) then codes "it has more than 65,536 bytes, the most that a line of a list may have" else graph6_fault Limit
 
 -- a fault of that kind in a line of a list with this text
-abbrev pub list_fault : (kind : ℕ) (text : List ℕ) → List ℕ
-list_fault kind text = if kind == 7 then short_line text else if kind == 6 then long_line text else graph6_fault kind
+abbrev pub list_fault : FaultKind → (text : List ℕ) → List ℕ
+list_fault Header text = graph6_fault Header
+list_fault Word text = graph6_fault Word
+list_fault Number text = graph6_fault Number
+list_fault Range text = graph6_fault Range
+list_fault Loop text = graph6_fault Loop
+list_fault Limit text = long_line text
+list_fault Missing text = short_line text
+list_fault Extra text = graph6_fault Extra
+list_fault NotRising text = graph6_fault NotRising
+list_fault HasGreatest text = graph6_fault HasGreatest
+list_fault Unnamed text = graph6_fault Unnamed
+list_fault SameName text = graph6_fault SameName
+list_fault BadName text = graph6_fault BadName
+list_fault Padding text = graph6_fault Padding
+list_fault LongForm text = graph6_fault LongForm
 
 -- the line of a text, without its line feed, unless nothing is in it
 abbrev pub line_kept : (text : List ℕ) → Option (List ℕ)
@@ -47,6 +63,6 @@ line_kept text = some_line (line_at text 1)
 
 -- the first bad line of a list has that number and a fault of that kind, and this text as far as
 -- it was kept
-abbrev pub bad_line_text : (program : List ℕ) (number kind : ℕ) (text : List ℕ) → List ℕ
+abbrev pub bad_line_text : (program : List ℕ) (number : ℕ) (kind : FaultKind) (text : List ℕ) → List ℕ
 bad_line_text program number kind text =
     program ++ (codes ": line " ++ (decimal number ++ (codes ": " ++ (list_fault kind text ++ (opening_note text ++ (codes "\n" ++ line_shown program number (line_kept text)))))))

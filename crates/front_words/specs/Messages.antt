@@ -4,6 +4,7 @@ use Rattle.std.specs.Prelude.{ℕ, ◌==◌, List, [], ◌∷◌, ◌++◌, code
 use Rattle.std.specs.Fmt.{decimal}
 use Rattle.std.specs.declared.option.Option.{Option}
 use Rattle.std.specs.declared.option.Option.TheVariants.{None, Some}
+use Rattle.line_text.specs.declared.faults.FaultKind.{FaultKind}
 use Rattle.outside.specs.declared.explain.FailureReason.{FailureReason}
 use Rattle.front_words.specs.declared.faults.Role.{Role}
 use Rattle.front_words.specs.Faults.{fault_words, note_words}
@@ -37,16 +38,16 @@ line_shown program line (Some text) = program ++ (codes ": line " ++ (decimal li
 
 -- the file of that name, which is read so, is outside its format at that line by that kind; the
 -- text is that of the line, if there is one to show
-abbrev pub fault_text : (program name : List ℕ) → Role → (line kind : ℕ) → Option (List ℕ) → List ℕ
+abbrev pub fault_text : (program name : List ℕ) → Role → (line : ℕ) → FaultKind → Option (List ℕ) → List ℕ
 fault_text program name role line kind text =
     program ++ (codes ": " ++ (shown 4096 name ++ (codes ", line " ++ (decimal line ++ (codes ": " ++
     (fault_words role kind ++ (note_words role kind ++ (codes "\n" ++ line_shown program line text))))))))
 
 -- the same if the text is that of the line, if it is known
-abbrev pub outside_text : (program name : List ℕ) → Role → (line kind : ℕ) → Option (List ℕ) → List ℕ
+abbrev pub outside_text : (program name : List ℕ) → Role → (line : ℕ) → FaultKind → Option (List ℕ) → List ℕ
 outside_text program name role line kind text = fault_text program name role line kind (some_line text)
 
 -- the file of that name is bad: with line 0 it is too long
-abbrev pub bad_file_text : (program name : List ℕ) → Role → (line kind : ℕ) → Option (List ℕ) → List ℕ
+abbrev pub bad_file_text : (program name : List ℕ) → Role → (line : ℕ) → FaultKind → Option (List ℕ) → List ℕ
 bad_file_text program name role line kind text =
     if line == 0 then too_long_text program name else outside_text program name role line kind text

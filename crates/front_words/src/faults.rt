@@ -2,6 +2,8 @@
 ghost use Rattle.std.specs.Prelude.{◌≡◌};
 ghost use Rattle.front_words.specs.Faults.{fault_words, graph6_fault, header_note, limit_note, line_fault, note_words, reader_note};
 
+use line_text::FaultKind;
+
 /// What a file that the words name is read as.
 #[derive(Clone, Copy, Debug, PartialEq, Eq)]
 pub enum Role {
@@ -20,45 +22,52 @@ pub enum Role {
 }
 
 // A fault of that kind in a text of lines.
-fn line_fault(kind: u32) -> &'static str
+fn line_fault(kind: FaultKind) -> &'static str
     ensures { result.now ≡ line_fault kind }
 {
     match kind {
-        1 => "the header is missing, or is not that of this format and graph",
-        2 => "a wrong first word, or a wrong number of words",
-        3 => "a word that must be a number is not one",
-        4 => "a vertex or edge number is 0 or too great",
-        5 => "the two ends of an edge are equal",
-        6 => "a stated limit is passed",
-        7 => "the file ends before the format does",
-        8 => "a line too many, after the end of the format",
-        9 => "numbers that must rise do not",
-        10 => "a shore holds the greatest vertex",
-        11 => "a word that must be the name of a vertex is not one",
-        12 => "a name is given twice",
-        13 => "not a name: one has 1 to 16 letters, digits, _, - or .",
-        _ => "a fault of another kind",
+        FaultKind::Header => "the header is missing, or is not that of this format and graph",
+        FaultKind::Word => "a wrong first word, or a wrong number of words",
+        FaultKind::Number => "a word that must be a number is not one",
+        FaultKind::Range => "a vertex or edge number is 0 or too great",
+        FaultKind::Loop => "the two ends of an edge are equal",
+        FaultKind::Limit => "a stated limit is passed",
+        FaultKind::Missing => "the file ends before the format does",
+        FaultKind::Extra => "a line too many, after the end of the format",
+        FaultKind::NotRising => "numbers that must rise do not",
+        FaultKind::HasGreatest => "a shore holds the greatest vertex",
+        FaultKind::Unnamed => "a word that must be the name of a vertex is not one",
+        FaultKind::SameName => "a name is given twice",
+        FaultKind::BadName => "not a name: one has 1 to 16 letters, digits, _, - or .",
+        FaultKind::Padding | FaultKind::LongForm => "a fault of another kind",
     }
 }
 
 // A fault of that kind in a graph6 text.
-fn graph6_fault(kind: u32) -> &'static str
+fn graph6_fault(kind: FaultKind) -> &'static str
     ensures { result.now ≡ graph6_fault kind }
 {
     match kind {
-        4 => "a byte is outside 63 to 126, as graph6 has them",
-        6 => "more than 128 vertices or 2,048 edges",
-        7 => "the text ends before the graph does",
-        8 => "more than one graph, or bytes after its end",
-        14 => "a filling bit is set",
-        15 => "a size up to 62 is written in four bytes",
-        _ => "a fault of another kind",
+        FaultKind::Range => "a byte is outside 63 to 126, as graph6 has them",
+        FaultKind::Limit => "more than 128 vertices or 2,048 edges",
+        FaultKind::Missing => "the text ends before the graph does",
+        FaultKind::Extra => "more than one graph, or bytes after its end",
+        FaultKind::Padding => "a filling bit is set",
+        FaultKind::LongForm => "a size up to 62 is written in four bytes",
+        FaultKind::Header
+        | FaultKind::Word
+        | FaultKind::Number
+        | FaultKind::Loop
+        | FaultKind::NotRising
+        | FaultKind::HasGreatest
+        | FaultKind::Unnamed
+        | FaultKind::SameName
+        | FaultKind::BadName => "a fault of another kind",
     }
 }
 
-/// What a fault of that kind is in a file that is read so, by the number of the kind. Takes no
-/// memory.
-pub fn fault_words(role: Role, kind: u32) -> &'static str
+/// What a fault of that kind is in a file that is read so. Takes no memory.
+pub fn fault_words(role: Role, kind: FaultKind) -> &'static str
     ensures { result.now ≡ fault_words role kind }
 {
     match role {
@@ -107,13 +116,24 @@ fn reader_note(role: Role) -> &'static str
 
 /// What is added to the words of a fault: the header of the format, its limits, or what else
 /// reads such a file. Takes no memory.
-pub fn note_words(role: Role, kind: u32) -> &'static str
+pub fn note_words(role: Role, kind: FaultKind) -> &'static str
     ensures { result.now ≡ note_words role kind }
 {
     match kind {
-        1 => header_note(role),
-        6 => limit_note(role),
-        8 => reader_note(role),
-        _ => "",
+        FaultKind::Header => header_note(role),
+        FaultKind::Limit => limit_note(role),
+        FaultKind::Extra => reader_note(role),
+        FaultKind::Word
+        | FaultKind::Number
+        | FaultKind::Range
+        | FaultKind::Loop
+        | FaultKind::Missing
+        | FaultKind::NotRising
+        | FaultKind::HasGreatest
+        | FaultKind::Unnamed
+        | FaultKind::SameName
+        | FaultKind::BadName
+        | FaultKind::Padding
+        | FaultKind::LongForm => "",
     }
 }

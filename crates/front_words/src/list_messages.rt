@@ -11,6 +11,7 @@ use crate::openings::opening_note;
 use crate::pieces::MessagePiece::{Number, Shown, Text};
 use crate::pieces::say;
 use crate::reasons::reason_words;
+use line_text::FaultKind;
 use outside::{FailureReason, MOST_LINE, Sink, SinkFailed};
 
 /// Says that a list could not be read, the one in the file of that name or, with none, that of
@@ -55,7 +56,7 @@ fn short_line(text: &[u8]) -> &'static str
     } else if text == b"\n".as_slice() || text == b"\r\n".as_slice() {
         "it is empty (to_graph6_bytes ends its text with a line feed, so print adds a second)"
     } else {
-        fault_words(Role::Graph6, 7)
+        fault_words(Role::Graph6, FaultKind::Missing)
     }
 }
 
@@ -66,18 +67,30 @@ fn long_line(text: &[u8]) -> &'static str
     if text.len() > MOST_LINE {
         "it has more than 65,536 bytes, the most that a line of a list may have"
     } else {
-        fault_words(Role::Graph6, 6)
+        fault_words(Role::Graph6, FaultKind::Limit)
     }
 }
 
 // A fault of that kind in a line of a list with this text.
-fn list_fault(kind: u32, text: &[u8]) -> &'static str
+fn list_fault(kind: FaultKind, text: &[u8]) -> &'static str
     ensures { result.now ≡ list_fault kind text.now }
 {
     match kind {
-        6 => long_line(text),
-        7 => short_line(text),
-        _ => fault_words(Role::Graph6, kind),
+        FaultKind::Limit => long_line(text),
+        FaultKind::Missing => short_line(text),
+        FaultKind::Header
+        | FaultKind::Word
+        | FaultKind::Number
+        | FaultKind::Range
+        | FaultKind::Loop
+        | FaultKind::Extra
+        | FaultKind::NotRising
+        | FaultKind::HasGreatest
+        | FaultKind::Unnamed
+        | FaultKind::SameName
+        | FaultKind::BadName
+        | FaultKind::Padding
+        | FaultKind::LongForm => fault_words(Role::Graph6, kind),
     }
 }
 
@@ -89,13 +102,13 @@ fn line_kept(text: &[u8]) -> Option<&[u8]>
 }
 
 /// Says of the first bad line of a list its number and what is wrong with it, and the line,
-/// unless it is empty. The number of its kind of fault is given, and its text with its line end,
+/// unless it is empty. Its kind of fault is given, and its text with its line end,
 /// as far as it was kept; the text is empty if the line is missing. Takes no memory.
 pub fn say_bad_line<'a, K: Sink>(
     sink: &mut K,
     program: &'a str,
     number: u64,
-    kind: u32,
+    kind: FaultKind,
     text: &'a [u8],
 ) -> Result<(), SinkFailed>
     ensures { Says K.written K.writes K.faults (bad_line_text program.now number kind text.now) result

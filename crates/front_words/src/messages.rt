@@ -8,6 +8,7 @@ use crate::faults::{Role, fault_words, note_words};
 use crate::pieces::MessagePiece::{Number, Shown, Text};
 use crate::pieces::say;
 use crate::reasons::reason_words;
+use line_text::FaultKind;
 use outside::{FailureReason, Sink, SinkFailed};
 
 // The most bytes of a name that are shown.
@@ -25,8 +26,8 @@ pub struct BadFile<'a> {
     pub role: Role,
     /// The line of its first fault, counted from 1; 0 where it is too long.
     pub line: u64,
-    /// The number of the kind of the fault.
-    pub kind: u32,
+    /// The kind of the fault.
+    pub kind: FaultKind,
 }
 
 /// Says that the file of that name could not be read, and why. Takes no memory.

@@ -4,7 +4,6 @@ use Rattle.std.specs.Prelude.{ℕ, List, [], codes, Bool, if◌then◌else◌}
 use Rattle.std.specs.declared.option.Option.{Option}
 use Rattle.std.specs.declared.option.Option.TheVariants.{Some, None}
 use Rattle.outside.specs.declared.explain.FailureReason.{FailureReason}
-use Rattle.line_text.specs.Common.{kind_number}
 use Rattle.mcg6_reader.specs.declared.ending.BadLine.{BadLine}
 use Rattle.mcg6_reader.specs.declared.ending.Ending.{Ending}
 use Rattle.mcg6_reader.specs.declared.ending.Ending.TheVariants.{Done, Bad, ReadFault, WriteFault, Memory}
@@ -41,7 +40,7 @@ memory_words = codes "mcg6: memory ran out; what was written is of the first lin
 -- what is said of a list that ended so; nothing if each line was answered
 abbrev pub list_words : Ending → Known → List ℕ
 list_words Done known = []
-list_words (Bad found) known = bad_line_text program found.number (kind_number found.kind) found.text.items
+list_words (Bad found) known = bad_line_text program found.number found.kind found.text.items
 list_words ReadFault known = unread_list_text program known.name known.reason
 list_words WriteFault known = unwritten_words known.is_abandoned
 list_words Memory known = memory_words
@@ -52,7 +51,7 @@ nothing_words = codes "mcg6: memory ran out; nothing was written\n"
 
 -- of a bad graph file: its name, where it is outside the format and how, and the line
 abbrev pub bad_graph_words : (name : List ℕ) → BadLine → List ℕ
-bad_graph_words name found = bad_file_text program name Graph found.number (kind_number found.kind) (Some found.text.items)
+bad_graph_words name found = bad_file_text program name Graph found.number found.kind (Some found.text.items)
 
 -- what is said of the graph file of that name, whose encoding ended so; nothing where its graph6
 -- text was written

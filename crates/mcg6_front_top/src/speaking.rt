@@ -109,7 +109,7 @@ fn say_bad_graph<E: Sink>(errors: &mut E, name: &str, found: &BadLine) -> Result
         name,
         role: Role::Graph,
         line: found.number,
-        kind: found.kind.number(),
+        kind: found.kind,
     };
     say_bad_file(errors, PROGRAM, &bad, Some(found.text.as_slice()))
 }
@@ -133,13 +133,7 @@ fn say_list_ending<'a, E: Sink>(
     match ending {
         Ending::Done => say_nothing(errors),
         Ending::Bad { found } => {
-            say_bad_line(
-                errors,
-                PROGRAM,
-                found.number,
-                found.kind.number(),
-                &found.text,
-            )
+            say_bad_line(errors, PROGRAM, found.number, found.kind, &found.text)
         }
         Ending::ReadFault => say_unread_list(errors, PROGRAM, clues.name, clues.reason),
         Ending::WriteFault => say_unwritten(errors, clues.is_abandoned),

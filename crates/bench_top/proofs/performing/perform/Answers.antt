@@ -1,11 +1,28 @@
-use Rattle.std.proofs.Common.{List, ℕ, ◌≡◌, take, subst, ap, Err, arith}
+use Rattle.std.proofs.Common.{List, ℕ, ◌≡◌, take, subst, ap, Err, IsErrOf, Result, arith}
 use Rattle.outside.specs.Common.{IsCutOff, IsWritten, appended}
-use Rattle.bench_tasks.specs.Common.{asked, loaded}
+use Rattle.bench_tasks.specs.Common.{asked, loaded, IsRead, IsReadFault}
+use Rattle.bench_tasks.specs.declared.stop.Stop.{Stop}
+use Rattle.bench_tasks.specs.declared.tasks.Task.TheVariants as code
 use Rattle.bench_top.proofs.GivenFiles.{given-outcome}
 use Rattle.bench_top.proofs.ReadsMade.{absent-fault, first-reads}
-use Rattle.bench_outcomes.specs.Common.{LoadedGives}
+use Rattle.bench_outcomes.specs.Common.{IsReported, LoadedGives}
+use Rattle.bench_outcomes.specs.declared.status.Status.{Status}
+use Rattle.bench_outcomes.specs.declared.status.Status.TheVariants.{ReadFault}
 use Rattle.bench_top.proofs.WritesMade.{wrote-nothing, wrote-report}
 use Rattle.bench_top.proofs.performing.perform.Goals as goal
+
+-- a report has a status of its own, and was made of files that were read
+not-reported : IsReported ReadFault → ⊥
+not-reported reported = grind arith
+
+reported-not-fault : (status : Status) (P : Type 0) → IsReported status → status ≡ ReadFault → P
+reported-not-fault status P reported fault = absurd (not-reported (subst IsReported fault reported))
+
+read-not-fault : (result : Result code.the_data Stop) → IsRead result → IsReadFault result → ⊥
+read-not-fault result read fault = grind arith
+
+err-is : {X : Type 0} {status other : Status} → IsErrOf {T = X} (Err status) other → status ≡ other
+err-is is = grind arith
 
 pub returns-in-Ok-emit-clause-asks : goal.returns-in-Ok-emit-clause-asks
 returns-in-Ok-emit-clause-asks g c = grind (arith, first-reads)
@@ -73,7 +90,7 @@ returns-clause-writes g c = grind arith
 pub returns-in-Ok-emit-clause-answered : goal.returns-in-Ok-emit-clause-answered
 returns-in-Ok-emit-clause-answered g c =
     given-outcome g.S.Shelf.reads g.K.Sink.written g.K.Sink.writes (asked c.args.command) c.gather-gathered.result c.in-Ok.report.status c.args.shelf.now c.gather-gathered.new.shelf
-    c.args.sink.now c.emit.new.sink c.gather-gathered.ensures.answered
+    c.args.sink.now c.emit.new.sink (reported-not-fault c.in-Ok.report.status _ c.in-Ok.ensures.reported) (λ fault. absurd (read-not-fault c.gather-gathered.result c.in-Ok.ensures.read fault)) c.gather-gathered.ensures.answered
     (λ held loads. wrote-report g.K.Sink.written g.K.Sink.writes (LoadedGives held) c.in-Ok.report.status c.in-Ok.report.bytes.items c.args.sink.now c.emit.new.sink c.in-Ok.ensures.reported
     (c.in-Ok.ensures.gives held loads)
     (subst (λ (l : List ℕ). g.K.Sink.written c.emit.new.sink ≡ appended (g.K.Sink.written c.args.sink.now) l) c.deref.ensures.value c.in-Ok-emit.ensures.ok)
@@ -82,7 +99,7 @@ returns-in-Ok-emit-clause-answered g c =
 pub returns-in-Ok-clause-answered : goal.returns-in-Ok-clause-answered
 returns-in-Ok-clause-answered g c =
     given-outcome g.S.Shelf.reads g.K.Sink.written g.K.Sink.writes (asked c.args.command) c.gather-gathered.result _ c.args.shelf.now c.gather-gathered.new.shelf
-    c.args.sink.now c.emit.new.sink c.gather-gathered.ensures.answered
+    c.args.sink.now c.emit.new.sink (λ fault. cc fault) (λ fault. absurd (read-not-fault c.gather-gathered.result c.in-Ok.ensures.read fault)) c.gather-gathered.ensures.answered
     (λ held loads.
     let cut = c.in-Err-emit.ensures.err in
     record {
@@ -97,5 +114,5 @@ returns-in-Ok-clause-answered g c =
 pub returns-clause-answered : goal.returns-clause-answered
 returns-clause-answered g c =
     given-outcome g.S.Shelf.reads g.K.Sink.written g.K.Sink.writes (asked c.args.command) c.gather-gathered.result c.in-Err.status c.args.shelf.now c.gather-gathered.new.shelf
-    c.args.sink.now c.args.sink.now c.gather-gathered.ensures.answered
+    c.args.sink.now c.args.sink.now (λ fault. c.in-Err.ensures.read_fault.0 (ap Err fault)) (λ fault. err-is (c.in-Err.ensures.read_fault.1 fault)) c.gather-gathered.ensures.answered
     (λ held loads. wrote-nothing g.K.Sink.written g.K.Sink.writes (LoadedGives held) c.in-Err.status c.args.sink.now c.in-Err.ensures.stops)
