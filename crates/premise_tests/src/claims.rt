@@ -40,6 +40,13 @@ pub enum Claim {
     Lead(Steps, &'static [u32]),
     /// The second set of edges is an ear of the first.
     Ear(&'static [u32], &'static [u32]),
+    /// The second and the third set of edges are two ears of the first, without a common inner
+    /// vertex.
+    TwoEars(&'static [u32], &'static [u32], &'static [u32]),
+    /// Neither the second nor the third set of edges makes with the first a stage.
+    Needed(&'static [u32], &'static [u32], &'static [u32]),
+    /// No vertex is met by both sets of edges.
+    Apart(&'static [u32], &'static [u32]),
     /// So many ears are as many as edges and one, less the vertices.
     EarCount(u32),
     /// Deleting one pair of the list, or two, leaves a graph with a perfect matching.
@@ -49,6 +56,8 @@ pub enum Claim {
 /// What a graph may be or have.
 pub enum Property {
     Covered,
+    /// It has two vertices, and its allowed edges connect all vertices.
+    Elementary,
     Connected,
     Bipartite,
     Nonbipartite,
@@ -111,6 +120,8 @@ pub enum OfSet {
     Odd,
     Proper,
     Barrier,
+    /// It is a barrier, and no barrier contains it and a further vertex.
+    MaximalBarrier,
     /// The graph that it induces is factor-critical.
     Critical,
     Tight,

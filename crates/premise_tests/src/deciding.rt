@@ -36,6 +36,16 @@ impl Claim {
             Claim::StrongEach(side, matching) => g.is_strong(set_of(side), set_of(matching)),
             Claim::Parted(a, b) => g.has_tight_cut(one(*a), one(*b)),
             Claim::Ear(stage, ear) => g.is_ear(set_of(stage), set_of(ear)),
+            Claim::TwoEars(stage, first, second) => {
+                g.are_ears(set_of(stage), set_of(first), set_of(second))
+            }
+            Claim::Needed(stage, first, second) => {
+                let stage = set_of(stage);
+                !g.is_stage(stage | set_of(first)) && !g.is_stage(stage | set_of(second))
+            }
+            Claim::Apart(first, second) => {
+                !meets(g.met_by(set_of(first)), g.met_by(set_of(second)))
+            }
             Claim::EarCount(ears) => {
                 ears.saturating_add(g.order()) == g.all_edges().count_ones() + 1
             }
@@ -61,6 +71,7 @@ impl Property {
     fn is_seen(&self, g: &PairGraph) -> bool {
         match self {
             Property::Covered => g.is_covered(),
+            Property::Elementary => g.is_elementary(),
             Property::Connected => g.is_connected(),
             Property::Bipartite => !g.has_loop() && g.has_side(),
             Property::Nonbipartite => g.has_loop() || !g.has_side(),
@@ -117,6 +128,7 @@ impl OfSet {
             OfSet::Odd => is_odd(set),
             OfSet::Proper => set != 0 && set != g.all,
             OfSet::Barrier => g.is_barrier(set),
+            OfSet::MaximalBarrier => g.is_maximal_barrier(set),
             OfSet::Critical => g.is_factor_critical(set),
             OfSet::Tight => g.is_tight(set),
             OfSet::Nontrivial => g.is_nontrivial(set),

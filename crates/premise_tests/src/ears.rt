@@ -65,15 +65,18 @@ impl PairGraph {
             && self.is_connected_by(edges)
     }
 
+    /// Whether both sets of edges are ears of the stage, without a common edge or inner vertex.
+    pub fn are_ears(&self, stage: u32, first: u32, second: u32) -> bool {
+        !meets(first, second)
+            && is_part(self.met_by(first) & self.met_by(second), self.met_by(stage))
+            && self.is_ear(stage, first)
+            && self.is_ear(stage, second)
+    }
+
     // Whether the edges are two ears of the stage without a common inner vertex.
     fn are_two_ears(&self, stage: u32, edges: u32) -> bool {
         for first in 0..edges {
-            let second = edges & !first;
-            if is_part(first, edges)
-                && is_part(self.met_by(first) & self.met_by(second), self.met_by(stage))
-                && self.is_ear(stage, first)
-                && self.is_ear(stage, second)
-            {
+            if is_part(first, edges) && self.are_ears(stage, first, edges & !first) {
                 return true;
             }
         }

@@ -57,6 +57,8 @@ pub const HEXAGON: Given = (6, &[(1, 2), (2, 3), (3, 4), (4, 5), (5, 6), (6, 1)]
 
 pub const K4: Given = (4, &[(1, 2), (1, 3), (1, 4), (2, 3), (2, 4), (3, 4)]);
 
+pub const THREE_PARALLEL: Given = (2, &[(1, 2), (1, 2), (1, 2)]);
+
 pub const K23: Given = (5, &[(1, 3), (1, 4), (1, 5), (2, 3), (2, 4), (2, 5)]);
 
 /// The hexagon with loops at 1, 3 and 5.
@@ -72,6 +74,21 @@ pub const LOOPED_HEXAGON: Given = (
         (1, 1),
         (3, 3),
         (5, 5),
+    ],
+);
+
+/// The hexagon with the edges 13 and 15.
+pub const CHORDED_HEXAGON: Given = (
+    6,
+    &[
+        (1, 2),
+        (2, 3),
+        (3, 4),
+        (4, 5),
+        (5, 6),
+        (6, 1),
+        (1, 3),
+        (1, 5),
     ],
 );
 

@@ -99,6 +99,16 @@ impl PairGraph {
         self.parts(set).1 == set.count_ones()
     }
 
+    /// Whether the set is a barrier, and no barrier contains it and a further vertex.
+    pub fn is_maximal_barrier(&self, set: u32) -> bool {
+        for other in &self.sets {
+            if *other != set && is_part(set, *other) && self.is_barrier(*other) {
+                return false;
+            }
+        }
+        self.is_barrier(set)
+    }
+
     pub fn are_equivalent(&self, u: u32, v: u32) -> bool {
         u == v || !self.has_perfect(u | v)
     }
@@ -147,6 +157,19 @@ impl PairGraph {
     /// Whether the graph is matching covered. Nothing is asked of its loops.
     pub fn is_covered(&self) -> bool {
         self.order() >= 2 && self.is_connected() && self.are_allowed(false)
+    }
+
+    /// Whether the graph is elementary: it has two vertices or more, and the edges of its perfect
+    /// matchings connect them all.
+    pub fn is_elementary(&self) -> bool {
+        let mut allowed = 0;
+        for matching in &self.matchings {
+            if matching.met == self.all {
+                allowed |= matching.edges;
+            }
+        }
+        let reached = self.reached(least(self.all), allowed, self.all);
+        self.order() >= 2 && is_part(self.all, reached)
     }
 
     pub fn is_two_extendable(&self) -> bool {

@@ -109,21 +109,21 @@ static EXTENDABLE: [Row; 5] = [
         graph: "the path with four vertices",
         given: PATH_OF_4,
         holds: &[Is(Connected), Set(Perfect, &[]), Is(TwoExtendable)],
-        fails: &[Number(Order, 6), Is(Covered)],
+        fails: &[Number(Order, 6), Is(Covered), Is(ThreeConnected)],
     },
     Row {
         premise: "extendable_law: connected",
         graph: "three disjoint edges",
         given: THREE_EDGES,
         holds: &[Number(Order, 6), Set(Perfect, &[]), Is(TwoExtendable)],
-        fails: &[Is(Connected), Is(Covered)],
+        fails: &[Is(Connected), Is(Covered), Is(ThreeConnected)],
     },
     Row {
         premise: "extendable_law: a perfect matching",
         graph: "the star K1,5",
         given: STAR_OF_5,
         holds: &[Number(Order, 6), Is(Connected), Is(TwoExtendable)],
-        fails: &[Set(Perfect, &[]), Is(Covered)],
+        fails: &[Set(Perfect, &[]), Is(Covered), Is(ThreeConnected)],
     },
     Row {
         premise: "extendable_law: 2-extendable",
@@ -135,7 +135,7 @@ static EXTENDABLE: [Row; 5] = [
             Set(Perfect, &[]),
             Is(Composite),
         ],
-        fails: &[Is(TwoExtendable)],
+        fails: &[Is(TwoExtendable), Is(ThreeConnected)],
     },
     Row {
         premise: "extendable_law: `brick`: not bipartite",

@@ -1,14 +1,16 @@
 //! Premises of the theorems on ears, and of that on reports.
 
-use crate::claims::Claim::{Ear, EarCount, Edges, Is, Lead, Number, OneOrTwo, Set};
+use crate::claims::Claim::{
+    Apart, Ear, EarCount, Edges, Is, Lead, Needed, Number, OneOrTwo, Set, TwoEars,
+};
 use crate::claims::OfEdges::{Conformal, Stage};
 use crate::claims::OfNumber::Size;
 use crate::claims::OfSet::{Canonical, Nontrivial, Perfect, Side, Tight};
 use crate::claims::Property::{Bipartite, Covered, Loopless};
 use crate::ears::Steps;
 use crate::graphs::{
-    CHORDED_CYCLE, EDGE_AND_VERTEX, HEXAGON, K2, K2_WITH_LOOP, K4, PATH_OF_4, TRIANGLE_WITH_EAR,
-    UNCONFORMAL,
+    CHORDED_CYCLE, CHORDED_HEXAGON, EDGE_AND_VERTEX, HEXAGON, K2, K2_WITH_LOOP, K4, PATH_OF_4,
+    THREE_PARALLEL, TRIANGLE_WITH_EAR, UNCONFORMAL,
 };
 use crate::rows::{Row, first_wrong};
 use std::alloc::AllocError as Memory;
@@ -98,6 +100,47 @@ static LISTS: [Row; 8] = [
     },
 ];
 
+static PAIRS: [Row; 3] = [
+    // the two ears lead to all edges, so that the three are an ear decomposition
+    Row {
+        premise: "ear_decomposition_law: `disjoint`, `lists`: neither ear alone keeps the stage matching covered",
+        graph: "one edge of three parallel edges, and the two others as ears",
+        given: THREE_PARALLEL,
+        holds: &[
+            Is(Loopless),
+            Edges(Stage, &[1]),
+            TwoEars(&[1], &[2], &[3]),
+            Edges(Stage, &[1, 2, 3]),
+        ],
+        fails: &[Needed(&[1], &[2], &[3]), Apart(&[2], &[3])],
+    },
+    Row {
+        premise: "ear_decomposition_law: `disjoint`: the next stage is matching covered",
+        graph: "the hexagon 1 2 3 4 5 6 and the ears 13 and 15",
+        given: CHORDED_HEXAGON,
+        holds: &[
+            Is(Loopless),
+            Edges(Stage, &[1, 2, 3, 4, 5, 6]),
+            TwoEars(&[1, 2, 3, 4, 5, 6], &[7], &[8]),
+            Needed(&[1, 2, 3, 4, 5, 6], &[7], &[8]),
+        ],
+        fails: &[Edges(Stage, &[1, 2, 3, 4, 5, 6, 7, 8]), Apart(&[7], &[8])],
+    },
+    // 14 and 24 are the edges 3 and 5
+    Row {
+        premise: "ear_decomposition_law: `disjoint`: H is matching covered",
+        graph: "in K4, the subgraph with the edges 12, 13, 23, 34 and the ears 14 and 24",
+        given: K4,
+        holds: &[
+            Is(Loopless),
+            TwoEars(&[1, 2, 4, 6], &[3], &[5]),
+            Needed(&[1, 2, 4, 6], &[3], &[5]),
+            Edges(Stage, &[1, 2, 3, 4, 5, 6]),
+        ],
+        fails: &[Edges(Stage, &[1, 2, 4, 6]), Apart(&[3], &[5])],
+    },
+];
+
 static EARS: [Row; 7] = [
     Row {
         premise: "two_ear_law: `pairs`, `edges`: at least one pair or edge",
@@ -162,6 +205,12 @@ static EARS: [Row; 7] = [
 #[test]
 fn premises_on_ear_decompositions(rt: HostRuntime) -> Result<(), Memory> {
     assert_eq!(rt; first_wrong(rt.alloc(), &LISTS)?, None);
+    Ok(())
+}
+
+#[test]
+fn premises_on_two_ears(rt: HostRuntime) -> Result<(), Memory> {
+    assert_eq!(rt; first_wrong(rt.alloc(), &PAIRS)?, None);
     Ok(())
 }
 

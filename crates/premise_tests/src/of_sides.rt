@@ -1,13 +1,14 @@
 //! Premises of the marriage theorem and of Hetyei's theorem.
 
-use crate::claims::Claim::{Is, Lead, Number, Set};
+use crate::claims::Claim::{Edges, Is, Lead, Number, Set, Strong};
+use crate::claims::OfEdges::{Matching, PerfectMatching, Together};
 use crate::claims::OfNumber::Order;
 use crate::claims::OfSet::{Half, Hall, PairsMatched, Perfect, Proper, Side, Surplus};
 use crate::claims::Property::{Bipartite, Connected, Covered, Loopless, Met};
 use crate::ears::Steps;
 use crate::graphs::{
-    DIAMOND, EDGE_AND_VERTEX, EMPTY, FOUR_ISOLATED, K2_WITH_LOOP, LOOPED_PATH, ONE_LOOP, PATH_OF_3,
-    PATH_OF_4, STAR_OF_3, TWO_ISOLATED,
+    DIAMOND, EDGE_AND_VERTEX, EMPTY, FOUR_ISOLATED, K2, K2_WITH_LOOP, LOOPED_PATH, ONE_LOOP,
+    PATH_OF_3, PATH_OF_4, STAR_OF_3, TWO_ISOLATED,
 };
 use crate::rows::{Row, first_wrong};
 use std::alloc::AllocError as Memory;
@@ -171,6 +172,45 @@ static HETYEI: [Row; 15] = [
     },
 ];
 
+static DIGRAPHS: [Row; 3] = [
+    Row {
+        premise: "hetyei_law: `digraph`: two vertices",
+        graph: "the empty graph",
+        given: EMPTY,
+        holds: &[
+            Set(Side, &[]),
+            Edges(PerfectMatching, &[]),
+            Strong(&[], &[], &[]),
+        ],
+        fails: &[Number(Order, 2), Is(Covered)],
+    },
+    Row {
+        premise: "hetyei_law: `digraph`: A is a side",
+        graph: "the diamond 12, 13, 23, 24, 34 with A = {1, 4} and M = {12, 34}",
+        given: DIAMOND,
+        holds: &[
+            Is(Loopless),
+            Number(Order, 2),
+            Edges(PerfectMatching, &[1, 5]),
+            Strong(&[1, 4], &[1, 5], &[]),
+        ],
+        fails: &[Set(Side, &[1, 4]), Edges(Together, &[3]), Is(Covered)],
+    },
+    Row {
+        premise: "hetyei_law: `digraph`: M is perfect",
+        graph: "K2 with the empty matching",
+        given: K2,
+        holds: &[
+            Is(Loopless),
+            Number(Order, 2),
+            Set(Side, &[1]),
+            Edges(Matching, &[]),
+            Is(Covered),
+        ],
+        fails: &[Edges(PerfectMatching, &[]), Strong(&[1], &[], &[])],
+    },
+];
+
 #[test]
 fn premises_of_the_marriage_theorem(rt: HostRuntime) -> Result<(), Memory> {
     assert_eq!(rt; first_wrong(rt.alloc(), &MARRIAGE)?, None);
@@ -180,5 +220,11 @@ fn premises_of_the_marriage_theorem(rt: HostRuntime) -> Result<(), Memory> {
 #[test]
 fn premises_of_hetyeis_theorem(rt: HostRuntime) -> Result<(), Memory> {
     assert_eq!(rt; first_wrong(rt.alloc(), &HETYEI)?, None);
+    Ok(())
+}
+
+#[test]
+fn premises_on_the_digraph_of_a_matching(rt: HostRuntime) -> Result<(), Memory> {
+    assert_eq!(rt; first_wrong(rt.alloc(), &DIGRAPHS)?, None);
     Ok(())
 }
