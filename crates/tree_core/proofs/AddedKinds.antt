@@ -1,11 +1,11 @@
 -- The kinds of the leaves of two lists, one after the other, and of one leaf. What stands at a
 -- place of the first list stays, and what stands after it comes from the second.
-use Rattle.std.proofs.Common.{◌≡◌, ℕ, ◌-◌, List, [], ◌∷◌, ◌++◌, length, ap, subst, sym, ◌∙◌, inl, inr, arith, append_assoc}
+use Rattle.std.proofs.Common.{◌≡◌, ℕ, ◌-◌, List, [], ◌∷◌, ◌++◌, length, ap, ◌∙◌, inl, inr, arith}
 use Rattle.std.proofs.Math.ListN.{get_or-append}
 use Rattle.std.proofs.Math.Seq.{get_or-append_right}
 use Rattle.counting.proofs.Common.{cases_lt, length-append}
 use Rattle.graph_core.proofs.Common.{Graph}
-use Rattle.tree_core.specs.Common.{AddsKinds, AreLeafKinds, IsLeafKind}
+use Rattle.tree_core.specs.Common.{AreLeafKinds, IsLeafKind}
 use Rattle.tree_core.specs.declared.tallies.LeafKind.{LeafKind}
 use Rattle.tree_core.specs.declared.tallies.LeafKind.TheVariants.{Brick}
 
@@ -27,15 +27,3 @@ kinds-both g ps qs ks ls a b = record {
         grind (arith, get_or-append_right ps qs (i - 1), get_or-append_right ks ls (i - 1) Brick)
   ];
 }
-
--- a leaf is added by its kind
-pub adds-one : (g : Graph) (p : List (List ℕ)) (before now : List LeafKind) (kind : LeafKind) → IsLeafKind g p kind → now ≡ before ++ kind ∷ [] → AddsKinds g (p ∷ []) before now
-adds-one g p before now kind is e = record { kinds = kind ∷ []; right = kinds-one g p kind is; behind = e }
-
--- the leaves of two lists are added one list after the other
-pub adds-both : (g : Graph) (ps qs : List (List (List ℕ))) (before between now : List LeafKind) → AddsKinds g ps before between → AddsKinds g qs between now → AddsKinds g (ps ++ qs) before now
-adds-both g ps qs before between now a b = grind (arith, kinds-both g ps qs a.kinds b.kinds a.right b.right, append_assoc before a.kinds b.kinds)
-
--- and after none they are all
-pub adds-all : (g : Graph) (ps : List (List (List ℕ))) (now : List LeafKind) → AddsKinds g ps [] now → AreLeafKinds g ps now
-adds-all g ps now a = subst (AreLeafKinds g ps) (sym a.behind) a.right

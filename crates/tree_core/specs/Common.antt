@@ -12,4 +12,4 @@ unfoldable pub use Rattle.tree_core.specs.LeafMaps.{move_maps}
 pub use Rattle.tree_core.specs.MoveView.{move_of, moves_of}
 pub use Rattle.tree_core.specs.Turns.{turn_result, MayTurn, IsAnswer}
 pub use Rattle.tree_core.specs.Exchanges.{IsExchange, shore_after, is_turned, tree_after, cut_after}
-pub use Rattle.tree_core.specs.Tallies.{IsKindOf, IsLeafKind, kind_at, AreLeafKinds, AddsKinds, is_brick, tally_of, IsTally}
+pub use Rattle.tree_core.specs.Tallies.{IsKindOf, IsLeafKind, kind_at, AreLeafKinds, is_brick, tally_of, IsTally}

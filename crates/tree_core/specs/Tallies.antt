@@ -3,7 +3,7 @@
 -- a brace where the quotient is bipartite, and a brick where it is not.
 -- Stated by: tree_core, decomposer, report_text, mcg6_lines, bench_reports.
 -- Rests on it: tree_check, bench_outcomes, bench_top, theorems.
-use Rattle.std.specs.Prelude.{◌≡◌, ℕ, ◌-◌, ◌++◌, List, length, slice_index_or, count_by, Bool, true, false, not}
+use Rattle.std.specs.Prelude.{◌≡◌, ℕ, ◌-◌, List, length, slice_index_or, count_by, Bool, true, false, not}
 use Rattle.counting.specs.Common.{Within}
 use Rattle.graph_core.specs.Common.{Graph, IsBipartite, quotient}
 use Rattle.tree_core.specs.LeafMaps.{leaf_at}
@@ -28,12 +28,6 @@ kind_at kinds i = slice_index_or kinds (i - 1) Brick
 pub record AreLeafKinds (g : Graph) (ps : List (List (List ℕ))) (kinds : List LeafKind) : Type 0 where
   pub each_one : length kinds ≡ length ps
   pub right : (i : ℕ) → Within (length ps) i → IsLeafKind g (leaf_at ps i) (kind_at kinds i)
-
--- the kinds before, and then those of the leaves at these partitions
-pub record AddsKinds (g : Graph) (ps : List (List (List ℕ))) (before now : List LeafKind) : Type 0 where
-  pub kinds : List LeafKind
-  pub right : AreLeafKinds g ps kinds
-  pub behind : now ≡ before ++ kinds
 
 -- the kind is brick
 abbrev pub is_brick : LeafKind → Bool
