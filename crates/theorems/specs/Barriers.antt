@@ -5,7 +5,7 @@ use Rattle.std.specs.Prelude.{◌≡◌, ℕ, ◌≤◌, Bool, List, ◌&&◌, t
 use Rattle.counting.specs.Common.{Within, Set, some}
 use Rattle.graph_core.specs.Common.{Graph, IsBarrier, Walk, has_ends, is_allowed, size}
 
--- s is a maximal barrier: a barrier that contains s has no further vertex
+-- s is a maximal barrier: s = t for each barrier t ⊇ s
 pub record IsMaximalBarrier (g : Graph) (s : Set) : Type 0 where
   pub barrier : IsBarrier g s
   pub maximal : (t : Set) → IsBarrier g t → ((v : ℕ) → Within g.order v → s v ≡ true → t v ≡ true) → (v : ℕ) → Within g.order v → t v ≡ true → s v ≡ true

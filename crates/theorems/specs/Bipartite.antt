@@ -9,16 +9,16 @@ use Rattle.graph_core.specs.Common.{Graph, HasPerfect, Walk, size}
 use Rattle.matching_digraph.specs.Digraph.{arc}
 use Rattle.theorems.specs.Braces.{neighbourhood}
 
--- each set of 1 to |a| - 1 vertices of the side a has a neighbour more than vertices
+-- |N(s)| ≥ |s| + 1 for each s ⊂ a with 1 ≤ |s| ≤ |a| − 1
 abbrev pub HasSurplus : Graph → Set → Type 0
 HasSurplus g a = (s : Set) → ((v : ℕ) → Within g.order v → s v ≡ true → a v ≡ true) → 1 ≤ count g.order s → count g.order s + 1 ≤ count g.order a → count g.order s + 1 ≤ count g.order (neighbourhood g s)
 
--- a perfect matching without any vertex of a and any vertex outside a
+-- G − u − v has a perfect matching for each u ∈ a and each v ∉ a
 abbrev pub ArePairsMatched : Graph → Set → Type 0
 ArePairsMatched g a = (u v : ℕ) → Within g.order u → Within g.order v → a u ≡ true → a v ≡ false → HasPerfect g (pair_set u v)
 
--- each of the ears is one of the edges before it, and they lead from f to all edges; nothing is
--- asked of the stages between
+-- each ear is an ear of the edges before it, f and the earlier ears, and together they make all
+-- edges: f ∪ a₁ ∪ .. ∪ aₖ = E; nothing is asked of the stages between
 abbrev pub AreEars : Graph → Set → List PlainEar → Type 0
 AreEars g f [] = (e : ℕ) → Within (size g) e → f e ≡ true
 AreEars g f (a ∷ ears) = IsEar g f a.begin a.edges × AreEars g (with_edges f a.edges) ears

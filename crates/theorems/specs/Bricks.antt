@@ -5,7 +5,7 @@ use Rattle.std.specs.Prelude.{◌≡◌, ℕ, ◌≤◌, ◌⊎◌, false, not}
 use Rattle.counting.specs.Common.{Within, count, Set, pair_set, singleton, union}
 use Rattle.graph_core.specs.Common.{Graph, HasPerfect, IsBarrier, IsCutPair, IsNontrivial, IsTight, Joined, joined}
 
--- at least four vertices, and connected without any two vertices or fewer
+-- 3-connected: at least four vertices, and G − r is connected for each r with |r| ≤ 2
 pub record IsThreeConnected (g : Graph) : Type 0 where
   pub four : 4 ≤ g.order
   pub connected : (r : Set) → count g.order r ≤ 2 → (a b : ℕ) → Within g.order a → Within g.order b → r a ≡ false → r b ≡ false → Joined g r a b

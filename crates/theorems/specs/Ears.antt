@@ -13,11 +13,11 @@ ear_count [] = 0
 ear_count (one a ∷ steps) = 1 + ear_count steps
 ear_count (two a b ∷ steps) = 2 + ear_count steps
 
--- the graph of the edges f is conformal ("nice"): without its vertices g has a perfect matching
+-- the graph H of the edges f is conformal ("nice"): G − V(H) has a perfect matching
 abbrev pub IsConformal : Graph → Set → Type 0
 IsConformal g f = HasPerfect g (is_met g f)
 
--- the two ears of a step have no vertex in common
+-- the two ears of a step have no vertex in common: V(a) ∩ V(b) = ∅
 abbrev pub IsDisjoint : Graph → PlainStep → Type 0
 IsDisjoint g (one a) = Unit {0}
 IsDisjoint g (two a b) = (w : ℕ) → mem (trail g a.begin a.edges) w ≡ true → mem (trail g b.begin b.edges) w ≡ true → ⊥

@@ -5,7 +5,7 @@ use Rattle.std.specs.Prelude.{◌≡◌, ◌↔◌, ℕ, ◌+◌, ◌*◌, ◌&&
 use Rattle.counting.specs.Common.{count, Within, Set, complement, minus, singleton, some}
 use Rattle.graph_core.specs.Common.{InA, InC, InD, Graph, connects, inside, is_least, size, HasPerfect, IsPerfect, joined}
 
--- d, a and c are the Gallai-Edmonds sets D, A and C of g
+-- the Gallai-Edmonds sets of g: d = D(G), a = A(G) and c = C(G)
 pub record AreThreeSets (g : Graph) (d a c : Set) : Type 0 where
   pub in_d : (v : ℕ) → Within g.order v → (d v ≡ true) ↔ InD g v
   pub in_a : (v : ℕ) → Within g.order v → (a v ≡ true) ↔ InA g v
@@ -19,7 +19,7 @@ component_in g d u = joined g (complement d) u
 abbrev pub HasPerfectWithin : Graph → Set → Type 0
 HasPerfectWithin g k = HasPerfect g (complement k)
 
--- G[K] is factor-critical: without any one of its vertices it has a perfect matching
+-- G[K] is factor-critical: G[K − v] has a perfect matching for each v ∈ K
 abbrev pub IsFactorCritical : Graph → Set → Type 0
 IsFactorCritical g k = (v : ℕ) → Within g.order v → k v ≡ true → HasPerfectWithin g (minus k (singleton v))
 
@@ -27,8 +27,7 @@ IsFactorCritical g k = (v : ℕ) → Within g.order v → k v ≡ true → HasPe
 abbrev pub MatchesWithin : Graph → Set → Set → Type 0
 MatchesWithin g m k = IsPerfect g (complement k) (λ e. m e && inside g k e)
 
--- the matching m matches all but one vertex of k in k: k has one vertex more than the edges of m
--- inside k have ends
+-- the matching m matches all but one vertex of k in k: 2|{e ∈ m : e inside k}| + 1 = |k|
 abbrev pub MatchesAllButOne : Graph → Set → Set → Type 0
 MatchesAllButOne g m k = 2 * count (size g) (λ e. m e && inside g k e) + 1 ≡ count g.order k
 

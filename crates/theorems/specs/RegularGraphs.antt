@@ -5,12 +5,11 @@ use Rattle.std.specs.Prelude.{◌≡◌, ℕ, ◌≤◌, true, false}
 use Rattle.counting.specs.Common.{Within, count, is_odd, Set, everything}
 use Rattle.graph_core.specs.Common.{Graph, degree, edges_in_cut}
 
--- how many edges are in the cut of x
+-- |∂(x)|
 abbrev pub cut_size : Graph → Set → ℕ
 cut_size g x = edges_in_cut g everything x
 
--- 2-edge-connected: each vertex set that is neither empty nor all has at least two edges in its
--- cut
+-- 2-edge-connected: |∂(x)| ≥ 2 for each vertex set x with x ≠ ∅ and x ≠ V
 abbrev pub IsTwoEdgeConnected : Graph → Type 0
 IsTwoEdgeConnected g = (x : Set) (u v : ℕ) → Within g.order u → Within g.order v → x u ≡ true → x v ≡ false → 2 ≤ cut_size g x
 
@@ -18,7 +17,6 @@ IsTwoEdgeConnected g = (x : Set) (u v : ℕ) → Within g.order u → Within g.o
 abbrev pub IsRegular : ℕ → Graph → Type 0
 IsRegular r g = (v : ℕ) → Within g.order v → degree g everything v ≡ r
 
--- each vertex set of odd size has at least r edges in its cut; an r-regular graph of this kind is
--- an r-graph
+-- |∂(x)| ≥ r for each vertex set x with |x| odd; an r-regular graph of this kind is an r-graph
 abbrev pub HasWideOddCuts : ℕ → Graph → Type 0
 HasWideOddCuts r g = (x : Set) → is_odd (count g.order x) ≡ true → r ≤ cut_size g x

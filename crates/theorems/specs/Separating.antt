@@ -11,6 +11,6 @@ pub record IsSeparating (g : Graph) (x : List ℕ) : Type 0 where
   pub kept : IsCovered (contracted g (kept_at g.order (singles g.order) x))
   pub merged : IsCovered (contracted g (merged_at g.order (singles g.order) x))
 
--- each edge that is not a loop is in a perfect matching that has exactly one edge in the cut of x
+-- each edge that is not a loop is in a perfect matching m with |m ∩ ∂(x)| = 1
 abbrev pub IsMetOnce : Graph → Set → Type 0
 IsMetOnce g x = (e : ℕ) → Within (size g) e → first_end g e ≢ second_end g e → (m : Set) × IsPerfect g none m × (m e ≡ true) × (edges_in_cut g m x ≡ 1)

@@ -7,14 +7,16 @@ use Rattle.counting.specs.Common.{Within, IsIn, mem, Set, complement, every, non
 use Rattle.graph_core.specs.Common.{Graph, IsGraph, adjacent, edges_in_cut, in_cut, size, IsPerfectAt, blocks_adjacent, IsUnion, block_count}
 use Rattle.tree_core.specs.Common.{IsTightShore, kept_at, merged_at, leaf_at, Shape, cut, leaf}
 
--- the cuts of x and y cross: each of the four corners holds one of 1 to n
+-- the cuts of x and y cross: none of the four corners x ∩ y, x − y, y − x and the complement of
+-- x ∪ y in {1, .., n} is empty
 pub record Cross (n : ℕ) (x y : Set) : Type 0 where
   pub both : (v : ℕ) × Within n v × (x v ≡ true) × (y v ≡ true)
   pub first : (v : ℕ) × Within n v × (x v ≡ true) × (y v ≡ false)
   pub second : (v : ℕ) × Within n v × (x v ≡ false) × (y v ≡ true)
   pub neither : (v : ℕ) × Within n v × (x v ≡ false) × (y v ≡ false)
 
--- a maximal family of nontrivial tight cuts of which no two cross, given by canonical shores
+-- a maximal family f of nontrivial tight cuts of which no two cross, given by their canonical
+-- shores: a cut that crosses none of f is in f
 pub record IsMaximalLaminar (g : Graph) (f : List (List ℕ)) : Type 0 where
   pub cuts : (x : List ℕ) → IsIn x f → IsTightShore g x
   pub laminar : (x y : List ℕ) → IsIn x f → IsIn y f → ¬ Cross g.order (mem x) (mem y)
@@ -26,8 +28,8 @@ AreDistinct [] = Unit {0}
 AreDistinct (x ∷ xs) = (¬ IsIn x xs) × AreDistinct xs
 
 -- a nontrivial tight cut of the graph at the stage p, where each block of p is one vertex: x is a
--- union of blocks, at least three are inside and at least three outside, and each perfect
--- matching of the stage has exactly one edge in the cut
+-- union of blocks, at least three are inside and at least three outside, and |m ∩ ∂(x)| = 1 for
+-- each perfect matching m of the stage
 pub record IsTightCutAt (g : Graph) (p : List (List ℕ)) (x : Set) : Type 0 where
   pub union : IsUnion g.order p x
   pub inside : 3 ≤ block_count p x
