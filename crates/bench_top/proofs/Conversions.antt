@@ -2,11 +2,11 @@
 -- So a file that holds it is read as this graph with these names, and the text of them is the
 -- same text.
 use Rattle.std.proofs.Common.{◌≡◌, ℕ, ◌≤◌, List, [], ◌∷◌, length, Some, refl, subst, codes, arith}
-use Rattle.outside.specs.Common.{NamedFile, file_named}
+use Rattle.outside.specs.Common.{NamedFile, file_named, most_bytes}
 use Rattle.line_text.specs.Common.{reading_of}
 use Rattle.line_text.proofs.ExactlyOne.{Stands-reading_of}
 use Rattle.graph_text.specs.Common.{NamedGraph, either_version}
-use Rattle.bench_tasks.specs.Common.{Loaded, All, loaded_as, graph_file, most_bytes}
+use Rattle.bench_tasks.specs.Common.{Loaded, All, loaded_as, graph_file}
 use Rattle.bench_outcomes.specs.Common.{LoadedGives, Outcome, Converted, given_or_plain}
 use Rattle.bench_tasks.specs.Tasks as task
 use Rattle.bench_tasks.specs.declared.verbs.GraphVerb.TheVariants.{Convert}

@@ -5,7 +5,8 @@ use Rattle.counting.proofs.Common.{nat_tests}
 use Rattle.line_text.specs.Common.{kind_number}
 use Rattle.line_text.specs.declared.faults.FaultKind.{FaultKind}
 use Rattle.line_text.specs.declared.faults.FaultKind.TheVariants.{Limit}
-use Rattle.bench_tasks.specs.Common.{Loaded, All, Bad, file_read, from_reading, most_bytes}
+use Rattle.outside.specs.Common.{most_bytes}
+use Rattle.bench_tasks.specs.Common.{Loaded, All, Bad, file_read, from_reading}
 
 -- within the limit of bytes the text is read
 file_read-within : {A : Type 0} (place : ℕ) (reading : List ℕ → Result A (ℕ × FaultKind)) (file : Option (List ℕ)) (bytes : List ℕ) → file ≡ Some bytes → length bytes ≤ most_bytes → file_read place reading file ≡ from_reading place (reading bytes)

@@ -6,9 +6,9 @@ use Rattle.counting.proofs.Common.{nat_tests}
 use Rattle.std.specs.declared.option.Option.{Option}
 use Rattle.std.specs.declared.option.Option.TheVariants.{Some}
 use Rattle.std.specs.Str.{bytes_eq}
-use Rattle.outside.specs.Common.{Answer, NamedFile, file_named}
+use Rattle.outside.specs.Common.{Answer, NamedFile, file_named, most_bytes}
 use Rattle.outside.specs.declared.shelf.ShelfFault.TheVariants.{Failed, TooLong, Memory}
-use Rattle.bench_tasks.specs.Common.{FailedAs, GathersAnswered, HoldGiven, IsReadFault, failures_of, by_place, place_name, Command, loaded, most_bytes, Held, LoadsAs, task_of}
+use Rattle.bench_tasks.specs.Common.{FailedAs, GathersAnswered, HoldGiven, IsReadFault, failures_of, by_place, place_name, Command, loaded, Held, LoadsAs, task_of}
 use Rattle.bench_tasks.specs.declared.stop.Stop.{Stop}
 use Rattle.bench_tasks.specs.declared.stop.Stop.TheVariants as stop
 use Rattle.bench_tasks.specs.declared.tasks.Task.TheVariants as code

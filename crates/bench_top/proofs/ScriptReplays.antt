@@ -1,7 +1,7 @@
 -- What `script` writes stands for a script from the first tree to the second. So a file that
 -- holds it is read as this script, and its replay on the first tree is done and reports the second.
 use Rattle.std.proofs.Common.{◌≡◌, ◌∙◌, ℕ, ◌≤◌, List, [], ◌∷◌, length, Option, Some, refl, sym, ap, ap₂, subst, inl, codes, arith}
-use Rattle.outside.specs.Common.{NamedFile, file_named}
+use Rattle.outside.specs.Common.{NamedFile, file_named, most_bytes}
 use Rattle.line_text.specs.Common.{reading_of}
 use Rattle.line_text.proofs.ExactlyOne.{Stands-reading_of}
 use Rattle.graph_text.specs.Common.{NamedGraph, either_version}
@@ -10,7 +10,7 @@ use Rattle.tree_text.specs.Common.{tree_format, tree_text}
 use Rattle.move_text.specs.Common.{move_format}
 use Rattle.report_text.specs.Common.{replayed_text}
 use Rattle.bench_outcomes.specs.Common.{ScriptGives, Scripted, LoadedGives, Outcome}
-use Rattle.bench_tasks.specs.Common.{Loaded, All, Bad, Absent, and_then, file_read, loaded_as, most_bytes, move_file, moves_given, on_moves, on_trees, tree_file, tree_given, trees_given, OnMoves}
+use Rattle.bench_tasks.specs.Common.{Loaded, All, Bad, Absent, and_then, file_read, loaded_as, move_file, moves_given, on_moves, on_trees, tree_file, tree_given, trees_given, OnMoves}
 use Rattle.bench_top.specs.RoundTrips.{ReplaysScript}
 use Rattle.bench_tasks.specs.declared.verbs.MovesVerb.TheVariants.{Replay}
 use Rattle.bench_tasks.specs.declared.verbs.TreesVerb.TheVariants.{Script}

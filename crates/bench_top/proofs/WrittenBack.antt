@@ -3,7 +3,7 @@
 -- list, a matching covered graph.
 use Rattle.std.proofs.Common.{◌≡◌, ◌∙◌, ℕ, ◌≤◌, ◌<◌, ◌^◌, nat_le, List, [], ◌∷◌, length, Option, Some, None, Result, Ok, inl, inr, refl, sym, subst, ap, arith, option_map, codes, leb-true}
 use Rattle.counting.proofs.Common.{and_parts}
-use Rattle.outside.specs.Common.{NamedFile, file_named}
+use Rattle.outside.specs.Common.{NamedFile, file_named, most_bytes}
 use Rattle.line_text.specs.Common.{Stands, reading_of}
 use Rattle.line_text.proofs.ExactlyOne.{Stands-from_reading, Stands-reading_of}
 use Rattle.graph_core.proofs.Common.{size}
@@ -17,7 +17,7 @@ use Rattle.tree_check.proofs.ReplaySteps.{reached-derivation}
 use Rattle.move_text.specs.Common.{move_format}
 use Rattle.move_text.proofs.MovesRead.{writable-read}
 use Rattle.ear_text.specs.EarFormat.{ear_format}
-use Rattle.bench_tasks.specs.Common.{Command, OnEars, OnGraph, OnTree, command_of, decompose_in, Loaded, All, Bad, Absent, and_then, ear_file, ears_given, file_read, graph_file, loaded, loaded_as, most_bytes, move_file, moves_given, on_ears, on_moves, on_picks, on_tree, pick_file, picks_given, tree_file, tree_given, Task}
+use Rattle.bench_tasks.specs.Common.{Command, OnEars, OnGraph, OnTree, command_of, decompose_in, Loaded, All, Bad, Absent, and_then, ear_file, ears_given, file_read, graph_file, loaded, loaded_as, move_file, moves_given, on_ears, on_moves, on_picks, on_tree, pick_file, picks_given, tree_file, tree_given, Task}
 use Rattle.decomposer.specs.Common.{order_named}
 use Rattle.ear_core.specs.Common.{PlainEars}
 use Rattle.bench_outcomes.specs.Common.{EarsGives, Grown, CommandGives, DecomposeGives, LoadedGives, Outcome, ResultOf, ReplayGives}

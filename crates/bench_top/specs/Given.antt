@@ -5,9 +5,9 @@ use Rattle.std.specs.Prelude.{◌≡◌, ◌<◌, ℕ, ◌+◌, List, [], ◌∷
 use Rattle.std.specs.declared.option.Option.{Option}
 use Rattle.std.specs.declared.result.Result.TheVariants.{Ok, Err}
 use Rattle.std.specs.Option.{option_map}
-use Rattle.outside.specs.Common.{Answer, AnswersInTurn, NamedFile}
+use Rattle.outside.specs.Common.{Answer, AnswersInTurn, NamedFile, most_bytes}
 use Rattle.outside.specs.declared.shelf.ShelfFault.TheVariants.{Failed, TooLong, Memory}
-use Rattle.bench_tasks.specs.Common.{by_place, failures_of, LastFailed, place_name, Command, most_bytes, names_in}
+use Rattle.bench_tasks.specs.Common.{by_place, failures_of, LastFailed, place_name, Command, names_in}
 use Rattle.bench_outcomes.specs.Common.{CommandGives}
 use Rattle.bench_outcomes.specs.declared.status.Status.{Status}
 use Rattle.bench_outcomes.specs.declared.status.Status.TheVariants as status

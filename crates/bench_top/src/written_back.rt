@@ -5,8 +5,7 @@
 //! command named. Then a further command on them asks for a task that succeeds (`AsksDone`), so
 //! that `run` answers Done wherever the outside does not fail and memory lasts.
 ghost use Rattle.std.specs.Prelude.{◌≡◌, ◌≤◌, ℕ, List, [], ◌∷◌, codes, length, Some};
-ghost use Rattle.outside.specs.Common.{NamedFile, file_named};
-ghost use Rattle.bench_tasks.specs.Common.{most_bytes};
+ghost use Rattle.outside.specs.Common.{NamedFile, file_named, most_bytes};
 ghost use Rattle.bench_outcomes.specs.Common.{Outcome};
 ghost use Rattle.bench_top.specs.RoundTrips.{AsksDone, ReplaysScript};
 ghost use Rattle.bench_outcomes.specs.declared.status.Status.{Status};

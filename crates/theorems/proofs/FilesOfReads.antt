@@ -5,10 +5,10 @@
 use Rattle.std.proofs.Common.{◌≡◌, ◌<◌, ℕ, ◌+◌, nat_lt, Bool, true, false, cond, List, [], ◌∷◌, length, Option, Some, None, Result, Ok, Err, refl, sym, ap, subst, ◌∙◌, arith, lt-ltb}
 use Rattle.counting.proofs.Common.{nat_tests}
 use Rattle.std.specs.Str.{bytes_eq}
-use Rattle.outside.specs.Common.{Answer, AnswersInTurn, NamedFile, file_named}
+use Rattle.outside.specs.Common.{Answer, AnswersInTurn, NamedFile, file_named, most_bytes}
 use Rattle.outside.specs.declared.shelf.ShelfFault.TheVariants.{Failed, TooLong, Memory}
 use Rattle.line_text.specs.declared.faults.FaultKind.{FaultKind}
-use Rattle.bench_tasks.specs.Common.{All, Bad, Loaded, file_read, from_reading, most_bytes, pick_file}
+use Rattle.bench_tasks.specs.Common.{All, Bad, Loaded, file_read, from_reading, pick_file}
 use Rattle.bench_top.specs.Given.{AreGiven}
 
 -- the name of the file at a place

@@ -2,7 +2,7 @@
 -- that is missing. What a file is read as gives what the report asks of it: a graph file a graph
 -- within the limits, a tree file shores that are sets, an ear file an edge to begin with.
 use Rattle.std.proofs.Common.{◌≡◌, ◌⊎◌, ℕ, ◌≤◌, nat_lt, Bool, true, false, cond, List, length, Option, Some, None, Result, Ok, Err, refl, sym, ap, subst, inl, inr}
-use Rattle.outside.specs.Common.{NamedFile, file_named}
+use Rattle.outside.specs.Common.{NamedFile, file_named, most_bytes}
 use Rattle.counting.proofs.Common.{Within}
 use Rattle.ear_core.specs.Common.{PlainEars}
 use Rattle.ear_text.proofs.EarsRead.{list-read}
@@ -22,7 +22,7 @@ use Rattle.decomposer.specs.Common.{NamedPicks, ScriptPicks}
 use Rattle.bench_outcomes.specs.Common.{CommandGives, LoadedGives, Outcome, ResultOf}
 use Rattle.bench_outcomes.specs.declared.status.Status.{Status}
 use Rattle.bench_outcomes.specs.declared.status.Status.TheVariants.{BadInput}
-use Rattle.bench_tasks.specs.Common.{Command, OnGraph, OnSimpleGraph, OnTree, OnPicks, OnEars, OnMoves, OnTrees, OnNumbers, command_of, Loaded, All, Bad, Absent, and_then, ear_file, ears_given, file_read, from_reading, graph6_file, graph_file, loaded, loaded_as, most_bytes, move_file, moves_given, on_ears, on_moves, on_picks, on_tree, on_trees, pick_file, picks_given, tree_file, tree_given, trees_given, Task}
+use Rattle.bench_tasks.specs.Common.{Command, OnGraph, OnSimpleGraph, OnTree, OnPicks, OnEars, OnMoves, OnTrees, OnNumbers, command_of, Loaded, All, Bad, Absent, and_then, ear_file, ears_given, file_read, from_reading, graph6_file, graph_file, loaded, loaded_as, move_file, moves_given, on_ears, on_moves, on_picks, on_tree, on_trees, pick_file, picks_given, tree_file, tree_given, trees_given, Task}
 use Rattle.bench_tasks.specs.Tasks as task
 use Rattle.bench_tasks.specs.declared.verbs.GraphVerb.{GraphVerb}
 use Rattle.bench_tasks.specs.declared.verbs.GraphVerb.TheVariants.{Analyse, Convert, Decompose, Ears}
