@@ -7,7 +7,7 @@ from .common import (BAD_INPUT, DONE, EXAMPLES, NEGATIVE, NO_MEMORY, NO_WORDS, P
                      read, run, said, unread, write)
 
 MOST_BYTES, MOST_LINE, MOST_HELD, RETRIES = 1_048_576, 65_536, 512, 1024
-LEAST_STACK = 128 * 1024
+LEAST_STACK = 256 * 1024
 
 
 def padded(room, path, size):
@@ -145,7 +145,7 @@ def deepest(room):
 
 
 def try_stack(room):
-    """With a stack of 128 kB the deepest inputs give what they give with the usual one."""
+    """With a stack of 256 kB the deepest inputs give what they give with the usual one."""
     for (program, *words), status in deepest(room):
         for program in (program, f"{program}_front"):
             plain, small = run(program, *words), run(program, *words, stack=LEAST_STACK)
