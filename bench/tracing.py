@@ -163,7 +163,7 @@ class Run:
     def follow(self, process):
         _, status = os.waitpid(process, 0)
         if not os.WIFSTOPPED(status):
-            sys.exit(f"{self.path} cannot be run, or the system does not let it be traced")
+            sys.exit(f"{self.path} cannot be run and traced")
         with open(f"/proc/{process}/maps") as file:
             own = next(line for line in file if line.rstrip().endswith(self.path))
         self.base, self.memory, self.first = int(own.split("-")[0], 16), Memory(process), {}
@@ -200,6 +200,36 @@ class Run:
         if place in self.places:
             self.entered(place, self.memory, stack, [registers[k] for k in ARGUMENTS])
             self.stop_at(*self.memory.words(stack))
+
+
+def why_untraced():
+    """Why the system does not let a program be traced in this way, or nothing if it does: tried on
+    a copy of this process, by what `Run` does to a program."""
+    process = os.fork()
+    if process == 0:
+        if KERNEL(TRACEME, 0, None, None):
+            os._exit(ctypes.get_errno())
+        os.kill(os.getpid(), signal.SIGSTOP)
+        os._exit(0)
+    _, status = os.waitpid(process, 0)
+    if not os.WIFSTOPPED(status):
+        code = os.waitstatus_to_exitcode(status)
+        return f"ptrace: {os.strerror(code)}" if code > 0 else f"ptrace: signal {-code}"
+    registers = (ctypes.c_ulonglong * len(LISTED))()
+    code_place = ctypes.cast(KERNEL, ctypes.c_void_p).value
+    try:
+        for request in (GETREGS, SETREGS):
+            if KERNEL(request, process, None, ctypes.addressof(registers)):
+                return f"ptrace: {os.strerror(ctypes.get_errno())}"
+        memory = Memory(process)
+        os.pwrite(memory.file, os.pread(memory.file, 1, code_place), code_place)
+        os.close(memory.file)
+    except OSError as why:
+        return f"the memory of a process: {why.strerror}"
+    finally:
+        os.kill(process, signal.SIGKILL)
+        os.waitpid(process, 0)
+    return None
 
 
 def become(path, words, source, target):
