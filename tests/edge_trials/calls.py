@@ -3,7 +3,7 @@ import errno
 import os
 import re
 
-from .common import (BAD_INPUT, DONE, EXAMPLES, READ_FAULT, USAGE, WRITE_FAULT, is_front, lost_output, name_of, note, read, run, said, unread, write)
+from .common import (BAD_INPUT, DONE, EXAMPLES, NEGATIVE, READ_FAULT, USAGE, WRITE_FAULT, is_front, lost_output, name_of, note, read, run, said, unread, write)
 
 # Lines of a list, and what `kinds` writes for each.
 KINDS = {
@@ -55,13 +55,13 @@ def commands(room):
 
 
 def refused(room):
-    """Arguments of mcg that the program refuses in words: for each place of a file one that is bad and one that is missing."""
+    """Arguments of mcg that the program refuses: for each place of a file one that is bad and one that is missing, and others."""
     two, first = f"{EXAMPLES}/two_k4.mcg", f"{EXAMPLES}/two_k4_first.tree"
     bad, none = write(f"{room}/bad", "p mcg 2 1\ne 1 1\n"), f"{room}/none"
     long = write(f"{room}/long", b"c\n" * 524_288 + b"c")
     found = [(("compare", *files), BAD_INPUT) for files in ((bad, first, first), (two, bad, first), (two, first, bad))]
     found += [(("compare", *files), READ_FAULT) for files in ((none, first, first), (two, none, first), (two, first, none))]
-    return [*found, (("analyse", long), BAD_INPUT), (("analyze", two), USAGE)]
+    return [*found, (("analyse", long), BAD_INPUT), (("analyze", two), USAGE), (("decompose", f"{EXAMPLES}/path4.mcg", "first"), NEGATIVE)]
 
 
 def lists(room):
@@ -90,6 +90,9 @@ def trials(room):
     for program in ("mcg6", "mcg6_front"):
         for words, status, source, most in lists(room):
             yield Trial(program, words, status, source, most)
+    for program in ("mcg_front", "mcg6_front"):
+        for word in ("--help", "--version"):
+            yield Trial(program, (word,))
 
 
 class Call:
