@@ -16,7 +16,8 @@ A graph is a graph of NetworkX or of Sage, a pair (vertices, edges), an iterable
 text in graph6 (see `Graph`), with at most 128 vertices and 2,048 edges.
 
 One graph: `analyse`, `decompose`, `check`, `ears`, `check_ears`, `compare`, `script`, `replay`.
-Lists of graphs, streamed through one process: `kinds`, `leaves`, `select`.
+Lists of graphs, streamed through one process: `kinds`, `leaves`, `elementary`,
+`select`.
 Texts of the formats of Mcg: the methods `from_text` and `to_text` of `Graph`, `Decomposition`,
 `Picks`, `Ears` and `Moves`, and `from_text` of `Analysis`, `TreeCheck`, `EarsCheck`, `Comparison`
 and `Replay`.
@@ -41,7 +42,7 @@ from .errors import (
     TooLarge,
 )
 from .graphs import Graph
-from .lists import Kind, ListLeaf, kinds, leaves, select
+from .lists import Kind, ListComponent, ListLeaf, elementary, kinds, leaves, select
 from .moves import Moves, Rotate, Switch
 from .trees import Cut, Decomposition, Leaf
 
@@ -60,6 +61,7 @@ __all__ = [
     "Graph",
     "Kind",
     "Leaf",
+    "ListComponent",
     "ListLeaf",
     "Moves",
     "NotADerivation",
@@ -80,6 +82,7 @@ __all__ = [
     "compare",
     "decompose",
     "ears",
+    "elementary",
     "kinds",
     "leaves",
     "replay",

@@ -1,4 +1,4 @@
-"""Lists of graphs, through one process of mcg6: `kinds`, `leaves` and `select`."""
+"""Lists of graphs, through one process of mcg6: `kinds`, `leaves`, `elementary` and `select`."""
 from __future__ import annotations
 
 from collections import deque
@@ -57,6 +57,22 @@ class ListLeaf:
     kind: str
 
 
+@dataclass(frozen=True)
+class ListComponent:
+    """An elementary component of a graph of a list.
+
+    `index` is the place of the graph among those given, from 0. `graph6` is the text of the
+    component as a simple graph: its vertices, and the allowed edges between them, those that lie
+    in perfect matchings. `vertices` are the numbers of its vertices in the graph, from 1 and
+    increasing, in the order of the vertices of the text; number k is that of
+    `Graph(graph).vertices[k - 1]`.
+    """
+
+    index: int
+    graph6: str
+    vertices: Tuple[int, ...]
+
+
 def kinds(graphs: Iterable[GraphLike]) -> Iterator[Kind]:
     """Yields what `mcg6 kinds` reports of each graph, in order, by one process for all of them.
 
@@ -78,6 +94,18 @@ def leaves(graphs: Iterable[GraphLike], order: str = "first") -> Iterator[ListLe
     for row in Stream(["leaves", order], (line for line, _graph in _lines(_graphs(graphs)))):
         number, graph, leaf, kind = row.decode("ascii").split()
         yield ListLeaf(int(number) - 1, graph, leaf, kind)
+
+
+def elementary(graphs: Iterable[GraphLike]) -> Iterator[ListComponent]:
+    """Yields the elementary components of each graph, in order, by one process for all of them.
+
+    These are the components of the subgraph of the allowed edges, by their least vertices; each
+    is matching covered. A graph without a perfect matching gives none. What is said of `kinds` on
+    memory and on bad graphs holds here too.
+    """
+    for row in Stream(["elementary"], (line for line, _graph in _lines(_graphs(graphs)))):
+        number, component, *vertices = row.decode("ascii").split()
+        yield ListComponent(int(number) - 1, component, tuple(map(int, vertices)))
 
 
 def select(graphs: Iterable[GivenGraph], what: str) -> Iterator[GivenGraph]:

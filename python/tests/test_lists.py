@@ -1,4 +1,4 @@
-"""Lists: kinds, leaves and select, streamed through one process."""
+"""Lists: kinds, leaves, elementary and select, streamed through one process."""
 import itertools
 import os
 import random
@@ -175,6 +175,33 @@ class Leaves(unittest.TestCase):
             for leaf in mcg.leaves(["E~rG", "Bw", "x!"]):
                 found.append(leaf.index)
         self.assertEqual((found, raised.exception.line), ([0, 0], 3))
+
+
+class Elementary(unittest.TestCase):
+    def test_random_graphs(self):
+        graphs = drawn(15, 300)
+        found = {}
+        for it in mcg.elementary(graphs):
+            found.setdefault(it.index, []).append(it)
+        for index, given in enumerate(graphs):
+            with self.subTest(graph=given):
+                brute, labels = brute_of(given), mcg.Graph(given).vertices
+                allowed = [edge for edge in brute.edges if brute.is_allowed(*edge)]
+                parts = Brute(labels, allowed).components() if brute.is_matched() else []
+                here = found.get(index, [])
+                self.assertEqual([it.vertices for it in here], sorted(it.vertices for it in here))
+                named = {frozenset(labels[k - 1] for k in it.vertices): it for it in here}
+                self.assertEqual(set(named), set(map(frozenset, parts)))
+                for part, it in named.items():
+                    edges = {frozenset(labels[it.vertices[k] - 1] for k in edge) for edge in mcg.Graph(it.graph6).edges}
+                    self.assertEqual(edges, {edge for edge in allowed if edge <= part})
+
+    def test_no_perfect_matching_and_a_bad_line(self):
+        found = []
+        with self.assertRaises(mcg.BadGraph) as raised:
+            for it in mcg.elementary(["Bw", "Ch", "x!"]):
+                found.append((it.index, it.graph6, it.vertices))
+        self.assertEqual((found, raised.exception.line), ([(1, "A_", (1, 2)), (1, "A_", (3, 4))], 3))
 
 
 class Select(unittest.TestCase):

@@ -110,6 +110,7 @@ unfoldable pub list_rows : List Row
 list_rows =
     row_of (codes "kinds") [] file (codes "a line for each graph: its kind, its bricks and its braces") ∷
     row_of (codes "leaves") [] (one_of (codes "ORDER") orders [] ∷ File (codes "FILE") ∷ []) (codes "a line for each leaf of its decomposition, as a graph") ∷
+    row_of (codes "elementary") [] file (codes "a line for each elementary component, as a graph") ∷
     row_of (codes "graph") [] file (codes "the file of one graph, for mcg") ∷
     row_of (codes "select") (one_of (codes "WHAT") properties counted_properties ∷ []) file (codes "the lines whose graph has a property") ∷
     row_of (codes "encode") file [] (codes "the line of a file for mcg; parallel edges count once") ∷ []

@@ -109,7 +109,7 @@ static ROWS: [Row; 12] = [
 ];
 
 /// The table of `mcg6`.
-static LIST_ROWS: [Row; 5] = [
+static LIST_ROWS: [Row; 6] = [
     Row {
         command: "kinds",
         words: &[],
@@ -129,6 +129,12 @@ static LIST_ROWS: [Row; 5] = [
             RowWord::File("FILE"),
         ],
         line: "  leaves [ORDER] [FILE]        a line for each leaf of its decomposition, as a graph\n",
+    },
+    Row {
+        command: "elementary",
+        words: &[],
+        optional: &[RowWord::File("FILE")],
+        line: "  elementary [FILE]            a line for each elementary component, as a graph\n",
     },
     Row {
         command: "graph",
@@ -188,6 +194,7 @@ A file may be a pipe, as /dev/stdin. FORMATS.md has the formats and reports.
 const LIST_USAGE: &str = "usage: mcg6 COMMAND WORDS.. <LIST
   kinds [FILE]                 a line for each graph: its kind, its bricks and its braces
   leaves [ORDER] [FILE]        a line for each leaf of its decomposition, as a graph
+  elementary [FILE]            a line for each elementary component, as a graph
   graph [FILE]                 the file of one graph, for mcg
   select WHAT [FILE]           the lines whose graph has a property
   encode FILE                  the line of a file for mcg; parallel edges count once

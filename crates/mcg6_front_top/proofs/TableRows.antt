@@ -67,14 +67,17 @@ property_is word =
     (bytes_eq word (codes "brace")) (bytes_eq word (codes "bicritical")) (bytes_eq word (codes "composite")) _ (counted_is word)
 
 -- the words of queries
-query_or : {X : Type 0} (p q r : X) (a b c : Bool) → is_some (if a then Some p else (if b then Some q else (if c then Some r else None))) ≡ (a || (b || (c || false)))
-query_or p q r true b c = refl
-query_or p q r false true c = refl
-query_or p q r false false true = refl
-query_or p q r false false false = refl
+query_or : {X : Type 0} (p q r s : X) (a b c d : Bool) →
+    is_some (if a then Some p else (if b then Some q else (if c then Some r else (if d then Some s else None)))) ≡ (a || (b || (c || (d || false))))
+query_or p q r s true b c d = refl
+query_or p q r s false true c d = refl
+query_or p q r s false false true d = refl
+query_or p q r s false false false true = refl
+query_or p q r s false false false false = refl
 
-query_is : (word : List ℕ) → is_some (query_named word) ≡ (bytes_eq word (codes "kinds") || (bytes_eq word (codes "leaves") || (bytes_eq word (codes "graph") || false)))
-query_is word = query_or _ _ _ (bytes_eq word (codes "kinds")) (bytes_eq word (codes "leaves")) (bytes_eq word (codes "graph"))
+query_is : (word : List ℕ) → is_some (query_named word)
+    ≡ (bytes_eq word (codes "kinds") || (bytes_eq word (codes "leaves") || (bytes_eq word (codes "elementary") || (bytes_eq word (codes "graph") || false))))
+query_is word = query_or _ _ _ _ (bytes_eq word (codes "kinds")) (bytes_eq word (codes "leaves")) (bytes_eq word (codes "elementary")) (bytes_eq word (codes "graph"))
 
 pair_or : {X : Type 0} (o s : Option X) (leaves select order has : Bool) → is_some o ≡ order → is_some s ≡ has →
     is_some (if leaves then o else (if select then s else None)) ≡ (if leaves then order else (if select then has else false))
@@ -100,36 +103,42 @@ some_if x true = refl
 some_if x false = refl
 
 -- the cases of two words: the second says more of the query, or is the name of the file
-two_words : (kinds leaves graph select encode order has : Bool) →
-    (((if leaves then order else (if select then has else false)) || (kinds || (leaves || (graph || false)))) || encode)
-    ≡ (kinds || (((if order then true else true) && leaves) || (graph || ((has && select) || (encode || false)))))
-two_words true true graph select encode true has = refl
-two_words true true graph select encode false has = refl
-two_words true false graph true encode order true = refl
-two_words true false graph true encode order false = refl
-two_words true false graph false encode order has = refl
-two_words false true graph select encode true has = refl
-two_words false true graph select encode false has = refl
-two_words false false true true encode true true = refl
-two_words false false true true encode true false = refl
-two_words false false true true encode false true = refl
-two_words false false true true encode false false = refl
-two_words false false true false encode true has = refl
-two_words false false true false encode false has = refl
-two_words false false false true encode true true = refl
-two_words false false false true encode false true = refl
-two_words false false false true true true false = refl
-two_words false false false true true false false = refl
-two_words false false false true false true false = refl
-two_words false false false true false false false = refl
-two_words false false false false true true true = refl
-two_words false false false false true true false = refl
-two_words false false false false true false true = refl
-two_words false false false false true false false = refl
-two_words false false false false false true true = refl
-two_words false false false false false true false = refl
-two_words false false false false false false true = refl
-two_words false false false false false false false = refl
+two_words : (kinds leaves elementary graph select encode order has : Bool) →
+    (((if leaves then order else (if select then has else false)) || (kinds || (leaves || (elementary || (graph || false))))) || encode)
+    ≡ (kinds || (((if order then true else true) && leaves) || (elementary || (graph || ((has && select) || (encode || false))))))
+two_words true true elementary graph select encode true has = refl
+two_words true true elementary graph select encode false has = refl
+two_words true false elementary graph true encode order true = refl
+two_words true false elementary graph true encode order false = refl
+two_words true false elementary graph false encode order has = refl
+two_words false true elementary graph select encode true has = refl
+two_words false true elementary graph select encode false has = refl
+two_words false false true graph true encode true true = refl
+two_words false false true graph true encode true false = refl
+two_words false false true graph true encode false true = refl
+two_words false false true graph true encode false false = refl
+two_words false false true graph false encode true has = refl
+two_words false false true graph false encode false has = refl
+two_words false false false true true encode true true = refl
+two_words false false false true true encode true false = refl
+two_words false false false true true encode false true = refl
+two_words false false false true true encode false false = refl
+two_words false false false true false encode true has = refl
+two_words false false false true false encode false has = refl
+two_words false false false false true encode true true = refl
+two_words false false false false true encode false true = refl
+two_words false false false false true true true false = refl
+two_words false false false false true true false false = refl
+two_words false false false false true false true false = refl
+two_words false false false false true false false false = refl
+two_words false false false false false true true true = refl
+two_words false false false false false true true false = refl
+two_words false false false false false true false true = refl
+two_words false false false false false true false false = refl
+two_words false false false false false false true true = refl
+two_words false false false false false false true false = refl
+two_words false false false false false false false true = refl
+two_words false false false false false false false false = refl
 
 -- those of three
 three_words : (leaves select order has : Bool) → (leaves ≡ true → select ≡ false) →
@@ -162,8 +171,8 @@ listed [] = refl
 listed (w ∷ []) = or-false (is_some (command_with (query_named w) None)) ∙ command_some (query_named w) None ∙ query_is w
 listed (w ∷ s ∷ []) =
     rw (file_some (pair_named w s) w s, pair_is w s, query_is w, some_if s (bytes_eq w (codes "encode")))
-    (two_words (bytes_eq w (codes "kinds")) (bytes_eq w (codes "leaves")) (bytes_eq w (codes "graph")) (bytes_eq w (codes "select")) (bytes_eq w (codes "encode"))
-    (is_one_of orders [] s) (is_one_of properties counted_properties s))
+    (two_words (bytes_eq w (codes "kinds")) (bytes_eq w (codes "leaves")) (bytes_eq w (codes "elementary")) (bytes_eq w (codes "graph")) (bytes_eq w (codes "select"))
+    (bytes_eq w (codes "encode")) (is_one_of orders [] s) (is_one_of properties counted_properties s))
 listed (w ∷ s ∷ t ∷ []) =
     rw (command_some (pair_named w s) (Some t), pair_is w s)
     (three_words (bytes_eq w (codes "leaves")) (bytes_eq w (codes "select")) (is_one_of orders [] s) (is_one_of properties counted_properties s) (apart w))

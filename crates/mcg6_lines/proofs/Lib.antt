@@ -1,6 +1,8 @@
 pub mod SimpleQuotients
 pub mod SingleLeaves
 pub mod LeafTexts
+pub mod TakenEdges
+pub mod Components
 pub mod BicriticalEdges
 pub mod OneTree
 pub mod ReadMultigraphs

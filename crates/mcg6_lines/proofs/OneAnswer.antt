@@ -15,7 +15,7 @@ use Rattle.mcg6_lines.specs.Selecting.{IsSelected}
 use Rattle.mcg6_lines.specs.Telling.{HasFault, IsTold, TellsLine}
 use Rattle.mcg6_lines.specs.declared.query.Property.{Property}
 use Rattle.mcg6_lines.specs.declared.query.Query.{Query}
-use Rattle.mcg6_lines.specs.declared.query.Query.TheVariants.{Kinds, Leaves, Graph as GraphFile, Select}
+use Rattle.mcg6_lines.specs.declared.query.Query.TheVariants.{Kinds, Leaves, Elementary, Graph as GraphFile, Select}
 use Rattle.mcg6_lines.proofs.Counts.{lacks_none}
 use Rattle.mcg6_lines.proofs.OneStanding.{words_once}
 
@@ -41,6 +41,7 @@ selected_once property g line a b is h k = grind (arith, lacks_none g property i
 told_once : (query : Query) (number : ℕ) (line : List ℕ) (g : Graph) (a b : List ℕ) → IsMultigraph g → IsTold query number line g a → IsTold query number line g b → a ≡ b
 told_once Kinds number line g a b is one two = kind_line_once g a b is one two
 told_once (Leaves order) number line g a b is one two = leaf_lines_once order number g a b one two
+told_once Elementary number line g a b is one two = one ∙ sym two
 told_once GraphFile number line g a b is one two = one ∙ sym two
 told_once (Select property) number line g a b is one two = selected_once property g line a b is one two
 

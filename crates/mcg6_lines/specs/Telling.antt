@@ -7,9 +7,10 @@ use Rattle.graph6_text.specs.Common.{outcome_of}
 use Rattle.graph_text.specs.Common.{most_vertices, most_edges, plain_names, graph_text, named_text}
 use Rattle.mcg6_lines.specs.KindLines.{IsKindLine}
 use Rattle.mcg6_lines.specs.LeafLines.{AreLeafLines}
+use Rattle.mcg6_lines.specs.Elementary.{elementary_lines}
 use Rattle.mcg6_lines.specs.Selecting.{IsSelected}
 use Rattle.mcg6_lines.specs.declared.query.Query.{Query}
-use Rattle.mcg6_lines.specs.declared.query.Query.TheVariants.{Kinds, Leaves, Graph as GraphFile, Select}
+use Rattle.mcg6_lines.specs.declared.query.Query.TheVariants.{Kinds, Leaves, Elementary, Graph as GraphFile, Select}
 use Rattle.mcg6_lines.specs.declared.telling.QueryAnswer.{QueryAnswer}
 use Rattle.mcg6_lines.specs.declared.telling.QueryAnswer.TheVariants.{Output, Bad}
 
@@ -24,6 +25,7 @@ file_text g =
 abbrev pub IsTold : Query → ℕ → (line : List ℕ) → Graph → (bytes : List ℕ) → Type 0
 IsTold Kinds number line g bytes = IsKindLine g bytes
 IsTold (Leaves order) number line g bytes = AreLeafLines order number g bytes
+IsTold Elementary number line g bytes = bytes ≡ elementary_lines number g
 IsTold GraphFile number line g bytes = bytes ≡ file_text g
 IsTold (Select property) number line g bytes = IsSelected property g line bytes
 

@@ -33,6 +33,8 @@ pub enum Query {
     Kinds,
     /// The leaves of its decomposition in this order, as graphs.
     Leaves { order: NamedOrder },
+    /// Its elementary components, as graphs.
+    Elementary,
     /// The canonical text of its graph file.
     Graph,
     /// The line itself, if the graph has this property.

@@ -5,6 +5,7 @@ ghost use Rattle.graph_core.specs.Common.{IsSimple};
 ghost use Rattle.graph_text.specs.Common.{plain_names, named_text};
 ghost use Rattle.mcg6_lines.specs.Telling.{IsAnswer, file_text};
 
+use crate::elementary_lines::elementary_lines;
 use crate::kind_lines::kind_line;
 use crate::leaf_lines::leaf_lines;
 use crate::query::Query;
@@ -56,6 +57,10 @@ fn answer(
         }
         Query::Leaves { order } => {
             let bytes = leaf_lines(alloc, g, *order, number, line)?;
+            Ok(QueryAnswer::Output { bytes })
+        }
+        Query::Elementary => {
+            let bytes = elementary_lines(alloc, g, number)?;
             Ok(QueryAnswer::Output { bytes })
         }
         Query::Graph => {

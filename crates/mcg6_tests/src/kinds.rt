@@ -13,7 +13,7 @@ struct Row {
     answer: Result<&'static str, FaultKind>,
 }
 
-static ROWS: [Row; 41] = [
+static ROWS: [Row; 47] = [
     Row {
         query: Query::Kinds,
         line: "C~\n",
@@ -116,6 +116,36 @@ static ROWS: [Row; 41] = [
         },
         line: ">>graph6<<A_\r\n",
         answer: Ok("7 A_ A_ brace\n"),
+    },
+    Row {
+        query: Query::Elementary,
+        line: "C~\n",
+        answer: Ok("7 C~ 1 2 3 4\n"),
+    },
+    Row {
+        query: Query::Elementary,
+        line: ">>graph6<<Ch\r\n",
+        answer: Ok("7 A_ 1 2\n7 A_ 3 4\n"),
+    },
+    Row {
+        query: Query::Elementary,
+        line: "Bw\n",
+        answer: Ok(""),
+    },
+    Row {
+        query: Query::Elementary,
+        line: "?\n",
+        answer: Ok(""),
+    },
+    Row {
+        query: Query::Elementary,
+        line: "Euo_\n",
+        answer: Ok("7 C] 1 2 4 5\n7 A_ 3 6\n"),
+    },
+    Row {
+        query: Query::Elementary,
+        line: "C~~",
+        answer: Err(FaultKind::Extra),
     },
     Row {
         query: Query::Graph,

@@ -12,7 +12,7 @@ use Rattle.decomposer.specs.declared.orders.NamedOrder.TheVariants.{First}
 use Rattle.mcg6_lines.specs.declared.query.Property.{Property}
 use Rattle.mcg6_lines.specs.declared.query.Property.TheVariants.{Covered, Uncovered, Perfect, Brick, Brace, Bicritical, Composite, Bricks, Braces}
 use Rattle.mcg6_lines.specs.declared.query.Query.{Query}
-use Rattle.mcg6_lines.specs.declared.query.Query.TheVariants.{Kinds, Leaves, Graph, Select}
+use Rattle.mcg6_lines.specs.declared.query.Query.TheVariants.{Kinds, Leaves, Elementary, Graph, Select}
 
 -- what is asked of each graph of a list, and the name of the file that holds the list, if it is
 -- not the standard input
@@ -50,6 +50,7 @@ abbrev pub query_named : List ℕ → Option Query
 query_named word =
     if bytes_eq word (codes "kinds") then Some Kinds else
     if bytes_eq word (codes "leaves") then Some (Leaves First) else
+    if bytes_eq word (codes "elementary") then Some Elementary else
     if bytes_eq word (codes "graph") then Some Graph else None
 
 -- the leaves in the order that a word names, if it names one

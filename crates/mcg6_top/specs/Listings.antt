@@ -6,7 +6,7 @@ use Rattle.std.specs.declared.option.Option.TheVariants.{Some, None}
 use Rattle.line_text.specs.declared.faults.FaultKind.{FaultKind}
 use Rattle.line_text.specs.declared.faults.FaultKind.TheVariants.{Extra, Missing}
 use Rattle.mcg6_lines.specs.declared.query.Query.{Query}
-use Rattle.mcg6_lines.specs.declared.query.Query.TheVariants.{Kinds, Leaves, Graph, Select}
+use Rattle.mcg6_lines.specs.declared.query.Query.TheVariants.{Kinds, Leaves, Elementary, Graph, Select}
 use Rattle.mcg6_lines.specs.Telling.{TellsLine, HasFault}
 use Rattle.mcg6_reader.specs.declared.place.LinePlace.{LinePlace}
 
@@ -14,6 +14,7 @@ use Rattle.mcg6_reader.specs.declared.place.LinePlace.{LinePlace}
 abbrev pub is_further : Query → LinePlace → Bool
 is_further Kinds place = false
 is_further (Leaves order) place = false
+is_further Elementary place = false
 is_further Graph place = nat_lt 0 place.graphs
 is_further (Select property) place = false
 
@@ -30,5 +31,6 @@ IsBadLine query place line kind =
 abbrev pub lacks_of : Query → ℕ → Option FaultKind
 lacks_of Kinds graphs = None
 lacks_of (Leaves order) graphs = None
+lacks_of Elementary graphs = None
 lacks_of Graph graphs = if graphs == 0 then Some Missing else None
 lacks_of (Select property) graphs = None

@@ -19,7 +19,7 @@ fn is_further(query: &Query, place: LinePlace) -> bool
 {
     match query {
         Query::Graph => place.graphs > 0,
-        Query::Kinds | Query::Leaves { .. } | Query::Select { .. } => false,
+        Query::Kinds | Query::Leaves { .. } | Query::Elementary | Query::Select { .. } => false,
     }
 }
 

@@ -70,6 +70,7 @@ fn query_named(word: &str) -> Option<Query>
         "leaves" => Some(Query::Leaves {
             order: NamedOrder::First,
         }),
+        "elementary" => Some(Query::Elementary),
         "graph" => Some(Query::Graph),
         _ => None,
     }

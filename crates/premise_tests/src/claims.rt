@@ -124,6 +124,10 @@ pub enum OfSet {
     MaximalBarrier,
     /// The graph that it induces is factor-critical.
     Critical,
+    /// It has all vertices of an elementary component and no other.
+    ElementaryComponent,
+    /// With the allowed edges inside it, it is a matching covered graph.
+    CoveredInside,
     Tight,
     Nontrivial,
     /// It does not have the greatest vertex.

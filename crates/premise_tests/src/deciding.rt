@@ -109,6 +109,7 @@ impl OfSet {
     fn holds(&self, alloc: Global, g: &PairGraph, set: u32) -> Result<bool, Memory> {
         match self {
             OfSet::Separating => g.is_separating(alloc, set),
+            OfSet::CoveredInside => g.is_covered_inside(alloc, set),
             OfSet::Additive => Ok(counted(alloc, g)? == count_both(alloc, g, set)?),
             other => Ok(other.is_seen(g, set)),
         }
@@ -130,6 +131,7 @@ impl OfSet {
             OfSet::Barrier => g.is_barrier(set),
             OfSet::MaximalBarrier => g.is_maximal_barrier(set),
             OfSet::Critical => g.is_factor_critical(set),
+            OfSet::ElementaryComponent => g.is_elementary_component(set),
             OfSet::Tight => g.is_tight(set),
             OfSet::Nontrivial => g.is_nontrivial(set),
             OfSet::Canonical => !meets(set, greatest(g.all)),
@@ -138,7 +140,7 @@ impl OfSet {
             OfSet::InA => is_part(set, g.beside_missed()),
             OfSet::Spread => g.parts_beside(set) > set.count_ones(),
             OfSet::D => g.missed() == set,
-            OfSet::Separating | OfSet::Additive => false,
+            OfSet::Separating | OfSet::Additive | OfSet::CoveredInside => false,
         }
     }
 }

@@ -38,6 +38,8 @@ mod of_braces;
 #[cfg(test)]
 mod of_bricks;
 #[cfg(test)]
+mod of_components;
+#[cfg(test)]
 mod of_cubic_graphs;
 #[cfg(test)]
 mod of_decompositions;

@@ -2,6 +2,7 @@
 
 use crate::pair_graph::PairGraph;
 use crate::sets::{is_odd, is_part, least, meets};
+use std::alloc::{AllocError as Memory, Global};
 
 impl PairGraph {
     /// Whether the graph without a set of vertices has a perfect matching.
@@ -162,14 +163,30 @@ impl PairGraph {
     /// Whether the graph is elementary: it has two vertices or more, and the edges of its perfect
     /// matchings connect them all.
     pub fn is_elementary(&self) -> bool {
+        let reached = self.reached(least(self.all), self.allowed(), self.all);
+        self.order() >= 2 && is_part(self.all, reached)
+    }
+
+    // The edges of its perfect matchings.
+    fn allowed(&self) -> u32 {
         let mut allowed = 0;
         for matching in &self.matchings {
             if matching.met == self.all {
                 allowed |= matching.edges;
             }
         }
-        let reached = self.reached(least(self.all), allowed, self.all);
-        self.order() >= 2 && is_part(self.all, reached)
+        allowed
+    }
+
+    /// Whether the set has all vertices of an elementary component and no other.
+    pub fn is_elementary_component(&self, set: u32) -> bool {
+        set != 0 && self.reached(least(set), self.allowed(), self.all) == set
+    }
+
+    /// Whether the set, with the allowed edges inside it, is a matching covered graph.
+    pub fn is_covered_inside(&self, alloc: Global, set: u32) -> Result<bool, Memory> {
+        let inside = self.inside(alloc, set, self.allowed())?;
+        Ok(inside.is_covered())
     }
 
     pub fn is_two_extendable(&self) -> bool {

@@ -103,6 +103,17 @@ impl PairGraph {
         PairGraph::of(alloc, self.all & !set | vertex, edges)
     }
 
+    /// The graph of the vertices of a set, with those of some edges that have both ends there.
+    pub fn inside(&self, alloc: Global, set: u32, some: u32) -> Result<PairGraph, Memory> {
+        let mut edges = Vec::new(alloc);
+        for edge in &self.edges {
+            if meets(edge.bit, some) && is_part(edge.ends(), set) {
+                edges.push(*edge)?;
+            }
+        }
+        PairGraph::of(alloc, set, edges)
+    }
+
     pub fn order(&self) -> u32 {
         self.all.count_ones()
     }

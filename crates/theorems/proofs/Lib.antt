@@ -22,6 +22,7 @@ pub mod EarRefusals
 pub mod EarSteps
 pub mod ElementaryBarriers
 pub mod ElementaryClasses
+pub mod ElementaryComponents
 pub mod ElementaryJoins
 pub mod ExtendableCuts
 pub mod ExtendableGraphs

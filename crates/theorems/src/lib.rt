@@ -6,6 +6,7 @@
 //! and `docs/THEOREMS.md` say which. A file is a chapter:
 //! - `matchings`: Tutte, Berge, Gallai, and the structure theorem of Gallai and Edmonds
 //! - `barriers`: the canonical partition of Kotzig and Lovász
+//! - `elementary`: elementary components
 //! - `bipartite`: the marriage theorem of Frobenius and Hall, and Hetyei's theorem
 //! - `cuts`: uncrossing and laminar families
 //! - `decompositions`: tight cut decompositions, their uniqueness, and the numbers of bricks and
@@ -33,6 +34,7 @@ mod bricks;
 mod cuts;
 mod decompositions;
 mod ears;
+mod elementary;
 mod extendable;
 mod matchings;
 mod outcomes;
@@ -51,6 +53,7 @@ pub use decompositions::{
 pub use ears::{
     bipartite_ear_law, ear_count_law, ear_decomposition_law, ear_list_exists_law, two_ear_law,
 };
+pub use elementary::elementary_components_law;
 pub use extendable::extendable_law;
 pub use matchings::{berge_law, gallai_edmonds_law, gallai_lemma_law, tutte_law};
 pub use outcomes::{done_runs_law, headline_law, report_exists_law};

@@ -1,0 +1,52 @@
+//! Premises of the theorem on elementary components.
+
+use crate::claims::Claim::{Is, Set};
+use crate::claims::OfSet::{CoveredInside, ElementaryComponent, Perfect};
+use crate::claims::Property::{Allowed, Covered};
+use crate::graphs::{DIAMOND, K2, ONE_VERTEX, PATH_OF_3, TWO_EDGES};
+use crate::rows::{Row, first_wrong};
+use std::alloc::AllocError as Memory;
+
+static ROWS: [Row; 5] = [
+    Row {
+        premise: "elementary_components_law: `covered`: a perfect matching",
+        graph: "the path 1 2 3",
+        given: PATH_OF_3,
+        holds: &[Set(ElementaryComponent, &[1])],
+        fails: &[Set(Perfect, &[]), Set(CoveredInside, &[1])],
+    },
+    Row {
+        premise: "elementary_components_law: `covered`: a component",
+        graph: "K2 with {1}",
+        given: K2,
+        holds: &[Set(Perfect, &[])],
+        fails: &[Set(ElementaryComponent, &[1]), Set(CoveredInside, &[1])],
+    },
+    Row {
+        premise: "elementary_components_law: `whole`: a perfect matching",
+        graph: "K1",
+        given: ONE_VERTEX,
+        holds: &[Set(ElementaryComponent, &[1]), Is(Allowed)],
+        fails: &[Set(Perfect, &[]), Is(Covered)],
+    },
+    Row {
+        premise: "elementary_components_law: `whole`: one component",
+        graph: "two disjoint edges",
+        given: TWO_EDGES,
+        holds: &[Set(Perfect, &[]), Is(Allowed)],
+        fails: &[Set(ElementaryComponent, &[1, 2, 3, 4]), Is(Covered)],
+    },
+    Row {
+        premise: "elementary_components_law: `whole`: each edge is allowed",
+        graph: "the diamond",
+        given: DIAMOND,
+        holds: &[Set(Perfect, &[]), Set(ElementaryComponent, &[1, 2, 3, 4])],
+        fails: &[Is(Allowed), Is(Covered)],
+    },
+];
+
+#[test]
+fn premises_on_elementary_components(rt: HostRuntime) -> Result<(), Memory> {
+    assert_eq!(rt; first_wrong(rt.alloc(), &ROWS)?, None);
+    Ok(())
+}
