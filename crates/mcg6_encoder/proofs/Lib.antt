@@ -1,3 +1,4 @@
 pub mod Beneath
 pub mod ReadsSoFar
 pub mod Encodings
+pub mod OneEncoding
