@@ -4,11 +4,12 @@ from __future__ import annotations
 from collections import deque
 from dataclasses import dataclass
 from itertools import islice
-from typing import Any, Deque, Iterable, Iterator, Optional, Tuple, Type, TypeVar
+from typing import Any, Deque, Dict, Iterable, Iterator, List, Optional, Tuple, Type, TypeVar
 
 from . import graph6
-from .errors import BadGraph, BadInput, ProgramFailed
+from .errors import LIMIT, BadGraph, BadInput, ProgramFailed, TooLarge
 from .graphs import Graph, GraphLike
+from .programs import MOST_LINE
 from .streams import Stream
 
 GivenGraph = TypeVar("GivenGraph", bound=GraphLike)
@@ -73,42 +74,59 @@ class ListComponent:
     vertices: Tuple[int, ...]
 
 
-def kinds(graphs: Iterable[GraphLike]) -> Iterator[Kind]:
+def kinds(
+    graphs: Iterable[GraphLike], skipped: Optional[List[BadInput]] = None
+) -> Iterator[Kind]:
     """Yields what `mcg6 kinds` reports of each graph, in order, by one process for all of them.
 
     Graphs are taken from the iterable some way ahead of the results; the memory used does not
     grow with the list. Parallel edges count once. If a graph is bad (`BadGraph`, `TooLarge`), or
     the iterable raises an exception, the results for those before it come first.
+
+    If `skipped` is a list, bad graphs are left out instead. When the list has ended, an exception
+    for each is appended to `skipped`, in order; its `line` is the place of the graph among those
+    given, from 1, and its `kind` is None if mcg6 found the error.
     """
-    for row in Stream(["kinds"], (line for line, _graph in _lines(_graphs(graphs)))):
+    session = _Session(_graphs(graphs), skipped)
+    for row in session.rows("kinds"):
         yield _kind(row)
 
 
-def leaves(graphs: Iterable[GraphLike], order: str = "first") -> Iterator[ListLeaf]:
+def leaves(
+    graphs: Iterable[GraphLike],
+    order: str = "first",
+    skipped: Optional[List[BadInput]] = None,
+) -> Iterator[ListLeaf]:
     """Yields the bricks and braces of each graph, in order, by one process for all of them.
 
     `order` is `"first"`, `"last"` or `"balanced"`. A graph that is not matching covered gives
     none. What is said of `kinds` on memory and on bad graphs holds here too. `decompose` has the
     leaves of one graph in its own labels.
     """
-    for row in Stream(["leaves", order], (line for line, _graph in _lines(_graphs(graphs)))):
+    session = _Session(_graphs(graphs), skipped)
+    for row in session.rows("leaves", order):
         number, graph, leaf, kind = row.decode("ascii").split()
         yield ListLeaf(int(number) - 1, graph, leaf, kind)
 
 
-def elementary(graphs: Iterable[GraphLike]) -> Iterator[ListComponent]:
+def elementary(
+    graphs: Iterable[GraphLike], skipped: Optional[List[BadInput]] = None
+) -> Iterator[ListComponent]:
     """Yields the elementary components of each graph, in order, by one process for all of them.
 
     These are the components of the subgraph of the allowed edges, by their least vertices; each
     is matching covered. A graph without a perfect matching gives none. What is said of `kinds` on
     memory and on bad graphs holds here too.
     """
-    for row in Stream(["elementary"], (line for line, _graph in _lines(_graphs(graphs)))):
+    session = _Session(_graphs(graphs), skipped)
+    for row in session.rows("elementary"):
         number, component, *vertices = row.decode("ascii").split()
         yield ListComponent(int(number) - 1, component, tuple(map(int, vertices)))
 
 
-def select(graphs: Iterable[GivenGraph], what: str) -> Iterator[GivenGraph]:
+def select(
+    graphs: Iterable[GivenGraph], what: str, skipped: Optional[List[BadInput]] = None
+) -> Iterator[GivenGraph]:
     """Yields the graphs that have the property, as they were given.
 
     `what` is a word of `mcg6 select`: `"covered"`, `"uncovered"`, `"perfect"` (with a perfect
@@ -118,32 +136,52 @@ def select(graphs: Iterable[GivenGraph], what: str) -> Iterator[GivenGraph]:
     """
     rest, before = iter(_graphs(graphs)), 0
     while True:
-        session = _Session(islice(rest, SESSION))
+        bad: Optional[List[BadInput]] = None if skipped is None else []
+        session = _Session(islice(rest, SESSION), bad, keeps=True)
         try:
             yield from session.selected(what)
         except BadInput as fault:
             raise _shifted(fault, before) from None
+        if skipped is not None:
+            skipped += [_shifted(fault, before) for fault in bad or []]
         before += session.count
         if session.count < SESSION:
             return
 
 
 class _Session:
-    """Some of the graphs of `select`, and those of which nothing was heard yet."""
+    """Graphs that are sent through one process; if it `keeps` them, those of which nothing was heard yet.
 
-    def __init__(self, graphs: Iterator[Any]) -> None:
-        self.graphs, self.count = graphs, 0
+    With a list for skipped graphs, the number of a graph that has no line is kept, and an empty line,
+    which is no graph, is sent for it.
+    """
+
+    def __init__(
+        self, graphs: Iterable[Any], skipped: Optional[List[BadInput]], keeps: bool = False
+    ) -> None:
+        self.graphs, self.skipped, self.keeps, self.count = graphs, skipped, keeps, 0
         self.waiting: Deque[Tuple[bytes, Any]] = deque()
+        self.faults: Dict[int, BadInput] = {}
 
     def _lines(self) -> Iterator[bytes]:
-        for line, graph in _lines(self.graphs):
+        faults = None if self.skipped is None else self.faults
+        for line, graph in _lines(self.graphs, faults):
             self.count += 1
-            self.waiting.append((line, graph))
+            if self.keeps:
+                self.waiting.append((line, graph))
             yield line
+
+    def rows(self, *words: str) -> Iterator[bytes]:
+        """The lines that mcg6 writes; at the end those that it skipped are known."""
+        stream = Stream(words, self._lines(), self.skipped is not None)
+        yield from stream
+        if self.skipped is not None:
+            for number, said in stream.bad.items():
+                self.skipped.append(self.faults.get(number) or BadGraph(said, number))
 
     def selected(self, what: str) -> Iterator[Any]:
         """The lines that come back are some of those sent, in order; equal lines all come or none."""
-        for row in Stream(["select", what], self._lines()):
+        for row in self.rows("select", what):
             while self.waiting:
                 line, graph = self.waiting.popleft()
                 if line == row:
@@ -176,14 +214,22 @@ def _text(graph: Any) -> str:
     return graph if isinstance(graph, str) else bytes(graph).decode("latin-1")
 
 
-def _lines(graphs: Iterable[Any]) -> Iterator[Tuple[bytes, Any]]:
-    """Each graph with its line. A graph that is none is named by its place, from 1."""
+def _lines(
+    graphs: Iterable[Any], faults: Optional[Dict[int, BadInput]] = None
+) -> Iterator[Tuple[bytes, Any]]:
+    """Each graph with its line. A graph that is none is named by its place, from 1; with a place for
+    such faults, its line is empty."""
     for number, graph in enumerate(graphs, 1):
         try:
             line = _line(graph)
+            if faults is not None and len(line) >= MOST_LINE:
+                raise TooLarge("a line of a list has at most 65,536 bytes", kind=LIMIT)
         except BadInput as fault:
             made: Type[BadInput] = type(fault)
-            raise made(f"line {number}: {fault.words}", number, fault.kind) from None
+            named = made(f"line {number}: {fault.words}", number, fault.kind)
+            if faults is None:
+                raise named from None
+            faults[number], line = named, b""
         yield line, graph
 
 

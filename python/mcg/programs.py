@@ -66,6 +66,17 @@ def bad_line(words: str, line: Optional[int], text: Optional[bytes]) -> BadGraph
     return made(words.strip() or f"line {line} is not a graph in graph6", line, kind)
 
 
+def bad_lines(words: str) -> Dict[int, str]:
+    """Returns what mcg6 said of each bad line that it skipped, by the number of the line."""
+    said: Dict[int, str] = {}
+    for message in words.splitlines():
+        found = re.match("mcg6: line ([0-9]+)(: | is: )", message)
+        if found:
+            line = int(found[1])
+            said[line] = f"{said[line]}\n{message}" if line in said else message
+    return said
+
+
 def _kind_of(text: bytes) -> Optional[int]:
     """The kind of the first error of a text in graph6, by docs/FORMATS.md."""
     if len(text) > MOST_LINE:

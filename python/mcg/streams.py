@@ -7,10 +7,10 @@ import select
 import subprocess
 import tempfile
 from collections import deque
-from typing import IO, Deque, Iterator, List, Optional, Sequence
+from typing import IO, Deque, Dict, Iterator, List, Optional, Sequence
 
 from .errors import BadGraph, ProgramFailed, ProgramMissing
-from .programs import BAD_INPUT, DONE, bad_line, ended, environment, program
+from .programs import BAD_INPUT, DONE, bad_line, bad_lines, ended, environment, program
 
 CHUNK = 65_536
 
@@ -25,10 +25,14 @@ class Stream:
     thread; no line waits for the end of the list. If the iterator raises an exception, or a line
     is bad, the lines for what came before are yielded first. `sent` counts the lines that were
     taken. Closing ends the process.
+
+    If `skips`, the list goes on after bad lines: `bad` has the number of each and what mcg6 said of
+    it, when the list has ended.
     """
 
-    def __init__(self, words: Sequence[str], lines: Iterator[bytes]) -> None:
-        self.words, self.lines = list(words), lines
+    def __init__(self, words: Sequence[str], lines: Iterator[bytes], skips: bool = False) -> None:
+        self.words, self.lines = [*words, *(["skip"] if skips else [])], lines
+        self.skips, self.bad = skips, {}  # type: bool, Dict[int, str]
         self.sent = 0
         self.yielded = 0
         self._unsent = b""
@@ -124,13 +128,15 @@ class Stream:
         """Raises what ended the list early, if something did."""
         said.seek(0)
         words = said.read().decode("utf-8", "replace")
-        if status == BAD_INPUT:
+        if status == BAD_INPUT and self.skips:
+            self.bad = bad_lines(words)
+        elif status == BAD_INPUT:
             raise self._bad_line(words)
-        if status != DONE:
+        elif status != DONE:
             raise ended("mcg6", status, words)
         if self._failure is not None:
             raise self._failure
-        is_short = self.words[0] == "kinds" and self.yielded < self.sent
+        is_short = self.words[0] == "kinds" and self.yielded + len(self.bad) < self.sent
         if self._unread or self._unsent or self._ended_early or is_short:
             raise ProgramFailed("mcg6 ended before it had read the list", status)
 

@@ -94,6 +94,49 @@ class Kinds(unittest.TestCase):
         self.assertEqual({(a.kind, b.kind) for a, b in pairs}, {("brick", "brace")})
 
 
+class SkippedLines(unittest.TestCase):
+    """Bad graphs are left out and collected, whether mcg6 finds the error or the package does."""
+
+    GRAPHS = ["x!", "C~", [(1, 1)], "", "A_", "\ufeffC~", "?" * 70_000, "Ch", cycle(130), "bad"]
+    BAD = [1, 3, 4, 6, 7, 9, 10]
+
+    def test_kinds(self):
+        skipped = []
+        found = [it.kind for it in mcg.kinds(self.GRAPHS, skipped)]
+        self.assertEqual(found, ["brick", "brace", None])
+        self.assertEqual([it.line for it in skipped], self.BAD)
+        self.assertIsInstance(skipped[4], mcg.TooLarge)
+        for fault in skipped:
+            self.assertIsInstance(fault, mcg.BadGraph)
+            self.assertIn(f"line {fault.line}", str(fault))
+
+    def test_leaves_keep_their_numbers(self):
+        skipped = []
+        found = [(it.index, it.kind) for it in mcg.leaves(self.GRAPHS, "last", skipped)]
+        self.assertEqual(found, [(1, "brick"), (4, "brace")])
+        self.assertEqual([it.line for it in skipped], self.BAD)
+
+    def test_select_over_several_processes(self):
+        skipped = []
+        with mock.patch("mcg.lists.SESSION", 3):
+            found = list(mcg.select(self.GRAPHS, "covered", skipped))
+        self.assertEqual(found, ["C~", "A_"])
+        self.assertEqual([it.line for it in skipped], self.BAD)
+
+    def test_no_bad_graph(self):
+        skipped = []
+        self.assertEqual([it.kind for it in mcg.kinds(["C~", "A_"], skipped)], ["brick", "brace"])
+        self.assertEqual(skipped, [])
+
+    def test_an_iterable_that_fails(self):
+        def graphs():
+            yield from ["C~", "x!"]
+            raise KeyError("mine")
+
+        with self.assertRaises(KeyError):
+            list(mcg.kinds(graphs(), []))
+
+
 class BadLines(unittest.TestCase):
     def asked(self, graphs):
         """The results before the exception, and the exception."""

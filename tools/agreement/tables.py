@@ -108,6 +108,8 @@ def list_synopsis(page):
         for kind, line in lines:
             if line in ("Ar file", "file"):
                 words.append("[FILE]" if kind == "Op" else "FILE")
+            elif line == "Cm skip":
+                words.append("[skip]")
             elif line == "Cm first | last | balanced":
                 words.append("[ORDER]")
             else:

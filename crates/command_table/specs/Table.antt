@@ -105,14 +105,18 @@ rows =
     row_of (codes "replay") (File (codes "FILE") ∷ File (codes "TREE") ∷ File (codes "MOVES") ∷ []) [] (codes "the derivation that the moves make of TREE") ∷
     row_of (codes "grow") (number_from (codes "SEED") 0 999_999_999 ∷ number_from (codes "PIECES") 1 16 ∷ []) [] (codes "a pseudo-random matching covered cubic graph") ∷ []
 
+-- the words after a query of a list that may have bad lines
+abbrev pub skip_file : List Word
+skip_file = Literal (codes "skip") ∷ file
+
 -- the table of `mcg6`
 unfoldable pub list_rows : List Row
 list_rows =
-    row_of (codes "kinds") [] file (codes "a line for each graph: its kind, its bricks and its braces") ∷
-    row_of (codes "leaves") [] (one_of (codes "ORDER") orders [] ∷ File (codes "FILE") ∷ []) (codes "a line for each leaf of its decomposition, as a graph") ∷
-    row_of (codes "elementary") [] file (codes "a line for each elementary component, as a graph") ∷
+    row_of (codes "kinds") [] skip_file (codes "a line for each graph: its kind, its bricks and its braces") ∷
+    row_of (codes "leaves") [] (one_of (codes "ORDER") orders [] ∷ skip_file) (codes "a line for each leaf of its decomposition, as a graph") ∷
+    row_of (codes "elementary") [] skip_file (codes "a line for each elementary component, as a graph") ∷
     row_of (codes "graph") [] file (codes "the file of one graph, for mcg") ∷
-    row_of (codes "select") (one_of (codes "WHAT") properties counted_properties ∷ []) file (codes "the lines whose graph has a property") ∷
+    row_of (codes "select") (one_of (codes "WHAT") properties counted_properties ∷ []) skip_file (codes "the lines whose graph has a property") ∷
     row_of (codes "encode") file [] (codes "the line of a file for mcg; parallel edges count once") ∷ []
 
 -- the usage of `mcg`, and that of `mcg6`
@@ -122,4 +126,4 @@ usage_text = usage_of (codes "usage: mcg COMMAND WORDS..\n") rows (codes "A file
 unfoldable pub list_usage_text : List ℕ
 list_usage_text =
     usage_of (codes "usage: mcg6 COMMAND WORDS.. <LIST\n") list_rows
-    (codes "The list has a graph in graph6 on each line, and is standard input or FILE.\nFORMATS.md has the lines that mcg6 writes.\n")
+    (codes "The list has a graph in graph6 on each line, and is standard input or FILE.\nWith skip, bad lines are left out and named on standard error.\nFORMATS.md has the lines that mcg6 writes.\n")

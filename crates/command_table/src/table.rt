@@ -113,8 +113,8 @@ static LIST_ROWS: [Row; 6] = [
     Row {
         command: "kinds",
         words: &[],
-        optional: &[RowWord::File("FILE")],
-        line: "  kinds [FILE]                 a line for each graph: its kind, its bricks and its braces\n",
+        optional: &[RowWord::Literal("skip"), RowWord::File("FILE")],
+        line: "  kinds [skip] [FILE]          a line for each graph: its kind, its bricks and its braces\n",
     },
     Row {
         command: "leaves",
@@ -126,15 +126,16 @@ static LIST_ROWS: [Row; 6] = [
                 &[],
                 "ORDER is first, last or balanced",
             ),
+            RowWord::Literal("skip"),
             RowWord::File("FILE"),
         ],
-        line: "  leaves [ORDER] [FILE]        a line for each leaf of its decomposition, as a graph\n",
+        line: "  leaves [ORDER] [skip] [FILE] a line for each leaf of its decomposition, as a graph\n",
     },
     Row {
         command: "elementary",
         words: &[],
-        optional: &[RowWord::File("FILE")],
-        line: "  elementary [FILE]            a line for each elementary component, as a graph\n",
+        optional: &[RowWord::Literal("skip"), RowWord::File("FILE")],
+        line: "  elementary [skip] [FILE]     a line for each elementary component, as a graph\n",
     },
     Row {
         command: "graph",
@@ -158,8 +159,8 @@ static LIST_ROWS: [Row; 6] = [
             &["bricks=", "braces="],
             "WHAT is covered, uncovered, perfect, brick, brace, bicritical, composite, bricks=K or braces=K",
         )],
-        optional: &[RowWord::File("FILE")],
-        line: "  select WHAT [FILE]           the lines whose graph has a property\n",
+        optional: &[RowWord::Literal("skip"), RowWord::File("FILE")],
+        line: "  select WHAT [skip] [FILE]    the lines whose graph has a property\n",
     },
     Row {
         command: "encode",
@@ -192,15 +193,16 @@ A file may be a pipe, as /dev/stdin. FORMATS.md has the formats and reports.
 
 /// The usage of the program for lists. A word in brackets may be left out.
 const LIST_USAGE: &str = "usage: mcg6 COMMAND WORDS.. <LIST
-  kinds [FILE]                 a line for each graph: its kind, its bricks and its braces
-  leaves [ORDER] [FILE]        a line for each leaf of its decomposition, as a graph
-  elementary [FILE]            a line for each elementary component, as a graph
+  kinds [skip] [FILE]          a line for each graph: its kind, its bricks and its braces
+  leaves [ORDER] [skip] [FILE] a line for each leaf of its decomposition, as a graph
+  elementary [skip] [FILE]     a line for each elementary component, as a graph
   graph [FILE]                 the file of one graph, for mcg
-  select WHAT [FILE]           the lines whose graph has a property
+  select WHAT [skip] [FILE]    the lines whose graph has a property
   encode FILE                  the line of a file for mcg; parallel edges count once
 ORDER is first, last or balanced
 WHAT is covered, uncovered, perfect, brick, brace, bicritical, composite, bricks=K or braces=K
 The list has a graph in graph6 on each line, and is standard input or FILE.
+With skip, bad lines are left out and named on standard error.
 FORMATS.md has the lines that mcg6 writes.
 ";
 

@@ -1,19 +1,22 @@
--- The rows of the table of `mcg6` are the words that some command matches: by the number of words.
--- Each step is a law of truth values, with the tests of the words for variables.
-use Rattle.std.proofs.Common.{◌≡◌, ◌∙◌, ◌&&◌, ◌||◌, ℕ, List, [], ◌∷◌, drop, Bool, true, false, nat_eq, codes, refl, ap, sym, arith, if◌then◌else◌, Option, Some, None, is_some}
+-- The rows of the table of `mcg6` are the words that some command matches. What may follow a query is
+-- the same on both sides; the rest are laws of truth values, with the tests of the words for variables.
+use Rattle.std.proofs.Common.{◌≡◌, ◌∙◌, ◌&&◌, ◌||◌, ℕ, List, [], ◌∷◌, drop, Bool, true, false, nat_eq, codes, refl, ap, sym, subst, if◌then◌else◌, Option, Some, None, is_some}
 use Rattle.std.specs.List.{list_any, starts_with}
 use Rattle.std.specs.Option.{option_map, option_or}
 use Rattle.std.specs.Str.{bytes_eq}
 use Rattle.std.proofs.Math.Bool.{or-false}
+use Rattle.std.proofs.lemmas.Option.{same_Some}
 use Rattle.std.proofs.lemmas.Slice.Eq.{bytes_eq-Decides}
 use Rattle.line_text.specs.Common.{number_of}
 use Rattle.decomposer.specs.Common.{order_named}
+use Rattle.decomposer.specs.declared.orders.NamedOrder.TheVariants.{First}
 use Rattle.mcg6_lines.specs.declared.query.Property.{Property}
 use Rattle.mcg6_lines.specs.declared.query.Property.TheVariants.{Covered, Uncovered, Perfect, Brick, Brace, Bicritical, Composite, Bricks, Braces}
 use Rattle.mcg6_lines.specs.declared.query.Query.{Query}
-use Rattle.mcg6_top.specs.Common.{command_of, command_with, counted_property, encode_of, leaves_named, pair_named, pair_or_file, property_named, query_named, select_named}
-use Rattle.command_table.specs.Rows.{is_counted, is_listed, is_one_of}
-use Rattle.command_table.specs.Table.{counted_properties, list_rows, orders, properties}
+use Rattle.mcg6_lines.specs.declared.query.Query.TheVariants.{Kinds, Leaves, Elementary, Graph, Select}
+use Rattle.mcg6_top.specs.Common.{asks_skip, command_if, command_of, command_with, counted_property, encode_of, leaves_named, may_skip, pair_command, pair_named, property_named, query_named, select_named}
+use Rattle.command_table.specs.Rows.{fit_optional, is_counted, is_listed, is_one_of}
+use Rattle.command_table.specs.Table.{counted_properties, file, list_rows, orders, properties, skip_file}
 
 -- the word of an order
 named_or : {X : Type 0} (p q r : X) (a b c : Bool) → is_some (if a then Some p else (if b then Some q else (if c then Some r else None))) ≡ ((a || (b || (c || false))) || false)
@@ -66,114 +69,165 @@ property_is word =
     ∙ property_or _ _ _ _ _ _ _ (counted_property word) (bytes_eq word (codes "covered")) (bytes_eq word (codes "uncovered")) (bytes_eq word (codes "perfect")) (bytes_eq word (codes "brick"))
     (bytes_eq word (codes "brace")) (bytes_eq word (codes "bicritical")) (bytes_eq word (codes "composite")) _ (counted_is word)
 
--- the words of queries
-query_or : {X : Type 0} (p q r s : X) (a b c d : Bool) →
-    is_some (if a then Some p else (if b then Some q else (if c then Some r else (if d then Some s else None)))) ≡ (a || (b || (c || (d || false))))
-query_or p q r s true b c d = refl
-query_or p q r s false true c d = refl
-query_or p q r s false false true d = refl
-query_or p q r s false false false true = refl
-query_or p q r s false false false false = refl
-
-query_is : (word : List ℕ) → is_some (query_named word)
-    ≡ (bytes_eq word (codes "kinds") || (bytes_eq word (codes "leaves") || (bytes_eq word (codes "elementary") || (bytes_eq word (codes "graph") || false))))
-query_is word = query_or _ _ _ _ (bytes_eq word (codes "kinds")) (bytes_eq word (codes "leaves")) (bytes_eq word (codes "elementary")) (bytes_eq word (codes "graph"))
-
-pair_or : {X : Type 0} (o s : Option X) (leaves select order has : Bool) → is_some o ≡ order → is_some s ≡ has →
-    is_some (if leaves then o else (if select then s else None)) ≡ (if leaves then order else (if select then has else false))
-pair_or o s true select order has one two = one
-pair_or o s false true order has one two = two
-pair_or o s false false order has one two = refl
-
-pair_is : (word second : List ℕ) → is_some (pair_named word second)
-    ≡ (if bytes_eq word (codes "leaves") then is_one_of orders [] second else (if bytes_eq word (codes "select") then is_one_of properties counted_properties second else false))
-pair_is word second =
-    pair_or (leaves_named second) (select_named second) (bytes_eq word (codes "leaves")) (bytes_eq word (codes "select")) _ _ (order_is second) (property_is second)
-
-command_some : (query : Option Query) (file : Option (List ℕ)) → is_some (command_with query file) ≡ is_some query
-command_some None file = refl
-command_some (Some query) file = refl
-
-file_some : (query : Option Query) (word second : List ℕ) → is_some (pair_or_file query word second) ≡ (is_some query || is_some (query_named word))
-file_some None word second = command_some (query_named word) (Some second)
-file_some (Some query) word second = refl
-
 some_if : {X : Type 0} (x : X) (a : Bool) → is_some (if a then Some x else None) ≡ a
 some_if x true = refl
 some_if x false = refl
 
--- the cases of two words: the second says more of the query, or is the name of the file
-two_words : (kinds leaves elementary graph select encode order has : Bool) →
-    (((if leaves then order else (if select then has else false)) || (kinds || (leaves || (elementary || (graph || false))))) || encode)
-    ≡ (kinds || (((if order then true else true) && leaves) || (elementary || (graph || ((has && select) || (encode || false))))))
-two_words true true elementary graph select encode true has = refl
-two_words true true elementary graph select encode false has = refl
-two_words true false elementary graph true encode order true = refl
-two_words true false elementary graph true encode order false = refl
-two_words true false elementary graph false encode order has = refl
-two_words false true elementary graph select encode true has = refl
-two_words false true elementary graph select encode false has = refl
-two_words false false true graph true encode true true = refl
-two_words false false true graph true encode true false = refl
-two_words false false true graph true encode false true = refl
-two_words false false true graph true encode false false = refl
-two_words false false true graph false encode true has = refl
-two_words false false true graph false encode false has = refl
-two_words false false false true true encode true true = refl
-two_words false false false true true encode true false = refl
-two_words false false false true true encode false true = refl
-two_words false false false true true encode false false = refl
-two_words false false false true false encode true has = refl
-two_words false false false true false encode false has = refl
-two_words false false false false true encode true true = refl
-two_words false false false false true encode false true = refl
-two_words false false false false true true true false = refl
-two_words false false false false true true false false = refl
-two_words false false false false true false true false = refl
-two_words false false false false true false false false = refl
-two_words false false false false false true true true = refl
-two_words false false false false false true true false = refl
-two_words false false false false false true false true = refl
-two_words false false false false false true false false = refl
-two_words false false false false false false true true = refl
-two_words false false false false false false true false = refl
-two_words false false false false false false false true = refl
-two_words false false false false false false false false = refl
+some_either : {X : Type 0} (x y : X) (a : Bool) → is_some (if a then Some x else Some y) ≡ true
+some_either x y true = refl
+some_either x y false = refl
 
--- those of three
-three_words : (leaves select order has : Bool) → (leaves ≡ true → select ≡ false) →
-    ((if leaves then order else (if select then has else false)) || false) ≡ (((if order then true else false) && leaves) || ((has && select) || false))
-three_words true true order has apart = absurd (cc (apart refl))
-three_words true false true true apart = refl
-three_words true false true false apart = refl
-three_words true false false true apart = refl
-three_words true false false false apart = refl
-three_words false true true true apart = refl
-three_words false true true false apart = refl
-three_words false true false true apart = refl
-three_words false true false false apart = refl
-three_words false false true true apart = refl
-three_words false false true false apart = refl
-three_words false false false true apart = refl
-three_words false false false false apart = refl
+itself : (a : Bool) → (if a then true else false) ≡ a
+itself true = refl
+itself false = refl
 
--- those of more: no row has so many
-more_words : (order leaves : Bool) → false ≡ (((if order then false else false) && leaves) || false)
-more_words true leaves = refl
-more_words false leaves = refl
+optional_one : (a : Bool) → (if a then true else true) ≡ true
+optional_one true = refl
+optional_one false = refl
 
-apart : (word : List ℕ) → bytes_eq word (codes "leaves") ≡ true → bytes_eq word (codes "select") ≡ false
-apart word is = ap (λ w. bytes_eq w (codes "select")) ((bytes_eq-Decides word (codes "leaves")).0 is)
+optional_more : (a : Bool) → (if a then false else false) ≡ false
+optional_more true = refl
+optional_more false = refl
+
+-- a command has such words exactly if they fit those of the row
+with_fits : (query : Query) → may_skip query ≡ true → (words : List (List ℕ)) → is_some (command_with query words) ≡ fit_optional skip_file words
+with_fits query may [] = refl
+with_fits query may (word ∷ []) = some_either _ _ (asks_skip query word) ∙ sym (optional_one (bytes_eq word (codes "skip")))
+with_fits query may (word ∷ name ∷ []) =
+    some_if _ (asks_skip query word) ∙ ap (λ (m : Bool). m && bytes_eq word (codes "skip")) may ∙ sym (itself (bytes_eq word (codes "skip")))
+with_fits query may (word ∷ name ∷ third ∷ words) = sym (optional_more (bytes_eq word (codes "skip")))
+
+-- the file of one graph has only a file after it
+graph_fits : (words : List (List ℕ)) → is_some (command_with Graph words) ≡ fit_optional file words
+graph_fits [] = refl
+graph_fits (word ∷ []) = refl
+graph_fits (word ∷ name ∷ []) = refl
+graph_fits (word ∷ name ∷ third ∷ words) = refl
+
+-- the query that a word names, and the words after it
+named_if : (kinds leaves elementary graph : Bool) (words : List (List ℕ)) →
+    is_some (command_if (if kinds then Some Kinds else (if leaves then Some (Leaves First) else (if elementary then Some Elementary else (if graph then Some Graph else None)))) words)
+    ≡ (if kinds then fit_optional skip_file words else (if leaves then fit_optional skip_file words else
+    (if elementary then fit_optional skip_file words else (if graph then fit_optional file words else false))))
+named_if true leaves elementary graph words = with_fits Kinds refl words
+named_if false true elementary graph words = with_fits (Leaves First) refl words
+named_if false false true graph words = with_fits Elementary refl words
+named_if false false false true words = graph_fits words
+named_if false false false false words = refl
+
+named_fits : (word : List ℕ) (words : List (List ℕ)) → is_some (command_if (query_named word) words)
+    ≡ (if bytes_eq word (codes "kinds") then fit_optional skip_file words else (if bytes_eq word (codes "leaves") then fit_optional skip_file words else
+    (if bytes_eq word (codes "elementary") then fit_optional skip_file words else (if bytes_eq word (codes "graph") then fit_optional file words else false))))
+named_fits word words =
+    named_if (bytes_eq word (codes "kinds")) (bytes_eq word (codes "leaves")) (bytes_eq word (codes "elementary")) (bytes_eq word (codes "graph")) words
+
+-- a query that two words name, and the words after them; or the second is one of those
+second_if : (o : Option Query) → ((query : Query) → o ≡ Some query → may_skip query ≡ true) → (word second : List ℕ) (words : List (List ℕ)) →
+    is_some (pair_command o word second words) ≡ (if is_some o then fit_optional skip_file words else is_some (command_if (query_named word) (second ∷ words)))
+second_if None may word second words = refl
+second_if (Some query) may word second words = with_fits query (may query refl) words
+
+map_may : {X : Type 0} (f : X → Query) → ((x : X) → may_skip (f x) ≡ true) → (o : Option X) (query : Query) → option_map f o ≡ Some query → may_skip query ≡ true
+map_may f may None query is = absurd (cc is)
+map_may f may (Some x) query is = subst (λ (q : Query). may_skip q ≡ true) (same_Some (f x) query is) (may x)
+
+leaves_may : (word : List ℕ) (query : Query) → leaves_named word ≡ Some query → may_skip query ≡ true
+unfolding leaves_named
+leaves_may word = map_may Leaves (λ order. refl) (order_named word)
+
+select_may : (word : List ℕ) (query : Query) → select_named word ≡ Some query → may_skip query ≡ true
+unfolding select_named
+select_may word = map_may Select (λ property. refl) (property_named word)
+
+-- the command of two words and more, by the first
+second_fits : (leaves select : Bool) (word second : List ℕ) (words : List (List ℕ)) →
+    is_some (pair_command (if leaves then leaves_named second else (if select then select_named second else None)) word second words)
+    ≡ (if leaves then (if is_one_of orders [] second then fit_optional skip_file words else is_some (command_if (query_named word) (second ∷ words)))
+    else (if select then (if is_one_of properties counted_properties second then fit_optional skip_file words else is_some (command_if (query_named word) (second ∷ words)))
+    else is_some (command_if (query_named word) (second ∷ words))))
+second_fits true select word second words =
+    second_if (leaves_named second) (leaves_may second) word second words
+    ∙ ap (λ (a : Bool). if a then fit_optional skip_file words else is_some (command_if (query_named word) (second ∷ words))) (order_is second)
+second_fits false true word second words =
+    second_if (select_named second) (select_may second) word second words
+    ∙ ap (λ (a : Bool). if a then fit_optional skip_file words else is_some (command_if (query_named word) (second ∷ words))) (property_is second)
+second_fits false false word second words = refl
+
+-- the graph6 text of a file
+encode_fits : (word name : List ℕ) (words : List (List ℕ)) → is_some (encode_of (word ∷ name ∷ words)) ≡ (if bytes_eq word (codes "encode") then fit_optional [] words else false)
+encode_fits word name [] = some_if name (bytes_eq word (codes "encode")) ∙ sym (itself (bytes_eq word (codes "encode")))
+encode_fits word name (third ∷ words) = sym (optional_more (bytes_eq word (codes "encode")))
+
+and-true : (a : Bool) → (a && true) ≡ a
+and-true true = refl
+and-true false = refl
+
+and-false : (a : Bool) → (a && false) ≡ false
+and-false true = refl
+and-false false = refl
+
+if-and : (has more : Bool) → (if has then more else false) ≡ (more && has)
+if-and true true = refl
+if-and true false = refl
+if-and false true = refl
+if-and false false = refl
+
+-- the rows of a first word: k, l, m, g, s and e are the tests of it for the six commands, of which
+-- no two hold; `order` and `has` are those of the second word, and the others say which words may
+-- come after them
+rows_of : (k l m g s e order has more next name rest : Bool) →
+    (k ≡ true → (l ≡ false) × (m ≡ false) × (g ≡ false) × (s ≡ false) × (e ≡ false)) →
+    (l ≡ true → (m ≡ false) × (g ≡ false) × (s ≡ false) × (e ≡ false)) →
+    (m ≡ true → (g ≡ false) × (s ≡ false) × (e ≡ false)) → (g ≡ true → (s ≡ false) × (e ≡ false)) → (s ≡ true → e ≡ false) →
+    ((if l then (if order then more else (if k then next else (if l then next else (if m then next else (if g then name else false)))))
+    else (if s then (if has then more else (if k then next else (if l then next else (if m then next else (if g then name else false)))))
+    else (if k then next else (if l then next else (if m then next else (if g then name else false)))))) || (if e then rest else false))
+    ≡ ((next && k) || (((if order then more else next) && l) || ((next && m) || ((name && g) || (((more && has) && s) || (((rest && true) && e) || false))))))
+rows_of true l m g s e order has more next name rest a b c d f =
+    let none = a refl in
+    rw (none.0, none.1, none.2, none.3, none.4, and-true next, and-false (if order then more else next), and-false next, and-false name, and-false (more && has), and-false (rest && true)) refl
+rows_of false true m g s e order has more next name rest a b c d f =
+    let none = b refl in
+    rw (none.0, none.1, none.2, none.3, and-false next, and-true (if order then more else next), and-false name, and-false (more && has), and-false (rest && true)) refl
+rows_of false false true g s e order has more next name rest a b c d f =
+    let none = c refl in
+    rw (none.0, none.1, none.2, and-false next, and-false (if order then more else next), and-true next, and-false name, and-false (more && has), and-false (rest && true)) refl
+rows_of false false false true s e order has more next name rest a b c d f =
+    let none = d refl in
+    rw (none.0, none.1, and-false next, and-false (if order then more else next), and-true name, and-false (more && has), and-false (rest && true)) refl
+rows_of false false false false true e order has more next name rest a b c d f =
+    rw (f refl, and-false next, and-false (if order then more else next), and-false name, if-and has more, and-true (more && has), and-false (rest && true)) refl
+rows_of false false false false false true order has more next name rest a b c d f =
+    rw (and-false next, and-false (if order then more else next), and-false name, and-false (more && has), and-true (rest && true), and-true rest) (sym (or-false rest))
+rows_of false false false false false false order has more next name rest a b c d f =
+    rw (and-false next, and-false (if order then more else next), and-false name, and-false (more && has), and-false (rest && true)) refl
+
+-- no word is two commands
+apart : (word a b : List ℕ) → bytes_eq word a ≡ true → bytes_eq word b ≡ bytes_eq a b
+apart word a b is = ap (λ w. bytes_eq w b) ((bytes_eq-Decides word a).0 is)
+
+-- a command alone
+one_word : (k l m g : Bool) → ((if k then true else (if l then true else (if m then true else (if g then true else false)))) || false) ≡ (k || (l || (m || (g || false))))
+one_word true l m g = refl
+one_word false true m g = refl
+one_word false false true g = refl
+one_word false false false true = refl
+one_word false false false false = refl
 
 pub listed : (words : List (List ℕ)) → (is_some (command_of words) || is_some (encode_of words)) ≡ is_listed list_rows words
 unfolding list_rows
 listed [] = refl
-listed (w ∷ []) = or-false (is_some (command_with (query_named w) None)) ∙ command_some (query_named w) None ∙ query_is w
-listed (w ∷ s ∷ []) =
-    rw (file_some (pair_named w s) w s, pair_is w s, query_is w, some_if s (bytes_eq w (codes "encode")))
-    (two_words (bytes_eq w (codes "kinds")) (bytes_eq w (codes "leaves")) (bytes_eq w (codes "elementary")) (bytes_eq w (codes "graph")) (bytes_eq w (codes "select"))
-    (bytes_eq w (codes "encode")) (is_one_of orders [] s) (is_one_of properties counted_properties s))
-listed (w ∷ s ∷ t ∷ []) =
-    rw (command_some (pair_named w s) (Some t), pair_is w s)
-    (three_words (bytes_eq w (codes "leaves")) (bytes_eq w (codes "select")) (is_one_of orders [] s) (is_one_of properties counted_properties s) (apart w))
-listed (w ∷ s ∷ t ∷ u ∷ words) = more_words (is_one_of orders [] s) (bytes_eq w (codes "leaves"))
+listed (w ∷ []) =
+    rw (named_fits w [])
+    (one_word (bytes_eq w (codes "kinds")) (bytes_eq w (codes "leaves")) (bytes_eq w (codes "elementary")) (bytes_eq w (codes "graph")))
+listed (w ∷ s ∷ words) =
+    rw (second_fits (bytes_eq w (codes "leaves")) (bytes_eq w (codes "select")) w s words, named_fits w (s ∷ words), encode_fits w s words)
+    (rows_of (bytes_eq w (codes "kinds")) (bytes_eq w (codes "leaves")) (bytes_eq w (codes "elementary")) (bytes_eq w (codes "graph")) (bytes_eq w (codes "select")) (bytes_eq w (codes "encode"))
+    (is_one_of orders [] s) (is_one_of properties counted_properties s)
+    (fit_optional skip_file words) (fit_optional skip_file (s ∷ words)) (fit_optional file (s ∷ words)) (fit_optional [] words)
+    (λ is. (apart w (codes "kinds") (codes "leaves") is, apart w (codes "kinds") (codes "elementary") is, apart w (codes "kinds") (codes "graph") is,
+    apart w (codes "kinds") (codes "select") is, apart w (codes "kinds") (codes "encode") is))
+    (λ is. (apart w (codes "leaves") (codes "elementary") is, apart w (codes "leaves") (codes "graph") is, apart w (codes "leaves") (codes "select") is, apart w (codes "leaves") (codes "encode") is))
+    (λ is. (apart w (codes "elementary") (codes "graph") is, apart w (codes "elementary") (codes "select") is, apart w (codes "elementary") (codes "encode") is))
+    (λ is. (apart w (codes "graph") (codes "select") is, apart w (codes "graph") (codes "encode") is))
+    (λ is. apart w (codes "select") (codes "encode") is))

@@ -1,16 +1,16 @@
 -- What goes to the sinks of the front.
 -- Stated by: mcg6_front_top.
-use Rattle.std.specs.Prelude.{◌≡◌, ◌⊎◌, ℕ, List, Bool}
+use Rattle.std.specs.Prelude.{◌≡◌, ◌⊎◌, ℕ, List, [], Bool}
 use Rattle.std.specs.declared.option.Option.{Option}
 use Rattle.std.specs.declared.option.Option.TheVariants.{Some}
 use Rattle.std.specs.declared.result.Result.{Result}
 use Rattle.outside.specs.Common.{Rose, appended}
 use Rattle.outside.specs.declared.explain.FailureReason.{FailureReason}
 use Rattle.outside.specs.declared.sink.SinkFailed.{SinkFailed}
-use Rattle.mcg6_reader.specs.declared.ending.Ending.{Ending}
-use Rattle.mcg6_reader.specs.Common.{TellsList}
+use Rattle.mcg6_reader.specs.Common.{Reports, TellsList}
 use Rattle.mcg6_encoder.specs.Reads.{EncodesFile}
-use Rattle.mcg6_top.specs.Common.{ListCommand, command_of, encode_of, file_named_by, TellsLineOf, IsBadLine, lacks_of, status_in}
+use Rattle.mcg6_top.specs.Common.{ListCommand, command_of, encode_of, file_named_by, TellsOrSkips, StopsAt, SkipsLine, lacks_of, status_in}
+use Rattle.mcg6_top.specs.declared.status.ListEnd.{ListEnd}
 use Rattle.mcg6_top.specs.declared.status.ListStatus.{ListStatus}
 use Rattle.mcg6_top.specs.declared.status.ListStatus.TheVariants.{Done, WriteFault}
 use Rattle.front_words.specs.Saying.{IsBegun, Says, WritesUntilFault, WritesWhole}
@@ -23,17 +23,19 @@ pub record IsSaid {E : Type 0} (written : E → Option (List ℕ)) (writes : E �
 
 -- what was said after a run of these words that ended with this status: the words for its ending,
 -- up to which what was written is what the words ask of the lines of the list, or what the graph
--- file gives; so a bad line that is named is the first. Given why the file cannot be read, whether
+-- file gives; so the bad lines that are named are those that were skipped, and the one at which the
+-- list ended. Given why the file cannot be read, whether
 -- nobody reads the output any more, what was left of the source, and what the sink had before and
 -- has now
 pub record Speaks {E : Type 0} (written : E → Option (List ℕ)) (writes : E → List ℕ → ℕ → E → Type 0) (faults : E → ℕ) (words : List (List ℕ)) (ended : ListStatus)
     (reason : Option FailureReason) (is_abandoned : Bool) (left sink_before sink_now : Option (List ℕ)) (before now : E) : Type 0 where
-  pub ending : Option Ending
+  pub ending : Option ListEnd
   pub of_status : ended ≡ status_in ending
-  pub tells : (asked : ListCommand) (last : Ending) → command_of words ≡ Some asked → ending ≡ Some last
-      → TellsList (TellsLineOf asked.query) (IsBadLine asked.query) (lacks_of asked.query) last left sink_before sink_now
-  pub encodes : (name : List ℕ) (last : Ending) → encode_of words ≡ Some name → ending ≡ Some last
-      → EncodesFile last left sink_before sink_now
+  pub tells : (asked : ListCommand) (last : ListEnd) → command_of words ≡ Some asked → ending ≡ Some last
+      → TellsList (TellsOrSkips asked.query asked.at_bad) (StopsAt asked.query asked.at_bad) (lacks_of asked.query)
+      (Reports (SkipsLine asked.query asked.at_bad)) last.ending left sink_before sink_now [] last.skipped.items
+  pub encodes : (name : List ℕ) (last : ListEnd) → encode_of words ≡ Some name → ending ≡ Some last
+      → EncodesFile last.ending left sink_before sink_now
   pub said : IsSaid written writes faults
       (words_of ending (record { name = file_named_by words; encoded = encode_of words; reason = reason; is_abandoned = is_abandoned })) before now
 

@@ -1,12 +1,13 @@
 -- What is said of each ending.
 -- Stated by: mcg6_front_top.
-use Rattle.std.specs.Prelude.{ℕ, List, [], codes, Bool, if◌then◌else◌}
+use Rattle.std.specs.Prelude.{ℕ, List, [], ◌∷◌, ◌++◌, codes, Bool, if◌then◌else◌}
 use Rattle.std.specs.declared.option.Option.{Option}
 use Rattle.std.specs.declared.option.Option.TheVariants.{Some, None}
 use Rattle.outside.specs.declared.explain.FailureReason.{FailureReason}
 use Rattle.mcg6_reader.specs.declared.ending.BadLine.{BadLine}
 use Rattle.mcg6_reader.specs.declared.ending.Ending.{Ending}
 use Rattle.mcg6_reader.specs.declared.ending.Ending.TheVariants.{Done, Bad, ReadFault, WriteFault, Memory}
+use Rattle.mcg6_top.specs.declared.status.ListEnd.{ListEnd}
 use Rattle.front_words.specs.declared.faults.Role.TheVariants.{Graph}
 use Rattle.front_words.specs.ListMessages.{bad_line_text, unread_list_text}
 use Rattle.front_words.specs.Messages.{bad_file_text, unread_text}
@@ -62,12 +63,18 @@ file_words name ReadFault known = unread_text program name known.reason
 file_words name WriteFault known = unwritten_words known.is_abandoned
 file_words name Memory known = nothing_words
 
--- what is said of a list, or of the graph file of that name, that ended so
-abbrev pub ending_words : (encoded : Option (List ℕ)) → Ending → Known → List ℕ
-ending_words None ending known = list_words ending known
-ending_words (Some name) ending known = file_words name ending known
+-- what is said of bad lines that were skipped: of each what is said of a bad line, in order
+abbrev pub skipped_words : List BadLine → List ℕ
+skipped_words [] = []
+skipped_words (found ∷ skipped) = bad_line_text program found.number found.kind found.text.items ++ skipped_words skipped
+
+-- what is said of a list, or of the graph file of that name, that ended so: of the lines that were
+-- skipped first
+abbrev pub ending_words : (encoded : Option (List ℕ)) → ListEnd → Known → List ℕ
+ending_words None end known = skipped_words end.skipped.items ++ list_words end.ending known
+ending_words (Some name) end known = file_words name end.ending known
 
 -- what is said of a run that ended so
-abbrev pub words_of : Option Ending → Known → List ℕ
+abbrev pub words_of : Option ListEnd → Known → List ℕ
 words_of None known = list_usage_text
-words_of (Some ending) known = ending_words known.encoded ending known
+words_of (Some end) known = ending_words known.encoded end known

@@ -1,7 +1,6 @@
 //! The top call.
 ghost use Rattle.std.specs.Prelude.{◌≡◌, ◌⊎◌, ℕ, List, map, string_bytes, true, false, Some, None};
 ghost use Rattle.std.specs.declared.option.Option.{Option};
-ghost use Rattle.mcg6_reader.specs.declared.ending.Ending.{Ending};
 ghost use Rattle.mcg6_top.specs.Common.{ListRuns};
 ghost use Rattle.mcg6_front_top.specs.Answers.{answer_of};
 ghost use Rattle.mcg6_front_top.specs.CluesSeen.{known_by};
@@ -11,8 +10,7 @@ ghost use Rattle.mcg6_front_top.specs.Words.{lost_words, words_of};
 use crate::answers::answer_of;
 use crate::speaking::{ListClues, say_ending, say_lost, status_in};
 use front_words::say_bytes;
-use mcg6_reader::Ending;
-use mcg6_top::{ListStatus, encode_name, file_name, run_to_ending};
+use mcg6_top::{ListEnd, ListStatus, encode_name, file_name, run_to_ending};
 use outside::{FailureReason, Outlet, Sink, SinkFailed, Source};
 use std::alloc::Global;
 
@@ -60,17 +58,17 @@ fn answer<K: Outlet, E: Sink>(
 fn say_unless_quiet<'a, E: Sink>(
     errors: &mut E,
     is_quiet: bool,
-    ending: &Option<Ending>,
+    end: &Option<ListEnd>,
     clues: ListClues<'a>,
 )
     ensures quiet { is_quiet ≡ true → errors.new ≡ errors.old }
     ensures says { is_quiet ≡ false → IsSaid E.written E.writes E.faults
-        (words_of ending.now (known_by clues.entry)) errors.old errors.new }
+        (words_of end.now (known_by clues.entry)) errors.old errors.new }
 {
     if is_quiet {
         return;
     }
-    let _ = say_ending(errors, ending, clues);
+    let _ = say_ending(errors, end, clues);
 }
 
 // Runs the words, and then says how that ended, unless it is to be quiet.
@@ -91,15 +89,15 @@ fn speak<S: Source, K: Outlet, E: Sink>(
         (K.is_abandoned sink.new) (S.left source.old) (K.written sink.old) (K.written sink.new)
         errors.old errors.new }
 {
-    let ending = run_to_ending(alloc, words, source, sink);
+    let end = run_to_ending(alloc, words, source, sink);
     let clues = ListClues {
         name: file_name(words),
         encoded: encode_name(words),
         reason,
         is_abandoned: sink.is_abandoned(),
     };
-    say_unless_quiet(errors, is_quiet, &ending, clues);
-    status_in(&ending)
+    say_unless_quiet(errors, is_quiet, &end, clues);
+    status_in(&end)
 }
 
 /// Does what the words ask for, as `run` of `mcg6_top`, and then says on the second sink how that

@@ -16,6 +16,7 @@
 mod answers;
 mod fronting;
 mod laws;
+mod skipping;
 mod speaking;
 
 pub use fronting::run_list_front;

@@ -1,20 +1,21 @@
 //! What is said of each ending.
-ghost use Rattle.std.specs.Prelude.{◌≡◌, ◌↔◌, [], None, Some};
+ghost use Rattle.std.specs.Prelude.{◌≡◌, ◌↔◌, ◌++◌, [], None};
 ghost use Rattle.std.specs.Option.{option_map};
 ghost use Rattle.front_words.specs.Saying.{Says};
 ghost use Rattle.mcg6_top.specs.Common.{status_in};
 ghost use Rattle.mcg6_front_top.specs.CluesSeen.{known_by};
-ghost use Rattle.mcg6_front_top.specs.Words.{bad_graph_words, ending_words, file_words, list_words, lost_words, memory_words, nothing_words, unwritten_words, words_of};
+ghost use Rattle.mcg6_front_top.specs.Words.{bad_graph_words, ending_words, file_words, list_words, lost_words, memory_words, nothing_words, skipped_words, unwritten_words, words_of};
 
+use crate::skipping::say_skipped;
 use front_words::{
     BadFile, Role, list_usage, say_bad_file, say_bad_line, say_bytes, say_unread, say_unread_list,
 };
 use mcg6_reader::{BadLine, Ending};
-use mcg6_top::{ListStatus, status_of};
+use mcg6_top::{ListEnd, ListStatus, status_of};
 use outside::{FailureReason, Sink, SinkFailed};
 
-// The name of the program.
-const PROGRAM: &str = "mcg6";
+/// The name of the program.
+pub const PROGRAM: &str = "mcg6";
 
 /// What is known of the faults of a run.
 #[derive(Clone, Copy, Drop)]
@@ -29,15 +30,13 @@ pub struct ListClues<'a> {
     pub is_abandoned: bool,
 }
 
-/// The status of a run that ended so; with no ending the words matched no row.
-pub fn status_in(ending: &Option<Ending>) -> ListStatus
-    ensures status { result ≡ status_in ending.now }
-    ensures usage { result ≡ ListStatus.Usage ↔ (ending.now ≡ None) }
-    ensures read_fault { result ≡ ListStatus.ReadFault → ending.now ≡ Some Ending.ReadFault }
-    ensures write_fault { result ≡ ListStatus.WriteFault → ending.now ≡ Some Ending.WriteFault }
+/// The status of a run with that end; with none the words matched no row.
+pub fn status_in(end: &Option<ListEnd>) -> ListStatus
+    ensures status { result ≡ status_in end.now }
+    ensures usage { result ≡ ListStatus.Usage ↔ (end.now ≡ None) }
 {
-    match ending {
-        Some(ending) => status_of(ending),
+    match end {
+        Some(end) => status_of(end),
         None => ListStatus::Usage,
     }
 }
@@ -49,18 +48,18 @@ fn say_nothing<E: Sink>(_errors: &mut E) -> Result<(), SinkFailed>
     Ok(())
 }
 
-/// Says what the ending of a run means, or with no ending that the words matched no row; nothing
+/// Says what the end of a run means, or with none that the words matched no row; nothing
 /// where each line was told, or the graph6 text written. Takes no memory.
 pub fn say_ending<'a, E: Sink>(
     errors: &mut E,
-    ending: &Option<Ending>,
+    end: &Option<ListEnd>,
     clues: ListClues<'a>,
 ) -> Result<(), SinkFailed>
-    ensures { Says E.written E.writes E.faults (words_of ending.now (known_by clues.entry)) result
+    ensures { Says E.written E.writes E.faults (words_of end.now (known_by clues.entry)) result
         errors.old errors.new }
 {
-    match ending {
-        Some(ending) => say_some_ending(errors, ending, clues),
+    match end {
+        Some(end) => say_some_ending(errors, end, clues),
         None => say_bytes(errors, list_usage().as_bytes()),
     }
 }
@@ -68,16 +67,32 @@ pub fn say_ending<'a, E: Sink>(
 // Says how a list ended, or the encoding of a graph file.
 fn say_some_ending<'a, E: Sink>(
     errors: &mut E,
-    ending: &Ending,
+    end: &ListEnd,
     clues: ListClues<'a>,
 ) -> Result<(), SinkFailed>
     ensures { Says E.written E.writes E.faults
-        (ending_words (option_map (λ name. name.now) clues.entry.encoded) ending.now
+        (ending_words (option_map (λ name. name.now) clues.entry.encoded) end.now
         (known_by clues.entry)) result errors.old errors.new }
 {
     match clues.encoded {
-        Some(name) => say_file_ending(errors, name, ending, clues),
-        None => say_list_ending(errors, ending, clues),
+        Some(name) => say_file_ending(errors, name, &end.ending, clues),
+        None => say_skipping_ending(errors, end, clues),
+    }
+}
+
+// Says of a list which bad lines were skipped, and how it ended.
+fn say_skipping_ending<'a, E: Sink>(
+    errors: &mut E,
+    end: &ListEnd,
+    clues: ListClues<'a>,
+) -> Result<(), SinkFailed>
+    ensures { Says E.written E.writes E.faults
+        (skipped_words end.now.skipped.items ++ list_words end.now.ending (known_by clues.entry))
+        result errors.old errors.new }
+{
+    match say_skipped(errors, &end.skipped) {
+        Ok(()) => say_list_ending(errors, &end.ending, clues),
+        Err(SinkFailed) => Err(SinkFailed),
     }
 }
 

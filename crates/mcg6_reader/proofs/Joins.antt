@@ -15,31 +15,31 @@ place_behind-append n [] ys = refl
 place_behind-append n (x ∷ xs) ys = place_behind-append (place_after n x) xs ys
 
 pub AllTold-append :
-    (tells : LinePlace → List ℕ → List ℕ → Type 0) (n : LinePlace) (xs ys : List (List ℕ)) (a b : List ℕ) →
+    {A : Type 0} (tells : LinePlace → List ℕ → List A → Type 0) (n : LinePlace) (xs ys : List (List ℕ)) (a b : List A) →
     AllTold tells n xs a → AllTold tells (place_behind n xs) ys b → AllTold tells n (xs ++ ys) (a ++ b)
-AllTold-append tells n [] ys a b told behind =
-    let out : a ++ b ≡ b = ap (λ (t : List ℕ). t ++ b) told in
-    subst (λ (t : List ℕ). AllTold tells n ys t) (sym out) behind
-AllTold-append tells n (x ∷ xs) ys a b (first, others, one, rest, out) behind = (
+AllTold-append {A} tells n [] ys a b told behind =
+    let out : a ++ b ≡ b = ap (λ (t : List A). t ++ b) told in
+    subst (λ (t : List A). AllTold tells n ys t) (sym out) behind
+AllTold-append {A} tells n (x ∷ xs) ys a b (first, others, one, rest, out) behind = (
   first,
   others ++ b,
   one,
   AllTold-append tells (place_after n x) xs ys others b rest behind,
-  ap (λ (t : List ℕ). t ++ b) out ∙ append_assoc first others b,
+  ap (λ (t : List A). t ++ b) out ∙ append_assoc first others b,
 )
 
 -- one line
 pub AllTold-one :
-    (tells : LinePlace → List ℕ → List ℕ → Type 0) (n : LinePlace) (line output : List ℕ) →
+    {A : Type 0} (tells : LinePlace → List ℕ → List A → Type 0) (n : LinePlace) (line : List ℕ) (output : List A) →
     LineTold tells n line output → AllTold tells n (line ∷ []) output
 AllTold-one tells n line output told = (output, [], told, refl, sym (append-nil output))
 
 pub BeginningTold-none :
-    (tells : LinePlace → List ℕ → List ℕ → Type 0) (n : LinePlace) (lines : List (List ℕ)) → BeginningTold tells n lines []
+    {A : Type 0} (tells : LinePlace → List ℕ → List A → Type 0) (n : LinePlace) (lines : List (List ℕ)) → BeginningTold tells n lines []
 BeginningTold-none tells n lines = record { before = []; behind = lines; cut = refl; told = refl }
 
 pub BeginningTold-behind :
-    (tells : LinePlace → List ℕ → List ℕ → Type 0) (n : LinePlace) (xs ys : List (List ℕ)) (a b : List ℕ) →
+    {A : Type 0} (tells : LinePlace → List ℕ → List A → Type 0) (n : LinePlace) (xs ys : List (List ℕ)) (a b : List A) →
     AllTold tells n xs a → BeginningTold tells (place_behind n xs) ys b → BeginningTold tells n (xs ++ ys) (a ++ b)
 BeginningTold-behind tells n xs ys a b told behind = record {
   before = xs ++ behind.before;
@@ -50,7 +50,7 @@ BeginningTold-behind tells n xs ys a b told behind = record {
 
 -- the first line is bad
 pub HasBadLine-first :
-    (tells : LinePlace → List ℕ → List ℕ → Type 0) (bad : LinePlace → List ℕ → FaultKind → Type 0) (n : LinePlace) (line : List ℕ) (found : BadLine)
+    {A : Type 0} (tells : LinePlace → List ℕ → List A → Type 0) (bad : LinePlace → List ℕ → FaultKind → Type 0) (n : LinePlace) (line : List ℕ) (found : BadLine)
     (lines : List (List ℕ)) → NamesBad bad n line found → HasBadLine tells bad n (line ∷ lines) found []
 HasBadLine-first tells bad n line found lines named = record {
   before = [];
@@ -62,8 +62,8 @@ HasBadLine-first tells bad n line found lines named = record {
 }
 
 pub HasBadLine-behind :
-    (tells : LinePlace → List ℕ → List ℕ → Type 0) (bad : LinePlace → List ℕ → FaultKind → Type 0) (n : LinePlace) (xs ys : List (List ℕ))
-    (found : BadLine) (a b : List ℕ) →
+    {A : Type 0} (tells : LinePlace → List ℕ → List A → Type 0) (bad : LinePlace → List ℕ → FaultKind → Type 0) (n : LinePlace) (xs ys : List (List ℕ))
+    (found : BadLine) (a b : List A) →
     AllTold tells n xs a → HasBadLine tells bad (place_behind n xs) ys found b → HasBadLine tells bad n (xs ++ ys) found (a ++ b)
 HasBadLine-behind tells bad n xs ys found a b told behind = record {
   before = xs ++ behind.before;
@@ -75,8 +75,8 @@ HasBadLine-behind tells bad n xs ys found a b told behind = record {
 }
 
 pub LacksLine-behind :
-    (tells : LinePlace → List ℕ → List ℕ → Type 0) (lacks : ℕ → Option FaultKind) (n : LinePlace) (xs ys : List (List ℕ))
-    (found : BadLine) (a b : List ℕ) →
+    {A : Type 0} (tells : LinePlace → List ℕ → List A → Type 0) (lacks : ℕ → Option FaultKind) (n : LinePlace) (xs ys : List (List ℕ))
+    (found : BadLine) (a b : List A) →
     AllTold tells n xs a → LacksLine tells lacks (place_behind n xs) ys found b → LacksLine tells lacks n (xs ++ ys) found (a ++ b)
 LacksLine-behind tells lacks n xs ys found a b told behind =
     let at = sym (place_behind-append n xs ys) in
@@ -88,32 +88,32 @@ LacksLine-behind tells lacks n xs ys found a b told behind =
     }
 
 pub ToldToBad-behind :
-    (tells : LinePlace → List ℕ → List ℕ → Type 0) (bad : LinePlace → List ℕ → FaultKind → Type 0) (lacks : ℕ → Option FaultKind) (n : LinePlace)
-    (xs ys : List (List ℕ)) (found : BadLine) (a b : List ℕ) →
+    {A : Type 0} (tells : LinePlace → List ℕ → List A → Type 0) (bad : LinePlace → List ℕ → FaultKind → Type 0) (lacks : ℕ → Option FaultKind) (n : LinePlace)
+    (xs ys : List (List ℕ)) (found : BadLine) (a b : List A) →
     AllTold tells n xs a → ToldToBad tells bad lacks (place_behind n xs) ys found b → ToldToBad tells bad lacks n (xs ++ ys) found (a ++ b)
 ToldToBad-behind tells bad lacks n xs ys found a b told (inl behind) = inl (HasBadLine-behind tells bad n xs ys found a b told behind)
 ToldToBad-behind tells bad lacks n xs ys found a b told (inr behind) = inr (LacksLine-behind tells lacks n xs ys found a b told behind)
 
 -- a prefix of a second list after a first one
-take-behind : (a b : List ℕ) (n : ℕ) → a ++ take n b ≡ take (length a + n) (a ++ b)
+take-behind : {A : Type 0} (a b : List A) (n : ℕ) → a ++ take n b ≡ take (length a + n) (a ++ b)
 take-behind [] b n = let same : 0 + n ≡ n = omega arith in ap (λ (k : ℕ). take k b) (sym same)
-take-behind (x ∷ a) b n =
+take-behind {A} (x ∷ a) b n =
     let next : length (x ∷ a) + n ≡ suc (length a + n) = omega arith in
-    ap (λ (t : List ℕ). x ∷ t) (take-behind a b n) ∙ ap (λ (k : ℕ). take k (x ∷ (a ++ b))) (sym next)
+    ap (λ (t : List A). x ∷ t) (take-behind a b n) ∙ ap (λ (k : ℕ). take k (x ∷ (a ++ b))) (sym next)
 
 pub CutShort-behind :
-    (tells : LinePlace → List ℕ → List ℕ → Type 0) (n : LinePlace) (xs ys : List (List ℕ)) (a b : List ℕ) →
+    {A : Type 0} (tells : LinePlace → List ℕ → List A → Type 0) (n : LinePlace) (xs ys : List (List ℕ)) (a b : List A) →
     AllTold tells n xs a → CutShort tells (place_behind n xs) ys b → CutShort tells n (xs ++ ys) (a ++ b)
-CutShort-behind tells n xs ys a b told behind = record {
+CutShort-behind {A} tells n xs ys a b told behind = record {
   whole = a ++ behind.whole;
   count = length a + behind.count;
   of = BeginningTold-behind tells n xs ys a behind.whole told behind.of;
   less = let less = behind.less in omega (arith, length-append a behind.whole);
-  part = ap (λ (t : List ℕ). a ++ t) behind.part ∙ take-behind a behind.whole behind.count;
+  part = ap (λ (t : List A). a ++ t) behind.part ∙ take-behind a behind.whole behind.count;
 }
 
 WholeTold-behind :
-    (tells : LinePlace → List ℕ → List ℕ → Type 0) (lacks : ℕ → Option FaultKind) (n : LinePlace) (xs ys : List (List ℕ)) (a b : List ℕ) →
+    {A : Type 0} (tells : LinePlace → List ℕ → List A → Type 0) (lacks : ℕ → Option FaultKind) (n : LinePlace) (xs ys : List (List ℕ)) (a b : List A) →
     AllTold tells n xs a → WholeTold tells lacks (place_behind n xs) ys b → WholeTold tells lacks n (xs ++ ys) (a ++ b)
 WholeTold-behind tells lacks n xs ys a b told behind = record {
   told = AllTold-append tells n xs ys a b told behind.told;
@@ -122,8 +122,8 @@ WholeTold-behind tells lacks n xs ys a b told behind = record {
 
 -- lines that have been processed, and the output of the lines after them
 pub Gives-behind :
-    (tells : LinePlace → List ℕ → List ℕ → Type 0) (bad : LinePlace → List ℕ → FaultKind → Type 0) (lacks : ℕ → Option FaultKind) (n : LinePlace)
-    (xs ys : List (List ℕ)) (a b : List ℕ) (ending : Ending) →
+    {A : Type 0} (tells : LinePlace → List ℕ → List A → Type 0) (bad : LinePlace → List ℕ → FaultKind → Type 0) (lacks : ℕ → Option FaultKind) (n : LinePlace)
+    (xs ys : List (List ℕ)) (a b : List A) (ending : Ending) →
     AllTold tells n xs a → Gives tells bad lacks (place_behind n xs) ys ending b → Gives tells bad lacks n (xs ++ ys) ending (a ++ b)
 Gives-behind tells bad lacks n xs ys a b Done told behind = WholeTold-behind tells lacks n xs ys a b told behind
 Gives-behind tells bad lacks n xs ys a b (Bad found) told behind = ToldToBad-behind tells bad lacks n xs ys found a b told behind

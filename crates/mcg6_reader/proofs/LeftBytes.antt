@@ -5,9 +5,10 @@ use Rattle.std.specs.declared.option.Option.{Option}
 use Rattle.std.specs.declared.option.Option.TheVariants.{Some, None}
 use Rattle.outside.specs.Common.{prepended, IsEnd}
 use Rattle.line_text.specs.declared.faults.FaultKind.{FaultKind}
+use Rattle.mcg6_reader.specs.declared.ending.BadLine.{BadLine}
 use Rattle.mcg6_reader.specs.declared.ending.Ending.{Ending}
 use Rattle.mcg6_reader.specs.declared.place.LinePlace.{LinePlace}
-use Rattle.mcg6_reader.specs.Common.{lines_of, first_place, Gives, Appended, IsLeft, TellsList}
+use Rattle.mcg6_reader.specs.Common.{lines_of, first_place, Gives, Reported, Added, Appended, IsLeft, TellsList}
 
 pub prepended-nil : (left : Option (List ℕ)) → prepended [] left ≡ left
 prepended-nil left = grind arith
@@ -46,9 +47,20 @@ piece_read whole held piece before now next left taken =
 -- if the source makes known what is left, the list is that
 pub told_list :
     (tells : LinePlace → List ℕ → List ℕ → Type 0) (bad : LinePlace → List ℕ → FaultKind → Type 0) (lacks : ℕ → Option FaultKind) (ending : Ending)
-    (left before now : Option (List ℕ)) (bytes : List ℕ) →
-    TellsList tells bad lacks ending left before now → left ≡ Some bytes →
+    (left before now : Option (List ℕ)) (bytes : List ℕ)
+    (reports : LinePlace → List ℕ → List BadLine → Type 0) (founds_before founds_now : List BadLine) →
+    TellsList tells bad lacks reports ending left before now founds_before founds_now → left ≡ Some bytes →
     Appended (Gives tells bad lacks first_place (lines_of bytes) ending) before now
-told_list tells bad lacks ending left before now bytes list is =
+told_list tells bad lacks ending left before now bytes reports founds_before founds_now list is =
     let same : bytes ≡ list.bytes = subst (λ (o : Option (List ℕ)). IsLeft o list.bytes) is list.is_left in
     subst (λ (t : List ℕ). Appended (Gives tells bad lacks first_place (lines_of t) ending) before now) (sym same) list.gives
+
+pub reported_list :
+    (tells : LinePlace → List ℕ → List ℕ → Type 0) (bad : LinePlace → List ℕ → FaultKind → Type 0) (lacks : ℕ → Option FaultKind) (ending : Ending)
+    (left before now : Option (List ℕ)) (bytes : List ℕ)
+    (reports : LinePlace → List ℕ → List BadLine → Type 0) (founds_before founds_now : List BadLine) →
+    TellsList tells bad lacks reports ending left before now founds_before founds_now → left ≡ Some bytes →
+    Added (Reported reports bad lacks first_place (lines_of bytes) ending) founds_before founds_now
+reported_list tells bad lacks ending left before now bytes reports founds_before founds_now list is =
+    let same : bytes ≡ list.bytes = subst (λ (o : Option (List ℕ)). IsLeft o list.bytes) is list.is_left in
+    subst (λ (t : List ℕ). Added (Reported reports bad lacks first_place (lines_of t) ending) founds_before founds_now) (sym same) list.reported

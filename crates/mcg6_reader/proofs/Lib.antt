@@ -2,6 +2,7 @@ pub mod LineCuts
 pub mod Joins
 pub mod OneOutput
 pub mod Pieces
+pub mod Skips
 pub mod Writings
 pub mod Stages
 pub mod LeftBytes

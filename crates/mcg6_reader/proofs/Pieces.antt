@@ -2,6 +2,7 @@
 -- so a new line begins after them.
 use Rattle.std.proofs.Common.{◌≡◌, inl, inr, ℕ, ◌<◌, ◌≤◌, List, [], ◌∷◌, ◌++◌, length, refl, sym, subst, ◌∙◌, ap, arith, append_assoc, length-append, IsTrue, IsFalse, append-nil}
 use Rattle.std.specs.declared.option.Option.{Option}
+use Rattle.std.specs.declared.option.Option.TheVariants.{Some}
 use Rattle.outside.specs.Common.{most_line}
 use Rattle.line_text.specs.declared.faults.FaultKind.{FaultKind}
 use Rattle.line_text.specs.declared.faults.FaultKind.TheVariants.{Limit}
@@ -16,13 +17,13 @@ use Rattle.mcg6_reader.proofs.Joins.{place_behind-append, AllTold-append, AllTol
 
 -- just the header has an empty output
 pub told_header :
-    (tells : LinePlace → List ℕ → List ℕ → Type 0) (n : LinePlace) (line output : List ℕ) →
+    {A : Type 0} (tells : LinePlace → List ℕ → List A → Type 0) (n : LinePlace) (line : List ℕ) (output : List A) →
     IsTrue (is_header n.number line) → Added (LineTold tells n line) output output
 told_header tells n line output header = record { more = []; right = inl (header, refl); output = sym (append-nil output) }
 
 -- any other line has the teller's result
 pub told_line :
-    (tells : LinePlace → List ℕ → List ℕ → Type 0) (n : LinePlace) (line bytes before now : List ℕ) →
+    {A : Type 0} (tells : LinePlace → List ℕ → List A → Type 0) (n : LinePlace) (line : List ℕ) (bytes before now : List A) →
     IsFalse (is_header n.number line) → length line ≤ most_line → tells n line bytes → now ≡ before ++ bytes →
     Added (LineTold tells n line) before now
 told_line tells n line bytes before now other short told more = record { more = bytes; right = inr (other, short, told); output = more }
@@ -52,7 +53,7 @@ names_bad bad n line kind (stop.Bad bad_line) other short is found = record {
 
 -- nothing has been processed yet
 pub through_none :
-    (tells : LinePlace → List ℕ → List ℕ → Type 0) (n : LinePlace) (text output : List ℕ) →
+    {A : Type 0} (tells : LinePlace → List ℕ → List A → Type 0) (n : LinePlace) (text : List ℕ) (output : List A) →
     Added (ToldThrough tells n text text n) output output
 through_none tells n text output = record {
   more = [];
@@ -68,10 +69,10 @@ through_none tells n text output = record {
 
 -- one more line is processed
 pub through_more :
-    (tells : LinePlace → List ℕ → List ℕ → Type 0) (n k next : LinePlace) (text rest line behind a b c : List ℕ) →
+    {A : Type 0} (tells : LinePlace → List ℕ → List A → Type 0) (n k next : LinePlace) (text rest line behind : List ℕ) (a b c : List A) →
     Added (ToldThrough tells n text rest k) a b → IsFirstLine rest line behind → next ≡ place_after k line →
     Added (LineTold tells k line) b c → Added (ToldThrough tells n text behind next) a c
-through_more tells n k next text rest line behind a b c so_far first after one =
+through_more {A} tells n k next text rest line behind a b c so_far first after one =
     let whole = so_far.right.whole in
     let lines : lines_of (whole ++ line) ≡ lines_of whole ++ line ∷ [] =
     lines_of-closed whole line so_far.right.closed ∙ ap (λ (ls : List (List ℕ)). lines_of whole ++ ls) first.alone in
@@ -95,7 +96,7 @@ through_more tells n k next text rest line behind a b c so_far first after one =
             ∙ sym (place_behind-append n (lines_of whole) (line ∷ []))
             ∙ ap (λ (ls : List (List ℕ)). place_behind n ls) (sym lines);
       };
-      output = one.output ∙ ap (λ (t : List ℕ). t ++ one.more) so_far.output ∙ append_assoc a so_far.more one.more;
+      output = one.output ∙ ap (λ (t : List A). t ++ one.more) so_far.output ∙ append_assoc a so_far.more one.more;
     }
 
 -- a bad line at that place comes first in a text, whatever is after it
@@ -144,7 +145,7 @@ opens_long bad n rest tail found none long is =
 
 -- the lines of a text and of what is after it, if its lines have been processed up to some place
 through_lines :
-    (tells : LinePlace → List ℕ → List ℕ → Type 0) (n k : LinePlace) (text rest tail output : List ℕ) →
+    {A : Type 0} (tells : LinePlace → List ℕ → List A → Type 0) (n k : LinePlace) (text rest tail : List ℕ) (output : List A) →
     (through : ToldThrough tells n text rest k output) →
     lines_of (text ++ tail) ≡ lines_of through.whole ++ lines_of (rest ++ tail)
 through_lines tells n k text rest tail output through =
@@ -154,11 +155,11 @@ through_lines tells n k text rest tail output through =
 
 -- the next line is bad
 through_bad :
-    (tells : LinePlace → List ℕ → List ℕ → Type 0) (bad : LinePlace → List ℕ → FaultKind → Type 0) (lacks : ℕ → Option FaultKind) (n k : LinePlace)
-    (text rest a b : List ℕ) (found : BadLine) →
+    {A : Type 0} (tells : LinePlace → List ℕ → List A → Type 0) (bad : LinePlace → List ℕ → FaultKind → Type 0) (lacks : ℕ → Option FaultKind) (n k : LinePlace)
+    (text rest : List ℕ) (a b : List A) (found : BadLine) →
     Added (ToldThrough tells n text rest k) a b → ((tail : List ℕ) → OpensBad bad k (rest ++ tail) found) →
     Added (StopsWith tells bad lacks n text (Bad found)) a b
-through_bad tells bad lacks n k text rest a b found so_far opens =
+through_bad {A} tells bad lacks n k text rest a b found so_far opens =
     let whole = so_far.right.whole in
     record {
       more = so_far.more;
@@ -168,7 +169,7 @@ through_bad tells bad lacks n k text rest a b found so_far opens =
           inl (
           subst (λ (ls : List (List ℕ)). HasBadLine tells bad n ls found so_far.more)
           (sym (through_lines tells n k text rest tail so_far.more so_far.right))
-          (subst (λ (t : List ℕ). HasBadLine tells bad n (lines_of whole ++ lines_of (rest ++ tail)) found t) (append-nil so_far.more)
+          (subst (λ (t : List A). HasBadLine tells bad n (lines_of whole ++ lines_of (rest ++ tail)) found t) (append-nil so_far.more)
           (HasBadLine-behind tells bad n (lines_of whole) (lines_of (rest ++ tail)) found so_far.more [] so_far.right.told
           (subst (λ (ls : List (List ℕ)). HasBadLine tells bad (place_behind n (lines_of whole)) ls found []) (sym opened.cut)
           (HasBadLine-first tells bad (place_behind n (lines_of whole)) opened.line found opened.others named))))
@@ -178,20 +179,20 @@ through_bad tells bad lacks n k text rest a b found so_far opens =
 
 -- the processing stopped at the next line
 pub through_stopped :
-    (tells : LinePlace → List ℕ → List ℕ → Type 0) (bad : LinePlace → List ℕ → FaultKind → Type 0) (lacks : ℕ → Option FaultKind) (n k : LinePlace)
-    (text rest line behind a b c : List ℕ) (why : ListStop) →
+    {A : Type 0} (tells : LinePlace → List ℕ → List A → Type 0) (bad : LinePlace → List ℕ → FaultKind → Type 0) (lacks : ℕ → Option FaultKind) (n k : LinePlace)
+    (text rest line behind : List ℕ) (a b c : List A) (why : ListStop) →
     Added (ToldThrough tells n text rest k) a b → IsFirstLine rest line behind →
     IfBad (NamesBad bad k line) why → IfBad (λ found. c ≡ b) why →
     IfBad (λ found. Added (StopsWith tells bad lacks n text (Bad found)) a c) why
 through_stopped tells bad lacks n k text rest line behind a b c stop.Memory so_far first named same = tt
-through_stopped tells bad lacks n k text rest line behind a b c (stop.Bad found) so_far first named same =
-    subst (λ (t : List ℕ). Added (StopsWith tells bad lacks n text (Bad found)) a t) (sym same)
+through_stopped {A} tells bad lacks n k text rest line behind a b c (stop.Bad found) so_far first named same =
+    subst (λ (t : List A). Added (StopsWith tells bad lacks n text (Bad found)) a t) (sym same)
     (through_bad tells bad lacks n k text rest a b found so_far (λ tail. opens_first bad k rest line behind tail found first named))
 
 -- what is left of the text begins a line that is too long
 pub through_long :
-    (tells : LinePlace → List ℕ → List ℕ → Type 0) (bad : LinePlace → List ℕ → FaultKind → Type 0) (lacks : ℕ → Option FaultKind) (n k : LinePlace)
-    (text rest a b : List ℕ) (why : ListStop) →
+    {A : Type 0} (tells : LinePlace → List ℕ → List A → Type 0) (bad : LinePlace → List ℕ → FaultKind → Type 0) (lacks : ℕ → Option FaultKind) (n k : LinePlace)
+    (text rest : List ℕ) (a b : List A) (why : ListStop) →
     Added (ToldThrough tells n text rest k) a b → HasNoFeed rest → most_line < length rest →
     IfBad (IsFound k.number Limit rest) why → IfBad (λ found. Added (StopsWith tells bad lacks n text (Bad found)) a b) why
 through_long tells bad lacks n k text rest a b stop.Memory so_far none long is = tt
@@ -200,7 +201,7 @@ through_long tells bad lacks n k text rest a b (stop.Bad found) so_far none long
 
 -- nothing is left at the end
 pub end_none :
-    (tells : LinePlace → List ℕ → List ℕ → Type 0) (n : LinePlace) (held output : List ℕ) →
+    {A : Type 0} (tells : LinePlace → List ℕ → List A → Type 0) (n : LinePlace) (held : List ℕ) (output : List A) →
     length held ≡ 0 → Added (AllTold tells n (lines_of held)) output output × (n ≡ place_behind n (lines_of held))
 end_none tells n [] output empty = (
   record {
@@ -214,7 +215,7 @@ end_none tells n (byte ∷ held) output empty = absurd (omega arith)
 
 -- what is held at the end is processed as the last line
 pub end_told :
-    (tells : LinePlace → List ℕ → List ℕ → Type 0) (n : LinePlace) (held before now : List ℕ) →
+    {A : Type 0} (tells : LinePlace → List ℕ → List A → Type 0) (n : LinePlace) (held : List ℕ) (before now : List A) →
     HasNoFeed held → 0 < length held → Added (LineTold tells n held) before now →
     Added (AllTold tells n (lines_of held)) before now
 end_told tells n held before now none some told = record {
@@ -233,8 +234,8 @@ end_place n next held none some after = after ∙ ap (λ (ls : List (List ℕ)).
 
 -- what is held at the end is bad
 pub end_stopped :
-    (tells : LinePlace → List ℕ → List ℕ → Type 0) (bad : LinePlace → List ℕ → FaultKind → Type 0) (lacks : ℕ → Option FaultKind) (n : LinePlace)
-    (held before now : List ℕ) (why : ListStop) →
+    {A : Type 0} (tells : LinePlace → List ℕ → List A → Type 0) (bad : LinePlace → List ℕ → FaultKind → Type 0) (lacks : ℕ → Option FaultKind) (n : LinePlace)
+    (held : List ℕ) (before now : List A) (why : ListStop) →
     HasNoFeed held → 0 < length held → IfBad (NamesBad bad n held) why → IfBad (λ found. now ≡ before) why →
     IfBad (λ found. Added (ToldToBad tells bad lacks n (lines_of held) found) before now) why
 end_stopped tells bad lacks n held before now stop.Memory none some named same = tt
@@ -248,9 +249,28 @@ end_stopped tells bad lacks n held before now (stop.Bad found) none some named s
   output = same ∙ sym (append-nil before);
 }
 
+-- the lines were processed, and no list may end after them
+pub lacking_bad :
+    {A : Type 0} (tells : LinePlace → List ℕ → List A → Type 0) (bad : LinePlace → List ℕ → FaultKind → Type 0) (lacks : ℕ → Option FaultKind)
+    (n next : LinePlace) (lines : List (List ℕ)) (kind : FaultKind) (before now : List A) (why : ListStop) →
+    Added (AllTold tells n lines) before now → next ≡ place_behind n lines → lacks next.graphs ≡ Some kind →
+    IfBad (IsFound next.number kind []) why → IfBad (λ found. Added (ToldToBad tells bad lacks n lines found) before now) why
+lacking_bad tells bad lacks n next lines kind before now stop.Memory told at missing is = tt
+lacking_bad tells bad lacks n next lines kind before now (stop.Bad found) told at missing is = record {
+  more = told.more;
+  right =
+      inr (record {
+        told = told.right;
+        ends = subst (λ (p : LinePlace). lacks p.graphs ≡ Some found.kind) at (missing ∙ ap Some (sym is.of_kind));
+        number = is.numbered ∙ ap (λ (p : LinePlace). p.number) at;
+        nothing = is.kept;
+      });
+  output = told.output;
+}
+
 -- the lines that are processed in a text are an initial segment, whatever is after it
 pub through_begins :
-    (tells : LinePlace → List ℕ → List ℕ → Type 0) (n k : LinePlace) (text rest tail output : List ℕ) →
+    {A : Type 0} (tells : LinePlace → List ℕ → List A → Type 0) (n k : LinePlace) (text rest tail : List ℕ) (output : List A) →
     ToldThrough tells n text rest k output → BeginningTold tells n (lines_of (text ++ tail)) output
 through_begins tells n k text rest tail output through = record {
   before = lines_of through.whole;

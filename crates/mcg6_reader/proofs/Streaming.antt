@@ -4,13 +4,14 @@ use Rattle.std.proofs.Common.{inl, ℕ, List, [], ◌++◌, append_assoc, append
 use Rattle.std.specs.declared.option.Option.{Option}
 use Rattle.std.specs.declared.option.Option.TheVariants.{Some}
 use Rattle.line_text.specs.declared.faults.FaultKind.{FaultKind}
+use Rattle.mcg6_reader.specs.declared.ending.BadLine.{BadLine}
 use Rattle.mcg6_reader.specs.declared.ending.Ending.{Ending}
 use Rattle.mcg6_reader.specs.declared.place.LinePlace.{LinePlace}
 use Rattle.mcg6_reader.specs.Common.{lines_of, Gives, StopsWith, WroteUpTo, Ends, IsStream, GivesAfter}
 use Rattle.mcg6_reader.proofs.Stages.{wrote_otherwise}
 use Rattle.mcg6_reader.proofs.Readings.{SoFar, gives_behind}
 
-module _ {S K : Type 0} {tells : LinePlace → List ℕ → List ℕ → Type 0} {left : S → Option (List ℕ)} {reads : S → Option (List ℕ) → S → Type 0} {written : K → Option (List ℕ)} {writes : K → List ℕ → ℕ → K → Type 0} {place : LinePlace} {held : List ℕ} {source : S} {sink : K} {now_source : S} {now_sink : K} (so_far : SoFar tells left reads written writes place held source sink now_source now_sink) (bad : LinePlace → List ℕ → FaultKind → Type 0) (lacks : ℕ → Option FaultKind) where
+module _ {S K : Type 0} {tells : LinePlace → List ℕ → List ℕ → Type 0} {reports : LinePlace → List ℕ → List BadLine → Type 0} {left : S → Option (List ℕ)} {reads : S → Option (List ℕ) → S → Type 0} {written : K → Option (List ℕ)} {writes : K → List ℕ → ℕ → K → Type 0} {place : LinePlace} {held : List ℕ} {source : S} {sink : K} {now_source : S} {now_sink : K} {founds now_founds : List BadLine} (so_far : SoFar tells reports left reads written writes place held source sink now_source now_sink founds now_founds) (bad : LinePlace → List ℕ → FaultKind → Type 0) (lacks : ℕ → Option FaultKind) where
   -- what the lines of a piece give is what the list gives, whatever follows it
   stops_after : (piece : List ℕ) (ending : Ending) (output : List ℕ) → StopsWith tells bad lacks place (held ++ piece) ending output →
       GivesAfter tells bad lacks (so_far.whole ++ held) piece so_far.output ending output

@@ -7,6 +7,9 @@ use Rattle.outside.specs.Common.{appended, IsWritten, IsCutOff, prepended, most_
 use Rattle.line_text.specs.declared.faults.FaultKind.{FaultKind}
 use Rattle.mcg6_reader.specs.declared.ending.Ending.{Ending}
 use Rattle.mcg6_reader.specs.declared.ending.Ending.TheVariants.{Done, Bad, ReadFault, WriteFault, Memory}
+use Rattle.mcg6_reader.specs.declared.ending.BadLine.{BadLine}
+use Rattle.mcg6_reader.specs.declared.ending.ListStop.{ListStop}
+use Rattle.mcg6_reader.specs.declared.ending.ListStop.TheVariants as stop
 use Rattle.mcg6_reader.specs.declared.place.LinePlace.{LinePlace}
 use Rattle.mcg6_reader.specs.Lines.{lines_of, HasNoFeed, IsClosed}
 use Rattle.mcg6_reader.specs.Lists.{AllTold, BeginningTold, WholeTold, ToldToBad, CutShort}
@@ -14,13 +17,37 @@ use Rattle.mcg6_reader.specs.Places.{first_place, place_behind}
 
 -- the output of lines up to an ending, where the first line is at that place
 abbrev pub Gives :
-    (LinePlace → List ℕ → List ℕ → Type 0) → (LinePlace → List ℕ → FaultKind → Type 0) → (ℕ → Option FaultKind) → LinePlace → List (List ℕ) → Ending →
-    List ℕ → Type 0
+    {A : Type 0} → (LinePlace → List ℕ → List A → Type 0) → (LinePlace → List ℕ → FaultKind → Type 0) → (ℕ → Option FaultKind) → LinePlace → List (List ℕ) → Ending →
+    List A → Type 0
 Gives tells bad lacks place lines Done output = WholeTold tells lacks place lines output
 Gives tells bad lacks place lines (Bad found) output = ToldToBad tells bad lacks place lines found output
 Gives tells bad lacks place lines ReadFault output = BeginningTold tells place lines output
 Gives tells bad lacks place lines WriteFault output = CutShort tells place lines output
 Gives tells bad lacks place lines Memory output = BeginningTold tells place lines output
+
+-- the reports on the skipped lines of a list up to an ending, where the first line is at that place:
+-- on all of them, or on those before the bad line at which it ended, and else on those of an initial
+-- segment
+abbrev pub Reported :
+    (LinePlace → List ℕ → List BadLine → Type 0) → (LinePlace → List ℕ → FaultKind → Type 0) → (ℕ → Option FaultKind) → LinePlace →
+    List (List ℕ) → Ending → List BadLine → Type 0
+Reported reports bad lacks place lines Done founds = AllTold reports place lines founds
+Reported reports bad lacks place lines (Bad found) founds = ToldToBad reports bad lacks place lines found founds
+Reported reports bad lacks place lines ReadFault founds = BeginningTold reports place lines founds
+Reported reports bad lacks place lines WriteFault founds = BeginningTold reports place lines founds
+Reported reports bad lacks place lines Memory founds = BeginningTold reports place lines founds
+
+-- whatever follows the text, these are the reports on the skipped lines of it up to the ending
+abbrev pub ReportsWith :
+    (LinePlace → List ℕ → List BadLine → Type 0) → (LinePlace → List ℕ → FaultKind → Type 0) → (ℕ → Option FaultKind) → LinePlace →
+    (text : List ℕ) → Ending → List BadLine → Type 0
+ReportsWith reports bad lacks place text ending founds =
+    (rest : List ℕ) → Reported reports bad lacks place (lines_of (text ++ rest)) ending founds
+
+-- the ending for which the processing stops
+abbrev pub ending_of : ListStop → Ending
+ending_of (stop.Bad found) = Bad found
+ending_of stop.Memory = Memory
 
 -- bytes with this property were appended to what a sink had
 pub record Appended (holds : List ℕ → Type 0) (before now : Option (List ℕ)) : Type 0 where
@@ -28,9 +55,9 @@ pub record Appended (holds : List ℕ → Type 0) (before now : Option (List ℕ
   pub right : holds output
   pub written : now ≡ appended before output
 
--- bytes with this property were appended to an output
-pub record Added (holds : List ℕ → Type 0) (before now : List ℕ) : Type 0 where
-  pub more : List ℕ
+-- a list with this property was appended to another
+pub record Added {A : Type 0} (holds : List A → Type 0) (before now : List A) : Type 0 where
+  pub more : List A
   pub right : holds more
   pub output : now ≡ before ++ more
 
@@ -47,7 +74,7 @@ pub record WholeLinesTold (tells : LinePlace → List ℕ → List ℕ → Type 
 
 -- the lines of a text up to what is left of it have been processed; the first line is at the first
 -- place, and the next one at the second
-pub record ToldThrough (tells : LinePlace → List ℕ → List ℕ → Type 0) (before : LinePlace) (text left : List ℕ) (now : LinePlace) (output : List ℕ) : Type 0 where
+pub record ToldThrough {A : Type 0} (tells : LinePlace → List ℕ → List A → Type 0) (before : LinePlace) (text left : List ℕ) (now : LinePlace) (output : List A) : Type 0 where
   pub whole : List ℕ
   pub cut : text ≡ whole ++ left
   pub closed : IsClosed whole
@@ -57,8 +84,8 @@ pub record ToldThrough (tells : LinePlace → List ℕ → List ℕ → Type 0) 
 -- whatever follows the text, this is the output of its lines up to the ending, where the first line
 -- is at that place
 abbrev pub StopsWith :
-    (LinePlace → List ℕ → List ℕ → Type 0) → (LinePlace → List ℕ → FaultKind → Type 0) → (ℕ → Option FaultKind) → LinePlace → (text : List ℕ) → Ending →
-    List ℕ → Type 0
+    {A : Type 0} → (LinePlace → List ℕ → List A → Type 0) → (LinePlace → List ℕ → FaultKind → Type 0) → (ℕ → Option FaultKind) → LinePlace → (text : List ℕ) → Ending →
+    List A → Type 0
 StopsWith tells bad lacks place text ending output =
     (rest : List ℕ) → Gives tells bad lacks place (lines_of (text ++ rest)) ending output
 
@@ -93,11 +120,13 @@ IsLeft None bytes = Unit {0}
 IsLeft (Some left) bytes = left ≡ bytes
 
 -- what was written up to the ending is the output of the lines of a list: of the bytes that were
--- left in the source, if it makes them known
-pub record TellsList (tells : LinePlace → List ℕ → List ℕ → Type 0) (bad : LinePlace → List ℕ → FaultKind → Type 0) (lacks : ℕ → Option FaultKind) (ending : Ending) (left before now : Option (List ℕ)) : Type 0 where
+-- left in the source, if it makes them known; and the reports that were added are those on its
+-- skipped lines
+pub record TellsList (tells : LinePlace → List ℕ → List ℕ → Type 0) (bad : LinePlace → List ℕ → FaultKind → Type 0) (lacks : ℕ → Option FaultKind) (reports : LinePlace → List ℕ → List BadLine → Type 0) (ending : Ending) (left before now : Option (List ℕ)) (founds_before founds_now : List BadLine) : Type 0 where
   pub bytes : List ℕ
   pub is_left : IsLeft left bytes
   pub gives : Appended (Gives tells bad lacks first_place (lines_of bytes) ending) before now
+  pub reported : Added (Reported reports bad lacks first_place (lines_of bytes) ending) founds_before founds_now
 
 -- what was read of a source up to what is left, and each complete line of it has been processed
 pub record ReadsTold (tells : LinePlace → List ℕ → List ℕ → Type 0) (before now : Option (List ℕ)) (output : List ℕ) : Type 0 where

@@ -11,26 +11,26 @@ use Rattle.mcg6_reader.specs.Told.{LineTold, NamesBad}
 
 -- this is the output of the lines, where the first is at that place: the outputs of the lines in
 -- their order
-abbrev pub AllTold : (LinePlace → List ℕ → List ℕ → Type 0) → LinePlace → List (List ℕ) → List ℕ → Type 0
+abbrev pub AllTold : {A : Type 0} → (LinePlace → List ℕ → List A → Type 0) → LinePlace → List (List ℕ) → List A → Type 0
 AllTold tells place [] output = output ≡ []
-AllTold tells place (line ∷ lines) output =
-    (first : List ℕ) × (others : List ℕ) × (LineTold tells place line first) × (AllTold tells (place_after place line) lines others)
+AllTold {A} tells place (line ∷ lines) output =
+    (first : List A) × (others : List A) × (LineTold tells place line first) × (AllTold tells (place_after place line) lines others)
     × (output ≡ first ++ others)
 
 -- an initial segment of the lines has been processed
-pub record BeginningTold (tells : LinePlace → List ℕ → List ℕ → Type 0) (place : LinePlace) (lines : List (List ℕ)) (output : List ℕ) : Type 0 where
+pub record BeginningTold {A : Type 0} (tells : LinePlace → List ℕ → List A → Type 0) (place : LinePlace) (lines : List (List ℕ)) (output : List A) : Type 0 where
   pub before : List (List ℕ)
   pub behind : List (List ℕ)
   pub cut : lines ≡ before ++ behind
   pub told : AllTold tells place before output
 
 -- all lines have been processed, and a list may end after them
-pub record WholeTold (tells : LinePlace → List ℕ → List ℕ → Type 0) (lacks : ℕ → Option FaultKind) (place : LinePlace) (lines : List (List ℕ)) (output : List ℕ) : Type 0 where
+pub record WholeTold {A : Type 0} (tells : LinePlace → List ℕ → List A → Type 0) (lacks : ℕ → Option FaultKind) (place : LinePlace) (lines : List (List ℕ)) (output : List A) : Type 0 where
   pub told : AllTold tells place lines output
   pub ends : lacks (place_behind place lines).graphs ≡ None
 
 -- the lines before the first bad one have been processed, and this is the report on that one
-pub record HasBadLine (tells : LinePlace → List ℕ → List ℕ → Type 0) (bad : LinePlace → List ℕ → FaultKind → Type 0) (place : LinePlace) (lines : List (List ℕ)) (found : BadLine) (output : List ℕ) : Type 0 where
+pub record HasBadLine {A : Type 0} (tells : LinePlace → List ℕ → List A → Type 0) (bad : LinePlace → List ℕ → FaultKind → Type 0) (place : LinePlace) (lines : List (List ℕ)) (found : BadLine) (output : List A) : Type 0 where
   pub before : List (List ℕ)
   pub line : List ℕ
   pub behind : List (List ℕ)
@@ -40,7 +40,7 @@ pub record HasBadLine (tells : LinePlace → List ℕ → List ℕ → Type 0) (
 
 -- all lines have been processed, and no list may end after them: this is the report on the missing
 -- line, with an empty text
-pub record LacksLine (tells : LinePlace → List ℕ → List ℕ → Type 0) (lacks : ℕ → Option FaultKind) (place : LinePlace) (lines : List (List ℕ)) (found : BadLine) (output : List ℕ) : Type 0 where
+pub record LacksLine {A : Type 0} (tells : LinePlace → List ℕ → List A → Type 0) (lacks : ℕ → Option FaultKind) (place : LinePlace) (lines : List (List ℕ)) (found : BadLine) (output : List A) : Type 0 where
   pub told : AllTold tells place lines output
   pub ends : lacks (place_behind place lines).graphs ≡ Some found.kind
   pub number : found.number ≡ (place_behind place lines).number
@@ -49,14 +49,14 @@ pub record LacksLine (tells : LinePlace → List ℕ → List ℕ → Type 0) (l
 -- the lines before the first that is bad or missing have been processed, and this is the report on
 -- that one
 abbrev pub ToldToBad :
-    (LinePlace → List ℕ → List ℕ → Type 0) → (LinePlace → List ℕ → FaultKind → Type 0) → (ℕ → Option FaultKind) → LinePlace → List (List ℕ) → BadLine →
-    List ℕ → Type 0
+    {A : Type 0} → (LinePlace → List ℕ → List A → Type 0) → (LinePlace → List ℕ → FaultKind → Type 0) → (ℕ → Option FaultKind) → LinePlace → List (List ℕ) →
+    BadLine → List A → Type 0
 ToldToBad tells bad lacks place lines found output =
     HasBadLine tells bad place lines found output ⊎ LacksLine tells lacks place lines found output
 
 -- a proper prefix of the output of an initial segment of the lines
-pub record CutShort (tells : LinePlace → List ℕ → List ℕ → Type 0) (place : LinePlace) (lines : List (List ℕ)) (output : List ℕ) : Type 0 where
-  pub whole : List ℕ
+pub record CutShort {A : Type 0} (tells : LinePlace → List ℕ → List A → Type 0) (place : LinePlace) (lines : List (List ℕ)) (output : List A) : Type 0 where
+  pub whole : List A
   pub count : ℕ
   pub of : BeginningTold tells place lines whole
   pub less : count < length whole

@@ -1,6 +1,8 @@
 -- The result for a line.
 -- Stated by: mcg6_reader.
-use Rattle.std.specs.Prelude.{◌≡◌, ℕ, ◌<◌, ◌≤◌, ◌⊎◌, List, [], ◌++◌, length, IsTrue, IsFalse}
+use Rattle.std.specs.Prelude.{◌≡◌, ℕ, ◌<◌, ◌≤◌, ◌⊎◌, List, [], ◌∷◌, ◌++◌, length, IsTrue, IsFalse}
+use Rattle.std.specs.declared.option.Option.{Option}
+use Rattle.std.specs.declared.option.Option.TheVariants.{Some, None}
 use Rattle.outside.specs.Common.{most_line}
 use Rattle.line_text.specs.declared.faults.FaultKind.{FaultKind}
 use Rattle.line_text.specs.declared.faults.FaultKind.TheVariants.{Limit}
@@ -9,16 +11,18 @@ use Rattle.mcg6_reader.specs.declared.ending.ListStop.{ListStop}
 use Rattle.mcg6_reader.specs.declared.ending.ListStop.TheVariants as stop
 use Rattle.mcg6_reader.specs.declared.place.LinePlace.{LinePlace}
 use Rattle.mcg6_reader.specs.declared.teller.LineAnswer.{LineAnswer}
-use Rattle.mcg6_reader.specs.declared.teller.LineAnswer.TheVariants.{Output, Bad}
+use Rattle.mcg6_reader.specs.declared.teller.LineAnswer.TheVariants.{Output, Bad, Skipped}
 use Rattle.mcg6_reader.specs.Headers.{is_header}
 
--- the result is an output of the line, or the kind of an error in it
-abbrev pub IsToldAs : (tells : List ℕ → Type 0) → (bad : FaultKind → Type 0) → LineAnswer → Type 0
-IsToldAs tells bad (Output bytes) = tells bytes.items
-IsToldAs tells bad (Bad kind) = bad kind
+-- the result is an output of the line, which is not skipped; or the kind of an error at which the
+-- list ends; or the kind of an error for which the line is skipped, with an empty output
+abbrev pub IsToldAs : (tells : List ℕ → Type 0) → (bad : FaultKind → Type 0) → (skips : Option FaultKind → Type 0) → LineAnswer → Type 0
+IsToldAs tells bad skips (Output bytes) = tells bytes.items × skips None
+IsToldAs tells bad skips (Bad kind) = bad kind
+IsToldAs tells bad skips (Skipped kind) = tells [] × skips (Some kind)
 
 -- the line at that place has this output: a header has an empty one
-abbrev pub LineTold : (LinePlace → List ℕ → List ℕ → Type 0) → LinePlace → List ℕ → List ℕ → Type 0
+abbrev pub LineTold : {A : Type 0} → (LinePlace → List ℕ → List A → Type 0) → LinePlace → List ℕ → List A → Type 0
 LineTold tells place line output =
     (IsTrue (is_header place.number line) × (output ≡ [])) ⊎
     (IsFalse (is_header place.number line) × (length line ≤ most_line) × tells place line output)
@@ -46,6 +50,17 @@ pub record IsFound (number : ℕ) (kind : FaultKind) (text : List ℕ) (found : 
   pub numbered : found.number ≡ number
   pub of_kind : found.kind ≡ kind
   pub kept : found.text.items ≡ text
+
+-- the reports on a line of a list that goes on after it: one if the line is skipped, with its number,
+-- the kind of its first error, and its text; and else none
+abbrev pub Reports : (LinePlace → List ℕ → Option FaultKind → Type 0) → LinePlace → List ℕ → List BadLine → Type 0
+Reports skips place line [] = skips place line None
+Reports skips place line (found ∷ []) = skips place line (Some found.kind) × IsFound place.number found.kind line found
+Reports skips place line (found ∷ other ∷ founds) = ⊥
+
+-- these are just one report on a line: its number, the kind of its first error, and its text
+abbrev pub IsOneFound : (number : ℕ) (kind : FaultKind) (text : List ℕ) → List BadLine → Type 0
+IsOneFound number kind text founds = (found : BadLine) × (IsFound number kind text found) × (founds ≡ found ∷ [])
 
 -- if a bad line is why the processing stops, its report has this property
 abbrev pub IfBad : (BadLine → Type 0) → ListStop → Type 0

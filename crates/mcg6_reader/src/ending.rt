@@ -1,13 +1,15 @@
 //! How the processing of a list ends.
-ghost use Rattle.mcg6_reader.specs.Common.{IfBad, IsFound};
+ghost use Rattle.std.specs.Prelude.{◌≡◌, IfErr, IfOk, OnOk};
+ghost use Rattle.mcg6_reader.specs.Common.{Added, IfBad, IsFound, IsOneFound};
+ghost use Rattle.mcg6_reader.specs.declared.ending.ListStop.TheVariants.{Memory};
 
 use line_text::FaultKind;
 use std::alloc::Global;
 
-/// A report on the first bad line of a list: its number, counted from 1, the kind of its first
-/// error, and its text with its line end, as far as it was kept; if the line is too long, the part
-/// that was read. If a line is missing at the end of the list, its number is one past the last, and
-/// its text is empty.
+/// A report on a bad line of a list: its number, counted from 1, the kind of its first error, and
+/// its text with its line end, as far as it was kept; if the line is too long, the part that was
+/// read. If a line is missing at the end of the list, its number is one past the last, and its text
+/// is empty.
 #[derive(Debug, PartialEq, Eq, Drop)]
 pub struct BadLine {
     pub number: u64,
@@ -18,10 +20,10 @@ pub struct BadLine {
 /// How the processing of a list ended.
 #[derive(Debug, PartialEq, Eq, Drop)]
 pub enum Ending {
-    /// Each line was processed, and its output was written.
+    /// Each line was processed or skipped, and its output was written.
     Done,
-    /// A line was bad, or missing at the end: the outputs of the lines before it were written, and
-    /// nothing of it.
+    /// A line was bad and not skipped, or missing at the end: the outputs of the lines before it
+    /// were written, and nothing of it.
     Bad { found: BadLine },
     /// The source could not be read: the outputs of the whole lines before were written.
     ReadFault,
@@ -40,16 +42,47 @@ pub enum ListStop {
     Memory,
 }
 
+// The report on a line of this number and text, with an error of this kind.
+fn report_on(alloc: Global, number: u64, kind: FaultKind, text: &[u8]) -> Result<BadLine, ListStop>
+    ensures found { IfOk result (IsFound number kind text.now) }
+    ensures memory { IfErr result (λ stop. stop ≡ Memory) }
+{
+    match text.to_vec(alloc) {
+        Ok(text) => Ok(BadLine { number, kind, text }),
+        Err(_) => Err(ListStop::Memory),
+    }
+}
+
 // The stop at a line of this number and text with an error of this kind, or for lack of memory to
 // keep its text.
 pub fn stop_at(alloc: Global, number: u64, kind: FaultKind, text: &[u8]) -> ListStop
     ensures { IfBad (IsFound number kind text.now) result }
 {
-    match text.to_vec(alloc) {
-        Ok(text) => {
-            let found = BadLine { number, kind, text };
-            ListStop::Bad { found }
-        }
+    match report_on(alloc, number, kind, text) {
+        Ok(found) => ListStop::Bad { found },
         Err(_) => ListStop::Memory,
+    }
+}
+
+// Adds a report on a line of this number and text, with an error of this kind.
+#[tactic(auto, using(crate::proofs::Skips::pushed_one))]
+pub fn report_skipped(
+    alloc: Global,
+    number: u64,
+    kind: FaultKind,
+    text: &[u8],
+    skipped: &mut Vec<BadLine>,
+) -> Result<(), ListStop>
+    ensures added { OnOk result
+        (Added (IsOneFound number kind text.now) skipped.old.items skipped.new.items) }
+    ensures same { IfErr result (λ _. skipped.new.items ≡ skipped.old.items) }
+    ensures memory { IfErr result (λ stop. stop ≡ Memory) }
+{
+    match report_on(alloc, number, kind, text) {
+        Ok(found) => match skipped.push(found) {
+            Ok(()) => Ok(()),
+            Err(_) => Err(ListStop::Memory),
+        },
+        Err(_) => Err(ListStop::Memory),
     }
 }

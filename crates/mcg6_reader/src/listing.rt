@@ -2,9 +2,9 @@
 ghost use Rattle.std.specs.Prelude.{◌≡◌, ◌≤◌, ◌++◌, IfErr, IfOk, OnOk, length};
 ghost use Rattle.outside.specs.Common.{most_line};
 ghost use Rattle.mcg6_reader.specs.declared.ending.Ending.TheVariants as ending;
-ghost use Rattle.mcg6_reader.specs.Common.{HasNoFeed, lines_of, AllTold, ToldToBad, place_behind, IfBad, Added, Gives, ToldThrough, StopsWith};
+ghost use Rattle.mcg6_reader.specs.Common.{HasNoFeed, lines_of, AllTold, ToldToBad, place_behind, IfBad, Added, Gives, Reported, Reports, ReportsWith, ToldThrough, StopsWith, ending_of};
 
-use crate::ending::{ListStop, stop_at};
+use crate::ending::{BadLine, ListStop, stop_at};
 use crate::place::{LinePlace, place_after};
 use crate::teller::LineTeller;
 use crate::telling::{tell_line, tell_lines};
@@ -29,17 +29,24 @@ fn tell_within_limit<'a, T: LineTeller>(
     first: LinePlace,
     text: &'a [u8],
     output: &mut Vec<u8>,
+    skipped: &mut Vec<BadLine>,
 ) -> Result<(LinePlace, &'a [u8]), ListStop>
     ensures told { IfOk result
         (λ found. Added (ToldThrough (T.tells teller.now) first text.now found.1.now found.0)
         output.old.items output.new.items) }
+    ensures reported { IfOk result
+        (λ found. Added (ToldThrough (Reports (T.skips teller.now)) first text.now found.1.now
+        found.0) skipped.old.items skipped.new.items) }
     ensures left { IfOk result (λ found. HasNoFeed found.1.now) }
     ensures short { IfOk result (λ found. length found.1.now ≤ most_line) }
     ensures bad { IfErr result (IfBad (λ found. Added
         (StopsWith (T.tells teller.now) (T.bad teller.now) (T.lacks teller.now)
         first text.now (ending.Bad found)) output.old.items output.new.items)) }
+    ensures stopped { IfErr result (λ stop. Added
+        (ReportsWith (Reports (T.skips teller.now)) (T.bad teller.now) (T.lacks teller.now)
+        first text.now (ending_of stop)) skipped.old.items skipped.new.items) }
 {
-    let (place, rest) = tell_lines(alloc, teller, first, text, output)?;
+    let (place, rest) = tell_lines(alloc, teller, first, text, output, skipped)?;
     if rest.len() > MOST_LINE {
         return Err(stop_at(alloc, place.number, FaultKind::Limit, rest));
     }
@@ -47,31 +54,45 @@ fn tell_within_limit<'a, T: LineTeller>(
 }
 
 // Processes the lines that a further piece completes, and holds what is left after them.
+#[tactic(auto, using(crate::proofs::Skips::with_none, crate::proofs::Skips::with_through_memory))]
 pub fn add_piece<T: LineTeller>(
     alloc: Global,
     teller: &T,
     listing: &mut Listing,
     piece: &[u8],
     output: &mut Vec<u8>,
+    skipped: &mut Vec<BadLine>,
 ) -> Result<(), ListStop>
     ensures told { OnOk result (Added
         (ToldThrough (T.tells teller.now) listing.old.place (listing.old.held.items ++ piece.now)
         listing.new.held.items listing.new.place) output.old.items output.new.items) }
+    ensures reported { OnOk result (Added (ToldThrough (Reports (T.skips teller.now))
+        listing.old.place (listing.old.held.items ++ piece.now) listing.new.held.items
+        listing.new.place) skipped.old.items skipped.new.items) }
     ensures left { OnOk result (HasNoFeed listing.new.held.items) }
     ensures short { OnOk result (length listing.new.held.items ≤ most_line) }
     ensures bad { IfErr result (IfBad (λ found. Added
         (StopsWith (T.tells teller.now) (T.bad teller.now) (T.lacks teller.now) listing.old.place
         (listing.old.held.items ++ piece.now) (ending.Bad found))
         output.old.items output.new.items)) }
+    ensures stopped { IfErr result (λ stop. Added
+        (ReportsWith (Reports (T.skips teller.now)) (T.bad teller.now) (T.lacks teller.now)
+        listing.old.place (listing.old.held.items ++ piece.now) (ending_of stop))
+        skipped.old.items skipped.new.items) }
 {
     listing
         .held
         .extend_from_slice(piece)
         .map_err(|_| ListStop::Memory)?;
-    let (place, rest) = tell_within_limit(alloc, teller, listing.place, &listing.held, output)?;
-    let held = rest.to_vec(alloc).map_err(|_| ListStop::Memory)?;
-    *listing = Listing { place, held };
-    Ok(())
+    let first = listing.place;
+    let (place, rest) = tell_within_limit(alloc, teller, first, &listing.held, output, skipped)?;
+    match rest.to_vec(alloc) {
+        Ok(held) => {
+            *listing = Listing { place, held };
+            Ok(())
+        }
+        Err(_) => Err(ListStop::Memory),
+    }
 }
 
 // Processes what is held at the end of a list as its last line, unless it is empty; returns the
@@ -82,19 +103,26 @@ fn add_last<T: LineTeller>(
     place: LinePlace,
     held: &[u8],
     output: &mut Vec<u8>,
+    skipped: &mut Vec<BadLine>,
 ) -> Result<LinePlace, ListStop>
     requires { HasNoFeed held.now }
     ensures told { IfOk result (λ _. Added (AllTold (T.tells teller.now) place (lines_of held.now))
         output.old.items output.new.items) }
+    ensures reported { IfOk result (λ _. Added
+        (AllTold (Reports (T.skips teller.now)) place (lines_of held.now))
+        skipped.old.items skipped.new.items) }
     ensures next { IfOk result (λ next. next ≡ place_behind place (lines_of held.now)) }
     ensures bad { IfErr result (IfBad (λ found. Added
         (ToldToBad (T.tells teller.now) (T.bad teller.now) (T.lacks teller.now)
         place (lines_of held.now) found) output.old.items output.new.items)) }
+    ensures stopped { IfErr result (λ stop. Added
+        (Reported (Reports (T.skips teller.now)) (T.bad teller.now) (T.lacks teller.now)
+        place (lines_of held.now) (ending_of stop)) skipped.old.items skipped.new.items) }
 {
     if held.is_empty() {
         return Ok(place);
     }
-    match tell_line(alloc, teller, place, held, output) {
+    match tell_line(alloc, teller, place, held, output, skipped) {
         Ok(()) => place_after(place, held),
         Err(stop) => Err(stop),
     }
@@ -108,16 +136,23 @@ pub fn add_end<T: LineTeller>(
     place: LinePlace,
     held: &[u8],
     output: &mut Vec<u8>,
+    skipped: &mut Vec<BadLine>,
 ) -> Result<(), ListStop>
     requires { HasNoFeed held.now }
     ensures told { OnOk result (Added
         (Gives (T.tells teller.now) (T.bad teller.now) (T.lacks teller.now)
         place (lines_of held.now) ending.Done) output.old.items output.new.items) }
+    ensures reported { OnOk result (Added
+        (Reported (Reports (T.skips teller.now)) (T.bad teller.now) (T.lacks teller.now)
+        place (lines_of held.now) ending.Done) skipped.old.items skipped.new.items) }
     ensures bad { IfErr result (IfBad (λ found. Added
         (Gives (T.tells teller.now) (T.bad teller.now) (T.lacks teller.now)
         place (lines_of held.now) (ending.Bad found)) output.old.items output.new.items)) }
+    ensures stopped { IfErr result (λ stop. Added
+        (Reported (Reports (T.skips teller.now)) (T.bad teller.now) (T.lacks teller.now)
+        place (lines_of held.now) (ending_of stop)) skipped.old.items skipped.new.items) }
 {
-    match add_last(alloc, teller, place, held, output) {
+    match add_last(alloc, teller, place, held, output, skipped) {
         Ok(next) => match teller.fault_at_end(next.graphs) {
             None => Ok(()),
             Some(kind) => Err(stop_at(alloc, next.number, kind, &[])),

@@ -1,9 +1,9 @@
 //! Reading a list and processing its lines.
 ghost use Rattle.std.specs.Prelude.{◌≡◌, ◌≢◌, ◌≤◌, ◌<◌, ◌++◌, ℕ, List, OnOk, IfErr, Some, length};
 ghost use Rattle.outside.specs.Common.{Rose, most_line};
-ghost use Rattle.mcg6_reader.specs.Common.{HasNoFeed, lines_of, first_place, Appended, Gives, ToldThrough, StopsWith, TellsList, ReadsTold, Wrote, WroteUpTo, IsStream};
+ghost use Rattle.mcg6_reader.specs.Common.{HasNoFeed, lines_of, first_place, Added, Appended, Gives, Reported, Reports, ReportsWith, ToldThrough, StopsWith, TellsList, ReadsTold, Wrote, WroteUpTo, IsStream};
 
-use crate::ending::{Ending, ListStop};
+use crate::ending::{BadLine, Ending, ListStop};
 use crate::listing::{Listing, add_end, add_piece};
 use crate::place::first_place;
 use crate::teller::LineTeller;
@@ -20,22 +20,30 @@ fn take_piece<T: LineTeller, K: Sink>(
     listing: &mut Listing,
     piece: &[u8],
     sink: &mut K,
+    skipped: &mut Vec<BadLine>,
 ) -> Result<(), Ending>
     ensures told { OnOk result (Wrote K.written K.writes
         (ToldThrough (T.tells teller.now) listing.old.place (listing.old.held.items ++ piece.now)
         listing.new.held.items listing.new.place) sink.old sink.new) }
+    ensures reported { OnOk result (Added (ToldThrough (Reports (T.skips teller.now))
+        listing.old.place (listing.old.held.items ++ piece.now) listing.new.held.items
+        listing.new.place) skipped.old.items skipped.new.items) }
     ensures left { OnOk result (HasNoFeed listing.new.held.items) }
     ensures short { OnOk result (length listing.new.held.items ≤ most_line) }
     ensures stops { IfErr result (λ ending. WroteUpTo K.written K.writes
         (StopsWith (T.tells teller.now) (T.bad teller.now) (T.lacks teller.now) listing.old.place
         (listing.old.held.items ++ piece.now)) ending sink.old sink.new) }
+    ensures stopped { IfErr result (λ ending. Added
+        (ReportsWith (Reports (T.skips teller.now)) (T.bad teller.now) (T.lacks teller.now)
+        listing.old.place (listing.old.held.items ++ piece.now) ending)
+        skipped.old.items skipped.new.items) }
     ensures others { IfErr result (λ ending. ending ≢ Ending.ReadFault) }
     ensures write_fault { IfErr result (λ ending. ending ≡ Ending.WriteFault →
         Rose (K.faults sink.old) (K.faults sink.new)) }
     ensures later { K.faults sink.old ≤ K.faults sink.new }
 {
     let mut output = Vec::new(alloc);
-    match add_piece(alloc, teller, listing, piece, &mut output) {
+    match add_piece(alloc, teller, listing, piece, &mut output, skipped) {
         Ok(()) => match emit(sink, &output) {
             Ok(()) => Ok(()),
             Err(_) => Err(Ending::WriteFault),
@@ -54,17 +62,29 @@ fn take_end<T: LineTeller, K: Sink>(
     teller: &T,
     listing: &Listing,
     sink: &mut K,
+    skipped: &mut Vec<BadLine>,
 ) -> Ending
     requires { HasNoFeed listing.now.held.items }
     ensures gives { WroteUpTo K.written K.writes
         (Gives (T.tells teller.now) (T.bad teller.now) (T.lacks teller.now) listing.now.place
         (lines_of listing.now.held.items)) result sink.old sink.new }
+    ensures reported { Added
+        (Reported (Reports (T.skips teller.now)) (T.bad teller.now) (T.lacks teller.now)
+        listing.now.place (lines_of listing.now.held.items) result)
+        skipped.old.items skipped.new.items }
     ensures others { result ≢ Ending.ReadFault }
     ensures write_fault { result ≡ Ending.WriteFault →
         Rose (K.faults sink.old) (K.faults sink.new) }
 {
     let mut output = Vec::new(alloc);
-    match add_end(alloc, teller, listing.place, &listing.held, &mut output) {
+    match add_end(
+        alloc,
+        teller,
+        listing.place,
+        &listing.held,
+        &mut output,
+        skipped,
+    ) {
         Ok(()) => match emit(sink, &output) {
             Ok(()) => Ending::Done,
             Err(_) => Ending::WriteFault,
@@ -83,13 +103,15 @@ fn tell_through<T: LineTeller, S: Source, K: Sink>(
     teller: &T,
     source: &mut S,
     sink: &mut K,
+    skipped: &mut Vec<BadLine>,
     piece: &mut [u8],
 ) -> Ending
     requires { 0 < length piece.old }
     ensures streams { IsStream (T.tells teller.now) (T.bad teller.now) (T.lacks teller.now) S.reads
         K.written K.writes result source.old sink.old source.new sink.new }
-    ensures tells { TellsList (T.tells teller.now) (T.bad teller.now) (T.lacks teller.now) result
-        (S.left source.old) (K.written sink.old) (K.written sink.new) }
+    ensures tells { TellsList (T.tells teller.now) (T.bad teller.now) (T.lacks teller.now)
+        (Reports (T.skips teller.now)) result (S.left source.old) (K.written sink.old)
+        (K.written sink.new) skipped.old.items skipped.new.items }
     ensures torn { result ≡ Ending.ReadFault
         → Appended (ReadsTold (T.tells teller.now) (S.left source.old) (S.left source.new))
         (K.written sink.old) (K.written sink.new) }
@@ -105,9 +127,9 @@ fn tell_through<T: LineTeller, S: Source, K: Sink>(
     'reading: for _ in 0..u64::MAX {
         match source.read(piece) {
             Err(_) => return Ending::ReadFault,
-            Ok(0) => return take_end(alloc, teller, &listing, sink),
+            Ok(0) => return take_end(alloc, teller, &listing, sink, skipped),
             Ok(count) => {
-                match take_piece(alloc, teller, &mut listing, &piece[..count], sink) {
+                match take_piece(alloc, teller, &mut listing, &piece[..count], sink, skipped) {
                     Ok(()) => {}
                     Err(ending) => return ending,
                 }
@@ -119,17 +141,20 @@ fn tell_through<T: LineTeller, S: Source, K: Sink>(
 
 /// Reads the list that is left of the source to its end, processes each of its lines, and writes
 /// the outputs to the sink: those of the lines that a read completed before the next read. The
-/// first bad line ends it; nothing is written for that line, and the ending describes it. A line
-/// that is too long ends it as soon as more of it was read than a line may have.
+/// first bad line ends it, unless the teller skips it; nothing is written for that line, and the
+/// ending describes it. For each line that is skipped a report is added. A line that is too long
+/// ends it as soon as more of it was read than a line may have.
 ///
-/// Takes memory for a piece, a line, and the outputs of the lines of a piece. If memory runs out,
-/// or there are more lines or reads than a u64 counts, it ends with `Memory`.
-#[tactic(auto, using(crate::proofs::Readings::untouched, crate::proofs::LeftBytes::told_list, crate::proofs::Stages::unread))]
+/// Takes memory for a piece, a line, the outputs of the lines of a piece, and the reports on skipped
+/// lines. If memory runs out, or there are more lines or reads than a u64 counts, it ends with
+/// `Memory`.
+#[tactic(auto, using(crate::proofs::Readings::untouched, crate::proofs::LeftBytes::told_list, crate::proofs::LeftBytes::reported_list, crate::proofs::Stages::unread))]
 pub fn tell_all<T: LineTeller, S: Source, K: Sink>(
     alloc: Global,
     teller: &T,
     source: &mut S,
     sink: &mut K,
+    skipped: &mut Vec<BadLine>,
 ) -> Ending
     // After each read, all lines that are complete in what was read are processed and written
     // before the next read; no write follows one that failed, and no read or write follows a read
@@ -141,10 +166,15 @@ pub fn tell_all<T: LineTeller, S: Source, K: Sink>(
     ensures gives { (bytes : List ℕ) → S.left source.old ≡ Some bytes
         → Appended (Gives (T.tells teller.now) (T.bad teller.now) (T.lacks teller.now) first_place
         (lines_of bytes) result) (K.written sink.old) (K.written sink.new) }
-    // If the source does not make known what is left, the output is what the lines of some list
-    // give.
-    ensures tells { TellsList (T.tells teller.now) (T.bad teller.now) (T.lacks teller.now) result
-        (S.left source.old) (K.written sink.old) (K.written sink.new) }
+    // The reports that are added are those on the skipped lines up to this ending, in their order.
+    ensures reported { (bytes : List ℕ) → S.left source.old ≡ Some bytes
+        → Added (Reported (Reports (T.skips teller.now)) (T.bad teller.now) (T.lacks teller.now)
+        first_place (lines_of bytes) result) skipped.old.items skipped.new.items }
+    // If the source does not make known what is left, the output and the reports are those of the
+    // lines of some list.
+    ensures tells { TellsList (T.tells teller.now) (T.bad teller.now) (T.lacks teller.now)
+        (Reports (T.skips teller.now)) result (S.left source.old) (K.written sink.old)
+        (K.written sink.new) skipped.old.items skipped.new.items }
     // If the source fails, each complete line of what was read is processed and written.
     ensures torn { result ≡ Ending.ReadFault
         → Appended (ReadsTold (T.tells teller.now) (S.left source.old) (S.left source.new))
@@ -156,7 +186,7 @@ pub fn tell_all<T: LineTeller, S: Source, K: Sink>(
         Rose (K.faults sink.old) (K.faults sink.new) }
 {
     match vec![in alloc; 0u8; PIECE] {
-        Ok(mut piece) => tell_through(alloc, teller, source, sink, &mut piece),
+        Ok(mut piece) => tell_through(alloc, teller, source, sink, skipped, &mut piece),
         Err(_) => Ending::Memory,
     }
 }

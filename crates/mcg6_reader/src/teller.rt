@@ -14,8 +14,10 @@ use std::alloc::{AllocError as Memory, Global};
 pub enum LineAnswer {
     /// Its output is these bytes.
     Output { bytes: Vec<u8> },
-    /// It is bad, and its first error is of this kind.
+    /// It is bad, with a first error of this kind, and the list ends there.
     Bad { kind: FaultKind },
+    /// It is bad, with a first error of this kind, and the list goes on after it.
+    Skipped { kind: FaultKind },
 }
 
 /// A teller maps each line of a list, with its place, to an output or an error.
@@ -23,16 +25,22 @@ pub trait LineTeller {
     /// The line at this place has this output. A line holds its line feed, if it has one.
     ghost tells: { Self → LinePlace → List ℕ → List ℕ → Type 0 };
 
-    /// The line at this place is bad, with a first error of this kind.
+    /// The line at this place is bad, with a first error of this kind, and the list ends there.
     ghost bad: { Self → LinePlace → List ℕ → FaultKind → Type 0 };
 
     /// The kind of the error of a list that ends after so many graphs, if it is one.
     ghost lacks: { Self → ℕ → Option FaultKind };
 
-    /// The output of a line, or the kind of its first error.
+    /// The line at this place is skipped, with a first error of this kind; or, with none, it is
+    /// not.
+    ghost skips: { Self → LinePlace → List ℕ → Option FaultKind → Type 0 };
+
+    /// The output of a line, or the kind of its first error. A line that is skipped has an empty
+    /// output.
     fn tell(&self, alloc: Global, place: LinePlace, line: &[u8]) -> Result<LineAnswer, Memory>
         ensures { IfOk result
-            (IsToldAs (tells self.now place line.now) (bad self.now place line.now)) };
+            (IsToldAs (tells self.now place line.now) (bad self.now place line.now)
+            (skips self.now place line.now)) };
 
     /// The kind of the error of a list that ends after so many lines other than the header, if it
     /// is one.

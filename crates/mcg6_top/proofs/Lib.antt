@@ -1,3 +1,6 @@
 pub mod Ended
 pub mod OneOutput
+pub mod Skipping
+pub mod OneOutcome
+pub mod Splits
 pub mod Rows

@@ -13,4 +13,4 @@ text_of name = option_map (λ text. text.now) name
 
 -- the command with the name's bytes
 abbrev pub asked : Coded → ListCommand
-asked command = record { query = command.query; file = text_of command.file }
+asked command = record { query = command.query; at_bad = command.at_bad; file = text_of command.file }

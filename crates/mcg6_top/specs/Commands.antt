@@ -1,6 +1,6 @@
 -- What the words ask for: one case for each row of the table of words.
 -- Stated by: mcg6_top, mcg6_front_top.
-use Rattle.std.specs.Prelude.{◌≡◌, ℕ, List, [], ◌∷◌, drop, nat_eq, codes, if◌then◌else◌}
+use Rattle.std.specs.Prelude.{◌≡◌, ℕ, ◌&&◌, Bool, true, false, List, [], ◌∷◌, drop, nat_eq, codes, if◌then◌else◌}
 use Rattle.std.specs.declared.option.Option.{Option}
 use Rattle.std.specs.declared.option.Option.TheVariants.{Some, None}
 use Rattle.std.specs.List.{starts_with}
@@ -13,11 +13,14 @@ use Rattle.mcg6_lines.specs.declared.query.Property.{Property}
 use Rattle.mcg6_lines.specs.declared.query.Property.TheVariants.{Covered, Uncovered, Perfect, Brick, Brace, Bicritical, Composite, Bricks, Braces}
 use Rattle.mcg6_lines.specs.declared.query.Query.{Query}
 use Rattle.mcg6_lines.specs.declared.query.Query.TheVariants.{Kinds, Leaves, Elementary, Graph, Select}
+use Rattle.mcg6_top.specs.declared.command.AtBadLine.{AtBadLine}
+use Rattle.mcg6_top.specs.declared.command.AtBadLine.TheVariants.{Stop, Skip}
 
--- what is asked of each graph of a list, and the name of the file that holds the list, if it is
--- not the standard input
+-- what is asked of each graph of a list, what is done at a bad line, and the name of the file that
+-- holds the list, if it is not the standard input
 pub record ListCommand : Type 0 where
   pub query : Query
+  pub at_bad : AtBadLine
   pub file : Option (List ℕ)
 
 -- `bricks=` and a number
@@ -67,26 +70,50 @@ pair_named word second =
     if bytes_eq word (codes "leaves") then leaves_named second else
     if bytes_eq word (codes "select") then select_named second else None
 
--- a query of the list in a file
-abbrev pub command_with : Option Query → Option (List ℕ) → Option ListCommand
-command_with None file = None
-command_with (Some query) file = Some (record { query = query; file = file })
+-- the query may be asked of a list with bad lines: all but the file of one graph
+abbrev pub may_skip : Query → Bool
+may_skip Kinds = true
+may_skip (Leaves order) = true
+may_skip Elementary = true
+may_skip Graph = false
+may_skip (Select property) = true
 
--- what two words ask for: where they ask for no query, the second is the name of the file
-abbrev pub pair_or_file : Option Query → List ℕ → List ℕ → Option ListCommand
-pair_or_file (Some query) word second = Some (record { query = query; file = None })
-pair_or_file None word second = command_with (query_named word) (Some second)
+-- the word after a query says that the list goes on after a bad line
+abbrev pub asks_skip : Query → List ℕ → Bool
+asks_skip query word = may_skip query && bytes_eq word (codes "skip")
 
-abbrev pub pair_command : List ℕ → List ℕ → Option ListCommand
-pair_command word second = pair_or_file (pair_named word second) word second
+-- a query and one more word: `skip`, or the name of the file
+abbrev pub command_with_word : Query → List ℕ → Option ListCommand
+command_with_word query word =
+    if asks_skip query word then Some (record { query = query; at_bad = Skip; file = None }) else
+    Some (record { query = query; at_bad = Stop; file = Some word })
+
+-- a query and two more words: `skip` and the name of the file
+abbrev pub command_with_two : Query → List ℕ → List ℕ → Option ListCommand
+command_with_two query word file = if asks_skip query word then Some (record { query = query; at_bad = Skip; file = Some file }) else None
+
+-- a query and the words after it
+abbrev pub command_with : Query → List (List ℕ) → Option ListCommand
+command_with query [] = Some (record { query = query; at_bad = Stop; file = None })
+command_with query (word ∷ []) = command_with_word query word
+command_with query (word ∷ file ∷ []) = command_with_two query word file
+command_with query (word ∷ file ∷ third ∷ words) = None
+
+-- the same, if there is a query
+abbrev pub command_if : Option Query → List (List ℕ) → Option ListCommand
+command_if None words = None
+command_if (Some query) words = command_with query words
+
+-- what a word and those after it ask for: the second has more to say of the query, or comes after it
+abbrev pub pair_command : Option Query → (word second : List ℕ) → List (List ℕ) → Option ListCommand
+pair_command (Some query) word second words = command_with query words
+pair_command None word second words = command_if (query_named word) (second ∷ words)
 
 -- the command that the words ask for; none where they match no row
 abbrev pub command_of : List (List ℕ) → Option ListCommand
 command_of [] = None
-command_of (word ∷ []) = command_with (query_named word) None
-command_of (word ∷ second ∷ []) = pair_command word second
-command_of (word ∷ second ∷ third ∷ []) = command_with (pair_named word second) (Some third)
-command_of (word ∷ second ∷ third ∷ fourth ∷ words) = None
+command_of (word ∷ []) = command_if (query_named word) []
+command_of (word ∷ second ∷ words) = pair_command (pair_named word second) word second words
 
 -- the name of the file of a command, if there is one
 abbrev pub file_of : Option ListCommand → Option (List ℕ)

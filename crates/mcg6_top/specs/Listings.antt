@@ -1,6 +1,6 @@
 -- The answer to a line of a list.
 -- Stated by: mcg6_top. Rests on it: mcg6_front_top.
-use Rattle.std.specs.Prelude.{◌≡◌, ℕ, ◌==◌, ◌⊎◌, nat_lt, Bool, false, if◌then◌else◌, List, IsTrue, IsFalse}
+use Rattle.std.specs.Prelude.{◌≡◌, ℕ, ◌==◌, ◌⊎◌, nat_lt, Bool, false, true, if◌then◌else◌, List, [], ◌∷◌, IsTrue, IsFalse}
 use Rattle.std.specs.declared.option.Option.{Option}
 use Rattle.std.specs.declared.option.Option.TheVariants.{Some, None}
 use Rattle.line_text.specs.declared.faults.FaultKind.{FaultKind}
@@ -8,6 +8,9 @@ use Rattle.line_text.specs.declared.faults.FaultKind.TheVariants.{Extra, Missing
 use Rattle.mcg6_lines.specs.declared.query.Query.{Query}
 use Rattle.mcg6_lines.specs.declared.query.Query.TheVariants.{Kinds, Leaves, Elementary, Graph, Select}
 use Rattle.mcg6_lines.specs.Telling.{TellsLine, HasFault}
+use Rattle.mcg6_top.specs.declared.command.AtBadLine.{AtBadLine}
+use Rattle.mcg6_top.specs.declared.command.AtBadLine.TheVariants.{Stop, Skip}
+use Rattle.mcg6_reader.specs.Common.{is_header_line}
 use Rattle.mcg6_reader.specs.declared.place.LinePlace.{LinePlace}
 
 -- the file of one graph is asked for, and a graph stands before the line at that place
@@ -34,3 +37,37 @@ lacks_of (Leaves order) graphs = None
 lacks_of Elementary graphs = None
 lacks_of Graph graphs = if graphs == 0 then Some Missing else None
 lacks_of (Select property) graphs = None
+
+-- the output of the line at that place: what is asked of its graph; of a bad line nothing, if the
+-- list goes on after it
+abbrev pub TellsOrSkips : Query → AtBadLine → LinePlace → List ℕ → List ℕ → Type 0
+TellsOrSkips query Stop place line output = TellsLineOf query place line output
+TellsOrSkips query Skip place line output =
+    TellsLineOf query place line output ⊎ (((kind : FaultKind) × IsBadLine query place line kind) × (output ≡ []))
+
+-- the list ends at the line at that place, which is bad with a first error of this kind: none does
+-- if the list goes on after bad lines
+abbrev pub StopsAt : Query → AtBadLine → LinePlace → List ℕ → FaultKind → Type 0
+StopsAt query Stop place line kind = IsBadLine query place line kind
+StopsAt query Skip place line kind = ⊥
+
+-- the line at that place is skipped, as it is bad with a first error of this kind; or, with none, it
+-- is not bad. No line is skipped if the list ends at a bad line
+abbrev pub SkipsLine : Query → AtBadLine → LinePlace → List ℕ → Option FaultKind → Type 0
+SkipsLine query Stop place line None = Unit {0}
+SkipsLine query Stop place line (Some kind) = ⊥
+SkipsLine query Skip place line None = (kind : FaultKind) → IsBadLine query place line kind → ⊥
+SkipsLine query Skip place line (Some kind) = IsBadLine query place line kind
+
+-- the output of a line that is not a header depends on the line alone, and not on its number
+abbrev pub is_by_line : Query → Bool
+is_by_line Kinds = true
+is_by_line (Leaves order) = false
+is_by_line Elementary = false
+is_by_line Graph = false
+is_by_line (Select property) = true
+
+-- the first of the lines is just the header
+abbrev pub opens_with_header : List (List ℕ) → Bool
+opens_with_header [] = false
+opens_with_header (line ∷ lines) = is_header_line line

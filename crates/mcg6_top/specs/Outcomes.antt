@@ -1,51 +1,69 @@
 -- Which status and which output a list stands for.
 -- Stated by: mcg6_top.
-use Rattle.std.specs.Prelude.{◌≡◌, ℕ, List}
+use Rattle.std.specs.Prelude.{◌≡◌, ◌⊎◌, ℕ, List, [], ◌∷◌}
 use Rattle.std.specs.declared.option.Option.{Option}
 use Rattle.mcg6_lines.specs.declared.query.Query.{Query}
 use Rattle.mcg6_reader.specs.declared.ending.BadLine.{BadLine}
 use Rattle.mcg6_reader.specs.declared.ending.Ending.{Ending}
-use Rattle.mcg6_reader.specs.Common.{lines_of, BeginningTold, WholeTold, ToldToBad, CutShort, Appended, Gives, IsLeft, first_place, IsStream}
-use Rattle.mcg6_top.specs.Listings.{TellsLineOf, IsBadLine, lacks_of}
-use Rattle.mcg6_top.specs.Statuses.{status_of}
+use Rattle.mcg6_reader.specs.Common.{lines_of, AllTold, BeginningTold, Reported, Reports, WholeTold, ToldToBad, CutShort, Appended, Gives, IsLeft, first_place, IsStream}
+use Rattle.mcg6_top.specs.Listings.{TellsLineOf, TellsOrSkips, StopsAt, SkipsLine, lacks_of}
+use Rattle.mcg6_top.specs.Statuses.{status_after}
+use Rattle.mcg6_top.specs.declared.command.AtBadLine.{AtBadLine}
+use Rattle.mcg6_top.specs.declared.command.AtBadLine.TheVariants.{Stop}
 use Rattle.mcg6_top.specs.declared.status.ListStatus.{ListStatus}
 use Rattle.mcg6_top.specs.declared.status.ListStatus.TheVariants.{Done, Usage, ReadFault, BadInput, WriteFault, Memory}
 
 -- what is written of a list of these bytes up to an ending: of each line what is asked of its
--- graph, in order
-abbrev pub EndsWith : Query → (bytes : List ℕ) → Ending → (output : List ℕ) → Type 0
-EndsWith query bytes ending output = Gives (TellsLineOf query) (IsBadLine query) (lacks_of query) first_place (lines_of bytes) ending output
+-- graph, in order; of bad lines nothing, if the list goes on after them
+abbrev pub EndsWith : Query → AtBadLine → (bytes : List ℕ) → Ending → (output : List ℕ) → Type 0
+EndsWith query at_bad bytes ending output =
+    Gives (TellsOrSkips query at_bad) (StopsAt query at_bad) (lacks_of query) first_place (lines_of bytes) ending output
 
--- the lines before the first bad one are answered, and nothing of that one
-pub record StopsAtBad (query : Query) (bytes output : List ℕ) : Type 0 where
+-- the reports on the bad lines of the list that were skipped up to an ending, in order
+abbrev pub SkipsUpTo : Query → AtBadLine → (bytes : List ℕ) → Ending → (skipped : List BadLine) → Type 0
+SkipsUpTo query at_bad bytes ending skipped =
+    Reported (Reports (SkipsLine query at_bad)) (StopsAt query at_bad) (lacks_of query) first_place (lines_of bytes) ending skipped
+
+-- the lines before the bad one at which the list ends are answered, and nothing of that one
+pub record StopsAtBad (query : Query) (at_bad : AtBadLine) (bytes output : List ℕ) : Type 0 where
   pub found : BadLine
-  pub told : ToldToBad (TellsLineOf query) (IsBadLine query) (lacks_of query) first_place (lines_of bytes) found output
+  pub told : ToldToBad (TellsOrSkips query at_bad) (StopsAt query at_bad) (lacks_of query) first_place (lines_of bytes) found output
 
--- what is written of a list of these bytes up to a status
-abbrev pub ListOutcome : Query → (bytes : List ℕ) → ListStatus → (output : List ℕ) → Type 0
-ListOutcome query bytes Done output = WholeTold (TellsLineOf query) (lacks_of query) first_place (lines_of bytes) output
-ListOutcome query bytes Usage output = ⊥
-ListOutcome query bytes ReadFault output = BeginningTold (TellsLineOf query) first_place (lines_of bytes) output
-ListOutcome query bytes BadInput output = StopsAtBad query bytes output
-ListOutcome query bytes WriteFault output = CutShort (TellsLineOf query) first_place (lines_of bytes) output
-ListOutcome query bytes Memory output = BeginningTold (TellsLineOf query) first_place (lines_of bytes) output
+-- all lines are answered but the bad ones, which are skipped: there is one, and these are the
+-- reports on them
+pub record HasSkipped (query : Query) (at_bad : AtBadLine) (bytes output : List ℕ) : Type 0 where
+  pub told : WholeTold (TellsOrSkips query at_bad) (lacks_of query) first_place (lines_of bytes) output
+  pub first : BadLine
+  pub others : List BadLine
+  pub skipped : AllTold (Reports (SkipsLine query at_bad)) first_place (lines_of bytes) (first ∷ others)
+
+-- what is written of a list of these bytes up to a status: if all is done, no line is bad
+abbrev pub ListOutcome : Query → AtBadLine → (bytes : List ℕ) → ListStatus → (output : List ℕ) → Type 0
+ListOutcome query at_bad bytes Done output = WholeTold (TellsLineOf query) (lacks_of query) first_place (lines_of bytes) output
+ListOutcome query at_bad bytes Usage output = ⊥
+ListOutcome query at_bad bytes ReadFault output = BeginningTold (TellsOrSkips query at_bad) first_place (lines_of bytes) output
+ListOutcome query at_bad bytes BadInput output = StopsAtBad query at_bad bytes output ⊎ HasSkipped query at_bad bytes output
+ListOutcome query at_bad bytes WriteFault output = CutShort (TellsOrSkips query at_bad) first_place (lines_of bytes) output
+ListOutcome query at_bad bytes Memory output = BeginningTold (TellsOrSkips query at_bad) first_place (lines_of bytes) output
 
 -- what was written is an outcome of some list: of the bytes that were left of the source, if
 -- it makes them known
-pub record TellsSome (query : Query) (status : ListStatus) (left before now : Option (List ℕ)) : Type 0 where
+pub record TellsSome (query : Query) (at_bad : AtBadLine) (status : ListStatus) (left before now : Option (List ℕ)) : Type 0 where
   pub bytes : List ℕ
   pub is_left : IsLeft left bytes
-  pub outcome : Appended (ListOutcome query bytes status) before now
+  pub outcome : Appended (ListOutcome query at_bad bytes status) before now
 
 -- the list was answered while it was read, up to this ending
 abbrev pub StreamsTo :
-    {S K : Type 0} → Query → (S → Option (List ℕ) → S → Type 0) → (K → Option (List ℕ)) → (K → List ℕ → ℕ → K → Type 0) → Ending → S → K → S →
-    K → Type 0
-StreamsTo query reads written writes ending source sink last_source last_sink =
-    IsStream (TellsLineOf query) (IsBadLine query) (lacks_of query) reads written writes ending source sink last_source last_sink
+    {S K : Type 0} → Query → AtBadLine → (S → Option (List ℕ) → S → Type 0) → (K → Option (List ℕ)) → (K → List ℕ → ℕ → K → Type 0) → Ending →
+    S → K → S → K → Type 0
+StreamsTo query at_bad reads written writes ending source sink last_source last_sink =
+    IsStream (TellsOrSkips query at_bad) (StopsAt query at_bad) (lacks_of query) reads written writes ending source sink last_source last_sink
 
 -- the list was answered while it was read, up to an ending with this status
-pub record Streams {S K : Type 0} (query : Query) (reads : S → Option (List ℕ) → S → Type 0) (written : K → Option (List ℕ)) (writes : K → List ℕ → ℕ → K → Type 0) (status : ListStatus) (source : S) (sink : K) (last_source : S) (last_sink : K) : Type 0 where
+pub record Streams {S K : Type 0} (query : Query) (at_bad : AtBadLine) (reads : S → Option (List ℕ) → S → Type 0) (written : K → Option (List ℕ)) (writes : K → List ℕ → ℕ → K → Type 0) (status : ListStatus) (source : S) (sink : K) (last_source : S) (last_sink : K) : Type 0 where
   pub ending : Ending
-  pub of_status : status ≡ status_of ending
-  pub stream : StreamsTo query reads written writes ending source sink last_source last_sink
+  pub skipped : List BadLine
+  pub of_status : status ≡ status_after ending skipped
+  pub none_skipped : at_bad ≡ Stop → skipped ≡ []
+  pub stream : StreamsTo query at_bad reads written writes ending source sink last_source last_sink

@@ -1,18 +1,21 @@
 -- What a run makes of a source and a sink, as one fact: `run`, `run_to_ending` and the front cite it.
 -- Stated by: mcg6_top, mcg6_front_top.
-use Rattle.std.specs.Prelude.{◌≡◌, ◌↔◌, ℕ, List}
+use Rattle.std.specs.Prelude.{◌≡◌, ◌↔◌, ℕ, List, []}
 use Rattle.std.specs.declared.option.Option.{Option}
 use Rattle.std.specs.declared.option.Option.TheVariants.{Some, None}
 use Rattle.outside.specs.Common.{Rose}
-use Rattle.mcg6_reader.specs.Common.{Appended, ReadsTold, TellsList}
-use Rattle.mcg6_reader.specs.declared.ending.Ending.{Ending}
+use Rattle.mcg6_reader.specs.Common.{Appended, ReadsTold, Reports, TellsList}
 use Rattle.mcg6_reader.specs.declared.ending.Ending.TheVariants as ending
 use Rattle.mcg6_encoder.specs.Files.{Encodes}
 use Rattle.mcg6_encoder.specs.Reads.{EncodesFile, ReadsFirst}
 use Rattle.mcg6_top.specs.Commands.{ListCommand, MatchNone, command_of, encode_of}
 use Rattle.mcg6_top.specs.Encodings.{EncodeOutcome, EncodesSome, ReadsFirstTo}
-use Rattle.mcg6_top.specs.Listings.{TellsLineOf, IsBadLine, lacks_of}
-use Rattle.mcg6_top.specs.Outcomes.{EndsWith, ListOutcome, Streams, StreamsTo, TellsSome}
+use Rattle.mcg6_top.specs.Listings.{TellsOrSkips, StopsAt, SkipsLine, lacks_of}
+use Rattle.mcg6_top.specs.Outcomes.{EndsWith, SkipsUpTo, ListOutcome, Streams, StreamsTo, TellsSome}
+use Rattle.mcg6_lines.specs.declared.query.Query.{Query}
+use Rattle.mcg6_top.specs.declared.command.AtBadLine.{AtBadLine}
+use Rattle.mcg6_top.specs.declared.command.AtBadLine.TheVariants.{Stop}
+use Rattle.mcg6_top.specs.declared.status.ListEnd.{ListEnd}
 use Rattle.mcg6_top.specs.declared.status.ListStatus.{ListStatus}
 use Rattle.mcg6_top.specs.declared.status.ListStatus.TheVariants.{Usage, ReadFault, WriteFault}
 
@@ -30,17 +33,17 @@ pub record ListRuns {S K : Type 0} (left : S → Option (List ℕ)) (faults : S 
   pub write_fault : ended ≡ WriteFault → Rose (sink_faults before) (sink_faults now)
   -- what was written is what the words ask of the lines of the list, in whatever pieces it was read
   pub outcome : (command : ListCommand) (bytes : List ℕ) → command_of words ≡ Some command → left first ≡ Some bytes
-      → Appended (ListOutcome command.query bytes ended) (written before) (written now)
+      → Appended (ListOutcome command.query command.at_bad bytes ended) (written before) (written now)
   -- if what is left of the source is not known, it is what they ask of the lines of some list
   pub tells : (command : ListCommand) → command_of words ≡ Some command
-      → TellsSome command.query ended (left first) (written before) (written now)
+      → TellsSome command.query command.at_bad ended (left first) (written before) (written now)
   -- where the source fails, each whole line of what was read is told and written
   pub torn : (command : ListCommand) → command_of words ≡ Some command → ended ≡ ReadFault
-      → Appended (ReadsTold (TellsLineOf command.query) (left first) (left last)) (written before) (written now)
+      → Appended (ReadsTold (TellsOrSkips command.query command.at_bad) (left first) (left last)) (written before) (written now)
   -- after each read, what is asked of the lines that are whole by then is written before the next
   -- read; no write follows one that failed, and no read or write follows a read that failed
   pub streams : (command : ListCommand) → command_of words ≡ Some command
-      → Streams command.query reads written writes ended first before last now
+      → Streams command.query command.at_bad reads written writes ended first before last now
   -- if they ask for the graph6 text of a graph file, what was written is what the file gives
   pub encodes : (name file : List ℕ) → encode_of words ≡ Some name → left first ≡ Some file
       → Appended (EncodeOutcome file ended) (written before) (written now)
@@ -51,36 +54,58 @@ pub record ListRuns {S K : Type 0} (left : S → Option (List ℕ)) (faults : S 
   pub reads_first : (name : List ℕ) → encode_of words ≡ Some name
       → ReadsFirstTo reads written writes ended first before last now
 
--- the same of a run that ended so; with no ending the words match no row
-pub record ListRunsTo {S K : Type 0} (left : S → Option (List ℕ)) (faults : S → ℕ) (reads : S → Option (List ℕ) → S → Type 0)
-    (written : K → Option (List ℕ)) (writes : K → List ℕ → ℕ → K → Type 0) (sink_faults : K → ℕ) (words : List (List ℕ)) (ended : Option Ending)
+-- a list was answered, and ended so: what was written, and the reports on the bad lines that were
+-- skipped. The functions are those that tell of a source and of a sink
+pub record AnswersList {S K : Type 0} (query : Query) (at_bad : AtBadLine) (left : S → Option (List ℕ)) (faults : S → ℕ) (reads : S → Option (List ℕ) → S → Type 0)
+    (written : K → Option (List ℕ)) (writes : K → List ℕ → ℕ → K → Type 0) (sink_faults : K → ℕ) (ended : ListEnd)
     (first last : S) (before now : K) : Type 0 where
-  -- there is no ending exactly if the words match no row, and then nothing is read or written
+  -- a fault of the outside comes only where its count rose in this run
+  pub read_fault : ended.ending ≡ ending.ReadFault → Rose (faults first) (faults last)
+  pub write_fault : ended.ending ≡ ending.WriteFault → Rose (sink_faults before) (sink_faults now)
+  -- what was written is what is asked of the lines of the list up to this ending
+  pub outcome : (bytes : List ℕ) → left first ≡ Some bytes → Appended (EndsWith query at_bad bytes ended.ending) (written before) (written now)
+  -- the reports are exactly those on the bad lines that were skipped, in order; there is none if
+  -- the list ends at a bad line
+  pub skips : (bytes : List ℕ) → left first ≡ Some bytes → SkipsUpTo query at_bad bytes ended.ending ended.skipped.items
+  pub skips_none : at_bad ≡ Stop → ended.skipped.items ≡ []
+  -- if what is left of the source is not known, it is what is asked of the lines of some list, and
+  -- the reports are on the same lines
+  pub tells : TellsList (TellsOrSkips query at_bad) (StopsAt query at_bad) (lacks_of query) (Reports (SkipsLine query at_bad)) ended.ending (left first)
+      (written before) (written now) [] ended.skipped.items
+  -- where the source fails, each whole line of what was read is told and written
+  pub torn : ended.ending ≡ ending.ReadFault → Appended (ReadsTold (TellsOrSkips query at_bad) (left first) (left last)) (written before) (written now)
+  -- after each read, what is asked of the lines that are whole by then is written before the next
+  pub streams : StreamsTo query at_bad reads written writes ended.ending first before last now
+
+-- a graph file was encoded, and that ended so
+pub record AnswersFile {S K : Type 0} (left : S → Option (List ℕ)) (faults : S → ℕ) (reads : S → Option (List ℕ) → S → Type 0)
+    (written : K → Option (List ℕ)) (writes : K → List ℕ → ℕ → K → Type 0) (sink_faults : K → ℕ) (ended : ListEnd)
+    (first last : S) (before now : K) : Type 0 where
+  -- a fault of the outside comes only where its count rose in this run, and no line is skipped
+  pub read_fault : ended.ending ≡ ending.ReadFault → Rose (faults first) (faults last)
+  pub write_fault : ended.ending ≡ ending.WriteFault → Rose (sink_faults before) (sink_faults now)
+  pub skips_none : ended.skipped.items ≡ []
+  -- what was written is what the file gives up to this ending
+  pub encodes : (file : List ℕ) → left first ≡ Some file → Appended (Encodes file ended.ending) (written before) (written now)
+  -- if the source does not tell what is left, it is what some file gives
+  pub encodes_some : EncodesFile ended.ending (left first) (written before) (written now)
+  -- the file is read to its end before the first write; nothing is written of a bad file
+  pub reads_first : ReadsFirst reads written writes ended.ending first before last now
+
+-- the same of a run that ended so; with no end the words match no row
+pub record ListRunsTo {S K : Type 0} (left : S → Option (List ℕ)) (faults : S → ℕ) (reads : S → Option (List ℕ) → S → Type 0)
+    (written : K → Option (List ℕ)) (writes : K → List ℕ → ℕ → K → Type 0) (sink_faults : K → ℕ) (words : List (List ℕ)) (ended : Option ListEnd)
+    (first last : S) (before now : K) : Type 0 where
+  -- there is no end exactly if the words match no row, and then nothing is read or written
   pub usage : (ended ≡ None) ↔ MatchNone words
   pub unread : ended ≡ None → last ≡ first
   pub nothing : ended ≡ None → now ≡ before
   -- a fault of the outside comes only where its count rose in this run
-  pub read_fault : ended ≡ Some ending.ReadFault → Rose (faults first) (faults last)
-  pub write_fault : ended ≡ Some ending.WriteFault → Rose (sink_faults before) (sink_faults now)
-  -- what was written is what the words ask of the lines of the list up to this ending
-  pub outcome : (command : ListCommand) (bytes : List ℕ) (at : Ending) → command_of words ≡ Some command → left first ≡ Some bytes
-      → ended ≡ Some at → Appended (EndsWith command.query bytes at) (written before) (written now)
-  -- if what is left of the source is not known, it is what they ask of the lines of some list
-  pub tells : (command : ListCommand) (at : Ending) → command_of words ≡ Some command → ended ≡ Some at
-      → TellsList (TellsLineOf command.query) (IsBadLine command.query) (lacks_of command.query) at (left first) (written before) (written now)
-  -- where the source fails, each whole line of what was read is told and written
-  pub torn : (command : ListCommand) → command_of words ≡ Some command → ended ≡ Some ending.ReadFault
-      → Appended (ReadsTold (TellsLineOf command.query) (left first) (left last)) (written before) (written now)
-  -- after each read, what is asked of the lines that are whole by then is written before the next
-  pub streams : (command : ListCommand) (at : Ending) → command_of words ≡ Some command → ended ≡ Some at
-      → StreamsTo command.query reads written writes at first before last now
-  -- if they ask for the graph6 text of a graph file, what was written is what the file gives up to
-  -- this ending
-  pub encodes : (name file : List ℕ) (at : Ending) → encode_of words ≡ Some name → left first ≡ Some file
-      → ended ≡ Some at → Appended (Encodes file at) (written before) (written now)
-  -- if the source does not tell what is left, it is what some file gives
-  pub encodes_some : (name : List ℕ) (at : Ending) → encode_of words ≡ Some name → ended ≡ Some at
-      → EncodesFile at (left first) (written before) (written now)
-  -- the file is read to its end before the first write; nothing is written of a bad file
-  pub reads_first : (name : List ℕ) (at : Ending) → encode_of words ≡ Some name → ended ≡ Some at
-      → ReadsFirst reads written writes at first before last now
+  pub read_fault : (at : ListEnd) → ended ≡ Some at → at.ending ≡ ending.ReadFault → Rose (faults first) (faults last)
+  pub write_fault : (at : ListEnd) → ended ≡ Some at → at.ending ≡ ending.WriteFault → Rose (sink_faults before) (sink_faults now)
+  -- if the words ask for something of a list, it was answered so
+  pub lists : (command : ListCommand) (at : ListEnd) → command_of words ≡ Some command → ended ≡ Some at
+      → AnswersList command.query command.at_bad left faults reads written writes sink_faults at first last before now
+  -- if they ask for the graph6 text of a graph file, it was encoded so
+  pub files : (name : List ℕ) (at : ListEnd) → encode_of words ≡ Some name → ended ≡ Some at
+      → AnswersFile left faults reads written writes sink_faults at first last before now

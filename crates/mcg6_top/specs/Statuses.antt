@@ -1,10 +1,12 @@
 -- The statuses, their codes, and the endings of runs.
 -- Stated by: mcg6_top, mcg6_front_top.
-use Rattle.std.specs.Prelude.{ℕ}
+use Rattle.std.specs.Prelude.{ℕ, List, [], ◌∷◌}
 use Rattle.std.specs.declared.option.Option.{Option}
 use Rattle.std.specs.declared.option.Option.TheVariants.{Some, None}
 use Rattle.mcg6_reader.specs.declared.ending.Ending.{Ending}
 use Rattle.mcg6_reader.specs.declared.ending.Ending.TheVariants as ending
+use Rattle.mcg6_reader.specs.declared.ending.BadLine.{BadLine}
+use Rattle.mcg6_top.specs.declared.status.ListEnd.{ListEnd}
 use Rattle.mcg6_top.specs.declared.status.ListStatus.{ListStatus}
 use Rattle.mcg6_top.specs.declared.status.ListStatus.TheVariants.{Done, Usage, ReadFault, BadInput, WriteFault, Memory}
 
@@ -17,15 +19,16 @@ code_of BadInput = 4
 code_of WriteFault = 5
 code_of Memory = 6
 
--- the status of a run that ended so
-abbrev pub status_of : Ending → ListStatus
-status_of ending.Done = Done
-status_of (ending.Bad found) = BadInput
-status_of ending.ReadFault = ReadFault
-status_of ending.WriteFault = WriteFault
-status_of ending.Memory = Memory
+-- the status of a run that ended so, with these reports on bad lines that were skipped
+abbrev pub status_after : Ending → List BadLine → ListStatus
+status_after ending.Done [] = Done
+status_after ending.Done (found ∷ founds) = BadInput
+status_after (ending.Bad found) founds = BadInput
+status_after ending.ReadFault founds = ReadFault
+status_after ending.WriteFault founds = WriteFault
+status_after ending.Memory founds = Memory
 
--- the status of a run that ended so; with no ending the words matched no row
-abbrev pub status_in : Option Ending → ListStatus
+-- the status of a run that ended so; with no end the words matched no row
+abbrev pub status_in : Option ListEnd → ListStatus
 status_in None = Usage
-status_in (Some ending) = status_of ending
+status_in (Some end) = status_after end.ending end.skipped.items

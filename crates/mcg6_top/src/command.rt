@@ -2,10 +2,20 @@
 
 use mcg6_lines::Query;
 
-/// What is asked of each graph of a list, and the name of the file that holds the list; with none
-/// it is the standard input.
+/// What is done at a bad line of a list.
+#[derive(Clone, Copy, Debug, PartialEq, Eq)]
+pub enum AtBadLine {
+    /// The list ends there.
+    Stop,
+    /// The list goes on after it; nothing is written of it, and it is reported.
+    Skip,
+}
+
+/// What is asked of each graph of a list, what is done at a bad line, and the name of the file that
+/// holds the list; with none it is the standard input.
 #[derive(Clone, Copy)]
 pub struct ListCommand<'a> {
     pub query: Query,
+    pub at_bad: AtBadLine,
     pub file: Option<&'a str>,
 }

@@ -1,10 +1,11 @@
 //! The laws of what a list gives. Each is the contract of a function that does nothing.
-ghost use Rattle.std.specs.Prelude.{◌≡◌, List, ℕ};
+ghost use Rattle.std.specs.Prelude.{◌≡◌, ◌++◌, IsFalse, IsTrue, List, ℕ};
 ghost use Rattle.mcg6_lines.specs.declared.query.Query.{Query};
-ghost use Rattle.mcg6_reader.specs.Common.{HasOneFault, HasOneOutput, TellsApart};
+ghost use Rattle.mcg6_reader.specs.Common.{HasOneFault, HasOneOutput, IsClosed, TellsApart, lines_of};
 ghost use Rattle.mcg6_reader.specs.declared.ending.BadLine.{BadLine};
 ghost use Rattle.mcg6_reader.specs.declared.ending.Ending.TheVariants as ending;
-ghost use Rattle.mcg6_top.specs.Common.{IsBadLine, TellsLineOf, EndsWith, ListOutcome};
+ghost use Rattle.mcg6_top.specs.Common.{IsBadLine, TellsLineOf, EndsWith, ListOutcome, is_by_line, opens_with_header};
+ghost use Rattle.mcg6_top.specs.declared.command.AtBadLine.{AtBadLine};
 ghost use Rattle.mcg6_top.specs.declared.status.ListStatus.TheVariants.{BadInput, Done};
 
 /// Whatever is asked of the graphs of a list, each line has one output, or it is bad with one
@@ -15,17 +16,29 @@ pub fn one_line_law()
     ensures apart { (query : Query) → TellsApart (TellsLineOf query) (IsBadLine query) }
 {}
 
-/// The bytes of a list leave nothing open. It is not both done and bad; each two outputs of a list
-/// that is done are equal, and so are those of one that is bad, with the number of its first bad
-/// line and the kind of its first fault. The other endings come of the outside.
+/// The bytes of a list leave nothing open. It is not both done and bad; any two outputs of a list
+/// that is done are equal, and so are those of one that is bad, with the number of the bad line at
+/// which it ends and the kind of its first fault. The other endings come of the outside.
 pub fn one_output_law()
-    ensures status { (query : Query) (bytes a b : List ℕ)
-        → ListOutcome query bytes Done a → ListOutcome query bytes BadInput b → ⊥ }
-    ensures done { (query : Query) (bytes a b : List ℕ)
-        → ListOutcome query bytes Done a → ListOutcome query bytes Done b → a ≡ b }
-    ensures bad { (query : Query) (bytes a b : List ℕ)
-        → ListOutcome query bytes BadInput a → ListOutcome query bytes BadInput b → a ≡ b }
-    ensures found { (query : Query) (bytes : List ℕ) (found other : BadLine) (a b : List ℕ)
-        → EndsWith query bytes (ending.Bad found) a → EndsWith query bytes (ending.Bad other) b
+    ensures status { (query : Query) (at_bad : AtBadLine) (bytes a b : List ℕ)
+        → ListOutcome query at_bad bytes Done a → ListOutcome query at_bad bytes BadInput b → ⊥ }
+    ensures done { (query : Query) (at_bad : AtBadLine) (bytes a b : List ℕ)
+        → ListOutcome query at_bad bytes Done a → ListOutcome query at_bad bytes Done b → a ≡ b }
+    ensures bad { (query : Query) (at_bad : AtBadLine) (bytes a b : List ℕ)
+        → ListOutcome query at_bad bytes BadInput a → ListOutcome query at_bad bytes BadInput b
+        → a ≡ b }
+    ensures found { (query : Query) (at_bad : AtBadLine) (bytes : List ℕ) (found other : BadLine)
+        (a b : List ℕ) → EndsWith query at_bad bytes (ending.Bad found) a
+        → EndsWith query at_bad bytes (ending.Bad other) b
         → (found.number ≡ other.number) × (found.kind ≡ other.kind) }
+{}
+
+/// A list for `kinds` or `select` may be split after a line feed. If the part after it does not begin
+/// with a line that is just the header, and neither part has a bad line, the output of the list is
+/// that of the first part, and then that of the second.
+pub fn split_law()
+    ensures { (query : Query) (at_bad : AtBadLine) (first second a b : List ℕ)
+        → IsTrue (is_by_line query) → IsClosed first → IsFalse (opens_with_header (lines_of second))
+        → ListOutcome query at_bad first Done a → ListOutcome query at_bad second Done b
+        → ListOutcome query at_bad (first ++ second) Done (a ++ b) }
 {}

@@ -23,7 +23,8 @@ mod plan;
 mod running;
 mod status;
 
-pub use laws::{one_line_law, one_output_law};
+pub use command::AtBadLine;
+pub use laws::{one_line_law, one_output_law, split_law};
 pub use plan::{encode_name, file_name};
 pub use running::{run, run_to_ending};
-pub use status::{ListStatus, status_of};
+pub use status::{ListEnd, ListStatus, status_of};

@@ -1,9 +1,9 @@
 //! Reading the words.
-ghost use Rattle.std.specs.Prelude.{◌≡◌, map, string_bytes};
+ghost use Rattle.std.specs.Prelude.{◌≡◌, ◌∷◌, map, string_bytes};
 ghost use Rattle.std.specs.Option.{option_map};
-ghost use Rattle.mcg6_top.specs.Common.{command_of, encode_of, encode_pair, file_named_by, file_of, property_named, bricks_property, braces_property, counted_property, query_named, leaves_named, select_named, pair_named, pair_command, command_with, asked, text_of};
+ghost use Rattle.mcg6_top.specs.Common.{command_of, encode_of, encode_pair, file_named_by, file_of, property_named, bricks_property, braces_property, counted_property, query_named, leaves_named, select_named, pair_named, may_skip, asks_skip, command_with_word, command_with_two, command_with, command_if, asked, text_of};
 
-use crate::command::ListCommand;
+use crate::command::{AtBadLine, ListCommand};
 use decomposer::NamedOrder;
 use line_text::number;
 use mcg6_lines::{Property, Query};
@@ -109,24 +109,103 @@ fn pair_named(word: &str, second: &str) -> Option<Query>
     }
 }
 
-// The command that the query and the name of a file make.
-fn with_file<'a>(query: Option<Query>, file: Option<&'a str>) -> Option<ListCommand<'a>>
-    ensures { option_map asked result ≡ command_with query (text_of file.entry) }
+// Whether the query may be asked of a list with bad lines: all but the file of one graph.
+fn may_skip(query: &Query) -> bool
+    ensures { result ≡ may_skip query.now }
 {
     match query {
-        Some(query) => Some(ListCommand { query, file }),
+        Query::Graph => false,
+        Query::Kinds | Query::Leaves { .. } | Query::Elementary | Query::Select { .. } => true,
+    }
+}
+
+// Whether the word after the query says that the list goes on after a bad line.
+fn asks_skip(query: &Query, word: &str) -> bool
+    ensures { result ≡ asks_skip query.now word.now }
+{
+    may_skip(query) && word == "skip"
+}
+
+// The command of the query and one more word: `skip`, or the name of the file.
+fn with_word<'a>(query: Query, word: &'a str) -> Option<ListCommand<'a>>
+    ensures { option_map asked result ≡ command_with_word query word.now }
+{
+    if asks_skip(&query, word) {
+        let at_bad = AtBadLine::Skip;
+        let file = None;
+        return Some(ListCommand {
+            query,
+            at_bad,
+            file,
+        });
+    }
+    let at_bad = AtBadLine::Stop;
+    let file = Some(word);
+    Some(ListCommand {
+        query,
+        at_bad,
+        file,
+    })
+}
+
+// The command of the query and two more words: `skip` and the name of the file.
+fn with_two<'a>(query: Query, word: &str, file: &'a str) -> Option<ListCommand<'a>>
+    ensures { option_map asked result ≡ command_with_two query word.now file.now }
+{
+    if asks_skip(&query, word) {
+        let at_bad = AtBadLine::Skip;
+        let file = Some(file);
+        return Some(ListCommand {
+            query,
+            at_bad,
+            file,
+        });
+    }
+    None
+}
+
+// The command of the query and the words after it.
+fn with_words(query: Query, words: &[String]) -> Option<ListCommand<'_>>
+    ensures { option_map asked result ≡ command_with query (map string_bytes words.now) }
+{
+    match words {
+        [] => {
+            let at_bad = AtBadLine::Stop;
+            let file = None;
+            Some(ListCommand {
+                query,
+                at_bad,
+                file,
+            })
+        }
+        [word] => with_word(query, word.as_str()),
+        [word, file] => with_two(query, word.as_str(), file.as_str()),
+        _ => None,
+    }
+}
+
+// The command whose query is this word alone, and which has these words after it.
+fn with_first<'a>(word: &str, words: &'a [String]) -> Option<ListCommand<'a>>
+    ensures { option_map asked result ≡
+        command_if (query_named word.now) (map string_bytes words.now) }
+{
+    match query_named(word) {
+        Some(query) => with_words(query, words),
         None => None,
     }
 }
 
-// The command that the two words ask for: the second has more to say of the query, or is the name
-// of the file.
-fn pair_command<'a>(word: &str, second: &'a str) -> Option<ListCommand<'a>>
-    ensures { option_map asked result ≡ pair_command word.now second.now }
+// The command of the first word and those after it: the second has more to say of the query, or
+// comes after it.
+fn with_second<'a>(word: &str, words: &'a [String]) -> Option<ListCommand<'a>>
+    ensures { option_map asked result ≡ command_of (word.now ∷ map string_bytes words.now) }
 {
-    match pair_named(word, second) {
-        Some(query) => Some(ListCommand { query, file: None }),
-        None => with_file(query_named(word), Some(second)),
+    match words.split_first() {
+        None => with_first(word, words),
+        Some((second, others)) => match pair_named(word, second.as_str()) {
+            Some(query) => with_words(query, others),
+            None => with_first(word, words),
+        },
     }
 }
 
@@ -134,15 +213,9 @@ fn pair_command<'a>(word: &str, second: &'a str) -> Option<ListCommand<'a>>
 pub fn plan(words: &[String]) -> Option<ListCommand<'_>>
     ensures { option_map asked result ≡ command_of (map string_bytes words.now) }
 {
-    match words {
-        [] => None,
-        [word] => with_file(query_named(word.as_str()), None),
-        [word, second] => pair_command(word.as_str(), second.as_str()),
-        [word, second, third] => with_file(
-            pair_named(word.as_str(), second.as_str()),
-            Some(third.as_str()),
-        ),
-        _ => None,
+    match words.split_first() {
+        None => None,
+        Some((word, others)) => with_second(word.as_str(), others),
     }
 }
 

@@ -1,13 +1,13 @@
 //! The statuses of a run.
 ghost use Rattle.std.specs.Prelude.{◌≡◌, ◌≢◌};
-ghost use Rattle.mcg6_top.specs.Common.{code_of, status_of};
+ghost use Rattle.mcg6_top.specs.Common.{code_of, status_after};
 
-use mcg6_reader::Ending;
+use mcg6_reader::{BadLine, Ending};
 
 /// How a run ended. The codes are those of `mcg`, which has one more, 1.
 #[derive(Clone, Copy, Debug, PartialEq, Eq)]
 pub enum ListStatus {
-    /// Each line was told, or the graph file encoded.
+    /// Each line was answered, or the graph file encoded.
     Done = 0,
     /// The words match no command; nothing was read or written.
     Usage = 2,
@@ -15,7 +15,8 @@ pub enum ListStatus {
     /// graph file could not be.
     ReadFault = 3,
     /// A line is bad, or missing; the outputs of the lines before it were written, and nothing of
-    /// it. Of a bad graph file nothing was written.
+    /// it; or bad lines were skipped, and the outputs of all others were written. Of a bad graph
+    /// file nothing was written.
     BadInput = 4,
     /// The output could not be written whole; a part of it may have been.
     WriteFault = 5,
@@ -32,15 +33,33 @@ impl ListStatus {
     }
 }
 
-/// The status of a run that ended so. Takes no memory.
-pub fn status_of(ending: &Ending) -> ListStatus
-    ensures status { result ≡ status_of ending.now }
-    ensures usage { result ≢ ListStatus.Usage }
-    ensures read_fault { result ≡ ListStatus.ReadFault → ending.now ≡ Ending.ReadFault }
-    ensures write_fault { result ≡ ListStatus.WriteFault → ending.now ≡ Ending.WriteFault }
+/// The end of a run.
+#[derive(Debug, PartialEq, Eq, Drop)]
+pub struct ListEnd {
+    pub ending: Ending,
+    /// A report on each bad line that was skipped, in order.
+    pub skipped: Vec<BadLine>,
+}
+
+// The status of a list that was processed to its end, with these reports on bad lines.
+fn status_of_whole(skipped: &[BadLine]) -> ListStatus
+    ensures { result ≡ status_after Ending.Done skipped.now }
 {
-    match ending {
-        Ending::Done => ListStatus::Done,
+    match skipped.split_first() {
+        None => ListStatus::Done,
+        Some(_) => ListStatus::BadInput,
+    }
+}
+
+/// The status of a run with that end. Takes no memory.
+pub fn status_of(end: &ListEnd) -> ListStatus
+    ensures status { result ≡ status_after end.now.ending end.now.skipped.items }
+    ensures usage { result ≢ ListStatus.Usage }
+    ensures read_fault { result ≡ ListStatus.ReadFault → end.now.ending ≡ Ending.ReadFault }
+    ensures write_fault { result ≡ ListStatus.WriteFault → end.now.ending ≡ Ending.WriteFault }
+{
+    match &end.ending {
+        Ending::Done => status_of_whole(&end.skipped),
         Ending::Bad { .. } => ListStatus::BadInput,
         Ending::ReadFault => ListStatus::ReadFault,
         Ending::WriteFault => ListStatus::WriteFault,

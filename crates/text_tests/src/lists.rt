@@ -5,13 +5,13 @@ ghost use Rattle.std.specs.declared.option.Option.TheVariants.{Some, None};
 ghost use Rattle.line_text.specs.declared.faults.FaultKind.TheVariants.{Missing};
 
 use line_text::FaultKind;
-use mcg6_reader::{Ending, LineAnswer, LinePlace, LineTeller, tell_all};
+use mcg6_reader::{BadLine, Ending, LineAnswer, LinePlace, LineTeller, tell_all};
 use outside::{MemSink, MemSource};
 use std::alloc::{AllocError as Memory, Global};
 use std::test::Fail;
 
-// Answers a line by its number and the line itself, and calls one bad that holds a `!`; a list
-// without lines is bad.
+// Answers a line by its number and the line itself, calls one bad that holds a `!`, and skips one
+// that holds a `$`; a list without lines is bad.
 struct Copyist;
 
 impl LineTeller for Copyist {
@@ -21,10 +21,16 @@ impl LineTeller for Copyist {
 
     ghost lacks = { λ copyist graphs. if graphs == 0 then Some Missing else None };
 
+    ghost skips = { λ copyist place line kind. Unit {0} };
+
     fn tell(&self, alloc: Global, place: LinePlace, line: &[u8]) -> Result<LineAnswer, Memory> {
         if line.contains(&b'!') {
             let kind = FaultKind::Range;
             return Ok(LineAnswer::Bad { kind });
+        }
+        if line.contains(&b'$') {
+            let kind = FaultKind::Padding;
+            return Ok(LineAnswer::Skipped { kind });
         }
         let number = place.number;
         let text = format!(in alloc; "{number} ")?;
@@ -117,8 +123,9 @@ fn is_told(
     ending: &Wanted,
     wanted: &[u8],
 ) -> bool {
-    let told = tell_all(alloc, &Copyist, &mut source, &mut sink);
-    is_wanted(&told, ending) && sink.bytes() == wanted
+    let mut skipped = Vec::new(alloc);
+    let told = tell_all(alloc, &Copyist, &mut source, &mut sink, &mut skipped);
+    is_wanted(&told, ending) && sink.bytes() == wanted && skipped.is_empty()
 }
 
 // Whether the list is answered so in pieces of each size from 1 to 11.
@@ -217,7 +224,8 @@ fn ends_so(
     list.push(b'\n')?;
     let mut source = MemSource::new(alloc, &list)?;
     let mut sink = MemSink::new(alloc, 100_000, 100_000)?;
-    let told = tell_all(alloc, &Copyist, &mut source, &mut sink);
+    let mut skipped = Vec::new(alloc);
+    let told = tell_all(alloc, &Copyist, &mut source, &mut sink, &mut skipped);
     Ok(keeps(&told, kept) && sink.bytes().len() == written)
 }
 
@@ -225,6 +233,64 @@ fn ends_so(
 fn a_line_is_too_long(rt: HostRuntime) -> Result<(), Fail> {
     for (length, written, kept) in &LONG_LINES {
         assert!(rt; ends_so(rt.alloc(), *length, *written, *kept)?);
+    }
+    Ok(())
+}
+
+// A list, what is written of it, how it ends, and the number and text of each line that is skipped.
+type SkippingRow = (
+    &'static str,
+    &'static str,
+    Wanted,
+    &'static [(u64, &'static str)],
+);
+
+static SKIPPING_ROWS: [SkippingRow; 4] = [
+    ("$\nC~\n", "2 C~\n", Wanted::Done, &[(1, "$\n")]),
+    (
+        "C~\n$a\n\nA_\nb$",
+        "1 C~\n3 \n4 A_\n",
+        Wanted::Done,
+        &[(2, "$a\n"), (5, "b$")],
+    ),
+    (
+        "$\nA!\n$\nC~\n",
+        "",
+        Wanted::Bad(2, FaultKind::Range, "A!\n"),
+        &[(1, "$\n")],
+    ),
+    (">>graph6<<\n$\n", "", Wanted::Done, &[(2, "$\n")]),
+];
+
+// Whether the reports name these lines, and no others.
+fn names(skipped: &[BadLine], wanted: &[(u64, &str)]) -> bool {
+    skipped.len() == wanted.len()
+        && skipped.iter().zip(wanted).all(|(found, (number, text))| {
+            found.number == *number
+                && found.kind == FaultKind::Padding
+                && found.text.as_slice() == text.as_bytes()
+        })
+}
+
+// Whether the list is answered so in pieces of that size.
+fn skips_so(
+    alloc: Global,
+    (list, wanted, ending, lines): &SkippingRow,
+    size: usize,
+) -> Result<bool, Memory> {
+    let mut source = in_pieces(alloc, list, size)?;
+    let mut sink = MemSink::new(alloc, 100, 7)?;
+    let mut skipped = Vec::new(alloc);
+    let told = tell_all(alloc, &Copyist, &mut source, &mut sink, &mut skipped);
+    Ok(is_wanted(&told, ending) && sink.bytes() == wanted.as_bytes() && names(&skipped, lines))
+}
+
+#[test]
+fn lists_go_on_after_skipped_lines(rt: HostRuntime) -> Result<(), Fail> {
+    for row in &SKIPPING_ROWS {
+        for size in 1..8 {
+            assert!(rt; skips_so(rt.alloc(), row, size)?);
+        }
     }
     Ok(())
 }

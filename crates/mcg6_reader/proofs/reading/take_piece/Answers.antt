@@ -1,7 +1,8 @@
 use Rattle.std.proofs.Common.{◌++◌}
 use Rattle.mcg6_reader.specs.declared.ending.Ending.TheVariants.{WriteFault}
-use Rattle.mcg6_reader.specs.Common.{ToldThrough, StopsWith, lines_of}
+use Rattle.mcg6_reader.specs.Common.{Reports, ToldThrough, StopsWith, ending_of, lines_of}
 use Rattle.mcg6_reader.proofs.Pieces.{through_begins}
+use Rattle.mcg6_reader.proofs.Skips.{with_stop_fault, with_through_fault}
 use Rattle.mcg6_reader.proofs.Writings.{wrote_cut, begun_cut}
 use Rattle.mcg6_reader.proofs.reading.take_piece.Goals as goal
 
@@ -18,3 +19,15 @@ returns-in-Ok-clause-stops g c =
     begun_cut tells c.args.listing.now.place (lines_of (text ++ rest)) bytes count
     (through_begins tells c.args.listing.now.place c.add_piece.new.listing.place text c.add_piece.new.listing.held.items rest bytes told) less)
     c.in-Err.ensures.err
+
+pub returns-in-Ok-clause-stopped : goal.returns-in-Ok-clause-stopped
+returns-in-Ok-clause-stopped g c =
+    with_through_fault (Reports (g.T.LineTeller.skips c.args.teller.now)) (g.T.LineTeller.bad c.args.teller.now) (g.T.LineTeller.lacks c.args.teller.now)
+    c.args.listing.now.place c.add_piece.new.listing.place (c.args.listing.now.held.items ++ c.args.piece.now) c.add_piece.new.listing.held.items
+    c.args.skipped.now.items c.add_piece.new.skipped.items c.in-Ok.ensures.reported
+
+pub returns-in-Err-Bad-clause-stopped : goal.returns-in-Err-Bad-clause-stopped
+returns-in-Err-Bad-clause-stopped g c =
+    with_stop_fault (Reports (g.T.LineTeller.skips c.args.teller.now)) (g.T.LineTeller.bad c.args.teller.now) (g.T.LineTeller.lacks c.args.teller.now)
+    c.args.listing.now.place (c.args.listing.now.held.items ++ c.args.piece.now) (ending_of c.in-Err-Bad.field-0)
+    c.args.skipped.now.items c.add_piece.new.skipped.items c.in-Err-Bad.ensures.stopped

@@ -28,7 +28,7 @@ returns-in-Ok-eq0-clause-tells g c =
     let taken : g.S.Source.left c.reading.source ≡ prepended [] (g.S.Source.left c.read.new.self) = search rules in
     let end : IsEnd (g.S.Source.left c.read.new.self) = search rules in
     so_far_end c.reading.invariant.so_far (g.T.LineTeller.bad c.args.teller.now) (g.T.LineTeller.lacks c.args.teller.now)
-    c.take_end.result c.read.new.self c.take_end.new.sink taken end c.take_end.ensures.gives
+    c.take_end.result c.read.new.self c.take_end.new.sink c.take_end.new.skipped.items taken end c.take_end.ensures.gives c.take_end.ensures.reported
 
 pub returns-in-Ok-eq0-clause-streams : goal.returns-in-Ok-eq0-clause-streams
 returns-in-Ok-eq0-clause-streams g c =
@@ -39,8 +39,8 @@ returns-in-Ok-eq0-clause-streams g c =
 pub returns-in-Err-take_piece-clause-tells : goal.returns-in-Err-take_piece-clause-tells
 returns-in-Err-take_piece-clause-tells g c =
     so_far_stops c.reading.invariant.so_far (g.T.LineTeller.bad c.args.teller.now) (g.T.LineTeller.lacks c.args.teller.now)
-    c.in-Err-take_piece.ending (take c.in-Ok.count c.read.new.piece) c.read.new.self c.take_piece.new.sink c.in-Ok.ensures.taken
-    c.in-Err-take_piece.ensures.stops
+    c.in-Err-take_piece.ending (take c.in-Ok.count c.read.new.piece) c.read.new.self c.take_piece.new.sink
+    c.take_piece.new.skipped.items c.in-Ok.ensures.taken c.in-Err-take_piece.ensures.stops c.in-Err-take_piece.ensures.stopped
 
 pub returns-in-Err-take_piece-clause-streams : goal.returns-in-Err-take_piece-clause-streams
 returns-in-Err-take_piece-clause-streams g c =

@@ -1,10 +1,14 @@
 use Rattle.std.proofs.Common.{rules, arith}
-use Rattle.mcg6_reader.specs.Common.{IsFirstLine}
+use Rattle.mcg6_reader.specs.Common.{IsFirstLine, Reports}
 use Rattle.mcg6_reader.proofs.Pieces.{through_none, through_more, through_stopped}
+use Rattle.mcg6_reader.proofs.Skips.{with_stopped, with_more_memory}
 use Rattle.mcg6_reader.proofs.telling.tell_lines.Goals as goal
 
 pub telling-init : goal.telling-init
-telling-init g c = through_none (g.T.LineTeller.tells c.args.teller.now) c.args.first c.args.text.now c.args.output.now.items
+telling-init g c = record {
+  told = through_none (g.T.LineTeller.tells c.args.teller.now) c.args.first c.args.text.now c.args.output.now.items;
+  reported = through_none (Reports (g.T.LineTeller.skips c.args.teller.now)) c.args.first c.args.text.now c.args.skipped.now.items;
+}
 
 pub telling-preserved : goal.telling-preserved
 telling-preserved g c = grind (arith, through_more)
@@ -14,5 +18,13 @@ returns-in-Err-clause-bad g c =
     let first : IsFirstLine c.telling.rest.now c.in-Some.line.now c.in-Some.behind.now = search rules in
     through_stopped (g.T.LineTeller.tells c.args.teller.now) (g.T.LineTeller.bad c.args.teller.now) (g.T.LineTeller.lacks c.args.teller.now)
     c.args.first c.telling.place c.args.text.now c.telling.rest.now c.in-Some.line.now c.in-Some.behind.now
-    c.args.output.now.items c.telling.output.items c.tell_line.new.output.items c.in-Err.stop c.telling.invariant first
+    c.args.output.now.items c.telling.output.items c.tell_line.new.output.items c.in-Err.stop c.telling.invariant.told first
     c.in-Err.ensures.bad c.in-Err.ensures.same
+
+pub returns-in-Err-clause-stopped : goal.returns-in-Err-clause-stopped
+returns-in-Err-clause-stopped g c =
+    let first : IsFirstLine c.telling.rest.now c.in-Some.line.now c.in-Some.behind.now = search rules in
+    with_stopped (Reports (g.T.LineTeller.skips c.args.teller.now)) (g.T.LineTeller.bad c.args.teller.now) (g.T.LineTeller.lacks c.args.teller.now)
+    c.args.first c.telling.place c.args.text.now c.telling.rest.now c.in-Some.line.now c.in-Some.behind.now
+    c.args.skipped.now.items c.telling.skipped.items c.tell_line.new.skipped.items c.in-Err.stop c.telling.invariant.reported first
+    c.in-Err.ensures.bad c.in-Err.ensures.unreported

@@ -11,7 +11,7 @@ returns-in-Some g c =
     subst (λ (s : ListStatus). ListRuns g.S.Source.left g.S.Source.faults g.S.Source.reads g.K.Sink.written g.K.Sink.writes g.K.Sink.faults words s
     c.args.source.now c.run_to_ending.new.source c.args.sink.now c.run_to_ending.new.sink)
     (sym c.status_of.ensures.status)
-    (runs_by_status g.S.Source.left g.S.Source.faults g.S.Source.reads g.K.Sink.written g.K.Sink.writes g.K.Sink.faults words (Some c.in-Some.ending) _ _ _ _ c.in-Some.ensures)
+    (runs_by_status g.S.Source.left g.S.Source.faults g.S.Source.reads g.K.Sink.written g.K.Sink.writes g.K.Sink.faults words (Some c.in-Some.end) _ _ _ _ c.in-Some.ensures)
 
 pub returns-in-None : goal.returns-in-None
 returns-in-None g c =
