@@ -7,23 +7,23 @@ use Rattle.mcg6_top.proofs.running.answer_list.Goals as goal
 
 pub returns : goal.returns
 returns g c =
-    let told = c.tell_all.ensures in
+    let told = c.tell_all-ending.ensures in
     let query = c.args.lister.now.query in
     let at_bad = c.args.lister.now.at_bad in
     let tells =
-    subst (λ (f : List BadLine). TellsList (TellsOrSkips query at_bad) (StopsAt query at_bad) (lacks_of query) (Reports (SkipsLine query at_bad)) c.tell_all.result
-    (g.S.Source.left c.args.source.now) (g.K.Sink.written c.args.sink.now) (g.K.Sink.written c.tell_all.new.sink) f c.tell_all.new.skipped.items)
+    subst (λ (f : List BadLine). TellsList (TellsOrSkips query at_bad) (StopsAt query at_bad) (lacks_of query) (Reports (SkipsLine query at_bad)) c.tell_all-ending.result
+    (g.S.Source.left c.args.source.now) (g.K.Sink.written c.args.sink.now) (g.K.Sink.written c.tell_all-ending.new.sink) f c.tell_all-ending.new.skipped.items)
     c.new-skipped.ensures.items told.tells in
     record {
       read_fault = told.read_fault;
       write_fault = told.write_fault;
       outcome = told.gives;
       skips = λ bytes left.
-          added_whole (SkipsUpTo query at_bad bytes c.tell_all.result) c.tell_all.new.skipped.items
-          (subst (λ (f : List BadLine). Added (SkipsUpTo query at_bad bytes c.tell_all.result) f c.tell_all.new.skipped.items) c.new-skipped.ensures.items (told.reported bytes left));
+          added_whole (SkipsUpTo query at_bad bytes c.tell_all-ending.result) c.tell_all-ending.new.skipped.items
+          (subst (λ (f : List BadLine). Added (SkipsUpTo query at_bad bytes c.tell_all-ending.result) f c.tell_all-ending.new.skipped.items) c.new-skipped.ensures.items (told.reported bytes left));
       skips_none =
-          stop_none query at_bad tells.bytes c.tell_all.result c.tell_all.new.skipped.items
-          (added_whole (SkipsUpTo query at_bad tells.bytes c.tell_all.result) c.tell_all.new.skipped.items tells.reported);
+          stop_none query at_bad tells.bytes c.tell_all-ending.result c.tell_all-ending.new.skipped.items
+          (added_whole (SkipsUpTo query at_bad tells.bytes c.tell_all-ending.result) c.tell_all-ending.new.skipped.items tells.reported);
       tells = tells;
       torn = told.torn;
       streams = told.streams;
