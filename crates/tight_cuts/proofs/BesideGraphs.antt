@@ -20,13 +20,13 @@ pub beside-skip : (g h : Graph) (ms : List (List ℕ)) (e k : ℕ) → BesideSoF
 beside-skip g h ms e k b n = grind arith
 
 -- the ends of the edges of a graph with one edge more
-size-more : (h : Graph) (a b : ℕ) → size (with_edge h a b) ≡ size h + 1
+pub size-more : (h : Graph) (a b : ℕ) → size (with_edge h a b) ≡ size h + 1
 size-more h a b = length-append h.ends ((a, b) ∷ [])
 
-ends-old : (h : Graph) (a b f : ℕ) → Within (size h) f → (first_end (with_edge h a b) f ≡ first_end h f) × (second_end (with_edge h a b) f ≡ second_end h f)
+pub ends-old : (h : Graph) (a b f : ℕ) → Within (size h) f → (first_end (with_edge h a b) f ≡ first_end h f) × (second_end (with_edge h a b) f ≡ second_end h f)
 ends-old h a b f w = let q = get_or_append_left h.ends ((a, b) ∷ []) (0, 0) (f - 1) (omega arith) in (ap (λ p. p.0) q, ap (λ p. p.1) q)
 
-ends-new : (h : Graph) (a b : ℕ) → (first_end (with_edge h a b) (size h + 1) ≡ a) × (second_end (with_edge h a b) (size h + 1) ≡ b)
+pub ends-new : (h : Graph) (a b : ℕ) → (first_end (with_edge h a b) (size h + 1) ≡ a) × (second_end (with_edge h a b) (size h + 1) ≡ b)
 ends-new h a b = grind (arith, slice_index_or (h.ends ++ (a, b) ∷ []), get_or-append_seam h.ends (a, b))
 
 -- an edge that lies together with e

@@ -55,10 +55,10 @@ pub ends_between : (g : Graph) (e : ℕ) → has_ends g (lesser_end g e) (greate
 ends_between g e = grind arith
 
 module _ (g : Graph) (is : IsGraph g) (cov : IsCovered g) (e : ℕ) (we : Within (size g) e) where
-  low_within : Within g.order (lesser_end g e)
+  pub low_within : Within g.order (lesser_end g e)
   low_within = let w = is e we in let a = w.0 in let b = w.1 in elim (cases_lt (first_end g e) (second_end g e)) [ inl l ↦ omega arith | inr l ↦ omega arith ]
 
-  high_within : Within g.order (greater_end g e)
+  pub high_within : Within g.order (greater_end g e)
   high_within = let w = is e we in let a = w.0 in let b = w.1 in elim (cases_lt (first_end g e) (second_end g e)) [ inl l ↦ omega arith | inr l ↦ omega arith ]
 
   -- what a separated pair gives

@@ -19,6 +19,9 @@ pub mod BesideGraphs
 pub mod FrontCandidates
 pub mod FirstCandidates
 mod CrossingMatchings
+pub mod TurnedEdges
+pub mod SurplusShores
+pub mod ClusteredVertices
 pub mod LiftedCandidates
 pub mod PartitionCandidates
 pub mod PlaceCandidates

@@ -3,6 +3,7 @@ pub mod Candidates
 pub mod Pieces
 pub mod Tightness
 pub mod EdgeSearch
+pub mod Clusters
 pub mod View
 pub mod CandidatesAt
 pub mod EdgeDigraphs

@@ -2,8 +2,8 @@
 -- once.
 -- Stated by: tight_cuts. Rests on it: tree_check.
 use Rattle.std.specs.Prelude.{◌≡◌, ℕ, ◌<◌, ◌≤◌, ◌==◌, ◌||◌, true}
-use Rattle.counting.specs.Common.{Set, none, mem}
-use Rattle.graph_core.specs.Common.{Graph, edges_in_cut, first_end, in_cut, second_end, size, IsPerfect, Together, IsTight}
+use Rattle.counting.specs.Common.{Within, Set, none, mem}
+use Rattle.graph_core.specs.Common.{Graph, edges_in_cut, first_end, in_cut, second_end, size, IsEnd, IsPerfect, Together, IsTight}
 use Rattle.match_core.specs.Common.{IsOf, MatchingValue, RowsValue, are_partners, edges_of}
 use Rattle.tight_cuts.specs.declared.tightness.Tightness.{Tightness}
 use Rattle.tight_cuts.specs.declared.tightness.Tightness.TheVariants.{Tight, Crossed}
@@ -31,3 +31,20 @@ pub record AreRowsWithout (g : Graph) (e : ℕ) (rows : RowsValue) : Type 0 wher
 -- the ends of edge f are partners in g without r, seen from both of them
 abbrev pub AreEndsPartners : Graph → Set → ℕ → Type 0
 AreEndsPartners g r f = (are_partners g r (first_end g f) (second_end g f) ≡ true) × (are_partners g r (second_end g f) (first_end g f) ≡ true)
+
+-- edge e leaves x at u: u is in x, and the other end of e is not
+pub record Leaves (g : Graph) (x : Set) (u e : ℕ) : Type 0 where
+  pub inside : x u ≡ true
+  pub end : IsEnd g e u
+  pub cut : in_cut g x e ≡ true
+
+-- no perfect matching has an edge that leaves x at u and one that leaves x at a later vertex
+abbrev pub LeavesAlone : Graph → Set → ℕ → Type 0
+LeavesAlone g x u = (m : Set) (e f v : ℕ) → IsPerfect g none m → Within (size g) e → Within (size g) f → m e ≡ true → m f ≡ true → Leaves g x u e → Leaves g x v f → u < v → ⊥
+
+-- h has the vertices and the edges of g, each with its ends; but those that join u to the rest of x
+-- may have other ends
+pub record IsTurned (g : Graph) (x : Set) (u : ℕ) (h : Graph) : Type 0 where
+  pub order : h.order ≡ g.order
+  pub long : size h ≡ size g
+  pub same : (d : ℕ) → Within (size g) d → (IsEnd g d u → in_cut g x d ≡ true) → (first_end h d ≡ first_end g d) × (second_end h d ≡ second_end g d)

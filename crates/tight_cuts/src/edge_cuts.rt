@@ -5,9 +5,11 @@ ghost use Rattle.std.specs.List.{list_any};
 ghost use Rattle.counting.specs.Common.{Within};
 ghost use Rattle.graph_core.specs.Common.{Graph, size};
 ghost use Rattle.tight_cuts.specs.Candidates.{candidates, cuts, front_candidates, with_edge_cut};
+ghost use Rattle.tight_cuts.specs.Clusters.{AreClusters};
 ghost use Rattle.tight_cuts.specs.EdgeSearch.{IsShoreOfEdge};
 
 use crate::candidate::{CandidateList, Origin, add_shore, any_cuts};
+use crate::clusters::Clusters;
 use graph_facts::Covered;
 use std::alloc::{AllocError as Memory, Global};
 use vset_core::VSet;
@@ -26,20 +28,28 @@ pub(crate) trait EdgeSearch {
         ensures shore { IfOk result (IsShoreOfEdge c.now e) };
 }
 
-/// Adds what one edge gives.
+/// Adds what one edge gives. If it gives nothing, the clusters of its ends are joined.
+#[tactic(auto, using(crate::proofs::ClusteredVertices::none_unparted, crate::proofs::ClusteredVertices::unparted_none))]
 pub(crate) fn add_edge_cut<S: EdgeSearch>(
     alloc: Global,
     c: &Covered,
     search: &mut S,
+    clusters: &mut Clusters,
     e: u32,
     list: &mut CandidateList,
 ) -> Result<(), Memory>
     requires edge { Within (size c.now) e }
     requires search { S.is_of search.old c.now }
+    requires clusters { AreClusters c.now clusters.old }
     ensures search { OnOk result (S.is_of search.new c.now) }
+    ensures clusters { OnOk result (AreClusters c.now clusters.new) }
     ensures list { OnOk result (list.new ≡ with_edge_cut c.now list.old e) }
 {
+    c.keeps_covered();
     if any_cuts(list, c.graph(), e) {
+        return Ok(());
+    }
+    if clusters.has_both(c.graph(), e) {
         return Ok(());
     }
     match search.shore_of_edge(alloc, c, e)? {
@@ -47,7 +57,10 @@ pub(crate) fn add_edge_cut<S: EdgeSearch>(
             add_shore(list, c.order(), Origin::Flow, shore)?;
             Ok(())
         }
-        None => Ok(()),
+        None => {
+            clusters.join(c.graph(), e);
+            Ok(())
+        }
     }
 }
 
@@ -65,8 +78,9 @@ pub(crate) fn add_edge_cuts<S: EdgeSearch>(
     requires front { list.old ≡ front_candidates c.now }
     ensures { OnOk result (list.new ≡ candidates c.now) }
 {
+    let mut clusters = Clusters::new(alloc, c.graph())?;
     for k in known..c.size() {
-        add_edge_cut(alloc, c, search, k + 1, list)?;
+        add_edge_cut(alloc, c, search, &mut clusters, k + 1, list)?;
     }
     Ok(())
 }

@@ -8,6 +8,7 @@ ghost use Rattle.tight_cuts.specs.Common.{AreFloodsOf, IsTightCandidate, ShoresD
 
 use crate::bipartite::FloodSearch;
 use crate::candidate::{Candidate, CandidateList, any_cuts};
+use crate::clusters::Clusters;
 use crate::edge_cuts::{add_edge_cut, add_edge_cuts};
 use crate::edge_search::NetworkSearch;
 use crate::front::{first_front_candidate, front_candidates};
@@ -69,8 +70,9 @@ fn first_flood_cut(
     ensures { IfOk result (λ found. option_map candidate_of found ≡ first_of (candidates c.now)) }
 {
     let mut list = CandidateList::new(alloc);
+    let mut clusters = Clusters::new(alloc, c.graph())?;
     for k in 0..c.size() {
-        add_edge_cut(alloc, c, search, k + 1, &mut list)?;
+        add_edge_cut(alloc, c, search, &mut clusters, k + 1, &mut list)?;
         if !list.is_empty() {
             return Ok(Some(list.get(0)));
         }

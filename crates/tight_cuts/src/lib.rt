@@ -2,7 +2,8 @@
 //!
 //! A cut is tight if each perfect matching has exactly one edge in it (`IsTight` of
 //! `graph_core`). `is_tight` tests one cut and, if it is not tight, shows a perfect matching
-//! with two edges in it. `candidates` lists nontrivial tight cuts by their canonical shores:
+//! with two edges in it; `tightness_in` does so for a covered graph of which more is known.
+//! `candidates` lists nontrivial tight cuts by their canonical shores:
 //! first those of barriers and separations, then, for each edge that no earlier cut has, one that
 //! a least minimum cut gives. Each listed cut is tight (`IsTightCandidate`), none comes twice,
 //! each edge of each nontrivial tight cut is in a listed one (clause `cover`), and so the list is
@@ -21,7 +22,12 @@
 //! Two cuts decide whether the edge gives anything, and one for each piece what it gives
 //! (`EdgePieces`). Before that the listed matchings and a few more may show that the edge gives
 //! nothing (`QuietEdges`). One walk over the edges, `add_edge_cuts`, asks either search (the trait
-//! `EdgeSearch`).
+//! `EdgeSearch`), but for edges between vertices that earlier edges show not to be separated
+//! (`ClusteredVertices`).
+//!
+//! Whether a cut is tight is mostly shown without asking its edges one by one: by the numbers of
+//! vertices in a bipartite graph (`SurplusShores`), elsewhere by the vertices at which two edges
+//! may leave a set (`TurnedEdges`).
 //!
 //! `candidates_at_place` lists the candidates at a place of a derivation (`KnownPlace` of
 //! `tree_core`): at single vertices those of the graph itself, elsewhere those of the quotient,
@@ -35,8 +41,10 @@
 #![tactic(auto)]
 
 mod at_places;
+mod balanced;
 mod bipartite;
 mod candidate;
+mod clusters;
 mod edge_cuts;
 mod edge_search;
 mod finder;
@@ -46,10 +54,11 @@ mod inseparable;
 mod leading;
 mod matchings;
 mod pieces;
+mod quick_tightness;
 mod quiet_edges;
 mod tightness;
 
 pub use at_places::{candidates_at_place, first_at_place};
 pub use candidate::{Candidate, CandidateList, Origin};
 pub use finder::{candidates, find_any, first_candidate, first_cut};
-pub use tightness::{Tightness, is_tight};
+pub use tightness::{Tightness, is_tight, tightness_in};

@@ -7,8 +7,11 @@ ghost use Rattle.allowed_edges.specs.Leaving.{share_end};
 ghost use Rattle.allowed_edges.specs.PairTables.{IsPerfectWith};
 ghost use Rattle.tight_cuts.specs.Common.{AreEndsPartners, AreRowsWithout, CrossesTwice, IsTightness, NoLaterWith};
 
+use crate::balanced::is_balanced;
+use crate::quick_tightness::is_uncrossed;
 use allowed_edges::{perfect_with_edge, perfect_with_pair, share_end};
 use graph_core::{MultiGraph, is_in_cut};
+use graph_facts::Covered;
 use match_core::{LazyPartners, Matching, perfect_without};
 use std::alloc::{AllocError as Memory, Global};
 use vset_core::VSet;
@@ -26,11 +29,13 @@ pub enum Tightness {
 /// is tight. `Tight` comes if and only if it is; `Crossed` comes with a perfect matching of `g`
 /// that has at least two edges in the cut.
 ///
-/// An odd cut is tight if and only if no two of its edges lie together in a perfect matching. Two
-/// edges that share no end do so if and only if the ends of the second are partners in the graph
-/// without the ends of the first. So each edge of the cut costs one augmentation, and one search
-/// for each end of a later edge on the smaller side of the cut: O(c k m) time for c edges in the
-/// cut and k vertices on that side.
+/// An odd cut is tight if and only if no two of its edges lie together in a perfect matching. A
+/// quick test shows it for most tight cuts: at most one augmentation for each vertex on the smaller
+/// side of the cut, and one search for any two of them. Else each edge of the cut is asked in turn.
+/// Two edges that share no end lie together if and only if the ends of the second are partners in
+/// the graph without the ends of the first. So an edge costs one augmentation, and one search for
+/// each end of a later edge on the smaller side: O(c k m) time for c edges in the cut and k
+/// vertices on that side.
 pub fn is_tight(alloc: Global, g: &MultiGraph, shore: VSet) -> Result<Tightness, Memory>
     requires covered { IsCovered g.now }
     requires shore { IsRisingIn g.now.order shore }
@@ -44,6 +49,23 @@ pub fn is_tight(alloc: Global, g: &MultiGraph, shore: VSet) -> Result<Tightness,
             None => Ok(Tightness::Tight),
         },
         None => unreachable!(),
+    }
+}
+
+/// The answer of `is_tight` for a covered graph of which a perfect matching is known, and a side if
+/// it is bipartite. In a bipartite graph it takes no search to see that a cut is tight.
+pub fn tightness_in(alloc: Global, c: &Covered, shore: VSet) -> Result<Tightness, Memory>
+    requires shore { IsRisingIn c.now.order shore }
+    requires odd { is_odd (length shore) ≡ true }
+    ensures { IfOk result (IsTightness c.now (mem shore)) }
+{
+    c.keeps_covered();
+    if is_balanced(c, shore) {
+        return Ok(Tightness::Tight);
+    }
+    match crossing(alloc, c.graph(), shore, c.matching())? {
+        Some(matching) => Ok(Tightness::Crossed { matching }),
+        None => Ok(Tightness::Tight),
     }
 }
 
@@ -62,12 +84,27 @@ pub(crate) fn crossing(
         (λ o. o ≡ None → (e : ℕ) → Within (size g.now) e → in_cut g.now (mem shore) e ≡ true →
         NoLaterWith g.now (mem shore) e) }
 {
+    if is_uncrossed(alloc, g, smaller_side(g, shore), kept)? {
+        return Ok(None);
+    }
     for k in 0..g.size() {
         if let Some(matching) = crossing_with(alloc, g, shore, kept, k + 1)? {
             return Ok(Some(matching));
         }
     }
     Ok(None)
+}
+
+// The side of the cut with fewer vertices; the shore itself if neither has fewer.
+fn smaller_side(g: &MultiGraph, shore: VSet) -> VSet
+    ensures { (e : ℕ) → Within (size g.now) e →
+        in_cut g.now (mem result) e ≡ in_cut g.now (mem shore) e }
+{
+    g.keeps_limits();
+    if shore.len() <= g.order() / 2 {
+        return shore;
+    }
+    VSet::full(g.order()).minus(shore)
 }
 
 // A perfect matching with edge e and a later edge of the cut, from a perfect matching; none
@@ -190,7 +227,7 @@ fn crossing_by(
 
 // Whether the ends of f are partners, by the row of the end on the smaller side of the cut, which
 // other edges of the cut share.
-fn has_partners(
+pub(crate) fn has_partners(
     alloc: Global,
     g: &MultiGraph,
     shore: VSet,

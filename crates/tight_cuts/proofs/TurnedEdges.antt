@@ -1,0 +1,103 @@
+-- What turned graphs show. Idea: of the edges at u a matching that leaves a set at u has only the
+-- one in the cut, so all its edges keep their ends in the turned graph, and it is perfect there.
+use Rattle.std.proofs.Common.{◌≡◌, ◌≢◌, ℕ, zero, suc, List, [], ◌∷◌, length, map, slice_index_or, eq-eqb, ◌<◌, ◌+◌, ◌==◌, ◌&&◌, ◌||◌, ◌⊎◌, true, refl, sym, ap, ap₂, ◌∙◌, subst, arith, inl, inr}
+use Rattle.counting.proofs.Common.{cases_Bool, cases_eq, cases_lt, cases_order, count, count_congr, mem, or_left, or_right, Within, Set, none, pair_set}
+use Rattle.graph_core.proofs.Common.{Graph, IsGraph, IsMultigraph, degree, first_end, second_end, in_cut, size, Allowed, HasPerfect, IsEnd, IsPerfect, Together, has_perfect_found, with_edge}
+use Rattle.allowed_edges.proofs.PairSteps.{apart_shared}
+use Rattle.allowed_edges.specs.PairTables.{IsPerfectWith}
+use Rattle.match_core.proofs.MatchingEdges.{edge_of}
+use Rattle.match_core.specs.Common.{IsOf, MatchingValue, edges_of}
+use Rattle.match_core.specs.declared.matching.MatchRow.{MatchRow}
+use Rattle.allowed_edges.proofs.ThroughEdges.{one_cut}
+use Rattle.tight_cuts.proofs.BesideGraphs.{ends-new, ends-old}
+use Rattle.tight_cuts.specs.Common.{AreEndsPartners, IsTurned, Leaves, LeavesAlone, NoTwoTogether}
+
+-- the end of an edge is a vertex
+end_within : (g : Graph) (e u : ℕ) → IsGraph g → Within (size g) e → IsEnd g e u → Within g.order u
+end_within g e u is we end = grind (arith, is e we)
+
+module _ (g h : Graph) (x : Set) (u : ℕ) (is : IsGraph g) (t : IsTurned g x u h) (m : Set) (perfect : IsPerfect g none m) (e : ℕ) (we : Within (size g) e) (me : m e ≡ true) (leaves : Leaves g x u e) where
+  -- the edges of the matching keep their ends
+  pub kept_ends : (d : ℕ) → Within (size g) d → m d ≡ true → (first_end h d ≡ first_end g d) × (second_end h d ≡ second_end g d)
+  kept_ends d wd md = t.same d wd (λ end. elim (cases_eq d e) [
+    | inl q ↦ subst (λ i. in_cut g x i ≡ true) (sym q) leaves.cut
+    | inr n ↦ absurd (apart_shared g d e u n wd we (end_within g e u is we leaves.end) end leaves.end (m, perfect, md, me))
+  ])
+
+  -- so each vertex keeps its degree
+  degrees : (v : ℕ) → degree h m v ≡ degree g m v
+  degrees v = ap₂ ◌+◌
+      (ap (λ k. count k (λ d. m d && (first_end h d == v))) t.long ∙ count_congr (size g) (λ d. m d && (first_end h d == v)) (λ d. m d && (first_end g d == v)) (λ d w. grind (arith, kept_ends d w, cases_Bool)))
+      (ap (λ k. count k (λ d. m d && (second_end h d == v))) t.long ∙ count_congr (size g) (λ d. m d && (second_end h d == v)) (λ d. m d && (second_end g d == v)) (λ d w. grind (arith, kept_ends d w, cases_Bool)))
+
+  -- and the matching is perfect in the turned graph
+  pub perfect_turned : IsPerfect h none m
+  perfect_turned = record {
+    once = λ v w o. let r = t.order in degrees v ∙ perfect.once v (w.0, let l = w.1 in omega arith) refl;
+    away = λ v w q. cc;
+  }
+
+-- each row of a matching has an edge of it
+row_held : (rows : List MatchRow) (k : ℕ) (d : MatchRow) → k < length rows → mem (map edge_of rows) (slice_index_or rows k d).edge ≡ true
+row_held [] k d l = absurd (omega arith)
+row_held (r ∷ rows) zero d l = or_left (r.edge == r.edge) (mem (map edge_of rows) r.edge) (eq-eqb r.edge r.edge refl)
+row_held (r ∷ rows) (suc k) d l = or_right (r.edge == (slice_index_or rows k d).edge) (mem (map edge_of rows) (slice_index_or rows k d).edge) (row_held rows k d (omega arith))
+
+-- a perfect matching of g that leaves the set at u is one of the turned graph
+pub turned_of : (g h : Graph) (x : Set) (u e : ℕ) (m : MatchingValue) → IsGraph g → IsTurned g x u h → Within (size g) e → Leaves g x u e → IsPerfectWith g e m → IsOf h m
+turned_of g h x u e m is t we leaves w = record {
+  order = w.of.order ∙ sym t.order;
+  rows = λ k d l.
+      let row = w.of.rows k d l in
+      let ends = kept_ends g h x u is t (mem (edges_of m)) w.perfect e we w.held leaves (slice_index_or m.rows k d).edge row.edge (row_held m.rows k d l) in
+      record { edge = (row.edge.0, let s = t.long in let b = row.edge.1 in omega arith); first = row.first ∙ sym ends.0; second = row.second ∙ sym ends.1 };
+}
+
+-- the ends of an allowed edge are partners
+ends_partners : (h : Graph) (f : ℕ) → IsMultigraph h → Within (size h) f → Allowed h f → AreEndsPartners h none f
+ends_partners h f is wf a = grind (arith, one_cut h is f wf none, has_perfect_found, is.no_loop f wf)
+
+-- if no later edge has partners as ends in the turned graph, no perfect matching has both
+pub turned_alone : (g h : Graph) (x : Set) (u : ℕ) → IsGraph g → IsMultigraph h → IsTurned g x u h → ((f v : ℕ) → Within (size g) f → u < v → Leaves g x v f → ¬ (AreEndsPartners h none f)) → LeavesAlone g x u
+turned_alone g h x u is multi t apart m e f v perfect we wf me mf le lf l = apart f v wf l lf (ends_partners h f multi
+    (wf.0, let s = t.long in let b = wf.1 in omega arith)
+    (m, perfect_turned g h x u is t m perfect e we me le, mf))
+
+-- each edge of the cut leaves the set at a vertex
+leaves_at : (g : Graph) (x : Set) (e : ℕ) → IsGraph g → Within (size g) e → in_cut g x e ≡ true → (u : ℕ) × Within g.order u × Leaves g x u e
+leaves_at g x e is we cut = elim (cases_Bool (x (first_end g e))) [
+  | inl a ↦ (first_end g e, (is e we).0, record { inside = a; end = inl refl; cut = cut })
+  | inr a ↦ (second_end g e, (is e we).1, record { inside = grind arith; end = inr refl; cut = cut })
+]
+
+-- if none has two edges of the cut, one at a first and one at a later vertex, then none has two
+pub alone_apart : (g : Graph) (x : Set) → IsGraph g → ((u : ℕ) → Within g.order u → LeavesAlone g x u) → NoTwoTogether g x
+alone_apart g x is alone e f we wf d ce cf t =
+    let u = leaves_at g x e is we ce in
+    let v = leaves_at g x f is wf cf in
+    elim (cases_order u.0 v.0) [
+      | inl q ↦ apart_shared g e f u.0 d we wf u.1 u.2.end (subst (IsEnd g f) (sym q) v.2.end) t
+      | inr n ↦ elim n [
+        | inl l ↦ alone u.0 u.1 t.0 e f v.0 t.1 we wf t.2 t.3 u.2 v.2 l
+        | inr l ↦ alone v.0 v.1 t.0 f e u.0 t.1 wf we t.3 t.2 v.2 u.2 l
+      ]
+    ]
+
+-- one edge more of the turned graph
+pub turned_more : (g h : Graph) (x : Set) (u k a b : ℕ) → size h ≡ k →
+    ((d : ℕ) → Within k d → (IsEnd g d u → in_cut g x d ≡ true) → (first_end h d ≡ first_end g d) × (second_end h d ≡ second_end g d)) →
+    ((IsEnd g (k + 1) u → in_cut g x (k + 1) ≡ true) → (a ≡ first_end g (k + 1)) × (b ≡ second_end g (k + 1))) →
+    (d : ℕ) → Within (k + 1) d → (IsEnd g d u → in_cut g x d ≡ true) → (first_end (with_edge h a b) d ≡ first_end g d) × (second_end (with_edge h a b) d ≡ second_end g d)
+turned_more g h x u k a b long same new d w cut = elim (cases_lt k d) [
+  | inl l ↦ let q : d ≡ k + 1 = omega arith in let n = ends-new h a b in grind arith
+  | inr l ↦ let v : Within (size h) d = (w.0, omega arith) in let o = ends-old h a b d v in let s = same d (w.0, l) cut in (o.0 ∙ s.0, o.1 ∙ s.1)
+]
+
+-- one edge more that does not leave the set later with partners as ends
+pub apart_more : (g h : Graph) (x : Set) (u k : ℕ) → ((f v : ℕ) → Within k f → u < v → Leaves g x v f → ¬ (AreEndsPartners h none f)) →
+    ((v : ℕ) → u < v → Leaves g x v (k + 1) → ¬ (AreEndsPartners h none (k + 1))) →
+    (f v : ℕ) → Within (k + 1) f → u < v → Leaves g x v f → ¬ (AreEndsPartners h none f)
+apart_more g h x u k old new f v w l leaves ends = elim (cases_lt k f) [
+  | inl r ↦ let q : f ≡ k + 1 = let a = w.1 in omega arith in new v l (subst (Leaves g x v) q leaves) (subst (λ i. AreEndsPartners h none i) q ends)
+  | inr r ↦ old f v (w.0, r) l leaves ends
+]

@@ -1,0 +1,7 @@
+use Rattle.std.proofs.Common.{◌≡◌, ℕ, false}
+use Rattle.counting.proofs.Common.{Within, complement, mem}
+use Rattle.graph_core.proofs.Common.{connects}
+use Rattle.tight_cuts.proofs.balanced.keeps_edges.Given as goal
+
+abbrev pub invariant-loop-k : goal.invariant-loop-k
+invariant-loop-k l = (e : ℕ) → Within l.k e → connects l.g (mem l.part) (complement (mem l.set)) e ≡ false

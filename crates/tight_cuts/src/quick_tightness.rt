@@ -1,0 +1,187 @@
+//! A quick test that shows most tight cuts to be tight.
+//!
+//! Suppose a perfect matching has two edges in the cut of a vertex set. They leave the set at two
+//! vertices, say first u and later v. Turn the edges that join u to the rest of the set: give each
+//! of them the ends of one edge that leaves the set at u. The matching is still perfect in the
+//! turned graph, so the ends of its edge at v are partners there. Hence one turned graph for each u
+//! and one row of partners for each later v show that there is no such matching, however many edges
+//! the cut has.
+ghost use Rattle.std.specs.Prelude.{◌≡◌, ◌≢◌, ℕ, ◌<◌, true, false, IfOk, IfNone, IfSome};
+ghost use Rattle.counting.specs.Common.{Within, none, mem};
+ghost use Rattle.graph_core.specs.Common.{first_end, in_cut, second_end, size, IsEnd, IsPerfect};
+ghost use Rattle.match_core.specs.Common.{IsOf, edges_of};
+ghost use Rattle.allowed_edges.specs.PairTables.{IsPerfectWith};
+ghost use Rattle.tight_cuts.specs.Common.{AreEndsPartners, IsTurned, Leaves, LeavesAlone, NoTwoTogether};
+
+use crate::tightness::has_partners;
+use allowed_edges::perfect_with_edge;
+use graph_core::{Ends, MultiGraph, is_in_cut};
+use match_core::{LazyPartners, Matching};
+use std::alloc::{AllocError as Memory, Global};
+use vset_core::VSet;
+
+/// Whether the quick test shows that no perfect matching has two edges in the cut of the set. The
+/// fewer vertices the set has, the faster it is: at most one augmentation for each of them, and one
+/// search for any two of them.
+pub(crate) fn is_uncrossed(
+    alloc: Global,
+    g: &MultiGraph,
+    set: VSet,
+    kept: &Matching,
+) -> Result<bool, Memory>
+    requires of { IsOf g.now kept.now }
+    requires perfect { IsPerfect g.now none (mem (edges_of kept.now)) }
+    ensures { IfOk result (λ shown. shown ≡ true → NoTwoTogether g.now (mem set)) }
+{
+    g.keeps_limits();
+    for k in 0..g.order() {
+        if !leaves_alone(alloc, g, set, kept, k + 1)? {
+            return Ok(false);
+        }
+    }
+    Ok(true)
+}
+
+// Whether no perfect matching has an edge that leaves the set at u and one that leaves it at a
+// later vertex, as far as the quick test shows it.
+fn leaves_alone(
+    alloc: Global,
+    g: &MultiGraph,
+    set: VSet,
+    kept: &Matching,
+    u: u32,
+) -> Result<bool, Memory>
+    requires vertex { Within g.now.order u }
+    requires of { IsOf g.now kept.now }
+    requires perfect { IsPerfect g.now none (mem (edges_of kept.now)) }
+    ensures { IfOk result (λ alone. alone ≡ true → LeavesAlone g.now (mem set) u) }
+{
+    g.keeps_limits();
+    if !set.contains(u) || !has_later(g, set, u) {
+        return Ok(true);
+    }
+    let Some(e) = edge_out(g, set, u) else {
+        return Ok(true);
+    };
+    match perfect_with_edge(alloc, g, kept, e)? {
+        Some(held) => {
+            let turned = turned(alloc, g, set, u, e)?;
+            is_alone_in(alloc, g, &turned, set, &held, u)
+        }
+        None => Ok(false),
+    }
+}
+
+// Whether some edge leaves the set at a vertex after u.
+fn has_later(g: &MultiGraph, set: VSet, u: u32) -> bool
+    ensures { result ≡ false → (f v : ℕ) → Within (size g.now) f → u < v →
+        Leaves g.now (mem set) v f → ⊥ }
+{
+    for k in 0..g.size() {
+        if leaves_later(g, set, u, k + 1) {
+            return true;
+        }
+    }
+    false
+}
+
+// Whether edge f leaves the set at a vertex after u.
+fn leaves_later(g: &MultiGraph, set: VSet, u: u32, f: u32) -> bool
+    requires edge { Within (size g.now) f }
+    ensures { result ≡ false → (v : ℕ) → u < v → Leaves g.now (mem set) v f → ⊥ }
+{
+    g.keeps_limits();
+    let ends = g.ends(f);
+    if !is_in_cut(g, set, f) {
+        return false;
+    }
+    if set.contains(ends.a) {
+        u < ends.a
+    } else {
+        u < ends.b
+    }
+}
+
+// The first edge that leaves the set at u.
+fn edge_out(g: &MultiGraph, set: VSet, u: u32) -> Option<u32>
+    requires vertex { Within g.now.order u }
+    ensures some { IfSome result (λ e. Within (size g.now) e × Leaves g.now (mem set) u e) }
+    ensures none { IfNone result
+        ((e : ℕ) → Within (size g.now) e → Leaves g.now (mem set) u e → ⊥) }
+{
+    for k in 0..g.size() {
+        if leaves(g, set, u, k + 1) {
+            return Some(k + 1);
+        }
+    }
+    None
+}
+
+// Whether edge e leaves the set at u.
+fn leaves(g: &MultiGraph, set: VSet, u: u32, e: u32) -> bool
+    requires vertex { Within g.now.order u }
+    requires edge { Within (size g.now) e }
+    ensures yes { result ≡ true → Leaves g.now (mem set) u e }
+    ensures no { result ≡ false → Leaves g.now (mem set) u e → ⊥ }
+{
+    g.keeps_limits();
+    let ends = g.ends(e);
+    set.contains(u) && (ends.a == u || ends.b == u) && is_in_cut(g, set, e)
+}
+
+// The graph in which each edge that joins u to the rest of the set has the ends of edge e.
+fn turned(alloc: Global, g: &MultiGraph, set: VSet, u: u32, e: u32) -> Result<MultiGraph, Memory>
+    requires edge { Within (size g.now) e }
+    ensures { IfOk result (IsTurned g.now (mem set) u) }
+{
+    g.keeps_limits();
+    let mut turned = MultiGraph::new(alloc, g.order())?;
+    for k in 0..g.size() {
+        turned.push_edge(turned_ends(g, set, u, e, k + 1))?;
+    }
+    Ok(turned)
+}
+
+// The ends of edge d there.
+fn turned_ends(g: &MultiGraph, set: VSet, u: u32, e: u32, d: u32) -> Ends
+    requires edge { Within (size g.now) e }
+    requires turned { Within (size g.now) d }
+    ensures vertices { Within g.now.order result.a × Within g.now.order result.b }
+    ensures different { result.a ≢ result.b }
+    ensures same { (IsEnd g.now d u → in_cut g.now (mem set) d ≡ true) →
+        (result.a ≡ first_end g.now d) × (result.b ≡ second_end g.now d) }
+{
+    g.keeps_limits();
+    let ends = g.ends(d);
+    if (ends.a == u || ends.b == u) && !is_in_cut(g, set, d) {
+        return g.ends(e);
+    }
+    ends
+}
+
+// The answer from the turned graph and a perfect matching of `g` with an edge that leaves the set
+// at u.
+fn is_alone_in(
+    alloc: Global,
+    g: &MultiGraph,
+    turned: &MultiGraph,
+    set: VSet,
+    held: &Matching,
+    u: u32,
+) -> Result<bool, Memory>
+    requires turned { IsTurned g.now (mem set) u turned.now }
+    requires held { (e : ℕ) × Within (size g.now) e × Leaves g.now (mem set) u e ×
+        IsPerfectWith g.now e held.now }
+    ensures { IfOk result (λ alone. alone ≡ true → LeavesAlone g.now (mem set) u) }
+{
+    g.keeps_limits();
+    turned.keeps_limits();
+    let mut rows = LazyPartners::new(alloc, turned, VSet::empty(), held)?;
+    for k in 0..g.size() {
+        let f = k + 1;
+        if leaves_later(g, set, u, f) && has_partners(alloc, turned, set, &mut rows, f)? {
+            return Ok(false);
+        }
+    }
+    Ok(true)
+}
