@@ -34,7 +34,7 @@ line_kept (Some text) line = line_at text line
 -- of a bad file: which it is, where it is outside its format and how, and the line
 abbrev pub bad_words : Option File → (line : ℕ) → FaultKind → Option (List ℕ) → List ℕ
 bad_words None line kind kept = []
-bad_words (Some file) line kind kept = bad_file_text program file.0 file.1 line kind (line_kept kept line)
+bad_words (Some file) line kind kept = bad_file_text program file.0 file.1 line kind kept (line_kept kept line)
 
 -- of a file that could not be read: which it is, and why
 abbrev pub unread_words : Option File → Option FailureReason → List ℕ

@@ -66,6 +66,7 @@ fn say_bad<'a, E: Sink>(
                 role: file.role,
                 line: line as u64,
                 kind,
+                beginning: kept,
             };
             say_bad_file(errors, PROGRAM, &bad, line_kept(kept, line))
         }

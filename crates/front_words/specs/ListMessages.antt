@@ -31,7 +31,7 @@ is_blank_line text = bytes_eq text (codes "\n") || bytes_eq text (codes "\r\n")
 abbrev pub short_line : (text : List ℕ) → List ℕ
 short_line text =
     if length text == 0 then codes "the list ends before a graph" else
-    if is_blank_line text then codes "it is empty (to_graph6_bytes ends its text with a line feed, so print adds a second)" else
+    if is_blank_line text then codes "it is empty (to_graph6_bytes of NetworkX ends its line already, so print adds an empty one)" else
     graph6_fault Missing
 
 -- a line of a list that passes a limit

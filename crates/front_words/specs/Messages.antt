@@ -8,6 +8,7 @@ use Rattle.line_text.specs.declared.faults.FaultKind.{FaultKind}
 use Rattle.outside.specs.declared.explain.FailureReason.{FailureReason}
 use Rattle.front_words.specs.declared.faults.Role.{Role}
 use Rattle.front_words.specs.Faults.{fault_words, note_words}
+use Rattle.front_words.specs.Openings.{beginning_note}
 use Rattle.front_words.specs.Reasons.{reason_words}
 use Rattle.front_words.specs.Showing.{shown}
 
@@ -36,18 +37,23 @@ abbrev pub line_shown : (program : List ℕ) (line : ℕ) → Option (List ℕ) 
 line_shown program line None = []
 line_shown program line (Some text) = program ++ (codes ": line " ++ (decimal line ++ (codes " is: " ++ (shown 60 text ++ codes "\n"))))
 
--- the file of that name, which is read so, is outside its format at that line by that kind; the
--- text is that of the line, if there is one to show
-abbrev pub fault_text : (program name : List ℕ) → Role → (line : ℕ) → FaultKind → Option (List ℕ) → List ℕ
-fault_text program name role line kind text =
+-- what is added to the words of a fault: what the file is that begins so, or else the note for the
+-- kind
+abbrev pub file_note : Role → FaultKind → (beginning : Option (List ℕ)) → List ℕ
+file_note role kind beginning = beginning_note role beginning (note_words role kind)
+
+-- the file of that name, which is read so and begins so, is outside its format at that line by that
+-- kind; the text is that of the line, if there is one to show
+abbrev pub fault_text : (program name : List ℕ) → Role → (line : ℕ) → FaultKind → (beginning text : Option (List ℕ)) → List ℕ
+fault_text program name role line kind beginning text =
     program ++ (codes ": " ++ (shown 4096 name ++ (codes ", line " ++ (decimal line ++ (codes ": " ++
-    (fault_words role kind ++ (note_words role kind ++ (codes "\n" ++ line_shown program line text))))))))
+    (fault_words role kind ++ (file_note role kind beginning ++ (codes "\n" ++ line_shown program line text))))))))
 
 -- the same if the text is that of the line, if it is known
-abbrev pub outside_text : (program name : List ℕ) → Role → (line : ℕ) → FaultKind → Option (List ℕ) → List ℕ
-outside_text program name role line kind text = fault_text program name role line kind (some_line text)
+abbrev pub outside_text : (program name : List ℕ) → Role → (line : ℕ) → FaultKind → (beginning text : Option (List ℕ)) → List ℕ
+outside_text program name role line kind beginning text = fault_text program name role line kind beginning (some_line text)
 
 -- the file of that name is bad: with line 0 it is too long
-abbrev pub bad_file_text : (program name : List ℕ) → Role → (line : ℕ) → FaultKind → Option (List ℕ) → List ℕ
-bad_file_text program name role line kind text =
-    if line == 0 then too_long_text program name else outside_text program name role line kind text
+abbrev pub bad_file_text : (program name : List ℕ) → Role → (line : ℕ) → FaultKind → (beginning text : Option (List ℕ)) → List ℕ
+bad_file_text program name role line kind beginning text =
+    if line == 0 then too_long_text program name else outside_text program name role line kind beginning text

@@ -3,18 +3,51 @@
 -- Stated by: front_words.
 use Rattle.std.specs.Prelude.{ℕ, List, [], ◌∷◌, nat_eq, Bool, codes, if◌then◌else◌}
 use Rattle.std.specs.List.{starts_with}
+use Rattle.std.specs.declared.option.Option.{Option}
+use Rattle.std.specs.declared.option.Option.TheVariants.{None, Some}
+use Rattle.front_words.specs.declared.faults.Role.{Role}
+use Rattle.front_words.specs.declared.faults.Role.TheVariants.{Graph, Graph6, Derivation, Picks, Ears, Moves}
 
 abbrev pub opens : List ℕ → List ℕ → Bool
 opens text beginning = starts_with nat_eq text beginning
 
--- a note on a text that begins as a file of another format; nothing on others
-abbrev pub opening_note : List ℕ → List ℕ
-opening_note text =
+-- the first note, or if there is none the second
+abbrev pub note_or : (note other : List ℕ) → List ℕ
+note_or [] other = other
+note_or (byte ∷ note) other = byte ∷ note
+
+-- a note on a text that is no file of lines; nothing on others
+abbrev pub coding_note : List ℕ → List ℕ
+coding_note text =
     if opens text (239 ∷ 187 ∷ 191 ∷ []) then codes " (it begins with a byte order mark; save it without one)" else
-    if opens text (31 ∷ 139 ∷ []) then codes " (it begins as a file of gzip; zcat reads it)" else
+    if opens text (31 ∷ 139 ∷ []) then codes " (it begins as a file of gzip; zcat reads it)" else []
+
+-- a note on a text that begins as another format of graphs than graph6; nothing on others
+abbrev pub format_note : List ℕ → List ℕ
+format_note text =
     if opens text (codes ">>sparse6<<") then codes " (it begins as sparse6; copyg -g makes graph6 of it)" else
     if opens text (codes ":") then codes " (it begins as sparse6; copyg -g makes graph6 of it)" else
     if opens text (codes ">>digraph6<<") then codes " (it begins as digraph6, which has directed graphs)" else
     if opens text (codes "&") then codes " (it begins as digraph6, which has directed graphs)" else
     if opens text (codes ">>planar_code<<") then codes " (it begins as planar_code; plantri -g writes graph6 instead)" else
-    if opens text (codes "p mcg") then codes " (it begins as a graph file; mcg6 encode makes graph6 of it)" else []
+    if opens text (codes "p mcg") then codes " (it begins as a graph file; mcg6 encode makes graph6 of it)" else
+    if opens text (codes "c ") then codes " (it begins as a graph file; mcg6 encode makes graph6 of it)" else []
+
+-- a note on a text that begins as a file of another format than graph6; nothing on others
+abbrev pub opening_note : List ℕ → List ℕ
+opening_note text = note_or (coding_note text) (format_note text)
+
+-- the same for a text that is read so
+abbrev pub role_note : Role → List ℕ → List ℕ
+role_note Graph text = coding_note text
+role_note Graph6 text = opening_note text
+role_note Derivation text = coding_note text
+role_note Picks text = coding_note text
+role_note Ears text = coding_note text
+role_note Moves text = coding_note text
+
+-- the same for a file that is read so, if its beginning is known; and if there is none to make, the
+-- other note
+abbrev pub beginning_note : Role → Option (List ℕ) → (other : List ℕ) → List ℕ
+beginning_note role None other = other
+beginning_note role (Some text) other = note_or (role_note role text) other

@@ -54,7 +54,7 @@ fn short_line(text: &[u8]) -> &'static str
     if text.is_empty() {
         "the list ends before a graph"
     } else if text == b"\n".as_slice() || text == b"\r\n".as_slice() {
-        "it is empty (to_graph6_bytes ends its text with a line feed, so print adds a second)"
+        "it is empty (to_graph6_bytes of NetworkX ends its line already, so print adds an empty one)"
     } else {
         fault_words(Role::Graph6, FaultKind::Missing)
     }

@@ -1,10 +1,11 @@
 //! The messages.
 ghost use Rattle.std.specs.Prelude.{◌≡◌};
 ghost use Rattle.std.specs.Option.{option_map};
-ghost use Rattle.front_words.specs.Messages.{bad_file_text, fault_text, outside_text, some_line, too_long_text, unread_text};
+ghost use Rattle.front_words.specs.Messages.{bad_file_text, fault_text, file_note, outside_text, some_line, too_long_text, unread_text};
 ghost use Rattle.front_words.specs.Saying.{Says};
 
 use crate::faults::{Role, fault_words, note_words};
+use crate::openings::beginning_note;
 use crate::pieces::MessagePiece::{Number, Shown, Text};
 use crate::pieces::say;
 use crate::reasons::reason_words;
@@ -28,6 +29,18 @@ pub struct BadFile<'a> {
     pub line: u64,
     /// The kind of the fault.
     pub kind: FaultKind,
+    /// The bytes of the file, or some with which it begins, if they are known.
+    pub beginning: Option<&'a [u8]>,
+}
+
+impl BadFile<'_> {
+    // What is added to the words of the fault.
+    fn note(&self) -> &'static str
+        ensures { result.now ≡ file_note self.now.role self.now.kind
+            (option_map (λ text. text.now) self.now.beginning) }
+    {
+        beginning_note(self.role, self.beginning, note_words(self.role, self.kind))
+    }
 }
 
 /// Says that the file of that name could not be read, and why. Takes no memory.
@@ -89,7 +102,7 @@ fn say_with_line<'a, K: Sink>(
 ) -> Result<(), SinkFailed>
     ensures { Says K.written K.writes K.faults
         (fault_text program.now bad.now.name.now bad.now.role bad.now.line bad.now.kind
-        (Some text.now)) result sink.old sink.new }
+        (option_map (λ text. text.now) bad.now.beginning) (Some text.now)) result sink.old sink.new }
 {
     let by = Text(program);
     let line = Number(bad.line);
@@ -104,7 +117,7 @@ fn say_with_line<'a, K: Sink>(
             line,
             Text(": "),
             Text(fault_words(bad.role, bad.kind)),
-            Text(note_words(bad.role, bad.kind)),
+            Text(bad.note()),
             end,
             by,
             Text(": line "),
@@ -125,6 +138,7 @@ fn say_outside<'a, K: Sink>(
 ) -> Result<(), SinkFailed>
     ensures { Says K.written K.writes K.faults
         (outside_text program.now bad.now.name.now bad.now.role bad.now.line bad.now.kind
+        (option_map (λ text. text.now) bad.now.beginning)
         (option_map (λ line. line.now) text.entry)) result sink.old sink.new }
 {
     match some_line(text) {
@@ -139,7 +153,7 @@ fn say_outside<'a, K: Sink>(
                 Number(bad.line),
                 Text(": "),
                 Text(fault_words(bad.role, bad.kind)),
-                Text(note_words(bad.role, bad.kind)),
+                Text(bad.note()),
                 Text("\n"),
             ],
         ),
@@ -156,6 +170,7 @@ pub fn say_bad_file<'a, K: Sink>(
 ) -> Result<(), SinkFailed>
     ensures { Says K.written K.writes K.faults
         (bad_file_text program.now bad.now.name.now bad.now.role bad.now.line bad.now.kind
+        (option_map (λ text. text.now) bad.now.beginning)
         (option_map (λ line. line.now) text.entry)) result sink.old sink.new }
 {
     if bad.line == 0 {

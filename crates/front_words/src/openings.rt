@@ -1,17 +1,35 @@
 //! What a text is that does not begin as it should.
 ghost use Rattle.std.specs.Prelude.{◌≡◌};
-ghost use Rattle.front_words.specs.Openings.{opening_note};
+ghost use Rattle.std.specs.Option.{option_map};
+ghost use Rattle.front_words.specs.Openings.{beginning_note, coding_note, format_note, note_or, opening_note, role_note};
 
-/// A note on a text that begins as a file of another format, with what reads that; nothing on
-/// others. Takes no memory.
-pub fn opening_note(text: &[u8]) -> &'static str
-    ensures { result.now ≡ opening_note text.now }
+use crate::faults::Role;
+
+// The first note, or if there is none the second.
+fn note_or(note: &'static str, other: &'static str) -> &'static str
+    ensures { result.now ≡ note_or note.now other.now }
+{
+    if note.is_empty() { other } else { note }
+}
+
+// A note on a text that is no file of lines; nothing on others.
+fn coding_note(text: &[u8]) -> &'static str
+    ensures { result.now ≡ coding_note text.now }
 {
     if text.starts_with(b"\xef\xbb\xbf") {
         " (it begins with a byte order mark; save it without one)"
     } else if text.starts_with(b"\x1f\x8b") {
         " (it begins as a file of gzip; zcat reads it)"
-    } else if text.starts_with(b">>sparse6<<") {
+    } else {
+        ""
+    }
+}
+
+// A note on a text that begins as another format of graphs than graph6; nothing on others.
+fn format_note(text: &[u8]) -> &'static str
+    ensures { result.now ≡ format_note text.now }
+{
+    if text.starts_with(b">>sparse6<<") {
         " (it begins as sparse6; copyg -g makes graph6 of it)"
     } else if text.starts_with(b":") {
         " (it begins as sparse6; copyg -g makes graph6 of it)"
@@ -23,7 +41,45 @@ pub fn opening_note(text: &[u8]) -> &'static str
         " (it begins as planar_code; plantri -g writes graph6 instead)"
     } else if text.starts_with(b"p mcg") {
         " (it begins as a graph file; mcg6 encode makes graph6 of it)"
+    } else if text.starts_with(b"c ") {
+        " (it begins as a graph file; mcg6 encode makes graph6 of it)"
     } else {
         ""
+    }
+}
+
+/// A note on a text that begins as a file of another format than graph6, with what reads that;
+/// nothing on others. Takes no memory.
+pub fn opening_note(text: &[u8]) -> &'static str
+    ensures { result.now ≡ opening_note text.now }
+{
+    note_or(coding_note(text), format_note(text))
+}
+
+// The same for a text that is read so.
+fn role_note(role: Role, text: &[u8]) -> &'static str
+    ensures { result.now ≡ role_note role text.now }
+{
+    match role {
+        Role::Graph6 => opening_note(text),
+        Role::Graph | Role::Derivation | Role::Picks | Role::Ears | Role::Moves => {
+            coding_note(text)
+        }
+    }
+}
+
+/// The same for a file that is read so, if its beginning is known; and if there is none to make,
+/// the other note. Takes no memory.
+pub fn beginning_note(
+    role: Role,
+    beginning: Option<&[u8]>,
+    other: &'static str,
+) -> &'static str
+    ensures { result.now ≡
+        beginning_note role (option_map (λ text. text.now) beginning.entry) other.now }
+{
+    match beginning {
+        Some(text) => note_or(role_note(role, text), other),
+        None => other,
     }
 }

@@ -1,6 +1,6 @@
 -- What is said of each ending.
 -- Stated by: mcg6_front_top.
-use Rattle.std.specs.Prelude.{ℕ, List, [], ◌∷◌, ◌++◌, codes, Bool, if◌then◌else◌}
+use Rattle.std.specs.Prelude.{ℕ, ◌==◌, List, [], ◌∷◌, ◌++◌, codes, Bool, if◌then◌else◌}
 use Rattle.std.specs.declared.option.Option.{Option}
 use Rattle.std.specs.declared.option.Option.TheVariants.{Some, None}
 use Rattle.outside.specs.declared.explain.FailureReason.{FailureReason}
@@ -50,9 +50,13 @@ list_words Memory known = memory_words
 abbrev pub nothing_words : List ℕ
 nothing_words = codes "mcg6: memory ran out; nothing was written\n"
 
+-- the beginning of a file whose line with that number has this text, if it is the first line
+abbrev pub beginning_of : (number : ℕ) (text : List ℕ) → Option (List ℕ)
+beginning_of number text = if number == 1 then Some text else None
+
 -- of a bad graph file: its name, where it is outside the format and how, and the line
 abbrev pub bad_graph_words : (name : List ℕ) → BadLine → List ℕ
-bad_graph_words name found = bad_file_text program name Graph found.number found.kind (Some found.text.items)
+bad_graph_words name found = bad_file_text program name Graph found.number found.kind (beginning_of found.number found.text.items) (Some found.text.items)
 
 -- what is said of the graph file of that name, whose encoding ended so; nothing where its graph6
 -- text was written

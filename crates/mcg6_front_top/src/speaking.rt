@@ -4,7 +4,7 @@ ghost use Rattle.std.specs.Option.{option_map};
 ghost use Rattle.front_words.specs.Saying.{Says};
 ghost use Rattle.mcg6_top.specs.Common.{status_in};
 ghost use Rattle.mcg6_front_top.specs.CluesSeen.{known_by};
-ghost use Rattle.mcg6_front_top.specs.Words.{bad_graph_words, ending_words, file_words, list_words, lost_words, memory_words, nothing_words, skipped_words, unwritten_words, words_of};
+ghost use Rattle.mcg6_front_top.specs.Words.{bad_graph_words, beginning_of, ending_words, file_words, list_words, lost_words, memory_words, nothing_words, skipped_words, unwritten_words, words_of};
 
 use crate::skipping::say_skipped;
 use front_words::{
@@ -115,6 +115,13 @@ fn say_file_ending<'a, E: Sink>(
     }
 }
 
+// The beginning of a file whose line has that number, if it is the first.
+fn beginning_of(number: u64, text: &[u8]) -> Option<&[u8]>
+    ensures { option_map (λ text. text.now) result ≡ beginning_of number text.now }
+{
+    if number == 1 { Some(text) } else { None }
+}
+
 // Says of a bad graph file its name, where it is outside the format and how, and the line.
 fn say_bad_graph<E: Sink>(errors: &mut E, name: &str, found: &BadLine) -> Result<(), SinkFailed>
     ensures { Says E.written E.writes E.faults (bad_graph_words name.now found.now) result
@@ -125,6 +132,7 @@ fn say_bad_graph<E: Sink>(errors: &mut E, name: &str, found: &BadLine) -> Result
         role: Role::Graph,
         line: found.number,
         kind: found.kind,
+        beginning: beginning_of(found.number, found.text.as_slice()),
     };
     say_bad_file(errors, PROGRAM, &bad, Some(found.text.as_slice()))
 }
