@@ -1,15 +1,15 @@
 -- Why words match no row of a table.
--- Stated by: command_table.
+-- Stated by: command_table, front_words.
 use Rattle.std.specs.Prelude.{ℕ, List, [], ◌∷◌, if◌then◌else◌}
 use Rattle.std.specs.declared.option.Option.{Option}
 use Rattle.std.specs.declared.option.Option.TheVariants.{Some, None}
 use Rattle.std.specs.Str.{bytes_eq}
-use Rattle.command_table.specs.Rows.{Word, fits_word, Row}
+use Rattle.command_table.specs.Rows.{Word, fits_word, is_other, Row}
 use Rattle.command_table.specs.RowsSeen.{word_seen}
 use Rattle.command_table.specs.declared.reasons.Reason.TheVariants as code
 
--- no row has such a first word; there are too many words; this word is missing; or a word does not
--- fit this one
+-- no row has such a first word, or this row is not meant; there are too many words; this word is
+-- missing; or a word does not fit this one
 pub data Reason : Type 0 where
   Unknown : Reason
   TooMany : Reason
@@ -44,26 +44,32 @@ wrong_behind wanted word (Some TooMany) = Some TooMany
 wrong_behind wanted word (Some (TooFew missing)) = Some (TooFew missing)
 wrong_behind wanted word (Some (Wrong other)) = if fits_word wanted word then Some (Wrong other) else Some (Wrong wanted)
 
+-- the same, and another word than the text of a row comes before all: that row is not meant
+abbrev pub wrong_unless_other : Word → (word : List ℕ) → Option Reason → Option Reason
+wrong_unless_other wanted word behind = if is_other wanted word then Some Unknown else wrong_behind wanted word behind
+
 -- why words do not fit those of a row, if they do not
 abbrev pub why_of_words : List Word → List Word → List (List ℕ) → Option Reason
 why_of_words [] optional words = why_of_optional optional words
 why_of_words (wanted ∷ row) optional [] = Some (TooFew wanted)
-why_of_words (wanted ∷ row) optional (word ∷ words) = wrong_behind wanted word (why_of_words row optional words)
+why_of_words (wanted ∷ row) optional (word ∷ words) = wrong_unless_other wanted word (why_of_words row optional words)
 
 -- why words do not match a row, if they do not
 abbrev pub why_of_row : Row → List (List ℕ) → Option Reason
 why_of_row row [] = Some Unknown
 why_of_row row (word ∷ words) = if bytes_eq word row.command then why_of_words row.words row.optional words else Some Unknown
 
--- the reason of the nearer of two rows: none if one is matched, and else a wrong word, too few
--- words, too many, in this order
+-- the reason of the nearer of two rows: none if one is matched, and else too few words, a wrong
+-- word, too many words, in this order
 abbrev pub nearer : Option Reason → Option Reason → Option Reason
 nearer None other = None
 nearer (Some reason) None = None
-nearer (Some (Wrong wanted)) (Some other) = Some (Wrong wanted)
 nearer (Some Unknown) (Some other) = Some other
-nearer (Some (TooFew missing)) (Some (Wrong wanted)) = Some (Wrong wanted)
 nearer (Some (TooFew missing)) (Some other) = Some (TooFew missing)
+nearer (Some (Wrong wanted)) (Some Unknown) = Some (Wrong wanted)
+nearer (Some (Wrong wanted)) (Some TooMany) = Some (Wrong wanted)
+nearer (Some (Wrong wanted)) (Some (TooFew missing)) = Some (TooFew missing)
+nearer (Some (Wrong wanted)) (Some (Wrong other)) = Some (Wrong wanted)
 nearer (Some TooMany) (Some Unknown) = Some TooMany
 nearer (Some TooMany) (Some TooMany) = Some TooMany
 nearer (Some TooMany) (Some (TooFew missing)) = Some (TooFew missing)

@@ -1,5 +1,5 @@
 -- How the code's rows are seen.
--- Stated by: command_table.
+-- Stated by: command_table, front_words.
 use Rattle.std.specs.Prelude.{ℕ, List, map}
 use Rattle.std.specs.Borrow.{Bor}
 use Rattle.command_table.specs.Rows.{Word, Literal, File, OneOf, Number, Row}
@@ -12,9 +12,9 @@ texts_seen texts = map (λ text. text.now) texts
 
 abbrev pub word_seen : code.the_data → Word
 word_seen (code.Literal text) = Literal text.now
-word_seen (code.File shown) = File shown.now
-word_seen (code.OneOf shown choices counted note) = OneOf shown.now (texts_seen choices.now) (texts_seen counted.now) note.now
-word_seen (code.Number shown least most note) = Number shown.now least most note.now
+word_seen (code.File shown need) = File shown.now need.now
+word_seen (code.OneOf shown choices counted note need) = OneOf shown.now (texts_seen choices.now) (texts_seen counted.now) note.now need.now
+word_seen (code.Number shown least most note need) = Number shown.now least most note.now need.now
 
 abbrev pub row_seen : Coded → Row
 row_seen row = record {

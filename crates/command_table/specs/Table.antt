@@ -7,9 +7,9 @@ use Rattle.command_table.specs.Rows.{Word, Literal, File, OneOf, Number, Row}
 -- a word as it is shown
 abbrev pub word_form : Word → List ℕ
 word_form (Literal text) = text
-word_form (File shown) = shown
-word_form (OneOf shown choices counted note) = shown
-word_form (Number shown least most note) = shown
+word_form (File shown need) = shown
+word_form (OneOf shown choices counted note need) = shown
+word_form (Number shown least most note need) = shown
 
 abbrev pub words_form : List Word → List ℕ
 words_form [] = []
@@ -43,19 +43,20 @@ choices_text (choice ∷ last ∷ []) = choice ++ (codes " or " ++ last)
 choices_text (choice ∷ next ∷ last ∷ choices) = choice ++ (codes ", " ++ choices_text (next ∷ last ∷ choices))
 
 -- one of these, or of the beginnings with a number K behind it
-abbrev pub one_of : List ℕ → (choices counted : List (List ℕ)) → Word
-one_of shown choices counted = OneOf shown choices counted (shown ++ (codes " is " ++ choices_text (choices ++ map (λ beginning. beginning ++ codes "K") counted)))
+abbrev pub one_of : List ℕ → (choices counted : List (List ℕ)) → (need : List ℕ) → Word
+one_of shown choices counted need =
+    OneOf shown choices counted (shown ++ (codes " is " ++ choices_text (choices ++ map (λ beginning. beginning ++ codes "K") counted))) need
 
 -- a number in this range
-abbrev pub number_from : List ℕ → (least most : ℕ) → Word
-number_from shown least most = Number shown least most (shown ++ (codes " is " ++ (decimal least ++ (codes " to " ++ decimal most))))
+abbrev pub number_from : List ℕ → (least most : ℕ) → (need : List ℕ) → Word
+number_from shown least most need = Number shown least most (shown ++ (codes " is " ++ (decimal least ++ (codes " to " ++ decimal most)))) need
 
 -- the notes on words, each a line
 abbrev pub word_note : Word → List ℕ
 word_note (Literal text) = []
-word_note (File shown) = []
-word_note (OneOf shown choices counted note) = note ++ codes "\n"
-word_note (Number shown least most note) = note ++ codes "\n"
+word_note (File shown need) = []
+word_note (OneOf shown choices counted note need) = note ++ codes "\n"
+word_note (Number shown least most note need) = note ++ codes "\n"
 
 abbrev pub words_notes : List Word → List ℕ
 words_notes [] = []
@@ -76,7 +77,11 @@ usage_of first rows last = first ++ (rows_lines rows ++ (rows_notes rows ++ last
 
 -- the words of the tables
 abbrev pub file : List Word
-file = File (codes "FILE") ∷ []
+file = File (codes "FILE") (codes "a FILE") ∷ []
+
+-- a file after a word that is shown so
+abbrev pub file_after : (before shown : List ℕ) → Word
+file_after before shown = File shown (codes "a file " ++ (shown ++ (codes " after " ++ before)))
 
 abbrev pub orders : List (List ℕ)
 orders = codes "first" ∷ codes "last" ∷ codes "balanced" ∷ []
@@ -89,21 +94,25 @@ properties =
 abbrev pub counted_properties : List (List ℕ)
 counted_properties = codes "bricks=" ∷ codes "braces=" ∷ []
 
+-- what `select` selects by
+abbrev pub what : Word
+what = one_of (codes "WHAT") properties counted_properties (codes "WHAT: covered, uncovered, perfect, brick, brace, bicritical, composite, bricks=K or braces=K")
+
 -- the table of `mcg`
 unfoldable pub rows : List Row
 rows =
     row_of (codes "analyse") file [] (codes "the structure of the graph in FILE") ∷
     row_of (codes "convert") file [] (codes "its canonical text, with names for the vertices") ∷
     row_of (codes "analyse6") file [] (codes "what analyse reports, for a graph in graph6") ∷
-    row_of (codes "decompose") (File (codes "FILE") ∷ one_of (codes "ORDER") orders [] ∷ []) [] (codes "a decomposition by tight cuts into bricks and braces") ∷
-    row_of (codes "decompose") (File (codes "FILE") ∷ Literal (codes "script") ∷ File (codes "PICKS") ∷ []) [] (codes "the same, the cuts picked by the numbers in PICKS") ∷
-    row_of (codes "check") (File (codes "FILE") ∷ File (codes "TREE") ∷ []) [] (codes "whether TREE is a derivation of the graph") ∷
-    row_of (codes "checkears") (File (codes "FILE") ∷ File (codes "EARS") ∷ []) [] (codes "whether EARS is an ear list of the graph") ∷
+    row_of (codes "decompose") (File (codes "FILE") (codes "a FILE") ∷ one_of (codes "ORDER") orders [] (codes "an ORDER after FILE: first, last, balanced, or script PICKS") ∷ []) [] (codes "a decomposition by tight cuts into bricks and braces") ∷
+    row_of (codes "decompose") (File (codes "FILE") (codes "a FILE") ∷ Literal (codes "script") ∷ file_after (codes "script") (codes "PICKS") ∷ []) [] (codes "the same, the cuts picked by the numbers in PICKS") ∷
+    row_of (codes "check") (File (codes "FILE") (codes "a FILE") ∷ file_after (codes "FILE") (codes "TREE") ∷ []) [] (codes "whether TREE is a derivation of the graph") ∷
+    row_of (codes "checkears") (File (codes "FILE") (codes "a FILE") ∷ file_after (codes "FILE") (codes "EARS") ∷ []) [] (codes "whether EARS is an ear list of the graph") ∷
     row_of (codes "ears") file [] (codes "an ear list of the graph") ∷
-    row_of (codes "compare") (File (codes "FILE") ∷ File (codes "TREE1") ∷ File (codes "TREE2") ∷ []) [] (codes "how the leaves of two derivations are paired, with moves") ∷
-    row_of (codes "script") (File (codes "FILE") ∷ File (codes "TREE1") ∷ File (codes "TREE2") ∷ []) [] (codes "these moves as a file") ∷
-    row_of (codes "replay") (File (codes "FILE") ∷ File (codes "TREE") ∷ File (codes "MOVES") ∷ []) [] (codes "the derivation that the moves make of TREE") ∷
-    row_of (codes "grow") (number_from (codes "SEED") 0 999_999_999 ∷ number_from (codes "PIECES") 1 16 ∷ []) [] (codes "a pseudo-random matching covered cubic graph") ∷ []
+    row_of (codes "compare") (File (codes "FILE") (codes "a FILE") ∷ file_after (codes "FILE") (codes "TREE1") ∷ file_after (codes "TREE1") (codes "TREE2") ∷ []) [] (codes "how the leaves of two derivations are paired, with moves") ∷
+    row_of (codes "script") (File (codes "FILE") (codes "a FILE") ∷ file_after (codes "FILE") (codes "TREE1") ∷ file_after (codes "TREE1") (codes "TREE2") ∷ []) [] (codes "these moves as a file") ∷
+    row_of (codes "replay") (File (codes "FILE") (codes "a FILE") ∷ file_after (codes "FILE") (codes "TREE") ∷ file_after (codes "TREE") (codes "MOVES") ∷ []) [] (codes "the derivation that the moves make of TREE") ∷
+    row_of (codes "grow") (number_from (codes "SEED") 0 999_999_999 (codes "a SEED and PIECES") ∷ number_from (codes "PIECES") 1 16 (codes "PIECES after SEED, 1 to 16") ∷ []) [] (codes "a pseudo-random matching covered cubic graph") ∷ []
 
 -- the words after a query of a list that may have bad lines
 abbrev pub skip_file : List Word
@@ -113,10 +122,10 @@ skip_file = Literal (codes "skip") ∷ file
 unfoldable pub list_rows : List Row
 list_rows =
     row_of (codes "kinds") [] skip_file (codes "a line for each graph: its kind, its bricks and its braces") ∷
-    row_of (codes "leaves") [] (one_of (codes "ORDER") orders [] ∷ skip_file) (codes "a line for each leaf of its decomposition, as a graph") ∷
+    row_of (codes "leaves") [] (one_of (codes "ORDER") orders [] (codes "an ORDER") ∷ skip_file) (codes "a line for each leaf of its decomposition, as a graph") ∷
     row_of (codes "elementary") [] skip_file (codes "a line for each elementary component, as a graph") ∷
     row_of (codes "graph") [] file (codes "the file of one graph, for mcg") ∷
-    row_of (codes "select") (one_of (codes "WHAT") properties counted_properties ∷ []) skip_file (codes "the lines whose graph has a property") ∷
+    row_of (codes "select") (what ∷ []) skip_file (codes "the lines whose graph has a property") ∷
     row_of (codes "encode") file [] (codes "the line of a file for mcg; parallel edges count once") ∷ []
 
 -- the usage of `mcg`, and that of `mcg6`

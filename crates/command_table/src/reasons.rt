@@ -1,7 +1,7 @@
 //! Why words match no row of a table.
 ghost use Rattle.std.specs.Prelude.{◌≡◌, map, string_bytes};
 ghost use Rattle.std.specs.Option.{option_map};
-ghost use Rattle.command_table.specs.Reasons.{nearer, reason_seen, why_of_optional, why_of_row, why_of_words, why_unmatched, wrong_behind, wrong_unless};
+ghost use Rattle.command_table.specs.Reasons.{nearer, reason_seen, why_of_optional, why_of_row, why_of_words, why_unmatched, wrong_behind, wrong_unless, wrong_unless_other};
 ghost use Rattle.command_table.specs.RowsSeen.{row_seen, word_seen};
 
 use crate::rows::{Row, RowWord};
@@ -9,7 +9,7 @@ use crate::rows::{Row, RowWord};
 /// Why words match no row of a table.
 #[derive(Clone, Copy)]
 pub enum Reason {
-    /// No row has such a first word.
+    /// No row has such a first word, or this row is not meant.
     Unknown,
     /// There are too many words.
     TooMany,
@@ -68,6 +68,18 @@ fn wrong_behind(wanted: RowWord, word: &str, behind: Option<Reason>) -> Option<R
     }
 }
 
+// The same, and another word than the text of a row comes before all: that row is not meant.
+fn wrong_unless_other(wanted: RowWord, word: &str, behind: Option<Reason>) -> Option<Reason>
+    ensures { option_map reason_seen result ≡
+        wrong_unless_other (word_seen wanted) word.now (option_map reason_seen behind) }
+{
+    if wanted.is_other(word) {
+        Some(Reason::Unknown)
+    } else {
+        wrong_behind(wanted, word, behind)
+    }
+}
+
 // Why words do not fit those of a row, if they do not.
 fn why_of_words(row: &[RowWord], optional: &[RowWord], words: &[String]) -> Option<Reason>
     ensures { option_map reason_seen result ≡ why_of_words (map word_seen row.now)
@@ -78,7 +90,7 @@ fn why_of_words(row: &[RowWord], optional: &[RowWord], words: &[String]) -> Opti
         (Some((wanted, _)), None) => Some(Reason::TooFew(*wanted)),
         (Some((wanted, row)), Some((word, words))) => {
             let behind = why_of_words(row, optional, words);
-            wrong_behind(*wanted, word.as_str(), behind)
+            wrong_unless_other(*wanted, word.as_str(), behind)
         }
     }
 }
@@ -96,18 +108,18 @@ fn why_of_row(row: &Row, words: &[String]) -> Option<Reason>
     }
 }
 
-// The reason of the nearer of two rows: none if one is matched, and else a wrong word, too few
-// words, too many, in this order.
+// The reason of the nearer of two rows: none if one is matched, and else too few words, a wrong
+// word, too many words, in this order.
 fn nearer(first: Option<Reason>, second: Option<Reason>) -> Option<Reason>
     ensures { option_map reason_seen result ≡
         nearer (option_map reason_seen first) (option_map reason_seen second) }
 {
     match (first, second) {
         (None, _) | (_, None) => None,
-        (Some(Reason::Wrong(wanted)), Some(_)) => Some(Reason::Wrong(wanted)),
-        (Some(_), Some(Reason::Wrong(wanted))) => Some(Reason::Wrong(wanted)),
         (Some(Reason::TooFew(missing)), Some(_)) => Some(Reason::TooFew(missing)),
         (Some(_), Some(Reason::TooFew(missing))) => Some(Reason::TooFew(missing)),
+        (Some(Reason::Wrong(wanted)), Some(_)) => Some(Reason::Wrong(wanted)),
+        (Some(_), Some(Reason::Wrong(wanted))) => Some(Reason::Wrong(wanted)),
         (Some(Reason::TooMany), Some(_)) => Some(Reason::TooMany),
         (Some(Reason::Unknown), other) => other,
     }

@@ -2,7 +2,7 @@
 ghost use Rattle.std.specs.Prelude.{◌≡◌, ◌||◌, nat_eq};
 ghost use Rattle.std.specs.List.{list_any};
 ghost use Rattle.std.specs.Str.{bytes_eq};
-ghost use Rattle.command_table.specs.Rows.{fits_word, is_counted, is_number_in, is_one_of};
+ghost use Rattle.command_table.specs.Rows.{fits_word, is_counted, is_number_in, is_one_of, is_other, word_meaning, word_need};
 ghost use Rattle.command_table.specs.RowsSeen.{texts_seen, word_seen};
 
 use line_text::number;
@@ -12,13 +12,20 @@ use line_text::number;
 pub enum RowWord {
     /// This text.
     Literal(&'static str),
-    /// The name of a file, which is shown so.
-    File(&'static str),
+    /// The name of a file, which is shown so, and what is said where it is missing.
+    File(&'static str, &'static str),
     /// A word that is shown so: one of these choices, or one of these beginnings with a number
-    /// behind it; and a note that says so.
-    OneOf(&'static str, &'static [&'static str], &'static [&'static str], &'static str),
-    /// A number that is shown so, with the least and the greatest, and a note that says so.
-    Number(&'static str, u32, u32, &'static str),
+    /// behind it; a note that says so; and what is said where it is missing.
+    OneOf(
+        &'static str,
+        &'static [&'static str],
+        &'static [&'static str],
+        &'static str,
+        &'static str,
+    ),
+    /// A number that is shown so, with the least and the greatest; a note that says so; and what
+    /// is said where it is missing.
+    Number(&'static str, u32, u32, &'static str, &'static str),
 }
 
 /// A row: a command, its words, those that may be left out, and its line of the usage.
@@ -81,9 +88,44 @@ impl RowWord {
     {
         match *self {
             RowWord::Literal(text) => word == text,
-            RowWord::File(_) => true,
-            RowWord::OneOf(_, choices, counted, _) => is_one_of(word, choices, counted),
-            RowWord::Number(_, least, most, _) => is_number_in(word, least, most),
+            RowWord::File(_, _) => true,
+            RowWord::OneOf(_, choices, counted, _, _) => is_one_of(word, choices, counted),
+            RowWord::Number(_, least, most, _, _) => is_number_in(word, least, most),
+        }
+    }
+
+    /// Whether the word is another than this text of a row, so that the row is not meant. Takes no
+    /// memory.
+    pub fn is_other(&self, word: &str) -> bool
+        ensures { result ≡ is_other (word_seen self.now) word.now }
+    {
+        match *self {
+            RowWord::Literal(text) => word != text,
+            RowWord::File(_, _) | RowWord::OneOf(_, _, _, _, _) | RowWord::Number(_, _, _, _, _) =>
+                false,
+        }
+    }
+
+    /// What is said where the word is missing. Takes no memory.
+    pub fn need(&self) -> &'static str
+        ensures { result.now ≡ word_need (word_seen self.now) }
+    {
+        match *self {
+            RowWord::Literal(text) => text,
+            RowWord::File(_, need)
+            | RowWord::OneOf(_, _, _, _, need)
+            | RowWord::Number(_, _, _, _, need) => need,
+        }
+    }
+
+    /// The note on the words that fit this one; the word itself if there is none. Takes no memory.
+    pub fn note(&self) -> &'static str
+        ensures { result.now ≡ word_meaning (word_seen self.now) }
+    {
+        match *self {
+            RowWord::Literal(text) => text,
+            RowWord::File(shown, _) => shown,
+            RowWord::OneOf(_, _, _, note, _) | RowWord::Number(_, _, _, note, _) => note,
         }
     }
 }

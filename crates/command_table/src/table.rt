@@ -9,31 +9,32 @@ use crate::rows::{Row, RowWord};
 static ROWS: [Row; 12] = [
     Row {
         command: "analyse",
-        words: &[RowWord::File("FILE")],
+        words: &[RowWord::File("FILE", "a FILE")],
         optional: &[],
         line: "  analyse FILE                 the structure of the graph in FILE\n",
     },
     Row {
         command: "convert",
-        words: &[RowWord::File("FILE")],
+        words: &[RowWord::File("FILE", "a FILE")],
         optional: &[],
         line: "  convert FILE                 its canonical text, with names for the vertices\n",
     },
     Row {
         command: "analyse6",
-        words: &[RowWord::File("FILE")],
+        words: &[RowWord::File("FILE", "a FILE")],
         optional: &[],
         line: "  analyse6 FILE                what analyse reports, for a graph in graph6\n",
     },
     Row {
         command: "decompose",
         words: &[
-            RowWord::File("FILE"),
+            RowWord::File("FILE", "a FILE"),
             RowWord::OneOf(
                 "ORDER",
                 &["first", "last", "balanced"],
                 &[],
                 "ORDER is first, last or balanced",
+                "an ORDER after FILE: first, last, balanced, or script PICKS",
             ),
         ],
         optional: &[],
@@ -42,37 +43,43 @@ static ROWS: [Row; 12] = [
     Row {
         command: "decompose",
         words: &[
-            RowWord::File("FILE"),
+            RowWord::File("FILE", "a FILE"),
             RowWord::Literal("script"),
-            RowWord::File("PICKS"),
+            RowWord::File("PICKS", "a file PICKS after script"),
         ],
         optional: &[],
         line: "  decompose FILE script PICKS  the same, the cuts picked by the numbers in PICKS\n",
     },
     Row {
         command: "check",
-        words: &[RowWord::File("FILE"), RowWord::File("TREE")],
+        words: &[
+            RowWord::File("FILE", "a FILE"),
+            RowWord::File("TREE", "a file TREE after FILE"),
+        ],
         optional: &[],
         line: "  check FILE TREE              whether TREE is a derivation of the graph\n",
     },
     Row {
         command: "checkears",
-        words: &[RowWord::File("FILE"), RowWord::File("EARS")],
+        words: &[
+            RowWord::File("FILE", "a FILE"),
+            RowWord::File("EARS", "a file EARS after FILE"),
+        ],
         optional: &[],
         line: "  checkears FILE EARS          whether EARS is an ear list of the graph\n",
     },
     Row {
         command: "ears",
-        words: &[RowWord::File("FILE")],
+        words: &[RowWord::File("FILE", "a FILE")],
         optional: &[],
         line: "  ears FILE                    an ear list of the graph\n",
     },
     Row {
         command: "compare",
         words: &[
-            RowWord::File("FILE"),
-            RowWord::File("TREE1"),
-            RowWord::File("TREE2"),
+            RowWord::File("FILE", "a FILE"),
+            RowWord::File("TREE1", "a file TREE1 after FILE"),
+            RowWord::File("TREE2", "a file TREE2 after TREE1"),
         ],
         optional: &[],
         line: "  compare FILE TREE1 TREE2     how the leaves of two derivations are paired, with moves\n",
@@ -80,9 +87,9 @@ static ROWS: [Row; 12] = [
     Row {
         command: "script",
         words: &[
-            RowWord::File("FILE"),
-            RowWord::File("TREE1"),
-            RowWord::File("TREE2"),
+            RowWord::File("FILE", "a FILE"),
+            RowWord::File("TREE1", "a file TREE1 after FILE"),
+            RowWord::File("TREE2", "a file TREE2 after TREE1"),
         ],
         optional: &[],
         line: "  script FILE TREE1 TREE2      these moves as a file\n",
@@ -90,9 +97,9 @@ static ROWS: [Row; 12] = [
     Row {
         command: "replay",
         words: &[
-            RowWord::File("FILE"),
-            RowWord::File("TREE"),
-            RowWord::File("MOVES"),
+            RowWord::File("FILE", "a FILE"),
+            RowWord::File("TREE", "a file TREE after FILE"),
+            RowWord::File("MOVES", "a file MOVES after TREE"),
         ],
         optional: &[],
         line: "  replay FILE TREE MOVES       the derivation that the moves make of TREE\n",
@@ -100,8 +107,20 @@ static ROWS: [Row; 12] = [
     Row {
         command: "grow",
         words: &[
-            RowWord::Number("SEED", 0, 999_999_999, "SEED is 0 to 999999999"),
-            RowWord::Number("PIECES", 1, 16, "PIECES is 1 to 16"),
+            RowWord::Number(
+                "SEED",
+                0,
+                999_999_999,
+                "SEED is 0 to 999999999",
+                "a SEED and PIECES",
+            ),
+            RowWord::Number(
+                "PIECES",
+                1,
+                16,
+                "PIECES is 1 to 16",
+                "PIECES after SEED, 1 to 16",
+            ),
         ],
         optional: &[],
         line: "  grow SEED PIECES             a pseudo-random matching covered cubic graph\n",
@@ -113,7 +132,7 @@ static LIST_ROWS: [Row; 6] = [
     Row {
         command: "kinds",
         words: &[],
-        optional: &[RowWord::Literal("skip"), RowWord::File("FILE")],
+        optional: &[RowWord::Literal("skip"), RowWord::File("FILE", "a FILE")],
         line: "  kinds [skip] [FILE]          a line for each graph: its kind, its bricks and its braces\n",
     },
     Row {
@@ -125,22 +144,23 @@ static LIST_ROWS: [Row; 6] = [
                 &["first", "last", "balanced"],
                 &[],
                 "ORDER is first, last or balanced",
+                "an ORDER",
             ),
             RowWord::Literal("skip"),
-            RowWord::File("FILE"),
+            RowWord::File("FILE", "a FILE"),
         ],
         line: "  leaves [ORDER] [skip] [FILE] a line for each leaf of its decomposition, as a graph\n",
     },
     Row {
         command: "elementary",
         words: &[],
-        optional: &[RowWord::Literal("skip"), RowWord::File("FILE")],
+        optional: &[RowWord::Literal("skip"), RowWord::File("FILE", "a FILE")],
         line: "  elementary [skip] [FILE]     a line for each elementary component, as a graph\n",
     },
     Row {
         command: "graph",
         words: &[],
-        optional: &[RowWord::File("FILE")],
+        optional: &[RowWord::File("FILE", "a FILE")],
         line: "  graph [FILE]                 the file of one graph, for mcg\n",
     },
     Row {
@@ -158,13 +178,14 @@ static LIST_ROWS: [Row; 6] = [
             ],
             &["bricks=", "braces="],
             "WHAT is covered, uncovered, perfect, brick, brace, bicritical, composite, bricks=K or braces=K",
+            "WHAT: covered, uncovered, perfect, brick, brace, bicritical, composite, bricks=K or braces=K",
         )],
-        optional: &[RowWord::Literal("skip"), RowWord::File("FILE")],
+        optional: &[RowWord::Literal("skip"), RowWord::File("FILE", "a FILE")],
         line: "  select WHAT [skip] [FILE]    the lines whose graph has a property\n",
     },
     Row {
         command: "encode",
-        words: &[RowWord::File("FILE")],
+        words: &[RowWord::File("FILE", "a FILE")],
         optional: &[],
         line: "  encode FILE                  the line of a file for mcg; parallel edges count once\n",
     },

@@ -5,13 +5,15 @@ use Rattle.std.specs.declared.option.Option.{Option}
 use Rattle.std.specs.declared.option.Option.TheVariants.{Some, None}
 use Rattle.outside.specs.declared.explain.FailureReason.{FailureReason}
 use Rattle.line_text.specs.declared.faults.FaultKind.{FaultKind}
-use Rattle.bench_tasks.specs.Common.{Command}
+use Rattle.bench_tasks.specs.Common.{Command, command_of}
 use Rattle.bench_tasks.specs.declared.stop.Stop.{Stop}
 use Rattle.bench_tasks.specs.declared.stop.Stop.TheVariants as stop
 use Rattle.bench_outcomes.specs.declared.status.Status.{Status}
 use Rattle.bench_outcomes.specs.declared.status.Status.TheVariants.{Done, Negative, Usage, ReadFault, BadInput, WriteFault, Memory}
+use Rattle.command_table.specs.Table.{rows}
 use Rattle.front_words.specs.LinesAt.{line_at}
 use Rattle.front_words.specs.Messages.{bad_file_text, unread_text}
+use Rattle.front_words.specs.Unmatched.{unmatched_text}
 use Rattle.front_words.specs.Usage.{usage_text}
 use Rattle.front_top.specs.Files.{File, file_in}
 
@@ -52,13 +54,13 @@ stop_words command (Some stop.Memory) known = []
 abbrev pub lost_words : List ℕ
 lost_words = codes "mcg: the output could not be written whole\n"
 
--- what is said of a run of a command that ended with this status and this stop; nothing if it
+-- what is said of a run of these words that ended with this status and this stop; nothing if it
 -- is done or refused, and nothing if nobody reads the output any more
-abbrev pub words_of : Option Command → Status → Option Stop → Known → List ℕ
-words_of command Done stopped known = []
-words_of command Negative stopped known = []
-words_of command Usage stopped known = usage_text
-words_of command ReadFault stopped known = stop_words command stopped known
-words_of command BadInput stopped known = stop_words command stopped known
-words_of command WriteFault stopped known = if known.is_abandoned then [] else lost_words
-words_of command Memory stopped known = codes "mcg: memory ran out; nothing was written\n"
+abbrev pub words_of : (words : List (List ℕ)) → Status → Option Stop → Known → List ℕ
+words_of words Done stopped known = []
+words_of words Negative stopped known = []
+words_of words Usage stopped known = unmatched_text program usage_text rows words
+words_of words ReadFault stopped known = stop_words (command_of words) stopped known
+words_of words BadInput stopped known = stop_words (command_of words) stopped known
+words_of words WriteFault stopped known = if known.is_abandoned then [] else lost_words
+words_of words Memory stopped known = codes "mcg: memory ran out; nothing was written\n"

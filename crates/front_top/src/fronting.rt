@@ -59,8 +59,8 @@ fn say_unless_quiet<'a, E: Sink>(
 )
     ensures quiet { is_quiet ≡ true → errors.new ≡ errors.old }
     ensures says { is_quiet ≡ false → IsSaid E.written E.writes E.faults
-        (words_of (command_of (map string_bytes words.now)) ending.status ending.stop
-        (known_by clues.entry)) errors.old errors.new }
+        (words_of (map string_bytes words.now) ending.status ending.stop (known_by clues.entry))
+        errors.old errors.new }
 {
     if is_quiet {
         return;
@@ -82,7 +82,7 @@ fn speak<S: Keeping, K: Outlet, E: Sink>(
     ensures quiet { is_quiet ≡ true → errors.new ≡ errors.old }
     ensures speaks { is_quiet ≡ false →
         Speaks S.files S.steady S.faults S.reads K.written K.writes K.faults
-        E.written E.writes E.faults (command_of (map string_bytes words.now)) result
+        E.written E.writes E.faults (map string_bytes words.now) result
         (record {
           kept = S.kept shelf.new;
           reason = S.reason shelf.new;
@@ -135,7 +135,7 @@ pub fn run_front<S: Keeping, K: Outlet, E: Sink>(
     ensures quiet { is_quiet ≡ true → errors.new ≡ errors.old }
     ensures speaks { answer_of (map string_bytes words.now) ≡ None → is_quiet ≡ false →
         Speaks S.files S.steady S.faults S.reads K.written K.writes K.faults
-        E.written E.writes E.faults (command_of (map string_bytes words.now)) result
+        E.written E.writes E.faults (map string_bytes words.now) result
         (record {
           kept = S.kept shelf.new;
           reason = S.reason shelf.new;

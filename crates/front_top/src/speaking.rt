@@ -1,7 +1,7 @@
 //! What is said of each ending.
 ghost use Rattle.std.specs.Prelude.{◌≡◌, [], map, string_bytes};
 ghost use Rattle.std.specs.Option.{option_map};
-ghost use Rattle.bench_tasks.specs.Common.{asked, command_of};
+ghost use Rattle.bench_tasks.specs.Common.{asked};
 ghost use Rattle.front_words.specs.Saying.{Says};
 ghost use Rattle.front_top.specs.CluesSeen.{known_by};
 ghost use Rattle.front_top.specs.Files.{file_in};
@@ -11,7 +11,9 @@ ghost use Rattle.front_top.specs.Words.{bad_words, line_kept, lost_words, stop_w
 use crate::files::{File, file_at};
 use bench_tasks::{Command, Stop, command_of};
 use bench_top::{RunEnding, Status};
-use front_words::{BadFile, line_at, say_bad_file, say_bytes, say_unread, usage};
+use front_words::{
+    BadFile, all_rows, line_at, say_bad_file, say_bytes, say_unmatched, say_unread, usage,
+};
 use line_text::FaultKind;
 use outside::{FailureReason, Sink, SinkFailed};
 
@@ -137,12 +139,11 @@ pub fn say_ending<'a, E: Sink>(
     clues: Clues<'a>,
 ) -> Result<(), SinkFailed>
     ensures { Says E.written E.writes E.faults
-        (words_of (command_of (map string_bytes words.now)) ending.status ending.stop
-        (known_by clues.entry)) result errors.old errors.new }
+        (words_of (map string_bytes words.now) ending.status ending.stop (known_by clues.entry)) result errors.old errors.new }
 {
     match ending.status {
         Status::Done | Status::Negative => say_nothing(errors),
-        Status::Usage => say_bytes(errors, usage().as_bytes()),
+        Status::Usage => say_unmatched(errors, PROGRAM, usage(), all_rows(), words),
         Status::ReadFault | Status::BadInput => {
             say_stop(errors, command_of(words), ending.stop, clues)
         }

@@ -69,6 +69,18 @@ module _ {K F : Type 0} (written : K → Option (List ℕ)) (writes : K → List
     failed = said.failed;
   }
 
+  -- a text of two parts, of which the first was said
+  pub says_step : (text first second : List ℕ) (result : Result (Unit {0}) F) (before mid now : K) → text ≡ first ++ second →
+      Says {F = F} written writes faults first (Ok tt) before mid → Says written writes faults second result mid now → Says written writes faults text result before now
+  says_step text first second result before mid now parts said next =
+      subst (λ (l : List ℕ). Says written writes faults l result before now) (sym parts) (says-then first second result before mid now said next)
+
+  -- the same, and the first was not said whole
+  pub says_break : (text first second : List ℕ) (e : F) (before now : K) → text ≡ first ++ second →
+      Says written writes faults first (Err e) before now → Says written writes faults text (Err e) before now
+  says_break text first second e before now parts said =
+      subst (λ (l : List ℕ). Says written writes faults l (Err e) before now) (sym parts) (says-stopped first second e before now said)
+
   -- what a call that writes a piece or a beginning of it answers
   pub says_piece : (bytes : List ℕ) (result : Result (Unit {0}) F) (before now : K)
       → OnOk result (written now ≡ appended (written before) bytes)

@@ -55,10 +55,10 @@ fault_words Moves kind = line_fault kind
 abbrev pub header_note : Role → List ℕ
 header_note Graph = codes " (here p mcg N M or p mcg2 N M; analyse6 reads graph6)"
 header_note Graph6 = []
-header_note Derivation = codes " (here t mcg N)"
+header_note Derivation = codes " (here t mcg N, with the N of the graph)"
 header_note Picks = codes " (here s mcg K)"
-header_note Ears = codes " (here r mcg N M)"
-header_note Moves = codes " (here m mcg N)"
+header_note Ears = codes " (here r mcg N M, with the N and M of the graph)"
+header_note Moves = codes " (here m mcg N, with the N of the graph)"
 
 -- the limits of a format, after a fault of them
 abbrev pub limit_note : Role → List ℕ
@@ -78,7 +78,8 @@ reader_note Picks = []
 reader_note Ears = []
 reader_note Moves = []
 
--- what is added to the words of a fault: the header, the limits, or what else reads such a file
+-- what is added to the words of a fault: the header, the limits, what else reads such a file, or what
+-- to write instead
 abbrev pub note_words : Role → FaultKind → List ℕ
 note_words role Header = header_note role
 note_words role Word = []
@@ -89,7 +90,7 @@ note_words role Limit = limit_note role
 note_words role Missing = []
 note_words role Extra = reader_note role
 note_words role NotRising = []
-note_words role HasGreatest = []
+note_words role HasGreatest = codes " (write the other shore of this cut)"
 note_words role Unnamed = []
 note_words role SameName = []
 note_words role BadName = []

@@ -9,3 +9,4 @@ pub mod LinesAt
 pub mod Messages
 pub mod ListMessages
 pub mod Usage
+pub mod Unmatched

@@ -1,7 +1,7 @@
 -- The messages on lists of graphs: each is a line that begins with the name of the program, or two
 -- such lines.
 -- Stated by: front_words. Rests on it: mcg6_front_top.
-use Rattle.std.specs.Prelude.{ℕ, ◌==◌, ◌||◌, Bool, List, ◌++◌, codes, length, nat_lt, if◌then◌else◌}
+use Rattle.std.specs.Prelude.{ℕ, ◌==◌, ◌||◌, Bool, List, [], ◌++◌, codes, length, nat_lt, if◌then◌else◌}
 use Rattle.std.specs.Fmt.{decimal}
 use Rattle.std.specs.declared.option.Option.{Option}
 use Rattle.std.specs.declared.option.Option.TheVariants.{None, Some}
@@ -12,15 +12,19 @@ use Rattle.outside.specs.Common.{most_line}
 use Rattle.outside.specs.declared.explain.FailureReason.{FailureReason}
 use Rattle.front_words.specs.Faults.{graph6_fault}
 use Rattle.front_words.specs.LinesAt.{line_at}
-use Rattle.front_words.specs.Messages.{line_shown, some_line, unread_text}
+use Rattle.front_words.specs.Messages.{line_shown, some_line, unread_noted_text}
 use Rattle.front_words.specs.Openings.{opening_note}
 use Rattle.front_words.specs.Reasons.{reason_words}
+
+-- what is added where a dash is to stand for standard input, which is what is read without a name
+abbrev pub list_dash_note : (name : List ℕ) → List ℕ
+list_dash_note name = if bytes_eq name (codes "-") then codes " (for standard input leave the name out)" else []
 
 -- the list in the file of that name, or with none that of standard input, could not be read, for
 -- that reason
 abbrev pub unread_list_text : (program : List ℕ) → Option (List ℕ) → Option FailureReason → List ℕ
 unread_list_text program None reason = program ++ (codes ": cannot read standard input: " ++ (reason_words reason ++ codes "\n"))
-unread_list_text program (Some name) reason = unread_text program name reason
+unread_list_text program (Some name) reason = unread_noted_text program name reason (list_dash_note name)
 
 -- a line of a list of which only its line end is left
 abbrev pub is_blank_line : (text : List ℕ) → Bool

@@ -4,6 +4,7 @@ use Rattle.std.specs.Prelude.{ℕ, ◌==◌, List, [], ◌∷◌, ◌++◌, code
 use Rattle.std.specs.Fmt.{decimal}
 use Rattle.std.specs.declared.option.Option.{Option}
 use Rattle.std.specs.declared.option.Option.TheVariants.{None, Some}
+use Rattle.std.specs.Str.{bytes_eq}
 use Rattle.line_text.specs.declared.faults.FaultKind.{FaultKind}
 use Rattle.outside.specs.declared.explain.FailureReason.{FailureReason}
 use Rattle.front_words.specs.declared.faults.Role.{Role}
@@ -16,10 +17,18 @@ use Rattle.front_words.specs.Showing.{shown}
 abbrev pub told : (program words : List ℕ) → List ℕ
 told program words = program ++ (codes ": " ++ (words ++ codes "\n"))
 
--- the file of that name could not be read, for that reason
+-- what is added where a dash is to stand for standard input
+abbrev pub dash_note : (name : List ℕ) → List ℕ
+dash_note name = if bytes_eq name (codes "-") then codes " (for standard input write /dev/stdin)" else []
+
+-- the file of that name could not be read, for that reason, with a note
+abbrev pub unread_noted_text : (program name : List ℕ) → Option FailureReason → (note : List ℕ) → List ℕ
+unread_noted_text program name reason note =
+    program ++ (codes ": cannot read " ++ (shown 4096 name ++ (codes ": " ++ (reason_words reason ++ (note ++ codes "\n")))))
+
+-- the same with the note on a dash
 abbrev pub unread_text : (program name : List ℕ) → Option FailureReason → List ℕ
-unread_text program name reason =
-    program ++ (codes ": cannot read " ++ (shown 4096 name ++ (codes ": " ++ (reason_words reason ++ codes "\n"))))
+unread_text program name reason = unread_noted_text program name reason (dash_note name)
 
 -- the file of that name is too long
 abbrev pub too_long_text : (program name : List ℕ) → List ℕ

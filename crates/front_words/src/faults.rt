@@ -83,10 +83,10 @@ fn header_note(role: Role) -> &'static str
     match role {
         Role::Graph => " (here p mcg N M or p mcg2 N M; analyse6 reads graph6)",
         Role::Graph6 => "",
-        Role::Derivation => " (here t mcg N)",
+        Role::Derivation => " (here t mcg N, with the N of the graph)",
         Role::Picks => " (here s mcg K)",
-        Role::Ears => " (here r mcg N M)",
-        Role::Moves => " (here m mcg N)",
+        Role::Ears => " (here r mcg N M, with the N and M of the graph)",
+        Role::Moves => " (here m mcg N, with the N of the graph)",
     }
 }
 
@@ -114,8 +114,8 @@ fn reader_note(role: Role) -> &'static str
     }
 }
 
-/// What is added to the words of a fault: the header of the format, its limits, or what else
-/// reads such a file. Takes no memory.
+/// What is added to the words of a fault: the header of the format, its limits, what else reads
+/// such a file, or what to write instead. Takes no memory.
 pub fn note_words(role: Role, kind: FaultKind) -> &'static str
     ensures { result.now ≡ note_words role kind }
 {
@@ -123,13 +123,13 @@ pub fn note_words(role: Role, kind: FaultKind) -> &'static str
         FaultKind::Header => header_note(role),
         FaultKind::Limit => limit_note(role),
         FaultKind::Extra => reader_note(role),
+        FaultKind::HasGreatest => " (write the other shore of this cut)",
         FaultKind::Word
         | FaultKind::Number
         | FaultKind::Range
         | FaultKind::Loop
         | FaultKind::Missing
         | FaultKind::NotRising
-        | FaultKind::HasGreatest
         | FaultKind::Unnamed
         | FaultKind::SameName
         | FaultKind::BadName

@@ -6,7 +6,8 @@
 //! beginning of it (`Says`). Main definitions, in specs/: `usage_text` and `list_usage_text` of
 //! `Usage`, with the tables of commands; `fault_words` and `note_words` of `Faults`, what the
 //! kinds of faults in a file are, with the headers and the limits of the formats; `reason_words`
-//! of `Reasons`, why a file cannot be read; and the texts of `Messages` and `ListMessages`, one
+//! of `Reasons`, why a file cannot be read; `unmatched_text` of `Unmatched`, why words match no row
+//! of a table; and the texts of `Messages` and `ListMessages`, one
 //! for each ending that needs words. Main promises: each function `say_..` says its text, and
 //! takes no memory.
 //!
@@ -23,8 +24,9 @@ mod pieces;
 mod reasons;
 mod showing;
 mod table;
+mod unmatched;
 
-pub use command_table::{list_usage, usage};
+pub use command_table::{all_list_rows, all_rows, list_page, list_usage, page, usage};
 pub use faults::{Role, fault_words, note_words};
 pub use lines::line_at;
 pub use list_messages::{say_bad_line, say_unread_list};
@@ -33,3 +35,4 @@ pub use pieces::{MessagePiece, say};
 pub use reasons::reason_words;
 pub use showing::say_bytes;
 pub use table::{list_version, version};
+pub use unmatched::say_unmatched;

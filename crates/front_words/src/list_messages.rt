@@ -1,18 +1,28 @@
 //! The messages on lists of graphs.
 ghost use Rattle.std.specs.Prelude.{◌≡◌, None};
 ghost use Rattle.std.specs.Option.{option_map};
-ghost use Rattle.front_words.specs.ListMessages.{bad_line_text, line_kept, list_fault, long_line, short_line, unread_list_text};
+ghost use Rattle.front_words.specs.ListMessages.{bad_line_text, line_kept, list_dash_note, list_fault, long_line, short_line, unread_list_text};
 ghost use Rattle.front_words.specs.Saying.{Says};
 
 use crate::faults::{Role, fault_words};
 use crate::lines::line_at;
-use crate::messages::{MOST_OF_LINE, say_unread, some_line};
+use crate::messages::{MOST_OF_LINE, say_unread_noted, some_line};
 use crate::openings::opening_note;
 use crate::pieces::MessagePiece::{Number, Shown, Text};
 use crate::pieces::say;
 use crate::reasons::reason_words;
 use line_text::FaultKind;
 use outside::{FailureReason, MOST_LINE, Sink, SinkFailed};
+
+// What is added where a dash is to stand for standard input, which is what is read without a name.
+fn list_dash_note(name: &str) -> &'static str
+    ensures { result.now ≡ list_dash_note name.now }
+{
+    match name {
+        "-" => " (for standard input leave the name out)",
+        _ => "",
+    }
+}
 
 /// Says that a list could not be read, the one in the file of that name or, with none, that of
 /// standard input, and why. Takes no memory.
@@ -27,7 +37,7 @@ pub fn say_unread_list<'a, K: Sink>(
         sink.old sink.new }
 {
     match name {
-        Some(name) => say_unread(sink, program, name, reason),
+        Some(name) => say_unread_noted(sink, program, name, reason, list_dash_note(name)),
         None => say_unread_input(sink, program, reason),
     }
 }

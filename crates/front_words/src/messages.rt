@@ -1,7 +1,7 @@
 //! The messages.
 ghost use Rattle.std.specs.Prelude.{◌≡◌};
 ghost use Rattle.std.specs.Option.{option_map};
-ghost use Rattle.front_words.specs.Messages.{bad_file_text, fault_text, file_note, outside_text, some_line, too_long_text, unread_text};
+ghost use Rattle.front_words.specs.Messages.{bad_file_text, dash_note, fault_text, file_note, outside_text, some_line, too_long_text, unread_noted_text, unread_text};
 ghost use Rattle.front_words.specs.Saying.{Says};
 
 use crate::faults::{Role, fault_words, note_words};
@@ -43,15 +43,26 @@ impl BadFile<'_> {
     }
 }
 
-/// Says that the file of that name could not be read, and why. Takes no memory.
-pub fn say_unread<'a, K: Sink>(
+// What is added where a dash is to stand for standard input.
+fn dash_note(name: &str) -> &'static str
+    ensures { result.now ≡ dash_note name.now }
+{
+    match name {
+        "-" => " (for standard input write /dev/stdin)",
+        _ => "",
+    }
+}
+
+/// Says that the file of that name could not be read, and why, with this note. Takes no memory.
+pub fn say_unread_noted<'a, K: Sink>(
     sink: &mut K,
     program: &'a str,
     name: &'a str,
     reason: Option<FailureReason>,
+    note: &'a str,
 ) -> Result<(), SinkFailed>
-    ensures { Says K.written K.writes K.faults (unread_text program.now name.now reason) result sink.old
-        sink.new }
+    ensures { Says K.written K.writes K.faults
+        (unread_noted_text program.now name.now reason note.now) result sink.old sink.new }
 {
     let name = Shown(name.as_bytes(), MOST_OF_NAME);
     let why = Text(reason_words(reason));
@@ -63,9 +74,23 @@ pub fn say_unread<'a, K: Sink>(
             name,
             Text(": "),
             why,
+            Text(note),
             Text("\n"),
         ],
     )
+}
+
+/// Says that the file of that name could not be read, and why. Takes no memory.
+pub fn say_unread<'a, K: Sink>(
+    sink: &mut K,
+    program: &'a str,
+    name: &'a str,
+    reason: Option<FailureReason>,
+) -> Result<(), SinkFailed>
+    ensures { Says K.written K.writes K.faults (unread_text program.now name.now reason) result sink.old
+        sink.new }
+{
+    say_unread_noted(sink, program, name, reason, dash_note(name))
 }
 
 // Says that the file of that name is too long.

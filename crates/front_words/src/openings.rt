@@ -70,11 +70,7 @@ fn role_note(role: Role, text: &[u8]) -> &'static str
 
 /// The same for a file that is read so, if its beginning is known; and if there is none to make,
 /// the other note. Takes no memory.
-pub fn beginning_note(
-    role: Role,
-    beginning: Option<&[u8]>,
-    other: &'static str,
-) -> &'static str
+pub fn beginning_note(role: Role, beginning: Option<&[u8]>, other: &'static str) -> &'static str
     ensures { result.now ≡
         beginning_note role (option_map (λ text. text.now) beginning.entry) other.now }
 {

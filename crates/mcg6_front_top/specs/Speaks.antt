@@ -37,7 +37,7 @@ pub record Speaks {E : Type 0} (written : E → Option (List ℕ)) (writes : E �
   pub encodes : (name : List ℕ) (last : ListEnd) → encode_of words ≡ Some name → ending ≡ Some last
       → EncodesFile last.ending left sink_before sink_now
   pub said : IsSaid written writes faults
-      (words_of ending (record { name = file_named_by words; encoded = encode_of words; reason = reason; is_abandoned = is_abandoned })) before now
+      (words_of words ending (record { name = file_named_by words; encoded = encode_of words; reason = reason; is_abandoned = is_abandoned })) before now
 
 -- a text was the whole answer: it was written whole and all is done, or a beginning of it if
 -- the sink failed, and the write that failed is the last

@@ -8,9 +8,11 @@ use Rattle.mcg6_reader.specs.declared.ending.BadLine.{BadLine}
 use Rattle.mcg6_reader.specs.declared.ending.Ending.{Ending}
 use Rattle.mcg6_reader.specs.declared.ending.Ending.TheVariants.{Done, Bad, ReadFault, WriteFault, Memory}
 use Rattle.mcg6_top.specs.declared.status.ListEnd.{ListEnd}
+use Rattle.command_table.specs.Table.{list_rows}
 use Rattle.front_words.specs.declared.faults.Role.TheVariants.{Graph}
 use Rattle.front_words.specs.ListMessages.{bad_line_text, unread_list_text}
 use Rattle.front_words.specs.Messages.{bad_file_text, unread_text}
+use Rattle.front_words.specs.Unmatched.{unmatched_text}
 use Rattle.front_words.specs.Usage.{list_usage_text}
 
 -- the name of the program
@@ -78,7 +80,7 @@ abbrev pub ending_words : (encoded : Option (List ℕ)) → ListEnd → Known �
 ending_words None end known = skipped_words end.skipped.items ++ list_words end.ending known
 ending_words (Some name) end known = file_words name end.ending known
 
--- what is said of a run that ended so
-abbrev pub words_of : Option ListEnd → Known → List ℕ
-words_of None known = list_usage_text
-words_of (Some end) known = ending_words known.encoded end known
+-- what is said of a run of these words that ended so, or of words that match no row
+abbrev pub words_of : (words : List (List ℕ)) → Option ListEnd → Known → List ℕ
+words_of words None known = unmatched_text program list_usage_text list_rows words
+words_of words (Some end) known = ending_words known.encoded end known

@@ -58,17 +58,19 @@ fn answer<K: Outlet, E: Sink>(
 fn say_unless_quiet<'a, E: Sink>(
     errors: &mut E,
     is_quiet: bool,
+    words: &'a [String],
     end: &Option<ListEnd>,
     clues: ListClues<'a>,
 )
     ensures quiet { is_quiet ≡ true → errors.new ≡ errors.old }
     ensures says { is_quiet ≡ false → IsSaid E.written E.writes E.faults
-        (words_of end.now (known_by clues.entry)) errors.old errors.new }
+        (words_of (map string_bytes words.now) end.now (known_by clues.entry))
+        errors.old errors.new }
 {
     if is_quiet {
         return;
     }
-    let _ = say_ending(errors, end, clues);
+    let _ = say_ending(errors, words, end, clues);
 }
 
 // Runs the words, and then says how that ended, unless it is to be quiet.
@@ -96,7 +98,7 @@ fn speak<S: Source, K: Outlet, E: Sink>(
         reason,
         is_abandoned: sink.is_abandoned(),
     };
-    say_unless_quiet(errors, is_quiet, &end, clues);
+    say_unless_quiet(errors, is_quiet, words, &end, clues);
     status_in(&end)
 }
 

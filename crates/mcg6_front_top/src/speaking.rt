@@ -1,5 +1,5 @@
 //! What is said of each ending.
-ghost use Rattle.std.specs.Prelude.{◌≡◌, ◌↔◌, ◌++◌, [], None};
+ghost use Rattle.std.specs.Prelude.{◌≡◌, ◌↔◌, ◌++◌, [], None, Some, map, string_bytes};
 ghost use Rattle.std.specs.Option.{option_map};
 ghost use Rattle.front_words.specs.Saying.{Says};
 ghost use Rattle.mcg6_top.specs.Common.{status_in};
@@ -8,7 +8,8 @@ ghost use Rattle.mcg6_front_top.specs.Words.{bad_graph_words, beginning_of, endi
 
 use crate::skipping::say_skipped;
 use front_words::{
-    BadFile, Role, list_usage, say_bad_file, say_bad_line, say_bytes, say_unread, say_unread_list,
+    BadFile, Role, all_list_rows, list_usage, say_bad_file, say_bad_line, say_bytes, say_unmatched,
+    say_unread, say_unread_list,
 };
 use mcg6_reader::{BadLine, Ending};
 use mcg6_top::{ListEnd, ListStatus, status_of};
@@ -52,15 +53,17 @@ fn say_nothing<E: Sink>(_errors: &mut E) -> Result<(), SinkFailed>
 /// where each line was told, or the graph6 text written. Takes no memory.
 pub fn say_ending<'a, E: Sink>(
     errors: &mut E,
+    words: &'a [String],
     end: &Option<ListEnd>,
     clues: ListClues<'a>,
 ) -> Result<(), SinkFailed>
-    ensures { Says E.written E.writes E.faults (words_of end.now (known_by clues.entry)) result
+    ensures { Says E.written E.writes E.faults
+        (words_of (map string_bytes words.now) end.now (known_by clues.entry)) result
         errors.old errors.new }
 {
     match end {
         Some(end) => say_some_ending(errors, end, clues),
-        None => say_bytes(errors, list_usage().as_bytes()),
+        None => say_unmatched(errors, PROGRAM, list_usage(), all_list_rows(), words),
     }
 }
 

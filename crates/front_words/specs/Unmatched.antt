@@ -1,0 +1,41 @@
+-- What is said of words that match no row of a table: why, and the lines of the command.
+-- Stated by: front_words. Rests on it: front_top, mcg6_front_top.
+use Rattle.std.specs.Prelude.{ℕ, List, [], ◌∷◌, ◌++◌, codes, if◌then◌else◌}
+use Rattle.std.specs.declared.option.Option.{Option}
+use Rattle.std.specs.declared.option.Option.TheVariants.{None, Some}
+use Rattle.std.specs.Str.{bytes_eq}
+use Rattle.command_table.specs.Pages.{command_lines}
+use Rattle.command_table.specs.Reasons.{Reason, Unknown, TooMany, TooFew, Wrong, why_unmatched}
+use Rattle.command_table.specs.Rows.{Row, word_meaning, word_need}
+use Rattle.front_words.specs.Showing.{shown}
+
+-- why the words match no row; nothing if they match one
+abbrev pub reason_text : (program command : List ℕ) → Option Reason → List ℕ
+reason_text program command None = []
+reason_text program command (Some Unknown) =
+    program ++ (codes ": no command " ++ (shown 60 command ++ (codes "; " ++ (program ++ codes " --help lists them\n"))))
+reason_text program command (Some TooMany) = program ++ (codes ": too many arguments for " ++ (shown 60 command ++ codes "\n"))
+reason_text program command (Some (TooFew missing)) =
+    program ++ (codes ": " ++ (shown 60 command ++ (codes " needs " ++ (word_need missing ++ codes "\n"))))
+reason_text program command (Some (Wrong wanted)) = program ++ (codes ": " ++ (word_meaning wanted ++ codes "\n"))
+
+-- the same, and the lines of the command
+abbrev pub misuse_text : (program : List ℕ) → List Row → (command : List ℕ) → (words : List (List ℕ)) → List ℕ
+misuse_text program rows command words = reason_text program command (why_unmatched rows words) ++ command_lines command rows
+
+-- the command that is meant: the first word, or the one behind `help`
+abbrev pub meant : List (List ℕ) → Option (List ℕ)
+meant [] = None
+meant (word ∷ []) = Some word
+meant (word ∷ next ∷ []) = if bytes_eq word (codes "help") then Some next else Some word
+meant (word ∷ next ∷ third ∷ words) = Some word
+
+-- the same where it is this one, if it is any
+abbrev pub meant_text : (program usage : List ℕ) → List Row → (words : List (List ℕ)) → Option (List ℕ) → List ℕ
+meant_text program usage rows words None = usage
+meant_text program usage rows words (Some command) = misuse_text program rows command words
+
+-- what is said of the words: why they match no row, and the lines of the command that is meant; and
+-- the usage where there are none
+abbrev pub unmatched_text : (program usage : List ℕ) → List Row → (words : List (List ℕ)) → List ℕ
+unmatched_text program usage rows words = meant_text program usage rows words (meant words)

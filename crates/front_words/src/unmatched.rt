@@ -1,0 +1,138 @@
+//! What is said of words that match no row of a table.
+ghost use Rattle.std.specs.Prelude.{◌≡◌, map, string_bytes};
+ghost use Rattle.std.specs.Option.{option_map};
+ghost use Rattle.command_table.specs.Pages.{command_line, command_lines};
+ghost use Rattle.command_table.specs.Reasons.{reason_seen};
+ghost use Rattle.command_table.specs.RowsSeen.{row_seen};
+ghost use Rattle.front_words.specs.Saying.{Says};
+ghost use Rattle.front_words.specs.Unmatched.{meant, misuse_text, reason_text, unmatched_text};
+
+use crate::pieces::MessagePiece::{Shown, Text};
+use crate::pieces::say;
+use crate::showing::say_bytes;
+use command_table::{Reason, Row, why_unmatched};
+use outside::{Sink, SinkFailed};
+
+// The most bytes of a command that are shown.
+const MOST_OF_COMMAND: u32 = 60;
+
+// The line of a row, if that is the command.
+fn command_line(command: &str, row: &Row) -> &'static str
+    ensures { result.now ≡ command_line command.now (row_seen row.now) }
+{
+    if command == row.command { row.line } else { "" }
+}
+
+// Says the lines of the rows of that command.
+fn say_lines<K: Sink>(sink: &mut K, command: &str, rows: &[Row]) -> Result<(), SinkFailed>
+    ensures { Says K.written K.writes K.faults
+        (command_lines command.now (map row_seen rows.now)) result sink.old sink.new }
+{
+    match rows.split_first() {
+        None => say_bytes(sink, b""),
+        Some((row, rows)) => match say_bytes(sink, command_line(command, row).as_bytes()) {
+            Ok(()) => say_lines(sink, command, rows),
+            Err(failed) => Err(failed),
+        },
+    }
+}
+
+// Says why the words match no row.
+fn say_reason<'a, K: Sink>(
+    sink: &mut K,
+    program: &'a str,
+    command: &'a str,
+    reason: Option<Reason>,
+) -> Result<(), SinkFailed>
+    ensures { Says K.written K.writes K.faults
+        (reason_text program.now command.now (option_map reason_seen reason)) result
+        sink.old sink.new }
+{
+    let by = Text(program);
+    let command = Shown(command.as_bytes(), MOST_OF_COMMAND);
+    let end = Text("\n");
+    match reason {
+        None => say(sink, &[]),
+        Some(Reason::Unknown) => say(
+            sink,
+            &[
+                by,
+                Text(": no command "),
+                command,
+                Text("; "),
+                by,
+                Text(" --help lists them\n"),
+            ],
+        ),
+        Some(Reason::TooMany) => {
+            say(sink, &[by, Text(": too many arguments for "), command, end])
+        }
+        Some(Reason::TooFew(missing)) => say(
+            sink,
+            &[
+                by,
+                Text(": "),
+                command,
+                Text(" needs "),
+                Text(missing.need()),
+                end,
+            ],
+        ),
+        Some(Reason::Wrong(wanted)) => say(sink, &[by, Text(": "), Text(wanted.note()), end]),
+    }
+}
+
+// Says why the words match no row, and the lines of the command.
+fn say_misuse<'a, K: Sink>(
+    sink: &mut K,
+    program: &'a str,
+    rows: &'a [Row],
+    command: &'a str,
+    words: &'a [String],
+) -> Result<(), SinkFailed>
+    ensures { Says K.written K.writes K.faults
+        (misuse_text program.now (map row_seen rows.now) command.now (map string_bytes words.now))
+        result sink.old sink.new }
+{
+    let reason = why_unmatched(rows, words);
+    match say_reason(sink, program, command, reason) {
+        Ok(()) => say_lines(sink, command, rows),
+        Err(failed) => Err(failed),
+    }
+}
+
+// The command that is meant: the first word, or the one behind `help`.
+fn meant(words: &[String]) -> Option<&str>
+    ensures { option_map (λ word. word.now) result ≡ meant (map string_bytes words.now) }
+{
+    match words {
+        [] => None,
+        [word, next] => {
+            if word.as_str() == "help" {
+                Some(next.as_str())
+            } else {
+                Some(word.as_str())
+            }
+        }
+        [word, ..] => Some(word.as_str()),
+    }
+}
+
+/// Says why words match no row of the table of a program, and the lines of the command that is
+/// meant; and the usage where there are no words. Takes no memory.
+pub fn say_unmatched<'a, K: Sink>(
+    sink: &mut K,
+    program: &'a str,
+    usage: &'a str,
+    rows: &'a [Row],
+    words: &'a [String],
+) -> Result<(), SinkFailed>
+    ensures { Says K.written K.writes K.faults
+        (unmatched_text program.now usage.now (map row_seen rows.now) (map string_bytes words.now))
+        result sink.old sink.new }
+{
+    match meant(words) {
+        Some(command) => say_misuse(sink, program, rows, command, words),
+        None => say_bytes(sink, usage.as_bytes()),
+    }
+}
