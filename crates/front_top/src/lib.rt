@@ -2,7 +2,8 @@
 //! `bench_top`, and then says on a second sink, for a person, what a status above 1 means in the
 //! case at hand.
 //!
-//! `--help`, `-h`, `help` and `--version`, alone, are answered on standard output, and nothing is
+//! `--help`, `-h`, `help` and `--version`, alone, and what asks for the page of a command, `--help`
+//! behind it or one of the first three before it, are answered on standard output, and nothing is
 //! read. For all other words standard output and status are those of `run`. Main definitions, in
 //! specs/: `answer_of` of `Answers` (what such words are answered), `files_of` of `Files` (what
 //! each named file is read as), and `words_of` of `Words`, what is said of each ending, a

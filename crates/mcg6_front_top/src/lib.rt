@@ -1,7 +1,8 @@
 //! The top call of the program `mcg6_front`: `run_list_front` does what the words ask for, as
 //! `run` of `mcg6_top`, and then says on a second sink, for a person, how that ended.
 //!
-//! `--help`, `-h`, `help` and `--version`, alone, are answered on standard output, and nothing is
+//! `--help`, `-h`, `help` and `--version`, alone, and what asks for the page of a command, `--help`
+//! behind it or one of the first three before it, are answered on standard output, and nothing is
 //! read. For all other words standard output, the source and the status are those of `run`: so
 //! standard output has data alone. Main definitions, in specs/: `answer_of` of `Answers` (what
 //! such words are answered), `IsListRun` of `Runs` (the clauses of `run`), and `words_of` of
