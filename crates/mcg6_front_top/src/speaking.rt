@@ -130,14 +130,15 @@ fn say_bad_graph<E: Sink>(errors: &mut E, name: &str, found: &BadLine) -> Result
     ensures { Says E.written E.writes E.faults (bad_graph_words name.now found.now) result
         errors.old errors.new }
 {
+    let text = found.text.as_slice();
     let bad = BadFile {
         name,
         role: Role::Graph,
         line: found.number,
         kind: found.kind,
-        beginning: beginning_of(found.number, found.text.as_slice()),
+        beginning: beginning_of(found.number, text),
     };
-    say_bad_file(errors, PROGRAM, &bad, Some(found.text.as_slice()))
+    say_bad_file(errors, PROGRAM, &bad, Some(text))
 }
 
 // Says that memory ran out before anything was written.
