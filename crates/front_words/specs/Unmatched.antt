@@ -9,15 +9,19 @@ use Rattle.command_table.specs.Reasons.{Reason, Unknown, TooMany, TooFew, Wrong,
 use Rattle.command_table.specs.Rows.{Row, word_meaning, word_need}
 use Rattle.front_words.specs.Showing.{shown}
 
+-- the words match no row for this reason
+abbrev pub some_reason_text : (program command : List ℕ) → Reason → List ℕ
+some_reason_text program command Unknown =
+    program ++ (codes ": no command " ++ (shown 60 command ++ (codes "; " ++ (program ++ codes " --help lists them\n"))))
+some_reason_text program command TooMany = program ++ (codes ": too many arguments for " ++ (shown 60 command ++ codes "\n"))
+some_reason_text program command (TooFew missing) =
+    program ++ (codes ": " ++ (shown 60 command ++ (codes " needs " ++ (word_need missing ++ codes "\n"))))
+some_reason_text program command (Wrong wanted) = program ++ (codes ": " ++ (word_meaning wanted ++ codes "\n"))
+
 -- why the words match no row; nothing if they match one
 abbrev pub reason_text : (program command : List ℕ) → Option Reason → List ℕ
 reason_text program command None = []
-reason_text program command (Some Unknown) =
-    program ++ (codes ": no command " ++ (shown 60 command ++ (codes "; " ++ (program ++ codes " --help lists them\n"))))
-reason_text program command (Some TooMany) = program ++ (codes ": too many arguments for " ++ (shown 60 command ++ codes "\n"))
-reason_text program command (Some (TooFew missing)) =
-    program ++ (codes ": " ++ (shown 60 command ++ (codes " needs " ++ (word_need missing ++ codes "\n"))))
-reason_text program command (Some (Wrong wanted)) = program ++ (codes ": " ++ (word_meaning wanted ++ codes "\n"))
+reason_text program command (Some reason) = some_reason_text program command reason
 
 -- the same, and the lines of the command
 abbrev pub misuse_text : (program : List ℕ) → List Row → (command : List ℕ) → (words : List (List ℕ)) → List ℕ

@@ -5,7 +5,7 @@ ghost use Rattle.command_table.specs.Pages.{command_line, command_lines};
 ghost use Rattle.command_table.specs.Reasons.{reason_seen};
 ghost use Rattle.command_table.specs.RowsSeen.{row_seen};
 ghost use Rattle.front_words.specs.Saying.{Says};
-ghost use Rattle.front_words.specs.Unmatched.{meant, misuse_text, reason_text, unmatched_text};
+ghost use Rattle.front_words.specs.Unmatched.{meant, misuse_text, reason_text, some_reason_text, unmatched_text};
 
 use crate::pieces::MessagePiece::{Shown, Text};
 use crate::pieces::say;
@@ -37,23 +37,21 @@ fn say_lines<K: Sink>(sink: &mut K, command: &str, rows: &[Row]) -> Result<(), S
     }
 }
 
-// Says why the words match no row.
-fn say_reason<'a, K: Sink>(
+// Says that the words match no row for this reason.
+fn say_some_reason<'a, K: Sink>(
     sink: &mut K,
     program: &'a str,
-    command: &'a str,
-    reason: Option<Reason>,
+    command: &'a [u8],
+    reason: Reason,
 ) -> Result<(), SinkFailed>
     ensures { Says K.written K.writes K.faults
-        (reason_text program.now command.now (option_map reason_seen reason)) result
-        sink.old sink.new }
+        (some_reason_text program.now command.now (reason_seen reason)) result sink.old sink.new }
 {
     let by = Text(program);
-    let command = Shown(command.as_bytes(), MOST_OF_COMMAND);
+    let command = Shown(command, MOST_OF_COMMAND);
     let end = Text("\n");
     match reason {
-        None => say(sink, &[]),
-        Some(Reason::Unknown) => say(
+        Reason::Unknown => say(
             sink,
             &[
                 by,
@@ -64,10 +62,8 @@ fn say_reason<'a, K: Sink>(
                 Text(" --help lists them\n"),
             ],
         ),
-        Some(Reason::TooMany) => {
-            say(sink, &[by, Text(": too many arguments for "), command, end])
-        }
-        Some(Reason::TooFew(missing)) => say(
+        Reason::TooMany => say(sink, &[by, Text(": too many arguments for "), command, end]),
+        Reason::TooFew(missing) => say(
             sink,
             &[
                 by,
@@ -78,7 +74,24 @@ fn say_reason<'a, K: Sink>(
                 end,
             ],
         ),
-        Some(Reason::Wrong(wanted)) => say(sink, &[by, Text(": "), Text(wanted.note()), end]),
+        Reason::Wrong(wanted) => say(sink, &[by, Text(": "), Text(wanted.note()), end]),
+    }
+}
+
+// Says why the words match no row; nothing if they match one.
+fn say_reason<'a, K: Sink>(
+    sink: &mut K,
+    program: &'a str,
+    command: &'a [u8],
+    reason: Option<Reason>,
+) -> Result<(), SinkFailed>
+    ensures { Says K.written K.writes K.faults
+        (reason_text program.now command.now (option_map reason_seen reason)) result
+        sink.old sink.new }
+{
+    match reason {
+        Some(reason) => say_some_reason(sink, program, command, reason),
+        None => say_bytes(sink, b""),
     }
 }
 
@@ -95,7 +108,7 @@ fn say_misuse<'a, K: Sink>(
         result sink.old sink.new }
 {
     let reason = why_unmatched(rows, words);
-    match say_reason(sink, program, command, reason) {
+    match say_reason(sink, program, command.as_bytes(), reason) {
         Ok(()) => say_lines(sink, command, rows),
         Err(failed) => Err(failed),
     }
