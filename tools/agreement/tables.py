@@ -121,7 +121,7 @@ def list_synopsis(page):
 
 def compare_lists(usage, formats):
     """Compares the table of mcg6."""
-    rows = [re.split("  +", it)[1] for it in usage.splitlines() if it.startswith("  ")]
+    rows = [it[2:31].rstrip() for it in usage.splitlines() if it.startswith("  ")]
     orders, properties = list_words(usage, "ORDER"), list_words(usage, "WHAT")
     same("the synopsis and the properties of the manual page of mcg6", (rows, properties), list_synopsis(read("share/man/man1/mcg6.1")))
     completion = read("share/bash-completion/completions/mcg6")

@@ -7,7 +7,7 @@ use Rattle.std.specs.List.{starts_with}
 use Rattle.std.specs.Str.{bytes_eq}
 use Rattle.command_table.specs.Rows.{Row}
 use Rattle.command_table.specs.declared.pages.TheConstants.{ANALYSE, CONVERT, ANALYSE6, DECOMPOSE, CHECK, CHECKEARS, EARS, COMPARE, SCRIPT, REPLAY, GROW}
-use Rattle.command_table.specs.declared.list_pages.TheConstants.{KINDS, LEAVES, GRAPH, SELECT, ENCODE}
+use Rattle.command_table.specs.declared.list_pages.TheConstants.{KINDS, LEAVES, ELEMENTARY, GRAPH, SELECT, ENCODE}
 
 -- the line of a row, if that is the command
 abbrev pub command_line : (command : List ℕ) → Row → List ℕ
@@ -38,6 +38,7 @@ abbrev pub list_page_of : (command : List ℕ) → Option (List ℕ)
 list_page_of command =
     if bytes_eq command (codes "kinds") then Some KINDS.now else
     if bytes_eq command (codes "leaves") then Some LEAVES.now else
+    if bytes_eq command (codes "elementary") then Some ELEMENTARY.now else
     if bytes_eq command (codes "graph") then Some GRAPH.now else
     if bytes_eq command (codes "select") then Some SELECT.now else
     if bytes_eq command (codes "encode") then Some ENCODE.now else None

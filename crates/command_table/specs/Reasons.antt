@@ -23,10 +23,11 @@ reason_seen code.TooMany = TooMany
 reason_seen (code.TooFew missing) = TooFew (word_seen missing)
 reason_seen (code.Wrong wanted) = Wrong (word_seen wanted)
 
--- a word that may be left out is wrong if the words without it do not fit either
-abbrev pub wrong_unless : Word → Option Reason → Option Reason
-wrong_unless wanted None = None
-wrong_unless wanted (Some reason) = Some (Wrong wanted)
+-- a word that may be left out is wrong if the words without it do not fit either; if it is another
+-- than the text of a row, it is why these do not
+abbrev pub wrong_unless : Word → (word : List ℕ) → Option Reason → Option Reason
+wrong_unless wanted word None = None
+wrong_unless wanted word (Some reason) = if is_other wanted word then Some reason else Some (Wrong wanted)
 
 -- why words do not fit those of a row that may be left out, if they do not
 abbrev pub why_of_optional : List Word → List (List ℕ) → Option Reason
@@ -34,7 +35,7 @@ why_of_optional [] [] = None
 why_of_optional [] (word ∷ words) = Some TooMany
 why_of_optional (wanted ∷ row) [] = None
 why_of_optional (wanted ∷ row) (word ∷ words) =
-    if fits_word wanted word then why_of_optional row words else wrong_unless wanted (why_of_optional row (word ∷ words))
+    if fits_word wanted word then why_of_optional row words else wrong_unless wanted word (why_of_optional row (word ∷ words))
 
 -- a number of words that does not fit comes before a word that does not
 abbrev pub wrong_behind : Word → (word : List ℕ) → Option Reason → Option Reason

@@ -5,9 +5,10 @@ ghost use Rattle.command_table.specs.Pages.{list_page_of};
 
 /// The page of `kinds`.
 pub const KINDS: &str =
-    "  kinds [FILE]                 a line for each graph: its kind, its bricks and its braces
+    "  kinds [skip] [FILE]          a line for each graph: its kind, its bricks and its braces
 
 The list has a graph in graph6 on each line, and is FILE or, without it, standard input.
+With skip, bad lines are left out and named at the end; the status is then 4.
 A line begins with the graph6 text and the numbers of vertices and edges. For a matching
 covered graph it goes on with the kind (brick, brace or composite), the numbers of
 bricks and braces, and whether the graph is bicritical; for any other with uncovered,
@@ -18,14 +19,28 @@ Example: mcg6 kinds examples/small.g6
 
 /// The page of `leaves`.
 pub const LEAVES: &str =
-    "  leaves [ORDER] [FILE]        a line for each leaf of its decomposition, as a graph
+    "  leaves [ORDER] [skip] [FILE] a line for each leaf of its decomposition, as a graph
 
 The list has a graph in graph6 on each line, and is FILE or, without it, standard input.
+With skip, bad lines are left out and named at the end; the status is then 4.
 ORDER is first, last or balanced, as for mcg decompose; without it, first.
 A line has the number of the graph's line, its graph6 text, the graph6 text of the leaf,
 and the kind of the leaf. Graphs that are not matching covered have no lines.
 
 Example: mcg6 leaves last examples/two_k4.g6
+";
+
+/// The page of `elementary`.
+pub const ELEMENTARY: &str =
+    "  elementary [skip] [FILE]     a line for each elementary component, as a graph
+
+The list has a graph in graph6 on each line, and is FILE or, without it, standard input.
+With skip, bad lines are left out and named at the end; the status is then 4.
+The elementary components are the components of the subgraph of the allowed edges, those
+in perfect matchings. A line has the number of the graph's line, the graph6 text of the
+component, and its vertices in the graph. Graphs without a perfect matching have no lines.
+
+Example: mcg6 elementary examples/small.g6
 ";
 
 /// The page of `graph`.
@@ -39,9 +54,10 @@ Example: mcg6 graph examples/two_k4.g6 >graph.mcg
 ";
 
 /// The page of `select`.
-pub const SELECT: &str = "  select WHAT [FILE]           the lines whose graph has a property
+pub const SELECT: &str = "  select WHAT [skip] [FILE]    the lines whose graph has a property
 
 The list has a graph in graph6 on each line, and is FILE or, without it, standard input.
+With skip, bad lines are left out and named at the end; the status is then 4.
 WHAT is covered, uncovered, perfect (the graph has a perfect matching), brick, brace,
 bicritical, composite, or a number of bricks or braces, as bricks=2 or braces=0.
 The output has the lines of these graphs, as they are.
@@ -68,6 +84,7 @@ pub fn list_page(command: &str) -> Option<&'static str>
     match command {
         "kinds" => Some(KINDS),
         "leaves" => Some(LEAVES),
+        "elementary" => Some(ELEMENTARY),
         "graph" => Some(GRAPH),
         "select" => Some(SELECT),
         "encode" => Some(ENCODE),

@@ -19,14 +19,21 @@ pub enum Reason {
     Wrong(RowWord),
 }
 
-// A word that may be left out is wrong if the words without it do not fit either.
-fn wrong_unless(wanted: RowWord, without: Option<Reason>) -> Option<Reason>
+// A word that may be left out is wrong if the words without it do not fit either; if it is another
+// than the text of a row, it is why these do not.
+fn wrong_unless(wanted: RowWord, word: &str, without: Option<Reason>) -> Option<Reason>
     ensures { option_map reason_seen result ≡
-        wrong_unless (word_seen wanted) (option_map reason_seen without) }
+        wrong_unless (word_seen wanted) word.now (option_map reason_seen without) }
 {
     match without {
         None => None,
-        Some(_) => Some(Reason::Wrong(wanted)),
+        Some(reason) => {
+            if wanted.is_other(word) {
+                Some(reason)
+            } else {
+                Some(Reason::Wrong(wanted))
+            }
+        }
     }
 }
 
@@ -43,7 +50,7 @@ fn why_of_optional(row: &[RowWord], words: &[String]) -> Option<Reason>
             if wanted.fits(word.as_str()) {
                 why_of_optional(row, rest)
             } else {
-                wrong_unless(*wanted, why_of_optional(row, words))
+                wrong_unless(*wanted, word.as_str(), why_of_optional(row, words))
             }
         }
     }
