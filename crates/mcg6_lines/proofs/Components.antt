@@ -1,9 +1,11 @@
 -- An elementary component as a graph of its own is simple: the new numbers of two vertices differ,
 -- so two edges with the same ends would be two edges of the graph with the same ends.
-use Rattle.std.proofs.Common.{◌≡◌, ℕ, ◌+◌, ◌≤◌, ◌<◌, Bool, true, inl, inr, ◌==◌, ◌&&◌, ◌||◌, List, [], ◌++◌, length, drop, get_or, sym, ap, ap₂, ◌∙◌, arith, eq-eqb, ne_eqb, All, cond}
+use Rattle.std.proofs.Common.{◌≡◌, ℕ, ◌+◌, ◌≤◌, ◌<◌, Bool, true, inl, inr, ◌==◌, ◌&&◌, ◌||◌, List, [], ◌++◌, length, drop, get_or, sym, ap, ap₂, ◌∙◌, arith, eq-eqb, ne_eqb, All, Some, slice_get, subst, cond}
 use Rattle.std.proofs.lemmas.List.{drop_more}
-use Rattle.counting.proofs.Common.{Within, and_parts, at_le_total, bit, both_ways, cases_Bool, cases_eq, count, count_mem_length, count_up, false_from_ne_true, IsRisingIn, length-rising_list, length-within, list-from_test, mem, mem-within, none, rank_once, set-narrower}
-use Rattle.graph_core.proofs.Common.{Graph, HasPerfect, IsSimple, first_end, has_ends, has_perfect, has_perfect_found, has_perfect_says, inside, is_allowed, joins, second_end, size}
+use Rattle.std.proofs.lemmas.List.Elements.{All-get_or}
+use Rattle.std.proofs.lemmas.Option.{slice_get_within}
+use Rattle.counting.proofs.Common.{Within, and_parts, at_le_total, bit, both_ways, cases_Bool, cases_eq, count, count_mem_length, count_up, false_from_ne_true, get_or_from_slice_get, IsRisingIn, length-rising_list, length-within, list-from_test, mem, mem-within, none, rank_once, Set, set-narrower}
+use Rattle.graph_core.proofs.Common.{components, Graph, HasPerfect, IsSimple, first_end, has_ends, has_perfect, has_perfect_found, has_perfect_says, inside, is_allowed, joins, second_end, size}
 use Rattle.graph6_text.proofs.DistinctPairs.{simple_from_distinct}
 use Rattle.separation_kit.proofs.PairShores.{components-rise}
 use Rattle.mcg6_lines.specs.Elementary.{allowed_subgraph, component_graph, component_line, component_lines, elementary_lines, elementary_parts, number_in}
@@ -63,9 +65,14 @@ simple_component g vs simple =
     same_ends g vs d e a.1 b.1 ∙ false_from_ne_true (has_ends g (first_end g d) (second_end g d) e) (λ t. let same = simple d e wd we t in absurd (omega arith))))
 
 -- the vertex sets are increasing lists
-pub parts_rise : (g : Graph) → All (IsRisingIn g.order) (elementary_parts g)
-unfolding elementary_parts allowed_subgraph
-parts_rise g = components-rise (allowed_subgraph g) none
+pub parts_rise : (g h : Graph) (s : Set) (parts : List (List ℕ)) → h ≡ allowed_subgraph g → parts ≡ components h s → All (IsRisingIn g.order) parts
+unfolding allowed_subgraph
+parts_rise g h s parts same is =
+    subst (All (IsRisingIn g.order)) (sym is) (subst (λ (k : Graph). All (IsRisingIn k.order) (components h s)) same (components-rise h s))
+
+pub part_rises : (n : ℕ) (parts : List (List ℕ)) (i : ℕ) (part : List ℕ) → All (IsRisingIn n) parts → slice_get parts i ≡ Some part → IsRisingIn n part
+part_rises n parts i part rise is =
+    subst (IsRisingIn n) (get_or_from_slice_get parts i part [] is) (All-get_or (IsRisingIn n) parts i [] (slice_get_within parts i part is) rise)
 
 -- the lines from a place on are the line there and those after it
 pub components_next : (number : ℕ) (g : Graph) (parts : List (List ℕ)) (i : ℕ) → i < length parts →

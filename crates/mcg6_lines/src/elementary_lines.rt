@@ -212,7 +212,7 @@ fn has_both(part: VSet, ends: Ends) -> bool
 }
 
 // Adds an edge between two vertices of the set, with their new numbers.
-#[tactic(auto, using(crate::proofs::Components::number_within, crate::proofs::Components::number_once, crate::proofs::Components::vertex_few))]
+#[tactic(auto, using(crate::proofs::Components::number_once))]
 fn push_renumbered(component: &mut MultiGraph, part: VSet, ends: Ends) -> Result<(), Memory>
     requires first { mem part ends.a ≡ true }
     requires second { mem part ends.b ≡ true }

@@ -1,11 +1,14 @@
 use Rattle.std.proofs.Common.{append_assoc, arith}
 use Rattle.std.proofs.lemmas.List.{drop_all}
 use Rattle.counting.proofs.Common.{append-nil, get_or_from_slice_get}
-use Rattle.mcg6_lines.proofs.Components.{components_next}
+use Rattle.mcg6_lines.proofs.Components.{components_next, part_rises}
 use Rattle.mcg6_lines.proofs.elementary_lines.lines_of_parts.Goals as goal
 
 pub loop-i-init : goal.loop-i-init
 loop-i-init c = grind arith
+
+pub push_component-requires-clause-rising : goal.push_component-requires-clause-rising
+push_component-requires-clause-rising c = part_rises c.args.g.now.order c.args.parts.now c.loop-i.i c.get.result c.requires.rising c.get.ensures
 
 pub loop-i-preserved : goal.loop-i-preserved
 loop-i-preserved c = grind (arith, append_assoc, get_or_from_slice_get, components_next)

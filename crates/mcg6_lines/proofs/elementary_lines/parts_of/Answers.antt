@@ -1,4 +1,6 @@
-use Rattle.std.proofs.Common.{arith}
+use Rattle.std.proofs.Common.{◌≡◌, ℕ, All, List, arith}
+use Rattle.counting.proofs.Common.{IfOk-weaker, IsRisingIn, mem}
+use Rattle.graph_core.proofs.Common.{components}
 use Rattle.mcg6_lines.specs.Elementary.{elementary_parts}
 use Rattle.mcg6_lines.proofs.Components.{parts_rise}
 use Rattle.mcg6_lines.proofs.elementary_lines.parts_of.Goals as goal
@@ -8,5 +10,6 @@ unfolding elementary_parts
 returns-clause-is c = grind arith
 
 pub returns-clause-rising : goal.returns-clause-rising
-unfolding elementary_parts
-returns-clause-rising c = grind (arith, parts_rise)
+returns-clause-rising c =
+    IfOk-weaker c.components_without.result (λ (parts : List (List ℕ)). parts ≡ components c.in_ok-allowed.allowed (mem c.empty.result)) (λ (parts : List (List ℕ)). All (IsRisingIn c.args.g.now.order) parts)
+    (λ parts is. parts_rise c.args.g.now c.in_ok-allowed.allowed (mem c.empty.result) parts c.in_ok-allowed.ensures is) c.components_without.ensures
