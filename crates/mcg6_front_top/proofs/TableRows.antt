@@ -225,8 +225,13 @@ listed (w ∷ s ∷ words) =
     (rows_of (bytes_eq w (codes "kinds")) (bytes_eq w (codes "leaves")) (bytes_eq w (codes "elementary")) (bytes_eq w (codes "graph")) (bytes_eq w (codes "select")) (bytes_eq w (codes "encode"))
     (is_one_of orders [] s) (is_one_of properties counted_properties s)
     (fit_optional skip_file words) (fit_optional skip_file (s ∷ words)) (fit_optional file (s ∷ words)) (fit_optional [] words)
-    (λ is. (apart w (codes "kinds") (codes "leaves") is, apart w (codes "kinds") (codes "elementary") is, apart w (codes "kinds") (codes "graph") is,
-    apart w (codes "kinds") (codes "select") is, apart w (codes "kinds") (codes "encode") is))
+    (λ is. (
+      apart w (codes "kinds") (codes "leaves") is,
+      apart w (codes "kinds") (codes "elementary") is,
+      apart w (codes "kinds") (codes "graph") is,
+      apart w (codes "kinds") (codes "select") is,
+      apart w (codes "kinds") (codes "encode") is,
+    ))
     (λ is. (apart w (codes "leaves") (codes "elementary") is, apart w (codes "leaves") (codes "graph") is, apart w (codes "leaves") (codes "select") is, apart w (codes "leaves") (codes "encode") is))
     (λ is. (apart w (codes "elementary") (codes "graph") is, apart w (codes "elementary") (codes "select") is, apart w (codes "elementary") (codes "encode") is))
     (λ is. (apart w (codes "graph") (codes "select") is, apart w (codes "graph") (codes "encode") is))
