@@ -1,6 +1,6 @@
 -- The messages on lists of graphs: each is a line that begins with the name of the program, or two
 -- such lines.
--- Stated by: front_words. Rests on it: mcg6_front_top.
+-- Stated by: front_words, mcg6_front_top.
 use Rattle.std.specs.Prelude.{ℕ, ◌==◌, ◌||◌, Bool, List, [], ◌++◌, codes, length, nat_lt, if◌then◌else◌}
 use Rattle.std.specs.Fmt.{decimal}
 use Rattle.std.specs.declared.option.Option.{Option}
