@@ -2,7 +2,7 @@
 pub use Rattle.mcg6_top.specs.Commands.{ListCommand, bricks_property, braces_property, property_named, query_named, pair_named, may_skip, asks_skip, command_with_word, command_with_two, command_with, command_if, pair_command, command_of, file_of, encode_pair, encode_of, MatchNone, file_named_by}
 unfoldable pub use Rattle.mcg6_top.specs.Commands.{counted_property, leaves_named, select_named}
 pub use Rattle.mcg6_top.specs.Asked.{text_of, asked}
-pub use Rattle.mcg6_top.specs.Listings.{is_further, TellsLineOf, IsBadLine, lacks_of, is_by_line, opens_with_header, TellsOrSkips, StopsAt, SkipsLine}
+pub use Rattle.mcg6_top.specs.Listings.{is_further, TellsLineOf, IsBadLine, lacks_of, TellsOrSkips, StopsAt, SkipsLine, is_by_line, opens_with_header}
 pub use Rattle.mcg6_top.specs.Statuses.{code_of, status_after, status_in}
 pub use Rattle.mcg6_top.specs.Outcomes.{EndsWith, SkipsUpTo, StopsAtBad, HasSkipped, ListOutcome, TellsSome, StreamsTo, Streams}
 pub use Rattle.mcg6_top.specs.Encodings.{StopsAtFile, EncodeOutcome, EncodesSome, ReadsFirstTo}
