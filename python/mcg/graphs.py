@@ -147,7 +147,9 @@ class Graph:
         """Returns a `networkx.MultiGraph` if an edge has a key, and else a `networkx.Graph`."""
         made = new_networkx(any(len(it) == 3 for it in self.edges))
         made.add_nodes_from(self.vertices)
-        made.add_edges_from(self.edges)
+        for u, v, *key in self.edges:
+            # (`add_edges_from` can take a key of two-item parts for attributes)
+            made.add_edge(u, v, *key)
         return made
 
     def __eq__(self, other: object) -> bool:

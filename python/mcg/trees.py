@@ -37,7 +37,9 @@ class Leaf:
         made.add_nodes_from(self.blocks)
         for pair, edges in self.edges.items():
             if multigraph:
-                made.add_edges_from((*pair, edge) for edge in edges)
+                for edge in edges:
+                    # (`add_edges_from` can take an edge of two-item labels for attributes)
+                    made.add_edge(*pair, key=edge)
             else:
                 made.add_edge(*pair, edges=edges)
         return made

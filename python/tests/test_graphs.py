@@ -135,6 +135,24 @@ class NetworkX(unittest.TestCase):
             kind = "brace" if networkx.is_bipartite(simple) else "brick"
             self.assertEqual(leaf.kind, kind)
 
+    def test_the_edges_of_leaves_keep_their_keys(self):
+        for name in (str, lambda v: f"v{v}", lambda v: (v, 0)):
+            pairs = [(0, 1), (1, 2), (2, 3), (3, 4), (4, 5), (5, 0), (0, 1), (0, 3)]
+            graph = networkx.MultiGraph([(name(a), name(b)) for a, b in pairs])
+            for leaf in mcg.decompose(graph).leaves:
+                made = leaf.graph(multigraph=True)
+                for pair, edges in leaf.edges.items():
+                    self.assertEqual(set(made[tuple(pair)[0]][tuple(pair)[1]]), set(edges))
+                self.assertEqual([data for _, _, data in made.edges(data=True) if data], [])
+
+    def test_keys_that_look_like_attributes(self):
+        graph = networkx.MultiGraph()
+        graph.add_edge("u", "v", key=(("a", 1), ("b", 2)))
+        graph.add_edge("u", "v", key="ab")
+        made = mcg.Graph(graph).to_networkx()
+        self.assertEqual(set(made["u"]["v"]), {(("a", 1), ("b", 2)), "ab"})
+        self.assertEqual([data for _, _, data in made.edges(data=True) if data], [])
+
     def test_a_directed_graph(self):
         with self.assertRaises(mcg.BadGraph):
             mcg.Graph(networkx.DiGraph([(1, 2)]))
