@@ -10,4 +10,4 @@ pub mod QuotientPairs
 pub mod LeastEdges
 pub mod ProjectedMatchings
 pub mod MergedQuotients
-pub mod JoiningEdges
+pub mod EdgeRows

@@ -2,4 +2,4 @@ pub mod Partition
 pub mod Contracted
 pub mod Pairs
 pub mod LeastEdges
-pub mod PlacedEdges
+pub mod EdgeRows

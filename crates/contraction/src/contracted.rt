@@ -1,13 +1,15 @@
 //! The quotient of a graph at a partition, with its remembered edges.
 ghost use Rattle.std.specs.Prelude.{◌≡◌, ◌↔◌, slice_index_or, ◌<◌, ◌≤◌, ◌+◌, ◌&&◌, ℕ, List, [], length, map, IfOk, IsTrue};
 ghost use Rattle.counting.specs.Common.{Within, mem, item, rising_list, some};
-ghost use Rattle.graph_core.specs.Common.{Graph, has_ends, size, block, contracted, remembered, union_of_blocks, graph_of, pair_of};
+ghost use Rattle.graph_core.specs.Common.{Graph, HasNoLoop, has_ends, size, block, contracted, remembered, union_of_blocks, graph_of, pair_of};
 ghost use Rattle.indexmap.specs.IndexMap.{keys};
 ghost use Rattle.contraction.specs.Contracted.{KeepsContraction, contraction};
+ghost use Rattle.contraction.specs.EdgeRows.{AreEdgeRows};
 ghost use Rattle.contraction.specs.LeastEdges.{least_at};
 ghost use Rattle.contraction.specs.Pairs.{EachOnce, joined_pairs};
 
 use crate::Partition;
+use crate::edge_rows::{EdgeRows, edges_with};
 use crate::partition::union_at;
 use crate::place_pairs::{graph_with, joined_places};
 use graph_core::{Ends, MOST_EDGES, MultiGraph};
@@ -144,8 +146,10 @@ fn quotient_by(
 {
     g.keeps_limits();
     p.keeps_partition();
-    let graph = graph_with(alloc, p.len() as u32, pairs)?;
-    let remembered = remember(alloc, ends, pairs)?;
+    let order = p.len() as u32;
+    let graph = graph_with(alloc, order, pairs)?;
+    let rows = EdgeRows::of(alloc, order, ends)?;
+    let remembered = remember(alloc, ends, &rows, pairs)?;
     let blocks = p.copy_blocks(alloc)?;
     Ok(Contracted {
         order: g.order(),
@@ -156,29 +160,15 @@ fn quotient_by(
     })
 }
 
-// The edges with the ends a and b, in increasing order.
-fn edges_with(alloc: Global, ends: &[Ends], a: u32, b: u32) -> Result<Vec<u32>, Memory>
-    requires { length ends.now ≤ MOST_EDGES }
-    ensures { IfOk result
-        (λ edges. edges.items ≡ rising_list (length ends.now)
-        (has_ends (graph_of 0 ends.now) a b)) }
-{
-    let mut edges = Vec::new(alloc);
-    for (k, edge) in ends.iter().enumerate() {
-        if edge.are(a, b) {
-            edges.push(k as u32 + 1)?;
-        }
-    }
-    Ok(edges)
-}
-
 // The remembered edges of each pair.
 fn remember(
     alloc: Global,
     ends: &[Ends],
+    rows: &EdgeRows,
     pairs: &[Ends],
 ) -> Result<IndexMap<(u32, u32), Vec<u32>>, Memory>
-    requires few { length ends.now ≤ MOST_EDGES }
+    requires rows { AreEdgeRows (graph_of 0 ends.now) rows.now }
+    requires apart { HasNoLoop (graph_of 0 pairs.now) }
     requires once { EachOnce (map pair_of pairs.now) }
     ensures keys { IfOk result (λ kept. keys kept ≡ map pair_of pairs.now) }
     ensures edges { IfOk result
@@ -188,7 +178,7 @@ fn remember(
 {
     let mut kept = IndexMap::new(alloc);
     for pair in pairs {
-        let edges = edges_with(alloc, ends, pair.a, pair.b)?;
+        let edges = edges_with(alloc, ends, rows, pair.a, pair.b)?;
         kept.insert((pair.a, pair.b), edges)?;
     }
     Ok(kept)

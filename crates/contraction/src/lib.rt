@@ -16,6 +16,7 @@
 #![tactic(auto)]
 
 mod contracted;
+mod edge_rows;
 mod graph_alone;
 mod laws;
 mod lifting;

@@ -1,8 +1,12 @@
 use Rattle.std.proofs.Common.{ℕ, length, Vec, Global}
 use Rattle.counting.proofs.Common.{rising_list}
 use Rattle.graph_core.proofs.Common.{has_ends, graph_of}
+use Rattle.contraction.proofs.QuotientPairs.{ends_differ}
 use Rattle.contraction.proofs.PairLists.{kept-more}
 use Rattle.contraction.proofs.contracted.remember.Goals as goal
+
+pub edges_with-requires-clause-apart : goal.edges_with-requires-clause-apart
+edges_with-requires-clause-apart c = ends_differ 0 c.args.pairs.now c.loop-pair.pair-index (record { a = 0; b = 0 }) c.requires.apart c.loop-pair-test.true
 
 pub loop-pair-preserved : goal.loop-pair-preserved
 loop-pair-preserved c =

@@ -1,7 +1,0 @@
-use Rattle.std.proofs.Common.{◌≡◌, filter, take}
-use Rattle.graph_core.proofs.Common.{graph_of, has_ends}
-use Rattle.contraction.proofs.placed_edges.PlacedEdges.between.Given as goal
-
--- those of the first edges that have the two ends
-abbrev pub invariant-loop-edge : goal.invariant-loop-edge
-invariant-loop-edge l = l.edges.items ≡ filter (has_ends (graph_of 0 l.self-inside.ends.items) l.a l.b) (take l.edge-index l.edge-items)
