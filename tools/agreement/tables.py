@@ -1,10 +1,11 @@
 """Do the documents, the manual pages and the completions say what the fronts of mcg and mcg6 say?
 
-The tables of the fronts stand in crates/front_words/src. The rows of the usage of mcg are compared with the table of README, the
-synopsis of its manual page and its completion for bash; those of mcg6, with its properties, with its manual page, its completion, the
-table of FORMATS and the words that mcg6_top reads; the words for kinds of faults with the table of FORMATS; the headers and limits with
-the sections of FORMATS; the versions with VERSION, and the kit's line with README. It lists each that differs, and ends with 1 if there
-is any.
+The tables of commands and the pages of the commands are in crates/command_table/src, the words for errors and the versions in
+crates/front_words/src. The rows of the usage of mcg are compared with the table of README, the synopsis of its manual page and its
+completion for bash; those of mcg6, with its properties, with its manual page, its completion, the table of FORMATS and the words that
+mcg6_top reads; each page with the rows of its command; the words for kinds of errors with the table of FORMATS; the headers and limits
+with the sections of FORMATS; the versions with VERSION, and the kit's line with README. It lists each that differs, and ends with 1 if
+there is any.
 """
 import re
 
@@ -26,7 +27,7 @@ def same(what, one, other):
 
 
 def constant(source, name):
-    return re.search(rf'const {name}: &str = "(.*?)";', source, re.S)[1]
+    return re.search(rf'const {name}: &str =\s*"(.*?)";', source, re.S)[1]
 
 
 def arms(source, function):
@@ -143,6 +144,73 @@ def compare_lists(usage, formats):
     return rows
 
 
+class Row:
+    """A row of a table of commands: its command, its line, and what the table has of its words."""
+
+    def __init__(self, source):
+        self.command, self.line = (re.search(rf'{name}: "(.*)",\n', source)[1] for name in ("command", "line"))
+        words, optional = source[source.index("words: "):source.index("line: ")].split("optional: ")
+        self.arguments = re.findall(r'RowWord::(?:File|OneOf|Number)\(\s*"(\w+)"', words + optional)
+        self.skips = 'Literal("skip")' in words + optional
+        numbers = re.findall(r'Number\(\s*"(\w+)",\s*([\d_]+),\s*([\d_]+),\s*"(.*)",\s*"(.*)",', words + optional)
+        self.numbers = [(name, (low.replace("_", ""), high.replace("_", "")), (note, need)) for name, low, high, note, need in numbers]
+        choices = re.findall(r'OneOf\(\s*"(\w+)",\s*&\[(.*?)\],\s*&\[(.*?)\],\s*"(.*)",\s*"(.*)",', words + optional, re.S)
+        self.choices = [(name, re.findall(r'"(.*?)"', one + other), note) for name, one, other, note, _ in choices]
+
+
+def rows_of(table, name):
+    """The rows of the table of that name."""
+    part = re.search(rf"static {name}: \[Row; \d+\] = \[\n(.*?)^\];", table, re.S | re.M)[1]
+    return [Row(it) for it in re.findall(r"^    Row \{\n(.*?)^    \},", part, re.S | re.M)]
+
+
+def listed(sentence):
+    """The words that a sentence lists before it says more of them, a number behind a sign of equality left out."""
+    plain = re.split(", and |, as for ", re.sub(r"\(.*?\)", "", sentence))[0]
+    return [it for it in re.findall(r"[a-z]+=?", plain) if it not in ("or", "a", "number", "of", "bricks", "braces", "as")]
+
+
+def compare_page(page, rows, usage, program):
+    """Compares the page of a command with its rows: the arguments, the words that one may be, and the ranges of numbers."""
+    command = rows[0].command
+    what = f"on the page of {command} of {program}"
+    head, *parts = page.split("\n\n")
+    body, example = " ".join(parts[:-1]).replace("\n", " "), parts[-1]
+    same(f"the lines {what}", "".join(it.line.replace("\\n", "\n") for it in rows), f"{head}\n")
+    same(f"the arguments {what}", sorted({it for row in rows for it in row.arguments}), sorted(set(re.findall(r"\b[A-Z]{2,}\d?\b", body))))
+    same(f"`skip` {what}", any(row.skips for row in rows), "With skip" in body)
+    same(f"the example {what}", f"Example: {program} ", example[:len(f"Example: {program} ")])
+    if not re.search(rf"\b{program} {command} ", example):
+        wrong.append(f"the example {what} does not run it")
+    numbers = [it for row in rows for it in row.numbers]
+    same(f"the ranges {what}", [(name, *range) for name, range, _ in numbers], re.findall(r"\b([A-Z]+), (\d+) to (\d+),", body))
+    same(f"all ranges {what}", [range for _, range, _ in numbers], re.findall(r"\b(\d+) to (\d+)\b", body))
+    for name, range, texts in numbers:
+        found = [it for text in texts for it in re.findall(rf"\b{name}\b.*?(\d+) to (\d+)", text)]
+        same(f"the ranges of {name} in its row", [range] * len(found), found)
+    for row in rows:
+        for note in (*(texts[0] for _, _, texts in row.numbers), *(it[2] for it in row.choices)):
+            if f"\n{note}\n" not in usage:
+                wrong.append(f"the usage of {program} does not have the line: {note}")
+        for name, words, note in row.choices:
+            sentence = re.search(rf"\b{name} is ([^.;]*)", body)
+            same(f"the words of {name} {what}", words, listed(sentence[1]) if sentence else [])
+            same(f"the words of {name} in its row", words, listed(note.replace("=K", "=")[len(f"{name} is "):]))
+
+
+def compare_pages(table):
+    """Compares the page of each command with its rows, and returns how many pages there are."""
+    count = 0
+    for program, name, usage, file in (("mcg", "ROWS", "USAGE", "pages"), ("mcg6", "LIST_ROWS", "LIST_USAGE", "list_pages")):
+        rows, pages = rows_of(table, name), read(f"crates/command_table/src/{file}.rt")
+        commands = list(dict.fromkeys(it.command for it in rows))
+        same(f"the pages of {program}", commands, [it.lower() for it in re.findall(r'^pub const (\w+): &str =\s*"', pages, re.M)])
+        for command in commands:
+            compare_page(constant(pages, command.upper()), [it for it in rows if it.command == command], constant(table, usage), program)
+        count += len(commands)
+    return count
+
+
 def main():
     table, faults = read("crates/command_table/src/table.rt"), read("crates/front_words/src/faults.rt")
     versions = read("crates/front_words/src/table.rt")
@@ -150,10 +218,11 @@ def main():
     rows = [re.split("  +", it)[1] for it in constant(table, "USAGE").splitlines() if it.startswith("  ")]
     compare_commands(rows, readme)
     rows += compare_lists(constant(table, "LIST_USAGE"), formats)
+    pages = compare_pages(table)
     compare_faults(faults, formats)
     for name, which in (("mcg", "VERSION"), ("mcg6", "LIST_VERSION")):
         version, kit = constant(versions, which).splitlines()
         same(f"VERSION, and what {name} says", version, f"{name} {read('VERSION').strip()}")
         same("the kit's line of README", kit, re.search(r"`(rattle-kit-\S+ logic \w+)`", readme)[1])
-    print("\n".join(wrong) if wrong else f"tables: {len(rows)} rows and the words of the fronts agree with the documents")
+    print("\n".join(wrong) if wrong else f"tables: {len(rows)} rows, {pages} pages and the words of the fronts agree with the documents")
     return 1 if wrong else 0
