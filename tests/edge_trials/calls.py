@@ -14,9 +14,6 @@ KINDS = {
 }
 
 
-# Of a run with more calls only some in its middle are tried.
-MANY = 100
-
 
 class Trial:
     """Arguments of a program, the files among them in the order of their reading, and the status."""
@@ -163,8 +160,7 @@ def try_trial(trial, room, library):
     calls = calls_of(trial, f"{room}/calls")
     for i, call in enumerate(calls, 1):
         name = f"{trial.name}, call {i} ({call.kind} {call.of})"
-        # of a long file not every read is tried
-        if call.count < 0 or 8 < i < len(calls) - 8 and i % 100 and len(calls) > MANY:
+        if call.count < 0:
             continue
         for way in ["interrupt"] if call.kind == "open" else ["interrupt", "short"]:
             ran = trial.run(**how, AT=str(i), HOW=way)

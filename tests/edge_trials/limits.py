@@ -1,4 +1,5 @@
 """Files and lines at their greatest size, long words, MCG_QUIET, small memory and small stacks, and input that cannot wait."""
+import bisect
 import os
 import subprocess
 
@@ -7,7 +8,7 @@ from .common import (BAD_INPUT, DONE, EXAMPLES, NEGATIVE, NO_MEMORY, NO_WORDS, P
                      read, run, said, unread, write)
 
 MOST_BYTES, MOST_LINE, MOST_HELD, RETRIES = 1_048_576, 65_536, 512, 1024
-LEAST_STACK = 256 * 1024
+TRIED_STACK = 256 * 1024
 
 
 def padded(room, path, size):
@@ -127,11 +128,12 @@ def deepest(room):
         yield ("mcg", "analyse", path), DONE
         yield ("mcg", "convert", path), DONE
         yield ("mcg", "analyse6", line), DONE
-        for words in (("encode", path), ("kinds", line), ("leaves", "last", line), ("select", "bicritical", line), ("graph", line)):
+        for words in (("encode", path), ("kinds", line), ("leaves", line), ("leaves", "last", line), ("select", "bicritical", line), ("graph", line)):
             yield ("mcg6", *words), DONE
         status = NEGATIVE if name == "path" else DONE
         trees = [write(f"{room}/{name}.{order}", run("mcg", "decompose", path, order)[1]) for order in ("first", "last")]
-        yield ("mcg", "decompose", path, "balanced"), status
+        for order in ("first", "last", "balanced"):
+            yield ("mcg", "decompose", path, order), status
         yield ("mcg", "ears", path), status
         if status == DONE:
             ears = write(f"{room}/{name}.ears", run("mcg", "ears", path)[1])
@@ -144,12 +146,29 @@ def deepest(room):
     yield ("mcg", "grow", "7", "16"), DONE
 
 
-def try_stack(room):
-    """With a stack of 256 kB the deepest inputs give what they give with the usual one."""
+def deep_runs(room):
+    """The deepest inputs with both programs for each: the arguments, a name, the status, and how it ends with the usual stack."""
     for (program, *words), status in deepest(room):
         for program in (program, f"{program}_front"):
-            plain, small = run(program, *words), run(program, *words, stack=LEAST_STACK)
-            note(plain[0] == status and small == plain, f"{program} {' '.join(map(os.path.basename, words))}, with a small stack", f"{plain[0]}, {small[0]}")
+            yield (program, *words), f"{program} {' '.join(map(os.path.basename, words))}", status, run(program, *words)
+
+
+def try_stack(room):
+    """With a stack of 256 kB the deepest inputs give what they give with the usual one."""
+    for words, name, status, plain in deep_runs(room):
+        small = run(*words, stack=TRIED_STACK)
+        note(plain[0] == status and small == plain, f"{name}, with a small stack", f"{plain[0]}, {small[0]}")
+
+
+def least_stacks(room):
+    """Prints the least stack, in steps of 4 kB up to 256 kB, with which each of the deepest inputs gives what it gives with the usual one."""
+    least = {}
+    for words, name, _, plain in deep_runs(room):
+        sizes = range(32, TRIED_STACK // 1024 + 1, 4)
+        at = bisect.bisect_left(sizes, True, key=lambda size: run(*words, stack=1024 * size) == plain)
+        least[name] = sizes[at] if at < len(sizes) else None
+        print(f"{least[name] or 'more than 256'} kB: {name}", flush=True)
+    print(f"edge: the least stack for all of {len(least)}: {'more than 256' if None in least.values() else max(least.values())} kB")
 
 
 def try_short_and_interrupted(room, before):
