@@ -6,7 +6,7 @@ from typing import Any, Dict, FrozenSet, List, Optional, Tuple
 
 from .errors import NotCovered
 from .graphs import Graph, GraphLike
-from .programs import run, understood
+from .programs import reported, run, understood
 from .sources import Edge, Label
 
 Pair = Tuple[Label, Label]
@@ -67,8 +67,9 @@ def analyse(graph: GraphLike) -> Analysis:
     Raises `BadGraph`, `TooLarge` and the exceptions on programs.
     """
     numbered = Graph(graph)
-    _status, report = run("analyse", ["graph"], {"graph": numbered.to_text()})
-    return _understood(report, numbered)
+    status, report = run("analyse", ["graph"], {"graph": numbered.to_text()})
+    with reported("analyse", status):
+        return _understood(report, numbered)
 
 
 def _understood(report: List[str], graph: Graph) -> Analysis:

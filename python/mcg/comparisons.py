@@ -10,7 +10,7 @@ from .decompositions import Refusal, refusal
 from .errors import NotADerivation
 from .graphs import Graph, GraphLike
 from .moves import Move, Moves, as_moves
-from .programs import run, understood
+from .programs import reported, run, understood
 from .trees import Block, Decomposition, TreeLike, tree_text
 
 Pairing = Tuple[int, int, Dict[Block, Block]]
@@ -80,15 +80,18 @@ def compare(graph: GraphLike, first: TreeLike, second: TreeLike) -> Comparison:
     Raises `NotADerivation` if one of the trees is not a decomposition of the graph, `NotCovered`,
     `BadGraph`, `TooLarge`, `BadText`, and the exceptions on programs.
     """
-    numbered, report = _asked("compare", graph, first, second)
-    return _read(report, filled(numbered, first), filled(numbered, second))
+    status, numbered, report = _asked("compare", graph, first, second)
+    both = filled(numbered, first), filled(numbered, second)
+    with reported("compare", status):
+        return _read(report, *both)
 
 
 def script(graph: GraphLike, first: TreeLike, second: TreeLike) -> Moves:
     """Returns moves that turn the first tight cut decomposition into the second. Raises what
     `compare` raises."""
-    numbered, report = _asked("script", graph, first, second)
-    return Moves.from_text("\n".join(report) + "\n", numbered)
+    status, numbered, report = _asked("script", graph, first, second)
+    with reported("script", status):
+        return Moves.from_text("\n".join(report) + "\n", numbered)
 
 
 def replay(graph: GraphLike, tree: TreeLike, moves: Iterable[Move]) -> Replay:
@@ -102,25 +105,28 @@ def replay(graph: GraphLike, tree: TreeLike, moves: Iterable[Move]) -> Replay:
         "tree": tree_text(numbered, tree),
         "moves": as_moves(moves).to_text(numbered),
     }
-    _status, report = run("replay", list(files), files)
-    return _read_replay(report, numbered)
+    status, report = run("replay", list(files), files)
+    with reported("replay", status):
+        return _read_replay(report, numbered)
 
 
-def _asked(command: str, graph: GraphLike, first: TreeLike, second: TreeLike) -> Tuple[Graph, List[str]]:
-    """The report of a command on two trees that are decompositions."""
+def _asked(
+    command: str, graph: GraphLike, first: TreeLike, second: TreeLike
+) -> Tuple[int, Graph, List[str]]:
+    """The status and the report of a command on two trees that are decompositions."""
     numbered = Graph(graph)
     files = {
         "graph": numbered.to_text(),
         "first": tree_text(numbered, first),
         "second": tree_text(numbered, second),
     }
-    _status, report = run(command, list(files), files)
-    demand_covered(report, numbered)
-    with understood(command):
+    status, report = run(command, list(files), files)
+    with reported(command, status):
+        demand_covered(report, numbered)
         found = re.match("tree ([12]) refused ", report[0])
         if found:
             raise NotADerivation(int(found[1]), refusal(report[0], numbered))
-    return numbered, report
+    return status, numbered, report
 
 
 def _read(report: List[str], first: Decomposition, second: Decomposition) -> Comparison:

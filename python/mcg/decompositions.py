@@ -9,7 +9,7 @@ from . import texts
 from .analysis import demand_covered, verdict
 from .errors import LIMIT
 from .graphs import Graph, GraphLike
-from .programs import run, understood
+from .programs import reported, run, understood
 from .sources import Edge
 from .trees import Block, Decomposition, TreeLike, tree_text
 
@@ -108,12 +108,13 @@ def decompose(graph: GraphLike, order: Union[str, Sequence[int]] = "first") -> D
     if isinstance(order, str):
         if order not in ORDERS:
             raise ValueError(f"order is first, last, balanced or a list of picks, and not {order!r}")
-        _status, report = run("decompose", ["graph", order], files)
+        status, report = run("decompose", ["graph", order], files)
     else:
         files["picks"] = Picks(order).to_text()
-        _status, report = run("decompose", ["graph", "script", "picks"], files)
-    demand_covered(report, numbered)
-    return Decomposition.from_text("\n".join(report) + "\n", numbered)
+        status, report = run("decompose", ["graph", "script", "picks"], files)
+    with reported("decompose", status):
+        demand_covered(report, numbered)
+        return Decomposition.from_text("\n".join(report) + "\n", numbered)
 
 
 def check(graph: GraphLike, tree: TreeLike) -> TreeCheck:
@@ -126,8 +127,9 @@ def check(graph: GraphLike, tree: TreeLike) -> TreeCheck:
     """
     numbered = Graph(graph)
     files = {"graph": numbered.to_text(), "tree": tree_text(numbered, tree)}
-    _status, report = run("check", list(files), files)
-    return _read(report, numbered)
+    status, report = run("check", list(files), files)
+    with reported("check", status):
+        return _read(report, numbered)
 
 
 def refusal(line: str, graph: Graph) -> Refusal:

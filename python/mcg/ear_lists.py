@@ -9,7 +9,7 @@ from . import texts
 from .analysis import demand_covered, verdict
 from .errors import BadText
 from .graphs import Graph, GraphLike
-from .programs import run, understood
+from .programs import reported, run, understood
 from .sources import Edge, Label
 
 # Why a step of an ear decomposition is refused.
@@ -118,9 +118,10 @@ def ears(graph: GraphLike) -> Ears:
     `NotCovered`, `BadGraph`, `TooLarge`, and the exceptions on programs.
     """
     numbered = Graph(graph)
-    _status, report = run("ears", ["graph"], {"graph": numbered.to_text()})
-    demand_covered(report, numbered)
-    return _read("\n".join(report) + "\n", numbered)
+    status, report = run("ears", ["graph"], {"graph": numbered.to_text()})
+    with reported("ears", status):
+        demand_covered(report, numbered)
+        return _read("\n".join(report) + "\n", numbered)
 
 
 def check_ears(graph: GraphLike, listed: Ears) -> EarsCheck:
@@ -128,8 +129,9 @@ def check_ears(graph: GraphLike, listed: Ears) -> EarsCheck:
     error. Raises `BadGraph`, `TooLarge`, `BadText`, and the exceptions on programs."""
     numbered = Graph(graph)
     files = {"graph": numbered.to_text(), "ears": listed.to_text(numbered)}
-    _status, report = run("checkears", list(files), files)
-    return _understood(report, numbered)
+    status, report = run("checkears", list(files), files)
+    with reported("checkears", status):
+        return _understood(report, numbered)
 
 
 def _read(text: str, graph: Graph) -> Ears:

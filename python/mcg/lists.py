@@ -9,7 +9,7 @@ from typing import Any, Deque, Dict, Iterable, Iterator, List, Optional, Tuple, 
 from . import graph6
 from .errors import LIMIT, BadGraph, BadInput, ProgramFailed, TooLarge
 from .graphs import Graph, GraphLike
-from .programs import MOST_LINE
+from .programs import MOST_LINE, reported
 from .streams import Stream
 
 GivenGraph = TypeVar("GivenGraph", bound=GraphLike)
@@ -105,8 +105,7 @@ def leaves(
     """
     session = _Session(_graphs(graphs), skipped)
     for row in session.rows("leaves", order):
-        number, graph, leaf, kind = row.decode("ascii").split()
-        yield ListLeaf(int(number) - 1, graph, leaf, kind)
+        yield _leaf(row)
 
 
 def elementary(
@@ -120,8 +119,7 @@ def elementary(
     """
     session = _Session(_graphs(graphs), skipped)
     for row in session.rows("elementary"):
-        number, component, *vertices = row.decode("ascii").split()
-        yield ListComponent(int(number) - 1, component, tuple(map(int, vertices)))
+        yield _component(row)
 
 
 def select(
@@ -243,6 +241,21 @@ def _line(graph: Any) -> bytes:
     return text.encode("utf-8", "surrogateescape")
 
 
+@reported("leaves")
+def _leaf(row: bytes) -> ListLeaf:
+    """The parts of a line of `mcg6 leaves`."""
+    number, graph, leaf, kind = row.decode("ascii").split()
+    return ListLeaf(int(number) - 1, graph, leaf, kind)
+
+
+@reported("elementary")
+def _component(row: bytes) -> ListComponent:
+    """The parts of a line of `mcg6 elementary`."""
+    number, component, *vertices = row.decode("ascii").split()
+    return ListComponent(int(number) - 1, component, tuple(map(int, vertices)))
+
+
+@reported("kinds")
 def _kind(row: bytes) -> Kind:
     """The parts of a line of `mcg6 kinds`."""
     text, order, size, word, *more = row.decode("ascii").split()

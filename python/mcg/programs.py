@@ -112,6 +112,16 @@ def understood(command: str) -> Iterator[None]:
         raise BadText(f"not a report of {command} on this graph: {why!r}") from None
 
 
+@contextmanager
+def reported(command: str, status: Optional[int] = None) -> Iterator[None]:
+    """Raises `ProgramFailed` if what is read inside, which a program has just written, is not a
+    report of the command. `status` is the program's exit status, if it has ended."""
+    try:
+        yield
+    except (BadText, KeyError, IndexError, ValueError) as why:
+        raise ProgramFailed(f"the program did not write a report of {command} on this graph", status) from why
+
+
 def run(command: str, words: List[str], files: Dict[str, str]) -> Tuple[int, List[str]]:
     """Runs `mcg COMMAND WORDS..` and returns its status, 0 or 1, and the lines of the report.
 

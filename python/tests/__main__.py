@@ -23,7 +23,8 @@ def main(words):
     loader = unittest.defaultTestLoader
     suite = loader.loadTestsFromNames(names) if names else loader.discover(HERE, top_level_dir=HERE)
     result = unittest.TextTestRunner(verbosity=2 if "-v" in words else 1).run(suite)
-    failed = len(result.failures) + len(result.errors) + len(result.unexpectedSuccesses)
+    faults = [test for test, _why in result.failures + result.errors] + result.unexpectedSuccesses
+    failed = len({getattr(test, "test_case", test).id() for test in faults})  # a test with several bad subtests counts once
     for test, why in result.skipped:
         print(f"skipped {test.id()}: {why}")
     if loader.errors or not result.testsRun:

@@ -1,9 +1,11 @@
 """What the tests share: the programs, random graphs with odd labels, and a brute force."""
 import os
 import random
+import stat
 import sys
 from functools import lru_cache
 from itertools import combinations
+from unittest import mock
 
 HERE = os.path.dirname(os.path.realpath(__file__))
 ROOT = os.path.dirname(os.path.dirname(HERE))
@@ -20,6 +22,15 @@ except ImportError:
 
 WITHOUT_NETWORKX = "NetworkX cannot be imported"
 LABELS = [None, "ä", ("x", 1), frozenset({1, "y"}), 3.5, b"z", "two words\n", -7, "", (), "ß", ("x", (2, None)), 10**30, "v1"]
+
+
+def program_of(folder, body, name="mcg6"):
+    """A program that stands for mcg6 or mcg, written in sh."""
+    path = os.path.join(folder, name)
+    with open(path, "w") as file:
+        file.write(f"#!/bin/sh\n{body}\n")
+    os.chmod(path, os.stat(path).st_mode | stat.S_IXUSR)
+    return mock.patch.dict(os.environ, {name.upper(): path})
 
 
 def random_graph(draw, most=8, parallel=True):
@@ -173,4 +184,4 @@ def cycle(count):
     return [(k, (k + 1) % count) for k in range(count)]
 
 
-__all__ = ["Brute", "ROOT", "WITHOUT_NETWORKX", "brute_of", "covered", "cycle", "drawn", "mcg", "networkx", "random_graph"]
+__all__ = ["Brute", "ROOT", "WITHOUT_NETWORKX", "brute_of", "covered", "cycle", "drawn", "mcg", "networkx", "program_of", "random_graph"]

@@ -6,28 +6,6 @@ import unittest
 from support import WITHOUT_NETWORKX, cycle, drawn, mcg, networkx
 
 
-class SageGraph:
-    """A stand-in with the methods of Sage's graphs that the package calls, with their default arguments."""
-
-    def __init__(self, vertices, edges, multiple=False, directed=False):
-        self._vertices, self._edges, self._multiple, self._directed = vertices, edges, multiple, directed
-
-    def is_directed(self):
-        return self._directed
-
-    def allows_multiple_edges(self):
-        return self._multiple
-
-    def vertex_iterator(self, vertices=None, degree=None, vertex_property=None):
-        return iter(self._vertices)
-
-    def edge_iterator(self, vertices=None, labels=True, ignore_direction=False, sort_vertices=True):
-        return iter(self._edges if labels else [it[:2] for it in self._edges])
-
-    def vertices(self, sort=True):
-        return sorted(self._vertices) if sort else list(self._vertices)
-
-
 class Forms(unittest.TestCase):
     def test_a_pair_of_vertices_and_edges(self):
         graph = mcg.Graph((["z", None, "isolated"], [("z", None)]))
@@ -52,16 +30,6 @@ class Forms(unittest.TestCase):
         self.assertEqual(mcg.Graph("?").order, 0)
         for order in (1, 62, 63, 128):
             self.assertEqual(mcg.Graph(mcg.Graph((range(order), cycle(order) if order > 2 else [])).graph6()).order, order)
-
-    def test_sage(self):
-        simple = mcg.Graph(SageGraph(["a", 2, (3,)], [("a", 2, None), (2, (3,), "label")]))
-        self.assertEqual((simple.vertices, simple.edges), (("a", 2, (3,)), (("a", 2), (2, (3,)))))
-        told = mcg.Graph(SageGraph("ab", [("a", "b", "x"), ("a", "b", "y")], multiple=True))
-        self.assertEqual(told.edges, (("a", "b", "x"), ("a", "b", "y")))
-        alike = mcg.Graph(SageGraph("abc", [("a", "b", None), ("a", "b", None), ("b", "c", None)], multiple=True))
-        self.assertEqual(alike.edges, (("a", "b", 0), ("a", "b", 1), ("b", "c", 0)))
-        with self.assertRaises(mcg.BadGraph):
-            mcg.Graph(SageGraph("ab", [("a", "b", None)], directed=True))
 
     def test_what_is_no_graph(self):
         cases = [

@@ -1,24 +1,14 @@
 """Lists: kinds, leaves, elementary and select, streamed through one process."""
 import itertools
-import os
 import random
 import resource
-import stat
+import sys
 import tempfile
 import threading
 import unittest
 from unittest import mock
 
 from support import Brute, brute_of, cycle, drawn, mcg
-
-
-def program_of(folder, body):
-    """A program that stands for mcg6, written in sh."""
-    path = os.path.join(folder, "mcg6")
-    with open(path, "w") as file:
-        file.write(f"#!/bin/sh\n{body}\n")
-    os.chmod(path, os.stat(path).st_mode | stat.S_IXUSR)
-    return mock.patch.dict(os.environ, {"MCG6": path})
 
 
 class Kinds(unittest.TestCase):
@@ -56,11 +46,13 @@ class Kinds(unittest.TestCase):
         self.assertEqual([next(found).kind for _ in range(1000)], ["brick"] * 1000)
         found.close()
 
+    @mock.patch("mcg.streams.KEPT", 20_000)
     def test_a_long_stream_in_constant_memory(self):
-        """100,000 graphs, half of them labelled; memory grows by less than 20 MB over the last 90,000."""
+        """100,000 graphs, a quarter of them labelled. Fewer than 40,000 are taken ahead of the results: what the pipes hold. Over the
+        last 90,000 the number of objects hardly grows, and the memory by less than 20 MB."""
         texts = ["C~", "Bw", "Ch", "IheA@GUAo", cycle(6), "E~rG", cycle(10), "A_"]
         wanted = ["brick", None, None, "brick", "composite", "composite", "composite", "brace"]
-        sent, peak = 0, None
+        sent, seen = 0, {}
 
         def graphs():
             nonlocal sent
@@ -70,11 +62,13 @@ class Kinds(unittest.TestCase):
 
         for k, found in enumerate(mcg.kinds(graphs())):
             self.assertEqual(found.kind, wanted[k % 8])
-            self.assertLess(sent - k, 100_000 if k > 50_000 else 60_000)
-            if k == 10_000:
-                peak = resource.getrusage(resource.RUSAGE_SELF).ru_maxrss
+            self.assertLess(sent - k, 40_000)
+            if k in (10_000, 99_999):
+                seen[k] = sys.getallocatedblocks(), resource.getrusage(resource.RUSAGE_SELF).ru_maxrss
         self.assertEqual(k, 99_999)
-        self.assertLess(resource.getrusage(resource.RUSAGE_SELF).ru_maxrss - peak, 20_000)
+        objects, memory = (after - before for before, after in zip(seen[10_000], seen[k]))
+        self.assertLess(objects, 10_000)
+        self.assertLess(memory, 20_000)
 
     def test_two_threads(self):
         results = {}
@@ -251,6 +245,7 @@ class Select(unittest.TestCase):
     def test_random_graphs(self):
         graphs = drawn(13, 300)
         kinds = [brute_of(it).kinds() if brute_of(it).is_covered() else None for it in graphs]
+        bicritical = [all(brute_of(it).is_matched(*pair) for pair in itertools.combinations(it[0], 2)) for it in graphs]
         wanted = {
             "covered": [it is not None for it in kinds],
             "uncovered": [it is None for it in kinds],
@@ -258,10 +253,12 @@ class Select(unittest.TestCase):
             "brick": [it == ["brick"] for it in kinds],
             "brace": [it == ["brace"] for it in kinds],
             "composite": [it is not None and len(it) > 1 for it in kinds],
+            "bicritical": [it is not None and is_so for it, is_so in zip(kinds, bicritical)],
             "bricks=1": [it is not None and it.count("brick") == 1 for it in kinds],
             "braces=2": [it is not None and it.count("brace") == 2 for it in kinds],
         }
         for what, has in wanted.items():
+            self.assertEqual(set(has), {True, False})
             found = list(mcg.select(graphs, what))
             self.assertEqual([id(it) for it in found], [id(it) for it, is_so in zip(graphs, has) if is_so])
 
@@ -286,51 +283,3 @@ class Select(unittest.TestCase):
         with self.assertRaises(mcg.ProgramFailed) as raised:
             list(mcg.select(["C~"], "brik"))
         self.assertEqual(raised.exception.status, 2)
-
-
-class Programs(unittest.TestCase):
-    def test_a_program_that_dies(self):
-        with tempfile.TemporaryDirectory() as folder:
-            body = 'read line; echo "C~ 4 6 brick 1 0 bicritical yes"; kill -9 $$'
-            with program_of(folder, body):
-                found = []
-                with self.assertRaises(mcg.ProgramFailed) as raised:
-                    for it in mcg.kinds(["C~"] * 100_000):
-                        found.append(it)
-                self.assertEqual((len(found), raised.exception.status), (1, -9))
-
-    def test_a_program_that_ends_early(self):
-        with tempfile.TemporaryDirectory() as folder:
-            with program_of(folder, "exit 0"), self.assertRaises(mcg.ProgramFailed):
-                list(mcg.kinds(["C~"] * 100_000))
-
-    def test_a_program_that_runs_out_of_memory(self):
-        with tempfile.TemporaryDirectory() as folder:
-            with program_of(folder, "cat >/dev/null; exit 6"), self.assertRaises(mcg.OutOfMemory):
-                list(mcg.kinds(["C~"]))
-
-    def test_a_silent_program(self):
-        """The proved program that says nothing in words: the line is counted."""
-        with tempfile.TemporaryDirectory() as folder:
-            body = 'read line; echo "C~ 4 6 brick 1 0 bicritical yes"; read line; exit 4'
-            with program_of(folder, body), self.assertRaises(mcg.BadGraph) as raised:
-                list(mcg.kinds(["C~", "x!", "C~"]))
-        self.assertEqual((raised.exception.line, raised.exception.kind), (2, 4))
-
-    def test_a_missing_program(self):
-        for given in ({"MCG6": "/nowhere/mcg6"}, {"MCG6": "", "PATH": "/nowhere"}):
-            with mock.patch.dict(os.environ, given), self.assertRaises(mcg.ProgramMissing):
-                list(mcg.kinds(["C~"]))
-
-    def test_the_program_on_the_path(self):
-        real = os.path.realpath(os.environ["MCG6"])
-        with tempfile.TemporaryDirectory() as folder:
-            os.symlink(real, f"{folder}/mcg6")
-            with mock.patch.dict(os.environ, {"MCG6": "", "PATH": f"{folder}:{os.environ['PATH']}"}):
-                self.assertEqual([it.kind for it in mcg.kinds(["C~"])], ["brick"])
-
-    def test_one_process_for_all(self):
-        """`kinds` starts one process, and closing the iterator before its end stops it."""
-        with mock.patch("subprocess.Popen", side_effect=__import__("subprocess").Popen) as popen:
-            self.assertEqual(len(list(mcg.kinds(["C~"] * 5000))), 5000)
-            self.assertEqual(popen.call_count, 1)
