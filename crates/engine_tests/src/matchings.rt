@@ -54,7 +54,8 @@ fn finds_maximum_matchings(rt: HostRuntime) -> Result<(), Fail> {
 }
 
 // A graph, and its sets D, A and the set that shows that no matching is larger.
-static SETS: [(u32, &[(u32, u32)], &[u32], &[u32], &[u32]); 3] = [
+static SETS: [(u32, &[(u32, u32)], &[u32], &[u32], &[u32]); 4] = [
+    (4, &K4, &[], &[], &[]),
     (4, &STAR, &[2, 3, 4], &[1], &[1]),
     (3, &TRIANGLE, &[1, 2, 3], &[], &[]),
     (4, &PATH, &[], &[], &[]),

@@ -134,7 +134,7 @@ fn amounts(rt: HostRuntime) -> Result<(), Memory> {
     assert!(rt; list.is_empty());
     list.push(-5)?;
     list.push(7)?;
-    assert!(rt; list.len() == 2 && list.get(0) == -5);
+    assert!(rt; list.len() == 2 && list.get(0) == -5 && list.get(1) == 7);
     Ok(())
 }
 

@@ -132,8 +132,11 @@ fn needs_file(alloc: Global, words: &[&str], files: &[&str], place: usize) -> Re
 }
 
 // Whether this is so where the read call of each file fails in turn, and where each file is
-// missing in turn.
+// missing in turn; and is not so of a command without files, where the first read call would fail.
 fn needs_each_file(alloc: Global, words: &[&str], files: &[&str]) -> Result<bool, Fail> {
+    if files.is_empty() {
+        return Ok(!needs_read(alloc, words, files, 1)?);
+    }
     for (call, (place, _)) in (1..=3).zip(files.iter().enumerate()) {
         if !needs_read(alloc, words, files, call)? || !needs_file(alloc, words, files, place)? {
             return Ok(false);

@@ -192,47 +192,50 @@ fn the_room_is_too_small(rt: HostRuntime) -> Result<(), Fail> {
     Ok(())
 }
 
-// The length of a line, the number of bytes that are written of it, and how many bytes of its
-// text are kept if it is too long.
-static LONG_LINES: [(usize, usize, Option<usize>); 4] = [
-    (65_535, 65_538, None),
-    (65_536, 0, Some(65_537)),
-    (65_537, 0, Some(65_538)),
-    (10_000_000, 0, Some(131_072)),
+// The length of a line, and how many bytes of its text are kept if it is too long.
+static LONG_LINES: [(usize, Option<usize>); 4] = [
+    (65_535, None),
+    (65_536, Some(65_537)),
+    (65_537, Some(65_538)),
+    (10_000_000, Some(131_072)),
 ];
 
-// Whether the ending keeps so many bytes of a first line that is too long, or is that of a list
-// that was answered.
-fn keeps(ending: &Ending, kept: Option<usize>) -> bool {
+// Whether the ending keeps so many bytes of a first line that is too long, the first of the list,
+// or is that of a list that was answered.
+fn keeps(ending: &Ending, kept: Option<usize>, list: &[u8]) -> bool {
     match (ending, kept) {
         (Ending::Done, None) => true,
         (Ending::Bad { found }, Some(kept)) => {
-            found.number == 1 && found.kind == FaultKind::Limit && found.text.len() == kept
+            found.number == 1
+                && found.kind == FaultKind::Limit
+                && found.text.len() == kept
+                && found.text.iter().zip(list).all(|(a, b)| *a == *b)
         }
         _ => false,
     }
 }
 
-// Whether so many bytes are written of one line of that length, and so many are kept.
-fn ends_so(
-    alloc: Global,
-    length: usize,
-    written: usize,
-    kept: Option<usize>,
-) -> Result<bool, Memory> {
+// Whether one line of that length is written with its number, or, if so many of its bytes are
+// kept, nothing is written.
+fn ends_so(alloc: Global, length: usize, kept: Option<usize>) -> Result<bool, Memory> {
     let mut list = vec![in alloc; b'?'; length]?;
     list.push(b'\n')?;
     let mut source = MemSource::new(alloc, &list)?;
     let mut sink = MemSink::new(alloc, 100_000, 100_000)?;
     let mut skipped = Vec::new(alloc);
     let told = tell_all(alloc, &Copyist, &mut source, &mut sink, &mut skipped);
-    Ok(keeps(&told, kept) && sink.bytes().len() == written)
+    let mut wanted = Vec::new(alloc);
+    if kept.is_none() {
+        wanted.extend_from_slice(b"1 ")?;
+        wanted.extend_from_slice(&list)?;
+    }
+    Ok(keeps(&told, kept, &list) && sink.bytes() == wanted.as_slice())
 }
 
 #[test]
 fn a_line_is_too_long(rt: HostRuntime) -> Result<(), Fail> {
-    for (length, written, kept) in &LONG_LINES {
-        assert!(rt; ends_so(rt.alloc(), *length, *written, *kept)?);
+    for (length, kept) in &LONG_LINES {
+        assert!(rt; ends_so(rt.alloc(), *length, *kept)?);
     }
     Ok(())
 }
