@@ -1,8 +1,9 @@
 //! The rules that a cut of a derivation keeps.
 ghost use Rattle.std.specs.Prelude.{◌≡◌, ◌-◌, ℕ, true, All, length, IfOk, None, Some};
-ghost use Rattle.counting.specs.Common.{Within, is_odd, mem, rising_list};
+ghost use Rattle.counting.specs.Common.{IsRisingIn, Within, is_odd, mem, rising_list};
 ghost use Rattle.graph_core.specs.Common.{IsTightAt, IsUnion, block_count, blocks_in, lifted, quotient};
 ghost use Rattle.match_core.specs.Common.{IsOf, edges_of};
+ghost use Rattle.tight_cuts.specs.Common.{IsTightness};
 ghost use Rattle.tree_core.specs.Common.{IsCutAt};
 ghost use Rattle.tree_check.specs.Common.{why_of, BreaksCut, CrossesAt};
 
@@ -12,7 +13,7 @@ use contraction::{Partition, lift, quotient};
 use graph_core::Numbers;
 use match_core::Matching;
 use std::alloc::{AllocError as Memory, Global};
-use tight_cuts::{Tightness, is_tight};
+use tight_cuts::{Tightness, is_tight, tightness_in};
 use tree_core::{KnownPlace, Place};
 use vset_core::VSet;
 
@@ -87,13 +88,30 @@ fn crossing_by(alloc: Global, place: &KnownPlace, shore: VSet) -> Result<Option<
         (λ o. o ≡ None → IsTightAt place.now.graph place.now.blocks (mem shore)) }
 {
     place.keeps_place();
-    let q = place.quotient(alloc)?;
     let places = places_in(place.place().partition(), shore);
-    match is_tight(alloc, q.graph(), places)? {
+    match tightness_at(alloc, place, places)? {
         Tightness::Tight => Ok(None),
         Tightness::Crossed { matching } => {
             let edges = edges_at(alloc, place.place(), &matching)?;
             Ok(Some(edges))
+        }
+    }
+}
+
+// Whether the cut of an odd number of blocks, by their places, is tight in the quotient. Below a cut
+// what is known of the quotient serves.
+fn tightness_at(alloc: Global, place: &KnownPlace, shore: VSet) -> Result<Tightness, Memory>
+    requires shore { IsRisingIn (quotient place.now.graph place.now.blocks).order shore }
+    requires odd { is_odd (length shore) ≡ true }
+    ensures { IfOk result
+        (IsTightness (quotient place.now.graph place.now.blocks) (mem shore)) }
+{
+    place.keeps_place();
+    match place.below() {
+        Some(covered) => tightness_in(alloc, covered, shore),
+        None => {
+            let q = place.quotient(alloc)?;
+            is_tight(alloc, q.graph(), shore)
         }
     }
 }
