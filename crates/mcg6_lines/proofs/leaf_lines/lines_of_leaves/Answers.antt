@@ -13,7 +13,7 @@ index-requires c = grind (arith, c.in_ok-kinds.ensures c.requires.0 c.requires.1
 
 pub loop-i-preserved : goal.loop-i-preserved
 loop-i-preserved c = λ g ps are.
-    lines_further c.args.front.now g ps c.args.leaves.now c.in_ok-kinds.kinds.items c.loop-i.i c.index-leaves-i.result.now c.index.result c.loop-i.lines.items c.push_leaf.new.lines.items
+    lines_further c.args.front.now g ps c.args.leaves.now c.in_ok-kinds.kinds.items c.loop-i.i c.index-leaves-i.result c.index.result c.loop-i.lines.items c.push_leaf.new.lines.items
     c.loop-i-test.true c.index-leaves-i.is are (grind (arith, c.in_ok-kinds.ensures g ps are, length-map ps (place_of g))) (grind arith) c.in_ok-push_leaf.ensures (c.loop-i.invariant g ps are)
 
 pub returns : goal.returns
