@@ -2,8 +2,7 @@
 -- few nodes; and the report with its leaves after it stands for the tree.
 use Rattle.std.proofs.Common.{◌≡◌, ℕ, List, ◌∷◌, map, ap, subst, true, refl, ◌∙◌, arith}
 use Rattle.graph_core.proofs.Common.{Graph, singles, IsWithinLimits}
-use Rattle.contraction.specs.Partition.{PartitionValue}
-use Rattle.tree_core.proofs.Common.{IsDerivation, kept_at, merged_at, StandsAt, leaves, partitions_of, Shape, leaf, cut, AreLeafKinds, partitions-leaves, leaf_count-cuts, node_count-cuts, length-leaves_at, blocks-of_leaves, few-nodes}
+use Rattle.tree_core.proofs.Common.{IsDerivation, kept_at, merged_at, StandsAt, leaves, Shape, leaf, cut, AreLeafKinds, partitions-leaves, leaf_count-cuts, node_count-cuts, length-leaves_at, few-nodes}
 use Rattle.line_text.specs.Common.{Stands, is_closed, unwords}
 use Rattle.line_text.proofs.ReadBack.{is_closed-unlines}
 use Rattle.tree_text.specs.Common.{tree_format, HasVertices, header_words, node_words, tree_text}
@@ -46,28 +45,21 @@ stands-told g t kinds bytes limits derived right commented stands =
     stands
 
 -- the text with the leaves and the names determines the derivation
-pub told : (named : NamedGraph) (t : Shape) (n : ℕ) (found : List PartitionValue) (text shown report bytes : List ℕ) (kinds : List LeafKind) →
-    IsWithinLimits named.graph → IsDerivation named.graph t → n ≡ named.graph.order → found ≡ partitions_of n (leaves n t) → text ≡ tree_text n t → Stands (tree_format n) text t → shown ≡ text →
-    AreLeafKinds named.graph (map (λ (p : PartitionValue). p.blocks) found) kinds → report ≡ derivation_text shown named.graph (map (λ (p : PartitionValue). p.blocks) found) kinds →
+pub told : (named : NamedGraph) (t : Shape) (n : ℕ) (text shown report bytes : List ℕ) (kinds : List LeafKind) →
+    IsWithinLimits named.graph → IsDerivation named.graph t → n ≡ named.graph.order → text ≡ tree_text n t → Stands (tree_format n) text t → shown ≡ text →
+    AreLeafKinds named.graph (leaves named.graph.order t) kinds → report ≡ derivation_text shown named.graph (leaves named.graph.order t) kinds →
     bytes ≡ with_given_names report named.names true → IsCommented report bytes → TellsDerivation named t Done bytes
-told named t n found text shown report bytes kinds limits derived n_is found_are text_is stands shown_is right report_is bytes_are commented = record {
+told named t n text shown report bytes kinds limits derived n_is text_is stands shown_is right report_is bytes_are commented = record {
   derivation = derived;
   kinds = kinds;
-  right = right_kinds;
+  right = right;
   done = refl;
   text = bytes_are ∙ ap (λ (r : List ℕ). with_given_names r named.names true) report_tells;
-  stands = stands-told named.graph t kinds bytes limits derived right_kinds
+  stands = stands-told named.graph t kinds bytes limits derived right
       (subst (λ (r : List ℕ). IsCommented r bytes) report_tells commented)
       (subst (λ (k : ℕ). Stands (tree_format k) (tree_text k t) t) n_is (subst (λ (bs : List ℕ). Stands (tree_format n) bs t) text_is stands));
 }
   where
-    blocks_are : map (λ (p : PartitionValue). p.blocks) found ≡ leaves named.graph.order t
-    blocks_are = ap (map (λ (p : PartitionValue). p.blocks)) found_are ∙ blocks-of_leaves n (leaves n t) ∙ ap (λ (k : ℕ). leaves k t) n_is
-
-    right_kinds : AreLeafKinds named.graph (leaves named.graph.order t) kinds
-    right_kinds = subst (λ (ps : List (List (List ℕ))). AreLeafKinds named.graph ps kinds) blocks_are right
-
     report_tells : report ≡ derivation_text (tree_text named.graph.order t) named.graph (leaves named.graph.order t) kinds
     report_tells = report_is
-        ∙ ap (λ (x : List ℕ). derivation_text x named.graph (map (λ (p : PartitionValue). p.blocks) found) kinds) (shown_is ∙ text_is ∙ ap (λ (k : ℕ). tree_text k t) n_is)
-        ∙ ap (λ (ps : List (List (List ℕ))). derivation_text (tree_text named.graph.order t) named.graph ps kinds) blocks_are
+        ∙ ap (λ (x : List ℕ). derivation_text x named.graph (leaves named.graph.order t) kinds) (shown_is ∙ text_is ∙ ap (λ (k : ℕ). tree_text k t) n_is)

@@ -1,38 +1,55 @@
 //! The decomposition of a graph by tight cuts, as `decompose` reports it.
-ghost use Rattle.std.specs.Prelude.{◌≡◌, ◌<◌, ◌≤◌, IfOk, length};
+ghost use Rattle.std.specs.Prelude.{◌≡◌, ◌<◌, ◌≤◌, IfOk, length, map};
 ghost use Rattle.graph_text.specs.Common.{named_graph};
-ghost use Rattle.tree_core.specs.Common.{IsDerivation, shape_of};
+ghost use Rattle.tree_core.specs.Common.{IsDerivation, leaves, place_of, shape_of};
 ghost use Rattle.decomposer.specs.Common.{ScriptPicks, IsPicked};
 ghost use Rattle.bench_outcomes.specs.Common.{DecomposeGives, TellsDerivation};
 
 use crate::naming::with_given_names;
 use crate::uncovered::uncovered_report;
 use bench_outcomes::{Report, Status};
-use decomposer::{Order, Refused, Scripted, decompose};
+use decomposer::{Decomposition, Order, Scripted, decompose_places};
 use graph_core::Numbers;
+use graph_facts::Covered;
 use graph_text::Named;
-use report_text::derivation;
+use report_text::derivation_at;
 use std::alloc::{AllocError as Memory, Global};
-use tree_core::{Tree, leaves};
 use tree_text::write_tree;
 
 // The text of a derivation, and then its leaves and the names as comments.
-fn derivation_report(alloc: Global, named: &Named, tree: &Tree) -> Result<Report, Memory>
-    requires { IsDerivation named.now.graph (shape_of tree.now) }
+fn derivation_report(alloc: Global, named: &Named, found: &Decomposition) -> Result<Report, Memory>
+    requires derivation { IsDerivation named.now.graph (shape_of found.now.tree) }
+    requires leaves { found.now.leaves.items
+        ≡ map (place_of named.now.graph) (leaves named.now.graph.order (shape_of found.now.tree)) }
     ensures { IfOk result
-        (λ report. TellsDerivation (named_graph named.now) (shape_of tree.now) report.status
+        (λ report. TellsDerivation (named_graph named.now) (shape_of found.now.tree) report.status
         report.bytes.items) }
 {
     let g = &named.graph;
     g.keeps_limits();
     let n = g.order();
-    let text = write_tree(alloc, tree, n)?;
-    let found = leaves(alloc, tree, n)?;
-    let report = derivation(alloc, &text, g, &found)?;
+    let text = write_tree(alloc, &found.tree, n)?;
+    let report = derivation_at(alloc, &text, &found.leaves)?;
     Ok(Report {
         status: Status::Done,
         bytes: with_given_names(alloc, report, &named.names, true)?,
     })
+}
+
+// The report of the decomposition of a covered graph in an order.
+fn covered_report<O: Order>(
+    alloc: Global,
+    named: &Named,
+    c: &Covered,
+    order: &O,
+) -> Result<Report, Memory>
+    requires { c.now ≡ named.now.graph }
+    ensures { IfOk result
+        (λ report. DecomposeGives (O.picks order.now) (named_graph named.now) report.status
+        report.bytes.items) }
+{
+    let found = decompose_places(alloc, c, order)?;
+    derivation_report(alloc, named, &found)
 }
 
 /// The report of a decomposition in an order.
@@ -41,10 +58,10 @@ pub fn decompose_report<O: Order>(alloc: Global, named: &Named, order: &O) -> Re
         (λ report. DecomposeGives (O.picks order.now) (named_graph named.now) report.status
         report.bytes.items) }
 {
-    match decompose(alloc, &named.graph, order) {
-        Ok(tree) => derivation_report(alloc, named, &tree),
-        Err(Refused::NotCovered(reason)) => uncovered_report(alloc, &named.graph, reason),
-        Err(Refused::Memory) => Err(Memory),
+    named.graph.keeps_limits();
+    match Covered::of(alloc, &named.graph)? {
+        Ok(c) => covered_report(alloc, named, &c, order),
+        Err(reason) => uncovered_report(alloc, &named.graph, reason),
     }
 }
 

@@ -6,7 +6,7 @@ ghost use Rattle.bench_outcomes.specs.Common.{Grown, IsCounted};
 
 use bench_outcomes::{Report, Status};
 use bench_tasks::GrowNumbers;
-use decomposer::{NamedOrder, decompose_with_kinds, tally_of_kinds};
+use decomposer::{NamedOrder, decompose_places, tally};
 use graph_facts::Covered;
 use graph_text::write_graph;
 use grow_gen::grow;
@@ -19,9 +19,9 @@ use uncross::compare;
 fn counted(alloc: Global, c: &Covered, order: NamedOrder) -> Result<(Tree, Tally), Memory>
     ensures { IfOk result (λ found. IsCounted (NamedPicks order) c.now (shape_of found.0) found.1) }
 {
-    let found = decompose_with_kinds(alloc, c, &order)?;
-    let tally = tally_of_kinds(c, &found);
-    Ok((found.tree, tally))
+    let found = decompose_places(alloc, c, &order)?;
+    let counts = tally(alloc, c, &found)?;
+    Ok((found.tree, counts))
 }
 
 /// The report on the graph that grows from a seed: its text, the leaves of its derivations by the

@@ -1,18 +1,21 @@
 //! The numbers of the leaves of a decomposition.
-ghost use Rattle.tree_core.specs.Common.{AreLeafKinds, IsDerivation, IsTally, leaves, shape_of};
+ghost use Rattle.std.specs.Prelude.{◌≡◌, map, IfOk};
+ghost use Rattle.tree_core.specs.Common.{IsDerivation, IsTally, leaves, place_of, shape_of};
 
-use crate::kinds::TreeWithKinds;
+use crate::decomposition::Decomposition;
 use graph_facts::Covered;
-use tree_core::{Tally, tallied};
+use std::alloc::{AllocError, Global};
+use tree_core::{Tally, kinds_at, tallied};
 
-/// How many leaves a derivation of a covered graph has, and how many of them are bricks and
-/// braces. Takes no memory.
-pub fn tally_of_kinds(c: &Covered, found: &TreeWithKinds) -> Tally
+/// How many leaves a decomposition of a covered graph has, and how many of them are bricks and
+/// braces.
+pub fn tally(alloc: Global, c: &Covered, found: &Decomposition) -> Result<Tally, AllocError>
     requires derivation { IsDerivation c.now (shape_of found.now.tree) }
-    requires kinds { AreLeafKinds c.now (leaves c.now.order (shape_of found.now.tree))
-        found.now.kinds.items }
-    ensures { IsTally c.now (leaves c.now.order (shape_of found.now.tree)) result }
+    requires leaves { found.now.leaves.items
+        ≡ map (place_of c.now) (leaves c.now.order (shape_of found.now.tree)) }
+    ensures { IfOk result (IsTally c.now (leaves c.now.order (shape_of found.now.tree))) }
 {
     c.keeps_covered();
-    tallied(&found.kinds)
+    let kinds = kinds_at(alloc, &found.leaves)?;
+    Ok(tallied(&kinds))
 }

@@ -8,9 +8,7 @@
 //! `specs/Picked`), with cuts counted in preorder. `decompose_covered` takes a covered graph of
 //! which the facts are at hand (`Covered` of `graph_facts`). `decompose_places` returns the leaves
 //! beside the tree, as places that know their quotients (`KnownPlace` of `tree_core`), and so does
-//! `decompose_places_from_first` where the first cut is at hand too. `decompose_with_kinds` and
-//! `decompose_with_kinds_from_first` return the kinds of the leaves alone; `tally_of_kinds` counts
-//! them.
+//! `decompose_places_from_first` where the first cut is at hand too; `tally` counts them by kind.
 //!
 //! Stands on `tight_cuts` for the candidates at a place and on `tree_core` for trees. Source:
 //! Lovász, "Matching structure and the matching lattice" (1987); Lucchesi and Murty, "Perfect
@@ -20,14 +18,12 @@
 mod by_function;
 mod counting_leaves;
 mod decomposition;
-mod kinds;
 mod orders;
 mod shores;
 mod trees;
 
 pub use by_function::{ByFunction, Function};
-pub use counting_leaves::tally_of_kinds;
+pub use counting_leaves::tally;
 pub use decomposition::{Decomposition, decompose_places, decompose_places_from_first};
-pub use kinds::{TreeWithKinds, decompose_with_kinds, decompose_with_kinds_from_first};
 pub use orders::{NamedOrder, Order, Scripted};
 pub use trees::{Refused, decompose, decompose_covered};

@@ -1,13 +1,12 @@
 //! The numbers of bricks and braces of a covered graph.
-ghost use Rattle.std.specs.Prelude.{◌≡◌, IfOk, Some};
+ghost use Rattle.std.specs.Prelude.{◌≡◌, map, IfOk, Some};
 ghost use Rattle.leaf_kinds.specs.LeafKinds.{IsKind, cut_of};
 ghost use Rattle.tight_cuts.specs.Common.{candidates, first_shore};
-ghost use Rattle.tree_core.specs.Common.{AreLeafKinds, IsDerivation, leaves, shape_of};
+ghost use Rattle.tree_core.specs.Common.{IsDerivation, leaves, place_of, shape_of};
 ghost use Rattle.mcg6_lines.specs.Standings.{IsCounted};
 
 use decomposer::{
-    NamedOrder, TreeWithKinds, decompose_with_kinds, decompose_with_kinds_from_first,
-    tally_of_kinds,
+    Decomposition, NamedOrder, decompose_places, decompose_places_from_first, tally,
 };
 use graph_core::Kind;
 use graph_facts::Covered;
@@ -43,8 +42,8 @@ fn counted_from_cut(alloc: Global, c: &Covered, cut: VSet) -> Result<Tally, Memo
     requires { first_shore (candidates c.now) ≡ Some cut }
     ensures { IfOk result (IsCounted c.now) }
 {
-    let found = decompose_with_kinds_from_first(alloc, c, cut)?;
-    Ok(counted_leaves(c, &found))
+    let found = decompose_places_from_first(alloc, c, cut)?;
+    counted_leaves(alloc, c, &found)
 }
 
 /// The numbers of the leaves of a covered graph, of the derivation for which the first candidates
@@ -52,16 +51,16 @@ fn counted_from_cut(alloc: Global, c: &Covered, cut: VSet) -> Result<Tally, Memo
 pub fn counted(alloc: Global, c: &Covered) -> Result<Tally, Memory>
     ensures { IfOk result (IsCounted c.now) }
 {
-    let found = decompose_with_kinds(alloc, c, &NamedOrder::First)?;
-    Ok(counted_leaves(c, &found))
+    let found = decompose_places(alloc, c, &NamedOrder::First)?;
+    counted_leaves(alloc, c, &found)
 }
 
-// The numbers of the leaves of a derivation. Takes no memory.
-fn counted_leaves(c: &Covered, found: &TreeWithKinds) -> Tally
+// The numbers of the leaves of a derivation.
+fn counted_leaves(alloc: Global, c: &Covered, found: &Decomposition) -> Result<Tally, Memory>
     requires derivation { IsDerivation c.now (shape_of found.now.tree) }
-    requires kinds { AreLeafKinds c.now (leaves c.now.order (shape_of found.now.tree))
-        found.now.kinds.items }
-    ensures { IsCounted c.now result }
+    requires leaves { found.now.leaves.items
+        ≡ map (place_of c.now) (leaves c.now.order (shape_of found.now.tree)) }
+    ensures { IfOk result (IsCounted c.now) }
 {
-    tally_of_kinds(c, found)
+    tally(alloc, c, found)
 }

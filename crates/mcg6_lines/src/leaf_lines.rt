@@ -1,18 +1,17 @@
 //! The lines of `leaves`.
-ghost use Rattle.std.specs.Prelude.{◌≡◌, ◌++◌, Ok, IfOk, OnOk, All, length, map};
-ghost use Rattle.graph_core.specs.Common.{quotient, IsSimple};
-ghost use Rattle.tree_core.specs.Common.{AreLeafKinds, IsDerivation, leaves, shape_of};
+ghost use Rattle.std.specs.Prelude.{◌≡◌, ◌++◌, ℕ, List, Ok, IfOk, OnOk, map};
+ghost use Rattle.graph_core.specs.Common.{Graph};
+ghost use Rattle.tree_core.specs.Common.{place_of};
 ghost use Rattle.graph6_text.specs.Common.{outcome_of};
-ghost use Rattle.mcg6_lines.specs.LeafLines.{AreLeafLines, AreLinesOf, TellsLeaves, leaf_end, leaf_line, leaf_lines, line_front};
+ghost use Rattle.mcg6_lines.specs.LeafLines.{AreLeafLines, AreLinesOf, TellsLeaves, leaf_end, leaf_line, line_front};
 
-use contraction::{Partition, quotient_graph};
-use decomposer::{NamedOrder, TreeWithKinds, decompose_with_kinds};
+use decomposer::{NamedOrder, decompose_places};
 use graph_core::MultiGraph;
 use graph_facts::Covered;
 use graph6_text::{bare_text, write_graph6};
 use report_text::leaf_kind_word;
 use std::alloc::{AllocError as Memory, Global};
-use tree_core::{LeafKind, Partitions, leaves};
+use tree_core::{KnownPlace, LeafKind, kinds_at};
 
 /// The lines of the leaves of the derivation that the order picks, for the graph that stands in
 /// the text of the line with this number; nothing if the graph is not matching covered.
@@ -56,79 +55,42 @@ fn covered_leaf_lines(
 ) -> Result<Vec<u8>, Memory>
     ensures { IfOk result (λ lines. TellsLeaves order front.now c.now lines.items) }
 {
-    let found = decompose_with_kinds(alloc, c, &order)?;
-    lines_of_tree(alloc, c.graph(), &found, front)
+    let found = decompose_places(alloc, c, &order)?;
+    lines_of_leaves(alloc, &found.leaves, front)
 }
 
-// The lines of the leaves of a derivation, each after the same front.
-fn lines_of_tree(
-    alloc: Global,
-    g: &MultiGraph,
-    found: &TreeWithKinds,
-    front: &[u8],
-) -> Result<Vec<u8>, Memory>
-    requires derivation { IsDerivation g.now (shape_of found.now.tree) }
-    requires kinds { AreLeafKinds g.now (leaves g.now.order (shape_of found.now.tree))
-        found.now.kinds.items }
-    ensures { IfOk result
-        (λ lines. AreLinesOf front.now g.now
-        (leaves g.now.order (shape_of found.now.tree)) lines.items) }
+// The lines of the leaves at these places of a graph, each after the same front.
+fn lines_of_leaves(alloc: Global, leaves: &[KnownPlace], front: &[u8]) -> Result<Vec<u8>, Memory>
+    requires { (g : Graph) × (ps : List (List (List ℕ))) × (leaves.now ≡ map (place_of g) ps) }
+    ensures { (g : Graph) (ps : List (List (List ℕ))) → leaves.now ≡ map (place_of g) ps →
+        IfOk result (λ lines. AreLinesOf front.now g ps lines.items) }
 {
-    g.keeps_limits();
-    let ps = leaves(alloc, &found.tree, g.order())?;
-    lines_of_leaves(alloc, g, &ps, &found.kinds, front)
-}
-
-// The lines of the leaves at these partitions, of these kinds, each after the same front.
-fn lines_of_leaves(
-    alloc: Global,
-    g: &MultiGraph,
-    ps: &Partitions,
-    kinds: &[LeafKind],
-    front: &[u8],
-) -> Result<Vec<u8>, Memory>
-    requires order { All (λ p. p.order ≡ g.now.order) ps.now }
-    requires each_one { length kinds.now ≡ length ps.now }
-    ensures { IfOk result
-        (λ lines. lines.items ≡ leaf_lines front.now g.now (map (λ p. p.blocks) ps.now)
-        kinds.now) }
-{
+    let kinds = kinds_at(alloc, leaves)?;
     let mut lines = Vec::new(alloc);
-    for i in 0..ps.len() {
-        push_leaf(alloc, &mut lines, g, ps.get(i), kinds[i], front)?;
+    for (i, leaf) in leaves.iter().enumerate() {
+        push_leaf(alloc, &mut lines, leaf, kinds[i], front)?;
     }
     Ok(lines)
 }
 
-// Appends the line of the leaf of this kind at a partition.
+// Appends the line of the leaf of this kind at a place.
+#[tactic(auto, using(crate::proofs::SimpleQuotients::simple_quotient))]
 fn push_leaf(
     alloc: Global,
     lines: &mut Vec<u8>,
-    g: &MultiGraph,
-    p: &Partition,
+    leaf: &KnownPlace,
     kind: LeafKind,
     front: &[u8],
 ) -> Result<(), Memory>
-    requires { p.now.order ≡ g.now.order }
     ensures { OnOk result
-        (lines.new.items ≡ lines.old.items ++ leaf_line front.now g.now p.now.blocks kind) }
+        (lines.new.items ≡ lines.old.items
+        ++ leaf_line front.now leaf.now.graph leaf.now.blocks kind) }
 {
-    let q = leaf_quotient(alloc, g, p)?;
-    let text = write_graph6(alloc, &q)?;
+    let q = leaf.quotient(alloc)?;
+    let text = write_graph6(alloc, q.graph())?;
     lines.extend_from_slice(front)?;
     lines.extend_from_slice(&text)?;
     push_leaf_end(lines, kind)
-}
-
-// The quotient at a partition, a simple graph.
-#[tactic(auto, using(crate::proofs::SimpleQuotients::simple_quotient))]
-fn leaf_quotient(alloc: Global, g: &MultiGraph, p: &Partition) -> Result<MultiGraph, Memory>
-    requires { p.now.order ≡ g.now.order }
-    ensures graph { IfOk result (λ q. q ≡ quotient g.now p.now.blocks) }
-    ensures simple { IfOk result IsSimple }
-{
-    let q = quotient_graph(alloc, g, p)?;
-    Ok(q)
 }
 
 // Appends the end of the line of a leaf of this kind.

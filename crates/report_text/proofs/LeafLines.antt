@@ -1,11 +1,12 @@
 -- The lines of the leaves grow by those of one leaf: those before it give their own kinds. By
 -- induction over the leaves, and the items before stay when a kind is appended.
-use Rattle.std.proofs.Common.{◌≡◌, ◌≤◌, ℕ, zero, suc, ◌+◌, ◌-◌, List, [], ◌∷◌, ◌++◌, length, map, refl, slice_get, Some, arith}
+use Rattle.std.proofs.Common.{◌≡◌, ◌≤◌, ◌<◌, ℕ, zero, suc, ◌+◌, ◌-◌, ◌∙◌, List, [], ◌∷◌, ◌++◌, length, map, ap, refl, sym, get_or, slice_get, Some, arith}
 use Rattle.std.proofs.Math.ListN.{get_or-append}
-use Rattle.counting.proofs.Common.{get_or-append_seam}
+use Rattle.counting.proofs.Common.{get_or-append_seam, length-map}
 use Rattle.contraction.specs.Partition.{PartitionValue}
 use Rattle.graph_core.proofs.Common.{Graph}
 use Rattle.report_text.specs.Common.{leaf_lines, leaf_text}
+use Rattle.tree_core.proofs.Common.{PlaceValue, blocks-at, place-at, place_of}
 use Rattle.tree_core.specs.declared.tallies.LeafKind.{LeafKind}
 use Rattle.tree_core.specs.declared.tallies.LeafKind.TheVariants.{Brick}
 use Rattle.report_text.proofs.WrittenLines.{leaf-written}
@@ -21,4 +22,15 @@ pub lines-more : (g : Graph) (leaves : List PartitionValue) (kinds : List LeafKi
     next ≡ start ++ leaf_lines g (map (λ (p : PartitionValue). p.blocks) leaves) (kinds ++ kind ∷ []) (suc i)
 lines-more g leaves kinds i p kind start now next is so_many first second =
     let ps : List (List (List ℕ)) = map (λ (p : PartitionValue). p.blocks) leaves in
-    grind (arith, leaf-written g leaves (kinds ++ kind ∷ []) i p kind start now next is, get_or-append_seam kinds kind, lines-before g ps kinds (kind ∷ []) i)
+    grind (arith, leaf-written g ps (kinds ++ kind ∷ []) i p.blocks kind start now next (sym (blocks-at leaves i p is)), get_or-append_seam kinds kind, lines-before g ps kinds (kind ∷ []) i)
+
+-- the lines of the leaf at the next place
+pub places-more : (g : Graph) (ps : List (List (List ℕ))) (places : List PlaceValue) (kinds : List LeafKind) (i : ℕ) (place : PlaceValue) (kind : LeafKind) (start now next : List ℕ) → i < length places → place ≡ get_or places i place → places ≡ map (place_of g) ps →
+    kind ≡ get_or kinds i Brick → now ≡ start ++ leaf_lines g ps kinds i → next ≡ now ++ leaf_text place.graph (suc i) place.blocks kind → next ≡ start ++ leaf_lines g ps kinds (suc i)
+places-more g ps places kinds i place kind start now next less is are kind_is first second =
+    let at = place-at g ps places i place less is are in
+    leaf-written g ps kinds i (get_or ps i []) kind start now next refl kind_is first (second ∙ ap (λ (q : PlaceValue). now ++ leaf_text q.graph (suc i) q.blocks kind) at.1)
+
+-- as many places as partitions
+pub places-all : (g : Graph) (ps : List (List (List ℕ))) (places : List PlaceValue) → places ≡ map (place_of g) ps → length places ≡ length ps
+places-all g ps places are = ap length are ∙ length-map ps (place_of g)

@@ -1,12 +1,8 @@
 -- Steps of the loops that write the lines of a leaf, and of the leaves: what is written and one
 -- more line are the lines with one more.
-use Rattle.std.proofs.Common.{◌≡◌, ℕ, suc, ◌-◌, ◌∙◌, List, [], ◌++◌, length, map, ap, sym, subst, append_assoc, slice_get, get_or, Some, arith, codes}
-use Rattle.std.proofs.lemmas.Option.{slice_get-map}
-use Rattle.counting.proofs.Common.{get_or_from_slice_get, Within}
-use Rattle.std.specs.Option.{option_map}
-use Rattle.graph_core.proofs.Common.{Graph, first_end, second_end, size, quotient, remembered}
-use Rattle.contraction.specs.Contracted.{ContractedValue, contraction}
-use Rattle.contraction.specs.Partition.{PartitionValue}
+use Rattle.std.proofs.Common.{◌≡◌, ℕ, suc, ◌-◌, ◌∙◌, List, [], ◌++◌, length, ap, subst, append_assoc, slice_get, get_or, Some, arith, codes}
+use Rattle.counting.proofs.Common.{get_or_from_slice_get, rising_list, Within}
+use Rattle.graph_core.proofs.Common.{Graph, contracted, contracted-size, first_end, second_end, has_ends, size, quotient}
 use Rattle.report_text.specs.Common.{list_line, adjacent_line, adjacent_lines, block_lines, leaf_line, leaf_lines, leaf_text, name_at}
 use Rattle.tree_core.proofs.Common.{leaf_at, kind_at}
 use Rattle.tree_core.specs.declared.tallies.LeafKind.{LeafKind}
@@ -21,15 +17,15 @@ pub block-written : (p : List (List ℕ)) (i : ℕ) (b start now next : List ℕ
 block-written p i b start now next is first second = grind (arith, one-more start (block_lines p i) (list_line (codes "c block") (get_or p i [])) now next first, get_or_from_slice_get p i b)
 
 -- the vertices of the quotient are the places of blocks
-pub within-blocks : (g : Graph) (p : List (List ℕ)) (q : ContractedValue) (h : Graph) (a : ℕ) → q ≡ contraction g p → h ≡ q.graph → Within h.order a → Within (length p) a
+pub within-blocks : (g : Graph) (p : List (List ℕ)) (q : Graph) (a : ℕ) → q ≡ quotient g p → Within q.order a → Within (length p) a
 unfolding quotient
-within-blocks g p q h a is same within = subst (λ (k : ℕ). Within k a) (ap (λ (h : Graph). h.order) same ∙ ap (λ (q : ContractedValue). q.graph.order) is) within
+within-blocks g p q a is within = subst (λ (k : ℕ). Within k a) (ap (λ (h : Graph). h.order) is) within
 
 -- the line of the next two adjacent blocks
-pub adjacent-written : (g : Graph) (p : List (List ℕ)) (q : ContractedValue) (h : Graph) (i a b x y : ℕ) (edges start now next : List ℕ) →
-    q ≡ contraction g p → h ≡ q.graph → a ≡ first_end h (suc i) → b ≡ second_end h (suc i) → x ≡ name_at p a → y ≡ name_at p b → edges ≡ remembered g p (suc i) →
+pub adjacent-written : (g : Graph) (p : List (List ℕ)) (q h : Graph) (i a b x y : ℕ) (edges start now next : List ℕ) →
+    q ≡ quotient g p → h ≡ contracted g p → a ≡ first_end q (suc i) → b ≡ second_end q (suc i) → x ≡ name_at p a → y ≡ name_at p b → edges ≡ rising_list (size h) (has_ends h a b) →
     now ≡ start ++ adjacent_lines g p i → next ≡ now ++ adjacent_line x y edges → next ≡ start ++ adjacent_lines g p (suc i)
-adjacent-written g p q h i a b x y edges start now next is same first_is second_is x_is y_is edges_are first second = grind (arith, one-more)
+adjacent-written g p q h i a b x y edges start now next is placed first_is second_is x_is y_is edges_are first second = grind (arith, one-more, contracted-size)
 
 -- the lines of a leaf: its own, those of its blocks, and those of the pairs of adjacent blocks,
 -- which are the edges of its quotient
@@ -39,13 +35,11 @@ unfolding leaf_text
 leaf_text-written g p number kind start first second end line blocks pairs = grind (arith, one-more, append_assoc)
 
 -- the lines of the next leaf
-pub leaf-written : (g : Graph) (leaves : List PartitionValue) (kinds : List LeafKind) (i : ℕ) (p : PartitionValue) (kind : LeafKind) (start now next : List ℕ) → slice_get leaves i ≡ Some p → kind ≡ get_or kinds i Brick →
-    now ≡ start ++ leaf_lines g (map (λ (p : PartitionValue). p.blocks) leaves) kinds i → next ≡ now ++ leaf_text g (suc i) p.blocks kind → next ≡ start ++ leaf_lines g (map (λ (p : PartitionValue). p.blocks) leaves) kinds (suc i)
-leaf-written g leaves kinds i p kind start now next is same first second =
-    let ps : List (List (List ℕ)) = map (λ (p : PartitionValue). p.blocks) leaves in
+pub leaf-written : (g : Graph) (ps : List (List (List ℕ))) (kinds : List LeafKind) (i : ℕ) (p : List (List ℕ)) (kind : LeafKind) (start now next : List ℕ) → p ≡ get_or ps i [] → kind ≡ get_or kinds i Brick →
+    now ≡ start ++ leaf_lines g ps kinds i → next ≡ now ++ leaf_text g (suc i) p kind → next ≡ start ++ leaf_lines g ps kinds (suc i)
+leaf-written g ps kinds i p kind start now next here same first second =
     let back : i ≡ suc i - 1 = omega arith in
-    let blocks : p.blocks ≡ leaf_at ps (suc i) =
-    sym (get_or_from_slice_get ps i p.blocks [] (slice_get-map (λ (p : PartitionValue). p.blocks) leaves i ∙ ap (option_map (λ (p : PartitionValue). p.blocks)) is)) ∙ ap (λ j. get_or ps j []) back in
+    let p_is : p ≡ leaf_at ps (suc i) = here ∙ ap (λ j. get_or ps j []) back in
     let kind_is : kind ≡ kind_at kinds (suc i) = same ∙ ap (λ j. get_or kinds j Brick) back in
     one-more start (leaf_lines g ps kinds i) (leaf_text g (suc i) (leaf_at ps (suc i)) (kind_at kinds (suc i))) now next first
-    (second ∙ ap (λ (b : List (List ℕ)). now ++ leaf_text g (suc i) b kind) blocks ∙ ap (λ (k : LeafKind). now ++ leaf_text g (suc i) (leaf_at ps (suc i)) k) kind_is)
+    (second ∙ ap (λ (b : List (List ℕ)). now ++ leaf_text g (suc i) b kind) p_is ∙ ap (λ (k : LeafKind). now ++ leaf_text g (suc i) (leaf_at ps (suc i)) k) kind_is)

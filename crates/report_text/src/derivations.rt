@@ -1,19 +1,18 @@
 //! The report of a decomposition: the text of its tree, and its leaves as comments.
-ghost use Rattle.std.specs.Prelude.{◌≡◌, ◌<◌, ◌≤◌, ◌++◌, ◌^◌, List, length, map, codes, OnOk, IfOk, All, string_bytes};
+ghost use Rattle.std.specs.Prelude.{◌≡◌, ◌<◌, ◌≤◌, ◌++◌, ◌^◌, ℕ, List, length, map, codes, OnOk, IfOk, All, string_bytes};
 ghost use Rattle.counting.specs.Common.{Within};
-ghost use Rattle.contraction.specs.Contracted.{contraction};
 ghost use Rattle.graph_core.specs.Common.{Graph, size, quotient};
-ghost use Rattle.tree_core.specs.Common.{AreLeafKinds, IsKindOf, IsLeafKind, tally_of};
+ghost use Rattle.tree_core.specs.Common.{AreLeafKinds, IsLeafKind, place_of, tally_of};
 ghost use Rattle.report_text.specs.Common.{adjacent_line, adjacent_lines, block_lines, derivation_text, leaf_line, leaf_lines, leaf_text, name_at, tally_line};
 ghost use Rattle.tree_core.specs.declared.tallies.LeafKind.{LeafKind};
 
 use crate::commenting::commented;
 use crate::numbers::{push_numbers, push_set_line};
 use crate::words::{leaf_kind_word, push_tally};
-use contraction::{Contracted, Partition, name_of, quotient};
+use contraction::{Partition, PlacedEdges, name_of, quotient_graph};
 use graph_core::MultiGraph;
 use std::alloc::{AllocError as Memory, Global};
-use tree_core::{LeafKind, Partitions, Tally, kind_of, tallied};
+use tree_core::{KnownPlace, LeafKind, Partitions, Tally, kind_of, kinds_at, tallied};
 
 fn push_leaf_line(text: &mut String, number: usize, kind: LeafKind) -> Result<(), Memory>
     ensures { OnOk result (string_bytes text.new ≡ string_bytes text.old ++ leaf_line number kind) }
@@ -51,53 +50,55 @@ fn push_adjacent(text: &mut String, a: u32, b: u32, edges: &[u32]) -> Result<(),
 }
 
 // The lines of the pairs of adjacent blocks, which are the edges of the quotient at the partition.
-fn push_pairs(text: &mut String, p: &Partition, q: &Contracted) -> Result<(), Memory>
-    requires { (g : Graph) × (q.now ≡ contraction g p.now.blocks) }
-    ensures { (g : Graph) → q.now ≡ contraction g p.now.blocks →
-        OnOk result (string_bytes text.new ≡ string_bytes text.old ++
-        adjacent_lines g p.now.blocks (size (quotient g p.now.blocks))) }
+fn push_pairs(
+    alloc: Global,
+    text: &mut String,
+    g: &MultiGraph,
+    p: &Partition,
+    q: &MultiGraph,
+) -> Result<(), Memory>
+    requires order { p.now.order ≡ g.now.order }
+    requires quotient { q.now ≡ quotient g.now p.now.blocks }
+    ensures { OnOk result
+        (string_bytes text.new ≡ string_bytes text.old ++
+        adjacent_lines g.now p.now.blocks (size (quotient g.now p.now.blocks))) }
 {
-    let graph = q.graph();
-    for i in 0..graph.size() {
-        let edge = i + 1;
-        let ends = graph.ends(edge);
-        push_adjacent(
-            text,
-            name_at(p, ends.a),
-            name_at(p, ends.b),
-            q.remembered(edge),
-        )?;
+    let placed = PlacedEdges::of(alloc, g, p)?;
+    for i in 0..q.size() {
+        let ends = q.ends(i + 1);
+        let edges = placed.between(alloc, ends.a, ends.b)?;
+        push_adjacent(text, name_at(p, ends.a), name_at(p, ends.b), &edges)?;
     }
     Ok(())
 }
 
-// The lines of the leaf at a partition with this quotient, and its kind.
+// The lines of the leaf of this kind at a partition with this quotient.
+fn push_leaf(
+    alloc: Global,
+    text: &mut String,
+    number: usize,
+    kind: LeafKind,
+    g: &MultiGraph,
+    p: &Partition,
+    q: &MultiGraph,
+) -> Result<(), Memory>
+    requires order { p.now.order ≡ g.now.order }
+    requires quotient { q.now ≡ quotient g.now p.now.blocks }
+    ensures { OnOk result
+        (string_bytes text.new ≡ string_bytes text.old ++
+        leaf_text g.now number p.now.blocks kind) }
+{
+    push_leaf_line(text, number, kind)?;
+    push_blocks(text, p)?;
+    push_pairs(alloc, text, g, p, q)
+}
+
+// The lines of the leaf at a partition, and its kind. Its quotient is computed once for both.
 fn push_quotient(
     alloc: Global,
     text: &mut String,
     number: usize,
-    p: &Partition,
-    q: &Contracted,
-) -> Result<LeafKind, Memory>
-    requires { (g : Graph) × (q.now ≡ contraction g p.now.blocks) }
-    ensures kind { IfOk result (IsKindOf q.now.graph) }
-    ensures lines { (g : Graph) → q.now ≡ contraction g p.now.blocks →
-        IfOk result (λ kind. string_bytes text.new ≡ string_bytes text.old ++
-        leaf_text g number p.now.blocks kind) }
-{
-    let kind = kind_of(alloc, q.graph())?;
-    push_leaf_line(text, number, kind)?;
-    push_blocks(text, p)?;
-    push_pairs(text, p, q)?;
-    Ok(kind)
-}
-
-// The lines of the leaf at a partition, and its kind. Its quotient is computed once for both.
-fn push_leaf(
-    alloc: Global,
-    text: &mut String,
     g: &MultiGraph,
-    number: usize,
     p: &Partition,
 ) -> Result<LeafKind, Memory>
     requires { p.now.order ≡ g.now.order }
@@ -106,12 +107,31 @@ fn push_leaf(
         (λ kind. string_bytes text.new ≡ string_bytes text.old ++
         leaf_text g.now number p.now.blocks kind) }
 {
-    let q = quotient(alloc, g, p)?;
-    push_quotient(alloc, text, number, p, &q)
+    let q = quotient_graph(alloc, g, p)?;
+    let kind = kind_of(alloc, &q)?;
+    push_leaf(alloc, text, number, kind, g, p, &q)?;
+    Ok(kind)
 }
 
-// The lines of the leaves, and their kinds.
-fn push_leaves(
+// The lines of the leaf of this kind at a place. Its quotient is at hand.
+fn push_place(
+    alloc: Global,
+    text: &mut String,
+    number: usize,
+    kind: LeafKind,
+    leaf: &KnownPlace,
+) -> Result<(), Memory>
+    ensures { OnOk result
+        (string_bytes text.new ≡ string_bytes text.old ++
+        leaf_text leaf.now.graph number leaf.now.blocks kind) }
+{
+    let q = leaf.quotient(alloc)?;
+    let place = leaf.place();
+    push_leaf(alloc, text, number, kind, place.graph(), place.partition(), q.graph())
+}
+
+// The lines of the leaves at these partitions, and their kinds.
+fn push_partitions(
     alloc: Global,
     text: &mut String,
     g: &MultiGraph,
@@ -126,10 +146,28 @@ fn push_leaves(
 {
     let mut kinds = Vec::new(alloc);
     for i in 0..leaves.len() {
-        let kind = push_leaf(alloc, text, g, i + 1, leaves.get(i))?;
+        let kind = push_quotient(alloc, text, i + 1, g, leaves.get(i))?;
         kinds.push(kind)?;
     }
     Ok(kinds)
+}
+
+// The lines of the leaves of these kinds at these places of a graph.
+fn push_places(
+    alloc: Global,
+    text: &mut String,
+    leaves: &[KnownPlace],
+    kinds: &[LeafKind],
+) -> Result<(), Memory>
+    requires { length kinds.now ≡ length leaves.now }
+    ensures { (g : Graph) (ps : List (List (List ℕ))) → leaves.now ≡ map (place_of g) ps →
+        OnOk result (string_bytes text.new ≡ string_bytes text.old ++
+        leaf_lines g ps kinds.now (length ps)) }
+{
+    for (i, leaf) in leaves.iter().enumerate() {
+        push_place(alloc, text, i + 1, kinds[i], leaf)?;
+    }
+    Ok(())
 }
 
 // The line of the counts.
@@ -140,8 +178,12 @@ fn push_counts(text: &mut String, tally: Tally) -> Result<(), Memory>
     push_tally(text, tally)
 }
 
-// The lines of the leaves and of their counts.
-fn leaf_comments(alloc: Global, g: &MultiGraph, leaves: &Partitions) -> Result<String, Memory>
+// The lines of the leaves at these partitions and of their counts.
+fn comments_at_partitions(
+    alloc: Global,
+    g: &MultiGraph,
+    leaves: &Partitions,
+) -> Result<String, Memory>
     requires order { All (λ p. p.order ≡ g.now.order) leaves.now }
     requires few { length leaves.now < 2 ^ 32 }
     ensures { IfOk result
@@ -152,7 +194,24 @@ fn leaf_comments(alloc: Global, g: &MultiGraph, leaves: &Partitions) -> Result<S
         tally_line (tally_of kinds))) }
 {
     let mut comments = String::new(alloc);
-    let kinds = push_leaves(alloc, &mut comments, g, leaves)?;
+    let kinds = push_partitions(alloc, &mut comments, g, leaves)?;
+    push_counts(&mut comments, tallied(&kinds))?;
+    Ok(comments)
+}
+
+// The lines of the leaves at these places of a graph and of their counts.
+fn comments_at_places(alloc: Global, leaves: &[KnownPlace]) -> Result<String, Memory>
+    requires places { (g : Graph) × (ps : List (List (List ℕ))) ×
+        (leaves.now ≡ map (place_of g) ps) }
+    requires few { length leaves.now < 2 ^ 32 }
+    ensures { (g : Graph) (ps : List (List (List ℕ))) → leaves.now ≡ map (place_of g) ps →
+        IfOk result (λ comments. (kinds : List LeafKind) × AreLeafKinds g ps kinds ×
+        (string_bytes comments ≡
+        leaf_lines g ps kinds (length ps) ++ tally_line (tally_of kinds))) }
+{
+    let kinds = kinds_at(alloc, leaves)?;
+    let mut comments = String::new(alloc);
+    push_places(alloc, &mut comments, leaves, &kinds)?;
     push_counts(&mut comments, tallied(&kinds))?;
     Ok(comments)
 }
@@ -176,6 +235,25 @@ pub fn derivation(
         (report.items ≡ derivation_text text.now g.now (map (λ p. p.blocks) leaves.now)
         kinds)) }
 {
-    let comments = leaf_comments(alloc, g, leaves)?;
+    let comments = comments_at_partitions(alloc, g, leaves)?;
+    commented(alloc, text, comments.as_str())
+}
+
+/// The report that `derivation` writes, of leaves that are places of one graph: their kinds and
+/// their quotients are at hand.
+#[tactic(auto, unfolding(crate::specs::Derivations::derivation_text))]
+pub fn derivation_at(
+    alloc: Global,
+    text: &[u8],
+    leaves: &[KnownPlace],
+) -> Result<Vec<u8>, Memory>
+    requires places { (g : Graph) × (ps : List (List (List ℕ))) ×
+        (leaves.now ≡ map (place_of g) ps) }
+    requires few { length leaves.now < 2 ^ 32 }
+    ensures { (g : Graph) (ps : List (List (List ℕ))) → leaves.now ≡ map (place_of g) ps →
+        IfOk result (λ report. (kinds : List LeafKind) × AreLeafKinds g ps kinds ×
+        (report.items ≡ derivation_text text.now g ps kinds)) }
+{
+    let comments = comments_at_places(alloc, leaves)?;
     commented(alloc, text, comments.as_str())
 }

@@ -34,7 +34,7 @@ mod words;
 
 pub use analyses::{AnalysisLines, analysis};
 pub use comparisons::{MapLine, MapLines, block_names, pairing};
-pub use derivations::derivation;
+pub use derivations::{derivation, derivation_at};
 pub use ear_judgements::{EarLine, ear_judgement};
 pub use ear_reports::ears_report;
 pub use faults::bad_input;

@@ -1,9 +1,8 @@
 -- For every graph there is a report of `ears`, of `convert` and, in each order of choice, of
 -- `decompose`, and for every seed one of `grow`. A covered graph has an ear decomposition, and in
 -- each order a derivation; names that a file gives are words, and so the texts are read again.
-use Rattle.std.proofs.Common.{◌≡◌, ℕ, zero, suc, ◌-◌, ◌≤◌, List, length, map, true, Option, Some, None, refl, sym, subst, arith, inl, inr}
+use Rattle.std.proofs.Common.{◌≡◌, ℕ, zero, suc, ◌-◌, ◌≤◌, List, length, true, Option, Some, None, refl, sym, subst, arith, inl, inr}
 use Rattle.std.specs.Option.{ForSome}
-use Rattle.contraction.specs.Partition.{PartitionValue}
 use Rattle.ear_core.proofs.Stepping.{covered-edge}
 use Rattle.ear_text.specs.Writing.{ears_text}
 use Rattle.graph_core.proofs.Common.{IsCovered, Graph, IsGraph, IsMultigraph, size, IsWithinLimits}
@@ -18,7 +17,7 @@ use Rattle.rand_pcg.specs.Lcg.{increment_of, started}
 use Rattle.rand_pcg.specs.Pcg.{multiplier_64}
 use Rattle.report_text.proofs.CommentLines.{given_names-commented}
 use Rattle.report_text.proofs.Comments.{commented-none}
-use Rattle.tree_core.proofs.Common.{blocks-of_leaves, AreLeafKinds, IsDerivation, leaves, partitions_of, Shape, partitions-leaves}
+use Rattle.tree_core.proofs.Common.{IsDerivation, leaves, Shape, partitions-leaves}
 use Rattle.report_text.specs.Common.{IsCommented, derivation_text, ears_report_text, grown_text, with_names_text}
 use Rattle.tree_core.specs.declared.tallies.Tally.{Tally}
 use Rattle.tight_cuts.specs.Common.{Candidate}
@@ -87,12 +86,10 @@ told-derivation named t given d =
     let n = g.order in
     let kinds = kinds-exist g given.limits.multigraph.ends (leaves n t) (partitions-leaves g t d) in
     let right = kinds-by_place g (leaves n t) kinds.0 kinds.1 in
-    let found = partitions_of n (leaves n t) in
-    let shown = subst (λ (ps : List (List (List ℕ))). AreLeafKinds g ps kinds.0) (sym (blocks-of_leaves n (leaves n t))) right in
     let text = tree_text n t in
-    let report = derivation_text text g (map (λ (p : PartitionValue). p.blocks) found) kinds.0 in
+    let report = derivation_text text g (leaves n t) kinds.0 in
     let bytes = with_given_names report named.names true in
-    (bytes, told named t n found text text report bytes kinds.0 given.limits d refl refl refl (stands-derived g t (is_read g given.limits) d) refl shown refl refl (names-commented n report named.names given.names))
+    (bytes, told named t n text text report bytes kinds.0 given.limits d refl refl (stands-derived g t (is_read g given.limits) d) refl right refl refl (names-commented n report named.names given.names))
 
 pub decomposition-exists : (picks : List Candidate → ℕ → ℕ → Type 0) (named : NamedGraph) → PicksSome picks → IsGiven named → (status : Status) × (output : List ℕ) × DecomposeGives picks named status output
 decomposition-exists picks named some given = elim (covered_or_told named.graph given.limits.multigraph) [

@@ -3,10 +3,10 @@ use Rattle.report_text.proofs.WrittenLines.{adjacent-written, within-blocks}
 use Rattle.report_text.proofs.derivations.push_pairs.Goals as goal
 
 pub name_at-requires : goal.name_at-requires
-name_at-requires c = within-blocks c.requires.0 c.args.p.now.blocks c.args.q.now c.graph-graph.result.now c.ends-ends.result.a c.requires.1 c.graph-graph.ensures c.ends-ends.ensures.vertices.0
+name_at-requires c = within-blocks c.args.g.now c.args.p.now.blocks c.args.q.now c.ends-ends.result.a c.requires.quotient c.ends-ends.ensures.vertices.0
 
 pub name_at-requires-in-loop-i : goal.name_at-requires-in-loop-i
-name_at-requires-in-loop-i c = within-blocks c.requires.0 c.args.p.now.blocks c.args.q.now c.graph-graph.result.now c.ends-ends.result.b c.requires.1 c.graph-graph.ensures c.ends-ends.ensures.vertices.1
+name_at-requires-in-loop-i c = within-blocks c.args.g.now c.args.p.now.blocks c.args.q.now c.ends-ends.result.b c.requires.quotient c.ends-ends.ensures.vertices.1
 
 pub loop-i-preserved : goal.loop-i-preserved
 loop-i-preserved c = grind (arith, add-one, adjacent-written)

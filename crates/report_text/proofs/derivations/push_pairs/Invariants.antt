@@ -1,10 +1,7 @@
 use Rattle.std.proofs.Common.{◌≡◌, ◌++◌, string_bytes}
-use Rattle.contraction.specs.Contracted.{contraction}
-use Rattle.graph_core.proofs.Common.{Graph}
 use Rattle.report_text.specs.Common.{adjacent_lines}
 use Rattle.report_text.proofs.derivations.push_pairs.Given as goal
 
 -- the lines of the first edges of the quotient are written
 abbrev pub invariant-loop-i : goal.invariant-loop-i
-invariant-loop-i l =
-    (g : Graph) → l.q ≡ contraction g l.p.blocks → string_bytes l.text ≡ string_bytes l.fn.text ++ adjacent_lines g l.p.blocks l.i
+invariant-loop-i l = string_bytes l.text ≡ string_bytes l.fn.text ++ adjacent_lines l.g l.p.blocks l.i

@@ -2,7 +2,7 @@ use Rattle.std.proofs.Common.{◌≡◌, ◌++◌, ℕ, length, map, string_byte
 use Rattle.counting.proofs.Common.{Within}
 use Rattle.tree_core.proofs.Common.{leaf_at, IsLeafKind, kind_at}
 use Rattle.report_text.specs.Common.{leaf_lines}
-use Rattle.report_text.proofs.derivations.push_leaves.Given as goal
+use Rattle.report_text.proofs.derivations.push_partitions.Given as goal
 
 -- the lines of the first leaves are written, and their kinds are known
 abbrev pub invariant-loop-i : goal.invariant-loop-i
