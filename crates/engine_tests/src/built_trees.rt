@@ -1,6 +1,6 @@
 //! Trees by their parts: built from the shores in preorder, and compared node by node.
 ghost use Rattle.std.specs.Prelude.{◌≡◌, IfOk};
-ghost use Rattle.tree_core.specs.Common.{cut, shape_of};
+ghost use Rattle.tree_core.specs.Common.{cut, leaf, shape_of};
 
 use crate::made::set_of;
 use std::alloc::{AllocError as Memory, Global};
@@ -20,6 +20,13 @@ pub fn cut_into(alloc: Global, shore: VSet, kept: Tree, merged: Tree) -> Result<
         kept: Box::new(alloc, kept)?,
         merged: Box::new(alloc, merged)?,
     })
+}
+
+/// A cut with two leaves.
+pub fn one_cut(alloc: Global, shore: VSet) -> Result<Tree, Memory>
+    ensures { IfOk result (λ tree. shape_of tree ≡ cut shore leaf leaf) }
+{
+    cut_into(alloc, shore, Tree::Leaf, Tree::Leaf)
 }
 
 /// The tree with these shores.

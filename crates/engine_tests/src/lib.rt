@@ -7,8 +7,9 @@
 //! which `allowed_edges` decides.
 //!
 //! `made`, `built_trees` and `choices` have what the tests share. `sets`, `nets`, `graphs`,
-//! `matchings`, `pairs`, `quotients`, `trees`, `kinds`, `orders`, `judgements`, `ears` and
-//! `growing` ask the calls of one crate each; `definitions` asks the plain program itself.
+//! `matchings`, `pairs`, `quotients`, `kinds`, `orders`, `judgements`, `ears` and `growing` ask the
+//! calls of one crate each, `trees` and `moves` those of one; `definitions` asks the plain program
+//! itself.
 //!
 //! `cuts`: `tight_cuts::is_tight` is compared with the plain program, which goes through all
 //! perfect matchings, on a table of small matching covered graphs and on each set with an odd
@@ -71,6 +72,8 @@ mod kinds;
 mod made;
 #[cfg(test)]
 mod matchings;
+#[cfg(test)]
+mod moves;
 #[cfg(test)]
 mod nets;
 #[cfg(test)]

@@ -1,24 +1,14 @@
-//! Small trees: their sizes, their copies and their leaves, and what a move makes of them.
+//! Small trees: their sizes, their copies and their leaves.
 ghost use Rattle.std.specs.Prelude.{◌≡◌, IfOk};
-ghost use Rattle.tree_core.specs.Common.{leaf, cut, node_count, shape_of};
+ghost use Rattle.tree_core.specs.Common.{node_count, shape_of};
 
-use crate::built_trees::{Shores, cut_into, is_tree, same_tree, tree_of};
+use crate::built_trees::{Shores, cut_into, is_tree, one_cut, same_tree, tree_of};
 use crate::made::set_of;
 use contraction::Partition;
 use std::alloc::{AllocError as Memory, Global};
 use std::test::Fail;
-use tree_core::{
-    Move, Moves, Partitions, Path, Side, Tree, apply, copy, depth, fits, leaves, nodes, rotate,
-    switch,
-};
+use tree_core::{Partitions, Path, Side, Tree, copy, depth, fits, leaves, nodes};
 use vset_core::VSet;
-
-// A cut with two leaves.
-fn one_cut(alloc: Global, shore: VSet) -> Result<Tree, Memory>
-    ensures { IfOk result (λ tree. shape_of tree ≡ cut shore leaf leaf) }
-{
-    cut_into(alloc, shore, Tree::Leaf, Tree::Leaf)
-}
 
 // The blocks of the two leaves of the hexagon with the shore 1 2 3.
 static LEAVES: [[&[u32]; 4]; 2] = [
@@ -132,176 +122,5 @@ fn paths_and_lists_of_partitions(rt: HostRuntime) -> Result<(), Fail> {
     let mut list = Partitions::new(rt.alloc());
     list.push(Partition::singles(rt.alloc(), 4)?)?;
     assert!(rt; list.len() == 1 && has_blocks(list.get(0), &[&[1], &[2], &[3], &[4]]));
-    Ok(())
-}
-
-// The tree that a move makes; none where it makes none.
-fn moved(tree: Tree, n: u32, step: &Move) -> Option<Tree> {
-    if !fits(&tree, n) {
-        return None;
-    }
-    apply(tree, n, step).ok()
-}
-
-// Whether the move makes of the first tree the second.
-fn turns_into(
-    alloc: Global,
-    n: u32,
-    step: &Move,
-    first: &[&[u32]],
-    second: &[&[u32]],
-) -> Result<bool, Fail> {
-    match moved(tree_of(alloc, first)?, n, step) {
-        Some(made) => is_tree(alloc, &made, second),
-        None => Ok(false),
-    }
-}
-
-#[test]
-fn a_switch_moves_the_cut_of_the_hexagon(rt: HostRuntime) -> Result<(), Fail> {
-    let path = Path::new(rt.alloc());
-    let step = Move::Switch {
-        path,
-        u: VSet::one(1),
-        v: VSet::one(4),
-    };
-    let first: Shores = &[&[1, 2, 3], &[], &[]];
-    assert!(rt; turns_into(rt.alloc(), 6, &step, first, &[&[2, 3, 4], &[], &[]])?);
-    Ok(())
-}
-
-#[test]
-fn a_switch_of_the_hexagon_by_its_own_call(rt: HostRuntime) -> Result<(), Fail> {
-    let tree = one_cut(rt.alloc(), VSet::full(3))?;
-    assert!(rt; fits(&tree, 6));
-    let path = Path::new(rt.alloc());
-    let made = match switch(tree, 6, &path, VSet::one(1), VSet::one(4)) {
-        Ok(made) => made,
-        Err((back, _)) => back,
-    };
-    assert!(rt; is_tree(rt.alloc(), &made, &[&[2, 3, 4], &[], &[]])?);
-    Ok(())
-}
-
-#[test]
-fn a_rotate_at_the_root_is_stuck(rt: HostRuntime) -> Result<(), Fail> {
-    let tree = one_cut(rt.alloc(), VSet::full(3))?;
-    let path = Path::new(rt.alloc());
-    let Err((back, _)) = rotate(tree, &path) else {
-        assert!(rt; false);
-        return Ok(());
-    };
-    assert!(rt; is_tree(rt.alloc(), &back, &[&[1, 2, 3], &[], &[]])?);
-    let mut moves = Moves::new(rt.alloc());
-    moves.push(Move::Rotate { path })?;
-    assert!(rt; moves.len() == 1 && matches!(moves.get(0), Move::Rotate { .. }));
-    Ok(())
-}
-
-// A side of the root, a tree, and the tree that Rotate makes of it with the lower cut at that
-// side: a worked pair, and each of the three cases over trees that are not equal.
-static ROTATED: [(Side, Shores, Shores); 4] = [
-    (
-        Side::Kept,
-        &[&[1, 2, 3, 4, 5], &[1, 2, 3], &[], &[], &[]],
-        &[&[1, 2, 3], &[], &[1, 2, 3, 4, 5], &[], &[]],
-    ),
-    (
-        Side::Kept,
-        &[
-            &[1, 2, 3, 4, 5],
-            &[1, 2, 3],
-            &[2],
-            &[],
-            &[],
-            &[4],
-            &[],
-            &[],
-            &[6],
-            &[],
-            &[],
-        ],
-        &[
-            &[1, 2, 3],
-            &[2],
-            &[],
-            &[],
-            &[1, 2, 3, 4, 5],
-            &[4],
-            &[],
-            &[],
-            &[6],
-            &[],
-            &[],
-        ],
-    ),
-    (
-        Side::Merged,
-        &[
-            &[1, 2, 3],
-            &[2],
-            &[],
-            &[],
-            &[1, 2, 3, 4, 5],
-            &[4],
-            &[],
-            &[],
-            &[6],
-            &[],
-            &[],
-        ],
-        &[
-            &[1, 2, 3, 4, 5],
-            &[1, 2, 3],
-            &[2],
-            &[],
-            &[],
-            &[4],
-            &[],
-            &[],
-            &[6],
-            &[],
-            &[],
-        ],
-    ),
-    (
-        Side::Merged,
-        &[
-            &[1, 2, 3],
-            &[2],
-            &[],
-            &[],
-            &[5, 6, 7],
-            &[4],
-            &[],
-            &[],
-            &[6],
-            &[],
-            &[],
-        ],
-        &[
-            &[5, 6, 7],
-            &[4],
-            &[],
-            &[],
-            &[1, 2, 3],
-            &[2],
-            &[],
-            &[],
-            &[6],
-            &[],
-            &[],
-        ],
-    ),
-];
-
-#[test]
-fn a_rotate_brings_the_lower_cut_up(rt: HostRuntime) -> Result<(), Fail> {
-    for (side, first, second) in &ROTATED {
-        let mut path = Path::new(rt.alloc());
-        path.push(*side)?;
-        let step = Move::Rotate { path };
-        assert!(rt; turns_into(rt.alloc(), 8, &step, first, second)?);
-    }
     Ok(())
 }

@@ -4,6 +4,7 @@ pub mod UnitsSeen
 pub mod Pieces
 pub mod Faults
 pub mod Reasons
+pub mod NotText
 pub mod Openings
 pub mod LinesAt
 pub mod Messages

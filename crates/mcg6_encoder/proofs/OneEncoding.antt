@@ -9,7 +9,7 @@ use Rattle.graph_text.specs.Common.{NamedGraph, either_version}
 use Rattle.graph6_text.specs.Common.{graph6_of}
 use Rattle.mcg6_encoder.specs.Files.{Encodes, IsBadFile, IsEncoded, IsOutside}
 use Rattle.mcg6_reader.specs.declared.ending.BadLine.{BadLine}
-use Rattle.mcg6_reader.specs.declared.ending.Ending.TheVariants.{Done, Bad}
+use Rattle.mcg6_encoder.specs.declared.ending.EncodeEnding.TheVariants.{Encoded, Bad}
 
 pub encoded_once : (file a b : List ℕ) → IsEncoded file a → IsEncoded file b → a ≡ b
 encoded_once file a b one two =

@@ -4,36 +4,19 @@
 //!
 //! The list is standard input, or the file that the last word names. It is read by `InSource`,
 //! standard output is written by `OutSink` and standard error by `LineSink`. `MCG_QUIET=1` in the
-//! environment turns the words off. If the runtime refuses the words, nothing is read or
-//! written to standard output: the exit status is 6 for lack of memory, and 7, which no status
-//! has, for words that are not UTF-8.
+//! environment turns the words off. If the words cannot be read, nothing is read or written to
+//! standard output: the exit status is 6 for lack of memory, and 7, which no status has, for a word
+//! that is not UTF-8, which is then shown.
 #![tactic(auto)]
 
+use arguments::{Refusal, read_arguments};
+use front_words::say_not_text;
 use mcg6_front_top::run_list_front;
-use mcg6_top::{ListStatus, file_name};
+use mcg6_top::{CommandLine, ListStatus};
 use outside::{DirShelf, Explain, FailureReason, InSource, LineSink, OutSink, Shelf, Sink, emit};
-use std::io::ErrorKind;
 use std::process::ExitCode;
 use std::rt::{Env, Files};
 use std::{env, fs};
-
-/// The exit status if memory runs out.
-const NO_MEMORY: u8 = 6;
-
-/// The exit status if the runtime refuses the words.
-const NO_WORDS: u8 = 7;
-
-// The words after the program's name.
-fn words_of<R: Env + AllocGlobal>(rt: &R) -> Result<Vec<String>, u8> {
-    match env::args(rt) {
-        Ok(words) => match words.skip(1).collect(rt.alloc()) {
-            Ok(words) => Ok(words),
-            Err(_) => Err(NO_MEMORY),
-        },
-        Err(refusal) if refusal.kind() == ErrorKind::OutOfMemory => Err(NO_MEMORY),
-        Err(_) => Err(NO_WORDS),
-    }
-}
 
 // Whether words for a person are turned off.
 fn is_quiet<R: Env + AllocGlobal>(rt: &R) -> bool {
@@ -43,13 +26,12 @@ fn is_quiet<R: Env + AllocGlobal>(rt: &R) -> bool {
     }
 }
 
-// What is said if the runtime refuses the words.
-fn refusal_words(code: u8) -> &'static str {
-    if code == NO_MEMORY {
-        "mcg6: memory ran out; nothing was written\n"
-    } else {
-        "mcg6: a word of the command line is not UTF-8; nothing was written\n"
-    }
+// Says why the words were not read.
+fn say_refusal<E: Sink>(errors: &mut E, refusal: &Refusal) {
+    let _ = match refusal {
+        Refusal::Memory => emit(errors, b"mcg6: memory ran out; nothing was written\n"),
+        Refusal::NotText { place, bytes } => say_not_text(errors, "mcg6", *place as u64, bytes),
+    };
 }
 
 // Whether a folder has that name.
@@ -70,10 +52,10 @@ fn reason_unread<R: Files + AllocGlobal>(rt: &R, name: &str) -> Option<FailureRe
     }
 }
 
-// Answers the list in the file of that name.
+// Does what the command line asks of the file of that name.
 fn run_file<R: Files + Print + AllocGlobal, E: Sink>(
     rt: &R,
-    words: &[String],
+    line: &CommandLine<'_>,
     name: &str,
     quiet: bool,
     errors: &mut E,
@@ -88,7 +70,7 @@ fn run_file<R: Files + Print + AllocGlobal, E: Sink>(
     let mut sink = OutSink::new(rt);
     run_list_front(
         rt.alloc(),
-        words,
+        line,
         reason,
         quiet,
         &mut source,
@@ -101,23 +83,24 @@ fn main(rt: HostRuntime) -> ExitCode {
     let stream = rt.stderr();
     let mut errors = LineSink::new(&stream);
     let quiet = is_quiet(&rt);
-    let words = match words_of(&rt) {
+    let words = match read_arguments(&rt, rt.alloc()) {
         Ok(words) => words,
-        Err(code) => {
+        Err(refusal) => {
             if !quiet {
-                let _ = emit(&mut errors, refusal_words(code).as_bytes());
+                say_refusal(&mut errors, &refusal);
             }
-            return ExitCode::from(code);
+            return ExitCode::from(refusal.code());
         }
     };
-    let status = match file_name(&words) {
-        Some(name) => run_file(&rt, &words, name, quiet, &mut errors),
+    let line = CommandLine::of(&words);
+    let status = match line.file() {
+        Some(name) => run_file(&rt, &line, name, quiet, &mut errors),
         None => {
             let mut source = InSource::new(Some(rt.reader()));
             let mut sink = OutSink::new(&rt);
             run_list_front(
                 rt.alloc(),
-                &words,
+                &line,
                 None,
                 quiet,
                 &mut source,

@@ -14,7 +14,7 @@ use Rattle.mcg6_lines.specs.declared.query.Property.{Property}
 use Rattle.mcg6_lines.specs.declared.query.Property.TheVariants.{Covered, Uncovered, Perfect, Brick, Brace, Bicritical, Composite, Bricks, Braces}
 use Rattle.mcg6_lines.specs.declared.query.Query.{Query}
 use Rattle.mcg6_lines.specs.declared.query.Query.TheVariants.{Kinds, Leaves, Elementary, Graph, Select}
-use Rattle.mcg6_top.specs.Common.{asks_skip, command_if, command_of, command_with, counted_property, encode_of, leaves_named, may_skip, pair_command, pair_named, property_named, query_named, select_named}
+use Rattle.mcg6_top.specs.Common.{ListCommand, asks_skip, command_if, command_of, command_or, list_command_of, command_with, counted_property, encode_of, leaves_named, may_skip, pair_command, pair_named, property_named, query_named, select_named}
 use Rattle.command_table.specs.Rows.{fit_optional, is_counted, is_listed, is_one_of}
 use Rattle.command_table.specs.Table.{counted_properties, file, list_rows, orders, properties, skip_file}
 
@@ -214,13 +214,13 @@ one_word false false true g = refl
 one_word false false false true = refl
 one_word false false false false = refl
 
-pub listed : (words : List (List ℕ)) → (is_some (command_of words) || is_some (encode_of words)) ≡ is_listed list_rows words
+listed_one : (words : List (List ℕ)) → (is_some (list_command_of words) || is_some (encode_of words)) ≡ is_listed list_rows words
 unfolding list_rows
-listed [] = refl
-listed (w ∷ []) =
+listed_one [] = refl
+listed_one (w ∷ []) =
     rw (named_fits w [])
     (one_word (bytes_eq w (codes "kinds")) (bytes_eq w (codes "leaves")) (bytes_eq w (codes "elementary")) (bytes_eq w (codes "graph")))
-listed (w ∷ s ∷ words) =
+listed_one (w ∷ s ∷ words) =
     rw (second_fits (bytes_eq w (codes "leaves")) (bytes_eq w (codes "select")) w s words, named_fits w (s ∷ words), encode_fits w s words)
     (rows_of (bytes_eq w (codes "kinds")) (bytes_eq w (codes "leaves")) (bytes_eq w (codes "elementary")) (bytes_eq w (codes "graph")) (bytes_eq w (codes "select")) (bytes_eq w (codes "encode"))
     (is_one_of orders [] s) (is_one_of properties counted_properties s)
@@ -236,3 +236,13 @@ listed (w ∷ s ∷ words) =
     (λ is. (apart w (codes "elementary") (codes "graph") is, apart w (codes "elementary") (codes "select") is, apart w (codes "elementary") (codes "encode") is))
     (λ is. (apart w (codes "graph") (codes "select") is, apart w (codes "graph") (codes "encode") is))
     (λ is. apart w (codes "select") (codes "encode") is))
+
+-- a command is one or the other
+one_of : (name : Option (List ℕ)) (list : Option ListCommand) → is_some (command_or name list) ≡ (is_some list || is_some name)
+one_of (Some name) None = refl
+one_of (Some name) (Some list) = refl
+one_of None None = refl
+one_of None (Some list) = refl
+
+pub listed : (words : List (List ℕ)) → is_some (command_of words) ≡ is_listed list_rows words
+listed words = one_of (encode_of words) (list_command_of words) ∙ listed_one words

@@ -1,16 +1,15 @@
 //! The top call.
-ghost use Rattle.std.specs.Prelude.{◌≡◌, ◌⊎◌, ℕ, List, map, string_bytes, true, false, Some, None};
-ghost use Rattle.std.specs.declared.option.Option.{Option};
+ghost use Rattle.std.specs.Prelude.{◌≡◌, ◌⊎◌, ℕ, List, true, false, Some, None};
 ghost use Rattle.mcg6_top.specs.Common.{ListRuns};
 ghost use Rattle.mcg6_front_top.specs.Answers.{answer_of};
-ghost use Rattle.mcg6_front_top.specs.CluesSeen.{known_by};
 ghost use Rattle.mcg6_front_top.specs.Speaks.{Answers, IsSaid, Speaks};
 ghost use Rattle.mcg6_front_top.specs.Words.{lost_words, words_of};
 
 use crate::answers::answer_of;
-use crate::speaking::{ListClues, say_ending, say_lost, status_in};
+use crate::clues::Clues;
+use crate::speaking::{say_ending, say_lost, status_in};
 use front_words::say_bytes;
-use mcg6_top::{ListEnd, ListStatus, encode_name, file_name, run_to_ending};
+use mcg6_top::{CommandLine, ListStatus, RunEnd, run_to_ending};
 use outside::{FailureReason, Outlet, Sink, SinkFailed, Source};
 use std::alloc::Global;
 
@@ -55,54 +54,51 @@ fn answer<K: Outlet, E: Sink>(
 }
 
 // Says what the ending means, unless it is to be quiet.
-fn say_unless_quiet<'a, E: Sink>(
+fn say_unless_quiet<E: Sink>(
     errors: &mut E,
     is_quiet: bool,
-    words: &'a [String],
-    end: &Option<ListEnd>,
-    clues: ListClues<'a>,
+    line: &CommandLine<'_>,
+    end: &Option<RunEnd<'_>>,
+    clues: Clues,
 )
     ensures quiet { is_quiet ≡ true → errors.new ≡ errors.old }
     ensures says { is_quiet ≡ false → IsSaid E.written E.writes E.faults
-        (words_of (map string_bytes words.now) end.now (known_by clues.entry))
-        errors.old errors.new }
+        (words_of line.now end.now clues) errors.old errors.new }
 {
     if is_quiet {
         return;
     }
-    let _ = say_ending(errors, words, end, clues);
+    let _ = say_ending(errors, line, end, clues);
 }
 
-// Runs the words, and then says how that ended, unless it is to be quiet.
+// Runs the command line, and then says how that ended, unless it is to be quiet.
 fn speak<S: Source, K: Outlet, E: Sink>(
     alloc: Global,
-    words: &[String],
+    line: &CommandLine<'_>,
     reason: Option<FailureReason>,
     is_quiet: bool,
     source: &mut S,
     sink: &mut K,
     errors: &mut E,
 ) -> ListStatus
-    ensures runs { ListRuns S.left S.faults S.reads K.written K.writes K.faults
-        (map string_bytes words.now) result source.old source.new sink.old sink.new }
+    ensures runs { ListRuns S.left S.faults S.reads K.written K.writes K.faults line.now result
+        source.old source.new sink.old sink.new }
     ensures quiet { is_quiet ≡ true → errors.new ≡ errors.old }
     ensures speaks { is_quiet ≡ false →
-        Speaks E.written E.writes E.faults (map string_bytes words.now) result reason
-        (K.is_abandoned sink.new) (S.left source.old) (K.written sink.old) (K.written sink.new)
-        errors.old errors.new }
+        Speaks E.written E.writes E.faults line.now result reason (K.is_abandoned sink.new)
+        (S.left source.old) (K.written sink.old) (K.written sink.new) errors.old errors.new }
 {
-    let end = run_to_ending(alloc, words, source, sink);
-    let clues = ListClues {
-        name: file_name(words),
-        encoded: encode_name(words),
+    let end = run_to_ending(alloc, line, source, sink);
+    let is_abandoned = sink.is_abandoned();
+    let clues = Clues {
         reason,
-        is_abandoned: sink.is_abandoned(),
+        is_abandoned,
     };
-    say_unless_quiet(errors, is_quiet, words, &end, clues);
+    say_unless_quiet(errors, is_quiet, line, &end, clues);
     status_in(&end)
 }
 
-/// Does what the words ask for, as `run` of `mcg6_top`, and then says on the second sink how that
+/// Does what the command line asks for, as `run` of `mcg6_top`, and then says on the second sink how that
 /// ended, in words, unless it is to be quiet. Words that ask for the usage or the version
 /// are answered on the first sink, and nothing is read.
 ///
@@ -110,7 +106,7 @@ fn speak<S: Source, K: Outlet, E: Sink>(
 /// sink changes nothing else.
 pub fn run_list_front<S: Source, K: Outlet, E: Sink>(
     alloc: Global,
-    words: &[String],
+    line: &CommandLine<'_>,
     reason: Option<FailureReason>,
     is_quiet: bool,
     source: &mut S,
@@ -119,30 +115,30 @@ pub fn run_list_front<S: Source, K: Outlet, E: Sink>(
 ) -> ListStatus
     // Words that are answered at once: nothing is read. Nothing is said, unless the answer could not
     // be written whole although somebody still reads it: then the words for that.
-    ensures answers { (text : List ℕ) → answer_of (map string_bytes words.now) ≡ Some text →
+    ensures answers { (text : List ℕ) → answer_of line.now ≡ Some text →
         Answers K.written K.writes K.faults text result sink.old sink.new }
     ensures answers_unread { (text : List ℕ) →
-        answer_of (map string_bytes words.now) ≡ Some text → source.new ≡ source.old }
+        answer_of line.now ≡ Some text → source.new ≡ source.old }
     ensures answers_quietly { (text : List ℕ) →
-        answer_of (map string_bytes words.now) ≡ Some text
+        answer_of line.now ≡ Some text
         → (result ≡ ListStatus.Done) ⊎ (K.is_abandoned sink.new ≡ true) → errors.new ≡ errors.old }
-    ensures answers_lost { (text : List ℕ) → answer_of (map string_bytes words.now) ≡ Some text
+    ensures answers_lost { (text : List ℕ) → answer_of line.now ≡ Some text
         → result ≡ ListStatus.WriteFault → K.is_abandoned sink.new ≡ false → is_quiet ≡ false
         → IsSaid E.written E.writes E.faults lost_words errors.old errors.new }
 
     // For all others status, output and source are those of `run`, and what is said is the text
     // for the ending.
-    ensures runs { answer_of (map string_bytes words.now) ≡ None →
+    ensures runs { answer_of line.now ≡ None →
         ListRuns S.left S.faults S.reads K.written K.writes K.faults
-        (map string_bytes words.now) result source.old source.new sink.old sink.new }
+        line.now result source.old source.new sink.old sink.new }
     ensures quiet { is_quiet ≡ true → errors.new ≡ errors.old }
-    ensures speaks { answer_of (map string_bytes words.now) ≡ None → is_quiet ≡ false →
-        Speaks E.written E.writes E.faults (map string_bytes words.now) result reason
+    ensures speaks { answer_of line.now ≡ None → is_quiet ≡ false →
+        Speaks E.written E.writes E.faults line.now result reason
         (K.is_abandoned sink.new) (S.left source.old) (K.written sink.old) (K.written sink.new)
         errors.old errors.new }
 {
-    match answer_of(words) {
+    match answer_of(line.words()) {
         Some(text) => answer(text, is_quiet, sink, errors),
-        None => speak(alloc, words, reason, is_quiet, source, sink, errors),
+        None => speak(alloc, line, reason, is_quiet, source, sink, errors),
     }
 }

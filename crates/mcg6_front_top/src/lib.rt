@@ -5,7 +5,7 @@
 //! behind it or one of the first three before it, are answered on standard output, and nothing is
 //! read. For all other words standard output, the source and the status are those of `run`: so
 //! standard output has data alone. Main definitions, in specs/: `answer_of` of `Answers` (what
-//! such words are answered), `IsListRun` of `Runs` (the clauses of `run`), and `words_of` of
+//! such words are answered), `ListRuns` of `mcg6_top` (the clauses of `run`), and `words_of` of
 //! `Words`, what is said of each ending: of a bad line its number, its fault and its text, of a
 //! graph file also its name, and nothing where all was told. Main promises: the clauses of
 //! `run_list_front`.
@@ -15,6 +15,7 @@
 #![tactic(auto)]
 
 mod answers;
+mod clues;
 mod fronting;
 mod laws;
 mod skipping;

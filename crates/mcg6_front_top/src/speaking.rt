@@ -1,40 +1,27 @@
 //! What is said of each ending.
-ghost use Rattle.std.specs.Prelude.{◌≡◌, ◌↔◌, ◌++◌, [], None, Some, map, string_bytes};
+ghost use Rattle.std.specs.Prelude.{◌≡◌, ◌++◌, []};
 ghost use Rattle.std.specs.Option.{option_map};
 ghost use Rattle.front_words.specs.Saying.{Says};
-ghost use Rattle.mcg6_top.specs.Common.{status_in};
-ghost use Rattle.mcg6_front_top.specs.CluesSeen.{known_by};
-ghost use Rattle.mcg6_front_top.specs.Words.{bad_graph_words, beginning_of, ending_words, file_words, list_words, lost_words, memory_words, nothing_words, skipped_words, unwritten_words, words_of};
+ghost use Rattle.mcg6_top.specs.Common.{status_in, text_of};
+ghost use Rattle.mcg6_front_top.specs.Words.{bad_graph_words, beginning_of, file_words, list_words, lost_words, memory_words, nothing_words, skipped_words, unwritten_words, words_of};
 
+use crate::clues::Clues;
 use crate::skipping::say_skipped;
 use front_words::{
     BadFile, Role, all_list_rows, list_usage, say_bad_file, say_bad_line, say_bytes, say_unmatched,
     say_unread, say_unread_list,
 };
+use mcg6_encoder::EncodeEnding;
 use mcg6_reader::{BadLine, Ending};
-use mcg6_top::{ListEnd, ListStatus, status_of};
-use outside::{FailureReason, Sink, SinkFailed};
+use mcg6_top::{CommandLine, ListEnd, ListStatus, RunEnd, status_of};
+use outside::{Sink, SinkFailed};
 
 /// The name of the program.
 pub const PROGRAM: &str = "mcg6";
 
-/// What is known of the faults of a run.
-#[derive(Clone, Copy, Drop)]
-pub struct ListClues<'a> {
-    /// The name of the file that is read, if it is not standard input.
-    pub name: Option<&'a str>,
-    /// The name of the graph file whose graph6 text is asked for, if it is.
-    pub encoded: Option<&'a str>,
-    /// Why the file cannot be read, where that is known.
-    pub reason: Option<FailureReason>,
-    /// Nobody reads the output any more.
-    pub is_abandoned: bool,
-}
-
 /// The status of a run with that end; with none the words matched no row.
-pub fn status_in(end: &Option<ListEnd>) -> ListStatus
-    ensures status { result ≡ status_in end.now }
-    ensures usage { result ≡ ListStatus.Usage ↔ (end.now ≡ None) }
+pub fn status_in(end: &Option<RunEnd<'_>>) -> ListStatus
+    ensures { result ≡ status_in end.now }
 {
     match end {
         Some(end) => status_of(end),
@@ -51,70 +38,56 @@ fn say_nothing<E: Sink>(_errors: &mut E) -> Result<(), SinkFailed>
 
 /// Says what the end of a run means, or with none that the words matched no row; nothing
 /// where each line was told, or the graph6 text written. Takes no memory.
-pub fn say_ending<'a, E: Sink>(
+pub fn say_ending<E: Sink>(
     errors: &mut E,
-    words: &'a [String],
-    end: &Option<ListEnd>,
-    clues: ListClues<'a>,
+    line: &CommandLine<'_>,
+    end: &Option<RunEnd<'_>>,
+    clues: Clues,
 ) -> Result<(), SinkFailed>
-    ensures { Says E.written E.writes E.faults
-        (words_of (map string_bytes words.now) end.now (known_by clues.entry)) result
-        errors.old errors.new }
+    ensures { Says E.written E.writes E.faults (words_of line.now end.now clues) result errors.old
+        errors.new }
 {
     match end {
-        Some(end) => say_some_ending(errors, end, clues),
-        None => say_unmatched(errors, PROGRAM, list_usage(), all_list_rows(), words),
+        Some(RunEnd::Answered { list, end }) => say_skipping_ending(errors, list.file, end, clues),
+        Some(RunEnd::Encoded { file, ending }) => say_file_ending(errors, file, ending, clues),
+        None => say_unmatched(errors, PROGRAM, list_usage(), all_list_rows(), line.words()),
     }
 }
 
-// Says how a list ended, or the encoding of a graph file.
-fn say_some_ending<'a, E: Sink>(
+// Says of a list which bad lines were skipped, and how it ended, with the name of its file, if it
+// has one.
+fn say_skipping_ending<E: Sink>(
     errors: &mut E,
+    name: Option<&str>,
     end: &ListEnd,
-    clues: ListClues<'a>,
+    clues: Clues,
 ) -> Result<(), SinkFailed>
     ensures { Says E.written E.writes E.faults
-        (ending_words (option_map (λ name. name.now) clues.entry.encoded) end.now
-        (known_by clues.entry)) result errors.old errors.new }
-{
-    match clues.encoded {
-        Some(name) => say_file_ending(errors, name, &end.ending, clues),
-        None => say_skipping_ending(errors, end, clues),
-    }
-}
-
-// Says of a list which bad lines were skipped, and how it ended.
-fn say_skipping_ending<'a, E: Sink>(
-    errors: &mut E,
-    end: &ListEnd,
-    clues: ListClues<'a>,
-) -> Result<(), SinkFailed>
-    ensures { Says E.written E.writes E.faults
-        (skipped_words end.now.skipped.items ++ list_words end.now.ending (known_by clues.entry))
+        (skipped_words end.now.skipped.items ++ list_words (text_of name.entry) end.now.ending clues)
         result errors.old errors.new }
 {
     match say_skipped(errors, &end.skipped) {
-        Ok(()) => say_list_ending(errors, &end.ending, clues),
+        Ok(()) => say_list_ending(errors, name, &end.ending, clues),
         Err(SinkFailed) => Err(SinkFailed),
     }
 }
 
 // Says how the encoding of the graph file of that name ended; nothing where its text was written.
-fn say_file_ending<'a, E: Sink>(
+fn say_file_ending<E: Sink>(
     errors: &mut E,
-    name: &'a str,
-    ending: &Ending,
-    clues: ListClues<'a>,
+    name: &str,
+    ending: &EncodeEnding,
+    clues: Clues,
 ) -> Result<(), SinkFailed>
-    ensures { Says E.written E.writes E.faults (file_words name.now ending.now (known_by clues.entry)) result
+    ensures { Says E.written E.writes E.faults (file_words name.now ending.now clues) result
         errors.old errors.new }
 {
     match ending {
-        Ending::Done => say_nothing(errors),
-        Ending::Bad { found } => say_bad_graph(errors, name, found),
-        Ending::ReadFault => say_unread(errors, PROGRAM, name, clues.reason),
-        Ending::WriteFault => say_unwritten(errors, clues.is_abandoned),
-        Ending::Memory => say_nothing_written(errors),
+        EncodeEnding::Encoded => say_nothing(errors),
+        EncodeEnding::Bad { found } => say_bad_graph(errors, name, found),
+        EncodeEnding::ReadFault => say_unread(errors, PROGRAM, name, clues.reason),
+        EncodeEnding::WriteFault => say_unwritten(errors, clues.is_abandoned),
+        EncodeEnding::Memory => say_nothing_written(errors),
     }
 }
 
@@ -148,13 +121,14 @@ fn say_nothing_written<E: Sink>(errors: &mut E) -> Result<(), SinkFailed>
     say_bytes(errors, b"mcg6: memory ran out; nothing was written\n")
 }
 
-// Says how a list ended; nothing where each line was told.
-fn say_list_ending<'a, E: Sink>(
+// Says how a list ended, with the name of its file, if it has one; nothing where each line was told.
+fn say_list_ending<E: Sink>(
     errors: &mut E,
+    name: Option<&str>,
     ending: &Ending,
-    clues: ListClues<'a>,
+    clues: Clues,
 ) -> Result<(), SinkFailed>
-    ensures { Says E.written E.writes E.faults (list_words ending.now (known_by clues.entry)) result
+    ensures { Says E.written E.writes E.faults (list_words (text_of name.entry) ending.now clues) result
         errors.old errors.new }
 {
     match ending {
@@ -162,7 +136,7 @@ fn say_list_ending<'a, E: Sink>(
         Ending::Bad { found } => {
             say_bad_line(errors, PROGRAM, found.number, found.kind, &found.text)
         }
-        Ending::ReadFault => say_unread_list(errors, PROGRAM, clues.name, clues.reason),
+        Ending::ReadFault => say_unread_list(errors, PROGRAM, name, clues.reason),
         Ending::WriteFault => say_unwritten(errors, clues.is_abandoned),
         Ending::Memory => say_out_of_memory(errors),
     }

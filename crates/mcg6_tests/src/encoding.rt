@@ -2,8 +2,7 @@
 //! read that fails, and with too little room for the line.
 
 use line_text::FaultKind;
-use mcg6_encoder::encode;
-use mcg6_reader::Ending;
+use mcg6_encoder::{EncodeEnding, encode};
 use outside::{MOST_BYTES, MemSink, MemSource};
 use std::alloc::{AllocError as Memory, Global};
 use std::test::Fail;
@@ -17,12 +16,12 @@ enum Wanted {
 }
 
 // Whether an encoding that ended so ended as wanted.
-fn is_wanted(ending: &Ending, wanted: &Wanted) -> bool {
+fn is_wanted(ending: &EncodeEnding, wanted: &Wanted) -> bool {
     match (ending, wanted) {
-        (Ending::Done, Wanted::Done)
-        | (Ending::ReadFault, Wanted::ReadFault)
-        | (Ending::WriteFault, Wanted::WriteFault) => true,
-        (Ending::Bad { found }, Wanted::Bad(number, kind, text)) => {
+        (EncodeEnding::Encoded, Wanted::Done)
+        | (EncodeEnding::ReadFault, Wanted::ReadFault)
+        | (EncodeEnding::WriteFault, Wanted::WriteFault) => true,
+        (EncodeEnding::Bad { found }, Wanted::Bad(number, kind, text)) => {
             found.number == *number
                 && found.kind == *kind
                 && found.text.as_slice() == text.as_bytes()

@@ -1,7 +1,8 @@
 //! Tests of what is told of the lines of a list, and of graph files as graph6, by public calls
 //! alone.
 //!
-//! `kinds` asks each query for single lines: a row has the line and what is written for it.
+//! `kinds`, `graphs` and `selecting` ask the queries for single lines: a row has the line and what
+//! is written for it.
 //! `selections` counts what is kept of the connected cubic graphs, whose table is in `cubic`.
 //! `encoding` asks for the lines of graph files.
 #![tactic(auto)]
@@ -11,6 +12,12 @@ mod cubic;
 #[cfg(test)]
 mod encoding;
 #[cfg(test)]
+mod graphs;
+#[cfg(test)]
 mod kinds;
+#[cfg(test)]
+mod rows;
+#[cfg(test)]
+mod selecting;
 #[cfg(test)]
 mod selections;

@@ -10,18 +10,22 @@ use Rattle.mcg6_reader.specs.declared.ending.Ending.TheVariants.{Done, Bad, Read
 use Rattle.mcg6_reader.specs.declared.ending.BadLine.{BadLine}
 use Rattle.mcg6_reader.specs.Common.{lines_of, first_place, Appended, Reports, TellsList}
 use Rattle.mcg6_top.proofs.Skipping.{added_whole, all_plain}
-use Rattle.mcg6_top.specs.Common.{ListCommand, ListRuns, ListRunsTo, command_of, encode_of, TellsOrSkips, StopsAt, SkipsLine, lacks_of, EndsWith, SkipsUpTo, ListOutcome, TellsSome, status_in, status_after, EncodeOutcome, EncodesSome}
+use Rattle.mcg6_top.specs.Common.{Command, Answer, Encode, ListCommand, ListRuns, ListRunsTo, Performs, AnswersFile, AnswersList, command_at, command_of, list_asked, TellsOrSkips, StopsAt, SkipsLine, lacks_of, EndsWith, SkipsUpTo, ListOutcome, TellsSome, status_at, status_in, status_after, status_encoded, EncodeOutcome, EncodesSome}
 use Rattle.mcg6_top.specs.declared.command.AtBadLine.{AtBadLine}
 use Rattle.mcg6_top.specs.declared.status.ListEnd.{ListEnd}
+use Rattle.mcg6_top.specs.declared.status.RunEnd.{RunEnd}
+use Rattle.mcg6_top.specs.declared.status.RunEnd.TheVariants.{Answered, Encoded}
 use Rattle.mcg6_top.specs.declared.status.ListStatus.{ListStatus}
 use Rattle.mcg6_top.specs.declared.status.ListStatus.TheVariants as status
 use Rattle.mcg6_top.specs.declared.status.ListStatus.TheVariants.{Usage}
+use Rattle.mcg6_encoder.specs.declared.ending.EncodeEnding.{EncodeEnding}
+use Rattle.mcg6_encoder.specs.declared.ending.EncodeEnding.TheVariants as encoding
 use Rattle.mcg6_encoder.specs.Files.{Encodes}
 use Rattle.mcg6_encoder.specs.Reads.{EncodesFile}
 
 -- what a list gives up to an ending, by its status: without a report on a skipped line all lines are
 -- answered
-outcome_of_ending :
+pub outcome_of_ending :
     (query : Query) (at_bad : AtBadLine) (bytes : List ℕ) (ending : Ending) (skipped : List BadLine) (output : List ℕ) →
     EndsWith query at_bad bytes ending output → SkipsUpTo query at_bad bytes ending skipped →
     ListOutcome query at_bad bytes (status_after ending skipped) output
@@ -59,17 +63,17 @@ tells_some query at_bad ending skipped left before now list = record {
 }
 
 encode_outcome_of_ending :
-    (file : List ℕ) (ending : Ending) (output : List ℕ) → Encodes file ending output → EncodeOutcome file (status_after ending []) output
-encode_outcome_of_ending file Done output encodes = encodes
-encode_outcome_of_ending file (Bad found) output encodes = record { found = found; bad = encodes.0; nothing = encodes.1 }
-encode_outcome_of_ending file ReadFault output encodes = encodes
-encode_outcome_of_ending file WriteFault output encodes = encodes
-encode_outcome_of_ending file Memory output encodes = encodes
+    (file : List ℕ) (ending : EncodeEnding) (output : List ℕ) → Encodes file ending output → EncodeOutcome file (status_encoded ending) output
+encode_outcome_of_ending file encoding.Encoded output encodes = encodes
+encode_outcome_of_ending file (encoding.Bad found) output encodes = record { found = found; bad = encodes.0; nothing = encodes.1 }
+encode_outcome_of_ending file encoding.ReadFault output encodes = encodes
+encode_outcome_of_ending file encoding.WriteFault output encodes = encodes
+encode_outcome_of_ending file encoding.Memory output encodes = encodes
 
 -- the same of a graph file
 pub appended_encoding :
-    (file : List ℕ) (ending : Ending) (before now : Option (List ℕ)) →
-    Appended (Encodes file ending) before now → Appended (EncodeOutcome file (status_after ending [])) before now
+    (file : List ℕ) (ending : EncodeEnding) (before now : Option (List ℕ)) →
+    Appended (Encodes file ending) before now → Appended (EncodeOutcome file (status_encoded ending)) before now
 appended_encoding file ending before now appended = record {
   output = appended.output;
   right = encode_outcome_of_ending file ending appended.output appended.right;
@@ -77,14 +81,14 @@ appended_encoding file ending before now appended = record {
 }
 
 pub encodes_some :
-    (ending : Ending) (left before now : Option (List ℕ)) → EncodesFile ending left before now → EncodesSome (status_after ending []) left before now
+    (ending : EncodeEnding) (left before now : Option (List ℕ)) → EncodesFile ending left before now → EncodesSome (status_encoded ending) left before now
 encodes_some ending left before now encodes = record {
   file = encodes.file;
   is_left = encodes.is_left;
   outcome = appended_encoding encodes.file ending before now encodes.encodes;
 }
 
--- a run that ended so ended with the status of that ending
+-- a list that ended so ended with the status of that ending
 not_usage : (ending : Ending) (skipped : List BadLine) → status_after ending skipped ≡ Usage → ⊥
 not_usage Done [] is = cc is
 not_usage Done (found ∷ founds) is = cc is
@@ -109,58 +113,107 @@ write_of ReadFault skipped is = absurd (cc is)
 write_of WriteFault skipped is = refl
 write_of Memory skipped is = absurd (cc is)
 
-module _ {S K : Type 0} (left : S → Option (List ℕ)) (faults : S → ℕ) (reads : S → Option (List ℕ) → S → Type 0) (written : K → Option (List ℕ)) (writes : K → List ℕ → ℕ → K → Type 0) (sink_faults : K → ℕ) where
-  -- the same of a graph file, of which no line is skipped
-  file_status : (end : ListEnd) → end.skipped.items ≡ [] → status_after end.ending [] ≡ status_after end.ending end.skipped.items
-  file_status end none = ap (status_after end.ending) (sym none)
+-- the same of a graph file
+not_usage-file : (ending : EncodeEnding) → status_encoded ending ≡ Usage → ⊥
+not_usage-file encoding.Encoded is = cc is
+not_usage-file (encoding.Bad found) is = cc is
+not_usage-file encoding.ReadFault is = cc is
+not_usage-file encoding.WriteFault is = cc is
+not_usage-file encoding.Memory is = cc is
 
-  -- a fault came of the outside, of a list or of a file: the words ask for one of the two
+read_of-file : (ending : EncodeEnding) → status_encoded ending ≡ status.ReadFault → ending ≡ encoding.ReadFault
+read_of-file encoding.Encoded is = absurd (cc is)
+read_of-file (encoding.Bad found) is = absurd (cc is)
+read_of-file encoding.ReadFault is = refl
+read_of-file encoding.WriteFault is = absurd (cc is)
+read_of-file encoding.Memory is = absurd (cc is)
+
+write_of-file : (ending : EncodeEnding) → status_encoded ending ≡ status.WriteFault → ending ≡ encoding.WriteFault
+write_of-file encoding.Encoded is = absurd (cc is)
+write_of-file (encoding.Bad found) is = absurd (cc is)
+write_of-file encoding.ReadFault is = absurd (cc is)
+write_of-file encoding.WriteFault is = refl
+write_of-file encoding.Memory is = absurd (cc is)
+
+-- words that ask for one thing ask for no other
+same_list : (list other : ListCommand) (o : Option Command) → o ≡ Some (Answer list) → o ≡ Some (Answer other) → list ≡ other
+same_list list other o is at = let same : Some (Answer list) ≡ Some (Answer other) = sym is ∙ at in cc same
+
+list_or_file : (list : ListCommand) (name : List ℕ) (o : Option Command) → o ≡ Some (Answer list) → o ≡ Some (Encode name) → ⊥
+list_or_file list name o is at = let same : Some (Answer list) ≡ Some (Encode name) = sym is ∙ at in cc same
+
+module _ {S K : Type 0} (left : S → Option (List ℕ)) (faults : S → ℕ) (reads : S → Option (List ℕ) → S → Type 0) (written : K → Option (List ℕ)) (writes : K → List ℕ → ℕ → K → Type 0) (sink_faults : K → ℕ) where
+  -- the answer to the list that the words ask for
+  list_answered :
+      (words : List (List ℕ)) (list command : ListCommand) (end : ListEnd) (first last : S) (before now : K) →
+      AnswersList list.query list.at_bad left faults reads written writes sink_faults end first last before now →
+      command_of words ≡ Some (Answer list) → command_of words ≡ Some (Answer command) →
+      AnswersList command.query command.at_bad left faults reads written writes sink_faults end first last before now
+  list_answered words list command end first last before now answers is asked =
+      subst (λ (c : ListCommand). AnswersList c.query c.at_bad left faults reads written writes sink_faults end first last before now)
+      (same_list list command (command_of words) is asked) answers
+
+  -- a run by its status
   pub runs_by_status :
-      (words : List (List ℕ)) (ended : Option ListEnd) (first last : S) (before now : K) →
+      (words : List (List ℕ)) (ended : Option RunEnd) (first last : S) (before now : K) →
       ListRunsTo left faults reads written writes sink_faults words ended first last before now →
       ListRuns left faults reads written writes sink_faults words (status_in ended) first last before now
   runs_by_status words None first last before now runs =
-      let no_command : (command : ListCommand) → command_of words ≡ Some command → ⊥ = λ command is. none-some command (sym (runs.usage.0 refl).0 ∙ is) in
-      let no_file : (name : List ℕ) → encode_of words ≡ Some name → ⊥ = λ name is. none-some name (sym (runs.usage.0 refl).1 ∙ is) in
+      let no_command : (command : Command) → command_of words ≡ Some command → ⊥ = λ command is. none-some command (sym (runs.usage.0 refl) ∙ is) in
       record {
         usage = (λ e. runs.usage.0 refl, λ e. refl);
         unread = λ e. runs.unread refl;
         nothing = λ e. runs.nothing refl;
         read_fault = λ e. cc e;
         write_fault = λ e. cc e;
-        outcome = λ command bytes is told. absurd (no_command command is);
-        tells = λ command is. absurd (no_command command is);
-        torn = λ command is fault. absurd (no_command command is);
-        streams = λ command is. absurd (no_command command is);
-        encodes = λ name file is told. absurd (no_file name is);
-        encodes_some = λ name is. absurd (no_file name is);
-        reads_first = λ name is. absurd (no_file name is);
+        outcome = λ command bytes is told. absurd (no_command (Answer command) is);
+        tells = λ command is. absurd (no_command (Answer command) is);
+        torn = λ command is fault. absurd (no_command (Answer command) is);
+        streams = λ command is. absurd (no_command (Answer command) is);
+        encodes = λ name file is told. absurd (no_command (Encode name) is);
+        encodes_some = λ name is. absurd (no_command (Encode name) is);
+        reads_first = λ name is. absurd (no_command (Encode name) is);
       }
-  runs_by_status words (Some end) first last before now runs = record {
-    usage = (λ e. absurd (not_usage end.ending end.skipped.items e), λ none. absurd (none-some end (sym (runs.usage.1 none))));
-    unread = λ e. absurd (not_usage end.ending end.skipped.items e);
-    nothing = λ e. absurd (not_usage end.ending end.skipped.items e);
-    read_fault = λ e. runs.read_fault end refl (read_of end.ending end.skipped.items e);
-    write_fault = λ e. runs.write_fault end refl (write_of end.ending end.skipped.items e);
-    outcome = λ command bytes is told.
-        let list = runs.lists command end is refl in
-        appended_outcome command.query command.at_bad bytes end.ending end.skipped.items (written before) (written now) (list.outcome bytes told) (list.skips bytes told);
-    tells = λ command is.
-        let list = runs.lists command end is refl in
-        tells_some command.query command.at_bad end.ending end.skipped.items (left first) (written before) (written now) list.tells;
-    torn = λ command is fault. (runs.lists command end is refl).torn (read_of end.ending end.skipped.items fault);
-    streams = λ command is.
-        let list = runs.lists command end is refl in
-        record { ending = end.ending; skipped = end.skipped.items; of_status = refl; none_skipped = list.skips_none; stream = list.streams };
-    encodes = λ name file is told.
-        let one = runs.files name end is refl in
-        subst (λ (s : ListStatus). Appended (EncodeOutcome file s) (written before) (written now)) (file_status end one.skips_none)
-        (appended_encoding file end.ending (written before) (written now) (one.encodes file told));
-    encodes_some = λ name is.
-        let one = runs.files name end is refl in
-        subst (λ (s : ListStatus). EncodesSome s (left first) (written before) (written now)) (file_status end one.skips_none)
-        (encodes_some end.ending (left first) (written before) (written now) one.encodes_some);
-    reads_first = λ name is.
-        let one = runs.files name end is refl in
-        record { ending = end.ending; of_status = sym (file_status end one.skips_none); order = one.reads_first };
-  }
+  runs_by_status words (Some (Answered list end)) first last before now runs =
+      let asked : command_of words ≡ Some (Answer (list_asked list)) = runs.command (Answered list end) refl in
+      let answers = runs.performs (Answered list end) refl in
+      let of = λ (command : ListCommand) (is : command_of words ≡ Some (Answer command)).
+      list_answered words (list_asked list) command end first last before now answers asked is in
+      record {
+        usage = (λ e. absurd (not_usage end.ending end.skipped.items e), λ none. absurd (none-some _ (sym none ∙ asked)));
+        unread = λ e. absurd (not_usage end.ending end.skipped.items e);
+        nothing = λ e. absurd (not_usage end.ending end.skipped.items e);
+        read_fault = λ e. answers.read_fault (read_of end.ending end.skipped.items e);
+        write_fault = λ e. answers.write_fault (write_of end.ending end.skipped.items e);
+        outcome = λ command bytes is told.
+            let told_list = of command is in
+            appended_outcome command.query command.at_bad bytes end.ending end.skipped.items (written before) (written now) (told_list.outcome bytes told) (told_list.skips bytes told);
+        tells = λ command is.
+            tells_some command.query command.at_bad end.ending end.skipped.items (left first) (written before) (written now) (of command is).tells;
+        torn = λ command is fault. (of command is).torn (read_of end.ending end.skipped.items fault);
+        streams = λ command is.
+            let told_list = of command is in
+            record { ending = end.ending; skipped = end.skipped.items; of_status = refl; none_skipped = told_list.skips_none; stream = told_list.streams };
+        encodes = λ name file is told. absurd (list_or_file (list_asked list) name (command_of words) asked is);
+        encodes_some = λ name is. absurd (list_or_file (list_asked list) name (command_of words) asked is);
+        reads_first = λ name is. absurd (list_or_file (list_asked list) name (command_of words) asked is);
+      }
+  runs_by_status words (Some (Encoded file ending)) first last before now runs =
+      let asked : command_of words ≡ Some (Encode file.now) = runs.command (Encoded file ending) refl in
+      let answers = runs.performs (Encoded file ending) refl in
+      let no_list : (command : ListCommand) → command_of words ≡ Some (Answer command) → ⊥ =
+      λ command is. list_or_file command file.now (command_of words) is asked in
+      record {
+        usage = (λ e. absurd (not_usage-file ending e), λ none. absurd (none-some _ (sym none ∙ asked)));
+        unread = λ e. absurd (not_usage-file ending e);
+        nothing = λ e. absurd (not_usage-file ending e);
+        read_fault = λ e. answers.read_fault (read_of-file ending e);
+        write_fault = λ e. answers.write_fault (write_of-file ending e);
+        outcome = λ command bytes is told. absurd (no_list command is);
+        tells = λ command is. absurd (no_list command is);
+        torn = λ command is fault. absurd (no_list command is);
+        streams = λ command is. absurd (no_list command is);
+        encodes = λ name bytes is told. appended_encoding bytes ending (written before) (written now) (answers.encodes bytes told);
+        encodes_some = λ name is. encodes_some ending (left first) (written before) (written now) answers.encodes_some;
+        reads_first = λ name is. record { ending = ending; of_status = refl; order = answers.reads_first };
+      }

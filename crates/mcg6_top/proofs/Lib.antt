@@ -3,4 +3,4 @@ pub mod OneOutput
 pub mod Skipping
 pub mod OneOutcome
 pub mod Splits
-pub mod Rows
+pub mod ListsExist

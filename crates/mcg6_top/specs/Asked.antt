@@ -1,16 +1,23 @@
 -- How the code's command is seen.
--- Stated by: mcg6_top.
+-- Stated by: mcg6_top, mcg6_front_top.
 use Rattle.std.specs.Prelude.{ℕ, List}
 use Rattle.std.specs.Borrow.{Bor}
 use Rattle.std.specs.declared.option.Option.{Option}
 use Rattle.std.specs.Option.{option_map}
-use Rattle.mcg6_top.specs.Commands.{ListCommand}
-use Rattle.mcg6_top.specs.declared.command.ListCommand.{ListCommand as Coded}
+use Rattle.mcg6_top.specs.Commands.{Command, ListCommand, Answer, Encode}
+use Rattle.mcg6_top.specs.declared.command.Command.{Command as Coded}
+use Rattle.mcg6_top.specs.declared.command.Command.TheVariants as coded
+use Rattle.mcg6_top.specs.declared.command.ListCommand.{ListCommand as CodedList}
 
 -- the bytes of a name, if there is one
 abbrev pub text_of : Option (Bor (List ℕ)) → Option (List ℕ)
 text_of name = option_map (λ text. text.now) name
 
+-- the command on a list with the name's bytes
+abbrev pub list_asked : CodedList → ListCommand
+list_asked list = record { query = list.query; at_bad = list.at_bad; file = text_of list.file }
+
 -- the command with the name's bytes
-abbrev pub asked : Coded → ListCommand
-asked command = record { query = command.query; at_bad = command.at_bad; file = text_of command.file }
+abbrev pub asked : Coded → Command
+asked (coded.Answer list) = Answer (list_asked list)
+asked (coded.Encode file) = Encode file.now

@@ -23,6 +23,12 @@ pub record ListCommand : Type 0 where
   pub at_bad : AtBadLine
   pub file : Option (List ℕ)
 
+-- what the words ask for: something of each graph of a list, or the graph6 text of the graph in the
+-- file of that name
+pub data Command : Type 0 where
+  Answer : (list : ListCommand) → Command
+  Encode : (file : List ℕ) → Command
+
 -- `bricks=` and a number
 abbrev pub bricks_property : List ℕ → Option Property
 bricks_property word =
@@ -109,33 +115,38 @@ abbrev pub pair_command : Option Query → (word second : List ℕ) → List (Li
 pair_command (Some query) word second words = command_with query words
 pair_command None word second words = command_if (query_named word) (second ∷ words)
 
--- the command that the words ask for; none where they match no row
-abbrev pub command_of : List (List ℕ) → Option ListCommand
-command_of [] = None
-command_of (word ∷ []) = command_if (query_named word) []
-command_of (word ∷ second ∷ words) = pair_command (pair_named word second) word second words
-
--- the name of the file of a command, if there is one
-abbrev pub file_of : Option ListCommand → Option (List ℕ)
-file_of None = None
-file_of (Some command) = command.file
+-- what the words ask of a list, if they ask for something of one
+abbrev pub list_command_of : List (List ℕ) → Option ListCommand
+list_command_of [] = None
+list_command_of (word ∷ []) = command_if (query_named word) []
+list_command_of (word ∷ second ∷ words) = pair_command (pair_named word second) word second words
 
 -- `encode` and a word: the word is the name of the graph file
 abbrev pub encode_pair : List ℕ → List ℕ → Option (List ℕ)
 encode_pair word file = if bytes_eq word (codes "encode") then Some file else None
 
--- the name of the graph file whose graph6 text the words ask for, if they do: they then ask for
--- nothing of a list
+-- the name of the graph file whose graph6 text the words ask for, if they do
 abbrev pub encode_of : List (List ℕ) → Option (List ℕ)
 encode_of [] = None
 encode_of (word ∷ []) = None
 encode_of (word ∷ file ∷ []) = encode_pair word file
 encode_of (word ∷ file ∷ third ∷ words) = None
 
--- the words match no row
-abbrev pub MatchNone : List (List ℕ) → Type 0
-MatchNone words = (command_of words ≡ None) × (encode_of words ≡ None)
+-- the graph6 text of that file, if there is one, and else that of a list
+abbrev pub command_or : (file : Option (List ℕ)) → Option ListCommand → Option Command
+command_or (Some file) list = Some (Encode file)
+command_or None list = option_map Answer list
+
+-- what the words ask for; none if they match no row
+abbrev pub command_of : List (List ℕ) → Option Command
+command_of words = command_or (encode_of words) (list_command_of words)
+
+-- the name of the file of a command, if it has one
+abbrev pub file_of : Option Command → Option (List ℕ)
+file_of None = None
+file_of (Some (Answer list)) = list.file
+file_of (Some (Encode file)) = Some file
 
 -- the name of the file that the words ask for, if there is one: a graph file, or that of a list
 abbrev pub file_named_by : List (List ℕ) → Option (List ℕ)
-file_named_by words = option_or (encode_of words) (file_of (command_of words))
+file_named_by words = file_of (command_of words)

@@ -4,9 +4,12 @@ use Rattle.std.specs.Prelude.{◌≡◌, ◌⊎◌, ℕ, List, [], ◌∷◌}
 use Rattle.std.specs.declared.option.Option.{Option}
 use Rattle.mcg6_lines.specs.declared.query.Query.{Query}
 use Rattle.mcg6_reader.specs.declared.ending.BadLine.{BadLine}
+use Rattle.line_text.specs.declared.faults.FaultKind.{FaultKind}
 use Rattle.mcg6_reader.specs.declared.ending.Ending.{Ending}
+use Rattle.mcg6_reader.specs.declared.ending.Ending.TheVariants as ending
+use Rattle.mcg6_reader.specs.declared.place.LinePlace.{LinePlace}
 use Rattle.mcg6_reader.specs.Common.{lines_of, AllTold, BeginningTold, Reported, Reports, WholeTold, ToldToBad, CutShort, Appended, Gives, IsLeft, first_place, IsStream}
-use Rattle.mcg6_top.specs.Listings.{TellsLineOf, TellsOrSkips, StopsAt, SkipsLine, lacks_of}
+use Rattle.mcg6_top.specs.Listings.{IsBadLine, TellsLineOf, TellsOrSkips, StopsAt, SkipsLine, lacks_of}
 use Rattle.mcg6_top.specs.Statuses.{status_after}
 use Rattle.mcg6_top.specs.declared.command.AtBadLine.{AtBadLine}
 use Rattle.mcg6_top.specs.declared.command.AtBadLine.TheVariants.{Stop}
@@ -67,3 +70,33 @@ pub record Streams {S K : Type 0} (query : Query) (at_bad : AtBadLine) (reads : 
   pub of_status : status ≡ status_after ending skipped
   pub none_skipped : at_bad ≡ Stop → skipped ≡ []
   pub stream : StreamsTo query at_bad reads written writes ending source sink last_source last_sink
+
+-- the bytes of a list settle that it ends so: nothing of the outside does
+abbrev pub IsSettled : Ending → Type 0
+IsSettled ending.Done = Unit {0}
+IsSettled (ending.Bad found) = Unit {0}
+IsSettled ending.ReadFault = ⊥
+IsSettled ending.WriteFault = ⊥
+IsSettled ending.Memory = ⊥
+
+-- each line has an output, or is bad with a first error of some kind
+abbrev pub HasAnswer : Query → Type 0
+HasAnswer query =
+    (place : LinePlace) (line : List ℕ) →
+    ((output : List ℕ) × TellsLineOf query place line output) ⊎ ((kind : FaultKind) × IsBadLine query place line kind)
+
+-- the list has an end that its bytes settle, with an output and with reports on its bad lines
+pub record HasSettledEnd (query : Query) (at_bad : AtBadLine) (bytes : List ℕ) : Type 0 where
+  pub ending : Ending
+  pub skipped : List BadLine
+  pub output : List ℕ
+  pub settled : IsSettled ending
+  pub gives : EndsWith query at_bad bytes ending output
+  pub skips : SkipsUpTo query at_bad bytes ending skipped
+
+-- the list has an outcome that its bytes settle
+pub record HasListOutcome (query : Query) (at_bad : AtBadLine) (bytes : List ℕ) : Type 0 where
+  pub status : ListStatus
+  pub output : List ℕ
+  pub settled : (status ≡ Done) ⊎ (status ≡ BadInput)
+  pub outcome : ListOutcome query at_bad bytes status output

@@ -6,9 +6,12 @@ use Rattle.std.specs.declared.option.Option.TheVariants.{Some, None}
 use Rattle.outside.specs.Common.{Rose}
 use Rattle.mcg6_reader.specs.Common.{Appended, ReadsTold, Reports, TellsList}
 use Rattle.mcg6_reader.specs.declared.ending.Ending.TheVariants as ending
+use Rattle.mcg6_encoder.specs.declared.ending.EncodeEnding.{EncodeEnding}
+use Rattle.mcg6_encoder.specs.declared.ending.EncodeEnding.TheVariants as encoding
 use Rattle.mcg6_encoder.specs.Files.{Encodes}
 use Rattle.mcg6_encoder.specs.Reads.{EncodesFile, ReadsFirst}
-use Rattle.mcg6_top.specs.Commands.{ListCommand, MatchNone, command_of, encode_of}
+use Rattle.mcg6_top.specs.Asked.{list_asked}
+use Rattle.mcg6_top.specs.Commands.{Command, ListCommand, Answer, Encode, command_of}
 use Rattle.mcg6_top.specs.Encodings.{EncodeOutcome, EncodesSome, ReadsFirstTo}
 use Rattle.mcg6_top.specs.Listings.{TellsOrSkips, StopsAt, SkipsLine, lacks_of}
 use Rattle.mcg6_top.specs.Outcomes.{EndsWith, SkipsUpTo, ListOutcome, Streams, StreamsTo, TellsSome}
@@ -16,6 +19,8 @@ use Rattle.mcg6_lines.specs.declared.query.Query.{Query}
 use Rattle.mcg6_top.specs.declared.command.AtBadLine.{AtBadLine}
 use Rattle.mcg6_top.specs.declared.command.AtBadLine.TheVariants.{Stop}
 use Rattle.mcg6_top.specs.declared.status.ListEnd.{ListEnd}
+use Rattle.mcg6_top.specs.declared.status.RunEnd.{RunEnd}
+use Rattle.mcg6_top.specs.declared.status.RunEnd.TheVariants.{Answered, Encoded}
 use Rattle.mcg6_top.specs.declared.status.ListStatus.{ListStatus}
 use Rattle.mcg6_top.specs.declared.status.ListStatus.TheVariants.{Usage, ReadFault, WriteFault}
 
@@ -25,33 +30,33 @@ pub record ListRuns {S K : Type 0} (left : S → Option (List ℕ)) (faults : S 
     (written : K → Option (List ℕ)) (writes : K → List ℕ → ℕ → K → Type 0) (sink_faults : K → ℕ) (words : List (List ℕ)) (ended : ListStatus)
     (first last : S) (before now : K) : Type 0 where
   -- the status is Usage exactly if the words match no row, and then nothing is read or written
-  pub usage : (ended ≡ Usage) ↔ MatchNone words
+  pub usage : (ended ≡ Usage) ↔ (command_of words ≡ None)
   pub unread : ended ≡ Usage → last ≡ first
   pub nothing : ended ≡ Usage → now ≡ before
   -- a fault of the outside comes only where its count rose in this run
   pub read_fault : ended ≡ ReadFault → Rose (faults first) (faults last)
   pub write_fault : ended ≡ WriteFault → Rose (sink_faults before) (sink_faults now)
   -- what was written is what the words ask of the lines of the list, in whatever pieces it was read
-  pub outcome : (command : ListCommand) (bytes : List ℕ) → command_of words ≡ Some command → left first ≡ Some bytes
+  pub outcome : (command : ListCommand) (bytes : List ℕ) → command_of words ≡ Some (Answer command) → left first ≡ Some bytes
       → Appended (ListOutcome command.query command.at_bad bytes ended) (written before) (written now)
   -- if what is left of the source is not known, it is what they ask of the lines of some list
-  pub tells : (command : ListCommand) → command_of words ≡ Some command
+  pub tells : (command : ListCommand) → command_of words ≡ Some (Answer command)
       → TellsSome command.query command.at_bad ended (left first) (written before) (written now)
   -- where the source fails, each whole line of what was read is told and written
-  pub torn : (command : ListCommand) → command_of words ≡ Some command → ended ≡ ReadFault
+  pub torn : (command : ListCommand) → command_of words ≡ Some (Answer command) → ended ≡ ReadFault
       → Appended (ReadsTold (TellsOrSkips command.query command.at_bad) (left first) (left last)) (written before) (written now)
   -- after each read, what is asked of the lines that are whole by then is written before the next
   -- read; no write follows one that failed, and no read or write follows a read that failed
-  pub streams : (command : ListCommand) → command_of words ≡ Some command
+  pub streams : (command : ListCommand) → command_of words ≡ Some (Answer command)
       → Streams command.query command.at_bad reads written writes ended first before last now
   -- if they ask for the graph6 text of a graph file, what was written is what the file gives
-  pub encodes : (name file : List ℕ) → encode_of words ≡ Some name → left first ≡ Some file
+  pub encodes : (name file : List ℕ) → command_of words ≡ Some (Encode name) → left first ≡ Some file
       → Appended (EncodeOutcome file ended) (written before) (written now)
   -- if the source does not tell what is left, it is what some file gives
-  pub encodes_some : (name : List ℕ) → encode_of words ≡ Some name → EncodesSome ended (left first) (written before) (written now)
+  pub encodes_some : (name : List ℕ) → command_of words ≡ Some (Encode name) → EncodesSome ended (left first) (written before) (written now)
   -- the file is read to its end before the first write; nothing is written of a bad file, and no
   -- write follows one that failed
-  pub reads_first : (name : List ℕ) → encode_of words ≡ Some name
+  pub reads_first : (name : List ℕ) → command_of words ≡ Some (Encode name)
       → ReadsFirstTo reads written writes ended first before last now
 
 -- a list was answered, and ended so: what was written, and the reports on the bad lines that were
@@ -79,33 +84,39 @@ pub record AnswersList {S K : Type 0} (query : Query) (at_bad : AtBadLine) (left
 
 -- a graph file was encoded, and that ended so
 pub record AnswersFile {S K : Type 0} (left : S → Option (List ℕ)) (faults : S → ℕ) (reads : S → Option (List ℕ) → S → Type 0)
-    (written : K → Option (List ℕ)) (writes : K → List ℕ → ℕ → K → Type 0) (sink_faults : K → ℕ) (ended : ListEnd)
+    (written : K → Option (List ℕ)) (writes : K → List ℕ → ℕ → K → Type 0) (sink_faults : K → ℕ) (ended : EncodeEnding)
     (first last : S) (before now : K) : Type 0 where
-  -- a fault of the outside comes only where its count rose in this run, and no line is skipped
-  pub read_fault : ended.ending ≡ ending.ReadFault → Rose (faults first) (faults last)
-  pub write_fault : ended.ending ≡ ending.WriteFault → Rose (sink_faults before) (sink_faults now)
-  pub skips_none : ended.skipped.items ≡ []
+  -- a fault of the outside comes only where its count rose in this run
+  pub read_fault : ended ≡ encoding.ReadFault → Rose (faults first) (faults last)
+  pub write_fault : ended ≡ encoding.WriteFault → Rose (sink_faults before) (sink_faults now)
   -- what was written is what the file gives up to this ending
-  pub encodes : (file : List ℕ) → left first ≡ Some file → Appended (Encodes file ended.ending) (written before) (written now)
+  pub encodes : (file : List ℕ) → left first ≡ Some file → Appended (Encodes file ended) (written before) (written now)
   -- if the source does not tell what is left, it is what some file gives
-  pub encodes_some : EncodesFile ended.ending (left first) (written before) (written now)
+  pub encodes_some : EncodesFile ended (left first) (written before) (written now)
   -- the file is read to its end before the first write; nothing is written of a bad file
-  pub reads_first : ReadsFirst reads written writes ended.ending first before last now
+  pub reads_first : ReadsFirst reads written writes ended first before last now
+
+-- what a run was asked for that ended so
+abbrev pub command_at : RunEnd → Command
+command_at (Answered list end) = Answer (list_asked list)
+command_at (Encoded file ending) = Encode file.now
+
+-- what a run made of a source and a sink that ended so: the list was answered, or the file encoded
+abbrev pub Performs : {S K : Type 0} → (S → Option (List ℕ)) → (S → ℕ) → (S → Option (List ℕ) → S → Type 0) → (K → Option (List ℕ)) →
+    (K → List ℕ → ℕ → K → Type 0) → (K → ℕ) → RunEnd → (first last : S) → (before now : K) → Type 0
+Performs left faults reads written writes sink_faults (Answered list end) first last before now =
+    AnswersList list.query list.at_bad left faults reads written writes sink_faults end first last before now
+Performs left faults reads written writes sink_faults (Encoded file ending) first last before now =
+    AnswersFile left faults reads written writes sink_faults ending first last before now
 
 -- the same of a run that ended so; with no end the words match no row
 pub record ListRunsTo {S K : Type 0} (left : S → Option (List ℕ)) (faults : S → ℕ) (reads : S → Option (List ℕ) → S → Type 0)
-    (written : K → Option (List ℕ)) (writes : K → List ℕ → ℕ → K → Type 0) (sink_faults : K → ℕ) (words : List (List ℕ)) (ended : Option ListEnd)
+    (written : K → Option (List ℕ)) (writes : K → List ℕ → ℕ → K → Type 0) (sink_faults : K → ℕ) (words : List (List ℕ)) (ended : Option RunEnd)
     (first last : S) (before now : K) : Type 0 where
   -- there is no end exactly if the words match no row, and then nothing is read or written
-  pub usage : (ended ≡ None) ↔ MatchNone words
+  pub usage : (ended ≡ None) ↔ (command_of words ≡ None)
   pub unread : ended ≡ None → last ≡ first
   pub nothing : ended ≡ None → now ≡ before
-  -- a fault of the outside comes only where its count rose in this run
-  pub read_fault : (at : ListEnd) → ended ≡ Some at → at.ending ≡ ending.ReadFault → Rose (faults first) (faults last)
-  pub write_fault : (at : ListEnd) → ended ≡ Some at → at.ending ≡ ending.WriteFault → Rose (sink_faults before) (sink_faults now)
-  -- if the words ask for something of a list, it was answered so
-  pub lists : (command : ListCommand) (at : ListEnd) → command_of words ≡ Some command → ended ≡ Some at
-      → AnswersList command.query command.at_bad left faults reads written writes sink_faults at first last before now
-  -- if they ask for the graph6 text of a graph file, it was encoded so
-  pub files : (name : List ℕ) (at : ListEnd) → encode_of words ≡ Some name → ended ≡ Some at
-      → AnswersFile left faults reads written writes sink_faults at first last before now
+  -- else it is the end of what the words ask for, and that was done
+  pub command : (at : RunEnd) → ended ≡ Some at → command_of words ≡ Some (command_at at)
+  pub performs : (at : RunEnd) → ended ≡ Some at → Performs left faults reads written writes sink_faults at first last before now

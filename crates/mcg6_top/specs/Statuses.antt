@@ -6,7 +6,10 @@ use Rattle.std.specs.declared.option.Option.TheVariants.{Some, None}
 use Rattle.mcg6_reader.specs.declared.ending.Ending.{Ending}
 use Rattle.mcg6_reader.specs.declared.ending.Ending.TheVariants as ending
 use Rattle.mcg6_reader.specs.declared.ending.BadLine.{BadLine}
-use Rattle.mcg6_top.specs.declared.status.ListEnd.{ListEnd}
+use Rattle.mcg6_encoder.specs.declared.ending.EncodeEnding.{EncodeEnding}
+use Rattle.mcg6_encoder.specs.declared.ending.EncodeEnding.TheVariants as encoding
+use Rattle.mcg6_top.specs.declared.status.RunEnd.{RunEnd}
+use Rattle.mcg6_top.specs.declared.status.RunEnd.TheVariants.{Answered, Encoded}
 use Rattle.mcg6_top.specs.declared.status.ListStatus.{ListStatus}
 use Rattle.mcg6_top.specs.declared.status.ListStatus.TheVariants.{Done, Usage, ReadFault, BadInput, WriteFault, Memory}
 
@@ -19,7 +22,7 @@ code_of BadInput = 4
 code_of WriteFault = 5
 code_of Memory = 6
 
--- the status of a run that ended so, with these reports on bad lines that were skipped
+-- the status of a list that ended so, with these reports on bad lines that were skipped
 abbrev pub status_after : Ending → List BadLine → ListStatus
 status_after ending.Done [] = Done
 status_after ending.Done (found ∷ founds) = BadInput
@@ -28,7 +31,20 @@ status_after ending.ReadFault founds = ReadFault
 status_after ending.WriteFault founds = WriteFault
 status_after ending.Memory founds = Memory
 
--- the status of a run that ended so; with no end the words matched no row
-abbrev pub status_in : Option ListEnd → ListStatus
+-- the status of a graph file whose encoding ended so
+abbrev pub status_encoded : EncodeEnding → ListStatus
+status_encoded encoding.Encoded = Done
+status_encoded (encoding.Bad found) = BadInput
+status_encoded encoding.ReadFault = ReadFault
+status_encoded encoding.WriteFault = WriteFault
+status_encoded encoding.Memory = Memory
+
+-- the status of a run that ended so
+abbrev pub status_at : RunEnd → ListStatus
+status_at (Answered list end) = status_after end.ending end.skipped.items
+status_at (Encoded file ending) = status_encoded ending
+
+-- the same; with no end the words matched no row
+abbrev pub status_in : Option RunEnd → ListStatus
 status_in None = Usage
-status_in (Some end) = status_after end.ending end.skipped.items
+status_in (Some end) = status_at end

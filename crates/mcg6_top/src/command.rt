@@ -1,5 +1,4 @@
 //! What the words ask for.
-
 use mcg6_lines::Query;
 
 /// What is done at a bad line of a list.
@@ -18,4 +17,13 @@ pub struct ListCommand<'a> {
     pub query: Query,
     pub at_bad: AtBadLine,
     pub file: Option<&'a str>,
+}
+
+/// What the words ask for.
+#[derive(Clone, Copy)]
+pub enum Command<'a> {
+    /// Something of each graph of a list.
+    Answer { list: ListCommand<'a> },
+    /// The graph6 text of the graph in the file of that name.
+    Encode { file: &'a str },
 }

@@ -1,16 +1,16 @@
 //! The top call of the program `mcg6`: `run` does what the words ask for, for each graph of a
 //! list, or for a graph file.
 //!
-//! The words are a `ListCommand`: what is asked of each graph (`Query` of `mcg6_lines`), and the
-//! file that holds the list, if it is not the standard input; or they ask for the graph6 text of a
-//! graph file. The list is read by `tell_all` of `mcg6_reader`, line by line, and the graph file
-//! by `encode` of `mcg6_encoder`. Main definitions, in specs/: `command_of` and `encode_of` (what the
-//! words ask for), `TellsLineOf` and `IsBadLine` (what answers one line), `lacks_of` (what a list
-//! lacks: a file of one graph has one graph), and `ListOutcome` and `EncodeOutcome`, which tie the
-//! bytes of the list or of the file, the status and the output together. Main promises: the
-//! clauses of `run`; `run_to_ending` answers beside them what is found of the first bad line; one
-//! list has one status and one output, unless memory runs out or reading or writing fails
-//! (`one_output_law`).
+//! The words are read once, into a `CommandLine`: they ask for something of each graph of a list
+//! (`ListCommand`: the `Query` of `mcg6_lines`, and the file that holds the list, if it is not the
+//! standard input), or for the graph6 text of a graph file. The list is read by `tell_all` of
+//! `mcg6_reader`, line by line, and the graph file by `encode` of `mcg6_encoder`. Main definitions, in
+//! specs/: `command_of` (what the words ask for), `TellsLineOf` and `IsBadLine` (what answers one
+//! line), `lacks_of` (what a list lacks: a file of one graph has one graph), and `ListOutcome` and
+//! `EncodeOutcome`, which tie the bytes of the list or of the file, the status and the output
+//! together. Main promises: the clauses of `run`; `run_to_ending` returns besides them what is found
+//! of the first bad line; one list has one status and one output, unless memory runs out or reading
+//! or writing fails (`one_output_law`).
 //!
 //! Stands on `mcg6_lines`, `mcg6_reader`, `mcg6_encoder`, `line_text` for numbers, and `outside` for
 //! the source and the sink.
@@ -18,13 +18,14 @@
 
 mod command;
 mod laws;
+mod line;
 mod lister;
 mod plan;
 mod running;
 mod status;
 
-pub use command::AtBadLine;
+pub use command::{AtBadLine, Command, ListCommand};
 pub use laws::{one_line_law, one_output_law, split_law};
-pub use plan::{encode_name, file_name};
+pub use line::CommandLine;
 pub use running::{run, run_to_ending};
-pub use status::{ListEnd, ListStatus, status_of};
+pub use status::{ListEnd, ListStatus, RunEnd, status_of};

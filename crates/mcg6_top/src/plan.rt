@@ -1,9 +1,9 @@
 //! Reading the words.
 ghost use Rattle.std.specs.Prelude.{◌≡◌, ◌∷◌, map, string_bytes};
 ghost use Rattle.std.specs.Option.{option_map};
-ghost use Rattle.mcg6_top.specs.Common.{command_of, encode_of, encode_pair, file_named_by, file_of, property_named, bricks_property, braces_property, counted_property, query_named, leaves_named, select_named, pair_named, may_skip, asks_skip, command_with_word, command_with_two, command_with, command_if, asked, text_of};
+ghost use Rattle.mcg6_top.specs.Common.{asked, list_asked, command_of, list_command_of, encode_of, encode_pair, property_named, bricks_property, braces_property, counted_property, query_named, leaves_named, select_named, pair_named, may_skip, asks_skip, command_with_word, command_with_two, command_with, command_if, text_of};
 
-use crate::command::{AtBadLine, ListCommand};
+use crate::command::{AtBadLine, Command, ListCommand};
 use decomposer::NamedOrder;
 use line_text::number;
 use mcg6_lines::{Property, Query};
@@ -128,7 +128,7 @@ fn asks_skip(query: &Query, word: &str) -> bool
 
 // The command of the query and one more word: `skip`, or the name of the file.
 fn with_word<'a>(query: Query, word: &'a str) -> Option<ListCommand<'a>>
-    ensures { option_map asked result ≡ command_with_word query word.now }
+    ensures { option_map list_asked result ≡ command_with_word query word.now }
 {
     if asks_skip(&query, word) {
         let at_bad = AtBadLine::Skip;
@@ -150,7 +150,7 @@ fn with_word<'a>(query: Query, word: &'a str) -> Option<ListCommand<'a>>
 
 // The command of the query and two more words: `skip` and the name of the file.
 fn with_two<'a>(query: Query, word: &str, file: &'a str) -> Option<ListCommand<'a>>
-    ensures { option_map asked result ≡ command_with_two query word.now file.now }
+    ensures { option_map list_asked result ≡ command_with_two query word.now file.now }
 {
     if asks_skip(&query, word) {
         let at_bad = AtBadLine::Skip;
@@ -166,7 +166,7 @@ fn with_two<'a>(query: Query, word: &str, file: &'a str) -> Option<ListCommand<'
 
 // The command of the query and the words after it.
 fn with_words(query: Query, words: &[String]) -> Option<ListCommand<'_>>
-    ensures { option_map asked result ≡ command_with query (map string_bytes words.now) }
+    ensures { option_map list_asked result ≡ command_with query (map string_bytes words.now) }
 {
     match words {
         [] => {
@@ -186,7 +186,7 @@ fn with_words(query: Query, words: &[String]) -> Option<ListCommand<'_>>
 
 // The command whose query is this word alone, and which has these words after it.
 fn with_first<'a>(word: &str, words: &'a [String]) -> Option<ListCommand<'a>>
-    ensures { option_map asked result ≡
+    ensures { option_map list_asked result ≡
         command_if (query_named word.now) (map string_bytes words.now) }
 {
     match query_named(word) {
@@ -198,7 +198,7 @@ fn with_first<'a>(word: &str, words: &'a [String]) -> Option<ListCommand<'a>>
 // The command of the first word and those after it: the second has more to say of the query, or
 // comes after it.
 fn with_second<'a>(word: &str, words: &'a [String]) -> Option<ListCommand<'a>>
-    ensures { option_map asked result ≡ command_of (word.now ∷ map string_bytes words.now) }
+    ensures { option_map list_asked result ≡ list_command_of (word.now ∷ map string_bytes words.now) }
 {
     match words.split_first() {
         None => with_first(word, words),
@@ -209,23 +209,13 @@ fn with_second<'a>(word: &str, words: &'a [String]) -> Option<ListCommand<'a>>
     }
 }
 
-/// The command that the words ask for. Takes no memory.
-pub fn plan(words: &[String]) -> Option<ListCommand<'_>>
-    ensures { option_map asked result ≡ command_of (map string_bytes words.now) }
+// The command on a list that the words ask for, if they ask for one.
+fn list_command_of(words: &[String]) -> Option<ListCommand<'_>>
+    ensures { option_map list_asked result ≡ list_command_of (map string_bytes words.now) }
 {
     match words.split_first() {
         None => None,
         Some((word, others)) => with_second(word.as_str(), others),
-    }
-}
-
-// The name of the file that holds the list, where the words ask for one.
-fn list_name(words: &[String]) -> Option<&str>
-    ensures { text_of result ≡ file_of (command_of (map string_bytes words.now)) }
-{
-    match plan(words) {
-        Some(command) => command.file,
-        None => None,
     }
 }
 
@@ -239,8 +229,8 @@ fn encode_pair<'a>(word: &str, file: &'a str) -> Option<&'a str>
     }
 }
 
-/// The name of the graph file whose graph6 text the words ask for, if they do. Takes no memory.
-pub fn encode_name(words: &[String]) -> Option<&str>
+// The name of the graph file whose graph6 text the words ask for, if they do.
+fn encode_of(words: &[String]) -> Option<&str>
     ensures { text_of result ≡ encode_of (map string_bytes words.now) }
 {
     match words {
@@ -251,13 +241,15 @@ pub fn encode_name(words: &[String]) -> Option<&str>
     }
 }
 
-/// The name of the file that the words ask for: of a graph file whose graph6 text they ask for, or
-/// of the file that holds the list. Takes no memory.
-pub fn file_name(words: &[String]) -> Option<&str>
-    ensures { text_of result ≡ file_named_by (map string_bytes words.now) }
+/// What the words ask for. Takes no memory.
+pub fn command_of(words: &[String]) -> Option<Command<'_>>
+    ensures { option_map asked result ≡ command_of (map string_bytes words.now) }
 {
-    match encode_name(words) {
-        Some(name) => Some(name),
-        None => list_name(words),
+    match encode_of(words) {
+        Some(file) => Some(Command::Encode { file }),
+        None => match list_command_of(words) {
+            Some(list) => Some(Command::Answer { list }),
+            None => None,
+        },
     }
 }

@@ -1,14 +1,12 @@
 //! The top call.
-ghost use Rattle.std.specs.Prelude.{◌≡◌, ◌↔◌, map, string_bytes, Some, None};
-ghost use Rattle.outside.specs.Common.{Rose};
-ghost use Rattle.mcg6_reader.specs.declared.ending.Ending.TheVariants as ending;
-ghost use Rattle.mcg6_top.specs.declared.status.ListEnd.{ListEnd};
-ghost use Rattle.mcg6_top.specs.Common.{ListCommand, command_of, AnswersFile, AnswersList, ListRuns, ListRunsTo};
+ghost use Rattle.std.specs.Prelude.{◌≡◌};
+ghost use Rattle.mcg6_top.specs.Common.{AnswersFile, AnswersList, ListRuns, ListRunsTo, Performs, asked, command_at};
 
+use crate::command::Command;
+use crate::line::CommandLine;
 use crate::lister::Lister;
-use crate::plan::{encode_name, plan};
-use crate::status::{ListEnd, ListStatus, status_of};
-use mcg6_encoder::encode;
+use crate::status::{ListEnd, ListStatus, RunEnd, status_of};
+use mcg6_encoder::{EncodeEnding, encode};
 use mcg6_reader::tell_all;
 use outside::{Sink, Source};
 use std::alloc::Global;
@@ -28,68 +26,62 @@ fn answer_list<S: Source, K: Sink>(
     ListEnd { ending, skipped }
 }
 
-// Does what the words ask of a list, if they ask for something of one.
-fn tell_list<S: Source, K: Sink>(
+// Encodes the graph file that is left of the source.
+fn encode_file<S: Source, K: Sink>(alloc: Global, source: &mut S, sink: &mut K) -> EncodeEnding
+    ensures { AnswersFile S.left S.faults S.reads K.written K.writes K.faults result source.old
+        source.new sink.old sink.new }
+{
+    encode(alloc, source, sink)
+}
+
+// Does what is asked for.
+fn perform<'a, S: Source, K: Sink>(
     alloc: Global,
-    words: &[String],
+    command: Command<'a>,
     source: &mut S,
     sink: &mut K,
-) -> Option<ListEnd>
-    ensures usage { result ≡ None ↔ (command_of (map string_bytes words.now) ≡ None) }
-    ensures unread { result ≡ None → source.new ≡ source.old }
-    ensures nothing { result ≡ None → sink.new ≡ sink.old }
-    ensures read_fault { (at : ListEnd) → result ≡ Some at → at.ending ≡ ending.ReadFault →
-        Rose (S.faults source.old) (S.faults source.new) }
-    ensures write_fault { (at : ListEnd) → result ≡ Some at → at.ending ≡ ending.WriteFault →
-        Rose (K.faults sink.old) (K.faults sink.new) }
-    ensures lists { (command : ListCommand) (at : ListEnd)
-        → command_of (map string_bytes words.now) ≡ Some command → result ≡ Some at
-        → AnswersList command.query command.at_bad S.left S.faults S.reads K.written K.writes
-        K.faults at source.old source.new sink.old sink.new }
+) -> RunEnd<'a>
+    ensures command { command_at result ≡ asked command.entry }
+    ensures performs { Performs S.left S.faults S.reads K.written K.writes K.faults result source.old
+        source.new sink.old sink.new }
 {
-    match plan(words) {
-        Some(command) => {
-            let query = command.query;
-            let at_bad = command.at_bad;
-            Some(answer_list(alloc, &Lister { query, at_bad }, source, sink))
+    match command {
+        Command::Answer { list } => {
+            let query = list.query;
+            let at_bad = list.at_bad;
+            let end = answer_list(alloc, &Lister { query, at_bad }, source, sink);
+            RunEnd::Answered { list, end }
         }
+        Command::Encode { file } => {
+            let ending = encode_file(alloc, source, sink);
+            RunEnd::Encoded { file, ending }
+        }
+    }
+}
+
+/// Does what the command line asks for, as `run` does, and returns how it ended: of a list that
+/// ends with a bad line the number of the first one, its text as far as it was kept, and the kind of
+/// its first error; of a bad graph file the same, the text without its line feed; and a report on
+/// each bad line that was skipped. `None` comes exactly when the words match no row. What it makes
+/// of the source and the sink is `ListRunsTo`.
+pub fn run_to_ending<'a, S: Source, K: Sink>(
+    alloc: Global,
+    line: &CommandLine<'a>,
+    source: &mut S,
+    sink: &mut K,
+) -> Option<RunEnd<'a>>
+    ensures { ListRunsTo S.left S.faults S.reads K.written K.writes K.faults line.now result
+        source.old source.new sink.old sink.new }
+{
+    match line.command() {
+        Some(command) => Some(perform(alloc, command, source, sink)),
         None => None,
     }
 }
 
-// Encodes the graph file that is left of the source.
-fn encode_file<S: Source, K: Sink>(alloc: Global, source: &mut S, sink: &mut K) -> ListEnd
-    ensures { AnswersFile S.left S.faults S.reads K.written K.writes K.faults result source.old
-        source.new sink.old sink.new }
-{
-    let ending = encode(alloc, source, sink);
-    let skipped = Vec::new(alloc);
-    ListEnd { ending, skipped }
-}
-
-/// Does what the words ask for, as `run` does, and returns how it ended: of a list that ends with
-/// a bad line the number of the first one, its text as far as it was kept, and the kind of its
-/// first fault; of a bad graph file the same, the text without its line feed; and a report on each
-/// bad line that was skipped. `None` comes exactly when the words match no row. What it makes of the
-/// source and the sink is `ListRunsTo`.
-pub fn run_to_ending<S: Source, K: Sink>(
-    alloc: Global,
-    words: &[String],
-    source: &mut S,
-    sink: &mut K,
-) -> Option<ListEnd>
-    ensures { ListRunsTo S.left S.faults S.reads K.written K.writes K.faults
-        (map string_bytes words.now) result source.old source.new sink.old sink.new }
-{
-    match encode_name(words) {
-        Some(_) => Some(encode_file(alloc, source, sink)),
-        None => tell_list(alloc, words, source, sink),
-    }
-}
-
-/// Does what the words ask for: reads the list that is left of the source, and writes to the sink
-/// what is asked of each of its graphs, in order, as it reads; or reads the graph file that is left
-/// of the source, and writes the graph6 text of its graph. Of a bad line or file nothing is
+/// Does what the command line asks for: reads the list that is left of the source, and writes to the
+/// sink what is asked of each of its graphs, in order, as it reads; or reads the graph file that is
+/// left of the source, and writes the graph6 text of its graph. Of a bad line or file nothing is
 /// written: `run_to_ending` returns what is found of it. The list ends at a bad line, unless the
 /// words say that it goes on.
 ///
@@ -99,14 +91,14 @@ pub fn run_to_ending<S: Source, K: Sink>(
 /// `mcg6_lines`. `encodes` does the same for a graph file, by those of `mcg6_encoder`.
 pub fn run<S: Source, K: Sink>(
     alloc: Global,
-    words: &[String],
+    line: &CommandLine<'_>,
     source: &mut S,
     sink: &mut K,
 ) -> ListStatus
-    ensures { ListRuns S.left S.faults S.reads K.written K.writes K.faults
-        (map string_bytes words.now) result source.old source.new sink.old sink.new }
+    ensures { ListRuns S.left S.faults S.reads K.written K.writes K.faults line.now result source.old
+        source.new sink.old sink.new }
 {
-    match run_to_ending(alloc, words, source, sink) {
+    match run_to_ending(alloc, line, source, sink) {
         Some(end) => status_of(&end),
         None => ListStatus::Usage,
     }

@@ -1,7 +1,9 @@
 //! The statuses of a run.
 ghost use Rattle.std.specs.Prelude.{◌≡◌, ◌≢◌};
-ghost use Rattle.mcg6_top.specs.Common.{code_of, status_after};
+ghost use Rattle.mcg6_top.specs.Common.{code_of, status_after, status_encoded, status_at};
 
+use crate::command::ListCommand;
+use mcg6_encoder::EncodeEnding;
 use mcg6_reader::{BadLine, Ending};
 
 /// How a run ended. The codes are those of `mcg`, which has one more, 1.
@@ -33,12 +35,21 @@ impl ListStatus {
     }
 }
 
-/// The end of a run.
+/// How a list ended.
 #[derive(Debug, PartialEq, Eq, Drop)]
 pub struct ListEnd {
     pub ending: Ending,
     /// A report on each bad line that was skipped, in order.
     pub skipped: Vec<BadLine>,
+}
+
+/// How a run ended, and what it was asked for.
+#[derive(Drop)]
+pub enum RunEnd<'a> {
+    /// A list was answered.
+    Answered { list: ListCommand<'a>, end: ListEnd },
+    /// The graph in the file of that name was encoded.
+    Encoded { file: &'a str, ending: EncodeEnding },
 }
 
 // The status of a list that was processed to its end, with these reports on bad lines.
@@ -51,12 +62,9 @@ fn status_of_whole(skipped: &[BadLine]) -> ListStatus
     }
 }
 
-/// The status of a run with that end. Takes no memory.
-pub fn status_of(end: &ListEnd) -> ListStatus
-    ensures status { result ≡ status_after end.now.ending end.now.skipped.items }
-    ensures usage { result ≢ ListStatus.Usage }
-    ensures read_fault { result ≡ ListStatus.ReadFault → end.now.ending ≡ Ending.ReadFault }
-    ensures write_fault { result ≡ ListStatus.WriteFault → end.now.ending ≡ Ending.WriteFault }
+// The status of a list with that end.
+fn status_of_list(end: &ListEnd) -> ListStatus
+    ensures { result ≡ status_after end.now.ending end.now.skipped.items }
 {
     match &end.ending {
         Ending::Done => status_of_whole(&end.skipped),
@@ -64,5 +72,28 @@ pub fn status_of(end: &ListEnd) -> ListStatus
         Ending::ReadFault => ListStatus::ReadFault,
         Ending::WriteFault => ListStatus::WriteFault,
         Ending::Memory => ListStatus::Memory,
+    }
+}
+
+// The status of a graph file whose encoding ended so.
+fn status_of_file(ending: &EncodeEnding) -> ListStatus
+    ensures { result ≡ status_encoded ending.now }
+{
+    match ending {
+        EncodeEnding::Encoded => ListStatus::Done,
+        EncodeEnding::Bad { .. } => ListStatus::BadInput,
+        EncodeEnding::ReadFault => ListStatus::ReadFault,
+        EncodeEnding::WriteFault => ListStatus::WriteFault,
+        EncodeEnding::Memory => ListStatus::Memory,
+    }
+}
+
+/// The status of a run with that end. Takes no memory.
+pub fn status_of(end: &RunEnd<'_>) -> ListStatus
+    ensures { result ≡ status_at end.now }
+{
+    match end {
+        RunEnd::Answered { end, .. } => status_of_list(end),
+        RunEnd::Encoded { ending, .. } => status_of_file(ending),
     }
 }

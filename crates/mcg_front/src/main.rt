@@ -4,34 +4,17 @@
 //!
 //! Files are read by `DirShelf` through a `KeepingShelf`, standard output is written by `OutSink`
 //! and standard error by `LineSink`. `MCG_QUIET=1` in the environment turns the words off. If
-//! the runtime refuses the words, nothing is written to standard output: the exit status is 6 for
-//! lack of memory, and 7, which no status has, for words that are not UTF-8.
+//! the words cannot be read, nothing is written to standard output: the exit status is 6 for lack of
+//! memory, and 7, which no status has, for a word that is not UTF-8, which is then shown.
 #![tactic(auto)]
 
+use arguments::{Refusal, read_arguments};
 use front_top::run_front;
-use outside::{DirShelf, KeepingShelf, LineSink, OutSink, emit};
+use front_words::say_not_text;
+use outside::{DirShelf, KeepingShelf, LineSink, OutSink, Sink, emit};
 use std::env;
-use std::io::ErrorKind;
 use std::process::ExitCode;
 use std::rt::Env;
-
-/// The exit status if memory runs out.
-const NO_MEMORY: u8 = 6;
-
-/// The exit status if the runtime refuses the words.
-const NO_WORDS: u8 = 7;
-
-// The words after the program's name.
-fn words_of<R: Env + AllocGlobal>(rt: &R) -> Result<Vec<String>, u8> {
-    match env::args(rt) {
-        Ok(words) => match words.skip(1).collect(rt.alloc()) {
-            Ok(words) => Ok(words),
-            Err(_) => Err(NO_MEMORY),
-        },
-        Err(refusal) if refusal.kind() == ErrorKind::OutOfMemory => Err(NO_MEMORY),
-        Err(_) => Err(NO_WORDS),
-    }
-}
 
 // Whether words for a person are turned off.
 fn is_quiet<R: Env + AllocGlobal>(rt: &R) -> bool {
@@ -41,20 +24,19 @@ fn is_quiet<R: Env + AllocGlobal>(rt: &R) -> bool {
     }
 }
 
-// What is said if the runtime refuses the words.
-fn refusal_words(code: u8) -> &'static str {
-    if code == NO_MEMORY {
-        "mcg: memory ran out; nothing was written\n"
-    } else {
-        "mcg: a word of the command line is not UTF-8; nothing was written\n"
-    }
+// Says why the words were not read.
+fn say_refusal<E: Sink>(errors: &mut E, refusal: &Refusal) {
+    let _ = match refusal {
+        Refusal::Memory => emit(errors, b"mcg: memory ran out; nothing was written\n"),
+        Refusal::NotText { place, bytes } => say_not_text(errors, "mcg", *place as u64, bytes),
+    };
 }
 
 fn main(rt: HostRuntime) -> ExitCode {
     let stream = rt.stderr();
     let mut errors = LineSink::new(&stream);
     let quiet = is_quiet(&rt);
-    match words_of(&rt) {
+    match read_arguments(&rt, rt.alloc()) {
         Ok(words) => {
             let mut shelf = KeepingShelf::new(DirShelf::new(&rt));
             let mut sink = OutSink::new(&rt);
@@ -68,11 +50,11 @@ fn main(rt: HostRuntime) -> ExitCode {
             );
             ExitCode::from(status.code())
         }
-        Err(code) => {
+        Err(refusal) => {
             if !quiet {
-                let _ = emit(&mut errors, refusal_words(code).as_bytes());
+                say_refusal(&mut errors, &refusal);
             }
-            ExitCode::from(code)
+            ExitCode::from(refusal.code())
         }
     }
 }

@@ -1,5 +1,5 @@
 use Rattle.std.proofs.Common.{ℕ, List, ◌++◌, Err, ap, refl, subst, inl}
-use Rattle.mcg6_reader.specs.declared.ending.Ending.TheVariants.{ReadFault, Memory}
+use Rattle.mcg6_encoder.specs.declared.ending.EncodeEnding.TheVariants.{ReadFault, Memory}
 use Rattle.mcg6_encoder.specs.Reads.{WritesUpTo}
 use Rattle.mcg6_encoder.proofs.Encodings.{after_read, file_encoded, long_file, no_file, told_file}
 use Rattle.mcg6_encoder.proofs.encoding.encode.Goals as goal

@@ -1,4 +1,4 @@
-use Rattle.std.proofs.Common.{ℕ, List, map, string_bytes, subst, sym, refl}
+use Rattle.std.proofs.Common.{subst, sym}
 use Rattle.std.specs.declared.option.Option.TheVariants.{Some, None}
 use Rattle.mcg6_top.specs.Common.{ListRuns}
 use Rattle.mcg6_top.specs.declared.status.ListStatus.{ListStatus}
@@ -7,12 +7,11 @@ use Rattle.mcg6_top.proofs.running.run.Goals as goal
 
 pub returns-in-Some : goal.returns-in-Some
 returns-in-Some g c =
-    let words : List (List ℕ) = map string_bytes c.args.words.now in
-    subst (λ (s : ListStatus). ListRuns g.S.Source.left g.S.Source.faults g.S.Source.reads g.K.Sink.written g.K.Sink.writes g.K.Sink.faults words s
+    subst (λ (s : ListStatus). ListRuns g.S.Source.left g.S.Source.faults g.S.Source.reads g.K.Sink.written g.K.Sink.writes g.K.Sink.faults c.args.line.now s
     c.args.source.now c.run_to_ending.new.source c.args.sink.now c.run_to_ending.new.sink)
-    (sym c.status_of.ensures.status)
-    (runs_by_status g.S.Source.left g.S.Source.faults g.S.Source.reads g.K.Sink.written g.K.Sink.writes g.K.Sink.faults words (Some c.in-Some.end) _ _ _ _ c.in-Some.ensures)
+    (sym c.status_of.ensures)
+    (runs_by_status g.S.Source.left g.S.Source.faults g.S.Source.reads g.K.Sink.written g.K.Sink.writes g.K.Sink.faults c.args.line.now (Some c.in-Some.end) _ _ _ _ c.in-Some.ensures)
 
 pub returns-in-None : goal.returns-in-None
 returns-in-None g c =
-    runs_by_status g.S.Source.left g.S.Source.faults g.S.Source.reads g.K.Sink.written g.K.Sink.writes g.K.Sink.faults (map string_bytes c.args.words.now) None _ _ _ _ c.in-None.ensures
+    runs_by_status g.S.Source.left g.S.Source.faults g.S.Source.reads g.K.Sink.written g.K.Sink.writes g.K.Sink.faults c.args.line.now None _ _ _ _ c.in-None.ensures

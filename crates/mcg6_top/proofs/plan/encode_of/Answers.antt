@@ -2,7 +2,7 @@ use Rattle.std.proofs.Common.{◌≡◌, ◌≤◌, ℕ, List, length, string_by
 use Rattle.std.proofs.lemmas.List.{length-map}
 use Rattle.std.specs.declared.option.Option.TheVariants.{None}
 use Rattle.mcg6_top.specs.Common.{encode_of}
-use Rattle.mcg6_top.proofs.plan.encode_name.Goals as goal
+use Rattle.mcg6_top.proofs.plan.encode_of.Goals as goal
 
 -- three words and more do not match the row
 too_many : (words : List (List ℕ)) → 3 ≤ length words → encode_of words ≡ None

@@ -1,0 +1,12 @@
+//! What is known of the faults of a run.
+
+use outside::FailureReason;
+
+/// What is known of the faults of a run.
+#[derive(Clone, Copy)]
+pub struct Clues {
+    /// Why the file cannot be read, where that is known.
+    pub reason: Option<FailureReason>,
+    /// Nobody reads the output any more.
+    pub is_abandoned: bool,
+}
