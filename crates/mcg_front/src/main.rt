@@ -2,13 +2,13 @@
 //! `front_top::run_front`, whose report goes to standard output, whose words for a person go to
 //! standard error, and whose status becomes the exit status.
 //!
-//! Files are read by `DirShelf` through a `KeepingShelf`, standard output is written by `OutSink`
-//! and standard error by `LineSink`. `MCG_QUIET=1` in the environment turns the words off. If
-//! the runtime refuses the words, nothing is written to standard output: the exit status is 6 for
+//! Files are read by `DirShelf` through a `KeepingShelf` and a `SizingShelf`, standard output is
+//! written by `OutSink` and standard error by `LineSink`. `MCG_QUIET=1` in the environment turns the
+//! words off. If the runtime refuses the words, nothing is written to standard output: the exit status is 6 for
 //! lack of memory, and 7, which no status has, for words that are not UTF-8.
 #![tactic(auto)]
 
-use front_top::run_front;
+use front_top::{SizingShelf, run_front};
 use outside::{DirShelf, KeepingShelf, LineSink, OutSink, emit};
 use std::env;
 use std::io::ErrorKind;
@@ -56,7 +56,7 @@ fn main(rt: HostRuntime) -> ExitCode {
     let quiet = is_quiet(&rt);
     match words_of(&rt) {
         Ok(words) => {
-            let mut shelf = KeepingShelf::new(DirShelf::new(&rt));
+            let mut shelf = SizingShelf::new(KeepingShelf::new(DirShelf::new(&rt)));
             let mut sink = OutSink::new(&rt);
             let status = run_front(
                 rt.alloc(),
