@@ -70,7 +70,7 @@ def bad_lines(words: str) -> Dict[int, str]:
     """Returns what mcg6 said of each bad line that it skipped, by the number of the line."""
     said: Dict[int, str] = {}
     for message in words.splitlines():
-        found = re.match("mcg6: line ([0-9]+)(: | is: )", message)
+        found = re.match("mcg6: line ([0-9]+)(: | is:? )", message)
         if found:
             line = int(found[1])
             said[line] = f"{said[line]}\n{message}" if line in said else message

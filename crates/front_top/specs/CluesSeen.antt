@@ -8,6 +8,7 @@ use Rattle.front_top.specs.declared.speaking.Clues.{Clues}
 abbrev pub known_by : Clues → Known
 known_by clues = record {
   kept = option_map (λ text. text.now) clues.kept;
+  sizes = clues.sizes;
   reason = clues.reason;
   is_abandoned = clues.is_abandoned;
 }

@@ -4,3 +4,4 @@ pub mod FilesSeen
 pub mod Words
 pub mod CluesSeen
 pub mod Speaks
+pub mod Sizing

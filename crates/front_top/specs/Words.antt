@@ -21,10 +21,12 @@ use Rattle.front_top.specs.Files.{File, file_in}
 abbrev pub program : List ℕ
 program = codes "mcg"
 
--- what is known of the faults of a run: the bytes of the file that was read last, why its last
--- read failed, and that nobody reads the output any more
+-- what is known of the faults of a run: the bytes of the file that was read last, the numbers of the
+-- vertices and of the edges of the graph, why its last read failed, and that nobody reads the output
+-- any more
 pub record Known : Type 0 where
   pub kept : Option (List ℕ)
+  pub sizes : Option (ℕ × ℕ)
   pub reason : Option FailureReason
   pub is_abandoned : Bool
 
@@ -34,9 +36,9 @@ line_kept None line = None
 line_kept (Some text) line = line_at text line
 
 -- of a bad file: which it is, where it is outside its format and how, and the line
-abbrev pub bad_words : Option File → (line : ℕ) → FaultKind → Option (List ℕ) → List ℕ
-bad_words None line kind kept = []
-bad_words (Some file) line kind kept = bad_file_text program file.0 file.1 line kind kept (line_kept kept line)
+abbrev pub bad_words : Option File → (line : ℕ) → FaultKind → (kept : Option (List ℕ)) → (sizes : Option (ℕ × ℕ)) → List ℕ
+bad_words None line kind kept sizes = []
+bad_words (Some file) line kind kept sizes = bad_file_text program file.0 file.1 line kind kept sizes (line_kept kept line)
 
 -- of a file that could not be read: which it is, and why
 abbrev pub unread_words : Option File → Option FailureReason → List ℕ
@@ -46,7 +48,7 @@ unread_words (Some file) reason = unread_text program file.0 reason
 -- of a stop of a command
 abbrev pub stop_words : Option Command → Option Stop → Known → List ℕ
 stop_words command None known = []
-stop_words command (Some (stop.Bad file line kind)) known = bad_words (file_in command file) line kind known.kept
+stop_words command (Some (stop.Bad file line kind)) known = bad_words (file_in command file) line kind known.kept known.sizes
 stop_words command (Some (stop.ReadFault file)) known = unread_words (file_in command file) known.reason
 stop_words command (Some stop.Memory) known = []
 

@@ -8,10 +8,11 @@ ghost use Rattle.front_top.specs.Speaks.{Answers, IsSaid, Speaks};
 ghost use Rattle.front_top.specs.Words.{lost_words, words_of};
 
 use crate::answers::answer_of;
+use crate::sizing::Sizing;
 use crate::speaking::{Clues, say_ending, say_lost};
 use bench_top::{RunEnding, Status, run_ending};
 use front_words::say_bytes;
-use outside::{Keeping, Outlet, Sink, SinkFailed};
+use outside::{Outlet, Sink, SinkFailed};
 use std::alloc::Global;
 
 // Says that the answer could not be written, unless nothing is to be said or nobody reads it.
@@ -69,7 +70,7 @@ fn say_unless_quiet<'a, E: Sink>(
 }
 
 // Runs the words, and then says what the ending means, unless it is to be quiet.
-fn speak<S: Keeping, K: Outlet, E: Sink>(
+fn speak<S: Sizing, K: Outlet, E: Sink>(
     alloc: Global,
     words: &[String],
     is_quiet: bool,
@@ -85,6 +86,7 @@ fn speak<S: Keeping, K: Outlet, E: Sink>(
         E.written E.writes E.faults (map string_bytes words.now) result
         (record {
           kept = S.kept shelf.new;
+          sizes = S.sizes shelf.new;
           reason = S.reason shelf.new;
           is_abandoned = K.is_abandoned sink.new;
         })
@@ -93,6 +95,7 @@ fn speak<S: Keeping, K: Outlet, E: Sink>(
     let ending = run_ending(alloc, words, shelf, sink);
     let clues = Clues {
         kept: shelf.kept(),
+        sizes: shelf.sizes(),
         reason: shelf.reason(),
         is_abandoned: sink.is_abandoned(),
     };
@@ -104,9 +107,10 @@ fn speak<S: Keeping, K: Outlet, E: Sink>(
 /// the ending means, in words, unless it is to be quiet. Words that ask for the usage or the
 /// version are answered on the first sink, and nothing is read.
 ///
-/// The shelf keeps the file that it read last, for the text of a line. A fault of the second sink
+/// The shelf keeps the file that it read last, for the text of a line, and the numbers of the graph,
+/// for the header of a file beside it. A fault of the second sink
 /// changes nothing else.
-pub fn run_front<S: Keeping, K: Outlet, E: Sink>(
+pub fn run_front<S: Sizing, K: Outlet, E: Sink>(
     alloc: Global,
     words: &[String],
     is_quiet: bool,
@@ -138,6 +142,7 @@ pub fn run_front<S: Keeping, K: Outlet, E: Sink>(
         E.written E.writes E.faults (map string_bytes words.now) result
         (record {
           kept = S.kept shelf.new;
+          sizes = S.sizes shelf.new;
           reason = S.reason shelf.new;
           is_abandoned = K.is_abandoned sink.new;
         })

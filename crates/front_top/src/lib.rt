@@ -7,8 +7,8 @@
 //! read. For all other words standard output and status are those of `run`. Main definitions, in
 //! specs/: `answer_of` of `Answers` (what such words are answered), `files_of` of `Files` (what
 //! each named file is read as), and `words_of` of `Words`, what is said of each ending, a
-//! function of the words, the ending, the bytes of the file that was read last, and what the
-//! shelf and the sink know of their faults. Main promises: the clauses of `run_front`.
+//! function of the words, the ending, the bytes of the file that was read last, the numbers of the
+//! graph (`Sizing`), and what the shelf and the sink know of their faults. Main promises: the clauses of `run_front`.
 //!
 //! Stands on `bench_top` for the run, on `front_words` for the words, and on `outside` for the
 //! shelf and the sinks.
@@ -18,7 +18,9 @@ mod answers;
 mod files;
 mod fronting;
 mod laws;
+mod sizing;
 mod speaking;
 
 pub use fronting::run_front;
 pub use laws::table_law;
+pub use sizing::{Sizing, SizingShelf};

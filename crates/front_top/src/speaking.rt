@@ -25,6 +25,8 @@ const PROGRAM: &str = "mcg";
 pub struct Clues<'a> {
     /// The bytes of the file that was read last, if they are kept.
     pub kept: Option<&'a [u8]>,
+    /// The numbers of the vertices and of the edges of the graph, if it was read.
+    pub sizes: Option<(u32, u32)>,
     /// Why the last read failed, if it did.
     pub reason: Option<FailureReason>,
     /// Nobody reads the output any more.
@@ -56,10 +58,11 @@ fn say_bad<'a, E: Sink>(
     line: u32,
     kind: FaultKind,
     kept: Option<&'a [u8]>,
+    sizes: Option<(u32, u32)>,
 ) -> Result<(), SinkFailed>
     ensures { Says E.written E.writes E.faults
         (bad_words (option_map file_seen file.entry) line kind
-        (option_map (λ text. text.now) kept.entry)) result errors.old errors.new }
+        (option_map (λ text. text.now) kept.entry) sizes) result errors.old errors.new }
 {
     match file {
         Some(file) => {
@@ -69,6 +72,7 @@ fn say_bad<'a, E: Sink>(
                 line: line as u64,
                 kind,
                 beginning: kept,
+                sizes,
             };
             say_bad_file(errors, PROGRAM, &bad, line_kept(kept, line))
         }
@@ -114,7 +118,8 @@ fn say_stop<'a, E: Sink>(
 {
     match stop {
         Some(Stop::Bad { file, line, kind }) => {
-            say_bad(errors, file_in(command, file), line, kind, clues.kept)
+            let file = file_in(command, file);
+            say_bad(errors, file, line, kind, clues.kept, clues.sizes)
         }
         Some(Stop::ReadFault { file }) => {
             say_unread_file(errors, file_in(command, file), clues.reason)

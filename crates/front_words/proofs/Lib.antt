@@ -2,3 +2,5 @@ pub mod WritesJoined
 pub mod Sayings
 pub mod ShownBytes
 pub mod SaidPieces
+pub mod OtherShores
+pub mod OpeningNotes

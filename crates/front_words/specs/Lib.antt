@@ -11,3 +11,7 @@ pub mod Messages
 pub mod ListMessages
 pub mod Usage
 pub mod Unmatched
+pub mod Shores
+pub mod Notes
+pub mod Numbers
+pub mod Headers

@@ -12,7 +12,7 @@ use Rattle.outside.specs.Common.{most_line}
 use Rattle.outside.specs.declared.explain.FailureReason.{FailureReason}
 use Rattle.front_words.specs.Faults.{graph6_fault}
 use Rattle.front_words.specs.LinesAt.{line_at}
-use Rattle.front_words.specs.Messages.{line_shown, some_line, unread_noted_text}
+use Rattle.front_words.specs.Messages.{empty_words, line_shown, some_line, unread_noted_text}
 use Rattle.front_words.specs.Openings.{opening_note}
 use Rattle.front_words.specs.Reasons.{reason_words}
 
@@ -34,9 +34,7 @@ is_blank_line text = bytes_eq text (codes "\n") || bytes_eq text (codes "\r\n")
 -- end of the list
 abbrev pub short_line : (text : List ℕ) → List ℕ
 short_line text =
-    if length text == 0 then codes "the list ends before a graph" else
-    if is_blank_line text then codes "it is empty (to_graph6_bytes of NetworkX ends its line already, so print adds an empty one)" else
-    graph6_fault Missing
+    if length text == 0 then codes "the list ends before a graph" else graph6_fault Missing
 
 -- a line of a list that passes a limit
 abbrev pub long_line : (text : List ℕ) → List ℕ
@@ -61,6 +59,14 @@ list_fault BadName text = graph6_fault BadName
 list_fault Padding text = graph6_fault Padding
 list_fault LongForm text = graph6_fault LongForm
 
+-- what joins the number of the line to what is wrong with it
+abbrev pub list_joint : (text : List ℕ) → List ℕ
+list_joint text = if is_blank_line text then codes " " else codes ": "
+
+-- what is wrong with the line: it is empty, or has a fault of that kind
+abbrev pub list_words : FaultKind → (text : List ℕ) → List ℕ
+list_words kind text = if is_blank_line text then empty_words else list_fault kind text
+
 -- the line of a text, without its line feed, unless nothing is in it
 abbrev pub line_kept : (text : List ℕ) → Option (List ℕ)
 line_kept text = some_line (line_at text 1)
@@ -69,4 +75,4 @@ line_kept text = some_line (line_at text 1)
 -- it was kept
 abbrev pub bad_line_text : (program : List ℕ) (number : ℕ) (kind : FaultKind) (text : List ℕ) → List ℕ
 bad_line_text program number kind text =
-    program ++ (codes ": line " ++ (decimal number ++ (codes ": " ++ (list_fault kind text ++ (opening_note text ++ (codes "\n" ++ line_shown program number (line_kept text)))))))
+    program ++ (codes ": line " ++ (decimal number ++ (list_joint text ++ (list_words kind text ++ (opening_note text ++ (codes "\n" ++ line_shown program number (line_kept text)))))))

@@ -22,32 +22,53 @@ coding_note text =
     if opens text (239 ∷ 187 ∷ 191 ∷ []) then codes " (it begins with a byte order mark; save it without one)" else
     if opens text (31 ∷ 139 ∷ []) then codes " (it begins as a file of gzip; zcat reads it)" else []
 
--- a note on a text that begins as another format of graphs than graph6; nothing on others
+-- a note on a text that begins as a format of graphs that is not read here; nothing on others
 abbrev pub format_note : List ℕ → List ℕ
 format_note text =
     if opens text (codes ">>sparse6<<") then codes " (it begins as sparse6; copyg -g makes graph6 of it)" else
     if opens text (codes ":") then codes " (it begins as sparse6; copyg -g makes graph6 of it)" else
-    if opens text (codes ">>digraph6<<") then codes " (it begins as digraph6, which has directed graphs)" else
-    if opens text (codes "&") then codes " (it begins as digraph6, which has directed graphs)" else
-    if opens text (codes ">>planar_code<<") then codes " (it begins as planar_code; plantri -g writes graph6 instead)" else
+    if opens text (codes ">>digraph6<<") then codes " (it begins as digraph6; only undirected graphs are read)" else
+    if opens text (codes "&") then codes " (it begins as digraph6; only undirected graphs are read)" else
+    if opens text (codes ">>planar_code<<") then codes " (it begins as planar_code; plantri -g writes graph6 instead)" else []
+
+-- a note on a text that begins as a graph file, where graph6 is wanted; nothing on others
+abbrev pub graph_file_note : List ℕ → List ℕ
+graph_file_note text =
     if opens text (codes "p mcg") then codes " (it begins as a graph file; mcg6 encode makes graph6 of it)" else
     if opens text (codes "c ") then codes " (it begins as a graph file; mcg6 encode makes graph6 of it)" else []
 
+-- a note on a text that begins as graph6, where a graph file is wanted; nothing on others
+abbrev pub graph6_note : List ℕ → List ℕ
+graph6_note text = if opens text (codes ">>graph6<<") then codes " (it begins as graph6; mcg analyse6 and mcg6 read it)" else []
+
+-- a note on the header of a graph file where a file for one is wanted, with what makes that of it
+abbrev pub beside_note : Role → List ℕ
+beside_note Graph = []
+beside_note Graph6 = []
+beside_note Derivation = codes " (this is a graph file; mcg decompose makes a derivation of one)"
+beside_note Picks = codes " (this is a graph file, which comes first)"
+beside_note Ears = codes " (this is a graph file; mcg ears makes an ear list of one)"
+beside_note Moves = codes " (this is a graph file, which comes first)"
+
+-- the same for the line at fault, if it is known; nothing if it is no such header
+abbrev pub misplaced_note : Role → (line : Option (List ℕ)) → List ℕ
+misplaced_note role None = []
+misplaced_note role (Some line) = if opens line (codes "p mcg") then beside_note role else []
+
 -- a note on a text that begins as a file of another format than graph6; nothing on others
 abbrev pub opening_note : List ℕ → List ℕ
-opening_note text = note_or (coding_note text) (format_note text)
+opening_note text = note_or (coding_note text) (note_or (format_note text) (graph_file_note text))
 
 -- the same for a text that is read so
 abbrev pub role_note : Role → List ℕ → List ℕ
-role_note Graph text = coding_note text
+role_note Graph text = note_or (coding_note text) (note_or (format_note text) (graph6_note text))
 role_note Graph6 text = opening_note text
 role_note Derivation text = coding_note text
 role_note Picks text = coding_note text
 role_note Ears text = coding_note text
 role_note Moves text = coding_note text
 
--- the same for a file that is read so, if its beginning is known; and if there is none to make, the
--- other note
-abbrev pub beginning_note : Role → Option (List ℕ) → (other : List ℕ) → List ℕ
-beginning_note role None other = other
-beginning_note role (Some text) other = note_or (role_note role text) other
+-- the same for a file that is read so, if its beginning is known
+abbrev pub beginning_note : Role → Option (List ℕ) → List ℕ
+beginning_note role None = []
+beginning_note role (Some text) = role_note role text

@@ -1,6 +1,6 @@
 -- What is said of words that match no row of a table: why, and the lines of the command.
 -- Stated by: front_words. Rests on it: front_top, mcg6_front_top.
-use Rattle.std.specs.Prelude.{ℕ, List, [], ◌∷◌, ◌++◌, codes, if◌then◌else◌}
+use Rattle.std.specs.Prelude.{ℕ, ◌||◌, Bool, List, [], ◌∷◌, ◌++◌, codes, if◌then◌else◌}
 use Rattle.std.specs.declared.option.Option.{Option}
 use Rattle.std.specs.declared.option.Option.TheVariants.{None, Some}
 use Rattle.std.specs.Str.{bytes_eq}
@@ -39,7 +39,28 @@ abbrev pub meant_text : (program usage : List ℕ) → List Row → (words : Lis
 meant_text program usage rows words None = usage
 meant_text program usage rows words (Some command) = misuse_text program rows command words
 
--- what is said of the words: why they match no row, and the lines of the command that is meant; and
--- the usage where there are none
+-- the word asks for help
+abbrev pub asks_help : List ℕ → Bool
+asks_help word = bytes_eq word (codes "help") || (bytes_eq word (codes "--help") || bytes_eq word (codes "-h"))
+
+-- the word that asks for help on more than one command, if one does
+abbrev pub help_beyond : List (List ℕ) → Option (List ℕ)
+help_beyond [] = None
+help_beyond (word ∷ []) = None
+help_beyond (word ∷ next ∷ []) = None
+help_beyond (word ∷ next ∷ third ∷ words) = if asks_help word then Some word else None
+
+-- there are too many words behind the one that asks for help
+abbrev pub help_text : (program word : List ℕ) → List ℕ
+help_text program word =
+    program ++ (codes ": too many arguments for " ++ (shown 60 word ++ codes "; it takes at most one command\n"))
+
+-- the same where one asks so, and else the text
+abbrev pub unless_help : Option (List ℕ) → (program text : List ℕ) → List ℕ
+unless_help None program text = text
+unless_help (Some word) program text = help_text program word
+
+-- what is said of the words: that they ask for help on more than one command; or why they match no
+-- row, and the lines of the command that is meant; and the usage where there are none
 abbrev pub unmatched_text : (program usage : List ℕ) → List Row → (words : List (List ℕ)) → List ℕ
-unmatched_text program usage rows words = meant_text program usage rows words (meant words)
+unmatched_text program usage rows words = unless_help (help_beyond words) program (meant_text program usage rows words (meant words))

@@ -76,8 +76,8 @@ pub fn fault_words(role: Role, kind: FaultKind) -> &'static str
     }
 }
 
-// The header of a format, after a fault of it.
-fn header_note(role: Role) -> &'static str
+/// The header of a format, after a fault of it. Takes no memory.
+pub fn header_note(role: Role) -> &'static str
     ensures { result.now ≡ header_note role }
 {
     match role {

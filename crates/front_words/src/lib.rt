@@ -16,19 +16,24 @@
 #![tactic(auto)]
 
 mod faults;
+mod headers;
 mod lines;
 mod list_messages;
 mod messages;
 mod not_text;
+mod notes;
+mod numbers;
 mod openings;
 mod pieces;
 mod reasons;
+mod shores;
 mod showing;
 mod table;
 mod unmatched;
 
 pub use command_table::{all_list_rows, all_rows, list_page, list_usage, page, usage};
 pub use faults::{Role, fault_words, note_words};
+pub use headers::header_sizes;
 pub use lines::line_at;
 pub use list_messages::{say_bad_line, say_unread_list};
 pub use messages::{BadFile, say_bad_file, say_unread};

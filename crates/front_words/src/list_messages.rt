@@ -1,12 +1,12 @@
 //! The messages on lists of graphs.
 ghost use Rattle.std.specs.Prelude.{◌≡◌, None};
 ghost use Rattle.std.specs.Option.{option_map};
-ghost use Rattle.front_words.specs.ListMessages.{bad_line_text, line_kept, list_dash_note, list_fault, long_line, short_line, unread_list_text};
+ghost use Rattle.front_words.specs.ListMessages.{bad_line_text, is_blank_line, line_kept, list_dash_note, list_fault, list_joint, list_words, long_line, short_line, unread_list_text};
 ghost use Rattle.front_words.specs.Saying.{Says};
 
 use crate::faults::{Role, fault_words};
 use crate::lines::line_at;
-use crate::messages::{MOST_OF_LINE, say_unread_noted, some_line};
+use crate::messages::{EMPTY, MOST_OF_LINE, say_unread_noted, some_line};
 use crate::openings::opening_note;
 use crate::pieces::MessagePiece::{Number, Shown, Text};
 use crate::pieces::say;
@@ -63,8 +63,6 @@ fn short_line(text: &[u8]) -> &'static str
 {
     if text.is_empty() {
         "the list ends before a graph"
-    } else if text == b"\n".as_slice() || text == b"\r\n".as_slice() {
-        "it is empty (to_graph6_bytes of NetworkX ends its line already, so print adds an empty one)"
     } else {
         fault_words(Role::Graph6, FaultKind::Missing)
     }
@@ -104,6 +102,31 @@ fn list_fault(kind: FaultKind, text: &[u8]) -> &'static str
     }
 }
 
+// Whether only its line end is left of the line.
+fn is_blank_line(text: &[u8]) -> bool
+    ensures { result ≡ is_blank_line text.now }
+{
+    text == b"\n".as_slice() || text == b"\r\n".as_slice()
+}
+
+// What joins the number of the line to what is wrong with it.
+fn list_joint(text: &[u8]) -> &'static str
+    ensures { result.now ≡ list_joint text.now }
+{
+    if is_blank_line(text) { " " } else { ": " }
+}
+
+// What is wrong with the line: it is empty, or has a fault of that kind.
+fn list_words(kind: FaultKind, text: &[u8]) -> &'static str
+    ensures { result.now ≡ list_words kind text.now }
+{
+    if is_blank_line(text) {
+        EMPTY
+    } else {
+        list_fault(kind, text)
+    }
+}
+
 // The line of this text, without its line feed, unless nothing is in it.
 fn line_kept(text: &[u8]) -> Option<&[u8]>
     ensures { option_map (λ line. line.now) result ≡ line_kept text.now }
@@ -126,7 +149,8 @@ pub fn say_bad_line<'a, K: Sink>(
 {
     let by = Text(program);
     let line = Number(number);
-    let what = Text(list_fault(kind, text));
+    let joint = Text(list_joint(text));
+    let what = Text(list_words(kind, text));
     let opening = Text(opening_note(text));
     let end = Text("\n");
     match line_kept(text) {
@@ -138,7 +162,7 @@ pub fn say_bad_line<'a, K: Sink>(
                     by,
                     Text(": line "),
                     line,
-                    Text(": "),
+                    joint,
                     what,
                     opening,
                     end,
@@ -153,7 +177,7 @@ pub fn say_bad_line<'a, K: Sink>(
         }
         None => say(
             sink,
-            &[by, Text(": line "), line, Text(": "), what, opening, end],
+            &[by, Text(": line "), line, joint, what, opening, end],
         ),
     }
 }

@@ -1,11 +1,13 @@
 //! The messages.
-ghost use Rattle.std.specs.Prelude.{◌≡◌};
+ghost use Rattle.std.specs.Prelude.{◌≡◌, ◌++◌};
 ghost use Rattle.std.specs.Option.{option_map};
-ghost use Rattle.front_words.specs.Messages.{bad_file_text, dash_note, fault_text, file_note, outside_text, some_line, too_long_text, unread_noted_text, unread_text};
+ghost use Rattle.front_words.specs.Messages.{bad_file_text, dash_note, empty_line, empty_line_in, empty_line_text, fault_text, is_empty_line, line_shown, outside_text, rest_text, some_line, too_long_text, unread_noted_text, unread_text, what_text};
+ghost use Rattle.front_words.specs.Notes.{file_note};
 ghost use Rattle.front_words.specs.Saying.{Says};
 
-use crate::faults::{Role, fault_words, note_words};
-use crate::openings::beginning_note;
+use crate::faults::{Role, fault_words};
+use crate::lines::line_at;
+use crate::notes::say_note;
 use crate::pieces::MessagePiece::{Number, Shown, Text};
 use crate::pieces::say;
 use crate::reasons::reason_words;
@@ -17,6 +19,10 @@ const MOST_OF_NAME: u32 = 4096;
 
 /// The most bytes of a line that are shown.
 pub const MOST_OF_LINE: u32 = 60;
+
+/// That a line is empty, and how that comes about.
+pub const EMPTY: &str =
+    "is empty (to_graph6_bytes of NetworkX ends its line already, so print adds an empty one)";
 
 /// A file that is outside its format.
 #[derive(Clone, Copy, Drop)]
@@ -31,16 +37,8 @@ pub struct BadFile<'a> {
     pub kind: FaultKind,
     /// The bytes of the file, or some with which it begins, if they are known.
     pub beginning: Option<&'a [u8]>,
-}
-
-impl BadFile<'_> {
-    // What is added to the words of the fault.
-    fn note(&self) -> &'static str
-        ensures { result.now ≡ file_note self.now.role self.now.kind
-            (option_map (λ text. text.now) self.now.beginning) }
-    {
-        beginning_note(self.role, self.beginning, note_words(self.role, self.kind))
-    }
+    /// The numbers of the vertices and of the edges of the graph that it is for, if they are known.
+    pub sizes: Option<(u32, u32)>,
 }
 
 // What is added where a dash is to stand for standard input.
@@ -118,43 +116,155 @@ pub fn some_line(text: Option<&[u8]>) -> Option<&[u8]>
     }
 }
 
-// Says what is wrong in which line, and the line itself.
-fn say_with_line<'a, K: Sink>(
+// Whether the line, if there is one, has no bytes but a carriage return.
+fn is_empty_line(line: Option<&[u8]>) -> bool
+    ensures { result ≡ is_empty_line (option_map (λ line. line.now) line.entry) }
+{
+    match line {
+        Some(line) => line == b"".as_slice() || line == b"\r".as_slice(),
+        None => false,
+    }
+}
+
+// The first empty line of a text, if it is its first or its second.
+fn empty_line(text: &[u8]) -> Option<u32>
+    ensures { result ≡ empty_line text.now }
+{
+    if is_empty_line(line_at(text, 1)) {
+        Some(1)
+    } else if is_empty_line(line_at(text, 2)) {
+        Some(2)
+    } else {
+        None
+    }
+}
+
+// The same where an empty line is a fault: in a graph6 text.
+fn empty_line_in(role: Role, beginning: Option<&[u8]>) -> Option<u32>
+    ensures { result ≡ empty_line_in role (option_map (λ text. text.now) beginning.entry) }
+{
+    match role {
+        Role::Graph6 => match beginning {
+            Some(text) => empty_line(text),
+            None => None,
+        },
+        Role::Graph | Role::Derivation | Role::Picks | Role::Ears | Role::Moves => None,
+    }
+}
+
+// Says that the line with that number is empty.
+fn say_empty_line<'a, K: Sink>(
     sink: &mut K,
     program: &'a str,
-    bad: &'a BadFile<'a>,
-    text: &'a [u8],
+    name: &'a str,
+    line: u32,
 ) -> Result<(), SinkFailed>
-    ensures { Says K.written K.writes K.faults
-        (fault_text program.now bad.now.name.now bad.now.role bad.now.line bad.now.kind
-        (option_map (λ text. text.now) bad.now.beginning) (Some text.now)) result sink.old sink.new }
+    ensures { Says K.written K.writes K.faults (empty_line_text program.now name.now line) result
+        sink.old sink.new }
 {
-    let by = Text(program);
-    let line = Number(bad.line);
-    let end = Text("\n");
     say(
         sink,
         &[
-            by,
+            Text(program),
             Text(": "),
-            Shown(bad.name.as_bytes(), MOST_OF_NAME),
+            Shown(name.as_bytes(), MOST_OF_NAME),
             Text(", line "),
-            line,
-            Text(": "),
-            Text(fault_words(bad.role, bad.kind)),
-            Text(bad.note()),
-            end,
-            by,
-            Text(": line "),
-            line,
-            Text(" is: "),
-            Shown(text, MOST_OF_LINE),
-            end,
+            Number(line as u64),
+            Text(" "),
+            Text(EMPTY),
+            Text("\n"),
         ],
     )
 }
 
-// Says what is wrong in which line, and the line, if it is known.
+// Says which file it is, and what is wrong in which line.
+fn say_what<'a, K: Sink>(
+    sink: &mut K,
+    program: &'a str,
+    bad: &'a BadFile<'a>,
+) -> Result<(), SinkFailed>
+    ensures { Says K.written K.writes K.faults
+        (what_text program.now bad.now.name.now bad.now.role bad.now.line bad.now.kind) result
+        sink.old sink.new }
+{
+    say(
+        sink,
+        &[
+            Text(program),
+            Text(": "),
+            Shown(bad.name.as_bytes(), MOST_OF_NAME),
+            Text(", line "),
+            Number(bad.line),
+            Text(": "),
+            Text(fault_words(bad.role, bad.kind)),
+        ],
+    )
+}
+
+// Says the end of the line of a message, and the text of the line at fault, if there is one to show.
+fn say_rest<'a, K: Sink>(
+    sink: &mut K,
+    program: &'a str,
+    line: u64,
+    text: Option<&'a [u8]>,
+) -> Result<(), SinkFailed>
+    ensures { Says K.written K.writes K.faults
+        (rest_text program.now line (option_map (λ line. line.now) text.entry)) result sink.old
+        sink.new }
+{
+    let end = Text("\n");
+    match text {
+        Some(text) => {
+            let shown = Shown(text, MOST_OF_LINE);
+            let by = Text(program);
+            let line = Number(line);
+            say(
+                sink,
+                &[end, by, Text(": line "), line, Text(" is: "), shown, end],
+            )
+        }
+        None => say(sink, &[end]),
+    }
+}
+
+// Says the note on a fault, and the rest of the message.
+fn say_noted<'a, K: Sink>(
+    sink: &mut K,
+    program: &'a str,
+    bad: &'a BadFile<'a>,
+    text: Option<&'a [u8]>,
+) -> Result<(), SinkFailed>
+    ensures { Says K.written K.writes K.faults
+        (file_note bad.now.role bad.now.kind (option_map (λ text. text.now) bad.now.beginning)
+        bad.now.sizes (option_map (λ line. line.now) text.entry)
+        ++ rest_text program.now bad.now.line (option_map (λ line. line.now) text.entry)) result
+        sink.old sink.new }
+{
+    match say_note(sink, bad.role, bad.kind, bad.beginning, bad.sizes, text) {
+        Ok(()) => say_rest(sink, program, bad.line, text),
+        Err(failed) => Err(failed),
+    }
+}
+
+// Says what is wrong in which line, and the line, if there is one to show.
+fn say_fault<'a, K: Sink>(
+    sink: &mut K,
+    program: &'a str,
+    bad: &'a BadFile<'a>,
+    text: Option<&'a [u8]>,
+) -> Result<(), SinkFailed>
+    ensures { Says K.written K.writes K.faults
+        (fault_text program.now bad.now.name.now bad.now.role bad.now.line bad.now.kind
+        (option_map (λ text. text.now) bad.now.beginning) bad.now.sizes
+        (option_map (λ line. line.now) text.entry)) result sink.old sink.new }
+{
+    match say_what(sink, program, bad) {
+        Ok(()) => say_noted(sink, program, bad, text),
+        Err(failed) => Err(failed),
+    }
+}
+
+// Says what is wrong in which line, and the line, if it is known and is not empty.
 fn say_outside<'a, K: Sink>(
     sink: &mut K,
     program: &'a str,
@@ -163,25 +273,12 @@ fn say_outside<'a, K: Sink>(
 ) -> Result<(), SinkFailed>
     ensures { Says K.written K.writes K.faults
         (outside_text program.now bad.now.name.now bad.now.role bad.now.line bad.now.kind
-        (option_map (λ text. text.now) bad.now.beginning)
+        (option_map (λ text. text.now) bad.now.beginning) bad.now.sizes
         (option_map (λ line. line.now) text.entry)) result sink.old sink.new }
 {
-    match some_line(text) {
-        Some(text) => say_with_line(sink, program, bad, text),
-        None => say(
-            sink,
-            &[
-                Text(program),
-                Text(": "),
-                Shown(bad.name.as_bytes(), MOST_OF_NAME),
-                Text(", line "),
-                Number(bad.line),
-                Text(": "),
-                Text(fault_words(bad.role, bad.kind)),
-                Text(bad.note()),
-                Text("\n"),
-            ],
-        ),
+    match empty_line_in(bad.role, bad.beginning) {
+        Some(line) => say_empty_line(sink, program, bad.name, line),
+        None => say_fault(sink, program, bad, some_line(text)),
     }
 }
 
@@ -195,7 +292,7 @@ pub fn say_bad_file<'a, K: Sink>(
 ) -> Result<(), SinkFailed>
     ensures { Says K.written K.writes K.faults
         (bad_file_text program.now bad.now.name.now bad.now.role bad.now.line bad.now.kind
-        (option_map (λ text. text.now) bad.now.beginning)
+        (option_map (λ text. text.now) bad.now.beginning) bad.now.sizes
         (option_map (λ line. line.now) text.entry)) result sink.old sink.new }
 {
     if bad.line == 0 {

@@ -1,7 +1,7 @@
 //! What a text is that does not begin as it should.
 ghost use Rattle.std.specs.Prelude.{◌≡◌};
 ghost use Rattle.std.specs.Option.{option_map};
-ghost use Rattle.front_words.specs.Openings.{beginning_note, coding_note, format_note, note_or, opening_note, role_note};
+ghost use Rattle.front_words.specs.Openings.{beginning_note, beside_note, coding_note, format_note, graph6_note, graph_file_note, misplaced_note, note_or, opening_note, role_note};
 
 use crate::faults::Role;
 
@@ -25,7 +25,7 @@ fn coding_note(text: &[u8]) -> &'static str
     }
 }
 
-// A note on a text that begins as another format of graphs than graph6; nothing on others.
+// A note on a text that begins as a format of graphs that is not read here; nothing on others.
 fn format_note(text: &[u8]) -> &'static str
     ensures { result.now ≡ format_note text.now }
 {
@@ -34,12 +34,21 @@ fn format_note(text: &[u8]) -> &'static str
     } else if text.starts_with(b":") {
         " (it begins as sparse6; copyg -g makes graph6 of it)"
     } else if text.starts_with(b">>digraph6<<") {
-        " (it begins as digraph6, which has directed graphs)"
+        " (it begins as digraph6; only undirected graphs are read)"
     } else if text.starts_with(b"&") {
-        " (it begins as digraph6, which has directed graphs)"
+        " (it begins as digraph6; only undirected graphs are read)"
     } else if text.starts_with(b">>planar_code<<") {
         " (it begins as planar_code; plantri -g writes graph6 instead)"
-    } else if text.starts_with(b"p mcg") {
+    } else {
+        ""
+    }
+}
+
+// A note on a text that begins as a graph file, where graph6 is wanted; nothing on others.
+fn graph_file_note(text: &[u8]) -> &'static str
+    ensures { result.now ≡ graph_file_note text.now }
+{
+    if text.starts_with(b"p mcg") {
         " (it begins as a graph file; mcg6 encode makes graph6 of it)"
     } else if text.starts_with(b"c ") {
         " (it begins as a graph file; mcg6 encode makes graph6 of it)"
@@ -48,12 +57,49 @@ fn format_note(text: &[u8]) -> &'static str
     }
 }
 
+// A note on a text that begins as graph6, where a graph file is wanted; nothing on others.
+fn graph6_note(text: &[u8]) -> &'static str
+    ensures { result.now ≡ graph6_note text.now }
+{
+    if text.starts_with(b">>graph6<<") {
+        " (it begins as graph6; mcg analyse6 and mcg6 read it)"
+    } else {
+        ""
+    }
+}
+
+// A note on the header of a graph file where a file for one is wanted, with what makes that of it.
+fn beside_note(role: Role) -> &'static str
+    ensures { result.now ≡ beside_note role }
+{
+    match role {
+        Role::Graph | Role::Graph6 => "",
+        Role::Derivation => " (this is a graph file; mcg decompose makes a derivation of one)",
+        Role::Ears => " (this is a graph file; mcg ears makes an ear list of one)",
+        Role::Picks | Role::Moves => " (this is a graph file, which comes first)",
+    }
+}
+
+/// The same for the line at fault, if it is known; nothing if it is no such header. Takes no
+/// memory.
+pub fn misplaced_note(role: Role, line: Option<&[u8]>) -> &'static str
+    ensures { result.now ≡ misplaced_note role (option_map (λ line. line.now) line.entry) }
+{
+    match line {
+        Some(line) if line.starts_with(b"p mcg") => beside_note(role),
+        _ => "",
+    }
+}
+
 /// A note on a text that begins as a file of another format than graph6, with what reads that;
 /// nothing on others. Takes no memory.
 pub fn opening_note(text: &[u8]) -> &'static str
     ensures { result.now ≡ opening_note text.now }
 {
-    note_or(coding_note(text), format_note(text))
+    note_or(
+        coding_note(text),
+        note_or(format_note(text), graph_file_note(text)),
+    )
 }
 
 // The same for a text that is read so.
@@ -61,21 +107,21 @@ fn role_note(role: Role, text: &[u8]) -> &'static str
     ensures { result.now ≡ role_note role text.now }
 {
     match role {
+        Role::Graph => note_or(
+            coding_note(text),
+            note_or(format_note(text), graph6_note(text)),
+        ),
         Role::Graph6 => opening_note(text),
-        Role::Graph | Role::Derivation | Role::Picks | Role::Ears | Role::Moves => {
-            coding_note(text)
-        }
+        Role::Derivation | Role::Picks | Role::Ears | Role::Moves => coding_note(text),
     }
 }
 
-/// The same for a file that is read so, if its beginning is known; and if there is none to make,
-/// the other note. Takes no memory.
-pub fn beginning_note(role: Role, beginning: Option<&[u8]>, other: &'static str) -> &'static str
-    ensures { result.now ≡
-        beginning_note role (option_map (λ text. text.now) beginning.entry) other.now }
+/// The same for a file that is read so, if its beginning is known. Takes no memory.
+pub fn beginning_note(role: Role, beginning: Option<&[u8]>) -> &'static str
+    ensures { result.now ≡ beginning_note role (option_map (λ text. text.now) beginning.entry) }
 {
     match beginning {
-        Some(text) => note_or(role_note(role, text), other),
-        None => other,
+        Some(text) => role_note(role, text),
+        None => "",
     }
 }

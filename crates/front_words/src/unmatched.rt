@@ -5,7 +5,7 @@ ghost use Rattle.command_table.specs.Pages.{command_line, command_lines};
 ghost use Rattle.command_table.specs.Reasons.{reason_seen};
 ghost use Rattle.command_table.specs.RowsSeen.{row_seen};
 ghost use Rattle.front_words.specs.Saying.{Says};
-ghost use Rattle.front_words.specs.Unmatched.{meant, misuse_text, reason_text, some_reason_text, unmatched_text};
+ghost use Rattle.front_words.specs.Unmatched.{asks_help, help_beyond, help_text, meant, meant_text, misuse_text, reason_text, some_reason_text, unmatched_text};
 
 use crate::pieces::MessagePiece::{Shown, Text};
 use crate::pieces::say;
@@ -131,6 +131,65 @@ fn meant(words: &[String]) -> Option<&str>
     }
 }
 
+// Says what is wrong with the words of this command, and the usage if there is none.
+fn say_meant<'a, K: Sink>(
+    sink: &mut K,
+    program: &'a str,
+    usage: &'a str,
+    rows: &'a [Row],
+    words: &'a [String],
+) -> Result<(), SinkFailed>
+    ensures { Says K.written K.writes K.faults
+        (meant_text program.now usage.now (map row_seen rows.now) (map string_bytes words.now)
+        (meant (map string_bytes words.now))) result sink.old sink.new }
+{
+    match meant(words) {
+        Some(command) => say_misuse(sink, program, rows, command, words),
+        None => say_bytes(sink, usage.as_bytes()),
+    }
+}
+
+// Whether the word asks for help.
+fn asks_help(word: &str) -> bool
+    ensures { result ≡ asks_help word.now }
+{
+    word == "help" || (word == "--help" || word == "-h")
+}
+
+// The word that asks for help on more than one command, if one does.
+fn help_beyond(words: &[String]) -> Option<&str>
+    ensures { option_map (λ word. word.now) result ≡ help_beyond (map string_bytes words.now) }
+{
+    match words {
+        [] => None,
+        [_] => None,
+        [_, _] => None,
+        [word, _, _, ..] => {
+            if asks_help(word.as_str()) {
+                Some(word.as_str())
+            } else {
+                None
+            }
+        }
+    }
+}
+
+// Says that there are too many words behind the one that asks for help.
+fn say_help<'a, K: Sink>(sink: &mut K, program: &'a str, word: &'a str) -> Result<(), SinkFailed>
+    ensures { Says K.written K.writes K.faults (help_text program.now word.now) result sink.old
+        sink.new }
+{
+    say(
+        sink,
+        &[
+            Text(program),
+            Text(": too many arguments for "),
+            Shown(word.as_bytes(), MOST_OF_COMMAND),
+            Text("; it takes at most one command\n"),
+        ],
+    )
+}
+
 /// Says why words match no row of the table of a program, and the lines of the command that is
 /// meant; and the usage where there are no words. Takes no memory.
 pub fn say_unmatched<'a, K: Sink>(
@@ -144,8 +203,8 @@ pub fn say_unmatched<'a, K: Sink>(
         (unmatched_text program.now usage.now (map row_seen rows.now) (map string_bytes words.now))
         result sink.old sink.new }
 {
-    match meant(words) {
-        Some(command) => say_misuse(sink, program, rows, command, words),
-        None => say_bytes(sink, usage.as_bytes()),
+    match help_beyond(words) {
+        Some(word) => say_help(sink, program, word),
+        None => say_meant(sink, program, usage, rows, words),
     }
 }

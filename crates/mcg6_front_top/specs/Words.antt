@@ -54,7 +54,7 @@ beginning_of number text = if number == 1 then Some text else None
 
 -- of a bad graph file: its name, where it is outside the format and how, and the line
 abbrev pub bad_graph_words : (name : List ℕ) → BadLine → List ℕ
-bad_graph_words name found = bad_file_text program name Graph found.number found.kind (beginning_of found.number found.text.items) (Some found.text.items)
+bad_graph_words name found = bad_file_text program name Graph found.number found.kind (beginning_of found.number found.text.items) None (Some found.text.items)
 
 -- what is said of the graph file of that name, whose encoding ended so; nothing where its graph6
 -- text was written

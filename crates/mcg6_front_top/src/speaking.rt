@@ -110,6 +110,7 @@ fn say_bad_graph<E: Sink>(errors: &mut E, name: &str, found: &BadLine) -> Result
         line: found.number,
         kind: found.kind,
         beginning: beginning_of(found.number, text),
+        sizes: None,
     };
     say_bad_file(errors, PROGRAM, &bad, Some(text))
 }

@@ -2,14 +2,15 @@
 //! `front_top::run_front`, whose report goes to standard output, whose words for a person go to
 //! standard error, and whose status becomes the exit status.
 //!
-//! Files are read by `DirShelf` through a `KeepingShelf`, standard output is written by `OutSink`
-//! and standard error by `LineSink`. `MCG_QUIET=1` in the environment turns the words off. If
-//! the words cannot be read, nothing is written to standard output: the exit status is 6 for lack of
-//! memory, and 7, which no status has, for a word that is not UTF-8, which is then shown.
+//! Files are read by `DirShelf` through a `KeepingShelf` and a `SizingShelf`, standard output is
+//! written by `OutSink` and standard error by `LineSink`. `MCG_QUIET=1` in the environment turns the
+//! words off. If the words cannot be read, nothing is written to standard output: the exit status is
+//! 6 for lack of memory, and 7, which no status has, for a word that is not UTF-8, which is then
+//! shown.
 #![tactic(auto)]
 
 use arguments::{Refusal, read_arguments};
-use front_top::run_front;
+use front_top::{SizingShelf, run_front};
 use front_words::say_not_text;
 use outside::{DirShelf, KeepingShelf, LineSink, OutSink, Sink, emit};
 use std::env;
@@ -38,7 +39,7 @@ fn main(rt: HostRuntime) -> ExitCode {
     let quiet = is_quiet(&rt);
     match read_arguments(&rt, rt.alloc()) {
         Ok(words) => {
-            let mut shelf = KeepingShelf::new(DirShelf::new(&rt));
+            let mut shelf = SizingShelf::new(KeepingShelf::new(DirShelf::new(&rt)));
             let mut sink = OutSink::new(&rt);
             let status = run_front(
                 rt.alloc(),

@@ -1,0 +1,38 @@
+-- The numbers in the header of a graph file.
+-- Stated by: front_words. Rests on it: front_top.
+use Rattle.std.specs.Prelude.{ℕ, ◌+◌, ◌==◌, List, [], ◌∷◌, fold, length, nat_eq, nat_le, codes, if◌then◌else◌}
+use Rattle.std.specs.List.{starts_with}
+use Rattle.std.specs.declared.option.Option.{Option}
+use Rattle.std.specs.declared.option.Option.TheVariants.{None, Some}
+use Rattle.line_text.specs.Common.{lines_of}
+use Rattle.front_words.specs.Numbers.{number_in, pieces_of}
+
+-- what is known of a header after some of its words: how many they are, at most 4, and the numbers
+-- that the third and the fourth write
+abbrev pub HeaderSoFar : Type 0
+HeaderSoFar = ℕ × ℕ × ℕ
+
+-- the same after one more word
+abbrev pub with_word : HeaderSoFar → (word : List ℕ) → HeaderSoFar
+with_word so_far word =
+    if length word == 0 then so_far else
+    if nat_le 4 so_far.0 then so_far else
+    if so_far.0 == 3 then (4, so_far.1, number_in word) else
+    if so_far.0 == 2 then (3, number_in word, so_far.2) else (so_far.0 + 1, so_far.1, so_far.2)
+
+-- a header
+unfoldable pub header_so_far : (line : List ℕ) → HeaderSoFar
+header_so_far line = fold with_word (0, 0, 0) (pieces_of line)
+
+-- the numbers in the header `p mcg N M`
+abbrev pub sizes_in : (line : List ℕ) → ℕ × ℕ
+sizes_in line = ((header_so_far line).1, (header_so_far line).2)
+
+-- those in the first header among these lines, if there is one
+abbrev pub first_sizes : (lines : List (List ℕ)) → Option (ℕ × ℕ)
+first_sizes [] = None
+first_sizes (line ∷ lines) = if starts_with nat_eq line (codes "p ") then Some (sizes_in line) else first_sizes lines
+
+-- those of a text
+abbrev pub header_sizes : (text : List ℕ) → Option (ℕ × ℕ)
+header_sizes text = first_sizes (lines_of text)

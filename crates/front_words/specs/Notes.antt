@@ -1,0 +1,50 @@
+-- What is added to the words of a fault: what the file is that begins so, the header that is due, the
+-- limits, what else reads such a file, or what to write instead.
+-- Stated by: front_words.
+use Rattle.std.specs.Prelude.{ℕ, List, ◌++◌, codes}
+use Rattle.std.specs.Fmt.{decimal}
+use Rattle.std.specs.declared.option.Option.{Option}
+use Rattle.std.specs.declared.option.Option.TheVariants.{None, Some}
+use Rattle.line_text.specs.declared.faults.FaultKind.{FaultKind}
+use Rattle.line_text.specs.declared.faults.FaultKind.TheVariants.{Header, Word, Number, Range, Loop, Limit, Missing, Extra, NotRising, HasGreatest, Unnamed, SameName, BadName, Padding, LongForm}
+use Rattle.front_words.specs.declared.faults.Role.{Role}
+use Rattle.front_words.specs.declared.faults.Role.TheVariants.{Graph, Graph6, Derivation, Picks, Ears, Moves}
+use Rattle.front_words.specs.Faults.{header_note, note_words}
+use Rattle.front_words.specs.Openings.{beginning_note, misplaced_note, note_or}
+use Rattle.front_words.specs.Shores.{shore_note}
+
+-- the header that is due in a file for a graph with these numbers of vertices and of edges
+abbrev pub due_note : Role → (sizes : ℕ × ℕ) → List ℕ
+due_note Graph sizes = header_note Graph
+due_note Graph6 sizes = header_note Graph6
+due_note Derivation sizes = codes " (here t mcg " ++ (decimal sizes.0 ++ codes ")")
+due_note Picks sizes = header_note Picks
+due_note Ears sizes = codes " (here r mcg " ++ (decimal sizes.0 ++ (codes " " ++ (decimal sizes.1 ++ codes ")")))
+due_note Moves sizes = codes " (here m mcg " ++ (decimal sizes.0 ++ codes ")")
+
+-- the same, if these numbers are known; and else the header of the format
+abbrev pub header_text : Role → (sizes : Option (ℕ × ℕ)) → List ℕ
+header_text role None = header_note role
+header_text role (Some sizes) = due_note role sizes
+
+-- what is added for the kind; the text is that of the line, if it is known
+abbrev pub kind_note : Role → FaultKind → (sizes : Option (ℕ × ℕ)) → (text : Option (List ℕ)) → List ℕ
+kind_note role Header sizes text = note_or (misplaced_note role text) (header_text role sizes)
+kind_note role Word sizes text = note_words role Word
+kind_note role Number sizes text = note_words role Number
+kind_note role Range sizes text = note_words role Range
+kind_note role Loop sizes text = note_words role Loop
+kind_note role Limit sizes text = note_words role Limit
+kind_note role Missing sizes text = note_words role Missing
+kind_note role Extra sizes text = note_words role Extra
+kind_note role NotRising sizes text = note_words role NotRising
+kind_note role HasGreatest sizes text = shore_note text
+kind_note role Unnamed sizes text = note_words role Unnamed
+kind_note role SameName sizes text = note_words role SameName
+kind_note role BadName sizes text = note_words role BadName
+kind_note role Padding sizes text = note_words role Padding
+kind_note role LongForm sizes text = note_words role LongForm
+
+-- what the file is that begins so, or else the note for the kind
+abbrev pub file_note : Role → FaultKind → (beginning : Option (List ℕ)) → (sizes : Option (ℕ × ℕ)) → (text : Option (List ℕ)) → List ℕ
+file_note role kind beginning sizes text = note_or (beginning_note role beginning) (kind_note role kind sizes text)

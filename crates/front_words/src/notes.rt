@@ -1,0 +1,126 @@
+//! What is added to the words of a fault.
+ghost use Rattle.std.specs.Prelude.{◌≡◌};
+ghost use Rattle.std.specs.Option.{option_map};
+ghost use Rattle.front_words.specs.Notes.{due_note, file_note, header_text, kind_note};
+ghost use Rattle.front_words.specs.Openings.{misplaced_note, note_or};
+ghost use Rattle.front_words.specs.Saying.{Says};
+
+use crate::faults::{Role, header_note, note_words};
+use crate::openings::{beginning_note, misplaced_note};
+use crate::pieces::MessagePiece::{Number, Text};
+use crate::pieces::say;
+use crate::shores::say_shore_note;
+use crate::showing::say_bytes;
+use line_text::FaultKind;
+use outside::{Sink, SinkFailed};
+
+// Says the header that is due in a file for a graph with these numbers of vertices and of edges.
+fn say_due<K: Sink>(sink: &mut K, role: Role, sizes: (u32, u32)) -> Result<(), SinkFailed>
+    ensures { Says K.written K.writes K.faults (due_note role sizes) result sink.old sink.new }
+{
+    let (order, size) = sizes;
+    let order = Number(order as u64);
+    let end = Text(")");
+    match role {
+        Role::Derivation => say(sink, &[Text(" (here t mcg "), order, end]),
+        Role::Ears => say(
+            sink,
+            &[
+                Text(" (here r mcg "),
+                order,
+                Text(" "),
+                Number(size as u64),
+                end,
+            ],
+        ),
+        Role::Moves => say(sink, &[Text(" (here m mcg "), order, end]),
+        Role::Graph | Role::Graph6 | Role::Picks => say_bytes(sink, header_note(role).as_bytes()),
+    }
+}
+
+// The same, if these numbers are known; and else the header of the format.
+fn say_header<K: Sink>(
+    sink: &mut K,
+    role: Role,
+    sizes: Option<(u32, u32)>,
+) -> Result<(), SinkFailed>
+    ensures { Says K.written K.writes K.faults (header_text role sizes) result sink.old sink.new }
+{
+    match sizes {
+        Some(sizes) => say_due(sink, role, sizes),
+        None => say_bytes(sink, header_note(role).as_bytes()),
+    }
+}
+
+// Says of the line at fault that it is the header of a graph file, or else the header that is due.
+fn say_header_note<K: Sink>(
+    sink: &mut K,
+    role: Role,
+    sizes: Option<(u32, u32)>,
+    text: Option<&[u8]>,
+) -> Result<(), SinkFailed>
+    ensures { Says K.written K.writes K.faults
+        (note_or (misplaced_note role (option_map (λ line. line.now) text.entry))
+        (header_text role sizes)) result sink.old sink.new }
+{
+    let misplaced = misplaced_note(role, text);
+    if misplaced.is_empty() {
+        say_header(sink, role, sizes)
+    } else {
+        say_bytes(sink, misplaced.as_bytes())
+    }
+}
+
+// Says what is added for the kind.
+fn say_kind_note<K: Sink>(
+    sink: &mut K,
+    role: Role,
+    kind: FaultKind,
+    sizes: Option<(u32, u32)>,
+    text: Option<&[u8]>,
+) -> Result<(), SinkFailed>
+    ensures { Says K.written K.writes K.faults
+        (kind_note role kind sizes (option_map (λ line. line.now) text.entry)) result sink.old
+        sink.new }
+{
+    match kind {
+        FaultKind::Header => say_header_note(sink, role, sizes, text),
+        FaultKind::HasGreatest => say_shore_note(sink, text),
+        FaultKind::Word
+        | FaultKind::Number
+        | FaultKind::Range
+        | FaultKind::Loop
+        | FaultKind::Limit
+        | FaultKind::Missing
+        | FaultKind::Extra
+        | FaultKind::NotRising
+        | FaultKind::Unnamed
+        | FaultKind::SameName
+        | FaultKind::BadName
+        | FaultKind::Padding
+        | FaultKind::LongForm => say_bytes(sink, note_words(role, kind).as_bytes()),
+    }
+}
+
+/// Says what a file is that begins so, or if there is nothing to say what is added for the kind of
+/// its fault. The numbers are those of the vertices and the edges of the graph that the file is for,
+/// and the text is that of the line, if they are known. Takes no memory.
+pub fn say_note<K: Sink>(
+    sink: &mut K,
+    role: Role,
+    kind: FaultKind,
+    beginning: Option<&[u8]>,
+    sizes: Option<(u32, u32)>,
+    text: Option<&[u8]>,
+) -> Result<(), SinkFailed>
+    ensures { Says K.written K.writes K.faults
+        (file_note role kind (option_map (λ text. text.now) beginning.entry) sizes
+        (option_map (λ line. line.now) text.entry)) result sink.old sink.new }
+{
+    let opening = beginning_note(role, beginning);
+    if opening.is_empty() {
+        say_kind_note(sink, role, kind, sizes, text)
+    } else {
+        say_bytes(sink, opening.as_bytes())
+    }
+}
