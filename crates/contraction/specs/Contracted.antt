@@ -1,6 +1,6 @@
 -- The quotient of a graph at a partition as contracts see it: the quotient graph, the blocks that
 -- are its vertices, and for each of its edges the edges of the graph between the two blocks.
--- Stated by: contraction, report_text.
+-- Stated by: contraction.
 use Rattle.std.specs.Prelude.{◌≡◌, ℕ, List, map}
 use Rattle.graph_core.specs.Common.{Graph, size, IsPartition, edges_between, quotient, IsWithinLimits}
 
