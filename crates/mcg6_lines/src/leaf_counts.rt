@@ -5,9 +5,7 @@ ghost use Rattle.tight_cuts.specs.Common.{candidates, first_shore};
 ghost use Rattle.tree_core.specs.Common.{IsDerivation, leaves, place_of, shape_of};
 ghost use Rattle.mcg6_lines.specs.Standings.{IsCounted};
 
-use decomposer::{
-    Decomposition, NamedOrder, decompose_places, decompose_places_from_first, tally,
-};
+use decomposer::{Decomposition, NamedOrder, decompose_places, decompose_places_from_first, tally};
 use graph_core::Kind;
 use graph_facts::Covered;
 use std::alloc::{AllocError as Memory, Global};

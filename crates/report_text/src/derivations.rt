@@ -127,7 +127,15 @@ fn push_place(
 {
     let q = leaf.quotient(alloc)?;
     let place = leaf.place();
-    push_leaf(alloc, text, number, kind, place.graph(), place.partition(), q.graph())
+    push_leaf(
+        alloc,
+        text,
+        number,
+        kind,
+        place.graph(),
+        place.partition(),
+        q.graph(),
+    )
 }
 
 // The lines of the leaves at these partitions, and their kinds.
@@ -242,11 +250,7 @@ pub fn derivation(
 /// The report that `derivation` writes, of leaves that are places of one graph: their kinds and
 /// their quotients are at hand.
 #[tactic(auto, unfolding(crate::specs::Derivations::derivation_text))]
-pub fn derivation_at(
-    alloc: Global,
-    text: &[u8],
-    leaves: &[KnownPlace],
-) -> Result<Vec<u8>, Memory>
+pub fn derivation_at(alloc: Global, text: &[u8], leaves: &[KnownPlace]) -> Result<Vec<u8>, Memory>
     requires places { (g : Graph) × (ps : List (List (List ℕ))) ×
         (leaves.now ≡ map (place_of g) ps) }
     requires few { length leaves.now < 2 ^ 32 }
