@@ -1,33 +1,16 @@
--- What a run of the front makes of a shelf and a sink, for words that are answered at once, and for
--- all others.
-use Rattle.std.proofs.Common.{◌≡◌, ◌∙◌, ◌⊎◌, ℕ, List, Bool, true, false, Option, Some, None, refl, subst, sym}
+-- What a run of the front makes of a shelf and a sink, for words that are not answered at once.
+use Rattle.std.proofs.Common.{◌≡◌, ◌∙◌, ℕ, List, Bool, true, false, Option, None, refl, sym}
 use Rattle.outside.specs.Common.{Answer, NamedFile}
 use Rattle.bench_tasks.specs.Common.{command_of}
-use Rattle.bench_outcomes.specs.declared.status.Status.{Status}
-use Rattle.bench_outcomes.specs.declared.status.Status.TheVariants.{Done, WriteFault}
 use Rattle.bench_top.specs.Runs.{RunsTo}
 use Rattle.bench_top.specs.declared.ending.RunEnding.{RunEnding}
 use Rattle.front_top.specs.Answers.{answer_of}
-use Rattle.front_top.specs.Fronts.{Answers, Fronts}
+use Rattle.front_top.specs.Fronts.{Fronts}
 use Rattle.front_top.specs.declared.ending.Message.{Message}
-use Rattle.front_top.specs.declared.ending.Message.TheVariants.{Nothing, Lost, Ending}
+use Rattle.front_top.specs.declared.ending.Message.TheVariants.{Nothing, Ending}
 
 module _ {S K : Type 0} (holds : S → Option (List NamedFile)) (is_steady : S → Bool) (faults : S → ℕ) (reads : S → List ℕ → Answer → S → Type 0)
     (written : K → Option (List ℕ)) (writes : K → List ℕ → ℕ → K → Type 0) (sink_faults : K → ℕ) (words : List (List ℕ)) (is_quiet is_abandoned : Bool) (said : Message) where
-  pub fronts_answer : (text : List ℕ) (ended : Status) (first : S) (before now : K) → answer_of words ≡ Some text → Answers written writes sink_faults text ended before now →
-      (is_quiet ≡ true → said ≡ Nothing) → ((ended ≡ Done) ⊎ (is_abandoned ≡ true) → said ≡ Nothing) →
-      (ended ≡ WriteFault → is_abandoned ≡ false → is_quiet ≡ false → said ≡ Lost) →
-      Fronts holds is_steady faults reads written writes sink_faults words is_quiet is_abandoned ended said first first before now
-  fronts_answer text ended first before now is told quiet quietly lost = record {
-    answers = λ other same. let e : text ≡ other = cc (sym is ∙ same) in subst (λ (t : List ℕ). Answers written writes sink_faults t ended before now) e told;
-    answers_unread = λ other same. refl;
-    answers_quietly = λ other same. quietly;
-    answers_lost = λ other same. lost;
-    runs = λ none. let no : ⊥ = cc (sym is ∙ none) in absurd no;
-    speaks = λ none loud. let no : ⊥ = cc (sym is ∙ none) in absurd no;
-    quiet = quiet;
-  }
-
   pub fronts_run : (ending : RunEnding) (first last : S) (before now : K) → answer_of words ≡ None →
       RunsTo holds is_steady faults reads written writes sink_faults (command_of words) ending.status ending.stop first last before now →
       (is_quiet ≡ true → said ≡ Nothing) → (is_quiet ≡ false → said ≡ Ending ending) →

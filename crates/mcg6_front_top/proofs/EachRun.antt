@@ -1,32 +1,15 @@
--- What a run of the front makes of a source and a sink, for words that are answered at once, and for
--- all others.
-use Rattle.std.proofs.Common.{◌≡◌, ◌∙◌, ◌⊎◌, ℕ, List, Bool, true, false, Option, Some, None, refl, subst, sym}
+-- What a run of the front makes of a source and a sink, for words that are not answered at once.
+use Rattle.std.proofs.Common.{◌≡◌, ◌∙◌, ℕ, List, Bool, true, false, Option, None, refl, sym}
 use Rattle.mcg6_top.proofs.Ended.{runs_by_status}
 use Rattle.mcg6_top.specs.Common.{ListRunsTo, status_in}
-use Rattle.mcg6_top.specs.declared.status.ListStatus.{ListStatus}
-use Rattle.mcg6_top.specs.declared.status.ListStatus.TheVariants.{Done, WriteFault}
 use Rattle.mcg6_top.specs.declared.status.RunEnd.{RunEnd}
 use Rattle.mcg6_front_top.specs.Answers.{answer_of}
-use Rattle.mcg6_front_top.specs.Fronts.{Answers, ListFronts}
+use Rattle.mcg6_front_top.specs.Fronts.{ListFronts}
 use Rattle.mcg6_front_top.specs.declared.ending.Message.{Message}
-use Rattle.mcg6_front_top.specs.declared.ending.Message.TheVariants.{Nothing, Lost, Ending}
+use Rattle.mcg6_front_top.specs.declared.ending.Message.TheVariants.{Nothing, Ending}
 
 module _ {S K : Type 0} (left : S → Option (List ℕ)) (faults : S → ℕ) (reads : S → Option (List ℕ) → S → Type 0)
     (written : K → Option (List ℕ)) (writes : K → List ℕ → ℕ → K → Type 0) (sink_faults : K → ℕ) (words : List (List ℕ)) (is_quiet is_abandoned : Bool) (said : Message) where
-  pub fronts_answer : (text : List ℕ) (ended : ListStatus) (first : S) (before now : K) → answer_of words ≡ Some text → Answers written writes sink_faults text ended before now →
-      (is_quiet ≡ true → said ≡ Nothing) → ((ended ≡ Done) ⊎ (is_abandoned ≡ true) → said ≡ Nothing) →
-      (ended ≡ WriteFault → is_abandoned ≡ false → is_quiet ≡ false → said ≡ Lost) →
-      ListFronts left faults reads written writes sink_faults words is_quiet is_abandoned ended said first first before now
-  fronts_answer text ended first before now is told quiet quietly lost = record {
-    answers = λ other same. let e : text ≡ other = cc (sym is ∙ same) in subst (λ (t : List ℕ). Answers written writes sink_faults t ended before now) e told;
-    answers_unread = λ other same. refl;
-    answers_quietly = λ other same. quietly;
-    answers_lost = λ other same. lost;
-    runs = λ none. let no : ⊥ = cc (sym is ∙ none) in absurd no;
-    speaks = λ none loud. let no : ⊥ = cc (sym is ∙ none) in absurd no;
-    quiet = quiet;
-  }
-
   pub fronts_run : (ending : Option RunEnd) (first last : S) (before now : K) → answer_of words ≡ None →
       ListRunsTo left faults reads written writes sink_faults words ending first last before now →
       (is_quiet ≡ true → said ≡ Nothing) → (is_quiet ≡ false → said ≡ Ending ending) →
