@@ -136,7 +136,7 @@ module _ (g : Graph) (is : IsMultigraph g) where
     | inr two ↦ elim (perfect_or g none) [
       | inr unmatched ↦ inr (λ has. unmatched has.matched)
       | inl matched ↦ elim (bicritical_or g) [
-        | inr no ↦ inr (λ has. no has.critical)
+        | inr loose ↦ inr (λ has. loose has.critical)
         | inl critical ↦ inl (record { two = two; matched = matched; critical = critical })
       ]
     ]
@@ -164,8 +164,8 @@ module _ (g : Graph) (is : IsMultigraph g) where
   has_or : (property : Property) → HasProperty g property ⊎ LacksProperty g property
   has_or Covered = covered_or g is
   has_or NotCovered = elim (covered_or g is) [
-    | inl cov ↦ inr (λ no. no cov)
-    | inr no ↦ inl no
+    | inl cov ↦ inr (λ uncovered. uncovered cov)
+    | inr uncovered ↦ inl uncovered
   ]
   has_or Perfect = perfect_or g none
   has_or Brick = with_kind (IsKind g kind.Brick) is_brick
