@@ -1,1 +1,2 @@
+pub mod EachRun
 pub mod TableRows

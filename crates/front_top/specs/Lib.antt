@@ -3,5 +3,6 @@ pub mod Files
 pub mod FilesSeen
 pub mod Words
 pub mod CluesSeen
-pub mod Speaks
+pub mod Said
+pub mod Fronts
 pub mod Sizing

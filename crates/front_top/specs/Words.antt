@@ -16,6 +16,8 @@ use Rattle.front_words.specs.Messages.{bad_file_text, unread_text}
 use Rattle.front_words.specs.Unmatched.{unmatched_text}
 use Rattle.front_words.specs.Usage.{usage_text}
 use Rattle.front_top.specs.Files.{File, file_in}
+use Rattle.front_top.specs.declared.ending.Message.{Message}
+use Rattle.front_top.specs.declared.ending.Message.TheVariants as message
 
 -- the name of the program
 abbrev pub program : List ℕ
@@ -66,3 +68,10 @@ words_of words ReadFault stopped known = stop_words (command_of words) stopped k
 words_of words BadInput stopped known = stop_words (command_of words) stopped known
 words_of words WriteFault stopped known = if known.is_abandoned then [] else lost_words
 words_of words Memory stopped known = codes "mcg: memory ran out; nothing was written\n"
+
+-- what is said of a run of these words: of an answer that could not be written whole, or of this
+-- ending
+abbrev pub message_words : (words : List (List ℕ)) → Message → Known → List ℕ
+message_words words message.Nothing known = []
+message_words words message.Lost known = lost_words
+message_words words (message.Ending ending) known = words_of words ending.status ending.stop known

@@ -15,12 +15,14 @@
 #![tactic(auto)]
 
 mod answers;
+mod ending;
 mod files;
 mod fronting;
 mod laws;
 mod sizing;
 mod speaking;
 
+pub use ending::{FrontEnding, Message};
 pub use fronting::run_front;
 pub use laws::table_law;
 pub use sizing::{Sizing, SizingShelf};

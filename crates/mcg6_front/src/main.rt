@@ -1,6 +1,7 @@
 //! The program `mcg6_front`, which users call as `mcg6`: the words after its name are a command of
-//! `mcg6_front_top::run_list_front`, which answers a list of graphs line by line on standard output,
-//! whose words for a person go to standard error, and whose status becomes the exit status.
+//! `mcg6_front_top::run_list_front`, which answers a list of graphs line by line on standard output.
+//! It returns what is to be said for a person, which then goes to standard error, and the status,
+//! which becomes the exit status.
 //!
 //! The list is standard input, or the file that the last word names. It is read by `InSource`,
 //! standard output is written by `OutSink` and standard error by `LineSink`. `MCG_QUIET=1` in the
@@ -11,8 +12,8 @@
 
 use arguments::{Refusal, read_arguments};
 use front_words::say_not_text;
-use mcg6_front_top::run_list_front;
-use mcg6_top::{CommandLine, ListStatus};
+use mcg6_front_top::{ListFrontEnding, run_list_front};
+use mcg6_top::CommandLine;
 use outside::{DirShelf, Explain, FailureReason, InSource, LineSink, OutSink, Shelf, Sink, emit};
 use std::process::ExitCode;
 use std::rt::{Env, Files};
@@ -53,13 +54,12 @@ fn reason_unread<R: Files + AllocGlobal>(rt: &R, name: &str) -> Option<FailureRe
 }
 
 // Does what the command line asks of the file of that name.
-fn run_file<R: Files + Print + AllocGlobal, E: Sink>(
+fn run_file<'a, 'b, R: Files + Print + AllocGlobal>(
     rt: &R,
-    line: &CommandLine<'_>,
+    line: &'b CommandLine<'a>,
     name: &str,
     quiet: bool,
-    errors: &mut E,
-) -> ListStatus {
+) -> ListFrontEnding<'a, 'b> {
     let file = fs::open(rt, name).ok();
     let reason = if file.is_none() || is_folder(rt, name) {
         reason_unread(rt, name)
@@ -68,15 +68,7 @@ fn run_file<R: Files + Print + AllocGlobal, E: Sink>(
     };
     let mut source = InSource::new(file);
     let mut sink = OutSink::new(rt);
-    run_list_front(
-        rt.alloc(),
-        line,
-        reason,
-        quiet,
-        &mut source,
-        &mut sink,
-        errors,
-    )
+    run_list_front(rt.alloc(), line, reason, quiet, &mut source, &mut sink)
 }
 
 fn main(rt: HostRuntime) -> ExitCode {
@@ -93,21 +85,14 @@ fn main(rt: HostRuntime) -> ExitCode {
         }
     };
     let line = CommandLine::of(&words);
-    let status = match line.file() {
-        Some(name) => run_file(&rt, &line, name, quiet, &mut errors),
+    let ending = match line.file() {
+        Some(name) => run_file(&rt, &line, name, quiet),
         None => {
             let mut source = InSource::new(Some(rt.reader()));
             let mut sink = OutSink::new(&rt);
-            run_list_front(
-                rt.alloc(),
-                &line,
-                None,
-                quiet,
-                &mut source,
-                &mut sink,
-                &mut errors,
-            )
+            run_list_front(rt.alloc(), &line, None, quiet, &mut source, &mut sink)
         }
     };
-    ExitCode::from(status.code())
+    ending.say(&mut errors);
+    ExitCode::from(ending.status.code())
 }

@@ -1,3 +1,3 @@
+pub mod EachRun
 pub mod TableRows
-pub mod SaidRuns
 pub mod SkippedLines

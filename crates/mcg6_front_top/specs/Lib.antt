@@ -1,3 +1,4 @@
 pub mod Answers
 pub mod Words
-pub mod Speaks
+pub mod Said
+pub mod Fronts

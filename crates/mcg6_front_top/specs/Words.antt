@@ -12,6 +12,8 @@ use Rattle.mcg6_top.specs.Common.{text_of}
 use Rattle.mcg6_top.specs.declared.status.RunEnd.{RunEnd}
 use Rattle.mcg6_top.specs.declared.status.RunEnd.TheVariants.{Answered, Encoded}
 use Rattle.mcg6_front_top.specs.declared.clues.Clues.{Clues}
+use Rattle.mcg6_front_top.specs.declared.ending.Message.{Message}
+use Rattle.mcg6_front_top.specs.declared.ending.Message.TheVariants as message
 use Rattle.command_table.specs.Table.{list_rows}
 use Rattle.front_words.specs.declared.faults.Role.TheVariants.{Graph}
 use Rattle.front_words.specs.ListMessages.{bad_line_text, unread_list_text}
@@ -79,3 +81,9 @@ ending_words (Encoded file ending) clues = file_words file.now ending clues
 abbrev pub words_of : (words : List (List ℕ)) → Option RunEnd → Clues → List ℕ
 words_of words None clues = unmatched_text program list_usage_text list_rows words
 words_of words (Some end) clues = ending_words end clues
+
+-- what is said of a run of these words: of an answer that could not be written whole, or of this end
+abbrev pub message_words : (words : List (List ℕ)) → Message → Clues → List ℕ
+message_words words message.Nothing clues = []
+message_words words message.Lost clues = lost_words
+message_words words (message.Ending end) clues = words_of words end clues

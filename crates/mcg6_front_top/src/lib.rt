@@ -16,10 +16,12 @@
 
 mod answers;
 mod clues;
+mod ending;
 mod fronting;
 mod laws;
 mod skipping;
 mod speaking;
 
+pub use ending::{ListFrontEnding, Message};
 pub use fronting::run_list_front;
 pub use laws::list_table_law;

@@ -1,6 +1,6 @@
 //! The program `mcg_front`, which users call as `mcg`: the words after its name are a command of
-//! `front_top::run_front`, whose report goes to standard output, whose words for a person go to
-//! standard error, and whose status becomes the exit status.
+//! `front_top::run_front`, whose report goes to standard output. It returns what is to be said for a
+//! person, which then goes to standard error, and the status, which becomes the exit status.
 //!
 //! Files are read by `DirShelf` through a `KeepingShelf` and a `SizingShelf`, standard output is
 //! written by `OutSink` and standard error by `LineSink`. `MCG_QUIET=1` in the environment turns the
@@ -39,17 +39,11 @@ fn main(rt: HostRuntime) -> ExitCode {
     let quiet = is_quiet(&rt);
     match read_arguments(&rt, rt.alloc()) {
         Ok(words) => {
-            let mut shelf = SizingShelf::new(KeepingShelf::new(DirShelf::new(&rt)));
+            let shelf = SizingShelf::new(KeepingShelf::new(DirShelf::new(&rt)));
             let mut sink = OutSink::new(&rt);
-            let status = run_front(
-                rt.alloc(),
-                &words,
-                quiet,
-                &mut shelf,
-                &mut sink,
-                &mut errors,
-            );
-            ExitCode::from(status.code())
+            let ending = run_front(rt.alloc(), &words, quiet, shelf, &mut sink);
+            ending.say(&mut errors);
+            ExitCode::from(ending.status.code())
         }
         Err(refusal) => {
             if !quiet {

@@ -41,7 +41,7 @@ kind_of g [] found uncut (inl even) = (Brace, (even, uncut refl), refl)
 kind_of g [] found uncut (inr odd) = (Brick, (odd, uncut refl), refl)
 kind_of g (c ∷ list) found uncut sides = let first : IsTightCandidate g c = found 0 c (omega arith) in (Composite c.shore, (first.tight, first.nontrivial), refl)
 
-structure_of : (g : Graph) → IsMultigraph g → IsCovered g → (s : Structure) × IsStructure g s
+pub structure_of : (g : Graph) → IsMultigraph g → IsCovered g → (s : Structure) × IsStructure g s
 structure_of g is cov =
     let u = told_pair (equivalent_pair g) in
     let c = told_pair (cut_pair g) in

@@ -33,6 +33,7 @@ pub mod HetyeiSides
 pub mod JoinedMatchings
 pub mod LaminarFamilies
 pub mod LeafKindLists
+pub mod LinesTold
 pub mod ListMembers
 pub mod LoneSteps
 pub mod Marriages

@@ -24,6 +24,9 @@ ghost use Rattle.bench_outcomes.specs.Common.{Outcome, ResultOf};
 ghost use Rattle.bench_outcomes.specs.declared.status.Status.{Status};
 ghost use Rattle.bench_outcomes.specs.declared.status.Status.TheVariants.{Done};
 ghost use Rattle.bench_top.specs.Given.{GivenOutcome};
+ghost use Rattle.mcg6_lines.specs.declared.query.Query.{Query};
+ghost use Rattle.mcg6_top.specs.Common.{HasAnswer, HasListOutcome};
+ghost use Rattle.mcg6_top.specs.declared.command.AtBadLine.{AtBadLine};
 ghost use Rattle.theorems.specs.Outcomes.{HoldsPicks, IsDoneRun, IsGiven, StandsForGraph, StandsForTree, TellsDecomposition, TellsEars, TellsKind, TellsPairing, TellsScript, TellsSets};
 
 use outside::{Shelf, Sink};
@@ -199,3 +202,17 @@ pub fn report_exists_law()
         ((file : ℕ) × (loaded files command ≡ Absent file)) ⊎
         ((status : Status) × (output : List ℕ) × Outcome words files status output) }
 {}
+
+/// There is an outcome of every list: for each query, whatever is done at a bad line, a status and an
+/// output for which the query and the bytes of the list stand. The status is Done or BadInput, so the
+/// list settles it, and nothing of the outside does. For each line there is what the query asks of
+/// its graph, or the kind of its first error. So the clauses on lists speak of something, whatever
+/// memory does. A report on a bad line holds its text in memory: the vector shows where one can be,
+/// and nothing is said of what it holds.
+pub fn list_outcome_exists_law(held: &Vec<u8>)
+    ensures line { (query : Query) → HasAnswer query }
+    ensures outcome { (query : Query) (at_bad : AtBadLine) (bytes : List ℕ) →
+        HasListOutcome query at_bad bytes }
+{
+    let _ = held;
+}
