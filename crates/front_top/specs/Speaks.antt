@@ -7,6 +7,7 @@ use Rattle.outside.specs.Common.{Answer, NamedFile, Rose, appended}
 use Rattle.outside.specs.declared.sink.SinkFailed.{SinkFailed}
 use Rattle.bench_tasks.specs.Common.{command_of}
 use Rattle.bench_tasks.specs.declared.stop.Stop.{Stop}
+use Rattle.refusals.specs.declared.refusal.Refusal.{Refusal}
 use Rattle.bench_outcomes.specs.declared.status.Status.{Status}
 use Rattle.bench_outcomes.specs.declared.status.Status.TheVariants.{Done, WriteFault}
 use Rattle.bench_top.specs.Runs.{RunsTo}
@@ -19,15 +20,16 @@ pub record IsSaid {E : Type 0} (written : E → Option (List ℕ)) (writes : E �
   pub says : Says {F = SinkFailed} written writes faults text answer before now
 
 -- what was said after a run of these words that ended so: the words for what stopped it, which is
--- what the files hold and the reads say, given what is known of its faults; or why the words match
--- no row of the table
+-- what the files hold and the reads say, given what is known of its faults; or why its input was
+-- refused; or why the words match no row of the table
 pub record Speaks {S K E : Type 0} (holds : S → Option (List NamedFile)) (is_steady : S → Bool) (faults : S → ℕ) (reads : S → List ℕ → Answer → S → Type 0)
     (written : K → Option (List ℕ)) (writes : K → List ℕ → ℕ → K → Type 0) (sink_faults : K → ℕ)
     (said_bytes : E → Option (List ℕ)) (said_writes : E → List ℕ → ℕ → E → Type 0) (said_faults : E → ℕ)
     (words : List (List ℕ)) (ended : Status) (known : Known) (first last : S) (before now : K) (errors_before errors_now : E) : Type 0 where
   pub stopped : Option Stop
-  pub ran : RunsTo holds is_steady faults reads written writes sink_faults (command_of words) ended stopped first last before now
-  pub said : IsSaid said_bytes said_writes said_faults (words_of words ended stopped known) errors_before errors_now
+  pub refused : Option Refusal
+  pub ran : RunsTo holds is_steady faults reads written writes sink_faults (command_of words) ended stopped refused first last before now
+  pub said : IsSaid said_bytes said_writes said_faults (words_of words ended stopped refused known) errors_before errors_now
 
 -- a text was the whole answer: it was written whole and all is done, or a beginning of it if
 -- the sink failed, and the write that failed is the last

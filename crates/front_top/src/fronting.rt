@@ -60,7 +60,8 @@ fn say_unless_quiet<'a, E: Sink>(
 )
     ensures quiet { is_quiet ≡ true → errors.new ≡ errors.old }
     ensures says { is_quiet ≡ false → IsSaid E.written E.writes E.faults
-        (words_of (map string_bytes words.now) ending.status ending.stop (known_by clues.entry))
+        (words_of (map string_bytes words.now) ending.status ending.stop ending.refusal
+        (known_by clues.entry))
         errors.old errors.new }
 {
     if is_quiet {
