@@ -10,14 +10,14 @@ use report_text::verdict_line;
 use std::alloc::{AllocError as Memory, Global};
 
 // The fault of a graph that is not covered for this reason.
-fn cover_fault_of(reason: Reason) -> CoverFault
-    ensures { result ≡ cover_fault_of reason }
+fn cover_fault_of(reason: &Reason) -> CoverFault
+    ensures { result ≡ cover_fault_of reason.now }
 {
     match reason {
         Reason::Small => CoverFault::Small,
-        Reason::Parted { a, b } => CoverFault::Parted { a, b },
+        Reason::Parted { a, b } => CoverFault::Parted { a: *a, b: *b },
         Reason::Unmatched { .. } => CoverFault::Unmatched,
-        Reason::Unallowed { edge } => CoverFault::Unallowed { edge },
+        Reason::Unallowed { edge } => CoverFault::Unallowed { edge: *edge },
     }
 }
 
@@ -27,12 +27,11 @@ pub fn uncovered_report(alloc: Global, g: &MultiGraph, reason: Reason) -> Result
     ensures { IfOk result (λ report. Uncovered g.now report.status report.bytes.items) }
 {
     g.keeps_limits();
+    let fault = cover_fault_of(&reason);
     let bytes = verdict_line(alloc, &Verdict::NotCovered(reason))?;
     Ok(Report {
         status: Status::Negative,
         bytes,
-        refusal: Some(Refusal::Graph {
-            fault: cover_fault_of(reason),
-        }),
+        refusal: Some(Refusal::Graph { fault }),
     })
 }

@@ -32,16 +32,16 @@ node_words node.NotLeaf = codes "it is a leaf, but the cut of the shore shown is
 
 -- what would be right at the node
 abbrev pub node_advice : NodeFault → List ℕ
-node_advice node.NotBlocks = codes " (write whole blocks)\n"
-node_advice node.Even = codes " (take another cut)\n"
-node_advice node.Trivial = codes " (make it a leaf, or take another cut)\n"
-node_advice node.NotTight = codes " (take another cut)\n"
-node_advice node.NotLeaf = codes " (cut further, along this cut for instance)\n"
+node_advice node.NotBlocks = codes " (write whole blocks)"
+node_advice node.Even = codes " (take another cut)"
+node_advice node.Trivial = codes " (make it a leaf, or take another cut)"
+node_advice node.NotTight = codes " (take another cut)"
+node_advice node.NotLeaf = codes " (cut further, along this cut for instance)"
 
 -- a tree is not a tight cut decomposition
 abbrev pub tree_text : (program : List ℕ) (tree at : ℕ) → NodeFault → List ℕ
 tree_text program tree at fault =
-    program ++ (codes ": tree " ++ (decimal tree ++ (codes " is no tight cut decomposition; at node " ++ (decimal at ++ (codes ", counted in preorder: " ++ (node_words fault ++ node_advice fault))))))
+    program ++ (codes ": tree " ++ (decimal tree ++ (codes " is no tight cut decomposition; at node " ++ (decimal at ++ (codes ", counted in preorder: " ++ (node_words fault ++ (node_advice fault ++ codes "\n")))))))
 
 -- a move makes a tree that is not a tight cut decomposition
 abbrev pub moved_text : (program : List ℕ) (step at : ℕ) → NodeFault → List ℕ
@@ -61,7 +61,7 @@ step_words ear.BadEnds = codes "the ends of an ear are not two different vertice
 step_words ear.InnerOnStage = codes "an inner vertex of an ear is in the subgraph before the step, or on the first ear of the step (end the ear there, or take another path)\n"
 step_words ear.EdgeUsed = codes "an edge of an ear is in the subgraph before the step, or on the first ear of the step (leave it out)\n"
 step_words (ear.StageNotCovered edge) = codes "after it edge " ++ (decimal edge ++ codes " is in no perfect matching of the subgraph (add a second ear in the same step, or take other ears)\n")
-step_words (ear.EndsEarly edge) = codes "it is the last, and edge " ++ (decimal edge ++ codes " has not been added (add ears)\n")
+step_words (ear.EndsEarly edge) = codes "the list ends here, and edge " ++ (decimal edge ++ codes " has not been added (add ears)\n")
 
 -- a list is not an ear decomposition
 abbrev pub ears_text : (program : List ℕ) (step : ℕ) → EarFault → List ℕ

@@ -87,10 +87,10 @@ fn node_advice(fault: NodeFault) -> &'static str
     ensures { result.now ≡ node_advice fault }
 {
     match fault {
-        NodeFault::NotBlocks => " (write whole blocks)\n",
-        NodeFault::Even | NodeFault::NotTight => " (take another cut)\n",
-        NodeFault::Trivial => " (make it a leaf, or take another cut)\n",
-        NodeFault::NotLeaf => " (cut further, along this cut for instance)\n",
+        NodeFault::NotBlocks => " (write whole blocks)",
+        NodeFault::Even | NodeFault::NotTight => " (take another cut)",
+        NodeFault::Trivial => " (make it a leaf, or take another cut)",
+        NodeFault::NotLeaf => " (cut further, along this cut for instance)",
     }
 }
 
@@ -116,6 +116,7 @@ fn say_tree<'a, K: Sink>(
             Text(", counted in preorder: "),
             Text(node_words(fault)),
             Text(node_advice(fault)),
+            Text("\n"),
         ],
     )
 }
@@ -177,9 +178,7 @@ fn say_step_fault<K: Sink>(sink: &mut K, fault: EarFault) -> Result<(), SinkFail
         ),
         EarFault::EvenLength => say(
             sink,
-            &[
-                Text("an ear has an even number of edges (take a path of odd length)\n"),
-            ],
+            &[Text("an ear has an even number of edges (take a path of odd length)\n")],
         ),
         EarFault::BadEnds => say(
             sink,
@@ -214,7 +213,7 @@ fn say_step_fault<K: Sink>(sink: &mut K, fault: EarFault) -> Result<(), SinkFail
         EarFault::EndsEarly { edge } => say(
             sink,
             &[
-                Text("it is the last, and edge "),
+                Text("the list ends here, and edge "),
                 Number(edge as u64),
                 Text(" has not been added (add ears)\n"),
             ],
