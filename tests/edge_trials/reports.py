@@ -53,8 +53,7 @@ def try_reports(room):
             name = f"{program} {words[0]} {os.path.basename(words[1])}"
             ran = run(program, *words)
             well = ran[:2] == (status, whole) == (alone[0], whole) and whole.endswith(b"\n")
-            has_words = status > 1 or ran[2] != b"" and status == NEGATIVE
-            note(well and (ran[2] != b"") == (is_front(program) and has_words), f"{name}, into a file and through a pipe", f"{ran}")
+            note(well and (ran[2] != b"") == (is_front(program) and status != DONE), f"{name}, into a file and through a pipe", f"{ran}")
             with open("/dev/full", "wb") as full:
                 ran = run(program, *words, stdout=full)
             note(ran == (WRITE_FAULT, None, lost_output(program)), f"{name}, on a full device", f"{ran}")

@@ -2,6 +2,7 @@ pub mod Codes
 pub mod Shown
 pub mod Conducts
 pub mod Facts
+pub mod RefusalLines
 pub mod Uncovered
 pub mod Checks
 pub mod EarChecks

@@ -4,3 +4,4 @@ pub mod ScriptMoves
 pub mod ScriptTexts
 pub mod PairLines
 pub mod Reported
+pub mod RefusalsTold

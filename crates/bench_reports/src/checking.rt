@@ -3,12 +3,13 @@ ghost use Rattle.std.specs.Prelude.{◌≡◌, IfOk};
 ghost use Rattle.graph_core.specs.Common.{Graph};
 ghost use Rattle.tree_core.specs.Common.{IsDerivation, IsTally, Fits, Shape, leaves, shape_of};
 ghost use Rattle.tree_check.specs.Common.{why_of, why_number, IsRefused};
-ghost use Rattle.bench_outcomes.specs.Common.{AcceptedTree, CheckGives, RefusedTree, RefusesIfAny, shown_of};
+ghost use Rattle.bench_outcomes.specs.Common.{AcceptedTree, CheckGives, RefusedTree, RefusesIfAny, node_fault_of, shown_of};
 
 use crate::uncovered::uncovered_report;
 use bench_outcomes::{Report, Status};
 use graph_core::MultiGraph;
 use graph_facts::Covered;
+use refusals::{NodeFault, Refusal};
 use report_text::{Shown, TreeLine, judgement};
 use std::alloc::{AllocError as Memory, Global};
 use tree_check::{KnownPlaces, Scanned, Why, scan_covered, scan_known};
@@ -24,6 +25,19 @@ pub fn number_of(why: &Why) -> u32
         Why::Trivial => 3,
         Why::NotTight { .. } => 4,
         Why::NotLeaf { .. } => 5,
+    }
+}
+
+/// The fault of a node that is refused for this reason.
+pub fn node_fault_of(why: &Why) -> NodeFault
+    ensures { result ≡ node_fault_of (why_of why.now) }
+{
+    match why {
+        Why::NotBlocks => NodeFault::NotBlocks,
+        Why::Even => NodeFault::Even,
+        Why::Trivial => NodeFault::Trivial,
+        Why::NotTight { .. } => NodeFault::NotTight,
+        Why::NotLeaf { .. } => NodeFault::NotLeaf,
     }
 }
 
@@ -51,6 +65,11 @@ fn refused_report(
     ensures { IfOk result
         (λ report. RefusedTree g.now (shape_of tree.now) place report.status report.bytes.items) }
 {
+    let refusal = Refusal::Tree {
+        tree: place,
+        node,
+        fault: node_fault_of(&why),
+    };
     let line = TreeLine::Refused {
         tree: place,
         node,
@@ -60,6 +79,7 @@ fn refused_report(
     Ok(Report {
         status: Status::Negative,
         bytes: judgement(alloc, &line)?,
+        refusal: Some(refusal),
     })
 }
 
@@ -93,6 +113,7 @@ fn accepted_report(alloc: Global, tally: Tally) -> Result<Report, Memory>
     Ok(Report {
         status: Status::Done,
         bytes: judgement(alloc, &TreeLine::Accepted { tally })?,
+        refusal: None,
     })
 }
 

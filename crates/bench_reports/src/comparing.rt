@@ -108,6 +108,7 @@ pub fn compare_report(alloc: Global, c: &Covered, given: &GivenTrees) -> Result<
     Ok(Report {
         status: Status::Done,
         bytes: pairing(alloc, &pairs.moves, &lines)?,
+        refusal: None,
     })
 }
 
@@ -128,5 +129,6 @@ pub fn script_report(alloc: Global, c: &Covered, given: &GivenTrees) -> Result<R
     Ok(Report {
         status: Status::Done,
         bytes: report_text::script_report(alloc, &text, leaves as u32, moves.len() as u32)?,
+        refusal: None,
     })
 }

@@ -33,6 +33,7 @@ fn derivation_report(alloc: Global, named: &Named, found: &Decomposition) -> Res
     Ok(Report {
         status: Status::Done,
         bytes: with_given_names(alloc, report, &named.names, true)?,
+        refusal: None,
     })
 }
 

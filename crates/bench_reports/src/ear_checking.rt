@@ -2,7 +2,7 @@
 ghost use Rattle.std.specs.Prelude.{◌≡◌, ◌<◌, ◌^◌, length, map, IfOk};
 ghost use Rattle.graph_core.specs.Common.{size};
 ghost use Rattle.ear_core.specs.Common.{FitsEars, IsEarList, IsRefused, ears_of, step_of, why_of};
-ghost use Rattle.bench_outcomes.specs.Common.{AcceptedEars, BuiltEars, EarCheckGives, EarsGives, RefusedEars, double_count, named_edge, single_count, why_number};
+ghost use Rattle.bench_outcomes.specs.Common.{AcceptedEars, BuiltEars, EarCheckGives, EarsGives, RefusedEars, double_count, ear_fault_of, named_edge, single_count, why_number};
 
 use crate::uncovered::uncovered_report;
 use bench_outcomes::{Report, Status};
@@ -10,6 +10,7 @@ use ear_core::{EarJudgement, EarList, EarWhy, Step, build_ears_of, check_ears};
 use ear_text::write_ears;
 use graph_core::MultiGraph;
 use graph_facts::Covered;
+use refusals::{EarFault, Refusal};
 use report_text::{EarLine, ear_judgement};
 use std::alloc::{AllocError as Memory, Global};
 
@@ -25,6 +26,21 @@ fn number_of(why: EarWhy) -> u32
         EarWhy::EdgeUsed => 5,
         EarWhy::StageNotCovered { .. } => 6,
         EarWhy::EndsEarly { .. } => 7,
+    }
+}
+
+// The fault of a step that is refused for this reason.
+fn ear_fault_of(why: EarWhy) -> EarFault
+    ensures { result ≡ ear_fault_of (why_of why) }
+{
+    match why {
+        EarWhy::NotPath => EarFault::NotPath,
+        EarWhy::EvenLength => EarFault::EvenLength,
+        EarWhy::BadEnds => EarFault::BadEnds,
+        EarWhy::InnerOnStage => EarFault::InnerOnStage,
+        EarWhy::EdgeUsed => EarFault::EdgeUsed,
+        EarWhy::StageNotCovered { edge } => EarFault::StageNotCovered { edge },
+        EarWhy::EndsEarly { edge } => EarFault::EndsEarly { edge },
     }
 }
 
@@ -93,6 +109,7 @@ fn accepted_report(alloc: Global, c: &Covered, list: &EarList) -> Result<Report,
     Ok(Report {
         status: Status::Done,
         bytes: ear_judgement(alloc, &line)?,
+        refusal: None,
     })
 }
 
@@ -117,6 +134,10 @@ fn refused_report(
     Ok(Report {
         status: Status::Negative,
         bytes: ear_judgement(alloc, &line)?,
+        refusal: Some(Refusal::Ears {
+            step,
+            fault: ear_fault_of(why),
+        }),
     })
 }
 
@@ -162,6 +183,7 @@ fn built_report(alloc: Global, c: &Covered) -> Result<Report, Memory>
     Ok(Report {
         status: Status::Done,
         bytes,
+        refusal: None,
     })
 }
 

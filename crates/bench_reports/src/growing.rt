@@ -40,5 +40,6 @@ pub fn grow_report(alloc: Global, growth: GrowNumbers) -> Result<Report, Memory>
     Ok(Report {
         status: Status::Done,
         bytes: grown(alloc, &text, first_tally, last_tally, pairs)?,
+        refusal: None,
     })
 }

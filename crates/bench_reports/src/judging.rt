@@ -85,6 +85,7 @@ fn analyse_report(alloc: Global, named: &Named) -> Result<Report, Memory>
     Ok(Report {
         status: Status::Done,
         bytes,
+        refusal: None,
     })
 }
 
@@ -98,6 +99,7 @@ fn convert_report(alloc: Global, named: Named) -> Result<Report, Memory>
     Ok(Report {
         status: Status::Done,
         bytes: write_named(alloc, &graph, &names)?,
+        refusal: None,
     })
 }
 
@@ -112,6 +114,7 @@ fn analyse6_report(alloc: Global, simple: SimpleGraph) -> Result<Report, Memory>
     Ok(Report {
         status: Status::Done,
         bytes: graph6_line(alloc, &text, &graph6)?,
+        refusal: None,
     })
 }
 

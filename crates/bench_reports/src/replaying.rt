@@ -7,11 +7,12 @@ ghost use Rattle.tree_text.specs.Common.{tree_text};
 ghost use Rattle.report_text.specs.Common.{refused_move_text, replayed_text, stuck_text};
 ghost use Rattle.bench_outcomes.specs.Common.{shown_of, MovesGive, ReplayGives};
 
-use crate::checking::{number_of, refusal_where_covered, shown_by};
+use crate::checking::{node_fault_of, number_of, refusal_where_covered, shown_by};
 use crate::uncovered::uncovered_report;
 use bench_outcomes::{Report, Status};
 use graph_core::MultiGraph;
 use graph_facts::Covered;
+use refusals::Refusal;
 use report_text::{replay_refused, replay_stuck, replayed};
 use std::alloc::{AllocError as Memory, Global};
 use tree_check::{KnownPlaces, Replayed, Why, replay_covered};
@@ -38,6 +39,7 @@ fn last_tree_report(
     Ok(Report {
         status: Status::Done,
         bytes: replayed(alloc, &text, moves as u32)?,
+        refusal: None,
     })
 }
 
@@ -49,6 +51,7 @@ fn stuck_report(alloc: Global, at: u32) -> Result<Report, Memory>
     Ok(Report {
         status: Status::Negative,
         bytes: replay_stuck(alloc, at)?,
+        refusal: Some(Refusal::Stuck { step: at }),
     })
 }
 
@@ -60,10 +63,16 @@ fn refused_move_report(alloc: Global, at: u32, node: u32, why: Why) -> Result<Re
         refused_move_text at node (why_number (why_of why)) (shown_of (why_of why))) }
 {
     let number = number_of(&why);
+    let fault = node_fault_of(&why);
     let shown = shown_by(why);
     Ok(Report {
         status: Status::Negative,
         bytes: replay_refused(alloc, at, node, number, &shown)?,
+        refusal: Some(Refusal::Move {
+            step: at,
+            node,
+            fault,
+        }),
     })
 }
 

@@ -20,3 +20,4 @@ pub mod WrittenBack
 pub mod RunsMade
 pub mod WritesMade
 pub mod GivenFiles
+pub mod RefusalsReported

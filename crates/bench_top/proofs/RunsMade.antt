@@ -65,7 +65,7 @@ none-row command is = none-some command is
 
 pub usage-runs : {S K : Type 0} (holds : S → Option (List NamedFile)) (is_steady : S → Bool) (faults : S → ℕ) (reads : S → List ℕ → Answer → S → Type 0)
     (written : K → Option (List ℕ)) (writes : K → List ℕ → ℕ → K → Type 0) (sink_faults : K → ℕ) (shelf : S) (sink : K) →
-    RunsTo holds is_steady faults reads written writes sink_faults None Usage None shelf shelf sink sink
+    RunsTo holds is_steady faults reads written writes sink_faults None Usage None None shelf shelf sink sink
 usage-runs holds is_steady faults reads written writes sink_faults shelf sink = record {
   runs = record {
     usage = (λ e. refl, λ e. refl);
@@ -93,6 +93,8 @@ usage-runs holds is_steady faults reads written writes sink_faults shelf sink = 
   stops_after = tt;
   reported = λ e. cc e;
   unread_file = λ e. cc e;
+  is_refused = refl;
+  reported_refusal = λ e. cc e;
 }
   where
     not-reported : IsReported Usage → ⊥

@@ -1,5 +1,5 @@
--- How a run ended: why its files were not loaded, which of them were read, and what was written
--- of a bad one.
+-- How a run ended: why its files were not loaded, which of them were read, what was written of a bad
+-- one, and of a refusal.
 -- Stated by: bench_top.
 use Rattle.std.specs.Prelude.{◌≡◌, ◌≤◌, ◌<◌, ℕ, List, Bool, IsTrue, length, take}
 use Rattle.std.specs.declared.option.Option.{Option}
@@ -10,9 +10,11 @@ use Rattle.outside.specs.Common.{Answer, ReadsInTurn, appended}
 use Rattle.line_text.specs.Common.{kind_number}
 use Rattle.line_text.specs.declared.faults.FaultKind.{FaultKind}
 use Rattle.report_text.specs.Common.{bad_input_text}
+use Rattle.refusals.specs.declared.refusal.Refusal.{Refusal}
 use Rattle.bench_tasks.specs.Common.{Loaded, Bad, Absent}
 use Rattle.bench_tasks.specs.declared.stop.Stop.{Stop}
 use Rattle.bench_tasks.specs.declared.stop.Stop.TheVariants as stop
+use Rattle.bench_outcomes.specs.Common.{refusal_told}
 
 -- why nothing was loaded, if nothing was
 abbrev pub stop_in : {X : Type 0} → Result X Stop → Option Stop
@@ -53,3 +55,11 @@ pub record ReportedBad (stopped : Option Stop) (before now : Option (List ℕ)) 
 pub record Unread (stopped : Option Stop) : Type 0 where
   pub file : ℕ
   pub is : stopped ≡ Some (stop.ReadFault file)
+
+-- the input was refused, and the line that stands for the refusal was written
+pub record ReportedRefusal (refused : Option Refusal) (before now : Option (List ℕ)) : Type 0 where
+  pub refusal : Refusal
+  pub is : refused ≡ Some refusal
+  pub output : List ℕ
+  pub tells : output ≡ refusal_told refusal output
+  pub written : now ≡ appended before output

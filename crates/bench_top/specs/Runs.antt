@@ -1,16 +1,17 @@
 -- What a run makes of a shelf and a sink, as one fact: `run`, `run_ending` and the front cite it.
 -- Stated by: bench_top, front_top.
-use Rattle.std.specs.Prelude.{◌≡◌, ◌⊎◌, ◌↔◌, ℕ, List, Bool, IsTrue}
+use Rattle.std.specs.Prelude.{◌≡◌, ◌⊎◌, ◌↔◌, ℕ, List, Bool, IsTrue, is_some}
 use Rattle.std.specs.declared.option.Option.{Option}
 use Rattle.std.specs.declared.option.Option.TheVariants.{Some, None}
 use Rattle.outside.specs.Common.{Rose, Answer, NamedFile, ReadsFirst, ReadsInTurn}
 use Rattle.bench_tasks.specs.Common.{Command, Task, All, Bad, Absent, loaded, file_names, names_in, names_until}
 use Rattle.bench_tasks.specs.declared.stop.Stop.{Stop}
-use Rattle.bench_outcomes.specs.Common.{CommandGives, MayRefuse, Appended, CutShort, IsReported, IsSettled, Succeeds}
+use Rattle.refusals.specs.declared.refusal.Refusal.{Refusal}
+use Rattle.bench_outcomes.specs.Common.{CommandGives, MayRefuse, Appended, CutShort, IsReported, IsSettled, Succeeds, is_negative}
 use Rattle.bench_outcomes.specs.declared.status.Status.{Status}
 use Rattle.bench_outcomes.specs.declared.status.Status.TheVariants as status
 use Rattle.bench_top.specs.Calm.{HasRead, IsCalm}
-use Rattle.bench_top.specs.Endings.{IsStopOf, ReportedBad, StopsAfter, Unread}
+use Rattle.bench_top.specs.Endings.{IsStopOf, ReportedBad, ReportedRefusal, StopsAfter, Unread}
 use Rattle.bench_top.specs.Given.{GivenOutcome}
 use Rattle.bench_top.specs.Writes.{GivesTold, WritesAs}
 
@@ -70,9 +71,10 @@ pub record Runs {S K : Type 0} (holds : S → Option (List NamedFile)) (is_stead
       → IsCalm (is_steady first) (faults first) (faults last) (sink_faults before) (sink_faults now)
       → (ended ≡ status.Done) ⊎ (ended ≡ status.Memory)
 
--- the same, and this stopped the run, if it was stopped
+-- the same, and this stopped the run, if it was stopped, and this is why its input was refused, if
+-- it was refused
 pub record RunsTo {S K : Type 0} (holds : S → Option (List NamedFile)) (is_steady : S → Bool) (faults : S → ℕ) (reads : S → List ℕ → Answer → S → Type 0)
-    (written : K → Option (List ℕ)) (writes : K → List ℕ → ℕ → K → Type 0) (sink_faults : K → ℕ) (row : Option Command) (ended : Status) (stopped : Option Stop)
+    (written : K → Option (List ℕ)) (writes : K → List ℕ → ℕ → K → Type 0) (sink_faults : K → ℕ) (row : Option Command) (ended : Status) (stopped : Option Stop) (refused : Option Refusal)
     (first last : S) (before now : K) : Type 0 where
   pub runs : Runs holds is_steady faults reads written writes sink_faults row ended first last before now
   -- the stop is what the files hold, if they are known
@@ -83,3 +85,7 @@ pub record RunsTo {S K : Type 0} (holds : S → Option (List NamedFile)) (is_ste
   -- a bad file is the one that the written line reports, and a failed read has its file
   pub reported : ended ≡ status.BadInput → ReportedBad stopped (written before) (written now)
   pub unread_file : ended ≡ status.ReadFault → Unread stopped
+  -- there is a refusal exactly if the status is Negative, and it is the one that the written line
+  -- reports
+  pub is_refused : is_some refused ≡ is_negative ended
+  pub reported_refusal : ended ≡ status.Negative → ReportedRefusal refused (written before) (written now)

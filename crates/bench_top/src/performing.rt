@@ -1,12 +1,12 @@
 //! A command from its files to its report.
-ghost use Rattle.std.specs.Prelude.{◌≡◌, ◌≢◌, ◌⊎◌, ◌↔◌, ℕ, List, IsTrue, IsErrOf, IsOk, IfOk, IfErr, Some};
+ghost use Rattle.std.specs.Prelude.{◌≡◌, ◌≢◌, ◌⊎◌, ◌↔◌, ℕ, List, IsTrue, IsErrOf, IsOk, IfOk, IfErr, Some, is_some};
 ghost use Rattle.outside.specs.Common.{Rose, NamedFile, ReadsFirst, ReadsInTurn};
 ghost use Rattle.bench_top.specs.Calm.{HasRead};
-ghost use Rattle.bench_top.specs.Endings.{IsStopOf, ReportedBad, ReportsBad, StopsAfter, Unread, stop_in};
+ghost use Rattle.bench_top.specs.Endings.{IsStopOf, ReportedBad, ReportedRefusal, ReportsBad, StopsAfter, Unread, stop_in};
 ghost use Rattle.bench_top.specs.Given.{GivenOutcome};
 ghost use Rattle.bench_top.specs.Writes.{GivesTold, WritesAs};
 ghost use Rattle.bench_tasks.specs.Common.{asked, Absent, loaded, LoadsAs, task_of, Held, file_names, IsRead, IsReadFault, names_until};
-ghost use Rattle.bench_outcomes.specs.Common.{LoadedGives, Appended, CutShort, IsReported, IsSettled, MayRefuse, GatheredMayRefuse};
+ghost use Rattle.bench_outcomes.specs.Common.{LoadedGives, Appended, CutShort, IsReported, IsSettled, MayRefuse, GatheredMayRefuse, is_negative};
 
 use crate::ending::RunEnding;
 use bench_outcomes::{Report, Status};
@@ -50,6 +50,7 @@ fn report_on(alloc: Global, gathered: Result<Task, Stop>) -> Result<Report, Stat
             Ok(bytes) => Ok(Report {
                 status: Status::BadInput,
                 bytes,
+                refusal: None,
             }),
             Err(_) => Err(Status::Memory),
         },
@@ -102,6 +103,10 @@ pub fn perform<S: Shelf, K: Sink>(
     ensures reported { result.status ≡ Status.BadInput →
         ReportedBad result.stop (K.written sink.old) (K.written sink.new) }
     ensures unread { result.status ≡ Status.ReadFault → Unread result.stop }
+    // Why the input was refused, and what was written of that.
+    ensures is_refused { is_some result.refusal ≡ is_negative result.status }
+    ensures refusal { result.status ≡ Status.Negative →
+        ReportedRefusal result.refusal (K.written sink.old) (K.written sink.new) }
     ensures missing { (files : List NamedFile) → S.files shelf.old ≡ Some files
         → result.status ≡ Status.ReadFault → IsTrue (S.steady shelf.old)
         → (file : ℕ) × (loaded files (asked command.entry) ≡ Absent file) }
@@ -113,12 +118,18 @@ pub fn perform<S: Shelf, K: Sink>(
             Ok(()) => RunEnding {
                 status: report.status,
                 stop,
+                refusal: report.refusal,
             },
             Err(SinkFailed) => RunEnding {
                 status: Status::WriteFault,
                 stop,
+                refusal: None,
             },
         },
-        Err(status) => RunEnding { status, stop },
+        Err(status) => RunEnding {
+            status,
+            stop,
+            refusal: None,
+        },
     }
 }

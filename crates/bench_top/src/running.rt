@@ -1,4 +1,4 @@
-//! The top call, and the same with the file that stopped it.
+//! The top call, and the same with the file that stopped it and why the input was refused.
 ghost use Rattle.std.specs.Prelude.{map, string_bytes};
 ghost use Rattle.bench_tasks.specs.Common.{command_of};
 ghost use Rattle.bench_top.specs.Runs.{Runs, RunsTo};
@@ -10,12 +10,14 @@ use bench_tasks::command_of;
 use outside::{Shelf, Sink};
 use std::alloc::Global;
 
-/// Does what the words ask for, as `run` does, and returns beside the status which file stopped it.
+/// Does what the words ask for, as `run` does, and returns beside the status which file stopped it,
+/// or why the input was refused.
 ///
 /// What it makes of the shelf and the sink is `RunsTo`: all that `run` makes of them (`Runs`), and
-/// four facts more. The stop is what the files hold (`stops`), the files up to it are those that
+/// six facts more. The stop is what the files hold (`stops`), the files up to it are those that
 /// were read (`stops_after`), a bad file is the one that the written line reports (`reported`), and
-/// a failed read has its file (`unread_file`).
+/// a failed read has its file (`unread_file`). There is a refusal exactly if the status is Negative
+/// (`is_refused`), and it is the one that the written line reports (`reported_refusal`).
 pub fn run_ending<S: Shelf, K: Sink>(
     alloc: Global,
     words: &[String],
@@ -23,14 +25,15 @@ pub fn run_ending<S: Shelf, K: Sink>(
     sink: &mut K,
 ) -> RunEnding
     ensures { RunsTo S.files S.steady S.faults S.reads K.written K.writes K.faults
-        (command_of (map string_bytes words.now)) result.status result.stop shelf.old shelf.new
-        sink.old sink.new }
+        (command_of (map string_bytes words.now)) result.status result.stop result.refusal
+        shelf.old shelf.new sink.old sink.new }
 {
     match command_of(words) {
         Some(command) => perform(alloc, command, shelf, sink),
         None => RunEnding {
             status: Status::Usage,
             stop: None,
+            refusal: None,
         },
     }
 }

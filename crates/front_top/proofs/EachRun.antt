@@ -12,7 +12,7 @@ use Rattle.front_top.specs.declared.ending.Message.TheVariants.{Nothing, Ending}
 module _ {S K : Type 0} (holds : S → Option (List NamedFile)) (is_steady : S → Bool) (faults : S → ℕ) (reads : S → List ℕ → Answer → S → Type 0)
     (written : K → Option (List ℕ)) (writes : K → List ℕ → ℕ → K → Type 0) (sink_faults : K → ℕ) (words : List (List ℕ)) (is_quiet is_abandoned : Bool) (said : Message) where
   pub fronts_run : (ending : RunEnding) (first last : S) (before now : K) → answer_of words ≡ None →
-      RunsTo holds is_steady faults reads written writes sink_faults (command_of words) ending.status ending.stop first last before now →
+      RunsTo holds is_steady faults reads written writes sink_faults (command_of words) ending.status ending.stop ending.refusal first last before now →
       (is_quiet ≡ true → said ≡ Nothing) → (is_quiet ≡ false → said ≡ Ending ending) →
       Fronts holds is_steady faults reads written writes sink_faults words is_quiet is_abandoned ending.status said first last before now
   fronts_run ending first last before now none ran quiet loud = record {

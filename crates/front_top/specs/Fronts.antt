@@ -14,15 +14,15 @@ use Rattle.front_top.specs.Answers.{answer_of}
 use Rattle.front_top.specs.declared.ending.Message.{Message}
 use Rattle.front_top.specs.declared.ending.Message.TheVariants as message
 
--- what is to be said of a run of this row is what its ending means: the status, and what stopped the
--- run, which is what the files hold and the reads say
+-- what is to be said of a run of this row is what its ending means: the status, what stopped the run,
+-- which is what the files hold and the reads say, and why its input was refused
 pub record Speaks {S K : Type 0} (holds : S → Option (List NamedFile)) (is_steady : S → Bool) (faults : S → ℕ) (reads : S → List ℕ → Answer → S → Type 0)
     (written : K → Option (List ℕ)) (writes : K → List ℕ → ℕ → K → Type 0) (sink_faults : K → ℕ) (words : List (List ℕ)) (ended : Status) (said : Message)
     (first last : S) (before now : K) : Type 0 where
   pub ending : RunEnding
   pub is_said : said ≡ message.Ending ending
   pub of_status : ending.status ≡ ended
-  pub ran : RunsTo holds is_steady faults reads written writes sink_faults (command_of words) ended ending.stop first last before now
+  pub ran : RunsTo holds is_steady faults reads written writes sink_faults (command_of words) ended ending.stop ending.refusal first last before now
 
 -- a text was the whole answer: it was written whole and all is done, or a beginning of it if
 -- the sink failed, and the write that failed is the last

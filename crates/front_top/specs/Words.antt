@@ -8,11 +8,13 @@ use Rattle.line_text.specs.declared.faults.FaultKind.{FaultKind}
 use Rattle.bench_tasks.specs.Common.{Command, command_of}
 use Rattle.bench_tasks.specs.declared.stop.Stop.{Stop}
 use Rattle.bench_tasks.specs.declared.stop.Stop.TheVariants as stop
+use Rattle.refusals.specs.declared.refusal.Refusal.{Refusal}
 use Rattle.bench_outcomes.specs.declared.status.Status.{Status}
 use Rattle.bench_outcomes.specs.declared.status.Status.TheVariants.{Done, Negative, Usage, ReadFault, BadInput, WriteFault, Memory}
 use Rattle.command_table.specs.Table.{rows}
 use Rattle.front_words.specs.LinesAt.{line_at}
 use Rattle.front_words.specs.Messages.{bad_file_text, unread_text}
+use Rattle.front_words.specs.Refused.{refused_text}
 use Rattle.front_words.specs.Unmatched.{unmatched_text}
 use Rattle.front_words.specs.Usage.{usage_text}
 use Rattle.front_top.specs.Files.{File, file_in}
@@ -54,24 +56,29 @@ stop_words command (Some (stop.Bad file line kind)) known = bad_words (file_in c
 stop_words command (Some (stop.ReadFault file)) known = unread_words (file_in command file) known.reason
 stop_words command (Some stop.Memory) known = []
 
+-- of a refusal: what it means
+abbrev pub refusal_words : Option Refusal → List ℕ
+refusal_words None = []
+refusal_words (Some refusal) = refused_text program refusal
+
 -- if the output could not be written whole
 abbrev pub lost_words : List ℕ
 lost_words = codes "mcg: the output could not be written whole\n"
 
--- what is said of a run of these words that ended with this status and this stop; nothing if it
--- is done or refused, and nothing if nobody reads the output any more
-abbrev pub words_of : (words : List (List ℕ)) → Status → Option Stop → Known → List ℕ
-words_of words Done stopped known = []
-words_of words Negative stopped known = []
-words_of words Usage stopped known = unmatched_text program usage_text rows words
-words_of words ReadFault stopped known = stop_words (command_of words) stopped known
-words_of words BadInput stopped known = stop_words (command_of words) stopped known
-words_of words WriteFault stopped known = if known.is_abandoned then [] else lost_words
-words_of words Memory stopped known = codes "mcg: memory ran out; nothing was written\n"
+-- what is said of a run of these words that ended with this status, this stop and this refusal;
+-- nothing if it is done, and nothing if nobody reads the output any more
+abbrev pub words_of : (words : List (List ℕ)) → Status → Option Stop → Option Refusal → Known → List ℕ
+words_of words Done stopped refused known = []
+words_of words Negative stopped refused known = refusal_words refused
+words_of words Usage stopped refused known = unmatched_text program usage_text rows words
+words_of words ReadFault stopped refused known = stop_words (command_of words) stopped known
+words_of words BadInput stopped refused known = stop_words (command_of words) stopped known
+words_of words WriteFault stopped refused known = if known.is_abandoned then [] else lost_words
+words_of words Memory stopped refused known = codes "mcg: memory ran out; nothing was written\n"
 
 -- what is said of a run of these words: of an answer that could not be written whole, or of this
 -- ending
 abbrev pub message_words : (words : List (List ℕ)) → Message → Known → List ℕ
 message_words words message.Nothing known = []
 message_words words message.Lost known = lost_words
-message_words words (message.Ending ending) known = words_of words ending.status ending.stop known
+message_words words (message.Ending ending) known = words_of words ending.status ending.stop ending.refusal known

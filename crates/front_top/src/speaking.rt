@@ -6,16 +6,18 @@ ghost use Rattle.front_words.specs.Saying.{Says};
 ghost use Rattle.front_top.specs.CluesSeen.{known_by};
 ghost use Rattle.front_top.specs.Files.{file_in};
 ghost use Rattle.front_top.specs.FilesSeen.{file_seen};
-ghost use Rattle.front_top.specs.Words.{bad_words, line_kept, lost_words, stop_words, unread_words, words_of};
+ghost use Rattle.front_top.specs.Words.{bad_words, line_kept, lost_words, refusal_words, stop_words, unread_words, words_of};
 
 use crate::files::{File, file_at};
 use bench_tasks::{Command, Stop, command_of};
 use bench_top::{RunEnding, Status};
 use front_words::{
-    BadFile, all_rows, line_at, say_bad_file, say_bytes, say_unmatched, say_unread, usage,
+    BadFile, all_rows, line_at, say_bad_file, say_bytes, say_refusal, say_unmatched, say_unread,
+    usage,
 };
 use line_text::FaultKind;
 use outside::{FailureReason, Sink, SinkFailed};
+use refusals::Refusal;
 
 // The name of the program.
 const PROGRAM: &str = "mcg";
@@ -128,6 +130,16 @@ fn say_stop<'a, E: Sink>(
     }
 }
 
+// Says of a refusal what it means.
+fn say_refused<E: Sink>(errors: &mut E, refusal: Option<Refusal>) -> Result<(), SinkFailed>
+    ensures { Says E.written E.writes E.faults (refusal_words refusal) result errors.old errors.new }
+{
+    match refusal {
+        Some(refusal) => say_refusal(errors, PROGRAM, refusal),
+        None => say_nothing(errors),
+    }
+}
+
 /// Says that the output could not be written whole. Takes no memory.
 pub fn say_lost<E: Sink>(errors: &mut E) -> Result<(), SinkFailed>
     ensures { Says E.written E.writes E.faults lost_words result errors.old errors.new }
@@ -135,8 +147,7 @@ pub fn say_lost<E: Sink>(errors: &mut E) -> Result<(), SinkFailed>
     say_bytes(errors, b"mcg: the output could not be written whole\n")
 }
 
-/// Says what the ending of a run of these words means; nothing if it is done or refused. Takes
-/// no memory.
+/// Says what the ending of a run of these words means; nothing if it is done. Takes no memory.
 pub fn say_ending<'a, E: Sink>(
     errors: &mut E,
     words: &'a [String],
@@ -144,10 +155,12 @@ pub fn say_ending<'a, E: Sink>(
     clues: Clues<'a>,
 ) -> Result<(), SinkFailed>
     ensures { Says E.written E.writes E.faults
-        (words_of (map string_bytes words.now) ending.status ending.stop (known_by clues.entry)) result errors.old errors.new }
+        (words_of (map string_bytes words.now) ending.status ending.stop ending.refusal
+        (known_by clues.entry)) result errors.old errors.new }
 {
     match ending.status {
-        Status::Done | Status::Negative => say_nothing(errors),
+        Status::Done => say_nothing(errors),
+        Status::Negative => say_refused(errors, ending.refusal),
         Status::Usage => say_unmatched(errors, PROGRAM, usage(), all_rows(), words),
         Status::ReadFault | Status::BadInput => {
             say_stop(errors, command_of(words), ending.stop, clues)

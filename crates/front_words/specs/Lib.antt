@@ -15,3 +15,4 @@ pub mod Shores
 pub mod Notes
 pub mod Numbers
 pub mod Headers
+pub mod Refused

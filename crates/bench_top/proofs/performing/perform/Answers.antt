@@ -4,6 +4,7 @@ use Rattle.bench_tasks.specs.Common.{asked, loaded, IsRead, IsReadFault}
 use Rattle.bench_tasks.specs.declared.stop.Stop.{Stop}
 use Rattle.bench_tasks.specs.declared.tasks.Task.TheVariants as code
 use Rattle.bench_top.proofs.GivenFiles.{given-outcome}
+use Rattle.bench_top.proofs.RefusalsReported.{no-refusal, reported-refusal}
 use Rattle.bench_top.proofs.ReadsMade.{absent-fault, first-reads}
 use Rattle.bench_outcomes.specs.Common.{IsReported, LoadedGives}
 use Rattle.bench_outcomes.specs.declared.status.Status.{Status}
@@ -116,3 +117,19 @@ returns-clause-answered g c =
     given-outcome g.S.Shelf.reads g.K.Sink.written g.K.Sink.writes (asked c.args.command) c.gather-gathered.result c.in-Err.status c.args.shelf.now c.gather-gathered.new.shelf
     c.args.sink.now c.args.sink.now (λ fault. c.in-Err.ensures.read_fault.0 (ap Err fault)) (λ fault. err-is (c.in-Err.ensures.read_fault.1 fault)) c.gather-gathered.ensures.answered
     (λ held loads. wrote-nothing g.K.Sink.written g.K.Sink.writes (LoadedGives held) c.in-Err.status c.args.sink.now c.in-Err.ensures.stops)
+
+-- the refusal is that of the report
+pub returns-in-Ok-emit-clause-is_refused : goal.returns-in-Ok-emit-clause-is_refused
+returns-in-Ok-emit-clause-is_refused g c = c.in-Ok.report.refused
+
+pub returns-in-Ok-emit-clause-refusal : goal.returns-in-Ok-emit-clause-refusal
+returns-in-Ok-emit-clause-refusal g c =
+    reported-refusal c.in-Ok.report.status c.in-Ok.report.refusal c.in-Ok.report.bytes.items (g.K.Sink.written c.args.sink.now) (g.K.Sink.written c.emit.new.sink)
+    c.in-Ok.report.refused c.in-Ok.report.told
+    (subst (λ (l : List ℕ). g.K.Sink.written c.emit.new.sink ≡ appended (g.K.Sink.written c.args.sink.now) l) c.deref.ensures.value c.in-Ok-emit.ensures.ok)
+
+pub returns-clause-is_refused : goal.returns-clause-is_refused
+returns-clause-is_refused g c = (no-refusal c.in-Err.status c.in-Err.ensures.stops).0
+
+pub returns-clause-refusal : goal.returns-clause-refusal
+returns-clause-refusal g c = λ negative. absurd ((no-refusal c.in-Err.status c.in-Err.ensures.stops).1 negative)

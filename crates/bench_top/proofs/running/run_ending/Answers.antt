@@ -26,7 +26,7 @@ returns-in-Some g c =
     let before = g.K.Sink.written c.args.sink.now in
     let now = g.K.Sink.written c.perform.new.sink in
     let steady = g.S.Shelf.steady c.args.shelf.now in
-    let runs : RunsTo g.S.Shelf.files g.S.Shelf.steady g.S.Shelf.faults g.S.Shelf.reads g.K.Sink.written g.K.Sink.writes g.K.Sink.faults (Some k) status c.perform.result.stop
+    let runs : RunsTo g.S.Shelf.files g.S.Shelf.steady g.S.Shelf.faults g.S.Shelf.reads g.K.Sink.written g.K.Sink.writes g.K.Sink.faults (Some k) status c.perform.result.stop c.perform.result.refusal
     c.args.shelf.now c.perform.new.shelf c.args.sink.now c.perform.new.sink = record {
       runs = record {
         usage = (λ e. absurd (p.usage e), λ none. absurd (none-some k (sym none)));
@@ -77,14 +77,16 @@ returns-in-Some g c =
       stops_after = p.stops_after;
       reported = p.reported;
       unread_file = p.unread;
+      is_refused = p.is_refused;
+      reported_refusal = p.refusal;
     } in
-    subst (λ (row : Option Command). RunsTo g.S.Shelf.files g.S.Shelf.steady g.S.Shelf.faults g.S.Shelf.reads g.K.Sink.written g.K.Sink.writes g.K.Sink.faults row status c.perform.result.stop
+    subst (λ (row : Option Command). RunsTo g.S.Shelf.files g.S.Shelf.steady g.S.Shelf.faults g.S.Shelf.reads g.K.Sink.written g.K.Sink.writes g.K.Sink.faults row status c.perform.result.stop c.perform.result.refusal
     c.args.shelf.now c.perform.new.shelf c.args.sink.now c.perform.new.sink) c.in-Some.ensures runs
 
 pub returns-in-None : goal.returns-in-None
 returns-in-None g c =
-    let runs : RunsTo g.S.Shelf.files g.S.Shelf.steady g.S.Shelf.faults g.S.Shelf.reads g.K.Sink.written g.K.Sink.writes g.K.Sink.faults None Usage None
+    let runs : RunsTo g.S.Shelf.files g.S.Shelf.steady g.S.Shelf.faults g.S.Shelf.reads g.K.Sink.written g.K.Sink.writes g.K.Sink.faults None Usage None None
     c.args.shelf.now c.args.shelf.now c.args.sink.now c.args.sink.now =
     usage-runs g.S.Shelf.files g.S.Shelf.steady g.S.Shelf.faults g.S.Shelf.reads g.K.Sink.written g.K.Sink.writes g.K.Sink.faults c.args.shelf.now c.args.sink.now in
-    subst (λ (row : Option Command). RunsTo g.S.Shelf.files g.S.Shelf.steady g.S.Shelf.faults g.S.Shelf.reads g.K.Sink.written g.K.Sink.writes g.K.Sink.faults row Usage None
+    subst (λ (row : Option Command). RunsTo g.S.Shelf.files g.S.Shelf.steady g.S.Shelf.faults g.S.Shelf.reads g.K.Sink.written g.K.Sink.writes g.K.Sink.faults row Usage None None
     c.args.shelf.now c.args.shelf.now c.args.sink.now c.args.sink.now) c.in-None.ensures runs

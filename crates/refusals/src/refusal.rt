@@ -1,0 +1,27 @@
+//! Refusals.
+
+use crate::faults::{CoverFault, EarFault, NodeFault};
+
+/// Why an input is refused. Trees, nodes, steps and moves are counted from 1, and nodes in preorder.
+#[derive(Clone, Copy, Debug, PartialEq, Eq)]
+pub enum Refusal {
+    /// The graph is not matching covered.
+    Graph { fault: CoverFault },
+    /// A tree is not a tight cut decomposition: this is its first node with a fault.
+    Tree {
+        tree: u32,
+        node: u32,
+        fault: NodeFault,
+    },
+    /// A list is not an ear decomposition: this is its first step with a fault.
+    Ears { step: u32, fault: EarFault },
+    /// This move has no result.
+    Stuck { step: u32 },
+    /// The tree that this move makes is not a tight cut decomposition: this is its first node with
+    /// a fault.
+    Move {
+        step: u32,
+        node: u32,
+        fault: NodeFault,
+    },
+}
