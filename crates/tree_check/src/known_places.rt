@@ -1,8 +1,7 @@
-//! What is known of the places in trees of cuts, so that nothing is sought twice.
-ghost use Rattle.std.specs.Prelude.{◌≡◌, IfSome, All};
-ghost use Rattle.graph_core.specs.Common.{Graph};
+//! What is known of the leaves of trees of cuts, so that nothing is sought twice.
+ghost use Rattle.std.specs.Prelude.{◌≡◌, IfSome};
 ghost use Rattle.tree_core.specs.Common.{IsLeafAt, place_of};
-ghost use Rattle.tree_check.specs.KnownPlaces.{IsLeafOf, IsPlaceOf};
+ghost use Rattle.tree_check.specs.KnownPlaces.{IsLeafOf};
 
 use contraction::Partition;
 use graph_facts::Covered;
@@ -11,23 +10,23 @@ use std::marker::Model;
 use tree_core::KnownPlace;
 
 /// A covered graph with what the judgement of its trees has found: the leaves that are bricks or
-/// braces, and the places of cuts. Contracts see the graph.
+/// braces. Contracts see the graph.
 #[derive(Drop)]
 pub struct KnownPlaces<'c, 'g> {
     covered: &'c Covered<'g>,
     leaves: Vec<KnownPlace<'c>>,
-    cuts: Vec<KnownPlace<'c>>,
 }
 
 impl<'c, 'g> Model for KnownPlaces<'c, 'g> {
     ghost use Rattle.graph_core.specs.Common.{Graph};
-    ghost use Rattle.tree_check.specs.KnownPlaces.{AreKnown};
+    ghost use Rattle.std.specs.Prelude.{All};
+    ghost use Rattle.tree_check.specs.KnownPlaces.{IsLeafOf};
 
     ghost Value = { Graph };
 
     ghost view = { λ k. k.covered.now };
 
-    ghost invariant = { λ k. AreKnown k.covered.now k.leaves.items k.cuts.items };
+    ghost invariant = { λ k. All (IsLeafOf k.covered.now) k.leaves.items };
 }
 
 impl<'c, 'g> KnownPlaces<'c, 'g> {
@@ -38,7 +37,6 @@ impl<'c, 'g> KnownPlaces<'c, 'g> {
         KnownPlaces {
             covered,
             leaves: Vec::new(alloc),
-            cuts: Vec::new(alloc),
         }
     }
 
@@ -54,14 +52,12 @@ impl<'c, 'g> KnownPlaces<'c, 'g> {
         ensures { IfSome result
             (λ q. (q.now ≡ place_of self.now p.now.blocks) × IsLeafAt self.now p.now.blocks) }
     {
-        place_among(&self.leaves, p)
-    }
-
-    /// The place of the cut at the partition, if it is known.
-    pub(crate) fn cut_at(&self, p: &Partition) -> Option<&KnownPlace<'c>>
-        ensures { IfSome result (λ q. q.now ≡ place_of self.now p.now.blocks) }
-    {
-        place_among(&self.cuts, p)
+        for leaf in &self.leaves {
+            if leaf.place().partition().has_blocks_of(p) {
+                return Some(leaf);
+            }
+        }
+        None
     }
 
     /// The leaf is known from now on.
@@ -72,28 +68,4 @@ impl<'c, 'g> KnownPlaces<'c, 'g> {
         self.leaves.push(place)?;
         Ok(())
     }
-
-    /// The place of a cut is known from now on.
-    pub(crate) fn add_cut(&mut self, place: KnownPlace<'c>) -> Result<(), Memory>
-        requires { IsPlaceOf self.old place }
-        ensures { self.new ≡ self.old }
-    {
-        self.cuts.push(place)?;
-        Ok(())
-    }
-}
-
-// The place of the partition, if it is among these.
-fn place_among<'p, 'g>(places: &'p [KnownPlace<'g>], p: &Partition) -> Option<&'p KnownPlace<'g>>
-    ensures place { (g : Graph) → All (IsPlaceOf g) places.now →
-        IfSome result (λ q. q.now ≡ place_of g p.now.blocks) }
-    ensures leaf { (g : Graph) → All (IsLeafOf g) places.now →
-        IfSome result (λ q. (q.now ≡ place_of g p.now.blocks) × IsLeafAt g p.now.blocks) }
-{
-    for place in places {
-        if place.place().partition().has_blocks_of(p) {
-            return Some(place);
-        }
-    }
-    None
 }

@@ -1,37 +1,28 @@
 //! The rules that a cut of a derivation keeps.
 ghost use Rattle.std.specs.Prelude.{◌≡◌, ◌-◌, ℕ, true, All, length, IfOk, None, Some};
-ghost use Rattle.counting.specs.Common.{IsRisingIn, Within, is_odd, mem, rising_list};
+ghost use Rattle.counting.specs.Common.{Within, is_odd, mem, rising_list};
 ghost use Rattle.graph_core.specs.Common.{IsTightAt, IsUnion, block_count, blocks_in, lifted, quotient};
 ghost use Rattle.match_core.specs.Common.{IsOf, edges_of};
-ghost use Rattle.tight_cuts.specs.Common.{IsTightness};
 ghost use Rattle.tree_core.specs.Common.{IsCutAt};
 ghost use Rattle.tree_check.specs.Common.{why_of, BreaksCut, CrossesAt};
 
 use crate::judgement::Why;
-use crate::known_places::KnownPlaces;
-use contraction::{Partition, lift, quotient};
+use contraction::{Partition, lift, quotient, quotient_graph};
 use graph_core::Numbers;
 use match_core::Matching;
 use std::alloc::{AllocError as Memory, Global};
-use tight_cuts::{Tightness, is_tight, tightness_in};
-use tree_core::{KnownPlace, Place};
+use tight_cuts::{Tightness, is_tight};
+use tree_core::Place;
 use vset_core::VSet;
 
 /// The first rule that the cut of `shore` breaks at `p`; `None` if and only if `shore` is a
 /// canonical nontrivial shore that is tight at `p`.
-pub(crate) fn cut_fault<'c, 'g>(
-    alloc: Global,
-    known: &mut KnownPlaces<'c, 'g>,
-    p: &Place<'c>,
-    shore: VSet,
-) -> Result<Option<Why>, Memory>
-    requires graph { p.now.graph ≡ known.old }
-    requires within { All (Within (p.now.graph.order - 1)) shore }
+pub(crate) fn cut_fault(alloc: Global, p: &Place, shore: VSet) -> Result<Option<Why>, Memory>
+    requires { All (Within (p.now.graph.order - 1)) shore }
     ensures some { IfOk result
         (λ o. (why : _) → o ≡ Some why →
         BreaksCut p.now.graph p.now.blocks (mem shore) (why_of why)) }
     ensures none { IfOk result (λ o. o ≡ None → IsCutAt p.now.graph p.now.blocks shore) }
-    ensures same { known.new ≡ known.old }
 {
     shore.rises();
     let blocks = p.partition();
@@ -45,73 +36,30 @@ pub(crate) fn cut_fault<'c, 'g>(
     if inside < 3 || blocks.len() < inside + 3 {
         return Ok(Some(Why::Trivial));
     }
-    match crossing_at(alloc, known, p, shore)? {
+    match crossing_at(alloc, p, shore)? {
         Some(matching) => Ok(Some(Why::NotTight { matching })),
         None => Ok(None),
     }
 }
 
 // A perfect matching at p with at least two edges in the cut of the shore, a union of an odd
-// number of blocks; none if and only if the shore is tight at p. The place is made known if it is
-// not.
-fn crossing_at<'c, 'g>(
-    alloc: Global,
-    known: &mut KnownPlaces<'c, 'g>,
-    p: &Place<'c>,
-    shore: VSet,
-) -> Result<Option<Numbers>, Memory>
-    requires graph { p.now.graph ≡ known.old }
+// number of blocks; none if and only if the shore is tight at p. The quotient graph alone is made.
+fn crossing_at(alloc: Global, p: &Place, shore: VSet) -> Result<Option<Numbers>, Memory>
     requires union { IsUnion p.now.graph.order p.now.blocks (mem shore) }
     requires odd { is_odd (block_count p.now.blocks (mem shore)) ≡ true }
     ensures some { IfOk result
         (λ o. (m : _) → o ≡ Some m → CrossesAt p.now.graph p.now.blocks (mem shore) m) }
     ensures none { IfOk result (λ o. o ≡ None → IsTightAt p.now.graph p.now.blocks (mem shore)) }
-    ensures same { known.new ≡ known.old }
 {
-    if let Some(place) = known.cut_at(p.partition()) {
-        return crossing_by(alloc, place, shore);
-    }
-    let copy = p.copy(alloc)?;
-    let place = KnownPlace::of(alloc, copy)?;
-    let found = crossing_by(alloc, &place, shore)?;
-    known.add_cut(place)?;
-    Ok(found)
-}
-
-// The same, from what is known of the place.
-fn crossing_by(alloc: Global, place: &KnownPlace, shore: VSet) -> Result<Option<Numbers>, Memory>
-    requires union { IsUnion place.now.graph.order place.now.blocks (mem shore) }
-    requires odd { is_odd (block_count place.now.blocks (mem shore)) ≡ true }
-    ensures some { IfOk result (λ o. (m : _) → o ≡ Some m →
-        CrossesAt place.now.graph place.now.blocks (mem shore) m) }
-    ensures none { IfOk result
-        (λ o. o ≡ None → IsTightAt place.now.graph place.now.blocks (mem shore)) }
-{
-    place.keeps_place();
-    let places = places_in(place.place().partition(), shore);
-    match tightness_at(alloc, place, places)? {
+    p.keeps_place();
+    let blocks = p.partition();
+    let q = quotient_graph(alloc, p.graph(), blocks)?;
+    let places = places_in(blocks, shore);
+    match is_tight(alloc, &q, places)? {
         Tightness::Tight => Ok(None),
         Tightness::Crossed { matching } => {
-            let edges = edges_at(alloc, place.place(), &matching)?;
+            let edges = edges_at(alloc, p, &matching)?;
             Ok(Some(edges))
-        }
-    }
-}
-
-// Whether the cut of an odd number of blocks, by their places, is tight in the quotient. Below a cut
-// what is known of the quotient serves.
-fn tightness_at(alloc: Global, place: &KnownPlace, shore: VSet) -> Result<Tightness, Memory>
-    requires shore { IsRisingIn (quotient place.now.graph place.now.blocks).order shore }
-    requires odd { is_odd (length shore) ≡ true }
-    ensures { IfOk result
-        (IsTightness (quotient place.now.graph place.now.blocks) (mem shore)) }
-{
-    place.keeps_place();
-    match place.below() {
-        Some(covered) => tightness_in(alloc, covered, shore),
-        None => {
-            let q = place.quotient(alloc)?;
-            is_tight(alloc, q.graph(), shore)
         }
     }
 }

@@ -48,9 +48,8 @@ pub fn scan_covered(alloc: Global, c: &Covered, tree: &Tree) -> Result<Scanned, 
     scan_known(alloc, &mut known, tree)
 }
 
-/// What `scan_covered` answers of a tree of a covered graph. What is known of a place is not
-/// sought again: whether a leaf is a brick or a brace, and the quotient at a cut. What is found is
-/// known from now on.
+/// What `scan_covered` returns of a tree of a covered graph. What is known of a leaf is not sought
+/// again: that it is a brick or a brace, and which. What is found is known from now on.
 pub fn scan_known(alloc: Global, known: &mut KnownPlaces, tree: &Tree) -> Result<Scanned, Memory>
     requires { Fits known.old.order (shape_of tree.now) }
     ensures scanned { IfOk result (IsScanned known.old (shape_of tree.now)) }
@@ -81,7 +80,7 @@ fn scan_cut<'c, 'g>(
         (cut shore (shape_of kept.now) (shape_of merged.now)) node) }
     ensures same { known.new ≡ known.old }
 {
-    if let Some(why) = cut_fault(alloc, known, p, shore)? {
+    if let Some(why) = cut_fault(alloc, p, shore)? {
         return Ok(Scanned::Refused { node, why });
     }
     p.keeps_place();

@@ -8,7 +8,6 @@ ghost use Rattle.counting.specs.Common.{Within};
 ghost use Rattle.tree_core.specs.Common.{IsCutAt, IsDerivation, IsDerivationAt, move_of, Fits, shape_of};
 ghost use Rattle.tree_check.specs.Common.{IsBlock, IsMadeBy, IsSwitched};
 
-use crate::known_places::KnownPlaces;
 use crate::rules::cut_fault;
 use contraction::Partition;
 use graph_facts::Covered;
@@ -25,25 +24,22 @@ pub(crate) fn is_sound(alloc: Global, c: &Covered, made: &Tree, item: &Move) -> 
     match item {
         Move::Rotate { .. } => Ok(true),
         Move::Switch { path, u, v } => {
-            let mut known = KnownPlaces::none(alloc, c);
             let root = Place::root(alloc, c)?;
-            is_sound_switch(alloc, &mut known, &root, made, path.as_slice(), *u, *v)
+            is_sound_switch(alloc, &root, made, path.as_slice(), *u, *v)
         }
     }
 }
 
 // Whether the tree that the Switch at the end of the path made of a derivation at p is one by
 // the laws of moves.
-fn is_sound_switch<'c, 'g>(
+fn is_sound_switch(
     alloc: Global,
-    known: &mut KnownPlaces<'c, 'g>,
-    p: &Place<'c>,
+    p: &Place,
     made: &Tree,
     path: &[Side],
     u: VSet,
     v: VSet,
 ) -> Result<bool, Memory>
-    requires graph { p.now.graph ≡ known.old }
     requires fits { Fits p.now.graph.order (shape_of made.now) }
     requires switched { IsSwitched p.now.graph p.now.blocks path.now u v (shape_of made.now) }
     ensures { IfOk result
@@ -59,29 +55,21 @@ fn is_sound_switch<'c, 'g>(
     };
     p.keeps_place();
     match path.split_first() {
-        None => exchanges_blocks(alloc, known, p, *shore, u, v),
+        None => exchanges_blocks(alloc, p, *shore, u, v),
         Some((Side::Kept, rest)) => {
             let below = p.kept(alloc, *shore)?;
-            is_sound_switch(alloc, known, &below, kept, rest, u, v)
+            is_sound_switch(alloc, &below, kept, rest, u, v)
         }
         Some((Side::Merged, rest)) => {
             let below = p.merged(alloc, *shore)?;
-            is_sound_switch(alloc, known, &below, merged, rest, u, v)
+            is_sound_switch(alloc, &below, merged, rest, u, v)
         }
     }
 }
 
 // Whether u and v are blocks at p, and the shore is a canonical nontrivial one that is tight there.
-fn exchanges_blocks<'c, 'g>(
-    alloc: Global,
-    known: &mut KnownPlaces<'c, 'g>,
-    p: &Place<'c>,
-    shore: VSet,
-    u: VSet,
-    v: VSet,
-) -> Result<bool, Memory>
-    requires graph { p.now.graph ≡ known.old }
-    requires within { All (Within (p.now.graph.order - 1)) shore }
+fn exchanges_blocks(alloc: Global, p: &Place, shore: VSet, u: VSet, v: VSet) -> Result<bool, Memory>
+    requires { All (Within (p.now.graph.order - 1)) shore }
     ensures { IfOk result
         (λ holds. IsTrue holds → IsBlock p.now.graph.order p.now.blocks u ×
         IsBlock p.now.graph.order p.now.blocks v × IsCutAt p.now.graph p.now.blocks shore) }
@@ -89,7 +77,7 @@ fn exchanges_blocks<'c, 'g>(
     if !is_block(p.partition(), u) || !is_block(p.partition(), v) {
         return Ok(false);
     }
-    match cut_fault(alloc, known, p, shore)? {
+    match cut_fault(alloc, p, shore)? {
         Some(_) => Ok(false),
         None => Ok(true),
     }

@@ -1,16 +1,50 @@
-use Rattle.std.proofs.Common.{◌≡◌, ◌∙◌, IfOk, List, Option, Some, subst, ℕ}
-use Rattle.counting.proofs.Common.{mem}
-use Rattle.tree_core.proofs.Common.{PlaceValue}
-use Rattle.tree_check.specs.Common.{CrossesAt}
-use Rattle.tree_check.proofs.KnownValues.{place-is}
+use Rattle.std.proofs.Common.{ℕ, List, [], length, Option, unwrap_or, sym, ap, ap₂, ◌∙◌, subst}
+use Rattle.counting.proofs.Common.{is_odd, mem, rising_list, IsRisingIn}
+use Rattle.graph_core.proofs.Common.{Graph, IsTight, blocks_in, quotient}
+use Rattle.tight_cuts.specs.Common.{CrossesTwice, IsTightness}
+use Rattle.tree_check.proofs.CutRules.{crossing-shown, places-odd, places-rise, tight-shown}
 use Rattle.tree_check.proofs.rules.crossing_at.Goals as goal
 
-pub returns-in-Some-clause-some : goal.returns-in-Some-clause-some
-returns-in-Some-clause-some c =
-    subst (λ (q : PlaceValue). IfOk c.crossing_by.result (λ (o : Option (List ℕ)). (m : List ℕ) → o ≡ Some m → CrossesAt q.graph q.blocks (mem c.args.shore) m))
-    (place-is c.args.known.now c.partition.result.now.blocks c.in-Some.place.now c.args.p.now c.in-Some.ensures c.requires.graph c.partition.ensures.blocks)
-    c.crossing_by.ensures.some
+pub is_tight-requires-clause-shore : goal.is_tight-requires-clause-shore
+is_tight-requires-clause-shore c =
+    let g = c.args.p.now.graph in
+    let p = c.args.p.now.blocks in
+    let x = mem c.args.shore in
+    let places = c.places_in-places.ensures ∙ ap (λ (bs : List (List ℕ)). rising_list (length bs) (blocks_in bs x)) c.partition-blocks.ensures.blocks in
+    let made = c.in_ok-q.ensures ∙ ap₂ quotient c.graph.ensures c.partition-blocks.ensures.blocks in
+    subst (λ (h : Graph). IsRisingIn h.order c.places_in-places.result) (sym made)
+    (subst (λ (s : List ℕ). IsRisingIn (quotient g p).order s) (sym places)
+    (places-rise g p x c.keeps_place.ensures.limits.multigraph.ends c.keeps_place.ensures.partition.partition))
+
+pub is_tight-requires-clause-odd : goal.is_tight-requires-clause-odd
+is_tight-requires-clause-odd c =
+    let x = mem c.args.shore in
+    let places = c.places_in-places.ensures ∙ ap (λ (bs : List (List ℕ)). rising_list (length bs) (blocks_in bs x)) c.partition-blocks.ensures.blocks in
+    ap (λ (s : List ℕ). is_odd (length s)) places
+    ∙ places-odd c.args.p.now.graph c.args.p.now.blocks x c.keeps_place.ensures.limits.multigraph.ends c.keeps_place.ensures.partition.partition c.requires.odd
+
+pub returns-in-Tight-clause-none : goal.returns-in-Tight-clause-none
+returns-in-Tight-clause-none c none =
+    let g = c.args.p.now.graph in
+    let p = c.args.p.now.blocks in
+    let x = mem c.args.shore in
+    let places = c.places_in-places.ensures ∙ ap (λ (bs : List (List ℕ)). rising_list (length bs) (blocks_in bs x)) c.partition-blocks.ensures.blocks in
+    let made = c.in_ok-q.ensures ∙ ap₂ quotient c.graph.ensures c.partition-blocks.ensures.blocks in
+    tight-shown g p x c.keeps_place.ensures.limits.multigraph.ends c.keeps_place.ensures.partition.partition c.requires.union
+    (subst (λ (s : List ℕ). IsTight (quotient g p) (mem s)) places
+    (subst (λ (h : Graph). IsTight h (mem c.places_in-places.result)) made
+    (subst (IsTightness c.in_ok-q.q (mem c.places_in-places.result)) c.in-Tight.is c.in_ok-is_tight.ensures)))
 
 pub returns-clause-some : goal.returns-clause-some
 returns-clause-some c m is =
-    subst (λ (q : PlaceValue). CrossesAt q.graph q.blocks (mem c.args.shore) m) (c.in_ok-place.ensures ∙ c.in_ok-copy.ensures) (c.in_ok-found.ensures.some m is)
+    let g = c.args.p.now.graph in
+    let p = c.args.p.now.blocks in
+    let x = mem c.args.shore in
+    let places = c.places_in-places.ensures ∙ ap (λ (bs : List (List ℕ)). rising_list (length bs) (blocks_in bs x)) c.partition-blocks.ensures.blocks in
+    let made = c.in_ok-q.ensures ∙ ap₂ quotient c.graph.ensures c.partition-blocks.ensures.blocks in
+    crossing-shown g p x c.keeps_place.ensures.limits.multigraph.ends c.keeps_place.ensures.partition.partition c.requires.union
+    c.in-Crossed.matching m
+    (subst (λ (s : List ℕ). CrossesTwice (quotient g p) (mem s) c.in-Crossed.matching) places
+    (subst (λ (h : Graph). CrossesTwice h (mem c.places_in-places.result) c.in-Crossed.matching) made
+    (subst (IsTightness c.in_ok-q.q (mem c.places_in-places.result)) c.in-Crossed.is c.in_ok-is_tight.ensures).1))
+    (sym (ap (λ (o : Option (List ℕ)). unwrap_or o []) is) ∙ c.in_ok-edges-in-Crossed.ensures)
