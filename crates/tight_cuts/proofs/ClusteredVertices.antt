@@ -1,14 +1,14 @@
 -- Clusters of vertices that no nontrivial tight cut separates. Idea: that none separates two
 -- vertices is an equivalence, and a pair is separated at an edge only by a nontrivial tight cut.
-use Rattle.std.proofs.Common.{◌≡◌, ◌≢◌, ℕ, ◌==◌, ◌<◌, ◌≤◌, ◌+◌, ◌&&◌, ◌||◌, not, cond, true, false, List, [], None, length, refl, sym, ap, ◌∙◌, arith, inl, inr}
-use Rattle.counting.proofs.Common.{both_ways, cases_Bool, cases_eq, false_from_ne_true, Within, Set, pair_set, list_any}
+use Rattle.std.proofs.Common.{◌≡◌, ◌≢◌, ℕ, ◌==◌, ◌&&◌, ◌||◌, not, cond, true, false, List, [], None, length, refl, sym, ap, ◌∙◌, eqb-true, arith, inl, inr}
+use Rattle.counting.proofs.Common.{both_ways, cases_Bool, false_from_ne_true, or_cases, Within, Set, item, mem, pair_set, list_any}
 use Rattle.graph_core.proofs.Common.{Graph, IsCovered, IsGraph, first_end, second_end, in_cut, size, IsNontrivial, IsTight}
 use Rattle.tight_cuts.proofs.EdgeLoop.{ends_between, high_within, low_within, no_pair, step_covers}
 use Rattle.tight_cuts.proofs.FirstPairs.{no_first}
 use Rattle.tight_cuts.proofs.FrontCandidates.{edge-known}
 use Rattle.tight_cuts.proofs.LeastShores.{parts_nontrivial, separated_says}
 use Rattle.tight_cuts.specs.Clusters.{AreClusters, AreUnparted}
-use Rattle.tight_cuts.specs.Common.{at_place, cuts, first_separated, greater_end, is_separated, lesser_end, with_edge_cut, with_pair, Candidate}
+use Rattle.tight_cuts.specs.Common.{cuts, first_separated, greater_end, is_separated, lesser_end, with_edge_cut, with_pair, Candidate}
 
 module _ (g : Graph) (is : IsGraph g) (cov : IsCovered g) (e : ℕ) (we : Within (size g) e) where
   -- if no pair is separated at an edge, no nontrivial tight cut has the edge
@@ -31,36 +31,34 @@ module _ (g : Graph) (is : IsGraph g) (cov : IsCovered g) (e : ℕ) (we : Within
       ends_level : (x : Set) → x (first_end g e) ≡ x (second_end g e) → x (lesser_end g e) ≡ true → x (greater_end g e) ≡ true
       ends_level x h t = grind arith
 
--- each vertex alone
-pub clusters_alone : (g : Graph) (labels : List ℕ) → length labels ≡ g.order + 1 → ((v : ℕ) → v ≤ g.order → at_place labels v ≡ v) → AreClusters g labels
-clusters_alone g labels long own = record {
-  long = long;
-  unparted = λ u v wu wv q x t nt. ap x (sym (own u wu.1) ∙ q ∙ own v wv.1);
-}
-
--- two vertices with one label after the label of a took the place of that of b
-joined_level : (g : Graph) (old : List ℕ) (a b u v : ℕ) → AreClusters g old → Within g.order a → Within g.order b → Within g.order u → Within g.order v → AreUnparted g a b →
-    cond (at_place old u == at_place old b) (at_place old a) (at_place old u) ≡ cond (at_place old v == at_place old b) (at_place old a) (at_place old v) → AreUnparted g u v
-joined_level g old a b u v c wa wb wu wv level q x t nt = elim (cases_eq (at_place old u) (at_place old b)) [
-  | inl p ↦ elim (cases_eq (at_place old v) (at_place old b)) [
-    | inl r ↦ c.unparted u b wu wb p x t nt ∙ sym (c.unparted v b wv wb r x t nt)
-    | inr r ↦ c.unparted u b wu wb p x t nt ∙ sym (level x t nt) ∙ c.unparted a v wa wv (grind arith) x t nt
+-- two clusters joined: each vertex of both is on the side of a
+module _ (g : Graph) (old new : List (List ℕ)) (a b : ℕ) (all : List ℕ) (c : AreClusters g old) (wa : Within g.order a) (wb : Within g.order b) (ab : AreUnparted g a b)
+    (members : (v : ℕ) → mem all v ≡ (((mem (item old a) v || mem (item old b) v) || (a == v)) || (b == v)))
+    (long : length new ≡ length old) (each : (v : ℕ) → Within (length old) v → item new v ≡ cond (mem all v) all (item old v)) where
+  beside : (v : ℕ) → mem all v ≡ true → AreUnparted g a v
+  beside v h x t nt = elim (or_cases ((mem (item old a) v || mem (item old b) v) || (a == v)) (b == v) (sym (members v) ∙ h)) [
+    | inl p ↦ elim (or_cases (mem (item old a) v || mem (item old b) v) (a == v) p) [
+      | inl q ↦ elim (or_cases (mem (item old a) v) (mem (item old b) v) q) [
+        | inl k ↦ c.unparted a v wa k x t nt
+        | inr k ↦ ab x t nt ∙ c.unparted b v wb k x t nt
+      ]
+      | inr q ↦ ap x (eqb-true a v q)
+    ]
+    | inr p ↦ ab x t nt ∙ ap x (eqb-true b v p)
   ]
-  | inr p ↦ elim (cases_eq (at_place old v) (at_place old b)) [
-    | inl r ↦ c.unparted u a wu wa (grind arith) x t nt ∙ level x t nt ∙ sym (c.unparted v b wv wb r x t nt)
-    | inr r ↦ c.unparted u v wu wv (grind arith) x t nt
-  ]
-]
 
--- two clusters joined
-clusters_joined : (g : Graph) (old new : List ℕ) (a b : ℕ) → AreClusters g old → Within g.order a → Within g.order b → AreUnparted g a b → length new ≡ length old →
-    ((v : ℕ) → v < length old → at_place new v ≡ cond (at_place old v == at_place old b) (at_place old a) (at_place old v)) → AreClusters g new
-clusters_joined g old new a b c wa wb level long each = record {
-  long = long ∙ c.long;
-  unparted = λ u v wu wv q. joined_level g old a b u v c wa wb wu wv level (sym (each u (let l = c.long in let r = wu.1 in omega arith)) ∙ q ∙ each v (let l = c.long in let r = wv.1 in omega arith));
-}
+  pub clusters_joined : AreClusters g new
+  clusters_joined = record {
+    one_each = long ∙ c.one_each;
+    unparted = λ u v wu h x t nt. elim (cases_Bool (mem all u)) [
+      | inl k ↦ sym (beside u k x t nt) ∙ beside v (sym (ap (λ s. mem s v) (each u (within u wu) ∙ ap (λ b. cond b all (item old u)) k)) ∙ h) x t nt
+      | inr k ↦ c.unparted u v wu (sym (ap (λ s. mem s v) (each u (within u wu) ∙ ap (λ b. cond b all (item old u)) k)) ∙ h) x t nt
+    ];
+  }
+    where
+      within : (u : ℕ) → Within g.order u → Within (length old) u
+      within u w = grind (arith, c.one_each)
 
--- the same for the ends of an edge and their labels
-pub ends_joined : (g : Graph) (old new : List ℕ) (e a b near far : ℕ) → AreClusters g old → Within g.order a → Within g.order b → a ≡ first_end g e → b ≡ second_end g e → AreUnparted g (first_end g e) (second_end g e) → near ≡ at_place old a → far ≡ at_place old b → length new ≡ length old →
-    ((v : ℕ) → v < length old → at_place new v ≡ cond (at_place old v == far) near (at_place old v)) → AreClusters g new
-ends_joined g old new e a b near far c wa wb qa qb level qn qf long each = clusters_joined g old new a b c wa wb (λ x t nt. ap x qa ∙ level x t nt ∙ ap x (sym qb)) long (λ v l. each v l ∙ ap (λ k. cond (at_place old v == k) near (at_place old v)) qf ∙ ap (λ k. cond (at_place old v == at_place old b) k (at_place old v)) qn)
+-- the ends of an edge, by the set of one of them
+pub set_unparted : (g : Graph) (rows : List (List ℕ)) (e a b : ℕ) (set : List ℕ) → AreClusters g rows → Within g.order a → a ≡ first_end g e → b ≡ second_end g e → set ≡ item rows a → mem set b ≡ true → AreUnparted g (first_end g e) (second_end g e)
+set_unparted g rows e a b set c wa qa qb is h x t nt = ap x (sym qa) ∙ c.unparted a b wa (ap (λ s. mem s b) (sym is) ∙ h) x t nt ∙ ap x qb

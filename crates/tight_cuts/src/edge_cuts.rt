@@ -65,20 +65,22 @@ pub(crate) fn add_edge_cut<S: EdgeSearch>(
 }
 
 /// Adds what the edges after edge `known` give, if those up to it are in the cuts of candidates.
+/// Edges in the given clusters are not searched.
 pub(crate) fn add_edge_cuts<S: EdgeSearch>(
     alloc: Global,
     c: &Covered,
     search: &mut S,
+    mut clusters: Clusters,
     known: u32,
     list: &mut CandidateList,
 ) -> Result<(), Memory>
     requires search { S.is_of search.old c.now }
+    requires clusters { AreClusters c.now clusters }
     requires within { known ≤ size c.now }
     requires cut { (e : ℕ) → Within known e → list_any (cuts c.now e) list.old ≡ true }
     requires front { list.old ≡ front_candidates c.now }
     ensures { OnOk result (list.new ≡ candidates c.now) }
 {
-    let mut clusters = Clusters::new(alloc, c.graph())?;
     for k in known..c.size() {
         add_edge_cut(alloc, c, search, &mut clusters, k + 1, list)?;
     }

@@ -12,6 +12,7 @@ use crate::clusters::Clusters;
 use crate::edge_cuts::{add_edge_cut, add_edge_cuts};
 use crate::edge_search::NetworkSearch;
 use crate::front::{first_front_candidate, front_candidates};
+use crate::joining::join_by_floods;
 use crate::matchings::Matchings;
 use graph_core::MultiGraph;
 use graph_facts::{Bipartite, Covered};
@@ -42,8 +43,17 @@ fn add_network_cuts(alloc: Global, c: &Covered, list: &mut CandidateList) -> Res
     if known == c.size() {
         return Ok(());
     }
+    let mut clusters = Clusters::new(alloc, c.graph())?;
+    join_by_floods(alloc, c, list, &mut clusters)?;
     let matchings = Matchings::new(alloc, c)?;
-    add_edge_cuts(alloc, c, &mut NetworkSearch { matchings }, known, list)
+    add_edge_cuts(
+        alloc,
+        c,
+        &mut NetworkSearch { matchings },
+        clusters,
+        known,
+        list,
+    )
 }
 
 // Adds what the edges of a bipartite graph give.
@@ -56,7 +66,8 @@ fn add_flood_cuts(
     ensures { OnOk result (list.new ≡ candidates bipartite.now) }
 {
     let mut search = FloodSearch::new(alloc, bipartite)?;
-    add_edge_cuts(alloc, bipartite.covered(), &mut search, 0, list)
+    let clusters = Clusters::new(alloc, bipartite.graph())?;
+    add_edge_cuts(alloc, bipartite.covered(), &mut search, clusters, 0, list)
 }
 
 // The first candidate that an edge of a bipartite graph gives, where the first two parts give none.

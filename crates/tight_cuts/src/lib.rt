@@ -51,6 +51,7 @@ mod finder;
 mod front;
 mod groups;
 mod inseparable;
+mod joining;
 mod leading;
 mod matchings;
 mod pieces;

@@ -52,8 +52,8 @@ pub(crate) fn is_quiet(
     }
 }
 
-// All vertices but the ends of edge `e`.
-fn without_ends(g: &MultiGraph, e: u32) -> VSet
+/// All vertices but the ends of edge `e`.
+pub(crate) fn without_ends(g: &MultiGraph, e: u32) -> VSet
     requires { Within (size g.now) e }
     ensures { (v : ℕ) → Within g.now.order v → first_end g.now e ≢ v → second_end g.now e ≢ v →
         mem result v ≡ true }

@@ -8,12 +8,12 @@ widened-near-requires-clause-near c = alone c.args.g.now c.args.e c.in-Some.star
 
 pub returns-then-is_subset-clause-quiet : goal.returns-then-is_subset-clause-quiet
 returns-then-is_subset-clause-quiet c = λ q.
-    none_parted c.args.g.now c.args.e (mem c.widened-near.result) c.widened-near.ensures
+    none_parted c.args.g.now c.keeps_limits.ensures.multigraph.ends c.args.e c.requires.edge (mem c.widened-near.result) c.widened-near.ensures
     (λ v w n m. all_in_true c.without_ends-others.result (mem c.widened-near.result) (sym c.is_subset.ensures ∙ c.if-is_subset.true) v (c.without_ends-others.ensures v w n m))
 
 pub returns-in_ok-reach-in-Some-2-clause-quiet : goal.returns-in_ok-reach-in-Some-2-clause-quiet
 returns-in_ok-reach-in-Some-2-clause-quiet c = λ q.
-    none_parted c.args.g.now c.args.e (mem c.in_ok-reach-in-Some-2.reach) c.in_ok-reach-in-Some-2.ensures.reach
+    none_parted c.args.g.now c.keeps_limits.ensures.multigraph.ends c.args.e c.requires.edge (mem c.in_ok-reach-in-Some-2.reach) c.in_ok-reach-in-Some-2.ensures.reach
     (λ v w n m. all_in_true c.without_ends-others.result (mem c.in_ok-reach-in-Some-2.reach) (sym c.is_subset-in-Some-2.ensures ∙ q) v (c.without_ends-others.ensures v w n m))
 
 pub reach_of-requires-clause-base : goal.reach_of-requires-clause-base

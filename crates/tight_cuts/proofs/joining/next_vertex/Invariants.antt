@@ -1,0 +1,6 @@
+use Rattle.std.proofs.Common.{◌≡◌, true, IfSome}
+use Rattle.counting.proofs.Common.{mem, Within}
+use Rattle.tight_cuts.proofs.joining.next_vertex.Given as goal
+
+abbrev pub invariant-loop-k : goal.invariant-loop-k
+invariant-loop-k l = IfSome l.found (λ u. Within l.g.order u × (mem l.reach u ≡ true))
