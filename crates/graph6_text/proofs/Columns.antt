@@ -1,8 +1,9 @@
 -- The pairs of vertices by columns are the pairs i < j of 1 to n, each once, and there are n (n -
 -- 1) / 2 of them. Idea: induction on the number of columns, and within a column on the number of
 -- its pairs.
-use Rattle.std.proofs.Common.{◌≡◌, ℕ, suc, zero, ◌+◌, ◌-◌, ◌*◌, ◌<◌, ◌≤◌, ◌||◌, Bool, true, false, List, [], ◌∷◌, ◌++◌, length, map, get_or, refl, sym, ap, ◌∙◌, arith, inl, inr, append_assoc}
-use Rattle.counting.proofs.Common.{cases_eq, or_left, or_right, nat_tests, length-append, length-map, get_or-map, list_any-append, list_any, Within}
+use Rattle.std.proofs.Common.{◌≡◌, ℕ, suc, zero, ◌+◌, ◌-◌, ◌*◌, ◌<◌, ◌≤◌, ◌||◌, Bool, true, false, List, [], ◌∷◌, ◌++◌, length, map, get_or, drop, refl, sym, ap, ◌∙◌, arith, inl, inr, append_assoc}
+use Rattle.counting.proofs.Common.{append-nil, cases_eq, get_or_append_left, or_left, or_right, nat_tests, length-append, length-map, get_or-map, list_any-append, list_any, Within}
+use Rattle.std.proofs.lemmas.List.{drop_more, get_or_at}
 use Rattle.graph_core.proofs.Common.{pair_of}
 use Rattle.graph_core.specs.declared.ends.Ends.{Ends}
 use Rattle.graph6_text.specs.Common.{column, column_pairs, pair_count}
@@ -16,7 +17,7 @@ pub column_pairs-suc : (n : ℕ) → column_pairs (suc n) ≡ column_pairs n ++ 
 unfolding column_pairs
 column_pairs-suc n = refl
 
-length-column : (i j : ℕ) → length (column i j) ≡ i
+pub length-column : (i j : ℕ) → length (column i j) ≡ i
 length-column zero j = refl
 length-column (suc i) j = grind (arith, length-column i j, length-append (column i j) ((suc i, j) ∷ []))
 
@@ -54,6 +55,36 @@ columns_all b n front h k inv = let e : b - 1 ≡ n = omega arith in inv ∙ ap 
 
 pub columns_end : (b n : ℕ) (front more : List (ℕ × ℕ)) → 1 ≤ b → b ≡ n → front ≡ column_pairs (b - 1) → more ≡ front ++ column (b - 1) b → more ≡ column_pairs n
 columns_end b n front more h k inv e = columns_more b front more h inv e ∙ ap column_pairs k
+
+-- the pairs of a column from place i on
+column_at : (i m j : ℕ) → i < m → get_or (column m j) i (0, 0) ≡ (i + 1, j)
+column_at i zero j h = absurd (omega arith)
+column_at i (suc m) j h = elim (cases_eq i m) [
+  | inl e ↦ get_or_at (column m j) (suc m, j) [] (0, 0) i (length-column m j ∙ sym e) ∙ ap (λ (k : ℕ). (k, j)) {x = suc m} {y = i + 1} (omega arith)
+  | inr d ↦ get_or_append_left (column m j) ((suc m, j) ∷ []) (0, 0) i (let l = length-column m j in omega arith) ∙ column_at i m j (omega arith)
+]
+
+pub column_drop : (i m j : ℕ) → i < m → drop i (column m j) ≡ (i + 1, j) ∷ drop (i + 1) (column m j)
+column_drop i m j h =
+    let l = length-column m j in
+    drop_more (column m j) i (0, 0) (omega arith) ∙ ap (λ (pair : ℕ × ℕ). pair ∷ drop (i + 1) (column m j)) (column_at i m j h)
+
+-- the pairs of the first columns come first
+pub columns_front : (b n : ℕ) → b ≤ n → (more : List (ℕ × ℕ)) × (column_pairs n ≡ column_pairs b ++ more)
+columns_front b zero h = ([], (let e : b ≡ 0 = omega arith in rw e (sym (append-nil (column_pairs 0)))))
+columns_front b (suc n) h = elim (cases_eq b (suc n)) [
+  | inl e ↦ ([], rw e (sym (append-nil (column_pairs (suc n)))))
+  | inr d ↦ let p = columns_front b n (omega arith) in (p.0 ++ column n (suc n), column_pairs-suc n ∙ ap (λ (pairs : List (ℕ × ℕ)). pairs ++ column n (suc n)) p.1 ∙ append_assoc (column_pairs b) p.0 (column n (suc n)))
+]
+
+-- one column more
+pub column_pairs-next : (i : ℕ) → column_pairs (i + 1) ≡ column_pairs i ++ column i (i + 1)
+column_pairs-next i =
+    let next : i + 1 ≡ suc i = omega arith in
+    ap column_pairs next ∙ column_pairs-suc i ∙ ap (λ (k : ℕ). column_pairs i ++ column i k) (sym next)
+
+pub length-next : (i : ℕ) → length (column_pairs (i + 1)) ≡ length (column_pairs i) + i
+length-next i = ap length (column_pairs-next i) ∙ length-append (column_pairs i) (column i (i + 1)) ∙ ap (λ (k : ℕ). length (column_pairs i) + k) (length-column i (i + 1))
 
 -- each pair of the columns has 1 ≤ i < j ≤ n, and no two are the same
 each_column : (i j : ℕ) → Each (λ q. (1 ≤ q.0) × (q.0 ≤ i) × (q.1 ≡ j)) (column i j)

@@ -1,5 +1,6 @@
 pub mod SixBits
 pub mod Columns
+pub mod ChosenColumns
 pub mod Choosing
 pub mod Passing
 pub mod RoundTrip

@@ -113,7 +113,7 @@ fn data_len(n: u32) -> usize
 }
 
 /// The number of pairs of `n` vertices: at most 128 * 127 / 2.
-fn pair_count(n: u32) -> usize
+pub fn pair_count(n: u32) -> usize
     requires { n ≤ MOST_VERTICES }
     ensures value { result ≡ pair_count n }
     ensures bound { result ≤ 8128 }

@@ -1,14 +1,13 @@
 //! Reading graph6 texts.
-ghost use Rattle.std.specs.Prelude.{◌≡◌, ◌≤◌, ◌++◌, [], ◌∷◌, IfOk, IfErr, Ok, OnOk, None, length, drop, map, take};
+ghost use Rattle.std.specs.Prelude.{◌≡◌, ◌≤◌, ◌++◌, ◌+◌, ◌<◌, [], ◌∷◌, IfOk, IfErr, Ok, OnOk, None, length, drop, take};
 ghost use Rattle.std.specs.List.{list_any};
 ghost use Rattle.line_text.specs.Common.{IsFault};
 ghost use Rattle.graph_core.specs.Common.{Graph, size, IsSimple, pair_of};
-ghost use Rattle.graph6_text.specs.Common.{chosen, chosen_one, limit_row, Checks, IsFirstFault, outcome_of, graph_of, faults_of, first_fault, graph6_of};
+ghost use Rattle.graph6_text.specs.Common.{chosen, chosen_one, column, column_pairs, limit_row, pair_count, Checks, IsFirstFault, outcome_of, graph_of, faults_of, first_fault, graph6_of};
 
 use crate::body::{body, data, order};
-use crate::checks::{check_body, fault};
+use crate::checks::{check_body, fault, pair_count};
 use crate::digits::to_bits;
-use crate::pairs::to_pairs;
 use graph_core::{Ends, MOST_EDGES, MultiGraph};
 use line_text::{FaultKind, TextFault};
 use std::alloc::Global;
@@ -49,10 +48,9 @@ fn to_graph(alloc: Global, body: &[u8]) -> Result<MultiGraph, TextFault>
     ensures fault { IfErr result (IsFirstFault (drop 9 (faults_of body.now))) }
 {
     let n = order(body);
-    let pairs = to_pairs(alloc, n)?;
     let bits = to_bits(alloc, data(body))?;
-    check_filling(&bits, pairs.len())?;
-    with_edges(alloc, n, &pairs, &bits)
+    check_filling(&bits, pair_count(n))?;
+    with_edges(alloc, n, &bits)
 }
 
 /// No bit from place `from` on is set.
@@ -95,20 +93,47 @@ fn add_chosen(graph: &mut MultiGraph, pair: Ends, bit: bool) -> Result<(), TextF
     }
 }
 
-/// The graph of `n` vertices whose edges are the pairs with a set bit.
-#[tactic(auto, using(crate::proofs::Choosing::chosen_step, crate::proofs::Choosing::longer_limit))]
-fn with_edges(alloc: Global, n: u32, pairs: &[Ends], bits: &[bool]) -> Result<MultiGraph, TextFault>
-    requires { n ≤ MOST_VERTICES }
-    ensures graph { IfOk result
-        (λ g. g ≡ record { order = n; ends = chosen (map pair_of pairs.now) bits.now }) }
-    ensures within { OnOk result
-        (first_fault (limit_row (chosen (map pair_of pairs.now) bits.now)) ≡ None) }
+/// Adds the pairs of a column with a set bit, which are those of a vertex with each of the vertices
+/// `before` it.
+fn add_column(graph: &mut MultiGraph, before: u32, bits: &[bool]) -> Result<(), TextFault>
+    requires few { before < MOST_VERTICES }
+    requires size { size graph.old ≤ 2048 }
+    requires long { before ≤ length bits.now }
+    ensures order { OnOk result (graph.new.order ≡ graph.old.order) }
+    ensures ends { OnOk result
+        (graph.new.ends ≡ graph.old.ends ++ chosen (column before (before + 1)) bits.now) }
+    ensures size { OnOk result (size graph.new ≤ 2048) }
     ensures limit { IfErr result
-        (IsFirstFault (limit_row (chosen (map pair_of pairs.now) bits.now))) }
+        (IsFirstFault
+        (limit_row (graph.old.ends ++ chosen (column before (before + 1)) bits.now))) }
+{
+    for i in 0..before {
+        let pair = Ends {
+            a: i + 1,
+            b: before + 1,
+        };
+        add_chosen(graph, pair, bits[i as usize])?;
+    }
+    Ok(())
+}
+
+/// The graph of `n` vertices whose edges are the pairs with a set bit.
+#[tactic(auto, using(crate::proofs::ChosenColumns::columns_long))]
+fn with_edges(alloc: Global, n: u32, bits: &[bool]) -> Result<MultiGraph, TextFault>
+    requires few { n ≤ MOST_VERTICES }
+    requires long { pair_count n ≤ length bits.now }
+    ensures graph { IfOk result
+        (λ g. g ≡ record { order = n; ends = chosen (column_pairs n) bits.now }) }
+    ensures within { OnOk result
+        (first_fault (limit_row (chosen (column_pairs n) bits.now)) ≡ None) }
+    ensures limit { IfErr result
+        (IsFirstFault (limit_row (chosen (column_pairs n) bits.now))) }
 {
     let mut graph = MultiGraph::new(alloc, n)?;
-    for (pair, bit) in pairs.iter().zip(bits) {
-        add_chosen(&mut graph, *pair, *bit)?;
+    let mut rest = bits;
+    for i in 0..n {
+        add_column(&mut graph, i, rest)?;
+        rest = &rest[i as usize..];
     }
     Ok(graph)
 }

@@ -15,6 +15,9 @@ use separation_kit::FirstPairs;
 use std::alloc::{AllocError as Memory, Global};
 use tree_core::Tally;
 
+// Room for the longest words, which are then written into one piece of memory.
+const WORDS_ROOM: usize = 56;
+
 /// The line of the graph that stands in a line: its graph6 text, the numbers of its vertices and
 /// edges, and how it stands.
 #[tactic(auto, unfolding(crate::specs::KindLines::kind_line))]
@@ -24,7 +27,8 @@ pub fn kind_line(alloc: Global, g: &MultiGraph, text: &[u8]) -> Result<Vec<u8>, 
 {
     let standing = standing_words(alloc, g)?;
     let words = words_after(alloc, g, standing.as_str())?;
-    let mut line = Vec::from_slice(alloc, bare_text(text))?;
+    let mut line = Vec::with_capacity(alloc, text.len().saturating_add(words.len()))?;
+    line.extend_from_slice(bare_text(text))?;
     line.extend_from_slice(words.as_bytes())?;
     Ok(line)
 }
@@ -35,7 +39,9 @@ fn words_after(alloc: Global, g: &MultiGraph, standing: &str) -> Result<String, 
 {
     let order = g.order();
     let size = g.size();
-    format!(in alloc; " {order} {size} {standing}\n")
+    let mut words = String::with_capacity(alloc, WORDS_ROOM)?;
+    write!(words, " {order} {size} {standing}\n")?;
+    Ok(words)
 }
 
 // The words on the standing of the graph. The leaves are counted only if it has a nontrivial
@@ -58,7 +64,9 @@ fn uncovered_words(alloc: Global, reason: &Reason, missed: u32) -> Result<String
         (λ words. string_bytes words ≡ standing_words (Uncovered reason.now missed)) }
 {
     let word = reason_word(reason);
-    format!(in alloc; "uncovered {word} {missed}")
+    let mut words = String::with_capacity(alloc, WORDS_ROOM)?;
+    write!(words, "uncovered {word} {missed}")?;
+    Ok(words)
 }
 
 // The words on the standing of a covered graph.
@@ -85,5 +93,7 @@ fn structure_words(
     let word = kind_word(kind);
     let Tally { bricks, braces, .. } = tally;
     let answer = yes_or_no(bicritical);
-    format!(in alloc; "{word} {bricks} {braces} bicritical {answer}")
+    let mut words = String::with_capacity(alloc, WORDS_ROOM)?;
+    write!(words, "{word} {bricks} {braces} bicritical {answer}")?;
+    Ok(words)
 }

@@ -1,4 +1,4 @@
-use Rattle.std.proofs.Common.{◌∙◌, ◌+◌, ap, arith, map, sym}
+use Rattle.std.proofs.Common.{◌∙◌, ap, arith, map, sym}
 use Rattle.graph_core.proofs.Common.{pair_of}
 use Rattle.graph6_text.proofs.Columns.{column_pairs-zero, columns_more, columns_all, columns_end}
 use Rattle.graph6_text.proofs.pairs.to_pairs.Goals as goal

@@ -1,6 +1,5 @@
 use Rattle.std.proofs.Common.{append_assoc, ◌∙◌}
-use Rattle.counting.proofs.Common.{IfOk-weaker}
 use Rattle.mcg6_lines.proofs.kind_lines.structure_words.Goals as goal
 
 pub returns : goal.returns
-returns c = IfOk-weaker c.format.result _ _ (λ words is. is ∙ simp (append_assoc, c.kind_word-word.ensures, c.yes_or_no-answer.ensures)) c.format.ensures.ok
+returns c = c.in_ok-write.ensures.bytes ∙ simp (append_assoc, c.kind_word-word.ensures, c.yes_or_no-answer.ensures, c.in_ok-words.ensures.bytes)
