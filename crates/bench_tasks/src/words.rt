@@ -80,10 +80,8 @@ fn pair_command<'a>(word: &str, graph: &'a str, second: &'a str) -> Option<Comma
             ears: second,
         }),
         "grow" => grow_command(graph, second),
-        "decompose" => match NamedOrder::of_word(second) {
-            Some(order) => Some(on_graph(GraphVerb::Decompose { order }, graph)),
-            None => None,
-        },
+        "decompose" => NamedOrder::of_word(second)
+            .map(|order| on_graph(GraphVerb::Decompose { order }, graph)),
         _ => None,
     }
 }

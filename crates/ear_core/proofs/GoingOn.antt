@@ -8,9 +8,8 @@ use Rattle.ear_core.proofs.NeededPairs.{each-go_on}
 use Rattle.ear_core.proofs.Searching.{all-edges}
 use Rattle.ear_core.proofs.StagePartners.{edge-ear, edge-goes, edge-met, step-partners}
 use Rattle.ear_core.proofs.Stepping.{all-single, mates-there, stage-there, steps-go_on}
-use Rattle.ear_core.specs.Common.{ArePartnersOn, FitsStep, GoesOn, IsBuilt, IsFilled, IsForced, IsNeeded, IsStage, KeepsMates, LeadTo, PlainStep, is_met, next_stage, one, step_of}
+use Rattle.ear_core.specs.Common.{ArePartnersOn, FitsStep, GoesOn, IsBuilt, IsFilled, IsForced, IsNeeded, LeadTo, PlainStep, is_met, next_stage, one, step_of}
 use Rattle.ear_core.specs.declared.built.Built.{Built}
-use Rattle.ear_core.specs.declared.ears.Step.{Step}
 
 -- one step more leads to the next stage
 leads-on : (g : Graph) (n : ℕ → ℕ) (first f new : Set) (before after : List PlainStep) (s : PlainStep) → LeadTo g first f before → GoesOn g n f s → ((i : ℕ) → new i ≡ next_stage f s i) → after ≡ before ++ s ∷ [] → LeadTo g first new after
@@ -58,15 +57,6 @@ module _ (g : Graph) (is : IsGraph g) (old new : Built) (e : ℕ) (we : Within (
 -- at first nothing is added
 pub filled-first : (g : Graph) (n : ℕ → ℕ) (first : Set) (b : Built) → IsBuilt g n first b → IsFilled g n first (marks b.mark.items) b
 filled-first g n first b built = record { built = built; met = λ v. refl; partners = λ u v p. p.3 }
-
--- at first no step is made
-pub built-first : (g : Graph) (n : ℕ → ℕ) (b : Built) → length b.mark.items ≡ size g + 1 → IsStage g (marks b.mark.items) → KeepsMates g n (is_met g (marks b.mark.items)) → b.steps ≡ [] → IsBuilt g n (marks b.mark.items) b
-built-first g n b long stage mates empty = record {
-  long = long;
-  stage = stage;
-  mates = mates;
-  leads = subst (λ (steps : List Step). LeadTo g (marks b.mark.items) (marks b.mark.items) (map step_of steps)) (sym empty) (record { steps = λ others are. are; needed = λ others are. are; forced = λ others are. are; single = λ sides. tt });
-}
 
 -- the numbers of the step are in range
 pub edge-fits : (g : Graph) → IsGraph g → (e : ℕ) → Within (size g) e → FitsStep g.order (size g) (one (record { begin = first_end g e; edges = e ∷ [] }))

@@ -8,7 +8,7 @@ use Rattle.graph_core.proofs.Common.{Graph, size, IsMultigraph}
 use Rattle.match_search.proofs.Marks.{no-marks}
 use Rattle.match_search.specs.Common.{marks}
 use Rattle.allowed_edges.proofs.Marking.{marks-set}
-use Rattle.ear_core.specs.Common.{PlainStep, PlainEars, next_stage, IsEarList, PlainWhy, not_path, step_fault, IsJudged, IsRefused, IsStage, refusal_of}
+use Rattle.ear_core.specs.Common.{PlainStep, PlainEars, next_stage, IsEarList, PlainWhy, step_fault, IsJudged, IsRefused, IsStage, refusal_of}
 use Rattle.ear_core.specs.declared.judgement.EarJudgement.{EarJudgement}
 use Rattle.ear_core.proofs.FirstStage.{first-stage, step-adds}
 use Rattle.ear_core.proofs.Refusing.{step-none, refusal-none, refusal-one}
@@ -35,10 +35,6 @@ is_some (Some refusal) = true
 
 no-some : (refusal : ℕ × PlainWhy) → Some refusal ≡ None → ⊥
 no-some refusal same = both_ways (is_some (Some refusal)) (ap is_some same) refl
-
-abbrev named : Option (ℕ × PlainWhy) → ℕ × PlainWhy
-named None = (0, not_path)
-named (Some refusal) = refusal
 
 -- the answer is right both ways
 module _ (g : Graph) (is : IsMultigraph g) (f : Set) (list : PlainEars) (start : Within (size g) list.start) (same : (i : ℕ) → f i ≡ singleton list.start i) (steps : List PlainStep) (all : steps ≡ list.steps) where

@@ -6,7 +6,7 @@ use Rattle.graph_core.proofs.Common.{Graph, IsGraph, IsMultigraph, first_end, se
 use Rattle.ear_core.proofs.EngineGraphs.{edge_serves, ends-met}
 use Rattle.ear_core.proofs.ServingPairs.{serving-one}
 use Rattle.ear_core.proofs.StagePartners.{alone-serves, step-partners}
-use Rattle.ear_core.specs.Common.{AllowedBy, ArePartnersOn, FitsEar, FitsStep, IsAsked, IsAskedBefore, IsEar, IsStage, IsStep, PlainEar, PlainStep, last_vertex, next_stage, plain_step, with_edges}
+use Rattle.ear_core.specs.Common.{AllowedBy, ArePartnersOn, FitsEar, FitsStep, IsAskedBefore, IsEar, IsStage, IsStep, PlainEar, PlainStep, last_vertex, next_stage, plain_step, with_edges}
 use Rattle.ear_core.specs.declared.asking.Asked.{Asked}
 use Rattle.ear_core.specs.declared.ears.Ear.{Ear}
 
@@ -16,10 +16,6 @@ partners-allowed g is f e we on =
     let serves = edge_serves g f e is.ends we (is.no_loop e we) on in
     let met = ends-met g f e we on in
     (λ p. serves.1 p.3, λ a. (is.no_loop e we, met.0, met.1, serves.0 a))
-
--- the stage itself
-pub asked-now : (g : Graph) (f : Set) (asked : Asked) → IsAsked g f asked → IsAskedBefore g f asked
-asked-now g f asked asks = record { stage = f; asks = asks; partners = λ u v p. p }
 
 -- a stage before a step
 pub asked-on : (g : Graph) (f new : Set) (asked : Asked) (s : PlainStep) → IsAskedBefore g f asked → IsStep g f s → new ≡ next_stage f s → IsAskedBefore g new asked

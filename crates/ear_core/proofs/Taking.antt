@@ -20,9 +20,6 @@ pub second_marked : (old new : Set) (first : Ear) (second : Option Ear) → ((i 
 second_marked old new first second same = grind (arith, all-marked new, or_right)
 
 -- the edges of a step in range
-pub first_fits : (n m : ℕ) (first : Ear) (second : Option Ear) → FitsStep n m (plain_step (ear_of first) second) → All (Within m) first.edges
-first_fits n m first second fits = grind arith
-
 pub second_fits : (n m : ℕ) (first : Ear) (second : Option Ear) → FitsStep n m (plain_step (ear_of first) second) → IfSome second (λ b. All (Within m) b.edges)
 second_fits n m first second fits = grind arith
 

@@ -69,13 +69,6 @@ ear_line-keeps n m start steps last words next keeps same =
     go first is begins kept ear known fits = grind (arith, and_parts, nat_le, keeps-closed, three_words, is_some, keeps-paired)
 
 -- and so does each line after the header
-abbrev start_tests : ℕ → List (List ℕ) → List (Bool × FaultKind)
-start_tests m words =
-    (not (has_form words 2 (codes "start" ∷ [])), kind.Word)
-    ∷ (not (is_number (word_at words 1)), kind.Number)
-    ∷ (is_out_of_range m (value_of (word_at words 1)), kind.Range)
-    ∷ []
-
 line-keeps : (n m : ℕ) (body : EarsSoFar) (words : List (List ℕ)) (next : EarsSoFar) → Keeps n m body → line_behind n m body words ≡ Ok next → Keeps n m next
 line-keeps n m headed words next keeps same = grind arith
 line-keeps n m (started start steps last) words next keeps same = ear_line-keeps n m start steps last words next keeps same

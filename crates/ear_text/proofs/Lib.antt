@@ -1,4 +1,3 @@
-pub mod EarLines
 pub mod TextSoFar
 pub mod EarsReadBack
 pub mod EarsRead

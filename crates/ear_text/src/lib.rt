@@ -4,7 +4,7 @@
 //! `start E`, and for each step a line `ear V E1 E2 ..`, which a line `with V E1 E2 ..` may follow
 //! directly. `read_ears` returns what a text stands for, with all numbers in range, or its first
 //! error, as the rules say. `write_ears` writes the canonical text of `specs/Writing`, and reading
-//! it gives the same list: `laws::written_ears_stand`. Whether the stages are matching covered is
+//! it gives the same list: `laws::written_ears_law`. Whether the stages are matching covered is
 //! not tested here.
 //!
 //! Depends on `line_text` for what a format is and for the reader, and on `ear_core` for ear lists.

@@ -9,13 +9,13 @@ ghost use Rattle.graph_text.specs.Common.{version_one, FitsVersionOne, either_ve
 
 /// The text written for a graph within the limits of version 1 stands for this graph and for no
 /// other, and has no error.
-pub fn written_graph_stands()
+pub fn written_graph_law()
     ensures stands { (g : Graph) → FitsVersionOne g → Stands version_one (graph_text g) g }
     ensures alone { (g : Graph) → FitsVersionOne g → StandsAlone version_one (graph_text g) }
 {}
 
 /// Appending comments to the text of a graph changes nothing.
-pub fn comments_change_nothing()
+pub fn comments_law()
     ensures { (g : Graph) (comments : List ℕ) → FitsVersionOne g
         → AllByRecursion (λ line. is_skipped (words_of line) ≡ true) (lines_of comments)
         → Stands version_one (graph_text g ++ comments) g }
@@ -23,7 +23,7 @@ pub fn comments_change_nothing()
 
 /// The text written for a graph with names within the limits of version 2 stands for this graph
 /// with these names.
-pub fn written_names_stand()
+pub fn written_names_law()
     ensures { (g : Graph) (names : List (List ℕ)) → FitsNames g names
         → Stands either_version (named_text g names) (record { graph = g; names = Some names }) }
 {}

@@ -5,9 +5,9 @@
 //! `specs/EitherVersion`: a header `p mcg2 N M`, N lines `v NAME` and M lines `e X Y` between
 //! names. `read_graph` and `read_any` return what a text stands for, or its first error, as the
 //! rules say. `write_graph` and `write_named` write the canonical texts of `specs/Writing`, and
-//! reading them gives the same graph again: `laws::written_graph_stands`,
-//! `laws::written_names_stand`. Comments at the end change nothing:
-//! `laws::comments_change_nothing`.
+//! reading them gives the same graph again: `laws::written_graph_law`,
+//! `laws::written_names_law`. Comments at the end change nothing:
+//! `laws::comments_law`.
 //!
 //! Depends on `line_text` for what a format is and for the reader, on `graph_core` for graphs and
 //! on `indexmap` for the names. The style of the format is that of the graph files of the DIMACS

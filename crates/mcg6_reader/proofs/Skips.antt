@@ -1,6 +1,6 @@
 -- The reports on skipped lines. They come line by line, as outputs do, so what is proved of outputs
 -- holds of them; whatever ends the list, they are those of some first lines.
-use Rattle.std.proofs.Common.{◌≡◌, inl, inr, ℕ, ◌<◌, ◌≤◌, List, [], ◌∷◌, ◌++◌, length, Ok, Err, Result, IfOk, IfErr, refl, sym, subst, ◌∙◌, ap, arith, IsFalse, append-nil}
+use Rattle.std.proofs.Common.{◌≡◌, inl, inr, ℕ, ◌<◌, ◌≤◌, List, [], ◌∷◌, ◌++◌, length, Ok, Err, Result, IfOk, IfErr, refl, sym, subst, ◌∙◌, IsFalse, append-nil}
 use Rattle.std.specs.declared.option.Option.{Option}
 use Rattle.std.specs.declared.option.Option.TheVariants.{Some, None}
 use Rattle.outside.specs.Common.{most_line}
@@ -12,9 +12,9 @@ use Rattle.mcg6_reader.specs.declared.ending.Ending.TheVariants.{Done, Bad, Read
 use Rattle.mcg6_reader.specs.declared.ending.ListStop.{ListStop}
 use Rattle.mcg6_reader.specs.declared.ending.ListStop.TheVariants as stop
 use Rattle.mcg6_reader.specs.declared.place.LinePlace.{LinePlace}
-use Rattle.mcg6_reader.specs.Common.{is_header, lines_of, HasNoFeed, IsFirstLine, place_after, place_behind, LineTold, NamesBad, IsFound, IfBad, Reports, IsOneFound, AllTold, BeginningTold, ToldToBad, LacksLine, HasBadLine, Added, ToldThrough, Reported, ReportsWith, ending_of}
+use Rattle.mcg6_reader.specs.Common.{is_header, lines_of, HasNoFeed, IsFirstLine, place_after, place_behind, LineTold, NamesBad, IsFound, IfBad, Reports, IsOneFound, AllTold, BeginningTold, ToldToBad, Added, ToldThrough, Reported, ReportsWith, ending_of}
 use Rattle.mcg6_reader.proofs.Joins.{BeginningTold-none, AllTold-append, BeginningTold-behind, ToldToBad-behind}
-use Rattle.mcg6_reader.proofs.Pieces.{through_begins, through_more, through_stopped, through_long, end_told, end_stopped, lacking_bad}
+use Rattle.mcg6_reader.proofs.Pieces.{through_begins, through_more, through_stopped, through_long, end_told, end_stopped}
 
 -- a skipped line has an empty output
 pub told_skipped :
@@ -113,16 +113,6 @@ module _ (reports : LinePlace → List ℕ → List BadLine → Type 0) (bad : L
     output = stopped.output;
   }
 
-  -- the same of the last lines
-  pub reported_fault :
-      (n : LinePlace) (lines : List (List ℕ)) (ending : Ending) (before now : List BadLine) → Added (Reported reports bad lacks n lines ending) before now →
-      Added (Reported reports bad lacks n lines WriteFault) before now
-  reported_fault n lines ending before now stopped = record {
-    more = stopped.more;
-    right = reported_begin n lines ending stopped.more stopped.right;
-    output = stopped.output;
-  }
-
   -- the processing stopped at the next line
   pub with_stopped :
       (n k : LinePlace) (text rest line behind : List ℕ) (a b c : List BadLine) (why : ListStop) →
@@ -186,13 +176,3 @@ module _ (reports : LinePlace → List ℕ → List BadLine → Type 0) (bad : L
       Added (LineTold reports n held) before now → IfOk next (λ place. Added (AllTold reports n (lines_of held)) before now)
   last_told_if n held before now (Ok next) none some one = end_told reports n held before now none some one
   last_told_if n held before now (Err why) none some one = tt
-
-  -- the lines were processed, and then no list may end
-  pub lacking_stopped :
-      (n next : LinePlace) (lines : List (List ℕ)) (kind : FaultKind) (before now : List BadLine) (why : ListStop) →
-      Added (AllTold reports n lines) before now → next ≡ place_behind n lines → lacks next.graphs ≡ Some kind →
-      IfBad (IsFound next.number kind []) why → Added (Reported reports bad lacks n lines (ending_of why)) before now
-  lacking_stopped n next lines kind before now stop.Memory told at missing is =
-      record { more = told.more; right = all_begin n lines told.more told.right; output = told.output }
-  lacking_stopped n next lines kind before now (stop.Bad found) told at missing is =
-      lacking_bad reports bad lacks n next lines kind before now (stop.Bad found) told at missing is

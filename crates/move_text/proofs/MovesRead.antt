@@ -1,10 +1,10 @@
 -- What is read of a text can be written again. Along the lines of a text the moves read so far keep
 -- the limits, and their sets are nonempty, increasing and within 1 to n: each line keeps this,
 -- since it passed the tests of the table.
-use Rattle.std.proofs.Common.{◌≡◌, ◌≤◌, ◌<◌, ◌==◌, ◌&&◌, ◌||◌, ◌^◌, codes, not, nat_le, if◌then◌else◌, ℕ, List, [], ◌∷◌, ◌++◌, Bool, length, true, false, Option, Some, None, Result, Ok, Err, IfOk, refl, sym, ◌∙◌, ap, subst, arith}
+use Rattle.std.proofs.Common.{◌≡◌, ◌≤◌, ◌<◌, ◌&&◌, ◌||◌, ◌^◌, codes, not, nat_le, if◌then◌else◌, ℕ, List, [], ◌∷◌, ◌++◌, Bool, length, true, false, Option, Some, None, Result, Ok, Err, IfOk, refl, sym, ◌∙◌, ap, subst, arith}
 use Rattle.counting.proofs.Common.{AllByRecursion, list_all, list_any, and_parts, or_parts, not-false, nat_tests, length-map, length-append}
 use Rattle.std.proofs.lemmas.List.Splits.{length-slice_split}
-use Rattle.line_text.specs.Common.{Begins, Stands, finish, has_form, word_at, is_number, value_of, is_out_of_range}
+use Rattle.line_text.specs.Common.{Begins, Stands, finish, has_form, word_at, value_of, is_out_of_range}
 use Rattle.line_text.proofs.Tables.{all_passed, no_value, value_or}
 use Rattle.line_text.specs.declared.faults.FaultKind.{FaultKind}
 use Rattle.line_text.specs.declared.faults.FaultKind.TheVariants as kind
@@ -90,13 +90,6 @@ lines-keep : (n : ℕ) (moves : List PlainMove) (lines : List (List (List ℕ)))
 lines-keep n moves [] reached keeps begins = subst (KeepsReached n) (sym begins) keeps
 lines-keep n moves (words ∷ lines) reached keeps begins =
     lines-keep n begins.0 lines reached (line-keeps n moves words begins.0 keeps begins.1) begins.2
-
-abbrev header_tests : ℕ → List (List ℕ) → List (Bool × FaultKind)
-header_tests n words =
-    (not (has_form words 3 (codes "m" ∷ codes "mcg" ∷ [])), kind.Header)
-    ∷ (not (is_number (word_at words 2)), kind.Number)
-    ∷ (not (value_of (word_at words 2) == n), kind.Header)
-    ∷ []
 
 keeps-none : (n : ℕ) → Keeps n []
 keeps-none n = record { few = omega arith; paths = tt; sets = tt; rising = tt }

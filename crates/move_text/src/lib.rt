@@ -3,8 +3,8 @@
 //! A text stands for a list of moves by the rules of `specs/MoveFormat`: a header `m mcg N`, and a
 //! line for each move, `rotate PATH` or `switch PATH U V`. `read_moves` returns what a text stands
 //! for, or its first error, as the rules say. `write_moves` writes the canonical text of
-//! `specs/Writing`, and reading it gives the same moves: `laws::written_moves_stand`. What a text
-//! stands for can be written: `laws::read_moves_fit`. Whether a move has a result on a tree is not
+//! `specs/Writing`, and reading it gives the same moves: `laws::written_moves_law`. What a text
+//! stands for can be written: `laws::read_moves_law`. Whether a move has a result on a tree is not
 //! tested here.
 //!
 //! Depends on `line_text` for what a format is and for the reader, on `tree_text` for lists of

@@ -79,7 +79,7 @@ fn push_shore(text: &mut String, kind: &Kind) -> Result<(), Memory>
 {
     match kind {
         Kind::Composite { cut } => push_set(text, *cut),
-        _ => Ok(()),
+        Kind::Brick | Kind::Brace => Ok(()),
     }
 }
 

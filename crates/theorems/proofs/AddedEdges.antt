@@ -1,6 +1,6 @@
 -- A perfect matching without the ends of an edge, with this edge, is one of the graph; and how a
 -- matching meets a set of vertices. The edge is a perfect matching of its two ends.
-use Rattle.std.proofs.Common.{◌≡◌, ◌≢◌, ℕ, ◌*◌, Bool, true, false, ◌==◌, ◌&&◌, ◌||◌, not, refl, sym, ap, ◌∙◌, arith, eq-eqb, eqb-true, inl, inr}
+use Rattle.std.proofs.Common.{◌≡◌, ◌≢◌, ℕ, ◌*◌, Bool, true, false, ◌==◌, ◌||◌, not, refl, sym, ap, ◌∙◌, arith, eq-eqb, eqb-true, inl, inr}
 use Rattle.counting.proofs.Common.{or_cases, or_right, not_not_back, or_false_back, total_congr, Within, bit, count, total, Set, complement, minus, none, pair_set, singleton, union}
 use Rattle.barrier_kit.proofs.Common.{glue, perfect_congr}
 use Rattle.graph_core.proofs.Common.{has_ends-own, Graph, IsGraph, degree, first_end, second_end, size, Allowed, HasPerfect, IsPerfect}
@@ -37,9 +37,4 @@ allowed_from g e is w d h = (
 
 -- the vertices of y outside r each have one edge
 pub degrees_outside : (g : Graph) (r m y : Set) → IsPerfect g r m → total g.order (λ v. bit (y v) * degree g m v) ≡ count g.order (minus y r)
-degrees_outside g r m y p = total_congr g.order _ _ (λ v w. go v w (y v) (r v) refl refl)
-  where
-    go : (v : ℕ) → Within g.order v → (a b : Bool) → y v ≡ a → r v ≡ b → bit (y v) * degree g m v ≡ bit (y v && not (r v))
-    go v w false b h k = rw h (omega arith)
-    go v w true true h k = rw (h, k) (let z = p.away v w k in omega arith)
-    go v w true false h k = rw (h, k) (let z = p.once v w k in omega arith)
+degrees_outside g r m y p = grind (arith, total_congr, bit, degree)

@@ -4,7 +4,7 @@
 use Rattle.std.proofs.Common.{◌≡◌, ◌≢◌, ℕ, ◌+◌, ◌≤◌, Bool, true, false, ◌==◌, ◌&&◌, ◌||◌, not, refl, sym, ap, ◌∙◌, arith, eqb-true, subst, ◌↔◌, inl, inr}
 use Rattle.counting.proofs.Common.{and_from, and_parts, both_ways, but_from, cases_Bool, cases_lt, false_from_ne_true, not-true, or_comm, true≢false, count_complement, count_congr, count_member, count_minus, count_mono, count_singleton, count_split, count_zero, Within, count, Set, complement, meet, minus, none, pair_set, singleton, union}
 use Rattle.barrier_kit.proofs.Common.{neighbours, perfect_congr}
-use Rattle.graph_core.proofs.Common.{degrees, joined_or_not, parted, Allowed, Graph, HasPerfect, IsConnected, IsCovered, IsMultigraph, IsPerfect, IsSide, edges_in_cut, first_end, has_ends, has_ends-back, has_ends-own, in_cut, second_end, size}
+use Rattle.graph_core.proofs.Common.{degrees, joined_or_not, parted, Allowed, Graph, IsConnected, IsCovered, IsMultigraph, IsPerfect, IsSide, edges_in_cut, first_end, has_ends, has_ends-back, has_ends-own, in_cut, second_end, size}
 use Rattle.matching_digraph.proofs.Balance.{equal_sides, no_inner, other_side}
 use Rattle.matching_digraph.proofs.TightShores.{ends_within}
 use Rattle.two_ears.proofs.OppositeSides.{opposite}
@@ -83,15 +83,7 @@ module _ (g : Graph) (a : Set) (is : IsMultigraph g) (two : IsSide g a) where
 
   -- then each edge is in a perfect matching
   allowed_by_pairs : ArePairsMatched g a → (e : ℕ) → Within (size g) e → first_end g e ≢ second_end g e → Allowed g e
-  allowed_by_pairs pairs e w d = allowed_from g e is.ends w d (go (a (first_end g e)) (a (second_end g e)) refl refl (two e w d))
-    where
-      go : (p q : Bool) → a (first_end g e) ≡ p → a (second_end g e) ≡ q → ((p && not q) || (not p && q)) ≡ true → HasPerfect g (ends_set g e)
-      go true true i j h = absurd (true≢false (sym h))
-      go false false i j h = absurd (true≢false (sym h))
-      go true false i j h = pairs (first_end g e) (second_end g e) (is.ends e w).0 (is.ends e w).1 i j
-      go false true i j h =
-          let m = pairs (second_end g e) (first_end g e) (is.ends e w).1 (is.ends e w).0 j i in
-          (m.0, perfect_congr g (pair_set (second_end g e) (first_end g e)) (ends_set g e) m.0 (λ v wv. or_comm (second_end g e == v) (first_end g e == v)) m.1)
+  allowed_by_pairs pairs e w d = grind (arith, allowed_from, first_end, second_end, ends_set, true≢false, perfect_congr, pair_set, or_comm)
 
   covered_by_pairs : 2 ≤ g.order → IsConnected g → ArePairsMatched g a → IsCovered g
   covered_by_pairs many connected pairs = record { two = many; connected = connected; allowed = allowed_by_pairs pairs }

@@ -1,7 +1,7 @@
 -- A graph is a brick if and only if it has four vertices, is bicritical and has no cut pair. Each
 -- edge of a bicritical graph is in a perfect matching; two vertices of one side of a bipartite
 -- graph leave the sides unequal.
-use Rattle.std.proofs.Common.{◌≡◌, ℕ, ◌≤◌, Bool, true, ◌==◌, ◌&&◌, not, refl, sym, ap, ◌∙◌, arith, eqb-true, ◌↔◌, inl, inr}
+use Rattle.std.proofs.Common.{◌≡◌, ℕ, ◌≤◌, Bool, true, ◌==◌, ◌&&◌, not, sym, ap, ◌∙◌, arith, eqb-true, ◌↔◌, inl, inr}
 use Rattle.counting.proofs.Common.{or_cases, apart_denied, count_complement, count_congr, two_of, total_congr, total_none, bit, count, Set, complement, minus, none, pair_set}
 use Rattle.barrier_kit.proofs.Common.{two_less, no_sides}
 use Rattle.graph_core.proofs.Common.{IsSide, IsCovered, Graph, IsBipartite, IsMultigraph, edges_in_cut, first_end, second_end, size, IsBicritical, IsCutPair, HasOnlyTrivialTightCuts, degrees}
@@ -19,11 +19,7 @@ turned_cut g m x = total_congr (size g) _ _ (λ e w. ap bit (apart_denied (m e) 
 module _ (g : Graph) (is : IsMultigraph g) (bi : IsBicritical g) where
   -- a bicritical graph that is connected and has two vertices is covered
   covered : IsThreeConnected g → IsCovered g
-  covered three = record {
-    two = let f = three.four in omega arith;
-    connected = λ u v wu wv. three.connected none (let z : count g.order none ≡ 0 = total_none g.order _ (λ v w. refl) in omega arith) u v wu wv refl refl;
-    allowed = λ e w d. allowed_from g e is.ends w d (bi (first_end g e) (second_end g e) (is.ends e w).0 (is.ends e w).1 d);
-  }
+  covered three = grind (arith, none, count, total_none, allowed_from, first_end, second_end)
 
   -- a covered bicritical graph with four vertices is not bipartite
   not_bipartite : IsCovered g → 4 ≤ g.order → IsBipartite g → ⊥
@@ -56,13 +52,8 @@ pub brick_facts_of : (g : Graph) → IsMultigraph g → IsCovered g → (IsBipar
 brick_facts_of g is cov odd none = let f = brick_facts g is.ends cov (no_sides g is.no_loop odd) none in (f.0, f.1, λ u v p. f.2 u v p.first p.second p)
 
 pub brick_from : (g : Graph) → IsMultigraph g → 4 ≤ g.order → IsBicritical g → ((u v : ℕ) → IsCutPair g u v → ⊥) → IsCovered g × (IsBipartite g → ⊥) × HasOnlyTrivialTightCuts g
-brick_from g is four bi no_pair =
-    let cov = covered g is bi ((pair_or_three g is.ends four).0 no_pair) in
-    (cov, not_bipartite g is bi cov four, no_shore g is cov bi no_pair)
+brick_from g is four bi no_pair = grind (arith, covered, pair_or_three, not_bipartite, no_shore)
 
 -- a brick, by 3-connectedness
 pub three_brick : (g : Graph) → IsMultigraph g → (IsCovered g × (IsBipartite g → ⊥) × HasOnlyTrivialTightCuts g) ↔ (IsThreeConnected g × IsBicritical g)
-three_brick g is = (
-  (λ h. let f = brick_facts_of g is h.0 h.1 h.2 in ((pair_or_three g is.ends f.0).0 f.2, f.1)),
-  (λ h. let four = h.0.four in brick_from g is four h.1 ((pair_or_three g is.ends four).1 h.0)),
-)
+three_brick g is = grind (arith, brick_facts_of, pair_or_three, brick_from)

@@ -29,26 +29,14 @@ pub count-sum : (g : Graph) (tally : Tally) → IsCounted g tally → tally.bric
 count-sum g tally counted = (tally-sum g (leaves g.order counted.tree) tally counted.counts).0
 
 pub few-counted : (g : Graph) (tally : Tally) → IsGraph g → IsCounted g tally → 4 ≤ g.order → 2 * tally.leaves + 2 ≤ g.order
-few-counted g tally is counted four =
-    let a = few-leaves g counted.tree is counted.derivation four in
-    let b = length-leaves_at g.order (singles g.order) counted.tree in
-    let c = (tally-sum g (leaves g.order counted.tree) tally counted.counts).1 in
-    omega arith
+few-counted g tally is counted four = grind (arith, few-leaves, length-leaves_at, singles, tally-sum, leaves)
 
 -- the count of a graph is the sum of those of both contractions
 counted-kept : (g : Graph) (x : List ℕ) (a : Tally) → IsGraph g → IsCovered g → IsTightShore g x → IsCounted (quotient g (kept_at g.order (singles g.order) x)) a → IsCountedAt g (kept_at g.order (singles g.order) x) a
-counted-kept g x a is covered shore counted =
-    let p = singles g.order in
-    let pp = singles-partition g.order in
-    let cuts = shore-cut g x is shore in
-    (quotient-counts g (kept_at g.order p x) a is (kept-partition g p x is pp cuts) (kept-covers g p x is pp cuts (root-covered g p is refl covered))).1 counted
+counted-kept g x a is covered shore counted = grind (arith, singles, singles-partition, shore-cut, quotient-counts, kept_at, kept-partition, kept-covers, root-covered)
 
 counted-merged : (g : Graph) (x : List ℕ) (b : Tally) → IsGraph g → IsCovered g → IsTightShore g x → IsCounted (quotient g (merged_at g.order (singles g.order) x)) b → IsCountedAt g (merged_at g.order (singles g.order) x) b
-counted-merged g x b is covered shore counted =
-    let p = singles g.order in
-    let pp = singles-partition g.order in
-    let cuts = shore-cut g x is shore in
-    (quotient-counts g (merged_at g.order p x) b is (merged-partition g p x is pp cuts) (merged-covers g p x is pp cuts (root-covered g p is refl covered))).1 counted
+counted-merged g x b is covered shore counted = grind (arith, singles, singles-partition, shore-cut, quotient-counts, merged_at, merged-partition, merged-covers, root-covered)
 
 pub sum-over_cut : (g : Graph) (x : List ℕ) (s a b : Tally) → IsGraph g → IsTightShore g x → IsCounted g s → IsCounted (quotient g (kept_at g.order (singles g.order) x)) a → IsCounted (quotient g (merged_at g.order (singles g.order) x)) b → s ≡ both a b
 sum-over_cut g x s a b is shore counted one two =

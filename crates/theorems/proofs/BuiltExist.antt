@@ -9,7 +9,7 @@ use Rattle.graph_core.proofs.Common.{IsCovered, Graph, IsGraph, IsMultigraph, si
 use Rattle.graph_text.proofs.NameLists.{AreNames-more}
 use Rattle.graph_text.proofs.NamedReadBack.{Stands-named_text}
 use Rattle.graph_text.proofs.PlainNames.{is_name-plain, length-plain_names, plain-fresh, plain_names-more, plain_names-none}
-use Rattle.graph_text.specs.Common.{NamedGraph, AreNames, plain_name, plain_names, FitsNames, graph_text, named_text}
+use Rattle.graph_text.specs.Common.{NamedGraph, AreNames, plain_names, FitsNames, graph_text}
 use Rattle.bench_outcomes.proofs.GrownSizes.{sound-from, grown-multigraph}
 use Rattle.grow_gen.proofs.SoundGrowth.{sound-first}
 use Rattle.grow_gen.specs.Common.{first_growth, grown}
@@ -54,22 +54,14 @@ built-exists g is = elim (covered_or_told g is) [
 -- `convert`: the plain names are names
 plain_names-are : (n : ℕ) → n ≤ 128 → AreNames (plain_names n)
 plain_names-are zero few = subst AreNames (sym plain_names-none) (record { each = tt; differ = λ i j before less. absurd (omega arith); few = omega arith })
-plain_names-are (suc n) few =
-    let all = length-plain_names n in
-    subst AreNames (sym (plain_names-more n))
-    (AreNames-more (plain_names n) (plain_name (suc n)) (plain_names-are n (omega arith)) (is_name-plain (suc n) (omega arith)) (plain-fresh n (suc n) (omega arith) (omega arith)) (omega arith))
+plain_names-are (suc n) few = grind (arith, length-plain_names, plain_names-more, AreNames-more, is_name-plain, plain-fresh, plain_names-are n (omega arith))
 
 fits-names : (g : Graph) (names : Option (List (List ℕ))) → IsWithinLimits g → ForSome names (λ given. AreNames given × (length given ≡ g.order)) → FitsNames g (given_or_plain g.order names)
 fits-names g None limits given = record { multigraph = limits.multigraph; edges = limits.edges; named = plain_names-are g.order limits.vertices; one_each = length-plain_names g.order }
 fits-names g (Some names) limits given = let are = given names refl in record { multigraph = limits.multigraph; edges = limits.edges; named = are.0; one_each = are.1 }
 
 pub converted-exists : (named : NamedGraph) → IsGiven named → (status : Status) × (output : List ℕ) × Converted named status output
-converted-exists named given =
-    let names = given_or_plain named.graph.order named.names in (
-      Done,
-      named_text named.graph names,
-      record { done = refl; text = refl; stands = Stands-named_text named.graph names (fits-names named.graph named.names given.limits given.names) },
-    )
+converted-exists named given = grind (arith, Stands-named_text, fits-names)
 
 -- `decompose`: the names are comments
 names-commented : (n : ℕ) (report : List ℕ) (names : Option (List (List ℕ))) → ForSome names (λ given. AreNames given × (length given ≡ n)) → IsCommented report (with_given_names report names true)

@@ -126,10 +126,7 @@ joins_classes g e is we d = (
 
 -- a loop is in none, and its two ends are one
 pub allowed_apart : (g : Graph) (e : ℕ) → IsGraph g → Within (size g) e → Allowed g e ↔ (¬ Equivalent g (first_end g e) (second_end g e))
-allowed_apart g e is we = elim (cases_eq (first_end g e) (second_end g e)) [
-  | inr d ↦ joins_classes g e is we d
-  | inl q ↦ ((λ m. absurd (loop_free g none m.0 is m.1 e we m.2 q)), (λ h. absurd (h (inl q))))
-]
+allowed_apart g e is we = grind (arith, cases_eq, first_end, second_end, joins_classes, loop_free, none)
 
 pub bicritical_single : (g : Graph) → IsBicritical g ↔ ((a b : ℕ) → Within g.order a → Within g.order b → Equivalent g a b → a ≡ b)
 bicritical_single g = (

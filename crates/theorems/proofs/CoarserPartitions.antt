@@ -54,12 +54,7 @@ module _ (n : ℕ) (p : List (List ℕ)) (pp : IsPartition n p) where
   name-at i w = get_or-map last_of p (i - 1) [] 0 (omega arith)
 
   names-rise : (i j : ℕ) → Within (length p) i → Within (length p) j → i < j → last_of (block p i) < last_of (block p j)
-  names-rise i j wi wj l =
-      let long = length-map p last_of in
-      let h = rises-far (names_of p) pp.order (i - 1) (j - 1) (omega arith) (omega arith) in
-      let a = name-at i wi in
-      let b = name-at j wj in
-      omega arith
+  names-rise i j wi wj l = grind (arith, length-map, last_of, rises-far, names_of, name-at)
 
   -- the greatest vertex of a union of blocks is the name of its block
   block-of_last : (b : List ℕ) → IsRisingIn n b → IsUnion n p (mem b) → (v : ℕ) → mem b v ≡ true → last_of (block p (place p (last_of b))) ≡ last_of b

@@ -39,12 +39,7 @@ module _ (g : Graph) (is : IsGraph g) (p : List (List ℕ)) (pp : IsPartition g.
 
   -- the ends of an edge of the graph, by blocks of q
   upper-ends : (e : ℕ) → Within (size g) e → (first_end (contracted g q) e ≡ place r (first_end (contracted g p) e)) × (second_end (contracted g q) e ≡ place r (second_end (contracted g p) e))
-  upper-ends e w =
-      let a = contracted-ends g q e w in
-      let b = contracted-ends g p e w in (
-        a.0 ∙ sym (place-down g.order p pp q unions (first_end g e) (is e w).0) ∙ ap (place r) (sym b.0),
-        a.1 ∙ sym (place-down g.order p pp q unions (second_end g e) (is e w).1) ∙ ap (place r) (sym b.1),
-      )
+  upper-ends e w = grind (arith, contracted-ends, place-down, first_end, place, second_end)
 
   between : (a b c d : ℕ) → Joins a b c d → Joins (place r a) (place r b) (place r c) (place r d)
   between a b c d (inl s) = inl (ap (place r) s.0, ap (place r) s.1)

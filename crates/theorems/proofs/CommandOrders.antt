@@ -1,9 +1,9 @@
 -- The orders of the commands always pick. Idea: the first place, the last and a remainder are
 -- places; and a nonempty list has a first place with the least difference of the sides, by
 -- induction on the list.
-use Rattle.std.proofs.Common.{[], ◌≡◌, ℕ, zero, suc, ◌-◌, ◌<◌, ◌≤◌, ◌%◌, List, ◌∷◌, length, map, inl, inr, refl, ap, ap₂, arith, slice_index_or}
+use Rattle.std.proofs.Common.{[], ◌≡◌, ℕ, zero, suc, ◌-◌, ◌<◌, ◌≤◌, List, ◌∷◌, length, map, inl, inr, refl, ap, ap₂, arith}
 use Rattle.counting.proofs.Common.{cases_lt, length-map}
-use Rattle.decomposer.specs.Common.{NamedPicks, ScriptPicks, scripted_place, IsBalanced, PicksBalanced, gap}
+use Rattle.decomposer.specs.Common.{NamedPicks, ScriptPicks, IsBalanced, PicksBalanced, gap}
 use Rattle.decomposer.specs.declared.orders.NamedOrder.{NamedOrder}
 use Rattle.decomposer.specs.declared.orders.NamedOrder.TheVariants.{First, Last, Balanced}
 use Rattle.theorems.proofs.PickedDerivations.{PicksSome}
@@ -41,11 +41,7 @@ least-more s t list found = elim (cases_lt (gap (t ∷ list) found.0) (gap (s �
     here l (suc i) j = let m = found.1.least i (omega arith) in omega arith
 
 least : (s : StoredCandidate) (list : List StoredCandidate) → (place : ℕ) × IsBalanced (s ∷ list) place
-least s [] = (0, record { held = omega arith; least = λ i l. only i l; first = λ i l. absurd (omega arith) })
-  where
-    only : (i : ℕ) → i < length (s ∷ []) → gap (s ∷ []) 0 ≤ gap (s ∷ []) i
-    only zero l = omega arith
-    only (suc i) l = absurd (omega arith)
+least s [] = grind arith
 least s (t ∷ list) = least-more s t list (least t list)
 
 balanced-stored : (s : List StoredCandidate) → 0 < length s → (place : ℕ) × IsBalanced s place
@@ -66,7 +62,4 @@ named-some Last list k some = (length list - 1, refl, omega arith)
 named-some Balanced list k some = balanced-some list k some
 
 pub script-some : (picks : List ℕ) → PicksSome (ScriptPicks picks)
-script-some picks list k some = (scripted_place picks k (length list), refl, remainder (slice_index_or picks k 0) (length list) some)
-  where
-    remainder : (a b : ℕ) → 0 < b → a % b < b
-    remainder a b l = omega arith
+script-some picks list k some = grind arith

@@ -1,7 +1,7 @@
 -- Perfect matchings of the graph with a vertex set made one: one edge at each vertex outside the
 -- set and one in its cut. A perfect matching with one edge in the cut, without the edges inside, is
 -- one; so that graph is covered if each edge is in such a matching.
-use Rattle.std.proofs.Common.{◌≡◌, ◌≢◌, ℕ, ◌+◌, ◌*◌, ◌≤◌, Bool, true, false, ◌==◌, ◌&&◌, ◌||◌, not, refl, sym, ap, ap₂, ◌∙◌, arith, eq-eqb, eqb-true, ne_eqb, List, [], ◌∷◌, subst₂, inl, inr}
+use Rattle.std.proofs.Common.{◌≡◌, ◌≢◌, ℕ, ◌+◌, ◌*◌, ◌≤◌, Bool, true, false, ◌==◌, ◌&&◌, ◌||◌, not, refl, sym, ap, ap₂, ◌∙◌, arith, eq-eqb, eqb-true, List, [], ◌∷◌, subst₂, inl, inr}
 use Rattle.counting.proofs.Common.{and_from, and_parts, both_ways, cases_Bool, cases_eq, cases_lt, count_congr, count_zero, false_from_ne_true, total_none, or_left, or_right, total_add, total_congr, true≢false, Within, bit, count, Set, none}
 use Rattle.graph_core.proofs.Common.{adjacent-edge, adjacent_from, has_ends-cases, Graph, IsCovered, IsConnected, IsGraph, IsPerfect, Joined, Merges, Walk, adjacent, degree, edges_in_cut, first_end, in_cut, inside, second_end, size}
 use Rattle.theorems.specs.Separating.{IsMetOnce}
@@ -22,20 +22,10 @@ module _ (g : Graph) (is : IsGraph g) (x : Set) (h : Graph) (f : ℕ → ℕ) (c
   in_h e w = let k = merge.edges in omega arith
 
   same_end : (u v : ℕ) → Within g.order u → Within g.order v → x v ≡ false → (f u == f v) ≡ (u == v)
-  same_end u v wu wv o = elim (cases_eq u v) [
-    | inl q ↦ eq-eqb (f u) (f v) (ap f q) ∙ sym (eq-eqb u v q)
-    | inr d ↦ ne_eqb (f u) (f v) (λ q. elim (cases_Bool (x u)) [
-      | inl t ↦ (merge.outside v wv o).1 (sym q ∙ merge.inside u wu t)
-      | inr n ↦ d (merge.apart u v wu wv n o q)
-    ]) ∙ sym (ne_eqb u v d)
-  ]
+  same_end u v wu wv o = grind arith
 
   at_c : (u : ℕ) → Within g.order u → (f u == c) ≡ x u
-  at_c u wu = go (x u) refl
-    where
-      go : (b : Bool) → x u ≡ b → (f u == c) ≡ b
-      go true t = eq-eqb (f u) c (merge.inside u wu t)
-      go false n = ne_eqb (f u) c (merge.outside u wu n).1
+  at_c u wu = grind arith
 
   -- sums over the edges of h are sums over the edges of g
   over : (p q : ℕ → Bool) → ((e : ℕ) → Within (size g) e → p e ≡ q e) → count (size h) p ≡ count (size g) q

@@ -2,7 +2,7 @@
 -- matching covered. A common vertex is an end of both. A perfect matching of the next stage with
 -- the edge of the first ear there misses this vertex on the old stage, and besides at most the two
 -- other ends; by parity it misses exactly one more, so that one of the ears alone serves.
-use Rattle.std.proofs.Common.{◌≡◌, ◌≢◌, ℕ, ◌+◌, ◌*◌, ◌≤◌, Bool, true, false, ◌==◌, ◌&&◌, ◌||◌, refl, sym, ap, ◌∙◌, arith, eq-eqb, ne_eqb, eqb-true, subst, ◌⊎◌, inl, inr, List, [], ◌∷◌}
+use Rattle.std.proofs.Common.{◌≡◌, ◌≢◌, ℕ, ◌+◌, ◌*◌, ◌≤◌, Bool, true, false, ◌==◌, ◌&&◌, refl, sym, ap, ◌∙◌, arith, eq-eqb, ne_eqb, eqb-true, subst, ◌⊎◌, inl, inr, List, [], ◌∷◌}
 use Rattle.std.specs.List.{AllByRecursion}
 use Rattle.counting.proofs.Common.{and_from, and_parts, both_ways, cases_Bool, cases_eq, or_cases, or_comm, or_left, or_parts, or_right, total_add, total_at, total_congr, Within, bit, mem, pair_set, put, singleton, total, Set}
 use Rattle.graph_core.proofs.Common.{degree_put, edge_at, ends_le_degree, ends_of, sum_degrees, Graph, IsGraph, degree, first_end, second_end, size}
@@ -27,11 +27,7 @@ module _ (g : Graph) (is : IsGraph g) (f : Set) (stage : IsStage g f) (q : Set) 
       let c = total_add g.order (λ u. degree g q u) miss in
       let d = total_congr g.order (λ u. degree g q u + miss u) (λ u. degree g p.0 u) (λ u wu. elim (cases_Bool (is_met g f u)) [
         | inl t ↦ on u wu t ∙ sym (p.1.once u wu t)
-        | inr o ↦
-            let i = off u wu o in
-            let j = unmet g f u o in
-            let k = degree_le g q f u inside in
-            let l = degree_le g p.0 f u p.1.part in omega arith
+        | inr o ↦ grind (arith, unmet, degree_le)
       ]) in
       absurd (omega arith)
 
@@ -145,16 +141,7 @@ record HasOtherEnd (g : Graph) (f : Set) (v : ℕ) (es : List ℕ) (x : ℕ) : T
   ends : (u : ℕ) → pair_set v (last_vertex g v es) u ≡ pair_set x end u
 
 the_other : (g : Graph) (f : Set) (v : ℕ) (es : List ℕ) (x : ℕ) → IsEar g f v es → mem (trail g v es) x ≡ true → is_met g f x ≡ true → HasOtherEnd g f v es x
-the_other g f v es x ear on mx =
-    let z = last_vertex g v es in
-    let d = ends-differ g f v es ear in
-    elim (cases_eq v x) [
-      | inl i ↦ record { end = last_vertex g v es; met = ear.end; apart = λ q. d (i ∙ q); ends = λ u. ap (λ k. (k == u) || (last_vertex g v es == u)) i }
-      | inr vx ↦ elim (cases_eq (last_vertex g v es) x) [
-        | inl i ↦ record { end = v; met = ear.start; apart = λ q. d (sym q ∙ sym i); ends = λ u. or_comm (v == u) (last_vertex g v es == u) ∙ ap (λ k. (k == u) || (v == u)) i }
-        | inr zx ↦ absurd (both_ways (is_met g f x) (ear.inner x on (λ q. vx (sym q)) (λ q. zx (sym q))) mx)
-      ]
-    ]
+the_other g f v es x ear on mx = grind (arith, ends-differ, cases_eq, or_comm, both_ways)
 
 -- an end of an edge counts
 end_counted : (g : Graph) (e x y : ℕ) → ((first_end g e ≡ x) × (second_end g e ≡ y)) ⊎ ((first_end g e ≡ y) × (second_end g e ≡ x)) → 1 ≤ ends_of g e x

@@ -59,12 +59,7 @@ module _ (g : Graph) (is : IsGraph g) (f : Set) (v : ℕ) (es : List ℕ) (ear :
   -- the edges of an ear are new, and different
   edge_at : (e : ℕ) → Within (size g) e → bit (with_edges f es e) ≡ bit (f e) + times es e
   edge_at e w = elim (cases_Bool (mem es e)) [
-    | inl m ↦
-        let a = mem_times es e m in
-        let b = edge-once g v es ear.follow ear.once e in
-        let c = ap bit (ear.new e m) in
-        let d = ap bit (or_right (f e) (mem es e) m) in
-        omega arith
+    | inl m ↦ grind (arith, mem_times, edge-once, bit, or_right, mem)
     | inr m ↦ elim (cases_eq (times es e) 0) [
       | inl z ↦ off (f e) (mem es e) (times es e) m z
       | inr z ↦ absurd (both_ways (mem es e) m (times_mem es e (omega arith)))
@@ -91,26 +86,11 @@ module _ (g : Graph) (is : IsGraph g) (f : Set) (v : ℕ) (es : List ℕ) (ear :
 
   on-stage : (w : ℕ) → is_met g f w ≡ true → ends_of_ear w ≡ times (trail g v es) w
   unfolding ends_of_ear
-  on-stage w t =
-      let a = evens_at g f v es ear w in
-      let b = ear.once w in
-      elim (cases_eq v w) [
-        | inl i ↦ let c = ap bit (eq-eqb v w i) in omega arith
-        | inr i ↦ elim (cases_eq (last_vertex g v es) w) [
-          | inl j ↦ let c = ap bit (eq-eqb (last_vertex g v es) w j) in omega arith
-          | inr j ↦ elim (cases_eq (times (trail g v es) w) 0) [
-            | inl z ↦ omega arith
-            | inr z ↦ absurd (both_ways (is_met g f w) (ear.inner w (times_mem (trail g v es) w (omega arith)) (λ e. i (sym e)) (λ e. j (sym e))) t)
-          ]
-        ]
-      ]
+  on-stage w t = grind (arith, evens_at, cases_eq, bit, eq-eqb, times, both_ways, times_mem)
 
   off-stage : (w : ℕ) → is_met g f w ≡ false → ends_of_ear w ≡ 0
   unfolding ends_of_ear
-  off-stage w o =
-      let a = ap bit (ne_eqb v w (λ e. both_ways (is_met g f w) o (subst (λ k. is_met g f k ≡ true) e ear.start))) in
-      let b = ap bit (ne_eqb (last_vertex g v es) w (λ e. both_ways (is_met g f w) o (subst (λ k. is_met g f k ≡ true) e ear.end))) in
-      omega arith
+  off-stage w o = grind arith
 
   vertex_at : (w : ℕ) → bit (is_met g (with_edges f es) w) + ends_of_ear w ≡ bit (is_met g f w) + times (trail g v es) w
   vertex_at w = elim (cases_Bool (is_met g f w)) [
@@ -125,11 +105,7 @@ module _ (g : Graph) (is : IsGraph g) (f : Set) (v : ℕ) (es : List ℕ) (ear :
             | inl x ↦ absurd (both_ways (is_met g f w) o x)
             | inr x ↦ let e = mem_times (trail g v es) w x in omega arith
           ]
-          | inr x ↦
-              let b = ap bit x in
-              let e = unmet g (with_edges f es) w x in
-              let l = degree_le g (mem (odds es)) (with_edges f es) w (λ e we i. or_right (f e) (mem es e) (mem_odds es e i)) in
-              omega arith
+          | inr x ↦ grind (arith, bit, unmet, degree_le, mem, or_right, mem_odds)
         ]
   ]
 
@@ -163,11 +139,7 @@ module _ (g : Graph) (is : IsGraph g) where
       let b = count-everything (size g) in
       let c = count_congr g.order (is_met g f) (is_met g everything) (λ w ww. ap (λ k. not (k == 0)) (degree_congr g f everything w (λ e we. goes e we))) in
       omega arith
-  steps-count f (one a ∷ steps) goes =
-      let e = ear-edges g is f a.begin a.edges goes.0 in
-      let v = ear-vertices g is f a.begin a.edges goes.0 in
-      let later = steps-count (with_edges f a.edges) steps goes.2 in
-      omega arith
+  steps-count f (one a ∷ steps) goes = grind (arith, ear-edges, ear-vertices, steps-count (with_edges f a.edges) steps goes.2)
   steps-count f (two a b ∷ steps) goes =
       let second = second_ear g f a.begin a.edges b.begin b.edges goes.0 in
       let e = ear-edges g is f a.begin a.edges goes.0.first in

@@ -347,10 +347,7 @@ module _ (g : Graph) (is : IsMultigraph g) (one : length (elementary_parts g) �
 
   some_vertex : g.order ≡ 0 → ⊥
   unfolding elementary_parts
-  some_vertex z =
-      let a = length-components h none in
-      let b = component_count_le h none in
-      let c = allowed_order g in omega arith
+  some_vertex z = grind (arith, length-components, none, component_count_le, allowed_order)
 
   pub whole_covered : HasPerfect g none → ((e : ℕ) → Within (size g) e → Allowed g e) → IsCovered g
   unfolding Joined
@@ -362,16 +359,4 @@ module _ (g : Graph) (is : IsMultigraph g) (one : length (elementary_parts g) �
     where
       -- some vertex, since there is a component; its partner is another
       two_vertices : 2 ≤ g.order
-      two_vertices = elim (cases_lt 1 g.order) [
-        | inl l ↦ l
-        | inr l ↦ elim (cases_eq g.order 1) [
-          | inl q ↦
-              let wone : Within g.order 1 = omega arith in
-              let deg = has.1.once 1 wone refl in
-              let e = edge_at g has.0 1 (omega arith) in
-              let ends = is.ends e.0 e.1 in
-              absurd (is.no_loop e.0 e.1 (let a = ends.0 in let b = ends.1 in omega arith))
-          | inr d ↦
-              let none_left : g.order ≡ 0 = omega arith in absurd (some_vertex none_left)
-        ]
-      ]
+      two_vertices = grind (arith, cases_lt, cases_eq, edge_at, some_vertex)

@@ -153,7 +153,7 @@ module _ (g : Graph) (is : IsGraph g) (el : IsElementary g) (s : Set) (bar : IsB
 
         back : left_over v ≡ true → so_far g.order v ≡ true
         back h =
-            let p = component_count (b == v) (joined g s l v) h in
+            let p = both_off (b == v) (joined g s l v) h in
             elim (cases_Bool (s v)) [
               | inl t ↦ true_some g.order (λ z. from z && star_set z v) v w (grind arith)
               | inr f ↦
@@ -163,8 +163,8 @@ module _ (g : Graph) (is : IsGraph g) (el : IsElementary g) (s : Set) (bar : IsB
                   true_some g.order (λ z. from z && star_set z v) k.0 k.1 (grind arith)
             ]
           where
-            component_count : (a c : Bool) → (not a && not c) ≡ true → (a ≡ false) × (c ≡ false)
-            component_count a c h = grind arith
+            both_off : (a c : Bool) → (not a && not c) ≡ true → (a ≡ false) × (c ≡ false)
+            both_off a c h = grind arith
 
     pub join_left : (m : Set) × IsPerfect g (complement left_over) m
     join_left =

@@ -15,23 +15,14 @@ use Rattle.theorems.specs.Bricks.{IsThreeConnected}
 use Rattle.theorems.specs.CutWords.{IsBrace, IsBrick}
 
 end_first : (g : Graph) (s t e : ℕ) → has_ends g s t e ≡ true → IsEnd g e s
-end_first g s t e h = elim (has_ends-cases g s t e h) [
-  | inl p ↦ inl p.0
-  | inr p ↦ inr p.1
-]
+end_first g s t e h = grind arith
 
 end_second : (g : Graph) (s t e : ℕ) → has_ends g s t e ≡ true → IsEnd g e t
 end_second g s t e h = end_first g t s e (has_ends-back g s t e h)
 
 -- an edge has an end, or not
 end_or_not : (g : Graph) (e v : ℕ) → (IsEnd g e v) ⊎ (IsEnd g e v → ⊥)
-end_or_not g e v = elim (cases_eq (first_end g e) v) [
-  | inl p ↦ inl (inl p)
-  | inr p ↦ elim (cases_eq (second_end g e) v) [
-    | inl q ↦ inl (inr q)
-    | inr q ↦ inr (λ h. elim h [ inl i ↦ p i | inr i ↦ q i ])
-  ]
-]
+end_or_not g e v = grind arith
 
 module _ (g : Graph) (is : IsMultigraph g) (cov : IsCovered g) (ext : IsTwoExtendable g) where
   -- the edges of the cut of x all have the end w
@@ -41,20 +32,7 @@ module _ (g : Graph) (is : IsMultigraph g) (cov : IsCovered g) (ext : IsTwoExten
   -- if not all edges of the cut have the end u of one of them, all have its other end
   other_end : (x : Set) (u v e f : ℕ) → IsTight g x → Within (size g) e → has_ends g u v e ≡ true → x u ≡ true → x v ≡ false →
       Within (size g) f → in_cut g x f ≡ true → (IsEnd g f u → ⊥) → MeetAt x v
-  other_end x u v e f t we he xu xv wf cf off h wh ch =
-      let s = cut_ends g x f cf in
-      let i = cut_ends g x h ch in
-      let d : u ≢ s.0 = λ q. off (subst (IsEnd g f) (sym q) (end_first g s.0 s.1 f s.2)) in
-      elim (cases_eq v i.1) [
-        | inl q ↦ subst (IsEnd g h) (sym q) (end_second g i.0 i.1 h i.2)
-        | inr vi ↦ elim (cases_eq u i.0) [
-          | inr ui ↦ absurd (no_two_apart g x u v i.0 i.1 e h ext t we wh he i.2 xu xv i.3 i.4 ui vi)
-          | inl ui ↦ elim (cases_eq v s.1) [
-            | inr vs ↦ absurd (no_two_apart g x u v s.0 s.1 e f ext t we wf he s.2 xu xv s.3 s.4 d vs)
-            | inl vs ↦ absurd (no_two_apart g x s.0 s.1 i.0 i.1 f h ext t wf wh s.2 i.2 s.3 s.4 i.3 i.4 (λ q. d (ui ∙ sym q)) (λ q. vi (vs ∙ q)))
-          ]
-        ]
-      ]
+  other_end x u v e f t we he xu xv wf cf off h wh ch = grind (arith, cut_ends, end_first, cases_eq, end_second, no_two_apart)
 
   -- all edges of a nontrivial tight cut have one vertex
   one_vertex : (x : Set) → IsTight g x → IsNontrivial g.order x → (w : ℕ) × Within g.order w × MeetAt x w
@@ -155,10 +133,7 @@ module _ (g : Graph) (is : IsMultigraph g) (six : 6 ≤ g.order) (joined : IsCon
   extendable_uncut = (covered, uncut g is covered ext)
 
   pub extendable_kinds : IsBrick g ⊎ IsBrace g
-  extendable_kinds = elim (bipartite-or g is.ends) [
-    | inl sides ↦ inr (covered, (sides, uncut g is covered ext))
-    | inr odd ↦ inl (covered, (odd, uncut g is covered ext))
-  ]
+  extendable_kinds = grind (arith, bipartite-or, covered, uncut)
 
   pub extendable_brick : (IsBipartite g → ⊥) → IsThreeConnected g × IsBicritical g
   extendable_brick odd = (three_brick g is).0 (covered, odd, uncut g is covered ext)

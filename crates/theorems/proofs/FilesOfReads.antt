@@ -2,13 +2,13 @@
 -- value, and the other reads gave the other files. The files are named by their places, so that a
 -- name finds no later file; a read that failed gave no file, and one of a file that is too long one
 -- that is not read.
-use Rattle.std.proofs.Common.{◌≡◌, ◌<◌, ℕ, ◌+◌, nat_lt, Bool, true, false, cond, List, [], ◌∷◌, length, Option, Some, None, Result, Ok, Err, refl, sym, ap, subst, ◌∙◌, arith, lt-ltb}
+use Rattle.std.proofs.Common.{◌≡◌, ◌<◌, ℕ, ◌+◌, false, cond, List, [], ◌∷◌, length, Option, Some, None, Result, Ok, Err, sym, ap, ◌∙◌, arith, lt-ltb}
 use Rattle.counting.proofs.Common.{nat_tests}
 use Rattle.std.specs.Str.{bytes_eq}
 use Rattle.outside.specs.Common.{Answer, AnswersInTurn, NamedFile, file_named, most_bytes}
 use Rattle.outside.specs.declared.shelf.ShelfFault.TheVariants.{Failed, TooLong, Memory}
 use Rattle.line_text.specs.declared.faults.FaultKind.{FaultKind}
-use Rattle.bench_tasks.specs.Common.{All, Bad, Loaded, file_read, from_reading, pick_file}
+use Rattle.bench_tasks.specs.Common.{All, Loaded, file_read, pick_file}
 use Rattle.bench_top.specs.Given.{AreGiven}
 
 -- the name of the file at a place
@@ -30,10 +30,6 @@ none-named place later before (Err Failed ∷ answers) files given = none-named 
 none-named place later before (Err TooLong ∷ answers) files given = ap (file_named (name_at place)) given.2.are ∙ behind place later before given.0 given.2.rest (none-named place (later + 1) (omega arith) answers given.2.rest given.2.others_hold)
 none-named place later before (Err Memory ∷ answers) files given = none-named place (later + 1) (omega arith) answers files given
 
--- the first file is found by its name
-own-name : (place : ℕ) (bytes : List ℕ) (rest : List NamedFile) → file_named (name_at place) ((name_at place, bytes) ∷ rest) ≡ Some bytes
-own-name place bytes rest = grind arith
-
 -- no value is loaded of a file that is missing or too long
 pub record LoadsFiles {A : Type 0} (load : Option (List ℕ) → Loaded A) (value : A) : Type 0 where
   pub held : load None ≡ All value → ⊥
@@ -42,18 +38,10 @@ pub record LoadsFiles {A : Type 0} (load : Option (List ℕ) → Loaded A) (valu
 module _ {A : Type 0} (p : ℕ) (reading : List ℕ → Result A (ℕ × FaultKind)) (value : A) where
   -- what is read as a value stands for it
   pub text-read : (bytes : List ℕ) → file_read p reading (Some bytes) ≡ All value → reading bytes ≡ Ok value
-  text-read bytes e = at (nat_lt most_bytes (length bytes)) (reading bytes) e
-    where
-      at : (b : Bool) (r : Result A (ℕ × FaultKind)) → cond b (Bad p 0 6) (from_reading p r) ≡ All value → r ≡ Ok value
-      at true r e = cc e
-      at false (Ok found) e = let same : found ≡ value = cc e in ap Ok same
-      at false (Err fault) e = cc e
+  text-read bytes e = grind arith
 
   pub file-loads : LoadsFiles (file_read p reading) value
-  file-loads = record {
-    held = λ e. cc e;
-    few = λ bytes long e. let f = subst (λ b. cond b (Bad p 0 6) (from_reading p (reading bytes)) ≡ All value) (lt-ltb most_bytes (length bytes) long) e in cc f;
-  }
+  file-loads = grind arith
 
 -- the list of picks of a file, or of none
 abbrev pub picks_in : Option (List ℕ) → Loaded (List ℕ)
@@ -61,11 +49,7 @@ picks_in None = pick_file [] []
 picks_in (Some bytes) = pick_file (([], bytes) ∷ []) []
 
 pub picks-in : (files : List NamedFile) (name : List ℕ) → pick_file files name ≡ picks_in (file_named name files)
-picks-in files name = go (file_named name files) refl
-  where
-    go : (o : Option (List ℕ)) → file_named name files ≡ o → pick_file files name ≡ picks_in o
-    go None e = rw e refl
-    go (Some bytes) e = rw e refl
+picks-in files name = grind arith
 
 pub picks-load : (list : List ℕ) → LoadsFiles picks_in list
 picks-load list = record { held = λ e. cc e; few = λ bytes long e. let f = rw (lt-ltb most_bytes (length bytes) long) at e in cc f }
@@ -90,13 +74,9 @@ module _ {S A : Type 0} (reads : S → List ℕ → Answer → S → Type 0) (na
   pub gave-first : (answers : List Answer) (files : List NamedFile) → AnswersInTurn reads (name ∷ names) answers first last → AreGiven place answers files → load (file_named (name_at place) files) ≡ All value →
       GaveFirst reads name names place files load value first last
   gave-first [] files turn given e = absurd (no-file (file_named (name_at place) files) (ap (file_named (name_at place)) given) e)
-  gave-first (Ok bytes ∷ answers) files turn given e =
-      let found = ap (file_named (name_at place)) given.are ∙ own-name place bytes given.rest in
-      record { bytes = bytes; loads = ap load (sym found) ∙ e; next = turn.0; read = turn.1.0; answers = answers; in_turn = turn.1.1; others = given.rest; are = given.are; given = given.others_hold }
+  gave-first (Ok bytes ∷ answers) files turn given e = grind arith
   gave-first (Err Failed ∷ answers) files turn given e = absurd (no-file (file_named (name_at place) files) (none-named place (place + 1) (omega arith) answers files given) e)
-  gave-first (Err TooLong ∷ answers) files turn given e =
-      let found = ap (file_named (name_at place)) given.2.are ∙ own-name place given.0 given.2.rest in
-      absurd (is.few given.0 given.1 (ap load (sym found) ∙ e))
+  gave-first (Err TooLong ∷ answers) files turn given e = grind arith
   gave-first (Err Memory ∷ answers) files turn given e = absurd (no-file (file_named (name_at place) files) (none-named place (place + 1) (omega arith) answers files given) e)
 
 -- no name is left

@@ -1,8 +1,8 @@
 -- The pair that the third part takes at an edge is the first that a tight set separates: the search
 -- takes the first pair of a list that passes its test, the list is in lexicographic order, and
 -- the test says what the words say.
-use Rattle.std.proofs.Common.{◌≡◌, ℕ, ◌⊎◌, true, Option, Some, None, refl, ap, ap₂, inl, inr, arith}
-use Rattle.counting.proofs.Common.{both_ways, cases_lt, false_from_ne_true, Within, ComesBefore}
+use Rattle.std.proofs.Common.{◌≡◌, ℕ, ◌⊎◌, true, Option, Some, None, refl, ap, inl, inr, arith}
+use Rattle.counting.proofs.Common.{both_ways, false_from_ne_true, Within, ComesBefore}
 use Rattle.graph_core.proofs.Common.{Graph, IsGraph, size}
 use Rattle.tight_cuts.proofs.EdgeLoop.{first_pair, no_pair}
 use Rattle.tight_cuts.proofs.FirstPairs.{before_first, no_first}
@@ -12,19 +12,7 @@ use Rattle.theorems.specs.CutWords.{IsFirstSeparated, IsSeparated}
 
 -- of two pairs one is before the other, or they are one
 one_before : (k l : ℕ × ℕ) → (k ≡ l) ⊎ (ComesBefore k l ⊎ ComesBefore l k)
-one_before k l = elim (cases_lt k.0 l.0) [
-  | inl s ↦ inr (inl (inl s))
-  | inr s ↦ elim (cases_lt l.0 k.0) [
-    | inl t ↦ inr (inr (inl t))
-    | inr t ↦ let a : k.0 ≡ l.0 = omega arith in let b : l.0 ≡ k.0 = omega arith in elim (cases_lt k.1 l.1) [
-      | inl u ↦ inr (inl (inr (a, u)))
-      | inr u ↦ elim (cases_lt l.1 k.1) [
-        | inl v ↦ inr (inr (inr (b, v)))
-        | inr v ↦ let c : k.1 ≡ l.1 = omega arith in inl (ap₂ (λ i j. (i, j)) a c)
-      ]
-    ]
-  ]
-]
+one_before k l = grind arith
 
 module _ (g : Graph) (is : IsGraph g) (e : ℕ) (we : Within (size g) e) where
   abbrev a : ℕ
@@ -34,16 +22,10 @@ module _ (g : Graph) (is : IsGraph g) (e : ℕ) (we : Within (size g) e) where
   b = greater_end g e
 
   lesser : Within g.order a
-  lesser =
-      let w = is e we in
-      let low = w.0.0 in let high = w.0.1 in let other_low = w.1.0 in let other_high = w.1.1 in
-      (omega arith, omega arith)
+  lesser = grind arith
 
   greater : Within g.order b
-  greater =
-      let w = is e we in
-      let low = w.0.0 in let high = w.0.1 in let other_low = w.1.0 in let other_high = w.1.1 in
-      (omega arith, omega arith)
+  greater = grind arith
 
   -- the test at a pair of vertices says what the words say
   pub words : (k : ℕ × ℕ) → Within g.order k.0 → Within g.order k.1 → IsSeparated g a b k → is_separated g a b k ≡ true

@@ -1,6 +1,6 @@
 -- Two sets of edges that meet each vertex on one side of a cut once and have one edge in the cut,
 -- the same, are together a perfect matching with this cut edge.
-use Rattle.std.proofs.Common.{◌≡◌, ℕ, ◌+◌, Bool, true, false, ◌==◌, ◌&&◌, ◌||◌, not, refl, sym, ap, ap₂, ◌∙◌, arith, eqb-true, ◌⊎◌, inl, inr}
+use Rattle.std.proofs.Common.{◌+◌, ◌≡◌, ℕ, Bool, true, false, ◌==◌, ◌&&◌, ◌||◌, not, refl, sym, ap, ap₂, ◌∙◌, arith, eqb-true}
 use Rattle.counting.proofs.Common.{and_from, both_ways, count_congr, only_one, true≢false, Within, Set, complement, none}
 use Rattle.graph_core.proofs.Common.{Graph, IsPerfect, degree, edges_in_cut, first_end, in_cut, inside, second_end, size}
 
@@ -20,38 +20,10 @@ module _ (g : Graph) (x k j : Set) (b : ℕ) (wb : Within (size g) b) (cb : in_c
 
   -- off x all are of k, in x all are of j
   off : (e : ℕ) → Within (size g) e → (x (first_end g e) && x (second_end g e)) ≡ false → both e ≡ k e
-  off e w h = go (k e) (j e) refl refl
-    where
-      cut_or_off : (p q : Bool) → (p && q) ≡ false → (((p && not q) || (not p && q)) ≡ true) ⊎ ((not p && not q) ≡ true)
-      cut_or_off true true h = absurd (true≢false h)
-      cut_or_off true false h = inl refl
-      cut_or_off false true h = inl refl
-      cut_or_off false false h = inr refl
-
-      go : (s t : Bool) → k e ≡ s → j e ≡ t → (s || t) ≡ s
-      go true t p q = refl
-      go false false p q = refl
-      go false true p q = elim (cut_or_off (x (first_end g e)) (x (second_end g e)) h) [
-        | inl c ↦ absurd (both_ways (k e) p (j_alone e w q c))
-        | inr o ↦ absurd (both_ways (j e && inside g (complement x) e) (j_in e w) (and_from (j e) (inside g (complement x) e) q o))
-      ]
+  off e w h = grind (arith, true≢false, first_end, second_end, both_ways, j_alone, inside, complement, and_from)
 
   on : (e : ℕ) → Within (size g) e → (not (x (first_end g e)) && not (x (second_end g e))) ≡ false → both e ≡ j e
-  on e w h = go (k e) (j e) refl refl
-    where
-      cut_or_in : (p q : Bool) → (not p && not q) ≡ false → (((p && not q) || (not p && q)) ≡ true) ⊎ ((p && q) ≡ true)
-      cut_or_in true true h = inr refl
-      cut_or_in true false h = inl refl
-      cut_or_in false true h = inl refl
-      cut_or_in false false h = absurd (true≢false h)
-
-      go : (s t : Bool) → k e ≡ s → j e ≡ t → (s || t) ≡ t
-      go true true p q = refl
-      go false t p q = refl
-      go true false p q = elim (cut_or_in (x (first_end g e)) (x (second_end g e)) h) [
-        | inl c ↦ absurd (both_ways (j e) q (k_alone e w p c))
-        | inr o ↦ absurd (both_ways (k e && inside g x e) (k_in e w) (and_from (k e) (inside g x e) p o))
-      ]
+  on e w h = grind (arith, true≢false, first_end, second_end, both_ways, k_alone, inside, and_from)
 
   pub both_perfect : IsPerfect g none both
   both_perfect = record { once = λ v w o. go v w (x v) refl; away = λ v w o. absurd (true≢false (sym o)) }
@@ -69,20 +41,8 @@ module _ (g : Graph) (x k j : Set) (b : ℕ) (wb : Within (size g) b) (cb : in_c
       right p q h = grind arith
 
       go : (v : ℕ) → Within g.order v → (s : Bool) → x v ≡ s → degree g both v ≡ 1
-      go v w false o = at k v
-          (λ e we t. off e we (left (x (first_end g e)) (x (second_end g e)) (ap x (eqb-true (first_end g e) v t) ∙ o)))
-          (λ e we t. off e we (right (x (first_end g e)) (x (second_end g e)) (ap x (eqb-true (second_end g e) v t) ∙ o)))
-          ∙ k_once v w o
-      go v w true o = at j v
-          (λ e we t. on e we (left (not (x (first_end g e))) (not (x (second_end g e))) (ap not (ap x (eqb-true (first_end g e) v t) ∙ o))))
-          (λ e we t. on e we (right (not (x (first_end g e))) (not (x (second_end g e))) (ap not (ap x (eqb-true (second_end g e) v t) ∙ o))))
-          ∙ j_once v w o
+      go v w false o = grind (arith, at, off, left, first_end, second_end, eqb-true, right)
+      go v w true o = grind (arith, at, on, left, first_end, second_end, eqb-true, right)
 
   pub both_cut : edges_in_cut g both x ≡ 1
-  both_cut = count_congr (size g) _ _ (λ e w. same (both e) (k e) (x (first_end g e)) (x (second_end g e)) (off e w)) ∙ k_cut
-    where
-      same : (p q s t : Bool) → ((s && t) ≡ false → p ≡ q) → (p && ((s && not t) || (not s && t))) ≡ (q && ((s && not t) || (not s && t)))
-      same p q true true h = grind arith
-      same p q true false h = ap (λ b. b && true) (h refl)
-      same p q false true h = ap (λ b. b && true) (h refl)
-      same p q false false h = grind arith
+  both_cut = grind (arith, count_congr, size, first_end, second_end, off)

@@ -146,10 +146,7 @@ node_at g k ih p f st l ff x hx =
 
 tree_at : (g : Graph) (k : ℕ) → Grows g k
 unfolding IsLeafAt
-tree_at g zero p f st l ff = (leaf, ((λ x t h. let c = cut_of_set g p st x t h in no_blocks c.0 c.1), λ z. ((λ h. absurd h), (λ h. absurd (no_blocks z (ff.cuts z h))))))
-  where
-    no_blocks : (y : List ℕ) → CutAt g p y → ⊥
-    no_blocks y cy = let c = big_cut g p st y cy.big cy.canonical in let m = merged-length g p y st.graph st.list c in let i = c.nontrivial.inside in let o = kept-length g p y st.graph st.list c in absurd (omega arith)
+tree_at g zero p f st l ff = grind arith
 tree_at g (suc k) p [] st l ff = (leaf, ((λ x t h. let c = cut_of_set g p st x t h in ff.maximal c.0 c.1 (λ z k. absurd k)), λ z. ((λ h. h), (λ h. h))))
 tree_at g (suc k) p (x ∷ f) st l ff = let n = node_at g k (tree_at g k) p (x ∷ f) st l ff x (inl refl) in (cut x n.0 n.1, n.2)
 

@@ -64,10 +64,7 @@ kinds-joined g (p ∷ ps) qs [] others are more = absurd are
 kinds-joined g (p ∷ ps) qs (kind ∷ kinds) others are more = (are.0, kinds-joined g ps qs kinds others are.1 more)
 
 tally-joined : (kinds others : List LeafKind) → tally_of (kinds ++ others) ≡ both (tally_of kinds) (tally_of others)
-tally-joined kinds others =
-    ap (λ n. record { leaves = n; bricks = count_by is_brick (kinds ++ others); braces = count_by (λ kind. not (is_brick kind)) (kinds ++ others) }) (length-append kinds others)
-    ∙ ap (λ n. record { leaves = length kinds + length others; bricks = n; braces = count_by (λ kind. not (is_brick kind)) (kinds ++ others) }) (sum_by-append (λ kind. cond (is_brick kind) 1 0) kinds others)
-    ∙ ap (λ n. record { leaves = length kinds + length others; bricks = count_by is_brick kinds + count_by is_brick others; braces = n }) (sum_by-append (λ kind. cond (not (is_brick kind)) 1 0) kinds others)
+tally-joined kinds others = grind (arith, count_by, is_brick, length-append, length, sum_by-append, cond)
 
 pub tallies-joined : (g : Graph) (ps qs : List (List (List ℕ))) (a b : Tally) → IsTally g ps a → IsTally g qs b → IsTally g (ps ++ qs) (both a b)
 tallies-joined g ps qs a b one two = record {
@@ -88,13 +85,7 @@ kinds-once g [] [] (kind ∷ others) are too = absurd too
 kinds-once g [] (kind ∷ kinds) others are too = absurd are
 kinds-once g (p ∷ ps) [] others are too = absurd are
 kinds-once g (p ∷ ps) (kind ∷ kinds) [] are too = absurd too
-kinds-once g (p ∷ ps) (kind ∷ kinds) (other ∷ others) are too = ap₂ ◌∷◌ (one kind other are.0 too.0) (kinds-once g ps kinds others are.1 too.1)
-  where
-    one : (a b : LeafKind) → IsLeafKind g p a → IsLeafKind g p b → a ≡ b
-    one Brick Brick odd sides = refl
-    one Brick Brace odd sides = absurd (odd sides)
-    one Brace Brick sides odd = absurd (odd sides)
-    one Brace Brace sides odd = refl
+kinds-once g (p ∷ ps) (kind ∷ kinds) (other ∷ others) are too = grind (arith, kinds-once g ps kinds others are.1 too.1)
 
 pub tally-once : (g : Graph) (ps : List (List (List ℕ))) (a b : Tally) → IsTally g ps a → IsTally g ps b → a ≡ b
 tally-once g ps a b one two = one.is ∙ ap tally_of (kinds-once g ps one.kinds two.kinds (kinds-in_order g ps one.kinds one.right) (kinds-in_order g ps two.kinds two.right)) ∙ sym two.is
@@ -117,13 +108,7 @@ parts-sum (kind ∷ kinds) =
     one Brace = refl
 
 pub tally-sum : (g : Graph) (ps : List (List (List ℕ))) (tally : Tally) → IsTally g ps tally → (tally.bricks + tally.braces ≡ tally.leaves) × (tally.leaves ≡ length ps)
-tally-sum g ps tally counts =
-    let a = ap (λ (t : Tally). t.leaves) counts.is in
-    let b = ap (λ (t : Tally). t.bricks) counts.is in
-    let c = ap (λ (t : Tally). t.braces) counts.is in
-    let d = parts-sum counts.kinds in
-    let e = counts.right.each_one in
-    (omega arith, omega arith)
+tally-sum g ps tally counts = grind (arith, parts-sum)
 
 -- no brick
 abbrev pub HasSides : Graph → List (List ℕ) → Type 0

@@ -32,19 +32,7 @@ module _ (g : Graph) (l r : Set) (is : IsGraph g) (apart : (v : ℕ) → l v ≡
 
   one_star : (y z v : ℕ) → Within g.order y → Within g.order z → Within g.order v → l y ≡ true → star y v ≡ true → l z ≡ true → star z v ≡ true → y ≡ z
   unfolding star
-  one_star y z v wy wz wv ly sy lz sz =
-      let ry = picks.lands y wy ly in
-      let rz = picks.lands z wz lz in
-      elim (or_cases (y == v) (picks.to y == v) sy) [
-        | inl i ↦ elim (or_cases (z == v) (picks.to z == v) sz) [
-          | inl j ↦ eqb-true y v i ∙ sym (eqb-true z v j)
-          | inr j ↦ absurd (apart y ly (ap r (eqb-true y v i ∙ sym (eqb-true (picks.to z) v j)) ∙ rz.1))
-        ]
-        | inr i ↦ elim (or_cases (z == v) (picks.to z == v) sz) [
-          | inl j ↦ absurd (apart z lz (ap r (eqb-true z v j ∙ sym (eqb-true (picks.to y) v i)) ∙ ry.1))
-          | inr j ↦ picks.apart y z wy wz ly lz (eqb-true (picks.to y) v i ∙ sym (eqb-true (picks.to z) v j))
-        ]
-      ]
+  one_star y z v wy wz wv ly sy lz sz = grind arith
 
   cover : (v : ℕ) → Within g.order v → some g.order (λ z. l z && star z v) ≡ union l r v
   unfolding star

@@ -1,40 +1,22 @@
 -- Matchings inside a set of vertices: edges that meet each vertex of it once, and do not cross
 -- it, are a perfect matching of the graph that it induces.
-use Rattle.std.proofs.Common.{◌≡◌, ℕ, suc, zero, ◌≤◌, Bool, true, false, refl, sym, ◌∙◌, arith, ◌&&◌, ◌||◌, not, subst, inl, inr}
-use Rattle.counting.proofs.Common.{true≢false, not-false, not-true, Within, Set}
-use Rattle.graph_core.proofs.Common.{degree-inside, degree-inside_off, ends_le_degree, one_end, Graph, HasEnds, degree, first_end, in_cut, second_end, size}
+use Rattle.std.proofs.Common.{◌≡◌, ℕ, suc, zero, ◌≤◌, true, false, refl, arith, ◌&&◌, inl, inr}
+use Rattle.counting.proofs.Common.{not-false, not-true, Within, Set}
+use Rattle.graph_core.proofs.Common.{degree-inside, degree-inside_off, ends_le_degree, one_end, Graph, HasEnds, degree, in_cut, size}
 use Rattle.theorems.specs.Matchings.{MatchesWithin}
 
 -- edges that meet each vertex of x once, of which none crosses x: those inside x are a perfect
 -- matching of G[X]
 pub perfect_within : (g : Graph) (m x : Set) → ((v : ℕ) → Within g.order v → x v ≡ true → degree g m v ≡ 1) → ((e : ℕ) → Within (size g) e → (m e && in_cut g x e) ≡ false) → MatchesWithin g m x
-perfect_within g m x met no_cross = record {
-  once = λ v w o. degree-inside g m x no_cross v (not-false (x v) o) ∙ met v w (not-false (x v) o);
-  away = λ v w o. degree-inside_off g m x v (not-true (x v) o);
-}
+perfect_within g m x met no_cross = grind (arith, degree-inside, not-false, degree-inside_off, not-true)
 
 -- an edge crosses x where one of its ends is in x and the other is not, and nowhere else
 pub crossing_ends : (g : Graph) (x : Set) (e : ℕ) → in_cut g x e ≡ true → (v w : ℕ) × HasEnds g e v w × (x v ≡ true) × (x w ≡ false)
-crossing_ends g x e h = go (x (first_end g e)) (x (second_end g e)) refl refl h
-  where
-    go : (s t : Bool) → x (first_end g e) ≡ s → x (second_end g e) ≡ t → ((s && not t) || (not s && t)) ≡ true → (v w : ℕ) × HasEnds g e v w × (x v ≡ true) × (x w ≡ false)
-    go true false p q h = (first_end g e, second_end g e, inl (refl, refl), p, q)
-    go false true p q h = (second_end g e, first_end g e, inr (refl, refl), q, p)
-    go true true p q h = absurd (true≢false (sym h))
-    go false false p q h = absurd (true≢false (sym h))
+crossing_ends g x e h = grind arith
 
 -- of an edge that crosses x with one end off x the other is in x
 pub other_end : (g : Graph) (x : Set) (e v w : ℕ) → HasEnds g e v w → in_cut g x e ≡ true → x v ≡ false → x w ≡ true
-other_end g x e v w h cross xv = elim h [
-  | inl q ↦ go (x v) (x w) xv (subst (λ k. ((x k && not (x w)) || (not (x k) && x w)) ≡ true) q.0 (subst (λ k. ((x (first_end g e) && not (x k)) || (not (x (first_end g e)) && x k)) ≡ true) q.1 cross))
-  | inr q ↦ go' (x v) (x w) xv (subst (λ k. ((x k && not (x v)) || (not (x k) && x v)) ≡ true) q.0 (subst (λ k. ((x (first_end g e) && not (x k)) || (not (x (first_end g e)) && x k)) ≡ true) q.1 cross))
-]
-  where
-    go : (s t : Bool) → s ≡ false → ((s && not t) || (not s && t)) ≡ true → t ≡ true
-    go s t p h = grind arith
-
-    go' : (s t : Bool) → s ≡ false → ((t && not s) || (not t && s)) ≡ true → t ≡ true
-    go' s t p h = grind arith
+other_end g x e v w h cross xv = grind arith
 
 -- a matching of which no edge is at v has none with the end v
 pub not_at : (g : Graph) (m : Set) (e v w : ℕ) → Within (size g) e → m e ≡ true → HasEnds g e v w → degree g m v ≡ 0 → ⊥

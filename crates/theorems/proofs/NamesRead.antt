@@ -1,17 +1,16 @@
 -- The names of a graph that a file gives differ, and there is one for each vertex. They do so from
 -- line to line: a further name has the form of one and is new, and at the end their number is that
 -- of the vertices.
-use Rattle.std.proofs.Common.{◌≡◌, ℕ, ◌+◌, ◌≤◌, ◌&&◌, ◌||◌, ◌==◌, nat_lt, Bool, true, false, cond, not, List, [], ◌∷◌, ◌++◌, length, Option, Some, None, Result, Ok, Err, refl, subst, arith, eqb-true, ltb-false, ltb-true, codes}
-use Rattle.counting.proofs.Common.{and_parts, not-false, or_parts, none-some, same_Some}
+use Rattle.std.proofs.Common.{◌≡◌, ℕ, ◌+◌, ◌≤◌, nat_lt, Bool, true, false, cond, List, [], ◌∷◌, length, Option, Some, None, Result, Ok, Err, refl, arith, ltb-true, codes}
+use Rattle.counting.proofs.Common.{not-false, none-some}
 use Rattle.std.specs.Option.{ForSome}
 use Rattle.std.specs.Result.{result_map_both}
-use Rattle.std.specs.Str.{bytes_eq}
-use Rattle.graph_core.proofs.Common.{Graph, size, with_edge}
+use Rattle.graph_core.proofs.Common.{Graph, size}
 use Rattle.line_text.specs.declared.faults.FaultKind.{FaultKind}
 use Rattle.line_text.specs.declared.faults.FaultKind.TheVariants as kind
 use Rattle.graph_text.proofs.NameLists.{AreNames-more}
-use Rattle.graph_text.specs.Common.{EitherSoFar, NamedGraph, either_header, either_version, end_behind, is_named_header, is_over, is_plain_header, line_behind, named_edge_line, vertex_line, GraphSoFar, graph_end, graph_line, AreNames, is_among, is_name, vertex_of}
-use Rattle.line_text.specs.Common.{checked, finish, step, lines_of, is_number, value_of, go_on, reading_from, reading_of, SignificantLine, has_form, significant_lines_of, word_at}
+use Rattle.graph_text.specs.Common.{EitherSoFar, NamedGraph, either_header, either_version, end_behind, line_behind, named_edge_line, vertex_line, GraphSoFar, graph_end, graph_line, AreNames}
+use Rattle.line_text.specs.Common.{checked, finish, step, lines_of, go_on, reading_from, reading_of, SignificantLine, significant_lines_of}
 use Rattle.bench_top.proofs.ReadGraphs.{GoesOn}
 
 -- the names read so far differ, and there are not too many vertices
@@ -34,20 +33,11 @@ three-tests false false false i j k value give = give refl refl
 
 -- a further name
 vertex-keeps : (body : GraphSoFar) (names words : List (List ℕ)) → nat_lt (length names) body.graph.order ≡ true → body.graph.order ≤ 128 → AreNames names → GoesOn KeepsNames (vertex_line body names words)
-vertex-keeps body names words more few are =
-    let name = word_at words 1 in
-    let less = ltb-true (length names) body.graph.order more in
-    three-tests (not (has_form words 2 (codes "v" ∷ []))) (not (is_name name)) (is_among names name) kind.Word kind.BadName kind.SameName (record { so_far = body; names = Some (names ++ name ∷ []) })
-    (λ form new. (few, AreNames-more names name are (not-false (is_name name) form) new (omega arith)))
+vertex-keeps body names words more few are = grind (arith, ltb-true, length, three-tests, codes, AreNames-more, not-false)
 
 -- an edge
 edge-keeps : (body : GraphSoFar) (names words : List (List ℕ)) → body.graph.order ≤ 128 → AreNames names → GoesOn KeepsNames (named_edge_line body names words)
-edge-keeps body names words few are =
-    let x = word_at words 1 in
-    let y = word_at words 2 in
-    three-tests (not (has_form words 3 (codes "e" ∷ []))) (not (is_among names x && is_among names y)) (bytes_eq x y) kind.Word kind.Unnamed kind.Loop
-    (record { so_far = record body { graph = with_edge body.graph (vertex_of names x) (vertex_of names y) }; names = Some names })
-    (λ known other. (few, are))
+edge-keeps body names words few are = grind arith
 
 -- no names
 plain-keeps : (r : Result GraphSoFar FaultKind) → GoesOn KeepsNames (result_map_both (λ next. record { so_far = next; names = None }) (λ k. k) r)
@@ -57,25 +47,11 @@ plain-keeps (Err fault) = tt
 -- a line after the header
 line-keeps : (body : GraphSoFar) (names : Option (List (List ℕ))) (words : List (List ℕ)) → AreSoFar body.graph.order names → GoesOn KeepsNames (line_behind body names words)
 line-keeps body None words are = plain-keeps (graph_line body words)
-line-keeps body (Some names) words are = go (nat_lt (length names) body.graph.order) (size body.graph == body.edges) refl
-  where
-    go : (more full : Bool) → nat_lt (length names) body.graph.order ≡ more → GoesOn KeepsNames (cond more (vertex_line body names words) (cond full (Err kind.Extra) (named_edge_line body names words)))
-    go true full e = vertex-keeps body names words e are.0 are.1
-    go false true e = tt
-    go false false e = edge-keeps body names words are.0 are.1
+line-keeps body (Some names) words are = grind (arith, nat_lt, length, size, cond, vertex-keeps, edge-keeps)
 
 -- the header
 header-keeps : (words : List (List ℕ)) → GoesOn KeepsNames (either_header words)
-header-keeps words =
-    let n = value_of (word_at words 2) in
-    let m = value_of (word_at words 3) in
-    three-tests (not (is_named_header words || is_plain_header words)) (not (is_number (word_at words 2) && is_number (word_at words 3))) (is_over (is_named_header words) n m) kind.Header kind.Number kind.Limit
-    (record { so_far = record { graph = record { order = n; ends = [] }; edges = m }; names = cond (is_named_header words) (Some []) None })
-    (λ numbers few. begin (is_named_header words) n m few)
-  where
-    begin : (named : Bool) (n m : ℕ) → is_over named n m ≡ false → AreSoFar n (cond named (Some []) None)
-    begin true n m few = (ltb-false 128 n (or_parts (nat_lt 128 n) (nat_lt 2048 m) few).0, record { each = tt; differ = λ i j before less. absurd (omega arith); few = omega arith })
-    begin false n m few = tt
+header-keeps words = grind arith
 
 abbrev KeepsFrom : Option EitherSoFar → Type 0
 KeepsFrom None = Unit {0}
@@ -92,14 +68,7 @@ plain-ends (Err fault) = tt
 
 end-keeps : (body : GraphSoFar) (names : Option (List (List ℕ))) → AreSoFar body.graph.order names → GoesOn HasNames (end_behind body names)
 end-keeps body None are = plain-ends (graph_end body)
-end-keeps body (Some names) are = go ((length names == body.graph.order) && (size body.graph == body.edges)) refl
-  where
-    all : (length names == body.graph.order) && (size body.graph == body.edges) ≡ true → length names ≡ body.graph.order
-    all e = eqb-true (length names) body.graph.order (and_parts (length names == body.graph.order) (size body.graph == body.edges) e).0
-
-    go : (full : Bool) → (length names == body.graph.order) && (size body.graph == body.edges) ≡ full → GoesOn HasNames (cond full (Ok (record { graph = body.graph; names = Some names })) (Err kind.Missing))
-    go true e = λ others same. subst (λ (xs : List (List ℕ)). AreNames xs × (length xs ≡ body.graph.order)) (same_Some _ _ same) (are.1, all e)
-    go false e = tt
+end-keeps body (Some names) are = grind arith
 
 finish-keeps : (from : Option EitherSoFar) → KeepsFrom from → GoesOn HasNames (finish either_version from)
 finish-keeps None keeps = tt

@@ -11,10 +11,7 @@ use Rattle.theorems.specs.Braces.{neighbourhood}
 
 -- a neighbour has an edge to a vertex of the set
 pub neighbour_edge : (g : Graph) (s : Set) (v : ℕ) → neighbourhood g s v ≡ true → (u e : ℕ) × Within g.order u × (s u ≡ true) × Within (size g) e × (has_ends g u v e ≡ true)
-neighbour_edge g s v h =
-    let u = some_true g.order (λ u. s u && adjacent g none u v) h in
-    let p = and_parts (s u.0) (adjacent g none u.0 v) u.2 in
-    let e = (adjacent-edge g none u.0 v p.1).2 in (u.0, e.0, u.1, p.0, e.1, e.2)
+neighbour_edge g s v h = grind (arith, some_true, adjacent, none, and_parts, adjacent-edge)
 
 -- and an edge from a vertex of the set leads to a neighbour
 pub edge_neighbour : (g : Graph) (s : Set) (u v e : ℕ) → Within g.order u → s u ≡ true → Within (size g) e → has_ends g u v e ≡ true → neighbourhood g s v ≡ true
@@ -32,13 +29,7 @@ pub record Leaning (g : Graph) (a z : Set) : Type 0 where
 module _ (g : Graph) (is : IsMultigraph g) (a : Set) (two : IsSide g a) where
   -- the ends of an edge are on different sides
   pub ends_cross : (u v e : ℕ) → Within (size g) e → has_ends g u v e ≡ true → a u ≡ not (a v)
-  ends_cross u v e w h = at_ends g (λ s t. a s ≡ not (a t)) u v e (λ s t. turn (a s) (a t)) h (apart (a (first_end g e)) (a (second_end g e)) (two e w (is.no_loop e w)))
-    where
-      turn : (s t : Bool) → s ≡ not t → t ≡ not s
-      turn s t h = grind arith
-
-      apart : (s t : Bool) → ((s && not t) || (not s && t)) ≡ true → s ≡ not t
-      apart s t h = grind arith
+  ends_cross u v e w h = grind arith
 
   module _ (s : Set) (sub : (v : ℕ) → s v ≡ true → a v ≡ true) where
     abbrev near : Set

@@ -25,13 +25,7 @@ nested_self n x = inl (λ v w t. t)
 
 -- what is nested does not cross
 pub nested-uncrossed : (n : ℕ) (x y : Set) → Nested n x y → Cross n x y → ⊥
-nested-uncrossed n x y h c = elim h [
-  | inl b ↦ let k = c.first in both_ways (y k.0) k.3 (b k.0 k.1 k.2)
-  | inr h ↦ elim h [
-    | inl b ↦ let k = c.second in both_ways (x k.0) k.2 (b k.0 k.1 k.3)
-    | inr a ↦ let k = c.both in both_ways (y k.0) (a k.0 k.1 k.2) k.3
-  ]
-]
+nested-uncrossed n x y h c = grind arith
 
 -- a vertex of x that is not in y, or x is inside y
 pub over_or_below : (n : ℕ) (x y : Set) → ((v : ℕ) × Within n v × (x v ≡ true) × (y v ≡ false)) ⊎ Below n x y

@@ -1,7 +1,7 @@
 -- Two sides at a partition: a union of blocks that each edge between two blocks leaves.
 -- Idea: the quotient is bipartite if and only if there are such sides. A tight shore has one
 -- vertex more on one side, so all edges that leave it leave it there.
-use Rattle.std.proofs.Common.{◌≡◌, ◌≢◌, ◌∙◌, ℕ, ◌<◌, Bool, true, false, not, ◌&&◌, ◌||◌, ◌==◌, List, length, inl, inr, refl, sym, ap, ap₂, arith, subst, subst₂, ne_eqb}
+use Rattle.std.proofs.Common.{◌≡◌, ◌≢◌, ◌∙◌, ℕ, ◌<◌, Bool, true, false, not, ◌&&◌, ◌||◌, ◌==◌, List, length, inl, inr, refl, sym, ap, arith, subst, subst₂, ne_eqb}
 use Rattle.counting.proofs.Common.{and_from, and_parts, both_ways, cases_eq, true≢false, not_not, count_congr, some_true, true_some, Within, count, Set, complement, meet, minus, some}
 use Rattle.graph_core.proofs.Common.{IsSide, IsCovered, Graph, IsBipartite, IsGraph, first_end, has_ends, in_cut, second_end, size, AreBlocks, contracted, place, blocks_adjacent, quotient, IsTightAt, IsUnion, blocks_in, at_place, at_rep, contracted-ends, contracted-graph, contracted-order, contracted-size, place_in, covered_perfect, has_ends-cases, has_ends-own}
 use Rattle.tree_core.proofs.QuotientSides.{Parts, differ, differ-back, parted, parts_from_sides, sides_from_parts}
@@ -47,17 +47,8 @@ module _ (g : Graph) (is : IsGraph g) (p : List (List ℕ)) (pp : AreBlocks g.or
           let wa = (is e.0 e.1).0 in
           let wb = (is e.0 e.1).1 in
           elim (has_ends-cases (contracted g p) i j e.0 e.2) [
-            | inl k ↦
-                let a = sym ends.0 ∙ k.0 in
-                let b = sym ends.1 ∙ k.1 in
-                let cuts = c.1.cut e.0 e.1 (λ same. absurd (less_same i j l (sym a ∙ same ∙ b))) in
-                subst₂ (λ a b. differ a b ≡ true) (sym (at (first_end g e.0) wa) ∙ ap (blocks_in p c.0) a) (sym (at (second_end g e.0) wb) ∙ ap (blocks_in p c.0) b) cuts
-            | inr k ↦
-                let a = sym ends.0 ∙ k.0 in
-                let b = sym ends.1 ∙ k.1 in
-                let cuts = c.1.cut e.0 e.1 (λ same. absurd (less_same i j l (sym b ∙ sym same ∙ a))) in
-                differ-back (blocks_in p c.0 j) (blocks_in p c.0 i)
-                (subst₂ (λ a b. differ a b ≡ true) (sym (at (first_end g e.0) wa) ∙ ap (blocks_in p c.0) a) (sym (at (second_end g e.0) wb) ∙ ap (blocks_in p c.0) b) cuts)
+            | inl k ↦ grind (arith, less_same, differ, at, first_end, blocks_in, second_end)
+            | inr k ↦ grind (arith, less_same, differ-back, blocks_in, differ, at, first_end, second_end)
           ]
         where
           less_same : (i j : ℕ) → i < j → i ≡ j → ⊥
@@ -91,13 +82,7 @@ module _ (g : Graph) (is : IsGraph g) (p : List (List ℕ)) (pp : AreBlocks g.or
   h-graph = contracted-graph g p is pp
 
   blocks-side : (c : Set) → IsSideAt g p c → IsSide h (blocks_in p c)
-  blocks-side c side e we d =
-      let s = contracted-size g p in
-      let w : Within (size g) e = subst (λ n. Within n e) s we in
-      let ends = contracted-ends g p e w in
-      let a = ap (blocks_in p c) ends.0 ∙ at_place g.order p pp c side.union (first_end g e) (is e w).0 in
-      let b = ap (blocks_in p c) ends.1 ∙ at_place g.order p pp c side.union (second_end g e) (is e w).1 in
-      ap₂ differ a b ∙ side.cut e w (λ same. d (ends.0 ∙ same ∙ sym ends.1))
+  blocks-side c side e we d = grind (arith, contracted-size, size, contracted-ends, blocks_in, at_place, first_end, second_end, differ)
 
   leaves-from : (c : Set) (side : IsSideAt g p c) → ((e : ℕ) → Within (size h) e → leaves_right h h-graph (blocks_in p c) (blocks-side c side) (blocks_in p x) e ≡ false) → LeavesFrom g x c
   leaves-from c side none = record {

@@ -14,12 +14,7 @@ use Rattle.theorems.specs.TightCuts.{IsBijection, IsTightCutAt, IsTightCutTreeAt
 
 module _ (g : Graph) (p : List (List ℕ)) (st : Stage g p) where
   cut-words : (x : List ℕ) → IsCutAt g p x → IsTightCutAt g p (mem x)
-  cut-words x c = record {
-    union = c.tight.union;
-    inside = c.nontrivial.inside;
-    outside = let a = block_count_rest g.order p st.list.partition (mem x) c.tight.union in let o = c.nontrivial.outside in omega arith;
-    once = (tight-words g p st.graph st.list.partition (mem x) c.tight).3;
-  }
+  cut-words x c = grind (arith, inside, block_count_rest, mem, tight-words)
 
   -- the number of blocks inside is that of the edges of a perfect matching in the cut, and twice
   -- those inside
@@ -45,10 +40,7 @@ module _ (g : Graph) (p : List (List ℕ)) (st : Stage g p) where
 
   leaf-words : IsLeafAt g p → (x : Set) → IsTightCutAt g p x → ⊥
   unfolding IsLeafAt
-  leaf-words none x c = none x (words-tight g p st.graph st.list.partition x c.union (odd_inside x c) (odd_outside x c) c.once) (record {
-    inside = c.inside;
-    outside = let a = block_count_rest g.order p st.list.partition x c.union in let o = c.outside in omega arith;
-  })
+  leaf-words none x c = grind (arith, none, words-tight, odd_inside, odd_outside, inside, block_count_rest)
 
 pub tree-words : (g : Graph) (p : List (List ℕ)) (t : Shape) → Stage g p → IsDerivationAt g p t → IsTightCutTreeAt g p t
 tree-words g p leaf st d = leaf-words g p st d

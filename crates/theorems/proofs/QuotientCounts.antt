@@ -2,10 +2,10 @@
 -- Idea: by induction on the number of blocks. A cut at the partition is a nontrivial tight shore
 -- of the quotient, and below it both count the same, since the quotients of the quotient are
 -- those of the graph.
-use Rattle.std.proofs.Common.{[], ◌≡◌, ◌∙◌, ◌↔◌, ℕ, zero, suc, ◌+◌, ◌≤◌, ◌<◌, List, ◌∷◌, ◌++◌, length, not, inl, inr, refl, sym, ap, arith, subst}
+use Rattle.std.proofs.Common.{[], ◌≡◌, ◌∙◌, ◌↔◌, ℕ, zero, suc, ◌≤◌, ◌<◌, List, ◌∷◌, ◌++◌, length, not, inl, inr, refl, sym, ap, arith, subst}
 use Rattle.contraction.proofs.QuotientLaws.{tight_at_up}
 use Rattle.mcg6_lines.proofs.Counts.{same_counts}
-use Rattle.counting.proofs.Common.{count_le, rising_list-congr, Within, IsRisingIn, mem, complement}
+use Rattle.counting.proofs.Common.{rising_list-congr, Within, IsRisingIn, mem, complement}
 use Rattle.theorems.proofs.Quotients.{bipartite-or, leaf-quotient}
 use Rattle.graph_core.proofs.Common.{at_rep, rep, rep_in, complement_of-rises, complement_of-rising_list, mem-complement_of, quotient_graph, quotient-order, quotient_edge, nontrivial-same, tight-same, complement-tight, length-singles, singles-partition, IsCovered, Graph, IsGraph, IsMultigraph, first_end, second_end, IsPartition, complement_of, merged, singles, quotient, IsTightAt, blocks_in, IsNontrivial}
 use Rattle.mcg6_lines.proofs.SingleLeaves.{one_brace, one_brick}
@@ -23,10 +23,7 @@ use Rattle.tree_core.proofs.SingleVertices.{last-place}
 
 -- the quotient has no loop
 loopless : (g : Graph) (p : List (List ℕ)) → IsGraph g → IsPartition g.order p → IsMultigraph (quotient g p)
-loopless g p is pp = record { ends = quotient_graph g p is pp.partition; no_loop = λ e w same. let edge = quotient_edge g p e w in less (first_end (quotient g p) e) (second_end (quotient g p) e) edge.2 same }
-  where
-    less : (a b : ℕ) → a < b → a ≡ b → ⊥
-    less a b l e = omega arith
+loopless g p is pp = grind (arith, quotient_graph, quotient_edge, first_end, quotient, second_end)
 
 -- a leaf
 leaf-counted : (g : Graph) (p : List (List ℕ)) (tally : Tally) → IsGraph g → IsPartition g.order p → IsCovered (quotient g p) → IsLeafAt g p → IsTally g (p ∷ []) tally → IsCounted (quotient g p) tally
@@ -51,13 +48,7 @@ module _ (g : Graph) (is : IsGraph g) (p : List (List ℕ)) (pp : IsPartition g.
   same i w = sym (mem-down_at g.order p pp x i w)
 
   some-vertex : 1 ≤ g.order
-  some-vertex =
-      let many = cuts.nontrivial.inside in
-      let few = count_le (length p) (blocks_in p (mem x)) in
-      let f = pp.partition.full 1 (omega arith, omega arith) in
-      let a = f.1.0 in
-      let b = f.1.1 in
-      omega arith
+  some-vertex = grind arith
 
   pub shore-down : IsTightShore h y
   shore-down = record {
@@ -149,7 +140,4 @@ count-down (suc fuel) g p tally is pp covered less counted =
         (cut-counted h y a.0 b.0 covered low up_a up_b)
 
 pub quotient-counts : (g : Graph) (p : List (List ℕ)) (tally : Tally) → IsGraph g → IsPartition g.order p → IsCovered (quotient g p) → IsCountedAt g p tally ↔ IsCounted (quotient g p) tally
-quotient-counts g p tally is pp covered = (
-  count-down (length p + 1) g p tally is pp covered (omega arith),
-  up-from g p tally is pp covered (λ other found. count-down (length p + 1) g p other is pp covered (omega arith) found),
-)
+quotient-counts g p tally is pp covered = grind (arith, count-down, length, up-from)

@@ -61,9 +61,7 @@ few_inside r g x is regular wide odd =
     half (count g.order x) (cut_size g x) (inner_size g x) (each_degree r g x is regular) (wide x odd) (eqb-true (count g.order x % 2) 1 (sym (is_odd_remainder (count g.order x)) ∙ odd))
   where
     half : (k c i : ℕ) → r * k ≡ c + 2 * i → r ≤ c → k % 2 ≡ 1 → i ≤ r * (k / 2)
-    half k c i h l o =
-        let e : k ≡ (k / 2 + k / 2) + 1 = omega arith in
-        let q = ap (λ t. r * t) e ∙ mul-add r (k / 2 + k / 2) 1 ∙ ap (λ t. t + r * 1) (mul-add r (k / 2) (k / 2)) in omega arith
+    half k c i h l o = grind (arith, mul-add)
 
 -- two vertices for an edge inside
 pub two_inside : (g : Graph) (x : Set) → IsMultigraph g → 1 ≤ inner_size g x → 2 ≤ count g.order x

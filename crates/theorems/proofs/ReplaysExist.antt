@@ -73,18 +73,8 @@ replay-exists g t ms is shores = elim (covered_or_told g is) [
 path-sets : (n : ℕ) (u v : List ℕ) (path whole : List Side) (p : List (List ℕ)) (t r : Shape) → BlocksAt n p path u v t → result_at (switch_result_at n u v) path t ≡ Some r → SetsRise (switch_at whole u v)
 path-sets n u v [] whole p t r blocks e = let sets = blocks.0 in (sets.0.rising, sets.1.rising)
 path-sets n u v (side ∷ path) whole p leaf r blocks e = absurd (none-some _ e)
-path-sets n u v (Kept ∷ path) whole p (cut x a b) r blocks e = go (result_at (switch_result_at n u v) path a) refl e (path-sets n u v path whole (kept_at n p x) a)
-  where
-    go : (o : Option Shape) → result_at (switch_result_at n u v) path a ≡ o → option_map (λ c. cut x c b) o ≡ Some r →
-        ((c : Shape) → BlocksAt n (kept_at n p x) path u v a → result_at (switch_result_at n u v) path a ≡ Some c → SetsRise (switch_at whole u v)) → SetsRise (switch_at whole u v)
-    go None made e below = absurd (none-some _ e)
-    go (Some c) made e below = below c blocks made
-path-sets n u v (Merged ∷ path) whole p (cut x a b) r blocks e = go (result_at (switch_result_at n u v) path b) refl e (path-sets n u v path whole (merged_at n p x) b)
-  where
-    go : (o : Option Shape) → result_at (switch_result_at n u v) path b ≡ o → option_map (λ c. cut x a c) o ≡ Some r →
-        ((c : Shape) → BlocksAt n (merged_at n p x) path u v b → result_at (switch_result_at n u v) path b ≡ Some c → SetsRise (switch_at whole u v)) → SetsRise (switch_at whole u v)
-    go None made e below = absurd (none-some _ e)
-    go (Some c) made e below = below c blocks made
+path-sets n u v (Kept ∷ path) whole p (cut x a b) r blocks e = grind (arith, result_at, switch_result_at, kept_at, option_map, cut, switch_at, none-some, path-sets n u v path whole (kept_at n p x) a)
+path-sets n u v (Merged ∷ path) whole p (cut x a b) r blocks e = grind (arith, result_at, switch_result_at, merged_at, option_map, cut, switch_at, none-some, path-sets n u v path whole (merged_at n p x) b)
 
 move-sets : (n : ℕ) (p : List (List ℕ)) (t r : Shape) (m : PlainMove) → IsProper n p t m → move_result n t m ≡ Some r → SetsRise m
 move-sets n p t r (rotate_at path) proper e = tt

@@ -25,9 +25,7 @@ module _ (g : Graph) (p : List (List ℕ)) where
           ]
 
       ordered : (a b : ℕ) → Within (length p) a → Within (length p) b → a < b → blocks_adjacent g p a b ≡ true → (e : ℕ) × Within (size (quotient g p)) e × (has_ends (quotient g p) a b e ≡ true)
-      ordered a b wa wb l t =
-          let e = edge_of_pair g p a b wa wb l t in
-          (e.0, e.1, subst (λ k. has_ends (quotient g p) a k e.0 ≡ true) e.3 (subst (λ k. has_ends (quotient g p) k (second_end (quotient g p) e.0) e.0 ≡ true) e.2 (has_ends-own (quotient g p) e.0)))
+      ordered a b wa wb l t = grind (arith, edge_of_pair, has_ends, quotient, second_end, has_ends-own)
 
       up : blocks_adjacent g p i j ≡ true → adjacent (quotient g p) none i j ≡ true
       up t = elim (cases_order i j) [
@@ -39,13 +37,7 @@ module _ (g : Graph) (p : List (List ℕ)) where
       ]
 
 pub same-isomorphism : (g : Graph) (p q : List (List ℕ)) (f : ℕ → ℕ) → IsSameGraph g p q f → IsIsomorphism (quotient g p) (quotient g q) f
-same-isomorphism g p q f same = record {
-  bijection = subst (λ n. IsBijection n (quotient g q).order f) (sym (quotient-order g p)) (subst (λ n. IsBijection (length p) n f) (sym (quotient-order g q)) same.bijection);
-  edges = λ u v wu wv.
-      let u' = subst (λ n. Within n u) (quotient-order g p) wu in
-      let v' = subst (λ n. Within n v) (quotient-order g p) wv in
-      quotient_adjacent g p u v u' v' ∙ same.adjacent u v u' v' ∙ sym (quotient_adjacent g q (f u) (f v) (same.bijection.within u u') (same.bijection.within v v'));
-}
+same-isomorphism g p q f same = grind (arith, quotient, quotient-order, length, quotient_adjacent)
 
 -- along a bijection one counts alike
 module _ (n m : ℕ) (f : ℕ → ℕ) (is : IsBijection n m f) where
@@ -90,30 +82,15 @@ count_places p (x ∷ xs) d =
 
     shift : (i : ℕ) → 1 ≤ i → slice_index_or (x ∷ xs) ((i + 1) - 1) d ≡ slice_index_or xs (i - 1) d
     shift zero l = absurd (omega arith)
-    shift (suc j) l =
-        let a : (suc j + 1) - 1 ≡ suc j = omega arith in
-        let b : j ≡ suc j - 1 = omega arith in
-        ap (λ k. slice_index_or (x ∷ xs) k d) a ∙ ap (λ k. slice_index_or xs k d) b
+    shift (suc j) l = grind (arith, slice_index_or)
 
 -- in the cut of x or not goes by the two ends
 cut_at : (g : Graph) (x : Set) (u v e : ℕ) → has_ends g u v e ≡ true → in_cut g x e ≡ ((x u && not (x v)) || (not (x u) && x v))
-cut_at g x u v e h = elim (has_ends-cases g u v e h) [
-  | inl p ↦ rw (p.0, p.1) refl
-  | inr p ↦ rw (p.0, p.1) (turn (x v) (x u))
-]
-  where
-    turn : (a b : Bool) → ((a && not b) || (not a && b)) ≡ ((b && not a) || (not b && a))
-    turn a b = grind arith
+cut_at g x u v e h = grind arith
 
 -- a test of sides goes by the vertices alone
 two_sided_respects : (g : Graph) → IsGraph g → Respects g.order (λ x. every (size g) (in_cut g x))
-two_sided_respects g is = record {
-  same = λ x y same.
-      every_congr (size g) (in_cut g x) (in_cut g y) (λ e w. same_cut (x (first_end g e)) (y (first_end g e)) (x (second_end g e)) (y (second_end g e)) (same (first_end g e) (is e w).0) (same (second_end g e) (is e w).1));
-}
-  where
-    same_cut : (a b c d : Bool) → a ≡ b → c ≡ d → ((a && not c) || (not a && c)) ≡ ((b && not d) || (not b && d))
-    same_cut a b c d p q = grind arith
+two_sided_respects g is = grind (arith, every_congr, size, in_cut, first_end, second_end)
 
 two_sided_says : (g : Graph) → is_two_sided g ≡ true → IsBipartite g
 two_sided_says g h = let x = some_set_found g.order (λ x. every (size g) (in_cut g x)) h in (x.0, every_true (size g) (in_cut g x.0) x.1)

@@ -5,7 +5,6 @@ use Rattle.counting.proofs.Common.{Within}
 use Rattle.graph_core.proofs.Common.{quotient_graph, Graph, IsGraph, quotient}
 use Rattle.move_laws.proofs.Uniqueness.{pairing_law}
 use Rattle.tree_core.proofs.Common.{leaf_count-cuts, length-leaves_at, partitions-leaves, IsDerivation, cut_count, leaf_at, leaves, Shape}
-use Rattle.graph_core.specs.Common.{singles}
 use Rattle.theorems.proofs.PlainDecompositions.{pairing-words}
 use Rattle.theorems.proofs.SameGraphs.{count_along, count_places, same-isomorphism, same_length, same_sides}
 use Rattle.theorems.specs.TightCuts.{IsBijection, IsIsomorphism, PairsLeaves, RespectsIsomorphism, is_two_sided}
@@ -35,13 +34,7 @@ module _ (g : Graph) (s t : Shape) (is : IsGraph g) (ds : IsDerivation g s) (dt 
   isomorphic_leaves = (partner, paired_leaves.1, pairs.pairs, isomorphic)
 
   pub same_numbers : (length (leaves g.order s) ≡ length (leaves g.order t)) × (cut_count s ≡ cut_count t)
-  same_numbers =
-      let l = same_length (length ps) (length qs) partner pairs.pairs in
-      let a = length-leaves_at g.order (singles g.order) s in
-      let b = length-leaves_at g.order (singles g.order) t in
-      let c = leaf_count-cuts s in
-      let d = leaf_count-cuts t in
-      (l, let e : cut_count s ≡ cut_count t = omega arith in e)
+  same_numbers = grind (arith, same_length, length, partner, pairs, length-leaves_at, leaf_count-cuts, cut_count)
 
   -- what agrees on each leaf and its partner is counted alike
   counted : (p : List (List ℕ) → Bool) → ((i : ℕ) → Within (length ps) i → p (leaf_at ps i) ≡ p (leaf_at qs (partner i))) → count_by p (leaves g.order s) ≡ count_by p (leaves g.order t)

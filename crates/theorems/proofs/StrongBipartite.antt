@@ -30,10 +30,7 @@ module _ (g : Graph) (a m : Set) (is : IsMultigraph g) (two : IsSide g a) (perfe
 
   -- an edge of the matching is an arc both ways
   along : (u v e : ℕ) → Within (size g) e → m e ≡ true → has_ends g u v e ≡ true → arc g a m u v ≡ true
-  along u v e w t h = elim (cases_Bool (a u)) [
-    | inl au ↦ ap (λ s. cond s (are_mates g m u v) (adjacent g none u v)) au ∙ mates_from g m u v e w t h
-    | inr au ↦ from_off u v e w h au
-  ]
+  along u v e w t h = grind (arith, cases_Bool, cond, adjacent, none, mates_from, from_off)
 
   -- what walks lead to from a vertex
   module _ (u : ℕ) (wu : Within g.order u) where

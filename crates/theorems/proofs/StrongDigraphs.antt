@@ -39,10 +39,7 @@ module _ (g : Graph) (is : IsGraph g) (x m : Set) (a b : ℕ) where
 
   -- a step that keeps away from a and b is an arc that does not begin at a
   step_arc : (u v : ℕ) → without u v ≡ true → (past u v ≡ true) × (arc g x m u v ≡ true)
-  step_arc u v h =
-      let p = and_parts ((not (a == u) && not (b == u)) && (not (a == v) && not (b == v))) (arc g x m u v) h in
-      let q = and_parts (not (a == u) && not (b == u)) (not (a == v) && not (b == v)) p.0 in
-      (and_from (not (a == u)) (arc g x m u v) (and_parts (not (a == u)) (not (b == u)) q.0).0 p.1, p.1)
+  step_arc u v h = grind arith
 
   -- a set that no arc leaves but from a holds what such a walk leads to
   kept : (y : Set) → NoArcLeaves g x m a y → (u v : ℕ) (ws : List ℕ) → y u ≡ true → Walk without u ws v → y v ≡ true

@@ -1,7 +1,7 @@
 -- The sets D and A are the outer and the inner vertices of a frame, so that D is the union of the
 -- odd components of G - A. Each maximum matching attains the bound of Berge at A, and the
 -- components of G[D] are the odd components of G - A.
-use Rattle.std.proofs.Common.{◌≡◌, ◌↔◌, ℕ, ◌+◌, true, false, refl, sym, ap, ap₂, ◌∙◌, arith, ◌&&◌, not, subst, inl, inr, [], ◌∷◌, nat_lt}
+use Rattle.std.proofs.Common.{◌≡◌, ◌↔◌, ℕ, ◌+◌, true, false, refl, sym, ap, ap₂, ◌∙◌, arith, ◌&&◌, not, inl, inr, [], ◌∷◌, nat_lt}
 use Rattle.counting.proofs.Common.{cases_Bool, both_ways, false_from_ne_true, and_parts, and_from, not-false, same_tests, count_congr, some_congr, fun_ext, Within, count, is_odd, Set, complement, none}
 use Rattle.barrier_kit.proofs.Common.{leads_out}
 use Rattle.graph_core.proofs.Common.{has_ends-from, joined_outside, joined_walk, walk_joined, edge_of, IsClosed, Walk-stays, adjacent-edge, adjacent_from, adjacent_within, has_ends-cases, joined_on, joined_self, Attains, component_count, is_least, odd_component_count, InA, InD, Graph, HasEnds, IsGraph, first_end, second_end, size, IsMaximum, Joined, adjacent, joined}
@@ -12,10 +12,7 @@ use Rattle.theorems.specs.Matchings.{AreThreeSets}
 
 -- the ends of an edge are vertices
 pub ends_within : (g : Graph) (e v w : ℕ) → IsGraph g → Within (size g) e → HasEnds g e v w → Within g.order v × Within g.order w
-ends_within g e v w is we h = elim h [
-  | inl q ↦ (subst (Within g.order) q.0 (is e we).0, subst (Within g.order) q.1 (is e we).1)
-  | inr q ↦ (subst (Within g.order) q.1 (is e we).1, subst (Within g.order) q.0 (is e we).0)
-]
+ends_within g e v w is we h = grind arith
 
 pub turn_ends : (g : Graph) (e v w : ℕ) → HasEnds g e v w → HasEnds g e w v
 turn_ends g e v w h = elim h [ inl q ↦ inr q | inr q ↦ inl q ]
@@ -118,10 +115,7 @@ module _ (g : Graph) (is : IsGraph g) (d a c : Set) (sets : AreThreeSets g d a c
 
   -- an edge from D leads to D or to A
   pub d_step : (e v w : ℕ) → Within (size g) e → HasEnds g e v w → d v ≡ true → a w ≡ false → d w ≡ true
-  d_step e v w we h dv aw = elim (cases_Bool (d w)) [
-    | inl t ↦ t
-    | inr f ↦ absurd (both_ways (a w) aw (next_inner g is none k d a frame b.m b.is refl w (ends_within g e v w is we h).1 f refl e v we (turn_ends g e v w h) dv))
-  ]
+  d_step e v w we h dv aw = grind (arith, cases_Bool, both_ways, next_inner, none, frame, ends_within, turn_ends)
 
   -- the components of G[D] are components of G - A
   pub same_component : (u v : ℕ) → Within g.order u → d u ≡ true → joined g (complement d) u v ≡ joined g a u v

@@ -61,12 +61,7 @@ append-order (x ∷ xs) ys h k before = (
 )
 
 below-order : (ks ms : List (List Side)) → AreInPreorder ks → AreInPreorder ms → AreInPreorder (below ks ms)
-below-order ks ms h k =
-    append-order (behind Kept ks) (behind Merged ms) (behind-order Kept ks h) (behind-order Merged ms k)
-    (λ a b i j.
-    let r = behind-in Kept ks a i in
-    let s = behind-in Merged ms b j in
-    subst (λ c. IsEarlier c b) (sym r.2) (subst (IsEarlier (Kept ∷ r.0)) (sym s.2) tt))
+below-order ks ms h k = grind (arith, append-order, behind-order, behind-in)
 
 below-sound : (P : List Side → Type 0) (ks ms : List (List Side)) → ListsPaths ks (λ a. P (Kept ∷ a)) → ListsPaths ms (λ a. P (Merged ∷ a)) → (a : List Side) → IsIn a (below ks ms) → P a
 below-sound P ks ms k m a i = elim (in-split a (behind Kept ks) (behind Merged ms) i) [
@@ -184,17 +179,11 @@ leaf_paths-lists n p (cut x k m) =
 
 pub leaf_paths-leaves : (n : ℕ) (p : List (List ℕ)) (t : Shape) → AllZip (λ path q. LeadsTo n path p t q leaf) (leaf_paths t) (leaves_at n p t)
 leaf_paths-leaves n p leaf = ((refl, refl), tt)
-leaf_paths-leaves n p (cut x k m) =
-    zip-append (λ path q. LeadsTo n path p (cut x k m) q leaf) (behind Kept (leaf_paths k)) (behind Merged (leaf_paths m)) (leaves_at n (kept_at n p x) k) (leaves_at n (merged_at n p x) m)
-    (zip-behind (λ path q. LeadsTo n path p (cut x k m) q leaf) Kept (leaf_paths k) (leaves_at n (kept_at n p x) k) (leaf_paths-leaves n (kept_at n p x) k))
-    (zip-behind (λ path q. LeadsTo n path p (cut x k m) q leaf) Merged (leaf_paths m) (leaves_at n (merged_at n p x) m) (leaf_paths-leaves n (merged_at n p x) m))
+leaf_paths-leaves n p (cut x k m) = grind (arith, zip-append, cut, leaf, leaves_at, kept_at, merged_at, zip-behind, leaf_paths-leaves n (kept_at n p x) k, leaf_paths-leaves n (merged_at n p x) m)
 
 -- the path leads to a cut, and to one by the shore y
 abbrev LeadsToCut : ℕ → List (List ℕ) → Shape → List Side → Type 0
 LeadsToCut n p t path = (y : List ℕ) × (q : List (List ℕ)) × (k : Shape) × (m : Shape) × LeadsTo n path p t q (cut y k m)
-
-abbrev LeadsToShore : ℕ → List (List ℕ) → Shape → List Side → List ℕ → Type 0
-LeadsToShore n p t path y = (q : List (List ℕ)) × (k : Shape) × (m : Shape) × LeadsTo n path p t q (cut y k m)
 
 pub cut_paths-lists : (n : ℕ) (p : List (List ℕ)) (t : Shape) → ListsPaths (cut_paths t) (λ path. (y : List ℕ) × (q : List (List ℕ)) × (k : Shape) × (m : Shape) × LeadsTo n path p t q (cut y k m))
 cut_paths-lists n p leaf = record { order = tt; sound = λ a i. absurd i; complete = none }
@@ -208,9 +197,4 @@ cut_paths-lists n p (cut x k m) =
 
 pub cut_paths-shores : (n : ℕ) (p : List (List ℕ)) (t : Shape) → AllZip (λ path y. (q : List (List ℕ)) × (k : Shape) × (m : Shape) × LeadsTo n path p t q (cut y k m)) (cut_paths t) (shores t)
 cut_paths-shores n p leaf = tt
-cut_paths-shores n p (cut x k m) = (
-  (p, k, m, (refl, refl)),
-  zip-append (LeadsToShore n p (cut x k m)) (behind Kept (cut_paths k)) (behind Merged (cut_paths m)) (shores k) (shores m)
-      (zip-behind (LeadsToShore n p (cut x k m)) Kept (cut_paths k) (shores k) (cut_paths-shores n (kept_at n p x) k))
-      (zip-behind (LeadsToShore n p (cut x k m)) Merged (cut_paths m) (shores m) (cut_paths-shores n (merged_at n p x) m)),
-)
+cut_paths-shores n p (cut x k m) = grind (arith, zip-append, cut, shores, zip-behind, kept_at, merged_at, cut_paths-shores n (kept_at n p x) k, cut_paths-shores n (merged_at n p x) m)

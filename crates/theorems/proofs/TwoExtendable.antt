@@ -2,9 +2,9 @@
 -- common end lie in a perfect matching. The cut of a nontrivial tight shore has two edges without
 -- a common end, by the neighbours of the vertices at which it is left.
 use Rattle.std.proofs.Common.{◌≡◌, ◌≢◌, ℕ, ◌≤◌, ◌<◌, Bool, true, false, ◌==◌, ◌&&◌, ◌||◌, not, refl, sym, ap, ◌∙◌, arith, eq-eqb, eqb-true, subst, ◌↔◌, ◌⊎◌, inl, inr}
-use Rattle.counting.proofs.Common.{and_from, and_parts, both_ways, cases_Bool, cases_eq, not-false, not-true, or_left, or_right, true≢false, and_comm, but_fails_second, but_from, but_not, or_false_back, count_congr, count_member, count_minus, two_members, count_mono, count_split, Within, count, Set, complement, meet, minus, none, singleton, union}
+use Rattle.counting.proofs.Common.{and_from, and_parts, both_ways, cases_Bool, cases_eq, not-false, not-true, or_left, or_right, and_comm, but_fails_second, but_from, but_not, or_false_back, count_congr, count_member, count_minus, two_members, count_mono, count_split, Within, count, Set, complement, meet, minus, none, singleton, union}
 use Rattle.barrier_kit.proofs.Common.{cut_edge, perfect_congr}
-use Rattle.graph_core.proofs.Common.{IsSide, IsCovered, Graph, IsMultigraph, first_end, has_ends, in_cut, second_end, size, HasPerfect, IsEnd, Together, HasOnlyTrivialTightCuts, IsTight, has_ends-back, has_ends-cases, has_ends-own}
+use Rattle.graph_core.proofs.Common.{IsSide, IsCovered, Graph, IsMultigraph, first_end, has_ends, in_cut, second_end, size, HasPerfect, IsEnd, Together, HasOnlyTrivialTightCuts, IsTight, has_ends-back}
 use Rattle.matching_digraph.proofs.Balance.{equal_sides, other_side}
 use Rattle.matching_digraph.proofs.TightShores.{ends_within}
 use Rattle.quick_kinds.proofs.Braces.{braces}
@@ -19,33 +19,15 @@ AreApart g e f = (v : ℕ) → Within g.order v → IsEnd g e v → IsEnd g f v 
 
 -- an end of an edge between u and v is one of them
 end_is : (g : Graph) (u v e w : ℕ) → has_ends g u v e ≡ true → IsEnd g e w → (u ≡ w) ⊎ (v ≡ w)
-end_is g u v e w h i = elim (has_ends-cases g u v e h) [
-  | inl p ↦ elim i [
-    | inl q ↦ inl (sym p.0 ∙ q)
-    | inr q ↦ inr (sym p.1 ∙ q)
-  ]
-  | inr p ↦ elim i [
-    | inl q ↦ inr (sym p.0 ∙ q)
-    | inr q ↦ inl (sym p.1 ∙ q)
-  ]
-]
+end_is g u v e w h i = grind arith
 
 -- an edge of which one end is in z is in its cut if the other is not
 pub cut_from_ends : (g : Graph) (z : Set) (u v e : ℕ) → has_ends g u v e ≡ true → z u ≡ true → z v ≡ false → in_cut g z e ≡ true
-cut_from_ends g z u v e h zu zv = elim (has_ends-cases g u v e h) [
-  | inl p ↦ rw (p.0, p.1, zu, zv) refl
-  | inr p ↦ rw (p.0, p.1, zu, zv) refl
-]
+cut_from_ends g z u v e h zu zv = grind arith
 
 -- an edge of a cut has one end in the set
 pub cut_ends : (g : Graph) (z : Set) (e : ℕ) → in_cut g z e ≡ true → (u v : ℕ) × (has_ends g u v e ≡ true) × (z u ≡ true) × (z v ≡ false)
-cut_ends g z e h = go (z (first_end g e)) (z (second_end g e)) refl refl h
-  where
-    go : (p q : Bool) → z (first_end g e) ≡ p → z (second_end g e) ≡ q → ((p && not q) || (not p && q)) ≡ true → (u v : ℕ) × (has_ends g u v e ≡ true) × (z u ≡ true) × (z v ≡ false)
-    go true true i j k = absurd (true≢false (sym k))
-    go true false i j k = (first_end g e, second_end g e, has_ends-own g e, i, j)
-    go false true i j k = (second_end g e, first_end g e, has_ends-back g (first_end g e) (second_end g e) e (has_ends-own g e), j, i)
-    go false false i j k = absurd (true≢false (sym k))
+cut_ends g z e h = grind arith
 
 -- two edges of a tight cut have a common end in a 2-extendable graph
 pub no_two_apart : (g : Graph) (z : Set) (u v s t e f : ℕ) → IsTwoExtendable g → IsTight g z → Within (size g) e → Within (size g) f → has_ends g u v e ≡ true → has_ends g s t f ≡ true →

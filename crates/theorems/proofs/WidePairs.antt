@@ -3,9 +3,9 @@
 -- neighbours; and of one side the parts have few enough, so that the other side has to have more
 -- vertices than it.
 use Rattle.std.proofs.Common.{◌≡◌, ℕ, ◌+◌, ◌≤◌, Bool, true, false, ◌==◌, ◌&&◌, ◌||◌, not, refl, sym, ap, ◌∙◌, arith, eq-eqb, eqb-true, inl, inr}
-use Rattle.counting.proofs.Common.{and_parts, but_from, cases_lt, count_complement, count_congr, count_meet_union, count_member, count_mono, count_singleton, count_split, false_from_ne_true, member_count, not-true, or_left, two_of, Within, count, Set, complement, meet, minus, none, pair_set, singleton, union}
+use Rattle.counting.proofs.Common.{and_parts, but_from, cases_lt, count_complement, count_congr, count_meet_union, count_member, count_mono, count_singleton, count_split, false_from_ne_true, member_count, or_left, two_of, Within, count, Set, complement, meet, minus, none, pair_set, singleton, union}
 use Rattle.barrier_kit.proofs.Common.{leader_same, leads_out, part_step}
-use Rattle.graph_core.proofs.Common.{has_ends-cases, joined_outside, joined_self, walk_joined, component_count, is_least, Graph, HasOnlyTrivialTightCuts, HasPerfect, IsConnected, IsCovered, IsCutPair, IsMultigraph, IsSide, first_end, has_ends, joined, second_end, size}
+use Rattle.graph_core.proofs.Common.{joined_outside, joined_self, walk_joined, component_count, is_least, Graph, HasOnlyTrivialTightCuts, HasPerfect, IsConnected, IsCovered, IsCutPair, IsMultigraph, IsSide, first_end, has_ends, joined, second_end, size}
 use Rattle.matching_digraph.proofs.Balance.{equal_sides, other_side}
 use Rattle.theorems.proofs.ExtendableCuts.{extendable_brick, extendable_uncut}
 use Rattle.theorems.proofs.Neighbourhoods.{near_side, neighbour_edge}
@@ -22,21 +22,12 @@ pub record IsPartBeside (g : Graph) (r k : Set) : Type 0 where
 
 -- and so is what is neither in r nor in k
 rest_beside : (g : Graph) (r k : Set) → IsPartBeside g r k → IsPartBeside g r (minus (complement r) k)
-rest_beside g r k part = record {
-  out = λ w h. not-true (r w) (and_parts (not (r w)) (not (k w)) h).0;
-  keeps = λ e we f s. table (r (first_end g e)) (r (second_end g e)) (k (first_end g e)) (k (second_end g e)) f s (part.keeps e we f s);
-}
-  where
-    table : (p q x y : Bool) → p ≡ false → q ≡ false → x ≡ y → (not p && not x) ≡ (not q && not y)
-    table p q x y i j h = grind arith
+rest_beside g r k part = grind arith
 
 -- a side b whose small sets have two neighbours more
 module _ (g : Graph) (is : IsMultigraph g) (b : Set) (two : IsSide g b) (wide : HasWideNeighbourhoods g b) (r k : Set) (part : IsPartBeside g r k) where
   stays : (s w e : ℕ) → Within (size g) e → has_ends g s w e ≡ true → k s ≡ true → r w ≡ false → k w ≡ true
-  stays s w e we h ks rw = elim (has_ends-cases g s w e h) [
-    | inl p ↦ sym (ap k p.1) ∙ sym (part.keeps e we (ap r p.0 ∙ part.out s ks) (ap r p.1 ∙ rw)) ∙ ap k p.0 ∙ ks
-    | inr p ↦ sym (ap k p.0) ∙ part.keeps e we (ap r p.0 ∙ rw) (ap r p.1 ∙ part.out s ks) ∙ ap k p.1 ∙ ks
-  ]
+  stays s w e we h ks rw = grind arith
 
   -- neighbours of vertices that the part has on the side are in the part or in r
   near_part : (s : Set) → ((w : ℕ) → s w ≡ true → meet k b w ≡ true) → count g.order (neighbourhood g s) ≤ count g.order (minus k b) + count g.order (minus r b)
@@ -52,9 +43,7 @@ module _ (g : Graph) (is : IsMultigraph g) (b : Set) (two : IsSide g b) (wide : 
       either x y z h i = grind arith
 
   two_wider : 1 ≤ count g.order (meet k b) → count g.order (meet k b) + 2 ≤ count g.order b → count g.order (meet k b) + 2 ≤ count g.order (minus k b) + count g.order (minus r b)
-  two_wider some small =
-      let n = near_part (meet k b) (λ w h. h) in
-      let w = wide (meet k b) (λ v wv h. (and_parts (k v) (b v) h).1) some small in omega arith
+  two_wider some small = grind (arith, near_part, meet, and_parts)
 
   -- a vertex of the part on the side has three neighbours, and r has at most two vertices
   other_half : 3 ≤ count g.order b → count g.order (minus r b) ≤ 2 → 1 ≤ count g.order (meet k b) → 1 ≤ count g.order (minus k b)
@@ -71,10 +60,7 @@ module _ (g : Graph) (is : IsMultigraph g) (a : Set) (two : IsSide g a) (wide : 
 
   -- what is not off the side is on it
   on_again : (x : Set) → count g.order (minus x (complement a)) ≡ count g.order (meet x a)
-  on_again x = count_congr g.order _ _ (λ v w. twice (x v) (a v))
-    where
-      twice : (p q : Bool) → (p && not (not q)) ≡ (p && q)
-      twice p q = grind arith
+  on_again x = grind arith
 
   -- a part has vertices on both sides
   both_halves : (k : Set) → IsPartBeside g r k → 1 ≤ count g.order k → (1 ≤ count g.order (meet k a)) × (1 ≤ count g.order (minus k a))

@@ -4,7 +4,7 @@ use Rattle.std.proofs.Common.{◌≡◌, ◌⊎◌, ℕ, List, [], ◌∷◌, le
 use Rattle.counting.proofs.Common.{Set}
 use Rattle.graph_core.proofs.Common.{IsCovered, Graph, IsGraph, IsPartition, quotient, IsTightAt, blocks_in, IsNontrivial}
 use Rattle.tight_cuts.proofs.PartitionCandidates.{none-at}
-use Rattle.tight_cuts.specs.Common.{Candidate, first_of, first_shore, candidates_at}
+use Rattle.tight_cuts.specs.Common.{Candidate, first_shore, candidates_at}
 use Rattle.tree_core.proofs.Common.{IsLeafAt}
 use Rattle.tree_check.specs.Common.{BreaksLeaf, Why, not_blocks, even, trivial, not_tight, not_leaf, without_matching}
 
@@ -44,7 +44,3 @@ leaf-once g p (not_leaf c) (not_leaf d) s t = ap not_leaf (same c d (sym s ∙ t
   where
     same : (c d : List ℕ) → Some c ≡ Some d → c ≡ d
     same c d e = ap (λ (o : Option (List ℕ)). unwrap_or o []) e
-
--- the shore of the first candidate
-pub shore-first : (c : Candidate) (list : List Candidate) → Some c ≡ first_of list → Some c.shore ≡ first_shore list
-shore-first c list e = grind arith

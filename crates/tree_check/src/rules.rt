@@ -72,8 +72,7 @@ fn edges_at(alloc: Global, p: &Place, matching: &Matching) -> Result<Numbers, Me
         edges ≡ lifted p.now.graph p.now.blocks (mem (edges_of matching.now))) }
 {
     let q = quotient(alloc, p.graph(), p.partition())?;
-    let edges = lift(alloc, &q, matching)?;
-    Ok(edges)
+    lift(alloc, &q, matching)
 }
 
 // The places of the blocks that are in the shore.

@@ -1,4 +1,3 @@
-pub mod NodeLines
 pub mod ShoreLists
 pub mod TextSoFar
 pub mod TreeReadBack

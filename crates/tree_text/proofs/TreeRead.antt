@@ -1,15 +1,14 @@
 -- What is read of a text can be written again. Along the lines of a text the shores read so far are
 -- nonempty, increasing and below n, and the nodes are counted: each line keeps this, since it
 -- passed the tests of the table, and so does a tree put at a place.
-use Rattle.std.proofs.Common.{◌≡◌, ◌+◌, ◌-◌, ◌≤◌, ◌<◌, ◌==◌, codes, ◌||◌, ◌^◌, not, nat_le, if◌then◌else◌, ℕ, List, [], ◌∷◌, All, Bool, length, map, true, false, Option, Some, None, Result, Ok, IfOk, refl, sym, subst, arith}
-use Rattle.counting.proofs.Common.{list_all, list_any, and_parts, both_ways, not-false, nat_tests, Within, mem}
+use Rattle.std.proofs.Common.{◌≡◌, ◌+◌, ◌-◌, ◌≤◌, ◌<◌, ◌||◌, ◌^◌, nat_le, if◌then◌else◌, ℕ, List, [], ◌∷◌, All, Bool, length, map, true, false, Option, Some, None, Result, Ok, IfOk, refl, sym, subst, arith}
+use Rattle.counting.proofs.Common.{and_parts, both_ways, not-false, nat_tests, Within}
 use Rattle.std.specs.List.Sorted.{IsStrictlyIncreasing}
-use Rattle.line_text.specs.Common.{Begins, Stands, finish, has_form, word_at, is_number, value_of, is_out_of_range}
+use Rattle.line_text.specs.Common.{Begins, Stands, finish, value_of}
 use Rattle.line_text.proofs.Tables.{all_passed, no_value}
-use Rattle.line_text.specs.declared.faults.FaultKind.{FaultKind}
 use Rattle.line_text.specs.declared.faults.FaultKind.TheVariants as kind
 use Rattle.tree_core.proofs.Common.{Shape, leaf, cut, Fits, node_count, below-without_greatest}
-use Rattle.tree_text.specs.Common.{Place, root, in_kept, in_merged, Reading, wanted, whole, put, TreeSoFar, tree_format, node_line, line_behind, behind_first, is_rising, is_leaf_line, is_cut_line, most_nodes, HasVertices, ShoresRise, IsWritable}
+use Rattle.tree_text.specs.Common.{Place, root, in_kept, in_merged, Reading, wanted, whole, put, TreeSoFar, tree_format, node_line, line_behind, behind_first, is_leaf_line, is_cut_line, most_nodes, HasVertices, ShoresRise, IsWritable}
 use Rattle.tree_text.proofs.ShoreLists.{rising_read}
 
 -- a nonempty increasing list below n
@@ -48,19 +47,6 @@ keeps-put n nodes (in_merged x k above) t place tree count few =
 abbrev vertices_of : List (List ℕ) → List ℕ
 vertices_of words = map value_of (behind_first words)
 
-abbrev node_tests : ℕ → ℕ → List (List ℕ) → List (Bool × FaultKind)
-node_tests n nodes words =
-    (nat_le most_nodes nodes, kind.Limit)
-    ∷ (not (is_leaf_line words || is_cut_line words), kind.Word)
-    ∷ (not (list_all is_number (behind_first words)), kind.Number)
-    ∷ (list_any (is_out_of_range n) (vertices_of words), kind.Range)
-    ∷ (not (is_rising (vertices_of words)), kind.NotRising)
-    ∷ (mem (vertices_of words) n, kind.HasGreatest)
-    ∷ []
-
-abbrev node_read : ℕ → Place → List (List ℕ) → TreeSoFar
-node_read nodes place words = record { nodes = nodes + 1; reading = if is_leaf_line words then put place leaf else wanted (in_kept (vertices_of words) place) }
-
 few_nodes : (nodes : ℕ) → nat_le most_nodes nodes ≡ false → nodes + 1 ≤ most_nodes
 few_nodes nodes is = grind (arith, nat_tests)
 
@@ -88,13 +74,6 @@ lines-keep : (n : ℕ) (body : TreeSoFar) (lines : List (List (List ℕ))) (reac
 lines-keep n body [] reached keeps begins = subst (KeepsReached n) (sym begins) keeps
 lines-keep n body (words ∷ lines) reached keeps begins =
     lines-keep n begins.0 lines reached (line-keeps n body.nodes body.reading words begins.0 keeps begins.1) begins.2
-
-abbrev header_tests : ℕ → List (List ℕ) → List (Bool × FaultKind)
-header_tests n words =
-    (not (has_form words 3 (codes "t" ∷ codes "mcg" ∷ [])), kind.Header)
-    ∷ (not (is_number (word_at words 2)), kind.Number)
-    ∷ (not (value_of (word_at words 2) == n), kind.Header)
-    ∷ []
 
 all-keep : (n : ℕ) (lines : List (List (List ℕ))) (reached : Option TreeSoFar) → Begins (tree_format n) None lines reached → KeepsReached n reached
 all-keep n [] reached begins = subst (KeepsReached n) (sym begins) tt

@@ -6,7 +6,7 @@ ghost use Rattle.tree_core.specs.Common.{Shape};
 ghost use Rattle.tree_text.specs.Common.{tree_format, tree_text, IsWritable};
 
 /// The text written for a tree stands for this tree and for no other, and has no error.
-pub fn written_tree_stands()
+pub fn written_tree_law()
     ensures stands { (n : ℕ) (t : Shape) → IsWritable n t →
         Stands (tree_format n) (tree_text n t) t }
     ensures alone { (n : ℕ) (t : Shape) → IsWritable n t →
@@ -14,7 +14,7 @@ pub fn written_tree_stands()
 {}
 
 /// Appending comments to the text of a tree changes nothing.
-pub fn comments_change_nothing()
+pub fn comments_law()
     ensures { (n : ℕ) (t : Shape) (comments : List ℕ) → IsWritable n t
         → AllByRecursion (λ line. is_skipped (words_of line) ≡ true) (lines_of comments)
         → Stands (tree_format n) (tree_text n t ++ comments) t }
@@ -22,7 +22,7 @@ pub fn comments_change_nothing()
 
 /// What a text stands for can be written: the tree fits n, its shores are nonempty increasing
 /// lists, and it has at most 127 nodes.
-pub fn read_tree_fits()
+pub fn read_tree_law()
     ensures { (n : ℕ) (text : List ℕ) (t : Shape) → n < 10 ^ 9 → Stands (tree_format n) text t →
         IsWritable n t }
 {}

@@ -5,8 +5,8 @@
 //! stands for a list of picks by those of `specs/PickFormat`: a header `s mcg K` and K lines `pick
 //! P`. `read_tree` and `read_picks` return what a text stands for, or its first error, as the rules
 //! say. `write_tree` writes the canonical text of `specs/Writing`, and reading it gives the same
-//! tree: `laws::written_tree_stands`. A tree that was read fits n, and its shores are nonempty
-//! increasing lists: `laws::read_tree_fits`. `shores` has the tests of lists of vertices, which the
+//! tree: `laws::written_tree_law`. A tree that was read fits n, and its shores are nonempty
+//! increasing lists: `laws::read_tree_law`. `shores` has the tests of lists of vertices, which the
 //! format of moves shares.
 //!
 //! Depends on `line_text` for what a format is and for the reader, and on `tree_core` for trees.

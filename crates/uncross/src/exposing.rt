@@ -9,7 +9,7 @@ use crate::leaf_maps::LeafMaps;
 use crate::move_maps::script_maps;
 use crate::places_below::places_below;
 use crate::plans::{Plan, plan_at};
-use crate::turning::{Turned, raise, turn_over_inner};
+use crate::turning::{Corners, Turned, raise, turn_over_inner};
 use graph_core::MultiGraph;
 use graph_facts::Covered;
 use std::alloc::{AllocError as Memory, Global};
@@ -38,42 +38,6 @@ fn raise_child(
     }
 }
 
-// Carries out the plan at the root x, after moves in its two subtrees.
-fn carry_out(
-    alloc: Global,
-    n: u32,
-    x: VSet,
-    plan: &Plan,
-    kept: Box<Tree>,
-    merged: Box<Tree>,
-    inner: &Option<Moves>,
-    outer: &Option<Moves>,
-) -> Result<Turned, Memory>
-    requires { Fits n (cut x (shape_of kept.value) (shape_of merged.value)) }
-    ensures { IfOk result
-        (λ r. (s : PlainTurned) →
-        plan_result n x (plan_of plan.now) (shape_of kept.value) (shape_of merged.value)
-        (option_map moves_of inner.now) (option_map moves_of outer.now) ≡ Some s →
-        turned_of r ≡ s) }
-{
-    if let Plan::Crossing { u, v, .. } = plan {
-        return turn_over_inner(alloc, n, x, kept, merged, *u, *v, inner, outer);
-    }
-    let tree = Tree::Cut {
-        shore: x,
-        kept,
-        merged,
-    };
-    match plan {
-        Plan::InKept => raise_child(alloc, Side::Kept, tree, inner),
-        Plan::InMerged => raise_child(alloc, Side::Merged, tree, outer),
-        _ => Ok(Turned {
-            tree,
-            moves: Moves::new(alloc),
-        }),
-    }
-}
-
 /// A tree in which moves brought a shore to the root, or the tree as it was and no moves.
 #[derive(Drop)]
 pub struct Exposure {
@@ -84,7 +48,7 @@ pub struct Exposure {
 }
 
 // Carries out the plan at the root x, above its two subtrees as exposing made them.
-fn carry_out_over(
+fn carry_out(
     alloc: Global,
     n: u32,
     x: VSet,
@@ -101,7 +65,28 @@ fn carry_out_over(
 {
     let kept = Box::new(alloc, inner.tree)?;
     let merged = Box::new(alloc, outer.tree)?;
-    carry_out(alloc, n, x, plan, kept, merged, &inner.moves, &outer.moves)
+    if let Plan::Crossing { u, v, .. } = plan {
+        let corners = Corners {
+            order: n,
+            root: x,
+            inner: *u,
+            outer: *v,
+        };
+        return turn_over_inner(alloc, corners, kept, merged, &inner.moves, &outer.moves);
+    }
+    let tree = Tree::Cut {
+        shore: x,
+        kept,
+        merged,
+    };
+    match plan {
+        Plan::InKept => raise_child(alloc, Side::Kept, tree, &inner.moves),
+        Plan::InMerged => raise_child(alloc, Side::Merged, tree, &outer.moves),
+        Plan::Here | Plan::Crossing { .. } => Ok(Turned {
+            tree,
+            moves: Moves::new(alloc),
+        }),
+    }
 }
 
 /// Brings a shore, if there is one, to the root of a derivation at p, through derivations at p.
@@ -135,7 +120,7 @@ pub fn expose_at(
             let merged = Box::into_inner(merged);
             let outer = expose_at(alloc, &at.merged, merged, plan.second(y))?;
             let n = p.graph().order();
-            let Turned { tree, moves } = carry_out_over(alloc, n, x, &plan, inner, outer)?;
+            let Turned { tree, moves } = carry_out(alloc, n, x, &plan, inner, outer)?;
             Ok(Exposure {
                 tree,
                 moves: Some(moves),

@@ -139,7 +139,7 @@ impl Plan {
         match self {
             Plan::InKept => Some(y),
             Plan::Crossing { inner, .. } => *inner,
-            _ => None,
+            Plan::Here | Plan::InMerged => None,
         }
     }
 
@@ -150,7 +150,7 @@ impl Plan {
         match self {
             Plan::InMerged => Some(y),
             Plan::Crossing { outer, .. } => *outer,
-            _ => None,
+            Plan::Here | Plan::InKept => None,
         }
     }
 }

@@ -18,6 +18,20 @@ pub struct Turned {
     pub moves: Moves,
 }
 
+/// A shore at the root of a tree over 1 to `order`, and two corners that it makes with a shore that
+/// crosses it.
+#[derive(Clone, Copy)]
+pub struct Corners {
+    /// The greatest vertex.
+    pub order: u32,
+    /// The shore at the root.
+    pub root: VSet,
+    /// The inner corner.
+    pub inner: VSet,
+    /// The outer corner.
+    pub outer: VSet,
+}
+
 /// Appends moves, each one step further down.
 pub fn append_below(
     alloc: Global,
@@ -61,15 +75,18 @@ pub fn raise(
     }
 }
 
-// Exchanges u and v at the root.
-fn switch_root(alloc: Global, n: u32, tree: Tree, u: VSet, v: VSet) -> Result<Turned, Memory>
-    requires { Fits n (shape_of tree) }
+// Exchanges the corners at the root.
+fn switch_root(alloc: Global, corners: Corners, tree: Tree) -> Result<Turned, Memory>
+    requires { Fits corners.order (shape_of tree) }
     ensures { IfOk result
-        (λ r. (s : PlainTurned) → switched n u v (shape_of tree) ≡ Some s → turned_of r ≡ s) }
+        (λ r. (s : PlainTurned) →
+        switched corners.order corners.inner corners.outer (shape_of tree) ≡ Some s →
+        turned_of r ≡ s) }
 {
     let path = Path::new(alloc);
     let mut moves = Moves::new(alloc);
-    match switch(tree, n, &path, u, v) {
+    let (u, v) = (corners.inner, corners.outer);
+    match switch(tree, corners.order, &path, u, v) {
         Ok(tree) => {
             moves.push(Move::Switch { path, u, v })?;
             Ok(Turned { tree, moves })
@@ -100,22 +117,15 @@ fn raise_turned(
     Ok(Turned { tree, moves })
 }
 
-// With the outer corner, or its complement, at the root: u and v are exchanged in the child that
+// With the outer corner, or its complement, at the root: the corners are exchanged in the child that
 // contains x, and its new root is brought up. The moves made so far come first.
-fn switch_below(
-    alloc: Global,
-    n: u32,
-    x: VSet,
-    u: VSet,
-    v: VSet,
-    tree: Tree,
-    moves: Moves,
-) -> Result<Turned, Memory>
-    requires { Fits n (shape_of tree) }
+fn switch_below(alloc: Global, corners: Corners, tree: Tree, moves: Moves) -> Result<Turned, Memory>
+    requires { Fits corners.order (shape_of tree) }
     ensures { IfOk result
         (λ r. (s : PlainTurned) →
-        followed (moves_of moves) (switched_below n x u v (shape_of tree)) ≡ Some s →
-        turned_of r ≡ s) }
+        followed (moves_of moves)
+        (switched_below corners.order corners.root corners.inner corners.outer (shape_of tree)) ≡
+        Some s → turned_of r ≡ s) }
 {
     match tree {
         Tree::Leaf => Ok(Turned { tree, moves }),
@@ -124,70 +134,65 @@ fn switch_below(
             kept,
             merged,
         } => {
-            let side = if x.is_subset(shore) {
+            let side = if corners.root.is_subset(shore) {
                 Side::Kept
             } else {
                 Side::Merged
             };
             let (child, opened) = open(side, shore, kept, merged);
-            let turned = switch_root(alloc, n, child, u, v)?;
+            let turned = switch_root(alloc, corners, child)?;
             raise_turned(alloc, opened, turned, moves)
         }
     }
 }
 
-// Brings the shore of u and v to the root x: at once, or after moves in `merged` that brought the
+// Brings the shore of the corners to the root: at once, or after moves in `merged` that brought the
 // outer corner to its root.
 fn turn_over_outer(
     alloc: Global,
-    n: u32,
-    x: VSet,
+    corners: Corners,
     kept: Box<Tree>,
     merged: Box<Tree>,
-    u: VSet,
-    v: VSet,
     outer: &Option<Moves>,
 ) -> Result<Turned, Memory>
-    requires { Fits n (cut x (shape_of kept.value) (shape_of merged.value)) }
+    requires { Fits corners.order (cut corners.root (shape_of kept.value) (shape_of merged.value)) }
     ensures { IfOk result
         (λ r. (s : PlainTurned) →
-        over_outer n x u v (shape_of kept.value) (shape_of merged.value)
-        (option_map moves_of outer.now) ≡ Some s → turned_of r ≡ s) }
+        over_outer corners.order corners.root corners.inner corners.outer (shape_of kept.value)
+        (shape_of merged.value) (option_map moves_of outer.now) ≡ Some s → turned_of r ≡ s) }
 {
     let tree = Tree::Cut {
-        shore: x,
+        shore: corners.root,
         kept,
         merged,
     };
     match outer {
-        None => switch_root(alloc, n, tree, u, v),
+        None => switch_root(alloc, corners, tree),
         Some(made) => {
             let mut moves = Moves::new(alloc);
             let up = raise(alloc, Side::Merged, tree, made, &mut moves)?;
-            let turned = switch_below(alloc, n, x, u, v, up, moves)?;
+            let turned = switch_below(alloc, corners, up, moves)?;
             Ok(turned)
         }
     }
 }
 
-// With the inner corner at the root: the shore of u and v is brought to the root of the child that
-// contains x, and then up. The moves made so far come first.
+// With the inner corner at the root: the shore of the corners is brought to the root of the child
+// that contains x, and then up. The moves made so far come first.
 fn turn_below_inner(
     alloc: Global,
-    n: u32,
-    x: VSet,
-    u: VSet,
-    v: VSet,
+    corners: Corners,
     tree: Tree,
     moves: Moves,
     outer: &Option<Moves>,
 ) -> Result<Turned, Memory>
-    requires shore { All (Within (n - 1)) x }
-    requires fits { Fits n (shape_of tree) }
+    requires shore { All (Within (corners.order - 1)) corners.root }
+    requires fits { Fits corners.order (shape_of tree) }
     ensures { IfOk result
         (λ r. (s : PlainTurned) →
         followed (moves_of moves)
-        (outer_below n x u v (option_map moves_of outer.now) (shape_of tree)) ≡ Some s →
+        (outer_below corners.order corners.root corners.inner corners.outer
+        (option_map moves_of outer.now) (shape_of tree)) ≡ Some s →
         turned_of r ≡ s) }
 {
     match tree {
@@ -201,7 +206,7 @@ fn turn_below_inner(
             match child {
                 Tree::Leaf => Ok(Turned { tree: child, moves }),
                 Tree::Cut { kept, merged, .. } => {
-                    let turned = turn_over_outer(alloc, n, x, kept, merged, u, v, outer)?;
+                    let turned = turn_over_outer(alloc, corners, kept, merged, outer)?;
                     raise_turned(alloc, opened, turned, moves)
                 }
             }
@@ -209,37 +214,34 @@ fn turn_below_inner(
     }
 }
 
-/// Brings the shore of u and v to the root x, after moves in `kept` that brought the inner corner
+/// Brings the shore of the corners to the root, after moves in `kept` that brought the inner corner
 /// to its root, if any, and moves in `merged` that brought the outer corner to its root, if any.
 pub fn turn_over_inner(
     alloc: Global,
-    n: u32,
-    x: VSet,
+    corners: Corners,
     kept: Box<Tree>,
     merged: Box<Tree>,
-    u: VSet,
-    v: VSet,
     inner: &Option<Moves>,
     outer: &Option<Moves>,
 ) -> Result<Turned, Memory>
-    requires { Fits n (cut x (shape_of kept.value) (shape_of merged.value)) }
+    requires { Fits corners.order (cut corners.root (shape_of kept.value) (shape_of merged.value)) }
     ensures { IfOk result
         (λ r. (s : PlainTurned) →
-        over_inner n x u v (shape_of kept.value) (shape_of merged.value)
-        (option_map moves_of inner.now) (option_map moves_of outer.now) ≡ Some s →
-        turned_of r ≡ s) }
+        over_inner corners.order corners.root corners.inner corners.outer (shape_of kept.value)
+        (shape_of merged.value) (option_map moves_of inner.now) (option_map moves_of outer.now) ≡
+        Some s → turned_of r ≡ s) }
 {
     match inner {
-        None => turn_over_outer(alloc, n, x, kept, merged, u, v, outer),
+        None => turn_over_outer(alloc, corners, kept, merged, outer),
         Some(made) => {
             let tree = Tree::Cut {
-                shore: x,
+                shore: corners.root,
                 kept,
                 merged,
             };
             let mut moves = Moves::new(alloc);
             let up = raise(alloc, Side::Kept, tree, made, &mut moves)?;
-            let turned = turn_below_inner(alloc, n, x, u, v, up, moves, outer)?;
+            let turned = turn_below_inner(alloc, corners, up, moves, outer)?;
             Ok(turned)
         }
     }

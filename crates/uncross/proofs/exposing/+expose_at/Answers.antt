@@ -22,8 +22,8 @@ expose_at-requires-in-Cut t c =
     let below = ap (λ (s : Tree). node_count (shape_of s)) c.into_inner-merged.ensures in let whole = ap (λ (s : Tree). node_count (shape_of s)) c.in-Cut.is in let size = c.decreases in
     (omega arith, subst (λ (h : Graph). IsDerivationAt h c.in_ok-at-in-Cut.at.merged.blocks (shape_of c.into_inner-merged.result) × CutIf h c.in_ok-at-in-Cut.at.merged.blocks c.second.result) (sym c.in_ok-at-in-Cut.ensures.merged.graph) asks)
 
-pub carry_out_over-requires : goal.carry_out_over-requires
-carry_out_over-requires t c =
+pub carry_out-requires : goal.carry_out-requires
+carry_out-requires t c =
     both_fit c.args.p.now.graph c.args.p.now.graph.order c.args.p.now.blocks c.in-Cut.x c.in-Some.y (shape_of c.in-Cut.kept.value) (shape_of c.in-Cut.merged.value) (shape_of c.args.tree) (plan_of c.plan_for-plan.result) c.args.shore
     c.keeps_place.ensures.limits.multigraph.ends refl c.keeps_place.ensures.partition c.keeps_place.ensures.covered (ap shape_of c.in-Cut.is) c.requires.derives c.in-Some.is c.requires.shore c.plan_for-plan.ensures
     c.in_ok-at-in-Cut.at.kept.blocks c.in_ok-at-in-Cut.at.merged.blocks (shape_of c.into_inner-kept.result) (shape_of c.into_inner-merged.result) (shape_of c.in_ok-inner-in-Cut.inner.tree) (shape_of c.in_ok-outer-in-Cut.outer.tree)

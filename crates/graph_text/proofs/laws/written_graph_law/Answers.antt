@@ -1,7 +1,7 @@
 use Rattle.line_text.proofs.ExactlyOne.{StandsAlone-stands}
 use Rattle.graph_text.specs.Common.{version_one, graph_text}
 use Rattle.graph_text.proofs.VersionOneReadBack.{Stands-graph_text}
-use Rattle.graph_text.proofs.laws.written_graph_stands.Goals as goal
+use Rattle.graph_text.proofs.laws.written_graph_law.Goals as goal
 
 pub returns : goal.returns
 returns c = record {
