@@ -8,9 +8,9 @@
 //! gives the first reason. `check_covered` answers the same of a `Covered`, a graph of which this
 //! and more is known. `scan_covered` counts the leaves of a derivation too, the bricks and the
 //! braces, by what their judgement finds of them (`IsScanned` of `specs/Scans`). `scan_known`
-//! answers the same for several trees of one graph: the places of leaves and of cuts are kept in a
-//! `KnownPlaces` with what is known of them (`KnownPlace` of `tree_core`), and nothing is sought
-//! again. Remembered edges of a quotient are made only where a cut is refused.
+//! returns the same for several trees of one graph: their leaves are kept in a `KnownPlaces` with
+//! what is known of them (`KnownPlace` of `tree_core`), and no leaf is judged again. At a cut only
+//! the quotient graph is made; its remembered edges are made only where the cut is refused.
 //!
 //! `replay` makes a script of moves on a derivation and judges each tree on the way: it gives the
 //! last tree if and only if all are derivations, and else names the first failing move, with what
