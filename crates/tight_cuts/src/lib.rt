@@ -23,7 +23,8 @@
 //! (`EdgePieces`). Before that the listed matchings and a few more may show that the edge gives
 //! nothing (`QuietEdges`). One walk over the edges, `add_edge_cuts`, asks either search (the trait
 //! `EdgeSearch`), but for edges between vertices that earlier edges show not to be separated
-//! (`ClusteredVertices`).
+//! (`ClusteredVertices`). In a dense graph floods show this of most edges before the walk
+//! (`joining`).
 //!
 //! Whether a cut is tight is mostly shown without asking its edges one by one: by the numbers of
 //! vertices in a bipartite graph (`SurplusShores`), elsewhere by the vertices at which two edges
