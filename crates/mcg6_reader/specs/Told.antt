@@ -1,5 +1,5 @@
 -- The result for a line.
--- Stated by: mcg6_reader, mcg6_top. Rests on it: mcg6_front_top.
+-- Stated by: mcg6_reader, mcg6_top.
 use Rattle.std.specs.Prelude.{◌≡◌, ℕ, ◌<◌, ◌≤◌, ◌⊎◌, List, [], ◌∷◌, ◌++◌, length, IsTrue, IsFalse}
 use Rattle.std.specs.declared.option.Option.{Option}
 use Rattle.std.specs.declared.option.Option.TheVariants.{Some, None}

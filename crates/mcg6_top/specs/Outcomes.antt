@@ -1,5 +1,5 @@
 -- Which status and which output a list stands for.
--- Stated by: mcg6_top.
+-- Stated by: mcg6_top, theorems.
 use Rattle.std.specs.Prelude.{◌≡◌, ◌⊎◌, ℕ, List, [], ◌∷◌}
 use Rattle.std.specs.declared.option.Option.{Option}
 use Rattle.mcg6_lines.specs.declared.query.Query.{Query}
