@@ -80,8 +80,10 @@ fn pair_command<'a>(word: &str, graph: &'a str, second: &'a str) -> Option<Comma
             ears: second,
         }),
         "grow" => grow_command(graph, second),
-        "decompose" => NamedOrder::of_word(second)
-            .map(|order| on_graph(GraphVerb::Decompose { order }, graph)),
+        "decompose" => NamedOrder::of_word(second).map(|order| on_graph(
+            GraphVerb::Decompose { order },
+            graph,
+        )),
         _ => None,
     }
 }

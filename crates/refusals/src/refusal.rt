@@ -6,7 +6,9 @@ use crate::faults::{CoverFault, EarFault, NodeFault};
 #[derive(Clone, Copy, Debug, PartialEq, Eq)]
 pub enum Refusal {
     /// The graph is not matching covered.
-    Graph { fault: CoverFault },
+    Graph {
+        fault: CoverFault,
+    },
     /// A tree is not a tight cut decomposition: this is its first node with a fault.
     Tree {
         tree: u32,
@@ -14,9 +16,14 @@ pub enum Refusal {
         fault: NodeFault,
     },
     /// A list is not an ear decomposition: this is its first step with a fault.
-    Ears { step: u32, fault: EarFault },
+    Ears {
+        step: u32,
+        fault: EarFault,
+    },
     /// This move has no result.
-    Stuck { step: u32 },
+    Stuck {
+        step: u32,
+    },
     /// The tree that this move makes is not a tight cut decomposition: this is its first node with
     /// a fault.
     Move {
