@@ -52,7 +52,7 @@ impl MultiGraph {
         let rows = vec![in alloc; VSet::empty(); n as usize]?;
         Ok(MultiGraph {
             order: n,
-            edges: Vec::new(alloc),
+            edges: Vec::with_capacity(alloc, 2 * n as usize)?,
             rows,
         })
     }
