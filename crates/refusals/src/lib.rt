@@ -2,12 +2,15 @@
 //! whose status is 1, and what the words for a person are made of.
 //!
 //! Only types. `Refusal` has one case for each line that a refusal may have, and `CoverFault`,
-//! `NodeFault` and `EarFault` one for each reason. `bench_outcomes` says which line stands for a
-//! refusal, and `front_words` what it means in words. Stands on nothing.
+//! `NodeFault` and `EarFault` one for each reason; `NodePlace` and `EarPlace` say where in the input
+//! the fault is. `bench_outcomes` says which line stands for a refusal, and `front_words` what it
+//! means in words. Stands on `vset_core`.
 #![tactic(auto)]
 
 mod faults;
+mod places;
 mod refusal;
 
 pub use faults::{CoverFault, EarFault, NodeFault};
+pub use places::{EarOfTwo, EarPlace, NodePlace};
 pub use refusal::Refusal;

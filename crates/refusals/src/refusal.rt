@@ -1,9 +1,11 @@
 //! Refusals.
 
 use crate::faults::{CoverFault, EarFault, NodeFault};
+use crate::places::{EarPlace, NodePlace};
 
 /// Why an input is refused. Trees, nodes, steps and moves are counted from 1, and nodes in preorder.
-#[derive(Clone, Copy, Debug, PartialEq, Eq)]
+/// The place of a node is left out if more than 128 steps lead to it.
+#[derive(Clone, Copy, Debug, PartialEq)]
 pub enum Refusal {
     /// The graph is not matching covered.
     Graph {
@@ -13,11 +15,13 @@ pub enum Refusal {
     Tree {
         tree: u32,
         node: u32,
+        place: Option<NodePlace>,
         fault: NodeFault,
     },
     /// A list is not an ear decomposition: this is its first step with a fault.
     Ears {
         step: u32,
+        place: EarPlace,
         fault: EarFault,
     },
     /// This move has no result.
@@ -29,6 +33,7 @@ pub enum Refusal {
     Move {
         step: u32,
         node: u32,
+        place: Option<NodePlace>,
         fault: NodeFault,
     },
 }
