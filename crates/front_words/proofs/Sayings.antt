@@ -1,6 +1,6 @@
 -- Texts that are said one after another are said as one. Each lemma joins the text that was said
 -- to the text that is said next; a beginning of a part is a beginning of the whole.
-use Rattle.std.proofs.Common.{◌≡◌, ◌≤◌, ℕ, ◌<◌, List, [], ◌++◌, length, take, drop, Ok, Err, OnOk, OnErr, Result, refl, ap, subst, sym, ◌∙◌, arith, append_assoc, append-nil, take-append-drop}
+use Rattle.std.proofs.Common.{◌≡◌, ◌≤◌, ℕ, ◌<◌, List, [], ◌++◌, length, take, drop, Ok, Err, OnOk, OnErr, IsErrAnd, Result, refl, ap, subst, sym, ◌∙◌, arith, append_assoc, append-nil, take-append-drop}
 use Rattle.std.specs.declared.option.Option.{Option}
 use Rattle.outside.specs.Common.{Rose, appended, IsCutOff, IsWritten}
 use Rattle.outside.proofs.Pieces.{appended-nil, appended-appended}
@@ -81,6 +81,22 @@ module _ {K F : Type 0} (written : K → Option (List ℕ)) (writes : K → List
   says_break text first second e before now parts said =
       subst (λ (l : List ℕ). Says written writes faults l (Err e) before now) (sym parts) (says-stopped first second e before now said)
 
+  -- the same, and a `?` hands the error on
+  pub says_passed : (text first second : List ℕ) (result : Result (Unit {0}) F) (e : F) (before now : K) → text ≡ first ++ second → IsErrAnd result (λ f. f ≡ e) →
+      Says written writes faults first (Err e) before now → Says written writes faults text result before now
+  says_passed text first second (Ok u) e before now parts handed said = absurd handed
+  says_passed text first second (Err f) e before now parts handed said =
+      says_break text first second f before now parts (subst (λ (x : F). Says written writes faults first (Err x) before now) (sym handed) said)
+
+  -- a text of three parts, of which the first was said and the second was not said whole; a `?` hands the error on
+  pub says_passed_second : (text first second third : List ℕ) (result : Result (Unit {0}) F) (e : F) (before mid now : K) → text ≡ first ++ (second ++ third) →
+      IsErrAnd result (λ f. f ≡ e) → Says {F = F} written writes faults first (Ok tt) before mid → Says written writes faults second (Err e) mid now →
+      Says written writes faults text result before now
+  says_passed_second text first second third (Ok u) e before mid now parts handed said stopped = absurd handed
+  says_passed_second text first second third (Err f) e before mid now parts handed said stopped =
+      says_step text first (second ++ third) (Err f) before mid now parts said
+      (says-stopped second third f mid now (subst (λ (x : F). Says written writes faults second (Err x) mid now) (sym handed) stopped))
+
   -- what a call that writes a piece or a beginning of it answers
   pub says_piece : (bytes : List ℕ) (result : Result (Unit {0}) F) (before now : K)
       → OnOk result (written now ≡ appended (written before) bytes)
@@ -137,6 +153,13 @@ module _ {K F : Type 0} (written : K → Option (List ℕ)) (writes : K → List
   saying-broken text left piece rest e before mid now parts so_far next =
       saying-last text left (Err e) before mid now so_far
       (subst (λ (l : List ℕ). Says written writes faults l (Err e) mid now) (sym parts) (says-stopped written writes faults piece rest e mid now next))
+
+  -- the same, and a `?` hands the error on
+  pub saying-passed : (text left piece rest : List ℕ) (result : Result (Unit {0}) F) (e : F) (before mid now : K) → left ≡ piece ++ rest → IsErrAnd result (λ f. f ≡ e) →
+      IsSaying written writes faults F text left before mid → Says written writes faults piece (Err e) mid now → Says written writes faults text result before now
+  saying-passed text left piece rest (Ok u) e before mid now parts handed so_far next = absurd handed
+  saying-passed text left piece rest (Err f) e before mid now parts handed so_far next =
+      saying-broken text left piece rest f before mid now parts so_far (subst (λ (x : F). Says written writes faults piece (Err x) mid now) (sym handed) next)
 
   -- nothing is left
   pub saying-done : (text left : List ℕ) (before now : K) → left ≡ [] → IsSaying written writes faults F text left before now → Says {F = F} written writes faults text (Ok tt) before now

@@ -1,12 +1,15 @@
 pub mod Saying
 pub mod Showing
 pub mod UnitsSeen
+pub mod NodePlaces
 pub mod Pieces
 pub mod Faults
 pub mod Reasons
 pub mod NotText
 pub mod Openings
 pub mod LinesAt
+pub mod Unread
+pub mod EmptyLines
 pub mod Messages
 pub mod ListMessages
 pub mod Usage
@@ -15,4 +18,7 @@ pub mod Shores
 pub mod Notes
 pub mod Numbers
 pub mod Headers
+pub mod Uncovered
+pub mod RefusedTrees
+pub mod RefusedEars
 pub mod Refused

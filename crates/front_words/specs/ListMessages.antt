@@ -10,11 +10,13 @@ use Rattle.line_text.specs.declared.faults.FaultKind.{FaultKind}
 use Rattle.line_text.specs.declared.faults.FaultKind.TheVariants.{Header, Word, Number, Range, Loop, Limit, Missing, Extra, NotRising, HasGreatest, Unnamed, SameName, BadName, Padding, LongForm}
 use Rattle.outside.specs.Common.{most_line}
 use Rattle.outside.specs.declared.explain.FailureReason.{FailureReason}
+use Rattle.front_words.specs.EmptyLines.{empty_words}
 use Rattle.front_words.specs.Faults.{graph6_fault}
 use Rattle.front_words.specs.LinesAt.{line_at}
-use Rattle.front_words.specs.Messages.{empty_words, line_shown, some_line, unread_noted_text}
+use Rattle.front_words.specs.Messages.{line_shown, some_line}
 use Rattle.front_words.specs.Openings.{opening_note}
 use Rattle.front_words.specs.Reasons.{reason_words}
+use Rattle.front_words.specs.Unread.{unread_noted_text}
 
 -- what is added where a dash is to stand for standard input, which is what is read without a name
 abbrev pub list_dash_note : (name : List ℕ) → List ℕ

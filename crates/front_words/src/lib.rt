@@ -7,19 +7,22 @@
 //! `Usage`, with the tables of commands; `fault_words` and `note_words` of `Faults`, what the
 //! kinds of faults in a file are, with the headers and the limits of the formats; `reason_words`
 //! of `Reasons`, why a file cannot be read; `unmatched_text` of `Unmatched`, why words match no row
-//! of a table; and the texts of `Messages` and `ListMessages`, one
-//! for each ending that needs words. Main promises: each function `say_..` says its text, and
-//! takes no memory.
+//! of a table; `refused_text` of `Refused`, what a refusal means and where the error is, with the
+//! paths of `NodePlaces`; and the texts of `Unread`, `Messages` and `ListMessages`, one for each
+//! other ending that needs words. Main promises: each function `say_..` says its text, and takes
+//! no memory.
 //!
-//! Stands on `line_text` for the lines of a file, and on `outside` for the sinks and for the
-//! reason of a failed read.
+//! Depends on `line_text` for the lines of a file, on `outside` for the sinks and for the reason of
+//! a failed read, and on `refusals` and `vset_core` for what a refusal is.
 #![tactic(auto)]
 
+mod empty_lines;
 mod faults;
 mod headers;
 mod lines;
 mod list_messages;
 mod messages;
+mod node_places;
 mod not_text;
 mod notes;
 mod numbers;
@@ -27,17 +30,21 @@ mod openings;
 mod pieces;
 mod reasons;
 mod refused;
+mod refused_ears;
+mod refused_trees;
 mod shores;
 mod showing;
 mod table;
+mod uncovered;
 mod unmatched;
+mod unread;
 
 pub use command_table::{all_list_rows, all_rows, list_page, list_usage, page, usage};
 pub use faults::{Role, fault_words, note_words};
 pub use headers::header_sizes;
 pub use lines::line_at;
 pub use list_messages::{say_bad_line, say_unread_list};
-pub use messages::{BadFile, say_bad_file, say_unread};
+pub use messages::{BadFile, say_bad_file};
 pub use not_text::say_not_text;
 pub use pieces::{MessagePiece, say};
 pub use reasons::reason_words;
@@ -45,3 +52,4 @@ pub use refused::say_refusal;
 pub use showing::say_bytes;
 pub use table::{list_version, version};
 pub use unmatched::say_unmatched;
+pub use unread::say_unread;

@@ -4,13 +4,15 @@ ghost use Rattle.std.specs.Option.{option_map};
 ghost use Rattle.front_words.specs.ListMessages.{bad_line_text, is_blank_line, line_kept, list_dash_note, list_fault, list_joint, list_words, long_line, short_line, unread_list_text};
 ghost use Rattle.front_words.specs.Saying.{Says};
 
+use crate::empty_lines::EMPTY;
 use crate::faults::{Role, fault_words};
 use crate::lines::line_at;
-use crate::messages::{EMPTY, MOST_OF_LINE, say_unread_noted, some_line};
+use crate::messages::{MOST_OF_LINE, some_line};
 use crate::openings::opening_note;
 use crate::pieces::MessagePiece::{Number, Shown, Text};
 use crate::pieces::say;
 use crate::reasons::reason_words;
+use crate::unread::say_unread_noted;
 use line_text::FaultKind;
 use outside::{FailureReason, MOST_LINE, Sink, SinkFailed};
 

@@ -1,28 +1,21 @@
-//! The messages.
+//! The messages on a file that is outside its format.
 ghost use Rattle.std.specs.Prelude.{◌≡◌, ◌++◌};
 ghost use Rattle.std.specs.Option.{option_map};
-ghost use Rattle.front_words.specs.Messages.{bad_file_text, dash_note, empty_line, empty_line_in, empty_line_text, fault_text, is_empty_line, line_shown, outside_text, rest_text, some_line, too_long_text, unread_noted_text, unread_text, what_text};
+ghost use Rattle.front_words.specs.Messages.{bad_file_text, fault_text, outside_text, rest_text, some_line, too_long_text, what_text};
 ghost use Rattle.front_words.specs.Notes.{file_note};
 ghost use Rattle.front_words.specs.Saying.{Says};
 
+use crate::empty_lines::{empty_line_in, say_empty_line};
 use crate::faults::{Role, fault_words};
-use crate::lines::line_at;
 use crate::notes::say_note;
 use crate::pieces::MessagePiece::{Number, Shown, Text};
 use crate::pieces::say;
-use crate::reasons::reason_words;
+use crate::unread::MOST_OF_NAME;
 use line_text::FaultKind;
-use outside::{FailureReason, Sink, SinkFailed};
-
-// The most bytes of a name that are shown.
-const MOST_OF_NAME: u32 = 4096;
+use outside::{Sink, SinkFailed};
 
 /// The most bytes of a line that are shown.
 pub const MOST_OF_LINE: u32 = 60;
-
-/// That a line is empty, and how that comes about.
-pub const EMPTY: &str =
-    "is empty (to_graph6_bytes of NetworkX ends its line already, so print adds an empty one)";
 
 /// A file that is outside its format.
 #[derive(Clone, Copy, Drop)]
@@ -39,56 +32,6 @@ pub struct BadFile<'a> {
     pub beginning: Option<&'a [u8]>,
     /// The numbers of the vertices and of the edges of the graph that it is for, if they are known.
     pub sizes: Option<(u32, u32)>,
-}
-
-// What is added where a dash is to stand for standard input.
-fn dash_note(name: &str) -> &'static str
-    ensures { result.now ≡ dash_note name.now }
-{
-    match name {
-        "-" => " (for standard input write /dev/stdin)",
-        _ => "",
-    }
-}
-
-/// Says that the file of that name could not be read, and why, with this note. Takes no memory.
-pub fn say_unread_noted<'a, K: Sink>(
-    sink: &mut K,
-    program: &'a str,
-    name: &'a str,
-    reason: Option<FailureReason>,
-    note: &'a str,
-) -> Result<(), SinkFailed>
-    ensures { Says K.written K.writes K.faults
-        (unread_noted_text program.now name.now reason note.now) result sink.old sink.new }
-{
-    let name = Shown(name.as_bytes(), MOST_OF_NAME);
-    let why = Text(reason_words(reason));
-    say(
-        sink,
-        &[
-            Text(program),
-            Text(": cannot read "),
-            name,
-            Text(": "),
-            why,
-            Text(note),
-            Text("\n"),
-        ],
-    )
-}
-
-/// Says that the file of that name could not be read, and why. Takes no memory.
-pub fn say_unread<'a, K: Sink>(
-    sink: &mut K,
-    program: &'a str,
-    name: &'a str,
-    reason: Option<FailureReason>,
-) -> Result<(), SinkFailed>
-    ensures { Says K.written K.writes K.faults (unread_text program.now name.now reason) result sink.old
-        sink.new }
-{
-    say_unread_noted(sink, program, name, reason, dash_note(name))
 }
 
 // Says that the file of that name is too long.
@@ -114,67 +57,6 @@ pub fn some_line(text: Option<&[u8]>) -> Option<&[u8]>
         Some(text) if !text.is_empty() => Some(text),
         _ => None,
     }
-}
-
-// Whether the line, if there is one, has no bytes but a carriage return.
-fn is_empty_line(line: Option<&[u8]>) -> bool
-    ensures { result ≡ is_empty_line (option_map (λ line. line.now) line.entry) }
-{
-    match line {
-        Some(line) => line == b"".as_slice() || line == b"\r".as_slice(),
-        None => false,
-    }
-}
-
-// The first empty line of a text, if it is its first or its second.
-fn empty_line(text: &[u8]) -> Option<u32>
-    ensures { result ≡ empty_line text.now }
-{
-    if is_empty_line(line_at(text, 1)) {
-        Some(1)
-    } else if is_empty_line(line_at(text, 2)) {
-        Some(2)
-    } else {
-        None
-    }
-}
-
-// The same where an empty line is a fault: in a graph6 text.
-fn empty_line_in(role: Role, beginning: Option<&[u8]>) -> Option<u32>
-    ensures { result ≡ empty_line_in role (option_map (λ text. text.now) beginning.entry) }
-{
-    match role {
-        Role::Graph6 => match beginning {
-            Some(text) => empty_line(text),
-            None => None,
-        },
-        Role::Graph | Role::Derivation | Role::Picks | Role::Ears | Role::Moves => None,
-    }
-}
-
-// Says that the line with that number is empty.
-fn say_empty_line<'a, K: Sink>(
-    sink: &mut K,
-    program: &'a str,
-    name: &'a str,
-    line: u32,
-) -> Result<(), SinkFailed>
-    ensures { Says K.written K.writes K.faults (empty_line_text program.now name.now line) result
-        sink.old sink.new }
-{
-    say(
-        sink,
-        &[
-            Text(program),
-            Text(": "),
-            Shown(name.as_bytes(), MOST_OF_NAME),
-            Text(", line "),
-            Number(line as u64),
-            Text(" "),
-            Text(EMPTY),
-            Text("\n"),
-        ],
-    )
 }
 
 // Says which file it is, and what is wrong in which line.

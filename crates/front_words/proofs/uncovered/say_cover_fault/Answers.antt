@@ -1,4 +1,4 @@
-use Rattle.front_words.proofs.refused.say_cover_fault.Goals as goal
+use Rattle.front_words.proofs.uncovered.say_cover_fault.Goals as goal
 
 pub returns-in-Parted : goal.returns-in-Parted
 returns-in-Parted g c = rw c.in-Parted.is c.say-in-Parted.ensures

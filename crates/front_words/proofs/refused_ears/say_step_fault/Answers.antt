@@ -1,4 +1,4 @@
-use Rattle.front_words.proofs.refused.say_step_fault.Goals as goal
+use Rattle.front_words.proofs.refused_ears.say_step_fault.Goals as goal
 
 pub returns-in-StageNotCovered : goal.returns-in-StageNotCovered
 returns-in-StageNotCovered g c = rw c.in-StageNotCovered.is c.say-in-StageNotCovered.ensures

@@ -1,4 +1,4 @@
-use Rattle.front_words.proofs.messages.say_empty_line.Goals as goal
+use Rattle.front_words.proofs.empty_lines.say_empty_line.Goals as goal
 
 pub returns : goal.returns
 returns g c = let said = rw c.as_bytes.ensures.value at c.say.ensures in said

@@ -1,0 +1,10 @@
+use Rattle.std.proofs.Common.{refl}
+use Rattle.outside.specs.declared.sink.SinkFailed.{SinkFailed}
+use Rattle.front_words.proofs.Sayings.{says_passed, says_step}
+use Rattle.front_words.proofs.refused_trees.say_moved.Goals as goal
+
+pub returns : goal.returns
+returns g c = says_step {F = SinkFailed} g.K.Sink.written g.K.Sink.writes g.K.Sink.faults _ _ _ _ _ _ _ refl c.in_ok-say.ensures c.say_node.ensures
+
+pub returns-in_err-say : goal.returns-in_err-say
+returns-in_err-say g c = says_passed {F = SinkFailed} g.K.Sink.written g.K.Sink.writes g.K.Sink.faults _ _ _ _ _ _ _ refl c.from_residual.ensures.1 c.in_err-say.ensures

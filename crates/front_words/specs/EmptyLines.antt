@@ -1,0 +1,39 @@
+-- An empty line where a graph6 text is wanted.
+-- Stated by: front_words.
+use Rattle.std.specs.Prelude.{ℕ, ◌||◌, Bool, false, List, [], ◌++◌, codes, if◌then◌else◌}
+use Rattle.std.specs.Fmt.{decimal}
+use Rattle.std.specs.declared.option.Option.{Option}
+use Rattle.std.specs.declared.option.Option.TheVariants.{None, Some}
+use Rattle.std.specs.Str.{bytes_eq}
+use Rattle.front_words.specs.declared.faults.Role.{Role}
+use Rattle.front_words.specs.declared.faults.Role.TheVariants.{Graph, Graph6, Derivation, Picks, Ears, Moves}
+use Rattle.front_words.specs.LinesAt.{line_at}
+use Rattle.front_words.specs.Showing.{shown}
+
+-- a line without bytes, but for a carriage return
+abbrev pub is_empty_line : Option (List ℕ) → Bool
+is_empty_line None = false
+is_empty_line (Some line) = bytes_eq line [] || bytes_eq line (codes "\r")
+
+-- the first empty line of a text, if it is its first or its second
+abbrev pub empty_line : (text : List ℕ) → Option ℕ
+empty_line text = if is_empty_line (line_at text 1) then Some 1 else if is_empty_line (line_at text 2) then Some 2 else None
+
+-- the same where an empty line is a fault: in a graph6 text
+abbrev pub empty_line_in : Role → (beginning : Option (List ℕ)) → Option ℕ
+empty_line_in Graph beginning = None
+empty_line_in Graph6 None = None
+empty_line_in Graph6 (Some text) = empty_line text
+empty_line_in Derivation beginning = None
+empty_line_in Picks beginning = None
+empty_line_in Ears beginning = None
+empty_line_in Moves beginning = None
+
+-- a line is empty, and how that comes about
+abbrev pub empty_words : List ℕ
+empty_words = codes "is empty (to_graph6_bytes of NetworkX ends its line already, so print adds an empty one)"
+
+-- the file of that name has an empty line of that number
+abbrev pub empty_line_text : (program name : List ℕ) → (line : ℕ) → List ℕ
+empty_line_text program name line =
+    program ++ (codes ": " ++ (shown 4096 name ++ (codes ", line " ++ (decimal line ++ (codes " " ++ (empty_words ++ codes "\n"))))))

@@ -1,0 +1,44 @@
+-- Where a node of a tree of cuts is: the path to it, and its shore.
+-- Stated by: front_words.
+use Rattle.std.specs.Prelude.{ℕ, zero, suc, ◌+◌, ◌==◌, Bool, List, [], ◌∷◌, ◌++◌, codes, if◌then◌else◌}
+use Rattle.std.specs.Fmt.{decimal}
+use Rattle.std.specs.List.{list_any}
+use Rattle.std.specs.declared.option.Option.{Option}
+use Rattle.std.specs.declared.option.Option.TheVariants.{None, Some}
+use Rattle.refusals.specs.declared.places.NodePlace.{NodePlace}
+
+-- the step is one of these
+abbrev pub is_merged : (merged : List ℕ) (step : ℕ) → Bool
+is_merged merged step = list_any (λ it. it == step) merged
+
+-- the letter of a step of a path: `m` if the step is one of these, otherwise `k`
+abbrev pub step_letter : (merged : List ℕ) (step : ℕ) → List ℕ
+step_letter merged step = if is_merged merged step then codes "m" else codes "k"
+
+-- the letters of so many steps, from this one on
+unfoldable pub letters_text : (merged : List ℕ) (step count : ℕ) → List ℕ
+letters_text merged step zero = []
+letters_text merged step (suc count) = step_letter merged step ++ letters_text merged (step + 1) count
+
+-- the path of so many steps from the root
+abbrev pub path_text : (depth : ℕ) (merged : List ℕ) → List ℕ
+path_text depth merged = if depth == 0 then codes "." else letters_text merged 1 depth
+
+-- each number with one blank before it
+abbrev pub numbers_text : List ℕ → List ℕ
+numbers_text [] = []
+numbers_text (number ∷ numbers) = (codes " " ++ decimal number) ++ numbers_text numbers
+
+-- the shore at a node, if the node is no leaf
+abbrev pub shore_text : Option (List ℕ) → List ℕ
+shore_text None = []
+shore_text (Some shore) = codes ", shore" ++ numbers_text shore
+
+-- the path to a node, and its shore
+abbrev pub known_place_text : NodePlace → List ℕ
+known_place_text place = codes "; path " ++ (path_text place.depth place.merged ++ shore_text place.shore)
+
+-- the same, if they are known
+abbrev pub place_text : Option NodePlace → List ℕ
+place_text None = []
+place_text (Some place) = known_place_text place

@@ -1,0 +1,136 @@
+//! What is said of a list that is not an ear decomposition.
+ghost use Rattle.std.specs.Prelude.{◌≡◌};
+ghost use Rattle.front_words.specs.RefusedEars.{at_step_text, ear_text, ears_place_text, ears_text, step_words};
+ghost use Rattle.front_words.specs.Saying.{Says};
+
+use crate::pieces::MessagePiece::{Number, Text};
+use crate::pieces::say;
+use outside::{Sink, SinkFailed};
+use refusals::{EarFault, EarOfTwo, EarPlace};
+
+// Which ear of a step, if the step has two.
+fn ear_text(ear: Option<EarOfTwo>) -> &'static str
+    ensures { result.now ≡ ear_text ear }
+{
+    match ear {
+        None => "",
+        Some(EarOfTwo::First) => ", in its first ear",
+        Some(EarOfTwo::Second) => ", in its second ear",
+    }
+}
+
+// Says that a list is not an ear decomposition, and in which step.
+fn say_at_step<'a, K: Sink>(
+    sink: &mut K,
+    program: &'a str,
+    step: u32,
+    place: EarPlace,
+) -> Result<(), SinkFailed>
+    ensures { Says K.written K.writes K.faults (at_step_text program.now step place) result sink.old
+        sink.new }
+{
+    let by = Text(program);
+    let what = Text(": the list is no ear decomposition; at step ");
+    let step = Number(step as u64);
+    let ear = Text(ear_text(place.ear));
+    let end = Text(": ");
+    match place.edge {
+        None => say(sink, &[by, what, step, ear, end]),
+        Some(edge) => {
+            let at = Text(", at edge ");
+            say(sink, &[by, what, step, ear, at, Number(edge as u64), end])
+        }
+    }
+}
+
+// The same, or before the first step if the list has none.
+fn say_ears_place<'a, K: Sink>(
+    sink: &mut K,
+    program: &'a str,
+    step: u32,
+    place: EarPlace,
+) -> Result<(), SinkFailed>
+    ensures { Says K.written K.writes K.faults (ears_place_text program.now step place) result
+        sink.old sink.new }
+{
+    let start = ": the list is no ear decomposition; before its first step: ";
+    if step == 0 {
+        say(sink, &[Text(program), Text(start)])
+    } else {
+        say_at_step(sink, program, step, place)
+    }
+}
+
+// Says what is wrong with a step, and what would be right.
+fn say_step_fault<K: Sink>(sink: &mut K, fault: EarFault) -> Result<(), SinkFailed>
+    ensures { Says K.written K.writes K.faults (step_words fault) result sink.old sink.new }
+{
+    match fault {
+        EarFault::NotPath => say(
+            sink,
+            &[
+                Text("the ear is not a path: an edge does not begin at the vertex reached, "),
+                Text("or a vertex is repeated (write its first vertex, then its edges in the "),
+                Text("order of the path)\n"),
+            ],
+        ),
+        EarFault::EvenLength => say(
+            sink,
+            &[Text("the ear has an even number of edges (take a path of odd length)\n")],
+        ),
+        EarFault::BadEnds => say(
+            sink,
+            &[
+                Text("the ends of the ear are not two different vertices of the subgraph "),
+                Text("before the step (begin and end at two such vertices)\n"),
+            ],
+        ),
+        EarFault::InnerOnStage => say(
+            sink,
+            &[
+                Text("an inner vertex of the ear is in the subgraph before the step, or on the "),
+                Text("first ear of the step (end the ear there if the vertex is in the "),
+                Text("subgraph; otherwise take another path)\n"),
+            ],
+        ),
+        EarFault::EdgeUsed => say(
+            sink,
+            &[
+                Text("an edge of the ear is in the subgraph before the step, or on the first "),
+                Text("ear of the step (leave it out)\n"),
+            ],
+        ),
+        EarFault::StageNotCovered { edge } => say(
+            sink,
+            &[
+                Text("after it edge "),
+                Number(edge as u64),
+                Text(" is in no perfect matching of the subgraph "),
+                Text("(add a second ear in the same step, or take other ears)\n"),
+            ],
+        ),
+        EarFault::EndsEarly { edge } => say(
+            sink,
+            &[
+                Text("the list ends here, and edge "),
+                Number(edge as u64),
+                Text(" has not been added (add ears)\n"),
+            ],
+        ),
+    }
+}
+
+/// Says that a list is not an ear decomposition, where and why. Takes no memory.
+pub fn say_ears<'a, K: Sink>(
+    sink: &mut K,
+    program: &'a str,
+    step: u32,
+    place: EarPlace,
+    fault: EarFault,
+) -> Result<(), SinkFailed>
+    ensures { Says K.written K.writes K.faults (ears_text program.now step place fault) result sink.old
+        sink.new }
+{
+    say_ears_place(sink, program, step, place)?;
+    say_step_fault(sink, fault)
+}
