@@ -13,7 +13,7 @@ use Rattle.refusals.specs.declared.places.EarPlace.{EarPlace}
 
 -- what is wrong with a step, and what would be right
 abbrev pub step_words : EarFault → List ℕ
-step_words NotPath = codes "the ear is not a path: an edge does not begin at the vertex reached, or a vertex is repeated (write its first vertex, then its edges in the order of the path)\n"
+step_words NotPath = codes "the ear is not a path: an edge does not begin at the vertex reached, or a vertex is repeated (write the first vertex of the ear, then its edges in the order of the path)\n"
 step_words EvenLength = codes "the ear has an even number of edges (take a path of odd length)\n"
 step_words BadEnds = codes "the ends of the ear are not two different vertices of the subgraph before the step (begin and end at two such vertices)\n"
 step_words InnerOnStage = codes "an inner vertex of the ear is in the subgraph before the step, or on the first ear of the step (end the ear there if the vertex is in the subgraph; otherwise take another path)\n"

@@ -1,5 +1,5 @@
 -- What is said of a file that could not be read.
--- Stated by: front_words. Rests on it: front_top, mcg6_front_top.
+-- Stated by: front_words.
 use Rattle.std.specs.Prelude.{ℕ, List, [], ◌++◌, codes, if◌then◌else◌}
 use Rattle.std.specs.declared.option.Option.{Option}
 use Rattle.std.specs.Str.{bytes_eq}

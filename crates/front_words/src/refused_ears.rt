@@ -70,8 +70,8 @@ fn say_step_fault<K: Sink>(sink: &mut K, fault: EarFault) -> Result<(), SinkFail
             sink,
             &[
                 Text("the ear is not a path: an edge does not begin at the vertex reached, "),
-                Text("or a vertex is repeated (write its first vertex, then its edges in the "),
-                Text("order of the path)\n"),
+                Text("or a vertex is repeated (write the first vertex of the ear, then its "),
+                Text("edges in the order of the path)\n"),
             ],
         ),
         EarFault::EvenLength => say(
