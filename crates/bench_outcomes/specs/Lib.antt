@@ -7,6 +7,7 @@ pub mod Uncovered
 pub mod Checks
 pub mod EarChecks
 pub mod Replays
+pub mod StuckMoves
 pub mod Comparisons
 pub mod Growths
 pub mod Outcome

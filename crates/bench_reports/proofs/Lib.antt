@@ -5,3 +5,5 @@ pub mod ScriptTexts
 pub mod PairLines
 pub mod Reported
 pub mod RefusalsTold
+pub mod StuckMoves
+pub mod NestedShores

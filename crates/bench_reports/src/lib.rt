@@ -18,6 +18,7 @@ mod judging;
 mod naming;
 mod replaying;
 mod structures;
+mod stuck_moves;
 mod uncovered;
 
 pub use judging::judge;

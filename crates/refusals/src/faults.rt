@@ -46,3 +46,14 @@ pub enum EarFault {
     /// After the last step this edge has not been added.
     EndsEarly { edge: u32 },
 }
+
+/// Why a move on a tree of cuts has no result.
+#[derive(Clone, Copy, Debug, PartialEq, Eq)]
+pub enum StuckFault {
+    /// The path leads to no cut; or it leads to the root, which Rotate cannot bring further up.
+    NoCut,
+    /// Rotate: the shore of the cut meets that of its parent, but does not contain it.
+    Crossing,
+    /// Switch: one of the two sets is not a nonempty proper subset of its side of the cut.
+    NotParts,
+}

@@ -1,16 +1,16 @@
 //! Why an input is refused, as a plain value: what the makers of reports hand up beside a report
 //! whose status is 1, and what the words for a person are made of.
 //!
-//! Only types. `Refusal` has one case for each line that a refusal may have, and `CoverFault`,
-//! `NodeFault` and `EarFault` one for each reason; `NodePlace` and `EarPlace` say where in the input
-//! the fault is. `bench_outcomes` says which line stands for a refusal, and `front_words` what it
-//! means in words. Stands on `vset_core`.
+//! Only types. `Refusal` has one case for each line that a refusal may have. `CoverFault`,
+//! `NodeFault`, `EarFault` and `StuckFault` have one for each reason. `NodePlace` and `EarPlace`
+//! say where in the input the fault is. `bench_outcomes` says which line stands for a refusal, and
+//! `front_words` what it means in words. Stands on `vset_core`.
 #![tactic(auto)]
 
 mod faults;
 mod places;
 mod refusal;
 
-pub use faults::{CoverFault, EarFault, NodeFault};
+pub use faults::{CoverFault, EarFault, NodeFault, StuckFault};
 pub use places::{EarOfTwo, EarPlace, NodePlace};
 pub use refusal::Refusal;
