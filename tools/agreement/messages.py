@@ -7,8 +7,16 @@ each that is in none, and ends with 1 if there is any.
 import glob
 import re
 
-# The words for kinds of errors that a format does not have.
-UNSAID = {"a fault of another kind"}
+# The words for kinds of errors that a format does not have; of a move whose two shores cross, since
+# those of a decomposition do not, by a clause of `stuck_fault` in bench_reports; and on headers where
+# the numbers of the graph are not known, since a graph file that was read has them in its header.
+UNSAID = {
+    "a fault of another kind",
+    "the shore of its cut crosses that of the cut above (rotate another cut)",
+    "(here t mcg N, with the N of the graph)",
+    "(here r mcg N M, with the N and M of the graph)",
+    "(here m mcg N, with the N of the graph)",
+}
 # A comment, a literal of text or bytes, and a letter in quotes, which is no text.
 TOKEN = re.compile(r"""//[^\n]*|(b?)"((?:[^"\\]|\\.)*)"|b?'(?:\\.|[^'\\])'""", re.S)
 

@@ -5,8 +5,8 @@ use Rattle.std.specs.Prelude.{ℕ, ◌==◌, List, [], ◌∷◌, map, slice_get
 use Rattle.std.specs.declared.option.Option.{Option}
 use Rattle.std.specs.declared.option.Option.TheVariants.{None}
 use Rattle.bench_tasks.specs.Commands.{Command, OnGraph, OnSimpleGraph, OnTree, OnPicks, OnEars, OnMoves, OnTrees, OnNumbers}
-use Rattle.bench_tasks.specs.declared.files.FileKind.{FileKind}
-use Rattle.bench_tasks.specs.declared.files.FileKind.TheVariants as kind
+use Rattle.refusals.specs.declared.file_kind.FileKind.{FileKind}
+use Rattle.refusals.specs.declared.file_kind.FileKind.TheVariants as kind
 
 -- a file of a command: its name, and what it is read as
 abbrev pub File : Type 0

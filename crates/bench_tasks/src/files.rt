@@ -4,23 +4,7 @@ ghost use Rattle.std.specs.Option.{option_map};
 ghost use Rattle.bench_tasks.specs.Common.{asked, file_at, files_of, file_seen};
 
 use crate::command::Command;
-
-/// What a file of a command is read as.
-#[derive(Clone, Copy, Debug, PartialEq, Eq)]
-pub enum FileKind {
-    /// A graph, in either version of the graph format.
-    Graph,
-    /// A simple graph, in graph6.
-    Graph6,
-    /// A tree.
-    Tree,
-    /// A list of picks.
-    Picks,
-    /// A list of ears.
-    Ears,
-    /// A list of moves.
-    Moves,
-}
+use refusals::FileKind;
 
 /// A file of a command.
 #[derive(Clone, Copy, Drop)]

@@ -23,7 +23,7 @@ mod verbs;
 mod words;
 
 pub use command::{Command, GrowNumbers};
-pub use files::{CommandFile, FileKind, file_at};
+pub use files::{CommandFile, file_at};
 pub use gathering::gather;
 pub use stop::Stop;
 pub use tasks::{GivenEars, GivenMoves, GivenPicks, GivenTree, GivenTrees, SimpleGraph, Task};

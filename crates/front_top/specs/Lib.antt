@@ -1,6 +1,5 @@
 pub mod Answers
 pub mod Files
-pub mod FilesSeen
 pub mod Words
 pub mod CluesSeen
 pub mod Said

@@ -5,7 +5,7 @@ use Rattle.std.specs.declared.option.Option.{Option}
 use Rattle.std.specs.declared.option.Option.TheVariants.{Some, None}
 use Rattle.outside.specs.declared.explain.FailureReason.{FailureReason}
 use Rattle.line_text.specs.declared.faults.FaultKind.{FaultKind}
-use Rattle.bench_tasks.specs.Common.{Command, command_of}
+use Rattle.bench_tasks.specs.Common.{Command, File, command_of}
 use Rattle.bench_tasks.specs.declared.stop.Stop.{Stop}
 use Rattle.bench_tasks.specs.declared.stop.Stop.TheVariants as stop
 use Rattle.refusals.specs.declared.refusal.Refusal.{Refusal}
@@ -17,7 +17,7 @@ use Rattle.front_words.specs.Messages.{bad_file_text, unread_text}
 use Rattle.front_words.specs.Refused.{refused_text}
 use Rattle.front_words.specs.Unmatched.{unmatched_text}
 use Rattle.front_words.specs.Usage.{usage_text}
-use Rattle.front_top.specs.Files.{File, file_in}
+use Rattle.front_top.specs.Files.{file_in}
 use Rattle.front_top.specs.declared.ending.Message.{Message}
 use Rattle.front_top.specs.declared.ending.Message.TheVariants as message
 

@@ -16,7 +16,6 @@
 
 mod answers;
 mod ending;
-mod files;
 mod fronting;
 mod laws;
 mod sizing;

@@ -1,15 +1,13 @@
 //! What is said of each ending.
 ghost use Rattle.std.specs.Prelude.{◌≡◌, [], map, string_bytes};
 ghost use Rattle.std.specs.Option.{option_map};
-ghost use Rattle.bench_tasks.specs.Common.{asked};
+ghost use Rattle.bench_tasks.specs.Common.{asked, file_seen};
 ghost use Rattle.front_words.specs.Saying.{Says};
 ghost use Rattle.front_top.specs.CluesSeen.{known_by};
 ghost use Rattle.front_top.specs.Files.{file_in};
-ghost use Rattle.front_top.specs.FilesSeen.{file_seen};
 ghost use Rattle.front_top.specs.Words.{bad_words, line_kept, lost_words, refusal_words, stop_words, unread_words, words_of};
 
-use crate::files::{File, file_at};
-use bench_tasks::{Command, Stop, command_of};
+use bench_tasks::{Command, CommandFile, Stop, command_of, file_at};
 use bench_top::{RunEnding, Status};
 use front_words::{
     BadFile, all_rows, line_at, say_bad_file, say_bytes, say_refusal, say_unmatched, say_unread,
@@ -56,7 +54,7 @@ fn line_kept<'a>(kept: Option<&'a [u8]>, line: u32) -> Option<&'a [u8]>
 // Says of a bad file which it is, where it is outside its format and how, and the line.
 fn say_bad<'a, E: Sink>(
     errors: &mut E,
-    file: Option<File<'a>>,
+    file: Option<CommandFile<'a>>,
     line: u32,
     kind: FaultKind,
     kept: Option<&'a [u8]>,
@@ -70,7 +68,7 @@ fn say_bad<'a, E: Sink>(
         Some(file) => {
             let bad = BadFile {
                 name: file.name,
-                role: file.role,
+                role: file.kind,
                 line: line as u64,
                 kind,
                 beginning: kept,
@@ -85,7 +83,7 @@ fn say_bad<'a, E: Sink>(
 // Says of a file that could not be read which it is, and why.
 fn say_unread_file<E: Sink>(
     errors: &mut E,
-    file: Option<File<'_>>,
+    file: Option<CommandFile<'_>>,
     reason: Option<FailureReason>,
 ) -> Result<(), SinkFailed>
     ensures { Says E.written E.writes E.faults (unread_words (option_map file_seen file.entry) reason) result
@@ -98,7 +96,7 @@ fn say_unread_file<E: Sink>(
 }
 
 // The file at that place among those of the command, if there is a command.
-fn file_in(command: Option<Command<'_>>, place: u32) -> Option<File<'_>>
+fn file_in(command: Option<Command<'_>>, place: u32) -> Option<CommandFile<'_>>
     ensures { option_map file_seen result ≡ file_in (option_map asked command.entry) place }
 {
     match command {

@@ -5,8 +5,8 @@ use Rattle.std.specs.Fmt.{decimal}
 use Rattle.std.specs.declared.option.Option.{Option}
 use Rattle.std.specs.declared.option.Option.TheVariants.{None, Some}
 use Rattle.std.specs.Str.{bytes_eq}
-use Rattle.front_words.specs.declared.faults.Role.{Role}
-use Rattle.front_words.specs.declared.faults.Role.TheVariants.{Graph, Graph6, Derivation, Picks, Ears, Moves}
+use Rattle.refusals.specs.declared.file_kind.FileKind.{FileKind}
+use Rattle.refusals.specs.declared.file_kind.FileKind.TheVariants.{Graph, Graph6, Tree, Picks, Ears, Moves}
 use Rattle.front_words.specs.LinesAt.{line_at}
 use Rattle.front_words.specs.Showing.{shown}
 
@@ -20,11 +20,11 @@ abbrev pub empty_line : (text : List ℕ) → Option ℕ
 empty_line text = if is_empty_line (line_at text 1) then Some 1 else if is_empty_line (line_at text 2) then Some 2 else None
 
 -- the same where an empty line is a fault: in a graph6 text
-abbrev pub empty_line_in : Role → (beginning : Option (List ℕ)) → Option ℕ
+abbrev pub empty_line_in : FileKind → (beginning : Option (List ℕ)) → Option ℕ
 empty_line_in Graph beginning = None
 empty_line_in Graph6 None = None
 empty_line_in Graph6 (Some text) = empty_line text
-empty_line_in Derivation beginning = None
+empty_line_in Tree beginning = None
 empty_line_in Picks beginning = None
 empty_line_in Ears beginning = None
 empty_line_in Moves beginning = None

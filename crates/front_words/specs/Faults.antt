@@ -3,8 +3,8 @@
 use Rattle.std.specs.Prelude.{ℕ, List, [], codes}
 use Rattle.line_text.specs.declared.faults.FaultKind.{FaultKind}
 use Rattle.line_text.specs.declared.faults.FaultKind.TheVariants.{Header, Word, Number, Range, Loop, Limit, Missing, Extra, NotRising, HasGreatest, Unnamed, SameName, BadName, Padding, LongForm}
-use Rattle.front_words.specs.declared.faults.Role.{Role}
-use Rattle.front_words.specs.declared.faults.Role.TheVariants.{Graph, Graph6, Derivation, Picks, Ears, Moves}
+use Rattle.refusals.specs.declared.file_kind.FileKind.{FileKind}
+use Rattle.refusals.specs.declared.file_kind.FileKind.TheVariants.{Graph, Graph6, Tree, Picks, Ears, Moves}
 
 -- a fault of that kind in a text of lines
 abbrev pub line_fault : FaultKind → List ℕ
@@ -43,44 +43,44 @@ graph6_fault Padding = codes "a filling bit is set"
 graph6_fault LongForm = codes "a size up to 62 is written in four bytes"
 
 -- a fault of that kind in a file that is read so
-abbrev pub fault_words : Role → FaultKind → List ℕ
+abbrev pub fault_words : FileKind → FaultKind → List ℕ
 fault_words Graph kind = line_fault kind
 fault_words Graph6 kind = graph6_fault kind
-fault_words Derivation kind = line_fault kind
+fault_words Tree kind = line_fault kind
 fault_words Picks kind = line_fault kind
 fault_words Ears kind = line_fault kind
 fault_words Moves kind = line_fault kind
 
 -- the header of a format, after a fault of it
-abbrev pub header_note : Role → List ℕ
+abbrev pub header_note : FileKind → List ℕ
 header_note Graph = codes " (here p mcg N M or p mcg2 N M; analyse6 reads graph6)"
 header_note Graph6 = []
-header_note Derivation = codes " (here t mcg N, with the N of the graph)"
+header_note Tree = codes " (here t mcg N, with the N of the graph)"
 header_note Picks = codes " (here s mcg K)"
 header_note Ears = codes " (here r mcg N M, with the N and M of the graph)"
 header_note Moves = codes " (here m mcg N, with the N of the graph)"
 
 -- the limits of a format, after a fault of them
-abbrev pub limit_note : Role → List ℕ
+abbrev pub limit_note : FileKind → List ℕ
 limit_note Graph = codes " (p mcg: 64 vertices, 512 edges; p mcg2: 128 and 2,048)"
 limit_note Graph6 = []
-limit_note Derivation = codes " (127 nodes)"
+limit_note Tree = codes " (127 nodes)"
 limit_note Picks = codes " (127 picks)"
 limit_note Ears = []
 limit_note Moves = codes " (20,000 moves)"
 
 -- what reads a file that is not one graph in graph6
-abbrev pub reader_note : Role → List ℕ
+abbrev pub reader_note : FileKind → List ℕ
 reader_note Graph = []
 reader_note Graph6 = codes " (mcg6 reads lists, analyse the format of mcg)"
-reader_note Derivation = []
+reader_note Tree = []
 reader_note Picks = []
 reader_note Ears = []
 reader_note Moves = []
 
 -- what is added to the words of a fault: the header, the limits, what else reads such a file, or what
 -- to write instead
-abbrev pub note_words : Role → FaultKind → List ℕ
+abbrev pub note_words : FileKind → FaultKind → List ℕ
 note_words role Header = header_note role
 note_words role Word = []
 note_words role Number = []

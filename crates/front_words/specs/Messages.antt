@@ -6,7 +6,7 @@ use Rattle.std.specs.Fmt.{decimal}
 use Rattle.std.specs.declared.option.Option.{Option}
 use Rattle.std.specs.declared.option.Option.TheVariants.{None, Some}
 use Rattle.line_text.specs.declared.faults.FaultKind.{FaultKind}
-use Rattle.front_words.specs.declared.faults.Role.{Role}
+use Rattle.refusals.specs.declared.file_kind.FileKind.{FileKind}
 use Rattle.front_words.specs.EmptyLines.{empty_line_in, empty_line_text}
 use Rattle.front_words.specs.Faults.{fault_words}
 use Rattle.front_words.specs.Notes.{file_note}
@@ -30,7 +30,7 @@ line_shown program line None = []
 line_shown program line (Some text) = program ++ (codes ": line " ++ (decimal line ++ (codes " is: " ++ (shown 60 text ++ codes "\n"))))
 
 -- the file of that name, which is read so, has at that line a fault of that kind
-abbrev pub what_text : (program name : List ℕ) → Role → (line : ℕ) → FaultKind → List ℕ
+abbrev pub what_text : (program name : List ℕ) → FileKind → (line : ℕ) → FaultKind → List ℕ
 what_text program name role line kind =
     program ++ (codes ": " ++ (shown 4096 name ++ (codes ", line " ++ (decimal line ++ (codes ": " ++ fault_words role kind)))))
 
@@ -42,7 +42,7 @@ rest_text program line text = codes "\n" ++ line_shown program line text
 -- the file of that name, which is read so, for a graph with these numbers of vertices and edges, and
 -- begins so, is outside its format at that line by that kind; the text is that of the line, if there
 -- is one to show
-abbrev pub fault_text : (program name : List ℕ) → Role → (line : ℕ) → FaultKind → (beginning : Option (List ℕ)) → (sizes : Option (ℕ × ℕ)) → (text : Option (List ℕ)) → List ℕ
+abbrev pub fault_text : (program name : List ℕ) → FileKind → (line : ℕ) → FaultKind → (beginning : Option (List ℕ)) → (sizes : Option (ℕ × ℕ)) → (text : Option (List ℕ)) → List ℕ
 fault_text program name role line kind beginning sizes text =
     what_text program name role line kind ++ (file_note role kind beginning sizes text ++ rest_text program line text)
 
@@ -52,11 +52,11 @@ unless_empty None program name text = text
 unless_empty (Some line) program name text = empty_line_text program name line
 
 -- the same if the text is that of the line, if it is known
-abbrev pub outside_text : (program name : List ℕ) → Role → (line : ℕ) → FaultKind → (beginning : Option (List ℕ)) → (sizes : Option (ℕ × ℕ)) → (text : Option (List ℕ)) → List ℕ
+abbrev pub outside_text : (program name : List ℕ) → FileKind → (line : ℕ) → FaultKind → (beginning : Option (List ℕ)) → (sizes : Option (ℕ × ℕ)) → (text : Option (List ℕ)) → List ℕ
 outside_text program name role line kind beginning sizes text =
     unless_empty (empty_line_in role beginning) program name (fault_text program name role line kind beginning sizes (some_line text))
 
 -- the file of that name is bad: with line 0 it is too long
-abbrev pub bad_file_text : (program name : List ℕ) → Role → (line : ℕ) → FaultKind → (beginning : Option (List ℕ)) → (sizes : Option (ℕ × ℕ)) → (text : Option (List ℕ)) → List ℕ
+abbrev pub bad_file_text : (program name : List ℕ) → FileKind → (line : ℕ) → FaultKind → (beginning : Option (List ℕ)) → (sizes : Option (ℕ × ℕ)) → (text : Option (List ℕ)) → List ℕ
 bad_file_text program name role line kind beginning sizes text =
     if line == 0 then too_long_text program name else outside_text program name role line kind beginning sizes text

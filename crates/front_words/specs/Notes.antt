@@ -7,28 +7,28 @@ use Rattle.std.specs.declared.option.Option.{Option}
 use Rattle.std.specs.declared.option.Option.TheVariants.{None, Some}
 use Rattle.line_text.specs.declared.faults.FaultKind.{FaultKind}
 use Rattle.line_text.specs.declared.faults.FaultKind.TheVariants.{Header, Word, Number, Range, Loop, Limit, Missing, Extra, NotRising, HasGreatest, Unnamed, SameName, BadName, Padding, LongForm}
-use Rattle.front_words.specs.declared.faults.Role.{Role}
-use Rattle.front_words.specs.declared.faults.Role.TheVariants.{Graph, Graph6, Derivation, Picks, Ears, Moves}
+use Rattle.refusals.specs.declared.file_kind.FileKind.{FileKind}
+use Rattle.refusals.specs.declared.file_kind.FileKind.TheVariants.{Graph, Graph6, Tree, Picks, Ears, Moves}
 use Rattle.front_words.specs.Faults.{header_note, note_words}
 use Rattle.front_words.specs.Openings.{beginning_note, misplaced_note, note_or}
 use Rattle.front_words.specs.Shores.{shore_note}
 
 -- the header that is due in a file for a graph with these numbers of vertices and of edges
-abbrev pub due_note : Role → (sizes : ℕ × ℕ) → List ℕ
+abbrev pub due_note : FileKind → (sizes : ℕ × ℕ) → List ℕ
 due_note Graph sizes = header_note Graph
 due_note Graph6 sizes = header_note Graph6
-due_note Derivation sizes = codes " (here t mcg " ++ (decimal sizes.0 ++ codes ")")
+due_note Tree sizes = codes " (here t mcg " ++ (decimal sizes.0 ++ codes ")")
 due_note Picks sizes = header_note Picks
 due_note Ears sizes = codes " (here r mcg " ++ (decimal sizes.0 ++ (codes " " ++ (decimal sizes.1 ++ codes ")")))
 due_note Moves sizes = codes " (here m mcg " ++ (decimal sizes.0 ++ codes ")")
 
 -- the same, if these numbers are known; and else the header of the format
-abbrev pub header_text : Role → (sizes : Option (ℕ × ℕ)) → List ℕ
+abbrev pub header_text : FileKind → (sizes : Option (ℕ × ℕ)) → List ℕ
 header_text role None = header_note role
 header_text role (Some sizes) = due_note role sizes
 
 -- what is added for the kind; the text is that of the line, if it is known
-abbrev pub kind_note : Role → FaultKind → (sizes : Option (ℕ × ℕ)) → (text : Option (List ℕ)) → List ℕ
+abbrev pub kind_note : FileKind → FaultKind → (sizes : Option (ℕ × ℕ)) → (text : Option (List ℕ)) → List ℕ
 kind_note role Header sizes text = note_or (misplaced_note role text) (header_text role sizes)
 kind_note role Word sizes text = note_words role Word
 kind_note role Number sizes text = note_words role Number
@@ -46,5 +46,5 @@ kind_note role Padding sizes text = note_words role Padding
 kind_note role LongForm sizes text = note_words role LongForm
 
 -- what the file is that begins so, or else the note for the kind
-abbrev pub file_note : Role → FaultKind → (beginning : Option (List ℕ)) → (sizes : Option (ℕ × ℕ)) → (text : Option (List ℕ)) → List ℕ
+abbrev pub file_note : FileKind → FaultKind → (beginning : Option (List ℕ)) → (sizes : Option (ℕ × ℕ)) → (text : Option (List ℕ)) → List ℕ
 file_note role kind beginning sizes text = note_or (beginning_note role beginning) (kind_note role kind sizes text)

@@ -5,8 +5,8 @@ use Rattle.std.specs.Prelude.{ℕ, List, [], ◌∷◌, nat_eq, Bool, codes, if�
 use Rattle.std.specs.List.{starts_with}
 use Rattle.std.specs.declared.option.Option.{Option}
 use Rattle.std.specs.declared.option.Option.TheVariants.{None, Some}
-use Rattle.front_words.specs.declared.faults.Role.{Role}
-use Rattle.front_words.specs.declared.faults.Role.TheVariants.{Graph, Graph6, Derivation, Picks, Ears, Moves}
+use Rattle.refusals.specs.declared.file_kind.FileKind.{FileKind}
+use Rattle.refusals.specs.declared.file_kind.FileKind.TheVariants.{Graph, Graph6, Tree, Picks, Ears, Moves}
 
 abbrev pub opens : List ℕ → List ℕ → Bool
 opens text beginning = starts_with nat_eq text beginning
@@ -42,16 +42,16 @@ abbrev pub graph6_note : List ℕ → List ℕ
 graph6_note text = if opens text (codes ">>graph6<<") then codes " (it begins as graph6; mcg analyse6 and mcg6 read it)" else []
 
 -- a note on the header of a graph file where a file for one is wanted, with what makes that of it
-abbrev pub beside_note : Role → List ℕ
+abbrev pub beside_note : FileKind → List ℕ
 beside_note Graph = []
 beside_note Graph6 = []
-beside_note Derivation = codes " (this is a graph file; mcg decompose makes a derivation of one)"
+beside_note Tree = codes " (this is a graph file; mcg decompose makes a derivation of one)"
 beside_note Picks = codes " (this is a graph file, which comes first)"
 beside_note Ears = codes " (this is a graph file; mcg ears makes an ear list of one)"
 beside_note Moves = codes " (this is a graph file, which comes first)"
 
 -- the same for the line at fault, if it is known; nothing if it is no such header
-abbrev pub misplaced_note : Role → (line : Option (List ℕ)) → List ℕ
+abbrev pub misplaced_note : FileKind → (line : Option (List ℕ)) → List ℕ
 misplaced_note role None = []
 misplaced_note role (Some line) = if opens line (codes "p mcg") then beside_note role else []
 
@@ -60,15 +60,15 @@ abbrev pub opening_note : List ℕ → List ℕ
 opening_note text = note_or (coding_note text) (note_or (format_note text) (graph_file_note text))
 
 -- the same for a text that is read so
-abbrev pub role_note : Role → List ℕ → List ℕ
+abbrev pub role_note : FileKind → List ℕ → List ℕ
 role_note Graph text = note_or (coding_note text) (note_or (format_note text) (graph6_note text))
 role_note Graph6 text = opening_note text
-role_note Derivation text = coding_note text
+role_note Tree text = coding_note text
 role_note Picks text = coding_note text
 role_note Ears text = coding_note text
 role_note Moves text = coding_note text
 
 -- the same for a file that is read so, if its beginning is known
-abbrev pub beginning_note : Role → Option (List ℕ) → List ℕ
+abbrev pub beginning_note : FileKind → Option (List ℕ) → List ℕ
 beginning_note role None = []
 beginning_note role (Some text) = role_note role text

@@ -2,21 +2,29 @@
 -- Stated by: front_words. Rests on it: front_top.
 use Rattle.std.specs.Prelude.{ℕ, List, ◌++◌, codes}
 use Rattle.std.specs.Fmt.{decimal}
+use Rattle.refusals.specs.declared.faults.StuckFault.{StuckFault}
+use Rattle.refusals.specs.declared.faults.StuckFault.TheVariants.{NoCut, Crossing, NotParts}
 use Rattle.refusals.specs.declared.refusal.Refusal.{Refusal}
 use Rattle.refusals.specs.declared.refusal.Refusal.TheVariants.{Graph, Tree, Ears, Stuck, Move}
 use Rattle.front_words.specs.RefusedEars.{ears_text}
 use Rattle.front_words.specs.RefusedTrees.{moved_text, tree_text}
 use Rattle.front_words.specs.Uncovered.{uncovered_text}
 
+-- why a move has no result, and what would be right
+abbrev pub stuck_words : StuckFault → List ℕ
+stuck_words NoCut = codes "its path leads to no cut, or rotates the root (take the path of another cut)"
+stuck_words Crossing = codes "the shore of its cut crosses that of the cut above (rotate another cut)"
+stuck_words NotParts = codes "its sets are not proper nonempty parts of the shore and of the other side (change them)"
+
 -- a move has no result
-abbrev pub stuck_text : (program : List ℕ) (step : ℕ) → List ℕ
-stuck_text program step =
-    program ++ (codes ": move " ++ (decimal step ++ codes " has no result: its path leads to no cut that it can change, or its vertices do not lie on the two sides of this cut as they must (script writes moves that have one)\n"))
+abbrev pub stuck_text : (program : List ℕ) (step : ℕ) → StuckFault → List ℕ
+stuck_text program step fault =
+    program ++ (codes ": move " ++ (decimal step ++ (codes " has no result: " ++ (stuck_words fault ++ codes "\n"))))
 
 -- what a refusal means in words
 abbrev pub refused_text : (program : List ℕ) → Refusal → List ℕ
 refused_text program (Graph fault) = uncovered_text program fault
 refused_text program (Tree tree at place fault) = tree_text program tree at place fault
 refused_text program (Ears step place fault) = ears_text program step place fault
-refused_text program (Stuck step) = stuck_text program step
+refused_text program (Stuck step fault) = stuck_text program step fault
 refused_text program (Move step at place fault) = moved_text program step at place fault

@@ -4,12 +4,12 @@ ghost use Rattle.std.specs.Option.{option_map};
 ghost use Rattle.front_words.specs.EmptyLines.{empty_line, empty_line_in, empty_line_text, is_empty_line};
 ghost use Rattle.front_words.specs.Saying.{Says};
 
-use crate::faults::Role;
 use crate::lines::line_at;
 use crate::pieces::MessagePiece::{Number, Shown, Text};
 use crate::pieces::say;
 use crate::unread::MOST_OF_NAME;
 use outside::{Sink, SinkFailed};
+use refusals::FileKind;
 
 /// That a line is empty, and how that comes about.
 pub const EMPTY: &str =
@@ -39,15 +39,16 @@ fn empty_line(text: &[u8]) -> Option<u32>
 }
 
 /// The same where an empty line is a fault: in a graph6 text. Takes no memory.
-pub fn empty_line_in(role: Role, beginning: Option<&[u8]>) -> Option<u32>
+pub fn empty_line_in(role: FileKind, beginning: Option<&[u8]>) -> Option<u32>
     ensures { result ≡ empty_line_in role (option_map (λ text. text.now) beginning.entry) }
 {
     match role {
-        Role::Graph6 => match beginning {
+        FileKind::Graph6 => match beginning {
             Some(text) => empty_line(text),
             None => None,
         },
-        Role::Graph | Role::Derivation | Role::Picks | Role::Ears | Role::Moves => None,
+        FileKind::Graph | FileKind::Tree | FileKind::Picks | FileKind::Ears | FileKind::Moves =>
+            None,
     }
 }
 

@@ -3,23 +3,7 @@ ghost use Rattle.std.specs.Prelude.{◌≡◌};
 ghost use Rattle.front_words.specs.Faults.{fault_words, graph6_fault, header_note, limit_note, line_fault, note_words, reader_note};
 
 use line_text::FaultKind;
-
-/// What a file that the words name is read as.
-#[derive(Clone, Copy, Debug, PartialEq, Eq)]
-pub enum Role {
-    /// A graph, in either version of the graph format.
-    Graph,
-    /// A graph in graph6.
-    Graph6,
-    /// A derivation.
-    Derivation,
-    /// A list of picks.
-    Picks,
-    /// A list of ears.
-    Ears,
-    /// Moves on derivations.
-    Moves,
-}
+use refusals::FileKind;
 
 // A fault of that kind in a text of lines.
 fn line_fault(kind: FaultKind) -> &'static str
@@ -67,56 +51,57 @@ fn graph6_fault(kind: FaultKind) -> &'static str
 }
 
 /// What a fault of that kind is in a file that is read so. Takes no memory.
-pub fn fault_words(role: Role, kind: FaultKind) -> &'static str
+pub fn fault_words(role: FileKind, kind: FaultKind) -> &'static str
     ensures { result.now ≡ fault_words role kind }
 {
     match role {
-        Role::Graph6 => graph6_fault(kind),
-        Role::Graph | Role::Derivation | Role::Picks | Role::Ears | Role::Moves => line_fault(kind),
+        FileKind::Graph6 => graph6_fault(kind),
+        FileKind::Graph | FileKind::Tree | FileKind::Picks | FileKind::Ears | FileKind::Moves =>
+            line_fault(kind),
     }
 }
 
 /// The header of a format, after a fault of it. Takes no memory.
-pub fn header_note(role: Role) -> &'static str
+pub fn header_note(role: FileKind) -> &'static str
     ensures { result.now ≡ header_note role }
 {
     match role {
-        Role::Graph => " (here p mcg N M or p mcg2 N M; analyse6 reads graph6)",
-        Role::Graph6 => "",
-        Role::Derivation => " (here t mcg N, with the N of the graph)",
-        Role::Picks => " (here s mcg K)",
-        Role::Ears => " (here r mcg N M, with the N and M of the graph)",
-        Role::Moves => " (here m mcg N, with the N of the graph)",
+        FileKind::Graph => " (here p mcg N M or p mcg2 N M; analyse6 reads graph6)",
+        FileKind::Graph6 => "",
+        FileKind::Tree => " (here t mcg N, with the N of the graph)",
+        FileKind::Picks => " (here s mcg K)",
+        FileKind::Ears => " (here r mcg N M, with the N and M of the graph)",
+        FileKind::Moves => " (here m mcg N, with the N of the graph)",
     }
 }
 
 // The limits of a format, after a fault of them.
-fn limit_note(role: Role) -> &'static str
+fn limit_note(role: FileKind) -> &'static str
     ensures { result.now ≡ limit_note role }
 {
     match role {
-        Role::Graph => " (p mcg: 64 vertices, 512 edges; p mcg2: 128 and 2,048)",
-        Role::Graph6 => "",
-        Role::Derivation => " (127 nodes)",
-        Role::Picks => " (127 picks)",
-        Role::Ears => "",
-        Role::Moves => " (20,000 moves)",
+        FileKind::Graph => " (p mcg: 64 vertices, 512 edges; p mcg2: 128 and 2,048)",
+        FileKind::Graph6 => "",
+        FileKind::Tree => " (127 nodes)",
+        FileKind::Picks => " (127 picks)",
+        FileKind::Ears => "",
+        FileKind::Moves => " (20,000 moves)",
     }
 }
 
 // What reads a file that is not one graph in graph6.
-fn reader_note(role: Role) -> &'static str
+fn reader_note(role: FileKind) -> &'static str
     ensures { result.now ≡ reader_note role }
 {
     match role {
-        Role::Graph6 => " (mcg6 reads lists, analyse the format of mcg)",
-        Role::Graph | Role::Derivation | Role::Picks | Role::Ears | Role::Moves => "",
+        FileKind::Graph6 => " (mcg6 reads lists, analyse the format of mcg)",
+        FileKind::Graph | FileKind::Tree | FileKind::Picks | FileKind::Ears | FileKind::Moves => "",
     }
 }
 
 /// What is added to the words of a fault: the header of the format, its limits, what else reads
 /// such a file, or what to write instead. Takes no memory.
-pub fn note_words(role: Role, kind: FaultKind) -> &'static str
+pub fn note_words(role: FileKind, kind: FaultKind) -> &'static str
     ensures { result.now ≡ note_words role kind }
 {
     match kind {

@@ -5,8 +5,11 @@ ghost use Rattle.front_words.specs.Headers.{header_sizes, header_so_far, sizes_i
 use crate::numbers::{is_blank, number_in};
 use line_text::split_line;
 
+// The count of a line whose first word is not `p`.
+const NO_HEADER: u32 = 5;
+
 // What is known of a header after one more word: how many words it has, at most 4, and the numbers
-// that the third and the fourth write.
+// that the third and the fourth write. A line with another first word than `p` counts as one of 5.
 fn with_word(so_far: (u32, u32, u32), word: &[u8]) -> (u32, u32, u32)
     ensures { result ≡ with_word so_far word.now }
 {
@@ -19,8 +22,10 @@ fn with_word(so_far: (u32, u32, u32), word: &[u8]) -> (u32, u32, u32)
         (4, order, number_in(word))
     } else if count == 2 {
         (3, number_in(word), size)
-    } else {
+    } else if count == 1 || word == b"p".as_slice() {
         (count + 1, order, size)
+    } else {
+        (NO_HEADER, order, size)
     }
 }
 
@@ -32,12 +37,16 @@ fn header_so_far(line: &[u8]) -> (u32, u32, u32)
         .fold((0, 0, 0), |so_far, word| with_word(so_far, word))
 }
 
-// The numbers in a header.
-fn sizes_in(line: &[u8]) -> (u32, u32)
+// The numbers in a line, if it is a header.
+fn sizes_in(line: &[u8]) -> Option<(u32, u32)>
     ensures { result ≡ sizes_in line.now }
 {
-    let (_, order, size) = header_so_far(line);
-    (order, size)
+    let (count, order, size) = header_so_far(line);
+    if count == 0 || count == NO_HEADER {
+        None
+    } else {
+        Some((order, size))
+    }
 }
 
 /// The numbers of the vertices and of the edges in the first header `p mcg N M` or `p mcg2 N M` of
@@ -47,8 +56,8 @@ pub fn header_sizes(text: &[u8]) -> Option<(u32, u32)>
 {
     let mut rest = text;
     'passing: while let Some((line, others)) = split_line(rest) {
-        if line.starts_with(b"p ") {
-            return Some(sizes_in(line));
+        if let Some(sizes) = sizes_in(line) {
+            return Some(sizes);
         }
         rest = others;
     }

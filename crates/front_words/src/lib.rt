@@ -40,7 +40,7 @@ mod unmatched;
 mod unread;
 
 pub use command_table::{all_list_rows, all_rows, list_page, list_usage, page, usage};
-pub use faults::{Role, fault_words, note_words};
+pub use faults::{fault_words, note_words};
 pub use headers::header_sizes;
 pub use lines::line_at;
 pub use list_messages::{say_bad_line, say_unread_list};

@@ -5,7 +5,7 @@ ghost use Rattle.front_words.specs.ListMessages.{bad_line_text, is_blank_line, l
 ghost use Rattle.front_words.specs.Saying.{Says};
 
 use crate::empty_lines::EMPTY;
-use crate::faults::{Role, fault_words};
+use crate::faults::fault_words;
 use crate::lines::line_at;
 use crate::messages::{MOST_OF_LINE, some_line};
 use crate::openings::opening_note;
@@ -15,6 +15,7 @@ use crate::reasons::reason_words;
 use crate::unread::say_unread_noted;
 use line_text::FaultKind;
 use outside::{FailureReason, MOST_LINE, Sink, SinkFailed};
+use refusals::FileKind;
 
 // What is added where a dash is to stand for standard input, which is what is read without a name.
 fn list_dash_note(name: &str) -> &'static str
@@ -66,7 +67,7 @@ fn short_line(text: &[u8]) -> &'static str
     if text.is_empty() {
         "the list ends before a graph"
     } else {
-        fault_words(Role::Graph6, FaultKind::Missing)
+        fault_words(FileKind::Graph6, FaultKind::Missing)
     }
 }
 
@@ -77,7 +78,7 @@ fn long_line(text: &[u8]) -> &'static str
     if text.len() > MOST_LINE {
         "it has more than 65,536 bytes, the most that a line of a list may have"
     } else {
-        fault_words(Role::Graph6, FaultKind::Limit)
+        fault_words(FileKind::Graph6, FaultKind::Limit)
     }
 }
 
@@ -100,7 +101,7 @@ fn list_fault(kind: FaultKind, text: &[u8]) -> &'static str
         | FaultKind::SameName
         | FaultKind::BadName
         | FaultKind::Padding
-        | FaultKind::LongForm => fault_words(Role::Graph6, kind),
+        | FaultKind::LongForm => fault_words(FileKind::Graph6, kind),
     }
 }
 

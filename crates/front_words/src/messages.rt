@@ -6,13 +6,14 @@ ghost use Rattle.front_words.specs.Notes.{file_note};
 ghost use Rattle.front_words.specs.Saying.{Says};
 
 use crate::empty_lines::{empty_line_in, say_empty_line};
-use crate::faults::{Role, fault_words};
+use crate::faults::fault_words;
 use crate::notes::say_note;
 use crate::pieces::MessagePiece::{Number, Shown, Text};
 use crate::pieces::say;
 use crate::unread::MOST_OF_NAME;
 use line_text::FaultKind;
 use outside::{Sink, SinkFailed};
+use refusals::FileKind;
 
 /// The most bytes of a line that are shown.
 pub const MOST_OF_LINE: u32 = 60;
@@ -23,7 +24,7 @@ pub struct BadFile<'a> {
     /// Its name.
     pub name: &'a str,
     /// What it is read as.
-    pub role: Role,
+    pub role: FileKind,
     /// The line of its first fault, counted from 1; 0 where it is too long.
     pub line: u64,
     /// The kind of the fault.

@@ -5,7 +5,7 @@ ghost use Rattle.front_words.specs.Notes.{due_note, file_note, header_text, kind
 ghost use Rattle.front_words.specs.Openings.{misplaced_note, note_or};
 ghost use Rattle.front_words.specs.Saying.{Says};
 
-use crate::faults::{Role, header_note, note_words};
+use crate::faults::{header_note, note_words};
 use crate::openings::{beginning_note, misplaced_note};
 use crate::pieces::MessagePiece::{Number, Text};
 use crate::pieces::say;
@@ -13,17 +13,18 @@ use crate::shores::say_shore_note;
 use crate::showing::say_bytes;
 use line_text::FaultKind;
 use outside::{Sink, SinkFailed};
+use refusals::FileKind;
 
 // Says the header that is due in a file for a graph with these numbers of vertices and of edges.
-fn say_due<K: Sink>(sink: &mut K, role: Role, sizes: (u32, u32)) -> Result<(), SinkFailed>
+fn say_due<K: Sink>(sink: &mut K, role: FileKind, sizes: (u32, u32)) -> Result<(), SinkFailed>
     ensures { Says K.written K.writes K.faults (due_note role sizes) result sink.old sink.new }
 {
     let (order, size) = sizes;
     let order = Number(order as u64);
     let end = Text(")");
     match role {
-        Role::Derivation => say(sink, &[Text(" (here t mcg "), order, end]),
-        Role::Ears => say(
+        FileKind::Tree => say(sink, &[Text(" (here t mcg "), order, end]),
+        FileKind::Ears => say(
             sink,
             &[
                 Text(" (here r mcg "),
@@ -33,15 +34,18 @@ fn say_due<K: Sink>(sink: &mut K, role: Role, sizes: (u32, u32)) -> Result<(), S
                 end,
             ],
         ),
-        Role::Moves => say(sink, &[Text(" (here m mcg "), order, end]),
-        Role::Graph | Role::Graph6 | Role::Picks => say_bytes(sink, header_note(role).as_bytes()),
+        FileKind::Moves => say(sink, &[Text(" (here m mcg "), order, end]),
+        FileKind::Graph | FileKind::Graph6 | FileKind::Picks => say_bytes(
+            sink,
+            header_note(role).as_bytes(),
+        ),
     }
 }
 
 // The same, if these numbers are known; and else the header of the format.
 fn say_header<K: Sink>(
     sink: &mut K,
-    role: Role,
+    role: FileKind,
     sizes: Option<(u32, u32)>,
 ) -> Result<(), SinkFailed>
     ensures { Says K.written K.writes K.faults (header_text role sizes) result sink.old sink.new }
@@ -55,7 +59,7 @@ fn say_header<K: Sink>(
 // Says of the line at fault that it is the header of a graph file, or else the header that is due.
 fn say_header_note<K: Sink>(
     sink: &mut K,
-    role: Role,
+    role: FileKind,
     sizes: Option<(u32, u32)>,
     text: Option<&[u8]>,
 ) -> Result<(), SinkFailed>
@@ -74,7 +78,7 @@ fn say_header_note<K: Sink>(
 // Says what is added for the kind.
 fn say_kind_note<K: Sink>(
     sink: &mut K,
-    role: Role,
+    role: FileKind,
     kind: FaultKind,
     sizes: Option<(u32, u32)>,
     text: Option<&[u8]>,
@@ -107,7 +111,7 @@ fn say_kind_note<K: Sink>(
 /// and the text is that of the line, if they are known. Takes no memory.
 pub fn say_note<K: Sink>(
     sink: &mut K,
-    role: Role,
+    role: FileKind,
     kind: FaultKind,
     beginning: Option<&[u8]>,
     sizes: Option<(u32, u32)>,

@@ -3,7 +3,7 @@ ghost use Rattle.std.specs.Prelude.{◌≡◌};
 ghost use Rattle.std.specs.Option.{option_map};
 ghost use Rattle.front_words.specs.Openings.{beginning_note, beside_note, coding_note, format_note, graph6_note, graph_file_note, misplaced_note, note_or, opening_note, role_note};
 
-use crate::faults::Role;
+use refusals::FileKind;
 
 // The first note, or if there is none the second.
 fn note_or(note: &'static str, other: &'static str) -> &'static str
@@ -69,20 +69,20 @@ fn graph6_note(text: &[u8]) -> &'static str
 }
 
 // A note on the header of a graph file where a file for one is wanted, with what makes that of it.
-fn beside_note(role: Role) -> &'static str
+fn beside_note(role: FileKind) -> &'static str
     ensures { result.now ≡ beside_note role }
 {
     match role {
-        Role::Graph | Role::Graph6 => "",
-        Role::Derivation => " (this is a graph file; mcg decompose makes a derivation of one)",
-        Role::Ears => " (this is a graph file; mcg ears makes an ear list of one)",
-        Role::Picks | Role::Moves => " (this is a graph file, which comes first)",
+        FileKind::Graph | FileKind::Graph6 => "",
+        FileKind::Tree => " (this is a graph file; mcg decompose makes a derivation of one)",
+        FileKind::Ears => " (this is a graph file; mcg ears makes an ear list of one)",
+        FileKind::Picks | FileKind::Moves => " (this is a graph file, which comes first)",
     }
 }
 
 /// The same for the line at fault, if it is known; nothing if it is no such header. Takes no
 /// memory.
-pub fn misplaced_note(role: Role, line: Option<&[u8]>) -> &'static str
+pub fn misplaced_note(role: FileKind, line: Option<&[u8]>) -> &'static str
     ensures { result.now ≡ misplaced_note role (option_map (λ line. line.now) line.entry) }
 {
     match line {
@@ -103,21 +103,21 @@ pub fn opening_note(text: &[u8]) -> &'static str
 }
 
 // The same for a text that is read so.
-fn role_note(role: Role, text: &[u8]) -> &'static str
+fn role_note(role: FileKind, text: &[u8]) -> &'static str
     ensures { result.now ≡ role_note role text.now }
 {
     match role {
-        Role::Graph => note_or(
+        FileKind::Graph => note_or(
             coding_note(text),
             note_or(format_note(text), graph6_note(text)),
         ),
-        Role::Graph6 => opening_note(text),
-        Role::Derivation | Role::Picks | Role::Ears | Role::Moves => coding_note(text),
+        FileKind::Graph6 => opening_note(text),
+        FileKind::Tree | FileKind::Picks | FileKind::Ears | FileKind::Moves => coding_note(text),
     }
 }
 
 /// The same for a file that is read so, if its beginning is known. Takes no memory.
-pub fn beginning_note(role: Role, beginning: Option<&[u8]>) -> &'static str
+pub fn beginning_note(role: FileKind, beginning: Option<&[u8]>) -> &'static str
     ensures { result.now ≡ beginning_note role (option_map (λ text. text.now) beginning.entry) }
 {
     match beginning {

@@ -1,5 +1,6 @@
 //! What a refusal means.
-ghost use Rattle.front_words.specs.Refused.{refused_text, stuck_text};
+ghost use Rattle.std.specs.Prelude.{◌≡◌};
+ghost use Rattle.front_words.specs.Refused.{refused_text, stuck_text, stuck_words};
 ghost use Rattle.front_words.specs.Saying.{Says};
 
 use crate::pieces::MessagePiece::{Number, Text};
@@ -8,11 +9,34 @@ use crate::refused_ears::say_ears;
 use crate::refused_trees::{say_moved, say_tree};
 use crate::uncovered::say_uncovered;
 use outside::{Sink, SinkFailed};
-use refusals::Refusal;
+use refusals::{Refusal, StuckFault};
 
-// Says that a move has no result.
-fn say_stuck<'a, K: Sink>(sink: &mut K, program: &'a str, step: u32) -> Result<(), SinkFailed>
-    ensures { Says K.written K.writes K.faults (stuck_text program.now step) result sink.old sink.new }
+// Why a move has no result, and what would be right.
+fn stuck_words(fault: StuckFault) -> &'static str
+    ensures { result.now ≡ stuck_words fault }
+{
+    match fault {
+        StuckFault::NoCut => {
+            "its path leads to no cut, or rotates the root (take the path of another cut)"
+        }
+        StuckFault::Crossing => {
+            "the shore of its cut crosses that of the cut above (rotate another cut)"
+        }
+        StuckFault::NotParts => {
+            "its sets are not proper nonempty parts of the shore and of the other side (change them)"
+        }
+    }
+}
+
+// Says that a move has no result, and why.
+fn say_stuck<'a, K: Sink>(
+    sink: &mut K,
+    program: &'a str,
+    step: u32,
+    fault: StuckFault,
+) -> Result<(), SinkFailed>
+    ensures { Says K.written K.writes K.faults (stuck_text program.now step fault) result sink.old
+        sink.new }
 {
     say(
         sink,
@@ -20,9 +44,9 @@ fn say_stuck<'a, K: Sink>(sink: &mut K, program: &'a str, step: u32) -> Result<(
             Text(program),
             Text(": move "),
             Number(step as u64),
-            Text(" has no result: its path leads to no cut that it can change, or its vertices "),
-            Text("do not lie on the two sides of this cut as they must "),
-            Text("(script writes moves that have one)\n"),
+            Text(" has no result: "),
+            Text(stuck_words(fault)),
+            Text("\n"),
         ],
     )
 }
@@ -45,7 +69,7 @@ pub fn say_refusal<'a, K: Sink>(
             fault,
         } => say_tree(sink, program, tree, node, place, fault),
         Refusal::Ears { step, place, fault } => say_ears(sink, program, step, place, fault),
-        Refusal::Stuck { step } => say_stuck(sink, program, step),
+        Refusal::Stuck { step, fault } => say_stuck(sink, program, step, fault),
         Refusal::Move {
             step,
             node,

@@ -15,7 +15,7 @@ use Rattle.mcg6_front_top.specs.declared.clues.Clues.{Clues}
 use Rattle.mcg6_front_top.specs.declared.ending.Message.{Message}
 use Rattle.mcg6_front_top.specs.declared.ending.Message.TheVariants as message
 use Rattle.command_table.specs.Table.{list_rows}
-use Rattle.front_words.specs.declared.faults.Role.TheVariants.{Graph}
+use Rattle.refusals.specs.declared.file_kind.FileKind.TheVariants.{Graph}
 use Rattle.front_words.specs.ListMessages.{bad_line_text, unread_list_text}
 use Rattle.front_words.specs.Messages.{bad_file_text, unread_text}
 use Rattle.front_words.specs.Unmatched.{unmatched_text}

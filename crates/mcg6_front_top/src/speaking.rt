@@ -8,13 +8,14 @@ ghost use Rattle.mcg6_front_top.specs.Words.{bad_graph_words, beginning_of, file
 use crate::clues::Clues;
 use crate::skipping::say_skipped;
 use front_words::{
-    BadFile, Role, all_list_rows, list_usage, say_bad_file, say_bad_line, say_bytes, say_unmatched,
+    BadFile, all_list_rows, list_usage, say_bad_file, say_bad_line, say_bytes, say_unmatched,
     say_unread, say_unread_list,
 };
 use mcg6_encoder::EncodeEnding;
 use mcg6_reader::{BadLine, Ending};
 use mcg6_top::{CommandLine, ListEnd, ListStatus, RunEnd, status_of};
 use outside::{Sink, SinkFailed};
+use refusals::FileKind;
 
 /// The name of the program.
 pub const PROGRAM: &str = "mcg6";
@@ -106,7 +107,7 @@ fn say_bad_graph<E: Sink>(errors: &mut E, name: &str, found: &BadLine) -> Result
     let text = found.text.as_slice();
     let bad = BadFile {
         name,
-        role: Role::Graph,
+        role: FileKind::Graph,
         line: found.number,
         kind: found.kind,
         beginning: beginning_of(found.number, text),

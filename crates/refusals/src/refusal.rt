@@ -1,6 +1,6 @@
 //! Refusals.
 
-use crate::faults::{CoverFault, EarFault, NodeFault};
+use crate::faults::{CoverFault, EarFault, NodeFault, StuckFault};
 use crate::places::{EarPlace, NodePlace};
 
 /// Why an input is refused. Trees, nodes, steps and moves are counted from 1, and nodes in preorder.
@@ -27,6 +27,7 @@ pub enum Refusal {
     /// This move has no result.
     Stuck {
         step: u32,
+        fault: StuckFault,
     },
     /// The tree that this move makes is not a tight cut decomposition: this is its first node with
     /// a fault.
