@@ -78,8 +78,8 @@ reader_note Picks = []
 reader_note Ears = []
 reader_note Moves = []
 
--- what is added to the words of a fault: the header, the limits, what else reads such a file, or what
--- to write instead
+-- what is added to the words of a fault: the header, the limits, what else reads such a file, or
+-- what to write instead
 abbrev pub note_words : FileKind → FaultKind → List ℕ
 note_words role Header = header_note role
 note_words role Word = []

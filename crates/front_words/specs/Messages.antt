@@ -1,5 +1,5 @@
--- The messages on a file that is outside its format: each is a line that begins with the name of the
--- program, or a few such lines.
+-- The messages on a file that is outside its format: each is a line that begins with the name of
+-- the program, or a few such lines.
 -- Stated by: front_words. Rests on it: front_top, mcg6_front_top.
 use Rattle.std.specs.Prelude.{ℕ, ◌==◌, List, [], ◌∷◌, ◌++◌, codes, if◌then◌else◌}
 use Rattle.std.specs.Fmt.{decimal}
@@ -39,9 +39,9 @@ what_text program name role line kind =
 abbrev pub rest_text : (program : List ℕ) (line : ℕ) → (text : Option (List ℕ)) → List ℕ
 rest_text program line text = codes "\n" ++ line_shown program line text
 
--- the file of that name, which is read so, for a graph with these numbers of vertices and edges, and
--- begins so, is outside its format at that line by that kind; the text is that of the line, if there
--- is one to show
+-- the file of that name, which is read so, for a graph with these numbers of vertices and edges,
+-- and begins so, is outside its format at that line by that kind; the text is that of the line, if
+-- there is one to show
 abbrev pub fault_text : (program name : List ℕ) → FileKind → (line : ℕ) → FaultKind → (beginning : Option (List ℕ)) → (sizes : Option (ℕ × ℕ)) → (text : Option (List ℕ)) → List ℕ
 fault_text program name role line kind beginning sizes text =
     what_text program name role line kind ++ (file_note role kind beginning sizes text ++ rest_text program line text)

@@ -1,5 +1,5 @@
--- What is added to the words of a fault: what the file is that begins so, the header that is due, the
--- limits, what else reads such a file, or what to write instead.
+-- What is added to the words of a fault: what the file is that begins so, the header that is due,
+-- the limits, what else reads such a file, or what to write instead.
 -- Stated by: front_words.
 use Rattle.std.specs.Prelude.{ℕ, List, ◌++◌, codes}
 use Rattle.std.specs.Fmt.{decimal}

@@ -1,5 +1,5 @@
--- What a text is that does not begin as it should: a file of another format, by its first bytes, and
--- what reads that.
+-- What a text is that does not begin as it should: a file of another format, by its first bytes,
+-- and what reads that.
 -- Stated by: front_words.
 use Rattle.std.specs.Prelude.{ℕ, List, [], ◌∷◌, nat_eq, Bool, codes, if◌then◌else◌}
 use Rattle.std.specs.List.{starts_with}

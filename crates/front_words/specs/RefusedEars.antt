@@ -1,5 +1,5 @@
--- What is said of a list that is not an ear decomposition: its first step with a fault, what is wrong
--- there, and what would be right.
+-- What is said of a list that is not an ear decomposition: its first step with a fault, what is
+-- wrong there, and what would be right.
 -- Stated by: front_words.
 use Rattle.std.specs.Prelude.{ℕ, ◌==◌, List, [], ◌++◌, codes, if◌then◌else◌}
 use Rattle.std.specs.Fmt.{decimal}

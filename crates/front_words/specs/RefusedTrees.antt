@@ -1,5 +1,5 @@
--- What is said of a tree that is not a tight cut decomposition: its first node with a fault, what is
--- wrong there, and what would be right.
+-- What is said of a tree that is not a tight cut decomposition: its first node with a fault, what
+-- is wrong there, and what would be right.
 -- Stated by: front_words.
 use Rattle.std.specs.Prelude.{ℕ, List, ◌++◌, codes}
 use Rattle.std.specs.Fmt.{decimal}

@@ -84,7 +84,8 @@ fn say_what<'a, K: Sink>(
     )
 }
 
-// Says the end of the line of a message, and the text of the line at fault, if there is one to show.
+// Says the end of the line of a message, and the text of the line at fault, if there is one to
+// show.
 fn say_rest<'a, K: Sink>(
     sink: &mut K,
     program: &'a str,

@@ -107,8 +107,8 @@ fn say_kind_note<K: Sink>(
 }
 
 /// Says what a file is that begins so, or if there is nothing to say what is added for the kind of
-/// its fault. The numbers are those of the vertices and the edges of the graph that the file is for,
-/// and the text is that of the line, if they are known. Takes no memory.
+/// its fault. The numbers are those of the vertices and the edges of the graph that the file is
+/// for, and the text is that of the line, if they are known. Takes no memory.
 pub fn say_note<K: Sink>(
     sink: &mut K,
     role: FileKind,

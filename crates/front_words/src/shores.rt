@@ -80,8 +80,8 @@ fn width(vertex: u32) -> u32
     }
 }
 
-// Says of so many vertices from `next` on those that the line does not name, at most `left` bytes of
-// them, whole numbers alone, and dots if there are more.
+// Says of so many vertices from `next` on those that the line does not name, at most `left` bytes
+// of them, whole numbers alone, and dots if there are more.
 fn say_others<K: Sink>(
     sink: &mut K,
     line: &[u8],
