@@ -5,10 +5,12 @@ pub mod NextStages
 pub mod EarTests
 pub mod Refusing
 pub mod Walking
+pub mod Straying
 pub mod FirstFaults
 pub mod EngineGraphs
 pub mod Settling
 pub mod Marking
+pub mod FaultPlaces
 pub mod Taking
 pub mod FirstStage
 pub mod Judging

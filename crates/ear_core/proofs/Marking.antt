@@ -12,7 +12,7 @@ pub marked-more : (items : List Bool) (old every : Set) (e : ℕ) (rest others :
 marked-more items old every e rest others begins below same i = grind (arith, marks-set items e i below)
 
 -- the tests look at the members of a list alone
-fault-same : (g : Graph) (f : Set) (xs ys ds : List ℕ) (v : ℕ) (es : List ℕ) → ((w : ℕ) → mem xs w ≡ mem ys w) → ear_fault g f xs ds v es ≡ ear_fault g f ys ds v es
+pub fault-same : (g : Graph) (f : Set) (xs ys ds : List ℕ) (v : ℕ) (es : List ℕ) → ((w : ℕ) → mem xs w ≡ mem ys w) → ear_fault g f xs ds v es ≡ ear_fault g f ys ds v es
 fault-same g f xs ys ds v es same =
     ap (λ b. if is_path g v es then (if has_odd_length es then (if has_good_ends g f v es then (if b then (if has_new_edges f ds es then None else Some edge_used) else Some inner_on_stage) else Some bad_ends) else Some even_length) else Some not_path)
     (ap (λ (m : Set). no_member (λ w. is_met g f w || m w) (inner_vertices g v es)) (fun_ext same))

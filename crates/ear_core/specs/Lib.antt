@@ -8,6 +8,7 @@ pub mod Refusals
 pub mod StageGraphs
 pub mod AlternatingEars
 pub mod Asking
+pub mod FaultPlaces
 pub mod TakenSteps
 pub mod LoneEars
 pub mod LoneTables

@@ -10,7 +10,7 @@ use crate::ears::{EarList, Step};
 use crate::faults::met_by;
 use crate::judgement::{EarJudgement, EarWhy};
 use crate::matched::MatchedStage;
-use crate::steps::take_step;
+use crate::steps::{first_marks, take_step};
 use graph_core::MultiGraph;
 use std::alloc::{AllocError as Memory, Global};
 
@@ -28,8 +28,7 @@ pub fn check_ears(alloc: Global, g: &MultiGraph, list: &EarList) -> Result<EarJu
         IsRefused g.now (ears_of list.now) step why) }
 {
     g.keeps_limits();
-    let mut mark = vec![in alloc; false; g.size() as usize + 1]?;
-    mark[list.start as usize] = true;
+    let mut mark = first_marks(alloc, g, list.start)?;
     let met = met_by(g, &mark);
     let mut stage = MatchedStage::of(alloc, g, &mark, met)?;
     check_steps(alloc, g, &mut mark, &mut stage, list.steps.as_slice())

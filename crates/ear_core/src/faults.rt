@@ -1,5 +1,6 @@
 //! The tests of an ear on a stage, by a row of marks.
 ghost use Rattle.std.specs.Prelude.{◌≡◌, ◌+◌, ◌<◌, ◌||◌, ◌&&◌, ◌==◌, ℕ, true, false, not, length, All, Some, None, IfOk, IfErr, List};
+ghost use Rattle.std.specs.List.{find};
 ghost use Rattle.counting.specs.Common.{Within, is_odd, mem};
 ghost use Rattle.graph_core.specs.Common.{size};
 ghost use Rattle.match_search.specs.Common.{marks};
@@ -41,19 +42,27 @@ fn holds(numbers: &[u32], n: u32) -> bool
     false
 }
 
+/// The first edge that is marked or among the used ones.
+pub fn first_used(mark: &[bool], used: &[u32], edges: &[u32]) -> Option<u32>
+    requires { All (λ e. e < length mark.now) edges.now }
+    ensures { result ≡ find (λ e. marks mark.now e || mem used.now e) edges.now }
+{
+    let mut rest = edges;
+    'edges: while let Some((e, others)) = rest.split_first() {
+        if mark[*e as usize] || holds(used, *e) {
+            return Some(*e);
+        }
+        rest = others;
+    }
+    None
+}
+
 // Whether no edge is marked or among the used ones.
 fn are_new(mark: &[bool], used: &[u32], edges: &[u32]) -> bool
     requires { All (λ e. e < length mark.now) edges.now }
     ensures { result ≡ has_new_edges (marks mark.now) used.now edges.now }
 {
-    let mut rest = edges;
-    'edges: while let Some((e, others)) = rest.split_first() {
-        if mark[*e as usize] || holds(used, *e) {
-            return false;
-        }
-        rest = others;
-    }
-    true
+    first_used(mark, used, edges).is_none()
 }
 
 // Whether two ends are in the set and differ.
@@ -103,7 +112,7 @@ pub fn tested(
         (λ p. (w : ℕ) → mem p.inner w ≡ mem (inner_vertices g.now ear.now.from ear.now.edges) w) }
 {
     g.keeps_limits();
-    let Some(path) = path_of(g, ear) else {
+    let Ok(path) = path_of(g, ear) else {
         return Err(EarWhy::NotPath);
     };
     if !is_odd(ear.edges.len()) {

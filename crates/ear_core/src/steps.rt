@@ -1,6 +1,6 @@
 //! A step of an ear list, taken on the row of marks of a stage.
 ghost use Rattle.std.specs.Prelude.{◌≡◌, ◌+◌, ◌<◌, ◌||◌, ℕ, true, length, All, Some, None, IfOk, IfSome, IfNone};
-ghost use Rattle.counting.specs.Common.{Set, Within, mem, none};
+ghost use Rattle.counting.specs.Common.{Set, Within, mem, none, singleton};
 ghost use Rattle.graph_core.specs.Common.{size};
 ghost use Rattle.match_search.specs.Common.{marks};
 ghost use Rattle.ear_core.specs.Common.{FitsStep, IsAsked, IsAskedBefore, IsStep, next_stage, step_fault, Settled, IsStage, IsTaken, step_of, why_of};
@@ -14,6 +14,18 @@ use crate::stages::least_refused;
 use graph_core::MultiGraph;
 use std::alloc::{AllocError as Memory, Global};
 use vset_core::VSet;
+
+/// The marks of the first stage, the edge `start`.
+pub fn first_marks(alloc: Global, g: &MultiGraph, start: u32) -> Result<Vec<bool>, Memory>
+    requires { Within (size g.now) start }
+    ensures long { IfOk result (λ mark. length mark.items ≡ size g.now + 1) }
+    ensures each { IfOk result (λ mark. (i : ℕ) → marks mark.items i ≡ singleton start i) }
+{
+    g.keeps_limits();
+    let mut mark = vec![in alloc; false; g.size() as usize + 1]?;
+    mark[start as usize] = true;
+    Ok(mark)
+}
 
 // The first test that a step fails on the stage of the marked edges.
 fn fault_of(g: &MultiGraph, mark: &[bool], step: &Step) -> Option<EarWhy>
