@@ -13,6 +13,7 @@ pub mod Marking
 pub mod FaultPlaces
 pub mod Taking
 pub mod FirstStage
+pub mod MarkedStages
 pub mod Judging
 pub mod RankedStages
 pub mod ServingEars

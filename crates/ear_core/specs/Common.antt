@@ -14,6 +14,7 @@ pub use Rattle.ear_core.specs.TakenSteps.{IsTaken}
 pub use Rattle.ear_core.specs.LoneEars.{barred, is_open, IsPerfectBy, LeadsAtTwo, LeadsOff}
 pub use Rattle.ear_core.specs.LoneTables.{in_rows, AreTables, reached}
 pub use Rattle.ear_core.specs.StagePartners.{ArePartnersOn, PairsAll}
+pub use Rattle.ear_core.specs.MarkedStages.{IsMarked}
 pub use Rattle.ear_core.specs.Building.{LeadTo, GoesOn, IsBuilt, IsFilled}
 pub use Rattle.ear_core.specs.MatchedStages.{NamesMatching, NamesPart, IsAskedBefore}
 pub use Rattle.ear_core.specs.StageRows.{HasClasses, AreSharedRows}

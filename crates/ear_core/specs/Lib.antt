@@ -13,6 +13,7 @@ pub mod TakenSteps
 pub mod LoneEars
 pub mod LoneTables
 pub mod StagePartners
+pub mod MarkedStages
 pub mod Building
 pub mod MatchedStages
 pub mod StageRows

@@ -55,6 +55,7 @@ mod judgement;
 pub mod laws;
 mod lone_ears;
 mod lone_tables;
+mod marked;
 mod matched;
 mod paths;
 mod stage;
@@ -63,7 +64,7 @@ mod steps;
 mod tracing;
 
 pub use building::{build_ears, build_ears_of};
-pub use checking::check_ears;
+pub use checking::{check_ears, check_ears_of};
 pub use ears::{Ear, EarList, Step, Steps};
 pub use fault_places::fault_place;
 pub use judgement::{EarJudgement, EarWhy};

@@ -1,0 +1,44 @@
+-- The vertices that a stage meets, as its edges are marked one by one.
+use Rattle.std.proofs.Common.{◌≡◌, ℕ, Bool, true, false, ◌==◌, ◌&&◌, ◌||◌, ◌∙◌, ap, arith, eq-eqb, eqb-true, refl, subst}
+use Rattle.std.proofs.Math.Path.{fun_ext}
+use Rattle.counting.proofs.Common.{and_from, and_parts, false_from_ne_true, or_cases, or_left, or_right, same_tests, some, some_true, true_some, true≢false, Within, Set, none}
+use Rattle.graph_core.proofs.Common.{Graph, size, first_end, second_end}
+use Rattle.ear_core.specs.Common.{is_met}
+use Rattle.ear_core.proofs.FirstFaults.{met-ends}
+
+-- v is an end of e
+abbrev at : Graph → ℕ → ℕ → Bool
+at g v e = first_end g e == v || second_end g e == v
+
+-- some edge of f is at v
+abbrev meets : Graph → Set → ℕ → ℕ → Bool
+meets g f v e = f e && at g v e
+
+-- no marks meet nothing
+pub nothing-met : (g : Graph) (f : Set) → ((i : ℕ) → f i ≡ false) → (v : ℕ) → is_met g f v ≡ false
+nothing-met g f blank v = false_from_ne_true (is_met g f v) (λ t.
+    let d = some_true (size g) (meets g f v) (met-ends g f v ∙ t) in
+    true≢false (sym_true d.0 (and_parts (f d.0) (at g v d.0) d.2).0))
+  where
+    sym_true : (d : ℕ) → f d ≡ true → true ≡ false
+    sym_true d t = grind (arith, blank d)
+
+-- an edge more meets its two ends too
+module _ (g : Graph) (f new : Set) (e : ℕ) (within : Within (size g) e) (same : (i : ℕ) → new i ≡ (f i || e == i)) (v : ℕ) where
+  older : is_met g new v ≡ true → (is_met g f v || at g v e) ≡ true
+  older t =
+      let d = some_true (size g) (meets g new v) (met-ends g new v ∙ t) in
+      let b = and_parts (new d.0) (at g v d.0) d.2 in
+      elim (or_cases (f d.0) (e == d.0) (subst (λ x. x ≡ true) (same d.0) b.0)) [
+        | inl h ↦ or_left (is_met g f v) (at g v e) (subst (λ x. x ≡ true) (met-ends g f v) (true_some (size g) (meets g f v) d.0 d.1 (and_from (f d.0) (at g v d.0) h b.1)))
+        | inr h ↦ or_right (is_met g f v) (at g v e) (subst (λ (x : ℕ). at g v x ≡ true) (back (eqb-true e d.0 h)) b.1)
+      ]
+    where
+      back : {a b : ℕ} → a ≡ b → b ≡ a
+      back {a} {b} p = grind arith
+
+  newer : (is_met g f v || at g v e) ≡ true → is_met g new v ≡ true
+  newer t = ?
+
+  pub more-met : is_met g new v ≡ (is_met g f v || at g v e)
+  more-met = same_tests (is_met g new v) (is_met g f v || at g v e) older newer
