@@ -1,0 +1,12 @@
+use Rattle.std.proofs.Common.{◌≡◌, ◌||◌, ◌∙◌, ap, not, Bool, Option, ℕ, arith}
+use Rattle.std.specs.Prelude.{is_none, is_some}
+use Rattle.counting.proofs.Common.{mem}
+use Rattle.match_search.specs.Common.{marks}
+use Rattle.ear_core.proofs.FaultPlaces.{none-found}
+use Rattle.ear_core.proofs.faults.are_new.Goals as goal
+
+none-or-some : (o : Option ℕ) (b : Bool) → is_some o ≡ not b → b ≡ is_none o
+none-or-some o b h = grind arith
+
+pub returns : goal.returns
+returns c = none-or-some c.first_used.result c.is_none.result c.is_none.ensures ∙ ap is_none c.first_used.ensures ∙ none-found (λ e. marks c.args.mark.now e || mem c.args.used.now e) c.args.edges.now
