@@ -11,6 +11,7 @@ pub mod EngineGraphs
 pub mod Settling
 pub mod Marking
 pub mod FaultPlaces
+pub mod FaultEdges
 pub mod Taking
 pub mod FirstStage
 pub mod MarkedStages
