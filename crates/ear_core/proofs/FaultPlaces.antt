@@ -67,15 +67,3 @@ module _ (g : Graph) (f : Set) (a b : PlainEar) (inner used : List ℕ) (passes 
 
   pub at-neither : ear_fault g f inner used b.begin b.edges ≡ None → nowhere ≡ place_of_two g f a b
   at-neither second = rw (passes, sym fault-second ∙ second) refl
-
--- of the steps that are left the first one is meant, or a later one
-pub place-here : (g : Graph) (f : Set) (s : PlainStep) (k : ℕ) (rest others : List PlainStep) → rest ≡ s ∷ others → k ≡ 1 → place_from g f rest k ≡ place_in_step g f s
-place-here g f s k rest others begins is = ap (λ steps. place_from g f steps k) begins ∙ rw (eq-eqb k 1 is) refl
-
-pub place-behind : (g : Graph) (f new : Set) (s : PlainStep) (k : ℕ) (rest others : List PlainStep) → rest ≡ s ∷ others → k ≢ 1 → ((i : ℕ) → new i ≡ next_stage f s i) → place_from g f rest k ≡ place_from g new others (k - 1)
-place-behind g f new s k rest others begins not same =
-    ap (λ steps. place_from g f steps k) begins ∙ rw (ne_eqb k 1 not) (ap (λ h. place_from g h others (k - 1)) (sym (fun_ext same)))
-
-pub place-nowhere : (g : Graph) (f : Set) (k : ℕ) (rest : List Step) → length rest ≡ 0 → place_from g f (map step_of rest) k ≡ nowhere
-place-nowhere g f k [] short = refl
-place-nowhere g f k (s ∷ rest) short = absurd (omega arith)

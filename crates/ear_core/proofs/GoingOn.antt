@@ -1,5 +1,5 @@
 -- What the builder has made goes on by a step, and by the edges between partners.
-use Rattle.std.proofs.Common.{◌≡◌, ℕ, ◌+◌, ◌≤◌, ◌==◌, eq-eqb, true, Result, OnOk, ◌++◌, ◌∷◌, [], List, arith, ap, length, map, sym, subst, refl, false, ◌∙◌}
+use Rattle.std.proofs.Common.{◌≡◌, ℕ, ◌+◌, ◌≤◌, ◌==◌, eq-eqb, true, Result, OnOk, ◌++◌, ◌∷◌, [], List, arith, ap, map, sym, subst, refl, false, ◌∙◌}
 use Rattle.std.proofs.Math.Path.{fun_ext}
 use Rattle.counting.proofs.Common.{or_left, or_right, count_complement, count_more, Within, complement, count, mem, Set}
 use Rattle.graph_core.proofs.Common.{Graph, IsGraph, first_end, second_end, size}

@@ -12,15 +12,15 @@ use Rattle.ear_core.specs.Ears.{other_end}
 use Rattle.ear_core.specs.EarLists.{PlainEar, PlainStep, one, two, PlainEars, next_stage}
 use Rattle.ear_core.specs.EarTests.{PlainWhy, not_path, even_length, bad_ends, inner_on_stage, edge_used, stage_not_covered, ends_early, follows, inner_vertices, is_empty, ear_fault}
 
--- the edges es lead on from v, of a walk that began at u and has passed the vertices x: the first
--- that is no edge at the vertex reached, or leads to a passed vertex, or back to u before the end
+-- a walk that began at u has passed the vertices x and is at v: of the edges es that follow, the
+-- first that is not at the vertex reached, or leads to a passed vertex, or back to u before the end
 abbrev pub astray : Graph → ℕ → Set → ℕ → List ℕ → Option ℕ
 astray g u x v [] = None
 astray g u x v (e ∷ es) =
     if follows g v (e ∷ []) && not (x (other_end g e v) || (other_end g e v == u && not (is_empty es))) then astray g u (union x (singleton (other_end g e v))) (other_end g e v) es else Some e
 
--- the edge at an end that is no vertex of the stage f, or that is both ends: the first edge if the
--- first vertex is off f, else the last
+-- the edge at the end that is wrong: the first edge if the first vertex is off the stage f, else
+-- the last edge
 abbrev pub wrong_end : Graph → Set → ℕ → List ℕ → Option ℕ
 wrong_end g f v es = if is_met g f v then slice_get es (length es - 1) else slice_get es 0
 

@@ -65,8 +65,8 @@ pub fn build_ears_of(alloc: Global, c: &Covered) -> Result<EarList, Memory>
     Ok(EarList { start: 1, steps })
 }
 
-// Steps from the stage that is marked to all edges. The stage holds the mates of its vertices by the
-// kept matching.
+// Steps from the stage that is marked to all edges. The stage holds the mates of its vertices by
+// the kept matching.
 fn steps_from(alloc: Global, c: &Covered, marked: Marked, kept: &Matching) -> Result<Steps, Memory>
     requires marked { IsMarked c.now marked }
     requires stage { IsStage c.now (marks marked.mark.items) }
@@ -155,7 +155,9 @@ fn leaving_edge(g: &MultiGraph, marked: &Marked) -> Option<u32>
     for k in 0..g.size() {
         let e = k + 1;
         let ends = g.ends(e);
-        if !marked.mark[e as usize] && (marked.met.contains(ends.a) || marked.met.contains(ends.b)) {
+        if !marked.mark[e as usize]
+            && (marked.met.contains(ends.a) || marked.met.contains(ends.b))
+        {
             return Some(e);
         }
     }

@@ -30,7 +30,8 @@ pub fn check_ears(alloc: Global, g: &MultiGraph, list: &EarList) -> Result<EarJu
     check_list(alloc, g, false, list)
 }
 
-/// The same of a covered graph. The last stage is then known to be covered: no edge of it is asked.
+/// The judgement of `check_ears`, on a list of a covered graph. The stage of all its edges is known
+/// to be covered, so that no edge of that stage is asked and no matching of it is made.
 pub fn check_ears_of(alloc: Global, c: &Covered, list: &EarList) -> Result<EarJudgement, Memory>
     requires { FitsEars c.now.order (size c.now) (ears_of list.now) }
     ensures accepted { IfOk result
@@ -61,7 +62,8 @@ fn check_list(
     g.keeps_limits();
     let mut marked = Marked::one(alloc, g, list.start)?;
     let mut stage = MatchedStage::of(alloc, g, &marked.mark, marked.met)?;
-    check_steps(alloc, g, covered, &mut marked, &mut stage, list.steps.as_slice())
+    let steps = list.steps.as_slice();
+    check_steps(alloc, g, covered, &mut marked, &mut stage, steps)
 }
 
 // What is returned for steps from the stage that is marked.

@@ -17,9 +17,9 @@ use refusals::{EarOfTwo, EarPlace};
 use std::alloc::{AllocError as Memory, Global};
 use vset_core::{MOST_VERTICES, VSet};
 
-/// Where the fault of a step of `list` shows, counted from 1: at which of two ears, and at which
-/// edge of it first. It is nowhere if no ear of the step is at fault. Takes the time of a pass over
-/// the edges, and memory for their marks.
+/// Where the fault of a step of `list` shows: at which of its two ears, and at which edge of that
+/// ear first. Steps are counted from 1. If no ear of the step is at fault, the place names neither.
+/// No matching is made. `Memory` is lack of memory alone, for the marks of the edges.
 pub fn fault_place(
     alloc: Global,
     g: &MultiGraph,
@@ -38,7 +38,8 @@ pub fn fault_place(
 fn place_from(g: &MultiGraph, marked: &mut Marked, steps: &[Step], number: u32) -> EarPlace
     requires marked { IsMarked g.now marked.old }
     requires fits { AllByRecursion (FitsStep g.now.order (size g.now)) (map step_of steps.now) }
-    ensures { result ≡ place_from g.now (marks marked.old.mark.items) (map step_of steps.now) number }
+    ensures { result ≡
+        place_from g.now (marks marked.old.mark.items) (map step_of steps.now) number }
 {
     g.keeps_limits();
     let mut left = number;

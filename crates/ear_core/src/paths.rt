@@ -33,8 +33,8 @@ fn other_end(g: &MultiGraph, e: u32, v: u32) -> Option<u32>
     }
 }
 
-/// The path that an ear is, its last vertex perhaps equal to its first. If the ear is not a path, the
-/// first edge that goes astray; `None` if it has no edges.
+/// The path that an ear is, its last vertex perhaps equal to its first. If the ear is not a path,
+/// the first edge that goes astray; `None` if it has no edges.
 pub fn path_of(g: &MultiGraph, ear: &Ear) -> Result<EarPath, Option<u32>>
     requires begin { Within g.now.order ear.now.from }
     requires edges { All (Within (size g.now)) ear.now.edges }

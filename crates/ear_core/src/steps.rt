@@ -127,8 +127,8 @@ fn is_known(
 
 /// Takes a step on the stage that is marked: then its edges are marked too, or it is refused, with
 /// the reason. A single ear between partners on an earlier stage is not asked further, nor is the
-/// stage of all edges of a graph that is known to be covered; else the stage after the step is asked
-/// edge by edge, and is the one that is known from then on.
+/// stage of all edges of a graph that is known to be covered. Any other stage after the step is
+/// asked edge by edge, and is the one that is known from then on.
 pub fn take_step(
     alloc: Global,
     g: &MultiGraph,

@@ -9,8 +9,8 @@ check_steps-requires-clause-stage c = one-stage c.args.g.now c.keeps_limits.ensu
 
 pub returns-clause-accepted : goal.returns-clause-accepted
 returns-clause-accepted c =
-    judged-accepted c.args.g.now c.keeps_limits.ensures.multigraph _ (ears_of c.args.list.now) c.requires.fits.start c.in_ok-marked.ensures.each (map step_of c.as_slice.result.now) (ap (map step_of) c.as_slice.ensures) c.check_steps.result c.check_steps.ensures
+    judged-accepted c.args.g.now c.keeps_limits.ensures.multigraph _ (ears_of c.args.list.now) c.requires.fits.start c.in_ok-marked.ensures.each (map step_of c.as_slice-steps.result.now) (ap (map step_of) c.as_slice-steps.ensures) c.check_steps.result c.check_steps.ensures
 
 pub returns-clause-refused : goal.returns-clause-refused
 returns-clause-refused c =
-    judged-refused c.args.g.now c.keeps_limits.ensures.multigraph _ (ears_of c.args.list.now) c.requires.fits.start c.in_ok-marked.ensures.each (map step_of c.as_slice.result.now) (ap (map step_of) c.as_slice.ensures) c.check_steps.result c.check_steps.ensures
+    judged-refused c.args.g.now c.keeps_limits.ensures.multigraph _ (ears_of c.args.list.now) c.requires.fits.start c.in_ok-marked.ensures.each (map step_of c.as_slice-steps.result.now) (ap (map step_of) c.as_slice-steps.ensures) c.check_steps.result c.check_steps.ensures

@@ -1,4 +1,4 @@
-use Rattle.std.proofs.Common.{◌≡◌, ◌+◌, ◌≤◌, ℕ, length, map, Option}
+use Rattle.std.proofs.Common.{◌+◌, ◌≤◌, ℕ, length, map, Option}
 use Rattle.counting.proofs.Common.{AllByRecursion, count}
 use Rattle.graph_core.proofs.Common.{size}
 use Rattle.match_search.specs.Common.{marks}

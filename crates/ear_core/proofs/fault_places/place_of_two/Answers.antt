@@ -1,4 +1,4 @@
-use Rattle.std.proofs.Common.{rules, sym, ◌∙◌}
+use Rattle.std.proofs.Common.{rules, ◌∙◌}
 use Rattle.match_search.specs.Common.{marks}
 use Rattle.ear_core.specs.Common.{ear_of}
 use Rattle.ear_core.proofs.FaultPlaces.{at-first, at-neither, at-second}

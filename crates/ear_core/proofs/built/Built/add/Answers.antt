@@ -1,9 +1,7 @@
 use Rattle.std.proofs.Common.{◌∙◌, ap, map}
 use Rattle.counting.proofs.Common.{map-append}
-use Rattle.graph_core.proofs.Common.{size}
 use Rattle.ear_core.specs.Common.{step_of}
 use Rattle.ear_core.proofs.GoingOn.{built-on, on-ok}
-use Rattle.ear_core.proofs.Taking.{second_fits}
 use Rattle.ear_core.proofs.built.Built.add.Goals as goal
 
 pub returns-clause-built : goal.returns-clause-built

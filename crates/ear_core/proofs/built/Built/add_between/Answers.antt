@@ -1,4 +1,4 @@
-use Rattle.std.proofs.Common.{◌∙◌, arith}
+use Rattle.std.proofs.Common.{arith}
 use Rattle.match_search.specs.Common.{marks}
 use Rattle.ear_core.proofs.GoingOn.{filled-first}
 use Rattle.ear_core.proofs.built.Built.add_between.Goals as goal

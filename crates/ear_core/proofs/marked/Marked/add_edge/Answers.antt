@@ -1,10 +1,7 @@
-use Rattle.std.proofs.Common.{rules, ◌≡◌, ◌||◌, ◌==◌, ℕ, arith}
-use Rattle.counting.proofs.Common.{mem}
-use Rattle.graph_core.proofs.Common.{first_end, second_end}
+use Rattle.std.proofs.Common.{rules}
 use Rattle.match_search.specs.Common.{marks}
 use Rattle.allowed_edges.proofs.Marking.{length-marked, marks-set}
-use Rattle.ear_core.specs.Common.{is_met}
-use Rattle.ear_core.proofs.MarkedStages.{ends-added, more-met}
+use Rattle.ear_core.proofs.MarkedStages.{ends-added}
 use Rattle.ear_core.proofs.marked.Marked.add_edge.Goals as goal
 
 pub returns-clause-marked : goal.returns-clause-marked
