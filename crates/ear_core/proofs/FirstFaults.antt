@@ -46,10 +46,6 @@ free-length inner taken (x ∷ common) is =
     let b = and_parts (mem inner x) (mem taken x) (sym (is x) ∙ or_left (x == x) (mem common x) (eq-eqb x x refl)) in
     ne_eqb (length (x ∷ common)) 0 (λ z. absurd (omega arith)) ∙ sym (false_from_ne_true (no_member (mem taken) inner) (λ h. both_ways (mem taken x) (no_member_at (mem taken) inner h x b.0) b.1))
 
--- the edges that are left
-pub new-behind : (f : Set) (ds : List ℕ) (e : ℕ) (rest others : List ℕ) → rest ≡ e ∷ others → f e ≡ false → mem ds e ≡ false → has_new_edges f ds rest ≡ has_new_edges f ds others
-new-behind f ds e rest others begins h k = ap (has_new_edges f ds) begins ∙ rw (h, k) refl
-
 -- what holds of all items holds of the first one, and of those after it
 pub first-item : (P : ℕ → Type 0) (e : ℕ) (rest others : List ℕ) → rest ≡ e ∷ others → All P rest → P e
 first-item P e rest others begins all = subst (All P) begins all 0 0 (omega arith)

@@ -1,5 +1,5 @@
 -- What the builder has made goes on by a step, and by the edges between partners.
-use Rattle.std.proofs.Common.{◌≡◌, ℕ, ◌+◌, ◌≤◌, ◌==◌, eq-eqb, true, Result, OnOk, ◌++◌, ◌∷◌, [], List, arith, ap, length, map, sym, subst, refl, false, ◌∙◌}
+use Rattle.std.proofs.Common.{◌≡◌, ℕ, ◌+◌, ◌≤◌, ◌==◌, eq-eqb, true, Result, OnOk, ◌++◌, ◌∷◌, [], List, arith, ap, map, sym, subst, refl, false, ◌∙◌}
 use Rattle.std.proofs.Math.Path.{fun_ext}
 use Rattle.counting.proofs.Common.{or_left, or_right, count_complement, count_more, Within, complement, count, mem, Set}
 use Rattle.graph_core.proofs.Common.{Graph, IsGraph, first_end, second_end, size}
@@ -8,7 +8,7 @@ use Rattle.ear_core.proofs.NeededPairs.{each-go_on}
 use Rattle.ear_core.proofs.Searching.{all-edges}
 use Rattle.ear_core.proofs.StagePartners.{edge-ear, edge-goes, edge-met, step-partners}
 use Rattle.ear_core.proofs.Stepping.{all-single, mates-there, stage-there, steps-go_on}
-use Rattle.ear_core.specs.Common.{ArePartnersOn, FitsStep, GoesOn, IsBuilt, IsFilled, IsForced, IsNeeded, LeadTo, PlainStep, is_met, next_stage, one, step_of}
+use Rattle.ear_core.specs.Common.{ArePartnersOn, FitsStep, GoesOn, IsBuilt, IsFilled, IsForced, IsMarked, IsNeeded, LeadTo, PlainStep, is_met, next_stage, one, step_of}
 use Rattle.ear_core.specs.declared.built.Built.{Built}
 
 -- one step more leads to the next stage
@@ -20,42 +20,42 @@ leads-on g n first f new before after s leads goes same pushed = subst (LeadTo g
   single = λ sides. all-single before s (leads.single sides) (goes.single sides);
 })
 
-pub built-on : (g : Graph) (n : ℕ → ℕ) (first : Set) (old new : Built) (s : PlainStep) → IsBuilt g n first old → GoesOn g n (marks old.mark.items) s → length new.mark.items ≡ length old.mark.items → ((i : ℕ) → marks new.mark.items i ≡ next_stage (marks old.mark.items) s i) →
+pub built-on : (g : Graph) (n : ℕ → ℕ) (first : Set) (old new : Built) (s : PlainStep) → IsBuilt g n first old → GoesOn g n (marks old.marked.mark.items) s → IsMarked g new.marked → ((i : ℕ) → marks new.marked.mark.items i ≡ next_stage (marks old.marked.mark.items) s i) →
     map step_of new.steps ≡ map step_of old.steps ++ s ∷ [] → IsBuilt g n first new
-built-on g n first old new s built goes long same pushed = record {
-  long = long ∙ built.long;
-  stage = stage-there g (marks old.mark.items) (marks new.mark.items) s same goes.stage;
-  mates = mates-there g (marks old.mark.items) (marks new.mark.items) s same n goes.mates;
-  leads = leads-on g n first (marks old.mark.items) (marks new.mark.items) (map step_of old.steps) (map step_of new.steps) s built.leads goes same pushed;
+built-on g n first old new s built goes marked same pushed = record {
+  marked = marked;
+  stage = stage-there g (marks old.marked.mark.items) (marks new.marked.mark.items) s same goes.stage;
+  mates = mates-there g (marks old.marked.mark.items) (marks new.marked.mark.items) s same n goes.mates;
+  leads = leads-on g n first (marks old.marked.mark.items) (marks new.marked.mark.items) (map step_of old.steps) (map step_of new.steps) s built.leads goes same pushed;
 }
 
 -- an edge between two partners on the stage f is added
-module _ (g : Graph) (is : IsGraph g) (old new : Built) (e : ℕ) (we : Within (size g) e) (s : PlainStep) (edge : s ≡ one (record { begin = first_end g e; edges = e ∷ [] })) (same : (i : ℕ) → marks new.mark.items i ≡ next_stage (marks old.mark.items) s i) where
-  added : (i : ℕ) → marks new.mark.items i ≡ next_stage (marks old.mark.items) (one (record { begin = first_end g e; edges = e ∷ [] })) i
-  added = subst (λ (t : PlainStep). (i : ℕ) → marks new.mark.items i ≡ next_stage (marks old.mark.items) t i) edge same
+module _ (g : Graph) (is : IsGraph g) (old new : Built) (e : ℕ) (we : Within (size g) e) (s : PlainStep) (edge : s ≡ one (record { begin = first_end g e; edges = e ∷ [] })) (same : (i : ℕ) → marks new.marked.mark.items i ≡ next_stage (marks old.marked.mark.items) s i) where
+  added : (i : ℕ) → marks new.marked.mark.items i ≡ next_stage (marks old.marked.mark.items) (one (record { begin = first_end g e; edges = e ∷ [] })) i
+  added = subst (λ (t : PlainStep). (i : ℕ) → marks new.marked.mark.items i ≡ next_stage (marks old.marked.mark.items) t i) edge same
 
-  pub filled-on : ((n : ℕ → ℕ) (first : Set) → IsBuilt g n first old → GoesOn g n (marks old.mark.items) s → IsBuilt g n first new) →
-      (n : ℕ → ℕ) (first f : Set) → IsFilled g n first f old → marks old.mark.items e ≡ false → ArePartnersOn g f (first_end g e) (second_end g e) → IsFilled g n first f new
+  pub filled-on : ((n : ℕ → ℕ) (first : Set) → IsBuilt g n first old → GoesOn g n (marks old.marked.mark.items) s → IsBuilt g n first new) →
+      (n : ℕ → ℕ) (first f : Set) → IsFilled g n first f old → marks old.marked.mark.items e ≡ false → ArePartnersOn g f (first_end g e) (second_end g e) → IsFilled g n first f new
   filled-on add n first f filled off joins =
-      let carried : (u v : ℕ) → ArePartnersOn g f u v → ArePartnersOn g (marks old.mark.items) u v = λ u v p. (p.0, filled.met u ∙ p.1, filled.met v ∙ p.2, filled.partners u v p) in
+      let carried : (u v : ℕ) → ArePartnersOn g f u v → ArePartnersOn g (marks old.marked.mark.items) u v = λ u v p. (p.0, filled.met u ∙ p.1, filled.met v ∙ p.2, filled.partners u v p) in
       let here = carried (first_end g e) (second_end g e) joins in
-      let ear = edge-ear g is (marks old.mark.items) e we off here in
+      let ear = edge-ear g is (marks old.marked.mark.items) e we off here in
       record {
-        built = add n first filled.built (subst (GoesOn g n (marks old.mark.items)) (sym edge) (edge-goes g is (marks old.mark.items) e we off here n filled.built.stage filled.built.mates));
-        met = λ v. ap (λ (k : Set). is_met g k v) (fun_ext added) ∙ edge-met g is (marks old.mark.items) e we off here v ∙ filled.met v;
-        partners = λ u v p. (subst (λ (k : Set). ArePartnersOn g k u v) (sym (fun_ext added)) (step-partners g (marks old.mark.items) (one (record { begin = first_end g e; edges = e ∷ [] })) ear u v (carried u v p))).3;
+        built = add n first filled.built (subst (GoesOn g n (marks old.marked.mark.items)) (sym edge) (edge-goes g is (marks old.marked.mark.items) e we off here n filled.built.stage filled.built.mates));
+        met = λ v. ap (λ (k : Set). is_met g k v) (fun_ext added) ∙ edge-met g is (marks old.marked.mark.items) e we off here v ∙ filled.met v;
+        partners = λ u v p. (subst (λ (k : Set). ArePartnersOn g k u v) (sym (fun_ext added)) (step-partners g (marks old.marked.mark.items) (one (record { begin = first_end g e; edges = e ∷ [] })) ear u v (carried u v p))).3;
       }
 
   -- and one edge less is left
-  pub fewer-left : marks old.mark.items e ≡ false → count (size g) (complement (marks new.mark.items)) + 1 ≤ count (size g) (complement (marks old.mark.items))
+  pub fewer-left : marks old.marked.mark.items e ≡ false → count (size g) (complement (marks new.marked.mark.items)) + 1 ≤ count (size g) (complement (marks old.marked.mark.items))
   fewer-left off =
-      let own = or_right (marks old.mark.items e) (mem (e ∷ []) e) (or_left (e == e) false (eq-eqb e e refl)) in
-      let a = count_more (size g) (marks old.mark.items) (marks new.mark.items) (λ v t. added v ∙ or_left (marks old.mark.items v) (mem (e ∷ []) v) t) e we off (added e ∙ own) in
-      let b = count_complement (size g) (marks old.mark.items) in
-      let c = count_complement (size g) (marks new.mark.items) in omega arith
+      let own = or_right (marks old.marked.mark.items e) (mem (e ∷ []) e) (or_left (e == e) false (eq-eqb e e refl)) in
+      let a = count_more (size g) (marks old.marked.mark.items) (marks new.marked.mark.items) (λ v t. added v ∙ or_left (marks old.marked.mark.items v) (mem (e ∷ []) v) t) e we off (added e ∙ own) in
+      let b = count_complement (size g) (marks old.marked.mark.items) in
+      let c = count_complement (size g) (marks new.marked.mark.items) in omega arith
 
 -- at first nothing is added
-pub filled-first : (g : Graph) (n : ℕ → ℕ) (first : Set) (b : Built) → IsBuilt g n first b → IsFilled g n first (marks b.mark.items) b
+pub filled-first : (g : Graph) (n : ℕ → ℕ) (first : Set) (b : Built) → IsBuilt g n first b → IsFilled g n first (marks b.marked.mark.items) b
 filled-first g n first b built = record { built = built; met = λ v. refl; partners = λ u v p. p.3 }
 
 -- the numbers of the step are in range

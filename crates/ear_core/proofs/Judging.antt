@@ -56,9 +56,6 @@ module _ (g : Graph) (is : IsMultigraph g) (f : Set) (list : PlainEars) (start :
     judged-refused = IfOk-weaker result (λ judgement. IsJudged g f 0 steps (refusal_of judgement)) (λ judgement. (step : ℕ) (why : PlainWhy) → (refusal_of judgement ≡ Some (step, why)) ↔ IsRefused g list step why)
         (λ judgement x. refuses (refusal_of judgement) (of-list (refusal_of judgement) x)) judged
 
--- one edge is marked
-pub one-marked : (items : List Bool) (n e : ℕ) → items ≡ replicate n false → e < length items → (i : ℕ) → marks (slice_set items e true) i ≡ singleton e i
-one-marked items n e blanks less i = marks-set items e i less ∙ ap (λ b. b || (e == i)) (ap (λ (xs : List Bool). marks xs i) blanks ∙ no-marks n i)
-
+-- where one edge is marked, it is a stage
 pub one-stage : (g : Graph) → IsMultigraph g → (f : Set) (e : ℕ) → Within (size g) e → ((i : ℕ) → f i ≡ singleton e i) → IsStage g f
 one-stage g is f e w same = subst (IsStage g) (sym (fun_ext same)) (first-stage g is e w)

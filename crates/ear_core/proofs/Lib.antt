@@ -5,12 +5,16 @@ pub mod NextStages
 pub mod EarTests
 pub mod Refusing
 pub mod Walking
+pub mod Straying
 pub mod FirstFaults
 pub mod EngineGraphs
 pub mod Settling
 pub mod Marking
+pub mod FaultPlaces
+pub mod FaultEdges
 pub mod Taking
 pub mod FirstStage
+pub mod MarkedStages
 pub mod Judging
 pub mod RankedStages
 pub mod ServingEars

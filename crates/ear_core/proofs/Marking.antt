@@ -7,12 +7,8 @@ use Rattle.match_search.specs.Common.{marks}
 use Rattle.allowed_edges.proofs.Marking.{marks-set}
 use Rattle.ear_core.specs.Common.{PlainEar, two, PlainWhy, not_path, even_length, bad_ends, inner_on_stage, edge_used, is_path, has_odd_length, has_good_ends, has_new_edges, ear_fault, inner_vertices, no_member, step_fault, is_met}
 
--- one more is marked, and one less is left
-pub marked-more : (items : List Bool) (old every : Set) (e : ℕ) (rest others : List ℕ) → rest ≡ e ∷ others → e < length items → ((i : ℕ) → (marks items i || mem rest i) ≡ (old i || every i)) → (i : ℕ) → (marks (slice_set items e true) i || mem others i) ≡ (old i || every i)
-marked-more items old every e rest others begins below same i = grind (arith, marks-set items e i below)
-
 -- the tests look at the members of a list alone
-fault-same : (g : Graph) (f : Set) (xs ys ds : List ℕ) (v : ℕ) (es : List ℕ) → ((w : ℕ) → mem xs w ≡ mem ys w) → ear_fault g f xs ds v es ≡ ear_fault g f ys ds v es
+pub fault-same : (g : Graph) (f : Set) (xs ys ds : List ℕ) (v : ℕ) (es : List ℕ) → ((w : ℕ) → mem xs w ≡ mem ys w) → ear_fault g f xs ds v es ≡ ear_fault g f ys ds v es
 fault-same g f xs ys ds v es same =
     ap (λ b. if is_path g v es then (if has_odd_length es then (if has_good_ends g f v es then (if b then (if has_new_edges f ds es then None else Some edge_used) else Some inner_on_stage) else Some bad_ends) else Some even_length) else Some not_path)
     (ap (λ (m : Set). no_member (λ w. is_met g f w || m w) (inner_vertices g v es)) (fun_ext same))
@@ -20,7 +16,3 @@ fault-same g f xs ys ds v es same =
 -- a step of two ears, the first of which passes
 pub pair-fault : (g : Graph) (f : Set) (a b : PlainEar) (inner used : List ℕ) (fault : Option PlainWhy) → ear_fault g f [] [] a.begin a.edges ≡ None → ((w : ℕ) → mem inner w ≡ mem (inner_vertices g a.begin a.edges) w) → used ≡ a.edges → ear_fault g f inner used b.begin b.edges ≡ fault → step_fault g f (two a b) ≡ fault
 pair-fault g f a b inner used fault passes same is second = grind (arith, fault-same g f inner (inner_vertices g a.begin a.edges) a.edges b.begin b.edges same)
-
--- edges in range have places in a row of marks
-pub below_marks : (m n : ℕ) (es : List ℕ) → n ≡ m + 1 → All (Within m) es → All (λ e. e < n) es
-below_marks m n es long within k d less = let w = within k d less in omega arith

@@ -10,7 +10,7 @@ use Rattle.ear_core.proofs.NextStages.{nearly, met-within, second_ear}
 use Rattle.ear_core.proofs.EarTests.{first_passes, second_passes}
 
 -- the first test that fails
-abbrev which : Bool → Bool → Bool → Bool → Bool → Option PlainWhy
+abbrev pub which : Bool → Bool → Bool → Bool → Bool → Option PlainWhy
 which b1 b2 b3 b4 b5 = if b1 then (if b2 then (if b3 then (if b4 then (if b5 then None else Some edge_used) else Some inner_on_stage) else Some bad_ends) else Some even_length) else Some not_path
 
 abbrev is_none : Option PlainWhy → Bool

@@ -45,7 +45,7 @@ no_member-more u w x (y ∷ xs) = split (y == u) (x y) (w == y) (y == w) (no_mem
 abbrev pub joins : Graph → ℕ → ℕ → Bool
 joins g e v = first_end g e == v || second_end g e == v
 
-in_range : (g : Graph) (e : ℕ) → Within (size g) e → (nat_le 1 e && nat_le e (size g)) ≡ true
+pub in_range : (g : Graph) (e : ℕ) → Within (size g) e → (nat_le 1 e && nat_le e (size g)) ≡ true
 in_range g e w = ap₂ ◌&&◌ (le-leb 1 e w.0) (le-leb e (size g) w.1)
 
 pub all-behind : (n e : ℕ) (es : List ℕ) → All (Within n) (e ∷ es) → All (Within n) es

@@ -30,14 +30,14 @@ module _ (g : Graph) (f : Set) (edges : HoldsEdges g f) where
           (m.0, record { once = λ v wv outside. m.1.once v wv (vertices v wv); away = λ v wv removed. absurd (true≢false (sym removed)) }, m.2);
     }
 
-    pub covered-stage : IsCovered g → IsStage g f
-    unfolding Joined
-    covered-stage covered = record {
-      some_edge = let w = covered-edge g is covered in (1, w, edges 1 w);
-      connected = λ u v wu wv tu tv. let walk = covered.connected u v wu wv in (walk.0, walk-of_stage u walk.0 v walk.1);
-      allowed = λ e w held. let m = covered-allowed g is covered e w in
-          (m.0, record { part = λ d wd h. edges d wd; once = λ v wv met. m.1.once v wv refl }, m.2);
-    }
+  pub covered-stage : IsMultigraph g → IsCovered g → IsStage g f
+  unfolding Joined
+  covered-stage is covered = record {
+    some_edge = let w = covered-edge g is covered in (1, w, edges 1 w);
+    connected = λ u v wu wv tu tv. let walk = covered.connected u v wu wv in (walk.0, walk-of_stage u walk.0 v walk.1);
+    allowed = λ e w held. let m = covered-allowed g is covered e w in
+        (m.0, record { part = λ d wd h. edges d wd; once = λ v wv met. m.1.once v wv refl }, m.2);
+  }
 
 -- steps lead to a stage of all edges
 last-stage : (g : Graph) (f : Set) (steps : List PlainStep) → IsStage g f → AreSteps g f steps → (l : Set) × IsStage g l × HoldsEdges g l

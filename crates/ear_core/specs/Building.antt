@@ -1,12 +1,13 @@
 -- What the builder of ear lists has made: the marks of a stage and the steps that led to it.
 -- Stated by: ear_core.
-use Rattle.std.specs.Prelude.{◌≡◌, ◌+◌, ◌++◌, ℕ, List, length, map}
+use Rattle.std.specs.Prelude.{◌≡◌, ◌++◌, ℕ, List, map}
 use Rattle.std.specs.List.{AllByRecursion}
 use Rattle.counting.specs.Common.{Set, pair_set}
-use Rattle.graph_core.specs.Common.{Graph, IsBipartite, size}
+use Rattle.graph_core.specs.Common.{Graph, IsBipartite}
 use Rattle.match_search.specs.Common.{marks}
 use Rattle.ear_core.specs.AlternatingEars.{KeepsMates, Serves}
 use Rattle.ear_core.specs.EarLists.{AreForced, AreNeeded, AreSteps, IsForced, IsNeeded, IsSingle, IsStep, PlainStep, next_stage}
+use Rattle.ear_core.specs.MarkedStages.{IsMarked}
 use Rattle.ear_core.specs.StagePartners.{ArePartnersOn}
 use Rattle.ear_core.specs.Stages.{IsStage, is_met}
 use Rattle.ear_core.specs.View.{step_of}
@@ -33,13 +34,13 @@ pub record GoesOn (g : Graph) (n : ℕ → ℕ) (f : Set) (s : PlainStep) : Type
 
 -- the marks are those of a stage that holds the mates of its vertices, and the steps lead to it
 pub record IsBuilt (g : Graph) (n : ℕ → ℕ) (first : Set) (b : Built) : Type 0 where
-  pub long : length b.mark.items ≡ size g + 1
-  pub stage : IsStage g (marks b.mark.items)
-  pub mates : KeepsMates g n (is_met g (marks b.mark.items))
-  pub leads : LeadTo g first (marks b.mark.items) (map step_of b.steps)
+  pub marked : IsMarked g b.marked
+  pub stage : IsStage g (marks b.marked.mark.items)
+  pub mates : KeepsMates g n (is_met g (marks b.marked.mark.items))
+  pub leads : LeadTo g first (marks b.marked.mark.items) (map step_of b.steps)
 
 -- the same, and the stage has the vertices of the stage f, and partners on f are partners on it
 pub record IsFilled (g : Graph) (n : ℕ → ℕ) (first f : Set) (b : Built) : Type 0 where
   pub built : IsBuilt g n first b
-  pub met : (v : ℕ) → is_met g (marks b.mark.items) v ≡ is_met g f v
-  pub partners : (u v : ℕ) → ArePartnersOn g f u v → Serves g (marks b.mark.items) (pair_set u v)
+  pub met : (v : ℕ) → is_met g (marks b.marked.mark.items) v ≡ is_met g f v
+  pub partners : (u v : ℕ) → ArePartnersOn g f u v → Serves g (marks b.marked.mark.items) (pair_set u v)

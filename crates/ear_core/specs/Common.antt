@@ -9,10 +9,12 @@ pub use Rattle.ear_core.specs.Refusals.{first_of, step_fault, IsLeastUnallowed, 
 pub use Rattle.ear_core.specs.StageGraphs.{listed, by_rank, Settled, asked_too, IsUpTo, IsBehind}
 pub use Rattle.ear_core.specs.AlternatingEars.{IsPerfectRows, row_edge, mate, KeepsMates, IsAlternating, IsTraced, IsClear, HoldsMates, IsMatedEar, ends_of_ears, AreApart, AreMatedEars, is_left, Serves, ends_of_ear, AreCandidates, IsChosen}
 pub use Rattle.ear_core.specs.Asking.{IsAsked, IsBefore, AreEars, FindsAlone, FindsBeside, FindsTwo, NoneServes, NoneServesBeside, NoTwoServe}
+pub use Rattle.ear_core.specs.FaultPlaces.{astray, wrong_end, entering, edge_of_fault, fault_edge, nowhere, place_of_two, place_in_step, place_from, fault_place}
 pub use Rattle.ear_core.specs.TakenSteps.{IsTaken}
 pub use Rattle.ear_core.specs.LoneEars.{barred, is_open, IsPerfectBy, LeadsAtTwo, LeadsOff}
 pub use Rattle.ear_core.specs.LoneTables.{in_rows, AreTables, reached}
 pub use Rattle.ear_core.specs.StagePartners.{ArePartnersOn, PairsAll}
+pub use Rattle.ear_core.specs.MarkedStages.{IsMarked}
 pub use Rattle.ear_core.specs.Building.{LeadTo, GoesOn, IsBuilt, IsFilled}
 pub use Rattle.ear_core.specs.MatchedStages.{NamesMatching, NamesPart, IsAskedBefore}
 pub use Rattle.ear_core.specs.StageRows.{HasClasses, AreSharedRows}

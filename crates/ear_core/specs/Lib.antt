@@ -8,10 +8,12 @@ pub mod Refusals
 pub mod StageGraphs
 pub mod AlternatingEars
 pub mod Asking
+pub mod FaultPlaces
 pub mod TakenSteps
 pub mod LoneEars
 pub mod LoneTables
 pub mod StagePartners
+pub mod MarkedStages
 pub mod Building
 pub mod MatchedStages
 pub mod StageRows

@@ -5,13 +5,13 @@ ghost use Rattle.counting.specs.Common.{Set, Within, complement, count, mem};
 ghost use Rattle.graph_core.specs.Common.{IsCovered, size, first_end, second_end, IsBipartite};
 ghost use Rattle.match_core.specs.Common.{edges_of};
 ghost use Rattle.match_search.specs.Common.{marks};
-ghost use Rattle.ear_core.specs.Common.{IsPerfectRows, KeepsMates, row_edge, AreForced, AreNeeded, AreSteps, IsAsked, IsBuilt, IsEarList, IsForced, IsNeeded, IsSingle, IsStep, IsUnrefinable, next_stage, FitsEars, FitsStep, HasEdges, TakesSingles, LeadsAtTwo, is_met, IsStage, ears_of, step_of};
+ghost use Rattle.ear_core.specs.Common.{IsPerfectRows, KeepsMates, row_edge, AreForced, AreNeeded, AreSteps, IsAsked, IsBuilt, IsEarList, IsForced, IsMarked, IsNeeded, IsSingle, IsStep, IsUnrefinable, next_stage, FitsEars, FitsStep, HasEdges, TakesSingles, LeadsAtTwo, is_met, IsStage, ears_of, step_of};
 
 use crate::built::Built;
 use crate::choosing::choose;
 use crate::ears::{EarList, Step, Steps};
-use crate::faults::met_by;
 use crate::lone_ears::lone_matching;
+use crate::marked::Marked;
 use crate::stage::Stage;
 use crate::tracing::collect;
 use allowed_edges::perfect_with_edge;
@@ -60,70 +60,67 @@ pub fn build_ears_of(alloc: Global, c: &Covered) -> Result<EarList, Memory>
 {
     c.keeps_covered();
     let kept = matching_with_first(alloc, c)?;
-    let mut mark = vec![in alloc; false; c.size() as usize + 1]?;
-    mark[1] = true;
-    let steps = steps_from(alloc, c, mark, &kept)?;
+    let marked = Marked::one(alloc, c.graph(), 1)?;
+    let steps = steps_from(alloc, c, marked, &kept)?;
     Ok(EarList { start: 1, steps })
 }
 
-// Steps from the stage of the marked edges to all edges. The stage holds the mates of its
-// vertices by the kept matching.
-fn steps_from(alloc: Global, c: &Covered, mark: Vec<bool>, kept: &Matching) -> Result<Steps, Memory>
-    requires long { length mark.items ≡ size c.now + 1 }
-    requires stage { IsStage c.now (marks mark.items) }
+// Steps from the stage that is marked to all edges. The stage holds the mates of its vertices by
+// the kept matching.
+fn steps_from(alloc: Global, c: &Covered, marked: Marked, kept: &Matching) -> Result<Steps, Memory>
+    requires marked { IsMarked c.now marked }
+    requires stage { IsStage c.now (marks marked.mark.items) }
     requires kept { IsPerfectRows c.now kept.now }
-    requires mates { KeepsMates c.now (row_edge kept.now.rows) (is_met c.now (marks mark.items)) }
+    requires mates { KeepsMates c.now (row_edge kept.now.rows)
+        (is_met c.now (marks marked.mark.items)) }
     ensures steps { IfOk result
-        (λ steps. AreSteps c.now (marks mark.items) (map step_of steps)) }
+        (λ steps. AreSteps c.now (marks marked.mark.items) (map step_of steps)) }
     ensures needed { IfOk result
-        (λ steps. AreNeeded c.now (marks mark.items) (map step_of steps)) }
+        (λ steps. AreNeeded c.now (marks marked.mark.items) (map step_of steps)) }
     ensures forced { IfOk result
-        (λ steps. AreForced c.now (marks mark.items) (map step_of steps)) }
+        (λ steps. AreForced c.now (marks marked.mark.items) (map step_of steps)) }
     ensures single { IfOk result
         (λ steps. IsBipartite c.now → AllByRecursion IsSingle (map step_of steps)) }
 {
     c.keeps_covered();
     let steps = Steps::new(alloc);
-    let mut built = Built { mark, steps };
-    let mut met = met_by(c.graph(), &built.mark);
-    'stages: while let Some(edge) = leaving_edge(c.graph(), &built.mark, met) {
-        go_on(alloc, c, &mut built, met, kept, edge)?;
-        met = met_by(c.graph(), &built.mark);
+    let mut built = Built { marked, steps };
+    'stages: while let Some(edge) = leaving_edge(c.graph(), &built.marked) {
+        go_on(alloc, c, &mut built, kept, edge)?;
     }
     Ok(built.steps)
 }
 
-// Goes on from a stage, which meets the vertices `met`: by each edge off it that joins two
-// partners on it, and where there is none by one step. Edge `edge` leads out of it.
+// Goes on from a stage: by each edge off it that joins two partners on it, and where there is none
+// by one step. Edge `edge` leads out of it.
 fn go_on(
     alloc: Global,
     c: &Covered,
     built: &mut Built,
-    met: VSet,
     kept: &Matching,
     edge: u32,
 ) -> Result<(), Memory>
     requires built { (first : Set) × IsBuilt c.now (row_edge kept.now.rows) first built.old }
-    requires met { (v : ℕ) → mem met v ≡ is_met c.now (marks built.old.mark.items) v }
     requires kept { IsPerfectRows c.now kept.now }
     requires edge { Within (size c.now) edge }
-    requires off { marks built.old.mark.items edge ≡ false }
-    requires leads { (is_met c.now (marks built.old.mark.items) (first_end c.now edge) ||
-        is_met c.now (marks built.old.mark.items) (second_end c.now edge)) ≡ true }
+    requires off { marks built.old.marked.mark.items edge ≡ false }
+    requires leads { (is_met c.now (marks built.old.marked.mark.items) (first_end c.now edge) ||
+        is_met c.now (marks built.old.marked.mark.items) (second_end c.now edge)) ≡ true }
     ensures built { OnOk result ((first : Set) →
         IsBuilt c.now (row_edge kept.now.rows) first built.old →
         IsBuilt c.now (row_edge kept.now.rows) first built.new) }
     ensures fewer { OnOk result
-        (count (size c.now) (complement (marks built.new.mark.items)) + 1 ≤
-        count (size c.now) (complement (marks built.old.mark.items))) }
+        (count (size c.now) (complement (marks built.new.marked.mark.items)) + 1 ≤
+        count (size c.now) (complement (marks built.old.marked.mark.items))) }
 {
     c.keeps_covered();
     let g = c.graph();
-    let stage = Stage::of(alloc, g, &built.mark, met, kept)?;
+    let met = built.marked.met;
+    let stage = Stage::of(alloc, g, &built.marked.mark, met, kept)?;
     match built.first_between(alloc, g, &stage)? {
         Some(e) => built.add_between(alloc, g, &stage, e),
         None => {
-            let step = next_step(alloc, c, &built.mark, met, kept, &stage, edge)?;
+            let step = next_step(alloc, c, &built.marked.mark, met, kept, &stage, edge)?;
             built.add(g, step)
         }
     }
@@ -142,24 +139,25 @@ fn matching_with_first(alloc: Global, c: &Covered) -> Result<Matching, Memory>
     }
 }
 
-// The least edge off the stage of the marked edges, which meets the vertices `met`, with an end on
-// it.
-fn leaving_edge(g: &MultiGraph, mark: &[bool], met: VSet) -> Option<u32>
-    requires long { length mark.now ≡ size g.now + 1 }
-    requires met { (v : ℕ) → mem met v ≡ is_met g.now (marks mark.now) v }
-    ensures some { IfSome result (λ e. Within (size g.now) e × (marks mark.now e ≡ false)
-        × ((is_met g.now (marks mark.now) (first_end g.now e) ||
-        is_met g.now (marks mark.now) (second_end g.now e)) ≡ true)) }
+// The least edge off the stage that is marked, with an end on it.
+fn leaving_edge(g: &MultiGraph, marked: &Marked) -> Option<u32>
+    requires { IsMarked g.now marked.now }
+    ensures some { IfSome result
+        (λ e. Within (size g.now) e × (marks marked.now.mark.items e ≡ false)
+        × ((is_met g.now (marks marked.now.mark.items) (first_end g.now e) ||
+        is_met g.now (marks marked.now.mark.items) (second_end g.now e)) ≡ true)) }
     ensures none { IfNone result ((e : ℕ) → Within (size g.now) e
-        → (not (marks mark.now e) &&
-        (is_met g.now (marks mark.now) (first_end g.now e) ||
-        is_met g.now (marks mark.now) (second_end g.now e))) ≡ false) }
+        → (not (marks marked.now.mark.items e) &&
+        (is_met g.now (marks marked.now.mark.items) (first_end g.now e) ||
+        is_met g.now (marks marked.now.mark.items) (second_end g.now e))) ≡ false) }
 {
     g.keeps_limits();
     for k in 0..g.size() {
         let e = k + 1;
         let ends = g.ends(e);
-        if !mark[e as usize] && (met.contains(ends.a) || met.contains(ends.b)) {
+        if !marked.mark[e as usize]
+            && (marked.met.contains(ends.a) || marked.met.contains(ends.b))
+        {
             return Some(e);
         }
     }

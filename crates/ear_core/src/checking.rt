@@ -1,17 +1,17 @@
-//! The check of an ear list, step by step on a row of marks.
-ghost use Rattle.std.specs.Prelude.{◌≡◌, ◌↔◌, ◌+◌, ℕ, length, map, [], true, Some, None, IfNone, IfOk, IfSome};
+//! The check of an ear list, step by step on the marks of a stage.
+ghost use Rattle.std.specs.Prelude.{◌≡◌, ◌↔◌, ℕ, map, [], true, Some, None, IfOk};
 ghost use Rattle.std.specs.List.{AllByRecursion};
-ghost use Rattle.counting.specs.Common.{Within, IsLeastWithout};
-ghost use Rattle.graph_core.specs.Common.{size};
+ghost use Rattle.graph_core.specs.Common.{IsCovered, size};
 ghost use Rattle.match_search.specs.Common.{marks};
-ghost use Rattle.ear_core.specs.Common.{FitsEars, FitsStep, IsEarList, PlainWhy, IsAskedBefore, IsJudged, IsRefused, IsStage, ears_of, refusal_of, step_of};
+ghost use Rattle.ear_core.specs.Common.{FitsEars, FitsStep, IsEarList, PlainWhy, IsAskedBefore, IsJudged, IsMarked, IsRefused, IsStage, ears_of, refusal_of, step_of};
 
 use crate::ears::{EarList, Step};
-use crate::faults::met_by;
 use crate::judgement::{EarJudgement, EarWhy};
+use crate::marked::Marked;
 use crate::matched::MatchedStage;
 use crate::steps::take_step;
 use graph_core::MultiGraph;
+use graph_facts::Covered;
 use std::alloc::{AllocError as Memory, Global};
 
 /// Whether `list` is an ear list of `g`, and if it is not one, its first refusal: steps are
@@ -27,65 +27,81 @@ pub fn check_ears(alloc: Global, g: &MultiGraph, list: &EarList) -> Result<EarJu
         (λ judgement. (step : ℕ) (why : PlainWhy) → (refusal_of judgement ≡ Some (step, why)) ↔
         IsRefused g.now (ears_of list.now) step why) }
 {
-    g.keeps_limits();
-    let mut mark = vec![in alloc; false; g.size() as usize + 1]?;
-    mark[list.start as usize] = true;
-    let met = met_by(g, &mark);
-    let mut stage = MatchedStage::of(alloc, g, &mark, met)?;
-    check_steps(alloc, g, &mut mark, &mut stage, list.steps.as_slice())
+    check_list(alloc, g, false, list)
 }
 
-// What is returned for steps from the stage of the marked edges.
+/// The judgement of `check_ears`, on a list of a covered graph. The stage of all its edges is known
+/// to be covered, so that no edge of that stage is asked and no matching of it is made.
+pub fn check_ears_of(alloc: Global, c: &Covered, list: &EarList) -> Result<EarJudgement, Memory>
+    requires { FitsEars c.now.order (size c.now) (ears_of list.now) }
+    ensures accepted { IfOk result
+        (λ judgement. (refusal_of judgement ≡ None) ↔ IsEarList c.now (ears_of list.now)) }
+    ensures refused { IfOk result
+        (λ judgement. (step : ℕ) (why : PlainWhy) → (refusal_of judgement ≡ Some (step, why)) ↔
+        IsRefused c.now (ears_of list.now) step why) }
+{
+    c.keeps_covered();
+    check_list(alloc, c.graph(), true, list)
+}
+
+// What is returned for a list of ears of a graph that may be known to be covered.
+fn check_list(
+    alloc: Global,
+    g: &MultiGraph,
+    covered: bool,
+    list: &EarList,
+) -> Result<EarJudgement, Memory>
+    requires covered { covered ≡ true → IsCovered g.now }
+    requires fits { FitsEars g.now.order (size g.now) (ears_of list.now) }
+    ensures accepted { IfOk result
+        (λ judgement. (refusal_of judgement ≡ None) ↔ IsEarList g.now (ears_of list.now)) }
+    ensures refused { IfOk result
+        (λ judgement. (step : ℕ) (why : PlainWhy) → (refusal_of judgement ≡ Some (step, why)) ↔
+        IsRefused g.now (ears_of list.now) step why) }
+{
+    g.keeps_limits();
+    let mut marked = Marked::one(alloc, g, list.start)?;
+    let mut stage = MatchedStage::of(alloc, g, &marked.mark, marked.met)?;
+    let steps = list.steps.as_slice();
+    check_steps(alloc, g, covered, &mut marked, &mut stage, steps)
+}
+
+// What is returned for steps from the stage that is marked.
 fn check_steps(
     alloc: Global,
     g: &MultiGraph,
-    mark: &mut Vec<bool>,
+    covered: bool,
+    marked: &mut Marked,
     stage: &mut MatchedStage,
     steps: &[Step],
 ) -> Result<EarJudgement, Memory>
-    requires long { length mark.old.items ≡ size g.now + 1 }
-    requires stage { IsStage g.now (marks mark.old.items) }
-    requires asked { IsAskedBefore g.now (marks mark.old.items) stage.old }
+    requires covered { covered ≡ true → IsCovered g.now }
+    requires marked { IsMarked g.now marked.old }
+    requires stage { IsStage g.now (marks marked.old.mark.items) }
+    requires asked { IsAskedBefore g.now (marks marked.old.mark.items) stage.old }
     requires fits { AllByRecursion (FitsStep g.now.order (size g.now)) (map step_of steps.now) }
-    ensures { IfOk result
-        (λ judgement. IsJudged g.now (marks mark.old.items) 0 (map step_of steps.now)
-        (refusal_of judgement)) }
+    ensures { IfOk result (λ judgement. IsJudged g.now (marks marked.old.mark.items) 0
+        (map step_of steps.now) (refusal_of judgement)) }
 {
     g.keeps_limits();
     let mut number = 0;
     let mut rest = steps;
     'steps: while let Some((step, others)) = rest.split_first() {
         number += 1;
-        if let Some(why) = take_step(alloc, g, mark, stage, step)? {
+        if let Some(why) = take_step(alloc, g, covered, marked, stage, step)? {
             return Ok(EarJudgement::Refused { step: number, why });
         }
         rest = others;
     }
-    Ok(judge_end(g, mark, number))
+    Ok(judge_end(g, marked, number))
 }
 
-// The least edge that is not marked.
-fn least_left(g: &MultiGraph, mark: &[bool]) -> Option<u32>
-    requires { length mark.now ≡ size g.now + 1 }
-    ensures some { IfSome result (IsLeastWithout (size g.now) (λ e. marks mark.now e ≡ true)) }
-    ensures none { IfNone result
-        ((e : ℕ) → Within (size g.now) e → marks mark.now e ≡ true) }
+// What is returned after the last step, from the stage that is marked.
+fn judge_end(g: &MultiGraph, marked: &Marked, number: u32) -> EarJudgement
+    requires { IsMarked g.now marked.now }
+    ensures { IsJudged g.now (marks marked.now.mark.items) number [] (refusal_of result) }
 {
-    for k in 0..g.size() {
-        let edge = k + 1;
-        if !mark[edge as usize] {
-            return Some(edge);
-        }
-    }
-    None
-}
-
-// What is returned after the last step, from the stage of the marked edges.
-fn judge_end(g: &MultiGraph, mark: &[bool], number: u32) -> EarJudgement
-    requires { length mark.now ≡ size g.now + 1 }
-    ensures { IsJudged g.now (marks mark.now) number [] (refusal_of result) }
-{
-    let Some(edge) = least_left(g, mark) else {
+    let Some(edge) = marked.least_left(g) else {
         return EarJudgement::Accepted;
     };
     let why = EarWhy::EndsEarly { edge };

@@ -1,8 +1,8 @@
 //! Laws of ear lists. Each is the contract of a function that does nothing.
-ghost use Rattle.std.specs.Prelude.{◌≡◌, ◌≢◌, ◌↔◌, ℕ, false, true, List, [], ◌∷◌, None};
-ghost use Rattle.counting.specs.Common.{Within, Set, everything, pair_set};
+ghost use Rattle.std.specs.Prelude.{◌≡◌, ◌≢◌, ◌⊎◌, ◌↔◌, ℕ, false, true, List, [], ◌∷◌, None, Some};
+ghost use Rattle.counting.specs.Common.{Within, Set, everything, mem, pair_set};
 ghost use Rattle.graph_core.specs.Common.{IsCovered, Graph, IsGraph, IsMultigraph, first_end, second_end, size, HasPerfect};
-ghost use Rattle.ear_core.specs.Common.{ArePartnersOn, LeadsAtTwo, LeadsOff, PairsAll, IsPerfectBy, is_open, Serves, IsStage, AllowedBy, is_met, PlainEar, PlainEars, PlainStep, next_stage, one, IsEarList, IsStep, AreSteps, step_fault, IsFirstRefusal, IsEar, IsEarPair, Passes, PlainWhy, inner_vertices, with_edges};
+ghost use Rattle.ear_core.specs.Common.{ArePartnersOn, LeadsAtTwo, LeadsOff, PairsAll, IsPerfectBy, is_open, Serves, IsStage, AllowedBy, is_met, PlainEar, PlainEars, PlainStep, next_stage, one, IsEarList, IsStep, AreSteps, step_fault, IsFirstRefusal, IsEar, IsEarPair, Passes, PlainWhy, ear_fault, even_length, fault_edge, inner_vertices, with_edges};
 
 /// The five tests of an ear say that it is an ear of the stage; those of the second ear of a
 /// step, that the two are ears without a common inner vertex and without a common edge.
@@ -11,6 +11,16 @@ pub fn ear_tests_law()
         IsEar g f v es }
     ensures second { (g : Graph) (f : Set) (v : ℕ) (es : List ℕ) (w : ℕ) (ds : List ℕ) →
         IsEar g f v es → Passes g f (inner_vertices g v es) es w ds ↔ IsEarPair g f v es w ds }
+{}
+
+/// The edge at which an ear shows that it fails a test is an edge of the ear. An ear that fails a
+/// test shows it at an edge unless it has no edges, or fails by their number alone.
+pub fn fault_edges_law()
+    ensures named { (g : Graph) (f : Set) (xs ds : List ℕ) (v : ℕ) (es : List ℕ) (e : ℕ) →
+        fault_edge g f xs ds v es ≡ Some e → mem es e ≡ true }
+    ensures shown { (g : Graph) (f : Set) (xs ds : List ℕ) (v : ℕ) (es : List ℕ) →
+        fault_edge g f xs ds v es ≡ None → (es ≡ []) ⊎ ((ear_fault g f xs ds v es ≡ None) ⊎
+        (ear_fault g f xs ds v es ≡ Some even_length)) }
 {}
 
 /// No test of a step fails exactly when it is a step of the stage; then the new stage is matching

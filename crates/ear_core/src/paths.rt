@@ -1,8 +1,8 @@
 //! The vertices along the edges of an ear.
-ghost use Rattle.std.specs.Prelude.{◌≡◌, ◌||◌, ◌==◌, ℕ, true, false, All, IfSome, IfNone};
-ghost use Rattle.counting.specs.Common.{Within, mem};
+ghost use Rattle.std.specs.Prelude.{◌≡◌, ◌||◌, ◌==◌, ℕ, true, false, None, All, IfErr, IfNone, IfOk, IfSome};
+ghost use Rattle.counting.specs.Common.{Within, mem, none};
 ghost use Rattle.graph_core.specs.Common.{size, first_end, second_end};
-ghost use Rattle.ear_core.specs.Common.{other_end, last_vertex, is_path, inner_vertices};
+ghost use Rattle.ear_core.specs.Common.{other_end, last_vertex, is_path, inner_vertices, astray};
 
 use crate::ears::Ear;
 use graph_core::MultiGraph;
@@ -33,36 +33,43 @@ fn other_end(g: &MultiGraph, e: u32, v: u32) -> Option<u32>
     }
 }
 
-/// The path that an ear is, its last vertex perhaps equal to its first; `None` exactly when the ear
-/// is not a path.
-pub fn path_of(g: &MultiGraph, ear: &Ear) -> Option<EarPath>
+/// The path that an ear is, its last vertex perhaps equal to its first. If the ear is not a path,
+/// the first edge that goes astray; `None` if it has no edges.
+pub fn path_of(g: &MultiGraph, ear: &Ear) -> Result<EarPath, Option<u32>>
     requires begin { Within g.now.order ear.now.from }
     requires edges { All (Within (size g.now)) ear.now.edges }
-    ensures none { IfNone result (is_path g.now ear.now.from ear.now.edges ≡ false) }
-    ensures path { IfSome result (λ p. is_path g.now ear.now.from ear.now.edges ≡ true) }
-    ensures last { IfSome result (λ p. p.last ≡ last_vertex g.now ear.now.from ear.now.edges) }
-    ensures within { IfSome result (λ p. Within g.now.order p.last) }
-    ensures inner { IfSome result
+    ensures not_path { IfErr result
+        (λ edge. is_path g.now ear.now.from ear.now.edges ≡ false) }
+    ensures edge { IfErr result
+        (λ edge. edge ≡ astray g.now ear.now.from none ear.now.from ear.now.edges) }
+    ensures path { IfOk result (λ p. is_path g.now ear.now.from ear.now.edges ≡ true) }
+    ensures last { IfOk result (λ p. p.last ≡ last_vertex g.now ear.now.from ear.now.edges) }
+    ensures within { IfOk result (λ p. Within g.now.order p.last) }
+    ensures inner { IfOk result
         (λ p. (w : ℕ) → mem p.inner w ≡ mem (inner_vertices g.now ear.now.from ear.now.edges) w) }
+    ensures nowhere { IfOk result
+        (λ p. astray g.now ear.now.from none ear.now.from ear.now.edges ≡ None) }
 {
     g.keeps_limits();
     let mut inner = VSet::empty();
     let mut at = ear.from;
     let mut rest = ear.edges.as_slice();
     'edges: while let Some((e, others)) = rest.split_first() {
-        let next = other_end(g, *e, at)?;
+        let Some(next) = other_end(g, *e, at) else {
+            return Err(Some(*e));
+        };
         if inner.contains(next) {
-            return None;
+            return Err(Some(*e));
         }
         if others.is_empty() {
-            return Some(EarPath { inner, last: next });
+            return Ok(EarPath { inner, last: next });
         }
         if next == ear.from {
-            return None;
+            return Err(Some(*e));
         }
         inner = inner.with(next);
         at = next;
         rest = others;
     }
-    None
+    Err(None)
 }

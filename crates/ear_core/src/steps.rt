@@ -1,30 +1,31 @@
-//! A step of an ear list, taken on the row of marks of a stage.
-ghost use Rattle.std.specs.Prelude.{◌≡◌, ◌+◌, ◌<◌, ◌||◌, ℕ, true, length, All, Some, None, IfOk, IfSome, IfNone};
-ghost use Rattle.counting.specs.Common.{Set, Within, mem, none};
-ghost use Rattle.graph_core.specs.Common.{size};
+//! A step of an ear list, taken on the marks of a stage.
+ghost use Rattle.std.specs.Prelude.{◌≡◌, ℕ, true, All, Some, None, IfOk, IfSome, IfNone};
+ghost use Rattle.counting.specs.Common.{Set, Within, none};
+ghost use Rattle.graph_core.specs.Common.{IsCovered, size};
 ghost use Rattle.match_search.specs.Common.{marks};
-ghost use Rattle.ear_core.specs.Common.{FitsStep, IsAsked, IsAskedBefore, IsStep, next_stage, step_fault, Settled, IsStage, IsTaken, step_of, why_of};
+ghost use Rattle.ear_core.specs.Common.{FitsStep, IsAsked, IsAskedBefore, IsMarked, IsStep, next_stage, step_fault, Settled, IsStage, IsTaken, step_of, why_of};
 
 use crate::choosing::last_of;
 use crate::ears::Step;
-use crate::faults::{met_by, tested};
+use crate::faults::tested;
 use crate::judgement::EarWhy;
+use crate::marked::Marked;
 use crate::matched::MatchedStage;
 use crate::stages::least_refused;
 use graph_core::MultiGraph;
 use std::alloc::{AllocError as Memory, Global};
 use vset_core::VSet;
 
-// The first test that a step fails on the stage of the marked edges.
-fn fault_of(g: &MultiGraph, mark: &[bool], step: &Step) -> Option<EarWhy>
-    requires long { length mark.now ≡ size g.now + 1 }
+// The first test that a step fails on a stage.
+fn fault_of(g: &MultiGraph, marked: &Marked, step: &Step) -> Option<EarWhy>
+    requires marked { IsMarked g.now marked.now }
     requires fits { FitsStep g.now.order (size g.now) (step_of step.now) }
-    ensures some { IfSome result
-        (λ why. step_fault g.now (marks mark.now) (step_of step.now) ≡ Some (why_of why)) }
-    ensures none { IfNone result (step_fault g.now (marks mark.now) (step_of step.now) ≡ None) }
+    ensures some { IfSome result (λ why. step_fault g.now (marks marked.now.mark.items)
+        (step_of step.now) ≡ Some (why_of why)) }
+    ensures none { IfNone result
+        (step_fault g.now (marks marked.now.mark.items) (step_of step.now) ≡ None) }
 {
-    let met = met_by(g, mark);
-    let first = match tested(g, mark, met, VSet::empty(), &[], &step.first) {
+    let first = match tested(g, marked, VSet::empty(), &[], &step.first) {
         Ok(path) => path,
         Err(why) => return Some(why),
     };
@@ -32,40 +33,11 @@ fn fault_of(g: &MultiGraph, mark: &[bool], step: &Step) -> Option<EarWhy>
         None => None,
         Some(second) => {
             let used = step.first.edges.as_slice();
-            match tested(g, mark, met, first.inner, used, second) {
+            match tested(g, marked, first.inner, used, second) {
                 Ok(_) => None,
                 Err(why) => Some(why),
             }
         }
-    }
-}
-
-// Marks further edges.
-fn mark_edges(mark: &mut Vec<bool>, edges: &[u32])
-    requires { All (λ e. e < length mark.old.items) edges.now }
-    ensures length { length mark.new.items ≡ length mark.old.items }
-    ensures each { (i : ℕ) → marks mark.new.items i ≡ (marks mark.old.items i || mem edges.now i) }
-{
-    let mut rest = edges;
-    'edges: while let Some((e, others)) = rest.split_first() {
-        mark[*e as usize] = true;
-        rest = others;
-    }
-}
-
-/// Marks the edges of a step.
-#[tactic(auto, using(crate::proofs::Marking::below_marks))]
-pub fn mark_step(mark: &mut Vec<bool>, size: u32, step: &Step)
-    requires long { length mark.old.items ≡ size + 1 }
-    requires first { All (Within size) step.now.first.edges }
-    requires second { IfSome step.now.second (λ ear. All (Within size) ear.edges) }
-    ensures length { length mark.new.items ≡ length mark.old.items }
-    ensures each { (i : ℕ) →
-        marks mark.new.items i ≡ next_stage (marks mark.old.items) (step_of step.now) i }
-{
-    mark_edges(mark, step.first.edges.as_slice());
-    if let Some(second) = &step.second {
-        mark_edges(mark, second.edges.as_slice());
     }
 }
 
@@ -116,39 +88,77 @@ fn joins_partners(
     }
 }
 
-/// Takes a step on the stage of the marked edges: then its edges are marked too, or it is
-/// refused, with the reason. A single ear between partners on an earlier stage is not asked
-/// further; else the stage after the step is asked edge by edge, and is the one that is known from
-/// then on.
+// Whether every edge of a covered graph is marked. Of another graph this is not asked.
+fn is_whole(g: &MultiGraph, covered: bool, marked: &Marked) -> bool
+    requires { IsMarked g.now marked.now }
+    ensures covered { result ≡ true → covered ≡ true }
+    ensures edges { result ≡ true → (e : ℕ) → Within (size g.now) e →
+        marks marked.now.mark.items e ≡ true }
+{
+    covered && marked.least_left(g).is_none()
+}
+
+// Whether it is known without a matching that the stage after a step is covered: the step adds one
+// ear between partners on an earlier stage, or the stage is a graph that is known to be covered.
+fn is_known(
+    alloc: Global,
+    g: &MultiGraph,
+    covered: bool,
+    marked: &Marked,
+    stage: &MatchedStage,
+    step: &Step,
+) -> Result<bool, Memory>
+    requires covered { covered ≡ true → IsCovered g.now }
+    requires marked { IsMarked g.now marked.now }
+    requires fits { FitsStep g.now.order (size g.now) (step_of step.now) }
+    requires order { stage.now.stage.order ≡ g.now.order }
+    ensures { IfOk result (λ b. b ≡ true → (f : Set) → IsAskedBefore g.now f stage.now →
+        IsStage g.now f → IsStep g.now f (step_of step.now) →
+        ((i : ℕ) → marks marked.now.mark.items i ≡ next_stage f (step_of step.now) i) →
+        IsStage g.now (next_stage f (step_of step.now))) }
+{
+    g.keeps_limits();
+    if is_whole(g, covered, marked) {
+        return Ok(true);
+    }
+    let joins = joins_partners(alloc, g, stage, step)?;
+    Ok(joins)
+}
+
+/// Takes a step on the stage that is marked: then its edges are marked too, or it is refused, with
+/// the reason. A single ear between partners on an earlier stage is not asked further, nor is the
+/// stage of all edges of a graph that is known to be covered. Any other stage after the step is
+/// asked edge by edge, and is the one that is known from then on.
 pub fn take_step(
     alloc: Global,
     g: &MultiGraph,
-    mark: &mut Vec<bool>,
+    covered: bool,
+    marked: &mut Marked,
     stage: &mut MatchedStage,
     step: &Step,
 ) -> Result<Option<EarWhy>, Memory>
-    requires long { length mark.old.items ≡ size g.now + 1 }
+    requires covered { covered ≡ true → IsCovered g.now }
+    requires marked { IsMarked g.now marked.old }
     requires fits { FitsStep g.now.order (size g.now) (step_of step.now) }
-    requires stage { IsStage g.now (marks mark.old.items) }
-    requires asked { IsAskedBefore g.now (marks mark.old.items) stage.old }
-    ensures length { length mark.new.items ≡ length mark.old.items }
-    ensures taken { IfOk result
-        (IsTaken g.now (marks mark.old.items) (step_of step.now) (marks mark.new.items)) }
+    requires stage { IsStage g.now (marks marked.old.mark.items) }
+    requires asked { IsAskedBefore g.now (marks marked.old.mark.items) stage.old }
+    ensures marked { IsMarked g.now marked.new }
+    ensures taken { IfOk result (IsTaken g.now (marks marked.old.mark.items) (step_of step.now)
+        (marks marked.new.mark.items)) }
     ensures asked { IfOk result
-        (λ why. IfNone why (IsAskedBefore g.now (marks mark.new.items) stage.new)) }
+        (λ why. IfNone why (IsAskedBefore g.now (marks marked.new.mark.items) stage.new)) }
 {
     g.keeps_limits();
-    if let Some(why) = fault_of(g, mark, step) {
+    if let Some(why) = fault_of(g, marked, step) {
         return Ok(Some(why));
     }
-    let known = joins_partners(alloc, g, stage, step)?;
-    mark_step(mark, g.size(), step);
+    marked.add(g, step);
+    let known = is_known(alloc, g, covered, marked, stage, step)?;
     if known {
         return Ok(None);
     }
-    let met = met_by(g, mark);
-    *stage = MatchedStage::of(alloc, g, mark, met)?;
-    match refused_edge(alloc, g, mark, stage, step)? {
+    *stage = MatchedStage::of(alloc, g, &marked.mark, marked.met)?;
+    match refused_edge(alloc, g, &marked.mark, stage, step)? {
         Some(edge) => Ok(Some(EarWhy::StageNotCovered { edge })),
         None => Ok(None),
     }

@@ -1,35 +1,27 @@
-use Rattle.std.proofs.Common.{rules, ◌≡◌, ◌<◌, length, map, refl, subst, sym, ℕ, slice_set, true}
+use Rattle.std.proofs.Common.{map, refl, subst, sym}
 use Rattle.std.proofs.Math.Path.{fun_ext}
-use Rattle.counting.proofs.Common.{Set, singleton}
-use Rattle.match_search.specs.Common.{marks}
+use Rattle.counting.proofs.Common.{Set}
 use Rattle.ear_core.specs.Common.{row_edge, KeepsMates, AreForced, AreNeeded, AreSteps, IsEarList, PlainEars, is_met, ears_of, step_of}
 use Rattle.ear_core.proofs.FirstStage.{first-stage}
-use Rattle.ear_core.proofs.Judging.{one-marked, one-stage}
+use Rattle.ear_core.proofs.Judging.{one-stage}
 use Rattle.ear_core.proofs.Stepping.{first-keeps, list-fits, list-filled}
-use Rattle.ear_core.proofs.building.build_ears_of.Goals.{In_ok-mark}
 use Rattle.ear_core.proofs.building.build_ears_of.Goals as goal
-
--- edge 1 alone is marked at first
-first : (c : In_ok-mark) → (i : ℕ) → marks (slice_set c.in_ok-mark.mark.items 1 true) i ≡ singleton 1 i
-first c =
-    let less : 1 < length c.in_ok-mark.mark.items = search rules in
-    one-marked c.in_ok-mark.mark.items _ 1 (c.in_ok-mark.ensures.items_if_clones_equal (λ y q. q)) less
 
 pub steps_from-requires-clause-stage : goal.steps_from-requires-clause-stage
 steps_from-requires-clause-stage c =
-    one-stage c.args.c.now c.keeps_covered.ensures.limits.multigraph _ 1 c.in_ok-kept.ensures.edge (first (goal.at.steps_from-requires-clause-stage c).In_ok-mark)
+    one-stage c.args.c.now c.keeps_covered.ensures.limits.multigraph _ 1 c.in_ok-kept.ensures.edge c.in_ok-marked.ensures.each
 
 pub steps_from-requires-clause-mates : goal.steps_from-requires-clause-mates
 steps_from-requires-clause-mates c =
     let g = c.args.c.now in
-    subst (λ (f : Set). KeepsMates g (row_edge c.in_ok-kept.kept.rows) (is_met g f)) (sym (fun_ext (first (goal.at.steps_from-requires-clause-mates c).In_ok-mark)))
+    subst (λ (f : Set). KeepsMates g (row_edge c.in_ok-kept.kept.rows) (is_met g f)) (sym (fun_ext c.in_ok-marked.ensures.each))
     (first-keeps g c.keeps_covered.ensures.limits.multigraph c.in_ok-kept.kept c.in_ok-kept.ensures.perfect 1 c.in_ok-kept.ensures.edge c.in_ok-kept.ensures.holds)
 
 pub returns : goal.returns
 returns c =
     let g = c.args.c.now in
     let steps = c.in_ok-steps.steps in
-    let same = fun_ext (first (goal.at.returns c).In_ok-mark) in
+    let same = fun_ext c.in_ok-marked.ensures.each in
     let list : PlainEars = ears_of (record { start = 1; steps = steps }) in
     let ears : IsEarList g list = record {
       start = c.in_ok-kept.ensures.edge;

@@ -22,9 +22,9 @@ returns-clause-built c =
     let s = step_of c.in_ok-step-in-None.step in
     let old = c.args.built.now in
     let e = c.in_ok-step-in-None.ensures in
-    let goes : GoesOn g n (marks old.mark.items) s = subst (λ (items : List Bool). GoesOn g n (marks items) s) c.deref-in-None.ensures.value (record { step = e.step; stage = e.stage; mates = e.mates; needed = e.needed; forced = e.forced; single = e.single }) in
+    let goes : GoesOn g n (marks old.marked.mark.items) s = subst (λ (items : List Bool). GoesOn g n (marks items) s) c.deref-in-None.ensures.value (record { step = e.step; stage = e.stage; mates = e.mates; needed = e.needed; forced = e.forced; single = e.single }) in
     on-ok c.add.result _ _
-    (λ add first built. (subst (λ (h : Graph). (n : ℕ → ℕ) (first : Set) → IsBuilt h n first old → GoesOn h n (marks old.mark.items) s → IsBuilt h n first c.add.new.self) c.graph-g.ensures.same add) n first built goes) c.add.ensures.built
+    (λ add first built. (subst (λ (h : Graph). (n : ℕ → ℕ) (first : Set) → IsBuilt h n first old → GoesOn h n (marks old.marked.mark.items) s → IsBuilt h n first c.add.new.self) c.graph-g.ensures.same add) n first built goes) c.add.ensures.built
 
 pub returns-clause-fewer : goal.returns-clause-fewer
 returns-clause-fewer c =
@@ -32,4 +32,4 @@ returns-clause-fewer c =
     let s = step_of c.in_ok-step-in-None.step in
     let old = c.args.built.now in
     let step = subst (λ (items : List Bool). IsStep g (marks items) s) c.deref-in-None.ensures.value c.in_ok-step-in-None.ensures.step in
-    on-ok c.add.result _ _ (λ same. fewer-off g (marks old.mark.items) (marks c.add.new.self.mark.items) s same step) c.add.ensures.marks
+    on-ok c.add.result _ _ (λ same. fewer-off g (marks old.marked.mark.items) (marks c.add.new.self.marked.mark.items) s same step) c.add.ensures.marks

@@ -7,4 +7,4 @@ use Rattle.ear_core.proofs.building.leaving_edge.Given as goal
 
 -- no edge so far leads out
 abbrev pub invariant-loop-k : goal.invariant-loop-k
-invariant-loop-k l = (e : ℕ) → Within l.k e → (not (marks l.mark e) && (is_met l.g (marks l.mark) (first_end l.g e) || is_met l.g (marks l.mark) (second_end l.g e))) ≡ false
+invariant-loop-k l = (e : ℕ) → Within l.k e → (not (marks l.marked.mark.items e) && (is_met l.g (marks l.marked.mark.items) (first_end l.g e) || is_met l.g (marks l.marked.mark.items) (second_end l.g e))) ≡ false

@@ -1,10 +1,12 @@
-use Rattle.std.proofs.Common.{◌<◌, rules, ◌∙◌, length}
+use Rattle.std.proofs.Common.{◌≡◌, ◌||◌, ◌∙◌, ap, not, Bool, Option, ℕ, arith}
+use Rattle.std.specs.Prelude.{is_none, is_some}
+use Rattle.counting.proofs.Common.{mem}
 use Rattle.match_search.specs.Common.{marks}
-use Rattle.ear_core.proofs.FirstFaults.{new-behind, items-behind}
+use Rattle.ear_core.proofs.FaultPlaces.{none-found}
 use Rattle.ear_core.proofs.faults.are_new.Goals as goal
 
-pub edges-preserved : goal.edges-preserved
-edges-preserved c = record {
-  same = c.edges.invariant.same ∙ new-behind (marks c.args.mark.now) c.args.used.now c.in-Some.e.now c.edges.rest.now c.in-Some.others.now c.in-Some.ensures.cases.0 (search rules) (search rules);
-  below = items-behind (λ d. d < length c.args.mark.now) c.in-Some.e.now c.edges.rest.now c.in-Some.others.now c.in-Some.ensures.cases.0 c.edges.invariant.below;
-}
+none-or-some : (o : Option ℕ) (b : Bool) → is_some o ≡ not b → b ≡ is_none o
+none-or-some o b h = grind arith
+
+pub returns : goal.returns
+returns c = none-or-some c.first_used.result c.is_none.result c.is_none.ensures ∙ ap is_none c.first_used.ensures ∙ none-found (λ e. marks c.args.mark.now e || mem c.args.used.now e) c.args.edges.now

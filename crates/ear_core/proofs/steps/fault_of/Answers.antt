@@ -6,11 +6,11 @@ use Rattle.ear_core.proofs.steps.fault_of.Goals as goal
 use Rattle.ear_core.proofs.steps.fault_of.Goals.{After-as_slice-used}
 
 -- the fault of the second ear is that of the step
-second_fault : (c : After-as_slice-used) (fault : Option PlainWhy) → ear_fault c.args.g.now (marks c.args.mark.now) c.in-Ok.path.inner c.as_slice-used.result.now c.in-Some.second.«from» c.in-Some.second.edges ≡ fault →
-    step_fault c.args.g.now (marks c.args.mark.now) (step_of c.args.step.now) ≡ fault
+second_fault : (c : After-as_slice-used) (fault : Option PlainWhy) → ear_fault c.args.g.now (marks c.args.marked.now.mark.items) c.in-Ok.path.inner c.as_slice-used.result.now c.in-Some.second.«from» c.in-Some.second.edges ≡ fault →
+    step_fault c.args.g.now (marks c.args.marked.now.mark.items) (step_of c.args.step.now) ≡ fault
 second_fault c fault is =
     let g = c.args.g.now in
-    let f = marks c.args.mark.now in
+    let f = marks c.args.marked.now.mark.items in
     let first = c.args.step.now.first in
     let passes : ear_fault g f [] [] first.«from» first.edges ≡ None = search rules in
     grind (arith, pair-fault g f (ear_of first) (ear_of c.in-Some.second) c.in-Ok.path.inner c.as_slice-used.result.now fault passes c.in-Ok.ensures.inner c.as_slice-used.ensures is)

@@ -1,4 +1,4 @@
-use Rattle.std.proofs.Common.{◌≡◌, ◌∙◌, ap, arith, inr, refl, subst, List, Bool, None, ℕ}
+use Rattle.std.proofs.Common.{◌≡◌, ◌∙◌, ap, inr, refl, subst, Bool, List, None, ℕ}
 use Rattle.std.proofs.Math.Path.{fun_ext}
 use Rattle.counting.proofs.Common.{none}
 use Rattle.match_search.specs.Common.{marks}
@@ -9,54 +9,48 @@ use Rattle.ear_core.proofs.Searching.{at-none}
 use Rattle.ear_core.proofs.Taking.{first_marked, second_marked, step-taken, step-refused}
 use Rattle.ear_core.proofs.steps.take_step.Goals as goal
 
-pub mark_step-requires-clause-first : goal.mark_step-requires-clause-first
-mark_step-requires-clause-first c = grind arith
-
-pub mark_step-requires-clause-second : goal.mark_step-requires-clause-second
-mark_step-requires-clause-second c = grind arith
-
 pub returns-then-known-clause-taken : goal.returns-then-known-clause-taken
 returns-then-known-clause-taken c =
     let g = c.args.g.now in
-    let f = marks c.args.mark.now.items in
+    let f = marks c.args.marked.now.mark.items in
     let s = step_of c.args.step.now in
-    let passes = subst (λ (items : List Bool). step_fault g (marks items) s ≡ None) c.deref.ensures.value (at-none c.fault_of.result (step_fault g (marks c.deref.result.now) s ≡ None) c.in_default.is c.fault_of.ensures.none) in
-    (passes, c.in_ok-known.ensures c.if-known.true f c.requires.asked c.requires.stage (step-none g f s passes), c.mark_step.ensures.each)
+    let passes = at-none c.fault_of.result (step_fault g f s ≡ None) c.in_default.is c.fault_of.ensures.none in
+    (passes, c.in_ok-known.ensures c.if-known.true f c.requires.asked c.requires.stage (step-none g f s passes) c.add.ensures.each, c.add.ensures.each)
 
 pub returns-then-known-clause-asked : goal.returns-then-known-clause-asked
 returns-then-known-clause-asked c =
     let g = c.args.g.now in
-    let f = marks c.args.mark.now.items in
+    let f = marks c.args.marked.now.mark.items in
     let s = step_of c.args.step.now in
-    let passes = subst (λ (items : List Bool). step_fault g (marks items) s ≡ None) c.deref.ensures.value (at-none c.fault_of.result (step_fault g (marks c.deref.result.now) s ≡ None) c.in_default.is c.fault_of.ensures.none) in
-    asked-on g f (marks c.mark_step.new.mark.items) c.args.stage.now s c.requires.asked (step-none g f s passes) (fun_ext c.mark_step.ensures.each)
+    let passes = at-none c.fault_of.result (step_fault g f s ≡ None) c.in_default.is c.fault_of.ensures.none in
+    asked-on g f (marks c.add.new.self.mark.items) c.args.stage.now s c.requires.asked (step-none g f s passes) (fun_ext c.add.ensures.each)
 
 pub refused_edge-requires-clause-marked_first : goal.refused_edge-requires-clause-marked_first
 refused_edge-requires-clause-marked_first c =
     let step = c.args.step.now in
-    first_marked (marks c.args.mark.now.items) (marks c.deref-4.result.now) step.first step.second (λ i. ap (λ (items : List Bool). marks items i) c.deref-4.ensures.value ∙ c.mark_step.ensures.each i)
+    first_marked (marks c.args.marked.now.mark.items) (marks c.deref-2.result.now) step.first step.second (λ i. ap (λ (items : List Bool). marks items i) c.deref-2.ensures.value ∙ c.add.ensures.each i)
 
 pub refused_edge-requires-clause-marked_second : goal.refused_edge-requires-clause-marked_second
 refused_edge-requires-clause-marked_second c =
     let step = c.args.step.now in
-    second_marked (marks c.args.mark.now.items) (marks c.deref-4.result.now) step.first step.second (λ i. ap (λ (items : List Bool). marks items i) c.deref-4.ensures.value ∙ c.mark_step.ensures.each i)
+    second_marked (marks c.args.marked.now.mark.items) (marks c.deref-2.result.now) step.first step.second (λ i. ap (λ (items : List Bool). marks items i) c.deref-2.ensures.value ∙ c.add.ensures.each i)
 
 pub returns-in-Some-2-clause-taken : goal.returns-in-Some-2-clause-taken
 returns-in-Some-2-clause-taken c =
     let g = c.args.g.now in
-    let f = marks c.args.mark.now.items in
+    let f = marks c.args.marked.now.mark.items in
     let s = step_of c.args.step.now in
-    let new = marks c.deref-4.result.now in
-    let same : (i : ℕ) → new i ≡ next_stage f s i = λ i. ap (λ (items : List Bool). marks items i) c.deref-4.ensures.value ∙ c.mark_step.ensures.each i in
-    let passes = subst (λ (items : List Bool). step_fault g (marks items) s ≡ None) c.deref.ensures.value (at-none c.fault_of.result (step_fault g (marks c.deref.result.now) s ≡ None) c.in_default.is c.fault_of.ensures.none) in
+    let new = marks c.deref-2.result.now in
+    let same : (i : ℕ) → new i ≡ next_stage f s i = λ i. ap (λ (items : List Bool). marks items i) c.deref-2.ensures.value ∙ c.add.ensures.each i in
+    let passes = at-none c.fault_of.result (step_fault g f s ≡ None) c.in_default.is c.fault_of.ensures.none in
     inr (passes, (c.in-Some-2.edge, step-refused g c.keeps_limits.ensures.multigraph.ends f s new same c.requires.stage passes c.in-Some-2.edge (subst (Settled g new (next_stage none s)) c.in-Some-2.is c.in_ok-edge.ensures), refl))
 
 pub returns-in-None-clause-taken : goal.returns-in-None-clause-taken
 returns-in-None-clause-taken c =
     let g = c.args.g.now in
-    let f = marks c.args.mark.now.items in
+    let f = marks c.args.marked.now.mark.items in
     let s = step_of c.args.step.now in
-    let new = marks c.deref-4.result.now in
-    let same : (i : ℕ) → new i ≡ next_stage f s i = λ i. ap (λ (items : List Bool). marks items i) c.deref-4.ensures.value ∙ c.mark_step.ensures.each i in
-    let passes = subst (λ (items : List Bool). step_fault g (marks items) s ≡ None) c.deref.ensures.value (at-none c.fault_of.result (step_fault g (marks c.deref.result.now) s ≡ None) c.in_default.is c.fault_of.ensures.none) in
-    (passes, step-taken g c.keeps_limits.ensures.multigraph.ends f s new same c.requires.stage passes (subst (Settled g new (next_stage none s)) c.in-None.is c.in_ok-edge.ensures), c.mark_step.ensures.each)
+    let new = marks c.deref-2.result.now in
+    let same : (i : ℕ) → new i ≡ next_stage f s i = λ i. ap (λ (items : List Bool). marks items i) c.deref-2.ensures.value ∙ c.add.ensures.each i in
+    let passes = at-none c.fault_of.result (step_fault g f s ≡ None) c.in_default.is c.fault_of.ensures.none in
+    (passes, step-taken g c.keeps_limits.ensures.multigraph.ends f s new same c.requires.stage passes (subst (Settled g new (next_stage none s)) c.in-None.is c.in_ok-edge.ensures), c.add.ensures.each)

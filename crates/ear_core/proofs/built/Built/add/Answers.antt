@@ -1,13 +1,8 @@
 use Rattle.std.proofs.Common.{◌∙◌, ap, map}
 use Rattle.counting.proofs.Common.{map-append}
-use Rattle.graph_core.proofs.Common.{size}
 use Rattle.ear_core.specs.Common.{step_of}
 use Rattle.ear_core.proofs.GoingOn.{built-on, on-ok}
-use Rattle.ear_core.proofs.Taking.{second_fits}
 use Rattle.ear_core.proofs.built.Built.add.Goals as goal
 
-pub mark_step-requires-clause-second : goal.mark_step-requires-clause-second
-mark_step-requires-clause-second c = rw c.size.ensures.is (second_fits c.args.g.now.order (size c.args.g.now) c.args.step.first c.args.step.second c.requires.fits)
-
 pub returns-clause-built : goal.returns-clause-built
-returns-clause-built c = on-ok c.push.result _ _ (λ pushed n first built goes. built-on c.args.g.now n first c.args.self.now (record { mark = c.mark_step.new.mark; steps = c.push.new.self }) (step_of c.args.step) built goes c.mark_step.ensures.length c.mark_step.ensures.each (ap (map step_of) pushed ∙ map-append step_of c.args.self.now.steps _)) c.push.ensures.ok
+returns-clause-built c = on-ok c.push.result _ _ (λ pushed n first built goes. built-on c.args.g.now n first c.args.self.now (record { marked = c.add.new.self; steps = c.push.new.self }) (step_of c.args.step) built goes c.add.ensures.marked c.add.ensures.each (ap (map step_of) pushed ∙ map-append step_of c.args.self.now.steps _)) c.push.ensures.ok

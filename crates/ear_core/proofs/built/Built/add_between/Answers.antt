@@ -1,4 +1,4 @@
-use Rattle.std.proofs.Common.{◌∙◌, arith}
+use Rattle.std.proofs.Common.{arith}
 use Rattle.match_search.specs.Common.{marks}
 use Rattle.ear_core.proofs.GoingOn.{filled-first}
 use Rattle.ear_core.proofs.built.Built.add_between.Goals as goal
@@ -8,8 +8,8 @@ loop-k-init c =
     let old = c.args.self.now in
     let added = c.in_ok-add_edge.ensures in
     record {
-      long = added.long;
-      filled = λ n first built. added.filled n first (marks old.mark.items) (filled-first c.args.g.now n first old built) c.requires.off c.requires.joins;
+      marked = added.marked;
+      filled = λ n first built. added.filled n first (marks old.marked.mark.items) (filled-first c.args.g.now n first old built) c.requires.off c.requires.joins;
       fewer = added.fewer c.requires.off;
     }
 
@@ -17,8 +17,8 @@ pub loop-k-preserved : goal.loop-k-preserved
 loop-k-preserved c =
     let added = c.in_ok-add_if_between.ensures in
     record {
-      long = added.long ∙ c.loop-k.invariant.long;
-      filled = λ n first built. added.filled n first (marks c.args.self.now.mark.items) c.requires.asked (c.loop-k.invariant.filled n first built);
+      marked = added.marked;
+      filled = λ n first built. added.filled n first (marks c.args.self.now.marked.mark.items) c.requires.asked (c.loop-k.invariant.filled n first built);
       fewer = let less = added.fewer in omega arith;
     }
 
