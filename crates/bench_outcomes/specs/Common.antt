@@ -8,7 +8,7 @@ pub use Rattle.bench_outcomes.specs.Uncovered.{Uncovered}
 pub use Rattle.bench_outcomes.specs.Checks.{shown_of, AcceptedTree, RefusedTree, Refuses, RefusesIfAny, CheckGives}
 pub use Rattle.bench_outcomes.specs.EarChecks.{is_single, single_count, double_count, why_number, named_edge, AcceptedEars, RefusedEars, EarCheckGives, BuiltEars, EarsGives}
 pub use Rattle.bench_outcomes.specs.Replays.{ReplayedTree, StuckMove, RefusedMove, MovesGive, ReplayGives}
-pub use Rattle.bench_outcomes.specs.StuckMoves.{leads_to_cut, stuck_fault, CrossesParent, AreNoParts, IsStuckBy}
+pub use Rattle.bench_outcomes.specs.StuckMoves.{leads_to_cut, HasNoResult, stuck_fault, CrossesParent, AreNoParts, IsStuckBy}
 pub use Rattle.bench_outcomes.specs.Comparisons.{IsScript, line_of, lines_of, Compared, Scripted, RefusesPair, RefusesPairIfAny, CompareGives, ScriptGives}
 pub use Rattle.bench_outcomes.specs.Growths.{IsCounted, ArePaired, Grown}
 pub use Rattle.bench_outcomes.specs.Outcome.{with_given_names, given_or_plain, Analysed, Converted, Analysed6, TellsDerivation, Decomposed, DecomposeGives, ResultOf, LoadedGives, CommandGives, Outcome, Appended, CutShort, IsReported, IsSettled}

@@ -1,11 +1,11 @@
 -- Why a move on a tree of cuts has no result.
 -- Stated by: bench_reports.
-use Rattle.std.specs.Prelude.{◌≡◌, ◌⊎◌, ◌&&◌, if◌then◌else◌, Bool, true, false, List, [], ◌∷◌, ℕ, IsFalse}
+use Rattle.std.specs.Prelude.{◌≡◌, ◌⊎◌, ◌&&◌, if◌then◌else◌, Bool, true, false, List, [], ◌∷◌, ℕ, IsFalse, None}
 use Rattle.counting.specs.Common.{is_apart, is_subset}
 use Rattle.graph_core.specs.Common.{complement_of}
 use Rattle.refusals.specs.declared.faults.StuckFault.{StuckFault}
 use Rattle.refusals.specs.declared.faults.StuckFault.TheVariants.{NoCut, Crossing, NotParts}
-use Rattle.tree_core.specs.Common.{PlainMove, Shape, cut, is_proper, leaf, rotate_at, switch_at}
+use Rattle.tree_core.specs.Common.{PlainMove, Shape, cut, is_proper, leaf, move_result, rotate_at, switch_at}
 use Rattle.tree_core.specs.declared.path.Side.{Side}
 use Rattle.tree_core.specs.declared.path.Side.TheVariants.{Kept, Merged}
 
@@ -15,6 +15,10 @@ leads_to_cut path leaf = false
 leads_to_cut [] (cut x a b) = true
 leads_to_cut (Kept ∷ path) (cut x a b) = leads_to_cut path a
 leads_to_cut (Merged ∷ path) (cut x a b) = leads_to_cut path b
+
+-- the move has no result on a tree over 1 to n
+abbrev pub HasNoResult : ℕ → Shape → PlainMove → Type 0
+HasNoResult n t m = move_result n t m ≡ None
 
 -- why a move has no result, if it has none: its path leads to no cut or, for Rotate, to the root;
 -- else two shores cross (Rotate), or two sets are not parts of the two sides of the cut (Switch)

@@ -1,8 +1,8 @@
 //! Why a move has no result.
-ghost use Rattle.std.specs.Prelude.{◌≡◌, ◌≢◌, ◌↔◌, IsTrue, None, ℕ};
+ghost use Rattle.std.specs.Prelude.{◌≡◌, ◌≢◌, ◌↔◌, IsTrue, ℕ};
 ghost use Rattle.graph_core.specs.Common.{Graph};
-ghost use Rattle.tree_core.specs.Common.{IsDerivation, move_of, move_result, shape_of};
-ghost use Rattle.bench_outcomes.specs.Common.{IsStuckBy, leads_to_cut, stuck_fault};
+ghost use Rattle.tree_core.specs.Common.{IsDerivation, move_of, shape_of};
+ghost use Rattle.bench_outcomes.specs.Common.{HasNoResult, IsStuckBy, leads_to_cut, stuck_fault};
 ghost use Rattle.refusals.specs.declared.faults.StuckFault.TheVariants.{Crossing};
 
 use refusals::StuckFault;
@@ -27,10 +27,10 @@ fn leads_to_cut(tree: &Tree, path: &[Side]) -> bool
 #[tactic(auto, using(crate::proofs::StuckMoves::stuck_by))]
 pub fn stuck_fault(tree: &Tree, step: &Move) -> StuckFault
     ensures fault { result ≡ stuck_fault (move_of step.now) (shape_of tree.now) }
-    ensures reason { (n : ℕ) → (move_result n (shape_of tree.now) (move_of step.now) ≡ None)
+    ensures reason { (n : ℕ) → HasNoResult n (shape_of tree.now) (move_of step.now)
         ↔ IsStuckBy n (shape_of tree.now) (move_of step.now) result }
     ensures nested { (g : Graph) → IsDerivation g (shape_of tree.now)
-        → move_result g.order (shape_of tree.now) (move_of step.now) ≡ None → result ≢ Crossing }
+        → HasNoResult g.order (shape_of tree.now) (move_of step.now) → result ≢ Crossing }
 {
     match step {
         Move::Rotate { path } if path.as_slice().is_empty() => StuckFault::NoCut,

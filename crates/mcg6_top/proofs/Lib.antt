@@ -2,5 +2,6 @@ pub mod Ended
 pub mod OneOutput
 pub mod Skipping
 pub mod OneOutcome
+pub mod LaterLines
 pub mod Splits
 pub mod ListsExist

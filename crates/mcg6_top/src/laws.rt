@@ -1,11 +1,13 @@
 //! The laws of what a list gives. Each is the contract of a function that does nothing.
-ghost use Rattle.std.specs.Prelude.{◌≡◌, ◌++◌, IsFalse, IsTrue, List, ℕ};
+ghost use Rattle.std.specs.Prelude.{◌≡◌, ◌++◌, IsFalse, IsTrue, List, length, map, ℕ};
 ghost use Rattle.mcg6_lines.specs.declared.query.Query.{Query};
 ghost use Rattle.mcg6_reader.specs.Common.{HasOneFault, HasOneOutput, IsClosed, TellsApart, lines_of};
 ghost use Rattle.mcg6_reader.specs.declared.ending.BadLine.{BadLine};
+ghost use Rattle.mcg6_reader.specs.declared.ending.Ending.{Ending};
 ghost use Rattle.mcg6_reader.specs.declared.ending.Ending.TheVariants as ending;
-ghost use Rattle.mcg6_top.specs.Common.{IsBadLine, TellsLineOf, EndsWith, ListOutcome, is_by_line, opens_with_header};
+ghost use Rattle.mcg6_top.specs.Common.{EndsWith, IsBadLine, ListOutcome, SkipsUpTo, TellsLineOf, ending_behind, found_behind, is_by_line, opens_with_header};
 ghost use Rattle.mcg6_top.specs.declared.command.AtBadLine.{AtBadLine};
+ghost use Rattle.mcg6_top.specs.declared.status.ListStatus.{ListStatus};
 ghost use Rattle.mcg6_top.specs.declared.status.ListStatus.TheVariants.{BadInput, Done};
 
 /// Whatever is asked of the graphs of a list, each line has one output, or it is bad with one
@@ -33,12 +35,29 @@ pub fn one_output_law()
         → (found.number ≡ other.number) × (found.kind ≡ other.kind) }
 {}
 
-/// A list for `kinds` or `select` may be split after a line feed. If the part after it does not begin
-/// with a line that is just the header, and neither part has a bad line, the output of the list is
-/// that of the first part, and then that of the second.
+/// A list for `kinds` or `select` may be split after a line feed, if the second part does not begin
+/// with a line that is just the header. If the first part has no bad line, the output of the list is
+/// that of the first part and then that of the second, and its status is that of the second part.
+/// The same holds if bad lines of the first part are skipped, for the output and for the ending. In
+/// the list, the number of a bad line of the second part is greater by the number of lines of the
+/// first part.
 pub fn split_law()
-    ensures { (query : Query) (at_bad : AtBadLine) (first second a b : List ℕ)
+    ensures outcome { (query : Query) (at_bad : AtBadLine) (first second : List ℕ)
         → IsTrue (is_by_line query) → IsClosed first → IsFalse (opens_with_header (lines_of second))
-        → ListOutcome query at_bad first Done a → ListOutcome query at_bad second Done b
-        → ListOutcome query at_bad (first ++ second) Done (a ++ b) }
+        → (status : ListStatus) (a b : List ℕ) → ListOutcome query at_bad first Done a
+        → ListOutcome query at_bad second status b
+        → ListOutcome query at_bad (first ++ second) status (a ++ b) }
+    ensures ends { (query : Query) (at_bad : AtBadLine) (first second : List ℕ)
+        → IsTrue (is_by_line query) → IsClosed first → IsFalse (opens_with_header (lines_of second))
+        → (last : Ending) (a b : List ℕ) → EndsWith query at_bad first ending.Done a
+        → EndsWith query at_bad second last b
+        → let before = length (lines_of first) in
+        EndsWith query at_bad (first ++ second) (ending_behind before last) (a ++ b) }
+    ensures skips { (query : Query) (at_bad : AtBadLine) (first second : List ℕ)
+        → IsTrue (is_by_line query) → IsClosed first → IsFalse (opens_with_header (lines_of second))
+        → (last : Ending) (a b : List BadLine) → SkipsUpTo query at_bad first ending.Done a
+        → SkipsUpTo query at_bad second last b
+        → let before = length (lines_of first) in
+        SkipsUpTo query at_bad (first ++ second) (ending_behind before last)
+        (a ++ map (found_behind before) b) }
 {}
