@@ -1,5 +1,5 @@
 -- The edge at which an ear shows that it fails a test is one of its edges, and there is one unless
--- the ear has no edges or an even number of them.
+-- the ear has no edges, or fails only because their number is even.
 use Rattle.std.proofs.Common.{◌≡◌, ◌⊎◌, ℕ, zero, suc, ◌-◌, ◌<◌, Bool, true, false, ◌==◌, ◌&&◌, ◌||◌, not, nat_le, ◌∙◌, sym, ap, arith, [], ◌∷◌, List, length, Option, Some, None, refl, inl, inr, All, if◌then◌else◌, eq-eqb, leb-true}
 use Rattle.std.specs.Option.{option_and_then}
 use Rattle.std.specs.Prelude.{is_none, slice_get}
@@ -128,7 +128,7 @@ module _ (b1 b2 b3 b4 b5 : Bool) where
   no-end : (e : ℕ) → which b1 b2 b3 b4 b5 ≡ Some (ends_early e) → ⊥
   no-end e h = grind arith
 
--- an ear that fails a test shows it at an edge, unless it has none or an even number of them
+-- an ear that fails a test shows it at an edge, unless it has none or fails by their number
 pub shown : (g : Graph) (f : Set) (xs ds : List ℕ) (v : ℕ) (es : List ℕ) → fault_edge g f xs ds v es ≡ None → (es ≡ []) ⊎ ((ear_fault g f xs ds v es ≡ None) ⊎ (ear_fault g f xs ds v es ≡ Some even_length))
 shown g f xs ds v [] h = inl refl
 shown g f xs ds v (e ∷ es) h = inr (of_fault (is_path g v (e ∷ es)) (has_odd_length (e ∷ es)) (has_good_ends g f v (e ∷ es)) (has_free_inner g f xs v (e ∷ es)) (has_new_edges f ds (e ∷ es)) refl refl refl (ear_fault g f xs ds v (e ∷ es)) refl h)

@@ -14,7 +14,7 @@ pub fn ear_tests_law()
 {}
 
 /// The edge at which an ear shows that it fails a test is an edge of the ear. An ear that fails a
-/// test shows it at an edge unless it has no edges, or fails by their number alone.
+/// test shows it at an edge unless it has no edges, or fails only because their number is even.
 pub fn fault_edges_law()
     ensures named { (g : Graph) (f : Set) (xs ds : List ℕ) (v : ℕ) (es : List ℕ) (e : ℕ) →
         fault_edge g f xs ds v es ≡ Some e → mem es e ≡ true }

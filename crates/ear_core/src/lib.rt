@@ -18,7 +18,7 @@
 //! `laws::ear_tests_law`: the tests say that an ear is one. `laws::new_stage_law`: after them a new
 //! stage can fail by an edge in no perfect matching alone. `laws::first_refusal_law`: an ear list
 //! has no refusal, and another list one at most. `laws::fault_edges_law`: an ear that fails a test
-//! shows it at one of its edges, unless it has none or an even number of them.
+//! shows it at one of its edges, unless it has none or fails only because their number is even.
 //! `laws::whole_stage_law`: the stage of all vertices and edges is matching covered exactly when
 //! the graph is. `laws::single_ears_law`: an ear list goes on by a single ear only where some
 //! perfect matching of the graph leads out of the stage at two vertices alone (`LeadsAtTwo` of
