@@ -3,7 +3,8 @@ pub mod SingleLeaves
 pub mod LeafTexts
 pub mod TakenEdges
 pub mod Components
-pub mod BicriticalEdges
+pub mod BicriticalGraphs
+pub mod UncoveredGraphs
 pub mod OneTree
 pub mod ReadMultigraphs
 pub mod PairedCounts

@@ -3,9 +3,6 @@
 use Rattle.std.specs.Prelude.{◌≡◌, ◌≢◌, ℕ, ◌≤◌, ◌⊎◌, List, [], Bool, true, false}
 use Rattle.counting.specs.Common.{none}
 use Rattle.graph_core.specs.Common.{IsCovered, Graph, HasPerfect, IsBicritical}
-use Rattle.std.specs.declared.option.Option.{Option}
-use Rattle.std.specs.declared.option.Option.TheVariants.{Some, None}
-use Rattle.graph_core.specs.declared.verdict.Kind.{Kind}
 use Rattle.graph_core.specs.declared.verdict.Kind.TheVariants as kind
 use Rattle.leaf_kinds.specs.LeafKinds.{IsKind}
 use Rattle.tree_core.specs.declared.tallies.Tally.{Tally}
@@ -48,13 +45,3 @@ Decides g property false = LacksProperty g property
 -- the line itself if its graph has the property, and nothing if it has not
 abbrev pub IsSelected : Property → Graph → (line bytes : List ℕ) → Type 0
 IsSelected property g line bytes = (HasProperty g property × (bytes ≡ line)) ⊎ (LacksProperty g property × (bytes ≡ []))
-
--- the kind of a covered graph, and none of one that is not covered
-abbrev pub TellsKind : Graph → Option Kind → Type 0
-TellsKind g (Some kind) = IsCovered g × IsKind g kind
-TellsKind g None = ¬ IsCovered g
-
--- how the leaves of a derivation are counted, if there is one
-abbrev pub TellsTally : Graph → Option Tally → Type 0
-TellsTally g (Some tally) = IsCounted g tally
-TellsTally g None = ¬ IsCovered g

@@ -9,6 +9,8 @@ use Rattle.graph_core.specs.declared.verdict.Reason.{Reason}
 use Rattle.leaf_kinds.specs.LeafKinds.{IsKind}
 use Rattle.tree_core.specs.Common.{IsDerivation, leaves, Shape, IsTally}
 use Rattle.tree_core.specs.declared.tallies.Tally.{Tally}
+pub use Rattle.mcg6_lines.specs.declared.standings.Standing.{Standing}
+pub use Rattle.mcg6_lines.specs.declared.standings.Standing.TheVariants.{Uncovered, Structured}
 
 -- some derivation of the graph has so many leaves, and so many bricks and braces among them
 pub record IsCounted (g : Graph) (tally : Tally) : Type 0 where
@@ -25,12 +27,6 @@ pub record IsDeficiency (g : Graph) (deficiency : ℕ) : Type 0 where
   pub matching : Set
   pub maximum : IsMaximum g none matching
   pub misses : missed_count g none matching ≡ deficiency
-
--- how a graph stands: it is not covered, for this reason and with this deficiency, or it is
--- covered, of this kind, with so many leaves, and bicritical or not
-pub data Standing : Type 0 where
-  Uncovered : (reason : Reason) (deficiency : ℕ) → Standing
-  Structured : (kind : Kind) (tally : Tally) (bicritical : Bool) → Standing
 
 -- the graph is not covered: this is the first reason why, and this its deficiency
 pub record IsUncovered (g : Graph) (reason : Reason) (deficiency : ℕ) : Type 0 where

@@ -11,8 +11,6 @@ use Rattle.mcg6_lines.specs.Elementary.{elementary_lines}
 use Rattle.mcg6_lines.specs.Selecting.{IsSelected}
 use Rattle.mcg6_lines.specs.declared.query.Query.{Query}
 use Rattle.mcg6_lines.specs.declared.query.Query.TheVariants.{Kinds, Leaves, Elementary, Graph as GraphFile, Select}
-use Rattle.mcg6_lines.specs.declared.telling.QueryAnswer.{QueryAnswer}
-use Rattle.mcg6_lines.specs.declared.telling.QueryAnswer.TheVariants.{Output, Bad}
 
 -- the canonical text of the graph's file: of version 1 within its limits of 64 vertices and 512
 -- edges, and else of version 2 with plain names
@@ -39,8 +37,3 @@ pub record TellsLine (query : Query) (number : ℕ) (line bytes : List ℕ) : Ty
 pub record HasFault (line : List ℕ) (kind : FaultKind) : Type 0 where
   pub at : ℕ
   pub fault : outcome_of line ≡ Err (at, kind)
-
--- the answer for a line with this number is right
-abbrev pub IsAnswer : Query → ℕ → (line : List ℕ) → QueryAnswer → Type 0
-IsAnswer query number line (Output bytes) = TellsLine query number line bytes.items
-IsAnswer query number line (Bad kind) = HasFault line kind

@@ -1,7 +1,7 @@
 //! What `mcg6` answers to one line of a list of graphs.
 //!
-//! A line holds a graph6 text. `tell` answers, for a `Query`, the bytes that are written for it,
-//! or the kind of its first fault. What the bytes say is a relation on the graph alone
+//! A line holds a graph6 text. `tell` returns, for a `Query`, the bytes that are written for it, or
+//! the kind of its first fault. What the bytes say is a relation on the graph alone
 //! (`IsTold`): the line of its kind with the numbers of bricks and braces, or of the first reason
 //! why it is not covered with its deficiency (`IsKindLine`), the lines of its leaves as graphs,
 //! each with the graph itself (`AreLeafLines`), those of its elementary components as graphs
@@ -24,7 +24,9 @@ mod leaf_counts;
 mod leaf_lines;
 mod query;
 mod selecting;
+mod standings;
 mod telling;
 
 pub use query::{Property, Query};
-pub use telling::{QueryAnswer, tell};
+pub use standings::Standing;
+pub use telling::tell;

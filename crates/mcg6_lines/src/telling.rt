@@ -1,9 +1,9 @@
 //! The answer to a line.
-ghost use Rattle.std.specs.Prelude.{◌≡◌, IfOk, Ok};
+ghost use Rattle.std.specs.Prelude.{◌≡◌, IfErr, IfOk, Ok};
 ghost use Rattle.graph6_text.specs.Common.{outcome_of};
 ghost use Rattle.graph_core.specs.Common.{IsSimple};
 ghost use Rattle.graph_text.specs.Common.{plain_names, named_text};
-ghost use Rattle.mcg6_lines.specs.Telling.{IsAnswer, file_text};
+ghost use Rattle.mcg6_lines.specs.Telling.{HasFault, IsTold, TellsLine, file_text};
 
 use crate::elementary_lines::elementary_lines;
 use crate::kind_lines::kind_line;
@@ -16,61 +16,44 @@ use graph6_text::read_graph6;
 use line_text::{FaultKind, TextFault};
 use std::alloc::{AllocError as Memory, Global};
 
-/// The answer to a line.
-#[derive(Drop)]
-pub enum QueryAnswer {
-    /// These bytes are written for it.
-    Output { bytes: Vec<u8> },
-    /// The line is bad: this is the kind of its fault.
-    Bad { kind: FaultKind },
-}
-
-/// The answer to a line with this number, counted from 1: what the query asks of the graph that
-/// stands in the line, or the kind of the line's fault. The line may have a header before the
-/// graph6 text and a line end after it, as `read_graph6` has it.
-pub fn tell(alloc: Global, query: &Query, number: u64, line: &[u8]) -> Result<QueryAnswer, Memory>
-    ensures { IfOk result (IsAnswer query.now number line.now) }
+/// The answer to a line with this number, counted from 1: the bytes that are written for what the
+/// query asks of the graph that stands in the line, or the kind of the line's fault. The line may
+/// have a header before the graph6 text and a line end after it, as `read_graph6` has it.
+pub fn tell(
+    alloc: Global,
+    query: &Query,
+    number: u64,
+    line: &[u8],
+) -> Result<Result<Vec<u8>, FaultKind>, Memory>
+    ensures told { IfOk result (λ r. IfOk r
+        (λ bytes. TellsLine query.now number line.now bytes.items)) }
+    ensures fault { IfOk result (λ r. IfErr r (HasFault line.now)) }
 {
     match read_graph6(alloc, line) {
-        Ok(g) => answer(alloc, query, number, line, &g),
-        Err(TextFault::At { kind, .. }) => Ok(QueryAnswer::Bad { kind }),
+        Ok(g) => Ok(Ok(output(alloc, query, number, line, &g)?)),
+        Err(TextFault::At { kind, .. }) => Ok(Err(kind)),
         Err(TextFault::Memory) => Err(Memory),
     }
 }
 
-// The answer for a line in which the graph stands.
-fn answer(
+// The bytes that are written for a line in which the graph stands.
+fn output(
     alloc: Global,
     query: &Query,
     number: u64,
     line: &[u8],
     g: &MultiGraph,
-) -> Result<QueryAnswer, Memory>
+) -> Result<Vec<u8>, Memory>
     requires stands { outcome_of line.now ≡ Ok g.now }
     requires simple { IsSimple g.now }
-    ensures { IfOk result (IsAnswer query.now number line.now) }
+    ensures { IfOk result (λ bytes. IsTold query.now number line.now g.now bytes.items) }
 {
     match query {
-        Query::Kinds => {
-            let bytes = kind_line(alloc, g, line)?;
-            Ok(QueryAnswer::Output { bytes })
-        }
-        Query::Leaves { order } => {
-            let bytes = leaf_lines(alloc, g, *order, number, line)?;
-            Ok(QueryAnswer::Output { bytes })
-        }
-        Query::Elementary => {
-            let bytes = elementary_lines(alloc, g, number)?;
-            Ok(QueryAnswer::Output { bytes })
-        }
-        Query::Graph => {
-            let bytes = file_text(alloc, g)?;
-            Ok(QueryAnswer::Output { bytes })
-        }
-        Query::Select { property } => {
-            let bytes = selected(alloc, g, *property, line)?;
-            Ok(QueryAnswer::Output { bytes })
-        }
+        Query::Kinds => kind_line(alloc, g, line),
+        Query::Leaves { order } => leaf_lines(alloc, g, *order, number, line),
+        Query::Elementary => elementary_lines(alloc, g, number),
+        Query::Graph => file_text(alloc, g),
+        Query::Select { property } => selected(alloc, g, *property, line),
     }
 }
 

@@ -1,95 +1,44 @@
 //! The queries that write graphs: `leaves`, `elementary` and `graph`.
 
-use crate::rows::{Row, is_told};
+use crate::told::{Answer, is_told};
 use decomposer::NamedOrder;
 use line_text::FaultKind;
 use mcg6_lines::Query;
 use std::test::Fail;
 
-static ROWS: [Row; 13] = [
-    Row {
-        query: Query::Leaves {
-            order: NamedOrder::First,
-        },
-        line: "C~\n",
-        answer: Ok("7 C~ C~ brick\n"),
-    },
-    Row {
-        query: Query::Leaves {
-            order: NamedOrder::Last,
-        },
-        line: "Ch\n",
-        answer: Ok(""),
-    },
-    Row {
-        query: Query::Leaves {
-            order: NamedOrder::Balanced,
-        },
-        line: "EFz_\n",
-        answer: Ok("7 EFz_ EFz_ brace\n"),
-    },
-    Row {
-        query: Query::Leaves {
-            order: NamedOrder::First,
-        },
-        line: ">>graph6<<A_\r\n",
-        answer: Ok("7 A_ A_ brace\n"),
-    },
-    Row {
-        query: Query::Elementary,
-        line: "C~\n",
-        answer: Ok("7 C~ 1 2 3 4\n"),
-    },
-    Row {
-        query: Query::Elementary,
-        line: ">>graph6<<Ch\r\n",
-        answer: Ok("7 A_ 1 2\n7 A_ 3 4\n"),
-    },
-    Row {
-        query: Query::Elementary,
-        line: "Bw\n",
-        answer: Ok(""),
-    },
-    Row {
-        query: Query::Elementary,
-        line: "?\n",
-        answer: Ok(""),
-    },
-    Row {
-        query: Query::Elementary,
-        line: "Euo_\n",
-        answer: Ok("7 C] 1 2 4 5\n7 A_ 3 6\n"),
-    },
-    Row {
-        query: Query::Elementary,
-        line: "C~~",
-        answer: Err(FaultKind::Extra),
-    },
-    Row {
-        query: Query::Graph,
-        line: "Bw\n",
-        answer: Ok("p mcg 3 3\ne 1 2\ne 1 3\ne 2 3\n"),
-    },
-    Row {
-        query: Query::Leaves {
-            order: NamedOrder::First,
-        },
-        line: "GFyAHK\n",
-        answer: Ok("7 GFyAHK EFz_ brace\n7 GFyAHK C~ brick\n"),
-    },
-    Row {
-        query: Query::Leaves {
-            order: NamedOrder::Balanced,
-        },
-        line: "GFyAHK\n",
-        answer: Ok("7 GFyAHK EFz_ brace\n7 GFyAHK C~ brick\n"),
-    },
+const FIRST: Query = Query::Leaves {
+    order: NamedOrder::First,
+};
+
+const LAST: Query = Query::Leaves {
+    order: NamedOrder::Last,
+};
+
+const BALANCED: Query = Query::Leaves {
+    order: NamedOrder::Balanced,
+};
+
+// A query, a line, and what is written for it.
+static ROWS: [(Query, &str, Answer); 13] = [
+    (FIRST, "C~\n", Ok("7 C~ C~ brick\n")),
+    (LAST, "Ch\n", Ok("")),
+    (BALANCED, "EFz_\n", Ok("7 EFz_ EFz_ brace\n")),
+    (FIRST, ">>graph6<<A_\r\n", Ok("7 A_ A_ brace\n")),
+    (Query::Elementary, "C~\n", Ok("7 C~ 1 2 3 4\n")),
+    (Query::Elementary, ">>graph6<<Ch\r\n", Ok("7 A_ 1 2\n7 A_ 3 4\n")),
+    (Query::Elementary, "Bw\n", Ok("")),
+    (Query::Elementary, "?\n", Ok("")),
+    (Query::Elementary, "Euo_\n", Ok("7 C] 1 2 4 5\n7 A_ 3 6\n")),
+    (Query::Elementary, "C~~", Err(FaultKind::Extra)),
+    (Query::Graph, "Bw\n", Ok("p mcg 3 3\ne 1 2\ne 1 3\ne 2 3\n")),
+    (FIRST, "GFyAHK\n", Ok("7 GFyAHK EFz_ brace\n7 GFyAHK C~ brick\n")),
+    (BALANCED, "GFyAHK\n", Ok("7 GFyAHK EFz_ brace\n7 GFyAHK C~ brick\n")),
 ];
 
 #[test]
 fn lines_with_graphs(rt: HostRuntime) -> Result<(), Fail> {
-    for row in &ROWS {
-        assert!(rt; is_told(rt.alloc(), row)?, "{}", row.line);
+    for (query, line, answer) in &ROWS {
+        assert!(rt; is_told(rt.alloc(), query, line, answer)?, "{line}");
     }
     Ok(())
 }

@@ -1,8 +1,7 @@
 //! Tests of what is told of the lines of a list, and of graph files as graph6, by public calls
 //! alone.
 //!
-//! `kinds`, `graphs` and `selecting` ask the queries for single lines: a row has the line and what
-//! is written for it.
+//! `kinds`, `graphs` and `selecting` ask the queries for single lines, by `told`.
 //! `selections` counts what is kept of the connected cubic graphs, whose table is in `cubic`.
 //! `encoding` asks for the lines of graph files.
 #![tactic(auto)]
@@ -16,8 +15,8 @@ mod graphs;
 #[cfg(test)]
 mod kinds;
 #[cfg(test)]
-mod rows;
-#[cfg(test)]
 mod selecting;
 #[cfg(test)]
 mod selections;
+#[cfg(test)]
+mod told;

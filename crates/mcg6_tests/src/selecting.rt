@@ -1,142 +1,39 @@
 //! The lines that `select` keeps.
 
-use crate::rows::{Row, is_told};
+use crate::told::is_told;
 use mcg6_lines::{Property, Query};
 use std::test::Fail;
 
-static ROWS: [Row; 18] = [
-    Row {
-        query: Query::Select {
-            property: Property::Bicritical,
-        },
-        line: "C~\n",
-        answer: Ok("C~\n"),
-    },
-    Row {
-        query: Query::Select {
-            property: Property::Composite,
-        },
-        line: "C~\n",
-        answer: Ok(""),
-    },
-    Row {
-        query: Query::Select {
-            property: Property::Bricks { count: 1 },
-        },
-        line: "C~\r\n",
-        answer: Ok("C~\r\n"),
-    },
-    Row {
-        query: Query::Select {
-            property: Property::Bricks { count: 0 },
-        },
-        line: "EFz_",
-        answer: Ok("EFz_"),
-    },
-    Row {
-        query: Query::Select {
-            property: Property::Bricks { count: 0 },
-        },
-        line: "Ch",
-        answer: Ok(""),
-    },
-    Row {
-        query: Query::Select {
-            property: Property::Bricks { count: 1 },
-        },
-        line: "GFyAHK\n",
-        answer: Ok("GFyAHK\n"),
-    },
-    Row {
-        query: Query::Select {
-            property: Property::Composite,
-        },
-        line: "GFyAHK\n",
-        answer: Ok("GFyAHK\n"),
-    },
-    Row {
-        query: Query::Select {
-            property: Property::Bicritical,
-        },
-        line: "?\n",
-        answer: Ok(""),
-    },
-    Row {
-        query: Query::Select {
-            property: Property::Bicritical,
-        },
-        line: "A?\n",
-        answer: Ok(""),
-    },
-    Row {
-        query: Query::Select {
-            property: Property::Bicritical,
-        },
-        line: "A_\n",
-        answer: Ok("A_\n"),
-    },
-    Row {
-        query: Query::Select {
-            property: Property::Uncovered,
-        },
-        line: "Ch\n",
-        answer: Ok("Ch\n"),
-    },
-    Row {
-        query: Query::Select {
-            property: Property::Uncovered,
-        },
-        line: "C~\n",
-        answer: Ok(""),
-    },
-    Row {
-        query: Query::Select {
-            property: Property::Perfect,
-        },
-        line: "Ch\n",
-        answer: Ok("Ch\n"),
-    },
-    Row {
-        query: Query::Select {
-            property: Property::Perfect,
-        },
-        line: "C`\r\n",
-        answer: Ok("C`\r\n"),
-    },
-    Row {
-        query: Query::Select {
-            property: Property::Perfect,
-        },
-        line: "?\n",
-        answer: Ok("?\n"),
-    },
-    Row {
-        query: Query::Select {
-            property: Property::Perfect,
-        },
-        line: "Bw\n",
-        answer: Ok(""),
-    },
-    Row {
-        query: Query::Select {
-            property: Property::Braces { count: 1 },
-        },
-        line: "GFyAHK\n",
-        answer: Ok("GFyAHK\n"),
-    },
-    Row {
-        query: Query::Select {
-            property: Property::Braces { count: 0 },
-        },
-        line: "GFyAHK\n",
-        answer: Ok(""),
-    },
+// A property, a line, and whether the line is kept.
+static ROWS: [(Property, &str, bool); 18] = [
+    (Property::Bicritical, "C~\n", true),
+    (Property::Composite, "C~\n", false),
+    (Property::Bricks { count: 1 }, "C~\r\n", true),
+    (Property::Bricks { count: 0 }, "EFz_", true),
+    (Property::Bricks { count: 0 }, "Ch", false),
+    (Property::Bricks { count: 1 }, "GFyAHK\n", true),
+    (Property::Composite, "GFyAHK\n", true),
+    (Property::Bicritical, "?\n", false),
+    (Property::Bicritical, "A?\n", false),
+    (Property::Bicritical, "A_\n", true),
+    (Property::Uncovered, "Ch\n", true),
+    (Property::Uncovered, "C~\n", false),
+    (Property::Perfect, "Ch\n", true),
+    (Property::Perfect, "C`\r\n", true),
+    (Property::Perfect, "?\n", true),
+    (Property::Perfect, "Bw\n", false),
+    (Property::Braces { count: 1 }, "GFyAHK\n", true),
+    (Property::Braces { count: 0 }, "GFyAHK\n", false),
 ];
 
 #[test]
 fn selected_lines(rt: HostRuntime) -> Result<(), Fail> {
-    for row in &ROWS {
-        assert!(rt; is_told(rt.alloc(), row)?, "{}", row.line);
+    for (property, line, is_kept) in &ROWS {
+        let query = Query::Select {
+            property: *property,
+        };
+        let wanted = if *is_kept { *line } else { "" };
+        assert!(rt; is_told(rt.alloc(), &query, line, &Ok(wanted))?, "{line}");
     }
     Ok(())
 }

@@ -1,16 +1,14 @@
 //! How many cubic graphs are kept.
 
 use crate::cubic::{CubicFamily, FAMILIES};
-use mcg6_lines::{Property, Query, QueryAnswer, tell};
+use crate::told::is_told;
+use mcg6_lines::{Property, Query};
 use std::alloc::{AllocError as Memory, Global};
 use std::test::Fail;
 
 // Whether the line is kept.
 fn is_kept(alloc: Global, line: &str, property: Property) -> Result<bool, Memory> {
-    match tell(alloc, &Query::Select { property }, 1, line.as_bytes())? {
-        QueryAnswer::Output { bytes } => Ok(bytes.as_slice() == line.as_bytes()),
-        QueryAnswer::Bad { .. } => Ok(false),
-    }
+    is_told(alloc, &Query::Select { property }, line, &Ok(line))
 }
 
 // How many of the lines are kept.

@@ -7,7 +7,7 @@ ghost use Rattle.mcg6_top.specs.Listings.{TellsOrSkips, StopsAt, SkipsLine, IsBa
 
 use crate::command::AtBadLine;
 use line_text::FaultKind;
-use mcg6_lines::{Query, QueryAnswer, tell};
+use mcg6_lines::{Query, tell};
 use mcg6_reader::{LineAnswer, LinePlace, LineTeller};
 use std::alloc::{AllocError as Memory, Global};
 
@@ -56,15 +56,19 @@ impl LineTeller for Lister {
             return Ok(bad_line(self.at_bad, FaultKind::Extra));
         }
         match tell(alloc, &self.query, place.number, line)? {
-            QueryAnswer::Output { bytes } => Ok(LineAnswer::Output { bytes }),
-            QueryAnswer::Bad { kind } => Ok(bad_line(self.at_bad, kind)),
+            Ok(bytes) => Ok(LineAnswer::Output { bytes }),
+            Err(kind) => Ok(bad_line(self.at_bad, kind)),
         }
     }
 
     fn fault_at_end(&self, graphs: u64) -> Option<FaultKind> {
         match self.query {
             Query::Graph if graphs == 0 => Some(FaultKind::Missing),
-            _ => None,
+            Query::Graph
+            | Query::Kinds
+            | Query::Leaves { .. }
+            | Query::Elementary
+            | Query::Select { .. } => None,
         }
     }
 }
