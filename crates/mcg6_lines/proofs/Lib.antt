@@ -3,7 +3,6 @@ pub mod SingleLeaves
 pub mod LeafTexts
 pub mod TakenEdges
 pub mod Components
-pub mod BicriticalGraphs
 pub mod UncoveredGraphs
 pub mod OneTree
 pub mod ReadMultigraphs

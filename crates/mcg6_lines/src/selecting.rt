@@ -3,13 +3,14 @@ ghost use Rattle.std.specs.Prelude.{◌≡◌, IfOk};
 ghost use Rattle.leaf_kinds.specs.LeafKinds.{IsKind};
 ghost use Rattle.mcg6_lines.specs.Selecting.{Decides, IsSelected};
 
+use crate::bicritical::is_bicritical;
 use crate::leaf_counts::counted;
 use crate::query::Property;
 use graph_core::{Kind, MultiGraph};
 use graph_facts::Covered;
 use leaf_kinds::kind_of;
 use match_core::perfect_without;
-use separation_kit::{FirstPairs, equivalent_pair, first_pairs_law};
+use separation_kit::FirstPairs;
 use std::alloc::{AllocError as Memory, Global};
 use vset_core::VSet;
 
@@ -29,14 +30,16 @@ pub fn selected(
     }
 }
 
-// Whether the graph has the property. All properties but two are those of covered graphs.
+// Whether the graph has the property. Whether it is covered is asked for all properties but two.
 #[tactic(auto, using(crate::proofs::UncoveredGraphs::uncovered_lacks))]
 fn has_property(alloc: Global, g: &MultiGraph, property: Property) -> Result<bool, Memory>
     ensures { IfOk result (Decides g.now property) }
 {
-    g.keeps_limits();
     if matches!(property, Property::Perfect) {
         return is_perfect(alloc, g);
+    }
+    if matches!(property, Property::Bicritical) {
+        return is_bicritical(alloc, g);
     }
     match Covered::of(alloc, g)? {
         Ok(c) => covered_has_property(alloc, &c, property),
@@ -67,7 +70,7 @@ fn covered_has_property(alloc: Global, c: &Covered, property: Property) -> Resul
         Property::Brick => Ok(matches!(kind(alloc, c)?, Kind::Brick)),
         Property::Brace => Ok(matches!(kind(alloc, c)?, Kind::Brace)),
         Property::Composite => Ok(matches!(kind(alloc, c)?, Kind::Composite { .. })),
-        Property::Bicritical => Ok(is_bicritical(c)),
+        Property::Bicritical => is_bicritical(alloc, c.graph()),
         Property::Bricks { count } => Ok(counted(alloc, c)?.bricks == count),
         Property::Braces { count } => Ok(counted(alloc, c)?.braces == count),
     }
@@ -77,16 +80,5 @@ fn covered_has_property(alloc: Global, c: &Covered, property: Property) -> Resul
 fn kind(alloc: Global, c: &Covered) -> Result<Kind, Memory>
     ensures { IfOk result (IsKind c.now) }
 {
-    let kind = kind_of(alloc, &FirstPairs::of(c))?;
-    Ok(kind)
-}
-
-// Whether a covered graph is bicritical.
-#[tactic(auto, using(graph_core::proofs::Common::covered_perfect))]
-fn is_bicritical(c: &Covered) -> bool
-    ensures { Decides c.now Property.Bicritical result }
-{
-    c.keeps_covered();
-    first_pairs_law();
-    equivalent_pair(c).is_none()
+    kind_of(alloc, &FirstPairs::of(c))
 }

@@ -15,7 +15,10 @@ use tree_core::Tally;
 #[derive(Clone, Copy)]
 pub enum Standing {
     /// It is not covered, for this first reason, and a maximum matching misses so many vertices.
-    Uncovered { reason: Reason, deficiency: u32 },
+    Uncovered {
+        reason: Reason,
+        deficiency: u32,
+    },
     /// It is covered, of this kind, with so many leaves, and bicritical or not.
     Structured {
         kind: Kind,

@@ -15,5 +15,5 @@ returns c = record {
   covered = c.keeps_covered.ensures.covered;
   right_kind = subst (λ (g : Graph). IsKind g c.in_ok-kind.kind) c.of-pairs.ensures c.in_ok-kind.ensures.kind;
   counted = c.in_ok-tally.ensures;
-  critical = subst (λ (g : Graph). IsTrue c.is_bicritical.result ↔ IsBicritical g) c.of-pairs.ensures c.is_bicritical.ensures;
+  critical = subst (λ (g : Graph). IsTrue c.is_bicritical-bicritical.result ↔ IsBicritical g) c.of-pairs.ensures c.is_bicritical-bicritical.ensures;
 }

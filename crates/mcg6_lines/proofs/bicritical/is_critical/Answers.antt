@@ -1,0 +1,17 @@
+use Rattle.std.proofs.Common.{◌+◌, ◌∙◌, ap, arith, inl, inr, subst, sym, IsTrue}
+use Rattle.counting.proofs.Common.{cases_eq, pair_set}
+use Rattle.graph_core.proofs.Common.{HasPerfect}
+use Rattle.mcg6_lines.proofs.bicritical.is_critical.Goals as goal
+
+pub loop-k-preserved : goal.loop-k-preserved
+loop-k-preserved c =
+    let same = c.in_ok-has_all_partners.ensures.same in
+    let holds : IsTrue c.in_ok-has_all_partners.field-0 = grind (arith, c.if-not-branch.false) in
+    record {
+      graph = ap (λ rows. rows.graph) same ∙ c.loop-k.invariant.graph;
+      whole = ap (λ rows. rows.removed) same ∙ c.loop-k.invariant.whole;
+      all = λ u v wu wv different. elim (cases_eq u (c.loop-k.k + 1)) [
+        | inl last ↦ subst (λ w. HasPerfect c.args.g.now (pair_set w v)) (sym last) (c.in_ok-has_all_partners.ensures.all.0 holds v wv (λ e. different (last ∙ e)))
+        | inr before ↦ c.loop-k.invariant.all u v (wu.0, omega (arith, before, wu.1)) wv different
+      ];
+    }

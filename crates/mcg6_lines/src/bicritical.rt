@@ -1,0 +1,74 @@
+//! Whether a graph is bicritical.
+ghost use Rattle.std.specs.Prelude.{◌≡◌, ◌≢◌, ◌↔◌, ◌≤◌, ℕ, [], true, IfOk, IsTrue};
+ghost use Rattle.counting.specs.Common.{Within, mem, none, pair_set};
+ghost use Rattle.graph_core.specs.Common.{HasPerfect};
+ghost use Rattle.match_core.specs.Common.{IsOf};
+ghost use Rattle.mcg6_lines.specs.Selecting.{Decides};
+
+use crate::query::Property;
+use graph_core::MultiGraph;
+use match_core::{LazyPartners, Matching, perfect_without};
+use std::alloc::{AllocError as Memory, Global};
+use vset_core::{MOST_VERTICES, VSet};
+
+/// Whether the graph is bicritical. Takes one maximum matching, and then a search for each vertex,
+/// up to the first that has not all others as its partners.
+pub fn is_bicritical(alloc: Global, g: &MultiGraph) -> Result<bool, Memory>
+    ensures { IfOk result (Decides g.now Property.Bicritical) }
+{
+    g.keeps_limits();
+    if g.size() == 0 {
+        return Ok(false);
+    }
+    match perfect_without(alloc, g, VSet::empty())? {
+        Some(matching) => is_critical(alloc, g, &matching),
+        None => Ok(false),
+    }
+}
+
+// Whether any two vertices are partners, in a graph with this matching.
+fn is_critical(alloc: Global, g: &MultiGraph, matching: &Matching) -> Result<bool, Memory>
+    requires of { IsOf g.now matching.now }
+    requires two { 2 ≤ g.now.order }
+    requires matched { HasPerfect g.now none }
+    ensures { IfOk result (Decides g.now Property.Bicritical) }
+{
+    let mut rows = LazyPartners::new(alloc, g, VSet::empty(), matching)?;
+    for k in 0..g.order() {
+        if !has_all_partners(alloc, g, &mut rows, k + 1)? {
+            return Ok(false);
+        }
+    }
+    Ok(true)
+}
+
+// Whether all other vertices are partners of this one.
+fn has_all_partners(
+    alloc: Global,
+    g: &MultiGraph,
+    rows: &mut LazyPartners<'_>,
+    u: u32,
+) -> Result<bool, Memory>
+    requires graph { rows.old.graph ≡ g.now }
+    requires whole { rows.old.removed ≡ [] }
+    requires vertex { Within g.now.order u }
+    ensures all { IfOk result (λ all. IsTrue all ↔
+        ((v : ℕ) → Within g.now.order v → u ≢ v → HasPerfect g.now (pair_set u v))) }
+    ensures same { rows.new ≡ rows.old }
+{
+    g.keeps_limits();
+    let partners = rows.of(alloc, u)?;
+    Ok(has_all_others(g.order(), partners, u))
+}
+
+// Whether the set has all numbers from 1 to n but this one.
+fn has_all_others(n: u32, set: VSet, u: u32) -> bool
+    requires few { n ≤ MOST_VERTICES }
+    requires within { Within n u }
+    ensures { IsTrue result ↔ ((v : ℕ) → Within n v → u ≢ v → mem set v ≡ true) }
+{
+    match VSet::full(n).without(u).minus(set).first() {
+        Some(_) => false,
+        None => true,
+    }
+}
