@@ -33,11 +33,7 @@ static ROWS: [Row; 9] = [
         "",
         Some((3, FaultKind::Range, "e 1 3 \r")),
     ),
-    (
-        "p mcg 2 2\ne 1 2\n",
-        "",
-        Some((3, FaultKind::Missing, "")),
-    ),
+    ("p mcg 2 2\ne 1 2\n", "", Some((3, FaultKind::Missing, ""))),
 ];
 
 // A source of the file in pieces of that size.

@@ -25,14 +25,26 @@ static ROWS: [(Query, &str, Answer); 13] = [
     (BALANCED, "EFz_\n", Ok("7 EFz_ EFz_ brace\n")),
     (FIRST, ">>graph6<<A_\r\n", Ok("7 A_ A_ brace\n")),
     (Query::Elementary, "C~\n", Ok("7 C~ 1 2 3 4\n")),
-    (Query::Elementary, ">>graph6<<Ch\r\n", Ok("7 A_ 1 2\n7 A_ 3 4\n")),
+    (
+        Query::Elementary,
+        ">>graph6<<Ch\r\n",
+        Ok("7 A_ 1 2\n7 A_ 3 4\n"),
+    ),
     (Query::Elementary, "Bw\n", Ok("")),
     (Query::Elementary, "?\n", Ok("")),
     (Query::Elementary, "Euo_\n", Ok("7 C] 1 2 4 5\n7 A_ 3 6\n")),
     (Query::Elementary, "C~~", Err(FaultKind::Extra)),
     (Query::Graph, "Bw\n", Ok("p mcg 3 3\ne 1 2\ne 1 3\ne 2 3\n")),
-    (FIRST, "GFyAHK\n", Ok("7 GFyAHK EFz_ brace\n7 GFyAHK C~ brick\n")),
-    (BALANCED, "GFyAHK\n", Ok("7 GFyAHK EFz_ brace\n7 GFyAHK C~ brick\n")),
+    (
+        FIRST,
+        "GFyAHK\n",
+        Ok("7 GFyAHK EFz_ brace\n7 GFyAHK C~ brick\n"),
+    ),
+    (
+        BALANCED,
+        "GFyAHK\n",
+        Ok("7 GFyAHK EFz_ brace\n7 GFyAHK C~ brick\n"),
+    ),
 ];
 
 #[test]

@@ -13,7 +13,10 @@ static ROWS: [(&str, Answer); 16] = [
     ("@\n", Ok("@ 1 0 uncovered order 1\n")),
     ("Bw\r\n", Ok("Bw 3 3 uncovered berge 1\n")),
     ("Ch\n", Ok("Ch 4 3 uncovered edge 0\n")),
-    (">>graph6<<IheA@GUAo\n", Ok("IheA@GUAo 10 15 brick 1 0 bicritical yes\n")),
+    (
+        ">>graph6<<IheA@GUAo\n",
+        Ok("IheA@GUAo 10 15 brick 1 0 bicritical yes\n"),
+    ),
     ("EFz_\n", Ok("EFz_ 6 9 brace 0 1 bicritical no\n")),
     ("C`\n", Ok("C` 4 2 uncovered parts 0\n")),
     ("?\n", Ok("? 0 0 uncovered order 0\n")),
