@@ -1,7 +1,7 @@
 -- The lines that `select` keeps: those whose graph has a property.
 -- Stated by: mcg6_lines, theorems.
 use Rattle.std.specs.Prelude.{◌≡◌, ◌≢◌, ℕ, ◌≤◌, ◌⊎◌, List, [], Bool, true, false}
-use Rattle.counting.specs.Common.{none}
+use Rattle.counting.specs.Common.{Within, none, pair_set}
 use Rattle.graph_core.specs.Common.{IsCovered, Graph, HasPerfect, IsBicritical}
 use Rattle.graph_core.specs.declared.verdict.Kind.TheVariants as kind
 use Rattle.leaf_kinds.specs.LeafKinds.{IsKind}
@@ -45,3 +45,7 @@ Decides g property false = LacksProperty g property
 -- the line itself if its graph has the property, and nothing if it has not
 abbrev pub IsSelected : Property → Graph → (line bytes : List ℕ) → Type 0
 IsSelected property g line bytes = (HasProperty g property × (bytes ≡ line)) ⊎ (LacksProperty g property × (bytes ≡ []))
+
+-- without u and any other vertex there is a perfect matching
+abbrev pub HasAllPartners : Graph → ℕ → Type 0
+HasAllPartners g u = (v : ℕ) → Within g.order v → u ≢ v → HasPerfect g (pair_set u v)

@@ -1,13 +1,12 @@
 //! Whether a graph is bicritical.
 ghost use Rattle.std.specs.Prelude.{◌≡◌, ◌≢◌, ◌↔◌, ◌≤◌, ℕ, [], true, IfOk, IsTrue};
-ghost use Rattle.counting.specs.Common.{Within, mem, none, pair_set};
-ghost use Rattle.graph_core.specs.Common.{HasPerfect};
-ghost use Rattle.match_core.specs.Common.{IsOf};
-ghost use Rattle.mcg6_lines.specs.Selecting.{Decides};
+ghost use Rattle.counting.specs.Common.{Within, mem};
+ghost use Rattle.graph_core.specs.Common.{IsBicritical};
+ghost use Rattle.mcg6_lines.specs.Selecting.{Decides, HasAllPartners};
 
 use crate::query::Property;
 use graph_core::MultiGraph;
-use match_core::{LazyPartners, Matching, perfect_without};
+use match_core::{LazyPartners, perfect_without};
 use std::alloc::{AllocError as Memory, Global};
 use vset_core::{MOST_VERTICES, VSet};
 
@@ -21,21 +20,22 @@ pub fn is_bicritical(alloc: Global, g: &MultiGraph) -> Result<bool, Memory>
         return Ok(false);
     }
     match perfect_without(alloc, g, VSet::empty())? {
-        Some(matching) => is_critical(alloc, g, &matching),
+        Some(matching) => {
+            let mut rows = LazyPartners::new(alloc, g, VSet::empty(), &matching)?;
+            is_critical(alloc, g, &mut rows)
+        }
         None => Ok(false),
     }
 }
 
-// Whether any two vertices are partners, in a graph with this matching.
-fn is_critical(alloc: Global, g: &MultiGraph, matching: &Matching) -> Result<bool, Memory>
-    requires of { IsOf g.now matching.now }
-    requires two { 2 ≤ g.now.order }
-    requires matched { HasPerfect g.now none }
-    ensures { IfOk result (Decides g.now Property.Bicritical) }
+// Whether any two vertices are partners.
+fn is_critical(alloc: Global, g: &MultiGraph, rows: &mut LazyPartners<'_>) -> Result<bool, Memory>
+    requires graph { rows.old.graph ≡ g.now }
+    requires whole { rows.old.removed ≡ [] }
+    ensures { IfOk result (λ holds. IsTrue holds ↔ IsBicritical g.now) }
 {
-    let mut rows = LazyPartners::new(alloc, g, VSet::empty(), matching)?;
     for k in 0..g.order() {
-        if !has_all_partners(alloc, g, &mut rows, k + 1)? {
+        if !has_all_partners(alloc, g, rows, k + 1)? {
             return Ok(false);
         }
     }
@@ -52,8 +52,7 @@ fn has_all_partners(
     requires graph { rows.old.graph ≡ g.now }
     requires whole { rows.old.removed ≡ [] }
     requires vertex { Within g.now.order u }
-    ensures all { IfOk result (λ all. IsTrue all ↔
-        ((v : ℕ) → Within g.now.order v → u ≢ v → HasPerfect g.now (pair_set u v))) }
+    ensures all { IfOk result (λ all. IsTrue all ↔ HasAllPartners g.now u) }
     ensures same { rows.new ≡ rows.old }
 {
     g.keeps_limits();

@@ -1,6 +1,6 @@
 use Rattle.std.proofs.Common.{◌+◌, ◌∙◌, ap, arith, inl, inr, subst, sym, IsTrue}
-use Rattle.counting.proofs.Common.{cases_eq, pair_set}
-use Rattle.graph_core.proofs.Common.{HasPerfect}
+use Rattle.counting.proofs.Common.{cases_eq}
+use Rattle.mcg6_lines.specs.Selecting.{HasAllPartners}
 use Rattle.mcg6_lines.proofs.bicritical.is_critical.Goals as goal
 
 pub loop-k-preserved : goal.loop-k-preserved
@@ -10,8 +10,8 @@ loop-k-preserved c =
     record {
       graph = ap (λ rows. rows.graph) same ∙ c.loop-k.invariant.graph;
       whole = ap (λ rows. rows.removed) same ∙ c.loop-k.invariant.whole;
-      all = λ u v wu wv different. elim (cases_eq u (c.loop-k.k + 1)) [
-        | inl last ↦ subst (λ w. HasPerfect c.args.g.now (pair_set w v)) (sym last) (c.in_ok-has_all_partners.ensures.all.0 holds v wv (λ e. different (last ∙ e)))
-        | inr before ↦ c.loop-k.invariant.all u v (wu.0, omega (arith, before, wu.1)) wv different
+      all = λ u within. elim (cases_eq u (c.loop-k.k + 1)) [
+        | inl last ↦ subst (HasAllPartners c.args.g.now) (sym last) (c.in_ok-has_all_partners.ensures.all.0 holds)
+        | inr before ↦ c.loop-k.invariant.all u (within.0, omega (arith, before, within.1))
       ];
     }
