@@ -10,6 +10,7 @@ pub mod Replays
 pub mod StuckMoves
 pub mod Comparisons
 pub mod Growths
+pub mod FaultPlaces
 pub mod Outcome
 pub mod Success
 pub mod Refusing

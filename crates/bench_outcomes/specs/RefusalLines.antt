@@ -1,5 +1,5 @@
 -- What a refusal says of a report: the line that stands for it, of which the evidence is left open.
--- Stated by: bench_outcomes, bench_reports, bench_top.
+-- Stated by: bench_outcomes, bench_reports. Rests on it: bench_top.
 use Rattle.std.specs.Prelude.{ℕ, List, ◌++◌, Bool, true, false, codes, drop, length}
 use Rattle.std.specs.declared.option.Option.{Option}
 use Rattle.std.specs.declared.option.Option.TheVariants.{Some, None}
@@ -103,10 +103,10 @@ cover_told (cover.Unallowed edge) output = verdict_text (NotCovered (reason.Unal
 -- matching or a shore
 abbrev pub refusal_told : Refusal → (output : List ℕ) → List ℕ
 refusal_told (Graph fault) output = cover_told fault output
-refusal_told (Tree number at fault) output = begun_by (refused_words (codes "tree ") number at (node_number fault)) output
-refusal_told (Ears step fault) output = ear_judgement_text (line.Refused step (step_number fault) (fault_edge fault))
+refusal_told (Tree number at place fault) output = begun_by (refused_words (codes "tree ") number at (node_number fault)) output
+refusal_told (Ears step place fault) output = ear_judgement_text (line.Refused step (step_number fault) (fault_edge fault))
 refusal_told (Stuck step) output = stuck_text step
-refusal_told (Move step at fault) output = begun_by (refused_words (codes "move ") step at (node_number fault)) output
+refusal_told (Move step at place fault) output = begun_by (refused_words (codes "move ") step at (node_number fault)) output
 
 -- the same for a report that may be no refusal
 abbrev pub told_by : Option Refusal → (output : List ℕ) → List ℕ

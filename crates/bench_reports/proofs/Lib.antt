@@ -7,3 +7,6 @@ pub mod Reported
 pub mod RefusalsTold
 pub mod StuckMoves
 pub mod NestedShores
+pub mod NodeSearches
+pub mod MadeMoves
+pub mod FaultsPlaced

@@ -1,10 +1,11 @@
 //! Whether a tree is a derivation of a graph, as `check` reports it.
-ghost use Rattle.std.specs.Prelude.{◌≡◌, IfOk};
+ghost use Rattle.std.specs.Prelude.{◌≡◌, ◌∷◌, [], List, IfOk, IfSome, Some};
 ghost use Rattle.graph_core.specs.Common.{Graph};
 ghost use Rattle.tree_core.specs.Common.{IsDerivation, IsTally, Fits, Shape, leaves, shape_of};
 ghost use Rattle.tree_check.specs.Common.{why_of, why_number, IsRefused};
-ghost use Rattle.bench_outcomes.specs.Common.{AcceptedTree, CheckGives, RefusedTree, RefusesIfAny, node_fault_of, shown_of};
+ghost use Rattle.bench_outcomes.specs.Common.{AcceptedTree, CheckGives, IsInTrees, IsOfGraph, RefusedTree, RefusesIfAny, node_fault_of, shown_of, tree_numbered};
 
+use crate::node_places::node_place;
 use crate::uncovered::uncovered_report;
 use bench_outcomes::{Report, Status};
 use graph_core::MultiGraph;
@@ -52,26 +53,29 @@ pub fn shown_by(why: Why) -> Shown
     }
 }
 
-// The line of a refusal of the tree of this place.
+// The line of a refusal of the tree with this number.
 fn refused_report(
     alloc: Global,
     g: &MultiGraph,
     tree: &Tree,
-    place: u32,
+    number: u32,
     node: u32,
     why: Why,
 ) -> Result<Report, Memory>
     requires { IsRefused g.now (shape_of tree.now) node (why_of why) }
-    ensures { IfOk result
-        (λ report. RefusedTree g.now (shape_of tree.now) place report.status report.bytes.items) }
+    ensures gives { IfOk result
+        (λ report. RefusedTree g.now (shape_of tree.now) number report.status report.bytes.items) }
+    ensures placed { (trees : List Shape) → tree_numbered trees number ≡ Some (shape_of tree.now) →
+        IfOk result (λ report. IsInTrees trees report.refusal) }
 {
     let refusal = Refusal::Tree {
-        tree: place,
+        tree: number,
         node,
+        place: node_place(tree, node),
         fault: node_fault_of(&why),
     };
     let line = TreeLine::Refused {
-        tree: place,
+        tree: number,
         node,
         why: number_of(&why),
         shown: shown_by(why),
@@ -83,23 +87,25 @@ fn refused_report(
     })
 }
 
-/// The report that refuses the tree of this place among those that are named, counted from 1, of a
-/// covered graph. None if the tree is a derivation. What its judgement finds is known afterwards.
+/// The report that refuses the tree with this number among those that are named, counted from 1, of
+/// a covered graph. None if the tree is a derivation. What its judgement finds is known afterwards.
 pub fn refusal_where_covered(
     alloc: Global,
     known: &mut KnownPlaces,
     tree: &Tree,
-    place: u32,
+    number: u32,
 ) -> Result<Option<Report>, Memory>
     requires { Fits known.old.order (shape_of tree.now) }
-    ensures refuses { IfOk result (RefusesIfAny known.old (shape_of tree.now) place) }
+    ensures refuses { IfOk result (RefusesIfAny known.old (shape_of tree.now) number) }
+    ensures placed { (trees : List Shape) → tree_numbered trees number ≡ Some (shape_of tree.now) →
+        IfOk result (λ r. IfSome r (λ report. IsInTrees trees report.refusal)) }
     ensures same { known.new ≡ known.old }
 {
     match scan_known(alloc, known, tree)? {
         Scanned::Passed { .. } => Ok(None),
         Scanned::Refused { node, why } => {
             let g = known.covered().graph();
-            let report = refused_report(alloc, g, tree, place, node, why)?;
+            let report = refused_report(alloc, g, tree, number, node, why)?;
             Ok(Some(report))
         }
     }
@@ -107,8 +113,9 @@ pub fn refusal_where_covered(
 
 // The line of a derivation with so many leaves.
 fn accepted_report(alloc: Global, tally: Tally) -> Result<Report, Memory>
-    ensures { (g : Graph) (t : Shape) → IsDerivation g t → IsTally g (leaves g.order t) tally →
+    ensures gives { (g : Graph) (t : Shape) → IsDerivation g t → IsTally g (leaves g.order t) tally →
         IfOk result (λ report. AcceptedTree g t report.status report.bytes.items) }
+    ensures placed { IfOk result (λ report. IsOfGraph report.refusal) }
 {
     Ok(Report {
         status: Status::Done,
@@ -120,8 +127,9 @@ fn accepted_report(alloc: Global, tally: Tally) -> Result<Report, Memory>
 // The report on a tree of a covered graph. Its judgement counts the leaves.
 fn judged_report(alloc: Global, c: &Covered, tree: &Tree) -> Result<Report, Memory>
     requires { Fits c.now.order (shape_of tree.now) }
-    ensures { IfOk result
+    ensures gives { IfOk result
         (λ report. CheckGives c.now (shape_of tree.now) report.status report.bytes.items) }
+    ensures placed { IfOk result (λ report. IsInTrees (shape_of tree.now ∷ []) report.refusal) }
 {
     match scan_covered(alloc, c, tree)? {
         Scanned::Passed { tally } => accepted_report(alloc, tally),
@@ -133,8 +141,9 @@ fn judged_report(alloc: Global, c: &Covered, tree: &Tree) -> Result<Report, Memo
 /// graph is not covered.
 pub fn check_report(alloc: Global, g: &MultiGraph, tree: &Tree) -> Result<Report, Memory>
     requires { Fits g.now.order (shape_of tree.now) }
-    ensures { IfOk result
+    ensures gives { IfOk result
         (λ report. CheckGives g.now (shape_of tree.now) report.status report.bytes.items) }
+    ensures placed { IfOk result (λ report. IsInTrees (shape_of tree.now ∷ []) report.refusal) }
 {
     match Covered::of(alloc, g)? {
         Ok(covered) => judged_report(alloc, &covered, tree),

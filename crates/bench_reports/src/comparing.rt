@@ -1,8 +1,8 @@
 //! The comparison of two derivations of a graph, as `compare` and `script` report it.
-ghost use Rattle.std.specs.Prelude.{◌≡◌, ◌≤◌, ◌<◌, ◌+◌, ◌^◌, Err, IfOk, length, map};
+ghost use Rattle.std.specs.Prelude.{◌≡◌, ◌≤◌, ◌<◌, ◌+◌, ◌^◌, ◌∷◌, [], Err, IfOk, IfSome, length, map};
 ghost use Rattle.tree_core.specs.Common.{IsDerivation, moves_of, Fits, leaf_count, shape_of};
 ghost use Rattle.uncross.specs.Common.{map_of, maps_of};
-ghost use Rattle.bench_outcomes.specs.Common.{Compared, RefusesPair, RefusesPairIfAny, Scripted, line_of, lines_of};
+ghost use Rattle.bench_outcomes.specs.Common.{Compared, IsInTrees, IsOfGraph, RefusesPair, RefusesPairIfAny, Scripted, line_of, lines_of};
 
 use crate::checking::refusal_where_covered;
 use crate::uncovered::uncovered_report;
@@ -27,7 +27,10 @@ fn refusal_of_covered(
 ) -> Result<Option<Report>, Memory>
     requires first { Fits c.now.order (shape_of first.now) }
     requires second { Fits c.now.order (shape_of second.now) }
-    ensures { IfOk result (RefusesPairIfAny c.now (shape_of first.now) (shape_of second.now)) }
+    ensures refuses { IfOk result
+        (RefusesPairIfAny c.now (shape_of first.now) (shape_of second.now)) }
+    ensures placed { IfOk result (λ r. IfSome r (λ report.
+        IsInTrees (shape_of first.now ∷ shape_of second.now ∷ []) report.refusal)) }
 {
     let mut known = KnownPlaces::none(alloc, c);
     match refusal_where_covered(alloc, &mut known, first, 1)? {
@@ -49,6 +52,8 @@ pub fn derivations<'g>(
     ensures refused { IfOk result (λ r. (report : _) → r ≡ Err report →
         RefusesPair given.now.named.graph (shape_of given.now.first) (shape_of given.now.second)
         report.status report.bytes.items) }
+    ensures placed { IfOk result (λ r. (report : _) → r ≡ Err report →
+        IsInTrees (shape_of given.now.first ∷ shape_of given.now.second ∷ []) report.refusal) }
 {
     let g = &given.named.graph;
     let covered = match Covered::of(alloc, g)? {
@@ -96,9 +101,10 @@ fn lines_of(alloc: Global, found: &Partitions, maps: LeafMaps) -> Result<MapLine
 pub fn compare_report(alloc: Global, c: &Covered, given: &GivenTrees) -> Result<Report, Memory>
     requires first { IsDerivation c.now (shape_of given.now.first) }
     requires second { IsDerivation c.now (shape_of given.now.second) }
-    ensures { IfOk result
+    ensures gives { IfOk result
         (λ report. Compared c.now (shape_of given.now.first) (shape_of given.now.second) report.status
         report.bytes.items) }
+    ensures placed { IfOk result (λ report. IsOfGraph report.refusal) }
 {
     c.keeps_covered();
     let n = c.order();
@@ -114,12 +120,13 @@ pub fn compare_report(alloc: Global, c: &Covered, given: &GivenTrees) -> Result<
 
 /// The text of a script that turns the first of two derivations into the second, and then the
 /// numbers of leaves and of moves.
-pub fn script_report(alloc: Global, c: &Covered, given: &GivenTrees) -> Result<Report, Memory>
+pub fn moves_script_report(alloc: Global, c: &Covered, given: &GivenTrees) -> Result<Report, Memory>
     requires first { IsDerivation c.now (shape_of given.now.first) }
     requires second { IsDerivation c.now (shape_of given.now.second) }
-    ensures { IfOk result
+    ensures gives { IfOk result
         (λ report. Scripted c.now (shape_of given.now.first) (shape_of given.now.second) report.status
         report.bytes.items) }
+    ensures placed { IfOk result (λ report. IsOfGraph report.refusal) }
 {
     c.keeps_covered();
     let moves = moves_between_covered(alloc, c, &given.first, &given.second)?;

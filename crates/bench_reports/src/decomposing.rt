@@ -3,7 +3,7 @@ ghost use Rattle.std.specs.Prelude.{◌≡◌, ◌<◌, ◌≤◌, IfOk, length,
 ghost use Rattle.graph_text.specs.Common.{named_graph};
 ghost use Rattle.tree_core.specs.Common.{IsDerivation, leaves, place_of, shape_of};
 ghost use Rattle.decomposer.specs.Common.{ScriptPicks, IsPicked};
-ghost use Rattle.bench_outcomes.specs.Common.{DecomposeGives, TellsDerivation};
+ghost use Rattle.bench_outcomes.specs.Common.{DecomposeGives, IsOfGraph, TellsDerivation};
 
 use crate::naming::with_given_names;
 use crate::uncovered::uncovered_report;
@@ -21,9 +21,10 @@ fn derivation_report(alloc: Global, named: &Named, found: &Decomposition) -> Res
     requires derivation { IsDerivation named.now.graph (shape_of found.now.tree) }
     requires leaves { found.now.leaves.items
         ≡ map (place_of named.now.graph) (leaves named.now.graph.order (shape_of found.now.tree)) }
-    ensures { IfOk result
+    ensures gives { IfOk result
         (λ report. TellsDerivation (named_graph named.now) (shape_of found.now.tree) report.status
         report.bytes.items) }
+    ensures placed { IfOk result (λ report. IsOfGraph report.refusal) }
 {
     let g = &named.graph;
     g.keeps_limits();
@@ -45,9 +46,10 @@ fn covered_report<O: Order>(
     order: &O,
 ) -> Result<Report, Memory>
     requires { c.now ≡ named.now.graph }
-    ensures { IfOk result
+    ensures gives { IfOk result
         (λ report. DecomposeGives (O.picks order.now) (named_graph named.now) report.status
         report.bytes.items) }
+    ensures placed { IfOk result (λ report. IsOfGraph report.refusal) }
 {
     let found = decompose_places(alloc, c, order)?;
     derivation_report(alloc, named, &found)
@@ -55,9 +57,10 @@ fn covered_report<O: Order>(
 
 /// The report of a decomposition in an order.
 pub fn decompose_report<O: Order>(alloc: Global, named: &Named, order: &O) -> Result<Report, Memory>
-    ensures { IfOk result
+    ensures gives { IfOk result
         (λ report. DecomposeGives (O.picks order.now) (named_graph named.now) report.status
         report.bytes.items) }
+    ensures placed { IfOk result (λ report. IsOfGraph report.refusal) }
 {
     named.graph.keeps_limits();
     match Covered::of(alloc, &named.graph)? {
@@ -68,9 +71,10 @@ pub fn decompose_report<O: Order>(alloc: Global, named: &Named, order: &O) -> Re
 
 /// The report of a decomposition in the order of a list of picks.
 pub fn decompose_by_report(alloc: Global, named: &Named, picks: &Numbers) -> Result<Report, Memory>
-    ensures { IfOk result
+    ensures gives { IfOk result
         (λ report. DecomposeGives (ScriptPicks picks.now) (named_graph named.now) report.status
         report.bytes.items) }
+    ensures placed { IfOk result (λ report. IsOfGraph report.refusal) }
 {
     let order = Scripted {
         picks: picks.as_slice(),

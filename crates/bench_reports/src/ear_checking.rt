@@ -2,11 +2,11 @@
 ghost use Rattle.std.specs.Prelude.{◌≡◌, ◌<◌, ◌^◌, length, map, IfOk};
 ghost use Rattle.graph_core.specs.Common.{size};
 ghost use Rattle.ear_core.specs.Common.{FitsEars, IsEarList, IsRefused, ears_of, step_of, why_of};
-ghost use Rattle.bench_outcomes.specs.Common.{AcceptedEars, BuiltEars, EarCheckGives, EarsGives, RefusedEars, double_count, ear_fault_of, named_edge, single_count, why_number};
+ghost use Rattle.bench_outcomes.specs.Common.{AcceptedEars, BuiltEars, EarCheckGives, EarsGives, IsInEars, IsOfGraph, RefusedEars, double_count, ear_fault_of, named_edge, single_count, why_number};
 
 use crate::uncovered::uncovered_report;
 use bench_outcomes::{Report, Status};
-use ear_core::{EarJudgement, EarList, EarWhy, Step, build_ears_of, check_ears};
+use ear_core::{EarJudgement, EarList, EarWhy, Step, build_ears_of, check_ears, fault_place};
 use ear_text::write_ears;
 use graph_core::MultiGraph;
 use graph_facts::Covered;
@@ -50,7 +50,11 @@ fn edge_of(why: EarWhy) -> Option<u32>
 {
     match why {
         EarWhy::StageNotCovered { edge } | EarWhy::EndsEarly { edge } => Some(edge),
-        _ => None,
+        EarWhy::NotPath
+        | EarWhy::EvenLength
+        | EarWhy::BadEnds
+        | EarWhy::InnerOnStage
+        | EarWhy::EdgeUsed => None,
     }
 }
 
@@ -92,8 +96,9 @@ fn counts_of(steps: &[Step]) -> StepCounts
 // The line of an ear list.
 fn accepted_report(alloc: Global, c: &Covered, list: &EarList) -> Result<Report, Memory>
     requires { IsEarList c.now (ears_of list.now) }
-    ensures { IfOk result
+    ensures gives { IfOk result
         (λ report. AcceptedEars c.now (ears_of list.now) report.status report.bytes.items) }
+    ensures placed { IfOk result (λ report. IsOfGraph report.refusal) }
 {
     c.keeps_covered();
     let StepCounts {
@@ -121,11 +126,14 @@ fn refused_report(
     step: u32,
     why: EarWhy,
 ) -> Result<Report, Memory>
-    requires { IsRefused c.now (ears_of list.now) step (why_of why) }
-    ensures { IfOk result
+    requires fits { FitsEars c.now.order (size c.now) (ears_of list.now) }
+    requires refused { IsRefused c.now (ears_of list.now) step (why_of why) }
+    ensures gives { IfOk result
         (λ report. RefusedEars c.now (ears_of list.now) report.status report.bytes.items) }
+    ensures placed { IfOk result (λ report. IsInEars c.now (ears_of list.now) report.refusal) }
 {
     c.keeps_covered();
+    let place = fault_place(alloc, c.graph(), list, step)?;
     let line = EarLine::Refused {
         step,
         why: number_of(why),
@@ -136,6 +144,7 @@ fn refused_report(
         bytes: ear_judgement(alloc, &line)?,
         refusal: Some(Refusal::Ears {
             step,
+            place,
             fault: ear_fault_of(why),
         }),
     })
@@ -144,8 +153,9 @@ fn refused_report(
 // The report on a list of ears of a covered graph.
 fn judged_report(alloc: Global, c: &Covered, list: &EarList) -> Result<Report, Memory>
     requires { FitsEars c.now.order (size c.now) (ears_of list.now) }
-    ensures { IfOk result
+    ensures gives { IfOk result
         (λ report. EarCheckGives c.now (ears_of list.now) report.status report.bytes.items) }
+    ensures placed { IfOk result (λ report. IsInEars c.now (ears_of list.now) report.refusal) }
 {
     match check_ears(alloc, c.graph(), list)? {
         EarJudgement::Accepted => accepted_report(alloc, c, list),
@@ -157,8 +167,9 @@ fn judged_report(alloc: Global, c: &Covered, list: &EarList) -> Result<Report, M
 /// the graph is not covered.
 pub fn checkears_report(alloc: Global, g: &MultiGraph, list: &EarList) -> Result<Report, Memory>
     requires { FitsEars g.now.order (size g.now) (ears_of list.now) }
-    ensures { IfOk result
+    ensures gives { IfOk result
         (λ report. EarCheckGives g.now (ears_of list.now) report.status report.bytes.items) }
+    ensures placed { IfOk result (λ report. IsInEars g.now (ears_of list.now) report.refusal) }
 {
     match Covered::of(alloc, g)? {
         Ok(c) => judged_report(alloc, &c, list),
@@ -168,7 +179,8 @@ pub fn checkears_report(alloc: Global, g: &MultiGraph, list: &EarList) -> Result
 
 // The text of an ear list of a covered graph, and then the numbers of its steps.
 fn built_report(alloc: Global, c: &Covered) -> Result<Report, Memory>
-    ensures { IfOk result (λ report. BuiltEars c.now report.status report.bytes.items) }
+    ensures gives { IfOk result (λ report. BuiltEars c.now report.status report.bytes.items) }
+    ensures placed { IfOk result (λ report. IsOfGraph report.refusal) }
 {
     c.keeps_covered();
     let list = build_ears_of(alloc, c)?;
@@ -189,8 +201,9 @@ fn built_report(alloc: Global, c: &Covered) -> Result<Report, Memory>
 
 /// The report of an ear list that is built: its text and the numbers of its steps, or that the
 /// graph is not covered.
-pub fn ears_report(alloc: Global, g: &MultiGraph) -> Result<Report, Memory>
-    ensures { IfOk result (λ report. EarsGives g.now report.status report.bytes.items) }
+pub fn built_ears_report(alloc: Global, g: &MultiGraph) -> Result<Report, Memory>
+    ensures gives { IfOk result (λ report. EarsGives g.now report.status report.bytes.items) }
+    ensures placed { IfOk result (λ report. IsOfGraph report.refusal) }
 {
     match Covered::of(alloc, g)? {
         Ok(c) => built_report(alloc, &c),

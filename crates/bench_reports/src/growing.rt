@@ -2,7 +2,7 @@
 ghost use Rattle.std.specs.Prelude.{◌≡◌, IfOk};
 ghost use Rattle.tree_core.specs.Common.{shape_of};
 ghost use Rattle.decomposer.specs.Common.{NamedPicks};
-ghost use Rattle.bench_outcomes.specs.Common.{Grown, IsCounted};
+ghost use Rattle.bench_outcomes.specs.Common.{Grown, IsCounted, IsOfGraph};
 
 use bench_outcomes::{Report, Status};
 use bench_tasks::GrowNumbers;
@@ -27,8 +27,9 @@ fn counted(alloc: Global, c: &Covered, order: NamedOrder) -> Result<(Tree, Tally
 /// The report on the graph that grows from a seed: its text, the leaves of its derivations by the
 /// first and by the last candidates, and how many leaves their comparison pairs.
 pub fn grow_report(alloc: Global, growth: GrowNumbers) -> Result<Report, Memory>
-    ensures { IfOk result
+    ensures gives { IfOk result
         (λ report. Grown growth.seed growth.pieces report.status report.bytes.items) }
+    ensures placed { IfOk result (λ report. IsOfGraph report.refusal) }
 {
     let g = grow(alloc, growth.seed as u64, growth.pieces)?;
     let text = write_graph(alloc, &g)?;

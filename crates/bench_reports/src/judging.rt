@@ -3,12 +3,12 @@ ghost use Rattle.std.specs.Prelude.{◌≡◌, IfOk};
 ghost use Rattle.graph_text.specs.Common.{named_graph};
 ghost use Rattle.bench_tasks.specs.Common.{given_trees, graph_in, on_trees, task_of};
 ghost use Rattle.bench_tasks.specs.Tasks.{OnGraph};
-ghost use Rattle.bench_outcomes.specs.Common.{HasMaximum, IsAnalysis, Analysed, Converted, Analysed6, IsReported, ResultOf, TaskMayRefuse};
+ghost use Rattle.bench_outcomes.specs.Common.{HasMaximum, IsAnalysis, Analysed, Converted, Analysed6, IsOfGraph, IsPlaced, IsReported, ResultOf, TaskMayRefuse};
 
 use crate::checking::check_report;
-use crate::comparing::{compare_report, derivations, script_report};
+use crate::comparing::{compare_report, derivations, moves_script_report};
 use crate::decomposing::{decompose_by_report, decompose_report};
-use crate::ear_checking::{checkears_report, ears_report};
+use crate::ear_checking::{built_ears_report, checkears_report};
 use crate::growing::grow_report;
 use crate::naming::{given_or_plain, with_given_names};
 use crate::replaying::replay_report;
@@ -76,8 +76,9 @@ fn lines_of(alloc: Global, facts: Facts) -> Result<AnalysisLines, Memory>
 
 // The report of `analyse`.
 fn analyse_report(alloc: Global, named: &Named) -> Result<Report, Memory>
-    ensures { IfOk result
+    ensures gives { IfOk result
         (λ report. Analysed (named_graph named.now) report.status report.bytes.items) }
+    ensures placed { IfOk result (λ report. IsOfGraph report.refusal) }
 {
     let lines = analysis_lines(alloc, &named.graph)?;
     let text = analysis(alloc, &lines)?;
@@ -91,8 +92,9 @@ fn analyse_report(alloc: Global, named: &Named) -> Result<Report, Memory>
 
 // The report of `convert`.
 fn convert_report(alloc: Global, named: Named) -> Result<Report, Memory>
-    ensures { IfOk result
+    ensures gives { IfOk result
         (λ report. Converted (named_graph named) report.status report.bytes.items) }
+    ensures placed { IfOk result (λ report. IsOfGraph report.refusal) }
 {
     let Named { graph, names } = named;
     let names = given_or_plain(alloc, &graph, names)?;
@@ -105,7 +107,8 @@ fn convert_report(alloc: Global, named: Named) -> Result<Report, Memory>
 
 // The report of `analyse6`.
 fn analyse6_report(alloc: Global, simple: SimpleGraph) -> Result<Report, Memory>
-    ensures { IfOk result (λ report. Analysed6 (graph_in simple) report.status report.bytes.items) }
+    ensures gives { IfOk result (λ report. Analysed6 (graph_in simple) report.status report.bytes.items) }
+    ensures placed { IfOk result (λ report. IsOfGraph report.refusal) }
 {
     let SimpleGraph { graph } = simple;
     let lines = analysis_lines(alloc, &graph)?;
@@ -120,36 +123,40 @@ fn analyse6_report(alloc: Global, simple: SimpleGraph) -> Result<Report, Memory>
 
 // What a task on a graph gives, by its verb.
 fn graph_report(alloc: Global, verb: GraphVerb, named: Named) -> Result<Report, Memory>
-    ensures { IfOk result
+    ensures gives { IfOk result
         (λ report. ResultOf (OnGraph verb (named_graph named)) report.status report.bytes.items) }
+    ensures placed { IfOk result (λ report. IsOfGraph report.refusal) }
 {
     match verb {
         GraphVerb::Analyse => analyse_report(alloc, &named),
         GraphVerb::Convert => convert_report(alloc, named),
         GraphVerb::Decompose { order } => decompose_report(alloc, &named, &order),
-        GraphVerb::Ears => ears_report(alloc, &named.graph),
+        GraphVerb::Ears => built_ears_report(alloc, &named.graph),
     }
 }
 
 // What a task on a graph and two trees gives, by its verb.
 fn trees_report(alloc: Global, verb: TreesVerb, given: &GivenTrees) -> Result<Report, Memory>
-    ensures { IfOk result
+    ensures gives { IfOk result
         (λ report. ResultOf (on_trees verb (given_trees given.now)) report.status
         report.bytes.items) }
+    ensures placed { IfOk result
+        (λ report. IsPlaced (on_trees verb (given_trees given.now)) report.refusal) }
 {
     match derivations(alloc, given)? {
         Err(report) => Ok(report),
         Ok(covered) => match verb {
             TreesVerb::Compare => compare_report(alloc, &covered, given),
-            TreesVerb::Script => script_report(alloc, &covered, given),
+            TreesVerb::Script => moves_script_report(alloc, &covered, given),
         },
     }
 }
 
 // What a task gives, by its files and its verb.
 fn report_of(alloc: Global, task: Task) -> Result<Report, Memory>
-    ensures { IfOk result
+    ensures gives { IfOk result
         (λ report. ResultOf (task_of task) report.status report.bytes.items) }
+    ensures placed { IfOk result (λ report. IsPlaced (task_of task) report.refusal) }
 {
     match task {
         Task::OnGraph { verb, named } => graph_report(alloc, verb, named),
@@ -192,6 +199,7 @@ pub fn judge(alloc: Global, task: Task) -> Result<Report, Memory>
     ensures refuses { IfOk result
         (λ report. report.status ≡ Status.Negative → TaskMayRefuse (task_of task)) }
     ensures never_bad { IfOk result (λ report. report.status ≡ Status.BadInput → ⊥) }
+    ensures placed { IfOk result (λ report. IsPlaced (task_of task) report.refusal) }
 {
     report_of(alloc, task)
 }

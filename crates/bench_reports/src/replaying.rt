@@ -1,22 +1,24 @@
 //! What a script of moves makes of a derivation, as `replay` reports it.
-ghost use Rattle.std.specs.Prelude.{◌≡◌, ◌≤◌, IfOk, length};
-ghost use Rattle.tree_core.specs.Common.{IsDerivation, moves_of, Fits, shape_of};
+ghost use Rattle.std.specs.Prelude.{◌≡◌, ◌≤◌, ◌<◌, IfOk, Some, length};
+ghost use Rattle.std.specs.Option.{option_map};
+ghost use Rattle.tree_core.specs.Common.{IsDerivation, moves_of, Fits, Shape, node_count, shape_of};
 ghost use Rattle.tree_check.specs.Common.{why_of, why_number};
 ghost use Rattle.move_text.specs.Common.{most_moves};
 ghost use Rattle.tree_text.specs.Common.{tree_text};
 ghost use Rattle.report_text.specs.Common.{refused_move_text, replayed_text, stuck_text};
-ghost use Rattle.bench_outcomes.specs.Common.{shown_of, MovesGive, ReplayGives};
+ghost use Rattle.bench_outcomes.specs.Common.{IsInMoves, IsNodePlace, IsOfGraph, MovesGive, ReplayGives, made_by, node_fault_of, shown_of};
 
 use crate::checking::{node_fault_of, number_of, refusal_where_covered, shown_by};
+use crate::node_places::node_place;
 use crate::uncovered::uncovered_report;
 use bench_outcomes::{Report, Status};
 use graph_core::MultiGraph;
 use graph_facts::Covered;
-use refusals::Refusal;
+use refusals::{NodePlace, Refusal};
 use report_text::{replay_refused, replay_stuck, replayed};
 use std::alloc::{AllocError as Memory, Global};
 use tree_check::{KnownPlaces, Replayed, Why, replay_covered};
-use tree_core::{Moves, Tree};
+use tree_core::{Moves, Tree, apply, copy};
 use tree_text::write_tree;
 
 // The text of the last tree, and then the number of moves.
@@ -32,6 +34,7 @@ fn last_tree_report(
     ensures text { IfOk result
         (λ report. report.bytes.items ≡
         replayed_text (tree_text g.now.order (shape_of tree.now)) moves) }
+    ensures placed { IfOk result (λ report. IsOfGraph report.refusal) }
 {
     g.keeps_limits();
     let n = g.order();
@@ -47,6 +50,7 @@ fn last_tree_report(
 fn stuck_report(alloc: Global, at: u32) -> Result<Report, Memory>
     ensures negative { IfOk result (λ report. report.status ≡ Status.Negative) }
     ensures text { IfOk result (λ report. report.bytes.items ≡ stuck_text at) }
+    ensures refusal { IfOk result (λ report. report.refusal ≡ Some (Refusal.Stuck at)) }
 {
     Ok(Report {
         status: Status::Negative,
@@ -55,12 +59,61 @@ fn stuck_report(alloc: Global, at: u32) -> Result<Report, Memory>
     })
 }
 
+// The tree that the first moves make, so many of them. `None` if one of them has no result, or if
+// there are fewer. Takes no memory.
+fn made_by(tree: Tree, n: u32, moves: &Moves, count: u32) -> Option<Tree>
+    requires { Fits n (shape_of tree) }
+    ensures { option_map shape_of result ≡ made_by n (shape_of tree) (moves_of moves.now) count }
+{
+    let mut made = tree;
+    for i in 0..count as usize {
+        if i >= moves.len() {
+            return None;
+        }
+        match apply(made, n, moves.get(i)) {
+            Ok(next) => made = next,
+            Err(_) => return None,
+        }
+    }
+    Some(made)
+}
+
+// The place of the node with this number in the tree that the refused move makes.
+fn place_behind(
+    c: &Covered,
+    tree: Tree,
+    moves: &Moves,
+    at: u32,
+    node: u32,
+) -> Option<NodePlace>
+    requires fits { Fits c.now.order (shape_of tree) }
+    requires node { (made : Shape) ×
+        (made_by c.now.order (shape_of tree) (moves_of moves.now) at ≡ Some made) ×
+        (0 < node) × (node ≤ node_count made) }
+    ensures { (made : Shape) ×
+        (made_by c.now.order (shape_of tree) (moves_of moves.now) at ≡ Some made) ×
+        IsNodePlace made node result }
+{
+    match made_by(tree, c.order(), moves, at) {
+        Some(made) => node_place(&made, node),
+        None => None,
+    }
+}
+
 // The line of a move whose result is not a derivation.
-fn refused_move_report(alloc: Global, at: u32, node: u32, why: Why) -> Result<Report, Memory>
+fn refused_move_report(
+    alloc: Global,
+    at: u32,
+    node: u32,
+    place: Option<NodePlace>,
+    why: Why,
+) -> Result<Report, Memory>
     ensures negative { IfOk result (λ report. report.status ≡ Status.Negative) }
     ensures text { IfOk result
         (λ report. report.bytes.items ≡
         refused_move_text at node (why_number (why_of why)) (shown_of (why_of why))) }
+    ensures refusal { IfOk result
+        (λ report. report.refusal ≡ Some (Refusal.Move at node place (node_fault_of (why_of why)))) }
 {
     let number = number_of(&why);
     let fault = node_fault_of(&why);
@@ -71,6 +124,7 @@ fn refused_move_report(alloc: Global, at: u32, node: u32, why: Why) -> Result<Re
         refusal: Some(Refusal::Move {
             step: at,
             node,
+            place,
             fault,
         }),
     })
@@ -80,15 +134,21 @@ fn refused_move_report(alloc: Global, at: u32, node: u32, why: Why) -> Result<Re
 fn moves_report(alloc: Global, c: &Covered, tree: Tree, moves: &Moves) -> Result<Report, Memory>
     requires derivation { IsDerivation c.now (shape_of tree) }
     requires few { length moves.now ≤ most_moves }
-    ensures { IfOk result
+    ensures gives { IfOk result
         (λ report. MovesGive c.now (shape_of tree) (moves_of moves.now) report.status
         report.bytes.items) }
+    ensures placed { IfOk result (λ report.
+        IsInMoves c.now.order (shape_of tree) (moves_of moves.now) report.refusal) }
 {
+    let first = copy(alloc, &tree)?;
     let answer = replay_covered(alloc, c, tree, moves)?;
     match answer {
         Replayed::Done { tree } => last_tree_report(alloc, c.graph(), &tree, moves.len()),
         Replayed::Stuck { at } => stuck_report(alloc, at),
-        Replayed::Refused { at, node, why } => refused_move_report(alloc, at, node, why),
+        Replayed::Refused { at, node, why } => {
+            let place = place_behind(c, first, moves, at, node);
+            refused_move_report(alloc, at, node, place, why)
+        }
     }
 }
 
@@ -103,9 +163,11 @@ pub fn replay_report(
 ) -> Result<Report, Memory>
     requires fits { Fits g.now.order (shape_of tree) }
     requires few { length moves.now ≤ most_moves }
-    ensures { IfOk result
+    ensures gives { IfOk result
         (λ report. ReplayGives g.now (shape_of tree) (moves_of moves.now) report.status
         report.bytes.items) }
+    ensures placed { IfOk result (λ report.
+        IsInMoves g.now.order (shape_of tree) (moves_of moves.now) report.refusal) }
 {
     let covered = match Covered::of(alloc, g)? {
         Ok(covered) => covered,

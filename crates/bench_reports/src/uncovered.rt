@@ -1,7 +1,7 @@
 //! The report on a graph that is not matching covered.
 ghost use Rattle.std.specs.Prelude.{◌≡◌, IfOk};
 ghost use Rattle.graph_core.specs.Common.{IsReason, reason_of};
-ghost use Rattle.bench_outcomes.specs.Common.{Uncovered, cover_fault_of};
+ghost use Rattle.bench_outcomes.specs.Common.{IsOfGraph, Uncovered, cover_fault_of};
 
 use bench_outcomes::{Report, Status};
 use graph_core::{MultiGraph, Reason, Verdict};
@@ -24,7 +24,8 @@ fn cover_fault_of(reason: &Reason) -> CoverFault
 /// The line of the reason why a graph is not covered.
 pub fn uncovered_report(alloc: Global, g: &MultiGraph, reason: Reason) -> Result<Report, Memory>
     requires { IsReason g.now (reason_of reason) }
-    ensures { IfOk result (λ report. Uncovered g.now report.status report.bytes.items) }
+    ensures gives { IfOk result (λ report. Uncovered g.now report.status report.bytes.items) }
+    ensures placed { IfOk result (λ report. IsOfGraph report.refusal) }
 {
     g.keeps_limits();
     let fault = cover_fault_of(&reason);

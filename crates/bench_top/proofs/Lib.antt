@@ -21,3 +21,4 @@ pub mod RunsMade
 pub mod WritesMade
 pub mod GivenFiles
 pub mod RefusalsReported
+pub mod Performed

@@ -95,6 +95,7 @@ usage-runs holds is_steady faults reads written writes sink_faults shelf sink = 
   unread_file = λ e. cc e;
   is_refused = refl;
   reported_refusal = λ e. cc e;
+  placed = λ files command task told row held. absurd (none-row command row);
 }
   where
     not-reported : IsReported Usage → ⊥

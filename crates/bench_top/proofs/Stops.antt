@@ -1,9 +1,17 @@
 -- What is known of the stop of a load is known of it as the reason why a run ended.
 -- Each lemma goes by the cases of the answer.
-use Rattle.std.proofs.Common.{Result, arith}
-use Rattle.bench_tasks.specs.Common.{IsReadFault}
+use Rattle.std.proofs.Common.{ℕ, List, Bool, Result, arith}
+use Rattle.outside.specs.Common.{Answer}
+use Rattle.bench_tasks.specs.Common.{FailsAs, Held, IsReadFault, LoadsAs, ReadsAs, task_of}
 use Rattle.bench_tasks.specs.declared.stop.Stop.{Stop}
-use Rattle.bench_top.specs.Endings.{Unread, stop_in}
+use Rattle.bench_tasks.specs.declared.tasks.Task.TheVariants as code
+use Rattle.bench_top.specs.Endings.{IsStopOf, StopsAfter, Unread, stop_in}
 
 pub unread : {X : Type 0} (result : Result X Stop) → IsReadFault result → Unread (stop_in result)
 unread result fault = grind arith
+
+pub stop-is : (steady : Bool) (result : Result code.the_data Stop) (held : Held) → LoadsAs task_of result held → FailsAs steady result held → IsStopOf steady (stop_in result) held
+stop-is steady result held loads fails = grind arith
+
+pub stop-reads : {S X : Type 0} (reads : S → List ℕ → Answer → S → Type 0) (names : List (List ℕ)) (result : Result X Stop) (first last : S) → ReadsAs reads names result first last → StopsAfter reads names (stop_in result) first last
+stop-reads reads names result first last made = grind arith

@@ -7,7 +7,7 @@ use Rattle.outside.specs.Common.{Rose, Answer, NamedFile, ReadsFirst, ReadsInTur
 use Rattle.bench_tasks.specs.Common.{Command, Task, All, Bad, Absent, loaded, file_names, names_in, names_until}
 use Rattle.bench_tasks.specs.declared.stop.Stop.{Stop}
 use Rattle.refusals.specs.declared.refusal.Refusal.{Refusal}
-use Rattle.bench_outcomes.specs.Common.{CommandGives, MayRefuse, Appended, CutShort, IsReported, IsSettled, Succeeds, is_negative}
+use Rattle.bench_outcomes.specs.Common.{CommandGives, MayRefuse, Appended, CutShort, IsPlaced, IsReported, IsSettled, Succeeds, is_negative}
 use Rattle.bench_outcomes.specs.declared.status.Status.{Status}
 use Rattle.bench_outcomes.specs.declared.status.Status.TheVariants as status
 use Rattle.bench_top.specs.Calm.{HasRead, IsCalm}
@@ -89,3 +89,6 @@ pub record RunsTo {S K : Type 0} (holds : S → Option (List NamedFile)) (is_ste
   -- reports
   pub is_refused : is_some refused ≡ is_negative ended
   pub reported_refusal : ended ≡ status.Negative → ReportedRefusal refused (written before) (written now)
+  -- if the files are known, the place that the refusal names is that of the fault in what they hold
+  pub placed : (files : List NamedFile) (command : Command) (task : Task) → holds first ≡ Some files → row ≡ Some command
+      → loaded files command ≡ All task → IsPlaced task refused

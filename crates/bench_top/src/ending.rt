@@ -5,7 +5,7 @@ use bench_tasks::Stop;
 use refusals::Refusal;
 
 /// How a run ended, for who has to say it in words.
-#[derive(Clone, Copy, Debug, PartialEq, Eq)]
+#[derive(Clone, Copy, Debug, PartialEq)]
 pub struct RunEnding {
     /// The status.
     pub status: Status,

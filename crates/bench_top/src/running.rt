@@ -14,10 +14,11 @@ use std::alloc::Global;
 /// or why the input was refused.
 ///
 /// What it makes of the shelf and the sink is `RunsTo`: all that `run` makes of them (`Runs`), and
-/// six facts more. The stop is what the files hold (`stops`), the files up to it are those that
+/// seven facts more. The stop is what the files hold (`stops`), the files up to it are those that
 /// were read (`stops_after`), a bad file is the one that the written line reports (`reported`), and
 /// a failed read has its file (`unread_file`). There is a refusal exactly if the status is Negative
-/// (`is_refused`), and it is the one that the written line reports (`reported_refusal`).
+/// (`is_refused`), it is the one that the written line reports (`reported_refusal`), and the place
+/// that it names is that of the fault in what the files hold (`placed`).
 pub fn run_ending<S: Shelf, K: Sink>(
     alloc: Global,
     words: &[String],

@@ -9,7 +9,7 @@ use bench_top::{RunEnding, Status};
 use outside::Sink;
 
 /// What is to be said of a run, for a person.
-#[derive(Clone, Copy, Debug, PartialEq, Eq)]
+#[derive(Clone, Copy, Debug, PartialEq)]
 pub enum Message {
     /// Nothing.
     Nothing,

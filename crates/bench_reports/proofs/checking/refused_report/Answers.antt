@@ -3,8 +3,8 @@ use Rattle.report_text.specs.declared.judgements.TreeLine.TheVariants as line
 use Rattle.bench_reports.proofs.RefusalsTold.{tree-told}
 use Rattle.bench_reports.proofs.checking.refused_report.Goals as goal
 
-pub returns : goal.returns
-returns c = grind arith
+pub returns-clause-gives : goal.returns-clause-gives
+returns-clause-gives c = grind arith
 
 pub invariant_of-result-clause-told : goal.invariant_of-result-clause-told
 invariant_of-result-clause-told c =

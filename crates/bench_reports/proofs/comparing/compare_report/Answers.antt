@@ -15,5 +15,5 @@ lines_of-requires-clause-one_each c = grind (arith, blocks-of_leaves, length-map
 pub lines_of-requires-clause-few : goal.lines_of-requires-clause-few
 lines_of-requires-clause-few c = grind (arith, few-nodes, few-leaves_listed)
 
-pub returns : goal.returns
-returns c = grind (arith, blocks-of_leaves)
+pub returns-clause-gives : goal.returns-clause-gives
+returns-clause-gives c = grind (arith, blocks-of_leaves)

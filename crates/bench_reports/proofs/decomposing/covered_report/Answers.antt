@@ -15,10 +15,10 @@ pub derivation_report-requires-clause-leaves : goal.derivation_report-requires-c
 derivation_report-requires-clause-leaves t c =
     subst (λ (g : Graph). c.in_ok-found.found.leaves.items ≡ map (place_of g) (leaves g.order (shape_of c.in_ok-found.found.tree))) c.requires c.in_ok-found.ensures.leaves
 
-pub returns : goal.returns
-returns t c =
+pub returns-clause-gives : goal.returns-clause-gives
+returns-clause-gives t c =
     let tree = shape_of c.in_ok-found.found.tree in
     let named = named_graph c.args.named.now in
     let picks = t.O.Order.picks c.args.order.now in
     IfOk-weaker c.derivation_report.result (λ (report : Report). TellsDerivation named tree report.status report.bytes.items) (λ (report : Report). DecomposeGives picks named report.status report.bytes.items)
-    (λ report told. inl (record { tree = tree; picked = subst (λ (g : Graph). IsPicked picks g tree) c.requires c.in_ok-found.ensures.picked; told = told })) c.derivation_report.ensures
+    (λ report told. inl (record { tree = tree; picked = subst (λ (g : Graph). IsPicked picks g tree) c.requires c.in_ok-found.ensures.picked; told = told })) c.derivation_report.ensures.gives

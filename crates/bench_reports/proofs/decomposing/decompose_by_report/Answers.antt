@@ -1,5 +1,5 @@
 use Rattle.std.proofs.Common.{arith}
 use Rattle.bench_reports.proofs.decomposing.decompose_by_report.Goals as goal
 
-pub returns : goal.returns
-returns c = grind arith
+pub returns-clause-gives : goal.returns-clause-gives
+returns-clause-gives c = grind arith

@@ -28,8 +28,8 @@ derivation_at-requires-clause-few c =
     let same : length c.deref-2.result.now ≡ length (leaves g.order t) = ap length (c.deref-2.ensures.value ∙ c.requires.leaves) ∙ length-map (leaves g.order t) (place_of g) in
     grind (arith, length-leaves_at g.order (singles g.order) t, leaf_count-cuts t, node_count-cuts t)
 
-pub returns : goal.returns
-returns c =
+pub returns-clause-gives : goal.returns-clause-gives
+returns-clause-gives c =
     let t = shape_of c.args.found.now.tree in
     let g = c.args.named.now.graph in
     let report = c.in_ok-report.ensures g (leaves g.order t) (c.deref-2.ensures.value ∙ c.requires.leaves) in

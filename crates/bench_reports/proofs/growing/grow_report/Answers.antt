@@ -14,5 +14,5 @@ write_graph-requires-clause-edges c = grind (arith, few-edges c.args.growth.seed
 pub overflow_cast-pairs : goal.overflow_cast-pairs
 overflow_cast-pairs c = grind (arith, few-nodes, length-leaves_at, leaf_count-cuts, node_count-cuts, length-map)
 
-pub returns : goal.returns
-returns c = grind (arith, length-map c.in_ok-pairing.pairing.maps map_of)
+pub returns-clause-gives : goal.returns-clause-gives
+returns-clause-gives c = grind (arith, length-map c.in_ok-pairing.pairing.maps map_of)

@@ -1,23 +1,20 @@
-use Rattle.std.proofs.Common.{List, ℕ, ◌≡◌, take, subst, ap, Err, IsErrOf, Result, arith}
+use Rattle.std.proofs.Common.{List, ℕ, ◌≡◌, Option, None, take, refl, subst, ap, inl, inr, Err, IsErrOf, Result, arith}
 use Rattle.outside.specs.Common.{IsCutOff, IsWritten, appended}
-use Rattle.bench_tasks.specs.Common.{asked, loaded, IsRead, IsReadFault}
+use Rattle.bench_tasks.specs.Common.{asked, IsRead, IsReadFault}
 use Rattle.bench_tasks.specs.declared.stop.Stop.{Stop}
 use Rattle.bench_tasks.specs.declared.tasks.Task.TheVariants as code
-use Rattle.bench_top.proofs.GivenFiles.{given-outcome}
-use Rattle.bench_top.proofs.RefusalsReported.{no-refusal, reported-refusal}
-use Rattle.bench_top.proofs.ReadsMade.{absent-fault, first-reads}
-use Rattle.bench_outcomes.specs.Common.{IsReported, LoadedGives}
+use Rattle.bench_outcomes.specs.Common.{IsReported}
 use Rattle.bench_outcomes.specs.declared.status.Status.{Status}
-use Rattle.bench_outcomes.specs.declared.status.Status.TheVariants.{ReadFault}
+use Rattle.bench_outcomes.specs.declared.status.Status.TheVariants.{ReadFault, Usage, WriteFault}
+use Rattle.bench_top.specs.Endings.{ReportedBad, ReportsBad, stop_in}
+use Rattle.bench_top.proofs.Performed.{GivesGathered, performed}
+use Rattle.bench_top.proofs.RefusalsReported.{no-report, not-placed, reported-refusal}
 use Rattle.bench_top.proofs.WritesMade.{wrote-nothing, wrote-report}
 use Rattle.bench_top.proofs.performing.perform.Goals as goal
 
 -- a report has a status of its own, and was made of files that were read
-not-reported : IsReported ReadFault → ⊥
-not-reported reported = grind arith
-
-reported-not-fault : (status : Status) (P : Type 0) → IsReported status → status ≡ ReadFault → P
-reported-not-fault status P reported fault = absurd (not-reported (subst IsReported fault reported))
+not-reported : (status : Status) → IsReported status → (status ≡ Usage → ⊥) × (status ≡ ReadFault → ⊥) × (status ≡ WriteFault → ⊥)
+not-reported status reported = grind arith
 
 read-not-fault : (result : Result code.the_data Stop) → IsRead result → IsReadFault result → ⊥
 read-not-fault result read fault = grind arith
@@ -25,111 +22,89 @@ read-not-fault result read fault = grind arith
 err-is : {X : Type 0} {status other : Status} → IsErrOf {T = X} (Err status) other → status ≡ other
 err-is is = grind arith
 
-pub returns-in-Ok-emit-clause-asks : goal.returns-in-Ok-emit-clause-asks
-returns-in-Ok-emit-clause-asks g c = grind (arith, first-reads)
+reported-bad : (result : Result code.the_data Stop) (bytes : List ℕ) (before now : Option (List ℕ)) → ReportsBad result bytes → now ≡ appended before bytes → ReportedBad (stop_in result) before now
+reported-bad result bytes before now reports written = grind arith
 
-pub returns-in-Ok-clause-asks : goal.returns-in-Ok-clause-asks
-returns-in-Ok-clause-asks g c = grind (arith, first-reads)
+-- the report was written whole
+pub returns-in-Ok-emit : goal.returns-in-Ok-emit
+returns-in-Ok-emit g c =
+    let report = c.in-Ok.report in
+    let made = c.in-Ok.ensures in
+    let got = c.gather-gathered in
+    let others = not-reported report.status made.reported in
+    let now = subst (λ (l : List ℕ). g.K.Sink.written c.emit.new.sink ≡ appended (g.K.Sink.written c.args.sink.now) l) c.deref.ensures.value c.in-Ok-emit.ensures.ok in
+    rw c.stop_of-stop.ensures
+    (performed g.S.Shelf.files g.S.Shelf.steady g.S.Shelf.faults g.S.Shelf.reads g.K.Sink.written g.K.Sink.writes g.K.Sink.faults (asked c.args.command) got.result c.args.shelf.now got.new.shelf
+    c.args.sink.now c.emit.new.sink report.status report.refusal
+    (record { loads = got.ensures.loads; made = got.ensures.reads; answered = got.ensures.answered; asked = got.ensures.asked })
+    (record {
+      usage = others.0;
+      read_fault = (λ e. absurd (others.1 e), λ fault. absurd (read-not-fault got.result made.read fault));
+      whole = made.whole;
+      read = λ has. inl made.read;
+      refuses = made.refuses;
+      wrote = wrote-report g.K.Sink.written g.K.Sink.writes (GivesGathered got.result) report.status report.bytes.items c.args.sink.now c.emit.new.sink made.reported made.gives now
+          (subst (λ (l : List ℕ). IsWritten g.K.Sink.writes l c.args.sink.now c.emit.new.sink) c.deref.ensures.value c.in-Ok-emit.ensures.whole);
+      write_fault = λ e. absurd (others.2 e);
+      bad = λ e. reported-bad got.result report.bytes.items (g.K.Sink.written c.args.sink.now) (g.K.Sink.written c.emit.new.sink) (made.bad e) now;
+      is_refused = report.refused;
+      refusal = reported-refusal report.status report.refusal report.bytes.items (g.K.Sink.written c.args.sink.now) (g.K.Sink.written c.emit.new.sink) report.refused report.told now;
+      placed = made.placed;
+    }))
 
-pub returns-clause-asks : goal.returns-clause-asks
-returns-clause-asks g c = grind (arith, first-reads)
-
-pub returns-in-Ok-emit-clause-negative : goal.returns-in-Ok-emit-clause-negative
-returns-in-Ok-emit-clause-negative g c = grind arith
-
-pub returns-clause-missing : goal.returns-clause-missing
-returns-clause-missing g c = λ files told fault steady.
-    absent-fault (g.S.Shelf.steady c.args.shelf.now) c.gather-gathered.result (loaded files (asked c.args.command)) (c.in-Err.ensures.read_fault.0 (ap Err fault)) steady
-    (c.gather-gathered.ensures.loads.absent files told)
-
-pub returns-in-Ok-clause-cut : goal.returns-in-Ok-clause-cut
-returns-in-Ok-clause-cut g c = grind arith
-
-pub returns-in-Ok-emit-clause-stops : goal.returns-in-Ok-emit-clause-stops
-returns-in-Ok-emit-clause-stops g c = grind arith
-
-pub returns-in-Ok-emit-clause-stops_after : goal.returns-in-Ok-emit-clause-stops_after
-returns-in-Ok-emit-clause-stops_after g c = grind arith
-
-pub returns-in-Ok-clause-stops : goal.returns-in-Ok-clause-stops
-returns-in-Ok-clause-stops g c = grind arith
-
-pub returns-in-Ok-clause-stops_after : goal.returns-in-Ok-clause-stops_after
-returns-in-Ok-clause-stops_after g c = grind arith
-
-pub returns-clause-stops : goal.returns-clause-stops
-returns-clause-stops g c = grind arith
-
-pub returns-clause-stops_after : goal.returns-clause-stops_after
-returns-clause-stops_after g c = grind arith
-
-pub returns-in-Ok-emit-clause-reported : goal.returns-in-Ok-emit-clause-reported
-returns-in-Ok-emit-clause-reported g c = grind arith
-
-pub returns-clause-unread : goal.returns-clause-unread
-returns-clause-unread g c = grind arith
-
-pub returns-in-Ok-emit-clause-writes : goal.returns-in-Ok-emit-clause-writes
-returns-in-Ok-emit-clause-writes g c = grind arith
-
-pub returns-in-Ok-clause-writes : goal.returns-in-Ok-clause-writes
-returns-in-Ok-clause-writes g c =
+-- writing the report failed
+pub returns-in-Ok : goal.returns-in-Ok
+returns-in-Ok g c =
+    let report = c.in-Ok.report in
+    let made = c.in-Ok.ensures in
+    let got = c.gather-gathered in
     let cut = c.in-Err-emit.ensures.err in
-    record {
-      status = c.in-Ok.report.status;
-      output = c.in-Ok.report.bytes.items;
-      count = cut.0;
-      right = λ files told. c.in-Ok.ensures.gives _ (c.gather-gathered.ensures.loads.loads files told);
-      now = subst (λ (l : List ℕ). g.K.Sink.written c.emit.new.sink ≡ appended (g.K.Sink.written c.args.sink.now) (take cut.0 l)) c.deref.ensures.value cut.2;
-      cut = subst (λ (l : List ℕ). IsCutOff g.K.Sink.writes l cut.0 c.args.sink.now c.emit.new.sink) c.deref.ensures.value cut.3;
-    }
+    rw c.stop_of-stop.ensures
+    (performed g.S.Shelf.files g.S.Shelf.steady g.S.Shelf.faults g.S.Shelf.reads g.K.Sink.written g.K.Sink.writes g.K.Sink.faults (asked c.args.command) got.result c.args.shelf.now got.new.shelf
+    c.args.sink.now c.emit.new.sink WriteFault None
+    (record { loads = got.ensures.loads; made = got.ensures.reads; answered = got.ensures.answered; asked = got.ensures.asked })
+    (record {
+      usage = λ e. cc e;
+      read_fault = (λ e. cc e, λ fault. absurd (read-not-fault got.result made.read fault));
+      whole = λ settled. grind arith;
+      read = λ has. inl made.read;
+      refuses = λ e. cc e;
+      wrote = record {
+        status = report.status;
+        output = report.bytes.items;
+        count = cut.0;
+        right = made.gives;
+        now = subst (λ (l : List ℕ). g.K.Sink.written c.emit.new.sink ≡ appended (g.K.Sink.written c.args.sink.now) (take cut.0 l)) c.deref.ensures.value cut.2;
+        cut = subst (λ (l : List ℕ). IsCutOff g.K.Sink.writes l cut.0 c.args.sink.now c.emit.new.sink) c.deref.ensures.value cut.3;
+      };
+      write_fault = λ e. c.in-Err-emit.ensures.failed;
+      bad = λ e. cc e;
+      is_refused = refl;
+      refusal = λ e. cc e;
+      placed = λ task loads. not-placed task;
+    }))
 
-pub returns-clause-writes : goal.returns-clause-writes
-returns-clause-writes g c = grind arith
-
--- what was written is an outcome of the files that the reads gave
-pub returns-in-Ok-emit-clause-answered : goal.returns-in-Ok-emit-clause-answered
-returns-in-Ok-emit-clause-answered g c =
-    given-outcome g.S.Shelf.reads g.K.Sink.written g.K.Sink.writes (asked c.args.command) c.gather-gathered.result c.in-Ok.report.status c.args.shelf.now c.gather-gathered.new.shelf
-    c.args.sink.now c.emit.new.sink (reported-not-fault c.in-Ok.report.status _ c.in-Ok.ensures.reported) (λ fault. absurd (read-not-fault c.gather-gathered.result c.in-Ok.ensures.read fault)) c.gather-gathered.ensures.answered
-    (λ held loads. wrote-report g.K.Sink.written g.K.Sink.writes (LoadedGives held) c.in-Ok.report.status c.in-Ok.report.bytes.items c.args.sink.now c.emit.new.sink c.in-Ok.ensures.reported
-    (c.in-Ok.ensures.gives held loads)
-    (subst (λ (l : List ℕ). g.K.Sink.written c.emit.new.sink ≡ appended (g.K.Sink.written c.args.sink.now) l) c.deref.ensures.value c.in-Ok-emit.ensures.ok)
-    (subst (λ (l : List ℕ). IsWritten g.K.Sink.writes l c.args.sink.now c.emit.new.sink) c.deref.ensures.value c.in-Ok-emit.ensures.whole))
-
-pub returns-in-Ok-clause-answered : goal.returns-in-Ok-clause-answered
-returns-in-Ok-clause-answered g c =
-    given-outcome g.S.Shelf.reads g.K.Sink.written g.K.Sink.writes (asked c.args.command) c.gather-gathered.result _ c.args.shelf.now c.gather-gathered.new.shelf
-    c.args.sink.now c.emit.new.sink (λ fault. cc fault) (λ fault. absurd (read-not-fault c.gather-gathered.result c.in-Ok.ensures.read fault)) c.gather-gathered.ensures.answered
-    (λ held loads.
-    let cut = c.in-Err-emit.ensures.err in
-    record {
-      status = c.in-Ok.report.status;
-      output = c.in-Ok.report.bytes.items;
-      count = cut.0;
-      right = c.in-Ok.ensures.gives held loads;
-      now = subst (λ (l : List ℕ). g.K.Sink.written c.emit.new.sink ≡ appended (g.K.Sink.written c.args.sink.now) (take cut.0 l)) c.deref.ensures.value cut.2;
-      cut = subst (λ (l : List ℕ). IsCutOff g.K.Sink.writes l cut.0 c.args.sink.now c.emit.new.sink) c.deref.ensures.value cut.3;
-    })
-
-pub returns-clause-answered : goal.returns-clause-answered
-returns-clause-answered g c =
-    given-outcome g.S.Shelf.reads g.K.Sink.written g.K.Sink.writes (asked c.args.command) c.gather-gathered.result c.in-Err.status c.args.shelf.now c.gather-gathered.new.shelf
-    c.args.sink.now c.args.sink.now (λ fault. c.in-Err.ensures.read_fault.0 (ap Err fault)) (λ fault. err-is (c.in-Err.ensures.read_fault.1 fault)) c.gather-gathered.ensures.answered
-    (λ held loads. wrote-nothing g.K.Sink.written g.K.Sink.writes (LoadedGives held) c.in-Err.status c.args.sink.now c.in-Err.ensures.stops)
-
--- the refusal is that of the report
-pub returns-in-Ok-emit-clause-is_refused : goal.returns-in-Ok-emit-clause-is_refused
-returns-in-Ok-emit-clause-is_refused g c = c.in-Ok.report.refused
-
-pub returns-in-Ok-emit-clause-refusal : goal.returns-in-Ok-emit-clause-refusal
-returns-in-Ok-emit-clause-refusal g c =
-    reported-refusal c.in-Ok.report.status c.in-Ok.report.refusal c.in-Ok.report.bytes.items (g.K.Sink.written c.args.sink.now) (g.K.Sink.written c.emit.new.sink)
-    c.in-Ok.report.refused c.in-Ok.report.told
-    (subst (λ (l : List ℕ). g.K.Sink.written c.emit.new.sink ≡ appended (g.K.Sink.written c.args.sink.now) l) c.deref.ensures.value c.in-Ok-emit.ensures.ok)
-
-pub returns-clause-is_refused : goal.returns-clause-is_refused
-returns-clause-is_refused g c = (no-refusal c.in-Err.status c.in-Err.ensures.stops).0
-
-pub returns-clause-refusal : goal.returns-clause-refusal
-returns-clause-refusal g c = λ negative. absurd ((no-refusal c.in-Err.status c.in-Err.ensures.stops).1 negative)
+-- there was no report
+pub returns : goal.returns
+returns g c =
+    let status = c.in-Err.status in
+    let got = c.gather-gathered in
+    let others = no-report status c.in-Err.ensures.stops in
+    let fault = c.in-Err.ensures.read_fault in
+    rw c.stop_of-stop.ensures
+    (performed g.S.Shelf.files g.S.Shelf.steady g.S.Shelf.faults g.S.Shelf.reads g.K.Sink.written g.K.Sink.writes g.K.Sink.faults (asked c.args.command) got.result c.args.shelf.now got.new.shelf
+    c.args.sink.now c.args.sink.now status None
+    (record { loads = got.ensures.loads; made = got.ensures.reads; answered = got.ensures.answered; asked = got.ensures.asked })
+    (record {
+      usage = others.usage;
+      read_fault = (λ e. fault.0 (ap Err e), λ failed. err-is (fault.1 failed));
+      whole = λ settled. absurd (others.settled settled);
+      read = λ has. inr (fault.0 (ap Err (others.read (g.S.Shelf.steady c.args.shelf.now) has)));
+      refuses = λ e. absurd (others.negative e);
+      wrote = wrote-nothing g.K.Sink.written g.K.Sink.writes (GivesGathered got.result) status c.args.sink.now c.in-Err.ensures.stops;
+      write_fault = λ e. absurd (others.write_fault e);
+      bad = λ e. absurd (others.bad e);
+      is_refused = others.is_refused;
+      refusal = λ e. absurd (others.negative e);
+      placed = λ task loads. not-placed task;
+    }))

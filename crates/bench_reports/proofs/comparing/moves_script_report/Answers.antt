@@ -4,7 +4,7 @@ use Rattle.tree_core.proofs.Common.{move_of, moves_of, shape_of, leaf_count-cuts
 use Rattle.move_text.specs.Common.{HasSets}
 use Rattle.bench_reports.proofs.ScriptMoves.{few-moves, script-paths, script-sets}
 use Rattle.bench_reports.proofs.ScriptTexts.{scripted}
-use Rattle.bench_reports.proofs.comparing.script_report.Goals as goal
+use Rattle.bench_reports.proofs.comparing.moves_script_report.Goals as goal
 
 pub write_moves-requires-clause-few : goal.write_moves-requires-clause-few
 write_moves-requires-clause-few c =
@@ -33,8 +33,8 @@ overflow_cast-len c =
     let all = c.len.ensures in
     omega arith
 
-pub returns : goal.returns
-returns c =
+pub returns-clause-gives : goal.returns-clause-gives
+returns-clause-gives c =
     let t = shape_of c.args.given.now.first in
     let moves = moves_of c.in_ok-moves.moves in
     let few = few-nodes c.args.c.now t c.keeps_covered.ensures.limits.multigraph.ends c.keeps_covered.ensures.limits.vertices c.requires.first in
