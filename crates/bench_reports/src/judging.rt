@@ -192,6 +192,7 @@ fn report_of(alloc: Global, task: Task) -> Result<Report, Memory>
 }
 
 /// The status and the whole report of a task, made in memory. Neither a shelf nor a sink is asked.
+/// A refusal names the place of its fault.
 pub fn judge(alloc: Global, task: Task) -> Result<Report, Memory>
     ensures result { IfOk result
         (λ report. ResultOf (task_of task) report.status report.bytes.items) }

@@ -1,5 +1,5 @@
 -- What is known of the refusal of a report is known of it where the report was written.
-use Rattle.std.proofs.Common.{◌≡◌, ◌⊎◌, ◌∙◌, inl, inr, ℕ, List, Bool, true, false, Option, Some, None, is_some, refl, sym, ap, subst}
+use Rattle.std.proofs.Common.{◌≡◌, ◌⊎◌, ◌∙◌, inl, inr, ℕ, List, Bool, true, false, Option, Some, None, is_some, refl, sym, ap, subst, arith}
 use Rattle.outside.specs.Common.{appended}
 use Rattle.refusals.specs.declared.refusal.Refusal.{Refusal}
 use Rattle.bench_tasks.specs.Common.{Task}

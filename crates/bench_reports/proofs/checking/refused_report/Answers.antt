@@ -1,5 +1,8 @@
 use Rattle.std.proofs.Common.{arith}
+use Rattle.tree_core.proofs.Common.{shape_of}
+use Rattle.tree_check.specs.Common.{why_of}
 use Rattle.report_text.specs.declared.judgements.TreeLine.TheVariants as line
+use Rattle.bench_reports.proofs.FaultsPlaced.{refused-node}
 use Rattle.bench_reports.proofs.RefusalsTold.{tree-told}
 use Rattle.bench_reports.proofs.checking.refused_report.Goals as goal
 
@@ -10,3 +13,9 @@ pub invariant_of-result-clause-told : goal.invariant_of-result-clause-told
 invariant_of-result-clause-told c =
     let told = rw (c.number_of.ensures, c.shown_by.ensures) at c.in_ok-judgement.ensures in
     rw c.node_fault_of.ensures (tree-told _ _ _ _ _ told)
+
+pub node_place-requires-clause-counted : goal.node_place-requires-clause-counted
+node_place-requires-clause-counted c = (refused-node c.args.g.now (shape_of c.args.tree.now) c.args.node (why_of c.args.why) c.requires).0
+
+pub node_place-requires-clause-within : goal.node_place-requires-clause-within
+node_place-requires-clause-within c = (refused-node c.args.g.now (shape_of c.args.tree.now) c.args.node (why_of c.args.why) c.requires).1
