@@ -14,6 +14,7 @@ use Rattle.refusals.specs.declared.places.EarPlace.{EarPlace}
 use Rattle.refusals.specs.declared.places.NodePlace.{NodePlace}
 use Rattle.refusals.specs.declared.refusal.Refusal.{Refusal}
 use Rattle.refusals.specs.declared.refusal.Refusal.TheVariants as refusal
+use Rattle.bench_outcomes.specs.StuckMoves.{IsStuckBy}
 use Rattle.bench_tasks.specs.Common.{Task}
 use Rattle.bench_tasks.specs.Tasks as task
 
@@ -71,13 +72,20 @@ made_by n t moves zero = Some t
 made_by n t [] (suc count) = None
 made_by n t (move ∷ moves) (suc count) = option_and_then (λ made. made_by n made moves count) (move_result n t move)
 
+-- the move with this number, counted from 1, is made on the tree that is reached by those before it
+pub record IsNextMove (n : ℕ) (t : Shape) (moves : List PlainMove) (number : ℕ) (reached : Shape) (move : PlainMove) : Type 0 where
+  pub before : ℕ
+  pub counted : number ≡ before + 1
+  pub made : made_by n t moves before ≡ Some reached
+  pub is : slice_get moves before ≡ Some move
+
 -- nothing is refused but the graph
 abbrev pub IsOfGraph : Option Refusal → Type 0
 IsOfGraph None = Unit {0}
 IsOfGraph (Some (refusal.Graph fault)) = Unit {0}
 IsOfGraph (Some (refusal.Tree number node place fault)) = ⊥
 IsOfGraph (Some (refusal.Ears step place fault)) = ⊥
-IsOfGraph (Some (refusal.Stuck step)) = ⊥
+IsOfGraph (Some (refusal.Stuck step fault)) = ⊥
 IsOfGraph (Some (refusal.Move step node place fault)) = ⊥
 
 -- nothing is refused but the graph or one of the trees, and then at its node with this number
@@ -86,7 +94,7 @@ IsInTrees trees None = Unit {0}
 IsInTrees trees (Some (refusal.Graph fault)) = Unit {0}
 IsInTrees trees (Some (refusal.Tree number node place fault)) = (t : Shape) × (tree_numbered trees number ≡ Some t) × IsNodePlace t node place
 IsInTrees trees (Some (refusal.Ears step place fault)) = ⊥
-IsInTrees trees (Some (refusal.Stuck step)) = ⊥
+IsInTrees trees (Some (refusal.Stuck step fault)) = ⊥
 IsInTrees trees (Some (refusal.Move step node place fault)) = ⊥
 
 -- nothing is refused but the graph or the list of ears, and then where its step has the fault
@@ -95,17 +103,17 @@ IsInEars g list None = Unit {0}
 IsInEars g list (Some (refusal.Graph fault)) = Unit {0}
 IsInEars g list (Some (refusal.Tree number node place fault)) = ⊥
 IsInEars g list (Some (refusal.Ears step place fault)) = place ≡ fault_place g list step
-IsInEars g list (Some (refusal.Stuck step)) = ⊥
+IsInEars g list (Some (refusal.Stuck step fault)) = ⊥
 IsInEars g list (Some (refusal.Move step node place fault)) = ⊥
 
--- nothing is refused but the graph, the tree over 1 to n, or one of the moves on it, and then the
--- tree that it makes, at the node with this number
+-- nothing is refused but the graph, the tree over 1 to n, or one of the moves on it: it has no
+-- result, for this reason, or it makes a tree that is refused at the node with this number
 abbrev pub IsInMoves : (n : ℕ) → Shape → List PlainMove → Option Refusal → Type 0
 IsInMoves n t moves None = Unit {0}
 IsInMoves n t moves (Some (refusal.Graph fault)) = Unit {0}
 IsInMoves n t moves (Some (refusal.Tree number node place fault)) = (named : Shape) × (tree_numbered (t ∷ []) number ≡ Some named) × IsNodePlace named node place
 IsInMoves n t moves (Some (refusal.Ears step place fault)) = ⊥
-IsInMoves n t moves (Some (refusal.Stuck step)) = Unit {0}
+IsInMoves n t moves (Some (refusal.Stuck step fault)) = (reached : Shape) × (move : PlainMove) × IsNextMove n t moves step reached move × IsStuckBy n reached move fault
 IsInMoves n t moves (Some (refusal.Move step node place fault)) = (made : Shape) × (made_by n t moves step ≡ Some made) × IsNodePlace made node place
 
 -- the place of a refusal is that of the fault in what the task is on

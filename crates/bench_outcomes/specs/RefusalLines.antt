@@ -105,7 +105,7 @@ abbrev pub refusal_told : Refusal → (output : List ℕ) → List ℕ
 refusal_told (Graph fault) output = cover_told fault output
 refusal_told (Tree number at place fault) output = begun_by (refused_words (codes "tree ") number at (node_number fault)) output
 refusal_told (Ears step place fault) output = ear_judgement_text (line.Refused step (step_number fault) (fault_edge fault))
-refusal_told (Stuck step) output = stuck_text step
+refusal_told (Stuck step fault) output = stuck_text step
 refusal_told (Move step at place fault) output = begun_by (refused_words (codes "move ") step at (node_number fault)) output
 
 -- the same for a report that may be no refusal

@@ -36,5 +36,5 @@ tree-moves n t moves None is = tt
 tree-moves n t moves (Some (refusal.Graph fault)) is = tt
 tree-moves n t moves (Some (refusal.Tree number node place fault)) is = is
 tree-moves n t moves (Some (refusal.Ears step place fault)) is = absurd is
-tree-moves n t moves (Some (refusal.Stuck step)) is = absurd is
+tree-moves n t moves (Some (refusal.Stuck step fault)) is = absurd is
 tree-moves n t moves (Some (refusal.Move step node place fault)) is = absurd is

@@ -6,7 +6,7 @@ ghost use Rattle.bench_outcomes.specs.Common.{AcceptedEars, BuiltEars, EarCheckG
 
 use crate::uncovered::uncovered_report;
 use bench_outcomes::{Report, Status};
-use ear_core::{EarJudgement, EarList, EarWhy, Step, build_ears_of, check_ears, fault_place};
+use ear_core::{EarJudgement, EarList, EarWhy, Step, build_ears_of, check_ears_of, fault_place};
 use ear_text::write_ears;
 use graph_core::MultiGraph;
 use graph_facts::Covered;
@@ -157,7 +157,7 @@ fn judged_report(alloc: Global, c: &Covered, list: &EarList) -> Result<Report, M
         (λ report. EarCheckGives c.now (ears_of list.now) report.status report.bytes.items) }
     ensures placed { IfOk result (λ report. IsInEars c.now (ears_of list.now) report.refusal) }
 {
-    match check_ears(alloc, c.graph(), list)? {
+    match check_ears_of(alloc, c, list)? {
         EarJudgement::Accepted => accepted_report(alloc, c, list),
         EarJudgement::Refused { step, why } => refused_report(alloc, c, list, step, why),
     }

@@ -1,20 +1,21 @@
 //! What a script of moves makes of a derivation, as `replay` reports it.
 ghost use Rattle.std.specs.Prelude.{◌≡◌, ◌≤◌, ◌<◌, IfOk, Some, length};
 ghost use Rattle.std.specs.Option.{option_map};
-ghost use Rattle.tree_core.specs.Common.{IsDerivation, moves_of, Fits, Shape, node_count, shape_of};
+ghost use Rattle.tree_core.specs.Common.{IsDerivation, moves_of, Fits, PlainMove, Shape, node_count, shape_of};
 ghost use Rattle.tree_check.specs.Common.{why_of, why_number};
 ghost use Rattle.move_text.specs.Common.{most_moves};
 ghost use Rattle.tree_text.specs.Common.{tree_text};
 ghost use Rattle.report_text.specs.Common.{refused_move_text, replayed_text, stuck_text};
-ghost use Rattle.bench_outcomes.specs.Common.{IsInMoves, IsNodePlace, IsOfGraph, MovesGive, ReplayGives, made_by, node_fault_of, shown_of};
+ghost use Rattle.bench_outcomes.specs.Common.{HasNoResult, IsInMoves, IsNextMove, IsNodePlace, IsOfGraph, IsStuckBy, MovesGive, ReplayGives, made_by, node_fault_of, shown_of};
 
 use crate::checking::{node_fault_of, number_of, refusal_where_covered, shown_by};
 use crate::node_places::node_place;
+use crate::stuck_moves::stuck_fault;
 use crate::uncovered::uncovered_report;
 use bench_outcomes::{Report, Status};
 use graph_core::MultiGraph;
 use graph_facts::Covered;
-use refusals::{NodePlace, Refusal};
+use refusals::{NodePlace, Refusal, StuckFault};
 use report_text::{replay_refused, replay_stuck, replayed};
 use std::alloc::{AllocError as Memory, Global};
 use tree_check::{KnownPlaces, Replayed, Why, replay_covered};
@@ -46,16 +47,16 @@ fn last_tree_report(
     })
 }
 
-// The line of a move without a result.
-fn stuck_report(alloc: Global, at: u32) -> Result<Report, Memory>
+// The line of a move without a result, for this reason.
+fn stuck_report(alloc: Global, at: u32, fault: StuckFault) -> Result<Report, Memory>
     ensures negative { IfOk result (λ report. report.status ≡ Status.Negative) }
     ensures text { IfOk result (λ report. report.bytes.items ≡ stuck_text at) }
-    ensures refusal { IfOk result (λ report. report.refusal ≡ Some (Refusal.Stuck at)) }
+    ensures refusal { IfOk result (λ report. report.refusal ≡ Some (Refusal.Stuck at fault)) }
 {
     Ok(Report {
         status: Status::Negative,
         bytes: replay_stuck(alloc, at)?,
-        refusal: Some(Refusal::Stuck { step: at }),
+        refusal: Some(Refusal::Stuck { step: at, fault }),
     })
 }
 
@@ -78,23 +79,34 @@ fn made_by(tree: Tree, n: u32, moves: &Moves, count: u32) -> Option<Tree>
     Some(made)
 }
 
+// Why the move with this number has no result on the tree that those before it make.
+fn fault_of_move(n: u32, tree: Tree, moves: &Moves, at: u32) -> StuckFault
+    requires fits { Fits n (shape_of tree) }
+    requires stuck { (reached : Shape) × (move : PlainMove) ×
+        IsNextMove n (shape_of tree) (moves_of moves.now) at reached move ×
+        HasNoResult n reached move }
+    ensures { (reached : Shape) × (move : PlainMove) ×
+        IsNextMove n (shape_of tree) (moves_of moves.now) at reached move ×
+        IsStuckBy n reached move result }
+{
+    let before = at - 1;
+    match made_by(tree, n, moves, before) {
+        Some(reached) => stuck_fault(&reached, moves.get(before as usize)),
+        None => StuckFault::NoCut,
+    }
+}
+
 // The place of the node with this number in the tree that the refused move makes.
-fn place_behind(
-    c: &Covered,
-    tree: Tree,
-    moves: &Moves,
-    at: u32,
-    node: u32,
-) -> Option<NodePlace>
-    requires fits { Fits c.now.order (shape_of tree) }
+fn place_behind(n: u32, tree: Tree, moves: &Moves, at: u32, node: u32) -> Option<NodePlace>
+    requires fits { Fits n (shape_of tree) }
     requires node { (made : Shape) ×
-        (made_by c.now.order (shape_of tree) (moves_of moves.now) at ≡ Some made) ×
+        (made_by n (shape_of tree) (moves_of moves.now) at ≡ Some made) ×
         (0 < node) × (node ≤ node_count made) }
     ensures { (made : Shape) ×
-        (made_by c.now.order (shape_of tree) (moves_of moves.now) at ≡ Some made) ×
+        (made_by n (shape_of tree) (moves_of moves.now) at ≡ Some made) ×
         IsNodePlace made node result }
 {
-    match made_by(tree, c.order(), moves, at) {
+    match made_by(tree, n, moves, at) {
         Some(made) => node_place(&made, node),
         None => None,
     }
@@ -144,9 +156,12 @@ fn moves_report(alloc: Global, c: &Covered, tree: Tree, moves: &Moves) -> Result
     let answer = replay_covered(alloc, c, tree, moves)?;
     match answer {
         Replayed::Done { tree } => last_tree_report(alloc, c.graph(), &tree, moves.len()),
-        Replayed::Stuck { at } => stuck_report(alloc, at),
+        Replayed::Stuck { at } => {
+            let fault = fault_of_move(c.order(), first, moves, at);
+            stuck_report(alloc, at, fault)
+        }
         Replayed::Refused { at, node, why } => {
-            let place = place_behind(c, first, moves, at, node);
+            let place = place_behind(c.order(), first, moves, at, node);
             refused_move_report(alloc, at, node, place, why)
         }
     }
