@@ -11,7 +11,7 @@ pub use Rattle.bench_outcomes.specs.Replays.{ReplayedTree, StuckMove, RefusedMov
 pub use Rattle.bench_outcomes.specs.StuckMoves.{leads_to_cut, HasNoResult, stuck_fault, CrossesParent, AreNoParts, IsStuckBy}
 pub use Rattle.bench_outcomes.specs.Comparisons.{IsScript, line_of, lines_of, Compared, Scripted, RefusesPair, RefusesPairIfAny, CompareGives, ScriptGives}
 pub use Rattle.bench_outcomes.specs.Growths.{IsCounted, ArePaired, Grown}
-pub use Rattle.bench_outcomes.specs.FaultPlaces.{steps_to, path_of, subtree_at, nodes_before, shore_of, IsPlaceAt, IsNodePlace, tree_numbered, made_by, IsOfGraph, IsInTrees, IsInEars, IsInMoves, IsPlaced}
+pub use Rattle.bench_outcomes.specs.FaultPlaces.{steps_to, path_of, subtree_at, nodes_before, shore_of, IsPlaceAt, IsNodePlace, tree_numbered, made_by, IsNextMove, IsOfGraph, IsInTrees, IsInEars, IsInMoves, IsPlaced}
 pub use Rattle.bench_outcomes.specs.Outcome.{with_given_names, given_or_plain, Analysed, Converted, Analysed6, TellsDerivation, Decomposed, DecomposeGives, ResultOf, LoadedGives, CommandGives, Outcome, Appended, CutShort, IsReported, IsSettled}
 pub use Rattle.bench_outcomes.specs.Success.{NeedOf, Succeeds}
 pub use Rattle.bench_outcomes.specs.Refusing.{RefusesBy, TaskMayRefuse, MayRefuse, GatheredMayRefuse}

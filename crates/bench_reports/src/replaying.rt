@@ -1,7 +1,7 @@
 //! What a script of moves makes of a derivation, as `replay` reports it.
 ghost use Rattle.std.specs.Prelude.{◌≡◌, ◌≤◌, ◌<◌, IfOk, Some, length};
 ghost use Rattle.std.specs.Option.{option_map};
-ghost use Rattle.tree_core.specs.Common.{IsDerivation, moves_of, Fits, PlainMove, Shape, node_count, shape_of};
+ghost use Rattle.tree_core.specs.Common.{IsDerivation, moves_of, Fits, Shape, node_count, shape_of};
 ghost use Rattle.tree_check.specs.Common.{why_of, why_number};
 ghost use Rattle.move_text.specs.Common.{most_moves};
 ghost use Rattle.tree_text.specs.Common.{tree_text};
@@ -82,10 +82,10 @@ fn made_by(tree: Tree, n: u32, moves: &Moves, count: u32) -> Option<Tree>
 // Why the move with this number has no result on the tree that those before it make.
 fn fault_of_move(n: u32, tree: Tree, moves: &Moves, at: u32) -> StuckFault
     requires fits { Fits n (shape_of tree) }
-    requires stuck { (reached : Shape) × (move : PlainMove) ×
+    requires stuck { (reached : Shape) × (move : _) ×
         IsNextMove n (shape_of tree) (moves_of moves.now) at reached move ×
         HasNoResult n reached move }
-    ensures { (reached : Shape) × (move : PlainMove) ×
+    ensures { (reached : Shape) × (move : _) ×
         IsNextMove n (shape_of tree) (moves_of moves.now) at reached move ×
         IsStuckBy n reached move result }
 {
