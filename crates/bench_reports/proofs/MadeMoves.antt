@@ -1,6 +1,6 @@
 -- The tree that the first moves of a script make, move by move; and what a refused move makes is
 -- refused.
-use Rattle.std.proofs.Common.{◌≡◌, ◌≤◌, ◌<◌, ◌∙◌, ◌⊎◌, inl, inr, ℕ, zero, suc, ◌+◌, ◌-◌, List, [], ◌∷◌, length, drop, slice_get, Option, Some, None, option_and_then, refl, sym, ap, subst₂, arith}
+use Rattle.std.proofs.Common.{◌≡◌, ◌≤◌, ◌<◌, ◌∙◌, inl, inr, ℕ, zero, suc, ◌+◌, ◌-◌, List, [], ◌∷◌, length, drop, slice_get, Option, Some, None, option_and_then, refl, sym, ap, subst₂, arith}
 use Rattle.std.proofs.lemmas.Option.{none-some, same_Some}
 use Rattle.graph_core.proofs.Common.{Graph}
 use Rattle.tree_core.proofs.Common.{PlainMove, Shape, move_of, move_result, moves_of}

@@ -1,12 +1,12 @@
 -- The search for a node of a tree by its number: the steps of a path as they grow, and what is found
 -- below a cut is found in the tree of the cut.
-use Rattle.std.proofs.Common.{◌≡◌, ◌∙◌, ◌≤◌, ◌<◌, ℕ, zero, suc, ◌+◌, ◌||◌, ◌==◌, Bool, true, false, List, [], ◌∷◌, ◌++◌, length, Option, Some, None, refl, sym, ap, subst, append_assoc, if◌then◌else◌, arith}
+use Rattle.std.proofs.Common.{◌≡◌, ◌∙◌, ◌≤◌, ◌<◌, ℕ, zero, suc, ◌+◌, ◌||◌, ◌==◌, Bool, true, false, List, [], ◌∷◌, ◌++◌, length, Option, refl, sym, ap, subst, append_assoc, if◌then◌else◌, arith}
 use Rattle.counting.proofs.Common.{Set, append-nil, length-append, nat_tests}
-use Rattle.tree_core.proofs.Common.{Shape, leaf, cut, node_count}
+use Rattle.tree_core.proofs.Common.{Shape, cut, node_count}
 use Rattle.tree_core.specs.declared.path.Side.{Side}
 use Rattle.tree_core.specs.declared.path.Side.TheVariants.{Kept, Merged}
 use Rattle.refusals.specs.declared.places.NodePlace.{NodePlace}
-use Rattle.bench_outcomes.specs.Common.{IsPlaceAt, nodes_before, steps_to, subtree_at}
+use Rattle.bench_outcomes.specs.Common.{IsPlaceAt, steps_to}
 use Rattle.bench_reports.specs.NodeSearch.{IsFound}
 use Rattle.bench_reports.specs.declared.node_places.Sought.{Sought}
 use Rattle.bench_reports.specs.declared.node_places.Sought.TheVariants.{Found, Beyond}

@@ -1,7 +1,6 @@
 use Rattle.std.proofs.Common.{arith}
 use Rattle.tree_core.proofs.Common.{shape_of}
 use Rattle.tree_check.specs.Common.{why_of}
-use Rattle.report_text.specs.declared.judgements.TreeLine.TheVariants as line
 use Rattle.bench_reports.proofs.FaultsPlaced.{refused-node}
 use Rattle.bench_reports.proofs.RefusalsTold.{tree-told}
 use Rattle.bench_reports.proofs.checking.refused_report.Goals as goal

@@ -1,5 +1,4 @@
 use Rattle.std.proofs.Common.{arith}
-use Rattle.report_text.specs.declared.ear_judgements.EarLine.TheVariants as line
 use Rattle.bench_reports.proofs.ear_checking.refused_report.Goals as goal
 
 pub returns-clause-gives : goal.returns-clause-gives

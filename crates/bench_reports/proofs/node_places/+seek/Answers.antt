@@ -1,7 +1,6 @@
-use Rattle.std.proofs.Common.{◌≡◌, ℕ, suc, ◌-◌, ◌<◌, ◌++◌, ◌∷◌, [], subst, arith}
-use Rattle.tree_core.proofs.Common.{Shape, shape_of}
+use Rattle.std.proofs.Common.{◌≡◌, ℕ, suc, ◌-◌, ◌<◌, ◌++◌, ◌∷◌, [], arith}
+use Rattle.tree_core.proofs.Common.{shape_of}
 use Rattle.tree_core.specs.declared.path.Side.TheVariants.{Kept, Merged}
-use Rattle.bench_reports.specs.NodeSearch.{IsFound}
 use Rattle.bench_reports.proofs.NodeSearches.{found-here, found-kept, found-merged}
 use Rattle.bench_reports.proofs.node_places.+seek.Goals as goal
 

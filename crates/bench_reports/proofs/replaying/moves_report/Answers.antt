@@ -17,14 +17,14 @@ place_behind-place-requires-clause-fits c =
 
 pub fault_of_move-fault-requires-clause-fits : goal.fault_of_move-fault-requires-clause-fits
 fault_of_move-fault-requires-clause-fits c =
-    rw (c.order-in-Stuck.ensures.is, c.in_ok-first.ensures) (fits-derivation c.args.c.now (shape_of c.args.tree) c.requires.derivation)
+    rw (c.order.ensures.is, c.in_ok-first.ensures) (fits-derivation c.args.c.now (shape_of c.args.tree) c.requires.derivation)
 
 pub fault_of_move-fault-requires-clause-stuck : goal.fault_of_move-fault-requires-clause-stuck
 fault_of_move-fault-requires-clause-stuck c =
     let g = c.args.c.now in
     let moves = moves_of c.args.moves.now in
     let stuck = subst (λ (answer : Replayed). IsReplay g (shape_of c.args.tree) moves answer) c.in-Stuck.is c.in_ok-answer.ensures in
-    rw (c.order-in-Stuck.ensures.is, c.in_ok-first.ensures) (made-stuck_at g (shape_of c.args.tree) moves c.in-Stuck.at stuck)
+    rw (c.order.ensures.is, c.in_ok-first.ensures) (made-stuck_at g (shape_of c.args.tree) moves c.in-Stuck.at stuck)
 
 pub place_behind-place-requires-clause-node : goal.place_behind-place-requires-clause-node
 place_behind-place-requires-clause-node c =
