@@ -49,8 +49,10 @@ steps-merged_suc merged more depth path less are is = (
   where
     last : more (suc depth) ≡ true
     last = grind (arith, is (suc depth), nat_tests)
+
     before : (step : ℕ) → step ≤ depth → more step ≡ merged step
     before step few = grind (arith, is step, nat_tests)
+
     within : (step : ℕ) → more step ≡ true → step ≤ suc depth
     within step in_more = grind (arith, is step, nat_tests, are.2 step)
 

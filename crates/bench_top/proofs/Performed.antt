@@ -1,6 +1,6 @@
 -- What a command makes of the shelf and the sink is `RunsTo`: it follows from what reading its files
 -- made of the shelf, and from how the run ended with what was read.
-use Rattle.std.proofs.Common.{◌≡◌, ◌∙◌, ◌⊎◌, ◌↔◌, ℕ, List, Bool, IsTrue, IsOk, IfOk, Option, Some, Result, refl, sym, ap, subst, is_some, inl, inr, arith}
+use Rattle.std.proofs.Common.{◌≡◌, ◌∙◌, ◌⊎◌, ◌↔◌, ℕ, List, Bool, IsTrue, IsOk, IfOk, Option, Some, Result, sym, ap, subst, is_some, arith}
 use Rattle.std.proofs.lemmas.Option.{none-some, same_Some}
 use Rattle.outside.specs.Common.{Answer, NamedFile, ReadsInTurn, Rose}
 use Rattle.refusals.specs.declared.refusal.Refusal.{Refusal}
@@ -9,9 +9,9 @@ use Rattle.bench_tasks.specs.declared.stop.Stop.{Stop}
 use Rattle.bench_tasks.specs.declared.tasks.Task.TheVariants as code
 use Rattle.bench_outcomes.specs.Common.{Appended, CutShort, GatheredMayRefuse, IsPlaced, IsReported, IsSettled, LoadedGives, is_negative}
 use Rattle.bench_outcomes.specs.declared.status.Status.{Status}
-use Rattle.bench_outcomes.specs.declared.status.Status.TheVariants.{Done, Negative, Usage, ReadFault, BadInput, WriteFault, Memory}
+use Rattle.bench_outcomes.specs.declared.status.Status.TheVariants.{Negative, Usage, ReadFault, BadInput, WriteFault}
 use Rattle.bench_top.specs.Calm.{HasRead}
-use Rattle.bench_top.specs.Endings.{IsStopOf, ReportedBad, ReportedRefusal, StopsAfter, stop_in}
+use Rattle.bench_top.specs.Endings.{IsStopOf, ReportedBad, ReportedRefusal, stop_in}
 use Rattle.bench_top.specs.Runs.{RunsTo}
 use Rattle.bench_top.specs.Writes.{GivesTold, WritesAs}
 use Rattle.bench_top.proofs.Completeness.{done-given, done-or_memory}

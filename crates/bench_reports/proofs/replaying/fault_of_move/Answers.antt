@@ -21,9 +21,13 @@ pub returns-in-Some : goal.returns-in-Some
 returns-in-Some c =
     let stuck = c.requires.stuck in
     let reached = shape_of c.in-Some.reached in
-    let made : made_by c.args.n (shape_of c.args.tree) (moves_of c.args.moves.now) (c.args.at - 1) ≡ Some reached = sym c.made_by.ensures ∙ ap (option_map shape_of) c.in-Some.is in
-    (stuck.0, stuck.1, stuck.2, stuck-by c.args.n (shape_of c.args.tree) c.args.moves.now c.args.at stuck.0 stuck.1 stuck.2 stuck.3 reached c.get.result.now c.stuck_fault.result made c.get.ensures
-    (λ none. (c.stuck_fault.ensures.reason c.args.n).0 none))
+    let made : made_by c.args.n (shape_of c.args.tree) (moves_of c.args.moves.now) (c.args.at - 1) ≡ Some reached = sym c.made_by.ensures ∙ ap (option_map shape_of) c.in-Some.is in (
+      stuck.0,
+      stuck.1,
+      stuck.2,
+      stuck-by c.args.n (shape_of c.args.tree) c.args.moves.now c.args.at stuck.0 stuck.1 stuck.2 stuck.3 reached c.get.result.now c.stuck_fault.result made c.get.ensures
+          (λ none. (c.stuck_fault.ensures.reason c.args.n).0 none),
+    )
 
 pub returns-in-None : goal.returns-in-None
 returns-in-None c =
