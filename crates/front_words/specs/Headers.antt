@@ -7,9 +7,9 @@ use Rattle.std.specs.declared.option.Option.TheVariants.{None, Some}
 use Rattle.line_text.specs.Common.{lines_of}
 use Rattle.front_words.specs.Numbers.{number_in, pieces_of}
 
--- what is known of a header after some of its words: how many they are, at most 4, and the numbers
--- that the third and the fourth write. The first word of a header is `p`: a line with another one
--- counts as one of 5 words
+-- what is known of a line after some of its words: how many they are, where 4 stands for 4 or more
+-- and 5 for a line whose first word is not `p`; and the numbers that the third and the fourth word
+-- write, 0 for one that is missing
 abbrev pub HeaderSoFar : Type 0
 HeaderSoFar = ℕ × ℕ × ℕ
 
@@ -26,7 +26,7 @@ with_word so_far word =
 unfoldable pub header_so_far : (line : List ℕ) → HeaderSoFar
 header_so_far line = fold with_word (0, 0, 0) (pieces_of line)
 
--- the numbers in the line, if it is a header, as `p mcg N M`
+-- the numbers that the third and the fourth word write, if the first is `p`, as in `p mcg N M`
 abbrev pub sizes_in : (line : List ℕ) → Option (ℕ × ℕ)
 sizes_in line =
     if (header_so_far line).0 == 0 || (header_so_far line).0 == 5 then None else Some ((header_so_far line).1, (header_so_far line).2)

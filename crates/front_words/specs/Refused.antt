@@ -12,9 +12,9 @@ use Rattle.front_words.specs.Uncovered.{uncovered_text}
 
 -- why a move has no result, and what would be right
 abbrev pub stuck_words : StuckFault → List ℕ
-stuck_words NoCut = codes "its path leads to no cut, or rotates the root (take the path of another cut)"
+stuck_words NoCut = codes "its path does not lead to a cut that it can change (rotate needs a cut below the root)"
 stuck_words Crossing = codes "the shore of its cut crosses that of the cut above (rotate another cut)"
-stuck_words NotParts = codes "its sets are not proper nonempty parts of the shore and of the other side (change them)"
+stuck_words NotParts = codes "its sets must be nonempty proper subsets of the shore and of its complement"
 
 -- a move has no result
 abbrev pub stuck_text : (program : List ℕ) (step : ℕ) → StuckFault → List ℕ

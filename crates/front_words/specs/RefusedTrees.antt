@@ -14,7 +14,7 @@ abbrev pub node_words : NodeFault → List ℕ
 node_words NotBlocks = codes "its shore is not a union of blocks, as it splits a set that a cut above it contracted"
 node_words Even = codes "its shore has an even number of blocks, so its cut is not tight"
 node_words Trivial = codes "one of its two shores has fewer than three blocks, so its cut is trivial"
-node_words NotTight = codes "its cut is not tight, as two edges or more of the perfect matching shown are in it"
+node_words NotTight = codes "its cut is not tight, as it contains at least three edges of the perfect matching shown"
 node_words NotLeaf = codes "it is a leaf, but the cut of the shore shown is nontrivial and tight there"
 
 -- what would be right at the node
@@ -32,9 +32,9 @@ node_text place fault advice = place_text place ++ (codes "): " ++ (node_words f
 -- a tree is not a tight cut decomposition
 abbrev pub tree_text : (program : List ℕ) (tree at : ℕ) → Option NodePlace → NodeFault → List ℕ
 tree_text program tree at place fault =
-    (program ++ (codes ": tree " ++ (decimal tree ++ (codes " is no tight cut decomposition; at node " ++ (decimal at ++ codes " (in preorder"))))) ++ node_text place fault (node_advice fault)
+    (program ++ (codes ": tree " ++ (decimal tree ++ (codes " is not a tight cut decomposition; at node " ++ (decimal at ++ codes " (in preorder"))))) ++ node_text place fault (node_advice fault)
 
 -- a move makes a tree that is not a tight cut decomposition
 abbrev pub moved_text : (program : List ℕ) (step at : ℕ) → Option NodePlace → NodeFault → List ℕ
 moved_text program step at place fault =
-    (program ++ (codes ": move " ++ (decimal step ++ (codes " makes a tree that is no tight cut decomposition; at its node " ++ (decimal at ++ codes " (in preorder"))))) ++ node_text place fault (codes " (take another move)")
+    (program ++ (codes ": move " ++ (decimal step ++ (codes " makes a tree that is not a tight cut decomposition; at its node " ++ (decimal at ++ codes " (in preorder"))))) ++ node_text place fault (codes " (take another move)")

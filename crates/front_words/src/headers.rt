@@ -8,8 +8,9 @@ use line_text::split_line;
 // The count of a line whose first word is not `p`.
 const NO_HEADER: u32 = 5;
 
-// What is known of a header after one more word: how many words it has, at most 4, and the numbers
-// that the third and the fourth write. A line with another first word than `p` counts as one of 5.
+// What is known of a line after one more word: how many words it has, where 4 stands for 4 or more
+// and 5 for a line whose first word is not `p`; and the numbers that the third and the fourth word
+// write, 0 for one that is missing.
 fn with_word(so_far: (u32, u32, u32), word: &[u8]) -> (u32, u32, u32)
     ensures { result ≡ with_word so_far word.now }
 {
@@ -37,7 +38,7 @@ fn header_so_far(line: &[u8]) -> (u32, u32, u32)
         .fold((0, 0, 0), |so_far, word| with_word(so_far, word))
 }
 
-// The numbers in a line, if it is a header.
+// The numbers that the third and the fourth word write, if the first word is `p`.
 fn sizes_in(line: &[u8]) -> Option<(u32, u32)>
     ensures { result ≡ sizes_in line.now }
 {

@@ -17,13 +17,13 @@ fn stuck_words(fault: StuckFault) -> &'static str
 {
     match fault {
         StuckFault::NoCut => {
-            "its path leads to no cut, or rotates the root (take the path of another cut)"
+            "its path does not lead to a cut that it can change (rotate needs a cut below the root)"
         }
         StuckFault::Crossing => {
             "the shore of its cut crosses that of the cut above (rotate another cut)"
         }
         StuckFault::NotParts => {
-            "its sets are not proper nonempty parts of the shore and of the other side (change them)"
+            "its sets must be nonempty proper subsets of the shore and of its complement"
         }
     }
 }

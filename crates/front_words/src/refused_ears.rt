@@ -14,8 +14,8 @@ fn ear_text(ear: Option<EarOfTwo>) -> &'static str
 {
     match ear {
         None => "",
-        Some(EarOfTwo::First) => ", in its first ear",
-        Some(EarOfTwo::Second) => ", in its second ear",
+        Some(EarOfTwo::First) => ", in the first ear",
+        Some(EarOfTwo::Second) => ", in the second ear",
     }
 }
 
@@ -30,7 +30,7 @@ fn say_at_step<'a, K: Sink>(
         sink.new }
 {
     let by = Text(program);
-    let what = Text(": the list is no ear decomposition; at step ");
+    let what = Text(": the list is not an ear decomposition; at step ");
     let step = Number(step as u64);
     let ear = Text(ear_text(place.ear));
     let end = Text(": ");
@@ -53,7 +53,7 @@ fn say_ears_place<'a, K: Sink>(
     ensures { Says K.written K.writes K.faults (ears_place_text program.now step place) result
         sink.old sink.new }
 {
-    let start = ": the list is no ear decomposition; before its first step: ";
+    let start = ": the list is not an ear decomposition; before its first step: ";
     if step == 0 {
         say(sink, &[Text(program), Text(start)])
     } else {
@@ -69,9 +69,9 @@ fn say_step_fault<K: Sink>(sink: &mut K, fault: EarFault) -> Result<(), SinkFail
         EarFault::NotPath => say(
             sink,
             &[
-                Text("the ear is not a path: an edge does not begin at the vertex reached, "),
-                Text("or a vertex is repeated (write the first vertex of the ear, then its "),
-                Text("edges in the order of the path)\n"),
+                Text("the ear is not a path: an edge does not meet the vertex reached, or a "),
+                Text("vertex is repeated (write the first vertex of the ear, then its edges "),
+                Text("in order)\n"),
             ],
         ),
         EarFault::EvenLength => say(
@@ -103,18 +103,18 @@ fn say_step_fault<K: Sink>(sink: &mut K, fault: EarFault) -> Result<(), SinkFail
         EarFault::StageNotCovered { edge } => say(
             sink,
             &[
-                Text("after it edge "),
+                Text("once the step is added, edge "),
                 Number(edge as u64),
                 Text(" is in no perfect matching of the subgraph "),
-                Text("(add a second ear in the same step, or take other ears)\n"),
+                Text("(take other ears, or add a second ear if the step has only one)\n"),
             ],
         ),
         EarFault::EndsEarly { edge } => say(
             sink,
             &[
-                Text("the list ends here, and edge "),
+                Text("the list ends here, but edge "),
                 Number(edge as u64),
-                Text(" has not been added (add ears)\n"),
+                Text(" has not been added (add more ears)\n"),
             ],
         ),
     }

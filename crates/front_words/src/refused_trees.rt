@@ -22,7 +22,7 @@ fn node_words(fault: NodeFault) -> &'static str
             "one of its two shores has fewer than three blocks, so its cut is trivial"
         }
         NodeFault::NotTight => {
-            "its cut is not tight, as two edges or more of the perfect matching shown are in it"
+            "its cut is not tight, as it contains at least three edges of the perfect matching shown"
         }
         NodeFault::NotLeaf => {
             "it is a leaf, but the cut of the shore shown is nontrivial and tight there"
@@ -75,7 +75,7 @@ pub fn say_tree<'a, K: Sink>(
             Text(program),
             Text(": tree "),
             Number(tree as u64),
-            Text(" is no tight cut decomposition; at node "),
+            Text(" is not a tight cut decomposition; at node "),
             Number(node as u64),
             Text(" (in preorder"),
         ],
@@ -102,7 +102,7 @@ pub fn say_moved<'a, K: Sink>(
             Text(program),
             Text(": move "),
             Number(step as u64),
-            Text(" makes a tree that is no tight cut decomposition; at its node "),
+            Text(" makes a tree that is not a tight cut decomposition; at its node "),
             Number(node as u64),
             Text(" (in preorder"),
         ],
