@@ -21,12 +21,14 @@ use Rattle.mcg6_lines.specs.Elementary.{elementary_lines}
 use Rattle.mcg6_lines.specs.KindLines.{kind_line, standing_words}
 use Rattle.mcg6_lines.specs.LeafLines.{AreLeafLines, leaf_lines, line_front}
 use Rattle.mcg6_lines.specs.Selecting.{HasProperty, IsBicriticalWithEdge, IsSelected, LacksProperty}
-use Rattle.mcg6_lines.specs.Standings.{IsCounted, IsStanding, Standing, Structured, Uncovered}
+use Rattle.mcg6_lines.specs.Standings.{IsCounted, IsStanding}
 use Rattle.mcg6_lines.specs.Telling.{IsTold, file_text}
 use Rattle.mcg6_lines.specs.declared.query.Property.{Property}
 use Rattle.mcg6_lines.specs.declared.query.Property.TheVariants.{Covered, Uncovered as NotCovered, Perfect, Brick, Brace, Bicritical, Composite, Bricks, Braces}
 use Rattle.mcg6_lines.specs.declared.query.Query.{Query}
 use Rattle.mcg6_lines.specs.declared.query.Query.TheVariants.{Kinds, Leaves, Elementary, Graph as GraphFile, Select}
+use Rattle.mcg6_lines.specs.declared.standings.Standing.{Standing}
+use Rattle.mcg6_lines.specs.declared.standings.Standing.TheVariants.{Structured, Uncovered}
 use Rattle.mcg6_reader.specs.declared.place.LinePlace.{LinePlace}
 use Rattle.mcg6_top.proofs.ListsExist.{list_outcome, settled_end}
 use Rattle.mcg6_top.specs.Common.{HasAnswer, HasListOutcome, IsBadLine, TellsLineOf, is_further}
