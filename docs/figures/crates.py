@@ -12,7 +12,7 @@ from drawing import INK, ROOT, TINTS, bare, save
 # What is left out, and the groups of crates.txt that share a colour, with what the colour stands for.
 LEFT_OUT = {"Tests", "An example for users of the library"}
 COLOURS = [
-    ("sets, lists, lines", "#e6e6e6", ["Words and sets", "Lines of texts, and their faults", "The outside"]),
+    ("sets, lists, lines", "#e6e6e6", ["Words and sets", "Lines of texts, and their faults", "The outside", "Reasons for refusals, and kinds of files"]),
     ("graphs and matchings", TINTS[0], ["Graphs", "Matchings"]),
     ("cuts", TINTS[1], ["Cuts"]),
     ("trees and ears", TINTS[2], ["Trees and ears"]),
