@@ -1,4 +1,4 @@
-"""Does each must-fail edit say what it turns, and is each edit that docs/dev/PROVED.md names there?
+"""Does each mutant say what it changes, and is each mutant that docs/dev/PROVED.md names there?
 
 The first line of an edit says in words what the edited code does: `# MEANING`. No two edits of a crate
 say the same. In the table of PROVED each name of an edit is followed by a checksum of its text, so that
@@ -12,7 +12,7 @@ HEADING = "## Mutants that the gate rejects"
 
 
 def edits():
-    """Each must-fail edit by its name, CRATE/NAME."""
+    """Each mutant by its name, CRATE/NAME."""
     files = sorted(pathlib.Path("crates").glob("*/must-fail/*.edit"))
     return {f"{file.parts[1]}/{file.stem}": file for file in files}
 
@@ -23,7 +23,7 @@ def meanings(known):
     for name, file in known.items():
         meaning = re.match(r"# (\S+ \S.*\S)\n", file.read_text())
         if not meaning:
-            yield f"{file}: its first line does not say what it turns, as `# {name.split('/')[1]}` would"
+            yield f"{file}: its first line does not say what it changes, as `# {name.split('/')[1]}` would"
             continue
         before = seen.setdefault((file.parts[1], meaning[1]), name)
         if before != name:
@@ -31,7 +31,7 @@ def meanings(known):
 
 
 def checksum(file):
-    """A checksum of what an edit turns, without its first line."""
+    """A checksum of what an edit changes, without its first line."""
     lines = [it for it in file.read_text().splitlines() if not it.startswith("#")]
     return hashlib.sha256("\n".join(lines).encode()).hexdigest()[:8]
 
@@ -61,5 +61,5 @@ def main():
     for line in wrong:
         print(line)
     if not wrong and count:
-        print(f"each of the {len(known)} must-fail edits says what it turns; {DOCUMENT} names {count}")
+        print(f"each of the {len(known)} mutants says what it changes; {DOCUMENT} names {count}")
     return 1 if wrong or not count else 0

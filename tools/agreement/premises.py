@@ -2,7 +2,8 @@
 
 A row of a table of premises names a premise and a graph without it. For each a `Row` of crates/premise_tests must have the words
 `LAW: PREMISE`, and the name of the graph as the book gives it; where the book names several graphs, one `Row` for each. No `Row`
-may be of a premise or a graph that the book does not name. Lists what is missing or too much, and ends with status 1 if anything is.
+may be of a premise or a graph that the book does not name. A `Row` in a comment does not count, nor one in a table that no test
+goes through. Lists what is missing or too much, and ends with status 1 if anything is.
 """
 import pathlib
 import re
@@ -32,17 +33,33 @@ def rows():
             is_table = False
 
 
-def tests():
-    """The premises that the tests name, each with its graphs."""
+def tables(text):
+    """The tables of rows of a file, by their names."""
+    return dict(re.findall(r"^static (\w+): \[Row; \d+\] = \[\n(.*?)^\];", text, re.MULTILINE | re.DOTALL))
+
+
+def tried_in(text):
+    """The names of the tables that the tests of a file go through."""
+    bodies = re.findall(r"^#\[test\]\nfn .*?^}", text, re.MULTILINE | re.DOTALL)
+    return {name for body in bodies for name in re.findall(r"first_wrong\([^;]*?&(\w+)\)", body)}
+
+
+def tests(wrong):
+    """The premises that the tests name, each with its graphs; adds the tables that no test goes through to those that are wrong."""
     found = {}
     for file in sorted(TESTS.glob("*.rt")):
-        for premise, graph in re.findall(r'premise:\s*"([^"]+)",\s*graph:\s*"([^"]+)"', file.read_text()):
-            found.setdefault(premise, []).append(graph)
+        text = re.sub(r"^\s*//.*\n", "", file.read_text(), flags=re.MULTILINE)
+        tried, rows = tried_in(text), tables(text)
+        wrong += [f"{file}: no test goes through the table {name}" for name in rows if name not in tried]
+        for name in tried & set(rows):
+            for premise, graph in re.findall(r'premise:\s*"([^"]+)",\s*graph:\s*"([^"]+)"', rows[name]):
+                found.setdefault(premise, []).append(graph)
     return found
 
 
 def main():
-    wrong, known, tried = [], {}, tests()
+    wrong, known = [], {}
+    tried = tests(wrong)
     for premise, graphs in rows():
         known[premise] = graphs
         if premise in ELSEWHERE:
