@@ -1,7 +1,7 @@
 //! Laws of what is written: what mcg writes, mcg reads. Each is the contract of a function that
 //! does nothing.
 //!
-//! An output stands in a further file, within the limit of bytes, beside the files that the
+//! An output is in a further file, within the limit of bytes, beside the files that the
 //! command named. Then a further command on them asks for a task that succeeds (`AsksDone`), so
 //! that `run` answers Done wherever the outside does not fail and memory lasts.
 ghost use Rattle.std.specs.Prelude.{◌≡◌, ◌≤◌, ℕ, List, [], ◌∷◌, codes, length, Some};
@@ -11,8 +11,8 @@ ghost use Rattle.bench_top.specs.RoundTrips.{AsksDone, ReplaysScript};
 ghost use Rattle.bench_outcomes.specs.declared.status.Status.{Status};
 ghost use Rattle.bench_outcomes.specs.declared.status.Status.TheVariants.{Done};
 
-/// What `decompose` writes of a matching covered graph, by a named order or by picks, `check`
-/// accepts.
+/// `check` accepts what `decompose` writes of a matching covered graph, by a named order or by
+/// picks.
 pub fn checked_decomposition_law()
     ensures order { (files again : List NamedFile) (graph order tree output : List ℕ)
         → Outcome (codes "decompose" ∷ graph ∷ order ∷ []) files Done output
@@ -26,7 +26,7 @@ pub fn checked_decomposition_law()
         → AsksDone (codes "check" ∷ graph ∷ tree ∷ []) again }
 {}
 
-/// What `ears` writes of a matching covered graph, `checkears` accepts.
+/// `checkears` accepts what `ears` writes of a matching covered graph.
 pub fn checked_ears_law()
     ensures { (files again : List NamedFile) (graph ears output : List ℕ)
         → Outcome (codes "ears" ∷ graph ∷ []) files Done output
@@ -35,7 +35,7 @@ pub fn checked_ears_law()
         → AsksDone (codes "checkears" ∷ graph ∷ ears ∷ []) again }
 {}
 
-/// What `replay` writes if it is done, `check` accepts.
+/// `check` accepts what `replay` writes if it is done.
 pub fn checked_replay_law()
     ensures { (files again : List NamedFile) (graph tree moves last output : List ℕ)
         → Outcome (codes "replay" ∷ graph ∷ tree ∷ moves ∷ []) files Done output

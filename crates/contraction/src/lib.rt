@@ -9,8 +9,9 @@
 //! two blocks.
 //!
 //! `lift` takes a matching of the quotient to edges of the graph. `lift_law` and `projection_law`
-//! carry perfect matchings up and down; `covered_quotient_law`, `tight_quotient_law` and
-//! `merged_quotients_law` relate the quotient to the contraction.
+//! carry perfect matchings up and down; `covered_quotient_law` and `tight_quotient_law` relate the
+//! quotient to the contraction, and `merged_quotients_law` says how quotients behave when a tight
+//! shore is merged. No code calls these laws: `tree_core` and the crates above use their lemmas.
 //!
 //! Depends on `graph_core`, `match_core`, `indexmap` and `itertools`. Source: Lovász 1987.
 #![tactic(auto)]

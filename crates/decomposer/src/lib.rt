@@ -10,7 +10,7 @@
 //! beside the tree, as places that know their quotients (`KnownPlace` of `tree_core`), and so does
 //! `decompose_places_from_first` where the first cut is at hand too; `tally` counts them by kind.
 //!
-//! Stands on `tight_cuts` for the candidates at a place and on `tree_core` for trees. Source:
+//! Depends on `tight_cuts` for the candidates at a place and on `tree_core` for trees. Source:
 //! Lovász, "Matching structure and the matching lattice" (1987); Lucchesi and Murty, "Perfect
 //! Matchings".
 #![tactic(auto)]

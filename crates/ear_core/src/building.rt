@@ -27,11 +27,13 @@ use vset_core::VSet;
 /// One perfect matching is kept. At each stage the edges between two partners on it, which are
 /// vertices without which it has a perfect matching, are added as single ears. If there is none,
 /// another perfect matching that holds an edge leading out of the stage makes ears together with
-/// the kept one, and the first of these that keeps the stage matching covered is added. If there is
-/// none, a perfect matching is sought that leads out of the stage at two vertices alone: it makes a
-/// single ear. Only where there is none are the first two ears added that keep the stage matching
-/// covered together. The numbers of the list are in range and no ear is empty. `Memory` is want of
-/// memory alone. Lovász and Plummer, "Matching Theory", section 5.4.
+/// the kept one, and the first of these that keeps the stage matching covered is added. If no ear
+/// does, a perfect matching is sought that leads out of the stage at two vertices alone: it makes a
+/// single ear. Only where there is no such matching are the first two ears added that keep the
+/// stage matching covered together. The numbers of the list are in range and no ear is empty
+/// (`fits` and `filled`, which follow from `list`, are for calls of `check_ears` and `write_ears`
+/// with the result). The only error is `Memory`. Lovász and Plummer, "Matching Theory", section
+/// 5.4.
 pub fn build_ears(alloc: Global, g: &MultiGraph) -> Result<EarList, Memory>
     requires { IsCovered g.now }
     ensures list { IfOk result (λ list. IsEarList g.now (ears_of list)) }
@@ -46,8 +48,8 @@ pub fn build_ears(alloc: Global, g: &MultiGraph) -> Result<EarList, Memory>
     build_ears_of(alloc, &Covered::known(alloc, g)?)
 }
 
-/// The ear list that `build_ears` answers, of a covered graph. It begins from the perfect matching
-/// that is at hand.
+/// The ear list that `build_ears` returns, of a graph that is known to be covered. It begins from
+/// the perfect matching that is known.
 pub fn build_ears_of(alloc: Global, c: &Covered) -> Result<EarList, Memory>
     ensures list { IfOk result (λ list. IsEarList c.now (ears_of list)) }
     ensures start { IfOk result (λ list. list.start ≡ 1) }

@@ -11,22 +11,23 @@
 //! refusal; `check_ears_of` does so for a graph that is known to be covered. `fault_place` says at
 //! which ear of a step, and at which edge of that ear, the fault of a refused step shows first
 //! (`specs/FaultPlaces`). `build_ears` makes an ear list of each matching covered graph, in which
-//! two ears are added only at a stage from which no ear list goes on by a single ear
+//! two ears are added only at a stage from which no ear list continues with a single ear
 //! (`TakesSingles`). Nor can it be refined (`IsUnrefinable`): neither ear of a step of two keeps
 //! the stage matching covered alone. In a bipartite graph all its ears are single.
 //!
 //! `laws::ear_tests_law`: the tests say that an ear is one. `laws::new_stage_law`: after them a new
 //! stage can fail by an edge in no perfect matching alone. `laws::first_refusal_law`: an ear list
-//! has no refusal, and another list one at most. `laws::fault_edges_law`: an ear that fails a test
-//! shows it at one of its edges, unless it has none or fails only because their number is even.
-//! `laws::whole_stage_law`: the stage of all vertices and edges is matching covered exactly when
-//! the graph is. `laws::single_ears_law`: an ear list goes on by a single ear only where some
-//! perfect matching of the graph leads out of the stage at two vertices alone (`LeadsAtTwo` of
+//! has no refusal, and any other list has at most one. `laws::fault_edges_law`: an ear that fails a
+//! test shows it at one of its edges, unless it has none or fails only because their number is
+//! even. `laws::whole_stage_law`: the stage of all vertices and edges is matching covered exactly
+//! when the graph is. `laws::single_ears_law`: an ear list continues with a single ear only where
+//! some perfect matching of the graph leads out of the stage at two vertices alone (`LeadsAtTwo` of
 //! `specs/LoneEars`). `laws::lone_parts_law`: such a matching is made of a perfect matching of the
 //! stage without the two, and of edges off the stage that lead out at them (`LeadsOff`).
 //! `laws::stage_partners_law`: two vertices of a stage without which it has a perfect matching
-//! (`ArePartnersOn` of `specs/StagePartners`) are so on the next stage, an edge that joins two such
-//! vertices is a single ear, and vertices that are no partners have the same partners.
+//! (`ArePartnersOn` of `specs/StagePartners`) are partners on the next stage too, an edge that
+//! joins two such vertices is a single ear, and vertices that are no partners have the same
+//! partners.
 //!
 //! Inside, a step is taken on the marks of a stage (`Marked`). The checker keeps a stage with the
 //! mates of a matching (`MatchedStage`) and asks for the partners of one vertex at a time: a single
@@ -36,12 +37,12 @@
 //! The builder keeps one perfect matching. It asks for partners on a stage (`Stage`), by one search
 //! for a class of vertices that have the same ones, and adds each edge between two partners. It
 //! asks again only when no such edge is left. Then another perfect matching leads out and makes
-//! ears together with the kept one (`AreMatedEars` of `specs/AlternatingEars`), of which one serves
-//! or two do by the two-ear theorem. Where two do, a matching that leads out at two vertices alone
-//! is sought first: it makes a single ear. The partners on the stage and those off it tell whether
-//! there is one (`specs/LoneTables`).
+//! ears together with the kept one (`AreMatedEars` of `specs/AlternatingEars`), of which by the
+//! two-ear theorem one serves, or two together. Where it takes two, a matching that leads out at
+//! two vertices alone is sought first: it makes a single ear. The partners on the stage and those
+//! off it tell whether there is one (`specs/LoneTables`).
 //!
-//! Stands on `match_core`, `allowed_edges`, `graph_facts`, `refusals` and `two_ears`. Source:
+//! Depends on `match_core`, `allowed_edges`, `graph_facts`, `refusals` and `two_ears`. Source:
 //! Lovász and Plummer, "Matching Theory", chapter 5.
 #![tactic(auto)]
 

@@ -13,11 +13,11 @@
 //!
 //! `cuts`: `tight_cuts::is_tight` is compared with the plain program, which goes through all
 //! perfect matchings, on a table of small matching covered graphs and on each set with an odd
-//! number of their vertices; and it answers the worked cuts: the triangle in K3,3 is a tight
+//! number of their vertices; and it gives the worked cuts: the triangle in K3,3 is a tight
 //! shore, the triangle of the prism and the outer cycle of the Petersen graph are not.
-//! `tight_cuts::candidates` answers the worked lists of candidates, in order and with their
-//! origins; bricks and braces have none; and on a table of small graphs the list is empty exactly
-//! when the plain program finds no nontrivial tight set.
+//! `tight_cuts::candidates` gives the worked lists of candidates, in order and with their
+//! origins; bricks and braces have none. `tight_sets`: on a table of small graphs the list is empty
+//! exactly when the plain program finds no nontrivial tight set.
 //!
 //! `worked`: each call of `barrier_kit`, `separation_kit` and `quick_kinds` on graphs of the
 //! literature.

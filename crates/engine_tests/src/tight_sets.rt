@@ -10,7 +10,8 @@ use std::test::Fail;
 use tight_cuts::CandidateList;
 use vset_core::VSet;
 
-// Whether some set with at least three vertices on each side is tight, by the plain program.
+// Whether some set with at least three vertices on each side is tight, by the plain program. Only
+// sets of the vertices 1 to 8 are tried: no graph of the table has more.
 fn has_tight_set(alloc: Global, graph: &MultiGraph) -> Result<bool, Fail>
     requires { IsSmall graph.now }
 {

@@ -1,16 +1,17 @@
-//! The top call of the program `mcg_front`: `run_front` does what the words ask for, as `run` of
-//! `bench_top`, and then says on a second sink, for a person, what a status above 1 means in the
-//! case at hand.
+//! The top call of the program `mcg_front`: `run_front` does what the words of the command line ask
+//! for, as `run` of `bench_top`, and returns what is to be said of it, for a person: what a status
+//! above 1 means in the case at hand. `say` of `FrontEnding` says it afterwards.
 //!
 //! `--help`, `-h`, `help` and `--version`, alone, and what asks for the page of a command, `--help`
-//! behind it or one of the first three before it, are answered on standard output, and nothing is
+//! after it or one of the first three before it, are answered on standard output, and nothing is
 //! read. For all other words standard output and status are those of `run`. Main definitions, in
 //! specs/: `answer_of` of `Answers` (what such words are answered), `files_of` of `Files` (what
-//! each named file is read as), and `words_of` of `Words`, what is said of each ending, a
-//! function of the words, the ending, the bytes of the file that was read last, the numbers of the
-//! graph (`Sizing`), and what the shelf and the sink know of their faults. Main promises: the clauses of `run_front`.
+//! each named file is read as), and `words_of` of `Words`, what is said of each ending, a function
+//! of the command line, the ending, the bytes of the file that was read last, the numbers of the
+//! graph (`Sizing`), and what the shelf and the sink know of their faults. Main promises: the
+//! clauses of `run_front` and of `say`.
 //!
-//! Stands on `bench_top` for the run, on `front_words` for the words, and on `outside` for the
+//! Depends on `bench_top` for the run, on `front_words` for the words, and on `outside` for the
 //! shelf and the sinks.
 #![tactic(auto)]
 

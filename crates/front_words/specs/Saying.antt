@@ -13,7 +13,7 @@ pub record IsBegun (text : List ℕ) (before now : Option (List ℕ)) : Type 0 w
   pub written : now ≡ appended before done
 
 -- so many writes, each of which took some bytes, took this text together, and lead from the first
--- sink to the last
+-- sink to the last (`WritesTake` of `outside` says it with counts of bytes: `taken-turns`)
 abbrev pub WritesTaken : {K : Type 0} → (K → List ℕ → ℕ → K → Type 0) → (calls : ℕ) → List ℕ → (first last : K) → Type 0
 WritesTaken writes zero text first last = (text ≡ []) × (last ≡ first)
 WritesTaken {K} writes (suc calls) text first last =

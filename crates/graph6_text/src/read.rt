@@ -89,6 +89,7 @@ fn add_chosen(graph: &mut MultiGraph, pair: Ends, bit: bool) -> Result<(), TextF
     }
     match graph.add_edge(pair.a, pair.b) {
         Ok(_) => Ok(()),
+        // the ends are two vertices and there is room, so only memory can fail
         Err(_) => Err(TextFault::Memory),
     }
 }

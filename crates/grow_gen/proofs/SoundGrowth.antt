@@ -82,7 +82,7 @@ module _ (i : ℕ) (s : Growth) (sound : IsSound i s) (x : ℕ) where
   order-bound : piece_order piece ≤ 8
   order-bound = grind arith
 
-  -- the piece can be spliced, as long as there are at most fifteen pieces
+  -- the piece can be spliced, as long as there are at most fifteen pieces: with it at most 16
   pub may-take : i ≤ 14 → MayTake s piece
   may-take l = grind (arith, order-bound, some-eligible)
 

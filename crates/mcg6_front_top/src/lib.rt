@@ -1,16 +1,17 @@
-//! The top call of the program `mcg6_front`: `run_list_front` does what the words ask for, as
-//! `run` of `mcg6_top`, and then says on a second sink, for a person, how that ended.
+//! The top call of the program `mcg6_front`: `run_list_front` does what the words of the
+//! command line ask for, as `run` of `mcg6_top`, and returns what is to be said of how that ended,
+//! for a person. `say` of `ListFrontEnding` says it afterwards.
 //!
 //! `--help`, `-h`, `help` and `--version`, alone, and what asks for the page of a command, `--help`
-//! behind it or one of the first three before it, are answered on standard output, and nothing is
+//! after it or one of the first three before it, are answered on standard output, and nothing is
 //! read. For all other words standard output, the source and the status are those of `run`: so
 //! standard output has data alone. Main definitions, in specs/: `answer_of` of `Answers` (what
 //! such words are answered), `ListRuns` of `mcg6_top` (the clauses of `run`), and `words_of` of
 //! `Words`, what is said of each ending: of a bad line its number, its fault and its text, of a
 //! graph file also its name, and nothing where all was told. Main promises: the clauses of
-//! `run_list_front`.
+//! `run_list_front` and of `say`.
 //!
-//! Stands on `mcg6_top` for the run, on `mcg6_reader` for the endings of a list, on `front_words`
+//! Depends on `mcg6_top` for the run, on `mcg6_reader` for the endings of a list, on `front_words`
 //! for the words, and on `outside` for the source and the sinks.
 #![tactic(auto)]
 

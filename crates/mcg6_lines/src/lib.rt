@@ -9,7 +9,7 @@
 //! a property and nothing if it has not (`IsSelected`). A line is bad exactly when it stands for no
 //! graph (`HasFault`).
 //!
-//! Stands on `graph6_text` for the lines, on `match_core`, `allowed_edges`, `graph_facts`,
+//! Depends on `graph6_text` for the lines, on `match_core`, `allowed_edges`, `graph_facts`,
 //! `separation_kit` and `leaf_kinds` for what a graph is, on `decomposer`, `tree_core` and
 //! `contraction` for its leaves, and on `report_text` for the words of reasons, kinds and answers.
 //! What is told of a line is one: two first reasons differ at most in the Berge set

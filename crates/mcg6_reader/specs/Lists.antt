@@ -1,4 +1,5 @@
--- The outputs of the lines of a list, one after another.
+-- What the lines of a list give, one after another: their outputs, or the reports on the lines that
+-- are skipped.
 -- Stated by: mcg6_reader, mcg6_top.
 use Rattle.std.specs.Prelude.{◌≡◌, ℕ, ◌<◌, ◌⊎◌, List, [], ◌∷◌, ◌++◌, length, take}
 use Rattle.std.specs.declared.option.Option.{Option}
@@ -9,15 +10,14 @@ use Rattle.mcg6_reader.specs.declared.place.LinePlace.{LinePlace}
 use Rattle.mcg6_reader.specs.Places.{place_after, place_behind}
 use Rattle.mcg6_reader.specs.Told.{LineTold, NamesBad}
 
--- this is the output of the lines, where the first is at that place: the outputs of the lines in
--- their order
+-- this is what the lines give, where the first is at that place: what each gives, in their order
 abbrev pub AllTold : {A : Type 0} → (LinePlace → List ℕ → List A → Type 0) → LinePlace → List (List ℕ) → List A → Type 0
 AllTold tells place [] output = output ≡ []
 AllTold {A} tells place (line ∷ lines) output =
     (first : List A) × (others : List A) × (LineTold tells place line first) × (AllTold tells (place_after place line) lines others)
     × (output ≡ first ++ others)
 
--- an initial segment of the lines has been processed
+-- an initial segment of the lines has been processed, also where a read failed or memory ran out
 pub record BeginningTold {A : Type 0} (tells : LinePlace → List ℕ → List A → Type 0) (place : LinePlace) (lines : List (List ℕ)) (output : List A) : Type 0 where
   pub before : List (List ℕ)
   pub behind : List (List ℕ)

@@ -28,7 +28,8 @@ pub trait LineTeller {
     /// The line at this place is bad, with a first error of this kind, and the list ends there.
     ghost bad: { Self → LinePlace → List ℕ → FaultKind → Type 0 };
 
-    /// The kind of the error of a list that ends after so many graphs, if it is one.
+    /// The kind of the error of a list that ends after so many lines, the header not counted, if it
+    /// is one.
     ghost lacks: { Self → ℕ → Option FaultKind };
 
     /// The line at this place is skipped, with a first error of this kind; or, with none, it is
@@ -42,7 +43,7 @@ pub trait LineTeller {
             (IsToldAs (tells self.now place line.now) (bad self.now place line.now)
             (skips self.now place line.now)) };
 
-    /// The kind of the error of a list that ends after so many lines other than the header, if it
+    /// The kind of the error of a list that ends after so many lines, the header not counted, if it
     /// is one.
     fn fault_at_end(&self, graphs: u64) -> Option<FaultKind>
         ensures { result ≡ lacks self.now graphs };

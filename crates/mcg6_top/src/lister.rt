@@ -18,7 +18,7 @@ pub struct Lister {
     pub at_bad: AtBadLine,
 }
 
-// Whether the file of one graph is asked for, and a graph stands before the line at that place.
+// Whether the query is `graph`, which is for one graph, and an earlier line was a graph.
 fn is_further(query: &Query, place: LinePlace) -> bool
     ensures { result ≡ is_further query.now place }
 {

@@ -11,7 +11,7 @@ const CHECK: [&str; 3] = ["check", "g", "s"];
 
 const CHECK_EARS: [&str; 3] = ["checkears", "g", "s"];
 
-// Trees that are not derivation of the graph.
+// Trees that are not derivations of the graph.
 static REFUSED_TREES: [RunRow; 7] = [
     (&[TWO_EDGES, "t mcg 4\nleaf\n"], "covered no parts 1 3\n"),
     (
@@ -111,7 +111,7 @@ static ACCEPTED_EARS: [RunRow; 2] = [
     ),
 ];
 
-// Lists that are not ear list of the graph.
+// Lists that are not ear lists of the graph.
 static REFUSED_EARS: [RunRow; 13] = [
     (
         &[TWO_EDGES, "r mcg 4 2\nstart 1\n"],

@@ -9,17 +9,17 @@
 //! each edge of each nontrivial tight cut is in a listed one (clause `cover`), and so the list is
 //! empty exactly when there is no nontrivial tight cut (clause `none`). `first_candidate` and
 //! `find_any` answer the first, and search no further; `first_candidate` and `first_cut` take the
-//! covered graph with its first pairs that is at hand (`FirstPairs` of `separation_kit`).
+//! covered graph with its first pairs, which are then known (`FirstPairs` of `separation_kit`).
 //!
-//! What is searched: a graph that is not bipartite and has no cut of a barrier or a separation
-//! has no tight cut at all (`FrontEmpty`). In a bipartite graph floods in the digraph of a
-//! perfect matching decide what an edge gives (`BipartiteShores`). Elsewhere a tight set through an
-//! edge is a union of the edge's pieces beside one of its ends (`Pieces`). A list of perfect
-//! matchings meets each odd set at least as often as it is long, and exactly so often if the set is
-//! tight (`PairSums`). So the least minimum cut of the network of the pieces lies in each tight set
-//! that has a piece (`Networks`). It is tested: if it is tight it is the intersection of all these
-//! sets, and if a perfect matching crosses it twice, that one is listed and the next cut is made.
-//! Two cuts decide whether the edge gives anything, and one for each piece what it gives
+//! What is searched: a graph that is not bipartite and has no cut of a barrier or a separation has
+//! no tight cut at all (`FrontEmpty`). In a bipartite graph floods in the digraph of a perfect
+//! matching decide what an edge gives (`BipartiteShores`). Elsewhere a tight set through an edge is
+//! a union of the edge's pieces beside one of its ends (`Pieces`). A list of k perfect matchings
+//! meets the cut of each odd set at least k times, and exactly k times if the set is tight
+//! (`PairSums`). So the least minimum cut of the network of the pieces lies in each tight set that
+//! has a piece (`Networks`). It is tested: if it is tight it is the intersection of all these sets,
+//! and if a perfect matching crosses it twice, that one is listed and the next cut is made. Two
+//! cuts decide whether the edge gives anything, and one for each piece what it gives
 //! (`EdgePieces`). Before that the listed matchings and a few more may show that the edge gives
 //! nothing (`QuietEdges`). One walk over the edges, `add_edge_cuts`, asks either search (the trait
 //! `EdgeSearch`), but for edges between vertices that earlier edges show not to be separated
@@ -32,10 +32,10 @@
 //!
 //! `candidates_at_place` lists the candidates at a place of a derivation (`KnownPlace` of
 //! `tree_core`): at single vertices those of the graph itself, elsewhere those of the quotient,
-//! led back to vertices of the graph (`candidates_at` of `specs/CandidatesAt`, `IsCandidateAt`).
+//! mapped to vertices of the graph (`candidates_at` of `specs/CandidatesAt`, `IsCandidateAt`).
 //! `first_at_place` returns the first. Both read what the place knows of its quotient.
 //!
-//! Stands on `contraction`, `allowed_edges`, `barrier_kit`, `separation_kit`, `brick_kit`,
+//! Depends on `contraction`, `allowed_edges`, `barrier_kit`, `separation_kit`, `brick_kit`,
 //! `matching_digraph` and `flow_core`. Sources: Edmonds, Lovász and Pulleyblank 1982; Lovász,
 //! "Matching structure and the matching lattice" (1987); Picard and Queyranne (1980) for least
 //! minimum cuts.

@@ -22,7 +22,7 @@
 //! a move has no result. `specs/LeafMaps` says where a move and a script of moves take each leaf
 //! and its blocks.
 //!
-//! Stands on `contraction` for partitions and on `graph_facts` for covered graphs. Source: Lovász,
+//! Depends on `contraction` for partitions and on `graph_facts` for covered graphs. Source: Lovász,
 //! "Matching structure and the matching lattice" (1987); Lucchesi and Murty, "Perfect Matchings".
 #![tactic(auto)]
 
