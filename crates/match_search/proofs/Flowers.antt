@@ -1,12 +1,13 @@
 -- A matching that misses one vertex: its exposed vertex is the root, and after the shrinking of a
 -- blossom the base is. No step enlarges it, so two closing paths meet, and the frame of the shrunk
 -- graph is one of the graph with the blossom among the outer vertices.
-use Rattle.std.proofs.Common.{◌≡◌, ℕ, ◌<◌, Bool, true, false, refl, sym, ap, ap₂, ◌∙◌, arith, inl, inr, not, ◌&&◌, ◌||◌, ◌==◌, subst₂, eq-eqb, eqb-true, ne_eqb, List, [], ◌∷◌, length, None}
+use Rattle.std.proofs.Common.{◌≡◌, ℕ, ◌<◌, Bool, true, false, refl, sym, ap, ap₂, ◌∙◌, arith, inl, inr, not, ◌&&◌, ◌||◌, ◌==◌, subst₂, eq-eqb, eqb-true, ne_eqb, List, [], ◌∷◌, length, Option, None}
 use Rattle.counting.proofs.Common.{fun_ext, and_from, and_parts, count_congr, count_of_one, cases_eq, false_from_ne_true, or_cases, only_one, or_false, Within, bit, count, Set, mem, union}
 use Rattle.graph_core.proofs.Common.{missed_edges, Graph, degree, size, missed_count}
 use Rattle.match_search.specs.Common.{AreExposed, HoldsMatching, IsGrownForest, HasOuter, HoldsFlower, HoldsRooted, Frame, IsMissableRow, listed, numbers, IsShrinking}
 use Rattle.match_search.specs.declared.flower.Flower.{Flower}
-use Rattle.match_search.specs.declared.growing.GrownForest.{GrownForest}
+use Rattle.match_search.specs.declared.alternating.AlternatingForest.{AlternatingForest}
+use Rattle.match_search.specs.declared.growing.Adjacent.{Adjacent}
 use Rattle.match_search.specs.declared.instance.Instance.{Instance}
 use Rattle.match_search.proofs.AugmentedMates.{left_is}
 use Rattle.match_search.proofs.BlossomMates.{H, rs, below_mates, below_size, cr, cw, cz, downs, graph, halves, near_sets, pulls, smaller, wz}
@@ -44,8 +45,8 @@ module _ (g : Graph) (r f : Set) (s : Instance) (mate : List ℕ) (root : ℕ) (
   root_within = let p = left_parts g r s rooted.holds.instance_is root rooted.left in let few = rooted.holds.instance_is.few in (omega arith, omega arith)
 
   -- a forest that no edge leaves has the outer vertices
-  pub outer_final : (t : GrownForest) → IsGrownForest g r f s mate t → t.closing ≡ None → HasOuter g r f t.forest.outer
-  outer_final t growth q = grind (arith, done_frame g r f s mate rooted.holds t.forest growth.holds (growth.done q))
+  pub outer_final : (t : AlternatingForest) (closing : Option Adjacent) → IsGrownForest g r f s mate t closing → closing ≡ None → HasOuter g r f t.outer
+  outer_final t closing growth q = grind (arith, done_frame g r f s mate rooted.holds t growth.holds (growth.done q))
 
 -- a blossom is shrunk
 module _ (g : Graph) (r f : Set) (s : Instance) (mate mate2 : List ℕ) (is : HoldsMatching g r f s mate) (long : length mate2 ≡ length mate) (b : Flower) (held : HoldsFlower g r f mate2 b) where

@@ -1,12 +1,12 @@
 -- One augmentation by mates: the facts that its parts pass to one another. Idea: each is read off
 -- the relation that the one part ensures, in the form that the next requires.
-use Rattle.std.proofs.Common.{◌≡◌, ℕ, ◌<◌, ◌∙◌, arith, subst₂, length, List, get_or, nat_lt, nat_le, lt-ltb, Some, None, true, ◌==◌, ◌||◌, ◌⊎◌, eq-eqb}
+use Rattle.std.proofs.Common.{◌≡◌, ℕ, ◌<◌, ◌∙◌, arith, subst₂, length, List, get_or, nat_lt, nat_le, lt-ltb, Option, Some, None, true, ◌==◌, ◌||◌, ◌⊎◌, eq-eqb}
 use Rattle.counting.proofs.Common.{fun_ext, and_from, le-leb, total_congr, get_or_default_zero, Within, count, Set, complement, mem}
 use Rattle.graph_core.proofs.Common.{Graph}
 use Rattle.match_search.specs.Common.{AreExposed, HoldsMatching, IsGrownForest, MayBeExposed, ClosesForest, HoldsBlossom, IsCompleted, IsMateStep, MayOpen, blossom_length, removed_with, without_blossom, IsInstance, listed, numbers, AreAlike, IsShrinking, IsWidened}
 use Rattle.match_search.specs.declared.blossom.Blossom.{Blossom}
 use Rattle.match_search.specs.declared.growing.Adjacent.{Adjacent}
-use Rattle.match_search.specs.declared.growing.GrownForest.{GrownForest}
+use Rattle.match_search.specs.declared.alternating.AlternatingForest.{AlternatingForest}
 use Rattle.match_search.specs.declared.instance.Instance.{Instance}
 use Rattle.match_search.specs.declared.answer.Answer.{Answer}
 use Rattle.match_search.specs.declared.answer.Answer.TheVariants.{Final}
@@ -43,11 +43,11 @@ pub candidates_below : (s h : Instance) (cycle : List ℕ) (base : ℕ) → IsSh
 candidates_below s h cycle base shrink candidates more before after may exposes more_is v l z = grind arith
 
 module _ (g : Graph) (r f : Set) (s : Instance) (mate : List ℕ) (is : HoldsMatching g r f s mate) where
-  pub growth_closes : (t : GrownForest) (o : Adjacent) → IsGrownForest g r f s mate t → t.closing ≡ Some o → ClosesForest g r f mate t.forest o
-  growth_closes t o growth q = grind (arith, near_edge g r s is.instance_is o.v o.w)
+  pub growth_closes : (t : AlternatingForest) (closing : Option Adjacent) (o : Adjacent) → IsGrownForest g r f s mate t closing → closing ≡ Some o → ClosesForest g r f mate t o
+  growth_closes t closing o growth q = grind (arith, near_edge g r s is.instance_is o.v o.w)
 
-  pub growth_final : (t : GrownForest) → IsGrownForest g r f s mate t → t.closing ≡ None → IsMateStep g r f mate (Final (record { outer = t.forest.outer; inner = t.forest.inner }))
-  growth_final t growth q = grind (arith, done_frame g r f s mate is t.forest growth.holds (growth.done q))
+  pub growth_final : (t : AlternatingForest) (closing : Option Adjacent) → IsGrownForest g r f s mate t closing → closing ≡ None → IsMateStep g r f mate (Final (record { outer = t.outer; inner = t.inner }))
+  growth_final t closing growth q = grind (arith, done_frame g r f s mate is t growth.holds (growth.done q))
 
   module _ (mate2 : List ℕ) (long2 : length mate2 ≡ length mate) (b : Blossom) (held : HoldsBlossom g r f mate2 b) (base : ℕ) (base_is : base ≡ numbers b.cycle.items 1) (h : Instance) (shrink : IsShrinking s (mem b.members) base h) where
     abbrev c : ℕ → ℕ

@@ -66,8 +66,8 @@ fn outer_of_one(alloc: Global, instance: &mut Instance, mate: &mut [u32]) -> Res
     let left = instance.left;
     match only_member(exposed_in(left, left, mate)) {
         Some(root) => {
-            let unused = AlternatingForest::empty(alloc, instance.rows.len() as u32)?;
-            Ok(outer_from(instance, unused, root, mate))
+            let mut unused = AlternatingForest::empty(alloc, instance.rows.len() as u32)?;
+            Ok(outer_from(instance, &mut unused, root, mate))
         }
         None => outer_of_last(alloc, instance, mate),
     }
