@@ -2,7 +2,8 @@
 //!
 //! The forest grows from the one exposed vertex, and an edge between two of its outer vertices
 //! closes a blossom, which is shrunk to its base. No step makes the matching larger, and only the
-//! outer vertices are wanted, so no blossom is expanded again.
+//! outer vertices are wanted, so no blossom is expanded again. If a blossom contains all vertices
+//! that are left, each of them is outer, and the search ends.
 ghost use Rattle.std.specs.Prelude.{◌≡◌, ◌≤◌, length};
 ghost use Rattle.counting.specs.Common.{Set};
 ghost use Rattle.graph_core.specs.Common.{Graph};
@@ -36,6 +37,9 @@ pub fn outer_from(
         None => forest.outer,
         Some(bridge) => {
             let Flower { members, base } = flower_of(forest, bridge, mate);
+            if instance.left.is_subset(members) {
+                return members;
+            }
             let before = instance.shrink(members, base);
             let below = outer_from(instance, forest, base, mate);
             instance.unshrink(base, before);

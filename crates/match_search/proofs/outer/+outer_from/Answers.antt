@@ -1,6 +1,6 @@
-use Rattle.std.proofs.Common.{arith, rules}
-use Rattle.counting.proofs.Common.{mem}
-use Rattle.match_search.proofs.Flowers.{base_within, below_rooted, flower_less, flower_within, outer_final, outer_up, root_exposed, root_within, shrunk_graph_of, shrunk_out}
+use Rattle.std.proofs.Common.{arith, rules, sym, ◌∙◌}
+use Rattle.counting.proofs.Common.{all_in_true, mem}
+use Rattle.match_search.proofs.Flowers.{base_within, below_rooted, flower_less, flower_within, outer_final, outer_up, outer_whole, root_exposed, root_within, shrunk_graph_of, shrunk_out}
 use Rattle.match_search.proofs.Instances.{alike_self, put_back}
 use Rattle.match_search.proofs.MateSteps.{growth_closes}
 use Rattle.match_search.proofs.outer.+outer_from.Goals as goal
@@ -68,12 +68,20 @@ returns-in-None-clause-outer t c = λ g r f rooted. outer_final g r f c.args.ins
 pub returns-in-None-clause-restored : goal.returns-in-None-clause-restored
 returns-in-None-clause-restored t c = alike_self c.args.instance.now
 
-pub returns-in-Some-clause-restored : goal.returns-in-Some-clause-restored
-returns-in-Some-clause-restored t c = put_back c.args.instance.now c.shrink-before.new.self c.outer_from-below.new.instance c.unshrink.new.self (mem c.flower_of-members.result.members) c.flower_of-members.result.base c.shrink-before.result c.shrink-before.ensures.shrunk c.shrink-before.ensures.before c.outer_from-below.ensures.restored c.unshrink.ensures
+pub returns-then-is_subset-clause-restored : goal.returns-then-is_subset-clause-restored
+returns-then-is_subset-clause-restored t c = alike_self c.args.instance.now
 
-pub returns-in-Some-clause-outer : goal.returns-in-Some-clause-outer
-returns-in-Some-clause-outer t c = λ g r f rooted.
+pub returns-then-is_subset-clause-outer : goal.returns-then-is_subset-clause-outer
+returns-then-is_subset-clause-outer t c = λ g r f rooted.
+    let held = c.flower_of-members.ensures g r f (growth_closes g r f c.args.instance.now c.args.mate.now rooted.holds c.grow_forest.new.forest c.grow_forest.result c.in-Some.bridge (c.grow_forest.ensures g r f rooted.holds) c.in-Some.is) rooted.one in
+    outer_whole g r f c.args.instance.now c.args.mate.now c.flower_of-members.new.mate rooted.holds c.flower_of-members.auto.mate c.flower_of-members.result held (all_in_true c.args.instance.now.left (mem c.flower_of-members.result.members) (sym c.is_subset.ensures ∙ c.if-is_subset.true))
+
+pub returns-else-is_subset-clause-restored : goal.returns-else-is_subset-clause-restored
+returns-else-is_subset-clause-restored t c = put_back c.args.instance.now c.shrink-before.new.self c.outer_from-below.new.instance c.unshrink.new.self (mem c.flower_of-members.result.members) c.flower_of-members.result.base c.shrink-before.result c.shrink-before.ensures.shrunk c.shrink-before.ensures.before c.outer_from-below.ensures.restored c.unshrink.ensures
+
+pub returns-else-is_subset-clause-outer : goal.returns-else-is_subset-clause-outer
+returns-else-is_subset-clause-outer t c = λ g r f rooted.
     let held = c.flower_of-members.ensures g r f (growth_closes g r f c.args.instance.now c.args.mate.now rooted.holds c.grow_forest.new.forest c.grow_forest.result c.in-Some.bridge (c.grow_forest.ensures g r f rooted.holds) c.in-Some.is) rooted.one in
     let has = c.outer_from-below.ensures.outer (shrunk_graph_of g r f c.args.instance.now c.args.mate.now c.flower_of-members.new.mate rooted.holds c.flower_of-members.auto.mate c.flower_of-members.result held) (shrunk_out g r f c.args.instance.now c.args.mate.now c.flower_of-members.new.mate rooted.holds c.flower_of-members.auto.mate c.flower_of-members.result held) held.m
     (below_rooted g r f c.args.instance.now c.args.mate.now c.flower_of-members.new.mate rooted.holds c.flower_of-members.auto.mate c.flower_of-members.result held c.shrink-before.new.self c.shrink-before.ensures.shrunk rooted.one) in
-    outer_up g r f c.args.instance.now c.args.mate.now c.flower_of-members.new.mate rooted.holds c.flower_of-members.auto.mate c.flower_of-members.result held c.shrink-before.new.self c.shrink-before.ensures.shrunk c.outer_from-below.result c.union.result has c.union.ensures
+    outer_up g r f c.args.instance.now c.args.mate.now c.flower_of-members.new.mate rooted.holds c.flower_of-members.auto.mate c.flower_of-members.result held c.outer_from-below.result c.union.result has c.union.ensures
