@@ -1,6 +1,6 @@
 -- What the last step of a search proves about a matching given by its mates, and what the rows of a
 -- table share.
--- Stated by: match_search. Rests on it: match_core.
+-- Stated by: match_search, match_core.
 use Rattle.std.specs.Prelude.{◌≡◌, ◌≢◌, ℕ, ◌-◌, true, false, length, List}
 use Rattle.counting.specs.Common.{Within, count, Set, mem}
 use Rattle.graph_core.specs.Common.{Graph, size, IsMatching, missed_count}
