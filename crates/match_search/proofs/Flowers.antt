@@ -10,16 +10,15 @@ use Rattle.match_search.specs.declared.alternating.AlternatingForest.{Alternatin
 use Rattle.match_search.specs.declared.growing.Adjacent.{Adjacent}
 use Rattle.match_search.specs.declared.instance.Instance.{Instance}
 use Rattle.match_search.proofs.AugmentedMates.{left_is}
-use Rattle.match_search.proofs.BlossomMates.{H, rs, below_mates, below_size, cr, cw, cz, downs, graph, halves, near_sets, pulls, smaller, wz}
+use Rattle.match_search.proofs.BlossomMates.{H, rs, below_mates, below_size, cr, cw, cz, downs, graph, halves, near_sets, pulls, wz}
 use Rattle.match_search.proofs.ClosingPairs.{cycle_missed}
 use Rattle.match_search.proofs.Forests.{final_frame, first_outer, forest_start, turned}
 use Rattle.match_search.proofs.Instances.{left_from, left_parts}
 use Rattle.match_search.proofs.LongerPaths.{end_within}
-use Rattle.match_search.proofs.MateSteps.{left_count}
+use Rattle.match_search.proofs.MateSteps.{opened_holds, opened_less}
 use Rattle.match_search.proofs.ParentForests.{done_frame}
 use Rattle.match_search.proofs.SameMates.{mates_degree}
 use Rattle.match_search.proofs.ShrunkFrames.{complement_size, frame_up}
-use Rattle.match_search.proofs.ShrunkInstances.{shrunk_instance}
 
 -- a vertex that is left and exposed is the root
 module _ (g : Graph) (r f : Set) (s : Instance) (mate : List ℕ) (root : ℕ) (rooted : HoldsRooted g r f s mate root) where
@@ -162,18 +161,10 @@ module _ (g : Graph) (r f : Set) (s : Instance) (mate mate2 : List ℕ) (is : Ho
     shrinking = subst₂ (λ (x : Set) (z : ℕ). IsShrinking s x z h) (fun_ext held.members) held.base shrink
 
     below_instance : HoldsMatching shrunk_graph_of shrunk_out held.m h mate2
-    below_instance = record {
-      instance_is = shrunk_instance g (listed n c) (c 1) _ (pulls g is.instance_is.graph r f held.m n c held.edge held.opened) (cz g is.instance_is.graph r f held.m n c held.edge held.opened) r s h is.instance_is
-          (cr g is.instance_is.graph r f held.m n c held.edge held.opened) (cw g is.instance_is.graph r f held.m n c held.edge held.opened) shrinking (graph g is.instance_is.graph r f held.m n c held.edge held.opened);
-      long = long ∙ is.long;
-      mates = below_mates g is.instance_is.graph r f held.m n c held.edge held.opened (numbers mate2) held.mates;
-    }
+    below_instance = opened_holds g r f held.m s h mate mate2 n c held.edge is long held.opened held.mates shrinking
 
     pub flower_less : count (length h.rows.items) (mem h.left) < count (length s.rows.items) (mem s.left)
-    flower_less =
-        let a = left_count shrunk_graph_of shrunk_out h below_instance.instance_is in
-        let d = left_count g r s is.instance_is in
-        let e = smaller g is.instance_is.graph r f held.m n c held.edge held.opened in omega arith
+    flower_less = opened_less g r f held.m s h mate mate2 n c held.edge is long held.opened held.mates shrinking
 
     -- the base is the one exposed vertex
     pub below_rooted : missed_count g r f ≡ 1 → HoldsRooted shrunk_graph_of shrunk_out held.m h mate2 b.base
