@@ -7,7 +7,10 @@ use Rattle.std.proofs.Math.ListN.{get_or-append}
 use Rattle.std.proofs.lemmas.List.{get_or-append_right}
 use Rattle.match_search.proofs.Forests.{met, turned}
 use Rattle.match_search.proofs.LongerPaths.{end_within, longer, longer_below, longer_at, longer_after}
-use Rattle.graph_core.proofs.Common.{Graph, HasEnds, IsGraph, degree, size, IsMatching, IsPerfect, missed_count}
+use Rattle.graph_core.proofs.Common.{Graph, HasEnds, IsGraph, degree, size, IsMatching, IsPerfect, missed_count, graph_of}
+use Rattle.graph_core.specs.declared.ends.Ends.{Ends}
+use Rattle.match_core.specs.Common.{StartsWalk}
+use Rattle.match_search.proofs.GraphRows.{row_graph}
 use Rattle.match_search.specs.Common.{flipped, numbers, IsRepairRow, IsWalk, Misses}
 use Rattle.match_search.proofs.Alike.{path_alike}
 use Rattle.match_search.proofs.SymmetricDifference.{further, further_other, m_a, mended, path_short, w_off}
@@ -155,3 +158,14 @@ module _ (g : Graph) (is : IsGraph g) (r m n : Set) (mm : IsMatching g r m) (per
 
           apart : x ≢ w
           apart q = w_off g is r m n mm perfect walk.pairs walk.vertex (numbers es) walk.path walk.other a w wa na at_end 0 (omega arith) (walk.start ∙ q)
+
+-- where a walk has come to, by the rows it reads
+module _ (n : ℕ) (r m w : Set) (ends : List Ends) (at other : List ℕ) (x : ℕ) (h : StartsWalk n r m w ends at other x) (es : List ℕ) (v : ℕ) (walk : IsWalk (graph_of n ends) r m w x es v) where
+  pub here_within : Within n v
+  here_within = walk_within (graph_of n ends) (row_graph n ends h.row.within) r m w h.matching h.perfect x es v walk
+
+  pub here_outside : r v ≡ false
+  here_outside = walk_outside (graph_of n ends) (row_graph n ends h.row.within) r m w h.matching h.perfect x es v walk
+
+  pub here_short : length es < n
+  here_short = walk_short (graph_of n ends) (row_graph n ends h.row.within) r m w h.matching h.perfect x es v walk

@@ -11,7 +11,7 @@ ghost use Rattle.match_search.specs.Common.{HasMates, numbers};
 use crate::matching::Matching;
 use crate::partner_table::{mates_in, partners_of};
 use graph_core::MultiGraph;
-use match_search::instance_of;
+use match_search::{RowSpace, instance_of};
 use std::alloc::{AllocError as Memory, Global};
 use std::marker::Model;
 use vset_core::VSet;
@@ -108,5 +108,6 @@ fn searched(
 {
     g.keeps_limits();
     let mut instance = instance_of(alloc, g.rows(), removed)?;
-    partners_of(alloc, g, &mut instance, removed, mate, u)
+    let mut space = RowSpace::new(alloc, instance.left, mate)?;
+    partners_of(alloc, g, &mut instance, &mut space, removed, mate, u)
 }

@@ -18,13 +18,13 @@ ghost use Rattle.counting.specs.Common.{Within, count, Set, none, item, mem};
 ghost use Rattle.graph_core.specs.Common.{size, IsMatching, missed_count};
 ghost use Rattle.match_core.specs.HeldMates.{HoldsMates};
 ghost use Rattle.match_core.specs.MatchingRows.{IsOf};
-ghost use Rattle.match_search.specs.Common.{HasMates, IsBest, marks, numbers, AreAlike};
+ghost use Rattle.match_search.specs.Common.{HasMates, IsBest, ServesRows, marks, numbers, AreAlike};
 ghost use Rattle.match_core.specs.Partners.{AreEmptyRows, ArePartners, are_partners};
 
 use crate::frames::maximum;
 use crate::matching::{Matching, matching_of};
 use graph_core::MultiGraph;
-use match_search::{Best, Instance, best_from, instance_of, mates_of, missable_beside};
+use match_search::{Best, Instance, RowSpace, best_from, instance_of, mates_of, missable_in};
 use std::alloc::{AllocError as Memory, Global};
 use std::marker::Model;
 use vset_core::VSet;
@@ -115,9 +115,11 @@ fn rows_from(
 {
     g.keeps_limits();
     let mut instance = instance_of(alloc, g.rows(), removed)?;
+    let mut space = RowSpace::new(alloc, instance.left, mate)?;
     let mut rows = Vec::with_capacity(alloc, g.order() as usize)?;
     for k in 0..g.order() {
-        rows.push(partners_of(alloc, g, &mut instance, removed, mate, k + 1)?)?;
+        let row = partners_of(alloc, g, &mut instance, &mut space, removed, mate, k + 1)?;
+        rows.push(row)?;
     }
     Ok(PartnerTable { rows })
 }
@@ -140,27 +142,30 @@ pub fn all_partners(alloc: Global, g: &MultiGraph) -> Result<PartnerTable, Memor
 }
 
 // The partners of one vertex: the vertices that matchings without it can miss alone. The instance
-// is restored at the end.
+// is restored at the end, and the space serves the next row.
 pub(crate) fn partners_of(
     alloc: Global,
     g: &MultiGraph,
     instance: &mut Instance,
+    space: &mut RowSpace,
     removed: VSet,
     mate: &[u32],
     u: u32,
 ) -> Result<VSet, Memory>
     requires held { HoldsMates g.now (mem removed) instance.old mate.now }
+    requires space { ServesRows instance.old.left mate.now space.old }
     requires vertex { Within g.now.order u }
     ensures within { IfOk result (λ row. (v : ℕ) → mem row v ≡ true → Within g.now.order v) }
     ensures row { IfOk result
         (λ row. (v : ℕ) → Within g.now.order v → mem row v ≡ are_partners g.now (mem removed) u v) }
     ensures restored { OnOk result (AreAlike instance.old instance.new) }
+    ensures space { OnOk result (ServesRows instance.old.left mate.now space.new) }
 {
     g.keeps_limits();
     if removed.contains(u) {
         return Ok(VSet::empty());
     }
-    missable_beside(alloc, instance, mate, u)
+    missable_in(alloc, instance, space, mate, u)
 }
 
 // A maximum matching of G - removed, made from a matching of `g` less its edges at `removed`.

@@ -1,22 +1,24 @@
 -- A matching that misses one vertex: its exposed vertex is the root, and after the shrinking of a
 -- blossom the base is. No step enlarges it, so two closing paths meet, and the frame of the shrunk
 -- graph is one of the graph with the blossom among the outer vertices.
-use Rattle.std.proofs.Common.{◌≡◌, ℕ, ◌<◌, Bool, true, false, refl, sym, ap, ap₂, ◌∙◌, arith, inl, inr, not, ◌&&◌, ◌||◌, ◌==◌, subst₂, eq-eqb, eqb-true, ne_eqb, List, [], ◌∷◌, length, None}
-use Rattle.counting.proofs.Common.{fun_ext, and_from, and_parts, count_congr, count_of_one, cases_eq, false_from_ne_true, or_cases, only_one, or_false, Within, bit, count, Set, mem, union}
-use Rattle.graph_core.proofs.Common.{missed_edges, Graph, degree, size, missed_count}
-use Rattle.match_search.specs.Common.{AreExposed, HoldsMatching, IsGrownForest, HasOuter, HoldsFlower, HoldsRooted, Frame, IsMissableRow, listed, numbers, IsShrinking}
+use Rattle.std.proofs.Common.{◌≡◌, ℕ, ◌<◌, Bool, true, false, refl, sym, ap, ap₂, ◌∙◌, arith, inl, inr, not, ◌&&◌, ◌||◌, ◌==◌, subst, subst₂, eq-eqb, eqb-true, ne_eqb, List, [], ◌∷◌, length, Option, None}
+use Rattle.counting.proofs.Common.{fun_ext, and_from, and_parts, count_congr, count_of_one, cases_eq, false_from_ne_true, or_cases, only_one, or_false, Within, bit, count, Set, mem, none, union}
+use Rattle.graph_core.proofs.Common.{missed_edges, Graph, IsGraph, IsMatching, degree, size, missed_count}
+use Rattle.match_search.specs.Common.{AreExposed, HoldsMatching, IsForest, IsGrownForest, HasOuter, HoldsFlower, HoldsRooted, Frame, IsMissableRow, listed, numbers, IsShrinking}
 use Rattle.match_search.specs.declared.flower.Flower.{Flower}
-use Rattle.match_search.specs.declared.growing.GrownForest.{GrownForest}
+use Rattle.match_search.specs.declared.alternating.AlternatingForest.{AlternatingForest}
+use Rattle.match_search.specs.declared.growing.Adjacent.{Adjacent}
 use Rattle.match_search.specs.declared.instance.Instance.{Instance}
 use Rattle.match_search.proofs.AugmentedMates.{left_is}
-use Rattle.match_search.proofs.BlossomMates.{H, rs, below_mates, below_size, cr, cw, cz, downs, graph, halves, near_sets, pulls, smaller, wz}
+use Rattle.match_search.proofs.BlossomMates.{H, rs, below_mates, below_size, cr, cw, cz, downs, graph, halves, near_sets, pulls, wz}
 use Rattle.match_search.proofs.ClosingPairs.{cycle_missed}
+use Rattle.match_search.proofs.Forests.{final_frame, first_outer, forest_start, turned}
 use Rattle.match_search.proofs.Instances.{left_from, left_parts}
-use Rattle.match_search.proofs.MateSteps.{left_count}
+use Rattle.match_search.proofs.LongerPaths.{end_within}
+use Rattle.match_search.proofs.MateSteps.{opened_holds, opened_less}
 use Rattle.match_search.proofs.ParentForests.{done_frame}
 use Rattle.match_search.proofs.SameMates.{mates_degree}
 use Rattle.match_search.proofs.ShrunkFrames.{complement_size, frame_up}
-use Rattle.match_search.proofs.ShrunkInstances.{shrunk_instance}
 
 -- a vertex that is left and exposed is the root
 module _ (g : Graph) (r f : Set) (s : Instance) (mate : List ℕ) (root : ℕ) (rooted : HoldsRooted g r f s mate root) where
@@ -44,8 +46,8 @@ module _ (g : Graph) (r f : Set) (s : Instance) (mate : List ℕ) (root : ℕ) (
   root_within = let p = left_parts g r s rooted.holds.instance_is root rooted.left in let few = rooted.holds.instance_is.few in (omega arith, omega arith)
 
   -- a forest that no edge leaves has the outer vertices
-  pub outer_final : (t : GrownForest) → IsGrownForest g r f s mate t → t.closing ≡ None → HasOuter g r f t.forest.outer
-  outer_final t growth q = grind (arith, done_frame g r f s mate rooted.holds t.forest growth.holds (growth.done q))
+  pub outer_final : (t : AlternatingForest) (closing : Option Adjacent) → IsGrownForest g r f s mate t closing → closing ≡ None → HasOuter g r f t.outer
+  outer_final t closing growth q = grind (arith, done_frame g r f s mate rooted.holds t growth.holds (growth.done q))
 
 -- a blossom is shrunk
 module _ (g : Graph) (r f : Set) (s : Instance) (mate mate2 : List ℕ) (is : HoldsMatching g r f s mate) (long : length mate2 ≡ length mate) (b : Flower) (held : HoldsFlower g r f mate2 b) where
@@ -70,23 +72,99 @@ module _ (g : Graph) (r f : Set) (s : Instance) (mate mate2 : List ℕ) (is : Ho
   pub base_within : Within (length s.rows.items) b.base
   base_within = let w = base_in in let each = is.instance_is.one_each in let q = held.base in (omega arith, omega arith)
 
+  base_free : numbers mate2 (c 1) ≡ 0
+  base_free = no_mate (numbers mate2 (c 1))
+      (sym (mates_degree g r held.m (numbers mate2) held.mates (c 1) base_in) ∙ cycle_missed g r f held.m n c held.edge held.opened (c 1) base_in (cz g is.instance_is.graph r f held.m n c held.edge held.opened))
+    where
+      no_mate : (k : ℕ) → bit (not (k == 0)) ≡ 0 → k ≡ 0
+      no_mate k q = grind (arith, cases_eq k 0, ne_eqb k 0)
+
+  -- the outer vertices of the shrunk graph, with those of the blossom
+  pub outer_up : (below result : List ℕ) → HasOuter shrunk_graph_of shrunk_out held.m below → ((v : ℕ) → mem result v ≡ (mem below v || mem b.members v)) → HasOuter g r f result
+  outer_up below result has wide = record {
+    inner = has.inner;
+    frame =
+        let half = halves g is.instance_is.graph r f held.m n c held.edge held.opened in
+        let down = downs g is.instance_is.graph r f held.m n c held.edge held.opened in
+        let up = (frame_up g is.instance_is.graph r (listed n c) (c 1) _ (pulls g is.instance_is.graph r f held.m n c held.edge held.opened) (cr g is.instance_is.graph r f held.m n c held.edge held.opened) base_in (cz g is.instance_is.graph r f held.m n c held.edge held.opened) held.m (mem below) has.inner half.0 (count (size shrunk_graph_of) held.m) down.0 down.1 refl has.frame (near_sets g is.instance_is.graph r f held.m n c held.edge held.opened) half.1).2 in
+        subst₂ (λ (k : ℕ) (o : Set). Frame g r k o has.inner) (below_size g is.instance_is.graph r f held.m n c held.edge held.opened) (sym result_is) up;
+    within = λ v t. elim (or_cases (mem below v) (mem b.members v) (sym (wide v) ∙ t)) [
+      | inl o ↦ has.within v o
+      | inr o ↦ cw g is.instance_is.graph r f held.m n c held.edge held.opened v (sym (held.members v) ∙ o)
+    ];
+  }
+    where
+      result_is : mem result ≡ union (mem below) (listed n c)
+      result_is = fun_ext (λ v. wide v ∙ ap (λ b. mem below v || b) (held.members v))
+
+  -- a blossom with all vertices that are left: after its shrinking the base is left alone
+  module _ (whole : (v : ℕ) → mem s.left v ≡ true → mem b.members v ≡ true) where
+    below_graph : IsGraph shrunk_graph_of
+    below_graph = graph g is.instance_is.graph r f held.m n c held.edge held.opened
+
+    below_matching : IsMatching shrunk_graph_of shrunk_out held.m
+    below_matching = (downs g is.instance_is.graph r f held.m n c held.edge held.opened).0
+
+    abbrev first : Set
+    first = first_outer shrunk_graph_of below_graph shrunk_out held.m below_matching
+
+    or_none : (a b : Bool) → (a || b) ≡ false → (a ≡ false) × (b ≡ false)
+    or_none a b q = grind arith
+
+    only_base : (v : ℕ) → Within g.order v → shrunk_out v ≡ false → v ≡ c 1
+    only_base v w o =
+        let a = or_none (r v) (listed n c v && not (v == c 1)) o in
+        let t = sym (held.members v) ∙ whole v (left_from g r s is.instance_is v w a.0) in
+        eqb-true v (c 1) (last_part (listed n c v) (v == c 1) t a.1)
+      where
+        last_part : (a b : Bool) → a ≡ true → (a && not b) ≡ false → b ≡ true
+        last_part a b p q = grind arith
+
+    start : IsForest shrunk_graph_of shrunk_out held.m first none (λ u. 0) (λ u j. u) (λ u j. 0)
+    start = forest_start shrunk_graph_of below_graph shrunk_out held.m below_matching
+
+    first_base : first (c 1) ≡ true
+    first_base = start.misses (c 1) base_in base_out ((below_mates g is.instance_is.graph r f held.m n c held.edge held.opened (numbers mate2) held.mates).exposed (c 1) base_in base_free)
+      where
+        stays : (a b d : Bool) → a ≡ false → d ≡ true → (a || (b && not d)) ≡ false
+        stays a b d p q = grind arith
+
+        base_out : shrunk_out (c 1) ≡ false
+        base_out = stays (r (c 1)) (listed n c (c 1)) (c 1 == c 1) (cr g is.instance_is.graph r f held.m n c held.edge held.opened (c 1) (cz g is.instance_is.graph r f held.m n c held.edge held.opened)) (eq-eqb (c 1) (c 1) refl)
+
+    first_is : (v : ℕ) → first v ≡ mem (b.base ∷ []) v
+    first_is v = elim (cases_eq b.base v) [
+      | inl q ↦ ap first (sym q ∙ held.base) ∙ first_base ∙ sym (ap (λ b. b || false) (eq-eqb b.base v q))
+      | inr q ↦ false_from_ne_true (first v) (λ t. let a = start.outer_in v t in q (held.base ∙ sym (only_base v a.0 a.1))) ∙ sym (ap (λ b. b || false) (ne_eqb b.base v q))
+    ]
+
+    -- all vertices that are left are outer
+    pub outer_whole : HasOuter g r f b.members
+    outer_whole = outer_up (b.base ∷ []) b.members
+        (record {
+          inner = none;
+          frame = subst (λ (o : Set). Frame shrunk_graph_of shrunk_out (count (size shrunk_graph_of) held.m) o none) (fun_ext first_is)
+              (final_frame shrunk_graph_of below_graph shrunk_out held.m below_matching first none (λ u. 0) (λ u j. u) (λ u j. 0) (forest_start shrunk_graph_of below_graph shrunk_out held.m below_matching)
+              (λ d x y w ends rx ry n o. absurd (n (only_base x (end_within shrunk_graph_of below_graph d x y w ends) rx ∙ sym (only_base y (end_within shrunk_graph_of below_graph d y x w (turned shrunk_graph_of d x y ends)) ry)))));
+          within = λ v t. (start.outer_in v (first_is v ∙ t)).0;
+        })
+        (λ v. absorbed (mem (b.base ∷ []) v) (mem b.members v) (λ t. ap (mem b.members) (sym (base_named v t)) ∙ held.members b.base ∙ ap (listed n c) held.base ∙ cz g is.instance_is.graph r f held.m n c held.edge held.opened))
+      where
+        absorbed : (a b : Bool) → (a ≡ true → b ≡ true) → b ≡ (a || b)
+        absorbed a b h = grind arith
+
+        base_named : (v : ℕ) → mem (b.base ∷ []) v ≡ true → b.base ≡ v
+        base_named v t = eqb-true b.base v (sym (or_false (b.base == v)) ∙ t)
+
   module _ (h : Instance) (shrink : IsShrinking s (mem b.members) b.base h) where
     shrinking : IsShrinking s (listed n c) (c 1) h
     shrinking = subst₂ (λ (x : Set) (z : ℕ). IsShrinking s x z h) (fun_ext held.members) held.base shrink
 
     below_instance : HoldsMatching shrunk_graph_of shrunk_out held.m h mate2
-    below_instance = record {
-      instance_is = shrunk_instance g (listed n c) (c 1) _ (pulls g is.instance_is.graph r f held.m n c held.edge held.opened) (cz g is.instance_is.graph r f held.m n c held.edge held.opened) r s h is.instance_is
-          (cr g is.instance_is.graph r f held.m n c held.edge held.opened) (cw g is.instance_is.graph r f held.m n c held.edge held.opened) shrinking (graph g is.instance_is.graph r f held.m n c held.edge held.opened);
-      long = long ∙ is.long;
-      mates = below_mates g is.instance_is.graph r f held.m n c held.edge held.opened (numbers mate2) held.mates;
-    }
+    below_instance = opened_holds g r f held.m s h mate mate2 n c held.edge is long held.opened held.mates shrinking
 
     pub flower_less : count (length h.rows.items) (mem h.left) < count (length s.rows.items) (mem s.left)
-    flower_less =
-        let a = left_count shrunk_graph_of shrunk_out h below_instance.instance_is in
-        let d = left_count g r s is.instance_is in
-        let e = smaller g is.instance_is.graph r f held.m n c held.edge held.opened in omega arith
+    flower_less = opened_less g r f held.m s h mate mate2 n c held.edge is long held.opened held.mates shrinking
 
     -- the base is the one exposed vertex
     pub below_rooted : missed_count g r f ≡ 1 → HoldsRooted shrunk_graph_of shrunk_out held.m h mate2 b.base
@@ -102,33 +180,11 @@ module _ (g : Graph) (r f : Set) (s : Instance) (mate mate2 : List ℕ) (is : Ho
       left = ap (mem h.left) held.base ∙ shrinking.left (c 1) ∙ and_from (mem s.left (c 1)) (not (listed n c (c 1) && not (c 1 == c 1)))
           (left_from g r s is.instance_is (c 1) base_in (cr g is.instance_is.graph r f held.m n c held.edge held.opened (c 1) (cz g is.instance_is.graph r f held.m n c held.edge held.opened)))
           (kept (listed n c (c 1)) (c 1 == c 1) (eq-eqb (c 1) (c 1) refl));
-      free = ap (numbers mate2) held.base ∙ no_mate (numbers mate2 (c 1))
-          (sym (mates_degree g r held.m (numbers mate2) held.mates (c 1) base_in) ∙ cycle_missed g r f held.m n c held.edge held.opened (c 1) base_in (cz g is.instance_is.graph r f held.m n c held.edge held.opened));
+      free = ap (numbers mate2) held.base ∙ base_free;
     }
       where
         kept : (a b : Bool) → b ≡ true → not (a && not b) ≡ true
         kept a b q = grind arith
-
-        no_mate : (k : ℕ) → bit (not (k == 0)) ≡ 0 → k ≡ 0
-        no_mate k q = grind (arith, cases_eq k 0, ne_eqb k 0)
-
-    -- the outer vertices of the shrunk graph, with those of the blossom
-    pub outer_up : (below result : List ℕ) → HasOuter shrunk_graph_of shrunk_out held.m below → ((v : ℕ) → mem result v ≡ (mem below v || mem b.members v)) → HasOuter g r f result
-    outer_up below result has wide = record {
-      inner = has.inner;
-      frame =
-          let half = halves g is.instance_is.graph r f held.m n c held.edge held.opened in
-          let down = downs g is.instance_is.graph r f held.m n c held.edge held.opened in
-          let up = (frame_up g is.instance_is.graph r (listed n c) (c 1) _ (pulls g is.instance_is.graph r f held.m n c held.edge held.opened) (cr g is.instance_is.graph r f held.m n c held.edge held.opened) base_in (cz g is.instance_is.graph r f held.m n c held.edge held.opened) held.m (mem below) has.inner half.0 (count (size shrunk_graph_of) held.m) down.0 down.1 refl has.frame (near_sets g is.instance_is.graph r f held.m n c held.edge held.opened) half.1).2 in
-          subst₂ (λ (k : ℕ) (o : Set). Frame g r k o has.inner) (below_size g is.instance_is.graph r f held.m n c held.edge held.opened) (sym result_is) up;
-      within = λ v t. elim (or_cases (mem below v) (mem b.members v) (sym (wide v) ∙ t)) [
-        | inl o ↦ has.within v o
-        | inr o ↦ cw g is.instance_is.graph r f held.m n c held.edge held.opened v (sym (held.members v) ∙ o)
-      ];
-    }
-      where
-        result_is : mem result ≡ union (mem below) (listed n c)
-        result_is = fun_ext (λ v. wide v ∙ ap (λ b. mem below v || b) (held.members v))
 
 -- where one vertex is exposed, it is the root
 pub rooted_from : (g : Graph) (r f : Set) (s : Instance) (mate exposed : List ℕ) (root : ℕ) → HoldsMatching g r f s mate → AreExposed s.left mate exposed → exposed ≡ root ∷ [] → HoldsRooted g r f s mate root

@@ -16,6 +16,7 @@ pub mod ParentForests
 pub mod Reaching
 pub mod Branching
 pub mod PathsUp
+pub mod ForestWalks
 pub mod ClosingPairs
 pub mod ClosedCycles
 pub mod ForestPaths

@@ -1,16 +1,16 @@
 -- One augmentation by mates: the facts that its parts pass to one another. Idea: each is read off
 -- the relation that the one part ensures, in the form that the next requires.
-use Rattle.std.proofs.Common.{◌≡◌, ℕ, ◌<◌, ◌∙◌, arith, subst₂, length, List, get_or, nat_lt, nat_le, lt-ltb, Some, None, true, ◌==◌, ◌||◌, ◌⊎◌, eq-eqb}
+use Rattle.std.proofs.Common.{◌≡◌, ℕ, ◌<◌, ◌∙◌, arith, subst₂, length, List, get_or, nat_lt, nat_le, lt-ltb, Option, Some, None, true, ◌==◌, ◌||◌, ◌⊎◌, eq-eqb}
 use Rattle.counting.proofs.Common.{fun_ext, and_from, le-leb, total_congr, get_or_default_zero, Within, count, Set, complement, mem}
 use Rattle.graph_core.proofs.Common.{Graph}
-use Rattle.match_search.specs.Common.{AreExposed, HoldsMatching, IsGrownForest, MayBeExposed, ClosesForest, HoldsBlossom, IsCompleted, IsMateStep, MayOpen, blossom_length, removed_with, without_blossom, IsInstance, listed, numbers, AreAlike, IsShrinking, IsWidened}
+use Rattle.match_search.specs.Common.{AreExposed, HoldsMatching, IsGrownForest, IsOpened, HasMates, MayBeExposed, ClosesForest, HoldsBlossom, IsCompleted, IsMateStep, MayOpen, blossom_length, removed_with, without_blossom, IsInstance, listed, numbers, AreAlike, IsShrinking, IsWidened}
 use Rattle.match_search.specs.declared.blossom.Blossom.{Blossom}
 use Rattle.match_search.specs.declared.growing.Adjacent.{Adjacent}
-use Rattle.match_search.specs.declared.growing.GrownForest.{GrownForest}
+use Rattle.match_search.specs.declared.alternating.AlternatingForest.{AlternatingForest}
 use Rattle.match_search.specs.declared.instance.Instance.{Instance}
 use Rattle.match_search.specs.declared.answer.Answer.{Answer}
 use Rattle.match_search.specs.declared.answer.Answer.TheVariants.{Final}
-use Rattle.match_search.proofs.BlossomMates.{below_mates, below_size, cr, cw, cz, graph, pulls, smaller}
+use Rattle.match_search.proofs.BlossomMates.{H, rs, below_mates, below_size, cr, cw, cz, graph, pulls, smaller}
 use Rattle.match_search.proofs.BlossomSteps.{same_count, step_up}
 use Rattle.match_search.proofs.Instances.{instance_alike, near_edge}
 use Rattle.match_search.proofs.ParentForests.{done_frame}
@@ -42,12 +42,28 @@ pub candidates_below : (s h : Instance) (cycle : List ℕ) (base : ℕ) → IsSh
     → ((v : ℕ) → numbers after v ≡ 0 → (mem cycle v ≡ true) ⊎ (numbers before v ≡ 0)) → ((v : ℕ) → mem more v ≡ (mem candidates v || (base == v))) → MayBeExposed h.left after more
 candidates_below s h cycle base shrink candidates more before after may exposes more_is v l z = grind arith
 
-module _ (g : Graph) (r f : Set) (s : Instance) (mate : List ℕ) (is : HoldsMatching g r f s mate) where
-  pub growth_closes : (t : GrownForest) (o : Adjacent) → IsGrownForest g r f s mate t → t.closing ≡ Some o → ClosesForest g r f mate t.forest o
-  growth_closes t o growth q = grind (arith, near_edge g r s is.instance_is o.v o.w)
+-- the instance with a cycle shrunk, and the mates of the matching that misses the cycle
+module _ (g : Graph) (r f m : Set) (s h : Instance) (mate mate2 : List ℕ) (n : ℕ) (c e : ℕ → ℕ) (is : HoldsMatching g r f s mate) (long : length mate2 ≡ length mate) (opened : IsOpened g r f m n c e) (mates : HasMates g r m (numbers mate2)) (shrinking : IsShrinking s (listed n c) (c 1) h) where
+  pub opened_holds : HoldsMatching (H g is.instance_is.graph r f m n c e opened) (rs g is.instance_is.graph r f m n c e opened) m h mate2
+  opened_holds = record {
+    instance_is = shrunk_instance g (listed n c) (c 1) _ (pulls g is.instance_is.graph r f m n c e opened) (cz g is.instance_is.graph r f m n c e opened) r s h is.instance_is
+        (cr g is.instance_is.graph r f m n c e opened) (cw g is.instance_is.graph r f m n c e opened) shrinking (graph g is.instance_is.graph r f m n c e opened);
+    long = long ∙ is.long;
+    mates = below_mates g is.instance_is.graph r f m n c e opened (numbers mate2) mates;
+  }
 
-  pub growth_final : (t : GrownForest) → IsGrownForest g r f s mate t → t.closing ≡ None → IsMateStep g r f mate (Final (record { outer = t.forest.outer; inner = t.forest.inner }))
-  growth_final t growth q = grind (arith, done_frame g r f s mate is t.forest growth.holds (growth.done q))
+  pub opened_less : count (length h.rows.items) (mem h.left) < count (length s.rows.items) (mem s.left)
+  opened_less =
+      let a = left_count (H g is.instance_is.graph r f m n c e opened) (rs g is.instance_is.graph r f m n c e opened) h opened_holds.instance_is in
+      let d = left_count g r s is.instance_is in
+      let e = smaller g is.instance_is.graph r f m n c e opened in omega arith
+
+module _ (g : Graph) (r f : Set) (s : Instance) (mate : List ℕ) (is : HoldsMatching g r f s mate) where
+  pub growth_closes : (t : AlternatingForest) (closing : Option Adjacent) (o : Adjacent) → IsGrownForest g r f s mate t closing → closing ≡ Some o → ClosesForest g r f mate t o
+  growth_closes t closing o growth q = grind (arith, near_edge g r s is.instance_is o.v o.w)
+
+  pub growth_final : (t : AlternatingForest) (closing : Option Adjacent) → IsGrownForest g r f s mate t closing → closing ≡ None → IsMateStep g r f mate (Final (record { outer = t.outer; inner = t.inner }))
+  growth_final t closing growth q = grind (arith, done_frame g r f s mate is t growth.holds (growth.done q))
 
   module _ (mate2 : List ℕ) (long2 : length mate2 ≡ length mate) (b : Blossom) (held : HoldsBlossom g r f mate2 b) (base : ℕ) (base_is : base ≡ numbers b.cycle.items 1) (h : Instance) (shrink : IsShrinking s (mem b.members) base h) where
     abbrev c : ℕ → ℕ
@@ -60,18 +76,10 @@ module _ (g : Graph) (r f : Set) (s : Instance) (mate : List ℕ) (is : HoldsMat
     shrinking = subst₂ (λ (x : Set) (z : ℕ). IsShrinking s x z h) (fun_ext held.members) base_is shrink
 
     pub below_holds : HoldsMatching (without_blossom g b) (removed_with r b) held.m h mate2
-    below_holds = record {
-      instance_is = shrunk_instance g (listed n c) (c 1) _ (pulls g is.instance_is.graph r f held.m n c held.edge held.opened) (cz g is.instance_is.graph r f held.m n c held.edge held.opened) r s h is.instance_is
-          (cr g is.instance_is.graph r f held.m n c held.edge held.opened) (cw g is.instance_is.graph r f held.m n c held.edge held.opened) shrinking (graph g is.instance_is.graph r f held.m n c held.edge held.opened);
-      long = long2 ∙ is.long;
-      mates = below_mates g is.instance_is.graph r f held.m n c held.edge held.opened (numbers mate2) held.mates;
-    }
+    below_holds = opened_holds g r f held.m s h mate mate2 n c held.edge is long2 held.opened held.mates shrinking
 
     pub below_less : count (length h.rows.items) (mem h.left) < count (length s.rows.items) (mem s.left)
-    below_less =
-        let a = left_count (without_blossom g b) (removed_with r b) h below_holds.instance_is in
-        let d = left_count g r s is.instance_is in
-        let e = smaller g is.instance_is.graph r f held.m n c held.edge held.opened in omega arith
+    below_less = opened_less g r f held.m s h mate mate2 n c held.edge is long2 held.opened held.mates shrinking
 
     module _ (mate3 : List ℕ) (long3 : length mate3 ≡ length mate2) (below : Answer) (step : IsMateStep (without_blossom g b) (removed_with r b) held.m mate3 below) where
       pub may_open : MayOpen g r f held.m step.m s mate3 b

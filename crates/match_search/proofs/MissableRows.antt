@@ -1,13 +1,16 @@
 -- A vertex taken out of a graph with a matching. Its edge of the matching goes, so its mate is
 -- exposed, and nothing else of the matching changes; of the instance the vertex alone goes.
-use Rattle.std.proofs.Common.{◌≡◌, ◌≢◌, ℕ, suc, ◌-◌, ◌<◌, ◌≤◌, ◌==◌, ◌&&◌, ◌||◌, not, Bool, true, false, refl, sym, ap, ◌∙◌, arith, eqb-true, nat_lt, nat_le, inl, inr, subst, List, [], length, rules}
+use Rattle.std.proofs.Common.{◌≡◌, ◌≢◌, ℕ, suc, ◌-◌, ◌<◌, ◌≤◌, ◌==◌, ◌&&◌, ◌||◌, not, Bool, true, false, refl, sym, ap, ◌∙◌, arith, eqb-true, nat_lt, nat_le, inl, inr, subst, List, [], length, take, drop, ◌++◌, rules}
+use Rattle.std.proofs.Math.Seq.{take-append_seam}
 use Rattle.counting.proofs.Common.{and_parts, and_from, cases_eq, or_cases, total_congr, Within, bit, count, mem, Set, meet, singleton, union}
 use Rattle.graph_core.proofs.Common.{Graph, IsGraph, HasEnds, degree, first_end, second_end, IsMatching, missed_count, edge_at}
-use Rattle.match_search.specs.Common.{HoldsMatching, IsInstance, HasMates, with_mate, HasFrame, IsMissableRow, numbers}
+use Rattle.match_search.specs.Common.{HoldsMatching, IsInstance, IsSized, MayBeExposed, ServesRows, HasMates, with_mate, HasFrame, IsMissableRow, numbers}
 use Rattle.match_search.specs.declared.answer.FinalSets.{FinalSets}
 use Rattle.match_search.specs.declared.instance.Instance.{Instance}
+use Rattle.match_search.specs.declared.row_space.RowSpace.{RowSpace}
 use Rattle.match_search.proofs.ClosingPairs.{mates_alike}
 use Rattle.match_search.proofs.Forests.{one_edge, turned}
+use Rattle.match_search.proofs.Instances.{left_parts}
 use Rattle.match_search.proofs.MatePairs.{mate_back, with_here, with_there}
 use Rattle.match_search.proofs.NearPerfectSets.{degree_split}
 use Rattle.match_search.proofs.SameMates.{mates_degree}
@@ -85,6 +88,41 @@ held_without g r f u s mate own left held wu out long each = (
     mates = mates_alike g (union r (singleton u)) (less g held.instance_is.graph r f (numbers mate) held.mates u wu) (with_mate (with_mate (numbers mate) (numbers mate u) 0) u 0) (numbers own) each (less_mates g held.instance_is.graph r f (numbers mate) held.mates u wu);
   },
 )
+
+-- the forest of a space has the lengths that a search of the instance needs
+pub sized_rows : (g : Graph) (r f : Set) (s : Instance) (mate : List ℕ) (space : RowSpace) → HoldsMatching g r f s mate → ServesRows s.left mate space → IsSized (length s.rows.items) space.forest
+sized_rows g r f s mate space held serves =
+    let long = held.long in
+    let each = held.instance_is.one_each in
+    let parents = serves.sized.parents_long in
+    let pairs = serves.sized.pairs_long in record { parents_long = omega arith; pairs_long = omega arith }
+
+-- a row that is written back through a slice keeps its length
+pub written_long : (len : ℕ) (new old : List ℕ) (n : ℕ) → length new ≡ len → len ≡ n → length (take len (new ++ drop (length new) old)) ≡ n
+written_long len new old n long same = ap (λ k. length (take k (new ++ drop (length new) old))) (sym long) ∙ ap length (take-append_seam new (drop (length new) old)) ∙ long ∙ same
+
+-- a space serves the next row if the lengths and the set of exposed vertices stay the same
+pub serves_again : (g : Graph) (r f : Set) (s : Instance) (mate : List ℕ) (before after : RowSpace) → HoldsMatching g r f s mate → ServesRows s.left mate before → IsSized (length s.rows.items) after.forest → length after.own.items ≡ length mate → after.exposed ≡ before.exposed → ServesRows s.left mate after
+serves_again g r f s mate before after held serves sized own same =
+    let long = held.long in
+    let each = held.instance_is.one_each in
+    let parents = sized.parents_long in
+    let pairs = sized.pairs_long in record {
+      sized = record { parents_long = omega arith; pairs_long = omega arith };
+      own = own;
+      exposed = λ v l z. ap (λ (xs : List ℕ). mem xs v) same ∙ serves.exposed v l z;
+    }
+
+-- an exposed vertex that is left then was exposed before, or is the mate
+pub exposed_without : (g : Graph) (r : Set) (u : ℕ) (s : Instance) (mate own left before after : List ℕ) → IsInstance g r s → MayBeExposed s.left mate before → ((v : ℕ) → mem left v ≡ (mem s.left v && not (u == v))) →
+    ((v : ℕ) → numbers own v ≡ with_mate (with_mate (numbers mate) (numbers mate u) 0) u 0 v) → ((v : ℕ) → mem before v ≡ true → mem after v ≡ true) → (numbers mate u ≢ 0 → mem after (numbers mate u) ≡ true) → MayBeExposed left own after
+exposed_without g r u s mate own left before after is may out each old new v l z =
+    let a = and_parts (mem s.left v) (not (u == v)) (sym (out v) ∙ l) in
+    let w = (left_parts g r s is v a.0).0 in
+    elim (cases_eq v (numbers mate u)) [
+      | inl q ↦ ap (mem after) q ∙ new (λ t. let e = q ∙ t in omega arith)
+      | inr n ↦ old v (may v a.0 (sym (with_there (numbers mate) (numbers mate u) 0 v n) ∙ sym (with_there (with_mate (numbers mate) (numbers mate u) 0) u 0 v (λ q. (grind arith))) ∙ sym (each v) ∙ z))
+    ]
 
 -- the exposed vertices that are left are those that the matching misses
 module _ (g : Graph) (r : Set) (mate left row : List ℕ) (sets : FinalSets) (framed : HasFrame g r mate sets) (long : length mate ≡ suc g.order) (left_is : (v : ℕ) → Within g.order v → mem left v ≡ not (r v)) (missed : ℕ) (missed_is : missed ≡ count (length mate - 1) (λ v. mem left v && (numbers mate v == 0))) where

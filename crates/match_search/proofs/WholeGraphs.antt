@@ -34,6 +34,14 @@ module _ (g : Graph) (n : ℕ) (ends : List Ends) (order : n ≡ g.order) (same 
       in_size : (k : ℕ) → k < length ends → Within (size g) (suc k)
       in_size k l = let s = whole_size in omega arith
 
+  -- and a set can hold them
+  pub limits_ends : IsWithinLimits g → (e : ℕ) → Within (size g) e → Within 128 (end_a ends (e - 1)) × Within 128 (end_b ends (e - 1))
+  limits_ends limits e w =
+      let long = whole_size in
+      let a = (whole_within limits.multigraph.ends).a (e - 1) (omega arith) in
+      let b = (whole_within limits.multigraph.ends).b (e - 1) (omega arith) in
+      let few = limits.vertices in ((a.0, omega arith), (b.0, omega arith))
+
   pub limits_row : IsWithinLimits g → IsGraphRow n ends
   limits_row limits = grind (arith, whole_size, whole_within limits.multigraph.ends)
 

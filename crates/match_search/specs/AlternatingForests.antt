@@ -1,7 +1,7 @@
 -- How the code represents an alternating forest: an inner vertex names its parent, and the path
 -- goes on from there by mates.
 -- Stated by: match_search. Rests on it: match_core.
-use Rattle.std.specs.Prelude.{◌≢◌, ◌≡◌, ℕ, suc, ◌+◌, ◌≤◌, ◌==◌, ◌&&◌, ◌||◌, true, length, List, Some, None}
+use Rattle.std.specs.Prelude.{◌≢◌, ◌≡◌, ℕ, suc, ◌+◌, ◌≤◌, ◌==◌, ◌&&◌, ◌||◌, true, length, List, Option, Some, None}
 use Rattle.counting.specs.Common.{Set, mem}
 use Rattle.graph_core.specs.Common.{Graph}
 use Rattle.match_search.specs.Forests.{IsForest}
@@ -10,7 +10,6 @@ use Rattle.match_search.specs.Instances.{IsInstance, Touches}
 use Rattle.match_search.specs.Rows.{numbers}
 use Rattle.match_search.specs.declared.instance.Instance.{Instance}
 use Rattle.match_search.specs.declared.alternating.AlternatingForest.{AlternatingForest}
-use Rattle.match_search.specs.declared.growing.GrownForest.{GrownForest}
 use Rattle.match_search.specs.declared.growing.Adjacent.{Adjacent}
 
 -- the instance is g - r, and the mates are those of a matching f of it
@@ -76,8 +75,8 @@ pub record IsClosingPair (s : Instance) (t : AlternatingForest) (o : Adjacent) :
   pub w_left : mem s.left o.w ≡ true
   pub adjacent : Touches s o.v o.w
 
--- a forest that has an edge between two outer vertices, or that no edge leaves
-pub record IsGrownForest (g : Graph) (r f : Set) (s : Instance) (mate : List ℕ) (t : GrownForest) : Type 0 where
-  pub holds : HoldsAlternating g r f mate t.forest
-  pub done : t.closing ≡ None → (x : ℕ) → mem t.forest.outer x ≡ true → IsDone s t.forest x
-  pub closing_pair : (o : Adjacent) → t.closing ≡ Some o → IsClosingPair s t.forest o
+-- a forest with two outer vertices that an edge joins, or one that no edge leaves
+pub record IsGrownForest (g : Graph) (r f : Set) (s : Instance) (mate : List ℕ) (t : AlternatingForest) (closing : Option Adjacent) : Type 0 where
+  pub holds : HoldsAlternating g r f mate t
+  pub done : closing ≡ None → (x : ℕ) → mem t.outer x ≡ true → IsDone s t x
+  pub closing_pair : (o : Adjacent) → closing ≡ Some o → IsClosingPair s t o

@@ -14,5 +14,5 @@ pub use Rattle.match_search.specs.GraphRows.{AreEnds, IsGraphRow, NamesEdges}
 pub use Rattle.match_search.specs.Steps.{IsOpened, AreVertexSets, StepAnswer, IsWidened}
 pub use Rattle.match_search.specs.Optimal.{IsBest}
 pub use Rattle.match_search.specs.Questions.{HoldsAll, HasPerfectWith, MeetOnce}
-pub use Rattle.match_search.specs.Missable.{HasFrame, IsMissableRow}
+pub use Rattle.match_search.specs.Missable.{HasFrame, IsMissableRow, ServesRows}
 pub use Rattle.match_search.specs.Flowers.{HoldsFlower, OnPath, HoldsForest, IsLastIn, GoesOver, HoldsRooted, HasOuter}

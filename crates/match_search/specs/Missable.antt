@@ -1,12 +1,15 @@
--- What the last step of a search proves about a matching given by its mates.
--- Stated by: match_search. Rests on it: match_core.
-use Rattle.std.specs.Prelude.{◌≡◌, ◌≢◌, ℕ, true, false, List}
+-- What the last step of a search proves about a matching given by its mates, and what the rows of a
+-- table share.
+-- Stated by: match_search, match_core.
+use Rattle.std.specs.Prelude.{◌≡◌, ◌≢◌, ℕ, ◌-◌, true, false, length, List}
 use Rattle.counting.specs.Common.{Within, count, Set, mem}
 use Rattle.graph_core.specs.Common.{Graph, size, IsMatching, missed_count}
 use Rattle.match_search.specs.Frames.{Frame}
 use Rattle.match_search.specs.Mates.{HasMates}
 use Rattle.match_search.specs.Rows.{numbers}
 use Rattle.match_search.specs.Steps.{AreVertexSets}
+use Rattle.match_search.specs.AlternatingForests.{IsSized, MayBeExposed}
+use Rattle.match_search.specs.declared.row_space.RowSpace.{RowSpace}
 use Rattle.match_search.specs.declared.answer.FinalSets.{FinalSets}
 
 -- the mates are those of a matching of g - r, and the sets are its frame
@@ -27,3 +30,10 @@ pub record IsMissableRow (g : Graph) (r : Set) (row : List ℕ) : Type 0 where
   pub one : missed_count g r m ≡ 1 → (v : ℕ) → mem row v ≡ outer v
   pub other : missed_count g r m ≢ 1 → (v : ℕ) → mem row v ≡ false
   pub within : (v : ℕ) → mem row v ≡ true → Within g.order v
+
+-- the forest and the row of mates have the lengths that a search needs, and the set contains each
+-- vertex that is left and has no mate
+pub record ServesRows (left mate : List ℕ) (space : RowSpace) : Type 0 where
+  pub sized : IsSized (length mate - 1) space.forest
+  pub own : length space.own.items ≡ length mate
+  pub exposed : MayBeExposed left mate space.exposed

@@ -64,25 +64,18 @@ impl AlternatingForest {
         })
     }
 
-    /// The forest in which the vertices of a set are the roots and there are no other vertices. It
-    /// reuses the memory of this one.
-    pub fn with_roots(self, roots: VSet) -> AlternatingForest
-        requires { (v : ℕ) → mem roots v ≡ true → v < length self.pairs.items }
-        ensures outer { result.outer ≡ roots }
-        ensures inner { (v : ℕ) → mem result.inner v ≡ false }
-        ensures parents_long { length result.parent.items ≡ length self.parent.items }
-        ensures pairs_long { length result.pairs.items ≡ length self.pairs.items }
-        ensures pairs { (v : ℕ) → mem roots v ≡ true → numbers result.pairs.items v ≡ 0 }
+    /// Makes the vertices of a set the roots, and drops all other vertices.
+    pub fn restart(&mut self, roots: VSet)
+        requires { (v : ℕ) → mem roots v ≡ true → v < length self.old.pairs.items }
+        ensures outer { self.new.outer ≡ roots }
+        ensures inner { (v : ℕ) → mem self.new.inner v ≡ false }
+        ensures parents_long { length self.new.parent.items ≡ length self.old.parent.items }
+        ensures pairs_long { length self.new.pairs.items ≡ length self.old.pairs.items }
+        ensures pairs { (v : ℕ) → mem roots v ≡ true → numbers self.new.pairs.items v ≡ 0 }
     {
-        let AlternatingForest { parent, pairs, .. } = self;
-        let mut pairs = pairs;
-        write_zeros(&mut pairs, roots);
-        AlternatingForest {
-            outer: roots,
-            inner: VSet::empty(),
-            parent,
-            pairs,
-        }
+        write_zeros(&mut self.pairs, roots);
+        self.outer = roots;
+        self.inner = VSet::empty();
     }
 
     /// Makes the vertex `y`, which becomes inner, a child of the outer vertex `x`, and its mate

@@ -18,7 +18,7 @@ ghost use Rattle.match_search.specs.Common.{HoldsMatching, IsSized, MayBeExposed
 use crate::alternating::{AlternatingForest, exposed_in};
 use crate::answer::{Answer, FinalSets, widen};
 use crate::blossom::{Blossom, close, open};
-use crate::growing::{Adjacent, GrownForest, Growth, grow_forest};
+use crate::growing::{Adjacent, Growth, grow_forest};
 use crate::instance::Instance;
 use crate::paths::paths_to;
 use std::alloc::{AllocError as Memory, Global};
@@ -26,31 +26,31 @@ use vset_core::VSet;
 
 /// Augments the matching with these mates, or returns a frame, which shows that none is larger; the
 /// mates may then be those of another matching of the same size. The exposed vertices are searched
-/// for among the candidates. All blossoms are expanded again at the end. The forests reuse the
-/// memory of the given one, whose content is ignored.
+/// for among the candidates. All blossoms are expanded again at the end. The forests are
+/// grown in the given one, whose content is ignored.
 pub fn augment_once(
     alloc: Global,
     instance: &mut Instance,
-    unused: AlternatingForest,
+    forest: &mut AlternatingForest,
     candidates: VSet,
     mate: &mut [u32],
 ) -> Result<Answer, Memory>
     requires holds { (g : Graph) × (r : Set) × (f : Set) ×
         HoldsMatching g r f instance.old mate.old }
-    requires sized { IsSized (length instance.old.rows.items) unused }
+    requires sized { IsSized (length instance.old.rows.items) forest.old }
     requires candidates { MayBeExposed instance.old.left mate.old candidates }
     ensures step { IfOk result (λ s. (g : Graph) (r f : Set) →
         HoldsMatching g r f instance.old mate.old → IsMateStep g r f mate.new s) }
+    ensures sized { OnOk result (IsSized (length instance.old.rows.items) forest.new) }
     ensures restored { OnOk result (AreAlike instance.old instance.new) }
 {
     let roots = exposed_in(candidates, instance.left, mate);
-    let GrownForest { forest, closing } = grow_forest(instance, unused, roots, mate, Growth::Least);
-    match closing {
+    match grow_forest(instance, forest, roots, mate, Growth::Least) {
         None => Ok(Answer::Final(FinalSets {
             outer: forest.outer,
             inner: forest.inner,
         })),
-        Some(bridge) => match close_bridge(alloc, &forest, bridge, mate)? {
+        Some(bridge) => match close_bridge(alloc, forest, bridge, mate)? {
             None => Ok(Answer::Grown),
             Some(blossom) => {
                 let base = blossom.cycle[1];

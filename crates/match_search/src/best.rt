@@ -88,10 +88,10 @@ pub(crate) fn last_frame(
     ensures restored { OnOk result (AreAlike instance.old instance.new) }
 {
     let n = instance.rows.len() as u32;
+    let mut forest = AlternatingForest::empty(alloc, n)?;
     'augmenting: loop {
         let left = instance.left;
-        let unused = AlternatingForest::empty(alloc, n)?;
-        match augment_once(alloc, instance, unused, left, mate)? {
+        match augment_once(alloc, instance, &mut forest, left, mate)? {
             Answer::Grown => {}
             Answer::Final(sets) => return Ok(sets),
         }

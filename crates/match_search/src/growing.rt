@@ -17,14 +17,6 @@ pub struct Adjacent {
     pub w: u32,
 }
 
-/// The result of a search: a forest, and two of its outer vertices that are adjacent, if there are
-/// any.
-#[derive(Drop)]
-pub struct GrownForest {
-    pub forest: AlternatingForest,
-    pub closing: Option<Adjacent>,
-}
-
 /// Which open vertex a forest grows from next: the least one, or the one that became outer last.
 /// With the latest the search soon comes back to a vertex of the forest, and its blossoms are
 /// large.
@@ -49,34 +41,31 @@ fn next_of(rest: VSet, latest: VSet, growth: Growth) -> Option<u32>
     }
 }
 
-/// Grows the forest of the matching with these mates from its exposed vertices. It reuses the
-/// memory of the given forest, whose content is ignored.
+/// Grows the forest of the matching with these mates from its exposed vertices, and returns two of
+/// its outer vertices that are adjacent, if it comes to any. What the forest was before is ignored.
 pub fn grow_forest(
     instance: &Instance,
-    unused: AlternatingForest,
+    forest: &mut AlternatingForest,
     roots: VSet,
     mate: &[u32],
     growth: Growth,
-) -> GrownForest
+) -> Option<Adjacent>
     requires holds { (g : Graph) × (r : Set) × (f : Set) ×
         HoldsMatching g r f instance.now mate.now }
-    requires sized { IsSized (length instance.now.rows.items) unused }
+    requires sized { IsSized (length instance.now.rows.items) forest.old }
     requires roots { AreExposed instance.now.left mate.now roots }
     ensures { (g : Graph) (r f : Set) →
         HoldsMatching g r f instance.now mate.now →
-        IsGrownForest g r f instance.now mate.now result }
+        IsGrownForest g r f instance.now mate.now forest.new result }
 {
-    let mut forest = unused.with_roots(roots);
+    forest.restart(roots);
     let mut open = forest.outer;
     let mut latest = VSet::empty();
     'growing: while let Some(x) = next_of(open, latest, growth) {
         let near = instance.near(x).without(x);
         let reach = near.minus(forest.inner);
         if let Some(y) = reach.meet(forest.outer).first() {
-            return GrownForest {
-                forest,
-                closing: Some(Adjacent { v: x, w: y }),
-            };
+            return Some(Adjacent { v: x, w: y });
         }
         match reach.first() {
             None => open = open.without(x),
@@ -88,8 +77,5 @@ pub fn grow_forest(
             }
         }
     }
-    GrownForest {
-        forest,
-        closing: None,
-    }
+    None
 }

@@ -87,20 +87,6 @@ impl Instance {
     }
 }
 
-// The union of the rows of the vertices of a set.
-fn union_of(rows: &[VSet], set: VSet) -> VSet
-    requires { (v : ℕ) → mem set v ≡ true → Within (length rows.now) v }
-    ensures { IsUnionOf rows.now (mem set) result }
-{
-    let mut all = VSet::empty();
-    let mut rest = set;
-    'uniting: while let Some((v, others)) = rest.split_first() {
-        rest = others;
-        all = all.union(rows[v as usize - 1]);
-    }
-    all
-}
-
 fn write_row(rows: &mut [VSet], v: u32, row: VSet)
     requires { Within (length rows.old) v }
     ensures own { item rows.new v ≡ row }
@@ -110,17 +96,33 @@ fn write_row(rows: &mut [VSet], v: u32, row: VSet)
     rows[v as usize - 1] = row;
 }
 
-// Makes the row of the base the union of those of the cycle, and returns its old value.
-fn gather(rows: &mut [VSet], cycle: VSet, base: u32) -> VSet
-    requires vertices { (v : ℕ) → mem cycle v ≡ true → Within (length rows.old) v }
-    requires base { Within (length rows.old) base }
-    ensures gathered { IsGathered rows.old (mem cycle) base rows.new }
-    ensures before { result ≡ item rows.old base }
+// Writes a row, and returns its old value.
+fn replace_row(rows: &mut [VSet], v: u32, row: VSet) -> VSet
+    requires { Within (length rows.old) v }
+    ensures gathered { (x : Set) → IsUnionOf rows.old x row → IsGathered rows.old x v rows.new }
+    ensures before { result ≡ item rows.old v }
 {
-    let before = rows[base as usize - 1];
-    let all = union_of(rows, cycle);
-    write_row(rows, base, all);
+    let before = rows[v as usize - 1];
+    write_row(rows, v, row);
     before
+}
+
+// The unions of the rows and of the members of the vertices of a set.
+fn unions_of(rows: &[VSet], members: &[VSet], set: VSet) -> (VSet, VSet)
+    requires one_each { length members.now ≡ length rows.now }
+    requires vertices { (v : ℕ) → mem set v ≡ true → Within (length rows.now) v }
+    ensures rows { IsUnionOf rows.now (mem set) result.0 }
+    ensures members { IsUnionOf members.now (mem set) result.1 }
+{
+    let mut all_rows = VSet::empty();
+    let mut all_members = VSet::empty();
+    let mut rest = set;
+    'uniting: while let Some((v, others)) = rest.split_first() {
+        rest = others;
+        all_rows = all_rows.union(rows[v as usize - 1]);
+        all_members = all_members.union(members[v as usize - 1]);
+    }
+    (all_rows, all_members)
 }
 
 /// The values of an instance that a shrinking overwrites: the row and the members of the base, and
@@ -147,8 +149,9 @@ impl Instance {
     {
         let blossoms = self.blossoms;
         let left = self.left;
-        let row = gather(&mut self.rows, cycle, base);
-        let members = gather(&mut self.members, cycle, base);
+        let (all_rows, all_members) = unions_of(&self.rows, &self.members, cycle);
+        let row = replace_row(&mut self.rows, base, all_rows);
+        let members = replace_row(&mut self.members, base, all_members);
         self.blossoms = blossoms.minus(cycle).with(base);
         self.left = left.minus(cycle.without(base));
         Unshrunk {

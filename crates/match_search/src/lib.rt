@@ -27,11 +27,13 @@ mod mates;
 mod missable;
 mod outer;
 mod paths;
+mod row_space;
 mod rows;
 
 pub use answer::FinalSets;
 pub use best::{Best, best_from, find_best, is_addable};
 pub use instance::{Instance, instance_of};
 pub use mates::mates_of;
-pub use missable::missable_beside;
+pub use missable::{missable_beside, missable_in};
+pub use row_space::RowSpace;
 pub use rows::{falses, is_marked, mark_place, mark_places};

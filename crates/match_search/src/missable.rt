@@ -5,29 +5,15 @@
 ghost use Rattle.std.specs.Prelude.{◌≡◌, ℕ, ◌+◌, ◌-◌, ◌<◌, ◌≤◌, ◌==◌, ◌&&◌, true, length, IfOk, OnOk, Some, ◌∷◌, []};
 ghost use Rattle.counting.specs.Common.{count, mem, Set, singleton, union};
 ghost use Rattle.graph_core.specs.Common.{Graph};
-ghost use Rattle.match_search.specs.Common.{HoldsMatching, with_mate, IsMissableRow, numbers, AreAlike};
+ghost use Rattle.match_search.specs.Common.{HoldsMatching, IsMissableRow, IsSized, MayBeExposed, ServesRows, numbers, AreAlike};
 
 use crate::alternating::{AlternatingForest, exposed_in};
 use crate::best::last_frame;
 use crate::instance::Instance;
-use crate::mates::expose;
 use crate::outer::outer_from;
+use crate::row_space::RowSpace;
 use std::alloc::{AllocError as Memory, Global};
 use vset_core::{MOST_VERTICES, VSet};
-
-// The mates after a vertex and its mate are exposed.
-fn mates_without(alloc: Global, mate: &[u32], u: u32) -> Result<Vec<u32>, Memory>
-    requires vertex { u < length mate.now }
-    requires mate { numbers mate.now u < length mate.now }
-    ensures long { IfOk result (λ own. length own.items ≡ length mate.now) }
-    ensures each { IfOk result (λ own. (v : ℕ) → numbers own.items v ≡
-        with_mate (with_mate (numbers mate.now) (numbers mate.now u) 0) u 0 v) }
-{
-    let mut own = mate.to_vec(alloc)?;
-    expose(&mut own, mate[u as usize]);
-    expose(&mut own, u);
-    Ok(own)
-}
 
 // How many vertices of a set are exposed.
 fn exposed_count(left: VSet, mate: &[u32]) -> usize
@@ -56,19 +42,25 @@ fn only_member(set: VSet) -> Option<u32>
 }
 
 // The outer vertices of the last frame if a maximum matching misses one vertex, otherwise none. If
-// this matching misses one, it cannot be augmented.
-fn outer_of_one(alloc: Global, instance: &mut Instance, mate: &mut [u32]) -> Result<VSet, Memory>
-    requires { (g : Graph) × (r : Set) × (f : Set) × HoldsMatching g r f instance.old mate.old }
+// this matching misses one, it cannot be augmented. The exposed vertices are among the candidates.
+fn outer_of_one(
+    alloc: Global,
+    instance: &mut Instance,
+    forest: &mut AlternatingForest,
+    candidates: VSet,
+    mate: &mut [u32],
+) -> Result<VSet, Memory>
+    requires holds { (g : Graph) × (r : Set) × (f : Set) ×
+        HoldsMatching g r f instance.old mate.old }
+    requires sized { IsSized (length instance.old.rows.items) forest.old }
+    requires candidates { MayBeExposed instance.old.left mate.old candidates }
     ensures row { IfOk result (λ row. (g : Graph) (r f : Set) →
         HoldsMatching g r f instance.old mate.old → IsMissableRow g r row) }
+    ensures sized { OnOk result (IsSized (length instance.old.rows.items) forest.new) }
     ensures restored { OnOk result (AreAlike instance.old instance.new) }
 {
-    let left = instance.left;
-    match only_member(exposed_in(left, left, mate)) {
-        Some(root) => {
-            let unused = AlternatingForest::empty(alloc, instance.rows.len() as u32)?;
-            Ok(outer_from(instance, unused, root, mate))
-        }
+    match only_member(exposed_in(candidates, instance.left, mate)) {
+        Some(root) => Ok(outer_from(instance, forest, root, mate)),
         None => outer_of_last(alloc, instance, mate),
     }
 }
@@ -105,10 +97,38 @@ pub fn missable_beside(
         HoldsMatching g r f instance.old mate.now → IsMissableRow g (union r (singleton u)) row) }
     ensures restored { OnOk result (AreAlike instance.old instance.new) }
 {
+    let mut space = RowSpace::new(alloc, instance.left, mate)?;
+    missable_in(alloc, instance, &mut space, mate, u)
+}
+
+/// The same in a space that the rows of a table share. It takes memory only if the matching misses
+/// another number of vertices of G - `u` than one.
+pub fn missable_in(
+    alloc: Global,
+    instance: &mut Instance,
+    space: &mut RowSpace,
+    mate: &[u32],
+    u: u32,
+) -> Result<VSet, Memory>
+    requires holds { (g : Graph) × (r : Set) × (f : Set) ×
+        HoldsMatching g r f instance.old mate.now }
+    requires left { mem instance.old.left u ≡ true }
+    requires space { ServesRows instance.old.left mate.now space.old }
+    ensures row { IfOk result (λ row. (g : Graph) (r f : Set) →
+        HoldsMatching g r f instance.old mate.now → IsMissableRow g (union r (singleton u)) row) }
+    ensures restored { OnOk result (AreAlike instance.old instance.new) }
+    ensures space { OnOk result (ServesRows instance.old.left mate.now space.new) }
+{
     let left = instance.left;
-    let mut own = mates_without(alloc, mate, u)?;
+    let candidates = space.begin_row(mate, u);
     instance.left = left.without(u);
-    let row = outer_of_one(alloc, instance, &mut own)?;
+    let row = outer_of_one(
+        alloc,
+        instance,
+        &mut space.forest,
+        candidates,
+        &mut space.own,
+    )?;
     instance.left = left;
     Ok(row)
 }

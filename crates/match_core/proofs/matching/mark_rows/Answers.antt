@@ -1,4 +1,4 @@
-use Rattle.std.proofs.Common.{◌≡◌, Bool, true, false, ◌||◌, ◌==◌, ◌∷◌, [], sym, ap, ◌∙◌, get_or, take, map, arith}
+use Rattle.std.proofs.Common.{◌≡◌, Bool, false, ◌||◌, ◌==◌, ◌∷◌, [], sym, ap, ◌∙◌, get_or, take, map, arith}
 use Rattle.counting.proofs.Common.{take_more, map-append, mem-append, mem}
 use Rattle.match_search.specs.Common.{marks}
 use Rattle.match_core.specs.declared.matching.MatchRow.{MatchRow}

@@ -1,15 +1,26 @@
-use Rattle.std.proofs.Common.{◌≡◌, ℕ, true, rules}
+use Rattle.std.proofs.Common.{◌≡◌, ℕ, List, true, sym, ◌∙◌, subst, arith, rules}
 use Rattle.counting.proofs.Common.{Within, mem}
+use Rattle.match_search.specs.Common.{ServesRows}
 use Rattle.match_core.specs.Common.{are_partners}
 use Rattle.match_core.proofs.HeldMates.{each_more, mates_alike}
 use Rattle.match_core.proofs.partner_table.rows_from.Goals as goal
 
 pub loop-k-preserved : goal.loop-k-preserved
 loop-k-preserved c = record {
-  held = mates_alike c.args.g.now (mem c.args.removed) c.loop-k.instance c.partners_of.new.instance c.args.mate.now c.loop-k.invariant.held c.in_ok-partners_of.ensures.restored;
+  held = mates_alike c.args.g.now (mem c.args.removed) c.loop-k.instance c.partners_of.new.instance c.args.mate.now c.loop-k.invariant.held c.in_ok-row.ensures.restored;
+  space = subst (λ (left : List ℕ). ServesRows left c.args.mate.now c.partners_of.new.space) (sym c.in_ok-row.ensures.restored.left) c.in_ok-row.ensures.space;
   long = search rules;
-  within = λ u v w. each_more (λ u row. (v : ℕ) → mem row v ≡ true → Within c.args.g.now.order v) c.loop-k.k c.loop-k.rows.items c.push.new.self.items c.in_ok-partners_of.field-0 c.loop-k.invariant.long c.in_ok-push.ensures.items
-      (λ u w v. c.loop-k.invariant.within u v w) c.in_ok-partners_of.ensures.within u w v;
-  row = λ u v w. each_more (λ u row. (v : ℕ) → Within c.args.g.now.order v → mem row v ≡ are_partners c.args.g.now (mem c.args.removed) u v) c.loop-k.k c.loop-k.rows.items c.push.new.self.items c.in_ok-partners_of.field-0 c.loop-k.invariant.long c.in_ok-push.ensures.items
-      (λ u w v. c.loop-k.invariant.row u v w) c.in_ok-partners_of.ensures.row u w v;
+  within = λ u v w. each_more (λ u row. (v : ℕ) → mem row v ≡ true → Within c.args.g.now.order v) c.loop-k.k c.loop-k.rows.items c.push.new.self.items c.in_ok-row.row c.loop-k.invariant.long c.in_ok-push.ensures.items
+      (λ u w v. c.loop-k.invariant.within u v w) c.in_ok-row.ensures.within u w v;
+  row = λ u v w. each_more (λ u row. (v : ℕ) → Within c.args.g.now.order v → mem row v ≡ are_partners c.args.g.now (mem c.args.removed) u v) c.loop-k.k c.loop-k.rows.items c.push.new.self.items c.in_ok-row.row c.loop-k.invariant.long c.in_ok-push.ensures.items
+      (λ u w v. c.loop-k.invariant.row u v w) c.in_ok-row.ensures.row u w v;
 }
+
+pub returns : goal.returns
+returns c =
+    let all : c.loop-k.k ≡ c.args.g.now.order = (let end = c.loop-k.auto.k-end in let done = c.loop-k-test.false in let order_is = c.order-k-end.ensures.is in omega arith) in
+    record {
+      one_each = c.loop-k.invariant.long ∙ all;
+      within = λ u v w. c.loop-k.invariant.within u v (w.0, omega arith);
+      partner_is = λ u v w. c.loop-k.invariant.row u v (w.0, omega arith);
+    }

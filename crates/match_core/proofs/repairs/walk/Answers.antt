@@ -2,7 +2,7 @@ use Rattle.std.proofs.Common.{◌≡◌, ℕ, List, [], ◌++◌, ◌∷◌, len
 use Rattle.graph_core.proofs.Common.{graph_of}
 use Rattle.match_search.specs.Common.{IsWalk, IsRepairRow, Misses}
 use Rattle.match_search.proofs.GraphRows.{row_graph, missed_degree}
-use Rattle.match_core.proofs.RepairWalks.{walk_start, walk_within, walk_outside, walk_short, walk_more, walk_end, next_within, next_outside, appended_length}
+use Rattle.match_core.proofs.RepairWalks.{here_outside, here_short, here_within, walk_start, walk_more, walk_end, next_within, next_outside, appended_length}
 use Rattle.match_core.proofs.NamedEdges.{mate_pair, perfect_named}
 use Rattle.match_core.proofs.repairs.walk.Goals as goal
 
@@ -12,13 +12,8 @@ walking-init c = λ n r m w h. subst (λ (es : List ℕ). IsWalk (graph_of n c.a
 pub mate_at-requires-clause-within : goal.mate_at-requires-clause-within
 mate_at-requires-clause-within c =
     let q = c.requires in
-    let n = q.0 in
-    let r = q.1 in
-    let m = q.2 in
-    let w = q.3 in
-    let h = q.4 in
-    let here = walk_within (graph_of n c.args.ends.now) (row_graph n c.args.ends.now h.row.within) r m w h.matching h.perfect c.args.x c.walking.edges.items c.walking.v (c.walking.invariant n r m w h) in
-    let long = h.other_long in omega arith
+    let here = here_within q.0 q.1 q.2 q.3 c.args.ends.now c.args.at.now c.args.other.now c.args.x q.4 c.walking.edges.items c.walking.v (c.walking.invariant q.0 q.1 q.2 q.3 q.4) in
+    let long = q.4.other_long in omega arith
 
 pub mate_at-requires-clause-real : goal.mate_at-requires-clause-real
 mate_at-requires-clause-real c = λ some. (c.requires.4.other_named.met c.walking.v some).0
@@ -26,12 +21,10 @@ mate_at-requires-clause-real c = λ some. (c.requires.4.other_named.met c.walkin
 pub unreachable-requires : goal.unreachable-requires
 unreachable-requires c =
     let q = c.requires in
-    let n = q.0 in
-    let r = q.1 in
-    let m = q.2 in
-    let w = q.3 in
-    let h = q.4 in
-    absurd (perfect_named n c.args.ends.now r w c.args.other.now h.other_named h.perfect c.walking.v (walk_within (graph_of n c.args.ends.now) (row_graph n c.args.ends.now h.row.within) r m w h.matching h.perfect c.args.x c.walking.edges.items c.walking.v (c.walking.invariant n r m w h)) (walk_outside (graph_of n c.args.ends.now) (row_graph n c.args.ends.now h.row.within) r m w h.matching h.perfect c.args.x c.walking.edges.items c.walking.v (c.walking.invariant n r m w h)) (c.mate_at.ensures.none c.in-None.is))
+    absurd (perfect_named q.0 c.args.ends.now q.1 q.3 c.args.other.now q.4.other_named q.4.perfect c.walking.v
+    (here_within q.0 q.1 q.2 q.3 c.args.ends.now c.args.at.now c.args.other.now c.args.x q.4 c.walking.edges.items c.walking.v (c.walking.invariant q.0 q.1 q.2 q.3 q.4))
+    (here_outside q.0 q.1 q.2 q.3 c.args.ends.now c.args.at.now c.args.other.now c.args.x q.4 c.walking.edges.items c.walking.v (c.walking.invariant q.0 q.1 q.2 q.3 q.4))
+    (c.mate_at.ensures.none c.in-None.is))
 
 pub mate_at-requires-in-walking-clause-within : goal.mate_at-requires-in-walking-clause-within
 mate_at-requires-in-walking-clause-within c = grind arith
@@ -54,13 +47,8 @@ returns-in-None-mate_at c = λ n r m w h.
 pub walking-smaller : goal.walking-smaller
 walking-smaller c =
     let q = c.requires in
-    let n = q.0 in
-    let r = q.1 in
-    let m = q.2 in
-    let w = q.3 in
-    let h = q.4 in
-    let short = walk_short (graph_of n c.args.ends.now) (row_graph n c.args.ends.now h.row.within) r m w h.matching h.perfect c.args.x c.walking.edges.items c.walking.v (c.walking.invariant n r m w h) in
-    let long = h.at_long in
+    let short = here_short q.0 q.1 q.2 q.3 c.args.ends.now c.args.at.now c.args.other.now c.args.x q.4 c.walking.edges.items c.walking.v (c.walking.invariant q.0 q.1 q.2 q.3 q.4) in
+    let long = q.4.at_long in
     let a = ap (λ (xs : List ℕ). length xs) c.in_ok-push.ensures.items ∙ appended_length c.walking.edges.items c.in-Some.next.edge in
     let b = ap (λ (xs : List ℕ). length xs) c.in_ok-push-in-Some-mate_at.ensures.items ∙ appended_length c.push.new.self.items c.in-Some-mate_at.back.edge in
     omega arith

@@ -16,14 +16,14 @@ pub returns-in-None-2-clause-restored : goal.returns-in-None-2-clause-restored
 returns-in-None-2-clause-restored t c = alike_self c.args.instance.now
 
 pub returns-in-None-clause-step : goal.returns-in-None-clause-step
-returns-in-None-clause-step t c = λ g r f is. growth_final g r f c.args.instance.now c.args.mate.now is c.grow_forest-forest.result (c.grow_forest-forest.ensures g r f is) c.in-None.is
+returns-in-None-clause-step t c = λ g r f is. growth_final g r f c.args.instance.now c.args.mate.now is c.grow_forest.new.forest c.grow_forest.result (c.grow_forest.ensures g r f is) c.in-None.is
 
 pub close_bridge-requires : goal.close_bridge-requires
-close_bridge-requires t c = let q = c.requires.holds in (q.0, q.1, q.2, growth_closes q.0 q.1 q.2 c.args.instance.now c.args.mate.now q.3 c.grow_forest-forest.result c.in-Some.bridge (c.grow_forest-forest.ensures q.0 q.1 q.2 q.3) c.in-Some.is)
+close_bridge-requires t c = let q = c.requires.holds in (q.0, q.1, q.2, growth_closes q.0 q.1 q.2 c.args.instance.now c.args.mate.now q.3 c.grow_forest.new.forest c.grow_forest.result c.in-Some.bridge (c.grow_forest.ensures q.0 q.1 q.2 q.3) c.in-Some.is)
 
 pub returns-in-None-2-clause-step : goal.returns-in-None-2-clause-step
 returns-in-None-2-clause-step t c = λ g r f is.
-    let done = subst (IsClosed g r f c.close_bridge.new.mate) c.in-None-2.is (c.in_ok-close_bridge-in-Some.ensures.closed g r f (growth_closes g r f c.args.instance.now c.args.mate.now is c.grow_forest-forest.result c.in-Some.bridge (c.grow_forest-forest.ensures g r f is) c.in-Some.is)) in
+    let done = subst (IsClosed g r f c.close_bridge.new.mate) c.in-None-2.is (c.in_ok-close_bridge-in-Some.ensures.closed g r f (growth_closes g r f c.args.instance.now c.args.mate.now is c.grow_forest.new.forest c.grow_forest.result c.in-Some.bridge (c.grow_forest.ensures g r f is) c.in-Some.is)) in
     record { m = done.0; mates = done.1; answer = done.2 }
 
 pub index-base-requires : goal.index-base-requires
@@ -35,7 +35,7 @@ shrink-before-requires-clause-base t c = grind (arith, growth_closes, base_withi
 pub unshrink-requires-clause-base : goal.unshrink-requires-clause-base
 unshrink-requires-clause-base t c =
     let q = c.requires.holds in
-    let held = subst (IsClosed q.0 q.1 q.2 c.close_bridge.new.mate) c.in-Some-2.is (c.in_ok-close_bridge-in-Some.ensures.closed q.0 q.1 q.2 (growth_closes q.0 q.1 q.2 c.args.instance.now c.args.mate.now q.3 c.grow_forest-forest.result c.in-Some.bridge (c.grow_forest-forest.ensures q.0 q.1 q.2 q.3) c.in-Some.is)) in
+    let held = subst (IsClosed q.0 q.1 q.2 c.close_bridge.new.mate) c.in-Some-2.is (c.in_ok-close_bridge-in-Some.ensures.closed q.0 q.1 q.2 (growth_closes q.0 q.1 q.2 c.args.instance.now c.args.mate.now q.3 c.grow_forest.new.forest c.grow_forest.result c.in-Some.bridge (c.grow_forest.ensures q.0 q.1 q.2 q.3) c.in-Some.is)) in
     let w = base_within q.0 q.1 q.2 c.close_bridge.new.mate c.in-Some-2.blossom held c.index-base.result.now c.index-base.ensures in
     let few = q.3.instance_is.few in
     let each = q.3.instance_is.one_each in
@@ -45,24 +45,24 @@ unshrink-requires-clause-base t c =
 pub with-requires : goal.with-requires
 with-requires t c =
     let q = c.requires.holds in
-    let held = subst (IsClosed q.0 q.1 q.2 c.close_bridge.new.mate) c.in-Some-2.is (c.in_ok-close_bridge-in-Some.ensures.closed q.0 q.1 q.2 (growth_closes q.0 q.1 q.2 c.args.instance.now c.args.mate.now q.3 c.grow_forest-forest.result c.in-Some.bridge (c.grow_forest-forest.ensures q.0 q.1 q.2 q.3) c.in-Some.is)) in
+    let held = subst (IsClosed q.0 q.1 q.2 c.close_bridge.new.mate) c.in-Some-2.is (c.in_ok-close_bridge-in-Some.ensures.closed q.0 q.1 q.2 (growth_closes q.0 q.1 q.2 c.args.instance.now c.args.mate.now q.3 c.grow_forest.new.forest c.grow_forest.result c.in-Some.bridge (c.grow_forest.ensures q.0 q.1 q.2 q.3) c.in-Some.is)) in
     let w = base_within q.0 q.1 q.2 c.close_bridge.new.mate c.in-Some-2.blossom held c.index-base.result.now c.index-base.ensures in
     let few = q.3.instance_is.few in (omega arith, omega arith)
 
 pub shrink-before-requires-clause-vertices : goal.shrink-before-requires-clause-vertices
 shrink-before-requires-clause-vertices t c = λ v m.
     let q = c.requires.holds in
-    let held = subst (IsClosed q.0 q.1 q.2 c.close_bridge.new.mate) c.in-Some-2.is (c.in_ok-close_bridge-in-Some.ensures.closed q.0 q.1 q.2 (growth_closes q.0 q.1 q.2 c.args.instance.now c.args.mate.now q.3 c.grow_forest-forest.result c.in-Some.bridge (c.grow_forest-forest.ensures q.0 q.1 q.2 q.3) c.in-Some.is)) in
+    let held = subst (IsClosed q.0 q.1 q.2 c.close_bridge.new.mate) c.in-Some-2.is (c.in_ok-close_bridge-in-Some.ensures.closed q.0 q.1 q.2 (growth_closes q.0 q.1 q.2 c.args.instance.now c.args.mate.now q.3 c.grow_forest.new.forest c.grow_forest.result c.in-Some.bridge (c.grow_forest.ensures q.0 q.1 q.2 q.3) c.in-Some.is)) in
     let w = cw q.0 q.3.instance_is.graph q.1 q.2 held.m (length c.in-Some-2.blossom.cycle.items - 1) (numbers c.in-Some-2.blossom.cycle.items) held.edge held.opened v (sym (held.members v) ∙ m) in
     let each = q.3.instance_is.one_each in (w.0, omega arith)
 
 pub augment_once-requires : goal.augment_once-requires
 augment_once-requires t c =
     let q = c.requires.holds in
-    let held = subst (IsClosed q.0 q.1 q.2 c.close_bridge.new.mate) c.in-Some-2.is (c.in_ok-close_bridge-in-Some.ensures.closed q.0 q.1 q.2 (growth_closes q.0 q.1 q.2 c.args.instance.now c.args.mate.now q.3 c.grow_forest-forest.result c.in-Some.bridge (c.grow_forest-forest.ensures q.0 q.1 q.2 q.3) c.in-Some.is)) in
+    let held = subst (IsClosed q.0 q.1 q.2 c.close_bridge.new.mate) c.in-Some-2.is (c.in_ok-close_bridge-in-Some.ensures.closed q.0 q.1 q.2 (growth_closes q.0 q.1 q.2 c.args.instance.now c.args.mate.now q.3 c.grow_forest.new.forest c.grow_forest.result c.in-Some.bridge (c.grow_forest.ensures q.0 q.1 q.2 q.3) c.in-Some.is)) in
     let base = base_read q.0 q.1 q.2 c.close_bridge.new.mate c.in-Some-2.blossom held c.index-base.result.now c.index-base.ensures in
     let falls = c.decreases in
-    let grown = c.grow_forest-forest.ensures q.0 q.1 q.2 q.3 in
+    let grown = c.grow_forest.ensures q.0 q.1 q.2 q.3 in
     let parents = grown.holds.parents_long in
     let pairs = grown.holds.pairs_long in
     let each = q.3.instance_is.one_each in
@@ -75,7 +75,7 @@ augment_once-requires t c =
 pub open-requires : goal.open-requires
 open-requires t c =
     let q = c.requires.holds in
-    let held = subst (IsClosed q.0 q.1 q.2 c.close_bridge.new.mate) c.in-Some-2.is (c.in_ok-close_bridge-in-Some.ensures.closed q.0 q.1 q.2 (growth_closes q.0 q.1 q.2 c.args.instance.now c.args.mate.now q.3 c.grow_forest-forest.result c.in-Some.bridge (c.grow_forest-forest.ensures q.0 q.1 q.2 q.3) c.in-Some.is)) in
+    let held = subst (IsClosed q.0 q.1 q.2 c.close_bridge.new.mate) c.in-Some-2.is (c.in_ok-close_bridge-in-Some.ensures.closed q.0 q.1 q.2 (growth_closes q.0 q.1 q.2 c.args.instance.now c.args.mate.now q.3 c.grow_forest.new.forest c.grow_forest.result c.in-Some.bridge (c.grow_forest.ensures q.0 q.1 q.2 q.3) c.in-Some.is)) in
     let base = base_read q.0 q.1 q.2 c.close_bridge.new.mate c.in-Some-2.blossom held c.index-base.result.now c.index-base.ensures in
     let step = c.in_ok-below-in-Some-2.ensures.step (without_blossom q.0 c.in-Some-2.blossom) (removed_with q.1 c.in-Some-2.blossom) held.m (below_holds q.0 q.1 q.2 c.args.instance.now c.args.mate.now q.3 c.close_bridge.new.mate c.close_bridge.auto.mate c.in-Some-2.blossom held c.index-base.result.now base c.shrink-before.new.self c.shrink-before.ensures.shrunk) in
     let back = put_back c.args.instance.now c.shrink-before.new.self c.augment_once.new.instance c.unshrink.new.self (mem c.in-Some-2.blossom.members) c.index-base.result.now c.shrink-before.result c.shrink-before.ensures.shrunk c.shrink-before.ensures.before c.in_ok-below-in-Some-2.ensures.restored c.unshrink.ensures in
@@ -86,7 +86,7 @@ returns-in_ok-below-in-Some-2-clause-restored t c = put_back c.args.instance.now
 
 pub returns-in_ok-below-in-Some-2-clause-step : goal.returns-in_ok-below-in-Some-2-clause-step
 returns-in_ok-below-in-Some-2-clause-step t c = λ g r f is.
-    let held = subst (IsClosed g r f c.close_bridge.new.mate) c.in-Some-2.is (c.in_ok-close_bridge-in-Some.ensures.closed g r f (growth_closes g r f c.args.instance.now c.args.mate.now is c.grow_forest-forest.result c.in-Some.bridge (c.grow_forest-forest.ensures g r f is) c.in-Some.is)) in
+    let held = subst (IsClosed g r f c.close_bridge.new.mate) c.in-Some-2.is (c.in_ok-close_bridge-in-Some.ensures.closed g r f (growth_closes g r f c.args.instance.now c.args.mate.now is c.grow_forest.new.forest c.grow_forest.result c.in-Some.bridge (c.grow_forest.ensures g r f is) c.in-Some.is)) in
     let base = base_read g r f c.close_bridge.new.mate c.in-Some-2.blossom held c.index-base.result.now c.index-base.ensures in
     let step = c.in_ok-below-in-Some-2.ensures.step (without_blossom g c.in-Some-2.blossom) (removed_with r c.in-Some-2.blossom) held.m (below_holds g r f c.args.instance.now c.args.mate.now is c.close_bridge.new.mate c.close_bridge.auto.mate c.in-Some-2.blossom held c.index-base.result.now base c.shrink-before.new.self c.shrink-before.ensures.shrunk) in
     let back = put_back c.args.instance.now c.shrink-before.new.self c.augment_once.new.instance c.unshrink.new.self (mem c.in-Some-2.blossom.members) c.index-base.result.now c.shrink-before.result c.shrink-before.ensures.shrunk c.shrink-before.ensures.before c.in_ok-below-in-Some-2.ensures.restored c.unshrink.ensures in

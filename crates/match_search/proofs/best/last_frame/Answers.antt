@@ -12,7 +12,11 @@ pub augment_once-requires-clause-holds : goal.augment_once-requires-clause-holds
 augment_once-requires-clause-holds c = grind arith
 
 pub augment_once-requires-clause-sized : goal.augment_once-requires-clause-sized
-augment_once-requires-clause-sized c = grind arith
+augment_once-requires-clause-sized c =
+    let long = c.augmenting.invariant.alike.rows_long in
+    let sized = c.augmenting.invariant.sized in
+    let parents = sized.parents_long in
+    let pairs = sized.pairs_long in record { parents_long = omega arith; pairs_long = omega arith }
 
 pub augmenting-smaller : goal.augmenting-smaller
 augmenting-smaller c =
@@ -30,6 +34,11 @@ augmenting-preserved c = record {
       let m = c.augmenting.invariant.held g r f held in
       let s = subst (IsMateStep g r m.0 c.augment_once.new.mate) c.in-Grown.is (c.in_ok-augment_once.ensures.step g r m.0 m.1) in
       (s.m, held_again g m.1.instance_is.graph r m.0 c.augmenting.instance c.augment_once.new.instance c.augmenting.mate c.augment_once.new.mate m.1 c.augment_once.auto.mate s c.in_ok-augment_once.ensures.restored);
+  sized =
+      let long = c.augmenting.invariant.alike.rows_long in
+      let sized = c.in_ok-augment_once.ensures.sized in
+      let parents = sized.parents_long in
+      let pairs = sized.pairs_long in record { parents_long = omega arith; pairs_long = omega arith };
   alike = alike_then c.args.instance.now c.augmenting.instance c.augment_once.new.instance c.augmenting.invariant.alike c.in_ok-augment_once.ensures.restored;
 }
 

@@ -1,107 +1,60 @@
-use Rattle.std.proofs.Common.{◌≡◌, ◌≢◌, ℕ, suc, ◌+◌, true, false, sym, ap, ap₂, ◌∙◌, arith}
-use Rattle.counting.proofs.Common.{get_or_default_zero, mem}
+use Rattle.std.proofs.Common.{ℕ, suc, ◌+◌, sym, ap, ap₂, ◌∙◌, arith, get_or}
 use Rattle.match_search.specs.Common.{flipped_over, numbers}
 use Rattle.match_search.proofs.FlippedPaths.{over_off}
-use Rattle.match_search.proofs.FlowerPaths.{flip_more, up_at, up_inner, up_outer, up_over, up_pairs}
-use Rattle.match_search.proofs.PathsUp.{pairs_read, up_within}
+use Rattle.match_search.proofs.FlowerPaths.{flip_more, up_at, up_inner, up_over}
+use Rattle.match_search.proofs.ForestWalks.{climbs, goes_on}
+use Rattle.match_search.proofs.PathsUp.{pairs_read}
 use Rattle.match_search.proofs.flower.flip_path.Goals as goal
 
 pub index-at-requires : goal.index-at-requires
 index-at-requires c =
-    let q = c.requires.forest in
-    let pairs = pairs_read q.g q.r q.f c.args.mate.now c.args.forest.now q.holds c.args.x c.index-pairs.result.now c.requires.outer c.index-pairs.ensures in
-    let left = c.loop-i.invariant.left in
-    let less = c.loop-i-test.true in
-    let some : numbers c.args.forest.now.pairs.items c.loop-i.at ≢ 0 = λ z. absurd (omega arith) in
-    let w = up_within q.g q.r q.f c.args.mate.now c.args.forest.now q.holds c.loop-i.at c.loop-i.invariant.outer some in
-    let l = q.holds.parents_long in
-    let few = q.few in
-    let long = q.long in
-    let inner = c.loop-i.invariant.inner in omega arith
+    let up = climbs c.args.mate.now c.args.forest.now c.requires.forest c.loop-i.at c.loop-i.invariant.outer c.args.x c.index-pairs.result.now c.loop-i._i c.requires.outer c.index-pairs.ensures c.loop-i-test.true c.loop-i.invariant.left in
+    let inner = c.loop-i.invariant.inner in
+    let read = up.in_parents in omega arith
 
 pub bounds-mate-at-in-loop-i : goal.bounds-mate-at-in-loop-i
 bounds-mate-at-in-loop-i c =
-    let q = c.requires.forest in
-    let pairs = pairs_read q.g q.r q.f c.args.mate.now c.args.forest.now q.holds c.args.x c.index-pairs.result.now c.requires.outer c.index-pairs.ensures in
-    let left = c.loop-i.invariant.left in
-    let less = c.loop-i-test.true in
-    let some : numbers c.args.forest.now.pairs.items c.loop-i.at ≢ 0 = λ z. absurd (omega arith) in
-    let w = up_within q.g q.r q.f c.args.mate.now c.args.forest.now q.holds c.loop-i.at c.loop-i.invariant.outer some in
-    let l = q.holds.parents_long in
-    let few = q.few in
-    let long = q.long in
-    let at : c.index-at.result.now ≡ numbers c.args.forest.now.parent.items (numbers c.args.mate.now c.loop-i.at) = c.index-at.ensures ∙ ap (λ (k : ℕ). Rattle.std.proofs.Common.get_or c.args.forest.now.parent.items k c.index-at.result.now) c.loop-i.invariant.inner ∙ get_or_default_zero c.args.forest.now.parent.items (numbers c.args.mate.now c.loop-i.at) c.index-at.result.now (omega arith) in
-    let o = up_outer q.g q.r q.f c.args.mate.now c.args.forest.now q.holds c.args.x c.loop-i.at c.loop-i.invariant.outer some (c.loop-i.invariant.over q.g q.r q.f q.holds) in
-    let up_o = ap (mem c.args.forest.now.outer) at ∙ o in
-    let wz = (q.holds.forest.outer_in c.index-at.result.now up_o).0 in
-    let fewer = up_pairs q.g q.r q.f c.args.mate.now c.args.forest.now q.holds c.args.x c.loop-i.at c.loop-i.invariant.outer some (c.loop-i.invariant.over q.g q.r q.f q.holds) in
-    let same_pairs = ap (numbers c.args.forest.now.pairs.items) at in
-    let same = c.loop-i.invariant.same in omega arith
+    let up = climbs c.args.mate.now c.args.forest.now c.requires.forest c.loop-i.at c.loop-i.invariant.outer c.args.x c.index-pairs.result.now c.loop-i._i c.requires.outer c.index-pairs.ensures c.loop-i-test.true c.loop-i.invariant.left in
+    let on = goes_on c.args.mate.now c.args.forest.now c.requires.forest c.loop-i.at c.loop-i.invariant.outer up c.index-at.result.now (c.index-at.ensures ∙ ap (λ (k : ℕ). get_or c.args.forest.now.parent.items k c.index-at.result.now) c.loop-i.invariant.inner) in
+    let same = c.loop-i.invariant.same in
+    let read = on.in_mates in omega arith
 
 pub join-requires-clause-v_in : goal.join-requires-clause-v_in
 join-requires-clause-v_in c =
-    let q = c.requires.forest in
-    let pairs = pairs_read q.g q.r q.f c.args.mate.now c.args.forest.now q.holds c.args.x c.index-pairs.result.now c.requires.outer c.index-pairs.ensures in
-    let left = c.loop-i.invariant.left in
-    let less = c.loop-i-test.true in
-    let some : numbers c.args.forest.now.pairs.items c.loop-i.at ≢ 0 = λ z. absurd (omega arith) in
-    let w = up_within q.g q.r q.f c.args.mate.now c.args.forest.now q.holds c.loop-i.at c.loop-i.invariant.outer some in
-    let l = q.holds.parents_long in
-    let few = q.few in
-    let long = q.long in
-    let at : c.index-at.result.now ≡ numbers c.args.forest.now.parent.items (numbers c.args.mate.now c.loop-i.at) = c.index-at.ensures ∙ ap (λ (k : ℕ). Rattle.std.proofs.Common.get_or c.args.forest.now.parent.items k c.index-at.result.now) c.loop-i.invariant.inner ∙ get_or_default_zero c.args.forest.now.parent.items (numbers c.args.mate.now c.loop-i.at) c.index-at.result.now (omega arith) in
-    let o = up_outer q.g q.r q.f c.args.mate.now c.args.forest.now q.holds c.args.x c.loop-i.at c.loop-i.invariant.outer some (c.loop-i.invariant.over q.g q.r q.f q.holds) in
-    let up_o = ap (mem c.args.forest.now.outer) at ∙ o in
-    let wz = (q.holds.forest.outer_in c.index-at.result.now up_o).0 in
-    let fewer = up_pairs q.g q.r q.f c.args.mate.now c.args.forest.now q.holds c.args.x c.loop-i.at c.loop-i.invariant.outer some (c.loop-i.invariant.over q.g q.r q.f q.holds) in
-    let same_pairs = ap (numbers c.args.forest.now.pairs.items) at in
-    let same = c.loop-i.invariant.same in omega arith
+    let up = climbs c.args.mate.now c.args.forest.now c.requires.forest c.loop-i.at c.loop-i.invariant.outer c.args.x c.index-pairs.result.now c.loop-i._i c.requires.outer c.index-pairs.ensures c.loop-i-test.true c.loop-i.invariant.left in
+    let on = goes_on c.args.mate.now c.args.forest.now c.requires.forest c.loop-i.at c.loop-i.invariant.outer up c.index-at.result.now (c.index-at.ensures ∙ ap (λ (k : ℕ). get_or c.args.forest.now.parent.items k c.index-at.result.now) c.loop-i.invariant.inner) in
+    let same = c.loop-i.invariant.same in
+    let read = on.in_mates in omega arith
 
 pub join-requires-clause-w_in : goal.join-requires-clause-w_in
 join-requires-clause-w_in c =
-    let q = c.requires.forest in
-    let pairs = pairs_read q.g q.r q.f c.args.mate.now c.args.forest.now q.holds c.args.x c.index-pairs.result.now c.requires.outer c.index-pairs.ensures in
-    let left = c.loop-i.invariant.left in
-    let less = c.loop-i-test.true in
-    let some : numbers c.args.forest.now.pairs.items c.loop-i.at ≢ 0 = λ z. absurd (omega arith) in
-    let w = up_within q.g q.r q.f c.args.mate.now c.args.forest.now q.holds c.loop-i.at c.loop-i.invariant.outer some in
-    let l = q.holds.parents_long in
-    let few = q.few in
-    let long = q.long in
+    let up = climbs c.args.mate.now c.args.forest.now c.requires.forest c.loop-i.at c.loop-i.invariant.outer c.args.x c.index-pairs.result.now c.loop-i._i c.requires.outer c.index-pairs.ensures c.loop-i-test.true c.loop-i.invariant.left in
     let inner = c.loop-i.invariant.inner in
-    let same = c.loop-i.invariant.same in omega arith
+    let same = c.loop-i.invariant.same in
+    let read = up.in_mates in omega arith
 
 pub loop-i-preserved : goal.loop-i-preserved
 loop-i-preserved c =
     let q = c.requires.forest in
-    let pairs = pairs_read q.g q.r q.f c.args.mate.now c.args.forest.now q.holds c.args.x c.index-pairs.result.now c.requires.outer c.index-pairs.ensures in
+    let up = climbs c.args.mate.now c.args.forest.now c.requires.forest c.loop-i.at c.loop-i.invariant.outer c.args.x c.index-pairs.result.now c.loop-i._i c.requires.outer c.index-pairs.ensures c.loop-i-test.true c.loop-i.invariant.left in
+    let on = goes_on c.args.mate.now c.args.forest.now c.requires.forest c.loop-i.at c.loop-i.invariant.outer up c.index-at.result.now (c.index-at.ensures ∙ ap (λ (k : ℕ). get_or c.args.forest.now.parent.items k c.index-at.result.now) c.loop-i.invariant.inner) in
     let left = c.loop-i.invariant.left in
-    let less = c.loop-i-test.true in
-    let some : numbers c.args.forest.now.pairs.items c.loop-i.at ≢ 0 = λ z. absurd (omega arith) in
-    let w = up_within q.g q.r q.f c.args.mate.now c.args.forest.now q.holds c.loop-i.at c.loop-i.invariant.outer some in
-    let l = q.holds.parents_long in
-    let few = q.few in
-    let long = q.long in
-    let at : c.index-at.result.now ≡ numbers c.args.forest.now.parent.items (numbers c.args.mate.now c.loop-i.at) = c.index-at.ensures ∙ ap (λ (k : ℕ). Rattle.std.proofs.Common.get_or c.args.forest.now.parent.items k c.index-at.result.now) c.loop-i.invariant.inner ∙ get_or_default_zero c.args.forest.now.parent.items (numbers c.args.mate.now c.loop-i.at) c.index-at.result.now (omega arith) in
-    let o = up_outer q.g q.r q.f c.args.mate.now c.args.forest.now q.holds c.args.x c.loop-i.at c.loop-i.invariant.outer some (c.loop-i.invariant.over q.g q.r q.f q.holds) in
-    let up_o = ap (mem c.args.forest.now.outer) at ∙ o in
-    let wz = (q.holds.forest.outer_in c.index-at.result.now up_o).0 in
-    let fewer = up_pairs q.g q.r q.f c.args.mate.now c.args.forest.now q.holds c.args.x c.loop-i.at c.loop-i.invariant.outer some (c.loop-i.invariant.over q.g q.r q.f q.holds) in
-    let same_pairs = ap (numbers c.args.forest.now.pairs.items) at in
-    let z = up_at q.g q.r q.f c.args.mate.now c.args.forest.now q.holds c.args.x c.loop-i.at c.loop-i.invariant.outer some (c.loop-i.invariant.over q.g q.r q.f q.holds) in
-    let z_is = at ∙ sym z ∙ ap (λ (k : ℕ). q.holds.v c.args.x (numbers c.args.forest.now.pairs.items k + numbers c.args.forest.now.pairs.items k)) (sym at) in
+    let fewer = on.pairs in
+    let same_pairs = ap (numbers c.args.forest.now.pairs.items) on.is in
+    let z = up_at q.g q.r q.f c.args.mate.now c.args.forest.now q.holds c.args.x c.loop-i.at c.loop-i.invariant.outer up.some (c.loop-i.invariant.over q.g q.r q.f q.holds) in
+    let z_is = on.is ∙ sym z ∙ ap (λ (k : ℕ). q.holds.v c.args.x (numbers c.args.forest.now.pairs.items k + numbers c.args.forest.now.pairs.items k)) (sym on.is) in
     record {
       same = c.join.auto.mate ∙ c.loop-i.invariant.same;
-      outer = up_o;
+      outer = on.outer;
       inner = c.loop-i.invariant.flipped q.g q.r q.f q.holds c.index-at.result.now ∙ over_off (numbers c.args.mate.now) (q.holds.v c.args.x) (numbers c.args.forest.now.pairs.items c.loop-i.at) c.loop-i._i c.index-at.result.now
           (λ j lo hi e. let a = (q.holds.forest.path c.args.x c.requires.outer).path.apart (numbers c.args.forest.now.pairs.items c.index-at.result.now + numbers c.args.forest.now.pairs.items c.index-at.result.now) j (omega arith) (omega arith) (sym z_is ∙ e) in absurd (omega arith));
       left = omega arith;
-      over = λ g r f h j b. ap (λ (v : ℕ). h.v v j) at ∙ up_over g r f c.args.mate.now c.args.forest.now h c.args.x c.loop-i.at c.loop-i.invariant.outer some (c.loop-i.invariant.over g r f h) j (omega arith);
+      over = λ g r f h j b. ap (λ (v : ℕ). h.v v j) on.is ∙ up_over g r f c.args.mate.now c.args.forest.now h c.args.x c.loop-i.at c.loop-i.invariant.outer up.some (c.loop-i.invariant.over g r f h) j (omega arith);
       flipped = λ g r f h.
-          let z = up_at g r f c.args.mate.now c.args.forest.now h c.args.x c.loop-i.at c.loop-i.invariant.outer some (c.loop-i.invariant.over g r f h) in
-          let i = up_inner g r f c.args.mate.now c.args.forest.now h c.args.x c.loop-i.at c.loop-i.invariant.outer some (c.loop-i.invariant.over g r f h) in
+          let z = up_at g r f c.args.mate.now c.args.forest.now h c.args.x c.loop-i.at c.loop-i.invariant.outer up.some (c.loop-i.invariant.over g r f h) in
+          let i = up_inner g r f c.args.mate.now c.args.forest.now h c.args.x c.loop-i.at c.loop-i.invariant.outer up.some (c.loop-i.invariant.over g r f h) in
           flip_more (numbers c.args.mate.now) (h.v c.args.x) (numbers c.loop-i.mate) (numbers c.join.new.mate) (numbers c.args.forest.now.pairs.items c.index-at.result.now) (numbers c.args.forest.now.pairs.items c.loop-i.at) c.loop-i._i c.index-at.result.now c.loop-i.inner (omega arith)
-          (ap (λ (k : ℕ). h.v c.args.x (numbers c.args.forest.now.pairs.items k + numbers c.args.forest.now.pairs.items k)) at ∙ z ∙ sym at) (ap (λ (k : ℕ). h.v c.args.x (suc (numbers c.args.forest.now.pairs.items k + numbers c.args.forest.now.pairs.items k))) at ∙ i ∙ sym c.loop-i.invariant.inner)
+          (ap (λ (k : ℕ). h.v c.args.x (numbers c.args.forest.now.pairs.items k + numbers c.args.forest.now.pairs.items k)) on.is ∙ z ∙ sym on.is) (ap (λ (k : ℕ). h.v c.args.x (suc (numbers c.args.forest.now.pairs.items k + numbers c.args.forest.now.pairs.items k))) on.is ∙ i ∙ sym c.loop-i.invariant.inner)
           (c.loop-i.invariant.flipped g r f h) c.join.ensures;
     }
 

@@ -10,8 +10,8 @@ use Rattle.match_search.proofs.growing.grow_forest.Goals as goal
 or_false_parts : (a b : Bool) → (a || b) ≡ false → (a ≡ false) × (b ≡ false)
 or_false_parts a b q = grind arith
 
-pub with_roots-forest-requires : goal.with_roots-forest-requires
-with_roots-forest-requires c = grind arith
+pub restart-requires : goal.restart-requires
+restart-requires c = grind arith
 
 pub growing-init : goal.growing-init
 growing-init c = grind (arith, roots_hold, both_ways)
