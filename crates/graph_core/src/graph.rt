@@ -127,8 +127,19 @@ impl MultiGraph {
         ensures even { IfOk result (λ sides. IsEven sides ↔ IsBipartite self.now) }
         ensures sides { IfOk result (AreSides self.now) }
     {
+        let (_, sides) = self.parts_and_sides(alloc)?;
+        Ok(sides)
+    }
+
+    /// The components, by least vertex, and what `two_sides` returns, from one search.
+    pub(crate) fn parts_and_sides(&self, alloc: Global) -> Result<(SetList, Sides), Memory>
+        ensures parts { IfOk result (λ found. found.0 ≡ components self.now none) }
+        ensures even { IfOk result (λ found. IsEven found.1 ↔ IsBipartite self.now) }
+        ensures sides { IfOk result (λ found. AreSides self.now found.1) }
+    {
         let forest = grow_forest(alloc, &self.rows, VSet::empty())?;
-        sides_by_depth(alloc, &self.edges, &forest.nodes)
+        let sides = sides_by_depth(alloc, &self.edges, &forest.nodes)?;
+        Ok((forest.parts, sides))
     }
 
     /// The ends of all edges, in the order of their numbers. Takes no memory.

@@ -2,8 +2,9 @@
 //! matchings.
 //!
 //! `MultiGraph` has up to 128 vertices and 2,048 edges, numbered from 1; contracts see a `Graph`.
-//! Its main calls are `components`, `components_without`, `two_sides` and `simple`; `side_of`
-//! returns a side, `canonical_shore` and `add_cut` are for lists of cuts.
+//! Its main calls are `components`, `components_without`, `two_sides` and `simple`;
+//! `parts_and_side` returns the components and a side, `canonical_shore` and `add_cut` are for lists
+//! of cuts.
 //!
 //! The definitions, in specs/: `Matchings`, `Walks`, `Components`, `BergeSets`, `GallaiEdmonds`,
 //! matching covered graphs (`Covered`), the canonical partition, barriers and pairs (`Structure`),
@@ -34,5 +35,5 @@ pub use faults::AddFault;
 pub use graph::{MOST_EDGES, MultiGraph};
 pub use line_text::{FaultKind, TextFault};
 pub use lists::{Numbers, SetList};
-pub use sides::{Sides, side_of};
+pub use sides::{Sides, parts_and_side};
 pub use verdict::{Kind, Reason, Verdict};

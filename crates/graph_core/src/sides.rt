@@ -1,10 +1,10 @@
 //! The two sides of a bipartite graph, or an odd closed walk.
 ghost use Rattle.std.specs.Prelude.{◌≡◌, ◌≤◌, ◌++◌, ◌∷◌, ◌↔◌, not, All, Contains, IfOk, IfSome, IfNone, Some, None, length};
 ghost use Rattle.counting.specs.Common.{Within, is_odd, mem, none};
-ghost use Rattle.graph_core.specs.Common.{IsBipartite, IsGraph, parent_at, depth_at, AreTrees, IsRooted, AreSides, IsEven, IsSide, way_up, way_down, graph_of};
+ghost use Rattle.graph_core.specs.Common.{components, IsBipartite, IsGraph, parent_at, depth_at, AreTrees, IsRooted, AreSides, IsEven, IsSide, way_up, way_down, graph_of};
 
 use crate::tree::{TreeNode, climb, descend, even_vertices};
-use crate::{Ends, MultiGraph, Numbers};
+use crate::{Ends, MultiGraph, Numbers, SetList};
 use std::alloc::{AllocError as Memory, Global};
 use vset_core::{MOST_VERTICES, VSet};
 
@@ -87,15 +87,18 @@ fn set_of(numbers: &[u32]) -> VSet
     set
 }
 
-/// One side of a bipartite graph; `None` if and only if the graph is not bipartite. Takes O(n + m)
-/// time; the only error is `Memory`.
-pub fn side_of(alloc: Global, g: &MultiGraph) -> Result<Option<VSet>, Memory>
-    ensures some { IfOk result (λ o. (side : _) → o ≡ Some side → IsSide g.now (mem side)) }
-    ensures none { IfOk result (λ o. (o ≡ None) ↔ ¬ (IsBipartite g.now)) }
+/// The components of a graph, by least vertex, and one side, `None` if and only if the graph is not
+/// bipartite, from one search. Takes O(n + m) time; the only error is `Memory`.
+pub fn parts_and_side(alloc: Global, g: &MultiGraph) -> Result<(SetList, Option<VSet>), Memory>
+    ensures parts { IfOk result (λ found. found.0 ≡ components g.now none) }
+    ensures some { IfOk result
+        (λ found. (side : _) → found.1 ≡ Some side → IsSide g.now (mem side)) }
+    ensures none { IfOk result (λ found. (found.1 ≡ None) ↔ ¬ (IsBipartite g.now)) }
 {
     g.keeps_limits();
-    match g.two_sides(alloc)? {
-        Sides::Even { left } => Ok(Some(set_of(left.as_slice()))),
-        Sides::Odd { .. } => Ok(None),
+    let (parts, sides) = g.parts_and_sides(alloc)?;
+    match sides {
+        Sides::Even { left } => Ok((parts, Some(set_of(left.as_slice())))),
+        Sides::Odd { .. } => Ok((parts, None)),
     }
 }

@@ -3,18 +3,18 @@
 use Rattle.std.proofs.Common.{◌≡◌, ◌≢◌, ◌↔◌, ◌+◌, ℕ, List, [], ◌∷◌, Bool, true, false, ◌==◌, ◌&&◌, ◌||◌, not, refl, sym, ap, ap₂, ◌∙◌, arith, subst, eq-eqb, eqb-true, inl, inr, rules}
 use Rattle.counting.proofs.Common.{and_parts, both_ways, cases_Bool, cases_eq, not-true, or_cases, or_left, or_right, Within, count, mem, none, Set}
 use Rattle.graph_core.proofs.Common.{Graph, IsBipartite, IsConnected, IsGraph, IsMultigraph, IsSide, Joined, Walk, adjacent, adjacent-edge, adjacent_from, adjacent_within, count_lost, has_ends-cases, has_ends-own, joined_back, joined_on, joined_self}
-use Rattle.graph_facts.specs.Layers.{AreLayers, IsFlood}
+use Rattle.graph_facts.specs.Layers.{AreLayers, AreOpenLayers}
 
 -- neighbours are on different sides
 other_side : (g : Graph) (x : Set) → IsMultigraph g → IsSide g x → (u v : ℕ) → adjacent g none u v ≡ true → x v ≡ not (x u)
 other_side g x is side u v a = grind (arith, adjacent-edge g none u v a, has_ends-cases g u v)
 
 module _ (g : Graph) (is : IsMultigraph g) where
-  pub flood_start : (even odd open_set : Set) → Within g.order 1 → ((v : ℕ) → even v ≡ (1 == v)) → ((v : ℕ) → odd v ≡ false) → ((v : ℕ) → open_set v ≡ even v) → IsFlood g even odd open_set
+  pub flood_start : (even odd open_set : Set) → Within g.order 1 → ((v : ℕ) → even v ≡ (1 == v)) → ((v : ℕ) → odd v ≡ false) → ((v : ℕ) → open_set v ≡ even v) → AreOpenLayers g even odd open_set
   flood_start even odd open_set w own no_odd same = grind (arith, eq-eqb 1 1 refl, or_left, joined_self g none 1, both_ways, eqb-true 1)
 
   -- the neighbours of an open vertex v
-  module _ (near new even odd open_set even' odd' open' : Set) (v : ℕ) (flood : IsFlood g even odd open_set) (v_open : open_set v ≡ true) (near_is : (w : ℕ) → near w ≡ adjacent g none v w)
+  module _ (near new even odd open_set even' odd' open' : Set) (v : ℕ) (flood : AreOpenLayers g even odd open_set) (v_open : open_set v ≡ true) (near_is : (w : ℕ) → near w ≡ adjacent g none v w)
       (new_is : (w : ℕ) → new w ≡ ((near w && not (even w)) && not (odd w))) (even_is : (w : ℕ) → even' w ≡ (even w || (not (even v) && near w))) (odd_is : (w : ℕ) → odd' w ≡ (odd w || (even v && near w)))
       (open_is : (w : ℕ) → open' w ≡ ((open_set w && not (v == w)) || new w)) where
     edge : (w : ℕ) → near w ≡ true → adjacent g none v w ≡ true
@@ -48,7 +48,7 @@ module _ (g : Graph) (is : IsMultigraph g) where
     unfolding Joined
     step_joined w a = (w ∷ [], (a, refl))
 
-    pub flood_step : IsFlood g even' odd' open'
+    pub flood_step : AreOpenLayers g even' odd' open'
     flood_step = record {
       start = kept_even 1 flood.start;
       among = λ w o. elim (or_cases (open_set w && not (v == w)) (new w) (sym (open_is w) ∙ o)) [
@@ -83,7 +83,7 @@ module _ (g : Graph) (is : IsMultigraph g) where
         back u w d e o a = grind arith
 
   -- when no vertex is open
-  pub flood_end : (even odd open_set : Set) → IsFlood g even odd open_set → ((v : ℕ) → open_set v ≡ false) → AreLayers g even odd
+  pub flood_end : (even odd open_set : Set) → AreOpenLayers g even odd open_set → ((v : ℕ) → open_set v ≡ false) → AreLayers g even odd
   unfolding Joined
   flood_end even odd open_set flood closed = grind (arith, stays 1, or_left (even 1) (odd 1) flood.start)
     where

@@ -15,7 +15,7 @@ pub record AreLayers (g : Graph) (even odd : Set) : Type 0 where
   pub back : (u w : ℕ) → odd u ≡ true → even u ≡ false → adjacent g none u w ≡ true → even w ≡ true
 
 -- the same, except that the neighbours of the vertices of open_set may be missing
-pub record IsFlood (g : Graph) (even odd open_set : Set) : Type 0 where
+pub record AreOpenLayers (g : Graph) (even odd open_set : Set) : Type 0 where
   pub start : even 1 ≡ true
   pub among : (v : ℕ) → open_set v ≡ true → (even v || odd v) ≡ true
   pub within : (v : ℕ) → (even v || odd v) ≡ true → Within g.order v

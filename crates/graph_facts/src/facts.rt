@@ -6,7 +6,7 @@ ghost use Rattle.match_core.specs.Common.{ArePartners};
 ghost use Rattle.graph_facts.specs.Facts.{IsFrame};
 
 use allowed_edges::{allowed_in, partners_where_perfect, verdict_in};
-use graph_core::{MultiGraph, Numbers, SetList, Verdict, side_of};
+use graph_core::{MultiGraph, Numbers, SetList, Verdict, parts_and_side};
 use match_core::{FrameSets, PartnerTable, frame};
 use std::alloc::{AllocError as Memory, Global};
 use std::marker::Model;
@@ -35,12 +35,11 @@ impl<'g> Model for Facts<'g> {
 }
 
 impl<'g> Facts<'g> {
-    /// The facts of `g`: one search for each.
+    /// The facts of `g`: one search for its components and its side, and one for each other.
     pub fn of(alloc: Global, g: &'g MultiGraph) -> Result<Facts<'g>, Memory>
         ensures { IfOk result (λ facts. facts ≡ g.now) }
     {
-        let parts = g.components_without(alloc, VSet::empty())?;
-        let side = side_of(alloc, g)?;
+        let (parts, side) = parts_and_side(alloc, g)?;
         let frame = frame(alloc, g)?;
         let table = partners_where_perfect(alloc, g, &frame.found.matching)?;
         Ok(Facts {

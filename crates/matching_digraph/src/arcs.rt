@@ -1,5 +1,5 @@
 //! The arcs of the digraph of a matching, as rows of sets.
-ghost use Rattle.std.specs.Prelude.{◌≡◌, ◌≤◌, ◌==◌, ◌&&◌, ◌||◌, not, ℕ, length, IfOk, All};
+ghost use Rattle.std.specs.Prelude.{◌≡◌, ◌≤◌, ◌&&◌, ◌||◌, not, ℕ, length, IfOk, All};
 ghost use Rattle.std.specs.List.{list_any};
 ghost use Rattle.counting.specs.Common.{Within, item, mem, none};
 ghost use Rattle.graph_core.specs.Common.{adjacent};
@@ -10,7 +10,7 @@ ghost use Rattle.matching_digraph.specs.MatchedPairs.{row_joins};
 use graph_core::MultiGraph;
 use match_core::Matching;
 use std::alloc::{AllocError as Memory, Global};
-use vset_core::{MOST_VERTICES, VSet};
+use vset_core::{MOST_VERTICES, VSet, add_arc};
 
 // The neighbours of a vertex outside the side; none for a vertex of the side.
 fn outer_row(g: &MultiGraph, side: VSet, v: u32) -> VSet
@@ -35,17 +35,6 @@ fn outer_rows(alloc: Global, g: &MultiGraph, side: VSet) -> Result<Vec<VSet>, Me
         rows.push(outer_row(g, side, k + 1))?;
     }
     Ok(rows)
-}
-
-// Adds an arc from `u` to `v`.
-fn add_arc(rows: &mut [VSet], u: u32, v: u32)
-    requires first { Within (length rows.old) u }
-    requires second { Within MOST_VERTICES v }
-    ensures { (s t : ℕ) → Within (length rows.old) s →
-        mem (item rows.new s) t ≡ (mem (item rows.old s) t || (u == s && v == t)) }
-{
-    let i = u as usize - 1;
-    rows[i] = rows[i].with(v);
 }
 
 // Adds the arcs between the mates of a matching, both ways.

@@ -11,7 +11,7 @@
 //!
 //! A search goes over rows of words, a `VSet` for each vertex, and takes no memory.
 //!
-//! Depends on `match_core` and `barrier_kit`. Sources: Dulmage and Mendelsohn 1958; Lovász and
+//! Depends on `graph_facts` and `barrier_kit`. Sources: Dulmage and Mendelsohn 1958; Lovász and
 //! Plummer, "Matching Theory", chapter 4; Lovász 1987 for tight cuts.
 #![tactic(auto)]
 

@@ -2,5 +2,4 @@
 pub use Rattle.separation_kit.specs.SeparationShores.{is_cut_pair, shores_at_pair}
 unfoldable pub use Rattle.separation_kit.specs.SeparationShores.{separation_shores, separation_cuts}
 pub use Rattle.separation_kit.specs.Pairs.{pair_of, IsPairIn, is_equivalent_pair, IsFirstInRow, HasNoneInRow}
-pub use Rattle.separation_kit.specs.Floods.{IsFlood, GoesRound}
 pub use Rattle.separation_kit.specs.Dominators.{AreBounds, MayStep, AreDominatorCandidates}

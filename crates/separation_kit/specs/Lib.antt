@@ -1,5 +1,4 @@
 pub mod SeparationShores
 pub mod Pairs
-pub mod Floods
 pub mod Dominators
 pub mod Common

@@ -23,8 +23,8 @@ module _ (g : Graph) (lim : IsWithinLimits g) (cov : IsCovered g) (e : ℕ) (we 
   b = greater_end g e
 
   -- the least shore with x, in the same graph as h, is the common shore of x and the greater end
-  pub least_common : (x : ℕ) → Within g.order x → (h : Graph) (i j : ℕ) (z : List ℕ) → h ≡ g → i ≡ min (first_end h e) (second_end h e) → j ≡ max (first_end h e) (second_end h e) → IsLeastShore h i j x (mem z) → IsCommonShore g a b (x, b) (Some z)
-  least_common x wx h i j z same first second least = grind (arith, same_tests, common_from, common_in, lesser_within, greater_within)
+  pub least_common : (x : ℕ) → Within g.order x → (i j : ℕ) (z : List ℕ) → i ≡ min (first_end g e) (second_end g e) → j ≡ max (first_end g e) (second_end g e) → IsLeastShore g i j x (mem z) → IsCommonShore g a b (x, b) (Some z)
+  least_common x wx i j z first second least = grind (arith, same_tests, common_from, common_in, lesser_within, greater_within)
 
   -- if no nontrivial tight shore has the lesser end and not the greater, no pair is separated
   pub inseparable_none : NoneParts g a b → first_separated g e ≡ None

@@ -3,7 +3,7 @@
 -- shore.
 use Rattle.std.proofs.Common.{◌≡◌, ℕ, ◌+◌, ◌<◌, true, false, sym, ap, ◌∙◌, arith, ◌&&◌, List, [], ◌∷◌, map, nat_le, Option, Some, slice_get, subst, All, fold, is_none}
 use Rattle.counting.proofs.Common.{list_any, lt-leb, and_right, All-head, count_congr, rising_list-congr, Within, IsRisingIn, Set}
-use Rattle.std.specs.Option.{option_map}
+use Rattle.std.specs.Option.{IfSome, option_map}
 use Rattle.barrier_kit.proofs.Common.{barrier_cuts, barrier_shores}
 use Rattle.graph_core.proofs.Common.{IsCanonicalCut, with_cut, Graph, size, is_bicritical, equivalent_pair}
 use Rattle.separation_kit.specs.Common.{separation_cuts, separation_shores}
@@ -34,18 +34,23 @@ front-separations g h = grind (arith, cuts-candidates g.order Barrier (barrier_s
 pub canonical-rising : (g : Graph) (cuts : List (List ℕ)) → All (IsCanonicalCut g) cuts → All (IsRisingIn g.order) cuts
 canonical-rising g cuts a k d l = (a k d l).rising
 
--- the first candidate is that of the first shore
-pub first-some : (n : ℕ) (o : Origin) (shores : List (List ℕ)) (s : List ℕ) (c : Candidate) → Some s ≡ slice_get shores 0 → c ≡ candidate_at n o s → Some c ≡ first_of (map (candidate_at n o) shores)
-first-some n o [] s c h q = absurd cc
-first-some n o (t ∷ shores) s c h q = let same : s ≡ t = cc in ap Some (q ∙ ap (candidate_at n o) same)
+first-rises : (n : ℕ) (shores : List (List ℕ)) → All (IsRisingIn n) shores → (found : Option (List ℕ)) → found ≡ slice_get shores 0 → IfSome found (IsRisingIn n)
+first-rises n [] all found h = subst (λ (o : Option (List ℕ)). IfSome o (IsRisingIn n)) (sym h) tt
+first-rises n (t ∷ shores) all found h = subst (λ (o : Option (List ℕ)). IfSome o (IsRisingIn n)) (sym h) (All-head (IsRisingIn n) t shores all)
 
-pub first-rises : (n : ℕ) (shores : List (List ℕ)) → All (IsRisingIn n) shores → (s : List ℕ) → Some s ≡ slice_get shores 0 → IsRisingIn n s
-first-rises n [] all s h = absurd cc
-first-rises n (t ∷ shores) all s h = let same : t ≡ s = cc in subst (IsRisingIn n) same (All-head (IsRisingIn n) t shores all)
-
-pub first-candidate_at : (n : ℕ) (o : Origin) (shores : List (List ℕ)) (found : Option (List ℕ)) → found ≡ slice_get shores 0 → option_map (candidate_at n o) found ≡ first_of (map (candidate_at n o) shores)
+first-candidate_at : (n : ℕ) (o : Origin) (shores : List (List ℕ)) (found : Option (List ℕ)) → found ≡ slice_get shores 0 → option_map (candidate_at n o) found ≡ first_of (map (candidate_at n o) shores)
 first-candidate_at n o [] found h = ap (option_map (candidate_at n o)) h
 first-candidate_at n o (s ∷ shores) found h = ap (option_map (candidate_at n o)) h
+
+-- the first of a list of canonical cuts
+module _ (g : Graph) (n : ℕ) (order : n ≡ g.order) (cuts : List (List ℕ)) (found : Option (List ℕ)) (first : found ≡ slice_get cuts 0) where
+  -- rises
+  pub first_cut-rises : All (IsCanonicalCut g) cuts → IfSome found (IsRisingIn n)
+  first_cut-rises all = subst (λ n. IfSome found (IsRisingIn n)) (sym order) (first-rises g.order cuts (canonical-rising g cuts all) found first)
+
+  -- is the first candidate
+  pub first_cut-candidate : (o : Origin) (c : Option Candidate) → c ≡ option_map (candidate_at n o) found → c ≡ first_of (map (candidate_at g.order o) cuts)
+  first_cut-candidate o c h = h ∙ ap (λ n. option_map (candidate_at n o) found) order ∙ first-candidate_at g.order o cuts found first
 
 -- what the first pair says
 pub equivalent-some : (g : Graph) (k : ℕ × ℕ) → Some k ≡ equivalent_pair g → (is_bicritical g && nat_le 4 g.order) ≡ false

@@ -1,8 +1,8 @@
 -- Vertices that edges lying together with e join are on one side of each nontrivial tight set with e
 -- in its cut. If they are all vertices but the ends of e, no pair is separated at e.
-use Rattle.std.proofs.Common.{◌≡◌, ◌≢◌, ℕ, Bool, true, false, ◌||◌, ◌&&◌, ◌⊎◌, not, ◌==◌, refl, sym, ap, ◌∙◌, inl, inr, List, [], ◌∷◌, None, eq-eqb, eqb-true, arith}
+use Rattle.std.proofs.Common.{◌≡◌, ◌≢◌, ℕ, Bool, true, false, ◌||◌, ◌&&◌, ◌⊎◌, not, ◌==◌, refl, sym, ◌∙◌, inl, inr, List, [], ◌∷◌, None, eq-eqb, eqb-true, arith}
 use Rattle.counting.proofs.Common.{and_parts, both_ways, false_from_ne_true, not-true, or_cases, or_left, or_right, Within, item, mem, union, Set, none, pair_set}
-use Rattle.graph_core.proofs.Common.{Graph, IsCovered, IsGraph, IsMultigraph, adjacent, first_end, has_perfect_says, in_cut, second_end, size, Together, IsNontrivial, IsTight}
+use Rattle.graph_core.proofs.Common.{Graph, IsGraph, IsMultigraph, adjacent, first_end, has_perfect_says, in_cut, second_end, size, Together, IsNontrivial, IsTight}
 use Rattle.graph_core.proofs.Walks.{adjacent-edge, adjacent_within, has_ends-cases}
 use Rattle.allowed_edges.proofs.ThroughEdges.{two_glued}
 use Rattle.allowed_edges.specs.Leaving.{ShareNone}
@@ -11,7 +11,7 @@ use Rattle.tight_cuts.proofs.EdgeLoop.{ends_between}
 use Rattle.tight_cuts.proofs.FirstPairs.{no_first}
 use Rattle.tight_cuts.proofs.LeastShores.{parts_nontrivial, separated_says}
 use Rattle.tight_cuts.proofs.PairsOfEdges.{cut_between, others_stay}
-use Rattle.tight_cuts.specs.Common.{first_separated, greater_end, is_separated, lesser_end, AreClusters, AreUnparted, IsOneSided}
+use Rattle.tight_cuts.specs.Common.{first_separated, greater_end, is_separated, lesser_end, AreClusters, IsOneSided}
 
 -- one vertex alone
 pub alone : (g : Graph) (e v : ℕ) (x : List ℕ) → x ≡ v ∷ [] → IsOneSided g e (mem x)

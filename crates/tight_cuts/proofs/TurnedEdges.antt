@@ -1,8 +1,8 @@
 -- What turned graphs show. Idea: of the edges at u a matching that leaves a set at u has only the
 -- one in the cut, so all its edges keep their ends in the turned graph, and it is perfect there.
-use Rattle.std.proofs.Common.{◌≡◌, ◌≢◌, ℕ, zero, suc, List, [], ◌∷◌, length, map, slice_index_or, eq-eqb, ◌<◌, ◌+◌, ◌==◌, ◌&&◌, ◌||◌, ◌⊎◌, true, refl, sym, ap, ap₂, ◌∙◌, subst, arith, inl, inr}
-use Rattle.counting.proofs.Common.{cases_Bool, cases_eq, cases_lt, cases_order, count, count_congr, mem, or_left, or_right, Within, Set, none, pair_set}
-use Rattle.graph_core.proofs.Common.{Graph, IsGraph, IsMultigraph, degree, first_end, second_end, in_cut, size, Allowed, HasPerfect, IsEnd, IsPerfect, Together, has_perfect_found, with_edge}
+use Rattle.std.proofs.Common.{◌≡◌, ℕ, zero, suc, List, [], ◌∷◌, length, map, slice_index_or, eq-eqb, ◌<◌, ◌+◌, ◌==◌, ◌&&◌, true, refl, sym, ap, ap₂, ◌∙◌, subst, arith, inl, inr}
+use Rattle.counting.proofs.Common.{cases_Bool, cases_eq, cases_lt, cases_order, count, count_congr, mem, or_left, or_right, Within, Set, none}
+use Rattle.graph_core.proofs.Common.{Graph, IsGraph, IsMultigraph, degree, first_end, second_end, in_cut, size, Allowed, IsEnd, IsPerfect, has_perfect_found, with_edge}
 use Rattle.allowed_edges.proofs.PairSteps.{apart_shared}
 use Rattle.allowed_edges.specs.PairTables.{IsPerfectWith}
 use Rattle.match_core.proofs.MatchingEdges.{edge_of}

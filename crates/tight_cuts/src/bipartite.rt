@@ -77,15 +77,14 @@ fn shore_from(c: &Covered, digraph: &Digraph, e: u32, x: u32) -> Option<VSet>
     ensures none { result ≡ None → NoneBefore c.now e (x + 1) 1 }
 {
     c.keeps_covered();
-    let g = c.graph();
-    let ends = g.ends(e);
+    let ends = c.graph().ends(e);
     let a = ends.a.min(ends.b);
     let b = ends.a.max(ends.b);
     if x == a || x == b {
         return None;
     }
-    let shore = digraph.shore(g, a, b, x);
-    match first_lacking(shore, g.order(), b) {
+    let shore = digraph.shore(c, a, b, x);
+    match first_lacking(shore, c.order(), b) {
         Some(_) => Some(shore),
         None => None,
     }
@@ -115,10 +114,9 @@ impl EdgeSearch for FloodSearch {
         e: u32,
     ) -> Result<Option<VSet>, Memory> {
         c.keeps_covered();
-        let g = c.graph();
         let digraph = digraph_at(alloc, c, self, e)?;
-        let ends = g.ends(e);
-        if digraph.is_inseparable(g, ends.a.min(ends.b), ends.a.max(ends.b)) {
+        let ends = c.graph().ends(e);
+        if digraph.is_inseparable(c, ends.a.min(ends.b), ends.a.max(ends.b)) {
             return Ok(None);
         }
         Ok(first_shore(c, &digraph, e))

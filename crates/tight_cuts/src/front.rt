@@ -1,16 +1,18 @@
 //! The candidates of the first two parts: the cuts of barriers, and those of separations.
-ghost use Rattle.std.specs.Prelude.{◌≡◌, ◌≤◌, IfOk, map, slice_get};
+ghost use Rattle.std.specs.Prelude.{◌≡◌, ◌≤◌, IfOk, IfSome, map, slice_get};
 ghost use Rattle.std.specs.Option.{option_map};
+ghost use Rattle.counting.specs.Common.{IsRisingIn};
 ghost use Rattle.graph_core.specs.Common.{IsBicritical};
 ghost use Rattle.barrier_kit.specs.Common.{barrier_cuts};
 ghost use Rattle.separation_kit.specs.Common.{separation_cuts};
-ghost use Rattle.tight_cuts.specs.Common.{Barrier, Separation, candidate_at, first_of, front_candidates, candidate_of};
+ghost use Rattle.tight_cuts.specs.Common.{Barrier, Separation, candidate_at, first_of, front_candidates, candidate_of, origin_of};
 
 use crate::candidate::{Candidate, CandidateList, Origin, candidates_of};
 use barrier_kit::{barrier_cuts_of, first_barrier_cut};
 use graph_facts::Covered;
 use separation_kit::{FirstPairs, first_separation_cut, separation_cuts};
 use std::alloc::{AllocError as Memory, Global};
+use vset_core::{MOST_VERTICES, VSet};
 
 // The cuts of barriers, as candidates.
 fn barrier_candidates(alloc: Global, c: &Covered) -> Result<CandidateList, Memory>
@@ -49,6 +51,18 @@ pub(crate) fn front_candidates(alloc: Global, pairs: &FirstPairs) -> Result<Cand
     separation_candidates(alloc, pairs.covered())
 }
 
+// The cut, if there is one, as a candidate.
+fn as_candidate(n: u32, origin: Origin, cut: Option<VSet>) -> Option<Candidate>
+    requires few { n ≤ MOST_VERTICES }
+    requires rising { IfSome cut (IsRisingIn n) }
+    ensures { option_map candidate_of result ≡ option_map (candidate_at n (origin_of origin)) cut }
+{
+    match cut {
+        Some(shore) => Some(Candidate::new(n, origin, shore)),
+        None => None,
+    }
+}
+
 // The first cut of a barrier, as a candidate.
 fn first_barrier_candidate(alloc: Global, c: &Covered) -> Result<Option<Candidate>, Memory>
     ensures { IfOk result
@@ -56,10 +70,8 @@ fn first_barrier_candidate(alloc: Global, c: &Covered) -> Result<Option<Candidat
         first_of (map (candidate_at c.now.order Barrier) (barrier_cuts c.now))) }
 {
     c.keeps_covered();
-    match first_barrier_cut(alloc, c)? {
-        Some(shore) => Ok(Some(Candidate::new(c.order(), Origin::Barrier, shore))),
-        None => Ok(None),
-    }
+    let cut = first_barrier_cut(alloc, c)?;
+    Ok(as_candidate(c.order(), Origin::Barrier, cut))
 }
 
 // The first cut of a separation, as a candidate.
@@ -74,10 +86,8 @@ fn first_separation_candidate(
         first_of (map (candidate_at pairs.now.order Separation) (separation_cuts pairs.now))) }
 {
     pairs.keeps_covered();
-    match first_separation_cut(alloc, pairs)? {
-        Some(shore) => Ok(Some(Candidate::new(pairs.order(), Origin::Separation, shore))),
-        None => Ok(None),
-    }
+    let cut = first_separation_cut(alloc, pairs)?;
+    Ok(as_candidate(pairs.order(), Origin::Separation, cut))
 }
 
 /// The first of the candidates of the first two parts. The search ends with it.

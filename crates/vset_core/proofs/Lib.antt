@@ -1,3 +1,4 @@
 pub mod Ends
+pub mod Floods
 pub mod Sizes
 pub mod Words

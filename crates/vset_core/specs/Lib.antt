@@ -1,3 +1,4 @@
 pub mod Words
 pub mod WordLaws
 pub mod WordBack
+pub mod Floods

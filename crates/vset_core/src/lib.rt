@@ -8,13 +8,19 @@
 //! `contains`, `is_subset` and `==` the tests; `len` the size; `first`, `last`, `next_after`,
 //! `split_first` and `iter` go through the members in order.
 //!
+//! A digraph is given by a row for each vertex, the set of vertices to which its arcs lead.
+//! `add_arc` adds an arc. `flooded` is a search: it finds the least set that has the roots and that
+//! no arc leaves (`IsFlood`).
+//!
 //! Depends on `counting`, whose lemmas lead from such a list to its test and to counts
 //! (`RisingLists`, `SetSizes`). A set as the bits of a word is a standard representation (Knuth,
 //! "The Art of Computer Programming", volume 4A, section 7.1.3).
 #![tactic(auto)]
 
+mod flood;
 mod members;
 mod vertex_set;
 
+pub use flood::{Flood, add_arc, flooded};
 pub use members::Members;
 pub use vertex_set::{MOST_VERTICES, VSet};

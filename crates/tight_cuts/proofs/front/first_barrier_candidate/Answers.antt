@@ -1,17 +1,12 @@
-use Rattle.std.proofs.Common.{None, sym, ap, ◌∙◌, subst}
-use Rattle.counting.proofs.Common.{IsRisingIn}
 use Rattle.barrier_kit.proofs.Common.{barrier_cuts-canonical, barrier_cuts}
-use Rattle.tight_cuts.specs.Common.{Barrier, candidate_at, candidate_of}
-use Rattle.tight_cuts.proofs.FrontCandidates.{canonical-rising, first-candidate_at, first-rises, first-some}
+use Rattle.tight_cuts.specs.Common.{Barrier, candidate_of}
+use Rattle.std.specs.Option.{option_map}
+use Rattle.tight_cuts.proofs.FrontCandidates.{first_cut-candidate, first_cut-rises}
 use Rattle.tight_cuts.proofs.front.first_barrier_candidate.Goals as goal
 
-pub new-requires-clause-shore : goal.new-requires-clause-shore
-new-requires-clause-shore c =
-    subst (λ n. IsRisingIn n c.in-Some.shore) (sym c.order.ensures.is)
-    (first-rises c.args.c.now.order (barrier_cuts c.args.c.now) (canonical-rising c.args.c.now (barrier_cuts c.args.c.now) (barrier_cuts-canonical c.args.c.now c.keeps_covered.ensures.limits.multigraph.ends c.keeps_covered.ensures.covered)) c.in-Some.shore (sym c.in-Some.is ∙ c.in_ok-shore.ensures))
+pub as_candidate-requires-clause-rising : goal.as_candidate-requires-clause-rising
+as_candidate-requires-clause-rising c =
+    first_cut-rises c.args.c.now c.order.result c.order.ensures.is (barrier_cuts c.args.c.now) c.in_ok-cut.cut c.in_ok-cut.ensures (barrier_cuts-canonical c.args.c.now c.keeps_covered.ensures.limits.multigraph.ends c.keeps_covered.ensures.covered)
 
-pub returns-in-Some : goal.returns-in-Some
-returns-in-Some c = first-some c.args.c.now.order Barrier (barrier_cuts c.args.c.now) c.in-Some.shore (candidate_of c.new.result) (sym c.in-Some.is ∙ c.in_ok-shore.ensures) (c.new.ensures ∙ ap (λ n. candidate_at n Barrier c.in-Some.shore) c.order.ensures.is)
-
-pub returns-in-None : goal.returns-in-None
-returns-in-None c = first-candidate_at c.args.c.now.order Barrier (barrier_cuts c.args.c.now) None (sym c.in-None.is ∙ c.in_ok-shore.ensures)
+pub returns : goal.returns
+returns c = first_cut-candidate c.args.c.now c.order.result c.order.ensures.is (barrier_cuts c.args.c.now) c.in_ok-cut.cut c.in_ok-cut.ensures Barrier (option_map candidate_of c.as_candidate.result) c.as_candidate.ensures

@@ -1,6 +1,6 @@
-use Rattle.std.proofs.Common.{◌≡◌, ◌+◌, ◌∙◌, ◌||◌, ap, sym, true, arith}
+use Rattle.std.proofs.Common.{◌≡◌, ◌+◌, true, arith}
 use Rattle.std.proofs.lemmas.Grind.{common_steps}
-use Rattle.counting.proofs.Common.{item, mem, or_left}
+use Rattle.counting.proofs.Common.{item, mem}
 use Rattle.tight_cuts.proofs.OneSided.{with_cluster}
 use Rattle.tight_cuts.proofs.clusters.Clusters.widened.Goals.{then-contains, else-contains}
 use Rattle.tight_cuts.proofs.clusters.Clusters.widened.Goals as goal

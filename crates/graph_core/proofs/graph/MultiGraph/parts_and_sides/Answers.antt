@@ -3,7 +3,7 @@ use Rattle.counting.proofs.Common.{mem, none}
 use Rattle.graph_core.specs.Common.{AreTrees, AreRows, graph_of}
 use Rattle.graph_core.specs.declared.ends.Ends.{Ends}
 use Rattle.graph_core.specs.declared.tree.TreeNode.{TreeNode}
-use Rattle.graph_core.proofs.graph.MultiGraph.two_sides.Goals as goal
+use Rattle.graph_core.proofs.graph.MultiGraph.parts_and_sides.Goals as goal
 
 -- the trees of the forest are trees of the graph that the edges and the places stand for
 same_trees : (n : ℕ) (items es : List Ends) (kept nodes : List TreeNode) (removed : List ℕ) → length nodes ≡ n → nodes ≡ kept → es ≡ items → removed ≡ [] →
