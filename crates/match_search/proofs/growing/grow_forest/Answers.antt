@@ -2,10 +2,11 @@ use Rattle.std.proofs.Common.{◌≡◌, ℕ, ◌-◌, ◌*◌, Bool, false, ◌
 use Rattle.counting.proofs.Common.{both_ways, cases_eq, and_parts, and_from, false_from_ne_true, or_cases, or_left, or_right, count, mem}
 use Rattle.match_search.specs.Common.{IsDone, IsClosingPair, numbers}
 use Rattle.match_search.specs.declared.growing.Adjacent.{Adjacent}
-use Rattle.match_search.proofs.Branching.{fits_branch, holds_branched, nearer_end}
+use Rattle.match_search.proofs.Branching.{FitsBranch, fits_branch, holds_branched, nearer_end}
 use Rattle.match_search.proofs.ParentForests.{roots_hold}
 use Rattle.match_search.proofs.Reaching.{done_stays, drop_less, none_reached, reach_parts}
 use Rattle.match_search.proofs.growing.grow_forest.Goals as goal
+use Rattle.match_search.proofs.growing.grow_forest.Goals.{In-Some-first-2}
 
 or_false_parts : (a b : Bool) → (a || b) ≡ false → (a ≡ false) × (b ≡ false)
 or_false_parts a b q = grind arith
@@ -57,29 +58,25 @@ growing-preserved-in-None c = record {
   ];
 }
 
-pub bounds-mate-y : goal.bounds-mate-y
-bounds-mate-y c =
+-- the neighbour and its mate are places of the rows
+fits : (c : In-Some-first-2) → FitsBranch c.args.mate.now c.growing.forest c.in-Some.x c.in-Some-first-2.y
+fits c =
     let q = c.requires.holds in
-    let fits = fits_branch c.args.instance.now c.args.mate.now c.growing.forest c.in-Some.x c.in-Some-first-2.y c.near.result c.without-near.result c.minus-reach.result c.meet.result (c.growing.invariant.opens c.in-Some.x c.in-Some.ensures.some.member) c.near.ensures c.without-near.ensures c.minus-reach.ensures c.meet.ensures c.in_default-first.ensures.none c.in-Some-first-2.ensures.some.member q.0 q.1 q.2 q.3 (c.growing.invariant.holds q.0 q.1 q.2 q.3) in
-    fits.y_mate
+    fits_branch c.args.instance.now c.args.mate.now c.growing.forest c.in-Some.x c.in-Some-first-2.y c.near.result c.without-near.result c.minus-reach.result c.meet.result (c.growing.invariant.opens c.in-Some.x c.in-Some.ensures.some.member) c.near.ensures c.without-near.ensures c.minus-reach.ensures c.meet.ensures c.in_default-first.ensures.none c.in-Some-first-2.ensures.some.member q.0 q.1 q.2 q.3 (c.growing.invariant.holds q.0 q.1 q.2 q.3)
+
+pub bounds-mate-y : goal.bounds-mate-y
+bounds-mate-y c = (fits (goal.at.bounds-mate-y c).In-Some-first-2).y_mate
 
 pub branch-forest-requires : goal.branch-forest-requires
 branch-forest-requires c =
-    let q = c.requires.holds in
-    let fits = fits_branch c.args.instance.now c.args.mate.now c.growing.forest c.in-Some.x c.in-Some-first-2.y c.near.result c.without-near.result c.minus-reach.result c.meet.result (c.growing.invariant.opens c.in-Some.x c.in-Some.ensures.some.member) c.near.ensures c.without-near.ensures c.minus-reach.ensures c.meet.ensures c.in_default-first.ensures.none c.in-Some-first-2.ensures.some.member q.0 q.1 q.2 q.3 (c.growing.invariant.holds q.0 q.1 q.2 q.3) in
-    record { x_in = fits.x_in; y_in = fits.y_in; z_in = fits.z_in; y_vertex = fits.y_vertex; z_vertex = fits.z_vertex; shallow = fits.shallow }
+    let there = fits (goal.at.branch-forest-requires c).In-Some-first-2 in
+    record { x_in = there.x_in; y_in = there.y_in; z_in = there.z_in; y_vertex = there.y_vertex; z_vertex = there.z_vertex; shallow = there.shallow }
 
 pub with-open-requires : goal.with-open-requires
-with-open-requires c =
-    let q = c.requires.holds in
-    let fits = fits_branch c.args.instance.now c.args.mate.now c.growing.forest c.in-Some.x c.in-Some-first-2.y c.near.result c.without-near.result c.minus-reach.result c.meet.result (c.growing.invariant.opens c.in-Some.x c.in-Some.ensures.some.member) c.near.ensures c.without-near.ensures c.minus-reach.ensures c.meet.ensures c.in_default-first.ensures.none c.in-Some-first-2.ensures.some.member q.0 q.1 q.2 q.3 (c.growing.invariant.holds q.0 q.1 q.2 q.3) in
-    fits.z_vertex
+with-open-requires c = (fits (goal.at.with-open-requires c).In-Some-first-2).z_vertex
 
 pub one-latest-requires : goal.one-latest-requires
-one-latest-requires c =
-    let q = c.requires.holds in
-    let fits = fits_branch c.args.instance.now c.args.mate.now c.growing.forest c.in-Some.x c.in-Some-first-2.y c.near.result c.without-near.result c.minus-reach.result c.meet.result (c.growing.invariant.opens c.in-Some.x c.in-Some.ensures.some.member) c.near.ensures c.without-near.ensures c.minus-reach.ensures c.meet.ensures c.in_default-first.ensures.none c.in-Some-first-2.ensures.some.member q.0 q.1 q.2 q.3 (c.growing.invariant.holds q.0 q.1 q.2 q.3) in
-    fits.z_vertex
+one-latest-requires c = (fits (goal.at.one-latest-requires c).In-Some-first-2).z_vertex
 
 pub growing-smaller : goal.growing-smaller
 growing-smaller c =
