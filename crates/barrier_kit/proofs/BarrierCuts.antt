@@ -1,9 +1,10 @@
--- What a barrier of a covered graph leaves: odd components, as many as it has vertices, each with
--- a tight cut. Each odd component is left by at least one edge of a perfect matching, and the
--- barrier meets no more of them than it has vertices.
+-- What a barrier leaves where each vertex set that is neither empty nor all has an edge of some
+-- perfect matching in its cut: odd components, as many as it has vertices. In a covered graph each has
+-- a tight cut. Each odd component is left by at least one edge of a perfect matching, and the barrier
+-- meets no more of them than it has vertices.
 use Rattle.std.proofs.Common.{◌≡◌, ℕ, ◌*◌, ◌≤◌, ◌≢◌, Bool, true, false, refl, sym, ap, ap₂, ◌∙◌, arith, ◌&&◌, ◌||◌, not, inl, inr, nat_lt, [], ◌∷◌}
 use Rattle.counting.proofs.Common.{cases_Bool, false_from_ne_true, both_ways, and_parts, and_from, not-true, count_zero, some_count, bit_true, count_congr, only_one, complement_odd, some_true, true_some, some_term, total_congr, total_le, total_mul, total_none, total_swap, total_tight, and_fails_second, same_tests, Within, bit, count, is_odd, total, Set, complement, none, some}
-use Rattle.barrier_kit.proofs.Matched.{cut_matching, even_order, inner}
+use Rattle.barrier_kit.proofs.Matched.{cuts_met, even_order, inner, AreCutsMet}
 use Rattle.graph_core.proofs.Common.{covered_perfect, joined_outside, joined_walk, one_leader, some_leader, walk_joined, parity, tight-same, odd_meets, adjacent_from, has_ends-own, joined_back, joined_on, joined_self, component_count, is_least, odd_component_count, IsCovered, Graph, IsGraph, edges_in_cut, first_end, in_cut, inside, second_end, size, IsPerfect, IsBarrier, IsTight, Joined, joined}
 
 pub leads_out : (g : Graph) (s : Set) (u : ℕ) → is_least g s u ≡ true → s u ≡ false
@@ -120,30 +121,31 @@ module _ (g : Graph) (is : IsGraph g) (s : Set) (bar : IsBarrier g s) (m : Set) 
       let b : bit (is_least g s u) * edges_in_cut g m (joined g s u) ≡ 1 * edges_in_cut g m (joined g s u) = ap (λ k. bit k * edges_in_cut g m (joined g s u)) l in
       let c : bit (is_least g s u && is_odd (count g.order (joined g s u))) ≡ bit (is_odd (count g.order (joined g s u))) = ap (λ k. bit (k && is_odd (count g.order (joined g s u)))) l in omega arith
 
-module _ (g : Graph) (is : IsGraph g) (cov : IsCovered g) (s : Set) (bar : IsBarrier g s) where
-  -- no edge joins two vertices of a barrier
-  pub none_inside : (e : ℕ) → Within (size g) e → first_end g e ≢ second_end g e → inside g s e ≡ false
-  none_inside e w d = let a = cov.allowed e w d in let z = count_zero (size g) (λ e. a.0 e && inside g s e) (sat_inside g is s bar a.0 a.1) e w in and_fails_second (a.0 e) (inside g s e) a.2 z
-
+module _ (g : Graph) (is : IsGraph g) (met : AreCutsMet g) (s : Set) (bar : IsBarrier g s) where
   -- each component is odd
   pub odd_part : (u a : ℕ) → Within g.order u → is_least g s u ≡ true → Within g.order a → s a ≡ true → is_odd (count g.order (joined g s u)) ≡ true
   odd_part u a wu l wa sa = elim (cases_Bool (is_odd (count g.order (joined g s u)))) [
     | inl t ↦ t
-    | inr f ↦ let c = cut_matching g (joined g s u) u a is cov wu wa (walk_joined g s is u u wu (joined_self g s u)) (part_out g s u a is (leads_out g s u l) sa) in
+    | inr f ↦ let c = met (joined g s u) u a wu wa (walk_joined g s is u u wu (joined_self g s u)) (part_out g s u a is (leads_out g s u l) sa) in
         let z = sat_cut g is s bar c.0 c.1 u wu l in let y = ap bit f in let d = c.2 in absurd (omega arith)
   ]
 
   pub one_cut : (u a : ℕ) → Within g.order u → is_least g s u ≡ true → Within g.order a → s a ≡ true → (m : Set) → IsPerfect g none m → edges_in_cut g m (joined g s u) ≡ 1
   one_cut u a wu l wa sa m p = sat_cut g is s bar m p u wu l ∙ ap bit (odd_part u a wu l wa sa)
 
-  -- each component has a tight cut
-  pub lead_tight : (u a : ℕ) → Within g.order u → is_least g s u ≡ true → Within g.order a → s a ≡ true → IsTight g (joined g s u)
-  lead_tight u a wu l wa sa = grind (arith, odd_part u a wu l wa sa, covered_perfect g is cov, complement_odd g.order (joined g s u), even_order g, one_cut u a wu l wa sa)
-
   -- there are as many as the barrier has vertices
   pub many_parts : (a : ℕ) → Within g.order a → s a ≡ true → count g.order (is_least g s) ≡ count g.order s
   unfolding odd_component_count
   many_parts a wa sa = grind (arith, count_congr g.order, odd_part)
+
+module _ (g : Graph) (is : IsGraph g) (cov : IsCovered g) (s : Set) (bar : IsBarrier g s) where
+  -- no edge joins two vertices of a barrier
+  pub none_inside : (e : ℕ) → Within (size g) e → first_end g e ≢ second_end g e → inside g s e ≡ false
+  none_inside e w d = let a = cov.allowed e w d in let z = count_zero (size g) (λ e. a.0 e && inside g s e) (sat_inside g is s bar a.0 a.1) e w in and_fails_second (a.0 e) (inside g s e) a.2 z
+
+  -- each component has a tight cut
+  pub lead_tight : (u a : ℕ) → Within g.order u → is_least g s u ≡ true → Within g.order a → s a ≡ true → IsTight g (joined g s u)
+  lead_tight u a wu l wa sa = grind (arith, odd_part g is (cuts_met g is cov) s bar u a wu l wa sa, covered_perfect g is cov, complement_odd g.order (joined g s u), even_order g, one_cut g is (cuts_met g is cov) s bar u a wu l wa sa)
 
 -- each vertex outside s has one leader
 pub leader_of : (g : Graph) (s : Set) → IsGraph g → (v : ℕ) → Within g.order v → s v ≡ false → (u : ℕ) × Within g.order u × (is_least g s u ≡ true) × (joined g s u v ≡ true)
@@ -159,16 +161,16 @@ leader_same g s is u v w wu wv ww lu ju lw jw =
 pub part_same : (g : Graph) (s : Set) → IsGraph g → (u a : ℕ) → Within g.order u → Within g.order a → joined g s u a ≡ true → (v : ℕ) → joined g s u v ≡ joined g s a v
 part_same g s is u a wu wa j v = grind (arith, same_tests, walk_joined, joined_on, joined_back, joined_walk)
 
--- each component of g - s, s a barrier of a covered graph, is odd
-pub part_odd : (g : Graph) (s : Set) (a u : ℕ) → IsGraph g → IsCovered g → IsBarrier g s → Within g.order a → s a ≡ true → Within g.order u → s u ≡ false → is_odd (count g.order (joined g s u)) ≡ true
-part_odd g s a u is cov bar wa sa wu su = let l = leader_of g s is u wu su in
-    ap is_odd (count_congr g.order _ _ (λ v w. sym (part_same g s is l.0 u l.1 wu l.3 v))) ∙ odd_part g is cov s bar l.0 a l.1 l.2 wa sa
+-- each component of g - s, s a barrier, is odd
+pub part_odd : (g : Graph) (s : Set) (a u : ℕ) → IsGraph g → AreCutsMet g → IsBarrier g s → Within g.order a → s a ≡ true → Within g.order u → s u ≡ false → is_odd (count g.order (joined g s u)) ≡ true
+part_odd g s a u is met bar wa sa wu su = let l = leader_of g s is u wu su in
+    ap is_odd (count_congr g.order _ _ (λ v w. sym (part_same g s is l.0 u l.1 wu l.3 v))) ∙ odd_part g is met s bar l.0 a l.1 l.2 wa sa
 
-pub barrier_parts : (g : Graph) (s : Set) (a : ℕ) → IsGraph g → IsCovered g → IsBarrier g s → Within g.order a → s a ≡ true → component_count g s ≡ count g.order s
+pub barrier_parts : (g : Graph) (s : Set) (a : ℕ) → IsGraph g → AreCutsMet g → IsBarrier g s → Within g.order a → s a ≡ true → component_count g s ≡ count g.order s
 unfolding component_count
-barrier_parts g s a is cov bar wa sa = many_parts g is cov s bar a wa sa
+barrier_parts g s a is met bar wa sa = many_parts g is met s bar a wa sa
 
--- and has a tight cut
+-- in a covered graph it has a tight cut
 pub part_tight : (g : Graph) (s : Set) (a u : ℕ) → IsGraph g → IsCovered g → IsBarrier g s → Within g.order a → s a ≡ true → Within g.order u → s u ≡ false → IsTight g (joined g s u)
 part_tight g s a u is cov bar wa sa wu su = let l = leader_of g s is u wu su in
     tight-same g (joined g s l.0) (joined g s u) is (λ v w. part_same g s is l.0 u l.1 wu l.3 v) (lead_tight g is cov s bar l.0 a l.1 l.2 wa sa)

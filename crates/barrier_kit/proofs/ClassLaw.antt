@@ -1,12 +1,14 @@
--- The classes of a covered graph are its greatest barriers, and being equivalent is an equivalence.
--- A barrier grows by each equivalent vertex outside it, until it is the whole class.
+-- The classes are the greatest barriers, and being equivalent is an equivalence, in a graph with a
+-- perfect matching where each vertex set that is neither empty nor all has an edge of some perfect
+-- matching in its cut. A barrier grows by each equivalent vertex outside it, until it is the whole
+-- class.
 use Rattle.std.proofs.Common.{◌≡◌, ℕ, suc, zero, ◌+◌, ◌≤◌, Bool, true, false, ◌==◌, refl, sym, ap, ◌∙◌, arith, ◌&&◌, ◌||◌, not, eq-eqb, eqb-true, ◌⊎◌, inl, inr}
-use Rattle.counting.proofs.Common.{cases_eq, cases_Bool, both_ways, count_singleton, scan, choose_set, count_le, count_more, same_tests, Within, count, is_odd, Set, minus, singleton, union}
+use Rattle.counting.proofs.Common.{cases_eq, cases_Bool, both_ways, count_singleton, scan, choose_set, count_le, count_more, same_tests, Within, count, is_odd, Set, minus, none, singleton, union}
 use Rattle.barrier_kit.proofs.BarrierCuts.{leader_of, leads_out, odd_part, part_out}
 use Rattle.barrier_kit.proofs.Barriers.{barrier_pair, few_odd_components}
 use Rattle.barrier_kit.proofs.Enlarging.{barrier_congr, enlarge, same_parity}
 use Rattle.barrier_kit.proofs.Joining.{join}
-use Rattle.barrier_kit.proofs.Matched.{even_order, glue, perfect_congr}
+use Rattle.barrier_kit.proofs.Matched.{cuts_met, even_order, glue, perfect_congr, AreCutsMet}
 use Rattle.graph_core.proofs.Common.{covered_perfect, is_perfect_congr, is_perfect_true, true_is_perfect, odd_component_count, IsCovered, Graph, IsGraph, size, IsPerfect, is_perfect, Equivalent, IsBarrier, IsClass, joined}
 
 pub perfect_or_not : (g : Graph) (r : Set) → ((m : Set) × IsPerfect g r m) ⊎ ((m : Set) → IsPerfect g r m → ⊥)
@@ -24,14 +26,14 @@ equivalent_or_not g a b = elim (cases_eq a b) [
   ]
 ]
 
-module _ (g : Graph) (is : IsGraph g) (cov : IsCovered g) (b : ℕ) (wb : Within g.order b) where
+-- in a graph with a perfect matching where each cut is met
+module _ (g : Graph) (is : IsGraph g) (met : AreCutsMet g) (p : (m : Set) × IsPerfect g none m) (b : ℕ) (wb : Within g.order b) where
   -- an equivalent vertex outside a barrier lets it grow
   grow : (s : Set) → IsBarrier g s → s b ≡ true → (a : ℕ) → Within g.order a → s a ≡ false → Equivalent g b a → (t : Set) × IsBarrier g t × ((w : ℕ) → s w ≡ true → t w ≡ true) × (t a ≡ true)
   grow s bar sb a wa sa q =
       let l = leader_of g s is a wa sa in
-      let p = covered_perfect g is cov in
-      enlarge g is p.0 p.1 s bar l.0 l.1 l.2 (odd_part g is cov s bar l.0 b l.1 l.2 wb sb) a wa l.3 (λ k kp.
-      let j = join g is cov s bar b wb sb l.0 l.1 l.2 in
+      enlarge g is p.0 p.1 s bar l.0 l.1 l.2 (odd_part g is met s bar l.0 b l.1 l.2 wb sb) a wa l.3 (λ k kp.
+      let j = join g is met s bar b wb sb l.0 l.1 l.2 in
       let m = glue g (λ v. not (b == v) && not (joined g s l.0 v)) (minus (joined g s l.0) (singleton a)) j.0 k is (λ v wv x y. grind arith) j.1 kp in
       let n = perfect_congr g _ (union (singleton b) (singleton a)) _ (λ v wv. same (b == v) (joined g s l.0 v) (a == v)
       (λ t. ap (joined g s l.0) (sym (eqb-true b v t)) ∙ part_out g s l.0 b is (leads_out g s l.0 l.2) sb) (λ t. ap (joined g s l.0) (sym (eqb-true a v t)) ∙ l.3)) m in
@@ -59,15 +61,14 @@ module _ (g : Graph) (is : IsGraph g) (cov : IsCovered g) (b : ℕ) (wb : Within
 
   pub single_barrier : IsBarrier g (singleton b)
   single_barrier =
-      let p = covered_perfect g is cov in
       let c = count_singleton g.order b wb in
       let l = few_odd_components g (singleton b) p.0 is p.1 in
       let o : is_odd (odd_component_count g (singleton b)) ≡ true = same_parity g (singleton b) is (even_order g p.0 is p.1) ∙ ap is_odd c in
       (grind arith)
 
   -- the class of b is a barrier
-  pub class_exists : (s : Set) × IsBarrier g s × IsClass g b s
-  class_exists =
+  pub class_found : (s : Set) × IsBarrier g s × IsClass g b s
+  class_found =
       let t = full g.order (singleton b) single_barrier (eq-eqb b b refl) (omega arith) in (
         t.0,
         t.1,
@@ -89,11 +90,21 @@ equivalent_self g a = inl refl
 pub equivalent_back : (g : Graph) (a b : ℕ) → Equivalent g a b → Equivalent g b a
 equivalent_back g a b q = grind arith
 
+pub equivalent_over : (g : Graph) (a b c : ℕ) → IsGraph g → AreCutsMet g → (m : Set) × IsPerfect g none m → Within g.order a → Within g.order b → Within g.order c → Equivalent g a b → Equivalent g b c → Equivalent g a c
+equivalent_over g a b c is met m wa wb wc p q = grind (arith, class_found g is met m b wb, cases_eq a c, barrier_pair g, equivalent_back g a b p)
+
+pub class_is_barrier : (g : Graph) (b : ℕ) (s : Set) → IsGraph g → AreCutsMet g → (m : Set) × IsPerfect g none m → Within g.order b → IsClass g b s → IsBarrier g s
+class_is_barrier g b s is met m wb c = grind (arith, class_found g is met m b wb, barrier_congr g, same_tests)
+
+-- all this in a covered graph
+pub class_exists : (g : Graph) → IsGraph g → IsCovered g → (b : ℕ) → Within g.order b → (s : Set) × IsBarrier g s × IsClass g b s
+class_exists g is cov = class_found g is (cuts_met g is cov) (covered_perfect g is cov)
+
 pub equivalent_on : (g : Graph) (a b c : ℕ) → IsGraph g → IsCovered g → Within g.order a → Within g.order b → Within g.order c → Equivalent g a b → Equivalent g b c → Equivalent g a c
-equivalent_on g a b c is cov wa wb wc p q = grind (arith, class_exists g is cov b wb, cases_eq a c, barrier_pair g, equivalent_back g a b p)
+equivalent_on g a b c is cov = equivalent_over g a b c is (cuts_met g is cov) (covered_perfect g is cov)
 
 pub class_barrier : (g : Graph) (b : ℕ) (s : Set) → IsGraph g → IsCovered g → Within g.order b → IsClass g b s → IsBarrier g s
-class_barrier g b s is cov wb c = grind (arith, class_exists g is cov b wb, barrier_congr g, same_tests)
+class_barrier g b s is cov = class_is_barrier g b s is (cuts_met g is cov) (covered_perfect g is cov)
 
 -- a barrier lies in the class of each of its vertices
 pub class_holds_barrier : (g : Graph) (b : ℕ) (s t : Set) → IsGraph g → Within g.order b → IsClass g b s → IsBarrier g t → t b ≡ true → (v : ℕ) → Within g.order v → t v ≡ true → s v ≡ true

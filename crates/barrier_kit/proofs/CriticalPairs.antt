@@ -6,7 +6,7 @@ use Rattle.counting.proofs.Common.{cases_eq, cases_lt, cases_Bool, true≢false,
 use Rattle.barrier_kit.proofs.BarrierCuts.{leader_of, leads_out, part_out, part_step, part_same, none_inside, part_tight, many_parts}
 use Rattle.barrier_kit.proofs.Barriers.{equivalent_barrier}
 use Rattle.barrier_kit.proofs.ClassLaw.{perfect_or_not, class_exists, class_barrier}
-use Rattle.barrier_kit.proofs.Matched.{even_order}
+use Rattle.barrier_kit.proofs.Matched.{cuts_met, even_order}
 use Rattle.barrier_kit.specs.Common.{BarrierCut}
 use Rattle.graph_core.proofs.Common.{IsSide, is_least, IsCovered, Graph, size, first_end, second_end, IsGraph, HasNoLoop, in_cut, inside, IsBipartite, IsPerfect, IsBarrier, IsBicritical, IsClass, IsTight, IsNontrivial, joined, walk_joined, covered_perfect, joined_self}
 
@@ -24,7 +24,7 @@ part_nontrivial g s a u is cov bar wa sa wu su = (there, back)
       elim (cases_lt 1 (count g.order s)) [
         | inl l ↦ omega arith
         | inr l ↦
-            let k = many_parts g is cov s bar a wa sa in
+            let k = many_parts g is (cuts_met g is cov) s bar a wa sa in
             let r = leader_of g s is u wu su in
             let one = member_count g.order (is_least g s) r.0 r.1 r.2 in
             let q = count_mono g.order (complement (joined g s u)) s (λ v w h. elim (cases_Bool (s v)) [

@@ -59,6 +59,11 @@ cut_edge g x u v is c wu wv xu xv = grind (arith, cases_Bool (some (size g) (in_
 pub crosses_apart : (g : Graph) (x : Set) (e : ℕ) → in_cut g x e ≡ true → first_end g e ≢ second_end g e
 crosses_apart g x e h l = both_ways (in_cut g x e) (alike_not_apart (x (first_end g e)) (x (second_end g e)) (ap x l)) h
 
+-- each vertex set that is neither empty nor all has an edge of some perfect matching in its cut, as
+-- in a covered graph, and in an elementary one
+abbrev pub AreCutsMet : Graph → Type 0
+AreCutsMet g = (x : Set) (u v : ℕ) → Within g.order u → Within g.order v → x u ≡ true → x v ≡ false → (m : Set) × IsPerfect g none m × (1 ≤ edges_in_cut g m x)
+
 -- some perfect matching has an edge in the cut
 pub cut_matching : (g : Graph) (x : Set) (u v : ℕ) → IsGraph g → IsCovered g → Within g.order u → Within g.order v → x u ≡ true → x v ≡ false → (m : Set) × IsPerfect g none m × (1 ≤ edges_in_cut g m x)
 cut_matching g x u v is c wu wv xu xv =
@@ -66,6 +71,9 @@ cut_matching g x u v is c wu wv xu xv =
     let a = c.allowed e.0 e.1 (crosses_apart g x e.0 e.2) in
     let o : bit (a.0 e.0 && in_cut g x e.0) ≡ 1 = rw (a.2, e.2) refl in
     (a.0, a.1, omega (arith, at_le_total (size g) (λ i. bit (a.0 i && in_cut g x i)) e.0 e.1))
+
+pub cuts_met : (g : Graph) → IsGraph g → IsCovered g → AreCutsMet g
+cuts_met g is c x u v = cut_matching g x u v is c
 
 pub even_order : (g : Graph) (m : Set) → IsGraph g → IsPerfect g none m → is_odd g.order ≡ false
 even_order g m is p = let a = missed_edges g none m is (perfect_matching g none m p) in let b = perfect_misses g none m p in let c = count_complement g.order none in

@@ -35,6 +35,14 @@ impl Claim {
             }
             Claim::StrongEach(side, matching) => g.is_strong(set_of(side), set_of(matching)),
             Claim::Parted(a, b) => g.has_tight_cut(one(*a), one(*b)),
+            Claim::OneOrTwo(pairs) => serve_two(g, pairs),
+            other => other.is_seen_of_ears(g),
+        }
+    }
+
+    // The claims on ears.
+    fn is_seen_of_ears(&self, g: &PairGraph) -> bool {
+        match self {
             Claim::Ear(stage, ear) => g.is_ear(set_of(stage), set_of(ear)),
             Claim::TwoEars(stage, first, second) => {
                 g.are_ears(set_of(stage), set_of(first), set_of(second))
@@ -49,7 +57,6 @@ impl Claim {
             Claim::EarCount(ears) => {
                 ears.saturating_add(g.order()) == g.all_edges().count_ones() + 1
             }
-            Claim::OneOrTwo(pairs) => serve_two(g, pairs),
             _ => false,
         }
     }

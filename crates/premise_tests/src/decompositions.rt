@@ -10,12 +10,47 @@ pub type Tally = (u32, u32);
 // The most graphs that a decomposition is asked to end in.
 const MOST_LEAVES: u32 = 64;
 
-/// What the decomposition counts that contracts the shores of the first nontrivial tight cut in
-/// turn, and goes on with both contractions; nothing if the graph is not matching covered. A leaf
-/// is a brace if it is bipartite after its loops are deleted, and otherwise a brick.
+// Puts both contractions at a cut on the list.
+fn contract(
+    alloc: Global,
+    g: &PairGraph,
+    shore: u32,
+    open: &mut Vec<PairGraph>,
+) -> Result<(), Memory> {
+    open.push(g.contracted(alloc, shore)?)?;
+    open.push(g.contracted(alloc, g.all & !shore)?)?;
+    Ok(())
+}
+
+// Counts a leaf: a brace if it is bipartite after its loops are deleted, and otherwise a brick.
+fn count(g: &PairGraph, tally: &mut Tally) {
+    if g.has_side() {
+        tally.1 = tally.1.saturating_add(1);
+    } else {
+        tally.0 = tally.0.saturating_add(1);
+    }
+}
+
+// Puts the contractions at a nontrivial tight cut on the list, or counts the graph if it has none.
+fn go_on(
+    alloc: Global,
+    g: &PairGraph,
+    open: &mut Vec<PairGraph>,
+    tally: &mut Tally,
+) -> Result<(), Memory> {
+    match g.tight_shores(alloc)?.pop() {
+        Some(shore) => contract(alloc, g, shore, open),
+        None => {
+            count(g, tally);
+            Ok(())
+        }
+    }
+}
+
+/// What the decomposition counts that contracts the shores of a nontrivial tight cut in turn, and
+/// goes on with both contractions; nothing if a graph is not matching covered.
 pub fn count_leaves(alloc: Global, g: PairGraph) -> Result<Option<Tally>, Memory> {
-    let mut bricks = 0u32;
-    let mut braces = 0u32;
+    let mut tally = (0, 0);
     let mut open = Vec::new(alloc);
     open.push(g)?;
     for _ in 0..MOST_LEAVES {
@@ -23,17 +58,10 @@ pub fn count_leaves(alloc: Global, g: PairGraph) -> Result<Option<Tally>, Memory
             if !part.is_covered() {
                 return Ok(None);
             }
-            if let Some(shore) = part.tight_shores(alloc)?.pop() {
-                open.push(part.contracted(alloc, shore)?)?;
-                open.push(part.contracted(alloc, part.all & !shore)?)?;
-            } else if part.has_side() {
-                braces = braces.saturating_add(1);
-            } else {
-                bricks = bricks.saturating_add(1);
-            }
+            go_on(alloc, &part, &mut open, &mut tally)?;
         }
     }
-    Ok(Some((bricks, braces)))
+    Ok(Some(tally))
 }
 
 /// The sums of what the two contractions at a cut count.

@@ -95,22 +95,27 @@ impl PairGraph {
         }
     }
 
+    // Puts the stages on the list, if they are not there, to which a step leads from one of them.
+    fn step_from(&self, before: u32, steps: &Steps, stages: &mut Vec<u32>) -> Result<(), Memory> {
+        for edges in 1..=self.all_edges() {
+            let next = before | edges;
+            let is_new = !meets(edges, before) && !stages.contains(&next);
+            if is_new && self.is_step(before, edges, steps) {
+                stages.push(next)?;
+            }
+        }
+        Ok(())
+    }
+
     /// Whether such steps lead from the stage to all edges.
     pub fn leads_to_all(&self, alloc: Global, stage: u32, steps: &Steps) -> Result<bool, Memory> {
-        let all = self.all_edges();
         let mut stages = Vec::new(alloc);
         stages.push(stage)?;
         for place in 0..MOST_STAGES {
             if let Some(before) = stages.as_slice().get(place).copied() {
-                for edges in 1..=all {
-                    let next = before | edges;
-                    let is_new = !meets(edges, before) && !stages.contains(&next);
-                    if is_new && self.is_step(before, edges, steps) {
-                        stages.push(next)?;
-                    }
-                }
+                self.step_from(before, steps, &mut stages)?;
             }
         }
-        Ok(stages.contains(&all))
+        Ok(stages.contains(&self.all_edges()))
     }
 }

@@ -1,7 +1,8 @@
-//! The graphs of the rows, by the ends of their edges. A pair of one number twice is a loop.
+//! The graphs of the rows, by the ends of their edges. An edge is a number of two digits, its ends:
+//! 14 joins the vertices 1 and 4, and 11 is a loop.
 
 /// A graph: how many vertices it has, and its edges.
-pub type Given = (u32, &'static [(u32, u32)]);
+pub type Given = (u32, &'static [u32]);
 
 pub const EMPTY: Given = (0, &[]);
 
@@ -15,229 +16,82 @@ pub const FOUR_ISOLATED: Given = (4, &[]);
 
 pub const SEVEN_ISOLATED: Given = (7, &[]);
 
-pub const K2: Given = (2, &[(1, 2)]);
+pub const K2: Given = (2, &[12]);
 
-pub const K2_WITH_LOOP: Given = (2, &[(1, 2), (1, 1)]);
+pub const K2_WITH_LOOP: Given = (2, &[12, 11]);
 
-pub const K2_WITH_LOOPS: Given = (2, &[(1, 2), (1, 1), (2, 2)]);
+pub const K2_WITH_LOOPS: Given = (2, &[12, 11, 22]);
 
-pub const ONE_LOOP: Given = (2, &[(1, 1)]);
+pub const ONE_LOOP: Given = (2, &[11]);
 
-pub const EDGE_AND_VERTEX: Given = (3, &[(1, 2)]);
+pub const EDGE_AND_VERTEX: Given = (3, &[12]);
 
-pub const PATH_OF_3: Given = (3, &[(1, 2), (2, 3)]);
+pub const PATH_OF_3: Given = (3, &[12, 23]);
 
-pub const PATH_OF_4: Given = (4, &[(1, 2), (2, 3), (3, 4)]);
+pub const PATH_OF_4: Given = (4, &[12, 23, 34]);
 
-pub const PATH_OF_6: Given = (6, &[(1, 2), (2, 3), (3, 4), (4, 5), (5, 6)]);
+pub const PATH_OF_6: Given = (6, &[12, 23, 34, 45, 56]);
 
-pub const LOOPED_PATH: Given = (4, &[(1, 2), (2, 3), (3, 4), (1, 1)]);
+pub const LOOPED_PATH: Given = (4, &[12, 23, 34, 11]);
 
-pub const STAR_OF_3: Given = (4, &[(1, 2), (1, 3), (1, 4)]);
+pub const STAR_OF_3: Given = (4, &[12, 13, 14]);
 
-pub const STAR_OF_5: Given = (6, &[(1, 2), (1, 3), (1, 4), (1, 5), (1, 6)]);
+pub const STAR_OF_5: Given = (6, &[12, 13, 14, 15, 16]);
 
-pub const DOUBLED_STAR: Given = (4, &[(1, 2), (1, 2), (1, 3), (1, 3), (1, 4), (1, 4)]);
+pub const DOUBLED_STAR: Given = (4, &[12, 12, 13, 13, 14, 14]);
 
-pub const TWO_TRIANGLES: Given = (6, &[(1, 2), (1, 3), (2, 3), (4, 5), (4, 6), (5, 6)]);
+pub const TWO_TRIANGLES: Given = (6, &[12, 13, 23, 45, 46, 56]);
 
-pub const DIAMOND: Given = (4, &[(1, 2), (1, 3), (2, 3), (2, 4), (3, 4)]);
+pub const DIAMOND: Given = (4, &[12, 13, 23, 24, 34]);
 
-pub const TWO_EDGES: Given = (4, &[(1, 2), (3, 4)]);
+pub const TWO_EDGES: Given = (4, &[12, 34]);
 
-pub const THREE_EDGES: Given = (6, &[(1, 2), (3, 4), (5, 6)]);
+pub const THREE_EDGES: Given = (6, &[12, 34, 56]);
 
-pub const TRIPLE_EDGES: Given = (4, &[(1, 2), (1, 2), (1, 2), (3, 4), (3, 4), (3, 4)]);
+pub const TRIPLE_EDGES: Given = (4, &[12, 12, 12, 34, 34, 34]);
 
-pub const FOUR_CYCLE: Given = (4, &[(1, 2), (2, 3), (3, 4), (4, 1)]);
+pub const FOUR_CYCLE: Given = (4, &[12, 23, 34, 41]);
 
-pub const CHORDED_CYCLE: Given = (4, &[(1, 2), (2, 3), (3, 4), (4, 1), (1, 3)]);
+pub const CHORDED_CYCLE: Given = (4, &[12, 23, 34, 41, 13]);
 
-pub const HEXAGON: Given = (6, &[(1, 2), (2, 3), (3, 4), (4, 5), (5, 6), (6, 1)]);
+pub const HEXAGON: Given = (6, &[12, 23, 34, 45, 56, 61]);
 
-pub const K4: Given = (4, &[(1, 2), (1, 3), (1, 4), (2, 3), (2, 4), (3, 4)]);
+pub const K4: Given = (4, &[12, 13, 14, 23, 24, 34]);
 
-pub const THREE_PARALLEL: Given = (2, &[(1, 2), (1, 2), (1, 2)]);
+pub const THREE_PARALLEL: Given = (2, &[12, 12, 12]);
 
-pub const K23: Given = (5, &[(1, 3), (1, 4), (1, 5), (2, 3), (2, 4), (2, 5)]);
+pub const K23: Given = (5, &[13, 14, 15, 23, 24, 25]);
 
 /// The hexagon with loops at 1, 3 and 5.
-pub const LOOPED_HEXAGON: Given = (
-    6,
-    &[
-        (1, 2),
-        (2, 3),
-        (3, 4),
-        (4, 5),
-        (5, 6),
-        (6, 1),
-        (1, 1),
-        (3, 3),
-        (5, 5),
-    ],
-);
+pub const LOOPED_HEXAGON: Given = (6, &[12, 23, 34, 45, 56, 61, 11, 33, 55]);
 
 /// The hexagon with the edges 13 and 15.
-pub const CHORDED_HEXAGON: Given = (
-    6,
-    &[
-        (1, 2),
-        (2, 3),
-        (3, 4),
-        (4, 5),
-        (5, 6),
-        (6, 1),
-        (1, 3),
-        (1, 5),
-    ],
-);
+pub const CHORDED_HEXAGON: Given = (6, &[12, 23, 34, 45, 56, 61, 13, 15]);
 
 /// The hexagon with the edges 12, 34 and 56 doubled.
-pub const DOUBLED_HEXAGON: Given = (
-    6,
-    &[
-        (1, 2),
-        (1, 2),
-        (2, 3),
-        (3, 4),
-        (3, 4),
-        (4, 5),
-        (5, 6),
-        (5, 6),
-        (6, 1),
-    ],
-);
+pub const DOUBLED_HEXAGON: Given = (6, &[12, 12, 23, 34, 34, 45, 56, 56, 61]);
 
-pub const K33: Given = (
-    6,
-    &[
-        (1, 4),
-        (1, 5),
-        (1, 6),
-        (2, 4),
-        (2, 5),
-        (2, 6),
-        (3, 4),
-        (3, 5),
-        (3, 6),
-    ],
-);
+pub const K33: Given = (6, &[14, 15, 16, 24, 25, 26, 34, 35, 36]);
 
-pub const K33_WITH_LOOP: Given = (
-    6,
-    &[
-        (1, 4),
-        (1, 5),
-        (1, 6),
-        (2, 4),
-        (2, 5),
-        (2, 6),
-        (3, 4),
-        (3, 5),
-        (3, 6),
-        (1, 1),
-    ],
-);
+pub const K33_WITH_LOOP: Given = (6, &[14, 15, 16, 24, 25, 26, 34, 35, 36, 11]);
 
 /// Two triangles, each vertex of the one joined to one of the other.
-pub const PRISM: Given = (
-    6,
-    &[
-        (1, 2),
-        (1, 3),
-        (2, 3),
-        (4, 5),
-        (4, 6),
-        (5, 6),
-        (1, 4),
-        (2, 5),
-        (3, 6),
-    ],
-);
+pub const PRISM: Given = (6, &[12, 13, 23, 45, 46, 56, 14, 25, 36]);
 
 /// Two paths of three vertices, each vertex of the one joined to one of the other.
-pub const LADDER: Given = (6, &[(1, 2), (2, 3), (4, 5), (5, 6), (1, 4), (2, 5), (3, 6)]);
+pub const LADDER: Given = (6, &[12, 23, 45, 56, 14, 25, 36]);
 
 /// Two copies of K4 sharing the edge 12.
-pub const TWO_K4: Given = (
-    6,
-    &[
-        (1, 2),
-        (1, 3),
-        (1, 4),
-        (2, 3),
-        (2, 4),
-        (3, 4),
-        (1, 5),
-        (1, 6),
-        (2, 5),
-        (2, 6),
-        (5, 6),
-    ],
-);
+pub const TWO_K4: Given = (6, &[12, 13, 14, 23, 24, 34, 15, 16, 25, 26, 56]);
 
-pub const DISJOINT_K4: Given = (
-    8,
-    &[
-        (1, 2),
-        (1, 3),
-        (1, 4),
-        (2, 3),
-        (2, 4),
-        (3, 4),
-        (5, 6),
-        (5, 7),
-        (5, 8),
-        (6, 7),
-        (6, 8),
-        (7, 8),
-    ],
-);
+pub const DISJOINT_K4: Given = (8, &[12, 13, 14, 23, 24, 34, 56, 57, 58, 67, 68, 78]);
 
 /// A cubic graph with the bridge 14, its edge 9.
-pub const BRIDGED: Given = (
-    6,
-    &[
-        (1, 2),
-        (1, 3),
-        (2, 3),
-        (2, 3),
-        (4, 5),
-        (4, 6),
-        (5, 6),
-        (5, 6),
-        (1, 4),
-    ],
-);
+pub const BRIDGED: Given = (6, &[12, 13, 23, 23, 45, 46, 56, 56, 14]);
 
 /// A matching covered graph of which the cycle 3 5 4 6 is no conformal subgraph.
-pub const UNCONFORMAL: Given = (
-    6,
-    &[
-        (1, 3),
-        (1, 4),
-        (2, 5),
-        (3, 5),
-        (4, 5),
-        (2, 6),
-        (3, 6),
-        (4, 6),
-    ],
-);
+pub const UNCONFORMAL: Given = (6, &[13, 14, 25, 35, 45, 26, 36, 46]);
 
 /// The triangle abc with the edges uv, uw, va, wb, wc, and vw last: a to c are 1 to 3, and u, v
 /// and w are 4, 5 and 6.
-pub const TRIANGLE_WITH_EAR: Given = (
-    6,
-    &[
-        (1, 2),
-        (1, 3),
-        (2, 3),
-        (4, 5),
-        (4, 6),
-        (5, 1),
-        (6, 2),
-        (6, 3),
-        (5, 6),
-    ],
-);
+pub const TRIANGLE_WITH_EAR: Given = (6, &[12, 13, 23, 45, 46, 51, 62, 63, 56]);

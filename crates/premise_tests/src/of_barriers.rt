@@ -4,10 +4,10 @@ use crate::claims::Claim::{Class, Equivalent, Is, Parts, Set};
 use crate::claims::OfSet::{Barrier, Critical, MaximalBarrier, Perfect, Proper};
 use crate::claims::Property::{Covered, Elementary};
 use crate::graphs::{HEXAGON, K2, PATH_OF_4};
-use crate::rows::{Row, first_wrong};
-use std::alloc::AllocError as Memory;
+use crate::rows::{Row, all_are_so};
+use std::test::Fail;
 
-static ROWS: [Row; 8] = [
+static CLASSES: [Row; 4] = [
     Row {
         premise: "kotzig_lovasz_law: `equivalence`: elementary",
         graph: "the path 1 2 3 4",
@@ -45,6 +45,9 @@ static ROWS: [Row; 8] = [
         ],
         fails: &[Set(Proper, &[])],
     },
+];
+
+static COMPONENTS: [Row; 4] = [
     Row {
         premise: "kotzig_lovasz_law: `components`: elementary",
         graph: "the same path",
@@ -85,7 +88,11 @@ static ROWS: [Row; 8] = [
 ];
 
 #[test]
-fn premises_on_barriers(rt: HostRuntime) -> Result<(), Memory> {
-    assert_eq!(rt; first_wrong(rt.alloc(), &ROWS)?, None);
-    Ok(())
+fn premises_on_classes(rt: HostRuntime) -> Result<(), Fail> {
+    all_are_so(rt.alloc(), &CLASSES)
+}
+
+#[test]
+fn premises_on_barriers(rt: HostRuntime) -> Result<(), Fail> {
+    all_are_so(rt.alloc(), &COMPONENTS)
 }

@@ -4,8 +4,8 @@ use crate::claims::Claim::{Is, Set};
 use crate::claims::OfSet::{CoveredInside, ElementaryComponent, Perfect};
 use crate::claims::Property::{Allowed, Covered};
 use crate::graphs::{DIAMOND, K2, ONE_VERTEX, PATH_OF_3, TWO_EDGES};
-use crate::rows::{Row, first_wrong};
-use std::alloc::AllocError as Memory;
+use crate::rows::{Row, all_are_so};
+use std::test::Fail;
 
 static ROWS: [Row; 5] = [
     Row {
@@ -46,7 +46,6 @@ static ROWS: [Row; 5] = [
 ];
 
 #[test]
-fn premises_on_elementary_components(rt: HostRuntime) -> Result<(), Memory> {
-    assert_eq!(rt; first_wrong(rt.alloc(), &ROWS)?, None);
-    Ok(())
+fn premises_on_elementary_components(rt: HostRuntime) -> Result<(), Fail> {
+    all_are_so(rt.alloc(), &ROWS)
 }

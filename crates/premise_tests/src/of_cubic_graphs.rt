@@ -10,10 +10,10 @@ use crate::graphs::{
     BRIDGED, DOUBLED_HEXAGON, EMPTY, HEXAGON, K2, K2_WITH_LOOPS, K23, LADDER, PRISM, TRIPLE_EDGES,
     TWO_K4,
 };
-use crate::rows::{Row, first_wrong};
-use std::alloc::AllocError as Memory;
+use crate::rows::{Row, all_are_so};
+use std::test::Fail;
 
-static ROWS: [Row; 16] = [
+static COVERED: [Row; 4] = [
     Row {
         premise: "cubic_law: `covered`, `tight`: 2-edge-connected",
         graph: "the cubic graph with the edges 12, 13, 23, 23, 45, 46, 56, 56, 14",
@@ -53,6 +53,9 @@ static ROWS: [Row; 16] = [
         ],
         fails: &[Number(Regular, 3), CutSize(&[1, 2, 3], 3)],
     },
+];
+
+static CUTS: [Row; 6] = [
     Row {
         premise: "cubic_law: `narrow`: bipartite",
         graph: "the prism",
@@ -113,6 +116,9 @@ static ROWS: [Row; 16] = [
         ],
         fails: &[Number(WideCuts, 4), Ends(1, 0), Ends(0, 1)],
     },
+];
+
+static SIDES: [Row; 6] = [
     Row {
         premise: "cubic_law: `sides`: connected",
         graph: "two disjoint triple edges",
@@ -160,7 +166,16 @@ static ROWS: [Row; 16] = [
 ];
 
 #[test]
-fn premises_on_cubic_graphs(rt: HostRuntime) -> Result<(), Memory> {
-    assert_eq!(rt; first_wrong(rt.alloc(), &ROWS)?, None);
-    Ok(())
+fn premises_on_covered_cubic_graphs(rt: HostRuntime) -> Result<(), Fail> {
+    all_are_so(rt.alloc(), &COVERED)
+}
+
+#[test]
+fn premises_on_cuts_of_cubic_graphs(rt: HostRuntime) -> Result<(), Fail> {
+    all_are_so(rt.alloc(), &CUTS)
+}
+
+#[test]
+fn premises_on_bipartite_cubic_graphs(rt: HostRuntime) -> Result<(), Fail> {
+    all_are_so(rt.alloc(), &SIDES)
 }

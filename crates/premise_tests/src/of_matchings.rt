@@ -5,8 +5,8 @@ use crate::claims::OfEdges::{Attains, Matching, Maximum};
 use crate::claims::OfSet::{Critical, D, InA, Spread};
 use crate::claims::Property::{Connected, Missed};
 use crate::graphs::{K2, PATH_OF_3, STAR_OF_3, TWO_TRIANGLES};
-use crate::rows::{Row, first_wrong};
-use std::alloc::AllocError as Memory;
+use crate::rows::{Row, all_are_so};
+use std::test::Fail;
 
 static ROWS: [Row; 6] = [
     Row {
@@ -55,7 +55,6 @@ static ROWS: [Row; 6] = [
 ];
 
 #[test]
-fn premises_on_matchings(rt: HostRuntime) -> Result<(), Memory> {
-    assert_eq!(rt; first_wrong(rt.alloc(), &ROWS)?, None);
-    Ok(())
+fn premises_on_matchings(rt: HostRuntime) -> Result<(), Fail> {
+    all_are_so(rt.alloc(), &ROWS)
 }

@@ -11,10 +11,10 @@ use crate::graphs::{
     BRIDGED, DISJOINT_K4, DOUBLED_HEXAGON, DOUBLED_STAR, EMPTY, FOUR_CYCLE, HEXAGON, K2_WITH_LOOPS,
     LADDER, PATH_OF_3, PRISM, SEVEN_ISOLATED, THREE_ISOLATED, TWO_K4,
 };
-use crate::rows::{Row, first_wrong};
-use std::alloc::AllocError as Memory;
+use crate::rows::{Row, all_are_so};
+use std::test::Fail;
 
-static ROWS: [Row; 17] = [
+static COVERED: [Row; 6] = [
     Row {
         premise: "regular_law: `allowed`, `covered`, `tight`: wide odd cuts",
         graph: "the cubic graph with the edges 12, 13, 23, 23, 45, 46, 56, 56, 14",
@@ -94,6 +94,9 @@ static ROWS: [Row; 17] = [
         ],
         fails: &[Number(WideCuts, 4)],
     },
+];
+
+static SIDES: [Row; 3] = [
     Row {
         premise: "regular_law: `bipartite`: bipartite; regular; no loop",
         graph: "the cubic graph above",
@@ -115,6 +118,9 @@ static ROWS: [Row; 17] = [
         holds: &[Set(Side, &[1]), Number(Regular, 3)],
         fails: &[Is(Loopless), Number(WideOddCuts, 3)],
     },
+];
+
+static NARROW: [Row; 4] = [
     Row {
         premise: "regular_law: `narrow`: bipartite; regular; odd; r ≥ 1",
         graph: "the prism",
@@ -165,6 +171,9 @@ static ROWS: [Row; 17] = [
         ],
         fails: &[Number(Regular, 1), Set(Tight, &[1])],
     },
+];
+
+static BRACES: [Row; 4] = [
     Row {
         premise: "regular_law: `brace`: bipartite; regular; r ≥ 1",
         graph: "the prism",
@@ -201,7 +210,21 @@ static ROWS: [Row; 17] = [
 ];
 
 #[test]
-fn premises_on_regular_graphs(rt: HostRuntime) -> Result<(), Memory> {
-    assert_eq!(rt; first_wrong(rt.alloc(), &ROWS)?, None);
-    Ok(())
+fn premises_on_covered_regular_graphs(rt: HostRuntime) -> Result<(), Fail> {
+    all_are_so(rt.alloc(), &COVERED)
+}
+
+#[test]
+fn premises_on_sides_of_regular_graphs(rt: HostRuntime) -> Result<(), Fail> {
+    all_are_so(rt.alloc(), &SIDES)
+}
+
+#[test]
+fn premises_on_narrow_cuts_of_regular_graphs(rt: HostRuntime) -> Result<(), Fail> {
+    all_are_so(rt.alloc(), &NARROW)
+}
+
+#[test]
+fn premises_on_regular_braces(rt: HostRuntime) -> Result<(), Fail> {
+    all_are_so(rt.alloc(), &BRACES)
 }

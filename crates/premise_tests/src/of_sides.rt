@@ -10,8 +10,8 @@ use crate::graphs::{
     DIAMOND, EDGE_AND_VERTEX, EMPTY, FOUR_ISOLATED, K2, K2_WITH_LOOP, LOOPED_PATH, ONE_LOOP,
     PATH_OF_3, PATH_OF_4, STAR_OF_3, TWO_ISOLATED,
 };
-use crate::rows::{Row, first_wrong};
-use std::alloc::AllocError as Memory;
+use crate::rows::{Row, all_are_so};
+use std::test::Fail;
 
 static MARRIAGE: [Row; 3] = [
     Row {
@@ -37,7 +37,7 @@ static MARRIAGE: [Row; 3] = [
     },
 ];
 
-static HETYEI: [Row; 15] = [
+static NEIGHBOURS: [Row; 4] = [
     Row {
         premise: "hetyei_law: `neighbours`, `pairs`: two vertices",
         graph: "the empty graph",
@@ -72,6 +72,9 @@ static HETYEI: [Row; 15] = [
         holds: &[Set(Side, &[1, 3]), Is(Connected), Set(Half, &[1, 3])],
         fails: &[Set(Surplus, &[1, 3]), Is(Covered)],
     },
+];
+
+static PAIRS: [Row; 4] = [
     Row {
         premise: "hetyei_law: `neighbours`, `four_neighbours`: A is a side; no loop",
         graph: "the diamond 12, 13, 23, 24, 34 with A = {1, 2}",
@@ -117,6 +120,9 @@ static HETYEI: [Row; 15] = [
         holds: &[Set(Side, &[1]), Set(PairsMatched, &[1])],
         fails: &[Is(Connected), Is(Covered)],
     },
+];
+
+static FOURS: [Row; 4] = [
     Row {
         premise: "hetyei_law: `four_neighbours`: four vertices; equal sides",
         graph: "two isolated vertices",
@@ -145,6 +151,9 @@ static HETYEI: [Row; 15] = [
         holds: &[Number(Order, 4), Set(Side, &[]), Set(PairsMatched, &[])],
         fails: &[Set(Proper, &[]), Is(Covered)],
     },
+];
+
+static EARS: [Row; 3] = [
     Row {
         premise: "hetyei_law: `ears`: A is a side; no isolated vertices",
         graph: "the diamond",
@@ -212,19 +221,31 @@ static DIGRAPHS: [Row; 3] = [
 ];
 
 #[test]
-fn premises_of_the_marriage_theorem(rt: HostRuntime) -> Result<(), Memory> {
-    assert_eq!(rt; first_wrong(rt.alloc(), &MARRIAGE)?, None);
-    Ok(())
+fn premises_of_the_marriage_theorem(rt: HostRuntime) -> Result<(), Fail> {
+    all_are_so(rt.alloc(), &MARRIAGE)
 }
 
 #[test]
-fn premises_of_hetyeis_theorem(rt: HostRuntime) -> Result<(), Memory> {
-    assert_eq!(rt; first_wrong(rt.alloc(), &HETYEI)?, None);
-    Ok(())
+fn premises_on_neighbours(rt: HostRuntime) -> Result<(), Fail> {
+    all_are_so(rt.alloc(), &NEIGHBOURS)
 }
 
 #[test]
-fn premises_on_the_digraph_of_a_matching(rt: HostRuntime) -> Result<(), Memory> {
-    assert_eq!(rt; first_wrong(rt.alloc(), &DIGRAPHS)?, None);
-    Ok(())
+fn premises_on_pairs(rt: HostRuntime) -> Result<(), Fail> {
+    all_are_so(rt.alloc(), &PAIRS)
+}
+
+#[test]
+fn premises_on_fours(rt: HostRuntime) -> Result<(), Fail> {
+    all_are_so(rt.alloc(), &FOURS)
+}
+
+#[test]
+fn premises_on_ears_of_hetyei(rt: HostRuntime) -> Result<(), Fail> {
+    all_are_so(rt.alloc(), &EARS)
+}
+
+#[test]
+fn premises_on_the_digraph_of_a_matching(rt: HostRuntime) -> Result<(), Fail> {
+    all_are_so(rt.alloc(), &DIGRAPHS)
 }

@@ -56,15 +56,16 @@ pub struct PairGraph {
 }
 
 impl PairGraph {
-    /// The graph of the vertices 1 to `order` with these edges, numbered in their order.
-    pub fn new(alloc: Global, order: u32, pairs: &[(u32, u32)]) -> Result<PairGraph, Memory> {
+    /// The graph of the vertices 1 to `order` with these edges, numbered in their order; the two
+    /// digits of each are its ends.
+    pub fn new(alloc: Global, order: u32, pairs: &[u32]) -> Result<PairGraph, Memory> {
         let mut edges = Vec::new(alloc);
         let mut bit = 1u32;
-        for (a, b) in pairs {
+        for ends in pairs {
             edges.push(Edge {
                 bit,
-                a: one(*a),
-                b: one(*b),
+                a: one(*ends / 10),
+                b: one(*ends % 10),
             })?;
             bit <<= 1;
         }
@@ -208,24 +209,28 @@ impl PairGraph {
     }
 }
 
-// All matchings: those without the last edge, and with it those whose vertices it does not meet.
+// The matchings with one more edge: those whose vertices it does not meet.
+fn with_edge(alloc: Global, found: &[Matching], edge: Edge) -> Result<Vec<Matching>, Memory> {
+    let mut more = Vec::new(alloc);
+    for before in found {
+        if !meets(before.met, edge.ends()) {
+            more.push(Matching {
+                edges: before.edges | edge.bit,
+                met: before.met | edge.ends(),
+            })?;
+        }
+    }
+    Ok(more)
+}
+
+// All matchings: those without the last edge, and those with it.
 fn matchings_of(alloc: Global, edges: &[Edge]) -> Result<Vec<Matching>, Memory> {
     let mut found = Vec::new(alloc);
     found.push(Matching { edges: 0, met: 0 })?;
     for edge in edges {
         if !edge.is_loop() {
-            let mut more = Vec::new(alloc);
-            for before in &found {
-                if !meets(before.met, edge.ends()) {
-                    more.push(Matching {
-                        edges: before.edges | edge.bit,
-                        met: before.met | edge.ends(),
-                    })?;
-                }
-            }
-            for matching in &more {
-                found.push(*matching)?;
-            }
+            let mut more = with_edge(alloc, found.as_slice(), *edge)?;
+            found.append(&mut more)?;
         }
     }
     Ok(found)

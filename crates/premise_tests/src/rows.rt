@@ -4,6 +4,7 @@ use crate::claims::Claim;
 use crate::graphs::Given;
 use crate::pair_graph::PairGraph;
 use std::alloc::{AllocError as Memory, Global};
+use std::test::Fail;
 
 /// A premise of a theorem, as `docs/THEOREMS.md` words it after the theorem's name; a graph
 /// without it, as that row of the book names it; claims that hold of the graph, and claims that
@@ -27,15 +28,22 @@ fn are_all(alloc: Global, g: &PairGraph, claims: &[Claim], wanted: bool) -> Resu
     Ok(true)
 }
 
-/// The place of the first row whose graph is not as the row says.
-pub fn first_wrong(alloc: Global, rows: &[Row]) -> Result<Option<usize>, Memory> {
-    for (place, row) in rows.iter().enumerate() {
-        let (order, edges) = row.given;
-        let g = PairGraph::new(alloc, order, edges)?;
-        let holds = are_all(alloc, &g, row.holds, true)?;
-        if !holds || !are_all(alloc, &g, row.fails, false)? || row.fails.is_empty() {
-            return Ok(Some(place));
+// Whether the graph is as the row says.
+fn is_so(alloc: Global, row: &Row) -> Result<bool, Memory> {
+    let (order, edges) = row.given;
+    let g = PairGraph::new(alloc, order, edges)?;
+    if row.fails.is_empty() || !are_all(alloc, &g, row.holds, true)? {
+        return Ok(false);
+    }
+    are_all(alloc, &g, row.fails, false)
+}
+
+/// Fails at the first row whose graph is not as the row says, with the premise of that row.
+pub fn all_are_so(alloc: Global, rows: &[Row]) -> Result<(), Fail> {
+    for row in rows {
+        if !is_so(alloc, row)? {
+            return Err(Fail::new(row.premise));
         }
     }
-    Ok(None)
+    Ok(())
 }

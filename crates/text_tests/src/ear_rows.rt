@@ -4,10 +4,10 @@ use crate::formats::TextRow;
 use line_text::FaultKind;
 
 /// Ear lists for 2 vertices and 1 edge.
-pub const EARS_OF_2: [TextRow; 1] = [("r mcg 2 1\nstart 1", Ok("r mcg 2 1\nstart 1\n"))];
+pub static EARS_OF_2: [TextRow; 1] = [("r mcg 2 1\nstart 1", Ok("r mcg 2 1\nstart 1\n"))];
 
 /// Ear lists for 4 vertices and 6 edges.
-pub const EARS_OF_4: [TextRow; 29] = [
+pub static EARS_OF_4: [TextRow; 29] = [
     (
         "r mcg 4 6\nstart 1\near 2 4 6 3\near 1 2\nwith 2 5\n",
         Ok("r mcg 4 6\nstart 1\near 2 4 6 3\near 1 2\nwith 2 5\n"),
@@ -58,7 +58,7 @@ pub const EARS_OF_4: [TextRow; 29] = [
 ];
 
 /// Ear lists for 8 vertices and 12 edges.
-pub const EARS_OF_8: [TextRow; 1] = [(
+pub static EARS_OF_8: [TextRow; 1] = [(
     "r mcg 8 12\nstart 1\near 2 2 3 4\near 1 9 5 10\near 3 11 7 12\near 6 6\near 5 8\n",
     Ok("r mcg 8 12\nstart 1\near 2 2 3 4\near 1 9 5 10\near 3 11 7 12\near 6 6\near 5 8\n"),
 )];

@@ -125,14 +125,14 @@ pub fn has_answer(
     }
 }
 
-/// The first text whose answer is not that of its row.
-pub fn first_wrong(alloc: Global, format: Format, rows: &[TextRow]) -> Option<&'static str> {
+/// Fails with the first text whose answer is not that of its row.
+pub fn all_are_so(alloc: Global, format: Format, rows: &[TextRow]) -> Result<(), Fail> {
     for (text, answer) in rows {
         if !has_answer(alloc, format, text.as_bytes(), *answer) {
-            return Some(*text);
+            return Err(Fail::new(*text));
         }
     }
-    None
+    Ok(())
 }
 
 /// A beginning, a piece with the number of its copies, and an end.

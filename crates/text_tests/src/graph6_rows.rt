@@ -7,7 +7,7 @@ use std::alloc::Global;
 use std::test::Fail;
 
 /// Header and line end are set aside; then each fault of a text.
-pub const TEXTS: [TextRow; 21] = [
+pub static TEXTS: [TextRow; 21] = [
     ("?", Ok("?")),
     ("Bw", Ok("Bw")),
     (">>graph6<<Bw", Ok("Bw")),
@@ -104,7 +104,7 @@ fn long_texts(rt: HostRuntime) -> Result<(), Fail> {
 }
 
 /// The text of a graph with more edges than a graph may have.
-pub const FULL: LongText = ("~?@@", "~", 346, "{");
+pub static FULL: LongText = ("~?@@", "~", 346, "{");
 
 // Whether each shorter beginning of the text is refused for what is missing.
 fn misses_each_end(alloc: Global, text: &[u8]) -> bool {

@@ -6,7 +6,7 @@ use line_text::FaultKind;
 use std::test::Fail;
 
 /// The graph format in version 1.
-pub const VERSION_ONE: [TextRow; 15] = [
+pub static VERSION_ONE: [TextRow; 15] = [
     ("p mcg 0 0", Ok("p mcg 0 0\n")),
     ("p mcg 2 2\ne 1 2\ne 1 2\n", Ok("p mcg 2 2\ne 1 2\ne 1 2\n")),
     (
@@ -31,7 +31,7 @@ pub const VERSION_ONE: [TextRow; 15] = [
 ];
 
 /// The graph format in both versions.
-pub const EITHER_VERSION: [TextRow; 11] = [
+pub static EITHER_VERSION: [TextRow; 11] = [
     (
         "p mcg2 4 4\nv a\nv b\nv c\nv d\ne a b\ne b c\ne c d\ne d a\n",
         Ok("p mcg2 4 4\nv a\nv b\nv c\nv d\ne a b\ne b c\ne c d\ne d a\n"),
@@ -69,8 +69,8 @@ fn has_names(names: &Names, some: &[(usize, &str)]) -> bool {
 
 #[test]
 fn plain_names_by_number(rt: HostRuntime) -> Result<(), Fail> {
-    let none = plain_names(rt.alloc(), 0)?;
+    assert!(rt; plain_names(rt.alloc(), 0)?.len() == 0);
     let names = plain_names(rt.alloc(), 128)?;
-    assert!(rt; none.len() == 0 && names.len() == 128 && has_names(&names, &PLAIN));
+    assert!(rt; names.len() == 128 && has_names(&names, &PLAIN));
     Ok(())
 }

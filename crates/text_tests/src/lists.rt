@@ -215,21 +215,33 @@ fn keeps(ending: &Ending, kept: Option<usize>, list: &[u8]) -> bool {
     }
 }
 
-// Whether one line of that length is written with its number, or, if so many of its bytes are
-// kept, nothing is written.
+// A line of that length, and its line feed.
+fn line_of(alloc: Global, length: usize) -> Result<Vec<u8>, Memory> {
+    let mut line = vec![in alloc; b'?'; length]?;
+    line.push(b'\n')?;
+    Ok(line)
+}
+
+// Whether a line is written with its number, or, if so many of its bytes are kept, nothing is.
+fn is_written(line: &[u8], kept: Option<usize>, written: &[u8]) -> bool {
+    match kept {
+        Some(_) => written.is_empty(),
+        None => {
+            written.len() == line.len().saturating_add(2)
+                && written.starts_with(b"1 ".as_slice())
+                && written.ends_with(line)
+        }
+    }
+}
+
+// Whether a list of one line of that length is told so.
 fn ends_so(alloc: Global, length: usize, kept: Option<usize>) -> Result<bool, Memory> {
-    let mut list = vec![in alloc; b'?'; length]?;
-    list.push(b'\n')?;
+    let list = line_of(alloc, length)?;
     let mut source = MemSource::new(alloc, &list)?;
     let mut sink = MemSink::new(alloc, 100_000, 100_000)?;
     let mut skipped = Vec::new(alloc);
     let told = tell_all(alloc, &Copyist, &mut source, &mut sink, &mut skipped);
-    let mut wanted = Vec::new(alloc);
-    if kept.is_none() {
-        wanted.extend_from_slice(b"1 ")?;
-        wanted.extend_from_slice(&list)?;
-    }
-    Ok(keeps(&told, kept, &list) && sink.bytes() == wanted.as_slice())
+    Ok(keeps(&told, kept, &list) && is_written(&list, kept, sink.bytes()))
 }
 
 #[test]

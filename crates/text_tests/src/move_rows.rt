@@ -8,10 +8,10 @@ use tree_core::{Move, Moves, Path, Side};
 use vset_core::VSet;
 
 /// Moves on trees over 1 to 2.
-pub const MOVES_OF_2: [TextRow; 1] = [("m mcg 2", Ok("m mcg 2\n"))];
+pub static MOVES_OF_2: [TextRow; 1] = [("m mcg 2", Ok("m mcg 2\n"))];
 
 /// Moves on trees over 1 to 6.
-pub const MOVES_OF_6: [TextRow; 27] = [
+pub static MOVES_OF_6: [TextRow; 27] = [
     ("m mcg 6\nswitch . 1 4", Ok("m mcg 6\nswitch . 1 4\n")),
     ("", Err((1, FaultKind::Header))),
     ("c\n\n", Err((3, FaultKind::Header))),
@@ -45,13 +45,13 @@ pub const MOVES_OF_6: [TextRow; 27] = [
 ];
 
 /// Moves on trees over 1 to 8.
-pub const MOVES_OF_8: [TextRow; 1] = [(
+pub static MOVES_OF_8: [TextRow; 1] = [(
     "c two moves\nm mcg 08\r\n\nrotate  mk\nc between\n switch\tkmk 01,2,3 8",
     Ok("m mcg 8\nrotate mk\nswitch kmk 1,2,3 8\n"),
 )];
 
 /// Moves on trees over 1 to 20.
-pub const MOVES_OF_20: [TextRow; 1] = [(
+pub static MOVES_OF_20: [TextRow; 1] = [(
     "m mcg 20\nrotate .\nrotate k\nswitch m 1,3,20 2,4,10\n",
     Ok("m mcg 20\nrotate .\nrotate k\nswitch m 1,3,20 2,4,10\n"),
 )];
@@ -89,7 +89,7 @@ fn a_move_made_and_written(rt: HostRuntime) -> Result<(), Fail> {
 
 /// Texts of moves over 1 to 6 with the longest path and the longest list, and with one more, and
 /// the fault of this one.
-pub const LONG_MOVES: [(LongText, Option<(u32, FaultKind)>); 4] = [
+pub static LONG_MOVES: [(LongText, Option<(u32, FaultKind)>); 4] = [
     (("m mcg 6\nrotate ", "k", 127, "\n"), None),
     (
         ("m mcg 6\nrotate ", "k", 127, "m\n"),

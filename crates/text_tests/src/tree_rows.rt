@@ -4,10 +4,10 @@ use crate::formats::TextRow;
 use line_text::FaultKind;
 
 /// Derivations over 1 to 2.
-pub const TREES_OF_2: [TextRow; 1] = [("t mcg 2\nleaf", Ok("t mcg 2\nleaf\n"))];
+pub static TREES_OF_2: [TextRow; 1] = [("t mcg 2\nleaf", Ok("t mcg 2\nleaf\n"))];
 
 /// Derivations over 1 to 6.
-pub const TREES_OF_6: [TextRow; 21] = [
+pub static TREES_OF_6: [TextRow; 21] = [
     (
         "t mcg 6\ncut 1 2 3\nleaf\nleaf\n",
         Ok("t mcg 6\ncut 1 2 3\nleaf\nleaf\n"),
@@ -35,7 +35,7 @@ pub const TREES_OF_6: [TextRow; 21] = [
 ];
 
 /// Derivations over 1 to 8.
-pub const TREES_OF_8: [TextRow; 2] = [
+pub static TREES_OF_8: [TextRow; 2] = [
     (
         "c one below the other\nt mcg 08\r\n\ncut  3 4 5\ncut 03 4 5 6\t7\nleaf\nc kept\n leaf\nleaf",
         Ok("t mcg 8\ncut 3 4 5\ncut 3 4 5 6 7\nleaf\nleaf\nleaf\n"),
@@ -47,7 +47,7 @@ pub const TREES_OF_8: [TextRow; 2] = [
 ];
 
 /// Lists of picks.
-pub const PICKS: [TextRow; 26] = [
+pub static PICKS: [TextRow; 26] = [
     ("s mcg 0", Ok("s mcg 0\n")),
     ("s mcg 1\npick 2\n", Ok("s mcg 1\npick 2\n")),
     (

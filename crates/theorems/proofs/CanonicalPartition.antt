@@ -1,14 +1,13 @@
 -- The canonical partition of an elementary graph: its classes are the maximal barriers, so that the
 -- components that a class leaves are factor-critical. A matching covered graph is elementary.
 use Rattle.std.proofs.Common.{◌≡◌, ◌≢◌, ℕ, Bool, true, false, ◌==◌, ◌&&◌, ◌||◌, refl, sym, ◌∙◌, arith, eq-eqb, List, [], ◌∷◌, subst, ◌↔◌, inl, inr}
-use Rattle.counting.proofs.Common.{and_from, both_ways, cases_eq, cases_lt, count_member, count_zero, member_count, not_not, same_tests, true_some, Within, count, is_odd, Set, complement, none, pair_set, singleton}
-use Rattle.barrier_kit.proofs.Common.{class_holds_barrier, equivalent_back, equivalent_self, loop_free, perfect_congr, perfect_or_not, restrict}
-use Rattle.graph_core.proofs.Common.{adjacent-edge, component_count, edges_in_cut, has_ends-cases, is_allowed_found, parity, Allowed, Equivalent, Graph, IsBarrier, IsBicritical, IsClass, IsCovered, IsGraph, Joined, Walk, adjacent, first_end, has_ends, inside, is_allowed, joined, second_end, size}
+use Rattle.counting.proofs.Common.{and_from, both_ways, cases_eq, cases_lt, count_member, count_zero, member_count, not_not, same_tests, true_some, Within, count, Set, complement, none, pair_set, singleton}
+use Rattle.barrier_kit.proofs.Common.{class_found, class_holds_barrier, class_is_barrier, equivalent_back, equivalent_over, equivalent_self, loop_free, perfect_congr, perfect_or_not, restrict, single_barrier, AreCutsMet}
+use Rattle.graph_core.proofs.Common.{adjacent-edge, edges_in_cut, has_ends-cases, is_allowed_found, parity, Allowed, Equivalent, Graph, IsBarrier, IsBicritical, IsClass, IsCovered, IsGraph, IsPerfect, Joined, Walk, adjacent, first_end, has_ends, inside, is_allowed, joined, second_end, size}
 use Rattle.theorems.proofs.AddedEdges.{allowed_from, ends_set}
 use Rattle.theorems.proofs.BrickFacts.{turned_cut}
 use Rattle.theorems.proofs.ThreeConnected.{count_pair}
-use Rattle.theorems.proofs.ElementaryBarriers.{elementary_perfect, many_left_by, part_left_odd}
-use Rattle.theorems.proofs.ElementaryClasses.{class_found, class_is_barrier, equivalent_over, single_left}
+use Rattle.theorems.proofs.ElementaryBarriers.{elementary_cut, elementary_perfect}
 use Rattle.theorems.proofs.MaximalBarriers.{maximal_critical}
 use Rattle.theorems.specs.Barriers.{IsElementary, IsMaximalBarrier, allowed_adjacent}
 use Rattle.theorems.specs.Matchings.{IsFactorCritical}
@@ -43,16 +42,22 @@ module _ (g : Graph) (is : IsGraph g) (cov : IsCovered g) where
   }
 
 module _ (g : Graph) (is : IsGraph g) (el : IsElementary g) where
+  met : AreCutsMet g
+  met = elementary_cut g is el
+
+  some_perfect : (m : Set) × IsPerfect g none m
+  some_perfect = elementary_perfect g is el
+
   pub class_maximal : (a : ℕ) (s : Set) → Within g.order a → IsClass g a s → IsMaximalBarrier g s
   class_maximal a s wa cl = record {
-    barrier = class_is_barrier g a s is el wa cl;
+    barrier = class_is_barrier g a s is met some_perfect wa cl;
     maximal = λ t bar holds v wv tv. class_holds_barrier g a s t is wa cl bar (holds a wa (cl.all a wa (equivalent_self g a))) v wv tv;
   }
 
   pub maximal_class : (s : Set) → IsMaximalBarrier g s → (a : ℕ) × Within g.order a × IsClass g a s
   maximal_class s most =
       let a = some_vertex in
-      let c = class_found g is el a.0 a.1 in
+      let c = class_found g is met some_perfect a.0 a.1 in
       let within = class_holds_barrier g a.0 c.0 s is a.1 c.2 most.barrier a.2 in (
         a.0,
         a.1,
@@ -70,30 +75,26 @@ module _ (g : Graph) (is : IsGraph g) (el : IsElementary g) where
         | inl l ↦ count_member g.order s l
         | inr l ↦
             let out : (v : ℕ) → Within g.order v → s v ≡ false = count_zero g.order s (omega arith) in
-            absurd (both_ways (s 1) (out 1 one) (most.maximal (singleton 1) (single_left g is el 1 one) (λ v wv sv. absurd (both_ways (s v) (out v wv) sv)) 1 one refl))
+            absurd (both_ways (s 1) (out 1 one) (most.maximal (singleton 1) (single_barrier g is met some_perfect 1 one) (λ v wv sv. absurd (both_ways (s v) (out v wv) sv)) 1 one refl))
       ]
 
   pub one_class : (s : Set) (a : ℕ) → IsBarrier g s → Within g.order a → s a ≡ true →
       (c : Set) × IsClass g a c × ((v : ℕ) → Within g.order v → s v ≡ true → c v ≡ true) ×
       ((b : ℕ) (d : Set) → Within g.order b → IsClass g b d → ((v : ℕ) → Within g.order v → s v ≡ true → d v ≡ true) → (v : ℕ) → Within g.order v → c v ≡ d v)
   one_class s a bar wa sa =
-      let c = class_found g is el a wa in (
+      let c = class_found g is met some_perfect a wa in (
         c.0,
         c.2,
         class_holds_barrier g a c.0 s is wa c.2 bar sa,
         λ b d wb cd holds v wv.
             let ba = cd.holds a wa (holds a wa sa) in
             same_tests (c.0 v) (d v)
-            (λ h. cd.all v wv (equivalent_over g b a v is el wb wa wv ba (c.2.holds v wv h)))
-            (λ h. c.2.all v wv (equivalent_over g a b v is el wa wb wv (equivalent_back g b a ba) (cd.holds v wv h))),
+            (λ h. cd.all v wv (equivalent_over g b a v is met some_perfect wb wa wv ba (c.2.holds v wv h)))
+            (λ h. c.2.all v wv (equivalent_over g a b v is met some_perfect wa wb wv (equivalent_back g b a ba) (cd.holds v wv h))),
       )
 
-  pub barrier_parts : (s : Set) (a u : ℕ) → IsBarrier g s → Within g.order a → s a ≡ true → Within g.order u → s u ≡ false → (is_odd (count g.order (joined g s u)) ≡ true) × (component_count g s ≡ count g.order s)
-  unfolding component_count
-  barrier_parts s a u bar wa sa wu su = (part_left_odd g is el s bar a u wa sa wu su, many_left_by g is el s bar a wa sa)
-
   pub class_critical : (a u : ℕ) (s : Set) → Within g.order a → IsClass g a s → Within g.order u → s u ≡ false → IsFactorCritical g (joined g s u)
-  class_critical a u s wa cl wu su = maximal_critical g s u is (elementary_perfect g is el) (class_maximal a s wa cl) wu su
+  class_critical a u s wa cl wu su = maximal_critical g s u is some_perfect (class_maximal a s wa cl) wu su
 
 -- an edge is in a perfect matching if and only if it joins two classes
 joins_classes : (g : Graph) (e : ℕ) → IsGraph g → Within (size g) e → first_end g e ≢ second_end g e → Allowed g e ↔ (¬ Equivalent g (first_end g e) (second_end g e))

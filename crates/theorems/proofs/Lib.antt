@@ -21,9 +21,7 @@ pub mod EarPaths
 pub mod EarRefusals
 pub mod EarSteps
 pub mod ElementaryBarriers
-pub mod ElementaryClasses
 pub mod ElementaryComponents
-pub mod ElementaryJoins
 pub mod ExtendableCuts
 pub mod ExtendableGraphs
 pub mod FilesOfReads
