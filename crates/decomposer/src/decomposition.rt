@@ -1,6 +1,6 @@
 //! The decomposition of a covered graph by tight cuts: the tree, and its leaves as places.
 ghost use Rattle.std.specs.Prelude.{◌≡◌, ◌≤◌, ◌+◌, length, map, IfOk, Some};
-ghost use Rattle.tight_cuts.specs.Common.{candidates, first_shore, candidates_at};
+ghost use Rattle.tight_cuts.specs.Common.{AreClustersAt, candidates, first_shore, candidates_at};
 ghost use Rattle.tree_core.specs.Common.{IsCutAt, IsDerivation, cut, cut_count, leaves, place_of, shape_of};
 ghost use Rattle.decomposer.specs.Common.{NamedPicks, Finds, IsPicked, PicksShore};
 
@@ -8,6 +8,7 @@ use crate::orders::{NamedOrder, Order};
 use crate::shores::picked_at;
 use graph_facts::Covered;
 use std::alloc::{AllocError, Global};
+use tight_cuts::Clusters;
 use tree_core::{KnownPlace, Tree};
 use vset_core::VSet;
 
@@ -38,7 +39,8 @@ pub fn decompose_places<'g, O: Order>(
     let root = KnownPlace::root(alloc, c)?;
     root.keeps_place();
     let mut leaves = Vec::new(alloc);
-    let (tree, _) = decompose_at(alloc, order, root, 0, &mut leaves)?;
+    let clusters = Clusters::new(alloc, c.graph())?;
+    let (tree, _) = decompose_at(alloc, order, root, 0, clusters, &mut leaves)?;
     Ok(Decomposition { tree, leaves })
 }
 
@@ -60,7 +62,9 @@ pub fn decompose_places_from_first<'g>(
     let root = KnownPlace::root(alloc, c)?;
     root.keeps_place();
     let mut leaves = Vec::new(alloc);
-    let (tree, _) = decompose_cut(alloc, &NamedOrder::First, &root, 0, cut, &mut leaves)?;
+    let clusters = Clusters::new(alloc, c.graph())?;
+    let first = NamedOrder::First;
+    let (tree, _) = decompose_cut(alloc, &first, &root, 0, cut, clusters, &mut leaves)?;
     Ok(Decomposition { tree, leaves })
 }
 
@@ -80,28 +84,31 @@ fn cut_tree(alloc: Global, shore: VSet, kept: Tree, merged: Tree) -> Result<Tree
 const MOST_COUNTED: usize = 256;
 
 // The tree that the order picks at a place with so many cuts before it, and the number of cuts
-// before what follows it. Its leaves are appended.
+// before what follows it. Its leaves are appended. The clusters are those that are known at the
+// place: they serve the places below too.
 #[cycle(decomposing)]
 fn decompose_at<'g, O: Order>(
     alloc: Global,
     order: &O,
     place: KnownPlace<'g>,
     before: usize,
+    mut clusters: Clusters,
     leaves: &mut Vec<KnownPlace<'g>>,
 ) -> Result<(Tree, usize), AllocError>
     requires few { before + length place.blocks ≤ MOST_COUNTED }
+    requires clusters { AreClustersAt place.graph place.blocks clusters }
     ensures made { IfOk result (λ made. Finds (O.picks order.now) place.entry before
         leaves.old.items (shape_of made.0) made.1 leaves.new.items) }
     ensures few { IfOk result (λ made. 4 ≤ length place.entry.blocks →
         cut_count (shape_of made.0) + 3 ≤ length place.entry.blocks) }
 {
-    let picked = picked_at(alloc, &place, order, before)?;
+    let picked = picked_at(alloc, &place, order, before, &mut clusters)?;
     match picked {
         None => {
             leaves.push(place)?;
             Ok((Tree::Leaf, before))
         }
-        Some(shore) => decompose_cut(alloc, order, &place, before, shore, leaves),
+        Some(shore) => decompose_cut(alloc, order, &place, before, shore, clusters, leaves),
     }
 }
 
@@ -114,21 +121,25 @@ fn decompose_cut<'g, O: Order>(
     place: &KnownPlace<'g>,
     before: usize,
     shore: VSet,
+    clusters: Clusters,
     leaves: &mut Vec<KnownPlace<'g>>,
 ) -> Result<(Tree, usize), AllocError>
     requires cut { IsCutAt place.now.graph place.now.blocks shore }
     requires picked { PicksShore (O.picks order.now)
         (candidates_at place.now.graph place.now.blocks) before shore }
     requires few { before + length place.now.blocks ≤ MOST_COUNTED }
+    requires clusters { AreClustersAt place.now.graph place.now.blocks clusters }
     ensures made { IfOk result (λ made. Finds (O.picks order.now) place.now before
         leaves.old.items (shape_of made.0) made.1 leaves.new.items) }
     ensures few { IfOk result
         (λ made. cut_count (shape_of made.0) + 3 ≤ length place.now.blocks) }
 {
+    clusters.stay_below(place, shore);
     let inside = place.kept(alloc, shore)?;
-    let (kept, between) = decompose_at(alloc, order, inside, before + 1, leaves)?;
+    let known = clusters.copy(alloc)?;
+    let (kept, between) = decompose_at(alloc, order, inside, before + 1, known, leaves)?;
     let outside = place.merged(alloc, shore)?;
-    let (merged, after) = decompose_at(alloc, order, outside, between, leaves)?;
+    let (merged, after) = decompose_at(alloc, order, outside, between, clusters, leaves)?;
     let tree = cut_tree(alloc, shore, kept, merged)?;
     Ok((tree, after))
 }

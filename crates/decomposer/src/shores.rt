@@ -1,31 +1,36 @@
 //! What an order picks at a node: the shore of a candidate, or none and then a leaf stands there.
 //! Where the order takes the first candidate, no other is looked for.
-ghost use Rattle.std.specs.Prelude.{◌≡◌, ℕ, List, IfOk};
+ghost use Rattle.std.specs.Prelude.{◌≡◌, ℕ, List, IfOk, OnOk};
 ghost use Rattle.graph_core.specs.Common.{Graph};
+ghost use Rattle.tight_cuts.specs.Common.{AreClustersAt};
 ghost use Rattle.decomposer.specs.Common.{NamedPicks, AreCandidatesAt, IsFirstAt, IsPickedShore};
 
 use crate::orders::{NamedOrder, Order};
 use std::alloc::{AllocError, Global};
-use tight_cuts::{Candidate, CandidateList, candidates_at_place, first_at_place};
+use tight_cuts::{Candidate, CandidateList, Clusters, candidates_from_clusters, first_at_place};
 use tree_core::KnownPlace;
 use vset_core::VSet;
 
 /// The shore of the candidate that the order picks at a place with so many cuts before it; none if
-/// and only if there is no candidate.
+/// and only if there is no candidate. The clusters are those that are known at the place.
 pub(crate) fn picked_at<O: Order>(
     alloc: Global,
     place: &KnownPlace,
     order: &O,
     before: usize,
+    clusters: &mut Clusters,
 ) -> Result<Option<VSet>, AllocError>
-    ensures { IfOk result
+    requires { AreClustersAt place.now.graph place.now.blocks clusters.old }
+    ensures clusters { OnOk result
+        (AreClustersAt place.now.graph place.now.blocks clusters.new) }
+    ensures picked { IfOk result
         (IsPickedShore (O.picks order.now) place.now.graph place.now.blocks before) }
 {
     if order.takes_first(before) {
         let first = first_at_place(alloc, place)?;
         Ok(shore_of(first))
     } else {
-        let list = candidates_at_place(alloc, place)?;
+        let list = candidates_from_clusters(alloc, place, clusters)?;
         Ok(listed_shore(order, &list, before))
     }
 }

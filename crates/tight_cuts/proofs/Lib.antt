@@ -23,6 +23,7 @@ pub mod TurnedEdges
 pub mod SurplusShores
 pub mod ClusteredVertices
 pub mod LiftedCandidates
+pub mod ClustersAtPlaces
 pub mod PartitionCandidates
 pub mod PlaceCandidates
 pub mod FrontEmpty

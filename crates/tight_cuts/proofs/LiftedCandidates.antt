@@ -25,30 +25,30 @@ module _ (g : Graph) (p : List (List ℕ)) (is : IsGraph g) (pp : IsPartition g.
   blocks : AreBlocks g.order p
   blocks = pp.partition
 
-  order_q : (quotient g p).order ≡ length p
+  pub order_q : (quotient g p).order ≡ length p
   unfolding quotient
   order_q = refl
 
   -- the union of the blocks at the places in x holds v if x holds the place of v
-  union-holds : (x : Set) (v : ℕ) → Within g.order v → mem (union_of_blocks g p x) v ≡ x (place p v)
+  pub union-holds : (x : Set) (v : ℕ) → Within g.order v → mem (union_of_blocks g p x) v ≡ x (place p v)
   union-holds x v w = mem-rising_list g.order (λ v. some (length p) (λ i. x i && mem (block p i) v)) v w ∙ held (x (place p v)) refl
     where
       held : (b : Bool) → x (place p v) ≡ b → some (length p) (λ i. x i && mem (block p i) v) ≡ x (place p v)
       held true h = let r = place_in g.order p blocks v w in true_some (length p) (λ i. x i && mem (block p i) v) (place p v) r.0 (and_from (x (place p v)) (mem (block p (place p v)) v) h r.1) ∙ sym h
       held false h = grind (arith, cases_Bool, some_true (length p), and_parts, both_ways (x (place p v)) h, place_is g.order p blocks v)
 
-  union-union : (x : Set) → IsUnion g.order p (mem (union_of_blocks g p x))
+  pub union-union : (x : Set) → IsUnion g.order p (mem (union_of_blocks g p x))
   union-union x u v wu wv e = union-holds x u wu ∙ ap x e ∙ sym (union-holds x v wv)
 
   -- its blocks are those of x
-  union-blocks : (x : Set) (i : ℕ) → Within (length p) i → x i ≡ blocks_in p (mem (union_of_blocks g p x)) i
+  pub union-blocks : (x : Set) (i : ℕ) → Within (length p) i → x i ≡ blocks_in p (mem (union_of_blocks g p x)) i
   union-blocks x i w = grind (arith, at_rep, union-union, union-holds, rep, rep_in, rep_place)
 
-  union-tight : (x : Set) → IsTight (quotient g p) x → IsTightAt g p (mem (union_of_blocks g p x))
+  pub union-tight : (x : Set) → IsTight (quotient g p) x → IsTightAt g p (mem (union_of_blocks g p x))
   union-tight x t = tight_at_down g p is blocks (mem (union_of_blocks g p x)) (union-union x)
       (tight-same (quotient g p) x (blocks_in p (mem (union_of_blocks g p x))) (quotient_graph g p is blocks) (λ i w. union-blocks x i (subst (λ n. Within n i) order_q w)) t)
 
-  union-nontrivial : (x : Set) → IsNontrivial (quotient g p).order x → IsNontrivial (length p) (blocks_in p (mem (union_of_blocks g p x)))
+  pub union-nontrivial : (x : Set) → IsNontrivial (quotient g p).order x → IsNontrivial (length p) (blocks_in p (mem (union_of_blocks g p x)))
   union-nontrivial x t = nontrivial-same (length p) x (blocks_in p (mem (union_of_blocks g p x))) (union-blocks x) (subst (λ n. IsNontrivial n x) order_q t)
 
   one-lifted : (c : Candidate) → IsTightCandidate (quotient g p) c → IsCandidateAt g p (lifted_candidate g p c)
@@ -76,10 +76,10 @@ module _ (g : Graph) (p : List (List ℕ)) (is : IsGraph g) (pp : IsPartition g.
 
 -- at single vertices the candidates are those of the graph
 module _ (g : Graph) (is : IsGraph g) where
-  single-nontrivial : (x : Set) → IsNontrivial g.order x → IsNontrivial (length (singles g.order)) (blocks_in (singles g.order) x)
+  pub single-nontrivial : (x : Set) → IsNontrivial g.order x → IsNontrivial (length (singles g.order)) (blocks_in (singles g.order) x)
   single-nontrivial x t = subst (λ n. IsNontrivial n (blocks_in (singles g.order) x)) (sym (length-singles g.order)) (nontrivial-same g.order x (blocks_in (singles g.order) x) (λ v w. sym (blocks-singles g.order x v w)) t)
 
-  nontrivial-single : (x : Set) → IsNontrivial (length (singles g.order)) (blocks_in (singles g.order) x) → IsNontrivial g.order x
+  pub nontrivial-single : (x : Set) → IsNontrivial (length (singles g.order)) (blocks_in (singles g.order) x) → IsNontrivial g.order x
   nontrivial-single x t = nontrivial-same g.order (blocks_in (singles g.order) x) x (blocks-singles g.order x) (subst (λ n. IsNontrivial n (blocks_in (singles g.order) x)) (length-singles g.order) t)
 
   one-single : (c : Candidate) → IsTightCandidate g c → IsCandidateAt g (singles g.order) c

@@ -6,7 +6,7 @@ unfoldable pub use Rattle.tight_cuts.specs.Candidates.{front_candidates, candida
 pub use Rattle.tight_cuts.specs.Pieces.{SeparatesTightly, IsBeside, arcs_of, contracted_net, with_piece, IsGrouping, head_or, leader, group_of}
 pub use Rattle.tight_cuts.specs.Tightness.{CrossesTwice, IsTightness, NoLaterWith, AreRowsWithout, AreEndsPartners, Leaves, LeavesAlone, IsTurned}
 pub use Rattle.tight_cuts.specs.EdgeSearch.{at_place, AreWeights, AreMatchings, AreLeaders, AreLeadersAt, arc_between, arcs_by, row_group, group_net, AreGroups, Leads, IsBeyond, IsCutOfGroups, IsCommonShore, AreWhole, IsShoreOfEdge, NoneBefore}
-pub use Rattle.tight_cuts.specs.Clusters.{AreUnparted, AreClusters}
+pub use Rattle.tight_cuts.specs.Clusters.{AreUnparted, AreClusters, AreUnpartedAt, AreClustersAt}
 pub use Rattle.tight_cuts.specs.View.{origin_of, candidate_of}
 pub use Rattle.tight_cuts.specs.CandidatesAt.{lifted_candidate, IsCandidateAt}
 unfoldable pub use Rattle.tight_cuts.specs.CandidatesAt.{candidates_at}

@@ -1,11 +1,12 @@
 //! The candidates at a place, and the first of them, from what the place knows of its quotient.
-ghost use Rattle.std.specs.Prelude.{◌≡◌, [], ◌↔◌, All, IfOk, None, Some, length, map};
+ghost use Rattle.std.specs.Prelude.{◌≡◌, [], ◌↔◌, All, IfOk, OnOk, None, Some, length, map};
 ghost use Rattle.std.specs.Option.{option_map};
 ghost use Rattle.counting.specs.Common.{Set};
 ghost use Rattle.graph_core.specs.Common.{Graph, IsTightAt, blocks_in, IsNontrivial};
-ghost use Rattle.tight_cuts.specs.Common.{first_of, IsCandidateAt, candidates_at, lifted_candidate, candidate_of};
+ghost use Rattle.tight_cuts.specs.Common.{AreClustersAt, first_of, IsCandidateAt, candidates_at, lifted_candidate, candidate_of};
 
 use crate::candidate::{Candidate, CandidateList};
+use crate::clusters::Clusters;
 use crate::finder::{first_candidate, listed};
 use contraction::Partition;
 use separation_kit::FirstPairs;
@@ -25,8 +26,31 @@ pub fn candidates_at_place(alloc: Global, place: &KnownPlace) -> Result<Candidat
         (λ list. (list ≡ []) ↔ ((x : Set) → IsTightAt place.now.graph place.now.blocks x →
         IsNontrivial (length place.now.blocks) (blocks_in place.now.blocks x) → ⊥)) }
 {
+    let mut clusters = Clusters::new(alloc, place.place().graph())?;
+    candidates_from_clusters(alloc, place, &mut clusters)
+}
+
+/// The candidates at a place, where clusters of vertices are known that no nontrivial tight cut
+/// there separates: edges between them are not asked. The clusters are those that are known then;
+/// they serve each place below (`Clusters::stay_below`), so that few edges are asked there.
+pub fn candidates_from_clusters(
+    alloc: Global,
+    place: &KnownPlace,
+    clusters: &mut Clusters,
+) -> Result<CandidateList, Memory>
+    requires { AreClustersAt place.now.graph place.now.blocks clusters.old }
+    ensures clusters { OnOk result
+        (AreClustersAt place.now.graph place.now.blocks clusters.new) }
+    ensures list { IfOk result
+        (λ list. list ≡ candidates_at place.now.graph place.now.blocks) }
+    ensures tight { IfOk result
+        (λ list. All (IsCandidateAt place.now.graph place.now.blocks) list) }
+    ensures none { IfOk result
+        (λ list. (list ≡ []) ↔ ((x : Set) → IsTightAt place.now.graph place.now.blocks x →
+        IsNontrivial (length place.now.blocks) (blocks_in place.now.blocks x) → ⊥)) }
+{
     place.keeps_place();
-    let list = listed_at(alloc, place)?;
+    let list = listed_at(alloc, place, clusters)?;
     Ok(list)
 }
 
@@ -47,14 +71,26 @@ pub fn first_at_place(alloc: Global, place: &KnownPlace) -> Result<Option<Candid
 }
 
 // The candidates of the graph that is seen at the place, led back if it is a quotient.
-fn listed_at(alloc: Global, place: &KnownPlace) -> Result<CandidateList, Memory>
-    ensures { IfOk result (λ list. list ≡ candidates_at place.now.graph place.now.blocks) }
+fn listed_at(
+    alloc: Global,
+    place: &KnownPlace,
+    clusters: &mut Clusters,
+) -> Result<CandidateList, Memory>
+    requires { AreClustersAt place.now.graph place.now.blocks clusters.old }
+    ensures clusters { OnOk result
+        (AreClustersAt place.now.graph place.now.blocks clusters.new) }
+    ensures list { IfOk result
+        (λ list. list ≡ candidates_at place.now.graph place.now.blocks) }
 {
-    let pairs = FirstPairs::of(place.covered());
-    let list = listed(alloc, &pairs)?;
+    place.keeps_place();
     match place.below() {
-        Some(_) => lifted(alloc, place.place().partition(), &list),
-        None => Ok(list),
+        Some(q) => {
+            let mut inside = clusters.of_blocks(alloc, place)?;
+            let list = listed(alloc, &FirstPairs::of(q), &mut inside)?;
+            *clusters = inside.of_vertices(alloc, place)?;
+            lifted(alloc, place.place().partition(), &list)
+        }
+        None => listed(alloc, &FirstPairs::of(place.covered()), clusters),
     }
 }
 

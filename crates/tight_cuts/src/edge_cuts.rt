@@ -70,19 +70,20 @@ pub(crate) fn add_edge_cuts<S: EdgeSearch>(
     alloc: Global,
     c: &Covered,
     search: &mut S,
-    mut clusters: Clusters,
+    clusters: &mut Clusters,
     known: u32,
     list: &mut CandidateList,
 ) -> Result<(), Memory>
     requires search { S.is_of search.old c.now }
-    requires clusters { AreClusters c.now clusters }
+    requires clusters { AreClusters c.now clusters.old }
     requires within { known ≤ size c.now }
     requires cut { (e : ℕ) → Within known e → list_any (cuts c.now e) list.old ≡ true }
     requires front { list.old ≡ front_candidates c.now }
-    ensures { OnOk result (list.new ≡ candidates c.now) }
+    ensures clusters { OnOk result (AreClusters c.now clusters.new) }
+    ensures list { OnOk result (list.new ≡ candidates c.now) }
 {
     for k in known..c.size() {
-        add_edge_cut(alloc, c, search, &mut clusters, k + 1, list)?;
+        add_edge_cut(alloc, c, search, clusters, k + 1, list)?;
     }
     Ok(())
 }

@@ -4,7 +4,7 @@ ghost use Rattle.std.specs.List.{AllPairs, list_any};
 ghost use Rattle.std.specs.Option.{option_map};
 ghost use Rattle.counting.specs.Common.{Within, mem, Set};
 ghost use Rattle.graph_core.specs.Common.{IsCovered, in_cut, size, HasOnlyTrivialTightCuts, IsNontrivial, IsTight};
-ghost use Rattle.tight_cuts.specs.Common.{AreFloodsOf, IsTightCandidate, ShoresDiffer, candidates, cuts, first_of, first_shore, front_candidates, candidate_of};
+ghost use Rattle.tight_cuts.specs.Common.{AreClusters, AreFloodsOf, IsTightCandidate, ShoresDiffer, candidates, cuts, first_of, first_shore, front_candidates, candidate_of};
 
 use crate::bipartite::FloodSearch;
 use crate::candidate::{Candidate, CandidateList, any_cuts};
@@ -35,16 +35,22 @@ fn edges_cut(list: &CandidateList, c: &Covered) -> u32
 }
 
 // Adds what the edges of any graph give. Nothing is made if each is in the cut of a candidate.
-fn add_network_cuts(alloc: Global, c: &Covered, list: &mut CandidateList) -> Result<(), Memory>
-    requires { list.old ≡ front_candidates c.now }
-    ensures { OnOk result (list.new ≡ candidates c.now) }
+fn add_network_cuts(
+    alloc: Global,
+    c: &Covered,
+    clusters: &mut Clusters,
+    list: &mut CandidateList,
+) -> Result<(), Memory>
+    requires clusters { AreClusters c.now clusters.old }
+    requires front { list.old ≡ front_candidates c.now }
+    ensures clusters { OnOk result (AreClusters c.now clusters.new) }
+    ensures list { OnOk result (list.new ≡ candidates c.now) }
 {
     let known = edges_cut(list, c);
     if known == c.size() {
         return Ok(());
     }
-    let mut clusters = Clusters::new(alloc, c.graph())?;
-    join_by_floods(alloc, c, list, &mut clusters)?;
+    join_by_floods(alloc, c, list, clusters)?;
     let matchings = Matchings::new(alloc, c)?;
     add_edge_cuts(
         alloc,
@@ -60,13 +66,15 @@ fn add_network_cuts(alloc: Global, c: &Covered, list: &mut CandidateList) -> Res
 fn add_flood_cuts(
     alloc: Global,
     bipartite: &Bipartite,
+    clusters: &mut Clusters,
     list: &mut CandidateList,
 ) -> Result<(), Memory>
-    requires { list.old ≡ front_candidates bipartite.now }
-    ensures { OnOk result (list.new ≡ candidates bipartite.now) }
+    requires clusters { AreClusters bipartite.now clusters.old }
+    requires front { list.old ≡ front_candidates bipartite.now }
+    ensures clusters { OnOk result (AreClusters bipartite.now clusters.new) }
+    ensures list { OnOk result (list.new ≡ candidates bipartite.now) }
 {
     let mut search = FloodSearch::new(alloc, bipartite)?;
-    let clusters = Clusters::new(alloc, bipartite.graph())?;
     add_edge_cuts(alloc, bipartite.covered(), &mut search, clusters, 0, list)
 }
 
@@ -93,31 +101,40 @@ fn first_flood_cut(
 
 /// The list of the candidates. A graph that is not bipartite and has none of the first two parts
 /// has none at all (Edmonds, Lovász and Pulleyblank 1982).
-pub(crate) fn listed(alloc: Global, pairs: &FirstPairs) -> Result<CandidateList, Memory>
-    ensures { IfOk result (λ list. list ≡ candidates pairs.now) }
+pub(crate) fn listed(
+    alloc: Global,
+    pairs: &FirstPairs,
+    clusters: &mut Clusters,
+) -> Result<CandidateList, Memory>
+    requires { AreClusters pairs.now clusters.old }
+    ensures clusters { OnOk result (AreClusters pairs.now clusters.new) }
+    ensures list { IfOk result (λ list. list ≡ candidates pairs.now) }
 {
     let list = front_candidates(alloc, pairs)?;
-    listed_after(alloc, pairs.covered(), list)
+    listed_after(alloc, pairs.covered(), clusters, list)
 }
 
 // The list of the candidates, from those of the first two parts.
 fn listed_after(
     alloc: Global,
     c: &Covered,
+    clusters: &mut Clusters,
     mut list: CandidateList,
 ) -> Result<CandidateList, Memory>
-    requires { list ≡ front_candidates c.now }
-    ensures { IfOk result (λ list. list ≡ candidates c.now) }
+    requires clusters { AreClusters c.now clusters.old }
+    requires front { list ≡ front_candidates c.now }
+    ensures clusters { OnOk result (AreClusters c.now clusters.new) }
+    ensures list { IfOk result (λ list. list ≡ candidates c.now) }
 {
     c.keeps_covered();
     if let Some(bipartite) = Bipartite::of(c) {
-        add_flood_cuts(alloc, &bipartite, &mut list)?;
+        add_flood_cuts(alloc, &bipartite, clusters, &mut list)?;
         return Ok(list);
     }
     if list.is_empty() {
         return Ok(list);
     }
-    add_network_cuts(alloc, c, &mut list)?;
+    add_network_cuts(alloc, c, clusters, &mut list)?;
     Ok(list)
 }
 
@@ -141,7 +158,8 @@ pub fn candidates(alloc: Global, g: &MultiGraph) -> Result<CandidateList, Memory
     g.keeps_limits();
     let covered = Covered::known(alloc, g)?;
     let pairs = FirstPairs::of(&covered);
-    let list = listed(alloc, &pairs)?;
+    let mut clusters = Clusters::new(alloc, g)?;
+    let list = listed(alloc, &pairs, &mut clusters)?;
     Ok(list)
 }
 

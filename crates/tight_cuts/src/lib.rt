@@ -34,6 +34,8 @@
 //! `tree_core`): at single vertices those of the graph itself, elsewhere those of the quotient,
 //! mapped to vertices of the graph (`candidates_at` of `specs/CandidatesAt`, `IsCandidateAt`).
 //! `first_at_place` returns the first. Both read what the place knows of its quotient.
+//! `candidates_from_clusters` begins with vertices that are known not to be separated (`Clusters`),
+//! and leaves those that are then known: they serve each place below (`stay_below`).
 //!
 //! Depends on `contraction`, `allowed_edges`, `barrier_kit`, `separation_kit`, `brick_kit`,
 //! `matching_digraph` and `flow_core`. Sources: Edmonds, Lovász and Pulleyblank 1982; Lovász,
@@ -60,7 +62,8 @@ mod quick_tightness;
 mod quiet_edges;
 mod tightness;
 
-pub use at_places::{candidates_at_place, first_at_place};
+pub use at_places::{candidates_at_place, candidates_from_clusters, first_at_place};
 pub use candidate::{Candidate, CandidateList, Origin};
+pub use clusters::Clusters;
 pub use finder::{candidates, find_any, first_candidate, first_cut};
 pub use tightness::{Tightness, is_tight, tightness_in};

@@ -6,7 +6,7 @@ use Rattle.decomposer.proofs.decomposition.+decomposing.Goals as goal
 pub decompose_at-decompose_cut-requires : goal.decompose_at-decompose_cut-requires
 decompose_at-decompose_cut-requires g t c κs within =
     let falls = c.decreases in
-    (first_of (omega arith, search rules), (within, (c.in_ok-picked.ensures.cut c.in-Some.shore c.in-Some.is, (c.in_ok-picked.ensures.picked c.in-Some.shore c.in-Some.is, c.requires.few))))
+    (first_of (omega arith, search rules), (within, (c.in_ok-picked.ensures.picked.cut c.in-Some.shore c.in-Some.is, (c.in_ok-picked.ensures.picked.picked c.in-Some.shore c.in-Some.is, (c.requires.few, c.in_ok-picked.ensures.clusters)))))
 
 pub decompose_at-returns-in-Some-clause-few : goal.decompose_at-returns-in-Some-clause-few
 decompose_at-returns-in-Some-clause-few g t c = grind arith
@@ -20,7 +20,7 @@ decompose_cut-decompose_at-requires-2 g t c κs within =
     let after = c.in_ok-kept.ensures.made.cuts in
     let bound = c.requires.few in
     let falls = c.decreases in
-    (first_of (omega arith, search rules), (within, omega arith))
+    (first_of (omega arith, search rules), (within, (omega arith, grind arith)))
 
 pub decompose_cut-returns-clause-made : goal.decompose_cut-returns-clause-made
 decompose_cut-returns-clause-made g t c =

@@ -1,6 +1,9 @@
 use Rattle.std.proofs.Common.{arith}
 use Rattle.decomposer.proofs.decomposition.decompose_places.Goals as goal
 
+pub decompose_at-requires-clause-clusters : goal.decompose_at-requires-clause-clusters
+decompose_at-requires-clause-clusters g c = let known = c.in_ok-clusters.ensures.places c.in_ok-root.root.blocks in grind arith
+
 pub returns-clause-derivation : goal.returns-clause-derivation
 returns-clause-derivation g c = grind arith
 

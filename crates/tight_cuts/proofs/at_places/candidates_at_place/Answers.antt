@@ -1,9 +1,5 @@
 use Rattle.std.proofs.Common.{arith}
-use Rattle.tight_cuts.proofs.PartitionCandidates.{found-at, none-at}
 use Rattle.tight_cuts.proofs.at_places.candidates_at_place.Goals as goal
 
-pub returns-clause-tight : goal.returns-clause-tight
-returns-clause-tight c = grind (arith, found-at c.args.place.now.graph c.args.place.now.blocks c.keeps_place.ensures.limits.multigraph.ends)
-
-pub returns-clause-none : goal.returns-clause-none
-returns-clause-none c = grind (arith, none-at c.args.place.now.graph c.args.place.now.blocks c.keeps_place.ensures.limits.multigraph.ends)
+pub candidates_from_clusters-requires : goal.candidates_from_clusters-requires
+candidates_from_clusters-requires c = let known = c.in_ok-clusters.ensures.places c.args.place.now.blocks in grind arith

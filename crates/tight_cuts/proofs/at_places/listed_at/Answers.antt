@@ -1,13 +1,17 @@
-use Rattle.std.proofs.Common.{◌∙◌, ap, arith}
-use Rattle.graph_core.proofs.Common.{Graph}
-use Rattle.tight_cuts.specs.Common.{candidates}
-use Rattle.tight_cuts.proofs.PlaceCandidates.{seen-at_blocks, seen-at_vertices}
+use Rattle.std.proofs.Common.{arith}
+use Rattle.tight_cuts.proofs.ClustersAtPlaces.{clusters-seen, seen-clusters}
+use Rattle.tight_cuts.proofs.LiftedCandidates.{at-blocks}
+use Rattle.tight_cuts.proofs.PlaceCandidates.{seen-at_vertices}
 use Rattle.tight_cuts.proofs.at_places.listed_at.Goals as goal
 
-pub returns-in-Some : goal.returns-in-Some
-returns-in-Some c = grind (arith, seen-at_blocks c.args.place.now.graph c.args.place.now.blocks)
+pub returns-in_ok-clusters-in-Some-clause-list : goal.returns-in_ok-clusters-in-Some-clause-list
+returns-in_ok-clusters-in-Some-clause-list c = grind (arith, at-blocks c.args.place.now.graph c.args.place.now.blocks)
 
-pub returns-in-None : goal.returns-in-None
-returns-in-None c =
-    c.in_ok-list.ensures ∙ ap (λ (h : Graph). candidates h) (c.of-pairs.ensures ∙ c.covered.ensures)
-    ∙ seen-at_vertices c.args.place.now.graph c.args.place.now.blocks (c.below.ensures.none.0 c.in-None.is)
+pub listed-requires-in-None : goal.listed-requires-in-None
+listed-requires-in-None c = grind (arith, clusters-seen c.args.place.now.graph c.args.place.now.blocks c.keeps_place.ensures.limits.multigraph.ends c.keeps_place.ensures.partition)
+
+pub returns-in-None-clause-clusters : goal.returns-in-None-clause-clusters
+returns-in-None-clause-clusters c = grind (arith, seen-clusters c.args.place.now.graph c.args.place.now.blocks c.keeps_place.ensures.limits.multigraph.ends c.keeps_place.ensures.partition)
+
+pub returns-in-None-clause-list : goal.returns-in-None-clause-list
+returns-in-None-clause-list c = grind (arith, seen-at_vertices c.args.place.now.graph c.args.place.now.blocks)
