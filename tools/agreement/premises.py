@@ -41,7 +41,7 @@ def tables(text):
 def tried_in(text):
     """The names of the tables that the tests of a file go through."""
     bodies = re.findall(r"^#\[test\]\nfn .*?^}", text, re.MULTILINE | re.DOTALL)
-    return {name for body in bodies for name in re.findall(r"first_wrong\([^;]*?&(\w+)\)", body)}
+    return {name for body in bodies for name in re.findall(r"\ball_are_so\([^;]*?&(\w+)\)", body)}
 
 
 def tests(wrong):
