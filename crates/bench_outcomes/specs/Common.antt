@@ -3,7 +3,7 @@ pub use Rattle.bench_outcomes.specs.Codes.{code_of}
 pub use Rattle.bench_outcomes.specs.Shown.{MayBeBerge, MayCross, MayCrossBehind, MayShowOfTree, MayShowOfMoves, MayShowOfTwo}
 pub use Rattle.bench_outcomes.specs.Conducts.{Conduct, Writes, Tells, Needs, Chooses, AreDerivations, LeadsOn, conduct_of}
 pub use Rattle.bench_outcomes.specs.Facts.{HasMaximum, IsStructure, TellsStructure, IsAnalysis}
-pub use Rattle.bench_outcomes.specs.RefusalLines.{is_negative, cover_fault_of, node_fault_of, ear_fault_of, node_number, step_number, fault_edge, begun_by, refused_words, cover_told, refusal_told, told_by}
+pub use Rattle.bench_outcomes.specs.RefusalLines.{is_negative, cover_fault_of, node_fault_of, ear_fault_of, node_number, step_number, step_edge, begun_by, refused_words, cover_told, refusal_told, told_by}
 pub use Rattle.bench_outcomes.specs.Uncovered.{Uncovered}
 pub use Rattle.bench_outcomes.specs.Checks.{shown_of, AcceptedTree, RefusedTree, Refuses, RefusesIfAny, CheckGives}
 pub use Rattle.bench_outcomes.specs.EarChecks.{is_single, single_count, double_count, why_number, named_edge, AcceptedEars, RefusedEars, EarCheckGives, BuiltEars, EarsGives}

@@ -1,13 +1,14 @@
 -- The report on ear lists of a graph: for a given one whether it is an ear list, and for one that
 -- is built its text.
 -- Stated by: bench_reports. Rests on it: bench_outcomes, bench_top, theorems.
-use Rattle.std.specs.Prelude.{◌≡◌, ◌⊎◌, ℕ, List, length, count_by, not, Bool, true, false, Option, Some, None}
+use Rattle.std.specs.Prelude.{◌≡◌, ◌⊎◌, ℕ, List, length, count_by, not, Bool, true, false, Option}
 use Rattle.std.specs.List.{AllByRecursion}
 use Rattle.graph_core.specs.Common.{IsCovered, Graph, size, IsBipartite}
-use Rattle.ear_core.specs.Common.{PlainEars, PlainStep, one, two, IsEarList, IsSingle, IsUnrefinable, TakesSingles, PlainWhy, not_path, even_length, bad_ends, inner_on_stage, edge_used, stage_not_covered, ends_early, IsRefused}
+use Rattle.ear_core.specs.Common.{PlainEars, PlainStep, one, two, IsEarList, IsSingle, IsUnrefinable, TakesSingles, PlainWhy, IsRefused}
 use Rattle.ear_text.specs.Writing.{ears_text}
 use Rattle.report_text.specs.Common.{ears_report_text, ear_judgement_text}
 use Rattle.report_text.specs.declared.ear_judgements.EarLine.TheVariants as line
+use Rattle.bench_outcomes.specs.RefusalLines.{ear_fault_of, step_edge, step_number}
 use Rattle.bench_outcomes.specs.Uncovered.{Uncovered}
 use Rattle.bench_outcomes.specs.declared.status.Status.{Status}
 use Rattle.bench_outcomes.specs.declared.status.Status.TheVariants.{Done, Negative}
@@ -27,23 +28,11 @@ double_count steps = count_by (λ step. not (is_single step)) steps
 
 -- the numbers of the reasons
 abbrev pub why_number : PlainWhy → ℕ
-why_number not_path = 1
-why_number even_length = 2
-why_number bad_ends = 3
-why_number inner_on_stage = 4
-why_number edge_used = 5
-why_number (stage_not_covered e) = 6
-why_number (ends_early e) = 7
+why_number why = step_number (ear_fault_of why)
 
 -- the edge that a reason names, if it names one
 abbrev pub named_edge : PlainWhy → Option ℕ
-named_edge not_path = None
-named_edge even_length = None
-named_edge bad_ends = None
-named_edge inner_on_stage = None
-named_edge edge_used = None
-named_edge (stage_not_covered e) = Some e
-named_edge (ends_early e) = Some e
+named_edge why = step_edge (ear_fault_of why)
 
 -- it is an ear list of the covered graph: the output counts its steps
 pub record AcceptedEars (g : Graph) (list : PlainEars) (status : Status) (output : List ℕ) : Type 0 where

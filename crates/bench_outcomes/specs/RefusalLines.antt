@@ -75,14 +75,14 @@ step_number (ear.StageNotCovered edge) = 6
 step_number (ear.EndsEarly edge) = 7
 
 -- the edge that a fault of a step names, if it names one
-abbrev pub fault_edge : EarFault → Option ℕ
-fault_edge ear.NotPath = None
-fault_edge ear.EvenLength = None
-fault_edge ear.BadEnds = None
-fault_edge ear.InnerOnStage = None
-fault_edge ear.EdgeUsed = None
-fault_edge (ear.StageNotCovered edge) = Some edge
-fault_edge (ear.EndsEarly edge) = Some edge
+abbrev pub step_edge : EarFault → Option ℕ
+step_edge ear.NotPath = None
+step_edge ear.EvenLength = None
+step_edge ear.BadEnds = None
+step_edge ear.InnerOnStage = None
+step_edge ear.EdgeUsed = None
+step_edge (ear.StageNotCovered edge) = Some edge
+step_edge (ear.EndsEarly edge) = Some edge
 
 -- the output, with these words at its beginning
 abbrev pub begun_by : (words output : List ℕ) → List ℕ
@@ -104,7 +104,7 @@ cover_told (cover.Unallowed edge) output = verdict_text (NotCovered (reason.Unal
 abbrev pub refusal_told : Refusal → (output : List ℕ) → List ℕ
 refusal_told (Graph fault) output = cover_told fault output
 refusal_told (Tree number at place fault) output = begun_by (refused_words (codes "tree ") number at (node_number fault)) output
-refusal_told (Ears step place fault) output = ear_judgement_text (line.Refused step (step_number fault) (fault_edge fault))
+refusal_told (Ears step place fault) output = ear_judgement_text (line.Refused step (step_number fault) (step_edge fault))
 refusal_told (Stuck step fault) output = stuck_text step
 refusal_told (Move step at place fault) output = begun_by (refused_words (codes "move ") step at (node_number fault)) output
 

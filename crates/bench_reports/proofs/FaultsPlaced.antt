@@ -12,20 +12,8 @@ use Rattle.bench_outcomes.specs.Common.{IsInMoves, IsInTrees}
 refused-within : (g : Graph) (p : List (List ℕ)) (t : Shape) (node : ℕ) (why : Why) → IsRefusedAt g p t node why → (0 < node) × (node ≤ node_count t)
 refused-within g p leaf node why refused = let is = refused.0 in (omega arith, omega arith)
 refused-within g p (cut x kept merged) node why (inl here) = let is = here.0 in (omega arith, omega arith)
-refused-within g p (cut x kept merged) node why (inr (inl below)) =
-    let found = below.1 in
-    let is = found.1 in
-    let within = refused-within g (kept_at g.order p x) kept found.0 why found.2 in
-    let some = within.0 in
-    let few = within.1 in
-    (omega arith, omega arith)
-refused-within g p (cut x kept merged) node why (inr (inr below)) =
-    let found = below.2 in
-    let is = found.1 in
-    let within = refused-within g (merged_at g.order p x) merged found.0 why found.2 in
-    let some = within.0 in
-    let few = within.1 in
-    (omega arith, omega arith)
+refused-within g p (cut x kept merged) node why (inr (inl below)) = let is = below.1.1 in grind (arith, is, refused-within g (kept_at g.order p x) kept below.1.0 why below.1.2)
+refused-within g p (cut x kept merged) node why (inr (inr below)) = let is = below.2.1 in grind (arith, is, refused-within g (merged_at g.order p x) merged below.2.0 why below.2.2)
 
 pub refused-node : (g : Graph) (t : Shape) (node : ℕ) (why : Why) → IsRefused g t node why → (0 < node) × (node ≤ node_count t)
 refused-node g t node why refused = refused-within g (singles g.order) t node why refused.refused

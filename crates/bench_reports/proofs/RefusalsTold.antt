@@ -1,17 +1,14 @@
 -- The line of a refusal is told by its value: the text of the whole line, or the line from its
 -- beginning on.
-use Rattle.std.proofs.Common.{◌≡◌, ◌∙◌, ℕ, List, ◌++◌, length, drop, codes, Option, refl, sym, ap, append_assoc, drop_at}
+use Rattle.std.proofs.Common.{◌≡◌, ◌∙◌, ℕ, List, ◌++◌, length, drop, codes, refl, sym, ap, append_assoc, drop_at}
 use Rattle.graph_core.specs.declared.verdict.Reason.{Reason}
 use Rattle.graph_core.specs.declared.verdict.Reason.TheVariants.{Small, Parted, Unmatched, Unallowed}
 use Rattle.graph_core.specs.declared.verdict.Verdict.TheVariants.{NotCovered}
 use Rattle.tree_check.specs.Common.{Why, not_blocks, even, trivial, not_tight, not_leaf, why_number}
-use Rattle.ear_core.specs.Common.{PlainWhy, not_path, even_length, bad_ends, inner_on_stage, edge_used, stage_not_covered, ends_early}
-use Rattle.report_text.specs.Common.{judgement_text, refused_move_text, refused_line, shown_text, verdict_text, ear_judgement_text, numbers_text}
+use Rattle.report_text.specs.Common.{judgement_text, refused_move_text, refused_line, shown_text, verdict_text, numbers_text}
 use Rattle.report_text.specs.declared.judgements.Shown.{Shown}
 use Rattle.report_text.specs.declared.judgements.TreeLine.TheVariants as tree
-use Rattle.report_text.specs.declared.ear_judgements.EarLine.TheVariants as line
-use Rattle.bench_outcomes.specs.EarChecks as ears
-use Rattle.bench_outcomes.specs.Common.{begun_by, cover_fault_of, cover_told, ear_fault_of, fault_edge, node_fault_of, node_number, refused_words, step_number}
+use Rattle.bench_outcomes.specs.Common.{begun_by, cover_fault_of, cover_told, node_fault_of, node_number, refused_words}
 
 -- a text that begins with the words is the one with the words at its beginning
 begun : (words rest output : List ℕ) → output ≡ words ++ rest → output ≡ begun_by words output
@@ -41,31 +38,6 @@ pub move-told : (number node : ℕ) (why : Why) (shown : Shown) (output : List �
     output ≡ begun_by (refused_words (codes "move ") number node (node_number (node_fault_of why))) output
 unfolding refused_move_text
 move-told number node why shown output is = refused-begun (codes "move ") number node why shown output is
-
--- the line of a step names the number and the edge of its fault
-step-numbers : (why : PlainWhy) → ears.why_number why ≡ step_number (ear_fault_of why)
-step-numbers not_path = refl
-step-numbers even_length = refl
-step-numbers bad_ends = refl
-step-numbers inner_on_stage = refl
-step-numbers edge_used = refl
-step-numbers (stage_not_covered e) = refl
-step-numbers (ends_early e) = refl
-
-named-edges : (why : PlainWhy) → ears.named_edge why ≡ fault_edge (ear_fault_of why)
-named-edges not_path = refl
-named-edges even_length = refl
-named-edges bad_ends = refl
-named-edges inner_on_stage = refl
-named-edges edge_used = refl
-named-edges (stage_not_covered e) = refl
-named-edges (ends_early e) = refl
-
-pub ears-told : (step : ℕ) (why : PlainWhy) (output : List ℕ) → output ≡ ear_judgement_text (line.Refused step (ears.why_number why) (ears.named_edge why)) →
-    output ≡ ear_judgement_text (line.Refused step (step_number (ear_fault_of why)) (fault_edge (ear_fault_of why)))
-ears-told step why output is =
-    is ∙ (ap (λ (n : ℕ). ear_judgement_text (line.Refused step n (ears.named_edge why))) (step-numbers why)
-    ∙ ap (λ (e : Option ℕ). ear_judgement_text (line.Refused step (step_number (ear_fault_of why)) e)) (named-edges why))
 
 -- the line of the reason why a graph is not covered
 pub cover-told : (reason : Reason) (output : List ℕ) → output ≡ verdict_text (NotCovered reason) → output ≡ cover_told (cover_fault_of reason) output

@@ -136,6 +136,7 @@ fn load_moves_for<S: Shelf>(
 }
 
 /// What the files of a graph and of a tree for it hold.
+#[tactic(auto, using(counting::proofs::Common::err_from_is_err_and))]
 pub fn load_tree<S: Shelf>(
     alloc: Global,
     graph_file: &str,
@@ -155,6 +156,7 @@ pub fn load_tree<S: Shelf>(
 }
 
 /// What the files of a graph and of a list of picks hold.
+#[tactic(auto, using(counting::proofs::Common::err_from_is_err_and))]
 pub fn load_picks<S: Shelf>(
     alloc: Global,
     graph_file: &str,
@@ -174,6 +176,7 @@ pub fn load_picks<S: Shelf>(
 }
 
 /// What the files of a graph and of a list of ears for it hold.
+#[tactic(auto, using(counting::proofs::Common::err_from_is_err_and))]
 pub fn load_ears<S: Shelf>(
     alloc: Global,
     graph_file: &str,
@@ -193,6 +196,7 @@ pub fn load_ears<S: Shelf>(
 }
 
 /// What the files of a graph, of a tree for it and of moves hold.
+#[tactic(auto, using(counting::proofs::Common::err_from_is_err_and))]
 pub fn load_moves<S: Shelf>(
     alloc: Global,
     graph_file: &str,
@@ -218,6 +222,7 @@ pub fn load_moves<S: Shelf>(
 }
 
 /// What the files of a graph, of a tree for it and of a second tree hold.
+#[tactic(auto, using(counting::proofs::Common::err_from_is_err_and))]
 pub fn load_trees<S: Shelf>(
     alloc: Global,
     graph_file: &str,

@@ -1,5 +1,5 @@
 -- The lines of the usage that are a command's, and the page of each command.
--- Stated by: command_table, front_words. Rests on it: front_top, mcg6_front_top.
+-- Stated by: command_table, front_words.
 use Rattle.std.specs.Prelude.{ℕ, List, [], ◌∷◌, ◌++◌, nat_eq, Bool, false, codes, if◌then◌else◌}
 use Rattle.std.specs.declared.option.Option.{Option}
 use Rattle.std.specs.declared.option.Option.TheVariants.{None, Some}

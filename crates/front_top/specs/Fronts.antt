@@ -1,16 +1,16 @@
 -- What a run of the front makes of a shelf and a sink, and what is to be said of it.
 -- Stated by: front_top.
-use Rattle.std.specs.Prelude.{◌≡◌, ◌⊎◌, ℕ, List, Bool, true, false}
+use Rattle.std.specs.Prelude.{◌≡◌, ℕ, List, Bool, true, false}
 use Rattle.std.specs.declared.option.Option.{Option}
 use Rattle.std.specs.declared.option.Option.TheVariants.{Some, None}
-use Rattle.outside.specs.Common.{Answer, NamedFile, Rose, appended}
+use Rattle.outside.specs.Common.{Answer, NamedFile}
 use Rattle.bench_tasks.specs.Common.{command_of}
 use Rattle.bench_outcomes.specs.declared.status.Status.{Status}
 use Rattle.bench_outcomes.specs.declared.status.Status.TheVariants.{Done, WriteFault}
 use Rattle.bench_top.specs.Runs.{Runs, RunsTo}
 use Rattle.bench_top.specs.declared.ending.RunEnding.{RunEnding}
-use Rattle.front_words.specs.Saying.{IsBegun, WritesUntilFault, WritesWhole}
-use Rattle.front_top.specs.Answers.{answer_of}
+use Rattle.front_words.specs.Answers.{AnswersAtOnce, answer_of}
+use Rattle.front_words.specs.declared.programs.Program.TheVariants.{Mcg}
 use Rattle.front_top.specs.declared.ending.Message.{Message}
 use Rattle.front_top.specs.declared.ending.Message.TheVariants as message
 
@@ -24,33 +24,19 @@ pub record Speaks {S K : Type 0} (holds : S → Option (List NamedFile)) (is_ste
   pub of_status : ending.status ≡ ended
   pub ran : RunsTo holds is_steady faults reads written writes sink_faults (command_of words) ended ending.stop ending.refusal first last before now
 
--- a text was the whole answer: it was written whole and all is done, or a beginning of it if
--- the sink failed, and the write that failed is the last
-pub record Answers {K : Type 0} (written : K → Option (List ℕ)) (writes : K → List ℕ → ℕ → K → Type 0) (faults : K → ℕ) (text : List ℕ) (ended : Status) (before now : K) : Type 0 where
-  pub ends : (ended ≡ Done) ⊎ (ended ≡ WriteFault)
-  pub whole : ended ≡ Done → written now ≡ appended (written before) text
-  pub begun : IsBegun text (written before) (written now)
-  pub writes_whole : ended ≡ Done → WritesWhole writes text before now
-  pub writes_until : ended ≡ WriteFault → WritesUntilFault writes text before now
-  pub failed : ended ≡ WriteFault → Rose (faults before) (faults now)
-
 -- a run of the front on these words, quiet or not, ended with this status, and with this to be said.
 -- It led from the first shelf to the last, and from the sink before to the sink now, whose reader is
 -- gone or not
 pub record Fronts {S K : Type 0} (holds : S → Option (List NamedFile)) (is_steady : S → Bool) (faults : S → ℕ) (reads : S → List ℕ → Answer → S → Type 0)
     (written : K → Option (List ℕ)) (writes : K → List ℕ → ℕ → K → Type 0) (sink_faults : K → ℕ) (words : List (List ℕ)) (is_quiet is_abandoned : Bool)
     (ended : Status) (said : Message) (first last : S) (before now : K) : Type 0 where
-  -- words that are answered at once get their answer, and nothing is read
-  pub answers : (text : List ℕ) → answer_of words ≡ Some text → Answers written writes sink_faults text ended before now
-  pub answers_unread : (text : List ℕ) → answer_of words ≡ Some text → last ≡ first
-  -- nothing is to be said of it, unless it could not be written whole although somebody still reads
-  -- it: then the words for that
-  pub answers_quietly : (text : List ℕ) → answer_of words ≡ Some text → (ended ≡ Done) ⊎ (is_abandoned ≡ true) → said ≡ message.Nothing
-  pub answers_lost : (text : List ℕ) → answer_of words ≡ Some text → ended ≡ WriteFault → is_abandoned ≡ false → is_quiet ≡ false → said ≡ message.Lost
+  -- words that are answered at once get their answer
+  pub answers : (text : List ℕ) → answer_of Mcg words ≡ Some text →
+      AnswersAtOnce written writes sink_faults Done WriteFault message.Nothing message.Lost text is_quiet is_abandoned ended said first last before now
   -- for all others the run is one of `run`
-  pub runs : answer_of words ≡ None → Runs holds is_steady faults reads written writes sink_faults (command_of words) ended first last before now
+  pub runs : answer_of Mcg words ≡ None → Runs holds is_steady faults reads written writes sink_faults (command_of words) ended first last before now
   -- and what is to be said is what its ending means
-  pub speaks : answer_of words ≡ None → is_quiet ≡ false →
+  pub speaks : answer_of Mcg words ≡ None → is_quiet ≡ false →
       Speaks holds is_steady faults reads written writes sink_faults words ended said first last before now
   -- if it is to be quiet, nothing is to be said
   pub quiet : is_quiet ≡ true → said ≡ message.Nothing

@@ -11,12 +11,11 @@ use Rattle.bench_tasks.specs.declared.stop.Stop.TheVariants as stop
 use Rattle.refusals.specs.declared.refusal.Refusal.{Refusal}
 use Rattle.bench_outcomes.specs.declared.status.Status.{Status}
 use Rattle.bench_outcomes.specs.declared.status.Status.TheVariants.{Done, Negative, Usage, ReadFault, BadInput, WriteFault, Memory}
-use Rattle.command_table.specs.Table.{rows}
 use Rattle.front_words.specs.LinesAt.{line_at}
 use Rattle.front_words.specs.Messages.{bad_file_text, unread_text}
 use Rattle.front_words.specs.Refused.{refused_text}
 use Rattle.front_words.specs.Unmatched.{unmatched_text}
-use Rattle.front_words.specs.Usage.{usage_text}
+use Rattle.front_words.specs.declared.programs.Program.TheVariants.{Mcg}
 use Rattle.front_top.specs.Files.{file_in}
 use Rattle.front_top.specs.declared.ending.Message.{Message}
 use Rattle.front_top.specs.declared.ending.Message.TheVariants as message
@@ -42,7 +41,8 @@ line_kept (Some text) line = line_at text line
 -- of a bad file: which it is, where it is outside its format and how, and the line
 abbrev pub bad_words : Option File → (line : ℕ) → FaultKind → (kept : Option (List ℕ)) → (sizes : Option (ℕ × ℕ)) → List ℕ
 bad_words None line kind kept sizes = []
-bad_words (Some file) line kind kept sizes = bad_file_text program file.0 file.1 line kind kept sizes (line_kept kept line)
+bad_words (Some file) line kind kept sizes =
+    bad_file_text program (record { name = file.0; file_kind = file.1; line = line; kind = kind; beginning = kept; sizes = sizes; text = line_kept kept line })
 
 -- of a file that could not be read: which it is, and why
 abbrev pub unread_words : Option File → Option FailureReason → List ℕ
@@ -70,7 +70,7 @@ lost_words = codes "mcg: the output could not be written whole\n"
 abbrev pub words_of : (words : List (List ℕ)) → Status → Option Stop → Option Refusal → Known → List ℕ
 words_of words Done stopped refused known = []
 words_of words Negative stopped refused known = refusal_words refused
-words_of words Usage stopped refused known = unmatched_text program usage_text rows words
+words_of words Usage stopped refused known = unmatched_text Mcg words
 words_of words ReadFault stopped refused known = stop_words (command_of words) stopped known
 words_of words BadInput stopped refused known = stop_words (command_of words) stopped known
 words_of words WriteFault stopped refused known = if known.is_abandoned then [] else lost_words

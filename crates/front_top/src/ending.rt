@@ -1,6 +1,6 @@
 //! How a run of the front ended, and what is to be said of it.
 ghost use Rattle.std.specs.Prelude.{◌≡◌, map, string_bytes};
-ghost use Rattle.front_top.specs.Said.{IsSaid};
+ghost use Rattle.front_words.specs.Saying.{IsSaid};
 ghost use Rattle.front_top.specs.Words.{message_words};
 
 use crate::sizing::Sizing;

@@ -1,24 +1,13 @@
 //! The top call.
 ghost use Rattle.std.specs.Prelude.{◌≡◌, ◌⊎◌, map, string_bytes, true, false};
-ghost use Rattle.front_top.specs.Fronts.{Answers, Fronts};
+ghost use Rattle.front_top.specs.Fronts.{Fronts};
 
-use crate::answers::answer_of;
 use crate::ending::{FrontEnding, Message};
 use crate::sizing::Sizing;
 use bench_top::{RunEnding, Status, run_ending};
-use front_words::say_bytes;
-use outside::{Outlet, SinkFailed};
+use front_words::{Program, answer, answer_of};
+use outside::Outlet;
 use std::alloc::Global;
-
-// Writes the text as the whole answer.
-fn answer<K: Outlet>(text: &str, sink: &mut K) -> Status
-    ensures { Answers K.written K.writes K.faults text.now result sink.old sink.new }
-{
-    match say_bytes(sink, text.as_bytes()) {
-        Ok(()) => Status::Done,
-        Err(SinkFailed) => Status::WriteFault,
-    }
-}
 
 // What is to be said of an answer: that it could not be written whole, unless it is to be quiet or
 // nobody reads the answer any more.
@@ -68,9 +57,9 @@ pub fn run_front<'a, S: Sizing + Drop, K: Outlet>(
     ensures words { result.words.now ≡ words.now }
     ensures is_abandoned { result.is_abandoned ≡ K.is_abandoned sink.new }
 {
-    match answer_of(words) {
+    match answer_of(Program::Mcg, words) {
         Some(text) => {
-            let status = answer(text, sink);
+            let status = answer(text, sink, Status::Done, Status::WriteFault);
             let is_abandoned = sink.is_abandoned();
             FrontEnding {
                 status,

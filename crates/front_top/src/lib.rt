@@ -5,7 +5,7 @@
 //! `--help`, `-h`, `help` and `--version`, alone, and what asks for the page of a command, `--help`
 //! after it or one of the first three before it, are answered on standard output, and nothing is
 //! read. For all other words standard output and status are those of `run`. Main definitions, in
-//! specs/: `answer_of` of `Answers` (what such words are answered), `files_of` of `Files` (what
+//! specs/: `answer_of` of `front_words` (what such words are answered), `files_of` of `Files` (what
 //! each named file is read as), and `words_of` of `Words`, what is said of each ending, a function
 //! of the command line, the ending, the bytes of the file that was read last, the numbers of the
 //! graph (`Sizing`), and what the shelf and the sink know of their faults. Main promises: the
@@ -15,7 +15,6 @@
 //! shelf and the sinks.
 #![tactic(auto)]
 
-mod answers;
 mod ending;
 mod fronting;
 mod laws;

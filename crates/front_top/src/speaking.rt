@@ -10,11 +10,11 @@ ghost use Rattle.front_top.specs.Words.{bad_words, line_kept, lost_words, refusa
 use bench_tasks::{Command, CommandFile, Stop, command_of, file_at};
 use bench_top::{RunEnding, Status};
 use front_words::{
-    BadFile, all_rows, line_at, say_bad_file, say_bytes, say_refusal, say_unmatched, say_unread,
-    usage,
+    BadFile, Program, Said, line_at, say_bad_file, say_bytes, say_refusal, say_unmatched,
+    say_unread,
 };
 use line_text::FaultKind;
-use outside::{FailureReason, Sink, SinkFailed};
+use outside::{FailureReason, Sink};
 use refusals::Refusal;
 
 // The name of the program.
@@ -34,7 +34,7 @@ pub struct Clues<'a> {
 }
 
 // Says nothing.
-fn say_nothing<E: Sink>(_errors: &mut E) -> Result<(), SinkFailed>
+fn say_nothing<E: Sink>(_errors: &mut E) -> Said
     ensures { Says E.written E.writes E.faults [] result _errors.old _errors.new }
 {
     Ok(())
@@ -59,7 +59,7 @@ fn say_bad<'a, E: Sink>(
     kind: FaultKind,
     kept: Option<&'a [u8]>,
     sizes: Option<(u32, u32)>,
-) -> Result<(), SinkFailed>
+) -> Said
     ensures { Says E.written E.writes E.faults
         (bad_words (option_map file_seen file.entry) line kind
         (option_map (λ text. text.now) kept.entry) sizes) result errors.old errors.new }
@@ -68,13 +68,14 @@ fn say_bad<'a, E: Sink>(
         Some(file) => {
             let bad = BadFile {
                 name: file.name,
-                role: file.kind,
+                file_kind: file.kind,
                 line: line as u64,
                 kind,
                 beginning: kept,
                 sizes,
+                text: line_kept(kept, line),
             };
-            say_bad_file(errors, PROGRAM, &bad, line_kept(kept, line))
+            say_bad_file(errors, PROGRAM, &bad)
         }
         None => say_nothing(errors),
     }
@@ -85,7 +86,7 @@ fn say_unread_file<E: Sink>(
     errors: &mut E,
     file: Option<CommandFile<'_>>,
     reason: Option<FailureReason>,
-) -> Result<(), SinkFailed>
+) -> Said
     ensures { Says E.written E.writes E.faults (unread_words (option_map file_seen file.entry) reason) result
         errors.old errors.new }
 {
@@ -111,7 +112,7 @@ fn say_stop<'a, E: Sink>(
     command: Option<Command<'a>>,
     stop: Option<Stop>,
     clues: Clues<'a>,
-) -> Result<(), SinkFailed>
+) -> Said
     ensures { Says E.written E.writes E.faults
         (stop_words (option_map asked command.entry) stop (known_by clues.entry)) result
         errors.old errors.new }
@@ -129,7 +130,7 @@ fn say_stop<'a, E: Sink>(
 }
 
 // Says of a refusal what it means.
-fn say_refused<E: Sink>(errors: &mut E, refusal: Option<Refusal>) -> Result<(), SinkFailed>
+fn say_refused<E: Sink>(errors: &mut E, refusal: Option<Refusal>) -> Said
     ensures { Says E.written E.writes E.faults (refusal_words refusal) result errors.old errors.new }
 {
     match refusal {
@@ -139,7 +140,7 @@ fn say_refused<E: Sink>(errors: &mut E, refusal: Option<Refusal>) -> Result<(), 
 }
 
 /// Says that the output could not be written whole. Takes no memory.
-pub fn say_lost<E: Sink>(errors: &mut E) -> Result<(), SinkFailed>
+pub fn say_lost<E: Sink>(errors: &mut E) -> Said
     ensures { Says E.written E.writes E.faults lost_words result errors.old errors.new }
 {
     say_bytes(errors, b"mcg: the output could not be written whole\n")
@@ -151,7 +152,7 @@ pub fn say_ending<'a, E: Sink>(
     words: &'a [String],
     ending: RunEnding,
     clues: Clues<'a>,
-) -> Result<(), SinkFailed>
+) -> Said
     ensures { Says E.written E.writes E.faults
         (words_of (map string_bytes words.now) ending.status ending.stop ending.refusal
         (known_by clues.entry)) result errors.old errors.new }
@@ -159,7 +160,7 @@ pub fn say_ending<'a, E: Sink>(
     match ending.status {
         Status::Done => say_nothing(errors),
         Status::Negative => say_refused(errors, ending.refusal),
-        Status::Usage => say_unmatched(errors, PROGRAM, usage(), all_rows(), words),
+        Status::Usage => say_unmatched(errors, Program::Mcg, words),
         Status::ReadFault | Status::BadInput => {
             say_stop(errors, command_of(words), ending.stop, clues)
         }

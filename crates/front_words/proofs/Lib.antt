@@ -4,3 +4,4 @@ pub mod ShownBytes
 pub mod SaidPieces
 pub mod OtherShores
 pub mod OpeningNotes
+pub mod AnswersSaid

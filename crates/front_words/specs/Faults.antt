@@ -81,18 +81,18 @@ reader_note Moves = []
 -- what is added to the words of a fault: the header, the limits, what else reads such a file, or
 -- what to write instead
 abbrev pub note_words : FileKind → FaultKind → List ℕ
-note_words role Header = header_note role
-note_words role Word = []
-note_words role Number = []
-note_words role Range = []
-note_words role Loop = []
-note_words role Limit = limit_note role
-note_words role Missing = []
-note_words role Extra = reader_note role
-note_words role NotRising = []
-note_words role HasGreatest = codes " (write the other shore of this cut)"
-note_words role Unnamed = []
-note_words role SameName = []
-note_words role BadName = []
-note_words role Padding = []
-note_words role LongForm = []
+note_words file_kind Header = header_note file_kind
+note_words file_kind Word = []
+note_words file_kind Number = []
+note_words file_kind Range = []
+note_words file_kind Loop = []
+note_words file_kind Limit = limit_note file_kind
+note_words file_kind Missing = []
+note_words file_kind Extra = reader_note file_kind
+note_words file_kind NotRising = []
+note_words file_kind HasGreatest = codes " (write the other shore of this cut)"
+note_words file_kind Unnamed = []
+note_words file_kind SameName = []
+note_words file_kind BadName = []
+note_words file_kind Padding = []
+note_words file_kind LongForm = []

@@ -10,9 +10,12 @@ pub mod Openings
 pub mod LinesAt
 pub mod Unread
 pub mod EmptyLines
+pub mod BadFiles
 pub mod Messages
 pub mod ListMessages
 pub mod Usage
+pub mod Programs
+pub mod Answers
 pub mod Unmatched
 pub mod Shores
 pub mod Notes

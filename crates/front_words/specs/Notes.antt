@@ -24,27 +24,27 @@ due_note Moves sizes = codes " (here m mcg " ++ (decimal sizes.0 ++ codes ")")
 
 -- the same, if these numbers are known; and else the header of the format
 abbrev pub header_text : FileKind → (sizes : Option (ℕ × ℕ)) → List ℕ
-header_text role None = header_note role
-header_text role (Some sizes) = due_note role sizes
+header_text file_kind None = header_note file_kind
+header_text file_kind (Some sizes) = due_note file_kind sizes
 
 -- what is added for the kind; the text is that of the line, if it is known
 abbrev pub kind_note : FileKind → FaultKind → (sizes : Option (ℕ × ℕ)) → (text : Option (List ℕ)) → List ℕ
-kind_note role Header sizes text = note_or (misplaced_note role text) (header_text role sizes)
-kind_note role Word sizes text = note_words role Word
-kind_note role Number sizes text = note_words role Number
-kind_note role Range sizes text = note_words role Range
-kind_note role Loop sizes text = note_words role Loop
-kind_note role Limit sizes text = note_words role Limit
-kind_note role Missing sizes text = note_words role Missing
-kind_note role Extra sizes text = note_words role Extra
-kind_note role NotRising sizes text = note_words role NotRising
-kind_note role HasGreatest sizes text = shore_note text
-kind_note role Unnamed sizes text = note_words role Unnamed
-kind_note role SameName sizes text = note_words role SameName
-kind_note role BadName sizes text = note_words role BadName
-kind_note role Padding sizes text = note_words role Padding
-kind_note role LongForm sizes text = note_words role LongForm
+kind_note file_kind Header sizes text = note_or (misplaced_note file_kind text) (header_text file_kind sizes)
+kind_note file_kind Word sizes text = note_words file_kind Word
+kind_note file_kind Number sizes text = note_words file_kind Number
+kind_note file_kind Range sizes text = note_words file_kind Range
+kind_note file_kind Loop sizes text = note_words file_kind Loop
+kind_note file_kind Limit sizes text = note_words file_kind Limit
+kind_note file_kind Missing sizes text = note_words file_kind Missing
+kind_note file_kind Extra sizes text = note_words file_kind Extra
+kind_note file_kind NotRising sizes text = note_words file_kind NotRising
+kind_note file_kind HasGreatest sizes text = shore_note text
+kind_note file_kind Unnamed sizes text = note_words file_kind Unnamed
+kind_note file_kind SameName sizes text = note_words file_kind SameName
+kind_note file_kind BadName sizes text = note_words file_kind BadName
+kind_note file_kind Padding sizes text = note_words file_kind Padding
+kind_note file_kind LongForm sizes text = note_words file_kind LongForm
 
 -- what the file is that begins so, or else the note for the kind
 abbrev pub file_note : FileKind → FaultKind → (beginning : Option (List ℕ)) → (sizes : Option (ℕ × ℕ)) → (text : Option (List ℕ)) → List ℕ
-file_note role kind beginning sizes text = note_or (beginning_note role beginning) (kind_note role kind sizes text)
+file_note file_kind kind beginning sizes text = note_or (beginning_note file_kind beginning) (kind_note file_kind kind sizes text)

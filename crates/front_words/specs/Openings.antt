@@ -52,23 +52,23 @@ beside_note Moves = codes " (this is a graph file, which comes first)"
 
 -- the same for the line at fault, if it is known; nothing if it is no such header
 abbrev pub misplaced_note : FileKind → (line : Option (List ℕ)) → List ℕ
-misplaced_note role None = []
-misplaced_note role (Some line) = if opens line (codes "p mcg") then beside_note role else []
+misplaced_note file_kind None = []
+misplaced_note file_kind (Some line) = if opens line (codes "p mcg") then beside_note file_kind else []
 
 -- a note on a text that begins as a file of another format than graph6; nothing on others
 abbrev pub opening_note : List ℕ → List ℕ
 opening_note text = note_or (coding_note text) (note_or (format_note text) (graph_file_note text))
 
 -- the same for a text that is read so
-abbrev pub role_note : FileKind → List ℕ → List ℕ
-role_note Graph text = note_or (coding_note text) (note_or (format_note text) (graph6_note text))
-role_note Graph6 text = opening_note text
-role_note Tree text = coding_note text
-role_note Picks text = coding_note text
-role_note Ears text = coding_note text
-role_note Moves text = coding_note text
+abbrev pub file_kind_note : FileKind → List ℕ → List ℕ
+file_kind_note Graph text = note_or (coding_note text) (note_or (format_note text) (graph6_note text))
+file_kind_note Graph6 text = opening_note text
+file_kind_note Tree text = coding_note text
+file_kind_note Picks text = coding_note text
+file_kind_note Ears text = coding_note text
+file_kind_note Moves text = coding_note text
 
 -- the same for a file that is read so, if its beginning is known
 abbrev pub beginning_note : FileKind → Option (List ℕ) → List ℕ
-beginning_note role None = []
-beginning_note role (Some text) = role_note role text
+beginning_note file_kind None = []
+beginning_note file_kind (Some text) = file_kind_note file_kind text

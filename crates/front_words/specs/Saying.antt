@@ -4,6 +4,7 @@ use Rattle.std.specs.Prelude.{◌≡◌, ◌≤◌, ◌<◌, ℕ, zero, suc, Lis
 use Rattle.std.specs.declared.option.Option.{Option}
 use Rattle.std.specs.declared.result.Result.{Result}
 use Rattle.outside.specs.Common.{Rose, appended}
+use Rattle.outside.specs.declared.sink.SinkFailed.{SinkFailed}
 
 -- a beginning of the text was appended to what the sink had, maybe all of it
 pub record IsBegun (text : List ℕ) (before now : Option (List ℕ)) : Type 0 where
@@ -47,3 +48,8 @@ pub record Says {K F : Type 0} (written : K → Option (List ℕ)) (writes : K �
   pub writes_until : OnErr result (WritesUntilFault writes text before now)
   pub later : faults before ≤ faults now
   pub failed : OnErr result (Rose (faults before) (faults now))
+
+-- the text was said, whole or up to a fault of the sink
+pub record IsSaid {E : Type 0} (written : E → Option (List ℕ)) (writes : E → List ℕ → ℕ → E → Type 0) (faults : E → ℕ) (text : List ℕ) (before now : E) : Type 0 where
+  pub answer : Result (Unit {0}) SinkFailed
+  pub says : Says {F = SinkFailed} written writes faults text answer before now

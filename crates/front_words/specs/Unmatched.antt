@@ -1,13 +1,16 @@
 -- What is said of words that match no row of a table: why, and the lines of the command.
 -- Stated by: front_words. Rests on it: front_top, mcg6_front_top.
-use Rattle.std.specs.Prelude.{ℕ, ◌||◌, Bool, List, [], ◌∷◌, ◌++◌, codes, if◌then◌else◌}
+use Rattle.std.specs.Prelude.{ℕ, List, [], ◌∷◌, ◌++◌, codes, if◌then◌else◌}
 use Rattle.std.specs.declared.option.Option.{Option}
 use Rattle.std.specs.declared.option.Option.TheVariants.{None, Some}
 use Rattle.std.specs.Str.{bytes_eq}
 use Rattle.command_table.specs.Pages.{command_lines}
 use Rattle.command_table.specs.Reasons.{Reason, Unknown, TooMany, TooFew, Wrong, why_unmatched}
-use Rattle.command_table.specs.Rows.{Row, word_meaning, word_need}
+use Rattle.command_table.specs.Rows.{word_meaning, word_need}
+use Rattle.front_words.specs.Answers.{is_help}
+use Rattle.front_words.specs.Programs.{name_of, rows_of, usage_of}
 use Rattle.front_words.specs.Showing.{shown}
+use Rattle.front_words.specs.declared.programs.Program.{Program}
 
 -- the words match no row for this reason
 abbrev pub some_reason_text : (program command : List ℕ) → Reason → List ℕ
@@ -24,8 +27,8 @@ reason_text program command None = []
 reason_text program command (Some reason) = some_reason_text program command reason
 
 -- the same, and the lines of the command
-abbrev pub misuse_text : (program : List ℕ) → List Row → (command : List ℕ) → (words : List (List ℕ)) → List ℕ
-misuse_text program rows command words = reason_text program command (why_unmatched rows words) ++ command_lines command rows
+abbrev pub misuse_text : Program → (command : List ℕ) → (words : List (List ℕ)) → List ℕ
+misuse_text program command words = reason_text (name_of program) command (why_unmatched (rows_of program) words) ++ command_lines command (rows_of program)
 
 -- the command that is meant: the first word, or the one behind `help`
 abbrev pub meant : List (List ℕ) → Option (List ℕ)
@@ -35,20 +38,16 @@ meant (word ∷ next ∷ []) = if bytes_eq word (codes "help") then Some next el
 meant (word ∷ next ∷ third ∷ words) = Some word
 
 -- the same where it is this one, if it is any
-abbrev pub meant_text : (program usage : List ℕ) → List Row → (words : List (List ℕ)) → Option (List ℕ) → List ℕ
-meant_text program usage rows words None = usage
-meant_text program usage rows words (Some command) = misuse_text program rows command words
-
--- the word asks for help
-abbrev pub asks_help : List ℕ → Bool
-asks_help word = bytes_eq word (codes "help") || (bytes_eq word (codes "--help") || bytes_eq word (codes "-h"))
+abbrev pub meant_text : Program → (words : List (List ℕ)) → Option (List ℕ) → List ℕ
+meant_text program words None = usage_of program
+meant_text program words (Some command) = misuse_text program command words
 
 -- the word that asks for help on more than one command, if one does
 abbrev pub help_beyond : List (List ℕ) → Option (List ℕ)
 help_beyond [] = None
 help_beyond (word ∷ []) = None
 help_beyond (word ∷ next ∷ []) = None
-help_beyond (word ∷ next ∷ third ∷ words) = if asks_help word then Some word else None
+help_beyond (word ∷ next ∷ third ∷ words) = if is_help word then Some word else None
 
 -- there are too many words behind the one that asks for help
 abbrev pub help_text : (program word : List ℕ) → List ℕ
@@ -62,5 +61,5 @@ unless_help (Some word) program text = help_text program word
 
 -- what is said of the words: that they ask for help on more than one command; or why they match no
 -- row, and the lines of the command that is meant; and the usage where there are none
-abbrev pub unmatched_text : (program usage : List ℕ) → List Row → (words : List (List ℕ)) → List ℕ
-unmatched_text program usage rows words = unless_help (help_beyond words) program (meant_text program usage rows words (meant words))
+abbrev pub unmatched_text : Program → (words : List (List ℕ)) → List ℕ
+unmatched_text program words = unless_help (help_beyond words) (name_of program) (meant_text program words (meant words))

@@ -1,5 +1,5 @@
 -- The version of each program; the usage is that of the tables of commands.
--- Stated by: front_words. Rests on it: front_top, mcg6_front_top.
+-- Stated by: front_words.
 use Rattle.std.specs.Prelude.{ℕ, List}
 use Rattle.front_words.specs.declared.table.TheConstants.{LIST_VERSION, VERSION}
 unfoldable pub use Rattle.command_table.specs.Table.{list_usage_text, usage_text}

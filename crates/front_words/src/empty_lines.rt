@@ -6,9 +6,9 @@ ghost use Rattle.front_words.specs.Saying.{Says};
 
 use crate::lines::line_at;
 use crate::pieces::MessagePiece::{Number, Shown, Text};
-use crate::pieces::say;
+use crate::pieces::{Said, say};
 use crate::unread::MOST_OF_NAME;
-use outside::{Sink, SinkFailed};
+use outside::Sink;
 use refusals::FileKind;
 
 /// That a line is empty, and how that comes about.
@@ -39,10 +39,10 @@ fn empty_line(text: &[u8]) -> Option<u32>
 }
 
 /// The same where an empty line is a fault: in a graph6 text. Takes no memory.
-pub fn empty_line_in(role: FileKind, beginning: Option<&[u8]>) -> Option<u32>
-    ensures { result ≡ empty_line_in role (option_map (λ text. text.now) beginning.entry) }
+pub fn empty_line_in(file_kind: FileKind, beginning: Option<&[u8]>) -> Option<u32>
+    ensures { result ≡ empty_line_in file_kind (option_map (λ text. text.now) beginning.entry) }
 {
-    match role {
+    match file_kind {
         FileKind::Graph6 => match beginning {
             Some(text) => empty_line(text),
             None => None,
@@ -53,12 +53,7 @@ pub fn empty_line_in(role: FileKind, beginning: Option<&[u8]>) -> Option<u32>
 }
 
 /// Says that the line with that number is empty. Takes no memory.
-pub fn say_empty_line<'a, K: Sink>(
-    sink: &mut K,
-    program: &'a str,
-    name: &'a str,
-    line: u32,
-) -> Result<(), SinkFailed>
+pub fn say_empty_line<'a, K: Sink>(sink: &mut K, program: &'a str, name: &'a str, line: u32) -> Said
     ensures { Says K.written K.writes K.faults (empty_line_text program.now name.now line) result
         sink.old sink.new }
 {

@@ -51,10 +51,10 @@ fn graph6_fault(kind: FaultKind) -> &'static str
 }
 
 /// What a fault of that kind is in a file that is read so. Takes no memory.
-pub fn fault_words(role: FileKind, kind: FaultKind) -> &'static str
-    ensures { result.now ≡ fault_words role kind }
+pub fn fault_words(file_kind: FileKind, kind: FaultKind) -> &'static str
+    ensures { result.now ≡ fault_words file_kind kind }
 {
-    match role {
+    match file_kind {
         FileKind::Graph6 => graph6_fault(kind),
         FileKind::Graph | FileKind::Tree | FileKind::Picks | FileKind::Ears | FileKind::Moves =>
             line_fault(kind),
@@ -62,10 +62,10 @@ pub fn fault_words(role: FileKind, kind: FaultKind) -> &'static str
 }
 
 /// The header of a format, after a fault of it. Takes no memory.
-pub fn header_note(role: FileKind) -> &'static str
-    ensures { result.now ≡ header_note role }
+pub fn header_note(file_kind: FileKind) -> &'static str
+    ensures { result.now ≡ header_note file_kind }
 {
-    match role {
+    match file_kind {
         FileKind::Graph => " (here p mcg N M or p mcg2 N M; analyse6 reads graph6)",
         FileKind::Graph6 => "",
         FileKind::Tree => " (here t mcg N, with the N of the graph)",
@@ -76,10 +76,10 @@ pub fn header_note(role: FileKind) -> &'static str
 }
 
 // The limits of a format, after a fault of them.
-fn limit_note(role: FileKind) -> &'static str
-    ensures { result.now ≡ limit_note role }
+fn limit_note(file_kind: FileKind) -> &'static str
+    ensures { result.now ≡ limit_note file_kind }
 {
-    match role {
+    match file_kind {
         FileKind::Graph => " (p mcg: 64 vertices, 512 edges; p mcg2: 128 and 2,048)",
         FileKind::Graph6 => "",
         FileKind::Tree => " (127 nodes)",
@@ -90,10 +90,10 @@ fn limit_note(role: FileKind) -> &'static str
 }
 
 // What reads a file that is not one graph in graph6.
-fn reader_note(role: FileKind) -> &'static str
-    ensures { result.now ≡ reader_note role }
+fn reader_note(file_kind: FileKind) -> &'static str
+    ensures { result.now ≡ reader_note file_kind }
 {
-    match role {
+    match file_kind {
         FileKind::Graph6 => " (mcg6 reads lists, analyse the format of mcg)",
         FileKind::Graph | FileKind::Tree | FileKind::Picks | FileKind::Ears | FileKind::Moves => "",
     }
@@ -101,13 +101,13 @@ fn reader_note(role: FileKind) -> &'static str
 
 /// What is added to the words of a fault: the header of the format, its limits, what else reads
 /// such a file, or what to write instead. Takes no memory.
-pub fn note_words(role: FileKind, kind: FaultKind) -> &'static str
-    ensures { result.now ≡ note_words role kind }
+pub fn note_words(file_kind: FileKind, kind: FaultKind) -> &'static str
+    ensures { result.now ≡ note_words file_kind kind }
 {
     match kind {
-        FaultKind::Header => header_note(role),
-        FaultKind::Limit => limit_note(role),
-        FaultKind::Extra => reader_note(role),
+        FaultKind::Header => header_note(file_kind),
+        FaultKind::Limit => limit_note(file_kind),
+        FaultKind::Extra => reader_note(file_kind),
         FaultKind::HasGreatest => " (write the other shore of this cut)",
         FaultKind::Word
         | FaultKind::Number

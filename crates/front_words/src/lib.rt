@@ -4,7 +4,8 @@
 //! A message is a list of pieces (`MessagePiece`): a text, a number, or bytes of the outside, shown
 //! so that they can stand in a line. `say` writes one to a sink: whole, or if the sink fails a
 //! beginning of it (`Says`). Main definitions, in specs/: `usage_text` and `list_usage_text` of
-//! `Usage`, with the tables of commands; `fault_words` and `note_words` of `Faults`, what the
+//! `Usage`, with the tables of commands; `answer_of` of `Answers`, what words that ask for help or
+//! for the version are answered; `fault_words` and `note_words` of `Faults`, what the
 //! kinds of faults in a file are, with the headers and the limits of the formats; `reason_words`
 //! of `Reasons`, why a file cannot be read; `unmatched_text` of `Unmatched`, why words match no row
 //! of a table; `refused_text` of `Refused`, what a refusal means and where the error is, with the
@@ -13,9 +14,11 @@
 //! no memory.
 //!
 //! Depends on `line_text` for the lines of a file, on `outside` for the sinks and for the reason of
-//! a failed read, and on `refusals` and `vset_core` for what a refusal is.
+//! a failed read, on `arguments` for why arguments are not read, and on `refusals` and `vset_core`
+//! for what a refusal is.
 #![tactic(auto)]
 
+mod answers;
 mod empty_lines;
 mod faults;
 mod headers;
@@ -28,6 +31,8 @@ mod notes;
 mod numbers;
 mod openings;
 mod pieces;
+mod programs;
+mod quiet;
 mod reasons;
 mod refused;
 mod refused_ears;
@@ -39,17 +44,18 @@ mod uncovered;
 mod unmatched;
 mod unread;
 
-pub use command_table::{all_list_rows, all_rows, list_page, list_usage, page, usage};
+pub use answers::{answer, answer_of};
 pub use faults::{fault_words, note_words};
 pub use headers::header_sizes;
 pub use lines::line_at;
 pub use list_messages::{say_bad_line, say_unread_list};
 pub use messages::{BadFile, say_bad_file};
-pub use not_text::say_not_text;
-pub use pieces::{MessagePiece, say};
+pub use not_text::say_unread_arguments;
+pub use pieces::{MessagePiece, Said, say};
+pub use programs::Program;
+pub use quiet::is_quiet;
 pub use reasons::reason_words;
 pub use refused::say_refusal;
 pub use showing::say_bytes;
-pub use table::{list_version, version};
 pub use unmatched::say_unmatched;
 pub use unread::say_unread;

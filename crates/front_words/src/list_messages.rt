@@ -10,11 +10,11 @@ use crate::lines::line_at;
 use crate::messages::{MOST_OF_LINE, some_line};
 use crate::openings::opening_note;
 use crate::pieces::MessagePiece::{Number, Shown, Text};
-use crate::pieces::say;
+use crate::pieces::{Said, say};
 use crate::reasons::reason_words;
 use crate::unread::say_unread_noted;
 use line_text::FaultKind;
-use outside::{FailureReason, MOST_LINE, Sink, SinkFailed};
+use outside::{FailureReason, MOST_LINE, Sink};
 use refusals::FileKind;
 
 // What is added where a dash is to stand for standard input, which is what is read without a name.
@@ -29,12 +29,12 @@ fn list_dash_note(name: &str) -> &'static str
 
 /// Says that a list could not be read, the one in the file of that name or, with none, that of
 /// standard input, and why. Takes no memory.
-pub fn say_unread_list<'a, K: Sink>(
+pub fn say_unread_list<K: Sink>(
     sink: &mut K,
-    program: &'a str,
-    name: Option<&'a str>,
+    program: &str,
+    name: Option<&str>,
     reason: Option<FailureReason>,
-) -> Result<(), SinkFailed>
+) -> Said
     ensures { Says K.written K.writes K.faults
         (unread_list_text program.now (option_map (λ name. name.now) name.entry) reason) result
         sink.old sink.new }
@@ -46,11 +46,7 @@ pub fn say_unread_list<'a, K: Sink>(
 }
 
 // Says that standard input could not be read, and why.
-fn say_unread_input<'a, K: Sink>(
-    sink: &mut K,
-    program: &'a str,
-    reason: Option<FailureReason>,
-) -> Result<(), SinkFailed>
+fn say_unread_input<K: Sink>(sink: &mut K, program: &str, reason: Option<FailureReason>) -> Said
     ensures { Says K.written K.writes K.faults (unread_list_text program.now None reason) result sink.old
         sink.new }
 {
@@ -146,7 +142,7 @@ pub fn say_bad_line<'a, K: Sink>(
     number: u64,
     kind: FaultKind,
     text: &'a [u8],
-) -> Result<(), SinkFailed>
+) -> Said
     ensures { Says K.written K.writes K.faults (bad_line_text program.now number kind text.now) result
         sink.old sink.new }
 {

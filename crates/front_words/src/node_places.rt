@@ -4,9 +4,9 @@ ghost use Rattle.front_words.specs.NodePlaces.{is_merged, known_place_text, lett
 ghost use Rattle.front_words.specs.Saying.{Says};
 
 use crate::pieces::MessagePiece::{Number, Text};
-use crate::pieces::say;
+use crate::pieces::{Said, say};
 use crate::showing::say_bytes;
-use outside::{Sink, SinkFailed};
+use outside::Sink;
 use refusals::NodePlace;
 use vset_core::VSet;
 
@@ -25,7 +25,7 @@ fn step_letter(merged: VSet, step: u32) -> &'static str
 }
 
 // Says the letters of the first so many steps.
-fn say_letters<K: Sink>(sink: &mut K, merged: VSet, depth: u32) -> Result<(), SinkFailed>
+fn say_letters<K: Sink>(sink: &mut K, merged: VSet, depth: u32) -> Said
     ensures { Says K.written K.writes K.faults (letters_text merged 1 depth) result sink.old
         sink.new }
 {
@@ -36,7 +36,7 @@ fn say_letters<K: Sink>(sink: &mut K, merged: VSet, depth: u32) -> Result<(), Si
 }
 
 // Says a path of so many steps.
-fn say_path<K: Sink>(sink: &mut K, merged: VSet, depth: u32) -> Result<(), SinkFailed>
+fn say_path<K: Sink>(sink: &mut K, merged: VSet, depth: u32) -> Said
     ensures { Says K.written K.writes K.faults (path_text depth merged) result sink.old sink.new }
 {
     if depth == 0 {
@@ -47,7 +47,7 @@ fn say_path<K: Sink>(sink: &mut K, merged: VSet, depth: u32) -> Result<(), SinkF
 }
 
 // Says each number of a set with one blank before it.
-fn say_numbers<K: Sink>(sink: &mut K, set: VSet) -> Result<(), SinkFailed>
+fn say_numbers<K: Sink>(sink: &mut K, set: VSet) -> Said
     ensures { Says K.written K.writes K.faults (numbers_text set) result sink.old sink.new }
 {
     let Some((number, others)) = set.split_first() else {
@@ -58,7 +58,7 @@ fn say_numbers<K: Sink>(sink: &mut K, set: VSet) -> Result<(), SinkFailed>
 }
 
 // Says the shore at a node, if the node is no leaf.
-fn say_shore<K: Sink>(sink: &mut K, shore: Option<VSet>) -> Result<(), SinkFailed>
+fn say_shore<K: Sink>(sink: &mut K, shore: Option<VSet>) -> Said
     ensures { Says K.written K.writes K.faults (shore_text shore) result sink.old sink.new }
 {
     let Some(shore) = shore else {
@@ -69,7 +69,7 @@ fn say_shore<K: Sink>(sink: &mut K, shore: Option<VSet>) -> Result<(), SinkFaile
 }
 
 // Says the path to a node, and its shore.
-fn say_known_place<K: Sink>(sink: &mut K, place: NodePlace) -> Result<(), SinkFailed>
+fn say_known_place<K: Sink>(sink: &mut K, place: NodePlace) -> Said
     ensures { Says K.written K.writes K.faults (known_place_text place) result sink.old sink.new }
 {
     say_bytes(sink, b"; path ")?;
@@ -78,7 +78,7 @@ fn say_known_place<K: Sink>(sink: &mut K, place: NodePlace) -> Result<(), SinkFa
 }
 
 /// Says the path to a node and its shore, if they are known. Takes no memory.
-pub fn say_place<K: Sink>(sink: &mut K, place: Option<NodePlace>) -> Result<(), SinkFailed>
+pub fn say_place<K: Sink>(sink: &mut K, place: Option<NodePlace>) -> Said
     ensures { Says K.written K.writes K.faults (place_text place) result sink.old sink.new }
 {
     match place {

@@ -8,21 +8,21 @@ ghost use Rattle.front_words.specs.Saying.{Says};
 use crate::faults::{header_note, note_words};
 use crate::openings::{beginning_note, misplaced_note};
 use crate::pieces::MessagePiece::{Number, Text};
-use crate::pieces::say;
+use crate::pieces::{Said, say};
 use crate::shores::say_shore_note;
 use crate::showing::say_bytes;
 use line_text::FaultKind;
-use outside::{Sink, SinkFailed};
+use outside::Sink;
 use refusals::FileKind;
 
 // Says the header that is due in a file for a graph with these numbers of vertices and of edges.
-fn say_due<K: Sink>(sink: &mut K, role: FileKind, sizes: (u32, u32)) -> Result<(), SinkFailed>
-    ensures { Says K.written K.writes K.faults (due_note role sizes) result sink.old sink.new }
+fn say_due<K: Sink>(sink: &mut K, file_kind: FileKind, sizes: (u32, u32)) -> Said
+    ensures { Says K.written K.writes K.faults (due_note file_kind sizes) result sink.old sink.new }
 {
     let (order, size) = sizes;
     let order = Number(order as u64);
     let end = Text(")");
-    match role {
+    match file_kind {
         FileKind::Tree => say(sink, &[Text(" (here t mcg "), order, end]),
         FileKind::Ears => say(
             sink,
@@ -37,39 +37,35 @@ fn say_due<K: Sink>(sink: &mut K, role: FileKind, sizes: (u32, u32)) -> Result<(
         FileKind::Moves => say(sink, &[Text(" (here m mcg "), order, end]),
         FileKind::Graph | FileKind::Graph6 | FileKind::Picks => say_bytes(
             sink,
-            header_note(role).as_bytes(),
+            header_note(file_kind).as_bytes(),
         ),
     }
 }
 
 // The same, if these numbers are known; and else the header of the format.
-fn say_header<K: Sink>(
-    sink: &mut K,
-    role: FileKind,
-    sizes: Option<(u32, u32)>,
-) -> Result<(), SinkFailed>
-    ensures { Says K.written K.writes K.faults (header_text role sizes) result sink.old sink.new }
+fn say_header<K: Sink>(sink: &mut K, file_kind: FileKind, sizes: Option<(u32, u32)>) -> Said
+    ensures { Says K.written K.writes K.faults (header_text file_kind sizes) result sink.old sink.new }
 {
     match sizes {
-        Some(sizes) => say_due(sink, role, sizes),
-        None => say_bytes(sink, header_note(role).as_bytes()),
+        Some(sizes) => say_due(sink, file_kind, sizes),
+        None => say_bytes(sink, header_note(file_kind).as_bytes()),
     }
 }
 
 // Says of the line at fault that it is the header of a graph file, or else the header that is due.
 fn say_header_note<K: Sink>(
     sink: &mut K,
-    role: FileKind,
+    file_kind: FileKind,
     sizes: Option<(u32, u32)>,
     text: Option<&[u8]>,
-) -> Result<(), SinkFailed>
+) -> Said
     ensures { Says K.written K.writes K.faults
-        (note_or (misplaced_note role (option_map (λ line. line.now) text.entry))
-        (header_text role sizes)) result sink.old sink.new }
+        (note_or (misplaced_note file_kind (option_map (λ line. line.now) text.entry))
+        (header_text file_kind sizes)) result sink.old sink.new }
 {
-    let misplaced = misplaced_note(role, text);
+    let misplaced = misplaced_note(file_kind, text);
     if misplaced.is_empty() {
-        say_header(sink, role, sizes)
+        say_header(sink, file_kind, sizes)
     } else {
         say_bytes(sink, misplaced.as_bytes())
     }
@@ -78,17 +74,17 @@ fn say_header_note<K: Sink>(
 // Says what is added for the kind.
 fn say_kind_note<K: Sink>(
     sink: &mut K,
-    role: FileKind,
+    file_kind: FileKind,
     kind: FaultKind,
     sizes: Option<(u32, u32)>,
     text: Option<&[u8]>,
-) -> Result<(), SinkFailed>
+) -> Said
     ensures { Says K.written K.writes K.faults
-        (kind_note role kind sizes (option_map (λ line. line.now) text.entry)) result sink.old
+        (kind_note file_kind kind sizes (option_map (λ line. line.now) text.entry)) result sink.old
         sink.new }
 {
     match kind {
-        FaultKind::Header => say_header_note(sink, role, sizes, text),
+        FaultKind::Header => say_header_note(sink, file_kind, sizes, text),
         FaultKind::HasGreatest => say_shore_note(sink, text),
         FaultKind::Word
         | FaultKind::Number
@@ -102,7 +98,7 @@ fn say_kind_note<K: Sink>(
         | FaultKind::SameName
         | FaultKind::BadName
         | FaultKind::Padding
-        | FaultKind::LongForm => say_bytes(sink, note_words(role, kind).as_bytes()),
+        | FaultKind::LongForm => say_bytes(sink, note_words(file_kind, kind).as_bytes()),
     }
 }
 
@@ -111,19 +107,19 @@ fn say_kind_note<K: Sink>(
 /// for, and the text is that of the line, if they are known. Takes no memory.
 pub fn say_note<K: Sink>(
     sink: &mut K,
-    role: FileKind,
+    file_kind: FileKind,
     kind: FaultKind,
     beginning: Option<&[u8]>,
     sizes: Option<(u32, u32)>,
     text: Option<&[u8]>,
-) -> Result<(), SinkFailed>
+) -> Said
     ensures { Says K.written K.writes K.faults
-        (file_note role kind (option_map (λ text. text.now) beginning.entry) sizes
+        (file_note file_kind kind (option_map (λ text. text.now) beginning.entry) sizes
         (option_map (λ line. line.now) text.entry)) result sink.old sink.new }
 {
-    let opening = beginning_note(role, beginning);
+    let opening = beginning_note(file_kind, beginning);
     if opening.is_empty() {
-        say_kind_note(sink, role, kind, sizes, text)
+        say_kind_note(sink, file_kind, kind, sizes, text)
     } else {
         say_bytes(sink, opening.as_bytes())
     }

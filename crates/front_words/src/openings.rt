@@ -1,7 +1,7 @@
 //! What a text is that does not begin as it should.
 ghost use Rattle.std.specs.Prelude.{◌≡◌};
 ghost use Rattle.std.specs.Option.{option_map};
-ghost use Rattle.front_words.specs.Openings.{beginning_note, beside_note, coding_note, format_note, graph6_note, graph_file_note, misplaced_note, note_or, opening_note, role_note};
+ghost use Rattle.front_words.specs.Openings.{beginning_note, beside_note, coding_note, format_note, graph6_note, graph_file_note, misplaced_note, note_or, opening_note, file_kind_note};
 
 use refusals::FileKind;
 
@@ -69,10 +69,10 @@ fn graph6_note(text: &[u8]) -> &'static str
 }
 
 // A note on the header of a graph file where a file for one is wanted, with what makes that of it.
-fn beside_note(role: FileKind) -> &'static str
-    ensures { result.now ≡ beside_note role }
+fn beside_note(file_kind: FileKind) -> &'static str
+    ensures { result.now ≡ beside_note file_kind }
 {
-    match role {
+    match file_kind {
         FileKind::Graph | FileKind::Graph6 => "",
         FileKind::Tree => " (this is a graph file; mcg decompose makes a derivation of one)",
         FileKind::Ears => " (this is a graph file; mcg ears makes an ear list of one)",
@@ -82,11 +82,11 @@ fn beside_note(role: FileKind) -> &'static str
 
 /// The same for the line at fault, if it is known; nothing if it is no such header. Takes no
 /// memory.
-pub fn misplaced_note(role: FileKind, line: Option<&[u8]>) -> &'static str
-    ensures { result.now ≡ misplaced_note role (option_map (λ line. line.now) line.entry) }
+pub fn misplaced_note(file_kind: FileKind, line: Option<&[u8]>) -> &'static str
+    ensures { result.now ≡ misplaced_note file_kind (option_map (λ line. line.now) line.entry) }
 {
     match line {
-        Some(line) if line.starts_with(b"p mcg") => beside_note(role),
+        Some(line) if line.starts_with(b"p mcg") => beside_note(file_kind),
         _ => "",
     }
 }
@@ -103,10 +103,10 @@ pub fn opening_note(text: &[u8]) -> &'static str
 }
 
 // The same for a text that is read so.
-fn role_note(role: FileKind, text: &[u8]) -> &'static str
-    ensures { result.now ≡ role_note role text.now }
+fn file_kind_note(file_kind: FileKind, text: &[u8]) -> &'static str
+    ensures { result.now ≡ file_kind_note file_kind text.now }
 {
-    match role {
+    match file_kind {
         FileKind::Graph => note_or(
             coding_note(text),
             note_or(format_note(text), graph6_note(text)),
@@ -117,11 +117,11 @@ fn role_note(role: FileKind, text: &[u8]) -> &'static str
 }
 
 /// The same for a file that is read so, if its beginning is known. Takes no memory.
-pub fn beginning_note(role: FileKind, beginning: Option<&[u8]>) -> &'static str
-    ensures { result.now ≡ beginning_note role (option_map (λ text. text.now) beginning.entry) }
+pub fn beginning_note(file_kind: FileKind, beginning: Option<&[u8]>) -> &'static str
+    ensures { result.now ≡ beginning_note file_kind (option_map (λ text. text.now) beginning.entry) }
 {
     match beginning {
-        Some(text) => role_note(role, text),
+        Some(text) => file_kind_note(file_kind, text),
         None => "",
     }
 }

@@ -7,6 +7,9 @@ use crate::showing::{say_bytes, say_shown};
 use itoa::Buffer;
 use outside::{Sink, SinkFailed};
 
+/// Whether a text was said whole: if not, the sink failed.
+pub type Said = Result<(), SinkFailed>;
+
 /// A piece of a message.
 #[derive(Clone, Copy, Drop)]
 pub enum MessagePiece<'a> {
@@ -20,7 +23,7 @@ pub enum MessagePiece<'a> {
 }
 
 // Says one piece.
-fn say_piece<K: Sink>(sink: &mut K, piece: &MessagePiece<'_>) -> Result<(), SinkFailed>
+fn say_piece<K: Sink>(sink: &mut K, piece: &MessagePiece<'_>) -> Said
     ensures { Says K.written K.writes K.faults (piece_text piece.now) result sink.old sink.new }
 {
     match piece {
@@ -34,7 +37,7 @@ fn say_piece<K: Sink>(sink: &mut K, piece: &MessagePiece<'_>) -> Result<(), Sink
 }
 
 /// Says the pieces, one after another, up to the first that cannot be said whole. Takes no memory.
-pub fn say<K: Sink>(sink: &mut K, pieces: &[MessagePiece<'_>]) -> Result<(), SinkFailed>
+pub fn say<K: Sink>(sink: &mut K, pieces: &[MessagePiece<'_>]) -> Said
     ensures { Says K.written K.writes K.faults (pieces_text pieces.now) result sink.old sink.new }
 {
     'saying: for piece in pieces {

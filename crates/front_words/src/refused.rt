@@ -4,11 +4,11 @@ ghost use Rattle.front_words.specs.Refused.{refused_text, stuck_text, stuck_word
 ghost use Rattle.front_words.specs.Saying.{Says};
 
 use crate::pieces::MessagePiece::{Number, Text};
-use crate::pieces::say;
+use crate::pieces::{Said, say};
 use crate::refused_ears::say_ears;
 use crate::refused_trees::{say_moved, say_tree};
 use crate::uncovered::say_uncovered;
-use outside::{Sink, SinkFailed};
+use outside::Sink;
 use refusals::{Refusal, StuckFault};
 
 // Why a move has no result, and what would be right.
@@ -29,12 +29,7 @@ fn stuck_words(fault: StuckFault) -> &'static str
 }
 
 // Says that a move has no result, and why.
-fn say_stuck<'a, K: Sink>(
-    sink: &mut K,
-    program: &'a str,
-    step: u32,
-    fault: StuckFault,
-) -> Result<(), SinkFailed>
+fn say_stuck<K: Sink>(sink: &mut K, program: &str, step: u32, fault: StuckFault) -> Said
     ensures { Says K.written K.writes K.faults (stuck_text program.now step fault) result sink.old
         sink.new }
 {
@@ -52,11 +47,7 @@ fn say_stuck<'a, K: Sink>(
 }
 
 /// Says what a refusal means, where the fault is, and what would be right. Takes no memory.
-pub fn say_refusal<'a, K: Sink>(
-    sink: &mut K,
-    program: &'a str,
-    refusal: Refusal,
-) -> Result<(), SinkFailed>
+pub fn say_refusal<K: Sink>(sink: &mut K, program: &str, refusal: Refusal) -> Said
     ensures { Says K.written K.writes K.faults (refused_text program.now refusal) result sink.old
         sink.new }
 {

@@ -4,8 +4,8 @@ ghost use Rattle.front_words.specs.RefusedEars.{at_step_text, ear_text, ears_pla
 ghost use Rattle.front_words.specs.Saying.{Says};
 
 use crate::pieces::MessagePiece::{Number, Text};
-use crate::pieces::say;
-use outside::{Sink, SinkFailed};
+use crate::pieces::{Said, say};
+use outside::Sink;
 use refusals::{EarFault, EarOfTwo, EarPlace};
 
 // Which ear of a step, if the step has two.
@@ -20,12 +20,7 @@ fn ear_text(ear: Option<EarOfTwo>) -> &'static str
 }
 
 // Says that a list is not an ear decomposition, and in which step.
-fn say_at_step<'a, K: Sink>(
-    sink: &mut K,
-    program: &'a str,
-    step: u32,
-    place: EarPlace,
-) -> Result<(), SinkFailed>
+fn say_at_step<K: Sink>(sink: &mut K, program: &str, step: u32, place: EarPlace) -> Said
     ensures { Says K.written K.writes K.faults (at_step_text program.now step place) result sink.old
         sink.new }
 {
@@ -44,12 +39,7 @@ fn say_at_step<'a, K: Sink>(
 }
 
 // The same, or before the first step if the list has none.
-fn say_ears_place<'a, K: Sink>(
-    sink: &mut K,
-    program: &'a str,
-    step: u32,
-    place: EarPlace,
-) -> Result<(), SinkFailed>
+fn say_ears_place<K: Sink>(sink: &mut K, program: &str, step: u32, place: EarPlace) -> Said
     ensures { Says K.written K.writes K.faults (ears_place_text program.now step place) result
         sink.old sink.new }
 {
@@ -62,7 +52,7 @@ fn say_ears_place<'a, K: Sink>(
 }
 
 // Says what is wrong with a step, and what would be right.
-fn say_step_fault<K: Sink>(sink: &mut K, fault: EarFault) -> Result<(), SinkFailed>
+fn say_step_fault<K: Sink>(sink: &mut K, fault: EarFault) -> Said
     ensures { Says K.written K.writes K.faults (step_words fault) result sink.old sink.new }
 {
     match fault {
@@ -121,13 +111,13 @@ fn say_step_fault<K: Sink>(sink: &mut K, fault: EarFault) -> Result<(), SinkFail
 }
 
 /// Says that a list is not an ear decomposition, where and why. Takes no memory.
-pub fn say_ears<'a, K: Sink>(
+pub fn say_ears<K: Sink>(
     sink: &mut K,
-    program: &'a str,
+    program: &str,
     step: u32,
     place: EarPlace,
     fault: EarFault,
-) -> Result<(), SinkFailed>
+) -> Said
     ensures { Says K.written K.writes K.faults (ears_text program.now step place fault) result sink.old
         sink.new }
 {

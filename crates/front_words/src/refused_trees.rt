@@ -5,8 +5,8 @@ ghost use Rattle.front_words.specs.Saying.{Says};
 
 use crate::node_places::say_place;
 use crate::pieces::MessagePiece::{Number, Text};
-use crate::pieces::say;
-use outside::{Sink, SinkFailed};
+use crate::pieces::{Said, say};
+use outside::Sink;
 use refusals::{NodeFault, NodePlace};
 
 // What is wrong with a node.
@@ -48,7 +48,7 @@ fn say_node<K: Sink>(
     place: Option<NodePlace>,
     fault: NodeFault,
     advice: &'static str,
-) -> Result<(), SinkFailed>
+) -> Said
     ensures { Says K.written K.writes K.faults (node_text place fault advice.now) result sink.old
         sink.new }
 {
@@ -58,14 +58,14 @@ fn say_node<K: Sink>(
 }
 
 /// Says that a tree is not a tight cut decomposition, where and why. Takes no memory.
-pub fn say_tree<'a, K: Sink>(
+pub fn say_tree<K: Sink>(
     sink: &mut K,
-    program: &'a str,
+    program: &str,
     tree: u32,
     node: u32,
     place: Option<NodePlace>,
     fault: NodeFault,
-) -> Result<(), SinkFailed>
+) -> Said
     ensures { Says K.written K.writes K.faults (tree_text program.now tree node place fault) result
         sink.old sink.new }
 {
@@ -85,14 +85,14 @@ pub fn say_tree<'a, K: Sink>(
 
 /// Says that a move makes a tree that is not a tight cut decomposition, where and why. Takes no
 /// memory.
-pub fn say_moved<'a, K: Sink>(
+pub fn say_moved<K: Sink>(
     sink: &mut K,
-    program: &'a str,
+    program: &str,
     step: u32,
     node: u32,
     place: Option<NodePlace>,
     fault: NodeFault,
-) -> Result<(), SinkFailed>
+) -> Said
     ensures { Says K.written K.writes K.faults (moved_text program.now step node place fault) result
         sink.old sink.new }
 {

@@ -6,9 +6,9 @@ ghost use Rattle.front_words.specs.Shores.{highest_named, is_cut, is_cut_word, l
 
 use crate::numbers::{is_blank, number_in};
 use crate::pieces::MessagePiece::{Number, Text};
-use crate::pieces::say;
+use crate::pieces::{Said, say};
 use crate::showing::say_bytes;
-use outside::{Sink, SinkFailed};
+use outside::Sink;
 
 // The most vertices of a graph.
 const MOST_VERTICES: u32 = 128;
@@ -82,13 +82,7 @@ fn width(vertex: u32) -> u32
 
 // Says of so many vertices from `next` on those that the line does not name, at most `left` bytes
 // of them, whole numbers alone, and dots if there are more.
-fn say_others<K: Sink>(
-    sink: &mut K,
-    line: &[u8],
-    count: u32,
-    next: u32,
-    left: u32,
-) -> Result<(), SinkFailed>
+fn say_others<K: Sink>(sink: &mut K, line: &[u8], count: u32, next: u32, left: u32) -> Said
     requires { next + count < 2 ^ 32 }
     ensures { Says K.written K.writes K.faults (others_text line.now count next left) result
         sink.old sink.new }
@@ -109,14 +103,14 @@ fn say_others<K: Sink>(
 }
 
 // Says what to write for a shore with the highest-numbered vertex, if its line is not known.
-fn say_plain_note<K: Sink>(sink: &mut K) -> Result<(), SinkFailed>
+fn say_plain_note<K: Sink>(sink: &mut K) -> Said
     ensures { Says K.written K.writes K.faults plain_shore_note result sink.old sink.new }
 {
     say_bytes(sink, b" (write the other shore of this cut)")
 }
 
 // Says the vertices of the other shore and the end of the note.
-fn say_shore<K: Sink>(sink: &mut K, line: &[u8], order: u32) -> Result<(), SinkFailed>
+fn say_shore<K: Sink>(sink: &mut K, line: &[u8], order: u32) -> Said
     requires { order ≤ 128 }
     ensures { Says K.written K.writes K.faults
         (others_text line.now order 1 57 ++ codes ")") result sink.old sink.new }
@@ -128,7 +122,7 @@ fn say_shore<K: Sink>(sink: &mut K, line: &[u8], order: u32) -> Result<(), SinkF
 }
 
 // Says the other shore, in a graph with so many vertices.
-fn say_other_shore<K: Sink>(sink: &mut K, line: &[u8], order: u32) -> Result<(), SinkFailed>
+fn say_other_shore<K: Sink>(sink: &mut K, line: &[u8], order: u32) -> Said
     requires { order ≤ 128 }
     ensures { Says K.written K.writes K.faults (other_shore_note line.now order) result sink.old
         sink.new }
@@ -144,7 +138,7 @@ fn say_other_shore<K: Sink>(sink: &mut K, line: &[u8], order: u32) -> Result<(),
 
 /// Says what to write for a shore with the highest-numbered vertex: the other shore, if the line of
 /// this one is known. Takes no memory.
-pub fn say_shore_note<K: Sink>(sink: &mut K, line: Option<&[u8]>) -> Result<(), SinkFailed>
+pub fn say_shore_note<K: Sink>(sink: &mut K, line: Option<&[u8]>) -> Said
     ensures { Says K.written K.writes K.faults
         (shore_note (option_map (λ line. line.now) line.entry)) result sink.old sink.new }
 {

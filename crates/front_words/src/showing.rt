@@ -4,7 +4,8 @@ ghost use Rattle.front_words.specs.Saying.{Says};
 ghost use Rattle.front_words.specs.Showing.{begin_shown, begins_four, begins_three, begins_two, byte_at, byte_shown, is_control, is_further, shown, unit_size};
 ghost use Rattle.front_words.specs.UnitsSeen.{unit_shown};
 
-use outside::{Sink, SinkFailed, emit};
+use crate::pieces::Said;
+use outside::{Sink, emit};
 
 // Whether the byte is not printable ASCII.
 fn is_control(byte: u8) -> bool
@@ -83,14 +84,14 @@ fn unit_size(text: &[u8]) -> usize
 }
 
 // Says these bytes as they are.
-pub fn say_bytes<K: Sink>(sink: &mut K, bytes: &[u8]) -> Result<(), SinkFailed>
+pub fn say_bytes<K: Sink>(sink: &mut K, bytes: &[u8]) -> Said
     ensures { Says K.written K.writes K.faults bytes.now result sink.old sink.new }
 {
     emit(sink, bytes)
 }
 
 // Says a byte as it can stand in a line.
-fn say_byte<K: Sink>(sink: &mut K, byte: u8) -> Result<(), SinkFailed>
+fn say_byte<K: Sink>(sink: &mut K, byte: u8) -> Said
     ensures { Says K.written K.writes K.faults (byte_shown byte) result sink.old sink.new }
 {
     if byte == b'\t' {
@@ -106,7 +107,7 @@ fn say_byte<K: Sink>(sink: &mut K, byte: u8) -> Result<(), SinkFailed>
 }
 
 // Says bytes that are shown together.
-fn say_unit<K: Sink>(sink: &mut K, unit: &[u8]) -> Result<(), SinkFailed>
+fn say_unit<K: Sink>(sink: &mut K, unit: &[u8]) -> Said
     ensures { Says K.written K.writes K.faults (unit_shown unit.now) result sink.old sink.new }
 {
     match unit {
@@ -117,7 +118,7 @@ fn say_unit<K: Sink>(sink: &mut K, unit: &[u8]) -> Result<(), SinkFailed>
 
 // Says at most so many bytes of the text as they can stand in a line, whole characters alone, and
 // dots if there are more.
-fn say_begin<K: Sink>(sink: &mut K, text: &[u8], most: u32) -> Result<(), SinkFailed>
+fn say_begin<K: Sink>(sink: &mut K, text: &[u8], most: u32) -> Said
     ensures { Says K.written K.writes K.faults (begin_shown most text.now) result sink.old sink.new }
 {
     let mut rest = text;
@@ -138,7 +139,7 @@ fn say_begin<K: Sink>(sink: &mut K, text: &[u8], most: u32) -> Result<(), SinkFa
 /// Says at most so many bytes of the text as they can stand in a line, whole characters alone, and
 /// dots if there are more; and two quotes for the empty text. Takes no memory.
 #[tactic(auto, unfolding(crate::specs::Showing::shown))]
-pub fn say_shown<K: Sink>(sink: &mut K, text: &[u8], most: u32) -> Result<(), SinkFailed>
+pub fn say_shown<K: Sink>(sink: &mut K, text: &[u8], most: u32) -> Said
     ensures { Says K.written K.writes K.faults (shown most text.now) result sink.old sink.new }
 {
     if text.is_empty() {

@@ -3,12 +3,12 @@ ghost use Rattle.front_words.specs.Saying.{Says};
 ghost use Rattle.front_words.specs.Uncovered.{cover_words, uncovered_text};
 
 use crate::pieces::MessagePiece::{Number, Text};
-use crate::pieces::say;
-use outside::{Sink, SinkFailed};
+use crate::pieces::{Said, say};
+use outside::Sink;
 use refusals::CoverFault;
 
 // Says why a graph is not matching covered.
-fn say_cover_fault<K: Sink>(sink: &mut K, fault: CoverFault) -> Result<(), SinkFailed>
+fn say_cover_fault<K: Sink>(sink: &mut K, fault: CoverFault) -> Said
     ensures { Says K.written K.writes K.faults (cover_words fault) result sink.old sink.new }
 {
     match fault {
@@ -43,11 +43,7 @@ fn say_cover_fault<K: Sink>(sink: &mut K, fault: CoverFault) -> Result<(), SinkF
 }
 
 /// Says that a graph is not matching covered, and why. Takes no memory.
-pub fn say_uncovered<'a, K: Sink>(
-    sink: &mut K,
-    program: &'a str,
-    fault: CoverFault,
-) -> Result<(), SinkFailed>
+pub fn say_uncovered<K: Sink>(sink: &mut K, program: &str, fault: CoverFault) -> Said
     ensures { Says K.written K.writes K.faults (uncovered_text program.now fault) result sink.old
         sink.new }
 {

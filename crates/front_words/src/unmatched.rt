@@ -5,13 +5,15 @@ ghost use Rattle.command_table.specs.Pages.{command_line, command_lines};
 ghost use Rattle.command_table.specs.Reasons.{reason_seen};
 ghost use Rattle.command_table.specs.RowsSeen.{row_seen};
 ghost use Rattle.front_words.specs.Saying.{Says};
-ghost use Rattle.front_words.specs.Unmatched.{asks_help, help_beyond, help_text, meant, meant_text, misuse_text, reason_text, some_reason_text, unmatched_text};
+ghost use Rattle.front_words.specs.Unmatched.{help_beyond, help_text, meant, meant_text, misuse_text, reason_text, some_reason_text, unmatched_text};
 
+use crate::answers::is_help;
 use crate::pieces::MessagePiece::{Shown, Text};
-use crate::pieces::say;
+use crate::pieces::{Said, say};
+use crate::programs::Program;
 use crate::showing::say_bytes;
 use command_table::{Reason, Row, why_unmatched};
-use outside::{Sink, SinkFailed};
+use outside::Sink;
 
 // The most bytes of a command that are shown.
 const MOST_OF_COMMAND: u32 = 60;
@@ -24,7 +26,7 @@ fn command_line(command: &str, row: &Row) -> &'static str
 }
 
 // Says the lines of the rows of that command.
-fn say_lines<K: Sink>(sink: &mut K, command: &str, rows: &[Row]) -> Result<(), SinkFailed>
+fn say_lines<K: Sink>(sink: &mut K, command: &str, rows: &[Row]) -> Said
     ensures { Says K.written K.writes K.faults
         (command_lines command.now (map row_seen rows.now)) result sink.old sink.new }
 {
@@ -43,7 +45,7 @@ fn say_some_reason<'a, K: Sink>(
     program: &'a str,
     command: &'a [u8],
     reason: Reason,
-) -> Result<(), SinkFailed>
+) -> Said
     ensures { Says K.written K.writes K.faults
         (some_reason_text program.now command.now (reason_seen reason)) result sink.old sink.new }
 {
@@ -79,12 +81,7 @@ fn say_some_reason<'a, K: Sink>(
 }
 
 // Says why the words match no row; nothing if they match one.
-fn say_reason<'a, K: Sink>(
-    sink: &mut K,
-    program: &'a str,
-    command: &'a [u8],
-    reason: Option<Reason>,
-) -> Result<(), SinkFailed>
+fn say_reason<K: Sink>(sink: &mut K, program: &str, command: &[u8], reason: Option<Reason>) -> Said
     ensures { Says K.written K.writes K.faults
         (reason_text program.now command.now (option_map reason_seen reason)) result
         sink.old sink.new }
@@ -96,19 +93,13 @@ fn say_reason<'a, K: Sink>(
 }
 
 // Says why the words match no row, and the lines of the command.
-fn say_misuse<'a, K: Sink>(
-    sink: &mut K,
-    program: &'a str,
-    rows: &'a [Row],
-    command: &'a str,
-    words: &'a [String],
-) -> Result<(), SinkFailed>
+fn say_misuse<K: Sink>(sink: &mut K, program: Program, command: &str, words: &[String]) -> Said
     ensures { Says K.written K.writes K.faults
-        (misuse_text program.now (map row_seen rows.now) command.now (map string_bytes words.now))
-        result sink.old sink.new }
+        (misuse_text program command.now (map string_bytes words.now)) result sink.old sink.new }
 {
+    let rows = program.rows();
     let reason = why_unmatched(rows, words);
-    match say_reason(sink, program, command.as_bytes(), reason) {
+    match say_reason(sink, program.name(), command.as_bytes(), reason) {
         Ok(()) => say_lines(sink, command, rows),
         Err(failed) => Err(failed),
     }
@@ -132,28 +123,15 @@ fn meant(words: &[String]) -> Option<&str>
 }
 
 // Says what is wrong with the words of this command, and the usage if there is none.
-fn say_meant<'a, K: Sink>(
-    sink: &mut K,
-    program: &'a str,
-    usage: &'a str,
-    rows: &'a [Row],
-    words: &'a [String],
-) -> Result<(), SinkFailed>
+fn say_meant<K: Sink>(sink: &mut K, program: Program, words: &[String]) -> Said
     ensures { Says K.written K.writes K.faults
-        (meant_text program.now usage.now (map row_seen rows.now) (map string_bytes words.now)
-        (meant (map string_bytes words.now))) result sink.old sink.new }
+        (meant_text program (map string_bytes words.now) (meant (map string_bytes words.now)))
+        result sink.old sink.new }
 {
     match meant(words) {
-        Some(command) => say_misuse(sink, program, rows, command, words),
-        None => say_bytes(sink, usage.as_bytes()),
+        Some(command) => say_misuse(sink, program, command, words),
+        None => say_bytes(sink, program.usage().as_bytes()),
     }
-}
-
-// Whether the word asks for help.
-fn asks_help(word: &str) -> bool
-    ensures { result ≡ asks_help word.now }
-{
-    word == "help" || (word == "--help" || word == "-h")
 }
 
 // The word that asks for help on more than one command, if one does.
@@ -165,7 +143,7 @@ fn help_beyond(words: &[String]) -> Option<&str>
         [_] => None,
         [_, _] => None,
         [word, _, _, ..] => {
-            if asks_help(word.as_str()) {
+            if is_help(word.as_str()) {
                 Some(word.as_str())
             } else {
                 None
@@ -175,7 +153,7 @@ fn help_beyond(words: &[String]) -> Option<&str>
 }
 
 // Says that there are too many words behind the one that asks for help.
-fn say_help<'a, K: Sink>(sink: &mut K, program: &'a str, word: &'a str) -> Result<(), SinkFailed>
+fn say_help<'a, K: Sink>(sink: &mut K, program: &'a str, word: &'a str) -> Said
     ensures { Says K.written K.writes K.faults (help_text program.now word.now) result sink.old
         sink.new }
 {
@@ -192,19 +170,12 @@ fn say_help<'a, K: Sink>(sink: &mut K, program: &'a str, word: &'a str) -> Resul
 
 /// Says why words match no row of the table of a program, and the lines of the command that is
 /// meant; and the usage where there are no words. Takes no memory.
-pub fn say_unmatched<'a, K: Sink>(
-    sink: &mut K,
-    program: &'a str,
-    usage: &'a str,
-    rows: &'a [Row],
-    words: &'a [String],
-) -> Result<(), SinkFailed>
-    ensures { Says K.written K.writes K.faults
-        (unmatched_text program.now usage.now (map row_seen rows.now) (map string_bytes words.now))
+pub fn say_unmatched<K: Sink>(sink: &mut K, program: Program, words: &[String]) -> Said
+    ensures { Says K.written K.writes K.faults (unmatched_text program (map string_bytes words.now))
         result sink.old sink.new }
 {
     match help_beyond(words) {
-        Some(word) => say_help(sink, program, word),
-        None => say_meant(sink, program, usage, rows, words),
+        Some(word) => say_help(sink, program.name(), word),
+        None => say_meant(sink, program, words),
     }
 }

@@ -4,9 +4,9 @@ ghost use Rattle.front_words.specs.Saying.{Says};
 ghost use Rattle.front_words.specs.Unread.{dash_note, unread_noted_text, unread_text};
 
 use crate::pieces::MessagePiece::{Shown, Text};
-use crate::pieces::say;
+use crate::pieces::{Said, say};
 use crate::reasons::reason_words;
-use outside::{FailureReason, Sink, SinkFailed};
+use outside::{FailureReason, Sink};
 
 /// The most bytes of a name that are shown.
 pub const MOST_OF_NAME: u32 = 4096;
@@ -28,7 +28,7 @@ pub fn say_unread_noted<'a, K: Sink>(
     name: &'a str,
     reason: Option<FailureReason>,
     note: &'a str,
-) -> Result<(), SinkFailed>
+) -> Said
     ensures { Says K.written K.writes K.faults
         (unread_noted_text program.now name.now reason note.now) result sink.old sink.new }
 {
@@ -49,12 +49,12 @@ pub fn say_unread_noted<'a, K: Sink>(
 }
 
 /// Says that the file of that name could not be read, and why. Takes no memory.
-pub fn say_unread<'a, K: Sink>(
+pub fn say_unread<K: Sink>(
     sink: &mut K,
-    program: &'a str,
-    name: &'a str,
+    program: &str,
+    name: &str,
     reason: Option<FailureReason>,
-) -> Result<(), SinkFailed>
+) -> Said
     ensures { Says K.written K.writes K.faults (unread_text program.now name.now reason) result sink.old
         sink.new }
 {

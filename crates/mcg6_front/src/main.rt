@@ -10,30 +10,14 @@
 //! that is not UTF-8, which is then shown.
 #![tactic(auto)]
 
-use arguments::{Refusal, read_arguments};
-use front_words::say_not_text;
+use arguments::read_arguments;
+use front_words::{is_quiet, say_unread_arguments};
 use mcg6_front_top::{ListFrontEnding, run_list_front};
 use mcg6_top::CommandLine;
-use outside::{DirShelf, Explain, FailureReason, InSource, LineSink, OutSink, Shelf, Sink, emit};
+use outside::{DirShelf, Explain, FailureReason, InSource, LineSink, OutSink, Shelf};
+use std::fs;
 use std::process::ExitCode;
-use std::rt::{Env, Files};
-use std::{env, fs};
-
-// Whether words for a person are turned off.
-fn is_quiet<R: Env + AllocGlobal>(rt: &R) -> bool {
-    match env::var(rt, "MCG_QUIET") {
-        Ok(value) => value.as_str() == "1",
-        Err(_) => false,
-    }
-}
-
-// Says why the words were not read.
-fn say_refusal<E: Sink>(errors: &mut E, refusal: &Refusal) {
-    let _ = match refusal {
-        Refusal::Memory => emit(errors, b"mcg6: memory ran out; nothing was written\n"),
-        Refusal::NotText { place, bytes } => say_not_text(errors, "mcg6", *place as u64, bytes),
-    };
-}
+use std::rt::Files;
 
 // Whether a folder has that name.
 fn is_folder<R: Files>(rt: &R, name: &str) -> bool {
@@ -79,7 +63,7 @@ fn main(rt: HostRuntime) -> ExitCode {
         Ok(words) => words,
         Err(refusal) => {
             if !quiet {
-                say_refusal(&mut errors, &refusal);
+                let _ = say_unread_arguments(&mut errors, "mcg6", &refusal);
             }
             return ExitCode::from(refusal.code());
         }

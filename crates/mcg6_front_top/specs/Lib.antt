@@ -1,4 +1,2 @@
-pub mod Answers
 pub mod Words
-pub mod Said
 pub mod Fronts

@@ -14,12 +14,11 @@ use Rattle.mcg6_top.specs.declared.status.RunEnd.TheVariants.{Answered, Encoded}
 use Rattle.mcg6_front_top.specs.declared.clues.Clues.{Clues}
 use Rattle.mcg6_front_top.specs.declared.ending.Message.{Message}
 use Rattle.mcg6_front_top.specs.declared.ending.Message.TheVariants as message
-use Rattle.command_table.specs.Table.{list_rows}
 use Rattle.refusals.specs.declared.file_kind.FileKind.TheVariants.{Graph}
 use Rattle.front_words.specs.ListMessages.{bad_line_text, unread_list_text}
 use Rattle.front_words.specs.Messages.{bad_file_text, unread_text}
 use Rattle.front_words.specs.Unmatched.{unmatched_text}
-use Rattle.front_words.specs.Usage.{list_usage_text}
+use Rattle.front_words.specs.declared.programs.Program.TheVariants.{Mcg6}
 
 -- the name of the program
 abbrev pub program : List ℕ
@@ -56,7 +55,16 @@ beginning_of number text = if number == 1 then Some text else None
 
 -- of a bad graph file: its name, where it is outside the format and how, and the line
 abbrev pub bad_graph_words : (name : List ℕ) → BadLine → List ℕ
-bad_graph_words name found = bad_file_text program name Graph found.number found.kind (beginning_of found.number found.text.items) None (Some found.text.items)
+bad_graph_words name found =
+    bad_file_text program (record {
+      name = name;
+      file_kind = Graph;
+      line = found.number;
+      kind = found.kind;
+      beginning = beginning_of found.number found.text.items;
+      sizes = None;
+      text = Some found.text.items;
+    })
 
 -- what is said of the graph file of that name, whose encoding ended so; nothing where its graph6
 -- text was written
@@ -79,7 +87,7 @@ ending_words (Encoded file ending) clues = file_words file.now ending clues
 
 -- what is said of a run of these words that ended so, or of words that match no row
 abbrev pub words_of : (words : List (List ℕ)) → Option RunEnd → Clues → List ℕ
-words_of words None clues = unmatched_text program list_usage_text list_rows words
+words_of words None clues = unmatched_text Mcg6 words
 words_of words (Some end) clues = ending_words end clues
 
 -- what is said of a run of these words: of an answer that could not be written whole, or of this end

@@ -1,25 +1,14 @@
 //! The top call.
 ghost use Rattle.std.specs.Prelude.{◌≡◌, ◌⊎◌, true, false};
-ghost use Rattle.mcg6_front_top.specs.Fronts.{Answers, ListFronts};
+ghost use Rattle.mcg6_front_top.specs.Fronts.{ListFronts};
 
-use crate::answers::answer_of;
 use crate::clues::Clues;
 use crate::ending::{ListFrontEnding, Message};
 use crate::speaking::status_in;
-use front_words::say_bytes;
+use front_words::{Program, answer, answer_of};
 use mcg6_top::{CommandLine, ListStatus, RunEnd, run_to_ending};
-use outside::{FailureReason, Outlet, SinkFailed, Source};
+use outside::{FailureReason, Outlet, Source};
 use std::alloc::Global;
-
-// Writes the text as the whole answer.
-fn answer<K: Outlet>(text: &str, sink: &mut K) -> ListStatus
-    ensures { Answers K.written K.writes K.faults text.now result sink.old sink.new }
-{
-    match say_bytes(sink, text.as_bytes()) {
-        Ok(()) => ListStatus::Done,
-        Err(SinkFailed) => ListStatus::WriteFault,
-    }
-}
 
 // What is to be said of an answer: that it could not be written whole, unless it is to be quiet or
 // nobody reads the answer any more.
@@ -71,9 +60,9 @@ pub fn run_list_front<'a, 'b, S: Source, K: Outlet>(
     ensures reason { result.clues.reason ≡ reason }
     ensures is_abandoned { result.clues.is_abandoned ≡ K.is_abandoned sink.new }
 {
-    match answer_of(line.words()) {
+    match answer_of(Program::Mcg6, line.words()) {
         Some(text) => {
-            let status = answer(text, sink);
+            let status = answer(text, sink, ListStatus::Done, ListStatus::WriteFault);
             let is_abandoned = sink.is_abandoned();
             ListFrontEnding {
                 status,

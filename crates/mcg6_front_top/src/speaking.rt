@@ -8,8 +8,8 @@ ghost use Rattle.mcg6_front_top.specs.Words.{bad_graph_words, beginning_of, file
 use crate::clues::Clues;
 use crate::skipping::say_skipped;
 use front_words::{
-    BadFile, all_list_rows, list_usage, say_bad_file, say_bad_line, say_bytes, say_unmatched,
-    say_unread, say_unread_list,
+    BadFile, Program, Said, say_bad_file, say_bad_line, say_bytes, say_unmatched, say_unread,
+    say_unread_list,
 };
 use mcg6_encoder::EncodeEnding;
 use mcg6_reader::{BadLine, Ending};
@@ -31,7 +31,7 @@ pub fn status_in(end: &Option<RunEnd<'_>>) -> ListStatus
 }
 
 // Says nothing.
-fn say_nothing<E: Sink>(_errors: &mut E) -> Result<(), SinkFailed>
+fn say_nothing<E: Sink>(_errors: &mut E) -> Said
     ensures { Says E.written E.writes E.faults [] result _errors.old _errors.new }
 {
     Ok(())
@@ -44,14 +44,14 @@ pub fn say_ending<E: Sink>(
     line: &CommandLine<'_>,
     end: &Option<RunEnd<'_>>,
     clues: Clues,
-) -> Result<(), SinkFailed>
+) -> Said
     ensures { Says E.written E.writes E.faults (words_of line.now end.now clues) result errors.old
         errors.new }
 {
     match end {
         Some(RunEnd::Answered { list, end }) => say_skipping_ending(errors, list.file, end, clues),
         Some(RunEnd::Encoded { file, ending }) => say_file_ending(errors, file, ending, clues),
-        None => say_unmatched(errors, PROGRAM, list_usage(), all_list_rows(), line.words()),
+        None => say_unmatched(errors, Program::Mcg6, line.words()),
     }
 }
 
@@ -62,7 +62,7 @@ fn say_skipping_ending<E: Sink>(
     name: Option<&str>,
     end: &ListEnd,
     clues: Clues,
-) -> Result<(), SinkFailed>
+) -> Said
     ensures { Says E.written E.writes E.faults
         (skipped_words end.now.skipped.items ++ list_words (text_of name.entry) end.now.ending clues)
         result errors.old errors.new }
@@ -74,12 +74,7 @@ fn say_skipping_ending<E: Sink>(
 }
 
 // Says how the encoding of the graph file of that name ended; nothing where its text was written.
-fn say_file_ending<E: Sink>(
-    errors: &mut E,
-    name: &str,
-    ending: &EncodeEnding,
-    clues: Clues,
-) -> Result<(), SinkFailed>
+fn say_file_ending<E: Sink>(errors: &mut E, name: &str, ending: &EncodeEnding, clues: Clues) -> Said
     ensures { Says E.written E.writes E.faults (file_words name.now ending.now clues) result
         errors.old errors.new }
 {
@@ -100,24 +95,25 @@ fn beginning_of(number: u64, text: &[u8]) -> Option<&[u8]>
 }
 
 // Says of a bad graph file its name, where it is outside the format and how, and the line.
-fn say_bad_graph<E: Sink>(errors: &mut E, name: &str, found: &BadLine) -> Result<(), SinkFailed>
+fn say_bad_graph<E: Sink>(errors: &mut E, name: &str, found: &BadLine) -> Said
     ensures { Says E.written E.writes E.faults (bad_graph_words name.now found.now) result
         errors.old errors.new }
 {
     let text = found.text.as_slice();
     let bad = BadFile {
         name,
-        role: FileKind::Graph,
+        file_kind: FileKind::Graph,
         line: found.number,
         kind: found.kind,
         beginning: beginning_of(found.number, text),
         sizes: None,
+        text: Some(text),
     };
-    say_bad_file(errors, PROGRAM, &bad, Some(text))
+    say_bad_file(errors, PROGRAM, &bad)
 }
 
 // Says that memory ran out before anything was written.
-fn say_nothing_written<E: Sink>(errors: &mut E) -> Result<(), SinkFailed>
+fn say_nothing_written<E: Sink>(errors: &mut E) -> Said
     ensures { Says E.written E.writes E.faults nothing_words result errors.old errors.new }
 {
     say_bytes(errors, b"mcg6: memory ran out; nothing was written\n")
@@ -129,7 +125,7 @@ fn say_list_ending<E: Sink>(
     name: Option<&str>,
     ending: &Ending,
     clues: Clues,
-) -> Result<(), SinkFailed>
+) -> Said
     ensures { Says E.written E.writes E.faults (list_words (text_of name.entry) ending.now clues) result
         errors.old errors.new }
 {
@@ -145,14 +141,14 @@ fn say_list_ending<E: Sink>(
 }
 
 /// Says that the output could not be written whole. Takes no memory.
-pub fn say_lost<E: Sink>(errors: &mut E) -> Result<(), SinkFailed>
+pub fn say_lost<E: Sink>(errors: &mut E) -> Said
     ensures { Says E.written E.writes E.faults lost_words result errors.old errors.new }
 {
     say_bytes(errors, b"mcg6: the output could not be written whole\n")
 }
 
 // Says that the output could not be written, unless nobody reads it any more.
-fn say_unwritten<E: Sink>(errors: &mut E, is_abandoned: bool) -> Result<(), SinkFailed>
+fn say_unwritten<E: Sink>(errors: &mut E, is_abandoned: bool) -> Said
     ensures { Says E.written E.writes E.faults (unwritten_words is_abandoned) result errors.old errors.new }
 {
     if is_abandoned {
@@ -163,7 +159,7 @@ fn say_unwritten<E: Sink>(errors: &mut E, is_abandoned: bool) -> Result<(), Sink
 }
 
 // Says that memory ran out.
-fn say_out_of_memory<E: Sink>(errors: &mut E) -> Result<(), SinkFailed>
+fn say_out_of_memory<E: Sink>(errors: &mut E) -> Said
     ensures { Says E.written E.writes E.faults memory_words result errors.old errors.new }
 {
     say_bytes(

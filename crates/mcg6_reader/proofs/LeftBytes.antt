@@ -45,22 +45,16 @@ piece_read whole held piece before now next left taken =
     ∙ ap (λ (t : List ℕ). prepended t next) (append_assoc whole held piece)
 
 -- if the source makes known what is left, the list is that
-pub told_list :
+module _
     (tells : LinePlace → List ℕ → List ℕ → Type 0) (bad : LinePlace → List ℕ → FaultKind → Type 0) (lacks : ℕ → Option FaultKind) (ending : Ending)
     (left before now : Option (List ℕ)) (bytes : List ℕ)
-    (reports : LinePlace → List ℕ → List BadLine → Type 0) (founds_before founds_now : List BadLine) →
-    TellsList tells bad lacks reports ending left before now founds_before founds_now → left ≡ Some bytes →
-    Appended (Gives tells bad lacks first_place (lines_of bytes) ending) before now
-told_list tells bad lacks ending left before now bytes reports founds_before founds_now list is =
-    let same : bytes ≡ list.bytes = subst (λ (o : Option (List ℕ)). IsLeft o list.bytes) is list.is_left in
-    subst (λ (t : List ℕ). Appended (Gives tells bad lacks first_place (lines_of t) ending) before now) (sym same) list.gives
+    (reports : LinePlace → List ℕ → List BadLine → Type 0) (founds_before founds_now : List BadLine)
+    (list : TellsList tells bad lacks reports ending left before now founds_before founds_now) (is : left ≡ Some bytes) where
+  same_list : list.bytes ≡ bytes
+  same_list = sym (subst (λ (o : Option (List ℕ)). IsLeft o list.bytes) is list.is_left)
 
-pub reported_list :
-    (tells : LinePlace → List ℕ → List ℕ → Type 0) (bad : LinePlace → List ℕ → FaultKind → Type 0) (lacks : ℕ → Option FaultKind) (ending : Ending)
-    (left before now : Option (List ℕ)) (bytes : List ℕ)
-    (reports : LinePlace → List ℕ → List BadLine → Type 0) (founds_before founds_now : List BadLine) →
-    TellsList tells bad lacks reports ending left before now founds_before founds_now → left ≡ Some bytes →
-    Added (Reported reports bad lacks first_place (lines_of bytes) ending) founds_before founds_now
-reported_list tells bad lacks ending left before now bytes reports founds_before founds_now list is =
-    let same : bytes ≡ list.bytes = subst (λ (o : Option (List ℕ)). IsLeft o list.bytes) is list.is_left in
-    subst (λ (t : List ℕ). Added (Reported reports bad lacks first_place (lines_of t) ending) founds_before founds_now) (sym same) list.reported
+  pub told_list : Appended (Gives tells bad lacks first_place (lines_of bytes) ending) before now
+  told_list = subst (λ (t : List ℕ). Appended (Gives tells bad lacks first_place (lines_of t) ending) before now) same_list list.gives
+
+  pub reported_list : Added (Reported reports bad lacks first_place (lines_of bytes) ending) founds_before founds_now
+  reported_list = subst (λ (t : List ℕ). Added (Reported reports bad lacks first_place (lines_of t) ending) founds_before founds_now) same_list list.reported

@@ -97,11 +97,7 @@ module _ (reports : LinePlace → List ℕ → List BadLine → Type 0) (bad : L
   pub with_through_fault :
       (n k : LinePlace) (text left : List ℕ) (before now : List BadLine) → Added (ToldThrough reports n text left k) before now →
       Added (ReportsWith reports bad lacks n text WriteFault) before now
-  with_through_fault n k text left before now through = record {
-    more = through.more;
-    right = λ rest. through_begins reports n k text left rest through.more through.right;
-    output = through.output;
-  }
+  with_through_fault n k text left before now through = with_through_memory n k text left before now through
 
   -- it stopped at a bad line, or for memory; and the write of what the lines before gave failed
   pub with_stop_fault :

@@ -9,7 +9,6 @@ use crate::place::{LinePlace, place_after};
 use crate::teller::LineTeller;
 use crate::telling::{tell_line, tell_lines};
 use line_text::FaultKind;
-use outside::MOST_LINE;
 use std::alloc::Global;
 
 /// The state of a list that arrives in pieces.
@@ -19,38 +18,6 @@ pub struct Listing {
     pub place: LinePlace,
     /// The bytes of it that were read; its line feed has not come yet.
     pub held: Vec<u8>,
-}
-
-// Processes the complete lines of a text, as `tell_lines` does, and rejects what is left of it if
-// that is too long for a line.
-fn tell_within_limit<'a, T: LineTeller>(
-    alloc: Global,
-    teller: &T,
-    first: LinePlace,
-    text: &'a [u8],
-    output: &mut Vec<u8>,
-    skipped: &mut Vec<BadLine>,
-) -> Result<(LinePlace, &'a [u8]), ListStop>
-    ensures told { IfOk result
-        (λ found. Added (ToldThrough (T.tells teller.now) first text.now found.1.now found.0)
-        output.old.items output.new.items) }
-    ensures reported { IfOk result
-        (λ found. Added (ToldThrough (Reports (T.skips teller.now)) first text.now found.1.now
-        found.0) skipped.old.items skipped.new.items) }
-    ensures left { IfOk result (λ found. HasNoFeed found.1.now) }
-    ensures short { IfOk result (λ found. length found.1.now ≤ most_line) }
-    ensures bad { IfErr result (IfBad (λ found. Added
-        (StopsWith (T.tells teller.now) (T.bad teller.now) (T.lacks teller.now)
-        first text.now (ending.Bad found)) output.old.items output.new.items)) }
-    ensures stopped { IfErr result (λ stop. Added
-        (ReportsWith (Reports (T.skips teller.now)) (T.bad teller.now) (T.lacks teller.now)
-        first text.now (ending_of stop)) skipped.old.items skipped.new.items) }
-{
-    let (place, rest) = tell_lines(alloc, teller, first, text, output, skipped)?;
-    if rest.len() > MOST_LINE {
-        return Err(stop_at(alloc, place.number, FaultKind::Limit, rest));
-    }
-    Ok((place, rest))
 }
 
 // Processes the lines that a further piece completes, and holds what is left after them.
@@ -85,7 +52,7 @@ pub fn add_piece<T: LineTeller>(
         .extend_from_slice(piece)
         .map_err(|_| ListStop::Memory)?;
     let first = listing.place;
-    let (place, rest) = tell_within_limit(alloc, teller, first, &listing.held, output, skipped)?;
+    let (place, rest) = tell_lines(alloc, teller, first, &listing.held, output, skipped)?;
     match rest.to_vec(alloc) {
         Ok(held) => {
             *listing = Listing { place, held };

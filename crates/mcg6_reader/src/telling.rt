@@ -1,5 +1,6 @@
 //! Processing the lines of a text.
-ghost use Rattle.std.specs.Prelude.{◌≡◌, IfOk, IfErr, OnOk};
+ghost use Rattle.std.specs.Prelude.{◌≡◌, ◌≤◌, IfOk, IfErr, OnOk, length};
+ghost use Rattle.outside.specs.Common.{most_line};
 ghost use Rattle.mcg6_reader.specs.declared.ending.Ending.TheVariants as ending;
 ghost use Rattle.mcg6_reader.specs.Common.{IfBad, LineTold, NamesBad, HasNoFeed, Added, Reports, ReportsWith, ToldThrough, StopsWith, ending_of};
 
@@ -48,8 +49,9 @@ pub fn tell_line<T: LineTeller>(
     }
 }
 
-// Processes the complete lines of a text, the first of which is at that place; returns the place of
-// the next line, and what is left of the text after its last line feed.
+// Processes the complete lines of a text, the first of which is at that place, and rejects what is
+// left of the text after its last line feed if that is too long for a line; returns the place of the
+// next line, and what is left.
 #[tactic(auto, using(crate::proofs::Skips::with_more_memory))]
 pub fn tell_lines<'a, T: LineTeller>(
     alloc: Global,
@@ -66,6 +68,7 @@ pub fn tell_lines<'a, T: LineTeller>(
         (λ found. Added (ToldThrough (Reports (T.skips teller.now)) first text.now found.1.now
         found.0) skipped.old.items skipped.new.items) }
     ensures left { IfOk result (λ found. HasNoFeed found.1.now) }
+    ensures short { IfOk result (λ found. length found.1.now ≤ most_line) }
     ensures bad { IfErr result (IfBad (λ found. Added
         (StopsWith (T.tells teller.now) (T.bad teller.now) (T.lacks teller.now)
         first text.now (ending.Bad found)) output.old.items output.new.items)) }
@@ -85,6 +88,9 @@ pub fn tell_lines<'a, T: LineTeller>(
             Err(_) => return Err(ListStop::Memory),
         }
         rest = behind;
+    }
+    if rest.len() > MOST_LINE {
+        return Err(stop_at(alloc, place.number, FaultKind::Limit, rest));
     }
     Ok((place, rest))
 }

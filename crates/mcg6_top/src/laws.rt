@@ -12,6 +12,7 @@ ghost use Rattle.mcg6_top.specs.declared.status.ListStatus.TheVariants.{BadInput
 
 /// Whatever is asked of the graphs of a list, each line has one output, or it is bad with one
 /// kind of a first fault, and no line is both.
+#[tactic(auto, using(crate::proofs::OneOutput::one_fault_each, crate::proofs::OneOutput::told_or_bad))]
 pub fn one_line_law()
     ensures output { (query : Query) → HasOneOutput (TellsLineOf query) }
     ensures fault { (query : Query) → HasOneFault (IsBadLine query) }

@@ -9,29 +9,11 @@
 //! shown.
 #![tactic(auto)]
 
-use arguments::{Refusal, read_arguments};
+use arguments::read_arguments;
 use front_top::{SizingShelf, run_front};
-use front_words::say_not_text;
-use outside::{DirShelf, KeepingShelf, LineSink, OutSink, Sink, emit};
-use std::env;
+use front_words::{is_quiet, say_unread_arguments};
+use outside::{DirShelf, KeepingShelf, LineSink, OutSink};
 use std::process::ExitCode;
-use std::rt::Env;
-
-// Whether words for a person are turned off.
-fn is_quiet<R: Env + AllocGlobal>(rt: &R) -> bool {
-    match env::var(rt, "MCG_QUIET") {
-        Ok(value) => value.as_str() == "1",
-        Err(_) => false,
-    }
-}
-
-// Says why the words were not read.
-fn say_refusal<E: Sink>(errors: &mut E, refusal: &Refusal) {
-    let _ = match refusal {
-        Refusal::Memory => emit(errors, b"mcg: memory ran out; nothing was written\n"),
-        Refusal::NotText { place, bytes } => say_not_text(errors, "mcg", *place as u64, bytes),
-    };
-}
 
 fn main(rt: HostRuntime) -> ExitCode {
     let stream = rt.stderr();
@@ -47,7 +29,7 @@ fn main(rt: HostRuntime) -> ExitCode {
         }
         Err(refusal) => {
             if !quiet {
-                say_refusal(&mut errors, &refusal);
+                let _ = say_unread_arguments(&mut errors, "mcg", &refusal);
             }
             ExitCode::from(refusal.code())
         }

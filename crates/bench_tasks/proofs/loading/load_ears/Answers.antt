@@ -1,4 +1,4 @@
-use Rattle.std.proofs.Common.{[], ◌∷◌, refl, arith}
+use Rattle.std.proofs.Common.{[], ◌∷◌, refl}
 use Rattle.counting.proofs.Common.{err_from_is_err_and}
 use Rattle.graph_text.specs.Common.{named_graph}
 use Rattle.ear_core.specs.Common.{ears_of}
@@ -6,26 +6,17 @@ use Rattle.bench_tasks.specs.Common.{graph_file, loaded_as, ear_file, place_name
 use Rattle.bench_tasks.proofs.AnswersMade.{answered-both, answered-stopped, answered-stopped-second}
 use Rattle.bench_tasks.proofs.loading.load_ears.Goals as goal
 
-pub returns-in_err-named-clause-loads : goal.returns-in_err-named-clause-loads
-returns-in_err-named-clause-loads g c = grind arith
-
 pub returns-in_err-named-clause-answered : goal.returns-in_err-named-clause-answered
 returns-in_err-named-clause-answered g c =
     let p = err_from_is_err_and c.from_residual.result c.from_residual.ensures.1 in
     rw (p.1, p.2) (answered-stopped g.S.Shelf.reads (c.args.graph_file.now ∷ []) named_graph given_ears (λ files. graph_file files (place_name 1)) (c.args.ears_file.now ∷ [])
     (λ files named. loaded_as (λ list. (named, list)) (ear_file files (place_name 2) named.graph)) _ _ _ c.in_err-named.ensures.answered)
 
-pub returns-in_err-list-clause-loads : goal.returns-in_err-list-clause-loads
-returns-in_err-list-clause-loads g c = grind arith
-
 pub returns-in_err-list-clause-answered : goal.returns-in_err-list-clause-answered
 returns-in_err-list-clause-answered g c =
     let p = err_from_is_err_and c.from_residual-in_err-list.result c.from_residual-in_err-list.ensures.1 in
     rw (p.1, p.2) (answered-stopped-second g.S.Shelf.reads (c.args.graph_file.now ∷ []) named_graph given_ears (λ files. graph_file files (place_name 1)) ears_of
     (λ files named. ear_file files (place_name 2) named.graph) (λ named list. (named, list)) _ c.args.ears_file.now _ _ _ c.in_ok-named.ensures.answered _ c.in_err-list.ensures.stops c.in_err-list.ensures.answered)
-
-pub returns-clause-loads : goal.returns-clause-loads
-returns-clause-loads g c = grind arith
 
 pub returns-clause-answered : goal.returns-clause-answered
 returns-clause-answered g c =

@@ -5,10 +5,11 @@ use Rattle.front_words.proofs.unmatched.say_misuse.Goals as goal
 
 pub returns-in-Ok : goal.returns-in-Ok
 returns-in-Ok g c =
-    let said = rw (c.why_unmatched-reason.ensures, c.as_bytes.ensures.value) at c.in-Ok.ensures in
-    says_step {F = SinkFailed} g.K.Sink.written g.K.Sink.writes g.K.Sink.faults _ _ _ _ _ _ _ refl said c.say_lines.ensures
+    let said = rw (c.why_unmatched-reason.ensures, c.as_bytes.ensures.value, c.rows-rows.ensures, c.name.ensures) at c.in-Ok.ensures in
+    let lines = rw c.rows-rows.ensures at c.say_lines.ensures in
+    says_step {F = SinkFailed} g.K.Sink.written g.K.Sink.writes g.K.Sink.faults _ _ _ _ _ _ _ refl said lines
 
 pub returns-in-Err : goal.returns-in-Err
 returns-in-Err g c =
-    let said = rw (c.why_unmatched-reason.ensures, c.as_bytes.ensures.value) at c.in-Err.ensures in
+    let said = rw (c.why_unmatched-reason.ensures, c.as_bytes.ensures.value, c.rows-rows.ensures, c.name.ensures) at c.in-Err.ensures in
     says_break {F = SinkFailed} g.K.Sink.written g.K.Sink.writes g.K.Sink.faults _ _ _ _ _ _ refl said
