@@ -1,5 +1,5 @@
 -- Choices as in Hall's theorem (Hall 1935): different members of a set get different partners.
--- Stated by no contract. Rests on it: barrier_kit, quick_kinds, theorems.
+-- Stated by no contract. Used by: barrier_kit, quick_kinds, theorems.
 use Rattle.std.specs.Prelude.{◌≡◌, ℕ, Bool, true, ◌&&◌}
 use Rattle.counting.specs.Common.{Within, Set, some}
 

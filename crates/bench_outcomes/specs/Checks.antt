@@ -1,6 +1,6 @@
 -- The report on a tree of cuts that is meant to be a derivation of a graph: the number of its
 -- leaves, or its first refusal.
--- Stated by: bench_reports. Rests on it: bench_outcomes, bench_top, theorems.
+-- Stated by: bench_reports. Used by: bench_outcomes, bench_top, theorems.
 use Rattle.std.specs.Prelude.{◌≡◌, ◌⊎◌, ℕ, List}
 use Rattle.std.specs.declared.option.Option.{Option}
 use Rattle.std.specs.declared.option.Option.TheVariants.{Some, None}

@@ -2,7 +2,7 @@
 -- are paired, and a script of moves that turns the first into the second (Lovász 1987: any two
 -- decompositions have the same leaves, up to multiplicities of edges); or why one of them is
 -- refused.
--- Stated by: bench_reports. Rests on it: bench_outcomes, bench_top, theorems.
+-- Stated by: bench_reports. Used by: bench_outcomes, bench_top, theorems.
 use Rattle.std.specs.Prelude.{◌≡◌, ◌≤◌, ◌*◌, ◌⊎◌, ℕ, suc, List, [], ◌∷◌, length}
 use Rattle.std.specs.declared.option.Option.{Option}
 use Rattle.std.specs.declared.option.Option.TheVariants.{Some, None}

@@ -1,7 +1,7 @@
 -- How each task behaves, stated once: whether it can be refused and when it succeeds, whether its
 -- text is determined, and which lists of numbers its report may show. When a task succeeds
 -- (`Success`) and what is not determined in a report (`Fixed` of `bench_top`) follow from this.
--- Stated by no contract. Rests on it: bench_outcomes, bench_top.
+-- Stated by no contract. Used by: bench_outcomes, bench_top.
 use Rattle.std.specs.Prelude.{ℕ, List}
 use Rattle.graph_core.specs.Common.{IsCovered, Graph}
 use Rattle.tree_core.specs.Common.{IsDerivation, PlainMove, TurnsThrough, Shape}

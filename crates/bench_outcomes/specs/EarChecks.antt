@@ -1,6 +1,6 @@
 -- The report on ear lists of a graph: for a given one whether it is an ear list, and for one that
 -- is built its text.
--- Stated by: bench_reports. Rests on it: bench_outcomes, bench_top, theorems.
+-- Stated by: bench_reports. Used by: bench_outcomes, bench_top, theorems.
 use Rattle.std.specs.Prelude.{◌≡◌, ◌⊎◌, ℕ, List, length, count_by, not, Bool, true, false, Option}
 use Rattle.std.specs.List.{AllByRecursion}
 use Rattle.graph_core.specs.Common.{IsCovered, Graph, size, IsBipartite}

@@ -1,5 +1,5 @@
 -- What the lines of a report claim of a graph.
--- Stated by: bench_reports. Rests on it: bench_outcomes, bench_top, theorems.
+-- Stated by: bench_reports. Used by: bench_outcomes, bench_top, theorems.
 use Rattle.std.specs.Prelude.{◌≡◌, ◌↔◌, ℕ, IsTrue}
 use Rattle.std.specs.declared.option.Option.{Option}
 use Rattle.std.specs.declared.option.Option.TheVariants.{Some, None}

@@ -1,6 +1,6 @@
 -- The report on a graph that is generated from a seed: its text, the numbers of leaves of its
 -- decompositions by the first and by the last candidates, and how many of them are paired.
--- Stated by: bench_reports. Rests on it: bench_outcomes, bench_top, theorems.
+-- Stated by: bench_reports. Used by: bench_outcomes, bench_top, theorems.
 use Rattle.std.specs.Prelude.{◌≡◌, ℕ, List, length}
 use Rattle.graph_core.specs.Common.{Graph}
 use Rattle.graph_text.specs.Common.{graph_text}

@@ -1,5 +1,5 @@
 -- What a refusal says of a report: the line that stands for it, of which the evidence is left open.
--- Stated by: bench_outcomes, bench_reports. Rests on it: bench_top.
+-- Stated by: bench_outcomes, bench_reports. Used by: bench_top.
 use Rattle.std.specs.Prelude.{ℕ, List, ◌++◌, Bool, true, false, codes, drop, length}
 use Rattle.std.specs.declared.option.Option.{Option}
 use Rattle.std.specs.declared.option.Option.TheVariants.{Some, None}

@@ -1,5 +1,5 @@
 -- Which commands and which tasks can refuse their input, as their conduct says.
--- Stated by: bench_reports, bench_top. Rests on it: bench_outcomes.
+-- Stated by: bench_reports, bench_top. Used by: bench_outcomes.
 use Rattle.std.specs.declared.option.Option.{Option}
 use Rattle.std.specs.declared.option.Option.TheVariants.{Some, None}
 use Rattle.std.specs.declared.result.Result.{Result}

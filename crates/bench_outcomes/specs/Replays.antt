@@ -1,7 +1,7 @@
 -- The report on a script of moves on a tree of cuts that is meant to be a derivation of a graph:
 -- the last tree if each tree on the way is a derivation, or the first move that fails, or why the
 -- tree itself is refused.
--- Stated by: bench_reports. Rests on it: bench_outcomes, bench_top, theorems.
+-- Stated by: bench_reports. Used by: bench_outcomes, bench_top, theorems.
 use Rattle.std.specs.Prelude.{◌≡◌, ◌⊎◌, ℕ, List, length}
 use Rattle.graph_core.specs.Common.{Graph}
 use Rattle.tree_core.specs.Common.{IsDerivation, PlainMove, TurnsThrough, Shape}

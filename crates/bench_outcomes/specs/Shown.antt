@@ -1,6 +1,6 @@
 -- What a report may show that need not be unique: a Berge set of a connected graph without a
 -- perfect matching, or a perfect matching that crosses a refused cut.
--- Stated by no contract. Rests on it: bench_outcomes, bench_top.
+-- Stated by no contract. Used by: bench_outcomes, bench_top.
 use Rattle.std.specs.Prelude.{◌⊎◌, ℕ, List}
 use Rattle.graph_core.specs.Common.{IsReason, Unmatched, Graph}
 use Rattle.tree_core.specs.Common.{IsDerivation, PlainMove, Shape}

@@ -1,5 +1,5 @@
 -- Why a move on a tree of cuts has no result.
--- Stated by: bench_reports. Rests on it: bench_outcomes.
+-- Stated by: bench_reports. Used by: bench_outcomes.
 use Rattle.std.specs.Prelude.{◌≡◌, ◌⊎◌, ◌&&◌, if◌then◌else◌, Bool, true, false, List, [], ◌∷◌, ℕ, IsFalse, None}
 use Rattle.counting.specs.Common.{is_apart, is_subset}
 use Rattle.graph_core.specs.Common.{complement_of}

@@ -1,7 +1,7 @@
 -- What the reads of a run answered, and which files they gave: each is named by its place among the
 -- files of the command, counted from 1, since one name may be asked for twice and answered with
 -- other bytes. So what is loaded of a shelf that tells no files is what these files hold.
--- Stated by: bench_tasks. Rests on it: bench_top.
+-- Stated by: bench_tasks. Used by: bench_top.
 use Rattle.std.specs.Prelude.{◌≡◌, ◌<◌, ℕ, ◌+◌, List, [], ◌∷◌, length}
 use Rattle.std.specs.declared.option.Option.{Option}
 use Rattle.std.specs.declared.option.Option.TheVariants.{Some}

@@ -1,6 +1,6 @@
 -- What the words ask for: a verb, with the names of the files that it reads; one line of
 -- `command_of` for each row of the table of words.
--- Stated by: bench_tasks, bench_top, front_top, theorems. Rests on it: bench_outcomes.
+-- Stated by: bench_tasks, bench_top, front_top, theorems. Used by: bench_outcomes.
 use Rattle.std.specs.Prelude.{List, [], ◌∷◌, ℕ, ◌&&◌, nat_le, if◌then◌else◌, codes}
 use Rattle.std.specs.declared.option.Option.{Option}
 use Rattle.std.specs.declared.option.Option.TheVariants.{Some, None}

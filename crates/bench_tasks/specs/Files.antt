@@ -1,6 +1,6 @@
 -- The files of a command: the one table that says which files it reads, in which order, and as
 -- what.
--- Stated by: bench_tasks, bench_top. Rests on it: front_top.
+-- Stated by: bench_tasks, bench_top. Used by: front_top.
 use Rattle.std.specs.Prelude.{ℕ, ◌==◌, List, [], ◌∷◌, map, slice_get, if◌then◌else◌}
 use Rattle.std.specs.declared.option.Option.{Option}
 use Rattle.std.specs.declared.option.Option.TheVariants.{None}

@@ -1,6 +1,6 @@
 -- What the files that a command names hold: each is looked up and read in the order of the words,
 -- up to the first that is not held or is bad.
--- Stated by: bench_tasks, bench_reports, bench_top, theorems. Rests on it: bench_outcomes.
+-- Stated by: bench_tasks, bench_reports, bench_top, theorems. Used by: bench_outcomes.
 use Rattle.std.specs.Prelude.{ℕ, List, length, nat_lt, if◌then◌else◌}
 use Rattle.std.specs.declared.option.Option.{Option}
 use Rattle.std.specs.declared.option.Option.TheVariants.{Some, None}

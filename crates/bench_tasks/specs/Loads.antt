@@ -1,5 +1,5 @@
 -- What loading a file, or the files of a command, answers.
--- Stated by: bench_tasks, bench_reports, bench_top. Rests on it: bench_outcomes.
+-- Stated by: bench_tasks, bench_reports, bench_top. Used by: bench_outcomes.
 use Rattle.std.specs.Prelude.{◌≡◌, ◌≤◌, List, ℕ, Bool}
 use Rattle.std.specs.declared.option.Option.{Option}
 use Rattle.std.specs.declared.option.Option.TheVariants.{Some}

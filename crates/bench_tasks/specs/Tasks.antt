@@ -1,5 +1,5 @@
 -- What a command works on: its verb with what its files hold in place of their names.
--- Stated by: bench_tasks, bench_reports, bench_top, theorems. Rests on it: bench_outcomes.
+-- Stated by: bench_tasks, bench_reports, bench_top, theorems. Used by: bench_outcomes.
 use Rattle.std.specs.Prelude.{◌≡◌, ℕ, List}
 use Rattle.graph_core.specs.Common.{Graph}
 use Rattle.graph_text.specs.Common.{NamedGraph}

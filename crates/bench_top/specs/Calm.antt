@@ -1,5 +1,5 @@
 -- Runs in which the outside did not fail, and runs that read all that they read.
--- Stated by no contract. Rests on it: bench_top.
+-- Stated by no contract. Used by: bench_top.
 use Rattle.std.specs.Prelude.{ℕ, ◌⊎◌, Bool, IsTrue}
 use Rattle.outside.specs.Common.{Rose}
 use Rattle.bench_outcomes.specs.declared.status.Status.{Status}

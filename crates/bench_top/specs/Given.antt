@@ -1,6 +1,6 @@
 -- What a run makes of a shelf that may tell nothing of its files: its reads gave some files, and
 -- what it writes is an output that these files give.
--- Stated by: theorems. Rests on it: bench_top.
+-- Stated by: theorems. Used by: bench_top.
 use Rattle.std.specs.Prelude.{◌≡◌, ◌<◌, ℕ, ◌+◌, List, [], ◌∷◌, length}
 use Rattle.std.specs.declared.option.Option.{Option}
 use Rattle.std.specs.declared.result.Result.TheVariants.{Ok, Err}

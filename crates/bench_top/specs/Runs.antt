@@ -1,5 +1,5 @@
 -- What a run makes of a shelf and a sink, as one fact: `run`, `run_ending` and the front cite it.
--- Stated by: bench_top. Rests on it: front_top.
+-- Stated by: bench_top. Used by: front_top.
 use Rattle.std.specs.Prelude.{◌≡◌, ◌⊎◌, ◌↔◌, ℕ, List, Bool, IsTrue, is_some}
 use Rattle.std.specs.declared.option.Option.{Option}
 use Rattle.std.specs.declared.option.Option.TheVariants.{Some, None}

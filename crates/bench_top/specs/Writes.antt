@@ -1,5 +1,5 @@
 -- Which writes a run makes, and of which output.
--- Stated by no contract. Rests on it: bench_top, theorems.
+-- Stated by no contract. Used by: bench_top, theorems.
 use Rattle.std.specs.Prelude.{◌≡◌, ℕ, List, take}
 use Rattle.std.specs.declared.option.Option.{Option}
 use Rattle.std.specs.declared.option.Option.TheVariants.{Some}

@@ -1,6 +1,6 @@
 -- Partitions as contracts see them: the number of vertices and the blocks; and the unions of
 -- blocks among the sets.
--- Stated by: contraction, tree_core. Rests on it: tree_check, uncross, report_text, bench_reports.
+-- Stated by: contraction, tree_core. Used by: tree_check, uncross, report_text, bench_reports.
 use Rattle.std.specs.Prelude.{ℕ, ◌≤◌, List}
 use Rattle.counting.specs.Common.{mem, IsRisingIn}
 use Rattle.graph_core.specs.Common.{IsPartition, IsUnion}

@@ -1,7 +1,7 @@
 -- "Some" and "each" over the numbers 1 to n, and over all sets of such numbers, as tests that
 -- compute.
 -- Stated by: graph_core, allowed_edges, graph_facts, contraction, ear_core, plain_graph.
--- Rests on it: counting, grow_gen, match_search, barrier_kit, matching_digraph and 10 more.
+-- Used by: counting, grow_gen, match_search, barrier_kit, matching_digraph and 10 more.
 use Rattle.std.specs.Prelude.{ℕ, zero, suc, ◌<◌, Bool, true, false, ◌&&◌, ◌||◌, not}
 use Rattle.counting.specs.Counts.{Within}
 use Rattle.counting.specs.Sets.{Set, none, put}

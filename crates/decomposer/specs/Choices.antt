@@ -1,5 +1,5 @@
 -- What an order may answer: the first balanced place, and the answer of a function, tested.
--- Stated by: decomposer. Rests on it: mcg6_lines, theorems.
+-- Stated by: decomposer. Used by: mcg6_lines, theorems.
 use Rattle.std.specs.Prelude.{◌≡◌, ℕ, ◌-◌, ◌+◌, ◌<◌, ◌≤◌, List, length, map, slice_get, Option, Some, None, ◌⊎◌}
 use Rattle.std.specs.Borrow.{Bor}
 use Rattle.tight_cuts.specs.Common.{Candidate, candidate_of}

@@ -1,7 +1,7 @@
 -- The orders of choice that have names, and those of lists of picks: which candidate each picks
 -- at a node, of the list of candidates there, with so many cuts before the node in preorder.
 -- Stated by: decomposer, bench_reports, theorems.
--- Rests on it: mcg6_lines, bench_tasks, bench_outcomes, bench_top, front_top, mcg6_top and 1 more.
+-- Used by: mcg6_lines, bench_tasks, bench_outcomes, bench_top, front_top, mcg6_top, mcg6_front_top.
 use Rattle.std.specs.Prelude.{◌≡◌, ℕ, ◌-◌, ◌%◌, List, length, slice_index_or, codes, if◌then◌else◌}
 use Rattle.std.specs.declared.option.Option.{Option}
 use Rattle.std.specs.declared.option.Option.TheVariants.{Some, None}

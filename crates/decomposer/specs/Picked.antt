@@ -1,7 +1,7 @@
 -- The tree that an order picks from a graph (Lovász 1987: any order leads to the same leaves, up
 -- to multiplicities of edges).
 -- Stated by: decomposer, bench_reports, theorems, example_order.
--- Rests on it: mcg6_lines, bench_outcomes.
+-- Used by: mcg6_lines, bench_outcomes.
 use Rattle.std.specs.Prelude.{◌≡◌, ℕ, ◌+◌, ◌++◌, List, [], All, Option, Some, None, map, slice_get}
 use Rattle.std.specs.Option.{option_map}
 use Rattle.graph_core.specs.Common.{Graph, singles}

@@ -1,6 +1,6 @@
 -- The textbook's definitions of what graph_core defines by degrees, counts and tests. The laws of
 -- this crate say that they agree. Any textbook (Lovász and Plummer, "Matching Theory").
--- Stated by: definition_laws. Rests on it: bench_top.
+-- Stated by: definition_laws. Used by: bench_top.
 use Rattle.std.specs.Prelude.{◌≡◌, ◌≢◌, ◌<◌, ◌⊎◌, ◌↔◌, ℕ, true, false, List, [], length}
 use Rattle.counting.specs.Common.{Within, mem, ComesBefore, IsRisingIn, Set}
 use Rattle.graph_core.specs.Common.{Reason, Small, Parted, Unmatched, Unallowed, Graph, size, first_end, second_end, IsEnd, block, place, IsClass, Joined}

@@ -1,7 +1,7 @@
 -- Ears that two perfect matchings make. From a vertex of the stage that the one matching leads
 -- out of the stage its edges and those of the other are followed in turn, until a vertex of the
 -- stage comes again.
--- Stated by: ear_core. Rests on it: theorems.
+-- Stated by: ear_core. Used by: theorems.
 use Rattle.std.specs.Prelude.{◌≡◌, ◌≢◌, ◌⊎◌, ◌≤◌, ℕ, true, false, List, [], ◌∷◌, ◌++◌, ◌==◌, ◌&&◌, ◌||◌, not, cond, length}
 use Rattle.counting.specs.Common.{Within, is_odd, IsIn, mem, times, Set, none, pair_set}
 use Rattle.graph_core.specs.Common.{Graph, first_end, second_end, IsPerfect}

@@ -1,5 +1,5 @@
 -- How the matching engine is asked whether ears serve, and what is found.
--- Stated by: ear_core. Rests on it: theorems.
+-- Stated by: ear_core. Used by: theorems.
 use Rattle.std.specs.Prelude.{◌≡◌, ◌⊎◌, ◌↔◌, ℕ, List, [], ◌∷◌, not}
 use Rattle.counting.specs.Common.{Within, complement, count, mem, IsIn, Set, union}
 use Rattle.graph_core.specs.Common.{Graph, size, HasPerfect}

@@ -2,7 +2,7 @@
 -- edge, each step adds one ear or two to a matching covered stage so that the next is matching
 -- covered, and the last stage holds all edges.
 -- Stated by: ear_core, ear_text, bench_tasks, bench_reports, theorems.
--- Rests on it: bench_outcomes, bench_top.
+-- Used by: bench_outcomes, bench_top.
 use Rattle.std.specs.Prelude.{◌≡◌, ◌<◌, ℕ, true, List, [], ◌∷◌, All, length}
 use Rattle.std.specs.List.{AllByRecursion}
 use Rattle.counting.specs.Common.{Within, Set, singleton}

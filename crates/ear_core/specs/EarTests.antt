@@ -1,6 +1,6 @@
 -- The five tests of an ear, in their order, and the first that it fails. They look at lists and
 -- at marks alone.
--- Stated by: ear_core. Rests on it: bench_outcomes, bench_reports, theorems.
+-- Stated by: ear_core. Used by: bench_outcomes, theorems.
 use Rattle.std.specs.Prelude.{◌≡◌, ℕ, Bool, true, false, List, [], ◌∷◌, ◌==◌, nat_le, ◌&&◌, ◌||◌, not, length, Option, Some, None, if◌then◌else◌}
 use Rattle.counting.specs.Common.{is_odd, Set, mem}
 use Rattle.graph_core.specs.Common.{Graph, size, first_end, second_end}

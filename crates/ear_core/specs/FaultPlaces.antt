@@ -1,5 +1,5 @@
 -- Where the fault of a step shows: at which of its two ears, and at which edge of that ear first.
--- Stated by: ear_core.
+-- Stated by: ear_core. Used by: bench_outcomes.
 use Rattle.std.specs.Prelude.{ℕ, ◌-◌, List, [], ◌∷◌, ◌==◌, ◌&&◌, ◌||◌, not, length, slice_get, is_some, Option, Some, None, if◌then◌else◌}
 use Rattle.std.specs.List.{find}
 use Rattle.std.specs.Option.{option_and_then}

@@ -1,6 +1,6 @@
 -- Perfect matchings that lead out of a stage at two of its vertices alone. Together with a perfect
 -- matching that keeps the stage such a one makes a single ear, and all single ears are found so.
--- Stated by: ear_core. Rests on it: theorems.
+-- Stated by: ear_core. Used by: theorems.
 use Rattle.std.specs.Prelude.{◌≡◌, ◌≢◌, ◌⊎◌, ℕ, true, false, ◌&&◌, not, cond}
 use Rattle.counting.specs.Common.{Within, Set, complement, none, pair_set, union}
 use Rattle.graph_core.specs.Common.{Graph, size, HasPerfect, IsPerfect}

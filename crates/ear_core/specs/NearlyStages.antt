@@ -1,6 +1,6 @@
 -- What is known of a stage to which ears were added, before its edges are asked one by one: at
 -- most every other edge of the ears is left to ask.
--- Stated by no contract. Rests on it: ear_core, theorems.
+-- Stated by no contract. Used by: ear_core, theorems.
 use Rattle.std.specs.Prelude.{◌≡◌, ℕ, true, false, List, [], ◌∷◌}
 use Rattle.counting.specs.Common.{Within, Set}
 use Rattle.graph_core.specs.Common.{Graph, size, Walk}

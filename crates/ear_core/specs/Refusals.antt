@@ -1,7 +1,7 @@
 -- The first refusal of an ear list: at each step the tests of its first ear and then of its
 -- second one, then whether the new stage is matching covered; after the last step whether edges
 -- are left.
--- Stated by: ear_core, bench_reports. Rests on it: bench_outcomes, theorems.
+-- Stated by: ear_core, bench_reports. Used by: bench_outcomes, theorems.
 use Rattle.std.specs.Prelude.{◌≡◌, ◌⊎◌, ℕ, ◌+◌, true, List, [], ◌∷◌, Option, Some, None}
 use Rattle.counting.specs.Common.{Set, singleton, IsLeastWithout}
 use Rattle.graph_core.specs.Common.{Graph, size}

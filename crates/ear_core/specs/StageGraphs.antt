@@ -1,6 +1,6 @@
 -- The graph that the engine is asked about: the vertices of g with the edges of a stage alone,
 -- which get numbers of their own in the order of those in g.
--- Stated by: ear_core. Rests on it: theorems.
+-- Stated by: ear_core. Used by: theorems.
 use Rattle.std.specs.Prelude.{◌≡◌, ◌<◌, ◌≤◌, ℕ, zero, suc, true, List, [], ◌∷◌, ◌++◌, ◌&&◌, ◌||◌, ◌==◌, cond, Option, Some, None}
 use Rattle.counting.specs.Common.{count, Within, Set}
 use Rattle.graph_core.specs.Common.{Graph, size, first_end, second_end}

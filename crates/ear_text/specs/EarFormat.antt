@@ -2,7 +2,7 @@
 -- and for each step a line `ear V E1 E2 ..`, which a line `with V E1 E2 ..` may follow directly,
 -- the second ear of the step. V is the vertex where the ear begins, and the edges follow in
 -- order.
--- Stated by: ear_text, bench_tasks. Rests on it: bench_top, theorems.
+-- Stated by: ear_text, bench_tasks. Used by: bench_top, theorems.
 use Rattle.std.specs.Prelude.{ℕ, ◌==◌, ◌&&◌, ◌||◌, not, nat_le, Bool, List, [], ◌∷◌, ◌++◌, length, map, codes, Option, Some, None, is_some, Result, Ok, Err, if◌then◌else◌}
 use Rattle.std.specs.List.{list_all, list_any}
 use Rattle.line_text.specs.Common.{Rules, checked, has_form, word_at, is_number, value_of, is_out_of_range}

@@ -1,5 +1,5 @@
 -- The text that is written for an ear list.
--- Stated by: ear_text. Rests on it: bench_outcomes, bench_top, theorems.
+-- Stated by: ear_text. Used by: bench_outcomes, bench_top, theorems.
 use Rattle.std.specs.Prelude.{ℕ, ◌<◌, ◌^◌, List, [], ◌∷◌, codes, map}
 use Rattle.std.specs.Fmt.{decimal}
 use Rattle.std.specs.List.{AllByRecursion}

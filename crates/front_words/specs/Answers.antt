@@ -1,5 +1,5 @@
 -- The words that a program answers at once, and what a run makes of them.
--- Stated by: front_words. Rests on it: front_top, mcg6_front_top.
+-- Stated by: front_words. Used by: front_top, mcg6_front_top.
 use Rattle.std.specs.Prelude.{◌≡◌, ◌⊎◌, ℕ, ◌||◌, List, [], ◌∷◌, Bool, true, false, codes, if◌then◌else◌}
 use Rattle.std.specs.declared.option.Option.{Option}
 use Rattle.std.specs.declared.option.Option.TheVariants.{Some, None}

@@ -1,5 +1,5 @@
 -- The numbers in the header of a graph file.
--- Stated by: front_words. Rests on it: front_top.
+-- Stated by: front_words. Used by: front_top.
 use Rattle.std.specs.Prelude.{ℕ, ◌+◌, ◌==◌, ◌||◌, List, [], ◌∷◌, fold, length, nat_le, codes, if◌then◌else◌}
 use Rattle.std.specs.Str.{bytes_eq}
 use Rattle.std.specs.declared.option.Option.{Option}

@@ -1,5 +1,5 @@
 -- A line of a text by its number.
--- Stated by: front_words. Rests on it: front_top.
+-- Stated by: front_words. Used by: front_top.
 use Rattle.std.specs.Prelude.{ℕ, ◌-◌, List, slice_get}
 use Rattle.std.specs.declared.option.Option.{Option}
 use Rattle.line_text.specs.Common.{lines_of}

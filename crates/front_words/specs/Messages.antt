@@ -1,6 +1,6 @@
 -- The messages on a file that is outside its format: each is a line that begins with the name of
 -- the program, or a few such lines.
--- Stated by: front_words. Rests on it: front_top, mcg6_front_top.
+-- Stated by: front_words. Used by: front_top, mcg6_front_top.
 use Rattle.std.specs.Prelude.{ℕ, ◌==◌, List, [], ◌∷◌, ◌++◌, codes, if◌then◌else◌}
 use Rattle.std.specs.Fmt.{decimal}
 use Rattle.std.specs.declared.option.Option.{Option}

@@ -1,5 +1,5 @@
 -- What a refusal means in words, and what would be right: one line for each.
--- Stated by: front_words. Rests on it: front_top.
+-- Stated by: front_words. Used by: front_top.
 use Rattle.std.specs.Prelude.{ℕ, List, ◌++◌, codes}
 use Rattle.std.specs.Fmt.{decimal}
 use Rattle.refusals.specs.declared.faults.StuckFault.{StuckFault}

@@ -1,5 +1,5 @@
 -- What is said of words that match no row of a table: why, and the lines of the command.
--- Stated by: front_words. Rests on it: front_top, mcg6_front_top.
+-- Stated by: front_words. Used by: front_top, mcg6_front_top.
 use Rattle.std.specs.Prelude.{ℕ, List, [], ◌∷◌, ◌++◌, codes, if◌then◌else◌}
 use Rattle.std.specs.declared.option.Option.{Option}
 use Rattle.std.specs.declared.option.Option.TheVariants.{None, Some}

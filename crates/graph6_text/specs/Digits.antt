@@ -1,6 +1,6 @@
 -- Digits of six bits, and the bytes that write them (B. D. McKay, "Description of graph6, sparse6
 -- and digraph6 encodings").
--- Stated by: graph6_text. Rests on it: mcg6_encoder.
+-- Stated by: graph6_text. Used by: mcg6_encoder.
 use Rattle.std.specs.Prelude.{ℕ, ◌+◌, ◌-◌, ◌/◌, ◌%◌, ◌==◌, ◌&&◌, nat_le, Bool, if◌then◌else◌, List, [], ◌∷◌, map}
 use Rattle.std.specs.List.{flat_map}
 

@@ -1,6 +1,6 @@
 -- Pairs of vertices, column by column of the upper triangle of the adjacency matrix. The reader
 -- (`read`) uses `column` and `chosen`, and the writer (`pairs`) `column_pairs` alone.
--- Stated by: graph6_text. Rests on it: mcg6_lines, mcg6_encoder.
+-- Stated by: graph6_text. Used by: mcg6_lines, mcg6_encoder.
 use Rattle.std.specs.Prelude.{ℕ, zero, suc, Bool, List, [], ◌∷◌, ◌++◌, if◌then◌else◌}
 
 -- (1, j), (2, j), .., (i, j)

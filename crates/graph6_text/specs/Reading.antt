@@ -1,6 +1,6 @@
 -- What a graph6 text stands for, or its first error (B. D. McKay, "Description of graph6, sparse6
 -- and digraph6 encodings").
--- Stated by: graph6_text, mcg6_lines, bench_tasks. Rests on it: bench_top, theorems.
+-- Stated by: graph6_text, mcg6_lines, bench_tasks. Used by: bench_top, theorems.
 use Rattle.std.specs.Prelude.{◌≡◌, ℕ, ◌+◌, ◌*◌, ◌-◌, ◌/◌, ◌==◌, ◌&&◌, not, nat_le, nat_lt, nat_eq, Bool, if◌then◌else◌, List, [], ◌∷◌, length, take, drop, slice_index, codes, Option, Some, None, Result, Ok, Err}
 use Rattle.std.specs.List.{list_all, list_any, starts_with, ends_with}
 use Rattle.graph_core.specs.Common.{Graph, size}

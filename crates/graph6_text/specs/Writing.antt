@@ -1,6 +1,6 @@
 -- The graph6 text of a graph (B. D. McKay, "Description of graph6, sparse6 and digraph6
 -- encodings").
--- Stated by: graph6_text, mcg6_encoder. Rests on it: mcg6_lines, bench_outcomes, theorems.
+-- Stated by: graph6_text, mcg6_encoder. Used by: mcg6_lines, bench_outcomes, theorems.
 use Rattle.std.specs.Prelude.{◌≡◌, ℕ, ◌/◌, ◌%◌, nat_le, ◌*◌, if◌then◌else◌, Bool, List, [], ◌∷◌, ◌++◌, map, Ok}
 use Rattle.counting.specs.Common.{none}
 use Rattle.graph_core.specs.Common.{Graph, IsSimple, adjacent}

@@ -1,6 +1,6 @@
 -- Berge sets (Tutte 1947, Berge 1958): vertex sets that show a matching to be maximum.
 -- Stated by: match_core, allowed_edges, theorems.
--- Rests on it: graph_core, graph_facts, definition_laws.
+-- Used by: graph_core, graph_facts, definition_laws.
 use Rattle.std.specs.Prelude.{◌≡◌, ◌+◌}
 use Rattle.counting.specs.Common.{count, Set, union}
 use Rattle.graph_core.specs.Graph.{Graph}

@@ -1,7 +1,7 @@
 -- Components of G - S: the sets of vertices that walks join. Any textbook; a component is counted
 -- at its least vertex.
 -- Stated by: graph_core, allowed_edges, graph_facts, barrier_kit, separation_kit and 4 more.
--- Rests on it: grow_gen, match_core, brick_kit, two_ears, mcg6_lines, bench_outcomes.
+-- Used by: grow_gen, match_core, brick_kit, two_ears, mcg6_lines, bench_outcomes.
 use Rattle.std.specs.Prelude.{ℕ, List, ◌&&◌, not, nat_lt, map}
 use Rattle.counting.specs.Common.{count, is_odd, Within, Set, none, some, rising_list}
 use Rattle.graph_core.specs.Graph.{Graph}

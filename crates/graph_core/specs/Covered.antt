@@ -1,7 +1,7 @@
 -- Matching covered graphs (Lovász and Plummer; Lucchesi and Murty, "Perfect Matchings"), and the
 -- first reason why a graph is not matching covered.
 -- Stated by: graph_core, grow_gen, graph_facts, barrier_kit, matching_digraph and 17 more.
--- Rests on it: uncross, mcg6_lines, bench_outcomes, bench_top.
+-- Used by: uncross, mcg6_lines, bench_outcomes, bench_top.
 use Rattle.std.specs.Prelude.{◌≡◌, ◌≢◌, ℕ, ◌≤◌, ◌<◌, List}
 use Rattle.counting.specs.Common.{Within, none, IsLeastWithout, mem, IsRisingIn}
 use Rattle.graph_core.specs.Graph.{Graph, size, first_end, second_end}

@@ -2,7 +2,7 @@
 -- allowed, so that a contraction is again a graph. Edges keep their numbers, and parallel edges are
 -- different edges.
 -- Stated by: graph_core, grow_gen, match_search, match_core, allowed_edges and 26 more.
--- Rests on it: uncross, bench_outcomes, bench_top.
+-- Used by: uncross, bench_outcomes, bench_top.
 use Rattle.std.specs.Prelude.{◌≡◌, ◌≢◌, ℕ, ◌+◌, ◌-◌, Bool, true, List, [], ◌∷◌, ◌++◌, length, ◌==◌, ◌&&◌, ◌||◌, ◌⊎◌, not, slice_index_or}
 use Rattle.counting.specs.Common.{count, Within, Set}
 

@@ -1,7 +1,7 @@
 -- Matchings of G - R, as sets of edges. Any textbook; a matching of G - R is a set of edges of G of
 -- which at most one is at each vertex outside R, and none at a vertex of R.
 -- Stated by: graph_core, match_search, match_core, allowed_edges, graph_facts and 11 more.
--- Rests on it: grow_gen, barrier_kit, quick_kinds, move_laws, tree_check, mcg6_lines and 3 more.
+-- Used by: grow_gen, barrier_kit, quick_kinds, move_laws, tree_check, mcg6_lines and 3 more.
 use Rattle.std.specs.Prelude.{◌≡◌, ℕ, ◌≤◌, ◌⊎◌, Bool, true, false, ◌==◌, ◌&&◌, not, cond, nat_le}
 use Rattle.counting.specs.Common.{count, Within, Set, none, every, some_set}
 use Rattle.graph_core.specs.Graph.{Graph, size, degree, first_end, second_end}

@@ -1,6 +1,6 @@
 -- Lists of perfect matchings that show which pairs of edges lie together in one. Not a notion of
 -- the literature.
--- Stated by: allowed_edges. Rests on it: tight_cuts.
+-- Stated by: allowed_edges. Used by: tight_cuts.
 use Rattle.std.specs.Prelude.{◌≡◌, ℕ, ◌-◌, true, false, List, ◌&&◌, length, All, Any}
 use Rattle.counting.specs.Common.{Within, none, mem, item, IsRisingIn}
 use Rattle.graph_core.specs.Graph.{Graph, size}

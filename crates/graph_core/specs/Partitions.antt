@@ -1,8 +1,8 @@
 -- Partitions of the vertices into blocks, and the contraction of each block to a vertex. A block's
 -- name is its highest-numbered vertex, and blocks are in increasing order of their names. Lovász
 -- 1987; but blocks are listed, so that a partition is one list.
--- Stated by: graph_core, contraction, tree_core, move_laws, uncross, report_text and 2 more.
--- Rests on it: tight_cuts, decomposer, tree_check, mcg6_lines, bench_outcomes and 2 more.
+-- Stated by: graph_core, contraction, tree_core, tight_cuts, move_laws, uncross and 3 more.
+-- Used by: decomposer, tree_check, mcg6_lines, bench_outcomes, bench_reports, bench_top.
 use Rattle.std.specs.Prelude.{◌≡◌, ℕ, zero, suc, ◌+◌, ◌-◌, true, false, List, [], ◌∷◌, ◌++◌, map, length, filter, cond, not, nat_lt, slice_index_or, All}
 use Rattle.std.specs.List.Sorted.{IsStrictlyIncreasing}
 use Rattle.counting.specs.Common.{count, Within, Set, none, mem, last_of}

@@ -1,8 +1,8 @@
 -- The quotient at a partition: one vertex for each block, one edge for each pair of adjacent
 -- blocks, and for each edge of the quotient the edges of the graph between its blocks. Contraction
 -- as in Lovász 1987; but parallel edges become one edge, which changes no tight cut.
--- Stated by: graph_core, contraction, tree_core, tree_check, report_text, theorems.
--- Rests on it: tight_cuts, move_laws, uncross, mcg6_lines.
+-- Stated by: graph_core, contraction, tree_core, tight_cuts, tree_check, report_text, theorems.
+-- Used by: move_laws, uncross, mcg6_lines.
 use Rattle.std.specs.Prelude.{ℕ, ◌==◌, ◌&&◌, not, Bool, List, length, filter, slice_index}
 use Rattle.counting.specs.Common.{Set, some, mem, rising_list, rising_pairs}
 use Rattle.graph_core.specs.Graph.{Graph, size, first_end, second_end, has_ends}

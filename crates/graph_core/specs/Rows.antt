@@ -1,6 +1,6 @@
 -- The rows of a graph's adjacency matrix: for each vertex, in order, the set of its neighbours. Any
 -- textbook; parallel edges count once, since a row is a set.
--- Stated by: graph_core, match_search, match_core. Rests on it: separation_kit.
+-- Stated by: graph_core, match_search, match_core. Used by: separation_kit.
 use Rattle.std.specs.Prelude.{◌≡◌, ℕ, List, length}
 use Rattle.counting.specs.Common.{Within, item, mem, none}
 use Rattle.graph_core.specs.Graph.{Graph}

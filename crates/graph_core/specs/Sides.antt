@@ -1,7 +1,7 @@
 -- The two sides of a bipartite graph. Any textbook; but the left side is fixed: it contains the
 -- least vertex of each component.
 -- Stated by: graph_core, graph_facts, matching_digraph, quick_kinds, tight_cuts and 2 more.
--- Rests on it: barrier_kit, separation_kit, ear_core.
+-- Used by: barrier_kit, separation_kit, ear_core.
 use Rattle.std.specs.Prelude.{◌≡◌, ◌≢◌, ℕ, true, List}
 use Rattle.counting.specs.Common.{Within, Set, none, mem, IsRisingIn}
 use Rattle.graph_core.specs.Components.{is_least}

@@ -1,7 +1,7 @@
 -- The structure of a graph with perfect matchings: the canonical partition, barriers, bicritical
 -- graphs and cut pairs (Kotzig 1959, Lovász 1972; Lucchesi and Murty, "Perfect Matchings").
 -- Stated by: barrier_kit, separation_kit, brick_kit, quick_kinds, tight_cuts and 4 more.
--- Rests on it: graph_core, leaf_kinds, two_ears, bench_outcomes.
+-- Used by: graph_core, leaf_kinds, two_ears, bench_outcomes.
 use Rattle.std.specs.Prelude.{◌≡◌, ◌≢◌, ℕ, ◌≤◌, ◌⊎◌, Bool, true, List, Option, ◌==◌, ◌&&◌, ◌||◌, not, nat_lt, nat_le, map, find, is_none}
 use Rattle.counting.specs.Common.{count, Within, Set, pair_set, some, rising_list, rising_pairs}
 use Rattle.graph_core.specs.Graph.{Graph}

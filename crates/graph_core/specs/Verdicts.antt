@@ -1,6 +1,6 @@
 -- The verdict on a graph, as the code returns it.
 -- Stated by: allowed_edges, graph_facts, decomposer, bench_reports, example_order.
--- Rests on it: tree_check, mcg6_lines, bench_outcomes, bench_top, theorems.
+-- Used by: tree_check, mcg6_lines, bench_outcomes, bench_top, theorems.
 use Rattle.graph_core.specs.Covered
 use Rattle.graph_core.specs.Graph.{Graph}
 use Rattle.graph_core.specs.declared.verdict.Reason.{Reason}

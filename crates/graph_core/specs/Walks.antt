@@ -1,6 +1,6 @@
 -- Walks of G - S, as lists of vertices. Any textbook.
 -- Stated by: graph_core, match_core, allowed_edges, graph_facts, barrier_kit and 5 more.
--- Rests on it: grow_gen, brick_kit, tight_cuts, two_ears, ear_core, graph6_text, mcg6_encoder.
+-- Used by: grow_gen, brick_kit, tight_cuts, two_ears, ear_core, graph6_text, mcg6_encoder.
 use Rattle.std.specs.Prelude.{◌≡◌, ℕ, zero, suc, Bool, true, List, [], ◌∷◌, ◌++◌, ◌==◌, ◌&&◌, ◌||◌, not, length}
 use Rattle.counting.specs.Common.{is_odd, Set, none, some}
 use Rattle.graph_core.specs.Graph.{Graph, size, has_ends}

@@ -1,7 +1,7 @@
 -- Both versions of the graph format. The second word of the header says which one it is: version 2
 -- has a header `p mcg2 N M`, N lines `v NAME` and M lines `e X Y` between names.
 -- Stated by: graph_text, mcg6_encoder, bench_tasks, theorems, example_order.
--- Rests on it: bench_outcomes, bench_top.
+-- Used by: bench_outcomes, bench_top.
 use Rattle.std.specs.Prelude.{ℕ, ◌==◌, ◌&&◌, ◌||◌, not, nat_lt, Bool, false, List, [], ◌∷◌, ◌++◌, codes, length, Option, Some, None, Result, Ok, Err, if◌then◌else◌}
 use Rattle.std.specs.Str.{bytes_eq}
 use Rattle.std.specs.Result.{result_map_both}

@@ -1,6 +1,6 @@
 -- The lines that both versions of the graph format share: what has been read so far, and an edge
 -- between numbered vertices.
--- Stated by: graph_text. Rests on it: bench_top, theorems.
+-- Stated by: graph_text. Used by: bench_top, theorems.
 use Rattle.std.specs.Prelude.{ℕ, ◌==◌, ◌&&◌, ◌||◌, not, List, [], ◌∷◌, codes, Result, Ok, Err, if◌then◌else◌}
 use Rattle.line_text.specs.Common.{checked, has_form, word_at, is_number, value_of, is_out_of_range}
 use Rattle.graph_core.specs.Common.{Graph, size, with_edge}

@@ -1,5 +1,5 @@
 -- The names of vertices.
--- Stated by: graph_text, mcg6_lines. Rests on it: report_text, bench_outcomes, bench_top, theorems.
+-- Stated by: graph_text, mcg6_lines. Used by: report_text, bench_outcomes, bench_top, theorems.
 use Rattle.std.specs.Prelude.{◌≡◌, ◌≢◌, ℕ, zero, suc, ◌+◌, ◌<◌, ◌≤◌, ◌==◌, ◌&&◌, ◌||◌, nat_le, List, [], ◌∷◌, ◌++◌, codes, length, Bool, true, slice_index_or}
 use Rattle.std.specs.Fmt.{decimal}
 use Rattle.std.specs.Char.{is_ascii_alphanumeric}

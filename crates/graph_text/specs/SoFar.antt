@@ -1,5 +1,5 @@
 -- How the code's body of a graph text, and what is read of one, are seen.
--- Stated by: graph_text, bench_tasks, bench_reports, example_order. Rests on it: mcg6_encoder.
+-- Stated by: graph_text, bench_tasks, bench_reports, example_order. Used by: mcg6_encoder.
 use Rattle.graph_text.specs.GraphLines.{GraphSoFar}
 use Rattle.graph_text.specs.declared.body.Body.{Body}
 use Rattle.graph_text.specs.declared.body.EitherBody.{EitherBody}

@@ -1,5 +1,5 @@
 -- Version 1 of the graph format: a header `p mcg N M` and M lines `e A B`.
--- Stated by: graph_text. Rests on it: mcg6_lines, bench_top.
+-- Stated by: graph_text. Used by: mcg6_lines, bench_top.
 use Rattle.std.specs.Prelude.{ℕ, ◌≤◌, ◌&&◌, ◌||◌, not, nat_lt, List, [], ◌∷◌, codes, Result}
 use Rattle.line_text.specs.Common.{Rules, checked, has_form, word_at, is_number, value_of}
 use Rattle.graph_core.specs.Common.{Graph, IsMultigraph, size}

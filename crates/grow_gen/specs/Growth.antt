@@ -1,7 +1,7 @@
 -- The generator: a graph that grows from K3,3 by splices of small cubic graphs, where and how
 -- determined by the words of the generator PCG (O'Neill 2014, "PCG: a family of simple fast
 -- space-efficient statistically good algorithms for random number generation").
--- Stated by: grow_gen. Rests on it: bench_outcomes, bench_top, theorems.
+-- Stated by: grow_gen. Used by: bench_outcomes, bench_top, theorems.
 use Rattle.std.specs.Prelude.{ℕ, zero, suc, ◌+◌, ◌-◌, ◌%◌, ◌≤◌, ◌<◌, Bool, List, [], ◌∷◌, ◌==◌, ◌&&◌, ◌||◌, not, map, length, slice_index, if◌then◌else◌}
 use Rattle.counting.specs.Common.{union, mem, rising_list, IsRisingIn}
 use Rattle.graph_core.specs.Common.{Graph}

@@ -1,6 +1,6 @@
 -- The pieces of a generated graph: K3,3, K4, the triangular prism and the cube, which are cubic
 -- and matching covered.
--- Stated by: grow_gen. Rests on it: bench_outcomes.
+-- Stated by: grow_gen. Used by: bench_outcomes.
 use Rattle.std.specs.Prelude.{ℕ, ◌%◌, Bool, true, false, List, [], ◌∷◌, slice_index_or}
 use Rattle.graph_core.specs.Common.{Graph}
 use Rattle.grow_gen.specs.declared.pieces.Piece.{Piece}

@@ -1,7 +1,7 @@
 -- Splicing (Lucchesi and Murty, "Perfect Matchings"): a vertex of one graph and a vertex of another
 -- are deleted, and the edges that ended there are joined in pairs. The deleted vertex of the second
 -- graph is always its vertex 1.
--- Stated by: grow_gen. Rests on it: bench_outcomes.
+-- Stated by: grow_gen. Used by: bench_outcomes.
 use Rattle.std.specs.Prelude.{ℕ, ◌+◌, ◌-◌, Bool, List, [], ◌∷◌, ◌++◌, ◌==◌, ◌||◌, not, map, filter, slice_index, slice_index_or, if◌then◌else◌}
 use Rattle.graph_core.specs.Common.{Graph}
 

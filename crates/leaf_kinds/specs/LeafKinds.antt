@@ -1,6 +1,6 @@
 -- The kind of a covered graph: brace, brick or composite (Lovász 1987; Lucchesi and Murty,
 -- "Perfect Matchings").
--- Stated by: leaf_kinds, mcg6_lines. Rests on it: bench_outcomes, theorems.
+-- Stated by: leaf_kinds, mcg6_lines. Used by: bench_outcomes, theorems.
 use Rattle.std.specs.Prelude.{ℕ, ◌≤◌, List, Option, Some, None}
 use Rattle.counting.specs.Common.{mem}
 use Rattle.graph_core.specs.Common.{Graph, IsBipartite, IsBicritical, IsCutPair, IsTight, IsNontrivial, HasOnlyTrivialTightCuts}

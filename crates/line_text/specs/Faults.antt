@@ -1,5 +1,5 @@
 -- What an error that a reader returns says about the text.
--- Stated by: graph6_text. Rests on it: line_text.
+-- Stated by: graph6_text. Used by: line_text.
 use Rattle.std.specs.Prelude.{◌≡◌, ℕ, Result, Err}
 use Rattle.line_text.specs.declared.faults.FaultKind.{FaultKind}
 use Rattle.line_text.specs.declared.faults.TextFault.{TextFault}

@@ -1,6 +1,6 @@
 -- Formats of texts, line by line: what a text stands for, and its first error.
 -- Stated by: line_text, graph_text, tree_text, move_text, ear_text, mcg6_encoder, example_order.
--- Rests on it: report_text, bench_tasks, bench_outcomes, bench_reports, bench_top, theorems.
+-- Used by: report_text, bench_tasks, bench_outcomes, bench_reports, bench_top, theorems.
 use Rattle.std.specs.Prelude.{◌≡◌, ◌⊎◌, ℕ, ◌+◌, List, [], ◌∷◌, ◌++◌, length, map, Option, Some, None, Result, Ok, Err, Bool, if◌then◌else◌}
 use Rattle.line_text.specs.Lines.{lines_of}
 use Rattle.line_text.specs.Words.{SignificantLine, significant_lines_of}

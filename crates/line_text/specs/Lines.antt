@@ -1,6 +1,6 @@
 -- The lines of a text.
 -- Stated by: line_text, graph_text, tree_text.
--- Rests on it: move_text, report_text, mcg6_encoder, front_words, bench_outcomes and 3 more.
+-- Used by: move_text, report_text, mcg6_encoder, front_words, bench_outcomes and 3 more.
 use Rattle.std.specs.Prelude.{ℕ, ◌==◌, List, [], ◌∷◌, ◌++◌, length, Bool, true, if◌then◌else◌}
 use Rattle.std.specs.List.{slice_split}
 

@@ -1,5 +1,5 @@
 -- Ranges of the numbers of a text.
--- Stated by: line_text, tree_text, ear_text. Rests on it: graph_text, move_text.
+-- Stated by: line_text, tree_text, ear_text. Used by: graph_text, move_text.
 use Rattle.std.specs.Prelude.{ℕ, ◌==◌, ◌||◌, nat_lt, Bool}
 
 -- v is 0 or over n

@@ -1,6 +1,6 @@
 -- Reading a text line by line, and what a rule or a reader of a program returns.
 -- Stated by: line_text, graph_text, tree_text, move_text, ear_text, bench_tasks.
--- Rests on it: bench_top, theorems.
+-- Used by: bench_top, theorems.
 use Rattle.std.specs.Prelude.{◌≡◌, ◌↔◌, ℕ, ◌+◌, List, [], ◌∷◌, length, Option, Some, None, Result, Ok, Err, if◌then◌else◌}
 use Rattle.std.specs.Result.{result_map_both}
 use Rattle.line_text.specs.declared.format.Refusal.{Refusal}

@@ -1,6 +1,6 @@
 -- Matchings as lists of rows, each an edge with its two ends.
 -- Stated by: match_core, allowed_edges, graph_facts, matching_digraph, quick_kinds and 5 more.
--- Rests on it: bench_reports, theorems.
+-- Used by: bench_reports, theorems.
 use Rattle.std.specs.Prelude.{◌≡◌, ℕ, ◌+◌, ◌≤◌, Bool, ◌==◌, ◌&&◌, ◌||◌, not, List, [], ◌∷◌, map, All}
 use Rattle.counting.specs.Common.{Within, bit, Set, IsRisingIn}
 use Rattle.graph_core.specs.Common.{Graph, size, first_end, second_end}

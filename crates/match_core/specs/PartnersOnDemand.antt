@@ -1,5 +1,5 @@
 -- Rows of partners that are computed one at a time.
--- Stated by: match_core. Rests on it: tight_cuts.
+-- Stated by: match_core. Used by: tight_cuts.
 use Rattle.std.specs.Prelude.{◌≡◌, ℕ, ◌+◌, List, length, true}
 use Rattle.counting.specs.Common.{Within, Set, item, mem}
 use Rattle.graph_core.specs.Common.{Graph}

@@ -1,6 +1,6 @@
 -- How the code represents an alternating forest: an inner vertex names its parent, and the path
 -- goes on from there by mates.
--- Stated by: match_search. Rests on it: match_core.
+-- Stated by: match_search. Used by: match_core.
 use Rattle.std.specs.Prelude.{◌≢◌, ◌≡◌, ℕ, suc, ◌+◌, ◌≤◌, ◌==◌, ◌&&◌, ◌||◌, true, length, List, Option, Some, None}
 use Rattle.counting.specs.Common.{Set, mem}
 use Rattle.graph_core.specs.Common.{Graph}

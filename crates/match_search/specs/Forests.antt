@@ -1,6 +1,6 @@
 -- Alternating paths and forests (Edmonds 1965), by places: a path has an even number of edges,
 -- counted in pairs.
--- Stated by: match_core. Rests on it: match_search.
+-- Stated by: match_core. Used by: match_search.
 use Rattle.std.specs.Prelude.{◌≡◌, ℕ, zero, suc, ◌+◌, ◌≤◌, ◌<◌, true, false, not}
 use Rattle.counting.specs.Common.{Within, is_odd, Set, put}
 use Rattle.graph_core.specs.Common.{Graph, degree, first_end, second_end, size, HasEnds}

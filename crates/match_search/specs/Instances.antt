@@ -1,5 +1,5 @@
 -- G - R, by rows of neighbours: what the search of the engine reads.
--- Stated by: match_search. Rests on it: match_core.
+-- Stated by: match_search. Used by: match_core.
 use Rattle.std.specs.Prelude.{◌≡◌, ◌≢◌, ◌↔◌, ℕ, ◌≤◌, ◌&&◌, false, true, not, nat_lt, nat_le, length, List}
 use Rattle.counting.specs.Common.{Within, Set, mem, item}
 use Rattle.graph_core.specs.Common.{Graph, HasEnds, IsGraph, size}

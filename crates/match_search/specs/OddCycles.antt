@@ -1,5 +1,5 @@
 -- Odd cycles, by the places of their vertices and edges from 1 on.
--- Stated by: match_search. Rests on it: match_core.
+-- Stated by: match_search. Used by: match_core.
 use Rattle.std.specs.Prelude.{◌≡◌, ℕ, suc, ◌≤◌, Bool, true, false, ◌==◌, nat_lt, ◌&&◌, ◌||◌, not, cond}
 use Rattle.counting.specs.Common.{Within, is_odd, Set, some}
 use Rattle.graph_core.specs.Common.{Graph, HasEnds, size}

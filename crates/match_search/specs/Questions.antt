@@ -1,5 +1,5 @@
 -- Perfect matchings that contain given edges.
--- Stated by: match_core. Rests on it: match_search, allowed_edges, ear_core.
+-- Stated by: match_core. Used by: match_search, allowed_edges, ear_core.
 use Rattle.std.specs.Prelude.{◌≡◌, ℕ, true, List}
 use Rattle.counting.specs.Common.{Within, bit, Set, none, mem}
 use Rattle.graph_core.specs.Common.{Graph, degree, IsPerfect}

@@ -1,5 +1,5 @@
 -- A graph file and its graph6 text.
--- Stated by: mcg6_encoder. Rests on it: mcg6_top.
+-- Stated by: mcg6_encoder. Used by: mcg6_top.
 use Rattle.std.specs.Prelude.{◌≡◌, ◌⊎◌, ℕ, ◌-◌, ◌<◌, ◌≤◌, List, [], ◌∷◌, ◌++◌, length, take, slice_index_or}
 use Rattle.outside.specs.Common.{most_bytes}
 use Rattle.line_text.specs.Common.{Stands, FirstFault, lines_of}

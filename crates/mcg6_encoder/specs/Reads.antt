@@ -1,5 +1,5 @@
 -- How a file is read from a source, and what is written once it has been read.
--- Stated by: mcg6_encoder. Rests on it: mcg6_top.
+-- Stated by: mcg6_encoder. Used by: mcg6_top.
 use Rattle.std.specs.Prelude.{◌≡◌, ◌⊎◌, ℕ, ◌+◌, zero, suc, ◌<◌, ◌≤◌, List, [], ◌++◌, length, take}
 use Rattle.std.specs.declared.option.Option.{Option}
 use Rattle.std.specs.declared.option.Option.TheVariants.{Some, None}

@@ -1,7 +1,7 @@
 -- The line of `kinds`: the graph6 text of the graph, the numbers of its vertices and edges, and
 -- either `uncovered`, the word of the first reason and the deficiency, or `brick`, `brace` or
 -- `composite`, the numbers of bricks and of braces, and `bicritical yes` or `bicritical no`.
--- Stated by: mcg6_lines. Rests on it: theorems.
+-- Stated by: mcg6_lines. Used by: theorems.
 use Rattle.std.specs.Prelude.{◌≡◌, ℕ, ◌++◌, List, codes}
 use Rattle.std.specs.Fmt.{decimal}
 use Rattle.graph_core.specs.Common.{Graph, size}

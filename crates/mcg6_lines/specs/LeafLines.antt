@@ -1,7 +1,7 @@
 -- The lines of `leaves`: for each leaf of a decomposition the number of the line in the list, the
 -- graph6 text of its graph, that of the leaf as a simple graph, that is of the quotient at its
 -- partition, and `brick` or `brace`. A graph that is not covered has no line.
--- Stated by: mcg6_lines. Rests on it: theorems.
+-- Stated by: mcg6_lines. Used by: theorems.
 use Rattle.std.specs.Prelude.{◌≡◌, ℕ, ◌++◌, ◌⊎◌, List, [], ◌∷◌, codes}
 use Rattle.std.specs.Fmt.{decimal}
 use Rattle.graph_core.specs.Common.{IsCovered, Graph, quotient}

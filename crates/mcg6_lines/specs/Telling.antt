@@ -1,5 +1,5 @@
 -- The answer to a line of a list of graphs.
--- Stated by: mcg6_lines. Rests on it: mcg6_top, theorems.
+-- Stated by: mcg6_lines. Used by: mcg6_top, theorems.
 use Rattle.std.specs.Prelude.{◌≡◌, ℕ, ◌||◌, nat_lt, if◌then◌else◌, List, Ok, Err}
 use Rattle.graph_core.specs.Common.{Graph, size}
 use Rattle.line_text.specs.declared.faults.FaultKind.{FaultKind}

@@ -1,5 +1,5 @@
 -- What was written up to each ending.
--- Stated by: mcg6_reader, mcg6_encoder. Rests on it: mcg6_top.
+-- Stated by: mcg6_reader, mcg6_encoder. Used by: mcg6_top.
 use Rattle.std.specs.Prelude.{◌≡◌, ℕ, ◌≤◌, List, ◌++◌, length, take}
 use Rattle.std.specs.declared.option.Option.{Option}
 use Rattle.std.specs.declared.option.Option.TheVariants.{Some, None}

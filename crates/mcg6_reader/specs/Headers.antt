@@ -1,5 +1,5 @@
 -- The header of a list.
--- Stated by: mcg6_reader. Rests on it: mcg6_top.
+-- Stated by: mcg6_reader. Used by: mcg6_top.
 use Rattle.std.specs.Prelude.{ℕ, ◌==◌, ◌&&◌, ◌||◌, Bool, List, codes}
 use Rattle.std.specs.Str.{bytes_eq}
 

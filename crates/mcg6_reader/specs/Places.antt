@@ -1,5 +1,5 @@
 -- The places of the lines of a list.
--- Stated by: mcg6_reader. Rests on it: mcg6_top.
+-- Stated by: mcg6_reader. Used by: mcg6_top.
 use Rattle.std.specs.Prelude.{ℕ, ◌+◌, if◌then◌else◌, List, [], ◌∷◌}
 use Rattle.mcg6_reader.specs.declared.place.LinePlace.{LinePlace}
 use Rattle.mcg6_reader.specs.Headers.{is_header}

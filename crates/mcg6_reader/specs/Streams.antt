@@ -1,6 +1,6 @@
 -- How a list is processed while it is read: after each read, all lines that are complete in what
 -- was read are processed and written before the next read.
--- Stated by: mcg6_reader. Rests on it: mcg6_top.
+-- Stated by: mcg6_reader. Used by: mcg6_top.
 use Rattle.std.specs.Prelude.{◌≡◌, ◌⊎◌, ℕ, zero, suc, List, [], ◌∷◌, ◌++◌}
 use Rattle.std.specs.declared.option.Option.{Option}
 use Rattle.std.specs.declared.option.Option.TheVariants.{Some, None}

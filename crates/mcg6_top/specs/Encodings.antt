@@ -1,5 +1,5 @@
 -- Which status and which output a graph file stands for, where its graph6 text is asked for.
--- Stated by no contract. Rests on it: mcg6_top.
+-- Stated by no contract. Used by: mcg6_top.
 use Rattle.std.specs.Prelude.{◌≡◌, ℕ, ◌≤◌, List, [], length}
 use Rattle.std.specs.declared.option.Option.{Option}
 use Rattle.outside.specs.Common.{most_bytes}

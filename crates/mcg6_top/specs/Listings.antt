@@ -1,5 +1,5 @@
 -- The answer to a line of a list.
--- Stated by: mcg6_top. Rests on it: theorems.
+-- Stated by: mcg6_top. Used by: theorems.
 use Rattle.std.specs.Prelude.{◌≡◌, ℕ, ◌==◌, ◌⊎◌, nat_lt, Bool, false, true, if◌then◌else◌, List, [], ◌∷◌, IsTrue, IsFalse}
 use Rattle.std.specs.declared.option.Option.{Option}
 use Rattle.std.specs.declared.option.Option.TheVariants.{Some, None}

@@ -1,5 +1,5 @@
 -- What a run makes of a source and a sink, as one fact: `run`, `run_to_ending` and the front cite it.
--- Stated by: mcg6_top. Rests on it: mcg6_front_top.
+-- Stated by: mcg6_top. Used by: mcg6_front_top.
 use Rattle.std.specs.Prelude.{◌≡◌, ◌↔◌, ℕ, List, []}
 use Rattle.std.specs.declared.option.Option.{Option}
 use Rattle.std.specs.declared.option.Option.TheVariants.{Some, None}

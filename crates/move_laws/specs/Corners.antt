@@ -1,6 +1,6 @@
 -- The corners of two crossing shores x and z: their intersection, which is meet_list, and the
 -- complement of their union.
--- Stated by: uncross. Rests on it: move_laws.
+-- Stated by: uncross. Used by: move_laws.
 use Rattle.std.specs.Prelude.{ℕ, List, if◌then◌else◌}
 use Rattle.counting.specs.Common.{is_odd, mem, rising_list, complement, meet, union}
 use Rattle.graph_core.specs.Common.{complement_of, block_count}

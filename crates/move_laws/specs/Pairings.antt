@@ -1,6 +1,6 @@
 -- Paired derivations: a one-to-one pairing of two lists of leaves, with names by which partners are
 -- the same leaf.
--- Stated by: move_laws, uncross. Rests on it: mcg6_lines, bench_outcomes, theorems.
+-- Stated by: move_laws, uncross. Used by: mcg6_lines, bench_outcomes, theorems.
 use Rattle.std.specs.Prelude.{◌≡◌, ℕ, ◌==◌, List, length}
 use Rattle.counting.specs.Common.{count, Within}
 use Rattle.graph_core.specs.Common.{Graph}

@@ -1,6 +1,6 @@
 -- The same leaf under names of blocks: two partitions of one graph whose blocks correspond so that
 -- adjacency is preserved (Lovász 1987, "up to multiplicities of edges").
--- Stated by: move_laws. Rests on it: uncross, mcg6_lines, theorems.
+-- Stated by: move_laws. Used by: uncross, mcg6_lines, theorems.
 use Rattle.std.specs.Prelude.{◌≡◌, ℕ, ◌==◌, List, length, map}
 use Rattle.counting.specs.Common.{count, Within, last_of, mem, rising_list}
 use Rattle.graph_core.specs.Common.{Graph, block, place, blocks_adjacent}

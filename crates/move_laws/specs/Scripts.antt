@@ -1,5 +1,5 @@
 -- Proper scripts: scripts of proper moves through derivations at a partition.
--- Stated by: uncross. Rests on it: move_laws, theorems.
+-- Stated by: uncross. Used by: move_laws, theorems.
 use Rattle.std.specs.Prelude.{◌≡◌, ℕ, List, [], ◌∷◌, Some}
 use Rattle.counting.specs.Common.{IsRisingIn}
 use Rattle.graph_core.specs.Common.{Graph}

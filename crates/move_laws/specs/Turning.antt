@@ -1,6 +1,6 @@
 -- How a shore is brought to the root of a tree of cuts, after corners were brought to the roots of
 -- its two subtrees: partial functions on plain trees, with the moves that they make.
--- Stated by: uncross. Rests on it: move_laws.
+-- Stated by: uncross. Used by: move_laws.
 use Rattle.std.specs.Prelude.{ℕ, List, [], ◌∷◌, ◌++◌, map, Option, Some, None, option_map, option_and_then, if◌then◌else◌}
 use Rattle.counting.specs.Common.{is_subset}
 use Rattle.tree_core.specs.Common.{PlainMove, below, rotate_at, rotate_result_at, switch_at, switch_result_at, Shape, leaf, cut}

@@ -2,8 +2,7 @@
 -- PATH` or `switch PATH U V`. A path is a word with a letter for each step, `k` to the `kept` tree
 -- and `m` to the `merged` tree; the empty path is `.`. U and V are sets of vertices, written in
 -- increasing order and separated by commas.
--- Stated by: move_text, bench_tasks, bench_reports.
--- Rests on it: bench_outcomes, bench_top, theorems.
+-- Stated by: move_text, bench_tasks, bench_reports. Used by: bench_outcomes, bench_top, theorems.
 use Rattle.std.specs.Prelude.{ℕ, ◌==◌, ◌&&◌, ◌||◌, not, nat_le, Bool, List, [], ◌∷◌, ◌++◌, length, map, codes, Result, Ok, Err, if◌then◌else◌}
 use Rattle.std.specs.List.{list_all, list_any, slice_split}
 use Rattle.std.specs.Str.{bytes_eq}

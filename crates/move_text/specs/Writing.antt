@@ -1,6 +1,5 @@
 -- The text that is written for moves.
--- Stated by: move_text.
--- Rests on it: report_text, bench_outcomes, bench_reports, bench_top, theorems.
+-- Stated by: move_text. Used by: report_text, bench_outcomes, bench_reports, bench_top, theorems.
 use Rattle.std.specs.Prelude.{ℕ, ◌≤◌, ◌<◌, ◌^◌, List, [], ◌∷◌, ◌++◌, All, codes, length, map}
 use Rattle.std.specs.Fmt.{decimal}
 use Rattle.std.specs.List.{AllByRecursion}

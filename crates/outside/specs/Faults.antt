@@ -1,6 +1,6 @@
 -- Counts of errors and of calls, which never decrease and saturate at their largest value.
--- Stated by: outside, mcg6_reader, mcg6_encoder, bench_top.
--- Rests on it: front_words, bench_tasks, front_top, mcg6_top, mcg6_front_top.
+-- Stated by: outside, mcg6_reader, mcg6_encoder.
+-- Used by: front_words, bench_tasks, bench_top, mcg6_top.
 use Rattle.std.specs.Prelude.{◌≡◌, ℕ, ◌+◌, ◌-◌, ◌^◌, ◌≤◌, ◌⊎◌, ◌==◌, ◌&&◌, min, nat_lt, if◌then◌else◌}
 
 -- a count of errors after one more

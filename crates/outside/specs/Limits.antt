@@ -1,6 +1,6 @@
 -- The limits on what is read.
 -- Stated by: mcg6_reader, bench_top.
--- Rests on it: mcg6_encoder, front_words, bench_tasks, mcg6_top, theorems.
+-- Used by: mcg6_encoder, front_words, bench_tasks, mcg6_top, theorems.
 use Rattle.std.specs.Prelude.{ℕ}
 
 -- the most bytes that a file may have

@@ -1,5 +1,5 @@
 -- What a shelf makes known of its files, and what reads of it returned.
--- Stated by: outside, bench_tasks, bench_top, theorems. Rests on it: bench_outcomes, front_top.
+-- Stated by: outside, bench_tasks, bench_top, theorems. Used by: bench_outcomes, front_top.
 use Rattle.std.specs.Prelude.{◌≡◌, ℕ, ◌<◌, ◌≤◌, List, [], ◌∷◌, length, take, if◌then◌else◌}
 use Rattle.std.specs.Global.{Vec}
 use Rattle.std.specs.declared.option.Option.{Option}

@@ -1,6 +1,5 @@
 -- What a sink makes known of its bytes, and which writes lead from one sink to another.
--- Stated by: outside.
--- Rests on it: mcg6_reader, mcg6_encoder, front_words, bench_outcomes, bench_top and 2 more.
+-- Stated by: outside. Used by: mcg6_reader, mcg6_encoder, front_words, bench_outcomes, bench_top.
 use Rattle.std.specs.Prelude.{◌≡◌, ℕ, ◌+◌, ◌<◌, zero, suc, List, ◌++◌, length, drop}
 use Rattle.std.specs.declared.result.Result.{Result}
 use Rattle.std.specs.declared.result.Result.TheVariants.{Ok, Err}

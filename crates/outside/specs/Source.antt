@@ -1,5 +1,5 @@
 -- What a source makes known of the bytes that are left to read, and what a read returned.
--- Stated by: outside. Rests on it: mcg6_reader, mcg6_encoder.
+-- Stated by: outside. Used by: mcg6_reader, mcg6_encoder.
 use Rattle.std.specs.Prelude.{◌≡◌, ℕ, List, [], ◌++◌, take}
 use Rattle.std.specs.declared.result.Result.{Result}
 use Rattle.std.specs.declared.result.Result.TheVariants.{Ok, Err}

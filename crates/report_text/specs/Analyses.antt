@@ -1,5 +1,5 @@
 -- The report of `analyse` as a function of the values in it.
--- Stated by: report_text. Rests on it: bench_outcomes, bench_top, theorems.
+-- Stated by: report_text. Used by: bench_outcomes, bench_top, theorems.
 use Rattle.std.specs.Prelude.{List, ℕ, ◌++◌, codes}
 use Rattle.std.specs.declared.option.Option.{Option}
 use Rattle.std.specs.declared.option.Option.TheVariants.{Some, None}

@@ -1,5 +1,5 @@
 -- Reports that are a text with comments after it: lines that each reader of a text skips.
--- Stated by: report_text, bench_reports. Rests on it: bench_outcomes, bench_top, theorems.
+-- Stated by: report_text, bench_reports. Used by: bench_outcomes, bench_top, theorems.
 use Rattle.std.specs.Prelude.{◌≡◌, ◌<◌, ◌^◌, ℕ, List, ◌++◌, length, All}
 use Rattle.std.specs.List.{AllByRecursion}
 use Rattle.line_text.specs.Common.{IsComment, written}

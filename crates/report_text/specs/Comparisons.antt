@@ -1,7 +1,7 @@
 -- The report of `compare` on two derivations of one graph, as a function of the values in it: how
 -- many leaves the first has and how many moves there are, the moves in order, and for each leaf of
 -- the first its partner and for each of its blocks the image.
--- Stated by: report_text. Rests on it: bench_outcomes, theorems.
+-- Stated by: report_text. Used by: bench_outcomes, theorems.
 use Rattle.std.specs.Prelude.{ℕ, List, [], ◌∷◌, ◌++◌, length, codes}
 use Rattle.std.specs.Fmt.{decimal}
 use Rattle.line_text.specs.Common.{written}

@@ -2,7 +2,7 @@
 -- which is that of the tree, and after it comments: for each leaf its kind, its blocks, and for
 -- each pair of adjacent blocks the edges of the graph between them; and last how many leaves there
 -- are.
--- Stated by: report_text. Rests on it: bench_outcomes, theorems.
+-- Stated by: report_text. Used by: bench_outcomes, theorems.
 use Rattle.std.specs.Prelude.{ℕ, zero, suc, List, [], ◌++◌, length, slice_index_or, codes}
 use Rattle.std.specs.Fmt.{decimal}
 use Rattle.counting.specs.Common.{last_of}

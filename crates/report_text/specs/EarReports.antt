@@ -1,7 +1,7 @@
 -- The report of `ears` on a matching covered graph, as a function of the values in it: a text,
 -- which is that of the ear list, and after it a comment with the number of its steps, of those with
 -- one ear, and of those with two.
--- Stated by: report_text. Rests on it: bench_outcomes, bench_top, theorems.
+-- Stated by: report_text. Used by: bench_outcomes, bench_top, theorems.
 use Rattle.std.specs.Prelude.{ℕ, List, ◌++◌, codes}
 use Rattle.std.specs.Fmt.{decimal}
 

@@ -1,7 +1,7 @@
 -- The report of `grow`, as a function of the values in it: a text, which is that of the graph, and
 -- after it as comments the numbers of leaves of two of its decompositions, and how many leaves
 -- their comparison pairs.
--- Stated by: report_text. Rests on it: bench_outcomes, bench_top, theorems.
+-- Stated by: report_text. Used by: bench_outcomes, bench_top, theorems.
 use Rattle.std.specs.Prelude.{ℕ, List, ◌++◌, codes}
 use Rattle.std.specs.Fmt.{decimal}
 use Rattle.report_text.specs.Words.{tally_end}

@@ -1,5 +1,5 @@
 -- The lines that judge a tree or an ear list, as functions of the values in them.
--- Stated by: report_text. Rests on it: bench_outcomes, bench_reports, bench_top, theorems.
+-- Stated by: report_text. Used by: bench_outcomes, bench_reports, bench_top, theorems.
 use Rattle.std.specs.Prelude.{ℕ, List, [], ◌++◌, Option, Some, None, codes}
 use Rattle.std.specs.Fmt.{decimal}
 use Rattle.report_text.specs.Reports.{numbers_text}

@@ -1,7 +1,6 @@
 -- The lines of the reports as functions of the values in them; the report of `analyse` is in
 -- Analyses.antt.
--- Stated by: report_text, mcg6_lines.
--- Rests on it: bench_outcomes, bench_reports, bench_top, theorems.
+-- Stated by: report_text, mcg6_lines. Used by: bench_outcomes, bench_reports, bench_top, theorems.
 use Rattle.std.specs.Prelude.{ℕ, zero, suc, List, [], ◌∷◌, ◌++◌, length, slice_index_or, Bool, if◌then◌else◌, codes}
 use Rattle.std.specs.Fmt.{decimal}
 use Rattle.graph_core.specs.declared.verdict.Reason.{Reason}

@@ -1,5 +1,5 @@
 -- How contracts see the code's pairs of vertices.
--- Stated by: separation_kit, bench_reports. Rests on it: tight_cuts.
+-- Stated by: separation_kit, bench_reports. Used by: tight_cuts.
 use Rattle.std.specs.Prelude.{◌≡◌, ℕ, ◌<◌, Bool, true, false, not}
 use Rattle.counting.specs.Common.{Within, pair_set}
 use Rattle.graph_core.specs.Common.{Graph, has_perfect}

@@ -2,7 +2,7 @@
 -- the graph has none. Barrier and separation cuts: Edmonds, Lovász and Pulleyblank 1982; tight
 -- cuts: Lovász 1987. The third part finds, edge by edge, what the first two leave.
 -- Stated by: tight_cuts, leaf_kinds, decomposer, mcg6_lines, theorems.
--- Rests on it: tree_check, bench_outcomes, bench_top, example_order.
+-- Used by: tree_check, bench_outcomes, bench_top, example_order.
 use Rattle.std.specs.Prelude.{◌≡◌, ◌≢◌, false, ℕ, Bool, List, [], ◌∷◌, ◌++◌, Option, Some, None, ◌&&◌, ◌||◌, not, map, find, fold, min, max, if◌then◌else◌}
 use Rattle.std.specs.List.{list_any}
 use Rattle.counting.specs.Common.{count, Set, complement, everything, pair_set, each_set, some_set, mem, rising_list, ordered_pairs, IsRisingIn}

@@ -1,7 +1,7 @@
 -- The candidates at a partition: those of the quotient, their shores taken to vertices of the
 -- graph and their sides counted in blocks. At the partition into single vertices they are those
 -- of the graph itself, in the order of its own edges.
--- Stated by: tight_cuts, decomposer. Rests on it: tree_check, mcg6_lines, theorems.
+-- Stated by: tight_cuts, decomposer. Used by: tree_check, mcg6_lines, theorems.
 use Rattle.std.specs.Prelude.{◌≡◌, ℕ, false, List, length, map, ◌==◌, if◌then◌else◌}
 use Rattle.counting.specs.Common.{count, complement, mem, IsRisingIn}
 use Rattle.graph_core.specs.Common.{Graph, IsNontrivial, quotient, union_of_blocks, IsTightAt, blocks_in}

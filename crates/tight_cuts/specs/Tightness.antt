@@ -1,6 +1,6 @@
 -- What the test of one cut answers: the cut is tight, or a perfect matching crosses it more than
 -- once.
--- Stated by: tight_cuts. Rests on it: tree_check.
+-- Stated by: tight_cuts. Used by: tree_check.
 use Rattle.std.specs.Prelude.{◌≡◌, ℕ, ◌<◌, ◌≤◌, ◌==◌, ◌||◌, true}
 use Rattle.counting.specs.Common.{Within, Set, none, mem}
 use Rattle.graph_core.specs.Common.{Graph, edges_in_cut, first_end, in_cut, second_end, size, IsEnd, IsPerfect, Together, IsTight}

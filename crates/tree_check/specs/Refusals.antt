@@ -2,7 +2,7 @@
 -- derivations, and the first rule that it breaks. At a cut the rules are that the shore is a
 -- union of blocks, has an odd number of them, at least three inside and outside, and is tight
 -- (Lovász 1987); at a leaf, that there is no nontrivial tight cut.
--- Stated by: tree_check, bench_reports, theorems. Rests on it: bench_outcomes, bench_top.
+-- Stated by: tree_check, bench_reports, theorems. Used by: bench_outcomes, bench_top.
 use Rattle.std.specs.Prelude.{◌≡◌, ◌⊎◌, ℕ, ◌+◌, ◌-◌, ◌≤◌, true, false, List, [], length, Some}
 use Rattle.counting.specs.Common.{is_odd, mem, IsRisingIn, Set}
 use Rattle.graph_core.specs.Common.{IsCovered, Graph, edges_in_cut, size, IsPerfectAt, singles, IsUnion, block_count, blocks_in, IsNontrivial}

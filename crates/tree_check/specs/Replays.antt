@@ -1,6 +1,6 @@
 -- Replays of scripts: the moves are made in order, and each tree that they make is to be a
 -- derivation of the graph.
--- Stated by: tree_check. Rests on it: bench_outcomes, bench_top, theorems.
+-- Stated by: tree_check. Used by: bench_outcomes, bench_reports, bench_top, theorems.
 use Rattle.std.specs.Prelude.{◌≡◌, ◌⊎◌, ℕ, ◌+◌, List, [], ◌∷◌, Some, None}
 use Rattle.graph_core.specs.Common.{Graph}
 use Rattle.tree_core.specs.Common.{IsDerivation, PlainMove, TurnsThrough, move_result, Shape, shape_of}

@@ -1,7 +1,7 @@
 -- Tight cut decompositions as trees (Lovász 1987): a tree of cuts that derives a matching covered
 -- graph.
--- Stated by: tree_core, decomposer, move_laws, tree_check, uncross, mcg6_lines and 4 more.
--- Rests on it: bench_outcomes, bench_top.
+-- Stated by: tree_core, tight_cuts, decomposer, move_laws, tree_check, uncross and 5 more.
+-- Used by: bench_outcomes, bench_top.
 use Rattle.std.specs.Prelude.{◌≡◌, ℕ, false, List, length}
 use Rattle.counting.specs.Common.{Set, mem, IsRisingIn}
 use Rattle.graph_core.specs.Common.{Graph, IsCovered, IsNontrivial, IsTight, complement_of, merged, singles, IsTightAt, blocks_in}

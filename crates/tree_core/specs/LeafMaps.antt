@@ -1,7 +1,7 @@
 -- The maps of moves and of scripts: where each leaf of a tree goes, and for each of its blocks
 -- the name of the image.
 -- Stated by: move_laws, uncross, theorems.
--- Rests on it: tree_core, report_text, mcg6_lines, bench_outcomes, bench_reports.
+-- Used by: tree_core, report_text, mcg6_lines, bench_outcomes, bench_reports.
 use Rattle.std.specs.Prelude.{ℕ, zero, suc, ◌+◌, ◌-◌, List, [], ◌∷◌, ◌++◌, ◌==◌, cond, map, unwrap_or, slice_index, slice_index_or, if◌then◌else◌}
 use Rattle.counting.specs.Common.{mem, last_of, is_subset}
 use Rattle.graph_core.specs.Common.{place, singles, names_of}

@@ -1,6 +1,6 @@
 -- The leaves of a tree of cuts, each as the partition at which it stands.
 -- Stated by: tree_core, decomposer, move_laws, uncross, mcg6_lines, bench_reports, theorems.
--- Rests on it: tree_check, bench_outcomes, bench_top.
+-- Used by: tree_check, bench_outcomes, bench_top.
 use Rattle.std.specs.Prelude.{◌≡◌, ◌<◌, ℕ, List, [], ◌∷◌, ◌++◌, length, map}
 use Rattle.counting.specs.Common.{mem, IsRisingIn}
 use Rattle.graph_core.specs.Common.{singles, IsUnion}

@@ -34,7 +34,7 @@
 --   if x is in s, with p and v if v is in s comes   where u is in s: s with q
 --   where x is in s: u in place of x
 -- Stated by: tree_core, move_laws, tree_check, uncross, move_text, bench_tasks, theorems.
--- Rests on it: report_text, bench_outcomes, bench_reports, bench_top.
+-- Used by: report_text, bench_outcomes, bench_reports, bench_top.
 use Rattle.std.specs.Prelude.{◌≡◌, ℕ, Bool, true, List, [], ◌∷◌, ◌&&◌, not, cond, Option, Some, None, option_map, if◌then◌else◌}
 use Rattle.counting.specs.Common.{Within, Set, union, meet, minus, mem, rising_list, is_subset, is_apart, IsRisingIn}
 use Rattle.graph_core.specs.Common.{Graph, place, complement_of, IsUnion}

@@ -1,7 +1,7 @@
 -- Places in a derivation as contracts see them: a graph and the blocks of a partition of its
 -- vertices.
 -- Stated by: tree_core, decomposer, tree_check, report_text, mcg6_lines, bench_reports.
--- Rests on it: tight_cuts, uncross.
+-- Used by: tight_cuts, uncross.
 use Rattle.std.specs.Prelude.{◌≡◌, ◌≢◌, ◌==◌, ℕ, List, length, Option, Some, None, if◌then◌else◌}
 use Rattle.graph_core.specs.Common.{Graph, quotient}
 

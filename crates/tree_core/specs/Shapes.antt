@@ -1,6 +1,6 @@
 -- Plain trees of cuts: what a tree says, whatever boxes hold its nodes.
 -- Stated by: tree_core, decomposer, move_laws, tree_check, uncross, tree_text and 4 more.
--- Rests on it: mcg6_lines, bench_outcomes, bench_top.
+-- Used by: mcg6_lines, bench_outcomes, bench_top.
 use Rattle.std.specs.Prelude.{ℕ, ◌+◌, ◌-◌, List, [], ◌∷◌, ◌++◌, max, All}
 use Rattle.counting.specs.Common.{Within}
 

@@ -2,7 +2,7 @@
 -- (Lovász 1987). A leaf is told by its quotient, which has one edge for each two adjacent blocks:
 -- a brace where the quotient is bipartite, and a brick where it is not.
 -- Stated by: tree_core, decomposer, report_text, bench_reports.
--- Rests on it: tree_check, mcg6_lines, bench_outcomes, bench_top, theorems.
+-- Used by: tree_check, mcg6_lines, bench_outcomes, bench_top, theorems.
 use Rattle.std.specs.Prelude.{◌≡◌, ℕ, ◌-◌, List, length, slice_index_or, count_by, Bool, true, false, not}
 use Rattle.counting.specs.Common.{Within}
 use Rattle.graph_core.specs.Common.{Graph, IsBipartite, quotient}

@@ -1,7 +1,7 @@
 -- The derivation format for a graph of order n: a header `t mcg N`, and a line for each node in
 -- preorder, `leaf`, or `cut` and the vertices of the shore; after a cut come the nodes of its
 -- `kept` tree and then those of its `merged` tree.
--- Stated by: tree_text, bench_tasks. Rests on it: move_text, bench_outcomes, bench_top, theorems.
+-- Stated by: tree_text, bench_tasks. Used by: move_text, bench_outcomes, bench_top, theorems.
 use Rattle.std.specs.Prelude.{ℕ, ◌+◌, ◌==◌, ◌&&◌, ◌||◌, not, nat_lt, nat_le, Bool, true, List, [], ◌∷◌, length, map, codes, Result, Ok, Err, if◌then◌else◌}
 use Rattle.std.specs.List.{list_all, list_any}
 use Rattle.counting.specs.Common.{mem}

@@ -1,5 +1,5 @@
 -- The text that is written for a tree.
--- Stated by: tree_text, bench_reports. Rests on it: bench_outcomes, bench_top, theorems.
+-- Stated by: tree_text, bench_reports. Used by: bench_outcomes, bench_top, theorems.
 use Rattle.std.specs.Prelude.{ℕ, ◌≤◌, ◌<◌, ◌^◌, List, [], ◌∷◌, ◌++◌, codes, length, map}
 use Rattle.std.specs.Fmt.{decimal}
 use Rattle.std.specs.List.Sorted.{IsStrictlyIncreasing}

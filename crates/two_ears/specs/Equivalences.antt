@@ -1,5 +1,5 @@
 -- Equivalences of the numbers 1 to n, as tests, and their classes.
--- Stated by no contract. Rests on it: two_ears.
+-- Stated by no contract. Used by: two_ears.
 use Rattle.std.specs.Prelude.{◌≡◌, ℕ, Bool, true, nat_lt, not, ◌&&◌}
 use Rattle.counting.specs.Common.{count, Within, some}
 

@@ -1,5 +1,5 @@
 -- Lists of pairs of vertices.
--- Stated by: two_ears, theorems. Rests on it: ear_core.
+-- Stated by: two_ears, theorems. Used by: ear_core.
 use Rattle.std.specs.Prelude.{ℕ, ◌+◌, ◌≤◌, List, [], ◌∷◌, ◌==◌, not}
 use Rattle.counting.specs.Common.{bit, Within, IsIn, Set, pair_set}
 

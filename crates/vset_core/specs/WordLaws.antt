@@ -1,6 +1,6 @@
 -- A word and its set: a word of n bits is determined by the bits of its set, so it can be computed
 -- from the list of its members.
--- Stated by no contract. Rests on it: vset_core.
+-- Stated by no contract. Used by: vset_core.
 use Rattle.std.specs.Prelude.{◌≡◌, ℕ, zero, suc, ◌+◌, ◌-◌, ◌*◌, ◌^◌, ◌≤◌, ◌<◌, ◌==◌, refl, Bool, true, false}
 use Rattle.std.proofs.Common.{sym, ◌∙◌, ap, arith, eq-eqb, ne_eqb, inl, inr}
 use Rattle.std.specs.Int.{bit_at}
