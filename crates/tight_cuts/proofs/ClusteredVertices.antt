@@ -30,6 +30,13 @@ module _ (g : Graph) (is : IsGraph g) (cov : IsCovered g) (e : ℕ) (we : Within
       ends_level : (x : Set) → x (first_end g e) ≡ x (second_end g e) → x (lesser_end g e) ≡ true → x (greater_end g e) ≡ true
       ends_level x h t = grind arith
 
+  -- so an edge between two vertices that are not separated gives nothing
+  pub edge_settled : (list : List Candidate) → AreUnparted g (first_end g e) (second_end g e) → list ≡ with_edge_cut g list e
+  edge_settled list level = elim (cases_Bool (list_any (cuts g e) list)) [
+    | inl h ↦ edge-known g list e h
+    | inr f ↦ let none = unparted_none level in grind arith
+  ]
+
 -- two clusters joined: each vertex of both is on the side of a
 module _ (g : Graph) (old new : List (List ℕ)) (a b : ℕ) (all : List ℕ) (c : AreClusters g old) (wa : Within g.order a) (wb : Within g.order b) (ab : AreUnparted g a b)
     (members : (v : ℕ) → mem all v ≡ (((mem (item old a) v || mem (item old b) v) || (a == v)) || (b == v)))

@@ -1,12 +1,12 @@
 -- The first candidate stays while edges add more, and edges in the cut of a candidate add none.
 -- Idea: an edge leaves the list or appends to it.
-use Rattle.std.proofs.Common.{◌≡◌, ℕ, suc, zero, ◌≤◌, true, refl, sym, ap, ◌∙◌, arith, List, [], Option, Some, None, map, slice_get, inl, inr, ◌↔◌, All}
-use Rattle.counting.proofs.Common.{list_any, cases_eq, Within}
+use Rattle.std.proofs.Common.{◌≡◌, ℕ, suc, zero, ◌≤◌, refl, sym, ap, ◌∙◌, arith, List, [], Option, Some, None, map, slice_get, inl, inr, ◌↔◌, All}
+use Rattle.counting.proofs.Common.{cases_eq, Within}
 use Rattle.std.specs.Option.{option_map}
 use Rattle.graph_core.proofs.Common.{Graph, size}
 use Rattle.tight_cuts.proofs.EdgeLoop.{after_edges, after_suc}
-use Rattle.tight_cuts.proofs.FrontCandidates.{edge-known, edges-all}
-use Rattle.tight_cuts.specs.Common.{Candidate, candidates, cuts, first_of, front_candidates, with_edge_cut, candidate_of}
+use Rattle.tight_cuts.proofs.FrontCandidates.{edges-all}
+use Rattle.tight_cuts.specs.Common.{Candidate, candidates, first_of, front_candidates, with_edge_cut, candidate_of}
 use Rattle.tight_cuts.specs.declared.candidate.Candidate.{Candidate as StoredCandidate}
 
 -- the first candidate is that at place 0
@@ -38,10 +38,10 @@ pub first-front : (g : Graph) (c : Candidate) → first_of (front_candidates g) 
 unfolding candidates
 first-front g c h = first-later g (front_candidates g) 0 (size g) (omega arith) c h
 
--- edges in the cut of a candidate add nothing
-pub edges-known : (g : Graph) (list : List Candidate) (k : ℕ) → ((e : ℕ) → Within k e → list_any (cuts g e) list ≡ true) → list ≡ after_edges g list k
+-- edges that each give nothing add nothing
+pub edges-known : (g : Graph) (list : List Candidate) (k : ℕ) → ((e : ℕ) → Within k e → list ≡ with_edge_cut g list e) → list ≡ after_edges g list k
 edges-known g list zero h = refl
-edges-known g list (suc k) h = edge-known g list (suc k) (h (suc k) (omega arith, omega arith)) ∙ ap (λ l. with_edge_cut g l (suc k)) (edges-known g list k (λ e w. h e (omega arith))) ∙ sym (after_suc g list k)
+edges-known g list (suc k) h = h (suc k) (omega arith, omega arith) ∙ ap (λ l. with_edge_cut g l (suc k)) (edges-known g list k (λ e w. h e (omega arith))) ∙ sym (after_suc g list k)
 
 -- if some edges have given nothing and no edge is left, there is no candidate
 pub first-none : (g : Graph) (list : List Candidate) (k : ℕ) → k ≡ size g → list ≡ after_edges g (front_candidates g) k → list ≡ [] → None ≡ first_of (candidates g)

@@ -4,8 +4,8 @@
 //! none separates u from v, and none v from w, then none separates u from w. So an edge with both
 //! ends in one cluster gives nothing, and the search goes to at most n - 1 edges that give nothing.
 //!
-//! Clusters at a place of a derivation are of vertices of the whole graph. A shore that is tight at a
-//! place below was tight there, and a nontrivial one was nontrivial. So the clusters stay clusters.
+//! Clusters at a place of a derivation have vertices of the whole graph. A shore that is tight at
+//! a place below was tight there, and a nontrivial one was nontrivial. So clusters stay clusters.
 ghost use Rattle.std.specs.Prelude.{◌≡◌, ℕ, ◌+◌, ◌<◌, ◌≤◌, List, cond, true, length, IfOk};
 ghost use Rattle.counting.specs.Common.{Within, item, last_of, mem};
 ghost use Rattle.graph_core.specs.Common.{Graph, block, first_end, place, quotient, second_end, size, union_of_blocks};

@@ -1,10 +1,9 @@
 //! What the edges add to the list of candidates, by either search of an edge: least minimum cuts
 //! serve any covered graph (`edge_search`), floods a bipartite one (`bipartite`).
-ghost use Rattle.std.specs.Prelude.{◌≡◌, ℕ, ◌≤◌, true, IfOk, OnOk};
-ghost use Rattle.std.specs.List.{list_any};
+ghost use Rattle.std.specs.Prelude.{◌≡◌, ℕ, ◌≤◌, IfOk, OnOk};
 ghost use Rattle.counting.specs.Common.{Within};
 ghost use Rattle.graph_core.specs.Common.{Graph, size};
-ghost use Rattle.tight_cuts.specs.Candidates.{candidates, cuts, front_candidates, with_edge_cut};
+ghost use Rattle.tight_cuts.specs.Candidates.{candidates, front_candidates, with_edge_cut};
 ghost use Rattle.tight_cuts.specs.Clusters.{AreClusters};
 ghost use Rattle.tight_cuts.specs.EdgeSearch.{IsShoreOfEdge};
 
@@ -64,8 +63,8 @@ pub(crate) fn add_edge_cut<S: EdgeSearch>(
     }
 }
 
-/// Adds what the edges after edge `known` give, if those up to it are in the cuts of candidates.
-/// Edges in the given clusters are not searched.
+/// Adds what the edges after edge `known` give, if those up to it give nothing. Edges in the given
+/// clusters are not searched.
 pub(crate) fn add_edge_cuts<S: EdgeSearch>(
     alloc: Global,
     c: &Covered,
@@ -77,7 +76,8 @@ pub(crate) fn add_edge_cuts<S: EdgeSearch>(
     requires search { S.is_of search.old c.now }
     requires clusters { AreClusters c.now clusters.old }
     requires within { known ≤ size c.now }
-    requires cut { (e : ℕ) → Within known e → list_any (cuts c.now e) list.old ≡ true }
+    requires settled { (e : ℕ) → Within known e →
+        list.old ≡ with_edge_cut c.now list.old e }
     requires front { list.old ≡ front_candidates c.now }
     ensures clusters { OnOk result (AreClusters c.now clusters.new) }
     ensures list { OnOk result (list.new ≡ candidates c.now) }

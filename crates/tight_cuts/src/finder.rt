@@ -4,7 +4,7 @@ ghost use Rattle.std.specs.List.{AllPairs, list_any};
 ghost use Rattle.std.specs.Option.{option_map};
 ghost use Rattle.counting.specs.Common.{Within, mem, Set};
 ghost use Rattle.graph_core.specs.Common.{IsCovered, in_cut, size, HasOnlyTrivialTightCuts, IsNontrivial, IsTight};
-ghost use Rattle.tight_cuts.specs.Common.{AreClusters, AreFloodsOf, IsTightCandidate, ShoresDiffer, candidates, cuts, first_of, first_shore, front_candidates, candidate_of};
+ghost use Rattle.tight_cuts.specs.Common.{AreClusters, AreFloodsOf, IsTightCandidate, ShoresDiffer, candidates, cuts, first_of, first_shore, front_candidates, with_edge_cut, candidate_of};
 
 use crate::bipartite::FloodSearch;
 use crate::candidate::{Candidate, CandidateList, any_cuts};
@@ -21,20 +21,35 @@ use separation_kit::FirstPairs;
 use std::alloc::{AllocError as Memory, Global};
 use vset_core::VSet;
 
-// The number of edges before the first that is in the cut of no candidate.
-fn edges_cut(list: &CandidateList, c: &Covered) -> u32
+// Whether an edge is in the cut of a candidate or between vertices of one cluster. It then gives
+// nothing.
+fn is_settled(c: &Covered, clusters: &Clusters, list: &CandidateList, e: u32) -> bool
+    requires edge { Within (size c.now) e }
+    requires clusters { AreClusters c.now clusters.now }
+    ensures { result ≡ true → list.now ≡ with_edge_cut c.now list.now e }
+{
+    c.keeps_covered();
+    if any_cuts(list, c.graph(), e) {
+        return true;
+    }
+    clusters.has_both(c.graph(), e)
+}
+
+// The number of edges before the first that is not settled.
+fn edges_settled(c: &Covered, clusters: &Clusters, list: &CandidateList) -> u32
+    requires { AreClusters c.now clusters.now }
     ensures within { result ≤ size c.now }
-    ensures cut { (e : ℕ) → Within result e → list_any (cuts c.now e) list.now ≡ true }
+    ensures settled { (e : ℕ) → Within result e → list.now ≡ with_edge_cut c.now list.now e }
 {
     for k in 0..c.size() {
-        if !any_cuts(list, c.graph(), k + 1) {
+        if !is_settled(c, clusters, list, k + 1) {
             return k;
         }
     }
     c.size()
 }
 
-// Adds what the edges of any graph give. Nothing is made if each is in the cut of a candidate.
+// Adds what the edges of any graph give. No matching is made if each is settled.
 fn add_network_cuts(
     alloc: Global,
     c: &Covered,
@@ -46,11 +61,11 @@ fn add_network_cuts(
     ensures clusters { OnOk result (AreClusters c.now clusters.new) }
     ensures list { OnOk result (list.new ≡ candidates c.now) }
 {
-    let known = edges_cut(list, c);
+    join_by_floods(alloc, c, list, clusters)?;
+    let known = edges_settled(c, clusters, list);
     if known == c.size() {
         return Ok(());
     }
-    join_by_floods(alloc, c, list, clusters)?;
     let matchings = Matchings::new(alloc, c)?;
     add_edge_cuts(
         alloc,

@@ -4,5 +4,5 @@ use Rattle.tight_cuts.proofs.FirstCandidates.{edges-known}
 use Rattle.tight_cuts.proofs.FrontCandidates.{edges-all}
 use Rattle.tight_cuts.proofs.finder.add_network_cuts.Goals as goal
 
-pub returns-then-known-size : goal.returns-then-known-size
-returns-then-known-size c = grind (arith, edges-all, edges-known, after_edges)
+pub returns-then-known-size-clause-list : goal.returns-then-known-size-clause-list
+returns-then-known-size-clause-list c = grind (arith, edges-all, edges-known, after_edges)

@@ -1,4 +1,4 @@
-use Rattle.std.proofs.Common.{◌≡◌, ◌∙◌, ℕ, List, ap, arith}
+use Rattle.std.proofs.Common.{◌∙◌, ap, arith}
 use Rattle.tree_core.specs.Common.{PlaceValue}
 use Rattle.tight_cuts.proofs.ClustersAtPlaces.{clusters-of_blocks}
 use Rattle.tight_cuts.proofs.clusters.Clusters.of_blocks.Goals as goal
