@@ -26,8 +26,8 @@ const MOST_IDLE: u32 = 4;
 const LEAST_DENSITY: u32 = 6;
 
 /// Joins the clusters of the ends of each edge at which a flood shows that no nontrivial tight cut
-/// separates them. Edges in the cuts of candidates are not asked, and in a sparse graph none is: its
-/// floods need too many rows.
+/// separates them. Edges in the cuts of candidates are not asked, and in a sparse graph none is:
+/// its floods need too many rows.
 pub(crate) fn join_by_floods(
     alloc: Global,
     c: &Covered,
