@@ -2,14 +2,15 @@
 ghost use Rattle.std.specs.Prelude.{◌≡◌, IfOk};
 ghost use Rattle.tree_core.specs.Common.{cut, leaf, shape_of};
 
-use crate::made::set_of;
+use crate::made::set_of_bits;
 use std::alloc::{AllocError as Memory, Global};
 use std::test::Fail;
 use tree_core::Tree;
 use vset_core::VSet;
 
-/// The shores of a tree in preorder, with no vertices for a leaf.
-pub type Shores = &'static [&'static [u32]];
+/// The shores of a tree in preorder, each as a set of bits, of which that of 1 is the lowest; 0
+/// stands for a leaf.
+pub type Shores = &'static [u32];
 
 /// A cut with these trees below it.
 pub fn cut_into(alloc: Global, shore: VSet, kept: Tree, merged: Tree) -> Result<Tree, Memory>
@@ -29,24 +30,32 @@ pub fn one_cut(alloc: Global, shore: VSet) -> Result<Tree, Memory>
     cut_into(alloc, shore, Tree::Leaf, Tree::Leaf)
 }
 
+// Puts a cut over the last two trees of a list in their place.
+fn cut_over(alloc: Global, shore: VSet, below: &mut Vec<Tree>) -> Result<(), Fail> {
+    let Some(kept) = below.pop() else {
+        return Err("a cut without a tree below it".into());
+    };
+    let Some(merged) = below.pop() else {
+        return Err("a cut with one tree below it".into());
+    };
+    below.push(cut_into(alloc, shore, kept, merged)?)?;
+    Ok(())
+}
+
 /// The tree with these shores.
-pub fn tree_of(alloc: Global, shores: &[&[u32]]) -> Result<Tree, Fail> {
-    let mut below: Vec<Tree> = Vec::new(alloc);
+pub fn tree_of(alloc: Global, shores: &[u32]) -> Result<Tree, Fail> {
+    let mut below = Vec::new(alloc);
     for shore in shores.iter().rev() {
-        let tree = if shore.is_empty() {
-            Tree::Leaf
+        if *shore == 0 {
+            below.push(Tree::Leaf)?;
         } else {
-            let kept = below.pop().ok_or("a cut without a tree below it")?;
-            let merged = below.pop().ok_or("a cut with one tree below it")?;
-            cut_into(alloc, set_of(shore), kept, merged)?
-        };
-        below.push(tree)?;
+            cut_over(alloc, set_of_bits(*shore), &mut below)?;
+        }
     }
-    let tree = below.pop().ok_or("a list without a tree")?;
-    if below.is_empty() {
-        return Ok(tree);
+    match below.pop() {
+        Some(tree) if below.is_empty() => Ok(tree),
+        _ => Err("a list that is not one tree".into()),
     }
-    Err("a list of several trees".into())
 }
 
 /// Whether two trees are the same.
@@ -69,7 +78,7 @@ pub fn same_tree(first: &Tree, second: &Tree) -> bool {
 }
 
 /// Whether the tree is the one with these shores.
-pub fn is_tree(alloc: Global, tree: &Tree, shores: &[&[u32]]) -> Result<bool, Fail> {
+pub fn is_tree(alloc: Global, tree: &Tree, shores: &[u32]) -> Result<bool, Fail> {
     let wanted = tree_of(alloc, shores)?;
     Ok(same_tree(tree, &wanted))
 }

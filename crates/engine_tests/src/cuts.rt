@@ -3,7 +3,7 @@ ghost use Rattle.std.specs.Prelude.{◌≡◌, length, true};
 ghost use Rattle.counting.specs.Common.{is_odd, IsRisingIn};
 ghost use Rattle.plain_graph.specs.Small.{IsSmall};
 
-use crate::made::made;
+use crate::made::{made, set_of_bits};
 use graph_core::MultiGraph;
 use plain_graph::{
     CYCLE_OF_8, DOUBLED_SQUARE, HEXAGON, K4, PETERSEN, PRISM, TRIANGLE_IN_K33, TWO_K4,
@@ -15,17 +15,6 @@ use tight_cuts::{CandidateList, Origin, Tightness, candidates, find_any, is_tigh
 use vset_core::{MOST_VERTICES, VSet};
 
 const TWO_PARALLEL: [(u32, u32); 2] = [(1, 2), (1, 2)];
-
-/// The set of the numbers whose bit is set, where the bit of 1 is the lowest.
-pub(crate) fn set_of_bits(bits: u32) -> VSet {
-    let mut set = VSet::empty();
-    for v in 0..10 {
-        if bits >> v & 1 == 1 {
-            set = set.with(v + 1);
-        }
-    }
-    set
-}
 
 // Whether the set has an odd number of vertices of the graph, and nothing else.
 fn is_odd_shore(graph: &MultiGraph, set: VSet) -> bool

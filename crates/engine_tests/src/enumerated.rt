@@ -3,6 +3,7 @@
 ghost use Rattle.std.specs.Prelude.{◌≤◌};
 ghost use Rattle.plain_graph.specs.Small.{IsSmall};
 
+use crate::made::set_of_bits;
 use crate::numbered::{Family, numbered};
 use graph_core::MultiGraph;
 use plain_graph::{edges_in_cut, is_bipartite, is_covered, is_small, perfect_matchings};
@@ -12,17 +13,6 @@ use rand_pcg::Lcg64Xsh32;
 use std::alloc::{AllocError as Memory, Global};
 use std::test::Fail;
 use vset_core::VSet;
-
-// The set of the numbers 1 to 7 whose bit is set, where the bit of 1 is the lowest.
-fn set_of_bits(bits: u32) -> VSet {
-    let mut set = VSet::empty();
-    for v in 0..7 {
-        if bits >> v & 1 == 1 {
-            set = set.with(v + 1);
-        }
-    }
-    set
-}
 
 // Whether the set is one of the vertices, with an odd number of at least three inside and outside.
 fn is_nontrivial(g: &MultiGraph, set: VSet) -> bool {

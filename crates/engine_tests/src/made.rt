@@ -17,6 +17,17 @@ pub fn set_of(numbers: &[u32]) -> VSet {
     set
 }
 
+// The set of the numbers up to 10 whose bit is set, where the bit of 1 is the lowest.
+pub fn set_of_bits(bits: u32) -> VSet {
+    let mut set = VSet::empty();
+    for v in 0..10 {
+        if bits >> v & 1 == 1 {
+            set = set.with(v + 1);
+        }
+    }
+    set
+}
+
 // The graph of these edges. The proofs of the tests need no more of it than that it is one.
 pub fn made(alloc: Global, order: u32, edges: &[(u32, u32)]) -> Result<MultiGraph, Fail> {
     if order > MOST_VERTICES {

@@ -19,8 +19,8 @@ fn turns_into(
     alloc: Global,
     n: u32,
     step: &Move,
-    first: &[&[u32]],
-    second: &[&[u32]],
+    first: &[u32],
+    second: &[u32],
 ) -> Result<bool, Fail> {
     match moved(tree_of(alloc, first)?, n, step) {
         Some(made) => is_tree(alloc, &made, second),
@@ -36,8 +36,8 @@ fn a_switch_moves_the_cut_of_the_hexagon(rt: HostRuntime) -> Result<(), Fail> {
         u: VSet::one(1),
         v: VSet::one(4),
     };
-    let first: Shores = &[&[1, 2, 3], &[], &[]];
-    assert!(rt; turns_into(rt.alloc(), 6, &step, first, &[&[2, 3, 4], &[], &[]])?);
+    let first: Shores = &[0b111, 0, 0];
+    assert!(rt; turns_into(rt.alloc(), 6, &step, first, &[0b1110, 0, 0])?);
     Ok(())
 }
 
@@ -50,7 +50,7 @@ fn a_switch_of_the_hexagon_by_its_own_call(rt: HostRuntime) -> Result<(), Fail> 
         Ok(made) => made,
         Err((back, _)) => back,
     };
-    assert!(rt; is_tree(rt.alloc(), &made, &[&[2, 3, 4], &[], &[]])?);
+    assert!(rt; is_tree(rt.alloc(), &made, &[0b1110, 0, 0])?);
     Ok(())
 }
 
@@ -62,7 +62,7 @@ fn a_rotate_at_the_root_is_stuck(rt: HostRuntime) -> Result<(), Fail> {
         assert!(rt; false);
         return Ok(());
     };
-    assert!(rt; is_tree(rt.alloc(), &back, &[&[1, 2, 3], &[], &[]])?);
+    assert!(rt; is_tree(rt.alloc(), &back, &[0b111, 0, 0])?);
     let mut moves = Moves::new(rt.alloc());
     moves.push(Move::Rotate { path })?;
     assert!(rt; moves.len() == 1 && matches!(moves.get(0), Move::Rotate { .. }));
@@ -74,95 +74,23 @@ fn a_rotate_at_the_root_is_stuck(rt: HostRuntime) -> Result<(), Fail> {
 static ROTATED: [(Side, Shores, Shores); 4] = [
     (
         Side::Kept,
-        &[&[1, 2, 3, 4, 5], &[1, 2, 3], &[], &[], &[]],
-        &[&[1, 2, 3], &[], &[1, 2, 3, 4, 5], &[], &[]],
+        &[0b11111, 0b111, 0, 0, 0],
+        &[0b111, 0, 0b11111, 0, 0],
     ),
     (
         Side::Kept,
-        &[
-            &[1, 2, 3, 4, 5],
-            &[1, 2, 3],
-            &[2],
-            &[],
-            &[],
-            &[4],
-            &[],
-            &[],
-            &[6],
-            &[],
-            &[],
-        ],
-        &[
-            &[1, 2, 3],
-            &[2],
-            &[],
-            &[],
-            &[1, 2, 3, 4, 5],
-            &[4],
-            &[],
-            &[],
-            &[6],
-            &[],
-            &[],
-        ],
+        &[0b11111, 0b111, 0b10, 0, 0, 0b1000, 0, 0, 0b100000, 0, 0],
+        &[0b111, 0b10, 0, 0, 0b11111, 0b1000, 0, 0, 0b100000, 0, 0],
     ),
     (
         Side::Merged,
-        &[
-            &[1, 2, 3],
-            &[2],
-            &[],
-            &[],
-            &[1, 2, 3, 4, 5],
-            &[4],
-            &[],
-            &[],
-            &[6],
-            &[],
-            &[],
-        ],
-        &[
-            &[1, 2, 3, 4, 5],
-            &[1, 2, 3],
-            &[2],
-            &[],
-            &[],
-            &[4],
-            &[],
-            &[],
-            &[6],
-            &[],
-            &[],
-        ],
+        &[0b111, 0b10, 0, 0, 0b11111, 0b1000, 0, 0, 0b100000, 0, 0],
+        &[0b11111, 0b111, 0b10, 0, 0, 0b1000, 0, 0, 0b100000, 0, 0],
     ),
     (
         Side::Merged,
-        &[
-            &[1, 2, 3],
-            &[2],
-            &[],
-            &[],
-            &[5, 6, 7],
-            &[4],
-            &[],
-            &[],
-            &[6],
-            &[],
-            &[],
-        ],
-        &[
-            &[5, 6, 7],
-            &[4],
-            &[],
-            &[],
-            &[1, 2, 3],
-            &[2],
-            &[],
-            &[],
-            &[6],
-            &[],
-            &[],
-        ],
+        &[0b111, 0b10, 0, 0, 0b1110000, 0b1000, 0, 0, 0b100000, 0, 0],
+        &[0b1110000, 0b1000, 0, 0, 0b111, 0b10, 0, 0, 0b100000, 0, 0],
     ),
 ];
 

@@ -41,12 +41,12 @@ static UNIONS: [(&[u32], bool); 6] = [
     (&[3, 9], false),
 ];
 
-// Whether the partition has the blocks of the table, in their order.
-fn has_blocks(partition: &Partition) -> bool {
-    if partition.len() != BLOCKS.len() {
+// Whether the partition has these blocks, in their order.
+pub fn has_blocks(partition: &Partition, blocks: &[&[u32]]) -> bool {
+    if partition.len() != blocks.len() {
         return false;
     }
-    for (i, block) in BLOCKS.iter().enumerate() {
+    for (i, block) in blocks.iter().enumerate() {
         if i < partition.len() && partition.block(i) != set_of(block) {
             return false;
         }
@@ -60,7 +60,7 @@ fn partitions_by_greatest_vertex(rt: HostRuntime) -> Result<(), Fail> {
     assert!(rt; singles.order() == 8 && singles.len() == 8 && !singles.is_empty());
     assert!(rt; singles.blocks_in(set_of(&[2, 4, 8])) == 3);
     let partition = merged(rt.alloc(), 8, set_of(&[1, 2, 8]))?;
-    assert!(rt; has_blocks(&partition));
+    assert!(rt; has_blocks(&partition, &BLOCKS));
     for (set, is_union) in &UNIONS {
         assert!(rt; partition.is_union(set_of(set)) == *is_union);
     }
@@ -192,11 +192,16 @@ fn has_edges(q: &Contracted, wanted: &[Remembered]) -> bool {
     q.graph().size() == e
 }
 
+// Whether the quotient at the cut has these edges.
+fn is_quotient(alloc: Global, cut: &Cut, wanted: &[Remembered]) -> Result<bool, Fail> {
+    let q = contracted_at(alloc, cut)?;
+    Ok(has_edges(&q, wanted))
+}
+
 #[test]
 fn quotients_with_remembered_edges(rt: HostRuntime) -> Result<(), Fail> {
     for (cut, wanted) in &QUOTIENTS {
-        let q = contracted_at(rt.alloc(), cut)?;
-        assert!(rt; has_edges(&q, wanted));
+        assert!(rt; is_quotient(rt.alloc(), cut, wanted)?);
     }
     Ok(())
 }
@@ -230,11 +235,16 @@ fn lifts_to(alloc: Global, q: &Contracted, held: u32, lifted: &[u32]) -> Result<
     }
 }
 
+// Whether this is so of the quotient at the cut.
+fn is_lifted(alloc: Global, cut: &Cut, held: u32, lifted: &[u32]) -> Result<bool, Fail> {
+    let q = contracted_at(alloc, cut)?;
+    lifts_to(alloc, &q, held, lifted)
+}
+
 #[test]
 fn matchings_lifted_by_least_edges(rt: HostRuntime) -> Result<(), Fail> {
     for (cut, held, lifted) in &LIFTED {
-        let q = contracted_at(rt.alloc(), cut)?;
-        assert!(rt; lifts_to(rt.alloc(), &q, *held, lifted)?);
+        assert!(rt; is_lifted(rt.alloc(), cut, *held, lifted)?);
     }
     Ok(())
 }

@@ -1,8 +1,8 @@
 //! The candidates of small graphs, against all sets of their vertices by the plain program.
 ghost use Rattle.plain_graph.specs.Small.{IsSmall};
 
-use crate::cuts::{candidates_if_covered, set_of_bits};
-use crate::made::made;
+use crate::cuts::candidates_if_covered;
+use crate::made::{made, set_of_bits};
 use graph_core::MultiGraph;
 use plain_graph::{CYCLE_OF_8, HEXAGON, K4, PRISM, TRIANGLE_IN_K33, TWO_K4, is_small};
 use std::alloc::Global;

@@ -4,6 +4,7 @@ ghost use Rattle.tree_core.specs.Common.{node_count, shape_of};
 
 use crate::built_trees::{Shores, cut_into, is_tree, one_cut, same_tree, tree_of};
 use crate::made::set_of;
+use crate::quotients::has_blocks;
 use contraction::Partition;
 use std::alloc::{AllocError as Memory, Global};
 use std::test::Fail;
@@ -15,19 +16,6 @@ static LEAVES: [[&[u32]; 4]; 2] = [
     [&[1], &[2], &[3], &[4, 5, 6]],
     [&[1, 2, 3], &[4], &[5], &[6]],
 ];
-
-// Whether the partition has these blocks, in their order.
-fn has_blocks(partition: &Partition, blocks: &[&[u32]]) -> bool {
-    if partition.len() != blocks.len() {
-        return false;
-    }
-    for (i, block) in blocks.iter().enumerate() {
-        if i < partition.len() && partition.block(i) != set_of(block) {
-            return false;
-        }
-    }
-    true
-}
 
 #[test]
 fn leaves_of_the_hexagon_cut_once(rt: HostRuntime) -> Result<(), Fail> {
@@ -78,24 +66,14 @@ fn sizes_and_copies(rt: HostRuntime) -> Result<(), Fail> {
 
 // Trees whose two trees below the root are not equal.
 static UNEQUAL: [Shores; 4] = [
-    &[&[1, 2, 3, 4, 5], &[1, 2, 3], &[], &[], &[]],
-    &[&[1, 2, 3], &[], &[1, 2, 3, 4, 5], &[], &[]],
-    &[&[3, 4, 5], &[1, 2, 3], &[], &[], &[4, 5, 6], &[], &[]],
-    &[
-        &[3, 4, 5],
-        &[1, 2, 3],
-        &[],
-        &[5, 6, 7],
-        &[],
-        &[],
-        &[2, 3, 4],
-        &[],
-        &[],
-    ],
+    &[0b11111, 0b111, 0, 0, 0],
+    &[0b111, 0, 0b11111, 0, 0],
+    &[0b11100, 0b111, 0, 0, 0b111000, 0, 0],
+    &[0b11100, 0b111, 0, 0b1110000, 0, 0, 0b1110, 0, 0],
 ];
 
 // Whether a copy of the tree is the tree, and is no other tree of the table.
-fn is_copied(alloc: Global, shores: &[&[u32]], place: usize) -> Result<bool, Fail> {
+fn is_copied(alloc: Global, shores: &[u32], place: usize) -> Result<bool, Fail> {
     let tree = tree_of(alloc, shores)?;
     let other = copy(alloc, &tree)?;
     let mut alike = same_tree(&other, &tree);
