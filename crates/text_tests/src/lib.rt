@@ -5,7 +5,8 @@
 //! kind of its first fault. `graph_rows`, `graph6_rows`, `tree_rows`, `move_rows` and `ear_rows`
 //! have the tables, and the texts that are too long for a row; `tables` walks them. `words` asks
 //! for lines, words and numbers, `reads_and_writes` for the shelves and the sinks, `sources` for
-//! the sources, in memory and real. `lists` has lists that are answered line by line.
+//! the sources, in memory and real. `lists` has lists that are answered line by line, and
+//! `long_lines` those of a line that may be too long.
 //!
 //! The rows come from the tables of the formats. What reports say is tried in `run_tests`, byte
 //! by byte.
@@ -21,6 +22,8 @@ mod graph6_rows;
 mod graph_rows;
 #[cfg(test)]
 mod lists;
+#[cfg(test)]
+mod long_lines;
 #[cfg(test)]
 mod move_rows;
 #[cfg(test)]
