@@ -5,9 +5,10 @@ use Rattle.counting.proofs.Common.{both_ways, cases_Bool, false_from_ne_true, or
 use Rattle.graph_core.proofs.Common.{Graph, IsCovered, IsGraph, first_end, second_end, in_cut, size, IsNontrivial}
 use Rattle.tight_cuts.proofs.EdgeLoop.{high_within, low_within, step_covers}
 use Rattle.tight_cuts.proofs.FirstPairs.{no_first}
+use Rattle.tight_cuts.proofs.FrontCandidates.{edge-known}
 use Rattle.tight_cuts.proofs.LeastShores.{parts_nontrivial, separated_says}
 use Rattle.tight_cuts.specs.Clusters.{AreClusters, AreUnparted}
-use Rattle.tight_cuts.specs.Common.{cuts, first_separated, greater_end, is_separated, lesser_end, with_edge_cut, with_pair}
+use Rattle.tight_cuts.specs.Common.{cuts, first_separated, greater_end, is_separated, lesser_end, with_edge_cut, with_pair, Candidate}
 
 module _ (g : Graph) (is : IsGraph g) (cov : IsCovered g) (e : ℕ) (we : Within (size g) e) where
   -- if no pair is separated at an edge, no nontrivial tight cut has the edge
