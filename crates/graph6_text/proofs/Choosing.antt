@@ -1,7 +1,9 @@
 -- The pairs whose bit is set, in order: they are the edges that the loop has collected at its end.
--- Idea: induction on the pairs and their bits together.
-use Rattle.std.proofs.Common.{◌≡◌, ℕ, Bool, true, false, List, [], ◌∷◌, ◌++◌, length, refl, ap, arith, append_assoc, nat_lt, Option, Some, None}
-use Rattle.counting.proofs.Common.{cases_Bool, nat_tests, append-nil, length-append}
+-- Idea: induction on the pairs and their bits together. Whether any of the bits is set.
+use Rattle.std.proofs.Common.{◌≡◌, ℕ, ◌+◌, ◌≤◌, ◌||◌, ◌∙◌, Bool, true, false, List, [], ◌∷◌, ◌++◌, drop, length, slice_get, refl, ap, arith, append_assoc, nat_lt, Option, Some, None}
+use Rattle.std.proofs.lemmas.List.{drop_all, drop_more}
+use Rattle.std.proofs.lemmas.Option.{slice_get_within}
+use Rattle.counting.proofs.Common.{cases_Bool, get_or_from_slice_get, list_any, nat_tests, append-nil, length-append}
 use Rattle.line_text.specs.declared.faults.FaultKind.{FaultKind}
 use Rattle.line_text.specs.declared.faults.TextFault.{TextFault}
 use Rattle.line_text.specs.declared.faults.TextFault.TheVariants as fault
@@ -32,3 +34,10 @@ longer_limit edges more all (fault.At line kind) is first = grind (arith, cases_
 
     over_longer : (edges more all : List (ℕ × ℕ)) → edges ++ more ≡ all → nat_lt 2048 (length edges) ≡ true → nat_lt 2048 (length all) ≡ true
     over_longer edges more all is over = let e = ap length is in let f = length-append edges more in grind (arith, nat_tests)
+
+-- whether a bit from place k on is set, by the bit there
+pub any_set-more : (bits : List Bool) (k : ℕ) (b : Bool) → slice_get bits k ≡ Some b → list_any (λ bit. bit) (drop k bits) ≡ (b || list_any (λ bit. bit) (drop (k + 1) bits))
+any_set-more bits k b read = ap (list_any (λ bit. bit)) (drop_more bits k false (slice_get_within bits k b read)) ∙ ap (λ (bit : Bool). bit || list_any (λ bit. bit) (drop (k + 1) bits)) (get_or_from_slice_get bits k b false read)
+
+pub any_set-end : (bits : List Bool) (k : ℕ) → length bits ≤ k → list_any (λ bit. bit) (drop k bits) ≡ false
+any_set-end bits k h = ap (list_any (λ bit. bit)) (drop_all k bits h)

@@ -1,8 +1,8 @@
 -- The chosen pairs of a column come one after the other, and so do those of the columns. Idea: the
 -- bits of a pair, or of a column, are taken off the front.
-use Rattle.std.proofs.Common.{◌≡◌, ℕ, ◌+◌, ◌-◌, ◌<◌, ◌≤◌, Bool, true, false, List, [], ◌∷◌, ◌++◌, length, drop, get_or, refl, sym, ap, ◌∙◌, arith}
-use Rattle.std.proofs.lemmas.List.{drop_all, drop_more, drop-drop, length-drop}
-use Rattle.counting.proofs.Common.{append-nil, length-append}
+use Rattle.std.proofs.Common.{◌≡◌, ℕ, ◌+◌, ◌<◌, ◌≤◌, Bool, true, false, List, [], ◌∷◌, ◌++◌, length, drop, get_or, slice_get, Some, refl, sym, ap, ◌∙◌, arith}
+use Rattle.std.proofs.lemmas.List.{drop_all, drop_more, get_or-drop, length-drop}
+use Rattle.counting.proofs.Common.{append-nil, get_or_from_slice_get, length-append}
 use Rattle.graph6_text.specs.Common.{chosen, chosen_one, column, column_pairs, pair_count}
 use Rattle.graph6_text.proofs.Choosing.{chosen-no_bits, chosen_step}
 use Rattle.graph6_text.proofs.Columns.{column_drop, column_pairs-zero, column_pairs-next, columns_front, length-column, length-column_pairs, length-next}
@@ -21,6 +21,15 @@ column_chosen_more edges before i bits h long =
     rw (column_drop i before (before + 1) h, drop_more bits i false (omega arith))
     (chosen_step edges (i + 1, before + 1) (get_or bits i false) (drop (i + 1) (column before (before + 1))) (drop (i + 1) bits))
 
+-- the same with the bit that was read, where the bits of the column begin at a place of others
+pub column_read_more : (edges : List (ℕ × ℕ)) (before i from : ℕ) (all : List Bool) (bit : Bool) → i < before → from + before ≤ length all → slice_get all (from + i) ≡ Some bit →
+    edges ++ chosen (drop i (column before (before + 1))) (drop i (drop from all)) ≡ (edges ++ chosen_one (i + 1, before + 1) bit) ++ chosen (drop (i + 1) (column before (before + 1))) (drop (i + 1) (drop from all))
+column_read_more edges before i from all bit h long read =
+    let left = length-drop from all in
+    let is : get_or (drop from all) i false ≡ bit = get_or-drop from all i false ∙ get_or_from_slice_get all (from + i) bit false read in
+    column_chosen_more edges before i (drop from all) h (omega arith)
+    ∙ ap (λ (b : Bool). (edges ++ chosen_one (i + 1, before + 1) b) ++ chosen (drop (i + 1) (column before (before + 1))) (drop (i + 1) (drop from all))) is
+
 -- where it has come to its end
 pub column_chosen_all : (edges all : List (ℕ × ℕ)) (before i : ℕ) (bits : List Bool) → before ≤ i → edges ++ chosen (drop i (column before (before + 1))) (drop i bits) ≡ all → edges ≡ all
 column_chosen_all edges all before i bits h inv =
@@ -32,26 +41,19 @@ column_chosen_all edges all before i bits h inv =
 pub columns_chosen_none : (bits : List Bool) → chosen (column_pairs 0) bits ≡ []
 columns_chosen_none bits = ap (λ (pairs : List (ℕ × ℕ)). chosen pairs bits) column_pairs-zero
 
-pub columns_rest_none : (bits : List Bool) → drop (length (column_pairs 0)) bits ≡ bits
-columns_rest_none bits = ap (λ (pairs : List (ℕ × ℕ)). drop (length pairs) bits) column_pairs-zero
-
 -- the loop over columns: one column more
 pub columns_chosen_more : (edges : List (ℕ × ℕ)) (i : ℕ) (bits rest : List Bool) → edges ≡ chosen (column_pairs i) bits → rest ≡ drop (length (column_pairs i)) bits →
     edges ++ chosen (column i (i + 1)) rest ≡ chosen (column_pairs (i + 1)) bits
 columns_chosen_more edges i bits rest is at =
     rw (is, at) (sym (chosen-append (column_pairs i) (column i (i + 1)) bits) ∙ ap (λ (pairs : List (ℕ × ℕ)). chosen pairs bits) (sym (column_pairs-next i)))
 
-pub columns_rest_more : (i : ℕ) (bits rest : List Bool) → rest ≡ drop (length (column_pairs i)) bits → drop i rest ≡ drop (length (column_pairs (i + 1))) bits
-columns_rest_more i bits rest at = ap (drop i) at ∙ drop-drop i (length (column_pairs i)) bits ∙ ap (λ (k : ℕ). drop k bits) (sym (length-next i))
-
--- the bits that are left are enough for the next column
-pub columns_long : (i n : ℕ) (bits rest : List Bool) → i < n → pair_count n ≤ length bits → rest ≡ drop (length (column_pairs i)) bits → i ≤ length rest
-columns_long i n bits rest h long at =
+-- the bits from the place of the next column on are enough for it
+pub columns_long : (i n from many : ℕ) → i < n → pair_count n ≤ many → from ≡ length (column_pairs i) → from + i ≤ many
+columns_long i n from many h long at =
     let front = columns_front (i + 1) n (omega arith) in
     let all : length (column_pairs n) ≡ length (column_pairs (i + 1)) + length front.0 = ap length front.1 ∙ length-append (column_pairs (i + 1)) front.0 in
-    let left : length rest ≡ length bits - length (column_pairs i) = ap length at ∙ length-drop (length (column_pairs i)) bits in
     let next = length-next i in
-    let many = length-column_pairs n in
+    let total = length-column_pairs n in
     omega arith
 
 -- the chosen pairs of the first columns come first

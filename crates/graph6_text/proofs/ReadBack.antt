@@ -43,7 +43,7 @@ bare : (text : List ℕ) → list_all is_digit text ≡ true → body_of text �
 unfolding body_of
 bare text h = ap without_line_end (no_header text h) ∙ no_line_end text h
 
-no_line_feed : (text : List ℕ) → list_all is_digit text ≡ true → list_any (λ byte. byte == 10) text ≡ false
+pub no_line_feed : (text : List ℕ) → list_all is_digit text ≡ true → list_any (λ byte. byte == 10) text ≡ false
 no_line_feed [] h = refl
 no_line_feed (byte ∷ text) h =
     let p = and_parts (is_digit byte) (list_all is_digit text) h in

@@ -1,7 +1,7 @@
 -- Six bits and a digit below 64 determine each other, and so do bits and the bytes that write
 -- them, six bits in each. Idea: the weights halve, so that a digit's quotients by them are known
 -- one after the other; then by induction in steps of six.
-use Rattle.std.proofs.Common.{◌≡◌, ℕ, ◌+◌, ◌*◌, ◌<◌, ◌≤◌, Bool, true, false, cond, List, [], ◌∷◌, ◌++◌, length, take, drop, get_or, refl, sym, ap, ◌∙◌, arith, inl, inr, min, append_assoc, take_at, drop_at}
+use Rattle.std.proofs.Common.{◌≡◌, ℕ, zero, suc, ◌+◌, ◌-◌, ◌/◌, ◌%◌, ◌^◌, ◌==◌, slice_get, Some, ◌*◌, ◌<◌, ◌≤◌, Bool, true, false, cond, List, [], ◌∷◌, ◌++◌, length, take, drop, get_or, refl, sym, ap, ◌∙◌, arith, inl, inr, min, append_assoc, take_at, drop_at}
 use Rattle.std.proofs.lemmas.List.{drop_more, drop_all, nil_from_length}
 use Rattle.counting.proofs.Common.{append-nil, length-append, take_all, cases_lt}
 use Rattle.graph6_text.specs.Common.{byte_of, digit_of, weights, bits_of_digit, weight_of, digit_of_bits, bits_of, bytes_of}
@@ -36,7 +36,7 @@ weighed_more bits i digit more h k inv e = let s = weight_of-drop weights bits i
 pub weighed_all : (bits : List Bool) (i digit : ℕ) → length bits ≤ i → digit + weight_of (drop i weights) (drop i bits) ≡ digit_of_bits bits → digit ≡ digit_of_bits bits
 weighed_all bits i digit h inv = grind (arith, drop_all i bits h, weight_of-nil (drop i weights))
 
--- the loop over bytes that are turned into bits
+-- the bits of no byte, and of one more
 pub bits_of-nil : bits_of [] ≡ []
 unfolding bits_of
 bits_of-nil = refl
@@ -45,12 +45,43 @@ pub bits_of-cons : (byte : ℕ) (bytes : List ℕ) → bits_of (byte ∷ bytes) 
 unfolding bits_of
 bits_of-cons byte bytes = refl
 
-pub turned_more : (bytes : List ℕ) (i : ℕ) (front more : List Bool) → i < length bytes → front ++ bits_of (drop i bytes) ≡ bits_of bytes →
-    more ≡ front ++ bits_of_digit (digit_of (get_or bytes i 0)) → more ++ bits_of (drop (i + 1) bytes) ≡ bits_of bytes
-turned_more bytes i front more h inv e = grind (arith, append_assoc, drop_more, bits_of-cons)
+-- a bit of a digit, by a shift
+bit_of_digit : (d k : ℕ) → k < 6 → slice_get (bits_of_digit d) k ≡ Some (d / 2 ^ (5 - k) % 2 == 1)
+bit_of_digit d zero h = refl
+bit_of_digit d (suc zero) h = refl
+bit_of_digit d (suc (suc zero)) h = refl
+bit_of_digit d (suc (suc (suc zero))) h = refl
+bit_of_digit d (suc (suc (suc (suc zero)))) h = refl
+bit_of_digit d (suc (suc (suc (suc (suc zero))))) h = refl
+bit_of_digit d (suc (suc (suc (suc (suc (suc k)))))) h = absurd (omega arith)
 
-pub turned_all : (bytes : List ℕ) (i : ℕ) (front : List Bool) → length bytes ≤ i → front ++ bits_of (drop i bytes) ≡ bits_of bytes → front ≡ bits_of bytes
-turned_all bytes i front h inv = sym (append-nil front) ∙ ap (λ (xs : List Bool). front ++ xs) (sym (ap bits_of (drop_all i bytes h) ∙ bits_of-nil)) ∙ inv
+-- the places of the first byte and of the others
+first_bits : (byte : ℕ) (bytes : List ℕ) (k : ℕ) → k < 6 → slice_get (bits_of (byte ∷ bytes)) k ≡ slice_get (bits_of_digit (digit_of byte)) k
+first_bits byte bytes zero h = rw (bits_of-cons byte bytes) refl
+first_bits byte bytes (suc zero) h = rw (bits_of-cons byte bytes) refl
+first_bits byte bytes (suc (suc zero)) h = rw (bits_of-cons byte bytes) refl
+first_bits byte bytes (suc (suc (suc zero))) h = rw (bits_of-cons byte bytes) refl
+first_bits byte bytes (suc (suc (suc (suc zero)))) h = rw (bits_of-cons byte bytes) refl
+first_bits byte bytes (suc (suc (suc (suc (suc zero))))) h = rw (bits_of-cons byte bytes) refl
+first_bits byte bytes (suc (suc (suc (suc (suc (suc k)))))) h = absurd (omega arith)
+
+other_bits : (byte : ℕ) (bytes : List ℕ) (k : ℕ) → slice_get (bits_of (byte ∷ bytes)) (6 + k) ≡ slice_get (bits_of bytes) k
+other_bits byte bytes k = let e : 6 + k ≡ suc (suc (suc (suc (suc (suc k))))) = omega arith in rw (e, bits_of-cons byte bytes) refl
+
+-- bit k, by the byte that has it and its place there
+pub bit_at_place : (bytes : List ℕ) (k : ℕ) → k < 6 * length bytes → slice_get (bits_of bytes) k ≡ Some (digit_of (get_or bytes (k / 6) 0) / 2 ^ (5 - k % 6) % 2 == 1)
+bit_at_place [] k h = absurd (omega arith)
+bit_at_place (byte ∷ bytes) k h = elim (cases_lt k 6) [
+  | inl l ↦
+      let q : k / 6 ≡ 0 = omega arith in
+      let r : k % 6 ≡ k = omega arith in
+      rw (q, r) (first_bits byte bytes k l ∙ bit_of_digit (digit_of byte) k l)
+  | inr l ↦
+      let e : 6 + (k - 6) ≡ k = omega arith in
+      let q : k / 6 ≡ suc ((k - 6) / 6) = omega arith in
+      let r : k % 6 ≡ (k - 6) % 6 = omega arith in
+      rw (q, r) (ap (slice_get (bits_of (byte ∷ bytes))) (sym e) ∙ other_bits byte bytes (k - 6) ∙ bit_at_place bytes (k - 6) (omega arith))
+]
 
 -- the first byte of bits, and the others
 bytes_of-step : (bits : List Bool) → 0 < length bits → bytes_of bits ≡ byte_of (digit_of_bits (take 6 bits)) ∷ bytes_of (drop 6 bits)

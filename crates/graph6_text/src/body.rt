@@ -23,6 +23,10 @@ pub fn body(text: &[u8]) -> &[u8]
 fn without_header(text: &[u8]) -> &[u8]
     ensures { result.now ≡ without_header text.now }
 {
+    // most texts show by their first byte that they have none
+    if text.is_empty() || text[0] != HEADER[0] {
+        return text;
+    }
     text.strip_prefix(HEADER).unwrap_or(text)
 }
 

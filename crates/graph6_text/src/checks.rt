@@ -28,20 +28,22 @@ pub fn check_body(body: &[u8]) -> Result<(), TextFault>
 }
 
 /// The body is not empty, has no line feed, and each of its bytes writes a digit.
+#[tactic(auto, using(crate::proofs::ReadBack::no_line_feed))]
 fn check_bytes(body: &[u8]) -> Result<(), TextFault>
     ensures { Checks result (take 3 (faults_of body.now)) }
 {
     if body.is_empty() {
         return Err(fault(FaultKind::Missing));
     }
+    // a line feed writes no digit
+    if are_digits(body) {
+        return Ok(());
+    }
     if body.contains(&b'\n') {
         let kind = FaultKind::Extra;
         return Err(TextFault::At { line: 2, kind });
     }
-    if !are_digits(body) {
-        return Err(fault(FaultKind::Range));
-    }
-    Ok(())
+    Err(fault(FaultKind::Range))
 }
 
 /// Whether each byte writes a digit.

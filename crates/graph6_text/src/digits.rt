@@ -1,7 +1,7 @@
 //! Digits of six bits, and the bytes that write them.
-ghost use Rattle.std.specs.Prelude.{◌≡◌, ◌≤◌, ◌<◌, ◌++◌, length, IfOk, OnOk, IsTrue};
+ghost use Rattle.std.specs.Prelude.{◌≡◌, ◌≤◌, ◌<◌, ◌*◌, length, slice_get, IfOk, IsTrue, Some};
 ghost use Rattle.std.specs.List.{list_all};
-ghost use Rattle.graph6_text.specs.Common.{is_digit, digit_of, bits_of_digit, digit_of_bits, bits_of, bytes_of};
+ghost use Rattle.graph6_text.specs.Common.{is_digit, digit_of_bits, bits_of, bytes_of};
 
 use std::alloc::{AllocError as Memory, Global};
 
@@ -27,26 +27,14 @@ pub fn is_digit(byte: u8) -> bool
     ZERO <= byte && byte <= LAST
 }
 
-/// The bits that bytes write, six in each.
-pub fn to_bits(alloc: Global, bytes: &[u8]) -> Result<Vec<bool>, Memory>
-    requires { IsTrue (list_all is_digit bytes.now) }
-    ensures { IfOk result (λ v. v.items ≡ bits_of bytes.now) }
+/// Bit `k` of those that bytes write, six in each, counted from 0.
+pub fn is_set(bytes: &[u8], k: usize) -> bool
+    requires digits { IsTrue (list_all is_digit bytes.now) }
+    requires within { k < 6 * length bytes.now }
+    ensures { slice_get (bits_of bytes.now) k ≡ Some result }
 {
-    let mut bits = Vec::with_capacity(alloc, bytes.len().saturating_mul(BITS))?;
-    for byte in bytes {
-        push_bits(&mut bits, *byte - ZERO)?;
-    }
-    Ok(bits)
-}
-
-/// Appends the six bits of a digit.
-fn push_bits(bits: &mut Vec<bool>, digit: u8) -> Result<(), Memory>
-    ensures { OnOk result (bits.new.items ≡ bits.old.items ++ bits_of_digit digit) }
-{
-    for weight in WEIGHTS {
-        bits.push(digit / weight % 2 == 1)?;
-    }
-    Ok(())
+    let digit = bytes[k / BITS] - ZERO;
+    (digit >> (BITS - 1 - k % BITS)) % 2 == 1
 }
 
 /// The bytes that write these bits, six in each, the last padded with zeros.

@@ -1,13 +1,14 @@
 //! Reading graph6 texts.
-ghost use Rattle.std.specs.Prelude.{◌≡◌, ◌≤◌, ◌++◌, ◌+◌, ◌<◌, [], ◌∷◌, IfOk, IfErr, Ok, OnOk, None, length, drop, take};
-ghost use Rattle.std.specs.List.{list_any};
+ghost use Rattle.std.specs.Prelude.{◌≡◌, ◌≢◌, ◌≤◌, ◌++◌, ◌+◌, ◌*◌, ◌<◌, [], ◌∷◌, IfOk, IfErr, IsTrue, Ok, OnOk, None, length, drop, take};
+ghost use Rattle.std.specs.List.{list_all, list_any};
+ghost use Rattle.counting.specs.Common.{Within};
 ghost use Rattle.line_text.specs.Common.{IsFault};
 ghost use Rattle.graph_core.specs.Common.{Graph, size, IsSimple, pair_of};
-ghost use Rattle.graph6_text.specs.Common.{chosen, chosen_one, column, column_pairs, limit_row, pair_count, Checks, IsFirstFault, outcome_of, graph_of, faults_of, first_fault, graph6_of};
+ghost use Rattle.graph6_text.specs.Common.{bits_of, chosen, chosen_one, column, column_pairs, data_len, is_digit, limit_row, pair_count, Checks, IsFirstFault, outcome_of, graph_of, faults_of, first_fault, graph6_of};
 
 use crate::body::{body, data, order};
 use crate::checks::{check_body, fault, pair_count};
-use crate::digits::to_bits;
+use crate::digits::{BITS, is_set};
 use graph_core::{Ends, MOST_EDGES, MultiGraph};
 use line_text::{FaultKind, TextFault};
 use std::alloc::Global;
@@ -48,33 +49,44 @@ fn to_graph(alloc: Global, body: &[u8]) -> Result<MultiGraph, TextFault>
     ensures fault { IfErr result (IsFirstFault (drop 9 (faults_of body.now))) }
 {
     let n = order(body);
-    let bits = to_bits(alloc, data(body))?;
-    check_filling(&bits, pair_count(n))?;
-    with_edges(alloc, n, &bits)
+    let data = data(body);
+    check_filling(data, pair_count(n))?;
+    with_edges(alloc, n, data)
 }
 
-/// No bit from place `from` on is set.
-fn check_filling(bits: &[bool], from: usize) -> Result<(), TextFault>
-    requires { from ≤ length bits.now }
+/// No bit of the data from place `from` on is set.
+fn check_filling(data: &[u8], from: usize) -> Result<(), TextFault>
+    requires digits { IsTrue (list_all is_digit data.now) }
+    requires short { length data.now ≤ data_len MOST_VERTICES }
     ensures { Checks result
-        ((list_any (λ bit. bit) (drop from bits.now), (1, FaultKind.Padding)) ∷ []) }
+        ((list_any (λ bit. bit) (drop from (bits_of data.now)), (1, FaultKind.Padding)) ∷ []) }
 {
-    if is_any_set(&bits[from..]) {
+    if is_any_set(data, from) {
         return Err(fault(FaultKind::Padding));
     }
     Ok(())
 }
 
-/// Whether a bit is set.
-fn is_any_set(bits: &[bool]) -> bool
-    ensures { result ≡ list_any (λ bit. bit) bits.now }
+/// Whether a bit of the data from place `from` on is set.
+fn is_any_set(data: &[u8], from: usize) -> bool
+    requires digits { IsTrue (list_all is_digit data.now) }
+    requires short { length data.now ≤ data_len MOST_VERTICES }
+    ensures { result ≡ list_any (λ bit. bit) (drop from (bits_of data.now)) }
 {
-    bits.iter().any(|bit| *bit)
+    for k in from..data.len() * BITS {
+        if is_set(data, k) {
+            return true;
+        }
+    }
+    false
 }
 
 /// Adds the pair if its bit is set.
 fn add_chosen(graph: &mut MultiGraph, pair: Ends, bit: bool) -> Result<(), TextFault>
-    requires { size graph.old ≤ 2048 }
+    requires first { Within graph.old.order pair.a }
+    requires second { Within graph.old.order pair.b }
+    requires different { pair.a ≢ pair.b }
+    requires size { size graph.old ≤ 2048 }
     ensures order { OnOk result (graph.new.order ≡ graph.old.order) }
     ensures ends { OnOk result (graph.new.ends ≡ graph.old.ends ++ chosen_one (pair_of pair) bit) }
     ensures size { OnOk result (size graph.new ≤ 2048) }
@@ -87,54 +99,60 @@ fn add_chosen(graph: &mut MultiGraph, pair: Ends, bit: bool) -> Result<(), TextF
     if graph.size() == MOST_EDGES {
         return Err(fault(FaultKind::Limit));
     }
-    match graph.add_edge(pair.a, pair.b) {
-        Ok(_) => Ok(()),
-        // the ends are two vertices and there is room, so only memory can fail
-        Err(_) => Err(TextFault::Memory),
-    }
+    graph.push_edge(pair)?;
+    Ok(())
 }
 
 /// Adds the pairs of a column with a set bit, which are those of a vertex with each of the vertices
-/// `before` it.
-fn add_column(graph: &mut MultiGraph, before: u32, bits: &[bool]) -> Result<(), TextFault>
-    requires few { before < MOST_VERTICES }
+/// `before` it. The bits of the column are those of the data from place `from` on.
+fn add_column(
+    graph: &mut MultiGraph,
+    before: u32,
+    data: &[u8],
+    from: usize,
+) -> Result<(), TextFault>
+    requires digits { IsTrue (list_all is_digit data.now) }
+    requires short { length data.now ≤ data_len MOST_VERTICES }
+    requires few { before < graph.old.order }
     requires size { size graph.old ≤ 2048 }
-    requires long { before ≤ length bits.now }
+    requires long { from + before ≤ 6 * length data.now }
     ensures order { OnOk result (graph.new.order ≡ graph.old.order) }
     ensures ends { OnOk result
-        (graph.new.ends ≡ graph.old.ends ++ chosen (column before (before + 1)) bits.now) }
+        (graph.new.ends ≡
+        graph.old.ends ++ chosen (column before (before + 1)) (drop from (bits_of data.now))) }
     ensures size { OnOk result (size graph.new ≤ 2048) }
     ensures limit { IfErr result
-        (IsFirstFault
-        (limit_row (graph.old.ends ++ chosen (column before (before + 1)) bits.now))) }
+        (IsFirstFault (limit_row
+        (graph.old.ends ++ chosen (column before (before + 1)) (drop from (bits_of data.now))))) }
 {
     for i in 0..before {
         let pair = Ends {
             a: i + 1,
             b: before + 1,
         };
-        add_chosen(graph, pair, bits[i as usize])?;
+        add_chosen(graph, pair, is_set(data, from + i as usize))?;
     }
     Ok(())
 }
 
 /// The graph of `n` vertices whose edges are the pairs with a set bit.
-#[tactic(auto, using(crate::proofs::ChosenColumns::columns_long))]
-fn with_edges(alloc: Global, n: u32, bits: &[bool]) -> Result<MultiGraph, TextFault>
+fn with_edges(alloc: Global, n: u32, data: &[u8]) -> Result<MultiGraph, TextFault>
+    requires digits { IsTrue (list_all is_digit data.now) }
+    requires short { length data.now ≤ data_len MOST_VERTICES }
     requires few { n ≤ MOST_VERTICES }
-    requires long { pair_count n ≤ length bits.now }
+    requires long { pair_count n ≤ 6 * length data.now }
     ensures graph { IfOk result
-        (λ g. g ≡ record { order = n; ends = chosen (column_pairs n) bits.now }) }
+        (λ g. g ≡ record { order = n; ends = chosen (column_pairs n) (bits_of data.now) }) }
     ensures within { OnOk result
-        (first_fault (limit_row (chosen (column_pairs n) bits.now)) ≡ None) }
+        (first_fault (limit_row (chosen (column_pairs n) (bits_of data.now))) ≡ None) }
     ensures limit { IfErr result
-        (IsFirstFault (limit_row (chosen (column_pairs n) bits.now))) }
+        (IsFirstFault (limit_row (chosen (column_pairs n) (bits_of data.now)))) }
 {
     let mut graph = MultiGraph::new(alloc, n)?;
-    let mut rest = bits;
+    let mut from = 0;
     for i in 0..n {
-        add_column(&mut graph, i, rest)?;
-        rest = &rest[i as usize..];
+        add_column(&mut graph, i, data, from)?;
+        from += i as usize;
     }
     Ok(graph)
 }

@@ -20,6 +20,7 @@ pub mod TwoSides
 pub mod OneVertexLess
 pub mod FoundVertices
 pub mod FoundComponents
+pub mod FloodedComponents
 pub mod Merging
 pub mod SameBlocks
 pub mod MergeOrder

@@ -9,7 +9,7 @@ ghost use Rattle.graph_core.specs.Rows.{AreRows};
 ghost use Rattle.graph_core.specs.View.{graph_of, IsKept, IsWithinLimits};
 
 use crate::neighbours::join;
-use crate::search::grow_forest;
+use crate::search::{grow_forest, parts_without};
 use crate::sides::sides_by_depth;
 use crate::{AddFault, Ends, SetList, Sides};
 use std::alloc::{AllocError as Memory, Global};
@@ -22,7 +22,7 @@ pub const MOST_EDGES: u32 = 2048;
 /// A finite undirected multigraph without loops, with at most `MOST_VERTICES` vertices and
 /// `MOST_EDGES` edges. Vertices and edges are numbered from 1; parallel edges are different edges.
 /// Contracts see it as its order and its list of ends. It also keeps the set of neighbours of each
-/// vertex, which only `add_edge` changes.
+/// vertex, which only `push_edge` changes.
 #[derive(Drop)]
 pub struct MultiGraph {
     order: u32,
@@ -106,8 +106,8 @@ impl MultiGraph {
     pub fn components(&self, alloc: Global) -> Result<u32, Memory>
         ensures { IfOk result (λ found. found ≡ component_count self.now none) }
     {
-        let forest = grow_forest(alloc, &self.rows, VSet::empty())?;
-        Ok(forest.parts.len() as u32)
+        let parts = parts_without(alloc, &self.rows, VSet::empty())?;
+        Ok(parts.len() as u32)
     }
 
     /// The components of G - `set`, by least vertex. Takes O(n) steps on words; the only error is
@@ -115,8 +115,7 @@ impl MultiGraph {
     pub fn components_without(&self, alloc: Global, set: VSet) -> Result<SetList, Memory>
         ensures { IfOk result (λ found. found ≡ components self.now (mem set)) }
     {
-        let forest = grow_forest(alloc, &self.rows, set)?;
-        Ok(forest.parts)
+        parts_without(alloc, &self.rows, set)
     }
 
     /// Whether the graph is bipartite, with a certificate: `Even` comes if and only if it is, with
@@ -180,10 +179,7 @@ impl MultiGraph {
         if self.edges.len() >= MOST_EDGES as usize {
             return Err(AddFault::TooMany);
         }
-        self.edges
-            .push(Ends { a, b })
-            .map_err(|_| AddFault::Memory)?;
-        join(&mut self.rows, a, b);
+        self.push_edge(Ends { a, b }).map_err(|_| AddFault::Memory)?;
         Ok(self.edges.len() as u32)
     }
 
@@ -197,12 +193,8 @@ impl MultiGraph {
         ensures ok { OnOk result (self.new ≡ with_edge self.old edge.a edge.b) }
         ensures err { OnErr result (self.new ≡ self.old) }
     {
-        match self.add_edge(edge.a, edge.b) {
-            Ok(_) => Ok(()),
-            Err(AddFault::Memory) => Err(Memory),
-            Err(AddFault::Range) => unreachable!(),
-            Err(AddFault::Loop) => unreachable!(),
-            Err(AddFault::TooMany) => unreachable!(),
-        }
+        self.edges.push(edge)?;
+        join(&mut self.rows, edge.a, edge.b);
+        Ok(())
     }
 }

@@ -6,7 +6,7 @@ ghost use Rattle.graph_core.specs.Common.{components, Graph, IsGraph, IsGrown, n
 use crate::SetList;
 use crate::tree::TreeNode;
 use std::alloc::{AllocError as Memory, Global};
-use vset_core::{MOST_VERTICES, VSet};
+use vset_core::{MOST_VERTICES, VSet, flooded};
 
 /// Hangs `v` on `parent`.
 fn hang(nodes: &mut [TreeNode], v: u32, parent: u32)
@@ -81,7 +81,7 @@ fn search(
     ensures trees { OnOk result
         ((g : Graph) → IsGraph g → AreRows g rows.now → AreTrees g (mem removed) nodes.new) }
 {
-    let mut parts = SetList::new(alloc);
+    let mut parts = Vec::with_capacity(alloc, rows.len())?;
     let mut left = VSet::full(rows.len() as u32).minus(removed);
     'searching: while let Some(least) = left.first() {
         let rest = grow(rows, nodes, left, least);
@@ -90,7 +90,7 @@ fn search(
         parts.push(part)?;
         left = rest;
     }
-    Ok(parts)
+    Ok(SetList::from_items(parts))
 }
 
 /// What a search finds: the components by least vertex, and for each vertex its place in the
@@ -118,4 +118,23 @@ pub(crate) fn grow_forest(alloc: Global, rows: &[VSet], removed: VSet) -> Result
     let mut nodes = vec![in alloc; unplaced; rows.len()]?;
     let parts = search(alloc, rows, &mut nodes, removed)?;
     Ok(Forest { parts, nodes })
+}
+
+/// The components of G - `removed`, by least vertex, where G has these rows: each is flooded from
+/// its least vertex.
+pub(crate) fn parts_without(alloc: Global, rows: &[VSet], removed: VSet) -> Result<SetList, Memory>
+    requires few { length rows.now ≤ MOST_VERTICES }
+    requires graph { (g : Graph) × IsGraph g × AreRows g rows.now }
+    ensures { IfOk result (λ parts. (g : Graph) → IsGraph g → AreRows g rows.now →
+        parts ≡ components g (mem removed)) }
+{
+    let mut parts = Vec::with_capacity(alloc, rows.len())?;
+    let mut left = VSet::full(rows.len() as u32).minus(removed);
+    'flooding: while let Some(least) = left.first() {
+        let part = flooded(rows, left, VSet::one(least), VSet::empty()).found;
+        part.rises();
+        parts.push(part)?;
+        left = left.minus(part);
+    }
+    Ok(SetList::from_items(parts))
 }

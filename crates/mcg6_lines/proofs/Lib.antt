@@ -12,3 +12,4 @@ pub mod Counts
 pub mod MissedVertices
 pub mod OneStanding
 pub mod OneAnswer
+pub mod DecimalSteps

@@ -1,9 +1,11 @@
 //! The line of `kinds`.
-ghost use Rattle.std.specs.Prelude.{◌≡◌, IfOk, Ok, string_bytes};
+ghost use Rattle.std.specs.Prelude.{◌≡◌, ◌++◌, ℕ, List, IfOk, Ok, OnOk, codes};
+ghost use Rattle.std.specs.Fmt.{decimal};
 ghost use Rattle.graph6_text.specs.Common.{outcome_of};
-ghost use Rattle.mcg6_lines.specs.KindLines.{IsKindLine, TellsStanding, standing_words, words_after};
+ghost use Rattle.mcg6_lines.specs.KindLines.{IsKindLine, TellsStanding, standing_words};
 ghost use Rattle.mcg6_lines.specs.Standings.{Structured, Uncovered};
 
+use crate::decimals::push_decimal;
 use crate::standings::Standing;
 use graph_core::{Kind, MultiGraph, Reason};
 use graph6_text::bare_text;
@@ -11,7 +13,7 @@ use report_text::{kind_word, reason_word, yes_or_no};
 use std::alloc::{AllocError as Memory, Global};
 use tree_core::Tally;
 
-// Room for the longest words, which are then written into one piece of memory.
+// Room for the longest words, so that the line is written into one piece of memory.
 const WORDS_ROOM: usize = 56;
 
 /// The line of the graph that stands in a line: its graph6 text, the numbers of its vertices and
@@ -21,64 +23,72 @@ pub fn kind_line(alloc: Global, g: &MultiGraph, text: &[u8]) -> Result<Vec<u8>, 
     requires { outcome_of text.now ≡ Ok g.now }
     ensures { IfOk result (λ line. IsKindLine g.now line.items) }
 {
-    let standing = standing_words(alloc, g)?;
-    let words = words_after(alloc, g, standing.as_str())?;
-    let mut line = Vec::with_capacity(alloc, text.len().saturating_add(words.len()))?;
+    let mut line = Vec::with_capacity(alloc, text.len().saturating_add(WORDS_ROOM))?;
     line.extend_from_slice(bare_text(text))?;
-    line.extend_from_slice(words.as_bytes())?;
+    push_number(&mut line, g.order())?;
+    push_number(&mut line, g.size())?;
+    push_standing(alloc, &mut line, g)?;
+    line.push(b'\n')?;
     Ok(line)
 }
 
-// The words after the graph6 text, with those on the standing of the graph.
-fn words_after(alloc: Global, g: &MultiGraph, standing: &str) -> Result<String, Memory>
-    ensures { IfOk result (λ words. string_bytes words ≡ words_after g.now standing.now) }
-{
-    let order = g.order();
-    let size = g.size();
-    let mut words = String::with_capacity(alloc, WORDS_ROOM)?;
-    write!(words, " {order} {size} {standing}\n")?;
-    Ok(words)
-}
-
-// The words on the standing of the graph.
-fn standing_words(alloc: Global, g: &MultiGraph) -> Result<String, Memory>
-    ensures { IfOk result (λ words. TellsStanding g.now (string_bytes words)) }
+// Appends a space and the words on the standing of the graph.
+fn push_standing(alloc: Global, line: &mut Vec<u8>, g: &MultiGraph) -> Result<(), Memory>
+    ensures { OnOk result ((words : List ℕ) × TellsStanding g.now words ×
+        (line.new.items ≡ line.old.items ++ codes " " ++ words)) }
 {
     match Standing::of(alloc, g)? {
-        Standing::Uncovered { reason, deficiency } => uncovered_words(alloc, &reason, deficiency),
+        Standing::Uncovered { reason, deficiency } => push_uncovered(line, &reason, deficiency),
         Standing::Structured {
             kind,
             tally,
             bicritical,
-        } => structure_words(alloc, &kind, tally, bicritical),
+        } => push_structure(line, &kind, tally, bicritical),
     }
 }
 
-// The words on a graph that is not covered for this reason, and of this deficiency.
-fn uncovered_words(alloc: Global, reason: &Reason, deficiency: u32) -> Result<String, Memory>
-    ensures { IfOk result
-        (λ words. string_bytes words ≡ standing_words (Uncovered reason.now deficiency)) }
+// Appends a space and the words on a graph that is not covered for this reason, and of this
+// deficiency.
+fn push_uncovered(line: &mut Vec<u8>, reason: &Reason, deficiency: u32) -> Result<(), Memory>
+    ensures { OnOk result (line.new.items ≡
+        line.old.items ++ codes " " ++ standing_words (Uncovered reason.now deficiency)) }
 {
-    let word = reason_word(reason);
-    let mut words = String::with_capacity(alloc, WORDS_ROOM)?;
-    write!(words, "uncovered {word} {deficiency}")?;
-    Ok(words)
+    push_word(line, "uncovered")?;
+    push_word(line, reason_word(reason))?;
+    push_number(line, deficiency)
 }
 
-// The words on a covered graph of this kind, with its leaves counted so, and bicritical or not.
-fn structure_words(
-    alloc: Global,
+// Appends a space and the words on a covered graph of this kind, with its leaves counted so, and
+// bicritical or not.
+fn push_structure(
+    line: &mut Vec<u8>,
     kind: &Kind,
     tally: Tally,
     bicritical: bool,
-) -> Result<String, Memory>
-    ensures { IfOk result
-        (λ words. string_bytes words ≡ standing_words (Structured kind.now tally bicritical)) }
+) -> Result<(), Memory>
+    ensures { OnOk result (line.new.items ≡
+        line.old.items ++ codes " " ++ standing_words (Structured kind.now tally bicritical)) }
 {
-    let word = kind_word(kind);
     let Tally { bricks, braces, .. } = tally;
-    let answer = yes_or_no(bicritical);
-    let mut words = String::with_capacity(alloc, WORDS_ROOM)?;
-    write!(words, "{word} {bricks} {braces} bicritical {answer}")?;
-    Ok(words)
+    push_word(line, kind_word(kind))?;
+    push_number(line, bricks)?;
+    push_number(line, braces)?;
+    push_word(line, "bicritical")?;
+    push_word(line, yes_or_no(bicritical))
+}
+
+// Appends a space and a word.
+fn push_word(line: &mut Vec<u8>, word: &str) -> Result<(), Memory>
+    ensures { OnOk result (line.new.items ≡ line.old.items ++ codes " " ++ word.now) }
+{
+    line.push(b' ')?;
+    line.extend_from_slice(word.as_bytes())
+}
+
+// Appends a space and a number.
+fn push_number(line: &mut Vec<u8>, n: u32) -> Result<(), Memory>
+    ensures { OnOk result (line.new.items ≡ line.old.items ++ codes " " ++ decimal n) }
+{
+    line.push(b' ')?;
+    push_decimal(line, n)
 }

@@ -18,6 +18,7 @@
 #![tactic(auto)]
 
 mod bicritical;
+mod decimals;
 mod deficiencies;
 mod elementary_lines;
 mod kind_lines;

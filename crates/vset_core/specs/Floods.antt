@@ -1,5 +1,5 @@
 -- What a search finds that goes along rows of sets and stays in a set of vertices.
--- Stated by: vset_core, matching_digraph. Used by: separation_kit.
+-- Stated by: vset_core, matching_digraph. Used by: graph_core, separation_kit.
 use Rattle.std.specs.Prelude.{◌≡◌, ℕ, Bool, true, List}
 use Rattle.counting.specs.Common.{Set, item, mem}
 

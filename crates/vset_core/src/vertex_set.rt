@@ -187,10 +187,15 @@ impl VSet {
         ensures within { IfSome result (λ p. Within MOST_VERTICES p.0) }
         ensures none { IfNone result (self ≡ []) }
     {
-        let v = self.first()?;
-        let others = self.without(v);
-        self.rises();
-        others.rises();
+        let word = self.word;
+        if word == 0 {
+            return None;
+        }
+        let v = word.trailing_zeros() + 1;
+        // less 1, the word has a zero at its lowest one, and the same bits above it
+        let others = VSet {
+            word: word & (word - 1),
+        };
         Some((v, others))
     }
 }

@@ -9,7 +9,7 @@ use Rattle.graph_core.proofs.search.search.Goals as goal
 
 pub searching-init : goal.searching-init
 searching-init c = λ g is are.
-    subst (λ parts. IsStage g (mem c.args.removed) (mem c.minus-left.result) parts (parent_at c.args.nodes.now) (depth_at c.args.nodes.now)) (sym c.new-parts.ensures)
+    subst (λ parts. IsStage g (mem c.args.removed) (mem c.minus-left.result) parts (parent_at c.args.nodes.now) (depth_at c.args.nodes.now)) (sym c.in_ok-parts.ensures.items)
     (stage_start g (mem c.args.removed) is (mem c.minus-left.result) (parent_at c.args.nodes.now) (depth_at c.args.nodes.now)
     (λ v l. let p = and_parts (mem c.full.result v) (not (mem c.args.removed v)) (sym (c.minus-left.ensures v) ∙ l) in
     let w = (c.full.ensures.members v).0 p.0 in let e = are.one_each in ((omega arith, omega arith), not-true (mem c.args.removed v) p.1))
@@ -29,8 +29,8 @@ pub searching-preserved : goal.searching-preserved
 searching-preserved c = λ g is are.
     let old = c.searching.invariant g is are in
     let grown = c.grow-rest.ensures.grown g is are in
-    subst (λ parts. IsStage g (mem c.args.removed) (mem c.grow-rest.result) parts (parent_at c.grow-rest.new.nodes) (depth_at c.grow-rest.new.nodes)) (sym c.in_ok-push.ensures.ok)
-    (stage_step g (mem c.args.removed) is (mem c.searching.left) (mem c.grow-rest.result) c.searching.parts c.minus-part.result
+    subst (λ parts. IsStage g (mem c.args.removed) (mem c.grow-rest.result) parts (parent_at c.grow-rest.new.nodes) (depth_at c.grow-rest.new.nodes)) (sym c.in_ok-push.ensures.items)
+    (stage_step g (mem c.args.removed) is (mem c.searching.left) (mem c.grow-rest.result) c.searching.parts.items c.minus-part.result
     (parent_at c.searching.nodes) (parent_at c.grow-rest.new.nodes) (depth_at c.searching.nodes) (depth_at c.grow-rest.new.nodes) c.in-Some.least old
     c.in-Some.ensures.some.member c.in-Some.ensures.some.before grown.smaller grown.taken grown.tree
     (λ v w out. let e = c.grow-rest.ensures.kept v (let n = are.one_each in omega arith) out in (ap (λ (node : TreeNode). node.parent) e, ap (λ (node : TreeNode). node.depth) e))
@@ -39,8 +39,8 @@ searching-preserved c = λ g is are.
 
 pub returns-clause-parts : goal.returns-clause-parts
 returns-clause-parts c = λ g is are.
-    (stage_end g (mem c.args.removed) is (mem c.searching.left) c.searching.parts (parent_at c.searching.nodes) (depth_at c.searching.nodes) (c.searching.invariant g is are) (λ v. ap (λ xs. mem xs v) c.in_default.ensures.none)).0
+    c.from_items.ensures ∙ (stage_end g (mem c.args.removed) is (mem c.searching.left) c.searching.parts.items (parent_at c.searching.nodes) (depth_at c.searching.nodes) (c.searching.invariant g is are) (λ v. ap (λ xs. mem xs v) c.in_default.ensures.none)).0
 
 pub returns-clause-trees : goal.returns-clause-trees
 returns-clause-trees c = λ g is are.
-    (stage_end g (mem c.args.removed) is (mem c.searching.left) c.searching.parts (parent_at c.searching.nodes) (depth_at c.searching.nodes) (c.searching.invariant g is are) (λ v. ap (λ xs. mem xs v) c.in_default.ensures.none)).1
+    (stage_end g (mem c.args.removed) is (mem c.searching.left) c.searching.parts.items (parent_at c.searching.nodes) (depth_at c.searching.nodes) (c.searching.invariant g is are) (λ v. ap (λ xs. mem xs v) c.in_default.ensures.none)).1

@@ -1,7 +1,8 @@
-use Rattle.std.proofs.Common.{◌≡◌, ℕ, ◌∙◌, length, List, [], arith}
+use Rattle.std.proofs.Common.{◌≡◌, ℕ, ◌∙◌, ap, length, List, [], arith}
 use Rattle.counting.proofs.Common.{mem, none}
 use Rattle.graph_core.specs.Common.{component_count, components, Graph, IsGraph, AreRows, graph_of}
 use Rattle.graph_core.proofs.Components.{component_count_le, length-components}
+use Rattle.graph_core.proofs.graph.MultiGraph.components.Goals.{After-len}
 use Rattle.graph_core.proofs.graph.MultiGraph.components.Goals as goal
 
 -- the list of the components is as long as there are components
@@ -9,12 +10,17 @@ as_long : (g : Graph) (rows kept parts : List (List ℕ)) (removed : List ℕ) �
     ((g : Graph) → IsGraph g → AreRows g rows → parts ≡ components g (mem removed)) → length parts ≡ component_count g none
 as_long g rows kept parts removed is are same empty found = grind (arith, length-components g none)
 
+counted : (c : After-len) → c.len.result ≡ component_count (graph_of c.self.inside.order c.self.inside.edges.items) none
+counted c =
+    let g = graph_of c.self.inside.order c.self.inside.edges.items in
+    c.len.ensures ∙ as_long g c.deref.result.now c.self.inside.rows.items c.in_ok-parts.parts c.empty.result c.self.invariant.limits.multigraph.ends c.self.invariant.neighbours c.deref.ensures.value c.empty.ensures c.in_ok-parts.ensures
+
 pub overflow_cast-result : goal.overflow_cast-result
 overflow_cast-result c =
     let g = graph_of c.self.inside.order c.self.inside.edges.items in
-    let e = c.len.ensures ∙ as_long g c.deref.result.now c.self.inside.rows.items c.in_ok-forest.forest.parts c.empty.result c.self.invariant.limits.multigraph.ends c.self.invariant.neighbours c.deref.ensures.value c.empty.ensures c.in_ok-forest.ensures.parts in
+    let e = counted ((goal.at.overflow_cast-result c).After-len) in
     let few = component_count_le g none in
     let n = c.self.invariant.limits.vertices in omega arith
 
 pub returns : goal.returns
-returns c = grind (arith, as_long)
+returns c = counted ((goal.at.returns c).After-len) ∙ ap (λ (g : Graph). component_count g none) c.self.view_is
