@@ -1,7 +1,7 @@
 -- Where the search branches: from an outer vertex it reaches one that is left, and neither outer
 -- nor inner. The rows have room for the branch, the forest holds again, and the search is one
 -- step nearer to its end.
-use Rattle.std.proofs.Common.{◌≡◌, ◌≢◌, ℕ, ◌+◌, ◌-◌, ◌*◌, ◌≤◌, ◌<◌, true, false, ◌==◌, arith, not, ◌&&◌, ◌||◌, List, [], length}
+use Rattle.std.proofs.Common.{◌≡◌, ◌≢◌, ℕ, ◌+◌, ◌-◌, ◌*◌, ◌<◌, true, false, ◌==◌, arith, not, ◌&&◌, ◌||◌, List, [], length}
 use Rattle.counting.proofs.Common.{both_ways, false_from_ne_true, Within, count, Set, mem}
 use Rattle.graph_core.proofs.Common.{Graph}
 use Rattle.match_search.specs.Common.{HasBranched, HoldsAlternating, HoldsMatching, AreNear, Touches, numbers}
@@ -9,17 +9,14 @@ use Rattle.match_search.specs.declared.instance.Instance.{Instance}
 use Rattle.match_search.specs.declared.alternating.AlternatingForest.{AlternatingForest}
 use Rattle.match_search.proofs.Instances.{left_parts}
 use Rattle.match_search.proofs.ParentForests.{branch_holds, branch_mate, oz}
-use Rattle.match_search.proofs.Reaching.{branch_less, pairs_few, reach_parts, unmet}
+use Rattle.match_search.proofs.Reaching.{branch_less, reach_parts, unmet}
 
 -- the numbers of a branch from x by y to the mate of y are within the rows
 pub record FitsBranch (mate : List ℕ) (t : AlternatingForest) (x y : ℕ) : Type 0 where
   pub y_mate : y < length mate
-  pub x_in : x < length t.pairs.items
   pub y_in : y < length t.parent.items
-  pub z_in : numbers mate y < length t.pairs.items
   pub y_vertex : Within 128 y
   pub z_vertex : Within 128 (numbers mate y)
-  pub shallow : numbers t.pairs.items x ≤ 128
 
 module _ (s : Instance) (mate : List ℕ) (t : AlternatingForest) (x y : ℕ) (met near reach both : List ℕ) (ox : mem t.outer x ≡ true)
     (met_is : AreNear s x met) (near_is : (v : ℕ) → mem near v ≡ (mem met v && not (x == v))) (reach_is : (v : ℕ) → mem reach v ≡ (mem near v && not (mem t.inner v)))
@@ -38,7 +35,7 @@ module _ (s : Instance) (mate : List ℕ) (t : AlternatingForest) (x y : ℕ) (m
   z_in_graph = (branch_mate g r f s mate is t holds x y ox parts.0 parts.1 parts.2 oy parts.3).0
 
   pub fits_branch : FitsBranch mate t x y
-  fits_branch = grind (arith, y_in_graph, z_in_graph, pairs_few g r f mate t holds x ox)
+  fits_branch = grind (arith, y_in_graph, z_in_graph)
 
   pub holds_branched : (h : AlternatingForest) → HasBranched t h x y (numbers mate y) → HoldsAlternating g r f mate h
   holds_branched = branch_holds g r f s mate is t holds x y ox parts.0 parts.1 parts.2 oy parts.3

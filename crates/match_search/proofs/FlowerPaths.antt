@@ -3,26 +3,27 @@
 use Rattle.std.proofs.Common.{◌≡◌, ◌≢◌, ◌↔◌, ℕ, zero, suc, ◌+◌, ◌≤◌, true, refl, sym, ap, ◌∙◌, arith, inl, inr, not, ◌||◌, ◌==◌, subst, List}
 use Rattle.counting.proofs.Common.{both_ways, cases_eq, odd-double, is_odd, Set, mem}
 use Rattle.graph_core.proofs.Common.{Graph}
-use Rattle.match_search.specs.Common.{HoldsAlternating, GoesOver, flipped_over, with_pair, numbers}
+use Rattle.match_search.specs.Common.{HoldsAlternating, GoesOver, IsBeyond, numbers}
 use Rattle.match_search.specs.declared.alternating.AlternatingForest.{AlternatingForest}
 use Rattle.match_search.proofs.ClosingEdges.{low}
 use Rattle.match_search.proofs.PathsUp.{grandparent, up_parts}
 
--- what a walk has met, with two vertices more
-pub path_more : (p : ℕ → ℕ) (old new top inner at : ℕ) (path after : List ℕ) → old ≡ suc (suc new) → old ≤ top → p (suc new) ≡ inner → p new ≡ at → ((v : ℕ) → mem after v ≡ ((mem path v || inner == v) || at == v))
-    → ((v : ℕ) → (mem path v ≡ true) ↔ ((j : ℕ) × (old ≤ j) × (j ≤ top) × (p j ≡ v))) → (v : ℕ) → (mem after v ≡ true) ↔ ((j : ℕ) × (new ≤ j) × (j ≤ top) × (p j ≡ v))
-path_more p old new top inner at path after low fits at_inner at_new after_is path_is v = grind arith
+-- the outer vertices that a walk has met, with one more
+pub outer_more : (p : ℕ → ℕ) (old new top at : ℕ) (path after : List ℕ) → old ≡ suc new → old ≤ top → p (new + new) ≡ at → ((v : ℕ) → mem after v ≡ (mem path v || at == v))
+    → ((v : ℕ) → (mem path v ≡ true) ↔ ((s : ℕ) × (old ≤ s) × (s ≤ top) × (p (s + s) ≡ v))) → (v : ℕ) → (mem after v ≡ true) ↔ ((s : ℕ) × (new ≤ s) × (s ≤ top) × (p (s + s) ≡ v))
+outer_more p old new top at path after low fits at_new after_is path_is v = grind arith
 
--- one more pair exchanged
-pub flip_more : (mate v old new : ℕ → ℕ) (s more n at inner : ℕ) → more ≡ suc s → v (s + s) ≡ at → v (suc (s + s)) ≡ inner → ((u : ℕ) → old u ≡ flipped_over mate v more n u) → ((u : ℕ) → new u ≡ with_pair old at inner u) → (u : ℕ) → new u ≡ flipped_over mate v s (n + 1) u
-flip_more mate v old new s more n at inner up at_is inner_is old_is new_is u = grind arith
+-- the vertices after the one that a walk has reached, with two more
+pub way_more : (p : ℕ → ℕ) (old new top inner at : ℕ) (way after : List ℕ) → old ≡ suc (suc new) → old ≤ top + top → p old ≡ at → p (suc new) ≡ inner → ((v : ℕ) → mem after v ≡ ((mem way v || at == v) || inner == v))
+    → ((v : ℕ) → (mem way v ≡ true) ↔ IsBeyond p old top v) → (v : ℕ) → (mem after v ≡ true) ↔ IsBeyond p new top v
+way_more p old new top inner at way after low fits at_is inner_is after_is way_is v = grind arith
 
 module _ (g : Graph) (r f : Set) (mate : List ℕ) (t : AlternatingForest) (h : HoldsAlternating g r f mate t) where
   abbrev pairs : ℕ → ℕ
-  pairs = numbers t.pairs.items
+  pairs = h.k
 
   -- one step up
-  module _ (x u : ℕ) (o : mem t.outer u ≡ true) (n : pairs u ≢ 0) (over : GoesOver t h.v u x) where
+  module _ (x u : ℕ) (o : mem t.outer u ≡ true) (n : pairs u ≢ 0) (over : GoesOver pairs h.v u x) where
     abbrev up : ℕ
     up = grandparent g r f mate t h u o n
 
@@ -32,7 +33,7 @@ module _ (g : Graph) (r f : Set) (mate : List ℕ) (t : AlternatingForest) (h : 
     pub up_pairs : pairs u ≡ suc (pairs up)
     up_pairs = (up_parts g r f mate t h u o n).1
 
-    pub up_over : GoesOver t h.v up x
+    pub up_over : GoesOver pairs h.v up x
     up_over j l = let q = up_pairs in sym ((up_parts g r f mate t h u o n).3 j l) ∙ over j (omega arith)
 
     pub up_at : h.v x (pairs up + pairs up) ≡ up
@@ -43,10 +44,10 @@ module _ (g : Graph) (r f : Set) (mate : List ℕ) (t : AlternatingForest) (h : 
 
   -- an outer vertex on a path: at its end, or on the path of the vertex two places before
   abbrev pub Passed : ℕ → ℕ → ℕ → Type 0
-  Passed x b j = (j ≡ pairs b + pairs b) × GoesOver t h.v b x
+  Passed x b j = (j ≡ pairs b + pairs b) × GoesOver pairs h.v b x
 
   at_end : (x b j : ℕ) → mem t.outer x ≡ true → h.v x j ≡ b → j ≡ pairs x + pairs x → Passed x b j
-  at_end x b j ox e q = let same : x ≡ b = sym (h.forest.last x ox) ∙ ap (h.v x) (sym q) ∙ e in (q ∙ ap (λ k. pairs k + pairs k) same, subst (λ k. GoesOver t h.v k x) same (λ i li. refl))
+  at_end x b j ox e q = let same : x ≡ b = sym (h.forest.last x ox) ∙ ap (h.v x) (sym q) ∙ e in (q ∙ ap (λ k. pairs k + pairs k) same, subst (λ k. GoesOver pairs h.v k x) same (λ i li. refl))
 
   deeper : (n x b j : ℕ) → pairs x ≤ suc n → mem t.outer x ≡ true → mem t.outer b ≡ true → j ≤ pairs x + pairs x → h.v x j ≡ b → j ≢ pairs x + pairs x → ((y : ℕ) → pairs y ≤ n → mem t.outer y ≡ true → j ≤ pairs y + pairs y → h.v y j ≡ b → Passed y b j) → Passed x b j
   deeper n x b j few ox ob l e q below =

@@ -1,24 +1,26 @@
--- A matching that misses one vertex: its exposed vertex is the root, and after the shrinking of a
--- blossom the base is. No step enlarges it, so two closing paths meet, and the frame of the shrunk
--- graph is one of the graph with the blossom among the outer vertices.
-use Rattle.std.proofs.Common.{◌≡◌, ℕ, ◌<◌, Bool, true, false, refl, sym, ap, ap₂, ◌∙◌, arith, inl, inr, not, ◌&&◌, ◌||◌, ◌==◌, subst, subst₂, eq-eqb, eqb-true, ne_eqb, List, [], ◌∷◌, length, Option, None}
-use Rattle.counting.proofs.Common.{fun_ext, and_from, and_parts, count_congr, count_of_one, cases_eq, false_from_ne_true, or_cases, only_one, or_false, Within, bit, count, Set, mem, none, union}
-use Rattle.graph_core.proofs.Common.{missed_edges, Graph, IsGraph, IsMatching, degree, size, missed_count}
-use Rattle.match_search.specs.Common.{AreExposed, HoldsMatching, IsForest, IsGrownForest, HasOuter, HoldsFlower, HoldsRooted, Frame, IsMissableRow, listed, numbers, IsShrinking}
+-- A matching that misses one vertex: its exposed vertex is the root. A blossom of its forest is
+-- shrunk: the forest grows on in the shrunk graph, and the frame of this graph is one of the graph,
+-- with the blossom among the outer vertices.
+use Rattle.std.proofs.Common.{◌≡◌, ◌≢◌, ℕ, suc, ◌<◌, Bool, true, false, sym, ap, ap₂, ◌∙◌, arith, inl, inr, not, ◌&&◌, ◌||◌, ◌==◌, refl, subst, eq-eqb, eqb-true, ne_eqb, List, [], ◌∷◌, length, Option, None}
+use Rattle.counting.proofs.Common.{fun_ext, and_from, and_parts, count_congr, count_of_one, cases_eq, false_from_ne_true, not-true, or_cases, or_left, or_right, only_one, or_false, true≢false, Within, count, Set, mem, none}
+use Rattle.graph_core.proofs.Common.{Graph, degree, size, missed_count}
+use Rattle.match_search.specs.Common.{AreExposed, GrowsForest, HasContracted, HasMates, HasRestarted, HoldsAlternating, HoldsForest, HoldsMatching, IsGrownForest, IsInstance, IsSettled, HasOuter, HoldsFlower, HoldsRooted, Frame, IsMissableRow, Touches, numbers, IsShrinking}
 use Rattle.match_search.specs.declared.flower.Flower.{Flower}
 use Rattle.match_search.specs.declared.alternating.AlternatingForest.{AlternatingForest}
 use Rattle.match_search.specs.declared.growing.Adjacent.{Adjacent}
 use Rattle.match_search.specs.declared.instance.Instance.{Instance}
 use Rattle.match_search.proofs.AugmentedMates.{left_is}
-use Rattle.match_search.proofs.BlossomMates.{H, rs, below_mates, below_size, cr, cw, cz, downs, graph, halves, near_sets, pulls, wz}
-use Rattle.match_search.proofs.ClosingPairs.{cycle_missed}
-use Rattle.match_search.proofs.Forests.{final_frame, first_outer, forest_start, turned}
+use Rattle.match_search.proofs.FlowerSteps.{below_edges, below_graph, below_removed, fewer_below, forest_below, frame_all, frame_wider, graph_below, mates_below, member_in, missed_below, pulls}
+use Rattle.match_search.proofs.Forests.{mates_of}
+use Rattle.match_search.proofs.ForestWalks.{has_pairs}
 use Rattle.match_search.proofs.Instances.{left_from, left_parts}
-use Rattle.match_search.proofs.LongerPaths.{end_within}
-use Rattle.match_search.proofs.MateSteps.{opened_holds, opened_less}
-use Rattle.match_search.proofs.ParentForests.{done_frame}
+use Rattle.match_search.proofs.MatePairs.{mate_back}
+use Rattle.match_search.proofs.MateSteps.{left_count}
+use Rattle.match_search.proofs.ParentForests.{done_frame, roots_grow}
 use Rattle.match_search.proofs.SameMates.{mates_degree}
-use Rattle.match_search.proofs.ShrunkFrames.{complement_size, frame_up}
+use Rattle.match_search.proofs.ShrunkForests.{IsContracted}
+use Rattle.match_search.proofs.ShrunkInstances.{shrunk_instance}
+use Rattle.match_search.proofs.WalkedForests.{IsWalked, held_from, walked_of}
 
 -- a vertex that is left and exposed is the root
 module _ (g : Graph) (r f : Set) (s : Instance) (mate : List ℕ) (root : ℕ) (rooted : HoldsRooted g r f s mate root) where
@@ -36,155 +38,173 @@ module _ (g : Graph) (r f : Set) (s : Instance) (mate : List ℕ) (root : ℕ) (
       missed : (v : ℕ) → Within g.order v → r v ≡ false → numbers mate v ≡ 0 → (not (r v) && (degree g f v == 0)) ≡ true
       missed v w out z = and_from (not (r v)) (degree g f v == 0) (ap not out) (eq-eqb (degree g f v) 0 (rooted.holds.mates.exposed v w z))
 
-  pub root_exposed : (roots : List ℕ) → roots ≡ root ∷ [] → AreExposed s.left mate roots
+  root_exposed : (roots : List ℕ) → roots ≡ root ∷ [] → AreExposed s.left mate roots
   root_exposed roots is v = ap (λ (xs : List ℕ). mem xs v) is ∙ elim (cases_eq root v) [
     | inl q ↦ ap (λ b. b || false) (eq-eqb root v q) ∙ sym (and_from (mem s.left v) (numbers mate v == 0) (ap (mem s.left) (sym q) ∙ rooted.left) (eq-eqb (numbers mate v) 0 (ap (numbers mate) (sym q) ∙ rooted.free)))
     | inr n ↦ ap (λ b. b || false) (ne_eqb root v n) ∙ sym (false_from_ne_true (mem s.left v && (numbers mate v == 0)) (λ t. let a = and_parts (mem s.left v) (numbers mate v == 0) t in n (alone v a.0 (eqb-true (numbers mate v) 0 a.1))))
   ]
 
+  -- the forest of the root alone can grow
+  pub root_grows : (before t : AlternatingForest) (roots : List ℕ) → roots ≡ root ∷ [] → length before.parent.items ≡ suc (length s.rows.items) → HasRestarted before t roots → GrowsForest g r f s mate t
+  root_grows before t roots is long start = roots_grow g r f s mate rooted.holds before t roots (root_exposed roots is) long start
+
   pub root_within : Within 128 root
   root_within = let p = left_parts g r s rooted.holds.instance_is root rooted.left in let few = rooted.holds.instance_is.few in (omega arith, omega arith)
 
-  -- a forest that no edge leaves has the outer vertices
-  pub outer_final : (t : AlternatingForest) (closing : Option Adjacent) → IsGrownForest g r f s mate t closing → closing ≡ None → HasOuter g r f t.outer
-  outer_final t closing growth q = grind (arith, done_frame g r f s mate rooted.holds t growth.holds (growth.done q))
+-- a forest that no edge leaves has the outer vertices
+pub outer_final : (g : Graph) (r f : Set) (s : Instance) (mate : List ℕ) (t : AlternatingForest) (closing : Option Adjacent) → IsGrownForest g r f s mate t closing → closing ≡ None → HasOuter g r f t.outer
+outer_final g r f s mate t closing growth q = record {
+  inner = mem t.inner;
+  frame = done_frame g r f s mate growth.grows.matching t growth.grows.holds (growth.done q);
+  within = λ v o. (growth.grows.holds.forest.outer_in v o).0;
+}
 
--- a blossom is shrunk
-module _ (g : Graph) (r f : Set) (s : Instance) (mate mate2 : List ℕ) (is : HoldsMatching g r f s mate) (long : length mate2 ≡ length mate) (b : Flower) (held : HoldsFlower g r f mate2 b) where
-  abbrev n : ℕ
-  n = held.length_of
+-- a blossom of a forest that can grow on is shrunk
+module _ (g : Graph) (r f : Set) (s : Instance) (mate new : List ℕ) (t : AlternatingForest) (b : Flower) (grows : GrowsForest g r f s mate t) (h : HoldsAlternating g r f mate t) (held : HoldsFlower g r f mate t h new b) where
+  abbrev is : IsInstance g r s
+  is = grows.matching.instance_is
 
-  abbrev c : ℕ → ℕ
-  c = held.vertex
+  abbrev mates : HasMates g r f (numbers mate)
+  mates = grows.matching.mates
+
+  abbrev c : Set
+  c = mem b.members
+
+  abbrev walked : IsWalked g r f mate t
+  walked = walked_of g r f mate t h
 
   abbrev pub shrunk_graph_of : Graph
-  shrunk_graph_of = H g is.instance_is.graph r f held.m n c held.edge held.opened
+  shrunk_graph_of = below_graph g is.graph r f (mem t.outer) (mem t.inner) (numbers t.parent.items) (numbers mate) mates walked c b.base held.flower
 
   abbrev pub shrunk_out : Set
-  shrunk_out = rs g is.instance_is.graph r f held.m n c held.edge held.opened
+  shrunk_out = below_removed g is.graph r f (mem t.outer) (mem t.inner) (numbers t.parent.items) (numbers mate) mates walked c b.base held.flower
 
-  base_in : Within g.order (c 1)
-  base_in = wz g is.instance_is.graph r f held.m n c held.edge held.opened
+  abbrev pub shrunk_edges : Set
+  shrunk_edges = below_edges g is.graph r f (mem t.outer) (mem t.inner) (numbers t.parent.items) (numbers mate) mates walked c b.base held.flower
+
+  in_graph : (v : ℕ) → c v ≡ true → Within g.order v
+  in_graph = member_in g is.graph r f (mem t.outer) (mem t.inner) (numbers t.parent.items) (numbers mate) mates walked c b.base held.flower
 
   pub flower_within : (v : ℕ) → mem b.members v ≡ true → Within (length s.rows.items) v
-  flower_within v t = let w = cw g is.instance_is.graph r f held.m n c held.edge held.opened v (sym (held.members v) ∙ t) in let each = is.instance_is.one_each in (w.0, omega arith)
+  flower_within v m = let w = in_graph v m in let each = is.one_each in (w.0, omega arith)
 
-  pub base_within : Within (length s.rows.items) b.base
-  base_within = let w = base_in in let each = is.instance_is.one_each in let q = held.base in (omega arith, omega arith)
+  pub base_within : Within (length s.rows.items) b.base × Within 128 b.base
+  base_within = let w = in_graph b.base held.flower.fits.base in let each = is.one_each in let few = is.few in ((omega arith, omega arith), (omega arith, omega arith))
 
-  base_free : numbers mate2 (c 1) ≡ 0
-  base_free = no_mate (numbers mate2 (c 1))
-      (sym (mates_degree g r held.m (numbers mate2) held.mates (c 1) base_in) ∙ cycle_missed g r f held.m n c held.edge held.opened (c 1) base_in (cz g is.instance_is.graph r f held.m n c held.edge held.opened))
-    where
-      no_mate : (k : ℕ) → bit (not (k == 0)) ≡ 0 → k ≡ 0
-      no_mate k q = grind (arith, cases_eq k 0, ne_eqb k 0)
+  pub inner_within : (v : ℕ) → mem t.inner v ≡ true → v < length t.parent.items
+  inner_within v i = let w = (h.forest.inner_in v i).0 in let long = h.parents_long in omega arith
+
+  abbrev held_forest : HoldsForest mate t
+  held_forest = record { g = g; r = r; f = f; holds = h; mates = mates; long = grows.matching.long; few = is.few }
+
+  -- the parent of an inner vertex is outer
+  pub parent_within : (y : ℕ) → mem t.inner y ≡ true → Within 128 (numbers t.parent.items y)
+  parent_within y i =
+      let p = h.forest.inner_in y i in
+      let n : numbers mate y ≢ 0 = λ q. let free = mates.exposed y p.0 q in let one = p.2 in absurd (omega arith) in
+      let e = mates.paired y p.0 n in
+      let oz : mem t.outer (numbers mate y) ≡ true = sym (mates_of g is.graph r f mates.matching (mem t.outer) (mem t.inner) h.k h.v h.e h.forest e.0 y (numbers mate y) e.1 e.2 e.3).1 ∙ i in
+      let back = (mate_back g is.graph r f (numbers mate) mates y p.0 n).1 in
+      let wy = p.0 in
+      let up = h.up (numbers mate y) oz (has_pairs mate t held_forest (numbers mate y) oz (λ q. absurd (omega arith))) in
+      let w = (h.forest.outer_in up.0 up.1.outer).0 in
+      let here : numbers t.parent.items y ≡ up.0 = ap (numbers t.parent.items) (sym back) ∙ up.1.parent in
+      let few = is.few in (omega arith, omega arith)
 
   -- the outer vertices of the shrunk graph, with those of the blossom
-  pub outer_up : (below result : List ℕ) → HasOuter shrunk_graph_of shrunk_out held.m below → ((v : ℕ) → mem result v ≡ (mem below v || mem b.members v)) → HasOuter g r f result
+  pub outer_up : (below result : List ℕ) → HasOuter shrunk_graph_of shrunk_out shrunk_edges below → ((v : ℕ) → mem result v ≡ (mem below v || mem b.members v)) → HasOuter g r f result
   outer_up below result has wide = record {
     inner = has.inner;
-    frame =
-        let half = halves g is.instance_is.graph r f held.m n c held.edge held.opened in
-        let down = downs g is.instance_is.graph r f held.m n c held.edge held.opened in
-        let up = (frame_up g is.instance_is.graph r (listed n c) (c 1) _ (pulls g is.instance_is.graph r f held.m n c held.edge held.opened) (cr g is.instance_is.graph r f held.m n c held.edge held.opened) base_in (cz g is.instance_is.graph r f held.m n c held.edge held.opened) held.m (mem below) has.inner half.0 (count (size shrunk_graph_of) held.m) down.0 down.1 refl has.frame (near_sets g is.instance_is.graph r f held.m n c held.edge held.opened) half.1).2 in
-        subst₂ (λ (k : ℕ) (o : Set). Frame g r k o has.inner) (below_size g is.instance_is.graph r f held.m n c held.edge held.opened) (sym result_is) up;
-    within = λ v t. elim (or_cases (mem below v) (mem b.members v) (sym (wide v) ∙ t)) [
+    frame = subst (λ (o : Set). Frame g r (count (size g) f) o has.inner) (sym (fun_ext wide))
+        (frame_wider g is.graph r f (mem t.outer) (mem t.inner) (numbers t.parent.items) (numbers mate) mates walked c b.base held.flower (mem below) has.inner has.frame);
+    within = λ v q. elim (or_cases (mem below v) (mem b.members v) (sym (wide v) ∙ q)) [
       | inl o ↦ has.within v o
-      | inr o ↦ cw g is.instance_is.graph r f held.m n c held.edge held.opened v (sym (held.members v) ∙ o)
+      | inr o ↦ in_graph v o
     ];
   }
-    where
-      result_is : mem result ≡ union (mem below) (listed n c)
-      result_is = fun_ext (λ v. wide v ∙ ap (λ b. mem below v || b) (held.members v))
 
-  -- a blossom with all vertices that are left: after its shrinking the base is left alone
-  module _ (whole : (v : ℕ) → mem s.left v ≡ true → mem b.members v ≡ true) where
-    below_graph : IsGraph shrunk_graph_of
-    below_graph = graph g is.instance_is.graph r f held.m n c held.edge held.opened
+  -- a blossom with all vertices that are left: they are outer
+  pub outer_whole : ((v : ℕ) → mem s.left v ≡ true → mem b.members v ≡ true) → HasOuter g r f b.members
+  outer_whole whole = record {
+    inner = none;
+    frame = frame_all g is.graph r f (mem t.outer) (mem t.inner) (numbers t.parent.items) (numbers mate) mates walked c b.base held.flower (λ u w q. whole u (left_from g r s is u w q));
+    within = in_graph;
+  }
 
-    below_matching : IsMatching shrunk_graph_of shrunk_out held.m
-    below_matching = (downs g is.instance_is.graph r f held.m n c held.edge held.opened).0
+  module _ (i : Instance) (shrink : IsShrinking s c b.base i) where
+    below_instance : IsInstance shrunk_graph_of shrunk_out i
+    below_instance = shrunk_instance g c b.base _ (pulls g is.graph r f (mem t.outer) (mem t.inner) (numbers t.parent.items) (numbers mate) mates walked c b.base held.flower) held.flower.fits.base r s i is
+        held.flower.fits.left in_graph shrink (graph_below g is.graph r f (mem t.outer) (mem t.inner) (numbers t.parent.items) (numbers mate) mates walked c b.base held.flower)
 
-    abbrev first : Set
-    first = first_outer shrunk_graph_of below_graph shrunk_out held.m below_matching
+    pub flower_less : count (length i.rows.items) (mem i.left) < count (length s.rows.items) (mem s.left)
+    flower_less =
+        let a = left_count shrunk_graph_of shrunk_out i below_instance in
+        let d = left_count g r s is in
+        let e = fewer_below g is.graph r f (mem t.outer) (mem t.inner) (numbers t.parent.items) (numbers mate) mates walked c b.base held.flower in omega arith
 
-    or_none : (a b : Bool) → (a || b) ≡ false → (a ≡ false) × (b ≡ false)
-    or_none a b q = grind arith
+    -- as many vertices are missed
+    pub below_one : missed_count g r f ≡ 1 → missed_count shrunk_graph_of shrunk_out shrunk_edges ≡ 1
+    below_one one = missed_below g is.graph r f (mem t.outer) (mem t.inner) (numbers t.parent.items) (numbers mate) mates walked c b.base held.flower ∙ one
 
-    only_base : (v : ℕ) → Within g.order v → shrunk_out v ≡ false → v ≡ c 1
-    only_base v w o =
-        let a = or_none (r v) (listed n c v && not (v == c 1)) o in
-        let t = sym (held.members v) ∙ whole v (left_from g r s is.instance_is v w a.0) in
-        eqb-true v (c 1) (last_part (listed n c v) (v == c 1) t a.1)
-      where
-        last_part : (a b : Bool) → a ≡ true → (a && not b) ≡ false → b ≡ true
-        last_part a b p q = grind arith
+    module _ (u : AlternatingForest) (contracted : HasContracted t u c b.base) (long : length new ≡ length mate) where
+      after : IsContracted (mem t.outer) (mem t.inner) (numbers t.parent.items) (numbers mate) c b.base (mem u.outer) (mem u.inner) (numbers u.parent.items) (numbers new)
+      after = record { outer_is = contracted.outer; inner_is = contracted.inner; parents = contracted.parent; mates = held.exposed }
 
-    start : IsForest shrunk_graph_of shrunk_out held.m first none (λ u. 0) (λ u j. u) (λ u j. 0)
-    start = forest_start shrunk_graph_of below_graph shrunk_out held.m below_matching
+      both_false : (a d : Bool) → (a || d) ≡ false → (a ≡ false) × (d ≡ false)
+      both_false a d q = grind arith
 
-    first_base : first (c 1) ≡ true
-    first_base = start.misses (c 1) base_in base_out ((below_mates g is.instance_is.graph r f held.m n c held.edge held.opened (numbers mate2) held.mates).exposed (c 1) base_in base_free)
-      where
-        stays : (a b d : Bool) → a ≡ false → d ≡ true → (a || (b && not d)) ≡ false
-        stays a b d p q = grind arith
+      outside : (a d : Bool) → d ≡ false → (a || d) ≡ true → a ≡ true
+      outside a d q w = grind arith
 
-        base_out : shrunk_out (c 1) ≡ false
-        base_out = stays (r (c 1)) (listed n c (c 1)) (c 1 == c 1) (cr g is.instance_is.graph r f held.m n c held.edge held.opened (c 1) (cz g is.instance_is.graph r f held.m n c held.edge held.opened)) (eq-eqb (c 1) (c 1) refl)
+      not_open : (a d : Bool) → d ≡ false → (a && not d) ≡ false → a ≡ false
+      not_open a d q w = grind arith
 
-    first_is : (v : ℕ) → first v ≡ mem (b.base ∷ []) v
-    first_is v = elim (cases_eq b.base v) [
-      | inl q ↦ ap first (sym q ∙ held.base) ∙ first_base ∙ sym (ap (λ b. b || false) (eq-eqb b.base v q))
-      | inr q ↦ false_from_ne_true (first v) (λ t. let a = start.outer_in v t in q (held.base ∙ sym (only_base v a.0 a.1))) ∙ sym (ap (λ b. b || false) (ne_eqb b.base v q))
-    ]
+      still_left : (a d e : Bool) → e ≡ false → (a && not (d && not e)) ≡ true → (a ≡ true) × (d ≡ false)
+      still_left a d e q w = grind arith
 
-    -- all vertices that are left are outer
-    pub outer_whole : HasOuter g r f b.members
-    outer_whole = outer_up (b.base ∷ []) b.members
-        (record {
-          inner = none;
-          frame = subst (λ (o : Set). Frame shrunk_graph_of shrunk_out (count (size shrunk_graph_of) held.m) o none) (fun_ext first_is)
-              (final_frame shrunk_graph_of below_graph shrunk_out held.m below_matching first none (λ u. 0) (λ u j. u) (λ u j. 0) (forest_start shrunk_graph_of below_graph shrunk_out held.m below_matching)
-              (λ d x y w ends rx ry n o. absurd (n (only_base x (end_within shrunk_graph_of below_graph d x y w ends) rx ∙ sym (only_base y (end_within shrunk_graph_of below_graph d y x w (turned shrunk_graph_of d x y ends)) ry)))));
-          within = λ v t. (start.outer_in v (first_is v ∙ t)).0;
-        })
-        (λ v. absorbed (mem (b.base ∷ []) v) (mem b.members v) (λ t. ap (mem b.members) (sym (base_named v t)) ∙ held.members b.base ∙ ap (listed n c) held.base ∙ cz g is.instance_is.graph r f held.m n c held.edge held.opened))
-      where
-        absorbed : (a b : Bool) → (a ≡ true → b ≡ true) → b ≡ (a || b)
-        absorbed a b h = grind arith
+      -- an outer vertex that is not active stays settled
+      settled_below : (x : ℕ) → mem u.outer x ≡ true → mem u.active x ≡ false → IsSettled i u x
+      settled_below x o n y touches left other =
+          let shut = both_false (mem t.active x && not (c x)) (b.base == x) (sym (contracted.active x) ∙ n) in
+          let was = and_parts (mem t.outer x) (not (c x)) (outside (mem t.outer x && not (c x)) (b.base == x) shut.1 (sym (contracted.outer x) ∙ o)) in
+          let away = not-true (c x) was.1 in
+          let wx = (h.forest.outer_in x was.0).0 in
+          let each = is.one_each in
+          let members_each = is.members_each in
+          let not_x : b.base ≢ x = λ q. true≢false (sym (eq-eqb b.base x q) ∙ shut.1) in
+          elim (cases_eq b.base y) [
+            | inl q ↦ inr (contracted.active y ∙ or_right (mem t.active y && not (c y)) (b.base == y) (eq-eqb b.base y q))
+            | inr q ↦
+                let there = still_left (mem s.left y) (c y) (b.base == y) (ne_eqb b.base y q) (sym (shrink.left y) ∙ left) in
+                let wy = (left_parts g r s is y there.0).0 in
+                let near : Touches s x y = (
+                  touches.0,
+                  ap (λ (xs : List ℕ). mem xs touches.0) (sym (shrink.rows.others x (omega arith, omega arith) not_x)) ∙ touches.1,
+                  ap (λ (xs : List ℕ). mem xs touches.0) (sym (shrink.members.others y (omega arith, omega arith) q)) ∙ touches.2,
+                ) in
+                elim (grows.settled x was.0 (not_open (mem t.active x) (c x) away shut.0) y near there.0 other) [
+                  | inl w ↦ inl (contracted.inner y ∙ and_from (mem t.inner y) (not (c y)) w (ap not there.1))
+                  | inr w ↦ inr (contracted.active y ∙ or_left (mem t.active y && not (c y)) (b.base == y) (and_from (mem t.active y) (not (c y)) w (ap not there.1)))
+                ]
+          ]
 
-        base_named : (v : ℕ) → mem (b.base ∷ []) v ≡ true → b.base ≡ v
-        base_named v t = eqb-true b.base v (sym (or_false (b.base == v)) ∙ t)
-
-  module _ (h : Instance) (shrink : IsShrinking s (mem b.members) b.base h) where
-    shrinking : IsShrinking s (listed n c) (c 1) h
-    shrinking = subst₂ (λ (x : Set) (z : ℕ). IsShrinking s x z h) (fun_ext held.members) held.base shrink
-
-    below_instance : HoldsMatching shrunk_graph_of shrunk_out held.m h mate2
-    below_instance = opened_holds g r f held.m s h mate mate2 n c held.edge is long held.opened held.mates shrinking
-
-    pub flower_less : count (length h.rows.items) (mem h.left) < count (length s.rows.items) (mem s.left)
-    flower_less = opened_less g r f held.m s h mate mate2 n c held.edge is long held.opened held.mates shrinking
-
-    -- the base is the one exposed vertex
-    pub below_rooted : missed_count g r f ≡ 1 → HoldsRooted shrunk_graph_of shrunk_out held.m h mate2 b.base
-    below_rooted one = record {
-      holds = below_instance;
-      one =
-          let half = halves g is.instance_is.graph r f held.m n c held.edge held.opened in
-          let a = missed_edges g r f is.instance_is.graph is.mates.matching in
-          let d = missed_edges shrunk_graph_of shrunk_out held.m (graph g is.instance_is.graph r f held.m n c held.edge held.opened) (downs g is.instance_is.graph r f held.m n c held.edge held.opened).0 in
-          let e = below_size g is.instance_is.graph r f held.m n c held.edge held.opened in
-          let sizes = complement_size g is.instance_is.graph r (listed n c) (c 1) _ (pulls g is.instance_is.graph r f held.m n c held.edge held.opened) (cr g is.instance_is.graph r f held.m n c held.edge held.opened) base_in (cz g is.instance_is.graph r f held.m n c held.edge held.opened) half.0 half.1 in
-          omega arith;
-      left = ap (mem h.left) held.base ∙ shrinking.left (c 1) ∙ and_from (mem s.left (c 1)) (not (listed n c (c 1) && not (c 1 == c 1)))
-          (left_from g r s is.instance_is (c 1) base_in (cr g is.instance_is.graph r f held.m n c held.edge held.opened (c 1) (cz g is.instance_is.graph r f held.m n c held.edge held.opened)))
-          (kept (listed n c (c 1)) (c 1 == c 1) (eq-eqb (c 1) (c 1) refl));
-      free = ap (numbers mate2) held.base ∙ base_free;
-    }
-      where
-        kept : (a b : Bool) → b ≡ true → not (a && not b) ≡ true
-        kept a b q = grind arith
+      -- the forest grows on in the shrunk graph
+      pub below_grows : GrowsForest shrunk_graph_of shrunk_out shrunk_edges i new u
+      below_grows = record {
+        matching = record {
+          instance_is = below_instance;
+          long = long ∙ grows.matching.long;
+          mates = mates_below g is.graph r f (mem t.outer) (mem t.inner) (numbers t.parent.items) (numbers mate) mates walked c b.base held.flower (mem u.outer) (mem u.inner) (numbers u.parent.items) (numbers new) after;
+        };
+        holds = held_from shrunk_graph_of shrunk_out shrunk_edges new u
+            (forest_below g is.graph r f (mem t.outer) (mem t.inner) (numbers t.parent.items) (numbers mate) mates walked c b.base held.flower (mem u.outer) (mem u.inner) (numbers u.parent.items) (numbers new) after)
+            (contracted.parents_long ∙ h.parents_long);
+        active_outer = λ x a. contracted.outer x ∙ elim (or_cases (mem t.active x && not (c x)) (b.base == x) (sym (contracted.active x) ∙ a)) [
+          | inl q ↦ let w = and_parts (mem t.active x) (not (c x)) q in or_left (mem t.outer x && not (c x)) (b.base == x) (and_from (mem t.outer x) (not (c x)) (grows.active_outer x w.0) w.1)
+          | inr q ↦ or_right (mem t.outer x && not (c x)) (b.base == x) q
+        ];
+        settled = settled_below;
+      }
 
 -- where one vertex is exposed, it is the root
 pub rooted_from : (g : Graph) (r f : Set) (s : Instance) (mate exposed : List ℕ) (root : ℕ) → HoldsMatching g r f s mate → AreExposed s.left mate exposed → exposed ≡ root ∷ [] → HoldsRooted g r f s mate root

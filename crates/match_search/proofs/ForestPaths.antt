@@ -1,9 +1,9 @@
 -- The paths to the two ends of a closing edge: they are paths of the forest, with outer and inner
 -- vertices in turn.
-use Rattle.std.proofs.Common.{◌≡◌, ℕ, suc, ◌+◌, ◌≤◌, ◌<◌, true, refl, sym, ap, ◌∙◌, arith, subst, length, List, get_or}
+use Rattle.std.proofs.Common.{◌≡◌, ℕ, suc, ◌+◌, ◌≤◌, ◌<◌, true, refl, sym, ap, ◌∙◌, arith, subst, length, List}
 use Rattle.counting.proofs.Common.{is_odd, Set, mem}
 use Rattle.graph_core.proofs.Common.{Graph}
-use Rattle.match_search.specs.Common.{AreClosingPaths, ClosesForest, second_start, IsAlternating, numbers, part}
+use Rattle.match_search.specs.Common.{AreClosingPaths, ClosesForest, second_start, IsAlternating, part}
 use Rattle.match_search.specs.declared.alternating.AlternatingForest.{AlternatingForest}
 use Rattle.match_search.specs.declared.growing.Adjacent.{Adjacent}
 use Rattle.match_search.specs.declared.paths.Paths.{Paths}
@@ -11,35 +11,24 @@ use Rattle.match_search.proofs.Alike.{path_alike}
 use Rattle.match_search.proofs.Forests.{outer_edge}
 use Rattle.match_search.proofs.LongerPaths.{ends_by}
 use Rattle.match_search.proofs.Reaching.{pairs_few}
-use Rattle.match_search.proofs.PathsUp.{pairs_read}
 
--- the numbers of pairs of two paths are those of the forest, and small: a path meets no vertex
--- twice
-pub record AreShortPaths (t : AlternatingForest) (o : Adjacent) (first second : ℕ) : Type 0 where
-  pub first_is : first ≡ numbers t.pairs.items o.v
-  pub second_is : second ≡ numbers t.pairs.items o.w
-  pub first_short : first + first < 128
-  pub second_short : second + second < 128
-
--- they are so as the code reads them
-pub short_paths : (g : Graph) (r f : Set) (mate : List ℕ) (t : AlternatingForest) (o : Adjacent) (first second : ℕ) → ClosesForest g r f mate t o → first ≡ get_or t.pairs.items o.v first → second ≡ get_or t.pairs.items o.w second → AreShortPaths t o first second
-short_paths g r f mate t o first second is first_read second_read =
+-- the numbers of pairs of two paths are small: a path meets no vertex twice
+pub short_paths : (g : Graph) (r f : Set) (mate : List ℕ) (t : AlternatingForest) (o : Adjacent) (first second : ℕ) (is : ClosesForest g r f mate t o) → first ≡ is.holds.k o.v → second ≡ is.holds.k o.w → (first + first < 128) × (second + second < 128)
+short_paths g r f mate t o first second is first_is second_is =
     let few = is.few in
-    let first_is = pairs_read g r f mate t is.holds o.v first is.v_outer first_read in
-    let second_is = pairs_read g r f mate t is.holds o.w second is.w_outer second_read in
     let v_few = pairs_few g r f mate t is.holds o.v is.v_outer in
     let w_few = pairs_few g r f mate t is.holds o.w is.w_outer in
-    record { first_is = first_is; second_is = second_is; first_short = omega arith; second_short = omega arith }
+    (omega arith, omega arith)
 
-module _ (g : Graph) (r f : Set) (mate : List ℕ) (t : AlternatingForest) (o : Adjacent) (is : ClosesForest g r f mate t o) (w : Paths) (first : w.first ≡ numbers t.pairs.items o.v) (second : w.second ≡ numbers t.pairs.items o.w)
+module _ (g : Graph) (r f : Set) (mate : List ℕ) (t : AlternatingForest) (o : Adjacent) (is : ClosesForest g r f mate t o) (w : Paths) (first : w.first ≡ is.holds.k o.v) (second : w.second ≡ is.holds.k o.w)
     (long : length w.row.items ≡ second_start w + suc (w.second + w.second)) (first_written : (j : ℕ) → j ≤ w.first + w.first → part w.row.items 0 j ≡ is.holds.v o.v j) (second_written : (j : ℕ) → j ≤ w.second + w.second → part w.row.items (second_start w) j ≡ is.holds.v o.w j) where
-  path_of : (u k : ℕ) → mem t.outer u ≡ true → k ≡ numbers t.pairs.items u → IsAlternating g r f k (is.holds.v u) (is.holds.e u)
+  path_of : (u k : ℕ) → mem t.outer u ≡ true → k ≡ is.holds.k u → IsAlternating g r f k (is.holds.v u) (is.holds.e u)
   path_of u k ou q = subst (λ (x : ℕ). IsAlternating g r f x (is.holds.v u) (is.holds.e u)) (sym q) (is.holds.forest.path u ou)
 
-  last_of : (u k : ℕ) → mem t.outer u ≡ true → k ≡ numbers t.pairs.items u → is.holds.v u (k + k) ≡ u
+  last_of : (u k : ℕ) → mem t.outer u ≡ true → k ≡ is.holds.k u → is.holds.v u (k + k) ≡ u
   last_of u k ou q = ap (λ (x : ℕ). is.holds.v u (x + x)) q ∙ is.holds.forest.last u ou
 
-  sides_of : (u k : ℕ) → mem t.outer u ≡ true → k ≡ numbers t.pairs.items u → (j : ℕ) → j ≤ k + k → mem t.inner (is.holds.v u j) ≡ is_odd j
+  sides_of : (u k : ℕ) → mem t.outer u ≡ true → k ≡ is.holds.k u → (j : ℕ) → j ≤ k + k → mem t.inner (is.holds.v u j) ≡ is_odd j
   sides_of u k ou q j l = (is.holds.forest.sides u ou j (omega arith)).1
 
   top : part w.row.items 0 (w.first + w.first) ≡ o.v
@@ -66,5 +55,5 @@ module _ (g : Graph) (r f : Set) (mate : List ℕ) (t : AlternatingForest) (o : 
     edge = is.edge.0;
     real = is.edge.1;
     ends = ends_by g is.edge.0 is.edge.0 (part w.row.items 0 (w.first + w.first)) o.v (part w.row.items (second_start w) (w.second + w.second)) o.w refl top side is.edge.2;
-    off = outer_edge g is.graph r f is.mates.matching (mem t.outer) (mem t.inner) (numbers t.pairs.items) is.holds.v is.holds.e is.holds.forest is.edge.0 o.v o.w is.edge.1 is.edge.2 is.v_outer (is.holds.forest.apart o.w is.w_outer);
+    off = outer_edge g is.graph r f is.mates.matching (mem t.outer) (mem t.inner) is.holds.k is.holds.v is.holds.e is.holds.forest is.edge.0 o.v o.w is.edge.1 is.edge.2 is.v_outer (is.holds.forest.apart o.w is.w_outer);
   }

@@ -15,6 +15,7 @@ pub mod Instances
 pub mod ParentForests
 pub mod Reaching
 pub mod Branching
+pub mod ActiveVertices
 pub mod PathsUp
 pub mod ForestWalks
 pub mod ClosingPairs
@@ -39,7 +40,15 @@ pub mod Gluing
 pub mod MarkedMates
 pub mod AugmentedMates
 pub mod MissableRows
-pub mod FlippedPaths
 pub mod FlowerPaths
 pub mod PathFlowers
 pub mod Flowers
+pub mod ShrunkForests
+pub mod SkippedPlaces
+pub mod CrossingPaths
+pub mod ContractedPaths
+pub mod ContractedForests
+pub mod FlowerForests
+pub mod ContractedFrames
+pub mod WalkedForests
+pub mod FlowerSteps

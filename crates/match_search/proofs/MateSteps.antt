@@ -63,7 +63,7 @@ module _ (g : Graph) (r f : Set) (s : Instance) (mate : List ℕ) (is : HoldsMat
   growth_closes t closing o growth q = grind (arith, near_edge g r s is.instance_is o.v o.w)
 
   pub growth_final : (t : AlternatingForest) (closing : Option Adjacent) → IsGrownForest g r f s mate t closing → closing ≡ None → IsMateStep g r f mate (Final (record { outer = t.outer; inner = t.inner }))
-  growth_final t closing growth q = grind (arith, done_frame g r f s mate is t growth.holds (growth.done q))
+  growth_final t closing growth q = grind (arith, done_frame g r f s mate is t growth.grows.holds (growth.done q))
 
   module _ (mate2 : List ℕ) (long2 : length mate2 ≡ length mate) (b : Blossom) (held : HoldsBlossom g r f mate2 b) (base : ℕ) (base_is : base ≡ numbers b.cycle.items 1) (h : Instance) (shrink : IsShrinking s (mem b.members) base h) where
     abbrev c : ℕ → ℕ

@@ -95,7 +95,7 @@ sized_rows g r f s mate space held serves =
     let long = held.long in
     let each = held.instance_is.one_each in
     let parents = serves.sized.parents_long in
-    let pairs = serves.sized.pairs_long in record { parents_long = omega arith; pairs_long = omega arith }
+    record { parents_long = omega arith }
 
 -- a row that is written back through a slice keeps its length
 pub written_long : (len : ℕ) (new old : List ℕ) (n : ℕ) → length new ≡ len → len ≡ n → length (take len (new ++ drop (length new) old)) ≡ n
@@ -107,8 +107,8 @@ serves_again g r f s mate before after held serves sized own same =
     let long = held.long in
     let each = held.instance_is.one_each in
     let parents = sized.parents_long in
-    let pairs = sized.pairs_long in record {
-      sized = record { parents_long = omega arith; pairs_long = omega arith };
+    record {
+      sized = record { parents_long = omega arith };
       own = own;
       exposed = λ v l z. ap (λ (xs : List ℕ). mem xs v) same ∙ serves.exposed v l z;
     }

@@ -1,25 +1,23 @@
 -- The blossom that two paths of a forest close. Two paths that meet are one up to the base, and
--- the vertices on one of them alone are the others of the blossom.
-use Rattle.std.proofs.Common.{◌≡◌, ◌≢◌, ◌↔◌, ℕ, suc, ◌+◌, ◌-◌, ◌≤◌, ◌<◌, Bool, true, false, cond, refl, sym, ap, ◌∙◌, arith, inl, inr, ◌⊎◌, not, ◌&&◌, ◌||◌, ◌==◌, subst, eq-eqb, eqb-true, List}
-use Rattle.counting.proofs.Common.{and_from, both_ways, cases_Bool, cases_eq, cases_lt, false_from_ne_true, half, only_one, or_cases, or_left, or_right, some_true, true_some, Within, is_odd, Set, mem, minus}
+-- the vertices that come after it on one of them are the others of the blossom.
+use Rattle.std.proofs.Common.{◌≡◌, ◌≢◌, ◌↔◌, ℕ, suc, ◌+◌, ◌-◌, ◌≤◌, ◌<◌, Bool, true, false, cond, refl, sym, ap, ◌∙◌, arith, inl, inr, not, ◌&&◌, ◌||◌, ◌==◌, subst, eq-eqb, eqb-true, ne_eqb, List}
+use Rattle.counting.proofs.Common.{and_from, both_ways, cases_Bool, cases_eq, half, odd-double, only_one, or_cases, or_left, or_right, some_true, true_some, Within, is_odd, Set, mem}
 use Rattle.graph_core.proofs.Common.{Graph, HasEnds, degree, missed_count}
-use Rattle.match_search.specs.Common.{HoldsAlternating, ClosesForest, GoesOver, HoldsFlower, IsLastIn, OnPath, IsAlternating, flipped, cleared_mates, flipped_mates, flipped_over, every_other, listed, picked, numbers, IsOpened}
+use Rattle.match_search.specs.Common.{HoldsAlternating, ClosesForest, GoesOver, HoldsFlower, IsBeyond, IsLastIn, IsOuterOf, MeetsSet, IsAlternating, IsFlower, IsOddCycle, listed, numbers}
 use Rattle.match_search.specs.declared.alternating.AlternatingForest.{AlternatingForest}
 use Rattle.match_search.specs.declared.growing.Adjacent.{Adjacent}
-use Rattle.match_search.proofs.ClosingEdges.{around, cycle, edges_around, high, low, spot, stem_count, stem_free, stem_holds, stem_matching}
-use Rattle.match_search.proofs.ClosingPairs.{mates_alike, opened_pairs}
-use Rattle.match_search.proofs.FlippedPaths.{over_mates}
+use Rattle.match_search.proofs.ClosingEdges.{around, cycle, edges_around, high, low, spot, stem_holds}
 use Rattle.match_search.proofs.Forests.{one_edge, outer_edge, turned}
 use Rattle.match_search.proofs.LongerPaths.{ends_by}
-use Rattle.match_search.proofs.MatePairs.{flipped_pairs}
 use Rattle.match_search.proofs.OddCycles.{same_ends}
 use Rattle.match_search.proofs.FlowerPaths.{passes}
+use Rattle.match_search.proofs.ForestWalks.{closed_forest}
+use Rattle.match_search.proofs.FlowerForests.{AreClosingIn, closed_flower}
+use Rattle.match_search.proofs.WalkedForests.{walked_of}
 
 -- two closing paths of a matching that misses one vertex
-module _ (g : Graph) (r f : Set) (mate : List ℕ) (t : AlternatingForest) (o : Adjacent) (closes : ClosesForest g r f mate t o) (one : missed_count g r f ≡ 1) (first second : List ℕ)
-    (first_is : (v : ℕ) → (mem first v ≡ true) ↔ OnPath (closes.holds.v o.v) (numbers t.pairs.items o.v) v) (second_is : (v : ℕ) → (mem second v ≡ true) ↔ OnPath (closes.holds.v o.w) (numbers t.pairs.items o.w) v)
-    (base : ℕ) (last : IsLastIn t first o.w base) (over : GoesOver t closes.holds.v base o.w)
-    (later : (s : ℕ) → numbers t.pairs.items base < s → s ≤ numbers t.pairs.items o.w → mem first (closes.holds.v o.w (s + s)) ≡ false) where
+module _ (g : Graph) (r f : Set) (mate : List ℕ) (t : AlternatingForest) (o : Adjacent) (closes : ClosesForest g r f mate t o) (one : missed_count g r f ≡ 1) (path : List ℕ)
+    (path_is : (v : ℕ) → (mem path v ≡ true) ↔ IsOuterOf (closes.holds.v o.v) (closes.holds.k o.v) v) where
   abbrev h : HoldsAlternating g r f mate t
   h = closes.holds
 
@@ -36,16 +34,10 @@ module _ (g : Graph) (r f : Set) (mate : List ℕ) (t : AlternatingForest) (o : 
   b = h.e o.v
 
   abbrev k : ℕ
-  k = numbers t.pairs.items o.w
+  k = h.k o.w
 
   abbrev l : ℕ
-  l = numbers t.pairs.items o.v
-
-  abbrev half_way : ℕ
-  half_way = numbers t.pairs.items base
-
-  abbrev i : ℕ
-  i = half_way + half_way
+  l = h.k o.v
 
   abbrev pp : IsAlternating g r f k p a
   pp = h.forest.path o.w closes.w_outer
@@ -53,217 +45,228 @@ module _ (g : Graph) (r f : Set) (mate : List ℕ) (t : AlternatingForest) (o : 
   abbrev qq : IsAlternating g r f l q b
   qq = h.forest.path o.v closes.v_outer
 
-  base_last : h.v base i ≡ base
-  base_last = h.forest.last base last.outer
-
-  p_base : p i ≡ base
-  p_base = sym (over i (omega arith)) ∙ base_last
-
   -- both paths begin at the one vertex that is missed
   roots : (x y : ℕ) → Within g.order x → Within g.order y → r x ≡ false → r y ≡ false → degree g f x ≡ 0 → degree g f y ≡ 0 → x ≡ y
   unfolding missed_count
   roots x y wx wy rx ry dx dy = only_one g.order (λ w. not (r w) && (degree g f w == 0)) one x y wx wy (and_from (not (r x)) (degree g f x == 0) (ap not rx) (eq-eqb (degree g f x) 0 dx)) (and_from (not (r y)) (degree g f y == 0) (ap not ry) (eq-eqb (degree g f y) 0 dy))
 
-  on_first : OnPath q l base
-  on_first = elim last.member [
-    | inl m ↦ (first_is base).0 m
-    | inr z ↦
-        let start : h.v base 0 ≡ base = ap (h.v base) (omega arith) ∙ base_last in
-        let bb = h.forest.path base last.outer in
-        (0, omega arith, roots (q 0) (h.v base 0) (qq.path.within 0 (omega arith)) (bb.path.within 0 (omega arith)) (qq.path.outside 0 (omega arith)) (bb.path.outside 0 (omega arith)) qq.free bb.free ∙ start)
-  ]
-
-  pass : (on_first.0 ≡ i) × GoesOver t h.v base o.v
-  pass = passes g r f mate t h l o.v base on_first.0 (omega arith) closes.v_outer last.outer on_first.1 on_first.2
-
-  q_base : q i ≡ base
-  q_base = sym (pass.1 i (omega arith)) ∙ base_last
-
-  li : i ≤ k + k
-  li = let s = last.pairs in omega arith
-
-  lj : i ≤ l + l
-  lj = let s = pass.0 in let d = on_first.1 in omega arith
-
-  meet : p i ≡ q i
-  meet = p_base ∙ sym q_base
-
-  -- up to the base the paths are one
-  shared : (j : ℕ) → j ≤ i → p j ≡ q j
-  shared j d = sym (over j d) ∙ pass.1 j d
-
-  p_sides : (s : ℕ) → s ≤ k + k → mem t.inner (p s) ≡ is_odd s
-  p_sides s d = (h.forest.sides o.w closes.w_outer s d).1
-
-  q_sides : (s : ℕ) → s ≤ l + l → mem t.inner (q s) ≡ is_odd s
-  q_sides s d = (h.forest.sides o.v closes.v_outer s d).1
-
-  latest_even : (s u : ℕ) → half_way < s → s + s ≤ k + k → u ≤ l + l → p (s + s) ≢ q u
-  latest_even s u lo hi d e = both_ways (mem first (p (s + s))) (later s lo (omega arith)) ((first_is (p (s + s))).1 (u, d, sym e))
-
-  latest : (s u : ℕ) → i < s → s ≤ k + k → u ≤ l + l → p s ≢ q u
-  latest s u lo hi d e = elim (cases_Bool (is_odd s)) [
-    | inr even ↦ let c = half s even in let z = c.1 in latest_even c.0 u (omega arith) (omega arith) d (ap p (sym z) ∙ e)
-    | inl odd ↦
-        let even : is_odd (suc s) ≡ false = ap not odd in
-        let c = half (suc s) even in
-        let z = c.1 in
-        let s_in : s < k + k = omega arith in
-        let odd_u : is_odd u ≡ true = sym (q_sides u d) ∙ ap (mem t.inner) (sym e) ∙ p_sides s hi ∙ odd in
-        let u_in : u < l + l = grind arith in
-        let e1 = pp.path.ends s s_in in
-        let e2 = subst (λ z. HasEnds g (b u) z (q (suc u))) (sym e) (qq.path.ends u u_in) in
-        let same = one_edge g r f closes.mates.matching (a s) (b u) (p s) (p (suc s)) (q (suc u)) (pp.path.within s hi) (pp.path.real s s_in) (qq.path.real u u_in) (pp.turns s s_in ∙ odd) (qq.turns u u_in ∙ odd_u) e1 e2 in
-        elim (same_ends g (a s) (p s) (p (suc s)) (p s) (q (suc u)) e1 (ends_by g (a s) (b u) (p s) (p s) (q (suc u)) (q (suc u)) same refl refl e2)) [
-          | inl x ↦ latest_even c.0 (suc u) (omega arith) (omega arith) (omega arith) (ap p (sym z) ∙ x.1)
-          | inr x ↦ let y = pp.path.apart (suc s) s (omega arith) hi x.1 in absurd (omega arith)
-        ]
-  ]
-
-  abbrev d : ℕ
-  d = closes.edge.0
-
-  closing : HasEnds g d (p (k + k)) (q (l + l))
-  closing = ends_by g d d (p (k + k)) o.w (q (l + l)) o.v refl (h.forest.last o.w closes.w_outer) (h.forest.last o.v closes.v_outer) (turned g d o.v o.w closes.edge.2)
-
-  two : p (k + k) ≢ q (l + l)
-  two e = closes.different (sym (h.forest.last o.v closes.v_outer) ∙ sym e ∙ h.forest.last o.w closes.w_outer)
-
-  off : f d ≡ false
-  off = outer_edge g closes.graph r f closes.mates.matching (mem t.outer) (mem t.inner) (numbers t.pairs.items) h.v h.e h.forest d o.v o.w closes.edge.1 closes.edge.2 closes.v_outer (h.forest.apart o.w closes.w_outer)
-
-  abbrev m : ℕ
-  m = l + l - i
-
-  abbrev x : ℕ
-  x = k + k - i
-
-  mj : m + i ≡ l + l
-  mj = let s = lj in omega arith
-
-  xi : x + i ≡ k + k
-  xi = let s = li in omega arith
-
-  abbrev n : ℕ
-  n = suc (m + x)
-
-  abbrev round : ℕ → ℕ
-  round = around g r f closes.mates.matching (mem t.inner) k l p a q b pp qq p_sides q_sides d closes.edge.1 closing two off i i li lj meet latest m x mj xi
-
-  abbrev edge_round : ℕ → ℕ
-  edge_round = edges_around g r f closes.mates.matching (mem t.inner) k l p a q b pp qq p_sides q_sides d closes.edge.1 closing two off i i li lj meet latest m x mj xi
-
-  round_low : (y : ℕ) → y ≤ m → round (suc y) ≡ q (i + y)
-  round_low = low g r f closes.mates.matching (mem t.inner) k l p a q b pp qq p_sides q_sides d closes.edge.1 closing two off i i li lj meet latest m x mj xi
-
-  round_high : (s y : ℕ) → y ≤ k + k → s + y ≡ k + k + suc (suc m) → round s ≡ p y
-  round_high = high g r f closes.mates.matching (mem t.inner) k l p a q b pp qq p_sides q_sides d closes.edge.1 closing two off i i li lj meet latest m x mj xi
-
-  abbrev opened : Set
-  opened = minus (flipped f b half_way) (picked n (every_other 1) edge_round)
-
-  abbrev is_opened : IsOpened g r f opened n round edge_round
-  is_opened = record {
-    cycle = cycle g r f closes.mates.matching (mem t.inner) k l p a q b pp qq p_sides q_sides d closes.edge.1 closing two off i i li lj meet latest m x mj xi;
-    stem = flipped f b half_way;
-    matching = stem_matching g r f closes.mates.matching (mem t.inner) k l p a q b pp qq p_sides q_sides d closes.edge.1 closing two off i i li lj meet latest m x mj xi half_way refl;
-    same = stem_count g r f closes.mates.matching (mem t.inner) k l p a q b pp qq p_sides q_sides d closes.edge.1 closing two off i i li lj meet latest m x mj xi half_way refl;
-    free = stem_free g r f closes.mates.matching (mem t.inner) k l p a q b pp qq p_sides q_sides d closes.edge.1 closing two off i i li lj meet latest m x mj xi half_way refl;
-    holds = stem_holds g r f closes.mates.matching (mem t.inner) k l p a q b pp qq p_sides q_sides d closes.edge.1 closing two off i i li lj meet latest m x mj xi half_way refl;
-    left = λ e. refl;
+  pub meets_path : MeetsSet mate t path o.w
+  meets_path = record {
+    h = closed_forest g r f mate t o closes;
+    outer = closes.w_outer;
+    place = 0;
+    within = omega arith;
+    member = (path_is (p 0)).1 (0, omega arith, sym (roots (p 0) (q 0) (pp.path.within 0 (omega arith)) (qq.path.within 0 (omega arith)) (pp.path.outside 0 (omega arith)) (qq.path.outside 0 (omega arith)) pp.free qq.free));
   }
 
-  first_place : Within n 1
-  first_place = (omega arith, omega arith)
+  module _ (base : ℕ) (base_outer : mem t.outer base ≡ true) (base_in : mem path base ≡ true) (second : List ℕ) (last : IsLastIn h.k h.v path o.w base second) where
+    abbrev half_way : ℕ
+    half_way = h.k base
 
-  round_base : round 1 ≡ base
-  round_base = grind (arith, round_low 0, q_base)
+    abbrev i : ℕ
+    i = half_way + half_way
 
-  -- a vertex of the cycle is on one of the paths alone, or the base
-  abbrev alone : Bool → Bool → Bool
-  alone s u = (s || u) && not (s && u)
+    base_last : h.v base i ≡ base
+    base_last = h.forest.last base base_outer
 
-  alone_parts : (s u : Bool) → alone s u ≡ true → ((s ≡ true) × (u ≡ false)) ⊎ ((u ≡ true) × (s ≡ false))
-  alone_parts s u z = grind arith
+    p_base : p i ≡ base
+    p_base = sym (last.over i (omega arith)) ∙ base_last
 
-  same_bool : (s u : Bool) → (s ≡ true → u ≡ true) → (u ≡ true → s ≡ true) → s ≡ u
-  same_bool s u there back = grind arith
+    on_path : IsOuterOf q l base
+    on_path = (path_is base).0 base_in
 
-  module _ (members : List ℕ) (members_are : (v : ℕ) → mem members v ≡ (alone (mem first v) (mem second v) || base == v)) where
-    into : (v : ℕ) → mem members v ≡ true → listed n round v ≡ true
-    into v z = elim (or_cases (alone (mem first v) (mem second v)) (base == v) (sym (members_are v) ∙ z)) [
-      | inr e ↦ true_some n (λ s. round s == v) 1 first_place (eq-eqb (round 1) v (round_base ∙ eqb-true base v e))
-      | inl e ↦ elim (alone_parts (mem first v) (mem second v) e) [
-        | inl c ↦
-            let w = (first_is v).0 c.0 in
-            let in_l = w.1 in
-            elim (cases_lt w.0 i) [
-              | inl s ↦ absurd (both_ways (mem second v) c.1 ((second_is v).1 (w.0, (let fits = li in omega arith), shared w.0 (omega arith) ∙ w.2)))
-              | inr s ↦ true_some n (λ s. round s == v) (suc (w.0 - i)) (omega arith, omega arith) (eq-eqb (round (suc (w.0 - i))) v (round_low (w.0 - i) (omega arith) ∙ ap q (omega arith) ∙ w.2))
-            ]
-        | inr c ↦
-            let w = (second_is v).0 c.0 in
-            let in_k = w.1 in
-            elim (cases_lt i w.0) [
-              | inr s ↦ absurd (both_ways (mem first v) c.1 ((first_is v).1 (w.0, (let fits = lj in omega arith), sym (shared w.0 (omega arith)) ∙ w.2)))
-              | inl s ↦ true_some n (λ s. round s == v) (k + k + suc (suc m) - w.0) (omega arith, omega arith) (eq-eqb (round (k + k + suc (suc m) - w.0)) v (round_high (k + k + suc (suc m) - w.0) w.0 in_k (omega arith) ∙ w.2))
-            ]
-      ]
+    pass : (on_path.0 + on_path.0 ≡ i) × GoesOver h.k h.v base o.v
+    pass = passes g r f mate t h l o.v base (on_path.0 + on_path.0) (omega arith) closes.v_outer base_outer (let s = on_path.1 in omega arith) on_path.2
+
+    q_base : q i ≡ base
+    q_base = sym (pass.1 i (omega arith)) ∙ base_last
+
+    li : i ≤ k + k
+    li = let s = last.pairs in omega arith
+
+    lj : i ≤ l + l
+    lj = let s = pass.0 in let d = on_path.1 in omega arith
+
+    meet : p i ≡ q i
+    meet = p_base ∙ sym q_base
+
+    -- up to the base the paths are one
+    shared : (j : ℕ) → j ≤ i → p j ≡ q j
+    shared j d = sym (last.over j d) ∙ pass.1 j d
+
+    p_sides : (s : ℕ) → s ≤ k + k → mem t.inner (p s) ≡ is_odd s
+    p_sides s d = (h.forest.sides o.w closes.w_outer s d).1
+
+    q_sides : (s : ℕ) → s ≤ l + l → mem t.inner (q s) ≡ is_odd s
+    q_sides s d = (h.forest.sides o.v closes.v_outer s d).1
+
+    latest_even : (s u : ℕ) → half_way < s → s + s ≤ k + k → u ≤ l + l → p (s + s) ≢ q u
+    latest_even s u lo hi d e =
+        let even : is_odd u ≡ false = sym (q_sides u d) ∙ ap (mem t.inner) (sym e) ∙ p_sides (s + s) hi ∙ odd-double s in
+        let c = half u even in
+        let z = c.1 in
+        both_ways (mem path (p (s + s))) (last.later s lo (omega arith)) ((path_is (p (s + s))).1 (c.0, omega arith, ap q (sym z) ∙ sym e))
+
+    latest : (s u : ℕ) → i < s → s ≤ k + k → u ≤ l + l → p s ≢ q u
+    latest s u lo hi d e = elim (cases_Bool (is_odd s)) [
+      | inr even ↦ let c = half s even in let z = c.1 in latest_even c.0 u (omega arith) (omega arith) d (ap p (sym z) ∙ e)
+      | inl odd ↦
+          let even : is_odd (suc s) ≡ false = ap not odd in
+          let c = half (suc s) even in
+          let z = c.1 in
+          let s_in : s < k + k = omega arith in
+          let odd_u : is_odd u ≡ true = sym (q_sides u d) ∙ ap (mem t.inner) (sym e) ∙ p_sides s hi ∙ odd in
+          let u_in : u < l + l = grind arith in
+          let e1 = pp.path.ends s s_in in
+          let e2 = subst (λ z. HasEnds g (b u) z (q (suc u))) (sym e) (qq.path.ends u u_in) in
+          let same = one_edge g r f closes.mates.matching (a s) (b u) (p s) (p (suc s)) (q (suc u)) (pp.path.within s hi) (pp.path.real s s_in) (qq.path.real u u_in) (pp.turns s s_in ∙ odd) (qq.turns u u_in ∙ odd_u) e1 e2 in
+          elim (same_ends g (a s) (p s) (p (suc s)) (p s) (q (suc u)) e1 (ends_by g (a s) (b u) (p s) (p s) (q (suc u)) (q (suc u)) same refl refl e2)) [
+            | inl x ↦ latest_even c.0 (suc u) (omega arith) (omega arith) (omega arith) (ap p (sym z) ∙ x.1)
+            | inr x ↦ let y = pp.path.apart (suc s) s (omega arith) hi x.1 in absurd (omega arith)
+          ]
     ]
 
-    from : (v : ℕ) → listed n round v ≡ true → mem members v ≡ true
-    from v z =
-        let at = some_true n (λ s. round s == v) z in
-        let here = eqb-true (round at.0) v at.2 in
-        members_are v ∙ elim (spot g r f closes.mates.matching (mem t.inner) k l p a q b pp qq p_sides q_sides d closes.edge.1 closing two off i i li lj meet latest m x mj xi at.0 at.1) [
-          | inl s ↦
-              let y_in = s.1 in
-              let v_is : q (i + s.0) ≡ v = sym (ap round s.2 ∙ round_low s.0 s.1) ∙ here in
-              elim (cases_eq s.0 0) [
-                | inl e ↦ or_right (alone (mem first v) (mem second v)) (base == v) (eq-eqb base v (sym q_base ∙ ap q (omega arith) ∙ v_is))
-                | inr e ↦ or_left (alone (mem first v) (mem second v)) (base == v) (one_of (mem first v) (mem second v) ((first_is v).1 (i + s.0, (let z = mj in omega arith), v_is)) (false_from_ne_true (mem second v) (λ c.
-                    let w = (second_is v).0 c in
-                    elim (cases_lt i w.0) [
-                      | inl b ↦ latest w.0 (i + s.0) b w.1 (let z = mj in omega arith) (w.2 ∙ sym v_is)
-                      | inr b ↦ let y = qq.path.apart w.0 (i + s.0) (let z = lj in omega arith) (let z = mj in omega arith) (sym (shared w.0 (omega arith)) ∙ w.2 ∙ sym v_is) in e (omega arith)
-                    ])))
-              ]
-          | inr s ↦
-              let v_is : p s.0 ≡ v = sym (round_high at.0 s.0 s.2 s.3) ∙ here in
-              or_left (alone (mem first v) (mem second v)) (base == v) (other_of (mem first v) (mem second v) ((second_is v).1 (s.0, s.2, v_is)) (false_from_ne_true (mem first v) (λ c. let w = (first_is v).0 c in latest s.0 w.0 s.1 s.2 w.1 (v_is ∙ sym w.2))))
-        ]
-      where
-        one_of : (s u : Bool) → s ≡ true → u ≡ false → alone s u ≡ true
-        one_of s u e c = grind arith
+    abbrev d : ℕ
+    d = closes.edge.0
 
-        other_of : (s u : Bool) → u ≡ true → s ≡ false → alone s u ≡ true
-        other_of s u e c = grind arith
+    closing : HasEnds g d (p (k + k)) (q (l + l))
+    closing = ends_by g d d (p (k + k)) o.w (q (l + l)) o.v refl (h.forest.last o.w closes.w_outer) (h.forest.last o.v closes.v_outer) (turned g d o.v o.w closes.edge.2)
 
-    members_listed : (v : ℕ) → mem members v ≡ listed n round v
-    members_listed v = same_bool (mem members v) (listed n round v) (into v) (from v)
+    two : p (k + k) ≢ q (l + l)
+    two e = closes.different (sym (h.forest.last o.v closes.v_outer) ∙ sym e ∙ h.forest.last o.w closes.w_outer)
 
-    pub members_within : (v : ℕ) → mem members v ≡ true → Within g.order v
-    members_within v z = let at = some_true n (λ s. round s == v) (into v z) in subst (Within g.order) (eqb-true (round at.0) v at.2) (is_opened.cycle.within at.0 at.1)
+    off : f d ≡ false
+    off = outer_edge g closes.graph r f closes.mates.matching (mem t.outer) (mem t.inner) h.k h.v h.e h.forest d o.v o.w closes.edge.1 closes.edge.2 closes.v_outer (h.forest.apart o.w closes.w_outer)
 
-    pub flower_holds : (flipped_row new : List ℕ) → ((u : ℕ) → numbers flipped_row u ≡ flipped_over (numbers mate) (h.v base) 0 half_way u) → ((u : ℕ) → numbers new u ≡ cond (mem members u) 0 (numbers flipped_row u)) → HoldsFlower g r f new (record { members = members; base = base })
-    flower_holds flipped_row new flips clears = record {
-      length_of = n;
-      vertex = round;
-      edge = edge_round;
-      m = opened;
-      members = members_listed;
-      base = sym round_base;
-      opened = is_opened;
-      mates = mates_alike g r opened (cleared_mates (flipped_mates (numbers mate) q half_way) n round) (numbers new) each
-          (opened_pairs g r f opened n round edge_round is_opened (flipped_mates (numbers mate) q half_way) (flipped_pairs g r f (numbers mate) closes.mates l q b qq half_way (let z = lj in omega arith)));
+    abbrev m : ℕ
+    m = l + l - i
+
+    abbrev x : ℕ
+    x = k + k - i
+
+    mj : m + i ≡ l + l
+    mj = let s = lj in omega arith
+
+    xi : x + i ≡ k + k
+    xi = let s = li in omega arith
+
+    abbrev n : ℕ
+    n = suc (m + x)
+
+    abbrev round : ℕ → ℕ
+    round = around g r f closes.mates.matching (mem t.inner) k l p a q b pp qq p_sides q_sides d closes.edge.1 closing two off i i li lj meet latest m x mj xi
+
+    abbrev edge_round : ℕ → ℕ
+    edge_round = edges_around g r f closes.mates.matching (mem t.inner) k l p a q b pp qq p_sides q_sides d closes.edge.1 closing two off i i li lj meet latest m x mj xi
+
+    round_low : (y : ℕ) → y ≤ m → round (suc y) ≡ q (i + y)
+    round_low = low g r f closes.mates.matching (mem t.inner) k l p a q b pp qq p_sides q_sides d closes.edge.1 closing two off i i li lj meet latest m x mj xi
+
+    round_high : (s y : ℕ) → y ≤ k + k → s + y ≡ k + k + suc (suc m) → round s ≡ p y
+    round_high = high g r f closes.mates.matching (mem t.inner) k l p a q b pp qq p_sides q_sides d closes.edge.1 closing two off i i li lj meet latest m x mj xi
+
+    odd_cycle : IsOddCycle g r n round edge_round
+    odd_cycle = cycle g r f closes.mates.matching (mem t.inner) k l p a q b pp qq p_sides q_sides d closes.edge.1 closing two off i i li lj meet latest m x mj xi
+
+    first_place : Within n 1
+    first_place = (omega arith, omega arith)
+
+    round_base : round 1 ≡ base
+    round_base = grind (arith, round_low 0, q_base)
+
+    -- the walk from the other end stops at the base too
+    pub meets_base : (set : List ℕ) → ((v : ℕ) → mem set v ≡ (base == v)) → MeetsSet mate t set o.v
+    meets_base set is = record {
+      h = closed_forest g r f mate t o closes;
+      outer = closes.v_outer;
+      place = half_way;
+      within = let z = lj in omega arith;
+      member = is (q i) ∙ eq-eqb base (q i) (sym q_base);
     }
-      where
-        each : (u : ℕ) → numbers new u ≡ cond (listed n round u) 0 (flipped_mates (numbers mate) q half_way u)
-        each u = clears u ∙ ap (λ b. cond b 0 (numbers flipped_row u)) (members_listed u) ∙ elim (cases_Bool (listed n round u)) [
-          | inl z ↦ ap (λ b. cond b 0 (numbers flipped_row u)) z ∙ sym (ap (λ b. cond b 0 (flipped_mates (numbers mate) q half_way u)) z)
-          | inr z ↦
-              ap (λ b. cond b 0 (numbers flipped_row u)) z ∙ flips u
-              ∙ over_mates (numbers mate) q (h.v base) half_way (λ s w ls lw e. qq.path.apart s w (let c = lj in omega arith) (let c = lj in omega arith) e) pass.1 u
-              (λ e. both_ways (listed n round u) z (true_some n (λ s. round s == u) 1 first_place (eq-eqb (round 1) u (round_base ∙ sym (e ∙ q_base)))))
-              ∙ sym (ap (λ b. cond b 0 (flipped_mates (numbers mate) q half_way u)) z)
+
+    -- a vertex of the cycle is the base, or comes after it on one of the paths
+    module _ (set first members : List ℕ) (stop : ℕ) (set_is : (v : ℕ) → mem set v ≡ (base == v)) (stop_in : mem set stop ≡ true) (side : IsLastIn h.k h.v set o.v stop first) (members_are : (v : ℕ) → mem members v ≡ ((mem first v || mem second v) || base == v)) where
+      stops : stop ≡ base
+      stops = sym (eqb-true base stop (sym (set_is stop) ∙ stop_in))
+
+      first_is : (v : ℕ) → (mem first v ≡ true) ↔ IsBeyond q i l v
+      first_is v = subst (λ (x : ℕ). (mem first v ≡ true) ↔ IsBeyond q (h.k x + h.k x) l v) stops (side.way_is v)
+
+      same_bool : (s u : Bool) → (s ≡ true → u ≡ true) → (u ≡ true → s ≡ true) → s ≡ u
+      same_bool s u there back = grind arith
+
+      into : (v : ℕ) → mem members v ≡ true → listed n round v ≡ true
+      into v z = elim (or_cases (mem first v || mem second v) (base == v) (sym (members_are v) ∙ z)) [
+        | inr e ↦ true_some n (λ s. round s == v) 1 first_place (eq-eqb (round 1) v (round_base ∙ eqb-true base v e))
+        | inl e ↦ elim (or_cases (mem first v) (mem second v) e) [
+          | inl c ↦
+              let w = (first_is v).0 c in
+              let lo = w.1 in
+              let hi = w.2 in
+              true_some n (λ s. round s == v) (suc (w.0 - i)) (omega arith, omega arith) (eq-eqb (round (suc (w.0 - i))) v (round_low (w.0 - i) (omega arith) ∙ ap q (omega arith) ∙ w.3))
+          | inr c ↦
+              let w = (last.way_is v).0 c in
+              let lo = w.1 in
+              let hi = w.2 in
+              true_some n (λ s. round s == v) (k + k + suc (suc m) - w.0) (omega arith, omega arith) (eq-eqb (round (k + k + suc (suc m) - w.0)) v (round_high (k + k + suc (suc m) - w.0) w.0 hi (omega arith) ∙ w.3))
         ]
+      ]
+
+      from : (v : ℕ) → listed n round v ≡ true → mem members v ≡ true
+      from v z =
+          let at = some_true n (λ s. round s == v) z in
+          let here = eqb-true (round at.0) v at.2 in
+          members_are v ∙ elim (spot g r f closes.mates.matching (mem t.inner) k l p a q b pp qq p_sides q_sides d closes.edge.1 closing two off i i li lj meet latest m x mj xi at.0 at.1) [
+            | inl s ↦
+                let y_in = s.1 in
+                let v_is : q (i + s.0) ≡ v = sym (ap round s.2 ∙ round_low s.0 s.1) ∙ here in
+                elim (cases_eq s.0 0) [
+                  | inl e ↦ or_right (mem first v || mem second v) (base == v) (eq-eqb base v (sym q_base ∙ ap q (omega arith) ∙ v_is))
+                  | inr e ↦ or_left (mem first v || mem second v) (base == v) (or_left (mem first v) (mem second v) ((first_is v).1 (i + s.0, omega arith, (let z = mj in omega arith), v_is)))
+                ]
+            | inr s ↦
+                let v_is : p s.0 ≡ v = sym (round_high at.0 s.0 s.2 s.3) ∙ here in
+                or_left (mem first v || mem second v) (base == v) (or_right (mem first v) (mem second v) ((last.way_is v).1 (s.0, s.1, s.2, v_is)))
+          ]
+
+      members_listed : (v : ℕ) → mem members v ≡ listed n round v
+      members_listed v = same_bool (mem members v) (listed n round v) (into v) (from v)
+
+      pub members_within : (v : ℕ) → mem members v ≡ true → Within g.order v
+      members_within v z = let at = some_true n (λ s. round s == v) (into v z) in subst (Within g.order) (eqb-true (round at.0) v at.2) (odd_cycle.within at.0 at.1)
+
+      closing_in : AreClosingIn (mem t.outer) h.k h.v (mem members) base o.w o.v
+      closing_in = record {
+        base_outer = base_outer;
+        x_outer = closes.w_outer;
+        y_outer = closes.v_outer;
+        x_long = last.pairs;
+        y_long = let z = lj in omega arith;
+        x_over = last.over;
+        y_over = pass.1;
+        latest = latest;
+        members = λ u z. elim (or_cases (mem first u || mem second u) (base == u) (sym (members_are u) ∙ z)) [
+          | inr e ↦ inl (eqb-true base u e)
+          | inl e ↦ elim (or_cases (mem first u) (mem second u) e) [
+            | inl c ↦ inr (inr ((first_is u).0 c))
+            | inr c ↦ inr (inl ((last.way_is u).0 c))
+          ]
+        ];
+        base = members_are base ∙ or_right (mem first base || mem second base) (base == base) (eq-eqb base base refl);
+        x_in = λ j lo hi. members_are (p j) ∙ or_left (mem first (p j) || mem second (p j)) (base == p j) (or_right (mem first (p j)) (mem second (p j)) ((last.way_is (p j)).1 (j, lo, hi, refl)));
+        y_in = λ j lo hi. members_are (q j) ∙ or_left (mem first (q j) || mem second (q j)) (base == q j) (or_left (mem first (q j)) (mem second (q j)) ((first_is (q j)).1 (j, lo, hi, refl)));
+      }
+
+      -- the forest can go on after the blossom
+      pub flower_closed : IsFlower g r f (mem t.outer) closes.holds.k closes.holds.v (numbers mate) (mem members) base
+      flower_closed = closed_flower g closes.graph r f (mem t.outer) (mem t.inner) (numbers t.parent.items) (numbers mate) closes.mates (walked_of g r f mate t h) (mem members) base o.w o.v closing_in
+          n round edge_round odd_cycle round_base members_listed (stem_holds g r f closes.mates.matching (mem t.inner) k l p a q b pp qq p_sides q_sides d closes.edge.1 closing two off i i li lj meet latest m x mj xi half_way refl)
+
+      pub flower_holds : (exposed new : List ℕ) → ((u : ℕ) → mem exposed u ≡ (mem members u && not (base == u))) → ((u : ℕ) → numbers new u ≡ cond (mem exposed u) 0 (numbers mate u)) → HoldsFlower g r f mate t closes.holds new (record { members = members; base = base })
+      flower_holds exposed new exposed_is clears = record {
+        flower = flower_closed;
+        exposed = λ u. clears u ∙ ap (λ b. cond b 0 (numbers mate u)) (exposed_is u ∙ ap (λ b. mem members u && not b) (turned_test base u));
+      }
+        where
+          turned_test : (x y : ℕ) → (x == y) ≡ (y == x)
+          turned_test x y = elim (cases_eq x y) [ inl q ↦ eq-eqb x y q ∙ sym (eq-eqb y x (sym q)) | inr q ↦ ne_eqb x y q ∙ sym (ne_eqb y x (λ s. q (sym s))) ]

@@ -3,7 +3,7 @@
 use Rattle.std.proofs.Common.{◌≡◌, ◌≢◌, ℕ, suc, ◌+◌, ◌-◌, ◌*◌, ◌≤◌, ◌<◌, true, false, ◌==◌, ap, ◌∙◌, arith, not, ◌&&◌, ◌||◌, List, []}
 use Rattle.counting.proofs.Common.{both_ways, and_from, false_from_ne_true, count_le, Within, count, Set, mem}
 use Rattle.graph_core.proofs.Common.{count_gained, count_lost, Graph}
-use Rattle.match_search.specs.Common.{HoldsAlternating, IsDone, HasBranched, AreNear, Touches, numbers}
+use Rattle.match_search.specs.Common.{HoldsAlternating, IsDone, AreNear, Touches}
 use Rattle.match_search.specs.declared.instance.Instance.{Instance}
 use Rattle.match_search.specs.declared.alternating.AlternatingForest.{AlternatingForest}
 use Rattle.match_search.proofs.SymmetricDifference.{path_short}
@@ -17,13 +17,9 @@ module _ (s : Instance) (t : AlternatingForest) (x : ℕ) (met near reach : List
   pub none_reached : reach ≡ [] → IsDone s t x
   none_reached e y n l d = grind arith
 
--- a vertex that is done stays done when more vertices are inner
-pub done_stays : (s : Instance) (t h : AlternatingForest) (y z x w : ℕ) → HasBranched t h x y z → IsDone s t w → IsDone s h w
-done_stays s t h y z x w grew done u n l d = grew.inner u ∙ ap (λ b. b || (y == u)) (done u n l d)
-
 -- an outer vertex is few pairs of edges from its root
-pub pairs_few : (g : Graph) (r f : Set) (mate : List ℕ) (t : AlternatingForest) → HoldsAlternating g r f mate t → (u : ℕ) → mem t.outer u ≡ true → suc (numbers t.pairs.items u + numbers t.pairs.items u) ≤ g.order
-pairs_few g r f mate t holds u o = path_short g r (numbers t.pairs.items u) (holds.v u) (holds.e u) (holds.forest.path u o).path
+pub pairs_few : (g : Graph) (r f : Set) (mate : List ℕ) (t : AlternatingForest) → (h : HoldsAlternating g r f mate t) (u : ℕ) → mem t.outer u ≡ true → suc (h.k u + h.k u) ≤ g.order
+pairs_few g r f mate t holds u o = path_short g r (holds.k u) (holds.v u) (holds.e u) (holds.forest.path u o).path
 
 pub branch_less : (n : ℕ) (inner inner' opens opens' : Set) (y z : ℕ) → Within n y → Within n z → inner y ≡ false → opens z ≡ false → ((v : ℕ) → inner' v ≡ (inner v || (y == v))) → ((v : ℕ) → opens' v ≡ (opens v || (z == v))) →
     2 * (n - count n inner') + count n opens' < 2 * (n - count n inner) + count n opens

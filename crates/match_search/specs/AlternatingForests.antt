@@ -1,10 +1,11 @@
 -- How the code represents an alternating forest: an inner vertex names its parent, and the path
 -- goes on from there by mates.
 -- Stated by: match_search. Used by: match_core.
-use Rattle.std.specs.Prelude.{◌≢◌, ◌≡◌, ℕ, suc, ◌+◌, ◌≤◌, ◌==◌, ◌&&◌, ◌||◌, true, length, List, Option, Some, None}
+use Rattle.std.specs.Prelude.{◌≢◌, ◌≡◌, ℕ, suc, ◌+◌, ◌≤◌, ◌==◌, ◌&&◌, ◌||◌, ◌⊎◌, not, true, false, length, List, Option, Some, None}
 use Rattle.counting.specs.Common.{Set, mem}
 use Rattle.graph_core.specs.Common.{Graph}
 use Rattle.match_search.specs.Forests.{IsForest}
+use Rattle.match_search.specs.Frames.{shrunk_vertex}
 use Rattle.match_search.specs.Mates.{HasMates, with_mate}
 use Rattle.match_search.specs.Instances.{IsInstance, Touches}
 use Rattle.match_search.specs.Rows.{numbers}
@@ -26,38 +27,53 @@ MayBeExposed left mate candidates = (v : ℕ) → mem left v ≡ true → number
 abbrev pub AreExposed : List ℕ → List ℕ → List ℕ → Type 0
 AreExposed left mate roots = (v : ℕ) → mem roots v ≡ (mem left v && (numbers mate v == 0))
 
--- the lengths of the rows of a forest of n vertices
+-- the length of the row of parents of a forest of n vertices
 pub record IsSized (n : ℕ) (t : AlternatingForest) : Type 0 where
   pub parents_long : length t.parent.items ≡ suc n
-  pub pairs_long : length t.pairs.items ≡ suc n
 
 -- the path up from u: its mate is a child of p, and the path of u is that of p extended by its mate
 -- and u
-pub record GoesUp (mate : List ℕ) (t : AlternatingForest) (v : ℕ → ℕ → ℕ) (u p : ℕ) : Type 0 where
+pub record GoesUp (mate : List ℕ) (t : AlternatingForest) (k : ℕ → ℕ) (v : ℕ → ℕ → ℕ) (u p : ℕ) : Type 0 where
   pub parent : numbers t.parent.items (numbers mate u) ≡ p
   pub outer : mem t.outer p ≡ true
-  pub pairs : numbers t.pairs.items u ≡ suc (numbers t.pairs.items p)
-  pub inner : v u (suc (numbers t.pairs.items p + numbers t.pairs.items p)) ≡ numbers mate u
-  pub before : (j : ℕ) → j ≤ numbers t.pairs.items p + numbers t.pairs.items p → v u j ≡ v p j
+  pub pairs : k u ≡ suc (k p)
+  pub inner : v u (suc (k p + k p)) ≡ numbers mate u
+  pub before : (j : ℕ) → j ≤ k p + k p → v u j ≡ v p j
 
--- the sets, the parents and the mates are a forest for f in g - r; v and e are the vertices and
--- edges of its paths
+-- the sets, the parents and the mates are a forest for f in g - r; k, v and e are the numbers of
+-- pairs of edges, the vertices and the edges of its paths
 pub record HoldsAlternating (g : Graph) (r f : Set) (mate : List ℕ) (t : AlternatingForest) : Type 0 where
+  pub k : ℕ → ℕ
   pub v : ℕ → ℕ → ℕ
   pub e : ℕ → ℕ → ℕ
-  pub forest : IsForest g r f (mem t.outer) (mem t.inner) (numbers t.pairs.items) v e
+  pub forest : IsForest g r f (mem t.outer) (mem t.inner) k v e
   pub parents_long : length t.parent.items ≡ suc g.order
-  pub pairs_long : length t.pairs.items ≡ suc g.order
-  pub up : (u : ℕ) → mem t.outer u ≡ true → numbers t.pairs.items u ≢ 0 → (p : ℕ) × GoesUp mate t v u p
+  pub up : (u : ℕ) → mem t.outer u ≡ true → k u ≢ 0 → (p : ℕ) × GoesUp mate t k v u p
 
--- h is t with an inner vertex y, whose parent is x, and with its mate z as an outer vertex
+-- h is t with these roots, which are outer and active, and no other vertices
+pub record HasRestarted (t h : AlternatingForest) (roots : List ℕ) : Type 0 where
+  pub outer : h.outer ≡ roots
+  pub inner : (v : ℕ) → mem h.inner v ≡ false
+  pub active : h.active ≡ roots
+  pub parents_long : length h.parent.items ≡ length t.parent.items
+
+-- h is t with an inner vertex y, whose parent is x, and with its mate z as an outer vertex, which is
+-- active
 pub record HasBranched (t h : AlternatingForest) (x y z : ℕ) : Type 0 where
   pub outer : (v : ℕ) → mem h.outer v ≡ (mem t.outer v || (z == v))
   pub inner : (v : ℕ) → mem h.inner v ≡ (mem t.inner v || (y == v))
+  pub active : (v : ℕ) → mem h.active v ≡ (mem t.active v || (z == v))
   pub parents_long : length h.parent.items ≡ length t.parent.items
-  pub pairs_long : length h.pairs.items ≡ length t.pairs.items
   pub parent : (v : ℕ) → numbers h.parent.items v ≡ with_mate (numbers t.parent.items) y x v
-  pub pairs : (v : ℕ) → numbers h.pairs.items v ≡ with_mate (numbers t.pairs.items) z (suc (numbers t.pairs.items x)) v
+
+-- h is t after the members of c were taken out: the base z is outer and active, and the parent of what
+-- had a parent in c
+pub record HasContracted (t h : AlternatingForest) (c : Set) (z : ℕ) : Type 0 where
+  pub outer : (v : ℕ) → mem h.outer v ≡ ((mem t.outer v && not (c v)) || (z == v))
+  pub inner : (v : ℕ) → mem h.inner v ≡ (mem t.inner v && not (c v))
+  pub active : (v : ℕ) → mem h.active v ≡ ((mem t.active v && not (c v)) || (z == v))
+  pub parents_long : length h.parent.items ≡ length t.parent.items
+  pub parent : (y : ℕ) → mem h.inner y ≡ true → numbers h.parent.items y ≡ shrunk_vertex c z (numbers t.parent.items y)
 
 -- x is in the set
 pub record IsMember (set : List ℕ) (x : ℕ) : Type 0 where
@@ -67,6 +83,18 @@ pub record IsMember (set : List ℕ) (x : ℕ) : Type 0 where
 abbrev pub IsDone : Instance → AlternatingForest → ℕ → Type 0
 IsDone s t x = (y : ℕ) → Touches s x y → mem s.left y ≡ true → x ≢ y → mem t.inner y ≡ true
 
+-- x is settled: each neighbour of it that is left, except x itself, is inner or active
+abbrev pub IsSettled : Instance → AlternatingForest → ℕ → Type 0
+IsSettled s t x = (y : ℕ) → Touches s x y → mem s.left y ≡ true → x ≢ y → (mem t.inner y ≡ true) ⊎ (mem t.active y ≡ true)
+
+-- the instance is g - r, the mates are those of a matching f of it, and the forest is one for f that
+-- can grow on from its active vertices: they are outer, and each other outer vertex is settled
+pub record GrowsForest (g : Graph) (r f : Set) (s : Instance) (mate : List ℕ) (t : AlternatingForest) : Type 0 where
+  pub matching : HoldsMatching g r f s mate
+  pub holds : HoldsAlternating g r f mate t
+  pub active_outer : (x : ℕ) → mem t.active x ≡ true → mem t.outer x ≡ true
+  pub settled : (x : ℕ) → mem t.outer x ≡ true → mem t.active x ≡ false → IsSettled s t x
+
 -- two different outer vertices of the forest that an edge joins
 pub record IsClosingPair (s : Instance) (t : AlternatingForest) (o : Adjacent) : Type 0 where
   pub v_outer : mem t.outer o.v ≡ true
@@ -75,8 +103,8 @@ pub record IsClosingPair (s : Instance) (t : AlternatingForest) (o : Adjacent) :
   pub w_left : mem s.left o.w ≡ true
   pub adjacent : Touches s o.v o.w
 
--- a forest with two outer vertices that an edge joins, or one that no edge leaves
+-- a forest that can grow on, with two outer vertices that an edge joins, or one that no edge leaves
 pub record IsGrownForest (g : Graph) (r f : Set) (s : Instance) (mate : List ℕ) (t : AlternatingForest) (closing : Option Adjacent) : Type 0 where
-  pub holds : HoldsAlternating g r f mate t
+  pub grows : GrowsForest g r f s mate t
   pub done : closing ≡ None → (x : ℕ) → mem t.outer x ≡ true → IsDone s t x
   pub closing_pair : (o : Adjacent) → closing ≡ Some o → IsClosingPair s t o

@@ -28,11 +28,6 @@ abbrev pub flipped_mates : (ℕ → ℕ) → (ℕ → ℕ) → ℕ → ℕ → �
 flipped_mates mate v zero = mate
 flipped_mates mate v (suc k) = with_mate (with_pair (flipped_mates mate v k) (v (k + k)) (v (suc (k + k)))) (v (suc (suc (k + k)))) 0
 
--- the mates changed so that the n pairs from v (s + s) on of a path over v 0, v 1, .. are pairs
-abbrev pub flipped_over : (ℕ → ℕ) → (ℕ → ℕ) → ℕ → ℕ → ℕ → ℕ
-flipped_over mate v s zero = mate
-flipped_over mate v s (suc n) = with_pair (flipped_over mate v (suc s) n) (v (s + s)) (v (suc (s + s)))
-
 -- the mates changed so that the vertices c 1 to c n are exposed
 abbrev pub cleared_mates : (ℕ → ℕ) → ℕ → (ℕ → ℕ) → ℕ → ℕ
 cleared_mates mate n c u = cond (listed n c u) 0 (mate u)

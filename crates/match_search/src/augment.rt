@@ -45,7 +45,8 @@ pub fn augment_once(
     ensures restored { OnOk result (AreAlike instance.old instance.new) }
 {
     let roots = exposed_in(candidates, instance.left, mate);
-    match grow_forest(instance, forest, roots, mate, Growth::Least) {
+    forest.restart(roots);
+    match grow_forest(instance, forest, mate, Growth::Least) {
         None => Ok(Answer::Final(FinalSets {
             outer: forest.outer,
             inner: forest.inner,

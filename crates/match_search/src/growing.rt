@@ -1,10 +1,10 @@
 //! The search of the engine: an alternating forest grows until an edge joins two of its outer
 //! vertices, or each edge at an outer vertex leads to an inner one. In the second case the matching
 //! is maximum: if the inner vertices are deleted, each outer vertex is a component by itself.
-ghost use Rattle.std.specs.Prelude.{◌≡◌, ℕ, ◌+◌, ◌<◌, ◌≤◌, length, suc, IfOk, IfSome, IfNone, []};
-ghost use Rattle.counting.specs.Common.{Set, Within, mem};
+ghost use Rattle.std.specs.Prelude.{◌≡◌, ℕ, IfSome, IfNone, []};
+ghost use Rattle.counting.specs.Common.{Set, Within};
 ghost use Rattle.graph_core.specs.Common.{Graph};
-ghost use Rattle.match_search.specs.Common.{AreExposed, HoldsMatching, IsGrownForest, IsMember, IsSized, numbers};
+ghost use Rattle.match_search.specs.Common.{GrowsForest, IsGrownForest, IsMember};
 
 use crate::alternating::AlternatingForest;
 use crate::instance::Instance;
@@ -17,7 +17,7 @@ pub struct Adjacent {
     pub w: u32,
 }
 
-/// Which open vertex a forest grows from next: the least one, or the one that became outer last.
+/// Which active vertex a forest grows from next: the least one, or the one that became outer last.
 /// With the latest the search soon comes back to a vertex of the forest, and its blossoms are
 /// large.
 #[derive(Clone, Copy, Drop)]
@@ -41,40 +41,29 @@ fn next_of(rest: VSet, latest: VSet, growth: Growth) -> Option<u32>
     }
 }
 
-/// Grows the forest of the matching with these mates from its exposed vertices, and returns two of
-/// its outer vertices that are adjacent, if it comes to any. What the forest was before is ignored.
+/// Grows a forest from its active vertices, and returns two of its outer vertices that are adjacent,
+/// if it comes to any.
 pub fn grow_forest(
     instance: &Instance,
     forest: &mut AlternatingForest,
-    roots: VSet,
     mate: &[u32],
     growth: Growth,
 ) -> Option<Adjacent>
-    requires holds { (g : Graph) × (r : Set) × (f : Set) ×
-        HoldsMatching g r f instance.now mate.now }
-    requires sized { IsSized (length instance.now.rows.items) forest.old }
-    requires roots { AreExposed instance.now.left mate.now roots }
+    requires { (g : Graph) × (r : Set) × (f : Set) ×
+        GrowsForest g r f instance.now mate.now forest.old }
     ensures { (g : Graph) (r f : Set) →
-        HoldsMatching g r f instance.now mate.now →
+        GrowsForest g r f instance.now mate.now forest.old →
         IsGrownForest g r f instance.now mate.now forest.new result }
 {
-    forest.restart(roots);
-    let mut open = forest.outer;
-    let mut latest = VSet::empty();
-    'growing: while let Some(x) = next_of(open, latest, growth) {
+    'growing: while let Some(x) = next_of(forest.active, forest.latest, growth) {
         let near = instance.near(x).without(x);
         let reach = near.minus(forest.inner);
         if let Some(y) = reach.meet(forest.outer).first() {
             return Some(Adjacent { v: x, w: y });
         }
         match reach.first() {
-            None => open = open.without(x),
-            Some(y) => {
-                let z = mate[y as usize];
-                forest.branch(x, y, z);
-                open = open.with(z);
-                latest = VSet::one(z);
-            }
+            None => forest.active = forest.active.without(x),
+            Some(y) => forest.branch(x, y, mate[y as usize]),
         }
     }
     None

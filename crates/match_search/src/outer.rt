@@ -1,13 +1,14 @@
 //! Which vertices can a maximum matching miss, if it misses only one?
 //!
 //! The forest grows from the one exposed vertex, and an edge between two of its outer vertices
-//! closes a blossom, which is shrunk to its base. No step makes the matching larger, and only the
-//! outer vertices are wanted, so no blossom is expanded again. If a blossom contains all vertices
-//! that are left, each of them is outer, and the search ends.
+//! closes a blossom, which is shrunk to its base. The base is then an outer vertex of the same
+//! forest, which grows on. No step makes the matching larger, and only the outer vertices are wanted,
+//! so no blossom is expanded again. If a blossom contains all vertices that are left, each of them is
+//! outer, and the search ends.
 ghost use Rattle.std.specs.Prelude.{◌≡◌, ◌≤◌, length};
 ghost use Rattle.counting.specs.Common.{Set};
-ghost use Rattle.graph_core.specs.Common.{Graph};
-ghost use Rattle.match_search.specs.Common.{IsSized, HasOuter, HoldsRooted, AreAlike};
+ghost use Rattle.graph_core.specs.Common.{Graph, missed_count};
+ghost use Rattle.match_search.specs.Common.{IsSized, GrowsForest, HasOuter, HoldsRooted, AreAlike};
 
 use crate::alternating::AlternatingForest;
 use crate::flower::{Flower, flower_of};
@@ -17,7 +18,7 @@ use vset_core::VSet;
 
 /// The outer vertices of the last forest, if the matching with these mates misses only the root.
 /// The mates are meaningless afterwards. All shrinkings are undone at the end. Takes no memory: the
-/// forests are grown in the given one, whose content is ignored.
+/// forest grows in the given one, whose content is ignored.
 pub fn outer_from(
     instance: &mut Instance,
     forest: &mut AlternatingForest,
@@ -32,8 +33,21 @@ pub fn outer_from(
     ensures sized { IsSized (length instance.old.rows.items) forest.new }
     ensures restored { AreAlike instance.old instance.new }
 {
-    let roots = VSet::one(root);
-    match grow_forest(instance, forest, roots, mate, Growth::Latest) {
+    forest.restart(VSet::one(root));
+    outer_on(instance, forest, mate)
+}
+
+// The same for a forest that grows on, of a matching that misses one vertex.
+fn outer_on(instance: &mut Instance, forest: &mut AlternatingForest, mate: &mut [u32]) -> VSet
+    requires { (g : Graph) × (r : Set) × (f : Set) ×
+        GrowsForest g r f instance.old mate.old forest.old × (missed_count g r f ≡ 1) }
+    ensures outer { (g : Graph) (r f : Set) →
+        GrowsForest g r f instance.old mate.old forest.old → missed_count g r f ≡ 1 →
+        HasOuter g r f result }
+    ensures sized { IsSized (length instance.old.rows.items) forest.new }
+    ensures restored { AreAlike instance.old instance.new }
+{
+    match grow_forest(instance, forest, mate, Growth::Latest) {
         None => forest.outer,
         Some(bridge) => {
             let Flower { members, base } = flower_of(forest, bridge, mate);
@@ -41,7 +55,8 @@ pub fn outer_from(
                 return members;
             }
             let before = instance.shrink(members, base);
-            let below = outer_from(instance, forest, base, mate);
+            forest.contract(members, base);
+            let below = outer_on(instance, forest, mate);
             instance.unshrink(base, before);
             below.union(members)
         }

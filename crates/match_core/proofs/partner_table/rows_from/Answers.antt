@@ -2,8 +2,17 @@ use Rattle.std.proofs.Common.{◌≡◌, ℕ, List, true, sym, ◌∙◌, subst,
 use Rattle.counting.proofs.Common.{Within, mem}
 use Rattle.match_search.specs.Common.{ServesRows}
 use Rattle.match_core.specs.Common.{are_partners}
-use Rattle.match_core.proofs.HeldMates.{each_more, mates_alike}
+use Rattle.match_core.proofs.HeldMates.{each_more, first_mates, mates_alike}
 use Rattle.match_core.proofs.partner_table.rows_from.Goals as goal
+
+pub loop-k-init : goal.loop-k-init
+loop-k-init c = record {
+  held = first_mates c.args.g.now (mem c.args.removed) c.in_ok-instance.instance c.args.mate.now (c.in_ok-instance.ensures c.args.g.now c.keeps_limits.ensures.multigraph.ends c.rows.ensures) c.requires.long c.requires.mates;
+  space = c.in_ok-space.ensures;
+  long = search rules;
+  within = λ u v w. absurd (omega arith);
+  row = λ u v w. absurd (omega arith);
+}
 
 pub loop-k-preserved : goal.loop-k-preserved
 loop-k-preserved c = record {

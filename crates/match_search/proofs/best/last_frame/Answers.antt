@@ -16,7 +16,7 @@ augment_once-requires-clause-sized c =
     let long = c.augmenting.invariant.alike.rows_long in
     let sized = c.augmenting.invariant.sized in
     let parents = sized.parents_long in
-    let pairs = sized.pairs_long in record { parents_long = omega arith; pairs_long = omega arith }
+    record { parents_long = omega arith }
 
 pub augmenting-smaller : goal.augmenting-smaller
 augmenting-smaller c =
@@ -38,7 +38,7 @@ augmenting-preserved c = record {
       let long = c.augmenting.invariant.alike.rows_long in
       let sized = c.in_ok-augment_once.ensures.sized in
       let parents = sized.parents_long in
-      let pairs = sized.pairs_long in record { parents_long = omega arith; pairs_long = omega arith };
+      record { parents_long = omega arith };
   alike = alike_then c.args.instance.now c.augmenting.instance c.augment_once.new.instance c.augmenting.invariant.alike c.in_ok-augment_once.ensures.restored;
 }
 

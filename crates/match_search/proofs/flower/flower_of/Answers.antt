@@ -1,22 +1,45 @@
-use Rattle.std.proofs.Common.{◌≡◌, ℕ, ◌==◌, ◌||◌, ◌&&◌, not, ap, ap₂, ◌∙◌, arith}
-use Rattle.counting.proofs.Common.{mem}
-use Rattle.match_search.proofs.PathFlowers.{flower_holds, members_within}
+use Rattle.std.proofs.Common.{◌≡◌, ℕ, ◌==◌, ◌||◌, ◌&&◌, not, ap, ◌∙◌, arith}
+use Rattle.counting.proofs.Common.{and_parts, mem, or_false}
+use Rattle.match_search.proofs.ForestWalks.{closed_forest}
+use Rattle.match_search.proofs.PathFlowers.{flower_holds, meets_base, meets_path, members_within}
 use Rattle.match_search.proofs.flower.flower_of.Goals as goal
-use Rattle.match_search.proofs.flower.flower_of.Goals.{After-with-members}
+use Rattle.match_search.proofs.flower.flower_of.Goals.{After-one, After-with-members}
 
--- a member is on one of the two paths alone, or the base
-members_are : (c : After-with-members) (v : ℕ) → mem c.with-members.result v ≡ (((mem c.path_of-first.result v || mem c.path_of-second.result v) && not (mem c.path_of-first.result v && mem c.path_of-second.result v)) || c.last_in-base.result == v)
-members_are c v = c.with-members.ensures v ∙ ap (λ b. b || c.last_in-base.result == v) (c.minus.ensures v ∙ ap₂ (λ a b. a && not b) (c.union.ensures v) (c.meet.ensures v))
+-- the second walk stops at the base
+base_set : (c : After-one) (v : ℕ) → mem c.one.result v ≡ (c.last_in-base.result.0 == v)
+base_set c v = ap (λ xs. mem xs v) c.one.ensures ∙ or_false (c.last_in-base.result.0 == v)
+
+-- a member comes after the base on one of the two paths, or is the base
+members_are : (c : After-with-members) (v : ℕ) → mem c.with-members.result v ≡ ((mem c.last_in-first.result.1 v || mem c.last_in-base.result.1 v) || c.last_in-base.result.0 == v)
+members_are c v = c.with-members.ensures v ∙ ap (λ b. b || c.last_in-base.result.0 == v) (c.union.ensures v)
+
+pub last_in-base-requires : goal.last_in-base-requires
+last_in-base-requires c =
+    let q = c.requires in
+    let h = closed_forest q.0 q.1 q.2 c.args.mate.now c.args.forest.now c.args.bridge q.3 in
+    meets_path q.0 q.1 q.2 c.args.mate.now c.args.forest.now c.args.bridge q.3 q.4 c.outer_of_path-path.result (c.outer_of_path-path.ensures h)
+
+pub last_in-first-requires : goal.last_in-first-requires
+last_in-first-requires c =
+    let q = c.requires in
+    let h = closed_forest q.0 q.1 q.2 c.args.mate.now c.args.forest.now c.args.bridge q.3 in
+    meets_base q.0 q.1 q.2 c.args.mate.now c.args.forest.now c.args.bridge q.3 q.4 c.outer_of_path-path.result (c.outer_of_path-path.ensures h)
+    c.last_in-base.result.0 c.last_in-base.ensures.outer c.last_in-base.ensures.member c.last_in-base.result.1 (c.last_in-base.ensures.last h) c.one.result (base_set (goal.at.last_in-first-requires c).After-one)
 
 pub expose_all-requires : goal.expose_all-requires
 expose_all-requires c = λ v m.
     let q = c.requires in
-    let w = members_within q.0 q.1 q.2 c.args.mate.now c.args.forest.now c.args.bridge q.3 q.4 c.path_of-first.result c.path_of-second.result (c.path_of-first.ensures q.0 q.1 q.2 q.3.holds) (c.path_of-second.ensures q.0 q.1 q.2 q.3.holds)
-    c.last_in-base.result c.last_in-base.ensures.last (c.last_in-base.ensures.over q.0 q.1 q.2 q.3.holds) (c.last_in-base.ensures.later q.0 q.1 q.2 q.3.holds) c.with-members.result (members_are (goal.at.expose_all-requires c).After-with-members) v m in
-    let long = q.3.long in
-    let same = c.flip_path.auto.mate in omega arith
+    let h = closed_forest q.0 q.1 q.2 c.args.mate.now c.args.forest.now c.args.bridge q.3 in
+    let w = members_within q.0 q.1 q.2 c.args.mate.now c.args.forest.now c.args.bridge q.3 q.4 c.outer_of_path-path.result (c.outer_of_path-path.ensures h)
+    c.last_in-base.result.0 c.last_in-base.ensures.outer c.last_in-base.ensures.member c.last_in-base.result.1 (c.last_in-base.ensures.last h)
+    c.one.result c.last_in-first.result.1 c.with-members.result c.last_in-first.result.0 (base_set (goal.at.expose_all-requires c).After-one) c.last_in-first.ensures.member (c.last_in-first.ensures.last h) (members_are (goal.at.expose_all-requires c).After-with-members)
+    v (and_parts (mem c.with-members.result v) (not (c.last_in-base.result.0 == v)) (Rattle.std.proofs.Common.sym (c.without.ensures v) ∙ m)).0 in
+    let long = q.3.long in omega arith
 
 pub returns : goal.returns
 returns c = λ g r f closes one.
-    flower_holds g r f c.args.mate.now c.args.forest.now c.args.bridge closes one c.path_of-first.result c.path_of-second.result (c.path_of-first.ensures g r f closes.holds) (c.path_of-second.ensures g r f closes.holds)
-    c.last_in-base.result c.last_in-base.ensures.last (c.last_in-base.ensures.over g r f closes.holds) (c.last_in-base.ensures.later g r f closes.holds) c.with-members.result (members_are (goal.at.returns c).After-with-members) c.flip_path.new.mate c.expose_all.new.mate (c.flip_path.ensures g r f closes.holds) c.expose_all.ensures
+    let h = closed_forest g r f c.args.mate.now c.args.forest.now c.args.bridge closes in
+    flower_holds g r f c.args.mate.now c.args.forest.now c.args.bridge closes one c.outer_of_path-path.result (c.outer_of_path-path.ensures h)
+    c.last_in-base.result.0 c.last_in-base.ensures.outer c.last_in-base.ensures.member c.last_in-base.result.1 (c.last_in-base.ensures.last h)
+    c.one.result c.last_in-first.result.1 c.with-members.result c.last_in-first.result.0 (base_set (goal.at.returns c).After-one) c.last_in-first.ensures.member (c.last_in-first.ensures.last h) (members_are (goal.at.returns c).After-with-members)
+    c.without.result c.expose_all.new.mate c.without.ensures c.expose_all.ensures

@@ -1,7 +1,6 @@
 use Rattle.std.proofs.Common.{◌≡◌, ℕ, ◌+◌, ◌<◌, ◌≤◌, true, length}
-use Rattle.counting.proofs.Common.{Set, mem}
-use Rattle.graph_core.proofs.Common.{Graph}
-use Rattle.match_search.specs.Common.{HoldsAlternating, numbers}
+use Rattle.counting.proofs.Common.{mem}
+use Rattle.match_search.specs.Common.{HoldsForest, numbers}
 use Rattle.match_search.proofs.paths.write_path.Given as goal
 
 -- the path from v down to x is written
@@ -9,8 +8,8 @@ abbrev pub invariant-loop-i : goal.invariant-loop-i
 invariant-loop-i l = record {
   same : length l.row ≡ length l.initial.row;
   outer : mem l.forest.outer l.v ≡ true;
-  left : numbers l.forest.pairs.items l.v + l.i ≡ numbers l.forest.pairs.items l.x;
-  above : (g : Graph) (r f : Set) (h : HoldsAlternating g r f l.mate l.forest) (j : ℕ) → j ≤ numbers l.forest.pairs.items l.v + numbers l.forest.pairs.items l.v → h.v l.v j ≡ h.v l.x j;
-  written : (g : Graph) (r f : Set) (h : HoldsAlternating g r f l.mate l.forest) (j : ℕ) → numbers l.forest.pairs.items l.v + numbers l.forest.pairs.items l.v < j → j ≤ numbers l.forest.pairs.items l.x + numbers l.forest.pairs.items l.x → numbers l.row (l.start + j) ≡ h.v l.x j;
+  left : (h : HoldsForest l.mate l.forest) → h.holds.k l.v + l.i ≡ l.pairs;
+  above : (h : HoldsForest l.mate l.forest) (j : ℕ) → j ≤ h.holds.k l.v + h.holds.k l.v → h.holds.v l.v j ≡ h.holds.v l.x j;
+  written : (h : HoldsForest l.mate l.forest) (j : ℕ) → h.holds.k l.v + h.holds.k l.v < j → j ≤ l.pairs + l.pairs → numbers l.row (l.start + j) ≡ h.holds.v l.x j;
   kept : (j : ℕ) → j < l.start → numbers l.row j ≡ numbers l.initial.row j;
 }
