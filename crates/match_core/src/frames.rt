@@ -4,9 +4,9 @@ ghost use Rattle.counting.specs.Common.{Within, count, is_odd, none, mem, IsRisi
 ghost use Rattle.graph_core.specs.Common.{IsMaximum, Attains, InD, InA, joined};
 ghost use Rattle.match_core.specs.Common.{IsOf, edges_of};
 
-use crate::matching::{Matching, matching_of};
+use crate::matching::{Matching, matching_by};
 use graph_core::MultiGraph;
-use match_search::{Best, FinalSets, find_best};
+use match_search::{FinalSets, Mated, find_mates};
 use std::alloc::{AllocError as Memory, Global};
 use vset_core::VSet;
 
@@ -65,11 +65,11 @@ pub fn frame(alloc: Global, g: &MultiGraph) -> Result<FrameSets, Memory>
         (λ f. (v : ℕ) → Within g.now.order v → (mem f.inner v ≡ true) ↔ InA g.now v) }
 {
     g.keeps_limits();
-    let Best { mark, sets } = find_best(alloc, g, VSet::empty())?;
+    let Mated { mate, sets } = find_mates(alloc, g, VSet::empty())?;
     let FinalSets { outer, inner } = sets;
     outer.rises();
     inner.rises();
-    let matching = matching_of(alloc, g, &mark)?;
+    let matching = matching_by(alloc, g, &mate)?;
     Ok(FrameSets {
         found: Found {
             matching,

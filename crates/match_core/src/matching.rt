@@ -6,7 +6,7 @@ ghost use Rattle.match_search.specs.Common.{marks, IsGraphRow};
 ghost use Rattle.match_core.specs.MatchingRows.{KeepsMatching, IsOf, edges_of, is_clear, left_over, row_at};
 
 use graph_core::{Ends, MOST_EDGES, MultiGraph};
-use match_search::{falses, mark_place};
+use match_search::{falses, is_addable, mark_place};
 use std::alloc::{AllocError as Memory, Global};
 use std::marker::Model;
 use vset_core::{MOST_VERTICES, VSet};
@@ -170,6 +170,41 @@ fn marked_rows(alloc: Global, n: u32, ends: &[Ends], mark: &[bool]) -> Result<Ve
                 a: e.a,
                 b: e.b,
             })?;
+        }
+    }
+    Ok(rows)
+}
+
+/// The matching of `g` with these mates: of parallel edges the first.
+pub(crate) fn matching_by(alloc: Global, g: &MultiGraph, mate: &[u32]) -> Result<Matching, Memory>
+    requires long { length mate.now ≡ g.now.order + 1 }
+    requires mates { (r : Set) × (m : Set) × HasMates g.now r m (numbers mate.now) }
+    ensures of { IfOk result (λ m. IsOf g.now m) }
+    ensures mates { IfOk result (λ m. (r f : Set) → HasMates g.now r f (numbers mate.now) →
+        HasMates g.now r (mem (edges_of m)) (numbers mate.now)) }
+{
+    let n = g.order();
+    Ok(Matching {
+        order: n,
+        rows: paired_rows(alloc, n, g.edges(), mate)?,
+    })
+}
+
+// For each pair of mates the first edge that joins it, as a row.
+fn paired_rows(alloc: Global, n: u32, ends: &[Ends], mate: &[u32]) -> Result<Vec<MatchRow>, Memory>
+{
+    let mut rows = Vec::with_capacity(alloc, n as usize / 2)?;
+    let mut seen = VSet::empty();
+    for (k, e) in ends.iter().enumerate() {
+        if mate[e.a as usize] == e.b {
+            if is_addable(*e, seen) {
+                rows.push(MatchRow {
+                    edge: k as u32 + 1,
+                    a: e.a,
+                    b: e.b,
+                })?;
+                seen = seen.with(e.a).with(e.b);
+            }
         }
     }
     Ok(rows)

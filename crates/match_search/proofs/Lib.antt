@@ -39,6 +39,7 @@ pub mod WholeGraphs
 pub mod Gluing
 pub mod MarkedMates
 pub mod AugmentedMates
+pub mod GreedyMates
 pub mod MissableRows
 pub mod FlowerPaths
 pub mod PathFlowers

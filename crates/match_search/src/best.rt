@@ -1,18 +1,17 @@
 //! A maximum matching of G - removed, with the frame that shows it to be one: a matching is
 //! augmented until a step returns a frame instead. Each step leaves two fewer exposed vertices, so
 //! there are at most n / 2 of them.
-ghost use Rattle.std.specs.Prelude.{◌≡◌, ◌+◌, ◌==◌, ◌&&◌, not, length, IfOk, OnOk};
+ghost use Rattle.std.specs.Prelude.{◌≡◌, ℕ, ◌+◌, ◌<◌, ◌≤◌, ◌==◌, ◌&&◌, not, true, length, IfOk, OnOk};
 ghost use Rattle.counting.specs.Common.{Within, mem, Set};
-ghost use Rattle.graph_core.specs.Common.{Graph, AreRows, graph_of, IsMatching};
-ghost use Rattle.match_search.specs.Common.{HoldsMatching, marks, IsGraphRow, HasFrame, IsBest, AreAlike};
+ghost use Rattle.graph_core.specs.Common.{Graph, IsGraph, AreRows, graph_of, IsMatching};
+ghost use Rattle.match_search.specs.Common.{HasMates, HoldsMatching, marks, numbers, IsGraphRow, HasFrame, IsBest, AreAlike};
 
 use crate::alternating::AlternatingForest;
 use crate::answer::{Answer, FinalSets};
 use crate::augment::augment_once;
 use crate::instance::{Instance, instance_of};
 use crate::marked::marks_of;
-use crate::mates::mates_of;
-use crate::rows::{falses, mark_place};
+use crate::mates::{join, mates_of};
 use graph_core::{Ends, MultiGraph};
 use std::alloc::{AllocError as Memory, Global};
 use vset_core::{MOST_VERTICES, VSet};
@@ -24,14 +23,30 @@ pub struct Best {
     pub sets: FinalSets,
 }
 
-/// Makes a maximum matching of G - removed: first greedily, edge by edge, then by augmentations.
+/// The mates of a maximum matching, and its frame.
+#[derive(Drop)]
+pub struct Mated {
+    pub mate: Vec<u32>,
+    pub sets: FinalSets,
+}
+
+/// Makes a maximum matching of G - removed, given by its marks, as `find_mates` does.
 pub fn find_best(alloc: Global, g: &MultiGraph, removed: VSet) -> Result<Best, Memory>
     ensures { IfOk result (λ b. IsBest g.now (mem removed) b) }
 {
-    let n = g.order();
-    let ends = g.edges();
-    let mark = first_marks(alloc, n, ends, removed)?;
-    best_from(alloc, n, ends, g.rows(), removed, &mark)
+    let Mated { mate, sets } = find_mates(alloc, g, removed)?;
+    let mark = marks_of(alloc, g.order(), g.edges(), &mate)?;
+    Ok(Best { mark, sets })
+}
+
+/// Makes a maximum matching of G - removed: first greedily, edge by edge, then by augmentations.
+pub fn find_mates(alloc: Global, g: &MultiGraph, removed: VSet) -> Result<Mated, Memory>
+    ensures long { IfOk result (λ b. length b.mate.items ≡ g.now.order + 1) }
+    ensures frame { IfOk result (λ b. HasFrame g.now (mem removed) b.mate.items b.sets) }
+{
+    let mut mate = first_mates(alloc, g.order(), g.edges(), removed)?;
+    let sets = enlarge(alloc, g.rows(), removed, &mut mate)?;
+    Ok(Mated { mate, sets })
 }
 
 /// Augments a matching of G - removed, given by its marks, until it is maximum. It works with
@@ -50,29 +65,35 @@ pub fn best_from(
     requires matching { IsMatching (graph_of n ends.now) (mem removed) (marks given.now) }
     ensures { IfOk result (λ b. IsBest (graph_of n ends.now) (mem removed) b) }
 {
-    let mut instance = instance_of(alloc, rows, removed)?;
     let mut mate = mates_of(alloc, n, ends, given)?;
-    enlarge(alloc, n, ends, &mut instance, &mut mate)
+    let sets = enlarge(alloc, rows, removed, &mut mate)?;
+    let mark = marks_of(alloc, n, ends, &mate)?;
+    Ok(Best { mark, sets })
 }
 
-// The marks and the frame of a maximum matching, made from the mates of a matching.
+// Augments a matching of G - removed, given by its mates, until it is maximum, and returns its
+// frame. A perfect matching has an empty frame, and no search is prepared for it.
 fn enlarge(
     alloc: Global,
-    n: u32,
-    ends: &[Ends],
-    instance: &mut Instance,
+    rows: &[VSet],
+    removed: VSet,
     mate: &mut [u32],
-) -> Result<Best, Memory>
-    requires row { IsGraphRow n ends.now }
-    requires holds { (r : Set) × (f : Set) ×
-        HoldsMatching (graph_of n ends.now) r f instance.old mate.old }
-    ensures { IfOk result (λ b. (r f : Set) →
-        HoldsMatching (graph_of n ends.now) r f instance.old mate.old →
-        IsBest (graph_of n ends.now) r b) }
+) -> Result<FinalSets, Memory>
+    requires few { length rows.now ≤ MOST_VERTICES }
+    requires long { length mate.old ≡ length rows.now + 1 }
+    requires holds { (g : Graph) × (f : Set) × IsGraph g × AreRows g rows.now ×
+        HasMates g (mem removed) f (numbers mate.old) }
+    ensures { IfOk result (λ sets. (g : Graph) (f : Set) → IsGraph g → AreRows g rows.now →
+        HasMates g (mem removed) f (numbers mate.old) → HasFrame g (mem removed) mate.new sets) }
 {
-    let sets = last_frame(alloc, instance, mate)?;
-    let mark = marks_of(alloc, n, ends, mate)?;
-    Ok(Best { mark, sets })
+    if unmated(mate).is_subset(removed) {
+        return Ok(FinalSets {
+            outer: VSet::empty(),
+            inner: VSet::empty(),
+        });
+    }
+    let mut instance = instance_of(alloc, rows, removed)?;
+    last_frame(alloc, &mut instance, mate)
 }
 
 /// Augments a matching, given by its mates, until a step returns a frame. All blossoms are expanded
@@ -90,30 +111,46 @@ pub(crate) fn last_frame(
     let n = instance.rows.len() as u32;
     let mut forest = AlternatingForest::empty(alloc, n)?;
     'augmenting: loop {
-        let left = instance.left;
-        match augment_once(alloc, instance, &mut forest, left, mate)? {
+        let exposed = unmated(mate);
+        match augment_once(alloc, instance, &mut forest, exposed, mate)? {
             Answer::Grown => {}
             Answer::Final(sets) => return Ok(sets),
         }
     }
 }
 
-// The marks of a greedy matching: each edge in turn, if both its ends are free.
-fn first_marks(alloc: Global, n: u32, ends: &[Ends], removed: VSet) -> Result<Vec<bool>, Memory>
+// The mates of a greedy matching: each edge in turn, if both its ends are free.
+fn first_mates(alloc: Global, n: u32, ends: &[Ends], removed: VSet) -> Result<Vec<u32>, Memory>
     requires { IsGraphRow n ends.now }
-    ensures long { IfOk result (λ mark. length mark.items ≡ length ends.now + 1) }
-    ensures matching { IfOk result
-        (λ mark. IsMatching (graph_of n ends.now) (mem removed) (marks mark.items)) }
+    ensures long { IfOk result (λ mate. length mate.items ≡ n + 1) }
+    ensures mates { IfOk result (λ mate. (m : Set) ×
+        HasMates (graph_of n ends.now) (mem removed) m (numbers mate.items)) }
 {
-    let mut mark = falses(alloc, ends.len() + 1)?;
+    let mut mate = vec![in alloc; 0; n as usize + 1]?;
     let mut met = removed;
-    for (k, e) in ends.iter().enumerate() {
-        if is_addable(*e, met) {
-            mark_place(&mut mark, k + 1);
-            met = met.with(e.a).with(e.b);
+    for e in ends {
+        if mate[e.a as usize] == 0 && mate[e.b as usize] == 0 {
+            if is_addable(*e, met) {
+                join(&mut mate, e.a, e.b);
+                met = met.with(e.a).with(e.b);
+            }
         }
     }
-    Ok(mark)
+    Ok(mate)
+}
+
+// The vertices without a mate.
+fn unmated(mate: &[u32]) -> VSet
+    requires { length mate.now ≤ MOST_VERTICES + 1 }
+    ensures { (v : ℕ) → 1 ≤ v → v < length mate.now → numbers mate.now v ≡ 0 → mem result v ≡ true }
+{
+    let mut found = VSet::empty();
+    for v in 1..mate.len() {
+        if mate[v] == 0 {
+            found = found.with(v as u32);
+        }
+    }
+    found
 }
 
 /// Whether an edge joins two different vertices outside the set.

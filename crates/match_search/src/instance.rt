@@ -49,9 +49,9 @@ fn singles(alloc: Global, n: u32) -> Result<Vec<VSet>, Memory>
     ensures one_each { IfOk result (λ rows. length rows.items ≡ n) }
     ensures single { IfOk result (λ rows. (v : ℕ) → Within n v → item rows.items v ≡ v ∷ []) }
 {
-    let mut rows = Vec::with_capacity(alloc, n as usize)?;
+    let mut rows = vec![in alloc; VSet::empty(); n as usize]?;
     for i in 0..n {
-        rows.push(VSet::one(i + 1))?;
+        rows[i as usize] = VSet::one(i + 1);
     }
     Ok(rows)
 }

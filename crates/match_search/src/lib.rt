@@ -31,7 +31,7 @@ mod row_space;
 mod rows;
 
 pub use answer::FinalSets;
-pub use best::{Best, best_from, find_best, is_addable};
+pub use best::{Best, Mated, best_from, find_best, find_mates, is_addable};
 pub use instance::{Instance, instance_of};
 pub use mates::mates_of;
 pub use missable::{missable_beside, missable_in};

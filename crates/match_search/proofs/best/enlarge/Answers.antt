@@ -1,20 +1,15 @@
-use Rattle.std.proofs.Common.{arith, sym, ap, ◌+◌, ◌∙◌}
-use Rattle.graph_core.proofs.Common.{graph_of}
-use Rattle.match_search.proofs.AugmentedMates.{framed_best}
-use Rattle.match_search.proofs.GraphRows.{row_graph, size_is}
+use Rattle.std.proofs.Common.{◌≡◌, ◌≢◌, ℕ, suc, false, arith, length, sym, ◌∙◌}
+use Rattle.counting.proofs.Common.{all_in_true, both_ways, IfOk-weaker, Within, mem, Set}
+use Rattle.graph_core.proofs.Common.{Graph, IsGraph, AreRows}
+use Rattle.match_search.specs.Common.{HasFrame, HasMates, HoldsMatching, numbers}
+use Rattle.match_search.proofs.GreedyMates.{empty_frame}
 use Rattle.match_search.proofs.best.enlarge.Goals as goal
 
-pub last_frame-requires : goal.last_frame-requires
-last_frame-requires c = let q = c.requires.holds in (graph_of c.args.n c.args.ends.now, q.0, q.1, q.2)
-
-pub marks_of-requires-clause-long : goal.marks_of-requires-clause-long
-marks_of-requires-clause-long c = grind arith
+pub returns-then-is_subset : goal.returns-then-is_subset
+returns-then-is_subset c = λ g f is rows has.
+    empty_frame g is (mem c.args.removed) f c.args.mate.now has (λ v w out z. let long = c.requires.long in let each = rows.one_each in both_ways (mem c.args.removed v) out (all_in_true c.unmated.result (mem c.args.removed) (sym c.is_subset.ensures ∙ c.if-is_subset.true) v (c.unmated.ensures v w.0 (omega arith) z))) _ c.empty.ensures c.empty-then-is_subset.ensures
 
 pub returns : goal.returns
-returns c = λ r f held.
-    let g = graph_of c.args.n c.args.ends.now in
-    let is = row_graph c.args.n c.args.ends.now c.requires.row.within in
-    let framed = c.in_ok-sets.ensures.frame g r f held in
-    framed_best g is r c.last_frame.new.mate (record { mark = c.in_ok-mark.mark; sets = c.in_ok-sets.sets }) framed
-    (c.in_ok-mark.ensures.long ∙ ap (λ k. k + 1) (sym (size_is c.args.n c.args.ends.now)))
-    (c.in_ok-mark.ensures.mates r framed.m framed.mates)
+returns c = IfOk-weaker c.last_frame.result (λ sets. (g : Graph) (r f : Set) → HoldsMatching g r f c.in_ok-instance.instance c.args.mate.now → HasFrame g r c.last_frame.new.mate sets)
+    (λ sets. (g : Graph) (f : Set) → IsGraph g → AreRows g c.args.rows.now → HasMates g (mem c.args.removed) f (numbers c.args.mate.now) → HasFrame g (mem c.args.removed) c.last_frame.new.mate sets)
+    (λ sets framed g f is rows has. framed g (mem c.args.removed) f (record { instance_is = c.in_ok-instance.ensures g is rows; long = let long = c.requires.long in let each = rows.one_each in omega arith; mates = has })) c.last_frame.ensures.frame

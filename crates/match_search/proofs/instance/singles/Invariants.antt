@@ -3,4 +3,4 @@ use Rattle.counting.proofs.Common.{Within, item}
 use Rattle.match_search.proofs.instance.singles.Given as goal
 
 abbrev pub invariant-loop-i : goal.invariant-loop-i
-invariant-loop-i l = record { long : length l.rows.items ≡ l.i; single : (v : ℕ) → Within l.i v → item l.rows.items v ≡ v ∷ [] }
+invariant-loop-i l = record { long : length l.rows.items ≡ l.n; single : (v : ℕ) → Within l.i v → item l.rows.items v ≡ v ∷ [] }

@@ -1,0 +1,78 @@
+-- The mates that the search begins with, and the frame of a perfect matching. An edge between two
+-- free vertices makes them a pair; where no vertex is exposed, no class and no inner vertex is needed.
+use Rattle.std.proofs.Common.{◌≡◌, ◌≢◌, ℕ, zero, suc, replicate, true, false, refl, ap, ◌∙◌, arith, inl, inr, ne_eqb, List, length, ◌≤◌, ◌<◌, ◌||◌, ◌&&◌, ◌==◌, not, [], nat_lt}
+use Rattle.counting.proofs.Common.{both_ways, cases_Bool, total_none, Within, bit, count, Set, none, put, mem, is_subset, complement}
+use Rattle.graph_core.proofs.Common.{missed_edges, Graph, HasEnds, IsGraph, degree, size, IsMatching, missed_count}
+use Rattle.match_search.specs.Common.{Frame, HasFrame, HasMates, numbers, with_pair}
+use Rattle.match_search.specs.declared.answer.FinalSets.{FinalSets}
+use Rattle.match_search.proofs.ClosingPairs.{degree_elsewhere}
+use Rattle.match_search.proofs.FirstMarks.{added_edge, empty_degree, empty_matching}
+use Rattle.match_search.proofs.Forests.{met}
+use Rattle.match_search.proofs.MatePairs.{joined_pairs}
+
+-- in a new row each vertex is exposed
+pub no-mates : (n v : ℕ) → numbers (replicate n 0) v ≡ 0
+no-mates zero v = refl
+no-mates (suc n) zero = refl
+no-mates (suc n) (suc v) = no-mates n v
+
+-- no pair at all
+pub empty_mates : (g : Graph) (r : Set) (mate : ℕ → ℕ) → ((v : ℕ) → mate v ≡ 0) → HasMates g r none mate
+empty_mates g r mate zeros = record {
+  matching = empty_matching g r none (λ e. refl);
+  exposed = λ v w q. empty_degree g none (λ e. refl) v;
+  paired = λ v w n. absurd (n (zeros v));
+}
+
+-- an edge between two free vertices makes them a pair
+pub added_pair : (g : Graph) (r m met met' : Set) (mate : ℕ → ℕ) (e x y : ℕ) → HasMates g r m mate → ((v : ℕ) → Within g.order v → met v ≡ false → (r v ≡ false) × (degree g m v ≡ 0)) →
+    Within (size g) e → Within g.order x → Within g.order y → HasEnds g e x y → x ≢ y → met x ≡ false → met y ≡ false → ((v : ℕ) → met' v ≡ ((met v || (x == v)) || (y == v))) →
+    HasMates g r (put m e true) (with_pair mate x y) × ((v : ℕ) → Within g.order v → met' v ≡ false → (r v ≡ false) × (degree g (put m e true) v ≡ 0))
+added_pair g r m met met' mate e x y has free we wx wy ends xy mx my met'_is =
+    let added = added_edge g r m met met' e x y has.matching free we wx wy ends xy mx my met'_is in
+    (joined_pairs g r m mate e x y has added.0 we ends xy (degree_elsewhere g m e x y we ends) wx wy, added.1)
+
+module _ (g : Graph) (is : IsGraph g) (r m : Set) (mate : List ℕ) (has : HasMates g r m (numbers mate)) where
+  module _ (paired : (v : ℕ) → Within g.order v → r v ≡ false → numbers mate v ≢ 0) where
+    -- no vertex is missed
+    none_missed : (v : ℕ) → Within g.order v → bit (not (r v) && (degree g m v == 0)) ≡ 0
+    none_missed v w = elim (cases_Bool (r v)) [
+      | inl t ↦ ap (λ b. bit (not b && (degree g m v == 0))) t
+      | inr f ↦ let d = has.paired v w (paired v w f) in let one = (met g m d.0 v (numbers mate v) d.1 d.2 d.3).0 in
+          ap (λ b. bit (not b && (degree g m v == 0))) f ∙ ap bit (ne_eqb (degree g m v) 0 (λ z. absurd (omega arith)))
+    ]
+
+    missed_none : missed_count g r m ≡ 0
+    unfolding missed_count
+    missed_none = total_none g.order (λ v. bit (not (r v) && (degree g m v == 0))) none_missed
+
+    -- the frame of a perfect matching is empty
+    pub empty_frame : (sets : FinalSets) → sets.outer ≡ [] → sets.inner ≡ [] → HasFrame g r mate sets
+    empty_frame sets no_outer no_inner = record {
+      m = m;
+      mates = has;
+      frame = record {
+        label = λ v. 0;
+        classes = 0;
+        certificate = record {
+          outside = λ v w t. absurd (both_ways (mem sets.inner v) (inner v) t);
+          labels = record {
+            low = λ v w. omega arith;
+            away = λ v w t. refl;
+            along = λ e w a b. refl;
+            odd = λ j w. absurd (omega arith);
+          };
+          sizes = let a = missed_edges g r m is has.matching in let b = missed_none in let c = total_none g.order (λ v. bit (mem sets.inner v)) (λ v w. ap bit (inner v)) in omega arith;
+        };
+        labelled = λ v w. outer v;
+        missable = λ v w t. absurd (both_ways (mem sets.outer v) (outer v) t);
+        seen = λ v w t. absurd (both_ways (mem sets.inner v) (inner v) t);
+      };
+      vertices = λ v. ((λ t. absurd (both_ways (mem sets.outer v) (outer v) t)), (λ t. absurd (both_ways (mem sets.inner v) (inner v) t)));
+    }
+      where
+        outer : (v : ℕ) → mem sets.outer v ≡ false
+        outer v = ap (λ (xs : List ℕ). mem xs v) no_outer
+
+        inner : (v : ℕ) → mem sets.inner v ≡ false
+        inner v = ap (λ (xs : List ℕ). mem xs v) no_inner

@@ -1,0 +1,13 @@
+use Rattle.std.proofs.Common.{◌≡◌, ℕ, suc, ◌+◌, false, length}
+use Rattle.counting.proofs.Common.{Within, Set, mem}
+use Rattle.graph_core.proofs.Common.{degree, graph_of}
+use Rattle.match_search.specs.Common.{HasMates, numbers}
+use Rattle.match_search.proofs.best.first_mates.Given as goal
+
+abbrev pub invariant-loop-e : goal.invariant-loop-e
+invariant-loop-e l = record {
+  long : length l.mate.items ≡ l.n + 1;
+  m : Set;
+  has : HasMates (graph_of l.n l.ends) (mem l.fn.removed) m (numbers l.mate.items);
+  free : (v : ℕ) → Within l.n v → mem l.met v ≡ false → (mem l.fn.removed v ≡ false) × (degree (graph_of l.n l.ends) m v ≡ 0);
+}
