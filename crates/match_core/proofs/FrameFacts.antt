@@ -1,12 +1,13 @@
 -- What a matching with a frame is: maximum, with the Gallai-Edmonds sets as its outer and inner
 -- vertices; perfect if and only if there is no outer vertex. A missed vertex is outer, and an outer
 -- vertex is missed by some matching of the same size.
-use Rattle.std.proofs.Common.{◌≡◌, ℕ, ◌≤◌, ◌<◌, ◌≢◌, Bool, true, false, ◌==◌, ◌↔◌, refl, sym, ap, ◌∙◌, arith, List, [], ◌∷◌, length, subst, inl, inr, eq-eqb}
-use Rattle.counting.proofs.Common.{both_ways, true≢false, false_from_ne_true, count_congr, mem-rising_list, set-narrower, fun_ext, Within, count, is_odd, Set, none, mem, rising_list, IsRisingIn}
+use Rattle.std.proofs.Common.{◌≡◌, ℕ, ◌≤◌, ◌<◌, ◌≢◌, Bool, true, false, ◌==◌, ◌↔◌, refl, sym, ap, arith, List, [], ◌∷◌, length, subst, inl, inr, eq-eqb}
+use Rattle.counting.proofs.Common.{both_ways, true≢false, false_from_ne_true, mem-rising_list, set-narrower, fun_ext, Within, count, is_odd, Set, none, mem, rising_list, IsRisingIn}
 use Rattle.graph_core.proofs.Common.{Graph, IsGraph, degree, size, IsMatching, IsMaximum, IsPerfect, HasPerfect, Attains, InD, InA, joined, degree_congr, edge_of, missed_edges, has_ends-from, perfect_matching, perfect_misses, missed_one, adjacent_from}
-use Rattle.match_search.specs.Common.{Frame, marks, IsBest}
+use Rattle.match_search.specs.Common.{Frame, HasFrame, HasMates, numbers, marks, IsBest}
 use Rattle.match_search.specs.declared.best.Best.{Best}
-use Rattle.match_search.proofs.Alike.{matching_alike}
+use Rattle.match_search.proofs.SameMates.{same_mates_count}
+use Rattle.match_search.specs.declared.answer.FinalSets.{FinalSets}
 use Rattle.match_search.proofs.Certificates.{certificate_bound}
 use Rattle.match_core.proofs.OddComponents.{certificate_components, certificate_maximum, outer_free, outer_missable, missable_outer, inner_next, next_inner}
 use Rattle.match_core.proofs.OuterComponents.{outer_odd, odd_outer}
@@ -28,30 +29,26 @@ module _ (g : Graph) (r : Set) (mark passed : List Bool) (passed_is : passed ≡
   pub listed_perfect : (es : List ℕ) → es ≡ rising_list (size g) (marks passed) → IsPerfect g r (mem es)
   listed_perfect es es_is = grind (arith, degree_congr, listed_marks)
 
--- what the engine returns if nothing is removed, with its marks passed on
-module _ (g : Graph) (is : IsGraph g) (removed : List ℕ) (b : Best) (nothing : removed ≡ []) (found : IsBest g (mem removed) b) (passed : List Bool) (passed_is : passed ≡ b.mark.items) where
-  best : IsBest g none b
-  best = subst (λ (r : Set). IsBest g r b) (fun_ext (λ v. ap (λ s. mem s v) nothing)) found
+-- what the search returns if nothing is removed, where a matching with its mates is a list of edges
+module _ (g : Graph) (is : IsGraph g) (removed : List ℕ) (mate : List ℕ) (sets : FinalSets) (nothing : removed ≡ []) (framed : HasFrame g (mem removed) mate sets) where
+  whole : HasFrame g none mate sets
+  whole = subst (λ (r : Set). HasFrame g r mate sets) (fun_ext (λ v. ap (λ s. mem s v) nothing)) framed
 
-  pub best_whole : IsMatching g none (marks passed)
-  best_whole = subst (λ (row : List Bool). IsMatching g none (marks row)) (sym passed_is) best.matching
-
-  -- and made a list of edges
-  module _ (es : List ℕ) (es_is : es ≡ rising_list (size g) (marks passed)) where
-    same : (e : ℕ) → Within (size g) e → mem es e ≡ marks b.mark.items e
-    same e w = ap (λ xs. mem xs e) es_is ∙ listed_marks g (marks passed) e w ∙ ap (λ row. marks row e) passed_is
+  module _ (passed : List ℕ) (passed_is : passed ≡ mate) (es : List ℕ) (paired : (r f : Set) → HasMates g r f (numbers passed) → HasMates g r (mem es) (numbers passed)) where
+    has : HasMates g none (mem es) (numbers mate)
+    has = subst (λ (row : List ℕ). HasMates g none (mem es) (numbers row)) passed_is (paired none whole.m (subst (λ (row : List ℕ). HasMates g none whole.m (numbers row)) (sym passed_is) whole.mates))
 
     mm : IsMatching g none (mem es)
-    mm = matching_alike g none (marks b.mark.items) (mem es) same best.matching
+    mm = has.matching
 
-    frame : Frame g none (count (size g) (mem es)) (mem b.sets.outer) (mem b.sets.inner)
-    frame = subst (λ k. Frame g none k (mem b.sets.outer) (mem b.sets.inner)) (sym (count_congr (size g) (mem es) (marks b.mark.items) same)) best.frame
+    frame : Frame g none (count (size g) (mem es)) (mem sets.outer) (mem sets.inner)
+    frame = subst (λ k. Frame g none k (mem sets.outer) (mem sets.inner)) (same_mates_count g is none whole.m (mem es) (numbers mate) whole.mates has) whole.frame
 
     abbrev outer : Set
-    outer = mem b.sets.outer
+    outer = mem sets.outer
 
     abbrev inner : Set
-    inner = mem b.sets.inner
+    inner = mem sets.inner
 
     abbrev k : ℕ
     k = count (size g) (mem es)
@@ -89,11 +86,11 @@ module _ (g : Graph) (is : IsGraph g) (removed : List ℕ) (b : Best) (nothing :
           next_inner g is none k outer inner frame (mem es) mm refl v w (false_from_ne_true (outer v) (λ t. a.0 ((best_missed v w).0 t))) refl e.0 u e.1 e.4 ((best_missed u a.1.1).1 a.1.2)),
     )
 
-    pub outer_rises : IsRisingIn 128 b.sets.outer → IsRisingIn g.order b.sets.outer
-    outer_rises rises = set-narrower 128 g.order b.sets.outer rises (λ v q. ((best.sets v).0 q).1)
+    pub outer_rises : IsRisingIn 128 sets.outer → IsRisingIn g.order sets.outer
+    outer_rises rises = set-narrower 128 g.order sets.outer rises (λ v q. ((whole.vertices v).0 q).1)
 
-    pub inner_rises : IsRisingIn 128 b.sets.inner → IsRisingIn g.order b.sets.inner
-    inner_rises rises = set-narrower 128 g.order b.sets.inner rises (λ v q. ((best.sets v).1 q).1)
+    pub inner_rises : IsRisingIn 128 sets.inner → IsRisingIn g.order sets.inner
+    inner_rises rises = set-narrower 128 g.order sets.inner rises (λ v q. ((whole.vertices v).1 q).1)
 
 -- a matching with a frame is perfect if and only if there is no outer vertex
 module _ (g : Graph) (is : IsGraph g) (r m outer inner : Set) (mm : IsMatching g r m) (frame : Frame g r (count (size g) m) outer inner) where

@@ -1,8 +1,9 @@
 //! Matchings as lists of rows.
 ghost use Rattle.std.specs.Prelude.{◌≡◌, ℕ, ◌+◌, ◌<◌, ◌≤◌, ◌==◌, ◌||◌, length, map, filter, slice_get, Some, IfOk, All};
-ghost use Rattle.counting.specs.Common.{Within, none, mem, rising_list};
+ghost use Rattle.counting.specs.Common.{Within, Set, none, mem, rising_list};
 ghost use Rattle.graph_core.specs.Common.{Graph, size, degree, first_end, second_end, graph_of, IsMatching};
-ghost use Rattle.match_search.specs.Common.{marks, IsGraphRow};
+ghost use Rattle.match_search.specs.Common.{HasMates, marks, numbers, IsGraphRow};
+ghost use Rattle.match_core.specs.HeldMates.{ArePairs};
 ghost use Rattle.match_core.specs.MatchingRows.{KeepsMatching, IsOf, edges_of, is_clear, left_over, row_at};
 
 use graph_core::{Ends, MOST_EDGES, MultiGraph};
@@ -175,23 +176,26 @@ fn marked_rows(alloc: Global, n: u32, ends: &[Ends], mark: &[bool]) -> Result<Ve
     Ok(rows)
 }
 
-/// The matching of `g` with these mates: of parallel edges the first.
+/// The matching of `g` with these mates: for each pair the least edge that joins it.
 pub(crate) fn matching_by(alloc: Global, g: &MultiGraph, mate: &[u32]) -> Result<Matching, Memory>
-    requires long { length mate.now ≡ g.now.order + 1 }
-    requires mates { (r : Set) × (m : Set) × HasMates g.now r m (numbers mate.now) }
+    requires { length mate.now ≡ g.now.order + 1 }
     ensures of { IfOk result (λ m. IsOf g.now m) }
     ensures mates { IfOk result (λ m. (r f : Set) → HasMates g.now r f (numbers mate.now) →
         HasMates g.now r (mem (edges_of m)) (numbers mate.now)) }
 {
     let n = g.order();
+    let ends = g.edges();
     Ok(Matching {
         order: n,
-        rows: paired_rows(alloc, n, g.edges(), mate)?,
+        rows: paired_rows(alloc, n, ends, mate)?,
     })
 }
 
-// For each pair of mates the first edge that joins it, as a row.
+// For each pair of mates the least edge that joins it, as a row.
 fn paired_rows(alloc: Global, n: u32, ends: &[Ends], mate: &[u32]) -> Result<Vec<MatchRow>, Memory>
+    requires row { IsGraphRow n ends.now }
+    requires long { length mate.now ≡ n + 1 }
+    ensures { IfOk result (λ rows. ArePairs (graph_of n ends.now) mate.now rows.items) }
 {
     let mut rows = Vec::with_capacity(alloc, n as usize / 2)?;
     let mut seen = VSet::empty();

@@ -1,9 +1,9 @@
 -- The mates that the search begins with, and the frame of a perfect matching. An edge between two
 -- free vertices makes them a pair; where no vertex is exposed, no class and no inner vertex is needed.
-use Rattle.std.proofs.Common.{◌≡◌, ◌≢◌, ℕ, zero, suc, replicate, true, false, refl, ap, ◌∙◌, arith, inl, inr, ne_eqb, List, length, ◌≤◌, ◌<◌, ◌||◌, ◌&&◌, ◌==◌, not, [], nat_lt}
-use Rattle.counting.proofs.Common.{both_ways, cases_Bool, total_none, Within, bit, count, Set, none, put, mem, is_subset, complement}
-use Rattle.graph_core.proofs.Common.{missed_edges, Graph, HasEnds, IsGraph, degree, size, IsMatching, missed_count}
-use Rattle.match_search.specs.Common.{Frame, HasFrame, HasMates, numbers, with_pair}
+use Rattle.std.proofs.Common.{◌≡◌, ◌≢◌, ℕ, zero, suc, replicate, true, false, refl, ap, ◌∙◌, arith, inl, inr, ne_eqb, List, ◌||◌, ◌&&◌, ◌==◌, not, []}
+use Rattle.counting.proofs.Common.{both_ways, cases_Bool, total_none, Within, bit, Set, none, put, mem}
+use Rattle.graph_core.proofs.Common.{missed_edges, Graph, HasEnds, IsGraph, degree, size, missed_count}
+use Rattle.match_search.specs.Common.{HasFrame, HasMates, numbers, with_pair}
 use Rattle.match_search.specs.declared.answer.FinalSets.{FinalSets}
 use Rattle.match_search.proofs.ClosingPairs.{degree_elsewhere}
 use Rattle.match_search.proofs.FirstMarks.{added_edge, empty_degree, empty_matching}

@@ -15,7 +15,6 @@ held c = subst (λ (row : List ℕ). HasMates (graph_of c.args.n c.args.ends.now
 pub enlarge-requires-clause-holds : goal.enlarge-requires-clause-holds
 enlarge-requires-clause-holds c = (graph_of c.args.n c.args.ends.now, marks c.args.given.now, row_graph c.args.n c.args.ends.now c.requires.row.within, c.requires.neighbours, held c)
 
-
 pub returns : goal.returns
 returns c =
     let g = graph_of c.args.n c.args.ends.now in

@@ -1,5 +1,5 @@
-use Rattle.std.proofs.Common.{◌≡◌, ◌≢◌, ℕ, suc, false, arith, length, sym, ◌∙◌}
-use Rattle.counting.proofs.Common.{all_in_true, both_ways, IfOk-weaker, Within, mem, Set}
+use Rattle.std.proofs.Common.{arith, sym, ◌∙◌}
+use Rattle.counting.proofs.Common.{all_in_true, both_ways, IfOk-weaker, mem, Set}
 use Rattle.graph_core.proofs.Common.{Graph, IsGraph, AreRows}
 use Rattle.match_search.specs.Common.{HasFrame, HasMates, HoldsMatching, numbers}
 use Rattle.match_search.proofs.GreedyMates.{empty_frame}

@@ -1,4 +1,4 @@
-use Rattle.std.proofs.Common.{◌≡◌, ℕ, suc, ◌+◌, false, length}
+use Rattle.std.proofs.Common.{◌≡◌, ℕ, ◌+◌, false, length}
 use Rattle.counting.proofs.Common.{Within, Set, mem}
 use Rattle.graph_core.proofs.Common.{degree, graph_of}
 use Rattle.match_search.specs.Common.{HasMates, numbers}

@@ -1,4 +1,4 @@
-use Rattle.std.proofs.Common.{◌≡◌, ℕ, ◌≤◌, ◌<◌, true, length}
+use Rattle.std.proofs.Common.{◌≡◌, ℕ, ◌≤◌, ◌<◌, true}
 use Rattle.counting.proofs.Common.{mem}
 use Rattle.match_search.specs.Common.{numbers}
 use Rattle.match_search.proofs.best.unmated.Given as goal
