@@ -1,14 +1,14 @@
 -- The mates that the search begins with, and the frame of a perfect matching. An edge between two
 -- free vertices makes them a pair; where no vertex is exposed, no class and no inner vertex is needed.
-use Rattle.std.proofs.Common.{◌≡◌, ◌≢◌, ℕ, zero, suc, replicate, true, false, refl, ap, ◌∙◌, arith, inl, inr, ne_eqb, List, ◌||◌, ◌&&◌, ◌==◌, not, []}
-use Rattle.counting.proofs.Common.{both_ways, cases_Bool, total_none, Within, bit, Set, none, put, mem}
+use Rattle.std.proofs.Common.{◌≡◌, ◌≢◌, ℕ, zero, suc, replicate, ◌≤◌, length, ◌∷◌, true, false, refl, sym, ap, ◌∙◌, arith, inl, inr, ne_eqb, List, ◌||◌, ◌&&◌, ◌==◌, not, []}
+use Rattle.counting.proofs.Common.{both_ways, cases_Bool, cases_eq, total_none, Within, bit, Set, none, put, mem}
 use Rattle.graph_core.proofs.Common.{missed_edges, Graph, HasEnds, IsGraph, degree, size, missed_count}
-use Rattle.match_search.specs.Common.{HasFrame, HasMates, numbers, with_pair}
+use Rattle.match_search.specs.Common.{HasFrame, HasMates, numbers, with_mate, with_pair}
 use Rattle.match_search.specs.declared.answer.FinalSets.{FinalSets}
 use Rattle.match_search.proofs.ClosingPairs.{degree_elsewhere}
 use Rattle.match_search.proofs.FirstMarks.{added_edge, empty_degree, empty_matching}
 use Rattle.match_search.proofs.Forests.{met}
-use Rattle.match_search.proofs.MatePairs.{joined_pairs}
+use Rattle.match_search.proofs.MatePairs.{joined_pairs, with_here, with_there}
 
 -- in a new row each vertex is exposed
 pub no-mates : (n v : ℕ) → numbers (replicate n 0) v ≡ 0
@@ -31,6 +31,20 @@ pub added_pair : (g : Graph) (r m met met' : Set) (mate : ℕ → ℕ) (e x y : 
 added_pair g r m met met' mate e x y has free we wx wy ends xy mx my met'_is =
     let added = added_edge g r m met met' e x y has.matching free we wx wy ends xy mx my met'_is in
     (joined_pairs g r m mate e x y has added.0 we ends xy (degree_elsewhere g m e x y we ends) wx wy, added.1)
+
+-- a vertex that is not in the new pair, and has no mate, is not met
+pub pair_free : (mate : ℕ → ℕ) (met met' : Set) (a b v : ℕ) → 1 ≤ a → 1 ≤ b → met' v ≡ ((met v || (a == v)) || (b == v)) → (mate v ≡ 0 → met v ≡ false) → with_pair mate a b v ≡ 0 → met' v ≡ false
+pair_free mate met met' a b v la lb met'_is free z = elim (cases_eq v b) [
+  | inl q ↦ let x = sym (with_here (with_mate mate a b) b a v q) ∙ z in absurd (omega arith)
+  | inr nb ↦
+      let y = sym (with_there (with_mate mate a b) b a v nb) ∙ z in
+      elim (cases_eq v a) [
+        | inl q ↦ let x = sym (with_here mate a b v q) ∙ y in absurd (omega arith)
+        | inr na ↦
+            let x = sym (with_there mate a b v na) ∙ y in
+            met'_is ∙ ap (λ s. (s || (a == v)) || (b == v)) (free x) ∙ ap (λ s. s || (b == v)) (ne_eqb a v (λ q. na (sym q))) ∙ ne_eqb b v (λ q. nb (sym q))
+      ]
+]
 
 module _ (g : Graph) (is : IsGraph g) (r m : Set) (mate : List ℕ) (has : HasMates g r m (numbers mate)) where
   module _ (paired : (v : ℕ) → Within g.order v → r v ≡ false → numbers mate v ≢ 0) where
@@ -76,3 +90,8 @@ module _ (g : Graph) (is : IsGraph g) (r m : Set) (mate : List ℕ) (has : HasMa
 
         inner : (v : ℕ) → mem sets.inner v ≡ false
         inner v = ap (λ (xs : List ℕ). mem xs v) no_inner
+
+-- an empty list has no members
+pub empty-mem : (xs : List ℕ) → length xs ≡ 0 → (v : ℕ) → mem xs v ≡ false
+empty-mem [] l v = refl
+empty-mem (x ∷ xs) l v = absurd (omega arith)

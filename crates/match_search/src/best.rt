@@ -1,10 +1,10 @@
 //! A maximum matching of G - removed, with the frame that shows it to be one: a matching is
 //! augmented until a step returns a frame instead. Each step leaves two fewer exposed vertices, so
 //! there are at most n / 2 of them.
-ghost use Rattle.std.specs.Prelude.{◌≡◌, ℕ, ◌+◌, ◌<◌, ◌≤◌, ◌==◌, ◌&&◌, not, true, length, IfOk, OnOk};
+ghost use Rattle.std.specs.Prelude.{◌≡◌, ◌≢◌, ℕ, ◌+◌, ◌<◌, ◌≤◌, ◌==◌, ◌&&◌, not, false, true, length, IfOk, OnOk};
 ghost use Rattle.counting.specs.Common.{Within, mem, Set};
 ghost use Rattle.graph_core.specs.Common.{Graph, IsGraph, AreRows, graph_of, IsMatching};
-ghost use Rattle.match_search.specs.Common.{HasMates, HoldsMatching, marks, numbers, IsGraphRow, HasFrame, IsBest, AreAlike};
+ghost use Rattle.match_search.specs.Common.{HasMates, HoldsMatching, marks, numbers, IsGraphRow, HasFrame, IsBest, MayBeExposed, AreAlike};
 
 use crate::alternating::AlternatingForest;
 use crate::answer::{Answer, FinalSets};
@@ -44,8 +44,11 @@ pub fn find_mates(alloc: Global, g: &MultiGraph, removed: VSet) -> Result<Mated,
     ensures long { IfOk result (λ b. length b.mate.items ≡ g.now.order + 1) }
     ensures frame { IfOk result (λ b. HasFrame g.now (mem removed) b.mate.items b.sets) }
 {
-    let mut mate = first_mates(alloc, g.order(), g.edges(), removed)?;
-    let sets = enlarge(alloc, g.rows(), removed, &mut mate)?;
+    let n = g.order();
+    let ends = g.edges();
+    let FirstPairs { mut mate, met } = first_pairs(alloc, n, ends, removed)?;
+    let exposed = VSet::full(n).minus(met);
+    let sets = enlarge(alloc, g.rows(), removed, exposed, &mut mate)?;
     Ok(Mated { mate, sets })
 }
 
@@ -66,65 +69,82 @@ pub fn best_from(
     ensures { IfOk result (λ b. IsBest (graph_of n ends.now) (mem removed) b) }
 {
     let mut mate = mates_of(alloc, n, ends, given)?;
-    let sets = enlarge(alloc, rows, removed, &mut mate)?;
+    let exposed = unmated(&mate).minus(removed);
+    let sets = enlarge(alloc, rows, removed, exposed, &mut mate)?;
     let mark = marks_of(alloc, n, ends, &mate)?;
     Ok(Best { mark, sets })
 }
 
 // Augments a matching of G - removed, given by its mates, until it is maximum, and returns its
-// frame. A perfect matching has an empty frame, and no search is prepared for it.
+// frame; `exposed` contains the exposed vertices. A perfect matching has an empty frame, and no
+// search is prepared for it.
 fn enlarge(
     alloc: Global,
     rows: &[VSet],
     removed: VSet,
+    exposed: VSet,
     mate: &mut [u32],
 ) -> Result<FinalSets, Memory>
     requires few { length rows.now ≤ MOST_VERTICES }
     requires long { length mate.old ≡ length rows.now + 1 }
     requires holds { (g : Graph) × (f : Set) × IsGraph g × AreRows g rows.now ×
         HasMates g (mem removed) f (numbers mate.old) }
+    requires exposed { (v : ℕ) → Within (length rows.now) v → mem removed v ≡ false →
+        numbers mate.old v ≡ 0 → mem exposed v ≡ true }
     ensures { IfOk result (λ sets. (g : Graph) (f : Set) → IsGraph g → AreRows g rows.now →
         HasMates g (mem removed) f (numbers mate.old) → HasFrame g (mem removed) mate.new sets) }
 {
-    if unmated(mate).is_subset(removed) {
+    if exposed.len() == 0 {
         return Ok(FinalSets {
             outer: VSet::empty(),
             inner: VSet::empty(),
         });
     }
     let mut instance = instance_of(alloc, rows, removed)?;
-    last_frame(alloc, &mut instance, mate)
+    last_frame(alloc, &mut instance, exposed, mate)
 }
 
-/// Augments a matching, given by its mates, until a step returns a frame. All blossoms are expanded
-/// again at the end.
+/// Augments a matching, given by its mates, until a step returns a frame. The candidates contain
+/// the exposed vertices. All blossoms are expanded again at the end.
 pub(crate) fn last_frame(
     alloc: Global,
     instance: &mut Instance,
+    candidates: VSet,
     mate: &mut [u32],
 ) -> Result<FinalSets, Memory>
-    requires { (g : Graph) × (r : Set) × (f : Set) × HoldsMatching g r f instance.old mate.old }
+    requires holds { (g : Graph) × (r : Set) × (f : Set) ×
+        HoldsMatching g r f instance.old mate.old }
+    requires candidates { MayBeExposed instance.old.left mate.old candidates }
     ensures frame { IfOk result (λ sets. (g : Graph) (r f : Set) →
         HoldsMatching g r f instance.old mate.old → HasFrame g r mate.new sets) }
     ensures restored { OnOk result (AreAlike instance.old instance.new) }
 {
     let n = instance.rows.len() as u32;
     let mut forest = AlternatingForest::empty(alloc, n)?;
+    let mut exposed = candidates;
     'augmenting: loop {
-        let exposed = unmated(mate);
         match augment_once(alloc, instance, &mut forest, exposed, mate)? {
-            Answer::Grown => {}
+            Answer::Grown => exposed = unmated(mate),
             Answer::Final(sets) => return Ok(sets),
         }
     }
 }
 
-// The mates of a greedy matching: each edge in turn, if both its ends are free.
-fn first_mates(alloc: Global, n: u32, ends: &[Ends], removed: VSet) -> Result<Vec<u32>, Memory>
+// The mates of a greedy matching, and the set of removed vertices and of those with a mate.
+#[derive(Drop)]
+struct FirstPairs {
+    mate: Vec<u32>,
+    met: VSet,
+}
+
+// A greedy matching: each edge in turn, if both its ends are free.
+fn first_pairs(alloc: Global, n: u32, ends: &[Ends], removed: VSet) -> Result<FirstPairs, Memory>
     requires { IsGraphRow n ends.now }
-    ensures long { IfOk result (λ mate. length mate.items ≡ n + 1) }
-    ensures mates { IfOk result (λ mate. (m : Set) ×
-        HasMates (graph_of n ends.now) (mem removed) m (numbers mate.items)) }
+    ensures long { IfOk result (λ pairs. length pairs.mate.items ≡ n + 1) }
+    ensures mates { IfOk result (λ pairs. (m : Set) ×
+        HasMates (graph_of n ends.now) (mem removed) m (numbers pairs.mate.items)) }
+    ensures met { IfOk result (λ pairs. (v : ℕ) → mem removed v ≡ false →
+        numbers pairs.mate.items v ≡ 0 → mem pairs.met v ≡ false) }
 {
     let mut mate = vec![in alloc; 0; n as usize + 1]?;
     let mut met = removed;
@@ -136,19 +156,37 @@ fn first_mates(alloc: Global, n: u32, ends: &[Ends], removed: VSet) -> Result<Ve
             }
         }
     }
-    Ok(mate)
+    Ok(FirstPairs { mate, met })
+}
+
+// The first place from a given one on where no mate is, or the length of the row.
+fn next_unmated(mate: &[u32], from: usize) -> usize
+    requires { from ≤ length mate.now }
+    ensures after { from ≤ result }
+    ensures within { result ≤ length mate.now }
+    ensures passed { (v : ℕ) → from ≤ v → v < result → numbers mate.now v ≢ 0 }
+{
+    let mut v = from;
+    'passing: while v < mate.len() {
+        if mate[v] == 0 {
+            break;
+        }
+        v += 1;
+    }
+    v
 }
 
 // The vertices without a mate.
 fn unmated(mate: &[u32]) -> VSet
-    requires { length mate.now ≤ MOST_VERTICES + 1 }
+    requires some { 1 ≤ length mate.now }
+    requires few { length mate.now ≤ MOST_VERTICES + 1 }
     ensures { (v : ℕ) → 1 ≤ v → v < length mate.now → numbers mate.now v ≡ 0 → mem result v ≡ true }
 {
     let mut found = VSet::empty();
-    for v in 1..mate.len() {
-        if mate[v] == 0 {
-            found = found.with(v as u32);
-        }
+    let mut v = next_unmated(mate, 1);
+    'finding: while v < mate.len() {
+        found = found.with(v as u32);
+        v = next_unmated(mate, v + 1);
     }
     found
 }

@@ -61,19 +61,26 @@ fn outer_of_one(
 {
     match only_member(exposed_in(candidates, instance.left, mate)) {
         Some(root) => Ok(outer_from(instance, forest, root, mate)),
-        None => outer_of_last(alloc, instance, mate),
+        None => outer_of_last(alloc, instance, candidates, mate),
     }
 }
 
 // The same by a search that makes the matching maximum first.
-fn outer_of_last(alloc: Global, instance: &mut Instance, mate: &mut [u32]) -> Result<VSet, Memory>
-    requires { (g : Graph) × (r : Set) × (f : Set) × HoldsMatching g r f instance.old mate.old }
+fn outer_of_last(
+    alloc: Global,
+    instance: &mut Instance,
+    candidates: VSet,
+    mate: &mut [u32],
+) -> Result<VSet, Memory>
+    requires holds { (g : Graph) × (r : Set) × (f : Set) ×
+        HoldsMatching g r f instance.old mate.old }
+    requires candidates { MayBeExposed instance.old.left mate.old candidates }
     ensures row { IfOk result (λ row. (g : Graph) (r f : Set) →
         HoldsMatching g r f instance.old mate.old → IsMissableRow g r row) }
     ensures restored { OnOk result (AreAlike instance.old instance.new) }
 {
     let left = instance.left;
-    let sets = last_frame(alloc, instance, mate)?;
+    let sets = last_frame(alloc, instance, candidates, mate)?;
     if exposed_count(left, mate) == 1 {
         Ok(sets.outer)
     } else {

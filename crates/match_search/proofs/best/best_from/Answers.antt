@@ -20,7 +20,7 @@ returns c =
     let g = graph_of c.args.n c.args.ends.now in
     let is = row_graph c.args.n c.args.ends.now c.requires.row.within in
     let framed = c.in_ok-sets.ensures g (marks c.args.given.now) is c.requires.neighbours (subst (λ (row : List ℕ). HasMates g (mem c.args.removed) (marks c.args.given.now) (numbers row)) (sym c.deref_mut.ensures.value) (c.in_ok-mate.ensures.mates (mem c.args.removed) c.requires.matching)) in
-    let passed : c.deref.result.now ≡ c.enlarge.new.mate = grind (arith, with_items_is) in
+    let passed : c.deref-2.result.now ≡ c.enlarge.new.mate = c.deref-2.ensures.value ∙ with_items_is c.in_ok-mate.mate c.enlarge.new.mate (c.enlarge.auto.mate ∙ c.deref_mut.ensures.len) in
     framed_best g is (mem c.args.removed) c.enlarge.new.mate (record { mark = c.in_ok-mark.mark; sets = c.in_ok-sets.sets }) framed
     (c.in_ok-mark.ensures.long ∙ ap (λ k. k + 1) (sym (size_is c.args.n c.args.ends.now)))
     (subst (λ (row : List ℕ). HasMates g (mem c.args.removed) (marks c.in_ok-mark.mark.items) (numbers row)) passed (c.in_ok-mark.ensures.mates (mem c.args.removed) framed.m (subst (λ (row : List ℕ). HasMates g (mem c.args.removed) framed.m (numbers row)) (sym passed) framed.mates)))

@@ -1,13 +1,23 @@
 use Rattle.std.proofs.Common.{arith, sym, ◌∙◌}
-use Rattle.counting.proofs.Common.{all_in_true, both_ways, IfOk-weaker, mem, Set}
+use Rattle.counting.proofs.Common.{both_ways, IfOk-weaker, mem, Set}
 use Rattle.graph_core.proofs.Common.{Graph, IsGraph, AreRows}
 use Rattle.match_search.specs.Common.{HasFrame, HasMates, HoldsMatching, numbers}
-use Rattle.match_search.proofs.GreedyMates.{empty_frame}
+use Rattle.match_search.proofs.GreedyMates.{empty-mem, empty_frame}
+use Rattle.match_search.proofs.Instances.{left_parts}
 use Rattle.match_search.proofs.best.enlarge.Goals as goal
 
-pub returns-then-is_subset : goal.returns-then-is_subset
-returns-then-is_subset c = λ g f is rows has.
-    empty_frame g is (mem c.args.removed) f c.args.mate.now has (λ v w out z. let long = c.requires.long in let each = rows.one_each in both_ways (mem c.args.removed v) out (all_in_true c.unmated.result (mem c.args.removed) (sym c.is_subset.ensures ∙ c.if-is_subset.true) v (c.unmated.ensures v w.0 (omega arith) z))) _ c.empty.ensures c.empty-then-is_subset.ensures
+pub last_frame-requires-clause-candidates : goal.last_frame-requires-clause-candidates
+last_frame-requires-clause-candidates c = λ v l z.
+    let q = c.requires.holds in
+    let w = left_parts q.0 (mem c.args.removed) c.in_ok-instance.instance (c.in_ok-instance.ensures q.0 q.2 q.3) v l in
+    let each = q.3.one_each in
+    let here = w.0 in c.requires.exposed v (omega arith) w.1 z
+
+pub returns-then-len-eq0 : goal.returns-then-len-eq0
+returns-then-len-eq0 c = λ g f is rows has.
+    empty_frame g is (mem c.args.removed) f c.args.mate.now has
+    (λ v w out z. let each = rows.one_each in both_ways (mem c.args.exposed v) (empty-mem c.args.exposed (sym c.len.ensures ∙ c.if-len-eq0.true) v) (c.requires.exposed v (omega arith) out z))
+    _ c.empty.ensures c.empty-then-len-eq0.ensures
 
 pub returns : goal.returns
 returns c = IfOk-weaker c.last_frame.result (λ sets. (g : Graph) (r f : Set) → HoldsMatching g r f c.in_ok-instance.instance c.args.mate.now → HasFrame g r c.last_frame.new.mate sets)

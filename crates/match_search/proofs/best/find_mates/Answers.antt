@@ -1,5 +1,5 @@
 use Rattle.match_search.proofs.WholeGraphs.{limits_row}
 use Rattle.match_search.proofs.best.find_mates.Goals as goal
 
-pub first_mates-requires : goal.first_mates-requires
-first_mates-requires c = limits_row c.args.g.now c.order.result c.edges.result.now c.order.ensures.is c.edges.ensures.edges c.edges.ensures.limits
+pub first_pairs-requires : goal.first_pairs-requires
+first_pairs-requires c = limits_row c.args.g.now c.order-n.result c.edges-ends.result.now c.order-n.ensures.is c.edges-ends.ensures.edges c.edges-ends.ensures.limits

@@ -1,15 +1,22 @@
-use Rattle.std.proofs.Common.{◌<◌, ◌==◌, ◌&&◌, arith, sym, subst}
+use Rattle.std.proofs.Common.{◌<◌, ◌==◌, ◌&&◌, arith, sym, ap, subst, ◌∙◌}
 use Rattle.counting.proofs.Common.{count, mem}
 use Rattle.match_search.specs.Common.{IsMateStep, Frame, numbers}
 use Rattle.match_search.proofs.AugmentedMates.{fewer_left, held_again, left_is}
-use Rattle.match_search.proofs.Instances.{alike_then}
+use Rattle.match_search.proofs.Instances.{alike_self, alike_then, left_parts}
 use Rattle.match_search.proofs.best.last_frame.Goals as goal
 
 pub augmenting-init : goal.augmenting-init
-augmenting-init c = grind arith
+augmenting-init c = record {
+  held = λ g r f held. (f, held);
+  sized = grind arith;
+  alike = alike_self c.args.instance.now;
+  exposed = c.requires.candidates;
+}
 
 pub augment_once-requires-clause-holds : goal.augment_once-requires-clause-holds
-augment_once-requires-clause-holds c = grind arith
+augment_once-requires-clause-holds c =
+    let q = c.requires.holds in
+    let m = c.augmenting.invariant.held q.0 q.1 q.2 q.3 in (q.0, q.1, m.0, m.1)
 
 pub augment_once-requires-clause-sized : goal.augment_once-requires-clause-sized
 augment_once-requires-clause-sized c =
@@ -20,7 +27,7 @@ augment_once-requires-clause-sized c =
 
 pub augmenting-smaller : goal.augmenting-smaller
 augmenting-smaller c =
-    let q = c.requires in
+    let q = c.requires.holds in
     let g = q.0 in
     let m = c.augmenting.invariant.held q.0 q.1 q.2 q.3 in
     let s = subst (IsMateStep g q.1 m.0 c.augment_once.new.mate) c.in-Grown.is (c.in_ok-augment_once.ensures.step g q.1 m.0 m.1) in
@@ -40,6 +47,13 @@ augmenting-preserved c = record {
       let parents = sized.parents_long in
       record { parents_long = omega arith };
   alike = alike_then c.args.instance.now c.augmenting.instance c.augment_once.new.instance c.augmenting.invariant.alike c.in_ok-augment_once.ensures.restored;
+  exposed = λ v l z.
+      let q = c.requires.holds in
+      let m = c.augmenting.invariant.held q.0 q.1 q.2 q.3 in
+      let long = m.1.long in
+      let same = c.augment_once.auto.mate in
+      let w = (left_parts q.0 q.1 c.augmenting.instance m.1.instance_is v (ap (λ s. mem s v) (sym c.in_ok-augment_once.ensures.restored.left) ∙ l)).0 in
+      c.unmated-exposed.ensures v w.0 (omega arith) z;
 }
 
 pub returns-in-Final-clause-frame : goal.returns-in-Final-clause-frame

@@ -1,7 +1,7 @@
 use Rattle.std.proofs.Common.{◌==◌, ◌&&◌, length}
 use Rattle.counting.proofs.Common.{count, mem, Set}
 use Rattle.graph_core.proofs.Common.{Graph}
-use Rattle.match_search.specs.Common.{HoldsMatching, IsSized, numbers, AreAlike}
+use Rattle.match_search.specs.Common.{HoldsMatching, IsSized, MayBeExposed, numbers, AreAlike}
 use Rattle.match_search.proofs.best.last_frame.Given as goal
 
 abbrev pub invariant-augmenting : goal.invariant-augmenting
@@ -9,6 +9,7 @@ invariant-augmenting l = record {
   held : (g : Graph) (r f : Set) → HoldsMatching g r f l.initial.instance l.initial.mate → (m : Set) × HoldsMatching g r m l.instance l.mate;
   sized : IsSized (length l.initial.instance.rows.items) l.forest;
   alike : AreAlike l.initial.instance l.instance;
+  exposed : MayBeExposed l.instance.left l.mate l.exposed;
 }
 
 -- each augmentation leaves two exposed vertices less

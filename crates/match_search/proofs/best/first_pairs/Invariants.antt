@@ -2,7 +2,7 @@ use Rattle.std.proofs.Common.{◌≡◌, ℕ, ◌+◌, false, length}
 use Rattle.counting.proofs.Common.{Within, Set, mem}
 use Rattle.graph_core.proofs.Common.{degree, graph_of}
 use Rattle.match_search.specs.Common.{HasMates, numbers}
-use Rattle.match_search.proofs.best.first_mates.Given as goal
+use Rattle.match_search.proofs.best.first_pairs.Given as goal
 
 abbrev pub invariant-loop-e : goal.invariant-loop-e
 invariant-loop-e l = record {
@@ -10,4 +10,5 @@ invariant-loop-e l = record {
   m : Set;
   has : HasMates (graph_of l.n l.ends) (mem l.fn.removed) m (numbers l.mate.items);
   free : (v : ℕ) → Within l.n v → mem l.met v ≡ false → (mem l.fn.removed v ≡ false) × (degree (graph_of l.n l.ends) m v ≡ 0);
+  met : (v : ℕ) → mem l.fn.removed v ≡ false → numbers l.mate.items v ≡ 0 → mem l.met v ≡ false;
 }
