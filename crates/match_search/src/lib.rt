@@ -6,8 +6,9 @@
 //! (`IsInstance`, `HoldsMatching`, `HoldsAlternating`, `HoldsBlossom`, `IsMateStep`). A frame is
 //! what the last forest proves: its inner vertices show that no matching is larger (`Frame`).
 //!
-//! `find_best` and `best_from` repeat it until the matching is maximum, and mark the edges at the
-//! end (`IsBest`). The questions on maximum matchings are in `match_core`, above.
+//! `find_mates` begins with a greedy matching and repeats it until the matching is maximum
+//! (`HasFrame`). `find_best` and `best_from` also mark the edges at the end (`IsBest`). The
+//! questions on maximum matchings are in `match_core`, above.
 //!
 //! Depends on `graph_core` and `vset_core`. Sources: Edmonds 1965; Lovász and Plummer, "Matching
 //! Theory", chapters 1 and 9.
