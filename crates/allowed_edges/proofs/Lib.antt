@@ -3,7 +3,7 @@ pub mod ShortPaths
 pub mod FirstComponent
 pub mod TwiceNamed
 pub mod ThroughEdges
-pub mod MarkedPairs
+pub mod HeldNumbers
 pub mod PairSteps
 pub mod AllowedPartners
 pub mod ListedBases

@@ -1,6 +1,6 @@
 -- Marks set at the places of the edges of a matching, row by row.
 -- By induction on the rows, and by cases on the place that is asked for.
-use Rattle.std.proofs.Common.{◌≡◌, ℕ, suc, zero, ◌+◌, ◌<◌, Bool, true, false, ◌||◌, ◌==◌, List, [], ◌∷◌, length, map, take, sym, ap, ◌∙◌, arith, inl, inr, eq-eqb, ne_eqb, rules, get_or-set_same, get_or-set_other, subst, All, Some, slice_get, slice_set}
+use Rattle.std.proofs.Common.{◌≡◌, ℕ, suc, zero, ◌<◌, Bool, true, false, ◌||◌, ◌==◌, List, [], ◌∷◌, length, map, take, sym, ap, ◌∙◌, arith, inl, inr, eq-eqb, ne_eqb, rules, get_or-set_same, get_or-set_other, subst, All, Some, slice_get, slice_set}
 use Rattle.std.proofs.lemmas.List.Elements.{All-get_or}
 use Rattle.std.proofs.lemmas.Option.{slice_get_within}
 use Rattle.counting.proofs.Common.{get_or_from_slice_get, cases_eq, or_right, or_false, mem}
@@ -30,14 +30,4 @@ edges-more (r ∷ rows) zero row j q = let e : r ≡ row = cc in ap (λ (r : Mat
 edges-more (r ∷ rows) (suc i) row j q = ap (λ b. (r.edge == j) || b) (edges-more rows i row j q) ∙ assoc (r.edge == j) (mem (map edge_of (take i rows)) j) (row.edge == j)
   where
     assoc : (a b d : Bool) → (a || (b || d)) ≡ ((a || b) || d)
-    assoc a b d = grind arith
-
--- the marks of one more row
-pub marks-more : (old now : List Bool) (rows : List MatchRow) (i : ℕ) (row : MatchRow) → slice_get rows i ≡ Some row → row.edge < length now →
-    ((j : ℕ) → marks now j ≡ (marks old j || mem (map edge_of (take i rows)) j)) → (j : ℕ) → marks (slice_set now row.edge true) j ≡ (marks old j || mem (map edge_of (take (i + 1) rows)) j)
-marks-more old now rows i row q l h j =
-    let next : suc i ≡ i + 1 = omega arith in
-    grind (arith, marks-set, assoc, edge_of, edges-more)
-  where
-    assoc : (a b d : Bool) → ((a || b) || d) ≡ (a || (b || d))
     assoc a b d = grind arith

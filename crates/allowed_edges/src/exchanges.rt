@@ -5,35 +5,36 @@ ghost use Rattle.counting.specs.Common.{Within};
 ghost use Rattle.graph_core.specs.Common.{size};
 ghost use Rattle.match_search.specs.Common.{marks, numbers};
 
+use crate::table::EdgeTable;
 use graph_core::MultiGraph;
 use match_core::Matching;
 use std::alloc::{AllocError as Memory, Global};
-use vset_core::MOST_VERTICES;
-
-// One place for each vertex number, and one for 0.
-const PLACES: usize = MOST_VERTICES as usize + 1;
+use vset_core::VSet;
 
 /// For any two vertices an edge that joins them, or 0 if there is none.
 #[derive(Drop)]
 pub(crate) struct Joins {
+    order: u32,
     row: Vec<u32>,
 }
 
 impl Joins {
     /// The edges of `g`; of parallel edges the last.
     pub(crate) fn new(alloc: Global, g: &MultiGraph) -> Result<Joins, Memory> {
-        let mut row = vec![in alloc; 0; PLACES * PLACES]?;
+        g.keeps_limits();
+        let order = g.order();
+        let mut row = vec![in alloc; 0; (order as usize + 1) * (order as usize + 1)]?;
         for k in 0..g.size() {
             let ends = g.ends(k + 1);
-            put(&mut row, place(ends.a, ends.b), k + 1);
-            put(&mut row, place(ends.b, ends.a), k + 1);
+            put(&mut row, place(order, ends.a, ends.b), k + 1);
+            put(&mut row, place(order, ends.b, ends.a), k + 1);
         }
-        Ok(Joins { row })
+        Ok(Joins { order, row })
     }
 
     // An edge between two vertices.
     fn between(&self, a: u32, b: u32) -> u32 {
-        number_at(&self.row, place(a, b))
+        number_at(&self.row, place(self.order, a, b))
     }
 }
 
@@ -45,46 +46,67 @@ pub(crate) fn number_at(row: &[u32], i: usize) -> u32
 }
 
 /// For each vertex the edge at it after exchanges in a perfect matching that contains `e` and `f`.
-/// Each edge that is not marked is put in if an exchange of two edges for two allows it, provided
-/// that both edges that are taken out are marked and neither is `e` or `f`. In a first pass the
-/// marked edges are those known to lie together with `e`, in a second those with `f`; the edges
-/// taken out are always marked for `e`.
+/// First each edge that lies with `e` in no matching of the table is put in if an exchange of two
+/// edges for two allows it, then each that lies with `f` in none. An edge is taken out only if it
+/// lies with the edge in question and with `e` in matchings of the table, and is neither `e` nor
+/// `f`.
 pub(crate) fn exchanged(
     alloc: Global,
     g: &MultiGraph,
     joins: &Joins,
-    with_e: &[bool],
-    with_f: &[bool],
+    table: &EdgeTable,
     found: &Matching,
     e: u32,
     f: u32,
 ) -> Result<Vec<u32>, Memory> {
-    let mut at = edges_at(alloc, found)?;
-    put_in(&mut at, g, joins, with_e, with_e, e, f);
-    put_in(&mut at, g, joins, with_f, with_e, e, f);
+    let mut at = edges_at(alloc, g, found)?;
+    put_in(&mut at, g, joins, table, e, f, e);
+    put_in(&mut at, g, joins, table, e, f, f);
     Ok(at)
 }
 
-// Puts in edges that are not marked in the first row; the edges taken out are marked in both.
+// Puts in edges that lie with the edge `with`, which is `e` or `f`, in no matching of the table.
 fn put_in(
     at: &mut [u32],
     g: &MultiGraph,
     joins: &Joins,
-    marked: &[bool],
-    also: &[bool],
+    table: &EdgeTable,
     e: u32,
     f: u32,
+    with: u32,
 ) {
+    g.keeps_limits();
+    let mut free = free_vertices(at, g, table, e, f, with);
     for k in 0..g.size() {
-        if !is_marked(marked, k + 1) {
-            exchange(at, g, joins, marked, also, e, f, k + 1);
+        let ends = g.ends(k + 1);
+        if free.contains(ends.a) && free.contains(ends.b) && !has_both(table, with, k + 1) {
+            free = exchange(at, g, joins, free, k + 1);
         }
     }
 }
 
+// The vertices at which an edge may be taken out.
+fn free_vertices(at: &[u32], g: &MultiGraph, table: &EdgeTable, e: u32, f: u32, with: u32) -> VSet {
+    g.keeps_limits();
+    let mut free = VSet::empty();
+    for k in 0..g.order() {
+        let d = number_at(at, k as usize + 1);
+        if d != e && d != f && has_both(table, e, d) && has_both(table, with, d) {
+            free = free.with(k + 1);
+        }
+    }
+    free
+}
+
+// Whether two edges lie together in a matching of the table; not if one is beyond its edges.
+fn has_both(table: &EdgeTable, e: u32, f: u32) -> bool {
+    e <= table.size() && f <= table.size() && table.has_both(e, f)
+}
+
 // For each vertex the edge of the matching at it.
-fn edges_at(alloc: Global, m: &Matching) -> Result<Vec<u32>, Memory> {
-    let mut at = vec![in alloc; 0; PLACES]?;
+fn edges_at(alloc: Global, g: &MultiGraph, m: &Matching) -> Result<Vec<u32>, Memory> {
+    g.keeps_limits();
+    let mut at = vec![in alloc; 0; g.order() as usize + 1]?;
     for i in 0..m.len() {
         let row = m.row(i);
         put(&mut at, row.a as usize, row.edge);
@@ -93,50 +115,44 @@ fn edges_at(alloc: Global, m: &Matching) -> Result<Vec<u32>, Memory> {
     Ok(at)
 }
 
-// Puts edge `k` in, with the edge between the far ends of the two that are taken out.
-fn exchange(
-    at: &mut [u32],
-    g: &MultiGraph,
-    joins: &Joins,
-    marked: &[bool],
-    also: &[bool],
-    e: u32,
-    f: u32,
-    k: u32,
-)
+// Puts edge `k` in, with the edge between the far ends of the two that are taken out, if there is
+// one. Returns the vertices at which an edge may still be taken out.
+fn exchange(at: &mut [u32], g: &MultiGraph, joins: &Joins, free: VSet, k: u32) -> VSet
     requires { Within (size g.now) k }
 {
     let ends = g.ends(k);
     let first = number_at(at, ends.a as usize);
     let second = number_at(at, ends.b as usize);
-    if first == second || first == e || first == f || second == e || second == f {
-        return;
-    }
-    if !may_go(marked, also, first) || !may_go(marked, also, second) {
-        return;
+    if first == second {
+        return free;
     }
     let a = far_end(g, first, ends.a);
     let b = far_end(g, second, ends.b);
     let closing = joins.between(a, b);
-    if closing == 0 {
-        return;
+    if closing == 0 || closing > g.size() {
+        return free;
     }
+    put_edge(at, g, k);
+    put_edge(at, g, closing);
+    without_ends(g, without_ends(g, free, k), closing)
+}
+
+// Writes an edge at both of its ends.
+fn put_edge(at: &mut [u32], g: &MultiGraph, k: u32)
+    requires { Within (size g.now) k }
+{
+    let ends = g.ends(k);
     put(at, ends.a as usize, k);
     put(at, ends.b as usize, k);
-    put(at, a as usize, closing);
-    put(at, b as usize, closing);
 }
 
-// Whether edge `d` may be taken out: it is marked in both rows.
-fn may_go(marked: &[bool], also: &[bool], d: u32) -> bool {
-    is_marked(marked, d) && is_marked(also, d)
-}
-
-/// Whether edge `d` is marked.
-pub(crate) fn is_marked(marked: &[bool], d: u32) -> bool
-    ensures { result ≡ true → marks marked.now d ≡ true }
+// The set without the ends of an edge.
+fn without_ends(g: &MultiGraph, set: VSet, k: u32) -> VSet
+    requires { Within (size g.now) k }
 {
-    (d as usize) < marked.len() && marked[d as usize]
+    g.keeps_limits();
+    let ends = g.ends(k);
+    set.without(ends.a).without(ends.b)
 }
 
 // The end of edge `d` that is not `v`.
@@ -148,9 +164,16 @@ fn far_end(g: &MultiGraph, d: u32, v: u32) -> u32 {
     if ends.a == v { ends.b } else { ends.a }
 }
 
+/// Whether edge `d` is marked.
+pub(crate) fn is_marked(marked: &[bool], d: u32) -> bool
+    ensures { result ≡ true → marks marked.now d ≡ true }
+{
+    (d as usize) < marked.len() && marked[d as usize]
+}
+
 // The place of two vertices in the row of joining edges.
-fn place(a: u32, b: u32) -> usize {
-    a as usize * PLACES + b as usize
+fn place(order: u32, a: u32, b: u32) -> usize {
+    a as usize * (order as usize + 1) + b as usize
 }
 
 // Writes a number at a place of the row, if there is such a place.

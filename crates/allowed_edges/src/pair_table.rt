@@ -6,7 +6,7 @@ ghost use Rattle.match_core.specs.Common.{edges_of};
 ghost use Rattle.allowed_edges.specs.PairTables.{IsPerfectWith, edge_lists, holds_both};
 
 use crate::exchanges::Joins;
-use crate::table::{EdgeTable, mark_pairs};
+use crate::table::EdgeTable;
 use crate::varied::varied;
 use graph_core::MultiGraph;
 use match_core::Matching;
@@ -44,7 +44,7 @@ impl PairTable {
         requires second { Within self.now.size f }
         ensures { result ≡ holds_both (edge_lists self.now) e f }
     {
-        self.table.is_marked(e, f)
+        self.table.has_both(e, f)
     }
 
     /// The matchings. Takes no memory.
@@ -62,7 +62,7 @@ impl PairTable {
         let size = g.size();
         Ok(PairTable {
             size,
-            table: EdgeTable::new(alloc, size)?,
+            table: EdgeTable::new(alloc, size),
             list: Vec::new(alloc),
             joins: Joins::new(alloc, g)?,
         })
@@ -86,20 +86,19 @@ impl PairTable {
         ensures perfect { IfOk result (IsPerfectWith g.now e) }
         ensures held { IfOk result (λ m. mem (edges_of m) f ≡ true) }
     {
-        let with_e = self.table.row(e);
-        let with_f = self.table.row(f);
-        varied(alloc, g, &self.joins, with_e, with_f, found, e, f)
+        varied(alloc, g, &self.joins, &self.table, found, e, f)
     }
 
     /// Lists one more matching, and marks all pairs of its edges.
-    pub(crate) fn add(&mut self, found: Matching) -> Result<(), Memory>
+    pub(crate) fn add(&mut self, alloc: Global, found: Matching) -> Result<(), Memory>
         requires { All (λ row. Within self.old.size row.edge) found.rows }
         ensures size { OnOk result (self.new.size ≡ self.old.size) }
         ensures list { OnOk result (self.new.list ≡ self.old.list ++ found ∷ []) }
     {
+        self.table.make_room(alloc)?;
         let place = self.list.len();
         self.list.push(found)?;
-        mark_pairs(&mut self.table, &self.list[place]);
+        self.table.add(&self.list[place]);
         Ok(())
     }
 }

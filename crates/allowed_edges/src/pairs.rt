@@ -71,14 +71,19 @@ pub fn seek_pair(
 }
 
 /// Lists a perfect matching that contains an edge, or a pair of edges, that no listed one contains.
-pub fn list_new(g: &MultiGraph, pairs: &mut PairTable, found: Matching) -> Result<(), Memory>
+pub fn list_new(
+    alloc: Global,
+    g: &MultiGraph,
+    pairs: &mut PairTable,
+    found: Matching,
+) -> Result<(), Memory>
     requires begun { SettlesEdges g.now 1 pairs.old }
     requires new { IsNew g.now pairs.old found }
     ensures begun { IfOk result (λ _. SettlesEdges g.now 1 pairs.new) }
     ensures list { IfOk result (λ _. pairs.new.list ≡ pairs.old.list ++ found ∷ []) }
 {
     found.keeps_matching();
-    pairs.add(found)?;
+    pairs.add(alloc, found)?;
     Ok(())
 }
 
@@ -103,7 +108,7 @@ pub fn list_with_edge(
         return Ok(());
     }
     match perfect_with_edge(alloc, g, kept, e)? {
-        Some(found) => list_new(g, pairs, found),
+        Some(found) => list_new(alloc, g, pairs, found),
         None => Ok(()),
     }
 }
@@ -155,7 +160,7 @@ fn settle_edge(
         None => Ok(()),
         Some(base) => {
             let last = settle_pairs(alloc, g, base, pairs, e)?;
-            list_unless_held(g, pairs, last, e)
+            list_unless_held(alloc, g, pairs, last, e)
         }
     }
 }
@@ -244,7 +249,7 @@ fn listed(alloc: Global, pairs: &mut PairTable, found: Matching) -> Result<Match
         (pairs.new.list ≡ pairs.old.list ++ found ∷ [])) }
 {
     let next = copied(alloc, &found)?;
-    pairs.add(found)?;
+    pairs.add(alloc, found)?;
     Ok(next)
 }
 
@@ -269,6 +274,7 @@ fn is_settled(g: &MultiGraph, pairs: &PairTable, e: u32, f: u32) -> bool
 // Lists a perfect matching that contains `e`, unless a listed one does; the pairs of `e` are
 // settled.
 fn list_unless_held(
+    alloc: Global,
     g: &MultiGraph,
     pairs: &mut PairTable,
     base: Matching,
@@ -283,6 +289,6 @@ fn list_unless_held(
         return Ok(());
     }
     base.keeps_matching();
-    pairs.add(base)?;
+    pairs.add(alloc, base)?;
     Ok(())
 }

@@ -1,100 +1,118 @@
-//! Square tables of marks on pairs of edges.
-ghost use Rattle.std.specs.Prelude.{◌≡◌, ◌≢◌, ℕ, ◌+◌, ◌<◌, ◌≤◌, ◌&&◌, ◌||◌, false, length, IfOk, All};
-ghost use Rattle.counting.specs.Common.{mem, row_of};
+//! Tables that say which of the listed matchings hold an edge, and so which two edges lie together
+//! in one of them.
+ghost use Rattle.std.specs.Prelude.{◌≡◌, ◌≢◌, ℕ, ◌+◌, ◌<◌, ◌≤◌, ◌==◌, ◌&&◌, ◌||◌, false, length, IfOk, OnOk, All};
+ghost use Rattle.counting.specs.Common.{Within, mem};
 ghost use Rattle.match_core.specs.Common.{edges_of};
-ghost use Rattle.match_search.specs.Common.{marks};
-ghost use Rattle.allowed_edges.specs.EdgeTables.{IsSquare};
+ghost use Rattle.allowed_edges.specs.EdgeTables.{are_held, numbers_at, share};
 
-use graph_core::MOST_EDGES;
 use match_core::Matching;
 use std::alloc::{AllocError as Memory, Global};
 use std::marker::Model;
+use vset_core::{MOST_VERTICES, VSet};
 
-/// For each edge a row of marks, one for each edge. Contracts see the rows of marks.
+/// Matchings by numbers from 1 to `MOST_VERTICES`, in blocks: each block has for each edge the
+/// numbers of those that hold it, and the last has `count` matchings. Contracts see the number of
+/// edges, the blocks, and `count`.
 #[derive(Drop)]
 pub struct EdgeTable {
-    rows: Vec<Vec<bool>>,
+    size: u32,
+    blocks: Vec<Vec<VSet>>,
+    count: u32,
 }
 
 impl Model for EdgeTable {
-    ghost use Rattle.std.specs.Prelude.{Bool, List};
-    ghost use Rattle.allowed_edges.specs.EdgeTables.{rows_of};
+    ghost use Rattle.allowed_edges.specs.EdgeTables.{IsTable, TableValue};
 
-    ghost Value = { List (List Bool) };
+    ghost Value = { TableValue };
 
-    ghost view = { λ table. rows_of table.rows.items };
+    ghost view = { λ table. record { size = table.size; blocks = table.blocks.items; count = table.count } };
+
+    ghost invariant = { λ table. IsTable (record { size = table.size; blocks = table.blocks.items; count = table.count }) };
 }
 
 impl EdgeTable {
-    /// The table for the edges 1 to `size` with no mark.
-    pub fn new(alloc: Global, size: u32) -> Result<EdgeTable, Memory>
-        requires { size ≤ MOST_EDGES }
-        ensures length { IfOk result (λ table. length table ≡ size + 1) }
-        ensures square { IfOk result (λ table. IsSquare table) }
-        ensures empty { IfOk result (λ table. (e f : ℕ) → marks (row_of table e) f ≡ false) }
+    /// The table of no matching, for the edges 1 to `size`. Takes no memory.
+    pub fn new(alloc: Global, size: u32) -> EdgeTable
+        ensures size { result.size ≡ size }
+        ensures empty { (e f : ℕ) → are_held result e f ≡ false }
     {
-        let mut rows = Vec::with_capacity(alloc, size as usize + 1)?;
-        for _e in 0..size + 1 {
-            rows.push(vec![in alloc; false; size as usize + 1]?)?;
+        EdgeTable {
+            size,
+            blocks: Vec::new(alloc),
+            count: MOST_VERTICES,
         }
-        Ok(EdgeTable { rows })
     }
 
-    /// Whether `f` is marked in the row of `e`.
-    pub fn is_marked(&self, e: u32, f: u32) -> bool
-        requires row { e < length self.now }
-        requires place { f < length (row_of self.now e) }
-        ensures { result ≡ marks (row_of self.now e) f }
+    /// The number of edges.
+    pub fn size(&self) -> u32
+        ensures { result ≡ self.now.size }
     {
-        self.rows[e as usize][f as usize]
+        self.size
     }
 
-    /// The marks in the row of `e`.
-    pub fn row(&self, e: u32) -> &[bool]
-        requires { e < length self.now }
-        ensures { result.now ≡ row_of self.now e }
+    /// Whether some matching holds both `e` and `f`.
+    pub fn has_both(&self, e: u32, f: u32) -> bool
+        requires first { e ≤ self.now.size }
+        requires second { f ≤ self.now.size }
+        ensures { result ≡ are_held self.now e f }
     {
-        &self.rows[e as usize]
+        for i in 0..self.blocks.len() {
+            if has_common(&self.blocks[i], e, f) {
+                return true;
+            }
+        }
+        false
     }
 
-    /// Marks the edges of a matching in the row of `e`.
-    fn mark_row(&mut self, e: u32, m: &Matching)
-        requires row { e < length self.old }
-        requires places { All (λ row. row.edge < length (row_of self.old e)) m.now.rows }
-        ensures length { length self.new ≡ length self.old }
-        ensures row_length { length (row_of self.new e) ≡ length (row_of self.old e) }
-        ensures marked { (f : ℕ) →
-            marks (row_of self.new e) f ≡ (marks (row_of self.old e) f || mem (edges_of m.now) f) }
-        ensures others { (d : ℕ) → d ≢ e → row_of self.new d ≡ row_of self.old d }
+    /// Makes room for one more matching, if there is none. The table holds what it held.
+    pub fn make_room(&mut self, alloc: Global) -> Result<(), Memory>
+        ensures size { self.new.size ≡ self.old.size }
+        ensures held { (e f : ℕ) → are_held self.new e f ≡ are_held self.old e f }
+        ensures room { OnOk result (self.new.count < MOST_VERTICES) }
     {
-        mark_edges(&mut self.rows[e as usize], m);
+        if self.count == MOST_VERTICES {
+            let block = vec![in alloc; VSet::empty(); self.size as usize + 1]?;
+            self.blocks.push(block)?;
+            self.count = 0;
+        }
+        Ok(())
+    }
+
+    /// Takes one more matching, for which there is room.
+    pub fn add(&mut self, m: &Matching)
+        requires room { self.old.count < MOST_VERTICES }
+        requires places { All (λ row. row.edge ≤ self.old.size) m.now.rows }
+        ensures size { self.new.size ≡ self.old.size }
+        ensures held { (e f : ℕ) →
+            are_held self.new e f ≡
+            (are_held self.old e f || (mem (edges_of m.now) e && mem (edges_of m.now) f)) }
+    {
+        let last = self.blocks.len() - 1;
+        put_number(&mut self.blocks[last], m, self.count + 1);
+        self.count += 1;
     }
 }
 
-/// Marks each pair of edges of a matching.
-pub fn mark_pairs(table: &mut EdgeTable, m: &Matching)
-    requires square { IsSquare table.old }
-    requires places { All (λ row. row.edge < length table.old) m.now.rows }
-    ensures length { length table.new ≡ length table.old }
-    ensures square { IsSquare table.new }
-    ensures marked { (e f : ℕ) →
-        marks (row_of table.new e) f ≡
-        (marks (row_of table.old e) f || (mem (edges_of m.now) e && mem (edges_of m.now) f)) }
+// Whether some matching of a block holds both `e` and `f`.
+fn has_common(block: &Vec<VSet>, e: u32, f: u32) -> bool
+    requires first { e < length block.now.items }
+    requires second { f < length block.now.items }
+    ensures { result ≡ share e f block.now }
 {
-    for i in 0..m.len() {
-        table.mark_row(m.row(i).edge, m);
-    }
+    block[e as usize].meet(block[f as usize]).len() != 0
 }
 
-// Marks the edges of a matching.
-fn mark_edges(mark: &mut Vec<bool>, m: &Matching)
-    requires { All (λ row. row.edge < length mark.old.items) m.now.rows }
-    ensures length { length mark.new.items ≡ length mark.old.items }
-    ensures each { (i : ℕ) →
-        marks mark.new.items i ≡ (marks mark.old.items i || mem (edges_of m.now) i) }
+// Puts a number at each edge of a matching.
+fn put_number(block: &mut Vec<VSet>, m: &Matching, number: u32)
+    requires number { Within MOST_VERTICES number }
+    requires places { All (λ row. row.edge < length block.old.items) m.now.rows }
+    ensures length { length block.new.items ≡ length block.old.items }
+    ensures each { (e v : ℕ) →
+        mem (numbers_at block.new e) v ≡
+        (mem (numbers_at block.old e) v || (mem (edges_of m.now) e && number == v)) }
 {
     for i in 0..m.len() {
         let edge = m.row(i).edge as usize;
-        mark[edge] = true;
+        block[edge] = block[edge].with(number);
     }
 }

@@ -10,20 +10,20 @@ ghost use Rattle.allowed_edges.specs.PairTables.{IsPerfectWith, NamesEdge};
 
 use crate::exchanges::{Joins, exchanged, is_marked, number_at};
 use crate::questions::misses_none;
+use crate::table::EdgeTable;
 use graph_core::MultiGraph;
 use match_core::{Matching, matching_of};
 use std::alloc::{AllocError as Memory, Global};
 use vset_core::VSet;
 
 /// A perfect matching that contains `e` and `f`, made from a given one: exchanged so that it
-/// contains more of the edges that are not marked in the rows of `e` and of `f`, if the result is a
-/// perfect matching, and otherwise the same.
+/// contains more of the edges that lie with `e` or with `f` in no matching of the table, if the
+/// result is a perfect matching, and otherwise the same.
 pub(crate) fn varied(
     alloc: Global,
     g: &MultiGraph,
     joins: &Joins,
-    with_e: &[bool],
-    with_f: &[bool],
+    table: &EdgeTable,
     found: Matching,
     e: u32,
     f: u32,
@@ -35,7 +35,7 @@ pub(crate) fn varied(
     ensures perfect { IfOk result (IsPerfectWith g.now e) }
     ensures held { IfOk result (λ m. mem (edges_of m) f ≡ true) }
 {
-    let at = exchanged(alloc, g, joins, with_e, with_f, &found, e, f)?;
+    let at = exchanged(alloc, g, joins, table, &found, e, f)?;
     match perfect_from(alloc, g, &at, e, f)? {
         Some(other) => Ok(other),
         None => Ok(found),

@@ -159,7 +159,7 @@ pub(crate) fn common_shore(
         };
         match crossing(alloc, g, shore, &matchings.kept)? {
             None => return Ok(Some(shore)),
-            Some(matching) => list_new(g, &mut matchings.pairs, matching)?,
+            Some(matching) => list_new(alloc, g, &mut matchings.pairs, matching)?,
         }
     }
     unreachable!()
