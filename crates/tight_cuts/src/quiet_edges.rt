@@ -18,7 +18,7 @@ use std::alloc::{AllocError as Memory, Global};
 use vset_core::VSet;
 
 /// How many edges may be refused before no more are sought for one edge.
-const MOST_REFUSED: u32 = 4;
+const MOST_REFUSED: u32 = 2;
 
 /// Whether edge `e` is seen to be quiet, by the matchings that are listed and by others that are
 /// sought and listed.
@@ -149,10 +149,10 @@ fn widened_by(g: &MultiGraph, pairs: &PairTable, e: u32, reach: VSet, f: u32) ->
     if f == e {
         return reach;
     }
-    if !pairs.both(e, f) {
+    if !is_in_cut(g, reach, f) {
         return reach;
     }
-    if !is_in_cut(g, reach, f) {
+    if !pairs.both(e, f) {
         return reach;
     }
     let ends = g.ends(f);
