@@ -1,14 +1,14 @@
 -- What the pairs with one first vertex x give, by one set: the intersection of all tight sets
 -- that have x and an end of the edge, not the other. Idea: that intersection is one of these
 -- sets, so a pair (x, y) is separated exactly when it lacks y, and then it is the common shore.
-use Rattle.std.proofs.Common.{◌≡◌, ◌≢◌, ℕ, ◌+◌, true, false, not, ◌==◌, refl, sym, ap, ◌∙◌, arith, inl, inr, List, Option, Some, None, eq-eqb}
-use Rattle.counting.proofs.Common.{same_tests, cases_lt, both_ways, false_from_ne_true, cases_Bool, or_left, or_right, complement, Within, mem, Set, pair_set}
+use Rattle.std.proofs.Common.{◌≡◌, ◌≢◌, ℕ, ◌+◌, true, false, not, ◌==◌, refl, sym, ap, ◌∙◌, arith, inl, inr, List, Option, Some, None, eq-eqb, eqb-true}
+use Rattle.counting.proofs.Common.{same_tests, cases_lt, both_ways, false_from_ne_true, cases_Bool, or_cases, or_left, or_right, complement, Within, mem, Set, pair_set}
 use Rattle.barrier_kit.proofs.Common.{tight-turned}
 use Rattle.graph_core.proofs.Common.{IsCovered, Graph, IsGraph, size, IsWithinLimits}
 use Rattle.tight_cuts.proofs.EdgeLoop.{ends_between, first_pair, no_pair}
 use Rattle.tight_cuts.proofs.EdgeShores.{allowed, greater_within, lesser_within}
 use Rattle.tight_cuts.proofs.FirstPairs.{before_first, no_first}
-use Rattle.tight_cuts.proofs.LeastShores.{common_from, common_in, common_parts, separated_says}
+use Rattle.tight_cuts.proofs.LeastShores.{common_from, common_in, common_parts, separated_found, separated_says}
 use Rattle.tight_cuts.specs.Common.{common_shore, first_separated, greater_end, is_separated, lesser_end, AreWhole, IsCommonShore, IsShoreOfEdge, NoneBefore, SeparatesTightly}
 
 -- a set that separates x from y separates x from b alone
@@ -74,6 +74,17 @@ module _ (g : Graph) (lim : IsWithinLimits g) (cov : IsCovered g) (e : ℕ) (we 
               | inr u ↦ let same : k.0 ≡ x = omega arith in (k.1, f.2, q ∙ ap (λ i. Some (i, k.1)) same, ap (λ i. is_separated g a b (i, k.1)) (sym same) ∙ f.0)
             ]
           ]
+
+  -- if no pair with x is separated, each tight set with a and x and without b is everything but b
+  pub whole_before : pair_set a b x ≡ false → NoneBefore g e (x + 1) 1 → AreWhole g a b x
+  whole_before ox before z p v w d = elim (cases_Bool (z v)) [
+    | inl t ↦ t
+    | inr f ↦ absurd (both_ways (is_separated g a b (x, v)) (before x v wx w (inl (omega arith)))
+        (separated_found g a b (x, v) z is wa wb wx w ox (false_from_ne_true (pair_set a b v) (λ t. elim (or_cases (a == v) (b == v) t) [
+          | inl q ↦ both_ways (z v) f (ap z (sym (eqb-true a v q)) ∙ p.has_a)
+          | inr q ↦ d (sym (eqb-true b v q))
+        ])) (wider g a b x v z p f)))
+  ]
 
   module _ (answer : Option (List ℕ)) (common : IsCommonShore g a b (x, b) answer) where
     -- a shore that lacks a vertex other than b is what the edge gives

@@ -104,7 +104,8 @@ fn shore_from(
 }
 
 // What the pairs give in order. Only pairs of vertices that lead pieces are asked: a pair is
-// separated by its pieces alone.
+// separated by its pieces alone. After the first such vertex one more cut may show that no pair is
+// separated.
 fn first_shore(
     alloc: Global,
     g: &MultiGraph,
@@ -123,6 +124,9 @@ fn first_shore(
     for k in 0..g.order() {
         if let Some(shore) = shore_from(alloc, g, matchings, leaders, e, k + 1)? {
             return Ok(Some(shore));
+        }
+        if is_inseparable(alloc, g, matchings, leaders, e, k + 1)? {
+            return Ok(None);
         }
     }
     Ok(None)
@@ -149,9 +153,6 @@ impl EdgeSearch for NetworkSearch {
             return Ok(None);
         }
         let leaders = leaders_at(alloc, c, &mut self.matchings, e)?;
-        if is_inseparable(alloc, g, &mut self.matchings, &leaders, e)? {
-            return Ok(None);
-        }
         first_shore(alloc, g, &mut self.matchings, &leaders, e)
     }
 }

@@ -1,46 +1,51 @@
-//! Two cuts that show that an edge gives nothing.
+//! A cut that shows that an edge gives nothing.
 //!
 //! Let a and b be the ends of the edge, and let x be another vertex. If each tight set with a and x
 //! and without b is everything but b, and each with b and x and without a everything but a, then
-//! the tight sets with a and without b are a alone and everything but b: no pair is separated.
-ghost use Rattle.std.specs.Prelude.{◌≡◌, true, IfOk, None};
+//! the tight sets with a and without b are a alone and everything but b: no pair is separated. The
+//! former is known where no pair with the first vertex x is separated, so one cut is left to make.
+ghost use Rattle.std.specs.Prelude.{◌≡◌, ◌+◌, true, IfOk, None};
+ghost use Rattle.counting.specs.Common.{Within};
 ghost use Rattle.graph_core.specs.Common.{size};
-ghost use Rattle.tight_cuts.specs.Common.{first_separated, greater_end, lesser_end, AreLeadersAt, AreMatchings, AreWhole, Leads};
+ghost use Rattle.tight_cuts.specs.Common.{first_separated, greater_end, lesser_end, AreLeadersAt, AreMatchings, AreWhole, Leads, NoneBefore};
 
 use crate::edge_search::{first_lacking, leads};
 use crate::groups::{Grouping, common_shore};
 use crate::matchings::Matchings;
+use crate::quiet_edges::without_ends;
 use graph_core::MultiGraph;
 use std::alloc::{AllocError as Memory, Global};
-use vset_core::VSet;
 
-/// Whether two cuts show that no pair is separated at edge `e`.
+/// Whether one more cut shows that no pair is separated at edge `e`, if none with a first vertex up
+/// to `x` is. It is made only if `x` is the least vertex that is no end of `e`.
 pub(crate) fn is_inseparable(
     alloc: Global,
     g: &MultiGraph,
     matchings: &mut Matchings,
     leaders: &[u32],
     e: u32,
+    x: u32,
 ) -> Result<bool, Memory>
     requires matchings { AreMatchings g.now matchings.old.kept matchings.old.pairs }
     requires leaders { AreLeadersAt g.now (lesser_end g.now e) (greater_end g.now e) e
         leaders.now }
+    requires x { Within g.now.order x }
+    requires before { NoneBefore g.now e (x + 1) 1 }
     ensures matchings { IfOk result
         (λ _. AreMatchings g.now matchings.new.kept matchings.new.pairs) }
     ensures none { IfOk result (λ r. r ≡ true → first_separated g.now e ≡ None) }
 {
     g.keeps_limits();
+    let Some(least) = without_ends(g, e).first() else {
+        return Ok(false);
+    };
+    if x != least {
+        return Ok(false);
+    }
     let ends = g.ends(e);
     let a = ends.a.min(ends.b);
     let b = ends.a.max(ends.b);
-    let Some(x) = VSet::full(g.order()).without(a).without(b).first() else {
-        return Ok(false);
-    };
     if !leads(leaders, a, b, x) {
-        return Ok(false);
-    }
-    let near = Grouping { a, b, x, y: b };
-    if !are_whole(alloc, g, matchings, leaders, near, e)? {
         return Ok(false);
     }
     let far = Grouping {
