@@ -5,7 +5,8 @@
 //! (`Equivalent`). `is_barrier` decides the first for every graph, `classes` lists the classes, and
 //! `barrier_cuts` lists the nontrivial cuts ∂(V(K)), K a component of G - B for a class B, each
 //! once by its canonical shore. `classes_of`, `barrier_cuts_of` and `first_barrier_cut`, which
-//! stops at the first, take a `Covered` of `graph_facts`, which has its table of partners.
+//! stops at the first, take a `Covered` of `graph_facts`, which has its table of partners;
+//! `first_barrier_cut_from` is lent the classes too.
 //!
 //! The laws: the classes are the maximal barriers (`equivalence_law`, `class_law`), barriers give
 //! tight cuts (`barrier_law`, `barrier_cuts_law`), and a graph that is neither bicritical nor
@@ -23,4 +24,4 @@ mod shores;
 pub use barrier::is_barrier;
 pub use canonical_partition::{classes, classes_of};
 pub use laws::{barrier_cuts_law, barrier_law, class_law, equivalence_law, wide_class_law};
-pub use shores::{barrier_cuts, barrier_cuts_of, first_barrier_cut};
+pub use shores::{barrier_cuts, barrier_cuts_of, first_barrier_cut, first_barrier_cut_from};

@@ -1,7 +1,7 @@
 //! The cuts that the classes of a covered graph give.
 ghost use Rattle.std.specs.Prelude.{◌≡◌, fold, slice_get, IfOk, OnOk};
 ghost use Rattle.counting.specs.Common.{mem};
-ghost use Rattle.graph_core.specs.Common.{with_cut, components, IsCovered};
+ghost use Rattle.graph_core.specs.Common.{with_cut, classes, components, IsCovered};
 ghost use Rattle.barrier_kit.specs.Common.{barrier_cuts};
 
 use crate::canonical_partition::classes_of;
@@ -46,8 +46,19 @@ pub fn barrier_cuts_of(alloc: Global, c: &Covered) -> Result<SetList, Memory>
 pub fn first_barrier_cut(alloc: Global, c: &Covered) -> Result<Option<VSet>, Memory>
     ensures { IfOk result (λ cut. cut ≡ slice_get (barrier_cuts c.now) 0) }
 {
+    first_barrier_cut_from(alloc, c, &classes_of(alloc, c)?)
+}
+
+/// What `first_barrier_cut` returns, from the classes of the graph.
+pub fn first_barrier_cut_from(
+    alloc: Global,
+    c: &Covered,
+    list: &SetList,
+) -> Result<Option<VSet>, Memory>
+    requires { list.now ≡ classes c.now }
+    ensures { IfOk result (λ cut. cut ≡ slice_get (barrier_cuts c.now) 0) }
+{
     let mut cuts = SetList::new(alloc);
-    let list = classes_of(alloc, c)?;
     for class in list.as_slice() {
         add_class_cuts(alloc, c, *class, &mut cuts)?;
         if !cuts.is_empty() {

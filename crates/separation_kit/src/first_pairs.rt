@@ -1,35 +1,38 @@
 //! A covered graph with the pairs of vertices that say whether it is bicritical, and if so, whether
 //! two vertices separate it.
-ghost use Rattle.std.specs.Prelude.{◌≡◌, ◌↔◌, IsTrue};
+ghost use Rattle.std.specs.Prelude.{◌≡◌, ◌↔◌, IfSome, IsTrue};
 ghost use Rattle.std.specs.Option.{option_map};
-ghost use Rattle.graph_core.specs.Common.{IsCovered, IsBipartite, IsBicritical, cut_pair, equivalent_pair, IsWithinLimits};
+ghost use Rattle.graph_core.specs.Common.{IsCovered, IsBipartite, IsBicritical, classes, cut_pair, equivalent_pair, IsWithinLimits};
 ghost use Rattle.separation_kit.specs.Pairs.{pair_of};
 
 use crate::critical::{cut_pair, equivalent_pair};
 use crate::pair::Pair;
+use graph_core::SetList;
 use graph_facts::Covered;
 use std::marker::Model;
 
-/// A covered graph with the first pair of vertices that shows that it is not bicritical, and with
-/// its first cut pair if it is bicritical. Contracts see the graph.
+/// A covered graph with the first pair of vertices that shows that it is not bicritical, with its
+/// first cut pair if it is bicritical, and with its classes if they are lent. Contracts see the
+/// graph.
 #[derive(Drop)]
 pub struct FirstPairs<'c, 'g> {
     covered: &'c Covered<'g>,
+    lent: Option<&'c SetList>,
     equivalent: Option<Pair>,
     cut: Option<Pair>,
 }
 
 impl<'c, 'g> Model for FirstPairs<'c, 'g> {
-    ghost use Rattle.std.specs.Prelude.{◌≡◌};
+    ghost use Rattle.std.specs.Prelude.{◌≡◌, IfSome};
     ghost use Rattle.std.specs.Option.{option_map};
-    ghost use Rattle.graph_core.specs.Common.{Graph, IsBicritical, cut_pair, equivalent_pair};
+    ghost use Rattle.graph_core.specs.Common.{Graph, IsBicritical, classes, cut_pair, equivalent_pair};
     ghost use Rattle.separation_kit.specs.Pairs.{pair_of};
 
     ghost Value = { Graph };
 
     ghost view = { λ p. p.covered.now };
 
-    ghost invariant = { λ p. (option_map pair_of p.equivalent ≡ equivalent_pair p.covered.now) × (IsBicritical p.covered.now → option_map pair_of p.cut ≡ cut_pair p.covered.now) };
+    ghost invariant = { λ p. (option_map pair_of p.equivalent ≡ equivalent_pair p.covered.now) × (IsBicritical p.covered.now → option_map pair_of p.cut ≡ cut_pair p.covered.now) × IfSome p.lent (λ list. list.now ≡ classes p.covered.now) };
 }
 
 impl<'c, 'g> FirstPairs<'c, 'g> {
@@ -42,9 +45,28 @@ impl<'c, 'g> FirstPairs<'c, 'g> {
         let cut = cut_where_bicritical(covered, equivalent);
         FirstPairs {
             covered,
+            lent: None,
             equivalent,
             cut,
         }
+    }
+
+    /// The pairs of a covered graph whose classes are known, with these.
+    pub fn with_classes(covered: &'c Covered<'g>, lent: &'c SetList) -> FirstPairs<'c, 'g>
+        requires { lent.now ≡ classes covered.now }
+        ensures { result ≡ covered.now }
+    {
+        FirstPairs {
+            lent: Some(lent),
+            ..FirstPairs::of(covered)
+        }
+    }
+
+    /// The classes, if they are lent.
+    pub fn classes(&self) -> Option<&'c SetList>
+        ensures { IfSome result (λ list. list.now ≡ classes self.now) }
+    {
+        self.lent
     }
 
     /// The covered graph.

@@ -1,7 +1,7 @@
 use Rattle.std.proofs.Common.{◌≡◌, [], fold, flat_map, take}
 use Rattle.counting.proofs.Common.{mem}
 use Rattle.graph_core.proofs.Common.{components, with_cut}
-use Rattle.barrier_kit.proofs.shores.first_barrier_cut.Given as goal
+use Rattle.barrier_kit.proofs.shores.first_barrier_cut_from.Given as goal
 
 abbrev pub invariant-loop-class : goal.invariant-loop-class
 invariant-loop-class l = record {
