@@ -69,6 +69,18 @@ module _ (g : Graph) (is : IsGraph g) (cov : IsCovered g) (e : ℕ) (we : Within
       let al = cov.allowed e we (λ l. let s : lesser_end g e ≡ greater_end g e = omega arith in true≢false (sym p.has_a ∙ ap q.2.0 s ∙ p.lacks_b)) in
       common_parts g is (lesser_end g e) (greater_end g e) k low_within high_within wx wy cov e we (ends_between g e) al q.2.0 p
 
+  -- what the first separated pair gives is nontrivial, and the edge is in its cut
+  pub shore_cuts : (k : ℕ × ℕ) → first_separated g e ≡ Some k → IsNontrivial g.order (common_shore g (lesser_end g e) (greater_end g e) k) × (in_cut g (common_shore g (lesser_end g e) (greater_end g e) k) e ≡ true)
+  shore_cuts k q =
+      let f = first_pair g.order (is_separated g (lesser_end g e) (greater_end g e)) k q in
+      let p = shore_parts k f.1 f.2 f.0 in
+      let s = separated_says g (lesser_end g e) (greater_end g e) k f.0 in (
+        parts_nontrivial g (lesser_end g e) (greater_end g e) k (common_shore g (lesser_end g e) (greater_end g e) k) low_within high_within f.1 f.2
+            (λ d. both_ways (pair_set (lesser_end g e) (greater_end g e) k.0) s.0 (or_left (lesser_end g e == k.0) (greater_end g e == k.0) (eq-eqb (lesser_end g e) k.0 d)))
+            (λ d. both_ways (pair_set (lesser_end g e) (greater_end g e) k.1) s.1 (or_right (lesser_end g e == k.1) (greater_end g e == k.1) (eq-eqb (greater_end g e) k.1 d))) p,
+        cut_between g (common_shore g (lesser_end g e) (greater_end g e) k) (lesser_end g e) (greater_end g e) e (ends_between g e) p.has_a p.lacks_b,
+      )
+
   module _ (list : List Candidate) where
     edge_cases : ((list_any (cuts g e) list ≡ true) × (with_edge_cut g list e ≡ list))
         ⊎ ((list_any (cuts g e) list ≡ false) × (with_edge_cut g list e ≡ with_pair g (lesser_end g e) (greater_end g e) list (first_separated g e)))
@@ -106,15 +118,7 @@ module _ (g : Graph) (is : IsGraph g) (cov : IsCovered g) (e : ℕ) (we : Within
 
         go : (o : Option (ℕ × ℕ)) → first_separated g e ≡ o → list_any (cuts g e) (with_pair g (lesser_end g e) (greater_end g e) list o) ≡ true
         go None q = absurd (both_ways (is_separated g (lesser_end g e) (greater_end g e) (in_x.0, out_x.0)) (no_pair g.order (is_separated g (lesser_end g e) (greater_end g e)) q in_x.0 out_x.0 in_x.1 out_x.1) separated)
-        go (Some k) q =
-            let f = first_pair g.order (is_separated g (lesser_end g e) (greater_end g e)) k q in
-            let p = shore_parts k f.1 f.2 f.0 in
-            let s = separated_says g (lesser_end g e) (greater_end g e) k f.0 in
-            with_covers g Flow list (common_shore g (lesser_end g e) (greater_end g e) k) e is we
-            (parts_nontrivial g (lesser_end g e) (greater_end g e) k (common_shore g (lesser_end g e) (greater_end g e) k) low_within high_within f.1 f.2
-            (λ d. both_ways (pair_set (lesser_end g e) (greater_end g e) k.0) s.0 (or_left (lesser_end g e == k.0) (greater_end g e == k.0) (eq-eqb (lesser_end g e) k.0 d)))
-            (λ d. both_ways (pair_set (lesser_end g e) (greater_end g e) k.1) s.1 (or_right (lesser_end g e == k.1) (greater_end g e == k.1) (eq-eqb (greater_end g e) k.1 d))) p)
-            (cut_between g (common_shore g (lesser_end g e) (greater_end g e) k) (lesser_end g e) (greater_end g e) e (ends_between g e) p.has_a p.lacks_b)
+        go (Some k) q = let c = shore_cuts k q in with_covers g Flow list (common_shore g (lesser_end g e) (greater_end g e) k) e is we c.0 c.1
 
     -- after the edge, it is in the cut of a candidate if it is in a nontrivial tight cut
     pub step_covers : (x : Set) → IsTight g x → IsNontrivial g.order x → in_cut g x e ≡ true → list_any (cuts g e) (with_edge_cut g list e) ≡ true

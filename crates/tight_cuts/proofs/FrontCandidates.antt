@@ -1,15 +1,16 @@
 -- The candidates of the first two parts, as the code makes them, and the steps of the loop over
 -- the edges. Idea: a bicritical graph has no barrier cut, and one that is not has no separation
 -- shore.
-use Rattle.std.proofs.Common.{◌≡◌, ℕ, ◌+◌, ◌<◌, true, false, sym, ap, ◌∙◌, arith, ◌&&◌, List, [], ◌∷◌, map, nat_le, Option, Some, slice_get, subst, All, fold, is_none}
-use Rattle.counting.proofs.Common.{list_any, lt-leb, and_right, All-head, count_congr, rising_list-congr, Within, IsRisingIn, Set}
+use Rattle.std.proofs.Common.{◌≡◌, ℕ, ◌+◌, ◌<◌, true, false, refl, sym, ap, ap₂, ◌∙◌, arith, ◌&&◌, ◌||◌, not, List, [], ◌∷◌, ◌++◌, map, nat_le, Option, Some, slice_get, subst, All, fold, is_none}
+use Rattle.counting.proofs.Common.{list_any, lt-leb, and_right, All-head, count_congr, rising_list-congr, Within, IsRisingIn, Set, mem}
 use Rattle.std.specs.Option.{IfSome, option_map}
 use Rattle.barrier_kit.proofs.Common.{barrier_cuts, barrier_shores}
-use Rattle.graph_core.proofs.Common.{IsCanonicalCut, with_cut, Graph, size, is_bicritical, equivalent_pair}
+use Rattle.graph_core.proofs.Common.{nontrivial-same, canonical_list, canonical_shore, first_end, in_cut, second_end, IsCanonicalCut, IsCovered, IsGraph, with_cut, Graph, size, is_bicritical, equivalent_pair}
 use Rattle.separation_kit.specs.Common.{separation_cuts, separation_shores}
-use Rattle.tight_cuts.proofs.CandidateLists.{fold-cuts, choose-false, choose-true}
-use Rattle.tight_cuts.proofs.EdgeLoop.{after_edges, after_suc}
-use Rattle.tight_cuts.specs.Common.{Barrier, Candidate, Flow, Origin, Separation, candidate_at, candidates, cuts, first_of, first_separated, front_candidates, greater_end, lesser_end, with_edge_cut, with_list, with_pair, with_shore, IsShoreOfEdge}
+use Rattle.tight_cuts.proofs.CandidateLists.{candidate-list, fold-cuts, choose-false, choose-true}
+use Rattle.tight_cuts.proofs.EdgeLoop.{after_edges, after_suc, shore_cuts}
+use Rattle.tight_cuts.proofs.Shores.{with_new}
+use Rattle.tight_cuts.specs.Common.{Barrier, Candidate, Flow, Origin, Separation, candidate_at, candidates, common_shore, cuts, first_of, first_separated, front_candidates, greater_end, lesser_end, with_edge_cut, with_list, with_pair, with_shore, IsShoreOfEdge}
 
 -- the cuts of shores, as candidates
 cuts-candidates : (n : ℕ) (o : Origin) (shores : List (List ℕ)) → fold (with_list n o) [] shores ≡ map (candidate_at n o) (fold (with_cut n) [] shores)
@@ -71,6 +72,17 @@ module _ (g : Graph) (list : List Candidate) (e : ℕ) where
   -- an edge that gives a shore
   pub edge-shore : (after : List Candidate) (s : List ℕ) → Within g.order g.order → list_any (cuts g e) list ≡ false → IsShoreOfEdge g e (Some s) → after ≡ with_list g.order Flow list s → after ≡ with_edge_cut g list e
   edge-shore after s w h p q = grind (arith, shore-congr, choose-false, list_any)
+
+  -- it is appended: it is nontrivial, and no candidate has the edge in its cut
+  pub edge-new : (after : List Candidate) (s : List ℕ) → IsGraph g → IsCovered g → Within (size g) e → Within g.order g.order → list_any (cuts g e) list ≡ false → IsShoreOfEdge g e (Some s) → after ≡ list ++ candidate_at g.order Flow (canonical_list g.order s) ∷ [] → after ≡ with_edge_cut g list e
+  edge-new after s is cov we w unlisted p q =
+      let found = p.some s refl in
+      let wide = shore_cuts g is cov e we found.0 found.1 in
+      let common = common_shore g (lesser_end g e) (greater_end g e) found.0 in
+      let same : in_cut g (mem s) e ≡ in_cut g common e = ap₂ (λ a b. (a && not b) || (not a && b)) (found.2 (first_end g e) (is e we).0) (found.2 (second_end g e) (is e we).1) in
+      edge-shore after s w unlisted p
+      (q ∙ ap (λ c. list ++ c ∷ []) (candidate-list g.order Flow (canonical_shore g.order (mem s)))
+      ∙ sym (with_new g Flow list (mem s) e is we (nontrivial-same g.order common (mem s) (λ v wv. sym (found.2 v wv)) wide.0) (same ∙ wide.1) unlisted))
 
 -- one edge more
 pub edges-more : (g : Graph) (list after : List Candidate) (k : ℕ) → list ≡ after_edges g (front_candidates g) k → after ≡ with_edge_cut g list (k + 1) → after ≡ after_edges g (front_candidates g) (k + 1)

@@ -84,3 +84,10 @@ with_covers g o list x e is w nt ce = elim (with_cases g.order o list x) [
         list_any_at (cuts g e) list r.0 r.1 r.2 (ap (cuts g e) r.3 ∙ ap₂ (λ s t. (s && not t) || (not s && t)) (sym (same (first_end g e))) (sym (same (second_end g e))) ∙ own)
     listed true false q h p = absurd (true≢false h)
     listed false t q h p = absurd (true≢false (sym p))
+
+-- a nontrivial shore with an edge in its cut that is in the cut of no candidate is appended
+pub with_new : (g : Graph) (o : Origin) (list : List Candidate) (x : Set) (e : ℕ) → IsGraph g → Within (size g) e → IsNontrivial g.order x → in_cut g x e ≡ true → list_any (cuts g e) list ≡ false → with_shore g.order o list x ≡ list ++ candidate g.order o (canonical_shore g.order x) ∷ []
+with_new g o list x e is w nt ce unlisted = elim (with_cases g.order o list x) [
+  | inl c ↦ absurd (both_ways (list_any (cuts g e) list) unlisted (ap (list_any (cuts g e)) (sym c.0) ∙ with_covers g o list x e is w nt ce))
+  | inr c ↦ c.0
+]

@@ -1,12 +1,12 @@
 //! Candidates: shores of nontrivial tight cuts, and lists of them.
-ghost use Rattle.std.specs.Prelude.{◌≡◌, ◌<◌, ◌≤◌, ◌&&◌, ◌++◌, ◌∷◌, [], ◌==◌, All, IfOk, OnOk, OnErr, length, map, slice_get, Some};
+ghost use Rattle.std.specs.Prelude.{◌≡◌, ◌<◌, ◌≤◌, ◌++◌, ◌∷◌, [], ◌==◌, All, IfOk, OnOk, OnErr, length, map, slice_get, Some};
 ghost use Rattle.std.specs.List.{list_any};
-ghost use Rattle.counting.specs.Common.{Within, mem, is_subset, IsRisingIn};
-ghost use Rattle.graph_core.specs.Common.{in_cut, size, is_listed};
-ghost use Rattle.tight_cuts.specs.Candidates.{candidate_at, cuts, shores_of, with_list};
+ghost use Rattle.counting.specs.Common.{Within, mem, IsRisingIn};
+ghost use Rattle.graph_core.specs.Common.{in_cut, size};
+ghost use Rattle.tight_cuts.specs.Candidates.{candidate_at, cuts};
 ghost use Rattle.tight_cuts.specs.View.{candidate_of, origin_of};
 
-use graph_core::{MultiGraph, SetList, canonical_shore, is_in_cut, is_nontrivial};
+use graph_core::{MultiGraph, SetList, is_in_cut};
 use std::alloc::{AllocError as Memory, Global};
 use std::marker::Model;
 use vset_core::{MOST_VERTICES, VSet};
@@ -113,45 +113,6 @@ impl CandidateList {
         self.items.push(item)?;
         Ok(())
     }
-}
-
-/// Appends the candidate of the cut of `shore`, a set of the vertices 1 to `n`. It is left out
-/// if the cut is trivial or in the list.
-pub(crate) fn add_shore(
-    list: &mut CandidateList,
-    n: u32,
-    origin: Origin,
-    shore: VSet,
-) -> Result<(), Memory>
-    requires { Within MOST_VERTICES n }
-    ensures { OnOk result (list.new ≡ with_list n (origin_of origin) list.old shore) }
-{
-    let shore = canonical_shore(n, shore);
-    if !is_nontrivial(n, shore) {
-        return Ok(());
-    }
-    if has_shore(list, shore) {
-        return Ok(());
-    }
-    list.push(Candidate::new(n, origin, shore))?;
-    Ok(())
-}
-
-// Whether a candidate has this shore.
-fn has_shore(list: &CandidateList, shore: VSet) -> bool
-    ensures { result ≡ is_listed (shores_of list.now) shore }
-{
-    holds(&list.items, shore)
-}
-
-// Whether one of these has this shore.
-fn holds(items: &[Candidate], shore: VSet) -> bool
-    ensures { result ≡ list_any (λ c. is_subset shore c.shore && is_subset c.shore shore)
-        items.now }
-{
-    items
-        .iter()
-        .any(|c| shore.is_subset(c.shore) && c.shore.is_subset(shore))
 }
 
 /// The candidates of these shores, which are canonical and nontrivial.

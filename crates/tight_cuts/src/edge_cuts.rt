@@ -7,8 +7,9 @@ ghost use Rattle.tight_cuts.specs.Candidates.{candidates, front_candidates, with
 ghost use Rattle.tight_cuts.specs.Clusters.{AreClusters};
 ghost use Rattle.tight_cuts.specs.EdgeSearch.{IsShoreOfEdge};
 
-use crate::candidate::{CandidateList, Origin, add_shore, any_cuts};
+use crate::candidate::{Candidate, CandidateList, Origin, any_cuts};
 use crate::clusters::Clusters;
+use graph_core::canonical_shore;
 use graph_facts::Covered;
 use std::alloc::{AllocError as Memory, Global};
 use vset_core::VSet;
@@ -53,8 +54,9 @@ pub(crate) fn add_edge_cut<S: EdgeSearch>(
     }
     match search.shore_of_edge(alloc, c, e)? {
         Some(shore) => {
-            add_shore(list, c.order(), Origin::Flow, shore)?;
-            Ok(())
+            let n = c.order();
+            let shore = canonical_shore(n, shore);
+            list.push(Candidate::new(n, Origin::Flow, shore))
         }
         None => {
             clusters.join(c.graph(), e);

@@ -8,7 +8,7 @@ ghost use Rattle.separation_kit.specs.Common.{separation_cuts};
 ghost use Rattle.tight_cuts.specs.Common.{Barrier, Separation, candidate_at, first_of, front_candidates, candidate_of, origin_of};
 
 use crate::candidate::{Candidate, CandidateList, Origin, candidates_of};
-use barrier_kit::{barrier_cuts_of, first_barrier_cut};
+use barrier_kit::{barrier_cuts_of, first_barrier_cut, first_barrier_cut_from};
 use graph_facts::Covered;
 use separation_kit::{FirstPairs, first_separation_cut, separation_cuts};
 use std::alloc::{AllocError as Memory, Global};
@@ -63,15 +63,25 @@ fn as_candidate(n: u32, origin: Origin, cut: Option<VSet>) -> Option<Candidate>
     }
 }
 
+// The first cut of a barrier. The classes are made only if they are not lent.
+fn first_barrier(alloc: Global, pairs: &FirstPairs) -> Result<Option<VSet>, Memory>
+    ensures { IfOk result (λ cut. cut ≡ slice_get (barrier_cuts pairs.now) 0) }
+{
+    match pairs.classes() {
+        Some(classes) => first_barrier_cut_from(alloc, pairs.covered(), classes),
+        None => first_barrier_cut(alloc, pairs.covered()),
+    }
+}
+
 // The first cut of a barrier, as a candidate.
-fn first_barrier_candidate(alloc: Global, c: &Covered) -> Result<Option<Candidate>, Memory>
+fn first_barrier_candidate(alloc: Global, pairs: &FirstPairs) -> Result<Option<Candidate>, Memory>
     ensures { IfOk result
         (λ found. option_map candidate_of found ≡
-        first_of (map (candidate_at c.now.order Barrier) (barrier_cuts c.now))) }
+        first_of (map (candidate_at pairs.now.order Barrier) (barrier_cuts pairs.now))) }
 {
-    c.keeps_covered();
-    let cut = first_barrier_cut(alloc, c)?;
-    Ok(as_candidate(c.order(), Origin::Barrier, cut))
+    pairs.keeps_covered();
+    let cut = first_barrier(alloc, pairs)?;
+    Ok(as_candidate(pairs.order(), Origin::Barrier, cut))
 }
 
 // The first cut of a separation, as a candidate.
@@ -100,10 +110,10 @@ pub(crate) fn first_front_candidate(
 {
     pairs.keeps_covered();
     if let Some(_) = pairs.equivalent() {
-        return first_barrier_candidate(alloc, pairs.covered());
+        return first_barrier_candidate(alloc, pairs);
     }
     if pairs.order() < 4 {
-        return first_barrier_candidate(alloc, pairs.covered());
+        return first_barrier_candidate(alloc, pairs);
     }
     first_separation_candidate(alloc, pairs)
 }

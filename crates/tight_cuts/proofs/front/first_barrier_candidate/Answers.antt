@@ -6,7 +6,7 @@ use Rattle.tight_cuts.proofs.front.first_barrier_candidate.Goals as goal
 
 pub as_candidate-requires-clause-rising : goal.as_candidate-requires-clause-rising
 as_candidate-requires-clause-rising c =
-    first_cut-rises c.args.c.now c.order.result c.order.ensures.is (barrier_cuts c.args.c.now) c.in_ok-cut.cut c.in_ok-cut.ensures (barrier_cuts-canonical c.args.c.now c.keeps_covered.ensures.limits.multigraph.ends c.keeps_covered.ensures.covered)
+    first_cut-rises c.args.pairs.now c.order.result c.order.ensures.is (barrier_cuts c.args.pairs.now) c.in_ok-cut.cut c.in_ok-cut.ensures (barrier_cuts-canonical c.args.pairs.now c.keeps_covered.ensures.limits.multigraph.ends c.keeps_covered.ensures.covered)
 
 pub returns : goal.returns
-returns c = first_cut-candidate c.args.c.now c.order.result c.order.ensures.is (barrier_cuts c.args.c.now) c.in_ok-cut.cut c.in_ok-cut.ensures Barrier (option_map candidate_of c.as_candidate.result) c.as_candidate.ensures
+returns c = first_cut-candidate c.args.pairs.now c.order.result c.order.ensures.is (barrier_cuts c.args.pairs.now) c.in_ok-cut.cut c.in_ok-cut.ensures Barrier (option_map candidate_of c.as_candidate.result) c.as_candidate.ensures
