@@ -2,16 +2,16 @@
 -- the blocks in the shore: a cut that is tight there is tight at the partition, and a perfect
 -- matching with two edges in it is lifted to one at the partition.
 use Rattle.std.proofs.Common.{◌≡◌, ◌≢◌, ◌⊎◌, ◌↔◌, IsTrue, ◌%◌, ◌==◌, Option, Some, unwrap_or, ℕ, zero, suc, ◌+◌, ◌*◌, ◌-◌, ◌≤◌, Bool, true, false, not, ◌&&◌, ◌||◌, List, length, refl, sym, ap, ap₂, ◌∙◌, arith, subst, inl, inr}
-use Rattle.counting.proofs.Common.{list_all, both_ways, cases_Bool, count_complement, count_congr, is_odd_remainder, odd-double, length-rising_list, mem-outside, mem-rising_list, rising_list-rises, set-wider, Within, count, is_odd, IsRisingIn, mem, rising_list, Set, none}
+use Rattle.counting.proofs.Common.{list_all, both_ways, cases_Bool, count_complement, count_congr, count_mem_length, is_odd_remainder, odd-double, length-rising_list, mem-outside, mem-rising_list, rising_list-rises, set-wider, Within, count, is_odd, IsRisingIn, mem, rising_list, Set, none}
 use Rattle.contraction.proofs.BlockUnions.{in_or_apart, test-from_union, union-from_test}
 use Rattle.contraction.proofs.LiftedMatchings.{lifted-perfect, perfect-congr}
 use Rattle.contraction.proofs.ProjectedMatchings.{lifted-cut}
 use Rattle.contraction.proofs.QuotientLaws.{covered_down, tight_at_down}
 use Rattle.contraction.specs.Partition.{IsUnionAt, PartitionValue}
-use Rattle.graph_core.proofs.Common.{contracted-graph, contracted-order, contracted-size, tight_from_cut, covered_perfect, tight_or_not, parity, quotient_graph, quotient-order, tight-same, edges-in-cut-at, IsCovered, Graph, IsGraph, edges_in_cut, first_end, in_cut, inside, second_end, size, IsPerfect, AreBlocks, contracted, lifted, quotient, IsTightAt, IsUnion, block_count, blocks_in, IsNontrivial, IsTight}
+use Rattle.graph_core.proofs.Common.{blocks-singles, length-singles, singles-tight, contracted-graph, contracted-order, contracted-size, tight_from_cut, covered_perfect, tight_or_not, parity, quotient_graph, quotient-order, tight-same, edges-in-cut-at, IsCovered, Graph, IsGraph, edges_in_cut, first_end, in_cut, inside, second_end, size, IsPartition, IsPerfect, AreBlocks, contracted, lifted, quotient, singles, IsTightAt, IsUnion, block_count, blocks_in, IsNontrivial, IsTight}
 use Rattle.match_core.specs.Common.{MatchingValue, edges_of}
 use Rattle.tight_cuts.specs.Common.{CrossesTwice}
-use Rattle.tree_core.proofs.Common.{IsCutAt}
+use Rattle.tree_core.proofs.Common.{as_many-singles, IsCutAt}
 use Rattle.tree_check.specs.Common.{why_of, BreaksCut, CrossesAt, Why, not_blocks, even, trivial, not_tight, not_leaf, without_matching}
 use Rattle.tree_check.specs.declared.judgement.Why.{Why as StoredWhy}
 
@@ -86,6 +86,17 @@ module _ (g : Graph) (p : List (List ℕ)) (x : Set) (is : IsGraph g) (pp : AreB
               (at_least_two (edges_in_cut (contracted g p) m (blocks_in p x)) (count (size (contracted g p)) (λ e. m e && inside (contracted g p) (blocks_in p x) e)) other
               (sym (ap (λ n. count n (blocks_in p x)) (contracted-order g p)) ∙ parity (contracted g p) (contracted-graph g p is pp) m (blocks_in p x) perfect));
         }
+
+-- at single vertices the test is made on the graph itself
+module _ (g : Graph) (p : List (List ℕ)) (x : List ℕ) (pp : IsPartition g.order p) (many : length p ≡ g.order) where
+  pub odd-single : IsRisingIn g.order x → is_odd (block_count p (mem x)) ≡ true → is_odd (length x) ≡ true
+  odd-single rises odd =
+      let n = g.order in
+      let counted = ap (λ k. count k (blocks_in (singles n) (mem x))) (length-singles n) ∙ count_congr n _ _ (blocks-singles n (mem x)) ∙ count_mem_length n x rises in
+      ap is_odd (sym counted) ∙ subst (λ (q : List (List ℕ)). is_odd (block_count q (mem x)) ≡ true) (as_many-singles n p pp many) odd
+
+  pub tight-single : IsGraph g → IsTight g (mem x) → IsTightAt g p (mem x)
+  tight-single is t = subst (λ (q : List (List ℕ)). IsTightAt g q (mem x)) (sym (as_many-singles g.order p pp many)) (singles-tight g (mem x) is t)
 
 -- at least three blocks inside, and three outside
 pub nontrivial-shown : (p : List (List ℕ)) (x : Set) (inside all : ℕ) → inside ≡ block_count p x → all ≡ length p → 3 ≤ inside → inside + 3 ≤ all → IsNontrivial (length p) (blocks_in p x)

@@ -10,7 +10,8 @@
 //! braces, by what the check of each finds (`IsScanned` of `specs/Scans`). `scan_known`
 //! returns the same for several trees of one graph: their leaves are kept in a `KnownPlaces` with
 //! what is known of them (`KnownPlace` of `tree_core`), and no leaf is judged again. At a cut only
-//! the quotient graph is made; its remembered edges are made only where the cut is refused.
+//! the quotient graph is made, and at single vertices not even that, since the graph itself is
+//! tested; its remembered edges are made only where the cut is refused.
 //!
 //! `replay` makes a script of moves on a derivation and judges each tree on the way: it gives the
 //! last tree if and only if all are derivations, and otherwise names the first move that fails,

@@ -1,6 +1,6 @@
 //! The rules that a cut of a derivation keeps.
 ghost use Rattle.std.specs.Prelude.{◌≡◌, ◌-◌, ℕ, true, All, length, IfOk, None, Some};
-ghost use Rattle.counting.specs.Common.{Within, is_odd, mem, rising_list};
+ghost use Rattle.counting.specs.Common.{Within, is_odd, mem, rising_list, IsRisingIn};
 ghost use Rattle.graph_core.specs.Common.{IsTightAt, IsUnion, block_count, blocks_in, lifted, quotient};
 ghost use Rattle.match_core.specs.Common.{IsOf, edges_of};
 ghost use Rattle.tree_core.specs.Common.{IsCutAt};
@@ -11,7 +11,7 @@ use contraction::{Partition, lift, quotient, quotient_graph};
 use graph_core::Numbers;
 use match_core::Matching;
 use std::alloc::{AllocError as Memory, Global};
-use tight_cuts::{Tightness, is_tight};
+use tight_cuts::{Tightness, is_tight, tightness_in};
 use tree_core::Place;
 use vset_core::VSet;
 
@@ -42,9 +42,29 @@ pub(crate) fn cut_fault(alloc: Global, p: &Place, shore: VSet) -> Result<Option<
     }
 }
 
+// Whether p is at single vertices and the shore, an odd number of them, is tight there, by what is
+// known of the graph.
+fn is_known_tight(alloc: Global, p: &Place, shore: VSet) -> Result<bool, Memory>
+    requires shore { IsRisingIn p.now.graph.order shore }
+    requires odd { is_odd (block_count p.now.blocks (mem shore)) ≡ true }
+    ensures { IfOk result
+        (λ tight. tight ≡ true → IsTightAt p.now.graph p.now.blocks (mem shore)) }
+{
+    p.keeps_place();
+    let Some(c) = p.known() else {
+        return Ok(false);
+    };
+    match tightness_in(alloc, c, shore)? {
+        Tightness::Tight => Ok(true),
+        Tightness::Crossed { .. } => Ok(false),
+    }
+}
+
 // A perfect matching at p with at least two edges in the cut of the shore, a union of an odd
-// number of blocks; none if and only if the shore is tight at p. The quotient graph alone is made.
+// number of blocks; none if and only if the shore is tight at p. The quotient graph alone is made,
+// and at single vertices only where the shore is not tight.
 fn crossing_at(alloc: Global, p: &Place, shore: VSet) -> Result<Option<Numbers>, Memory>
+    requires shore { IsRisingIn p.now.graph.order shore }
     requires union { IsUnion p.now.graph.order p.now.blocks (mem shore) }
     requires odd { is_odd (block_count p.now.blocks (mem shore)) ≡ true }
     ensures some { IfOk result
@@ -52,6 +72,9 @@ fn crossing_at(alloc: Global, p: &Place, shore: VSet) -> Result<Option<Numbers>,
     ensures none { IfOk result (λ o. o ≡ None → IsTightAt p.now.graph p.now.blocks (mem shore)) }
 {
     p.keeps_place();
+    if is_known_tight(alloc, p, shore)? {
+        return Ok(None);
+    }
     let blocks = p.partition();
     let q = quotient_graph(alloc, p.graph(), blocks)?;
     let places = places_in(blocks, shore);
