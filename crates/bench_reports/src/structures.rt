@@ -28,7 +28,7 @@ fn structure(alloc: Global, c: &Covered) -> Result<Structure, Memory>
     ensures { IfOk result (IsStructure c.now) }
 {
     let classes = classes_of(alloc, c)?;
-    let pairs = FirstPairs::of(c);
+    let pairs = FirstPairs::with_classes(c, &classes);
     let cut = pairs.any_cut();
     let kind = kind_of(alloc, &pairs)?;
     let unlike = ends_of(pairs.equivalent());
