@@ -1,20 +1,20 @@
 """Has each premise of docs/THEOREMS.md a test that shows that it is needed?
 
 A row of a table of premises names a premise and a graph without it. For each a `Row` of crates/premise_tests must have the words
-`LAW: PREMISE`, and the name of the graph as the book gives it; where the book names several graphs, one `Row` for each. No `Row`
-may be of a premise or a graph that the book does not name. A `Row` in a comment does not count, nor one in a table that no test
+`LAW: PREMISE` among its premises, and words of the name that the book gives to the graph; where the book names several graphs, one
+`Row` for each. No `Row` may be of a premise or a graph that the book does not name. A `Row` in a comment does not count, nor one in a table that no test
 goes through. Lists what is missing or too much, and ends with status 1 if anything is.
 """
 import pathlib
 import re
 
 DOCUMENT = pathlib.Path("docs/THEOREMS.md")
-TESTS = pathlib.Path("crates/premise_tests/src")
+TESTS = pathlib.Path("crates/premise_tests/src/tests")
 
 # Premises that no graph of those tests can lack: the test that shows each, by its file and a text in it.
 ELSEWHERE = {
     "report_exists_law: `convert`, `decompose`, `script`: a graph that a file can hold": (
-        pathlib.Path("crates/run_tests/src/malformed.rt"), '("p mcg2 129 129\\n", 1, 6)'),
+        pathlib.Path("crates/run_tests/src/tests/malformed.rt"), '("p mcg2 129 129\\n", 1, 6)'),
 }
 
 
@@ -52,8 +52,9 @@ def tests(wrong):
         tried, rows = tried_in(text), tables(text)
         wrong += [f"{file}: no test goes through the table {name}" for name in rows if name not in tried]
         for name in tried & set(rows):
-            for premise, graph in re.findall(r'premise:\s*"([^"]+)",\s*graph:\s*"([^"]+)"', rows[name]):
-                found.setdefault(premise, []).append(graph)
+            for premises, graph in re.findall(r'premises:\s*&\[(.*?)\],\s*graph:\s*"([^"]+)"', rows[name], re.DOTALL):
+                for premise in re.findall(r'"([^"]+)"', premises):
+                    found.setdefault(premise, []).append(graph)
     return found
 
 

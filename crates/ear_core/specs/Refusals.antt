@@ -2,11 +2,11 @@
 -- second one, then whether the new stage is matching covered; after the last step whether edges
 -- are left.
 -- Stated by: ear_core, bench_reports. Used by: bench_outcomes, theorems.
-use Rattle.std.specs.Prelude.{◌≡◌, ◌⊎◌, ℕ, ◌+◌, true, List, [], ◌∷◌, Option, Some, None}
+use Rattle.std.specs.Prelude.{◌≡◌, ◌⊎◌, ◌↔◌, ℕ, ◌+◌, true, List, [], ◌∷◌, Option, Some, None}
 use Rattle.counting.specs.Common.{Set, singleton, IsLeastWithout}
 use Rattle.graph_core.specs.Common.{Graph, size}
 use Rattle.ear_core.specs.Stages.{IsStage, AllowedBy}
-use Rattle.ear_core.specs.EarLists.{PlainStep, one, two, PlainEars, next_stage, AreSteps}
+use Rattle.ear_core.specs.EarLists.{PlainStep, one, two, PlainEars, next_stage, AreSteps, IsEarList}
 use Rattle.ear_core.specs.EarTests.{PlainWhy, stage_not_covered, ends_early, ear_fault, inner_vertices}
 
 -- the first of two
@@ -47,3 +47,11 @@ IsJudged g f k steps (Some refusal) = IsFirstRefusal g f k steps refusal.0 refus
 -- the first refusal of a list of ears of g
 abbrev pub IsRefused : Graph → PlainEars → ℕ → PlainWhy → Type 0
 IsRefused g list number why = IsFirstRefusal g (singleton list.start) 0 list.steps number why
+
+-- no refusal is returned if and only if the list is an ear list of g
+abbrev pub AcceptsList : Graph → PlainEars → Option (ℕ × PlainWhy) → Type 0
+AcceptsList g list refusal = (refusal ≡ None) ↔ IsEarList g list
+
+-- the refusal that is returned is the first one
+abbrev pub RefusesList : Graph → PlainEars → Option (ℕ × PlainWhy) → Type 0
+RefusesList g list refusal = (step : ℕ) (why : PlainWhy) → (refusal ≡ Some (step, why)) ↔ IsRefused g list step why

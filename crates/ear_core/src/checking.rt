@@ -1,9 +1,9 @@
 //! The check of an ear list, step by step on the marks of a stage.
-ghost use Rattle.std.specs.Prelude.{◌≡◌, ◌↔◌, ℕ, map, [], true, Some, None, IfOk};
+ghost use Rattle.std.specs.Prelude.{◌≡◌, map, [], true, IfOk};
 ghost use Rattle.std.specs.List.{AllByRecursion};
 ghost use Rattle.graph_core.specs.Common.{IsCovered, size};
 ghost use Rattle.match_search.specs.Common.{marks};
-ghost use Rattle.ear_core.specs.Common.{FitsEars, FitsStep, IsEarList, PlainWhy, IsAskedBefore, IsJudged, IsMarked, IsRefused, IsStage, ears_of, refusal_of, step_of};
+ghost use Rattle.ear_core.specs.Common.{FitsEars, FitsStep, AcceptsList, IsAskedBefore, IsJudged, IsMarked, IsStage, RefusesList, ears_of, refusal_of, step_of};
 
 use crate::ears::{EarList, Step};
 use crate::judgement::{EarJudgement, EarWhy};
@@ -21,11 +21,8 @@ use std::alloc::{AllocError as Memory, Global};
 /// Lovász and Plummer.
 pub fn check_ears(alloc: Global, g: &MultiGraph, list: &EarList) -> Result<EarJudgement, Memory>
     requires { FitsEars g.now.order (size g.now) (ears_of list.now) }
-    ensures accepted { IfOk result
-        (λ judgement. (refusal_of judgement ≡ None) ↔ IsEarList g.now (ears_of list.now)) }
-    ensures refused { IfOk result
-        (λ judgement. (step : ℕ) (why : PlainWhy) → (refusal_of judgement ≡ Some (step, why)) ↔
-        IsRefused g.now (ears_of list.now) step why) }
+    ensures accepted { IfOk result (λ j. AcceptsList g.now (ears_of list.now) (refusal_of j)) }
+    ensures refused { IfOk result (λ j. RefusesList g.now (ears_of list.now) (refusal_of j)) }
 {
     check_list(alloc, g, false, list)
 }
@@ -34,11 +31,8 @@ pub fn check_ears(alloc: Global, g: &MultiGraph, list: &EarList) -> Result<EarJu
 /// to be covered, so that no edge of that stage is asked and no matching of it is made.
 pub fn check_ears_of(alloc: Global, c: &Covered, list: &EarList) -> Result<EarJudgement, Memory>
     requires { FitsEars c.now.order (size c.now) (ears_of list.now) }
-    ensures accepted { IfOk result
-        (λ judgement. (refusal_of judgement ≡ None) ↔ IsEarList c.now (ears_of list.now)) }
-    ensures refused { IfOk result
-        (λ judgement. (step : ℕ) (why : PlainWhy) → (refusal_of judgement ≡ Some (step, why)) ↔
-        IsRefused c.now (ears_of list.now) step why) }
+    ensures accepted { IfOk result (λ j. AcceptsList c.now (ears_of list.now) (refusal_of j)) }
+    ensures refused { IfOk result (λ j. RefusesList c.now (ears_of list.now) (refusal_of j)) }
 {
     c.keeps_covered();
     check_list(alloc, c.graph(), true, list)
@@ -53,11 +47,8 @@ fn check_list(
 ) -> Result<EarJudgement, Memory>
     requires covered { covered ≡ true → IsCovered g.now }
     requires fits { FitsEars g.now.order (size g.now) (ears_of list.now) }
-    ensures accepted { IfOk result
-        (λ judgement. (refusal_of judgement ≡ None) ↔ IsEarList g.now (ears_of list.now)) }
-    ensures refused { IfOk result
-        (λ judgement. (step : ℕ) (why : PlainWhy) → (refusal_of judgement ≡ Some (step, why)) ↔
-        IsRefused g.now (ears_of list.now) step why) }
+    ensures accepted { IfOk result (λ j. AcceptsList g.now (ears_of list.now) (refusal_of j)) }
+    ensures refused { IfOk result (λ j. RefusesList g.now (ears_of list.now) (refusal_of j)) }
 {
     g.keeps_limits();
     let mut marked = Marked::one(alloc, g, list.start)?;

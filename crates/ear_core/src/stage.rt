@@ -52,36 +52,18 @@ impl Stage {
         ensures { IfOk result (IsAsked g.now (marks mark.now)) }
     {
         g.keeps_limits();
-        let mut stage = Stage::unasked(alloc, g, mark, met, kept)?;
+        let matched = MatchedStage::by(alloc, g, mark, met, kept)?;
+        let rows = vec![in alloc; VSet::empty(); g.order() as usize]?;
+        let known = VSet::empty();
+        let mut stage = Stage {
+            matched,
+            known,
+            rows,
+        };
         for k in 0..g.size() {
             stage.know_first(alloc, mark[k as usize + 1], g.ends(k + 1))?;
         }
         Ok(stage)
-    }
-
-    // The same where no partners are known.
-    fn unasked(
-        alloc: Global,
-        g: &MultiGraph,
-        mark: &[bool],
-        met: VSet,
-        kept: &Matching,
-    ) -> Result<Stage, Memory>
-        requires long { length mark.now ≡ size g.now + 1 }
-        requires met { (v : ℕ) → mem met v ≡ is_met g.now (marks mark.now) v }
-        requires stage { IsStage g.now (marks mark.now) }
-        requires kept { IsPerfectRows g.now kept.now }
-        ensures { IfOk result (IsAsked g.now (marks mark.now)) }
-    {
-        g.keeps_limits();
-        let matched = MatchedStage::by(alloc, g, mark, met, kept)?;
-        let rows = vec![in alloc; VSet::empty(); g.order() as usize]?;
-        let known = VSet::empty();
-        Ok(Stage {
-            matched,
-            known,
-            rows,
-        })
     }
 
     // Searches for the partners of the first end of an edge, unless it is on the stage or an end is

@@ -21,78 +21,50 @@ line_fault HasGreatest = codes "a shore holds the greatest vertex"
 line_fault Unnamed = codes "a word that must be the name of a vertex is not one"
 line_fault SameName = codes "a name is given twice"
 line_fault BadName = codes "not a name: one has 1 to 16 letters, digits, _, - or ."
-line_fault Padding = codes "a fault of another kind"
-line_fault LongForm = codes "a fault of another kind"
+line_fault _ = codes "a fault of another kind"
 
 -- a fault of that kind in a graph6 text
 abbrev pub graph6_fault : FaultKind → List ℕ
-graph6_fault Header = codes "a fault of another kind"
-graph6_fault Word = codes "a fault of another kind"
-graph6_fault Number = codes "a fault of another kind"
 graph6_fault Range = codes "a byte is outside 63 to 126, as graph6 has them"
-graph6_fault Loop = codes "a fault of another kind"
 graph6_fault Limit = codes "more than 128 vertices or 2,048 edges"
 graph6_fault Missing = codes "the text ends before the graph does"
 graph6_fault Extra = codes "more than one graph, or bytes after its end"
-graph6_fault NotRising = codes "a fault of another kind"
-graph6_fault HasGreatest = codes "a fault of another kind"
-graph6_fault Unnamed = codes "a fault of another kind"
-graph6_fault SameName = codes "a fault of another kind"
-graph6_fault BadName = codes "a fault of another kind"
 graph6_fault Padding = codes "a filling bit is set"
 graph6_fault LongForm = codes "a size up to 62 is written in four bytes"
+graph6_fault _ = codes "a fault of another kind"
 
 -- a fault of that kind in a file that is read so
 abbrev pub fault_words : FileKind → FaultKind → List ℕ
-fault_words Graph kind = line_fault kind
 fault_words Graph6 kind = graph6_fault kind
-fault_words Tree kind = line_fault kind
-fault_words Picks kind = line_fault kind
-fault_words Ears kind = line_fault kind
-fault_words Moves kind = line_fault kind
+fault_words _ kind = line_fault kind
 
 -- the header of a format, after a fault of it
 abbrev pub header_note : FileKind → List ℕ
 header_note Graph = codes " (here p mcg N M or p mcg2 N M; analyse6 reads graph6)"
-header_note Graph6 = []
 header_note Tree = codes " (here t mcg N, with the N of the graph)"
 header_note Picks = codes " (here s mcg K)"
 header_note Ears = codes " (here r mcg N M, with the N and M of the graph)"
 header_note Moves = codes " (here m mcg N, with the N of the graph)"
+header_note _ = []
 
 -- the limits of a format, after a fault of them
 abbrev pub limit_note : FileKind → List ℕ
 limit_note Graph = codes " (p mcg: 64 vertices, 512 edges; p mcg2: 128 and 2,048)"
-limit_note Graph6 = []
 limit_note Tree = codes " (127 nodes)"
 limit_note Picks = codes " (127 picks)"
-limit_note Ears = []
 limit_note Moves = codes " (20,000 moves)"
+limit_note _ = []
 
 -- what reads a file that is not one graph in graph6
 abbrev pub reader_note : FileKind → List ℕ
-reader_note Graph = []
 reader_note Graph6 = codes " (mcg6 reads lists, analyse the format of mcg)"
-reader_note Tree = []
-reader_note Picks = []
-reader_note Ears = []
-reader_note Moves = []
+reader_note _ = []
 
 -- what is added to the words of a fault: the header, the limits, what else reads such a file, or
 -- what to write instead
 abbrev pub note_words : FileKind → FaultKind → List ℕ
 note_words file_kind Header = header_note file_kind
-note_words file_kind Word = []
-note_words file_kind Number = []
-note_words file_kind Range = []
-note_words file_kind Loop = []
 note_words file_kind Limit = limit_note file_kind
-note_words file_kind Missing = []
 note_words file_kind Extra = reader_note file_kind
-note_words file_kind NotRising = []
 note_words file_kind HasGreatest = codes " (write the other shore of this cut)"
-note_words file_kind Unnamed = []
-note_words file_kind SameName = []
-note_words file_kind BadName = []
-note_words file_kind Padding = []
-note_words file_kind LongForm = []
+note_words _ _ = []

@@ -20,10 +20,9 @@ node_words NotLeaf = codes "it is a leaf, but the cut of the shore shown is nont
 -- what would be right at the node
 abbrev pub node_advice : NodeFault → List ℕ
 node_advice NotBlocks = codes " (write whole blocks)"
-node_advice Even = codes " (take another cut)"
 node_advice Trivial = codes " (make it a leaf, or take another cut)"
-node_advice NotTight = codes " (take another cut)"
 node_advice NotLeaf = codes " (cut further, along this cut for instance)"
+node_advice _ = codes " (take another cut)"
 
 -- the path to the node and its shore, what is wrong there, and what would be right
 abbrev pub node_text : Option NodePlace → NodeFault → (advice : List ℕ) → List ℕ

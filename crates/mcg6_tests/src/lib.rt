@@ -7,16 +7,4 @@
 #![tactic(auto)]
 
 #[cfg(test)]
-mod cubic;
-#[cfg(test)]
-mod encoding;
-#[cfg(test)]
-mod graphs;
-#[cfg(test)]
-mod kinds;
-#[cfg(test)]
-mod selecting;
-#[cfg(test)]
-mod selections;
-#[cfg(test)]
-mod told;
+mod tests;

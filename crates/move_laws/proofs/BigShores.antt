@@ -1,6 +1,6 @@
 -- Big shores at a partition: tight, with at least three blocks inside and outside. Two disjoint
 -- ones may be merged in either order, which is all that Rotate needs.
-use Rattle.std.proofs.Common.{Bool, List, ap, arith, false, inl, inr, not, refl, subst, sym, true, ℕ, ◌&&◌, ◌+◌, ◌∙◌, ◌≡◌, ◌≤◌}
+use Rattle.std.proofs.Common.{Bool, List, ap, arith, false, inl, inr, not, subst, sym, ℕ, ◌&&◌, ◌+◌, ◌∙◌, ◌≡◌, ◌≤◌}
 use Rattle.counting.proofs.Common.{both_ways, cases_Bool, same_rising_list, and_implied, not_not, IsRisingIn, mem, Set, complement, meet, minus}
 use Rattle.graph_core.proofs.Common.{block_count_congr, block_count_parts, block_count_rest, tight_congr, tight_rest, union_congr, union_meet, union_minus, union_rest, complement_of-rises, mem-complement_of, merged_blocks, Apart, Below, Some, block_count_around, block_count_outside, closed_apart, closed_over, covered_merged, merge_of, tight_down_merged, tight_up_merged, same_blocks, IsCovered, Graph, IsGraph, AreBlocks, IsMerge, IsPartition, complement_of, contracted, merged, IsTightAt, IsUnion, block_count}
 use Rattle.tree_core.proofs.Common.{IsCutAt}
@@ -111,10 +111,7 @@ gap_turned g p stage x y bx by a b = block_count_congr g.order p stage.list.part
     (union_minus g.order p stage.list.partition (mem (complement_of g.order y)) (mem x) (big_rest g p stage y by).tight.union bx.tight.union)
   where
     turn : (x y : Bool) → (not y && not x) ≡ (not x && not y)
-    turn true true = refl
-    turn true false = refl
-    turn false true = refl
-    turn false false = refl
+    turn x y = grind arith
 
 -- s1 big at p, s2 big at p with s1 merged, and the two apart
 module _ (g : Graph) (p : List (List ℕ)) (stage : Stage g p) (x y : List ℕ) (bx : Big g p x) (byx : Big g (merged p x) y) (apart : Apart g.order (mem x) (mem y)) where

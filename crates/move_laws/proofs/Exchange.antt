@@ -1,8 +1,8 @@
 -- The exchange law: if a block on each side of a tight shore is exchanged and the new shore is
 -- tight, the four parts satisfy the conditions on regions for an exchange of blocks, so the
 -- partitions below the two shores are the same leaves.
-use Rattle.std.proofs.Common.{Bool, List, ap, arith, cond, false, inl, inr, length, not, refl, suc, sym, true, ℕ, ◌&&◌, ◌+◌, ◌||◌, ◌∙◌, ◌≡◌, ◌≢◌}
-use Rattle.counting.proofs.Common.{both_ways, cases_Bool, total_at, Within, bit, is_odd, Set, complement, meet, minus, union}
+use Rattle.std.proofs.Common.{Bool, List, ap, arith, cond, false, inl, inr, length, not, suc, sym, true, ℕ, ◌&&◌, ◌+◌, ◌||◌, ◌∙◌, ◌≡◌, ◌≢◌}
+use Rattle.counting.proofs.Common.{cases_Bool, total_at, Within, bit, is_odd, Set, complement, meet, minus, union}
 use Rattle.graph_core.proofs.Common.{at_place, at_rep, block_count_congr, block_count_parts, no_edge_at, rep, rep_in, rep_place, union_meet, union_minus, union_rest, place_in, IsCovered, Graph, IsGraph, first_end, second_end, AreBlocks, IsMerge, contracted, place, IsUnion, block_count, blocks_in}
 use Rattle.tree_core.proofs.Common.{IsBlockOf}
 use Rattle.move_laws.proofs.ExchangedBlocks.{exchange, four_turned}
@@ -87,13 +87,7 @@ module _ (g : Graph) (is : IsGraph g) (p : List (List ℕ)) (pp : AreBlocks g.or
           both x v u h = grind arith
 
       regions : (x u v : Bool) → (u ≡ true → x ≡ true) → (v ≡ true → x ≡ false) → bit (x && not u) + bit u + bit (not x && not v) + bit v ≡ 1
-      regions true true true h k = absurd (both_ways true (k refl) refl)
-      regions true true false h k = refl
-      regions true false true h k = absurd (both_ways true (k refl) refl)
-      regions true false false h k = refl
-      regions false true v h k = absurd (both_ways false refl (h refl))
-      regions false false true h k = refl
-      regions false false false h k = refl
+      regions x u v h i = grind arith
 
       edge : (x u v x' u' v' : Bool) → (u ≡ true → x ≡ true) → (u' ≡ true → x' ≡ true) →
           (((x && not ((not x && not v) || u)) && (((not x' && not v') || u') && not x')) || ((((not x && not v) || u) && not x) && (x' && not ((not x' && not v') || u')))) ≡ false →

@@ -2,7 +2,7 @@
 -- partitions are the same leaf. The hard pair of blocks is settled by parity, all others by cases
 -- on the regions.
 use Rattle.std.proofs.Common.{Bool, List, ap, ap₂, arith, cond, false, inl, inr, refl, sym, true, ℕ, ◌&&◌, ◌+◌, ◌||◌, ◌∙◌, ◌≡◌, ◌≢◌}
-use Rattle.counting.proofs.Common.{and_parts, both_ways, cases_Bool, or_cases, or_fails_first, Within, bit, is_odd, Set, union}
+use Rattle.counting.proofs.Common.{and_parts, cases_Bool, or_cases, or_fails_first, Within, bit, is_odd, Set, union}
 use Rattle.graph_core.proofs.Common.{union_join, alike_down, alike_in, alike_up, same_side, IsCovered, Graph, IsGraph, first_end, second_end, size, AreBlocks, IsMerge, contracted, place, IsUnion, block_count}
 use Rattle.move_laws.proofs.FourRegions.{FourRegions, Link, hard_pair}
 use Rattle.move_laws.specs.Common.{EndsAt, Isomorphism, OneWay}
@@ -28,9 +28,7 @@ exchange_over g is p r q a u b v s t pp four mr mq link = record {
     pick w ww false = ww
 
     off : (a u b v : Bool) → bit a + bit u + bit b + bit v ≡ 1 → v ≡ true → b ≡ false
-    off a u false v k h = refl
-    off a u true true k h = absurd (omega arith)
-    off a u true false k h = absurd (both_ways false refl h)
+    off a u b v h i = grind arith
 
     b_t : b t ≡ false
     b_t = off (a t) (u t) (b t) (v t) (four.once t four.right.within) four.right.holds
@@ -59,11 +57,7 @@ exchange_over g is p r q a u b v s t pp four mr mq link = record {
     returns w ww false e = ap (λ k. place r (cond (b (cond k t w)) s (cond k t w))) e ∙ ap (λ k. place r (cond k s w)) e
 
     third : (a u b v : Bool) → bit a + bit u + bit b + bit v ≡ 1 → a ≡ false → b ≡ false → v ≡ false → u ≡ true
-    third a true b v k x y z = refl
-    third true false b v k x y z = absurd (both_ways true x refl)
-    third false false true v k x y z = absurd (both_ways true y refl)
-    third false false false true k x y z = absurd (both_ways true z refl)
-    third false false false false k x y z = absurd (omega arith)
+    third a u b v h i k l = grind arith
 
     -- an edge between b, at x, and y outside
     found : (x y : ℕ) → Within g.order x → Within g.order y → b x ≡ true → b y ≡ false → v y ≡ false → a y ≡ false → (u y ≡ true → Link g u b) →

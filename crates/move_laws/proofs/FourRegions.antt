@@ -2,7 +2,7 @@
 -- number of blocks and no edge to a, a perfect matching with an edge from u to b has an edge from v
 -- to b.
 use Rattle.std.proofs.Common.{Bool, List, ap, ap₂, arith, eq-eqb, false, inl, inr, ne_eqb, not, refl, suc, sym, true, ℕ, ◌&&◌, ◌+◌, ◌==◌, ◌||◌, ◌∙◌, ◌≡◌, ◌≢◌, ◌≤◌}
-use Rattle.counting.proofs.Common.{and_from, both_ways, cases_Bool, odd-double, some_none, some_true, at_le_total, total_add, total_le, bit_le_one, or_true, Within, bit, count, is_odd, Set, some}
+use Rattle.counting.proofs.Common.{and_from, both_ways, cases_Bool, odd-double, some_none, some_true, at_le_total, total_add, total_le, Within, bit, count, is_odd, Set, some}
 use Rattle.graph_core.proofs.Common.{at_place, contracted-ends, contracted-graph, contracted-size, place_in, parity, IsCovered, Graph, IsGraph, connects, first_end, in_cut, inside, second_end, size, Allowed, AreBlocks, contracted, place, IsUnion, block_count, blocks_in}
 use Rattle.tree_core.proofs.Common.{IsBlockOf}
 
@@ -65,9 +65,7 @@ module _ (g : Graph) (is : IsGraph g) (p : List (List ℕ)) (pp : AreBlocks g.or
           same_b = four.second (first_end g l.0) (second_end g l.0) (is l.0 l.1).0 (is l.0 l.1).1 pe
 
           apart : (a u b v : Bool) → bit a + bit u + bit b + bit v ≡ 1 → (u && b) ≡ false
-          apart a true true v k = absurd (let z = bit_le_one a in omega arith)
-          apart a true false v k = refl
-          apart a false b v k = refl
+          apart a u b v h = grind arith
 
           clash : (un bf bn uf : Bool) → ((un && bf) || (bn && uf)) ≡ true → un ≡ uf → bn ≡ bf → (un && bn) ≡ false → ⊥
           clash un bf bn uf k q r z = grind arith
@@ -101,13 +99,7 @@ module _ (g : Graph) (is : IsGraph g) (p : List (List ℕ)) (pp : AreBlocks g.or
               over = go (a (first_end g l.0)) (u (first_end g l.0)) (b (first_end g l.0)) (v (first_end g l.0)) (a (second_end g l.0)) (u (second_end g l.0)) (b (second_end g l.0)) (v (second_end g l.0)) (four.once (first_end g l.0) (is l.0 l.1).0) (four.once (second_end g l.0) (is l.0 l.1).1) l.2
                 where
                   go : (a u b v a' u' b' v' : Bool) → bit a + bit u + bit b + bit v ≡ 1 → bit a' + bit u' + bit b' + bit v' ≡ 1 → ((u && b') || (b && u')) ≡ true → ((b && not b') || (not b && b')) ≡ true
-                  go a u true v a' u' false v' k q z = refl
-                  go a u false v a' u' true v' k q z = refl
-                  go a true true v a' u' true v' k q z = absurd (omega arith)
-                  go a false true v a' true true v' k q z = absurd (omega arith)
-                  go a false true v a' false true v' k q z = z
-                  go a true false v a' u' false v' k q z = z
-                  go a false false v a' u' false v' k q z = z
+                  go a u b v a' u' b' v' h i k = grind arith
 
           top : cut ≤ 1
           top =
@@ -124,14 +116,4 @@ module _ (g : Graph) (is : IsGraph g) (p : List (List ℕ)) (pp : AreBlocks g.or
                 where
                   go : (k a u b v a' u' b' v' : Bool) → bit a + bit u + bit b + bit v ≡ 1 → bit a' + bit u' + bit b' + bit v' ≡ 1 → ((a && b') || (b && a')) ≡ false → ((v && b') || (b && v')) ≡ false →
                       bit (k && ((b && not b') || (not b && b'))) ≤ bit (k && u) + bit (k && u')
-                  go false a u b v a' u' b' v' k q y z = omega arith
-                  go true a u true v a' u' true v' k q y z = omega arith
-                  go true a u false v a' u' false v' k q y z = omega arith
-                  go true a u true v a' true false v' k q y z = omega arith
-                  go true a u true v true false false v' k q y z = absurd (both_ways true (sym (or_true (a && false)) ∙ y) refl)
-                  go true a u true v false false false true k q y z = absurd (both_ways true (sym (or_true (v && false)) ∙ z) refl)
-                  go true a u true v false false false false k q y z = absurd (omega arith)
-                  go true a true false v a' u' true v' k q y z = omega arith
-                  go true true false false v a' u' true v' k q y z = absurd (both_ways true y refl)
-                  go true false false false true a' u' true v' k q y z = absurd (both_ways true z refl)
-                  go true false false false false a' u' true v' k q y z = absurd (omega arith)
+                  go k a u b v a' u' b' v' h i l m = grind arith

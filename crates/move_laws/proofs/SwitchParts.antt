@@ -78,6 +78,19 @@ module _ (g : Graph) (p : List (List ℕ)) (stage : Stage g p) (x u v : List ℕ
       on : (x v : Bool) → x ≡ false → v ≡ false → (not x && not v) ≡ true
       on x v h k = grind arith
 
+  -- the leaves below each side, and the names of the images of their blocks
+  abbrev kept_leaves : Shape → List (List (List ℕ))
+  kept_leaves a = leaves_at g.order (kept_at g.order p x) a
+
+  abbrev merged_leaves : Shape → List (List (List ℕ))
+  merged_leaves b = leaves_at g.order (merged_at g.order p x) b
+
+  abbrev kept_images : Shape → List (List ℕ)
+  kept_images a = map (λ (r : List (List ℕ)). map (λ b. last_of (kept_image g.order x u v b)) r) (kept_leaves a)
+
+  abbrev merged_images : Shape → List (List ℕ)
+  merged_images b = map (λ (r : List (List ℕ)). map (λ b. last_of (merged_image g.order x u v b)) r) (merged_leaves b)
+
   -- the Switch with the highest-numbered vertex in v
   pub switch_part_v : (k : ℕ) (a b : Shape) → AreRising g.order (cut x a b) → IsDerivationAt g p (cut x a b) → mem v g.order ≡ true → Big g p (union_list g.order (outer_rest g.order x v) u) →
       Part g k (leaves_at g.order p (cut x a b)) (leaves_at g.order p (cut (union_list g.order (outer_rest g.order x v) u) (merged_if_greatest_comes g.order x u b) (kept_if_greatest_comes g.order x u v a)))
@@ -86,15 +99,12 @@ module _ (g : Graph) (p : List (List ℕ)) (stage : Stage g p) (x u v : List ℕ
       let z = union_list g.order (outer_rest g.order x v) u in
       let new = new_shore_comes g p stage x u v s t bx canonical su sv corner bz in
       let rz = big_rest g p stage z bz in
-      let la = leaves_at g.order (kept_at g.order p x) a in let lb = leaves_at g.order (merged_at g.order p x) b in
       let ea = each_of g (kept_at g.order p x) a kept_stage f.1 d.1 in let eb = each_of g (merged_at g.order p x) b merged_stage f.2 d.2 in
-      let na = map (λ (r : List (List ℕ)). map (λ b. last_of (kept_image g.order x u v b)) r) la in
-      let nb = map (λ (r : List (List ℕ)). map (λ b. last_of (merged_image g.order x u v b)) r) lb in
-      part-turn g k la (leaves_at g.order (merged_at g.order p z) (kept_if_greatest_comes g.order x u v a)) lb (leaves_at g.order (kept_at g.order p z) (merged_if_greatest_comes g.order x u b)) (numbers k (leaf_count a)) (numbers (k + leaf_count a) (leaf_count b)) na nb
-      (subst (λ (o : List ℕ). Part g k la (leaves_at g.order (merged_at g.order p z) (kept_if_greatest_comes g.order x u v a)) o na) (kept_plain nv a ea k)
+      part-turn g k (kept_leaves a) (leaves_at g.order (merged_at g.order p z) (kept_if_greatest_comes g.order x u v a)) (merged_leaves b) (leaves_at g.order (kept_at g.order p z) (merged_if_greatest_comes g.order x u b)) (numbers k (leaf_count a)) (numbers (k + leaf_count a) (leaf_count b)) (kept_images a) (merged_images b)
+      (subst (λ (o : List ℕ). Part g k (kept_leaves a) (leaves_at g.order (merged_at g.order p z) (kept_if_greatest_comes g.order x u v a)) o (kept_images a)) (kept_plain nv a ea k)
       (below_kept k a (kept_if_greatest_comes g.order x u v a) (merged_at g.order p z) f.1 d.1 (stage_merged g p stage z bz) new.merged (kept_greatest_comes g p stage x u v s t bx canonical su sv corner nv a f.1 ea)))
-      (subst (λ i. Part g i lb (leaves_at g.order (kept_at g.order p z) (merged_if_greatest_comes g.order x u b)) (numbers (k + leaf_count a) (leaf_count b)) nb) (ap (λ i. k + i) (sym (length-leaves_at g.order (kept_at g.order p x) a)))
-      (subst (λ (o : List ℕ). Part g (k + leaf_count a) lb (leaves_at g.order (kept_at g.order p z) (merged_if_greatest_comes g.order x u b)) o nb) (merged_plain b eb (k + leaf_count a))
+      (subst (λ i. Part g i (merged_leaves b) (leaves_at g.order (kept_at g.order p z) (merged_if_greatest_comes g.order x u b)) (numbers (k + leaf_count a) (leaf_count b)) (merged_images b)) (ap (λ i. k + i) (sym (length-leaves_at g.order (kept_at g.order p x) a)))
+      (subst (λ (o : List ℕ). Part g (k + leaf_count a) (merged_leaves b) (leaves_at g.order (kept_at g.order p z) (merged_if_greatest_comes g.order x u b)) o (merged_images b)) (merged_plain b eb (k + leaf_count a))
       (below_merged (k + leaf_count a) b (merged_if_greatest_comes g.order x u b) (kept_at g.order p z) f.2 d.2 (stage_merged g p stage (complement_of g.order z) rz) new.kept (merged_greatest_comes g p stage x u v s t bx canonical su sv corner nv b f.2 eb))))
 
   -- and outside v
@@ -105,15 +115,12 @@ module _ (g : Graph) (p : List (List ℕ)) (stage : Stage g p) (x u v : List ℕ
       let z = union_list g.order (inner_rest g.order x u) v in
       let new = new_shore_stays g p stage x u v s t bx canonical su sv corner bz in
       let rz = big_rest g p stage z bz in
-      let la = leaves_at g.order (kept_at g.order p x) a in let lb = leaves_at g.order (merged_at g.order p x) b in
       let ea = each_of g (kept_at g.order p x) a kept_stage f.1 d.1 in let eb = each_of g (merged_at g.order p x) b merged_stage f.2 d.2 in
-      let na = map (λ (r : List (List ℕ)). map (λ b. last_of (kept_image g.order x u v b)) r) la in
-      let nb = map (λ (r : List (List ℕ)). map (λ b. last_of (merged_image g.order x u v b)) r) lb in
-      part-join g k la (leaves_at g.order (kept_at g.order p z) (kept_if_greatest_stays g.order x u v a)) lb (leaves_at g.order (merged_at g.order p z) (merged_if_greatest_stays g.order x u v b)) (kept_order_if_greatest_stays u k a) (numbers (k + leaf_count a) (leaf_count b)) na nb
-      (subst (λ (o : List ℕ). Part g k la (leaves_at g.order (kept_at g.order p z) (kept_if_greatest_stays g.order x u v a)) o na) (sym (kept_turned nv a ea k))
+      part-join g k (kept_leaves a) (leaves_at g.order (kept_at g.order p z) (kept_if_greatest_stays g.order x u v a)) (merged_leaves b) (leaves_at g.order (merged_at g.order p z) (merged_if_greatest_stays g.order x u v b)) (kept_order_if_greatest_stays u k a) (numbers (k + leaf_count a) (leaf_count b)) (kept_images a) (merged_images b)
+      (subst (λ (o : List ℕ). Part g k (kept_leaves a) (leaves_at g.order (kept_at g.order p z) (kept_if_greatest_stays g.order x u v a)) o (kept_images a)) (sym (kept_turned nv a ea k))
       (below_kept k a (kept_if_greatest_stays g.order x u v a) (kept_at g.order p z) f.1 d.1 (stage_merged g p stage (complement_of g.order z) rz) new.kept (kept_greatest_stays g p stage x u v s t bx canonical su sv corner nv a f.1 ea)))
-      (subst (λ i. Part g i lb (leaves_at g.order (merged_at g.order p z) (merged_if_greatest_stays g.order x u v b)) (numbers (k + leaf_count a) (leaf_count b)) nb) (ap (λ i. k + i) (sym (length-leaves_at g.order (kept_at g.order p x) a)))
-      (subst (λ (o : List ℕ). Part g (k + leaf_count a) lb (leaves_at g.order (merged_at g.order p z) (merged_if_greatest_stays g.order x u v b)) o nb) (merged_plain b eb (k + leaf_count a))
+      (subst (λ i. Part g i (merged_leaves b) (leaves_at g.order (merged_at g.order p z) (merged_if_greatest_stays g.order x u v b)) (numbers (k + leaf_count a) (leaf_count b)) (merged_images b)) (ap (λ i. k + i) (sym (length-leaves_at g.order (kept_at g.order p x) a)))
+      (subst (λ (o : List ℕ). Part g (k + leaf_count a) (merged_leaves b) (leaves_at g.order (merged_at g.order p z) (merged_if_greatest_stays g.order x u v b)) o (merged_images b)) (merged_plain b eb (k + leaf_count a))
       (below_merged (k + leaf_count a) b (merged_if_greatest_stays g.order x u v b) (merged_at g.order p z) f.2 d.2 (stage_merged g p stage z bz) new.merged (merged_greatest_stays g p stage x u v s t bx canonical su sv corner nv b f.2 eb))))
 
 -- a proper Switch whose result is a derivation

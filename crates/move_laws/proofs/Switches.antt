@@ -238,19 +238,13 @@ module _ (g : Graph) (p : List (List ℕ)) (stage : Stage g p) (x u v : List ℕ
   new_shore_comes bz =
       new_shore (union_list g.order (outer_rest g.order x v) u) bz (union in_outer_rest (mem u)) (union in_inner_rest (mem v))
       (λ w ww. mem-rising_list g.order (union (mem (outer_rest g.order x v)) (mem u)) w ww ∙ ap (λ k. k || mem u w) (outer_rest-mem w ww))
-      (λ w ww. other (mem x w) (mem u w) (mem v w) (corner.inside w ww) (corner.outside w ww))
-    where
-      other : (x u v : Bool) → (u ≡ true → x ≡ true) → (v ≡ true → x ≡ false) → not ((not x && not v) || u) ≡ ((x && not u) || v)
-      other x u v h k = grind arith
+      (λ w ww. grind (arith, corner.inside w ww, corner.outside w ww))
 
   pub new_shore_stays : Big g p (union_list g.order (inner_rest g.order x u) v) → IsNewShore g p (union_list g.order (inner_rest g.order x u) v) (union in_inner_rest (mem v)) (union in_outer_rest (mem u))
   new_shore_stays bz =
       new_shore (union_list g.order (inner_rest g.order x u) v) bz (union in_inner_rest (mem v)) (union in_outer_rest (mem u))
       (λ w ww. mem-rising_list g.order (union (mem (inner_rest g.order x u)) (mem v)) w ww ∙ ap (λ k. k || mem v w) (inner_rest-mem w ww))
-      (λ w ww. other (mem x w) (mem u w) (mem v w) (corner.inside w ww) (corner.outside w ww))
-    where
-      other : (x u v : Bool) → (u ≡ true → x ≡ true) → (v ≡ true → x ≡ false) → not ((x && not u) || v) ≡ ((not x && not v) || u)
-      other x u v h k = grind arith
+      (λ w ww. grind (arith, corner.inside w ww, corner.outside w ww))
 
   pub switch_greatest_comes : (a b : Shape) → AreRising g.order (cut x a b) → IsDerivationAt g p (cut x a b) → mem v g.order ≡ true → Big g p (union_list g.order (outer_rest g.order x v) u) →
       IsDerivationAt g p (cut (union_list g.order (outer_rest g.order x v) u) (merged_if_greatest_comes g.order x u b) (kept_if_greatest_comes g.order x u v a))

@@ -3,10 +3,11 @@
 //!
 //! A `Row` of `rows` names the premise as the book words it, and the graph. It lists claims that
 //! hold of the graph and claims that fail. The first claim that fails is the premise; the others
-//! are the premises that are left, and the two sides of the sentence. `tools/agree_docs premises`
-//! compares the fields `premise` and `graph` with the tables of the book, both ways. A premise of
-//! several parts, or with several graphs, has a row for each, with the same words, in the order of
-//! the book.
+//! are the premises that are left, and the two sides of the sentence. A graph that shows the same
+//! of several theorems has one row, with the premise of each. `tools/agree_docs premises` compares
+//! the fields `premises` and `graph` with the tables of the book, both ways. A premise of several
+//! parts, or with several graphs, has a row for each, with the same words, in the order of the
+//! book.
 //!
 //! A small program decides the claims, which shares nothing with the engine. A `PairGraph` is a
 //! list of pairs of vertices, loops among them, with all its matchings and all sets of its
@@ -19,46 +20,4 @@
 #![tactic(auto)]
 
 #[cfg(test)]
-mod claims;
-#[cfg(test)]
-mod cuts;
-#[cfg(test)]
-mod deciding;
-#[cfg(test)]
-mod decompositions;
-#[cfg(test)]
-mod ears;
-#[cfg(test)]
-mod graphs;
-#[cfg(test)]
-mod matchings;
-#[cfg(test)]
-mod of_barriers;
-#[cfg(test)]
-mod of_braces;
-#[cfg(test)]
-mod of_bricks;
-#[cfg(test)]
-mod of_components;
-#[cfg(test)]
-mod of_cubic_graphs;
-#[cfg(test)]
-mod of_decompositions;
-#[cfg(test)]
-mod of_ears;
-#[cfg(test)]
-mod of_matchings;
-#[cfg(test)]
-mod of_regular_graphs;
-#[cfg(test)]
-mod of_separating_cuts;
-#[cfg(test)]
-mod of_sides;
-#[cfg(test)]
-mod pair_graph;
-#[cfg(test)]
-mod rows;
-#[cfg(test)]
-mod sets;
-#[cfg(test)]
-mod sides;
+mod tests;

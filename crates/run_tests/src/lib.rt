@@ -15,28 +15,4 @@
 #![tactic(auto)]
 
 #[cfg(test)]
-mod analysing;
-#[cfg(test)]
-mod bad_files;
-#[cfg(test)]
-mod checking;
-#[cfg(test)]
-mod comparing;
-#[cfg(test)]
-mod decomposing;
-#[cfg(test)]
-mod faults;
-#[cfg(test)]
-mod graphs;
-#[cfg(test)]
-mod growing;
-#[cfg(test)]
-mod malformed;
-#[cfg(test)]
-mod named;
-#[cfg(test)]
-mod replaying;
-#[cfg(test)]
-mod trial;
-#[cfg(test)]
-mod words;
+mod tests;

@@ -13,26 +13,4 @@
 #![tactic(auto)]
 
 #[cfg(test)]
-mod ear_rows;
-#[cfg(test)]
-mod formats;
-#[cfg(test)]
-mod graph6_rows;
-#[cfg(test)]
-mod graph_rows;
-#[cfg(test)]
-mod lists;
-#[cfg(test)]
-mod long_lines;
-#[cfg(test)]
-mod move_rows;
-#[cfg(test)]
-mod reads_and_writes;
-#[cfg(test)]
-mod sources;
-#[cfg(test)]
-mod tables;
-#[cfg(test)]
-mod tree_rows;
-#[cfg(test)]
-mod words;
+mod tests;

@@ -1,8 +1,8 @@
 -- A tight shore of a covered graph is connected: it is one component of the graph without the
 -- other shore. Else it splits into a component C and the rest D, no edge joins the two, and
 -- perfect matchings make |C| both odd and even.
-use Rattle.std.proofs.Common.{◌≡◌, ℕ, ◌+◌, Bool, true, false, ◌&&◌, ◌||◌, not, refl, sym, ap, ◌∙◌, arith, inl, inr}
-use Rattle.counting.proofs.Common.{cases_Bool, true≢false, not-false, but_from, but_not, total_add, total_congr, Within, bit, Set, complement, minus}
+use Rattle.std.proofs.Common.{◌≡◌, ℕ, ◌+◌, Bool, true, ◌&&◌, ◌||◌, not, refl, sym, ap, ◌∙◌, arith, inl, inr}
+use Rattle.counting.proofs.Common.{cases_Bool, not-false, but_from, but_not, total_add, total_congr, Within, bit, Set, complement, minus}
 use Rattle.barrier_kit.proofs.Common.{part_step, cut_matching}
 use Rattle.graph_core.proofs.Common.{joined_outside, joined_walk, walk_joined, parity, joined_self, IsCovered, Graph, IsGraph, edges_in_cut, first_end, in_cut, second_end, size, CutIsTight, Joined, joined}
 
@@ -30,19 +30,7 @@ module _ (g : Graph) (x : Set) (u : ℕ) (is : IsGraph g) (wu : Within g.order u
         where
           bits : (k a b c d : Bool) → (c ≡ true → a ≡ true) → (d ≡ true → b ≡ true) → (a ≡ true → b ≡ true → c ≡ d) →
               bit (k && ((c && not d) || (not c && d))) + bit (k && (((a && not c) && not (b && not d)) || (not (a && not c) && (b && not d)))) ≡ bit (k && ((a && not b) || (not a && b)))
-          bits false a b c d f h i = refl
-          bits true true true true true f h i = refl
-          bits true true true false false f h i = refl
-          bits true true true true false f h i = absurd (true≢false (i refl refl))
-          bits true true true false true f h i = absurd (true≢false (sym (i refl refl)))
-          bits true true false c true f h i = absurd (true≢false (sym (h refl)))
-          bits true true false true false f h i = refl
-          bits true true false false false f h i = refl
-          bits true false b true d f h i = absurd (true≢false (sym (f refl)))
-          bits true false true false true f h i = refl
-          bits true false true false false f h i = refl
-          bits true false false false true f h i = absurd (true≢false (sym (h refl)))
-          bits true false false false false f h i = refl
+          bits k a b c d h i l = grind arith
 
 -- two vertices of a tight shore are joined inside it
 pub tight_joined : (g : Graph) (x : Set) (u v : ℕ) → IsGraph g → IsCovered g → CutIsTight g x → Within g.order u → Within g.order v → x u ≡ true → x v ≡ true → Joined g (complement x) u v

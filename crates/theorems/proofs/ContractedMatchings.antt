@@ -47,11 +47,7 @@ module _ (g : Graph) (is : IsGraph g) (x : Set) (h : Graph) (f : ℕ → ℕ) (c
       omega arith
     where
       bits : (k p q : Bool) → bit (k && p) + bit (k && q) ≡ bit (k && ((p && not q) || (not p && q))) + (bit (k && (p && q)) + bit (k && (p && q)))
-      bits false p q = refl
-      bits true true true = refl
-      bits true true false = refl
-      bits true false true = refl
-      bits true false false = refl
+      bits k p q = grind arith
 
   one_side : (k : Set) → IsPerfect h none k → OneSide g x k
   one_side k p =

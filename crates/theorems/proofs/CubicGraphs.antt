@@ -100,12 +100,7 @@ module _ (g : Graph) (is : IsMultigraph g) (cubic : IsCubic g) where
       ∙ lone_cut w ww
     where
       go : (a b i j : Bool) → ((a && not b) || (not a && b)) ≡ false → (i ≡ true → a ≡ false) → (j ≡ true → b ≡ false) → (((a || i) && not (b || j)) || (not (a || i) && (b || j))) ≡ ((i && not j) || (not i && j))
-      go true b true j h k l = absurd (true≢false (k refl))
-      go true true false true h k l = absurd (true≢false (l refl))
-      go true true false false h k l = refl
-      go true false false j h k l = absurd (true≢false h)
-      go false true i j h k l = absurd (true≢false h)
-      go false false i j h k l = refl
+      go a b i j h k l = grind arith
 
   module _ (six : 6 ≤ g.order) (wide : (x : Set) → IsNontrivial g.order x → 4 ≤ cut_size g x) where
     grown : (x : Set) (u w : ℕ) → Within g.order u → Within g.order w → x u ≡ true → x w ≡ false → cut_size g x ≡ 0 → count g.order x + 4 ≤ g.order → ⊥

@@ -3,7 +3,7 @@
 -- covered, or both trees are derivations; and each read gave the bytes of its file.
 use Rattle.std.proofs.Common.{◌≡◌, ◌∙◌, ℕ, List, [], ◌∷◌, Option, Some, None, Ok, option_map, refl, sym, ap, subst, inl, inr, codes}
 use Rattle.outside.specs.Common.{Answer, AnswersInTurn, NamedFile, file_named}
-use Rattle.graph_core.proofs.Common.{IsCovered}
+use Rattle.graph_core.proofs.Common.{Graph, IsCovered}
 use Rattle.graph_text.specs.Common.{NamedGraph, either_version}
 use Rattle.line_text.proofs.ExactlyOne.{Stands-from_reading}
 use Rattle.line_text.specs.Common.{reading_of}
@@ -16,8 +16,9 @@ use Rattle.bench_tasks.specs.Common.{OnTrees, decompose_in, All, Bad, Absent, Lo
 use Rattle.bench_tasks.specs.Tasks as task
 use Rattle.bench_tasks.specs.declared.verbs.GraphVerb.TheVariants.{Analyse, Decompose, Ears}
 use Rattle.bench_tasks.specs.declared.verbs.PicksVerb.TheVariants.{DecomposeBy}
+use Rattle.bench_tasks.specs.declared.verbs.TreesVerb.{TreesVerb}
 use Rattle.bench_tasks.specs.declared.verbs.TreesVerb.TheVariants.{Compare, Script}
-use Rattle.bench_outcomes.specs.Common.{DecomposeGives, EarsGives, LoadedGives}
+use Rattle.bench_outcomes.specs.Common.{DecomposeGives, EarsGives, LoadedGives, Succeeds}
 use Rattle.bench_outcomes.specs.declared.status.Status.TheVariants.{BadInput, Done}
 use Rattle.bench_top.proofs.Completeness.{done-given}
 use Rattle.bench_top.specs.Given.{AreGiven, GivenOutcome}
@@ -206,15 +207,19 @@ module _ {S K : Type 0} (reads : S → List ℕ → Answer → S → Type 0) (wr
         (told-ears o.files (name_at 1) good.0 Done w.output good.1 cov w.right).1,
       )
 
-  pub done-pairing : (graph one two : List ℕ) (first last : S) (before now : K) → GivenOutcome reads written writes (command_of (codes "compare" ∷ graph ∷ one ∷ two ∷ [])) Done first last before now →
+  -- two trees that a task is given, where what it tells of them follows once both are derivations
+  done-two-trees : (verb : TreesVerb) (Tells : Graph → Shape → Shape → List ℕ → Type 0) →
+      ((named : NamedGraph) (s t : Shape) → Succeeds (task.OnTrees verb named s t) → IsDerivation named.graph s × IsDerivation named.graph t) →
+      ((files : List NamedFile) (named : NamedGraph) (s t : Shape) (output : List ℕ) → trees_given files (name_at 1) (name_at 2) (name_at 3) ≡ All (named, (s, t)) → IsDerivation named.graph s → IsDerivation named.graph t → LoadedGives (loaded_as (on_trees verb) (trees_given files (name_at 1) (name_at 2) (name_at 3))) Done output → Tells named.graph s t output) →
+      (graph one two : List ℕ) (first last : S) (before now : K) → GivenOutcome reads written writes (Some (OnTrees verb graph one two)) Done first last before now →
       (text a b : List ℕ) × (named : NamedGraph) × (s t : Shape) × (output : List ℕ) × StandsForGraph text named × StandsForTree named.graph.order a s × StandsForTree named.graph.order b t ×
-      IsDoneRun reads written writes (graph ∷ one ∷ two ∷ []) (text ∷ a ∷ b ∷ []) output first last before now × IsDerivation named.graph s × IsDerivation named.graph t × TellsPairing named.graph s t output
-  done-pairing graph one two first last before now o =
+      IsDoneRun reads written writes (graph ∷ one ∷ two ∷ []) (text ∷ a ∷ b ∷ []) output first last before now × IsDerivation named.graph s × IsDerivation named.graph t × Tells named.graph s t output
+  done-two-trees verb Tells derive told graph one two first last before now o =
       let w = o.wrote in
-      let good = held-good (on_trees Compare) (trees_given o.files (name_at 1) (name_at 2) (name_at 3)) w.output w.right in
+      let good = held-good (on_trees verb) (trees_given o.files (name_at 1) (name_at 2) (name_at 3)) w.output w.right in
       let h = trees-held o.files (name_at 1) (name_at 2) (name_at 3) good.0 good.1 in
       let x = of-trees o.answers o.files o.given first last graph one two h.0 h.1 h.2 o.in_turn h.3 h.4 h.5 in
-      let d : IsDerivation h.0.graph h.1 × IsDerivation h.0.graph h.2 = (done-given o.files (OnTrees Compare (name_at 1) (name_at 2) (name_at 3)) (task.OnTrees Compare h.0 h.1 h.2) Done w.output (ap (loaded_as (on_trees Compare)) h.6) w.right).0 refl in (
+      let d = derive h.0 h.1 h.2 ((done-given o.files (OnTrees verb (name_at 1) (name_at 2) (name_at 3)) (task.OnTrees verb h.0 h.1 h.2) Done w.output (ap (loaded_as (on_trees verb)) h.6) w.right).0 refl) in (
         x.0,
         x.1,
         x.2,
@@ -228,30 +233,15 @@ module _ {S K : Type 0} (reads : S → List ℕ → Answer → S → Type 0) (wr
         record { gave = x.6; wrote = this-output _ before now w },
         d.0,
         d.1,
-        (told-pairing o.files (name_at 1) (name_at 2) (name_at 3) h.0 h.1 h.2 Done w.output h.6 d.0 d.1 w.right).1,
+        told o.files h.0 h.1 h.2 w.output h.6 d.0 d.1 w.right,
       )
+
+  pub done-pairing : (graph one two : List ℕ) (first last : S) (before now : K) → GivenOutcome reads written writes (command_of (codes "compare" ∷ graph ∷ one ∷ two ∷ [])) Done first last before now →
+      (text a b : List ℕ) × (named : NamedGraph) × (s t : Shape) × (output : List ℕ) × StandsForGraph text named × StandsForTree named.graph.order a s × StandsForTree named.graph.order b t ×
+      IsDoneRun reads written writes (graph ∷ one ∷ two ∷ []) (text ∷ a ∷ b ∷ []) output first last before now × IsDerivation named.graph s × IsDerivation named.graph t × TellsPairing named.graph s t output
+  done-pairing = done-two-trees Compare TellsPairing (λ named s t d. d) (λ files named s t output held ds dt gives. (told-pairing files (name_at 1) (name_at 2) (name_at 3) named s t Done output held ds dt gives).1)
 
   pub done-script : (graph one two : List ℕ) (first last : S) (before now : K) → GivenOutcome reads written writes (command_of (codes "script" ∷ graph ∷ one ∷ two ∷ [])) Done first last before now →
       (text a b : List ℕ) × (named : NamedGraph) × (s t : Shape) × (output : List ℕ) × StandsForGraph text named × StandsForTree named.graph.order a s × StandsForTree named.graph.order b t ×
       IsDoneRun reads written writes (graph ∷ one ∷ two ∷ []) (text ∷ a ∷ b ∷ []) output first last before now × IsDerivation named.graph s × IsDerivation named.graph t × TellsScript named.graph s t output
-  done-script graph one two first last before now o =
-      let w = o.wrote in
-      let good = held-good (on_trees Script) (trees_given o.files (name_at 1) (name_at 2) (name_at 3)) w.output w.right in
-      let h = trees-held o.files (name_at 1) (name_at 2) (name_at 3) good.0 good.1 in
-      let x = of-trees o.answers o.files o.given first last graph one two h.0 h.1 h.2 o.in_turn h.3 h.4 h.5 in
-      let d : IsDerivation h.0.graph h.1 × IsDerivation h.0.graph h.2 = (done-given o.files (OnTrees Script (name_at 1) (name_at 2) (name_at 3)) (task.OnTrees Script h.0 h.1 h.2) Done w.output (ap (loaded_as (on_trees Script)) h.6) w.right).0 refl in (
-        x.0,
-        x.1,
-        x.2,
-        h.0,
-        h.1,
-        h.2,
-        w.output,
-        x.3,
-        x.4,
-        x.5,
-        record { gave = x.6; wrote = this-output _ before now w },
-        d.0,
-        d.1,
-        (told-script o.files (name_at 1) (name_at 2) (name_at 3) h.0 h.1 h.2 Done w.output h.6 d.0 d.1 w.right).1,
-      )
+  done-script = done-two-trees Script TellsScript (λ named s t d. d) (λ files named s t output held ds dt gives. (told-script files (name_at 1) (name_at 2) (name_at 3) named s t Done output held ds dt gives).1)

@@ -67,9 +67,7 @@ module _ (g : Graph) (is : IsGraph g) (f : Set) (v : ℕ) (es : List ℕ) (ear :
   ]
     where
       off : (a b : Bool) (k : ℕ) → b ≡ false → k ≡ 0 → bit (a || b) ≡ bit a + k
-      off true b k m z = omega arith
-      off false true k m z = absurd (true≢false m)
-      off false false k m z = omega arith
+      off a b k h i = grind arith
 
   pub ear-edges : count (size g) (with_edges f es) ≡ count (size g) f + length es
   ear-edges =

@@ -33,12 +33,7 @@ module _ (g : Graph) (is : IsMultigraph g) (six : 6 ≤ g.order) (joined : IsCon
       clear f = perfect.0 f && not (((first_end g f == first_end g e) || (second_end g f == first_end g e)) || ((first_end g f == second_end g e) || (second_end g f == second_end g e)))
 
       bits : (k p q r s : Bool) → bit k ≤ bit (k && not ((p || q) || (r || s))) + ((bit (k && p) + bit (k && q)) + (bit (k && r) + bit (k && s)))
-      bits false p q r s = omega arith
-      bits true true q r s = omega arith
-      bits true false true r s = omega arith
-      bits true false false true s = omega arith
-      bits true false false false true = omega arith
-      bits true false false false false = omega arith
+      bits k p q r s = grind arith
 
       apart : (f : ℕ) → clear f ≡ true → AreApart g e f
       apart f h v w i j = elim i [

@@ -1,7 +1,7 @@
 -- How a maximum matching meets the sets D, A and C, and that the components of G[D] are
 -- factor-critical. Each odd component of G - A has a missed vertex or an edge that leaves it; the
 -- bound of Berge is attained at A, so it has one of these.
-use Rattle.std.proofs.Common.{◌≡◌, ℕ, zero, suc, ◌+◌, ◌*◌, ◌≤◌, Bool, true, false, cond, ◌==◌, refl, sym, ap, ap₂, ◌∙◌, arith, ◌&&◌, ◌||◌, not, eq-eqb, eqb-true, mul-add, subst, inl, inr}
+use Rattle.std.proofs.Common.{◌≡◌, ℕ, ◌+◌, ◌*◌, ◌≤◌, Bool, true, false, cond, ◌==◌, refl, sym, ap, ap₂, ◌∙◌, arith, ◌&&◌, ◌||◌, not, eq-eqb, eqb-true, mul-add, subst, inl, inr}
 use Rattle.counting.proofs.Common.{cases_Bool, both_ways, false_from_ne_true, and_parts, and_from, not-false, not-true, bit_le, same_tests, bit_true, count_congr, count_zero, two_members, member_count, odd-add, odd-double, odd_pos, some_true, total_add, total_congr, total_le, total_mul, total_swap, total_tight, fun_ext, Within, bit, count, is_odd, total, Set, complement, minus, none, singleton}
 use Rattle.barrier_kit.proofs.Common.{cover_count, cover_in, covers, cut_family, leader_of, leads_out, part_same}
 use Rattle.graph_core.proofs.Common.{joined_outside, walk_joined, maximum_exists, edge_at, degrees, joined_self, component_count, is_least, odd_component_count, Graph, HasEnds, IsGraph, degree, edges_in_cut, first_end, in_cut, inside, second_end, size, IsMaximum, missed_count, joined}
@@ -54,20 +54,10 @@ module _ (g : Graph) (is : IsGraph g) (d a c : Set) (sets : AreThreeSets g d a c
       ∙ back (d v) (degree g m v == 0))
     where
       regroup : (x y z : Bool) → bit x * bit (y && z) ≡ bit z * bit (x && y)
-      regroup true true true = refl
-      regroup true true false = refl
-      regroup true false true = refl
-      regroup true false false = refl
-      regroup false true true = refl
-      regroup false true false = refl
-      regroup false false true = refl
-      regroup false false false = refl
+      regroup x y z = grind arith
 
       back : (x z : Bool) → bit z * bit x ≡ bit (x && z)
-      back true true = refl
-      back true false = refl
-      back false true = refl
-      back false false = refl
+      back x z = grind arith
 
   size_of : (u : ℕ) → count g.order (joined g a u) ≡ missed u + (leaving u + 2 * count (size g) (λ e. m e && inside g (joined g a u) e))
   size_of u =
@@ -76,10 +66,7 @@ module _ (g : Graph) (is : IsGraph g) (d a c : Set) (sets : AreThreeSets g d a c
       let z = degrees g is m (joined g a u) in omega arith
     where
       each : (x : Bool) (d : ℕ) → d ≤ 1 → bit x ≡ bit (x && (d == 0)) + bit x * d
-      each false d h = omega arith
-      each true zero h = refl
-      each true (suc zero) h = refl
-      each true (suc (suc d)) h = absurd (omega arith)
+      each x d h = grind arith
 
   -- an odd component has a missed vertex, or an edge that leaves it
   each_open : (u : ℕ) → Within g.order u → bit (lead u) ≤ bit (lead u) * (missed u + leaving u)

@@ -2,7 +2,7 @@
 -- edges in the cut of both together as there are neighbours more; and a nontrivial tight shore,
 -- or the other one, is a set on a side with one vertex more of its neighbours' side.
 use Rattle.std.proofs.Common.{◌≡◌, ℕ, suc, zero, ◌+◌, ◌≤◌, Bool, true, false, ◌&&◌, ◌||◌, not, refl, sym, ap, ◌∙◌, arith}
-use Rattle.counting.proofs.Common.{and_from, and_parts, both_ways, false_from_ne_true, not-true, true≢false, and_comm, count_congr, count_meet_union, count_split, some_true, true_some, total_none, Within, bit, count, Set, complement, meet, minus, none, union}
+use Rattle.counting.proofs.Common.{and_from, and_parts, both_ways, false_from_ne_true, not-true, and_comm, count_congr, count_meet_union, count_split, some_true, true_some, total_none, Within, bit, count, Set, complement, meet, minus, none, union}
 use Rattle.barrier_kit.proofs.Common.{nontrivial-turned, tight-turned, cut_split, cut_matching}
 use Rattle.graph_core.proofs.Common.{IsSide, IsCovered, Graph, IsMultigraph, edges_in_cut, first_end, has_ends, second_end, size, IsPerfect, IsNontrivial, IsTight, adjacent, covered_perfect, adjacent-edge, adjacent_from, has_ends-back, has_ends-own}
 use Rattle.matching_digraph.proofs.Balance.{balance, equal_sides, leaves_left, leaves_right, none_right, other_side, side_count}
@@ -103,18 +103,10 @@ module _ (g : Graph) (is : IsMultigraph g) (a : Set) (two : IsSide g a) where
             (go (z (first_end g e)) (a (first_end g e)) (z (second_end g e)) (a (second_end g e)) c n, back (z (first_end g e)) (a (first_end g e)) (z (second_end g e)) (a (second_end g e)) c n)
           where
             go : (z1 a1 z2 a2 : Bool) → ((a1 && not a2) || (not a1 && a2)) ≡ true → (((z1 && not (not a1)) && (not z2 && not a2)) || ((not z1 && not a1) && (z2 && not (not a2)))) ≡ false → z1 ≡ true → a1 ≡ true → z2 ≡ true
-            go z1 a1 true a2 c n h k = refl
-            go false a1 false a2 c n h k = h
-            go true false false a2 c n h k = k
-            go true true false true c n h k = absurd (true≢false (sym c))
-            go true true false false c n h k = absurd (true≢false n)
+            go z1 a1 z2 a2 h i k l = grind arith
 
             back : (z1 a1 z2 a2 : Bool) → ((a1 && not a2) || (not a1 && a2)) ≡ true → (((z1 && not (not a1)) && (not z2 && not a2)) || ((not z1 && not a1) && (z2 && not (not a2)))) ≡ false → z2 ≡ true → a2 ≡ true → z1 ≡ true
-            back true a1 z2 a2 c n h k = refl
-            back false a1 false a2 c n h k = h
-            back false a1 true false c n h k = k
-            back false true true true c n h k = absurd (true≢false (sym c))
-            back false false true true c n h k = absurd (true≢false n)
+            back z1 a1 z2 a2 h i k l = grind arith
 
         closed : (u v e : ℕ) → Within (size g) e → has_ends g u v e ≡ true → z u ≡ true → a u ≡ true → z v ≡ true
         closed u v e w h = (at_ends g (λ s t. (z s ≡ true → a s ≡ true → z t ≡ true) × (z t ≡ true → a t ≡ true → z s ≡ true)) u v e (λ s t p. (p.1, p.0)) h (stays e w)).0

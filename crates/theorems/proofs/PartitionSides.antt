@@ -1,8 +1,8 @@
 -- Two sides at a partition: a union of blocks that each edge between two blocks leaves.
 -- Idea: the quotient is bipartite if and only if there are such sides. A tight shore has one
 -- vertex more on one side, so all edges that leave it leave it there.
-use Rattle.std.proofs.Common.{◌≡◌, ◌≢◌, ◌∙◌, ℕ, ◌<◌, Bool, true, false, not, ◌&&◌, ◌||◌, ◌==◌, List, length, inl, inr, refl, sym, ap, arith, subst, subst₂, ne_eqb}
-use Rattle.counting.proofs.Common.{and_from, and_parts, both_ways, cases_eq, true≢false, not_not, count_congr, some_true, true_some, Within, count, Set, complement, meet, minus, some}
+use Rattle.std.proofs.Common.{◌≡◌, ◌≢◌, ◌∙◌, ℕ, ◌<◌, Bool, true, false, not, ◌&&◌, ◌||◌, ◌==◌, List, length, inl, inr, sym, ap, arith, subst, subst₂, ne_eqb}
+use Rattle.counting.proofs.Common.{and_from, and_parts, both_ways, cases_eq, not_not, count_congr, some_true, true_some, Within, count, Set, complement, meet, minus, some}
 use Rattle.graph_core.proofs.Common.{IsSide, IsCovered, Graph, IsBipartite, IsGraph, first_end, has_ends, in_cut, second_end, size, AreBlocks, contracted, place, blocks_adjacent, quotient, IsTightAt, IsUnion, blocks_in, at_place, at_rep, contracted-ends, contracted-graph, contracted-order, contracted-size, place_in, covered_perfect, has_ends-cases, has_ends-own}
 use Rattle.tree_core.proofs.QuotientSides.{Parts, differ, differ-back, parted, parts_from_sides, sides_from_parts}
 use Rattle.matching_digraph.proofs.Balance.{balance, leaves_right, none_right}
@@ -56,10 +56,7 @@ module _ (g : Graph) (is : IsGraph g) (p : List (List ℕ)) (pp : AreBlocks g.or
 
 -- the other side
 turned-cut : (a b : Bool) → differ a b ≡ true → differ (not a) (not b) ≡ true
-turned-cut true true h = h
-turned-cut true false h = refl
-turned-cut false true h = refl
-turned-cut false false h = h
+turned-cut a b h = grind arith
 
 pub other-side_at : (g : Graph) (p : List (List ℕ)) (c : Set) → IsSideAt g p c → IsSideAt g p (complement c)
 other-side_at g p c side = record { union = λ u v wu wv same. ap not (side.union u v wu wv same); cut = λ e w d. turned-cut (c (first_end g e)) (c (second_end g e)) (side.cut e w d) }
@@ -105,18 +102,10 @@ module _ (g : Graph) (is : IsGraph g) (p : List (List ℕ)) (pp : AreBlocks g.or
           )
 
       from : (a b c d : Bool) → right a b c d ≡ false → differ c d ≡ true → a ≡ true → b ≡ false → c ≡ true
-      from true true c d r h t f = absurd (true≢false f)
-      from false b c d r h t f = absurd (true≢false (sym t))
-      from true false true d r h t f = refl
-      from true false false true r h t f = absurd (true≢false r)
-      from true false false false r h t f = absurd (true≢false (sym h))
+      from a b c d h i k l = grind arith
 
       into : (a b c d : Bool) → right a b c d ≡ false → differ c d ≡ true → b ≡ true → a ≡ false → d ≡ true
-      into true b c d r h t f = absurd (true≢false f)
-      into false false c d r h t f = absurd (true≢false (sym t))
-      into false true c true r h t f = refl
-      into false true true false r h t f = absurd (true≢false r)
-      into false true false false r h t f = absurd (true≢false (sym h))
+      into a b c d h i k l = grind arith
 
   -- the side turned
   not-block : (c : Set) → IsSideAt g p c → (i : ℕ) → Within h.order i → blocks_in p (complement c) i ≡ not (blocks_in p c i)

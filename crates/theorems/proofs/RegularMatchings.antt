@@ -37,16 +37,7 @@ module _ (r : ℕ) (g : Graph) (is : IsGraph g) (regular : IsRegular r g) (wide 
         omega arith
       where
         into : (a b c d : Bool) → (c ≡ true → a ≡ false) → (d ≡ true → b ≡ false) → (c ≡ false → d ≡ false → a ≡ b) → ((a && not b) || (not a && b)) ≡ true → ((c && not d) || (not c && d)) ≡ true
-        into a b true false f h i k = refl
-        into a b false true f h i k = refl
-        into a b false false f h i k = absurd (true≢false (sym k ∙ same a b (i refl refl)))
-          where
-            same : (a b : Bool) → a ≡ b → ((a && not b) || (not a && b)) ≡ false
-            same a b h = grind arith
-        into a b true true f h i k = absurd (true≢false (sym k ∙ neither a b (f refl) (h refl)))
-          where
-            neither : (a b : Bool) → a ≡ false → b ≡ false → ((a && not b) || (not a && b)) ≡ false
-            neither a b h l = grind arith
+        into a b c d h i k l = grind arith
 
   -- a set with an edge inside leaves fewer odd components than it has vertices
   few : (s : Set) (e : ℕ) → Within (size g) e → s (first_end g e) ≡ true → s (second_end g e) ≡ true → count g.order s ≤ odd_component_count g s → ⊥

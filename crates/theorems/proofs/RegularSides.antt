@@ -34,23 +34,13 @@ module _ (r : ℕ) (g : Graph) (is : IsMultigraph g) (regular : IsRegular r g) (
     none_inside_left = total_none (size g) _ (λ e w. ap bit (out (a (first_end g e)) (a (second_end g e)) (x (first_end g e)) (x (second_end g e)) (crosses e w)))
       where
         out : (a b c d : Bool) → ((a && not b) || (not a && b)) ≡ true → ((c && a) && (d && b)) ≡ false
-        out true true c d h = absurd (true≢false (sym h))
-        out true false true true h = refl
-        out true false true false h = refl
-        out true false false d h = refl
-        out false b true d h = refl
-        out false b false d h = refl
+        out a b c d h = grind arith
 
     none_inside_right : inner_size g (minus x a) ≡ 0
     none_inside_right = total_none (size g) _ (λ e w. ap bit (out (a (first_end g e)) (a (second_end g e)) (x (first_end g e)) (x (second_end g e)) (crosses e w)))
       where
         out : (a b c d : Bool) → ((a && not b) || (not a && b)) ≡ true → ((c && not a) && (d && not b)) ≡ false
-        out true b true d h = refl
-        out true b false d h = refl
-        out false true true true h = refl
-        out false true true false h = refl
-        out false true false d h = refl
-        out false false c d h = absurd (true≢false (sym h))
+        out a b c d h = grind arith
 
     -- the cuts of the two parts
     parts_cut : cut_size g (meet x a) + count (size g) rights ≡ cut_size g (minus x a) + count (size g) lefts
@@ -62,16 +52,7 @@ module _ (r : ℕ) (g : Graph) (is : IsMultigraph g) (regular : IsRegular r g) (
         first : (a b c d : Bool) → ((a && not b) || (not a && b)) ≡ true →
             bit (((c && a) && not (d && b)) || (not (c && a) && (d && b))) + bit (((c && not a) && (not d && b)) || ((not c && a) && (d && not b)))
             ≡ bit (((c && not a) && not (d && not b)) || (not (c && not a) && (d && not b))) + bit (((c && a) && (not d && not b)) || ((not c && not a) && (d && b)))
-        first true true c d h = absurd (true≢false (sym h))
-        first false false c d h = absurd (true≢false (sym h))
-        first true false true true h = refl
-        first true false true false h = refl
-        first true false false true h = refl
-        first true false false false h = refl
-        first false true true true h = refl
-        first false true true false h = refl
-        first false true false true h = refl
-        first false true false false h = refl
+        first a b c d h = grind arith
 
     cut_parts : count (size g) lefts + count (size g) rights ≡ cut_size g x
     cut_parts =
@@ -81,16 +62,7 @@ module _ (r : ℕ) (g : Graph) (is : IsMultigraph g) (regular : IsRegular r g) (
         second : (a b c d : Bool) → ((a && not b) || (not a && b)) ≡ true →
             bit (((c && a) && (not d && not b)) || ((not c && not a) && (d && b))) + bit (((c && not a) && (not d && b)) || ((not c && a) && (d && not b)))
             ≡ bit ((c && not d) || (not c && d))
-        second true true c d h = absurd (true≢false (sym h))
-        second false false c d h = absurd (true≢false (sym h))
-        second true false true true h = refl
-        second true false true false h = refl
-        second true false false true h = refl
-        second true false false false h = refl
-        second false true true true h = refl
-        second false true true false h = refl
-        second false true false true h = refl
-        second false true false false h = refl
+        second a b c d h = grind arith
 
     -- r times the one part, and what leaves at the other
     part_degrees : r * count g.order (meet x a) + count (size g) rights ≡ r * count g.order (minus x a) + count (size g) lefts

@@ -164,35 +164,27 @@ module _ (g : Graph) (is : IsGraph g) where
         at : (e : ℕ) → Within (size g) e → in_cut g y e ≡ true → (m : Set) × IsPerfect g none m × (m e ≡ true) × (edges_in_cut g m y ≡ 1)
         at e w h = to_met sep e w (crosses_apart g y e h)
 
+        -- no edge of a part of the cut is in a perfect matching, if none is in one with one cut edge
+        unmatched : (out : Set) → ((e : ℕ) → out e ≡ true → in_cut g y e ≡ true) → ((n : Set) → IsPerfect g none n → edges_in_cut g n y ≡ 1 → count (size g) (λ e. n e && out e) ≡ 0) → (m : Set) → count (size g) (λ e. m e && out e) ≡ 0
+        unmatched out cuts empty m = elim (cases_lt 0 (count (size g) (λ e. m e && out e))) [
+          | inr none_there ↦ omega arith
+          | inl l ↦
+              let e = count_member (size g) (λ e. m e && out e) l in
+              let r = (and_parts (m e.0) (out e.0) e.2).1 in
+              let n = at e.0 e.1 (cuts e.0 r) in
+              let s = member_count (size g) (λ e. n.0 e && out e) e.0 e.1 (and_from (n.0 e.0) (out e.0) n.2 r) in
+              let z = empty n.0 n.1 n.3 in absurd (omega arith)
+        ]
+
         no_rights : count g.order (meet y a) ≡ count g.order (minus y a) + 1 → (m : Set) → IsPerfect g none m → edges_in_cut g m y ≡ 1
         no_rights more m p =
-            let b = balance g is a two y m p in
-            elim (cases_lt 0 (count (size g) (λ e. m e && rights e))) [
-              | inr none_there ↦ omega arith
-              | inl l ↦
-                  let e = count_member (size g) (λ e. m e && rights e) l in
-                  let r = (and_parts (m e.0) (rights e.0) e.2).1 in
-                  let n = at e.0 e.1 (right_cut e.0 r) in
-                  let c = balance g is a two y n.0 n.1 in
-                  let o = n.3 in
-                  let s = member_count (size g) (λ e. n.0 e && rights e) e.0 e.1 (and_from (n.0 e.0) (rights e.0) n.2 r) in
-                  absurd (omega arith)
-            ]
+            let k = unmatched rights right_cut (λ n q o. let c = balance g is a two y n q in omega arith) m in
+            let b = balance g is a two y m p in omega arith
 
         no_lefts : count g.order (meet y a) + 1 ≡ count g.order (minus y a) → (m : Set) → IsPerfect g none m → edges_in_cut g m y ≡ 1
         no_lefts more m p =
-            let b = balance g is a two y m p in
-            elim (cases_lt 0 (count (size g) (λ e. m e && lefts e))) [
-              | inr none_there ↦ omega arith
-              | inl l ↦
-                  let e = count_member (size g) (λ e. m e && lefts e) l in
-                  let r = (and_parts (m e.0) (lefts e.0) e.2).1 in
-                  let n = at e.0 e.1 (left_cut e.0 r) in
-                  let c = balance g is a two y n.0 n.1 in
-                  let o = n.3 in
-                  let s = member_count (size g) (λ e. n.0 e && lefts e) e.0 e.1 (and_from (n.0 e.0) (lefts e.0) n.2 r) in
-                  absurd (omega arith)
-            ]
+            let k = unmatched lefts left_cut (λ n q o. let c = balance g is a two y n q in omega arith) m in
+            let b = balance g is a two y m p in omega arith
 
         pub separating_tight : IsTight g y
         separating_tight =

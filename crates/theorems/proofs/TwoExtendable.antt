@@ -97,9 +97,7 @@ module _ (g : Graph) (is : IsMultigraph g) (cov : IsCovered g) (a : Set) (two : 
     off i w h = out (first_end g f == i) (second_end g f == i) (λ t. apart i w h (inl (eqb-true (first_end g f) i t))) (λ t. apart i w h (inr (eqb-true (second_end g f) i t)))
       where
         out : (p q : Bool) → (p ≡ true → ⊥) → (q ≡ true → ⊥) → (p || q) ≡ false
-        out true q h k = absurd (h refl)
-        out false true h k = absurd (k refl)
-        out false false h k = refl
+        out p q h i = grind arith
 
     both : Together g e f
     both =

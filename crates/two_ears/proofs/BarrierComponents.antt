@@ -126,19 +126,7 @@ module _ (g : Graph) (is : IsGraph g) (cov : IsCovered g) where
 
         bits : (c d x y : Bool) → (x && y) ≡ false → (x ≡ false → y ≡ false → c ≡ d) → (x ≡ true → y ≡ false → c ≡ true → d ≡ true) → (x ≡ false → y ≡ true → d ≡ true → c ≡ true) →
             bit ((c && (not x && y)) || (d && (not y && x))) ≡ bit (((c && x) && not (d && y)) || (not (c && x) && (d && y))) + bit ((c && not d) || (not c && d))
-        bits c d true true e f1 f2 f3 = absurd (true≢false e)
-        bits true true true false e f1 f2 f3 = refl
-        bits true false true false e f1 f2 f3 = absurd (true≢false (sym (f2 refl refl refl)))
-        bits false true true false e f1 f2 f3 = refl
-        bits false false true false e f1 f2 f3 = refl
-        bits true true false true e f1 f2 f3 = refl
-        bits true false false true e f1 f2 f3 = refl
-        bits false true false true e f1 f2 f3 = absurd (true≢false (sym (f3 refl refl refl)))
-        bits false false false true e f1 f2 f3 = refl
-        bits true true false false e f1 f2 f3 = refl
-        bits true false false false e f1 f2 f3 = absurd (true≢false (f1 refl refl))
-        bits false true false false e f1 f2 f3 = absurd (true≢false (sym (f1 refl refl)))
-        bits false false false false e f1 f2 f3 = refl
+        bits c d x y h i k l = grind arith
 
         edges : (e : ℕ) → Within (size g) e → (b : Bool) → m e ≡ b → bit (b && arms g s k e) ≡ bit (b && in_cut g (meet k s) e) + bit (b && in_cut g k e)
         edges e we false t = refl
@@ -190,9 +178,7 @@ module _ (g : Graph) (is : IsGraph g) (cov : IsCovered g) where
     no_more_components = let f = few_components in let o = total_le g.order _ (λ u. bit (is_least (with_ends g xs) a u)) (λ u w. bits (is_least (with_ends g xs) a u) (is_odd (count g.order (joined (with_ends g xs) a u)))) in omega arith
       where
         bits : (x y : Bool) → bit (x && y) ≤ bit x
-        bits true true = omega arith
-        bits true false = omega arith
-        bits false y = omega arith
+        bits x y = grind arith
 
   -- without vertices removed there is one component
   pub connected_one : (xs : List (ℕ × ℕ)) → KeepsEdges g xs → (a : Set) → ((v : ℕ) → Within g.order v → a v ≡ false) → component_count (with_ends g xs) a ≤ 1

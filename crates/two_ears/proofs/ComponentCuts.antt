@@ -1,7 +1,7 @@
 -- The edges of a matching that leave the components of G - B, component by component: together they
 -- are those that leave B, and an odd component has one.
 use Rattle.std.proofs.Common.{◌≡◌, ℕ, ◌+◌, ◌*◌, ◌≤◌, Bool, true, false, cond, refl, sym, ap, ◌∙◌, arith, ◌&&◌, ◌||◌, not, nat_lt, le_trans, le_of_eq, List}
-use Rattle.counting.proofs.Common.{same_tests, and_parts, and_from, both_ways, true≢false, false_from_ne_true, not-true, odd-add, odd-double, odd_pos, total_add, total_congr, total_le, total_mul, total_none, total_swap, Within, bit, count, is_odd, total, Set, some}
+use Rattle.counting.proofs.Common.{same_tests, and_parts, and_from, both_ways, false_from_ne_true, not-true, odd-add, odd-double, odd_pos, total_add, total_congr, total_le, total_mul, total_none, total_swap, Within, bit, count, is_odd, total, Set, some}
 use Rattle.graph_core.proofs.Common.{joined_outside, one_leader, some_leader, degrees, is_least, odd_component_count, Graph, IsGraph, degree, edges_in_cut, first_end, in_cut, inside, second_end, size, with_ends, IsPerfect, joined}
 use Rattle.two_ears.proofs.JoinedClasses.{adjacent_joined, joined_equivalence}
 use Rattle.two_ears.specs.AddedEdges.{KeepsEdges}
@@ -15,14 +15,7 @@ leader_sum x b w is same p wp o =
     ∙ (let i = one_leader x b is p wp in let j = some_leader x b is p wp o in let e : count x.order (λ u. is_least x b u && joined x b u p) ≡ 1 = omega arith in ap (λ k. bit (w p) * k) e ∙ (omega arith))
   where
     bits : (l a j c : Bool) → (j ≡ true → a ≡ c) → bit ((l && a) && j) ≡ bit c * bit (l && j)
-    bits true a true c h = ap (λ t. bit (t && true)) (h refl) ∙ two c
-      where
-        two : (c : Bool) → bit (c && true) ≡ bit c * 1
-        two true = refl
-        two false = refl
-    bits true true false c h = omega arith
-    bits true false false c h = omega arith
-    bits false a j c h = omega arith
+    bits l a j c h = grind arith
 
 -- an edge from a vertex of w outside b to b
 abbrev pub arms : Graph → Set → Set → ℕ → Bool
@@ -49,10 +42,7 @@ weighted_cut g xs b w m is h same =
     sides e we p q = adjacent_joined (with_ends g xs) b h.graph (first_end g e) (second_end g e) (and_from (not (b (first_end g e)) && not (b (second_end g e))) _ (rw (p, q) refl) (h.old e we))
 
     none_cut : (c d : Bool) → 0 ≡ bit ((c && false) || (d && false))
-    none_cut true true = refl
-    none_cut true false = refl
-    none_cut false true = refl
-    none_cut false false = refl
+    none_cut c d = grind arith
 
     each : (e : ℕ) → Within (size g) e → (k : Bool) → total g.order (λ u. bit (l u && w u) * bit (k && ((j u (first_end g e) && not (j u (second_end g e))) || (not (j u (first_end g e)) && j u (second_end g e))))) ≡ bit (k && arms g b w e)
     each e we false = total_none g.order _ (λ u wu. omega arith)
@@ -65,28 +55,13 @@ weighted_cut g xs b w m is h same =
         term u = bit (l u && w u) * bit ((j u (first_end g e) && not (j u (second_end g e))) || (not (j u (first_end g e)) && j u (second_end g e)))
 
         never : (s t c d : Bool) → (s ≡ true → c ≡ d) → bit (s && t) * bit ((c && not d) || (not c && d)) ≡ 0
-        never false t c d f = omega arith
-        never true t c d f = let q = f refl in let z : bit ((c && not d) || (not c && d)) ≡ 0 = ap (λ y. bit ((y && not d) || (not y && d))) q ∙ none_of d in ap (λ k. bit (true && t) * k) z ∙ (omega arith)
-          where
-            none_of : (d : Bool) → bit ((d && not d) || (not d && d)) ≡ 0
-            none_of true = refl
-            none_of false = refl
+        never s t c d f = grind arith
 
         fore : (s t c d : Bool) → (s ≡ true → d ≡ false) → bit (s && t) * bit ((c && not d) || (not c && d)) ≡ bit ((s && t) && c)
-        fore false t c d f = omega arith
-        fore true t c true f = absurd (true≢false (f refl))
-        fore true true true false f = refl
-        fore true true false false f = refl
-        fore true false true false f = refl
-        fore true false false false f = refl
+        fore s t c d f = grind arith
 
         aft : (s t c d : Bool) → (s ≡ true → c ≡ false) → bit (s && t) * bit ((c && not d) || (not c && d)) ≡ bit ((s && t) && d)
-        aft false t c d f = omega arith
-        aft true t true d f = absurd (true≢false (f refl))
-        aft true true false true f = refl
-        aft true true false false f = refl
-        aft true false false true f = refl
-        aft true false false false f = refl
+        aft s t c d f = grind arith
 
         go : (x y : Bool) → b (first_end g e) ≡ x → b (second_end g e) ≡ y → total g.order (λ u. term u) ≡ bit ((w (first_end g e) && (not x && y)) || (w (second_end g e) && (not y && x)))
         go true true p q = total_none g.order _ (λ u wu. never (l u) (w u) (j u (first_end g e)) (j u (second_end g e)) (λ t.
@@ -95,22 +70,11 @@ weighted_cut g xs b w m is h same =
         go false true p q =
             total_congr g.order _ _ (λ u wu. fore (l u) (w u) (j u (first_end g e)) (j u (second_end g e)) (λ t. false_from_ne_true (j u (second_end g e)) (λ k. both_ways (b (second_end g e)) (out_of u (second_end g e) t k) q)))
             ∙ leader_sum (with_ends g xs) b w h.graph same (first_end g e) (is e we).0 p
-            ∙ bits (w (first_end g e)) (w (second_end g e))
-          where
-            bits : (c d : Bool) → bit c ≡ bit ((c && true) || (d && false))
-            bits true d = refl
-            bits false true = refl
-            bits false false = refl
+            ∙ grind arith
         go true false p q =
             total_congr g.order _ _ (λ u wu. aft (l u) (w u) (j u (first_end g e)) (j u (second_end g e)) (λ t. false_from_ne_true (j u (first_end g e)) (λ k. both_ways (b (first_end g e)) (out_of u (first_end g e) t k) p)))
             ∙ leader_sum (with_ends g xs) b w h.graph same (second_end g e) (is e we).1 q
-            ∙ bits (w (first_end g e)) (w (second_end g e))
-          where
-            bits : (c d : Bool) → bit d ≡ bit ((c && false) || (d && true))
-            bits true true = refl
-            bits true false = refl
-            bits false true = refl
-            bits false false = refl
+            ∙ grind arith
 
 -- all components
 pub cut_sum : (g : Graph) (xs : List (ℕ × ℕ)) (b m : Set) → IsGraph g → KeepsEdges g xs → total g.order (λ u. bit (is_least (with_ends g xs) b u) * edges_in_cut g m (joined (with_ends g xs) b u)) ≡ edges_in_cut g m b
@@ -124,10 +88,7 @@ cut_sum g xs b m is h =
     and_yes false = refl
 
     turn : (c d : Bool) → ((true && (not c && d)) || (true && (not d && c))) ≡ ((c && not d) || (not c && d))
-    turn true true = refl
-    turn true false = refl
-    turn false true = refl
-    turn false false = refl
+    turn c d = grind arith
 
 -- a set of vertices that m meets once each: its size and the edges that leave it are odd together
 pub odd_leaving : (g : Graph) (r m k : Set) → IsGraph g → IsPerfect g r m → ((v : ℕ) → Within g.order v → k v ≡ true → r v ≡ false) → is_odd (count g.order k) ≡ is_odd (edges_in_cut g m k)

@@ -139,14 +139,10 @@ module _ (g : Graph) (is : IsGraph g) (cov : IsCovered g) (p0 : ℕ × ℕ) (res
   )
 
   one_or_none : (a b : Bool) → (a || b) ≡ false → bit a + bit b ≡ 0
-  one_or_none false false h = refl
-  one_or_none true b h = absurd (true≢false h)
-  one_or_none false true h = absurd (true≢false h)
+  one_or_none a b h = grind arith
 
   some_or : (a b : Bool) → (a || b) ≡ true → 1 ≤ bit a + bit b
-  some_or true b h = omega arith
-  some_or false true h = omega arith
-  some_or false false h = absurd (true≢false (sym h))
+  some_or a b h = grind arith
 
   pub edge_form_here : ((p : ℕ × ℕ) × IsIn p ps × IsCovered (with_ends g (with_pairs g.ends (p ∷ [])))) ⊎ ((p : ℕ × ℕ) × (q : ℕ × ℕ) × IsIn p ps × IsIn q ps × IsCovered (with_ends g (with_pairs g.ends (p ∷ q ∷ []))))
   edge_form_here = go pair.0 pair.1 pair.2 pair.3 pair.4.0 pair.4.1

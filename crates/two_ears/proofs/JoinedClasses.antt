@@ -2,7 +2,7 @@
 -- vertices of S. So the number of components is submodular over sets of vertices no two of which an
 -- edge joins.
 use Rattle.std.proofs.Common.{◌≡◌, ℕ, ◌+◌, ◌≤◌, ◌≢◌, Bool, true, false, ◌==◌, refl, sym, ap, ap₂, ◌∙◌, arith, ◌&&◌, not, eq-eqb, eqb-true, ◌⊎◌, inl, inr, nat_lt, ltb-true, [], ◌∷◌, List}
-use Rattle.counting.proofs.Common.{cases_eq, and_parts, and_from, both_ways, true≢false, false_from_ne_true, count_meet_union, some_true, true_some, total_add, total_congr, and_comm, Within, bit, count, Set, meet, union, some}
+use Rattle.counting.proofs.Common.{cases_eq, and_parts, and_from, both_ways, false_from_ne_true, count_meet_union, some_true, true_some, total_add, total_congr, and_comm, Within, bit, count, Set, meet, union, some}
 use Rattle.graph_core.proofs.Common.{joined_walk, walk_joined, IsClosed, Walk-stays, adjacent-edge, adjacent_from, adjacent_within, has_ends-back, has_ends-cases, has_ends-own, joined_back, joined_on, joined_self, component_count, is_least, Graph, IsGraph, first_end, has_ends, second_end, size, with_ends, Joined, Walk, adjacent, joined}
 use Rattle.two_ears.proofs.ClassCounts.{IsFiner, four_classes}
 use Rattle.two_ears.specs.AddedEdges.{KeepsEdges}
@@ -30,10 +30,7 @@ unfolding component_count
 class_count-components g s = total_congr g.order _ _ (λ u w. each u w) ∙ total_add g.order (λ u. bit (is_least g s u)) (λ u. bit (s u))
   where
     bits : (a b : Bool) → (a ≡ true → b ≡ false) → bit (not b) ≡ bit (not a && not b) + bit a
-    bits true true h = absurd (true≢false (h refl))
-    bits true false h = refl
-    bits false true h = refl
-    bits false false h = refl
+    bits a b h = grind arith
 
     each : (u : ℕ) → Within g.order u → bit (not (some g.order (λ v. joined g s u v && nat_lt v u))) ≡ bit (is_least g s u) + bit (s u)
     each u w = bits (s u) (some g.order (λ v. joined g s u v && nat_lt v u)) (λ h. false_from_ne_true (some g.order (λ v. joined g s u v && nat_lt v u)) (λ t.

@@ -37,16 +37,7 @@ module _ (g : Graph) (is : IsGraph g) (cov : IsCovered g) (a : Set) (sides : IsS
       bits : (c d x y : Bool) → ((x && not y) || (not x && y)) ≡ true →
           bit (((c && x) && not (d && y)) || (not (c && x) && (d && y))) + bit ((c && (not d && not x)) || (d && (not c && not y)))
           ≡ bit (((c && not x) && not (d && not y)) || (not (c && not x) && (d && not y))) + bit ((c && (not d && x)) || (d && (not c && y)))
-      bits c d true true h = absurd (true≢false (sym h))
-      bits c d false false h = absurd (true≢false (sym h))
-      bits true true true false h = refl
-      bits true false true false h = refl
-      bits false true true false h = refl
-      bits false false true false h = refl
-      bits true true false true h = refl
-      bits true false false true h = refl
-      bits false true false true h = refl
-      bits false false false true h = refl
+      bits c d x y h = grind arith
 
       edges : (e : ℕ) → Within (size g) e → (t : Bool) → m e ≡ t → bit (t && in_cut g (meet k a) e) + bit (t && leaves_from g k (complement a) e) ≡ bit (t && in_cut g (meet k (complement a)) e) + bit (t && leaves_from g k a e)
       edges e w false q = refl
@@ -56,13 +47,7 @@ module _ (g : Graph) (is : IsGraph g) (cov : IsCovered g) (a : Set) (sides : IsS
   outs_leave k m = sym (total_add (size g) (λ e. bit (m e && leaves_from g k a e)) (λ e. bit (m e && leaves_from g k (complement a) e))) ∙ total_congr (size g) _ _ (λ e w. bits (m e) (k (first_end g e)) (k (second_end g e)) (a (first_end g e)) (a (second_end g e)))
     where
       bits : (t c d x y : Bool) → bit (t && ((c && (not d && x)) || (d && (not c && y)))) + bit (t && ((c && (not d && not x)) || (d && (not c && not y)))) ≡ bit (t && ((c && not d) || (not c && d)))
-      bits false c d x y = refl
-      bits true true true x y = refl
-      bits true true false true y = refl
-      bits true true false false y = refl
-      bits true false true x true = refl
-      bits true false true x false = refl
-      bits true false false x y = refl
+      bits t c d x y = grind arith
 
   module _ (s : Set) (bar : IsBarrier g s) (s0 : ℕ) (w0 : Within g.order s0) (in0 : s s0 ≡ true) where
     -- a component has one edge of m that leaves it
@@ -102,28 +87,11 @@ module _ (g : Graph) (is : IsGraph g) (cov : IsCovered g) (a : Set) (sides : IsS
     none_crosses : (e : ℕ) → Within (size g) e → in_cut g w e ≡ false
     none_crosses e we = false_from_ne_true (in_cut g w e) (λ t. go t (crosses_apart g w e t) (s (first_end g e)) (s (second_end g e)) refl refl)
       where
-        out_near : (c d x y : Bool) → c ≡ true → d ≡ false → ((c && (not d && x)) || (d && (not c && y))) ≡ x
-        out_near c d x y p q = rw (p, q) (plain x y)
-          where
-            plain : (x y : Bool) → ((true && (true && x)) || (false && (false && y))) ≡ x
-            plain true y = refl
-            plain false y = refl
-
-        out_far : (c d x y : Bool) → c ≡ false → d ≡ true → ((c && (not d && x)) || (d && (not c && y))) ≡ y
-        out_far c d x y p q = rw (p, q) (plain x y)
-          where
-            plain : (x y : Bool) → ((false && (false && x)) || (true && (true && y))) ≡ y
-            plain x true = refl
-            plain x false = refl
-
         both_in : (x y c d : Bool) → (x && y) ≡ false → x ≡ true → y ≡ true → ⊥
         both_in x y c d h p q = both_ways (x && y) h (and_from x y p q)
 
         same_cross : (x y : Bool) → x ≡ y → ((x && not y) || (not x && y)) ≡ true → ⊥
-        same_cross true true e h = true≢false (sym h)
-        same_cross false false e h = true≢false (sym h)
-        same_cross true false e h = true≢false e
-        same_cross false true e h = true≢false (sym e)
+        same_cross x y e h = grind arith
 
         w_out : (v : ℕ) → s v ≡ false → w v ≡ is_heavy v
         w_out v t = plain (s v) (a v) (is_heavy v) t
@@ -143,16 +111,14 @@ module _ (g : Graph) (is : IsGraph g) (cov : IsCovered g) (a : Set) (sides : IsS
             let y = count_congr g.order (meet (joined g s (first_end g e)) (complement a)) (meet (joined g s (second_end g e)) (complement a)) (λ v wv. ap (λ c. c && not (a v)) (same v wv)) in
             same_cross (w (first_end g e)) (w (second_end g e)) (w_out (first_end g e) p ∙ ap₂ (λ c d. c == d + 1) x y ∙ sym (w_out (second_end g e) q)) t
         go t d false true p q =
-            let wn = (is e we).0 in
-            let k = own (first_end g e) wn in
+            let k = own (first_end g e) (is e we).0 in
             let l = off_comp (first_end g e) (second_end g e) p q in
-            let r = starts e (first_end g e) we d wn p (out_near (joined g s (first_end g e) (first_end g e)) (joined g s (first_end g e) (second_end g e)) true true k l) in
+            let r = starts e (first_end g e) we d (is e we).0 p (grind arith) in
             grind arith
         go t d true false p q =
-            let wf = (is e we).1 in
-            let k = own (second_end g e) wf in
+            let k = own (second_end g e) (is e we).1 in
             let l = off_comp (second_end g e) (first_end g e) q p in
-            let r = starts e (second_end g e) we d wf q (out_far (joined g s (second_end g e) (first_end g e)) (joined g s (second_end g e) (second_end g e)) true true l k) in
+            let r = starts e (second_end g e) we d (is e we).1 q (grind arith) in
             grind arith
 
     pub one_side : (z : ℕ) → Within g.order z → s z ≡ true → a s0 ≡ true → a z ≡ false → ⊥

@@ -57,10 +57,7 @@ module _ (g : Graph) (is : IsGraph g) (cov : IsCovered g) (s : Set) (bar : IsBar
     never m q = go (m (suc (size g))) refl
       where
         some_end : (a b : Bool) → (a || b) ≡ true → 1 ≤ bit a + bit b
-        some_end true true h = omega arith
-        some_end true false h = omega arith
-        some_end false true h = omega arith
-        some_end false false h = absurd (true≢false (sym h))
+        some_end a b h = grind arith
 
         go : (t : Bool) → m (suc (size g)) ≡ t → ⊥
         go false e = alone m (record { once = λ w ww o. sym (same w) ∙ q.once w ww o; away = λ w ww o. sym (same w) ∙ q.away w ww o })

@@ -218,12 +218,7 @@ module _ (g : Graph) (is : IsGraph g) (cov : IsCovered g) (p0 : ℕ × ℕ) (res
   perfect_x = record { once = once; away = away }
     where
       once : (v : ℕ) → Within g.order v → in_pairs (p0 ∷ es) v ≡ false → degree (with_ends g xs) (with_new g m) v ≡ 1
-      once v w o =
-          let a = degree-with_pairs g m fs v in
-          let b = covers_none (p0 ∷ es) v o in
-          let c = ends_split v in
-          let d = dis.once v w in
-          grind arith
+      once v w o = grind (arith, degree-with_pairs g m fs v, covers_none (p0 ∷ es) v o, ends_split v, dis.once v w)
 
       away : (v : ℕ) → Within g.order v → in_pairs (p0 ∷ es) v ≡ true → degree (with_ends g xs) (with_new g m) v ≡ 0
       away v w o =

@@ -19,20 +19,18 @@ pub returns-in-None : goal.returns-in-None
 returns-in-None c =
     let g = c.args.g.now in
     let f = marks c.args.mark.now in
-    let ear = c.args.step.now.first in
     let es = c.as_slice.result.now in
     settled-same g f (with_edges none es) (next_stage none (step_of c.args.step.now)) c.in_ok-least.least
-    (λ e. ap (λ second. next_stage none (plain_step (ear_of ear) second) e) c.in-None.is ∙ ap (λ (xs : List ℕ). with_edges none xs e) (sym c.as_slice.ensures))
+    (λ e. ap (λ second. next_stage none (plain_step (ear_of c.args.step.now.first) second) e) c.in-None.is ∙ ap (λ (xs : List ℕ). with_edges none xs e) (sym c.as_slice.ensures))
     (first (goal.at.returns-in-None c).In_ok-least)
 
 pub returns-in-Some : goal.returns-in-Some
 returns-in-Some c =
     let g = c.args.g.now in
     let f = marks c.args.mark.now in
-    let ear = c.args.step.now.first in
     let es = c.as_slice.result.now in
     let ds = c.as_slice-in-Some.result.now in
     let marked = at-some c.args.step.now.second c.in-Some.second (λ (b : Ear). All (λ e. f e ≡ true) b.edges) c.in-Some.is c.requires.marked_second in
     settled-result g f (with_edges (with_edges none es) ds) (next_stage none (step_of c.args.step.now)) c.least_refused-in-Some.result
-    (λ e. ap (λ second. next_stage none (plain_step (ear_of ear) second) e) c.in-Some.is ∙ ap₂ (λ (xs ys : List ℕ). with_edges (with_edges none xs) ys e) (sym c.as_slice.ensures) (sym c.as_slice-in-Some.ensures))
+    (λ e. ap (λ second. next_stage none (plain_step (ear_of c.args.step.now.first) second) e) c.in-Some.is ∙ ap₂ (λ (xs ys : List ℕ). with_edges (with_edges none xs) ys e) (sym c.as_slice.ensures) (sym c.as_slice-in-Some.ensures))
     (c.least_refused-in-Some.ensures f (with_edges none es) c.requires.asked (subst (All (λ e. f e ≡ true)) (sym c.as_slice-in-Some.ensures) marked) (first (goal.at.returns-in-Some c).In_ok-least))

@@ -8,22 +8,25 @@ use Rattle.ear_core.proofs.Refusing.{step-none}
 use Rattle.ear_core.proofs.Searching.{at-none}
 use Rattle.ear_core.proofs.Taking.{first_marked, second_marked, step-taken, step-refused}
 use Rattle.ear_core.proofs.steps.take_step.Goals as goal
+use Rattle.ear_core.proofs.steps.take_step.Goals.{In_default}
+
+-- the step passes its tests
+passed : (c : In_default) → step_fault c.args.g.now (marks c.args.marked.now.mark.items) (step_of c.args.step.now) ≡ None
+passed c = at-none c.fault_of.result (step_fault c.args.g.now (marks c.args.marked.now.mark.items) (step_of c.args.step.now) ≡ None) c.in_default.is c.fault_of.ensures.none
 
 pub returns-then-known-clause-taken : goal.returns-then-known-clause-taken
 returns-then-known-clause-taken c =
-    let g = c.args.g.now in
     let f = marks c.args.marked.now.mark.items in
     let s = step_of c.args.step.now in
-    let passes = at-none c.fault_of.result (step_fault g f s ≡ None) c.in_default.is c.fault_of.ensures.none in
-    (passes, c.in_ok-known.ensures c.if-known.true f c.requires.asked c.requires.stage (step-none g f s passes) c.add.ensures.each, c.add.ensures.each)
+    let passes = passed (goal.at.returns-then-known-clause-taken c).In_default in
+    (passes, c.in_ok-known.ensures c.if-known.true f c.requires.asked c.requires.stage (step-none c.args.g.now f s passes) c.add.ensures.each, c.add.ensures.each)
 
 pub returns-then-known-clause-asked : goal.returns-then-known-clause-asked
 returns-then-known-clause-asked c =
     let g = c.args.g.now in
     let f = marks c.args.marked.now.mark.items in
     let s = step_of c.args.step.now in
-    let passes = at-none c.fault_of.result (step_fault g f s ≡ None) c.in_default.is c.fault_of.ensures.none in
-    asked-on g f (marks c.add.new.self.mark.items) c.args.stage.now s c.requires.asked (step-none g f s passes) (fun_ext c.add.ensures.each)
+    asked-on g f (marks c.add.new.self.mark.items) c.args.stage.now s c.requires.asked (step-none g f s (passed (goal.at.returns-then-known-clause-asked c).In_default)) (fun_ext c.add.ensures.each)
 
 pub refused_edge-requires-clause-marked_first : goal.refused_edge-requires-clause-marked_first
 refused_edge-requires-clause-marked_first c =
@@ -37,20 +40,18 @@ refused_edge-requires-clause-marked_second c =
 
 pub returns-in-Some-2-clause-taken : goal.returns-in-Some-2-clause-taken
 returns-in-Some-2-clause-taken c =
-    let g = c.args.g.now in
     let f = marks c.args.marked.now.mark.items in
     let s = step_of c.args.step.now in
+    let passes = passed (goal.at.returns-in-Some-2-clause-taken c).In_default in
     let new = marks c.deref-2.result.now in
     let same : (i : ℕ) → new i ≡ next_stage f s i = λ i. ap (λ (items : List Bool). marks items i) c.deref-2.ensures.value ∙ c.add.ensures.each i in
-    let passes = at-none c.fault_of.result (step_fault g f s ≡ None) c.in_default.is c.fault_of.ensures.none in
-    inr (passes, (c.in-Some-2.edge, step-refused g c.keeps_limits.ensures.multigraph.ends f s new same c.requires.stage passes c.in-Some-2.edge (subst (Settled g new (next_stage none s)) c.in-Some-2.is c.in_ok-edge.ensures), refl))
+    inr (passes, (c.in-Some-2.edge, step-refused c.args.g.now c.keeps_limits.ensures.multigraph.ends f s new same c.requires.stage passes c.in-Some-2.edge (subst (Settled c.args.g.now new (next_stage none s)) c.in-Some-2.is c.in_ok-edge.ensures), refl))
 
 pub returns-in-None-clause-taken : goal.returns-in-None-clause-taken
 returns-in-None-clause-taken c =
-    let g = c.args.g.now in
     let f = marks c.args.marked.now.mark.items in
     let s = step_of c.args.step.now in
+    let passes = passed (goal.at.returns-in-None-clause-taken c).In_default in
     let new = marks c.deref-2.result.now in
     let same : (i : ℕ) → new i ≡ next_stage f s i = λ i. ap (λ (items : List Bool). marks items i) c.deref-2.ensures.value ∙ c.add.ensures.each i in
-    let passes = at-none c.fault_of.result (step_fault g f s ≡ None) c.in_default.is c.fault_of.ensures.none in
-    (passes, step-taken g c.keeps_limits.ensures.multigraph.ends f s new same c.requires.stage passes (subst (Settled g new (next_stage none s)) c.in-None.is c.in_ok-edge.ensures), c.add.ensures.each)
+    (passes, step-taken c.args.g.now c.keeps_limits.ensures.multigraph.ends f s new same c.requires.stage passes (subst (Settled c.args.g.now new (next_stage none s)) c.in-None.is c.in_ok-edge.ensures), c.add.ensures.each)

@@ -1,0 +1,30 @@
+//! The tests.
+
+mod built_trees;
+mod candidate_counts;
+mod choices;
+mod compared;
+mod cuts;
+mod definitions;
+mod ears;
+mod enumerated;
+mod graphs;
+mod growing;
+mod grown;
+mod judgements;
+mod kinds;
+mod made;
+mod matchings;
+mod moves;
+mod nets;
+mod numbered;
+mod orders;
+mod pairs;
+mod premises;
+mod quotients;
+mod sets;
+mod shapes;
+mod tight_sets;
+mod trees;
+mod worked;
+mod worked_pairings;

@@ -1,0 +1,168 @@
+//! The quick tests for bricks and braces beside the plain enumeration of all perfect matchings
+//! and all odd sets.
+ghost use Rattle.std.specs.Prelude.{◌≤◌};
+ghost use Rattle.plain_graph.specs.Small.{IsSmall};
+
+use super::made::set_of_bits;
+use super::numbered::{Family, numbered};
+use graph_core::MultiGraph;
+use plain_graph::{edges_in_cut, is_bipartite, is_covered, is_small, perfect_matchings};
+use quick_kinds::{quick_brace, quick_brick};
+use rand_core::utils::NextWord;
+use rand_pcg::Lcg64Xsh32;
+use std::alloc::{AllocError as Memory, Global};
+use std::test::Fail;
+use vset_core::VSet;
+
+// Whether the set is one of the vertices, with an odd number of at least three inside and outside.
+fn is_nontrivial(g: &MultiGraph, set: VSet) -> bool {
+    g.keeps_limits();
+    let rest = VSet::full(g.order()).minus(set);
+    set.is_subset(VSet::full(g.order()))
+        && set.len() % 2 == 1
+        && rest.len() % 2 == 1
+        && set.len() >= 3
+        && rest.len() >= 3
+}
+
+fn each_crosses_once(g: &MultiGraph, matchings: &[VSet], set: VSet) -> bool
+    requires { IsSmall g.now }
+{
+    matchings
+        .iter()
+        .all(|matching| edges_in_cut(g, *matching, set) == 1)
+}
+
+// Whether some cut of a graph of at most 8 vertices is nontrivial and tight: each has a shore
+// without the vertex 8.
+fn has_tight_cut(alloc: Global, g: &MultiGraph) -> Result<bool, Memory>
+    requires { IsSmall g.now }
+{
+    let matchings = perfect_matchings(alloc, g, VSet::empty())?;
+    for bits in 0..128 {
+        let set = set_of_bits(bits);
+        if is_nontrivial(g, set) && each_crosses_once(g, matchings.as_slice(), set) {
+            return Ok(true);
+        }
+    }
+    Ok(false)
+}
+
+// Whether the quick test for the sort of the graph finds no nontrivial tight cut; none if it
+// does not take the graph.
+fn is_whole(alloc: Global, g: &MultiGraph) -> Result<Option<bool>, Memory> {
+    if !is_covered(alloc, g)? || g.order() < 4 {
+        return Ok(None);
+    }
+    if is_bipartite(alloc, g)? {
+        return Ok(Some(quick_brace(alloc, g)?));
+    }
+    Ok(Some(quick_brick(alloc, g)?.is_none()))
+}
+
+// How many graphs were compared, and how many of them are bricks or braces.
+#[derive(Clone, Copy, PartialEq, Eq)]
+struct Seen {
+    compared: u32,
+    whole: u32,
+}
+
+impl Seen {
+    fn none() -> Seen {
+        Seen {
+            compared: 0,
+            whole: 0,
+        }
+    }
+
+    fn and(self, is_whole: bool) -> Seen {
+        let one = if is_whole { 1 } else { 0 };
+        Seen {
+            compared: self.compared.saturating_add(1),
+            whole: self.whole.saturating_add(one),
+        }
+    }
+}
+
+// What was seen before, and this graph; none if the quick test and the enumeration do not
+// agree on it.
+fn and_graph(alloc: Global, seen: Seen, g: &MultiGraph) -> Result<Option<Seen>, Memory> {
+    if !is_small(g) {
+        return Ok(Some(seen));
+    }
+    match is_whole(alloc, g)? {
+        None => Ok(Some(seen)),
+        Some(is_whole) => {
+            if has_tight_cut(alloc, g)? == is_whole {
+                return Ok(None);
+            }
+            Ok(Some(seen.and(is_whole)))
+        }
+    }
+}
+
+// What is seen of the graphs of all numbers below a limit; none if one is found on which the
+// two do not agree.
+fn all_below(alloc: Global, order: u32, family: Family, limit: u32) -> Result<Option<Seen>, Fail>
+    requires { order ≤ 128 }
+{
+    let mut seen = Seen::none();
+    for number in 0..limit {
+        let g = numbered(alloc, order, family, number)?;
+        match and_graph(alloc, seen, &g)? {
+            None => return Ok(None),
+            Some(more) => seen = more,
+        }
+    }
+    Ok(Some(seen))
+}
+
+#[test]
+fn all_graphs_of_four_and_six_vertices(rt: HostRuntime) -> Result<(), Fail> {
+    let four = Seen {
+        compared: 3,
+        whole: 3,
+    };
+    assert!(rt; all_below(rt.alloc(), 4, Family::Any, 1 << 4)? == Some(four));
+    let six = Seen {
+        compared: 1108,
+        whole: 689,
+    };
+    assert!(rt; all_below(rt.alloc(), 6, Family::Any, 1 << 12)? == Some(six));
+    Ok(())
+}
+
+#[test]
+fn all_bipartite_graphs_of_eight_vertices(rt: HostRuntime) -> Result<(), Fail> {
+    let eight = Seen {
+        compared: 552,
+        whole: 64,
+    };
+    assert!(rt; all_below(rt.alloc(), 8, Family::Bipartite, 1 << 10)? == Some(eight));
+    Ok(())
+}
+
+// What is seen of so many graphs of 8 vertices, of which three bits in eight are set in the number.
+fn drawn(alloc: Global, many: u32) -> Result<Option<Seen>, Fail> {
+    let mut words = Lcg64Xsh32::new(8, 1);
+    let mut seen = Seen::none();
+    for _ in 0..many {
+        let number = words.next_word() & (words.next_word() | words.next_word());
+        let g = numbered(alloc, 8, Family::Any, number)?;
+        match and_graph(alloc, seen, &g)? {
+            None => return Ok(None),
+            Some(more) => seen = more,
+        }
+    }
+    Ok(Some(seen))
+}
+
+#[test]
+fn graphs_of_eight_vertices(rt: HostRuntime) -> Result<(), Fail> {
+    let eight = Seen {
+        compared: 56,
+        whole: 21,
+    };
+    assert!(rt; drawn(rt.alloc(), 400)? == Some(eight));
+    Ok(())
+}

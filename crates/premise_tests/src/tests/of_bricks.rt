@@ -1,0 +1,111 @@
+//! Premises of the theorem of Edmonds, Lovász and Pulleyblank, and of that on 2-extendable graphs.
+
+use super::claims::Claim::{Is, Number, Set};
+use super::claims::OfNumber::Order;
+use super::claims::OfSet::{LeftByBarrier, Nontrivial, Perfect, Side, Tight};
+use super::claims::Property::{
+    BarrierCut, Bicritical, Bipartite, Composite, Connected, Covered, Loopless, Nonbipartite,
+    SeparationCut, ThreeConnected, TwoExtendable, Unseparated,
+};
+use super::graphs::{K2, K2_WITH_LOOP, K33, STAR_OF_5, THREE_ISOLATED, TWO_K4};
+use super::rows::{Row, all_are_so};
+use std::test::Fail;
+
+static CUTS: [Row; 2] = [
+    Row {
+        premises: &[
+            "elp_law: `cut`: matching covered",
+            "elp_law: `bipartite`: matching covered",
+        ],
+        graph: "the star K1,5",
+        given: STAR_OF_5,
+        holds: &[
+            Is(&[Loopless]),
+            Set(&[Tight, Nontrivial], &[1, 2, 3]),
+            Set(&[Tight], &[2, 3, 4]),
+            Set(&[Side], &[1]),
+        ],
+        fails: &[
+            Is(&[Covered, BarrierCut, SeparationCut]),
+            Set(&[Perfect], &[]),
+            Set(&[LeftByBarrier], &[1, 2, 3]),
+        ],
+    },
+    Row {
+        premises: &["elp_law: `bipartite`: the graph is bipartite"],
+        graph: "two copies of K4 sharing an edge",
+        given: TWO_K4,
+        holds: &[
+            Is(&[Covered]),
+            Set(&[Tight], &[1, 3, 4]),
+            Set(&[Tight], &[2, 3, 4]),
+        ],
+        fails: &[
+            Is(&[Bipartite, BarrierCut]),
+            Set(&[LeftByBarrier], &[1, 3, 4]),
+            Set(&[LeftByBarrier], &[2, 3, 4]),
+        ],
+    },
+];
+
+static BRICKS: [Row; 6] = [
+    Row {
+        premises: &["elp_law: `brick`: four vertices"],
+        graph: "K2",
+        given: K2,
+        holds: &[Is(&[Loopless, Bicritical, Unseparated, Bipartite])],
+        fails: &[Number(Order, 4)],
+    },
+    Row {
+        premises: &["elp_law: `brick`: bicritical"],
+        graph: "K3,3",
+        given: K33,
+        holds: &[Is(&[Loopless, Unseparated, Bipartite]), Number(Order, 4)],
+        fails: &[Is(&[Bicritical])],
+    },
+    Row {
+        premises: &["elp_law: `brick`: no cut pair"],
+        graph: "two copies of K4 sharing an edge",
+        given: TWO_K4,
+        holds: &[Is(&[Loopless, Bicritical, Composite]), Number(Order, 4)],
+        fails: &[Is(&[Unseparated, ThreeConnected])],
+    },
+    Row {
+        premises: &["elp_law: `brick`, `three_connected`: no loop"],
+        graph: "K2 with a loop",
+        given: K2_WITH_LOOP,
+        holds: &[Is(&[Covered])],
+        fails: &[
+            Is(&[Loopless, Composite, Bipartite, ThreeConnected]),
+            Number(Order, 4),
+        ],
+    },
+    Row {
+        premises: &["elp_law: `connected`: four vertices"],
+        graph: "three isolated vertices",
+        given: THREE_ISOLATED,
+        holds: &[Is(&[Unseparated])],
+        fails: &[Number(Order, 4), Is(&[ThreeConnected])],
+    },
+    Row {
+        premises: &["extendable_law: `brick`: not bipartite"],
+        graph: "K3,3",
+        given: K33,
+        holds: &[
+            Is(&[Connected, TwoExtendable]),
+            Number(Order, 6),
+            Set(&[Perfect], &[]),
+        ],
+        fails: &[Is(&[Nonbipartite, Bicritical])],
+    },
+];
+
+#[test]
+fn premises_on_barrier_cuts_and_separations(rt: HostRuntime) -> Result<(), Fail> {
+    all_are_so(rt.alloc(), &CUTS)
+}
+
+#[test]
+fn premises_on_bricks(rt: HostRuntime) -> Result<(), Fail> {
+    all_are_so(rt.alloc(), &BRICKS)
+}

@@ -1,0 +1,60 @@
+//! Premises of the theorems of Berge, of Gallai, and of Gallai and Edmonds.
+
+use super::claims::Claim::{Edges, Is, Set};
+use super::claims::OfEdges::{Attains, Matching, Maximum};
+use super::claims::OfSet::{Critical, D, InA, Spread};
+use super::claims::Property::{Connected, Missed};
+use super::graphs::{K2, PATH_OF_3, STAR_OF_3, TWO_TRIANGLES};
+use super::rows::{Row, all_are_so};
+use std::test::Fail;
+
+static ROWS: [Row; 6] = [
+    Row {
+        premises: &["berge_law: `equal`: the matching is maximum"],
+        graph: "K2 with the empty matching",
+        given: K2,
+        holds: &[Edges(Matching, &[])],
+        fails: &[Edges(Maximum, &[]), Edges(Attains, &[])],
+    },
+    Row {
+        premises: &["berge_law: `maximum`: equality"],
+        graph: "K2 with the empty matching",
+        given: K2,
+        holds: &[Edges(Matching, &[])],
+        fails: &[Edges(Attains, &[]), Edges(Maximum, &[])],
+    },
+    Row {
+        premises: &["gallai_lemma_law: connected"],
+        graph: "two disjoint triangles",
+        given: TWO_TRIANGLES,
+        holds: &[Is(&[Missed])],
+        fails: &[Is(&[Connected]), Set(&[Critical], &[1, 2, 3, 4, 5, 6])],
+    },
+    Row {
+        premises: &["gallai_lemma_law: each vertex is missed"],
+        graph: "the path with three vertices",
+        given: PATH_OF_3,
+        holds: &[Is(&[Connected]), Set(&[D], &[1, 3])],
+        fails: &[Is(&[Missed]), Set(&[Critical], &[1, 2, 3])],
+    },
+    // of the empty set of any graph: here of the star
+    Row {
+        premises: &["gallai_edmonds_law: `surplus`: S is not empty"],
+        graph: "any graph",
+        given: STAR_OF_3,
+        holds: &[Set(&[InA], &[]), Set(&[InA, Spread], &[1])],
+        fails: &[Set(&[Spread], &[])],
+    },
+    Row {
+        premises: &["gallai_edmonds_law: `surplus`: S is contained in A"],
+        graph: "the star K1,3",
+        given: STAR_OF_3,
+        holds: &[Set(&[D], &[2, 3, 4]), Set(&[InA], &[1])],
+        fails: &[Set(&[InA, Spread], &[2])],
+    },
+];
+
+#[test]
+fn premises_on_matchings(rt: HostRuntime) -> Result<(), Fail> {
+    all_are_so(rt.alloc(), &ROWS)
+}

@@ -1,0 +1,116 @@
+//! Files beyond the limits of size, and which of several bad files is named.
+use super::graphs::{HEXAGON, HEXAGON_TREE, OTHER_HEXAGON_TREE, TWO_EDGES};
+use super::trial::{
+    CHECK, CHECK_EARS, COMPARE, REPLAY, RunRow, SCRIPT, all_answer, answers, is_refused,
+};
+use bench_top::Status;
+use std::alloc::{AllocError as Memory, Global};
+use std::test::Fail;
+
+// So many copies of a piece, after a start.
+fn long_text(alloc: Global, start: &str, piece: &str, many: usize) -> Result<String, Memory> {
+    let mut text = String::from_str(alloc, start)?;
+    for _ in 0..many {
+        text.push_str(piece)?;
+    }
+    Ok(text)
+}
+
+// Files of spaces around the limit of bytes: their sizes, and the line and the kind of the fault.
+static SPACES: [(usize, u32, u32); 3] = [(131_073, 2, 1), (1_048_576, 2, 1), (1_048_577, 0, 6)];
+
+#[test]
+fn files_of_spaces(rt: HostRuntime) -> Result<(), Fail> {
+    for (size, line, kind) in &SPACES {
+        let text = long_text(rt.alloc(), "", " ", *size)?;
+        let files = [text.as_str()];
+        assert!(rt; is_refused(rt.alloc(), &["analyse", "g"], &files, *line, *kind)?);
+    }
+    Ok(())
+}
+
+#[test]
+fn a_tree_that_is_too_long(rt: HostRuntime) -> Result<(), Fail> {
+    let tree = long_text(rt.alloc(), "t mcg 6\n", "cut 1\n", 128)?;
+    let files = [HEXAGON, tree.as_str()];
+    assert!(rt; is_refused(rt.alloc(), CHECK, &files, 129, 6)?);
+    Ok(())
+}
+
+// Whether these moves on the hexagon are refused for their first fault.
+fn moves_are_refused(alloc: Global, moves: &str, line: u32, kind: u32) -> Result<bool, Fail> {
+    let files = [HEXAGON, HEXAGON_TREE, moves];
+    is_refused(alloc, REPLAY, &files, line, kind)
+}
+
+#[test]
+fn moves_that_are_too_long(rt: HostRuntime) -> Result<(), Fail> {
+    let moves = long_text(rt.alloc(), "m mcg 6\n", "rotate .\n", 20_001)?;
+    assert!(rt; moves_are_refused(rt.alloc(), &moves, 20_002, 6)?);
+    let path = long_text(rt.alloc(), "m mcg 6\nrotate ", "k", 128)?;
+    assert!(rt; moves_are_refused(rt.alloc(), &path, 2, 2)?);
+    Ok(())
+}
+
+// Words, the first two of their files, of which one ends too early, and its number. The graph
+// comes first, and a graph that is not covered is reported only if the other file is good.
+static EARLY_ENDS: [(&[&str], [&str; 2], u32); 11] = [
+    (CHECK, ["p mcg 2 1\n", "t mcg 6\ncut\n"], 1),
+    (CHECK, [TWO_EDGES, "t mcg 4\n"], 2),
+    (CHECK_EARS, ["p mcg 2 1\n", "r mcg 4 2\n"], 1),
+    (CHECK_EARS, [TWO_EDGES, "r mcg 4 2\n"], 2),
+    (
+        &["decompose", "g", "script", "s"],
+        ["p mcg 2 1\n", "s mcg 1\n"],
+        1,
+    ),
+    (
+        &["decompose", "g", "script", "s"],
+        ["p mcg 0 0\n", "s mcg 1\n"],
+        2,
+    ),
+    (&["ears", "g"], ["p mcg 2 1\n", ""], 1),
+    (COMPARE, [TWO_EDGES, "t mcg 4\n"], 2),
+    (SCRIPT, [TWO_EDGES, "t mcg 4\n"], 2),
+    (REPLAY, [TWO_EDGES, "t mcg 4\n"], 2),
+    (REPLAY, ["p mcg 2 1\n", "t mcg 4\n"], 1),
+];
+
+#[test]
+fn the_first_bad_file(rt: HostRuntime) -> Result<(), Fail> {
+    for (words, [graph, text], file) in &EARLY_ENDS {
+        let report = format!(in rt.alloc(); "file {file} line 2 kind 7\n")?;
+        let files = [*graph, *text, "t mcg 4\n"];
+        assert!(rt; answers(rt.alloc(), words, &files, Status::BadInput, &report)?);
+    }
+    Ok(())
+}
+
+// Two trees, of which the second is outside the format, or both are: then the first is named.
+static SECOND_TREES: [RunRow; 4] = [
+    (
+        &[HEXAGON, HEXAGON_TREE, "t mcg 6\ncut 6 2\n"],
+        "file 3 line 2 kind 9\n",
+    ),
+    (
+        &[HEXAGON, OTHER_HEXAGON_TREE, "s mcg 1\npick 2\n"],
+        "file 3 line 1 kind 1\n",
+    ),
+    (
+        &[HEXAGON, "t mcg 6\nleaf\n", "t mcg 6\ncut 2 3 4\nleaf\n"],
+        "file 3 line 4 kind 7\n",
+    ),
+    (
+        &[HEXAGON, "s mcg 1\npick 2\n", "t mcg 6\ncut 6 2\n"],
+        "file 2 line 1 kind 1\n",
+    ),
+];
+
+#[test]
+fn bad_second_trees(rt: HostRuntime) -> Result<(), Fail> {
+    for command in ["compare", "script"] {
+        let words = [command, "g", "s", "t"];
+        all_answer(rt.alloc(), &words, Status::BadInput, &SECOND_TREES)?;
+    }
+    Ok(())
+}
