@@ -1,6 +1,6 @@
 -- When a task succeeds and is not refused: the graph is matching covered, the trees are derivations
 -- of it, the list is an ear list of it, the moves lead through derivations; or always.
--- Stated by: bench_top. Used by: bench_outcomes.
+-- Stated by: bench_top. Used by: bench_outcomes, theorems.
 use Rattle.bench_outcomes.specs.Conducts.{Conduct, Writes, Tells, Needs, Chooses, conduct_of}
 use Rattle.bench_tasks.specs.Common.{Task}
 

@@ -26,7 +26,8 @@ pub use Rattle.graph_core.proofs.Trees.{adjacent_more, joined_more, hangs_more, 
 pub use Rattle.graph_core.proofs.TwoSides.{odd_walk_excludes, left_bipartite, left_side_only, least_depth, odd_walk, even_side, forest_rooted}
 pub use Rattle.graph_core.proofs.OneVertexLess.{Loses, Loses-own, Loses-others, Loses-smaller, Loses-out, count_lost, Gains, count_gained}
 pub use Rattle.graph_core.proofs.FoundVertices.{growth_start, growth_step, growth_drop, growth_end, grown_less}
-pub use Rattle.graph_core.proofs.FoundComponents.{stage_start, stage_step, stage_end}
+pub use Rattle.graph_core.proofs.FoundComponents.{AreFirst, parts_start, stage_start, parts_step, stage_step, stage_end, parts_end}
+pub use Rattle.graph_core.proofs.FloodedComponents.{flood-joined}
 pub use Rattle.graph_core.proofs.Merging.{Has, block_has, has_block, insert_has, filter_has, mem_last, block_of, merged_partition, merged_merges}
 pub use Rattle.graph_core.proofs.SameBlocks.{Ordered, rising_ordered, block_rises, Finer, same_blocks}
 pub use Rattle.graph_core.proofs.MergeOrder.{merged_order, merged_blocks}

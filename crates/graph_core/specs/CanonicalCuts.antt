@@ -1,5 +1,5 @@
 -- Lists of cuts, each given by its canonical shore: the shore without the highest-numbered vertex.
--- Stated by: graph_core, barrier_kit, separation_kit, quick_kinds, tight_cuts.
+-- Stated by: graph_core, barrier_kit, separation_kit, quick_kinds. Used by: tight_cuts.
 use Rattle.std.specs.Prelude.{◌≡◌, ℕ, Bool, false, List, [], ◌∷◌, ◌++◌, ◌&&◌, not, fold, if◌then◌else◌}
 use Rattle.std.specs.List.{list_any}
 use Rattle.counting.specs.Common.{mem, is_subset, rising_list, IsRisingIn}

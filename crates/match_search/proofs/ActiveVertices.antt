@@ -1,5 +1,6 @@
--- The active vertices of a forest that grows: what a step makes of them, and where none is left. Idea:
--- a settled vertex beside an active one is outer, so the active one is not done as long as it is so.
+-- The active vertices of a forest that grows: what a step makes of them, and where none is left.
+-- Idea: a settled vertex beside an active one is outer, so the active one is not done as long as it
+-- is so.
 use Rattle.std.proofs.Common.{◌≡◌, ◌≢◌, ℕ, Bool, true, false, ◌==◌, sym, ap, ◌∙◌, arith, not, ◌&&◌, ◌||◌, ne_eqb, inl, inr, subst, List, []}
 use Rattle.counting.proofs.Common.{and_from, both_ways, cases_eq, or_cases, or_left, or_right, Set, mem}
 use Rattle.graph_core.proofs.Common.{Graph}

@@ -146,8 +146,8 @@ module _ (g : Graph) (is : IsGraph g) (r f : Set) (outer inner : Set) (parent ma
       ]
     ]
 
-    -- c is an odd cycle from the base on, every other edge of which is in f with the path to the base
-    -- exchanged
+    -- c is an odd cycle from the base on, every other edge of which is in f with the path to the
+    -- base exchanged
     module _ (n : ℕ) (round edge_round : ℕ → ℕ) (cycle : IsOddCycle g r n round edge_round) (first : round 1 ≡ z) (members_listed : (u : ℕ) → c u ≡ listed n round u)
         (holds : (d : ℕ) → Within (size g) d → picked n (every_other 1) edge_round d ≡ true → flipped f (e y) (k z) d ≡ true) where
       abbrev e1 : Set

@@ -1,6 +1,7 @@
--- A set of vertices of a forest, a blossom, is shrunk to its base: what is left of the matching, and
--- what are the mates? Idea: all mates in the set but that of the base are in the set. So outside the
--- set and at the base the degrees and the mates are what they were, and in the set there are none.
+-- A set of vertices of a forest, a blossom, is shrunk to its base: what is left of the matching,
+-- and what are the mates? Idea: all mates in the set but that of the base are in the set. So
+-- outside the set and at the base the degrees and the mates are what they were, and in the set
+-- there are none.
 use Rattle.std.proofs.Common.{◌≡◌, ◌≢◌, ℕ, suc, ◌+◌, ◌*◌, ◌≤◌, ◌⊎◌, true, false, cond, ◌==◌, refl, sym, ap, ◌∙◌, arith, not, ◌&&◌, ◌||◌, eq-eqb, ne_eqb, inl, inr, subst, List}
 use Rattle.counting.proofs.Common.{and_false, and_from, and_parts, both_ways, cases_Bool, cases_eq, false_from_ne_true, not-true, total_at, Within, bit, count, Set, minus}
 use Rattle.graph_core.proofs.Common.{edge_at, Graph, HasEnds, IsGraph, IsMatching, degree, size, with_ends}
@@ -22,8 +23,8 @@ pub record WalksUp (outer : Set) (k : ℕ → ℕ) (v : ℕ → ℕ → ℕ) (pa
   pub inner : v u (suc (k p + k p)) ≡ mate u
   pub before : (j : ℕ) → j ≤ k p + k p → v u j ≡ v p j
 
--- the sets, the parents and the mates after the members of c were taken out: the base is outer, it is
--- the parent of what had a parent in c, and c but the base has no mates
+-- the sets, the parents and the mates after the members of c were taken out: the base is outer, it
+-- is the parent of what had a parent in c, and c but the base has no mates
 pub record IsContracted (outer inner : Set) (parent mate : ℕ → ℕ) (c : Set) (z : ℕ) (outer' inner' : Set) (parent' mate' : ℕ → ℕ) : Type 0 where
   pub outer_is : (u : ℕ) → outer' u ≡ ((outer u && not (c u)) || (z == u))
   pub inner_is : (u : ℕ) → inner' u ≡ (inner u && not (c u))

@@ -57,8 +57,8 @@ pub record HasRestarted (t h : AlternatingForest) (roots : List ℕ) : Type 0 wh
   pub active : h.active ≡ roots
   pub parents_long : length h.parent.items ≡ length t.parent.items
 
--- h is t with an inner vertex y, whose parent is x, and with its mate z as an outer vertex, which is
--- active
+-- h is t with an inner vertex y, whose parent is x, and with its mate z as an outer vertex, which
+-- is active
 pub record HasBranched (t h : AlternatingForest) (x y z : ℕ) : Type 0 where
   pub outer : (v : ℕ) → mem h.outer v ≡ (mem t.outer v || (z == v))
   pub inner : (v : ℕ) → mem h.inner v ≡ (mem t.inner v || (y == v))
@@ -66,8 +66,8 @@ pub record HasBranched (t h : AlternatingForest) (x y z : ℕ) : Type 0 where
   pub parents_long : length h.parent.items ≡ length t.parent.items
   pub parent : (v : ℕ) → numbers h.parent.items v ≡ with_mate (numbers t.parent.items) y x v
 
--- h is t after the members of c were taken out: the base z is outer and active, and the parent of what
--- had a parent in c
+-- h is t after the members of c were taken out: the base z is outer and active, and the parent of
+-- what had a parent in c
 pub record HasContracted (t h : AlternatingForest) (c : Set) (z : ℕ) : Type 0 where
   pub outer : (v : ℕ) → mem h.outer v ≡ ((mem t.outer v && not (c v)) || (z == v))
   pub inner : (v : ℕ) → mem h.inner v ≡ (mem t.inner v && not (c v))
@@ -87,8 +87,8 @@ IsDone s t x = (y : ℕ) → Touches s x y → mem s.left y ≡ true → x ≢ y
 abbrev pub IsSettled : Instance → AlternatingForest → ℕ → Type 0
 IsSettled s t x = (y : ℕ) → Touches s x y → mem s.left y ≡ true → x ≢ y → (mem t.inner y ≡ true) ⊎ (mem t.active y ≡ true)
 
--- the instance is g - r, the mates are those of a matching f of it, and the forest is one for f that
--- can grow on from its active vertices: they are outer, and each other outer vertex is settled
+-- the instance is g - r, the mates are those of a matching f of it, and the forest is one for f
+-- that can grow on from its active vertices: they are outer, and each other outer vertex is settled
 pub record GrowsForest (g : Graph) (r f : Set) (s : Instance) (mate : List ℕ) (t : AlternatingForest) : Type 0 where
   pub matching : HoldsMatching g r f s mate
   pub holds : HoldsAlternating g r f mate t

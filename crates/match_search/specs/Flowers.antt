@@ -13,9 +13,9 @@ use Rattle.match_search.specs.declared.alternating.AlternatingForest.{Alternatin
 use Rattle.match_search.specs.declared.flower.Flower.{Flower}
 use Rattle.match_search.specs.declared.instance.Instance.{Instance}
 
--- the vertices of c, with the base z, are what a forest for f can shrink: the path to the base comes
--- to c there, and goes on in the path of each outer vertex of c; all mates of c but that of the base
--- are in c; and e1 contains the edges of f in c
+-- the vertices of c, with the base z, are what a forest for f can shrink: the path to the base
+-- comes to c there, and goes on in the path of each outer vertex of c; all mates of c but that of
+-- the base are in c; and e1 contains the edges of f in c
 pub record IsContractible (g : Graph) (r f : Set) (outer : Set) (k : ℕ → ℕ) (v : ℕ → ℕ → ℕ) (mate : ℕ → ℕ) (c : Set) (z : ℕ) (e1 : Set) : Type 0 where
   pub base : c z ≡ true
   pub base_outer : outer z ≡ true
@@ -36,8 +36,8 @@ pub record IsFlower (g : Graph) (r f : Set) (outer : Set) (k : ℕ → ℕ) (v :
   pub members : (u : ℕ) → c u ≡ listed length_of vertex u
   pub fits : IsContractible g r f outer k v mate c z (picked length_of (every_other 1) edge)
 
--- the blossom is one of the forest h for f, which has these mates; after it the members but the base
--- have no mates
+-- the blossom is one of the forest h for f, which has these mates; after it the members but the
+-- base have no mates
 pub record HoldsFlower (g : Graph) (r f : Set) (mate : List ℕ) (t : AlternatingForest) (h : HoldsAlternating g r f mate t) (after : List ℕ) (b : Flower) : Type 0 where
   pub flower : IsFlower g r f (mem t.outer) h.k h.v (numbers mate) (mem b.members) b.base
   pub exposed : (u : ℕ) → numbers after u ≡ cond (mem b.members u && not (u == b.base)) 0 (numbers mate u)

@@ -1,7 +1,7 @@
 -- Frames: why a matching of G - R is maximum, with the vertices that some maximum matching misses
 -- (Edmonds 1965; Lovász and Plummer, "Matching Theory", chapters 1 and 3), and the shrinking of a
 -- vertex set to one of its vertices.
--- Stated by no contract. Used by: match_search, match_core, theorems.
+-- Stated by: match_search. Used by: match_core, theorems.
 use Rattle.std.specs.Prelude.{◌≡◌, ℕ, ◌+◌, ◌*◌, ◌≤◌, true, false, List, ◌==◌, nat_lt, ◌&&◌, ◌||◌, not, length, map, cond}
 use Rattle.counting.specs.Common.{Within, bit, count, is_odd, Set, complement, union}
 use Rattle.graph_core.specs.Common.{Graph, HasEnds, degree, first_end, second_end, size, with_ends, IsMatching}

@@ -99,8 +99,8 @@ impl AlternatingForest {
         self.active = self.active.with(z);
         self.latest = VSet::one(z);
     }
-    /// Takes the members of a blossom out, which are shrunk to the base: the base is an outer vertex,
-    /// and the parent of each vertex that had a member as its parent.
+    /// Takes the members of a blossom out, which are shrunk to the base: the base is an outer
+    /// vertex, and the parent of each vertex that had a member as its parent.
     pub fn contract(&mut self, members: VSet, base: u32)
         requires inner { (v : ℕ) → mem self.old.inner v ≡ true → v < length self.old.parent.items }
         requires parents { (v : ℕ) → mem self.old.inner v ≡ true →

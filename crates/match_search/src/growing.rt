@@ -41,8 +41,8 @@ fn next_of(rest: VSet, latest: VSet, growth: Growth) -> Option<u32>
     }
 }
 
-/// Grows a forest from its active vertices, and returns two of its outer vertices that are adjacent,
-/// if it comes to any.
+/// Grows a forest from its active vertices, and returns two of its outer vertices that are
+/// adjacent, if it comes to any.
 pub fn grow_forest(
     instance: &Instance,
     forest: &mut AlternatingForest,

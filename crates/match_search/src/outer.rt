@@ -2,9 +2,9 @@
 //!
 //! The forest grows from the one exposed vertex, and an edge between two of its outer vertices
 //! closes a blossom, which is shrunk to its base. The base is then an outer vertex of the same
-//! forest, which grows on. No step makes the matching larger, and only the outer vertices are wanted,
-//! so no blossom is expanded again. If a blossom contains all vertices that are left, each of them is
-//! outer, and the search ends.
+//! forest, which grows on. No step makes the matching larger, and only the outer vertices are
+//! wanted, so no blossom is expanded again. If a blossom contains all vertices that are left, each
+//! of them is outer, and the search ends.
 ghost use Rattle.std.specs.Prelude.{◌≡◌, ◌≤◌, length};
 ghost use Rattle.counting.specs.Common.{Set};
 ghost use Rattle.graph_core.specs.Common.{Graph, missed_count};
