@@ -1,7 +1,7 @@
 use Rattle.std.proofs.Common.{◌≡◌, ℕ, ◌∙◌, ◌↔◌, ap, subst, sym, true}
 use Rattle.counting.proofs.Common.{Within, is_odd, mem}
 use Rattle.engine_tests.proofs.OddShores.{remainder-odd, subset-rises}
-use Rattle.engine_tests.proofs.cuts.is_odd_shore.Goals as goal
+use Rattle.engine_tests.proofs.tests.cuts.is_odd_shore.Goals as goal
 
 pub returns-then-is_subset-clause-rising : goal.returns-then-is_subset-clause-rising
 returns-then-is_subset-clause-rising c q =

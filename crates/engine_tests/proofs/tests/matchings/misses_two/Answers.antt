@@ -2,7 +2,7 @@ use Rattle.std.proofs.Common.{◌+◌, ◌*◌, [], arith, eqb-true}
 use Rattle.counting.proofs.Common.{set-none}
 use Rattle.match_core.proofs.ClearedMatchings.{left_size}
 use Rattle.match_core.proofs.MatchingEdges.{rows-matching}
-use Rattle.engine_tests.proofs.matchings.misses_two.Goals as goal
+use Rattle.engine_tests.proofs.tests.matchings.misses_two.Goals as goal
 
 pub returns-then-len-lt64 : goal.returns-then-len-lt64
 returns-then-len-lt64 c = λ q.

@@ -3,7 +3,7 @@ use Rattle.counting.proofs.Common.{mem}
 use Rattle.graph_core.proofs.Common.{IsMatching}
 use Rattle.match_core.specs.Common.{edges_of}
 use Rattle.match_core.proofs.MatchingEdges.{rows-matching}
-use Rattle.engine_tests.proofs.matchings.repaired.Goals as goal
+use Rattle.engine_tests.proofs.tests.matchings.repaired.Goals as goal
 
 pub repair-requires-clause-matching : goal.repair-requires-clause-matching
 repair-requires-clause-matching c =

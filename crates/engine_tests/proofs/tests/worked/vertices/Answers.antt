@@ -1,6 +1,6 @@
 use Rattle.std.proofs.Common.{sym, ◌∙◌, arith}
 use Rattle.counting.proofs.Common.{is_subset, mem, all_in_true, set-narrower}
-use Rattle.engine_tests.proofs.worked.vertices.Goals as goal
+use Rattle.engine_tests.proofs.tests.worked.vertices.Goals as goal
 
 pub returns-then-is_subset : goal.returns-then-is_subset
 returns-then-is_subset c = set-narrower 128 c.args.g.now.order c.args.set c.rises.ensures (λ v m. let n = c.order.ensures.is in
