@@ -99,6 +99,7 @@ impl AlternatingForest {
         self.active = self.active.with(z);
         self.latest = VSet::one(z);
     }
+
     /// Takes the members of a blossom out, which are shrunk to the base: the base is an outer
     /// vertex, and the parent of each vertex that had a member as its parent.
     pub fn contract(&mut self, members: VSet, base: u32)
