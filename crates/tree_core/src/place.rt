@@ -1,5 +1,5 @@
 //! Places in a derivation.
-ghost use Rattle.std.specs.Prelude.{◌≡◌, ◌+◌, ◌≤◌, length, IfOk, IfSome};
+ghost use Rattle.std.specs.Prelude.{◌≡◌, ◌+◌, ◌≤◌, ◌≢◌, length, IfNone, IfOk, IfSome};
 ghost use Rattle.counting.specs.Common.{count, mem, complement};
 ghost use Rattle.graph_core.specs.Common.{IsCovered, IsPartition, IsWithinLimits, singles, quotient, blocks_in};
 ghost use Rattle.tree_core.specs.Derivations.{IsCutAt, kept_at, merged_at};
@@ -115,10 +115,11 @@ impl<'g> Place<'g> {
         self.root
     }
 
-    /// What is known of the graph, if the place is at single vertices.
+    /// What is known of the graph; `None` if and only if the place is not at single vertices.
     pub fn known(&self) -> Option<&'g Covered<'g>>
         ensures graph { IfSome result (λ c. c.now ≡ self.now.graph) }
         ensures single { IfSome result (λ _. length self.now.blocks ≡ self.now.graph.order) }
+        ensures none { IfNone result (length self.now.blocks ≢ self.now.graph.order) }
     {
         self.root.keeps_covered();
         if self.partition.len() == self.root.order() as usize {
