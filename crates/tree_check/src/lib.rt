@@ -8,10 +8,10 @@
 //! gives the first reason. `check_covered` does the same for a `Covered`, a graph of which this
 //! and more is known. `scan_covered` also counts the leaves of a derivation, its bricks and its
 //! braces, by what the check of each finds (`IsScanned` of `specs/Scans`). `scan_known`
-//! returns the same for several trees of one graph: their leaves are kept in a `KnownPlaces` with
-//! what is known of them (`KnownPlace` of `tree_core`), and no leaf is judged again. At a cut only
-//! the quotient graph is made, and at single vertices not even that, since the graph itself is
-//! tested; its remembered edges are made only where the cut is refused.
+//! returns the same for several trees of one graph: a `KnownPlaces` keeps their cuts, and their
+//! leaves with what is known of them (`KnownPlace` of `tree_core`), so that no cut and no leaf is
+//! judged again. At a cut only the quotient graph is made, and at single vertices not even that,
+//! since the graph itself is tested; its remembered edges are made only where the cut is refused.
 //!
 //! `replay` makes a script of moves on a derivation and judges each tree on the way: it gives the
 //! last tree if and only if all are derivations, and otherwise names the first move that fails,

@@ -7,6 +7,7 @@ ghost use Rattle.tree_core.specs.Common.{IsCutAt};
 ghost use Rattle.tree_check.specs.Common.{why_of, BreaksCut, CrossesAt};
 
 use crate::judgement::Why;
+use crate::known_places::KnownPlaces;
 use contraction::{Partition, lift, quotient, quotient_graph};
 use graph_core::Numbers;
 use match_core::Matching;
@@ -39,6 +40,35 @@ pub(crate) fn cut_fault(alloc: Global, p: &Place, shore: VSet) -> Result<Option<
     match crossing_at(alloc, p, shore)? {
         Some(matching) => Ok(Some(Why::NotTight { matching })),
         None => Ok(None),
+    }
+}
+
+/// The same at a place of the graph of which cuts are known. A known cut is not judged again, and
+/// the shore is that of a known cut from now on if it breaks no rule.
+pub(crate) fn fault_if_unknown<'c, 'g>(
+    alloc: Global,
+    known: &mut KnownPlaces<'c, 'g>,
+    p: &Place<'c>,
+    shore: VSet,
+) -> Result<Option<Why>, Memory>
+    requires graph { p.now.graph ≡ known.old }
+    requires shore { All (Within (p.now.graph.order - 1)) shore }
+    ensures some { IfOk result
+        (λ o. (why : _) → o ≡ Some why →
+        BreaksCut p.now.graph p.now.blocks (mem shore) (why_of why)) }
+    ensures none { IfOk result (λ o. o ≡ None → IsCutAt p.now.graph p.now.blocks shore) }
+    ensures same { known.new ≡ known.old }
+{
+    if known.has_cut(p.partition(), shore) {
+        return Ok(None);
+    }
+    match cut_fault(alloc, p, shore)? {
+        Some(why) => Ok(Some(why)),
+        None => {
+            let partition = p.partition().copy(alloc)?;
+            known.add_cut(partition, shore)?;
+            Ok(None)
+        }
     }
 }
 

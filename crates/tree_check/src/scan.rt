@@ -6,7 +6,7 @@ ghost use Rattle.tree_check.specs.Common.{IsJudgement, HasFewKinds, IsScanned, I
 use crate::judgement::{Judgement, Scanned};
 use crate::known_places::KnownPlaces;
 use crate::leaf::scan_leaf;
-use crate::rules::cut_fault;
+use crate::rules::fault_if_unknown;
 use graph_core::MultiGraph;
 use graph_facts::Covered;
 use std::alloc::{AllocError as Memory, Global};
@@ -80,7 +80,7 @@ fn scan_cut<'c, 'g>(
         (cut shore (shape_of kept.now) (shape_of merged.now)) node) }
     ensures same { known.new ≡ known.old }
 {
-    if let Some(why) = cut_fault(alloc, p, shore)? {
+    if let Some(why) = fault_if_unknown(alloc, known, p, shore)? {
         return Ok(Scanned::Refused { node, why });
     }
     p.keeps_place();

@@ -48,7 +48,7 @@ scan_cut-scan_at-requires-2 t c =
     let few = few-beside c.args.p.now.graph c.args.p.now.blocks c.args.shore c.keeps_place.ensures.limits.multigraph.ends c.keeps_place.ensures.partition (is_cut t at) (shape_of c.args.kept.now) (c.args.node + 1) c.in-Passed.tally (kept t at (scanned.Passed c.in-Passed.tally) c.in-Passed.is) (length c.in_ok-beside.beside.blocks) c.in_ok-beside.ensures.length in
     let bound = c.requires.few in
     let falls = c.decreases in
-    (first_of (omega arith, search rules), (c.in_ok-beside.ensures.graph ∙ c.requires.graph ∙ sym c.in_ok-node.ensures.same, (subst (λ (h : Graph). Fits h.order (shape_of c.args.merged.now)) (sym c.in_ok-beside.ensures.graph) c.requires.fits.2, omega arith)))
+    (first_of (omega arith, search rules), (c.in_ok-beside.ensures.graph ∙ c.requires.graph ∙ sym (c.in_ok-node.ensures.same ∙ at.in_ok-why.ensures.same), (subst (λ (h : Graph). Fits h.order (shape_of c.args.merged.now)) (sym c.in_ok-beside.ensures.graph) c.requires.fits.2, omega arith)))
 
 pub scan_cut-together-requires-clause-few : goal.scan_cut-together-requires-clause-few
 scan_cut-together-requires-clause-few t c =
