@@ -10,3 +10,4 @@ pub mod RepairedPaths
 pub mod NamedEdges
 pub mod ClearedMatchings
 pub mod PartnerRows
+pub mod RowMates

@@ -9,7 +9,8 @@ ghost use Rattle.match_core.specs.Partners.{are_partners};
 ghost use Rattle.match_search.specs.Common.{HasMates, numbers};
 
 use crate::matching::Matching;
-use crate::partner_table::{mates_in, partners_of};
+use crate::mates::mates_off;
+use crate::partner_table::partners_of;
 use graph_core::MultiGraph;
 use match_search::{RowSpace, instance_of};
 use std::alloc::{AllocError as Memory, Global};
@@ -78,17 +79,6 @@ impl<'g> LazyPartners<'g> {
         self.known = self.known.with(u);
         Ok(row)
     }
-}
-
-// The mates of the edges of a matching that meet no removed vertex.
-fn mates_off(alloc: Global, g: &MultiGraph, removed: VSet, m: &Matching) -> Result<Vec<u32>, Memory>
-    requires { IsOf g.now m.now }
-    ensures long { IfOk result (λ mate. length mate.items ≡ g.now.order + 1) }
-    ensures mates { IfOk result
-        (λ mate. (f : Set) × HasMates g.now (mem removed) f (numbers mate.items)) }
-{
-    let mark = m.cleared(alloc, removed)?.marks(alloc, g.size() as usize)?;
-    mates_in(alloc, g, removed, &mark)
 }
 
 // One row, by one search.

@@ -18,6 +18,7 @@ mod frames;
 pub mod laws;
 mod lazy_partners;
 mod matching;
+mod mates;
 mod partner_table;
 mod questions;
 mod repairs;

@@ -13,7 +13,7 @@
 //! augmented, so the first step returns a frame, and the outer vertices of a frame are exactly
 //! those that some matching of the same size misses. If two are missed, a row takes at most one
 //! more augmentation.
-ghost use Rattle.std.specs.Prelude.{◌≡◌, ℕ, ◌+◌, ◌-◌, ◌≤◌, ◌==◌, ◌&&◌, ◌||◌, not, true, length, IfOk, OnOk};
+ghost use Rattle.std.specs.Prelude.{◌≡◌, ◌≢◌, ℕ, ◌+◌, ◌-◌, ◌<◌, ◌≤◌, ◌==◌, ◌&&◌, ◌||◌, not, true, length, IfOk, OnOk};
 ghost use Rattle.counting.specs.Common.{Within, count, Set, none, item, mem};
 ghost use Rattle.graph_core.specs.Common.{size, IsMatching, missed_count};
 ghost use Rattle.match_core.specs.HeldMates.{HoldsMates};
@@ -22,7 +22,8 @@ ghost use Rattle.match_search.specs.Common.{HasMates, IsBest, ServesRows, marks,
 ghost use Rattle.match_core.specs.Partners.{AreEmptyRows, ArePartners, are_partners};
 
 use crate::frames::maximum;
-use crate::matching::{Matching, matching_of};
+use crate::matching::Matching;
+use crate::mates::mates_off;
 use graph_core::MultiGraph;
 use match_search::{Best, Instance, RowSpace, best_from, instance_of, mates_of, missable_in};
 use std::alloc::{AllocError as Memory, Global};
@@ -56,9 +57,9 @@ impl PartnerTable {
 
 /// The partners of each vertex in G - removed, from any matching `m` of `g`: two vertices outside
 /// `removed` are partners if there is a perfect matching of G - removed without these two. The row
-/// of a vertex of `removed` is empty. `m` is first made maximum in G - removed. If it then misses
-/// neither 0 nor 2 vertices, no row is searched; otherwise a row takes one search, after at most
-/// one augmentation. The only error is `Memory`.
+/// of a vertex of `removed` is empty. If `m` misses a vertex of G - removed, it is first made maximum
+/// there. If it then misses neither 0 nor 2 vertices, no row is searched; otherwise a row takes one
+/// search, after at most one augmentation. The only error is `Memory`.
 pub fn partners(
     alloc: Global,
     g: &MultiGraph,
@@ -68,6 +69,10 @@ pub fn partners(
     requires { IsOf g.now m.now }
     ensures { IfOk result (ArePartners g.now (mem removed)) }
 {
+    let first = mates_off(alloc, g, removed, m)?;
+    if misses_none(VSet::full(g.order()).minus(removed), &first) {
+        return rows_from(alloc, g, removed, &first);
+    }
     let Best { mark, sets: _ } = enlarged(alloc, g, removed, m)?;
     if !leaves_partners(missed_by(g, removed, &mark)) {
         return empty_rows(alloc, g.order());
@@ -76,8 +81,23 @@ pub fn partners(
     rows_from(alloc, g, removed, &mate)
 }
 
+// Whether each vertex of a set has a mate.
+fn misses_none(set: VSet, mate: &[u32]) -> bool
+    requires { (v : ℕ) → mem set v ≡ true → v < length mate.now }
+    ensures { result ≡ true → (v : ℕ) → mem set v ≡ true → numbers mate.now v ≢ 0 }
+{
+    let mut rest = set;
+    'looking: while let Some((v, others)) = rest.split_first() {
+        rest = others;
+        if mate[v as usize] == 0 {
+            return false;
+        }
+    }
+    true
+}
+
 // The mates of a matching of G - removed.
-pub(crate) fn mates_in(
+fn mates_in(
     alloc: Global,
     g: &MultiGraph,
     removed: VSet,

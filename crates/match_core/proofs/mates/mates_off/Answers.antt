@@ -1,0 +1,12 @@
+use Rattle.std.proofs.Common.{◌≡◌, List, ℕ, sym, subst, arith, length, take, drop, ◌++◌}
+use Rattle.std.proofs.lemmas.List.{with_items_is}
+use Rattle.counting.proofs.Common.{mem}
+use Rattle.match_search.specs.Common.{HasMates, numbers}
+use Rattle.match_core.specs.Common.{edges_of, left_over}
+use Rattle.match_core.proofs.RowMates.{named_rows}
+use Rattle.match_core.proofs.mates.mates_off.Goals as goal
+
+pub returns-clause-mates : goal.returns-clause-mates
+returns-clause-mates c =
+    let has = named_rows c.args.g.now (mem c.args.removed) c.args.m.now c.write_rows.new.mate c.requires c.keeps_matching.ensures c.write_rows.ensures in
+    grind (arith, with_items_is)

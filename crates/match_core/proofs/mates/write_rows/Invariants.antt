@@ -1,0 +1,7 @@
+use Rattle.std.proofs.Common.{◌≡◌, length}
+use Rattle.counting.proofs.Common.{mem}
+use Rattle.match_core.specs.HeldMates.{NamesRows}
+use Rattle.match_core.proofs.mates.write_rows.Given as goal
+
+abbrev pub invariant-loop-i : goal.invariant-loop-i
+invariant-loop-i l = record { same : length l.mate ≡ length l.initial.mate; named : NamesRows (mem l.removed) l.m.rows l.mate l.i }
