@@ -1,12 +1,13 @@
 //! The mates of the rows of a matching that meet no vertex of a set.
-ghost use Rattle.std.specs.Prelude.{◌≡◌, ℕ, ◌+◌, ◌-◌, ◌<◌, ◌≤◌, length, IfOk, All};
+ghost use Rattle.std.specs.Prelude.{◌≡◌, ℕ, ◌+◌, ◌-◌, ◌≤◌, length, IfOk, All};
 ghost use Rattle.counting.specs.Common.{Within, mem};
-ghost use Rattle.match_search.specs.Common.{HasMates, numbers, with_pair};
+ghost use Rattle.match_search.specs.Common.{HasMates, numbers};
 ghost use Rattle.match_core.specs.HeldMates.{NamesRows};
 ghost use Rattle.match_core.specs.MatchingRows.{IsOf, edges_of, left_over};
 
 use crate::matching::Matching;
 use graph_core::MultiGraph;
+use match_search::join;
 use std::alloc::{AllocError as Memory, Global};
 use vset_core::{MOST_VERTICES, VSet};
 
@@ -43,14 +44,4 @@ fn write_rows(mate: &mut [u32], removed: VSet, m: &Matching)
             join(mate, row.a, row.b);
         }
     }
-}
-
-/// Makes two vertices a pair.
-fn join(mate: &mut [u32], v: u32, w: u32)
-    requires v_in { v < length mate.old }
-    requires w_in { w < length mate.old }
-    ensures { (u : ℕ) → numbers mate.new u ≡ with_pair (numbers mate.old) v w u }
-{
-    mate[v as usize] = w;
-    mate[w as usize] = v;
 }

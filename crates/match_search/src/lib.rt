@@ -34,7 +34,7 @@ mod rows;
 pub use answer::FinalSets;
 pub use best::{Best, Mated, best_from, find_best, find_mates, is_addable};
 pub use instance::{Instance, instance_of};
-pub use mates::mates_of;
+pub use mates::{join, mates_of};
 pub use missable::{missable_beside, missable_in};
 pub use row_space::RowSpace;
 pub use rows::{falses, is_marked, mark_place, mark_places};
