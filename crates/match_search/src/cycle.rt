@@ -3,7 +3,7 @@ ghost use Rattle.std.specs.Prelude.{◌≡◌, ◌≢◌, ℕ, ◌+◌, ◌-◌,
 ghost use Rattle.counting.specs.Common.{Within, is_odd, mem};
 ghost use Rattle.match_search.specs.Common.{every_other, listed, numbers, IsLastMeeting};
 
-use crate::rows::{find_in, push_part, push_part_back};
+use crate::rows::{find_in, write_part, write_part_back};
 use std::alloc::{AllocError as Memory, Global};
 use vset_core::{MOST_VERTICES, VSet};
 
@@ -57,10 +57,9 @@ pub fn cycle_vertices(
         (λ cs. (y : ℕ) → y < x → slice_index cs.items (m + 2 + y) ≡
         slice_index row.now (back_from + (x - 1 - y))) }
 {
-    let mut cs = Vec::with_capacity(alloc, m + x + 2)?;
-    cs.push(0)?;
-    push_part(&mut cs, row, from, m + 1)?;
-    push_part_back(&mut cs, row, back_from, x)?;
+    let mut cs = vec![in alloc; 0; m + x + 2]?;
+    write_part(&mut cs, 1, row, from, m + 1);
+    write_part_back(&mut cs, m + 2, row, back_from, x);
     Ok(cs)
 }
 

@@ -1,4 +1,4 @@
-//! Rows of numbers and of marks: parts of a row put at the end of another, the place of a number,
+//! Rows of numbers and of marks: parts of a row copied to another, the place of a number,
 //! and marked places.
 ghost use Rattle.std.specs.Prelude.{◌≡◌, ◌≢◌, ℕ, ◌+◌, ◌-◌, ◌<◌, ◌≤◌, length, slice_index, IfOk, Some, None, All, ◌||◌, false, true};
 ghost use Rattle.counting.specs.Common.{mem, put};
@@ -6,44 +6,30 @@ ghost use Rattle.match_search.specs.Common.{marks};
 
 use std::alloc::{AllocError as Memory, Global};
 
-/// Appends `count` numbers of another row, starting at a place, to the row.
-pub fn push_part(row: &mut Vec<u32>, of: &[u32], from: usize, count: usize) -> Result<(), Memory>
+/// Copies `count` numbers of another row, starting at a place, to the row, from the place `at` on.
+pub fn write_part(row: &mut [u32], at: usize, of: &[u32], from: usize, count: usize)
     requires within { from + count ≤ length of.now }
-    ensures length { IfOk result (λ _. length row.new.items ≡ length row.old.items + count) }
-    ensures old { IfOk result
-        (λ _. (j : ℕ) → j < length row.old.items →
-        slice_index row.new.items j ≡ slice_index row.old.items j) }
-    ensures new { IfOk result
-        (λ _. (j : ℕ) → j < count →
-        slice_index row.new.items (length row.old.items + j) ≡ slice_index of.now (from + j)) }
+    requires room { at + count ≤ length row.old }
+    ensures kept { (j : ℕ) → j < at → slice_index row.new j ≡ slice_index row.old j }
+    ensures written { (j : ℕ) → j < count →
+        slice_index row.new (at + j) ≡ slice_index of.now (from + j) }
 {
     for i in 0..count {
-        row.push(of[from + i])?;
+        row[at + i] = of[from + i];
     }
-    Ok(())
 }
 
 /// The same backwards: the last of the `count` numbers comes first.
-pub fn push_part_back(
-    row: &mut Vec<u32>,
-    of: &[u32],
-    from: usize,
-    count: usize,
-) -> Result<(), Memory>
+pub fn write_part_back(row: &mut [u32], at: usize, of: &[u32], from: usize, count: usize)
     requires within { from + count ≤ length of.now }
-    ensures length { IfOk result (λ _. length row.new.items ≡ length row.old.items + count) }
-    ensures old { IfOk result
-        (λ _. (j : ℕ) → j < length row.old.items →
-        slice_index row.new.items j ≡ slice_index row.old.items j) }
-    ensures new { IfOk result
-        (λ _. (j : ℕ) → j < count →
-        slice_index row.new.items (length row.old.items + j) ≡
-        slice_index of.now (from + (count - 1 - j))) }
+    requires room { at + count ≤ length row.old }
+    ensures kept { (j : ℕ) → j < at → slice_index row.new j ≡ slice_index row.old j }
+    ensures written { (j : ℕ) → j < count →
+        slice_index row.new (at + j) ≡ slice_index of.now (from + (count - 1 - j)) }
 {
     for i in 0..count {
-        row.push(of[from + (count - 1 - i)])?;
+        row[at + i] = of[from + (count - 1 - i)];
     }
-    Ok(())
 }
 
 /// The first place of `v` among `count` numbers of a row, counted from the place `from`.
