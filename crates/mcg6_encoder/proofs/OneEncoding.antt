@@ -1,15 +1,14 @@
 -- A graph file has one graph6 text, or one first error, and not both: its text stands for one graph or
 -- breaks the format at one line.
-use Rattle.std.proofs.Common.{◌≡◌, ◌∙◌, inl, inr, ℕ, ◌<◌, ◌≤◌, List, [], ◌∷◌, ◌++◌, length, ap, sym, arith}
+use Rattle.std.proofs.Common.{◌≡◌, ◌∙◌, inl, inr, ℕ, ◌≤◌, List, [], ◌∷◌, ◌++◌, length, ap, sym, arith}
 use Rattle.outside.specs.Common.{most_bytes}
 use Rattle.line_text.proofs.ExactlyOne.{exactly_one, StandsAlone-stands}
-use Rattle.line_text.specs.Common.{FirstFault, StandsAlone, BreaksAlone}
+use Rattle.line_text.specs.Common.{FirstFault}
 use Rattle.line_text.specs.declared.faults.FaultKind.{FaultKind}
 use Rattle.graph_text.specs.Common.{NamedGraph, either_version}
 use Rattle.graph6_text.specs.Common.{graph6_of}
-use Rattle.mcg6_encoder.specs.Files.{Encodes, IsBadFile, IsEncoded, IsOutside}
+use Rattle.mcg6_encoder.specs.Files.{IsBadFile, IsEncoded, IsOutside}
 use Rattle.mcg6_reader.specs.declared.ending.BadLine.{BadLine}
-use Rattle.mcg6_encoder.specs.declared.ending.EncodeEnding.TheVariants.{Encoded, Bad}
 
 pub encoded_once : (file a b : List ℕ) → IsEncoded file a → IsEncoded file b → a ≡ b
 encoded_once file a b one two =

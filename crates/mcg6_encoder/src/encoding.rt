@@ -41,6 +41,7 @@ fn write_encoded<K: Sink>(alloc: Global, file: &[u8], sink: &mut K) -> EncodeEnd
 ///
 /// Takes memory for a piece, the file, its graph and its text. If memory runs out, it ends with
 /// `Memory`, and nothing is written.
+#[tactic(auto, using(crate::proofs::Encodings::no_file, crate::proofs::Encodings::told_file))]
 pub fn encode<S: Source, K: Sink>(alloc: Global, source: &mut S, sink: &mut K) -> EncodeEnding
     // The file is read to its end before the first write; nothing is written for a bad file.
     ensures reads_first { ReadsFirst S.reads K.written K.writes result source.old sink.old

@@ -21,38 +21,6 @@ pub enum Unread {
     Memory,
 }
 
-// Reads what is left of the source through a piece.
-fn read_through<S: Source>(
-    alloc: Global,
-    source: &mut S,
-    piece: &mut [u8],
-) -> Result<Vec<u8>, Unread>
-    requires some { 0 < length piece.old }
-    requires few { length piece.old ≤ most_piece }
-    ensures whole { IfOk result
-        (λ bytes. IsReadWhole S.reads bytes.items source.old source.new) }
-    ensures left { IfOk result (λ bytes. IsLeft (S.left source.old) bytes.items) }
-    ensures past { IsErrOf result Unread.TooLong → IsReadPast S.reads source.old source.new }
-    ensures more { IsErrOf result Unread.TooLong → LeavesMore (S.left source.old) }
-    ensures torn { IsErrOf result Unread.Failed → IsReadTorn S.reads source.old source.new }
-    ensures unread { IsErrOf result Unread.Memory → IsReadSome S.reads source.old source.new }
-    ensures failed { IsErrOf result Unread.Failed →
-        Rose (S.faults source.old) (S.faults source.new) }
-{
-    let mut held = Vec::new(alloc);
-    'reading: while held.len() <= MOST_BYTES {
-        match source.read(piece) {
-            Err(_) => return Err(Unread::Failed),
-            Ok(0) => return Ok(held),
-            Ok(count) => match held.extend_from_slice(&piece[..count]) {
-                Ok(()) => {}
-                Err(_) => return Err(Unread::Memory),
-            },
-        }
-    }
-    Err(Unread::TooLong)
-}
-
 // Reads what is left of the source: all of it, unless it has too many bytes; then at most a piece
 // more than a file may have.
 pub fn read_file<S: Source>(alloc: Global, source: &mut S) -> Result<Vec<u8>, Unread>
@@ -66,8 +34,21 @@ pub fn read_file<S: Source>(alloc: Global, source: &mut S) -> Result<Vec<u8>, Un
     ensures failed { IsErrOf result Unread.Failed →
         Rose (S.faults source.old) (S.faults source.new) }
 {
-    match vec![in alloc; 0u8; PIECE] {
-        Ok(mut piece) => read_through(alloc, source, &mut piece),
-        Err(_) => Err(Unread::Memory),
+    let mut room = match vec![in alloc; 0u8; PIECE] {
+        Ok(room) => room,
+        Err(_) => return Err(Unread::Memory),
+    };
+    let piece = room.as_mut_slice();
+    let mut held = Vec::new(alloc);
+    'reading: while held.len() <= MOST_BYTES {
+        match source.read(piece) {
+            Err(_) => return Err(Unread::Failed),
+            Ok(0) => return Ok(held),
+            Ok(count) => match held.extend_from_slice(&piece[..count]) {
+                Ok(()) => {}
+                Err(_) => return Err(Unread::Memory),
+            },
+        }
     }
+    Err(Unread::TooLong)
 }

@@ -1,7 +1,6 @@
 use Rattle.std.proofs.Common.{ℕ, List, ◌++◌, Err, ap, refl, subst, inl}
-use Rattle.mcg6_encoder.specs.declared.ending.EncodeEnding.TheVariants.{ReadFault, Memory}
 use Rattle.mcg6_encoder.specs.Reads.{WritesUpTo}
-use Rattle.mcg6_encoder.proofs.Encodings.{after_read, file_encoded, long_file, no_file, told_file}
+use Rattle.mcg6_encoder.proofs.Encodings.{after_read, file_encoded, long_file, told_file}
 use Rattle.mcg6_encoder.proofs.encoding.encode.Goals as goal
 
 pub returns-in-Ok-clause-reads_first : goal.returns-in-Ok-clause-reads_first
@@ -35,31 +34,8 @@ returns-in-Err-TooLong-clause-tells g c =
     long_file c.too_long.result (g.S.Source.left c.args.source.now) (g.K.Sink.written c.args.sink.now) (past.held ++ past.piece)
     (c.in-Err-TooLong.ensures.more (ap Err c.in-Err-TooLong.field-0-is)) past.longer c.too_long.ensures
 
-pub returns-in-Err-TooLong-clause-encodes : goal.returns-in-Err-TooLong-clause-encodes
-returns-in-Err-TooLong-clause-encodes g c file is =
-    told_file _ (g.S.Source.left c.args.source.now) (g.K.Sink.written c.args.sink.now) (g.K.Sink.written c.args.sink.now) file
-    (returns-in-Err-TooLong-clause-tells g c) is
-
 pub returns-in-Err-Failed-clause-reads_first : goal.returns-in-Err-Failed-clause-reads_first
 returns-in-Err-Failed-clause-reads_first g c = (c.in-Err-Failed.ensures.torn (ap Err c.in-Err-Failed.field-0-is), refl)
 
-pub returns-in-Err-Failed-clause-tells : goal.returns-in-Err-Failed-clause-tells
-returns-in-Err-Failed-clause-tells g c =
-    no_file ReadFault (g.S.Source.left c.args.source.now) (g.K.Sink.written c.args.sink.now) (λ file. refl)
-
-pub returns-in-Err-Failed-clause-encodes : goal.returns-in-Err-Failed-clause-encodes
-returns-in-Err-Failed-clause-encodes g c file is =
-    told_file ReadFault (g.S.Source.left c.args.source.now) (g.K.Sink.written c.args.sink.now) (g.K.Sink.written c.args.sink.now) file
-    (returns-in-Err-Failed-clause-tells g c) is
-
 pub returns-in-Err-Memory-clause-reads_first : goal.returns-in-Err-Memory-clause-reads_first
 returns-in-Err-Memory-clause-reads_first g c = (c.in-Err-Memory.ensures.unread (ap Err c.in-Err-Memory.field-0-is), refl)
-
-pub returns-in-Err-Memory-clause-tells : goal.returns-in-Err-Memory-clause-tells
-returns-in-Err-Memory-clause-tells g c =
-    no_file Memory (g.S.Source.left c.args.source.now) (g.K.Sink.written c.args.sink.now) (λ file. refl)
-
-pub returns-in-Err-Memory-clause-encodes : goal.returns-in-Err-Memory-clause-encodes
-returns-in-Err-Memory-clause-encodes g c file is =
-    told_file Memory (g.S.Source.left c.args.source.now) (g.K.Sink.written c.args.sink.now) (g.K.Sink.written c.args.sink.now) file
-    (returns-in-Err-Memory-clause-tells g c) is
