@@ -7,6 +7,8 @@
 //! Promises: `grow` returns `grown`, and this graph is cubic, simple and matching covered;
 //! `splice_law` says the same of every splice of two such graphs.
 //!
+//! `K33`, `K4`, `PRISM` and `CUBE` are the edges of the pieces.
+//!
 //! The cut of each piece is meant to be tight, with braces as the bipartite pieces and bricks as
 //! the others; this crate does not promise it.
 //!
@@ -22,3 +24,4 @@ mod splices;
 
 pub use generator::{MOST_PIECES, grow};
 pub use laws::splice_law;
+pub use pieces::{CUBE, K4, K33, PRISM};

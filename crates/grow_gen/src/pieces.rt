@@ -16,7 +16,8 @@ pub enum Piece {
     Cube,
 }
 
-static K33_ENDS: [(u32, u32); 9] = [
+/// The complete bipartite graph on three and three vertices.
+pub const K33: [(u32, u32); 9] = [
     (1, 4),
     (1, 5),
     (1, 6),
@@ -28,9 +29,11 @@ static K33_ENDS: [(u32, u32); 9] = [
     (3, 6),
 ];
 
-static K4_ENDS: [(u32, u32); 6] = [(1, 2), (1, 3), (1, 4), (2, 3), (2, 4), (3, 4)];
+/// The complete graph on four vertices.
+pub const K4: [(u32, u32); 6] = [(1, 2), (1, 3), (1, 4), (2, 3), (2, 4), (3, 4)];
 
-static PRISM_ENDS: [(u32, u32); 9] = [
+/// The triangular prism, on 6 vertices.
+pub const PRISM: [(u32, u32); 9] = [
     (1, 2),
     (1, 3),
     (2, 3),
@@ -42,7 +45,8 @@ static PRISM_ENDS: [(u32, u32); 9] = [
     (3, 6),
 ];
 
-static CUBE_ENDS: [(u32, u32); 12] = [
+/// The cube, on 8 vertices.
+pub const CUBE: [(u32, u32); 12] = [
     (1, 2),
     (2, 3),
     (3, 4),
@@ -86,10 +90,10 @@ impl Piece {
         ensures { result.now ≡ piece_ends self }
     {
         match self {
-            Piece::K33 => &K33_ENDS,
-            Piece::K4 => &K4_ENDS,
-            Piece::Prism => &PRISM_ENDS,
-            Piece::Cube => &CUBE_ENDS,
+            Piece::K33 => &K33,
+            Piece::K4 => &K4,
+            Piece::Prism => &PRISM,
+            Piece::Cube => &CUBE,
         }
     }
 

@@ -56,51 +56,6 @@ pub const FLOWER: [(u32, u32); 10] = [
     (8, 7),
 ];
 
-/// The complete graph on four vertices.
-pub const K4: [(u32, u32); 6] = [(1, 2), (1, 3), (1, 4), (2, 3), (2, 4), (3, 4)];
-
-/// The complete bipartite graph on three and three vertices.
-pub const K33: [(u32, u32); 9] = [
-    (1, 4),
-    (1, 5),
-    (1, 6),
-    (2, 4),
-    (2, 5),
-    (2, 6),
-    (3, 4),
-    (3, 5),
-    (3, 6),
-];
-
-/// The triangular prism, on 6 vertices.
-pub const PRISM: [(u32, u32); 9] = [
-    (1, 2),
-    (1, 3),
-    (2, 3),
-    (4, 5),
-    (4, 6),
-    (5, 6),
-    (1, 4),
-    (2, 5),
-    (3, 6),
-];
-
-/// The cube, on 8 vertices.
-pub const CUBE: [(u32, u32); 12] = [
-    (1, 2),
-    (2, 3),
-    (3, 4),
-    (1, 4),
-    (5, 6),
-    (6, 7),
-    (7, 8),
-    (5, 8),
-    (1, 5),
-    (2, 6),
-    (3, 7),
-    (4, 8),
-];
-
 /// The Petersen graph, on 10 vertices: the outer cycle is 1 to 5.
 pub const PETERSEN: [(u32, u32); 15] = [
     (1, 2),
