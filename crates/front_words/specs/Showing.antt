@@ -30,17 +30,20 @@ abbrev pub begins_two : List ℕ → Bool
 begins_two text =
     (nat_le 194 (byte_at text 0) && nat_le (byte_at text 0) 223) && (is_further (byte_at text 1) && not (byte_at text 0 == 194 && nat_lt (byte_at text 1) 160))
 
+-- the text begins with a byte from `first` to `last` and a further one, which is at least `least`
+-- after `first` and less than `limit` after `top`
+abbrev pub begins_in : (first last least top limit : ℕ) → List ℕ → Bool
+begins_in first last least top limit text =
+    (nat_le first (byte_at text 0) && nat_le (byte_at text 0) last) && (is_further (byte_at text 1)
+    && (not (byte_at text 0 == first && nat_lt (byte_at text 1) least) && not (byte_at text 0 == top && nat_le limit (byte_at text 1))))
+
 -- a character of three bytes begins the text
 abbrev pub begins_three : List ℕ → Bool
-begins_three text =
-    (nat_le 224 (byte_at text 0) && nat_le (byte_at text 0) 239) && ((is_further (byte_at text 1) && is_further (byte_at text 2))
-    && (not (byte_at text 0 == 224 && nat_lt (byte_at text 1) 160) && not (byte_at text 0 == 237 && nat_le 160 (byte_at text 1))))
+begins_three text = begins_in 224 239 160 237 160 text && is_further (byte_at text 2)
 
 -- a character of four bytes begins the text
 abbrev pub begins_four : List ℕ → Bool
-begins_four text =
-    (nat_le 240 (byte_at text 0) && nat_le (byte_at text 0) 244) && ((is_further (byte_at text 1) && (is_further (byte_at text 2) && is_further (byte_at text 3)))
-    && (not (byte_at text 0 == 240 && nat_lt (byte_at text 1) 144) && not (byte_at text 0 == 244 && nat_le 144 (byte_at text 1))))
+begins_four text = begins_in 240 244 144 244 144 text && (is_further (byte_at text 2) && is_further (byte_at text 3))
 
 -- how many bytes of the text are shown together: those of a character beyond ASCII that prints, or
 -- one

@@ -1,7 +1,7 @@
 //! Showing bytes of the outside in a line.
 ghost use Rattle.std.specs.Prelude.{◌≡◌, ◌≤◌, ◌<◌, ◌&&◌, length};
 ghost use Rattle.front_words.specs.Saying.{Says};
-ghost use Rattle.front_words.specs.Showing.{begin_shown, begins_four, begins_three, begins_two, byte_at, byte_shown, is_control, is_further, shown, unit_size};
+ghost use Rattle.front_words.specs.Showing.{begin_shown, begins_four, begins_in, begins_three, begins_two, byte_at, byte_shown, is_control, is_further, shown, unit_size};
 ghost use Rattle.front_words.specs.UnitsSeen.{unit_shown};
 
 use crate::pieces::Said;
@@ -41,29 +41,31 @@ fn begins_two(text: &[u8]) -> bool
     (first >= 194 && first <= 223) && (is_further(second) && !is_control)
 }
 
+// Whether the text begins with a byte from `first` to `last` and a further one, which is at least
+// `least` after `first` and less than `limit` after `top`.
+fn begins_in(text: &[u8], first: u8, last: u8, least: u8, top: u8, limit: u8) -> bool
+    ensures { result ≡ begins_in first last least top limit text.now }
+{
+    let byte = byte_at(text, 0);
+    let second = byte_at(text, 1);
+    let is_long = byte == first && second < least;
+    let is_beyond = byte == top && second >= limit;
+    (byte >= first && byte <= last) && (is_further(second) && (!is_long && !is_beyond))
+}
+
 // Whether a character of three bytes begins the text.
 fn begins_three(text: &[u8]) -> bool
     ensures { result ≡ begins_three text.now }
 {
-    let first = byte_at(text, 0);
-    let second = byte_at(text, 1);
-    let is_long = first == 224 && second < 160;
-    let is_half = first == 237 && second >= 160;
-    (first >= 224 && first <= 239)
-        && ((is_further(second) && is_further(byte_at(text, 2))) && (!is_long && !is_half))
+    begins_in(text, 224, 239, 160, 237, 160) && is_further(byte_at(text, 2))
 }
 
 // Whether a character of four bytes begins the text.
 fn begins_four(text: &[u8]) -> bool
     ensures { result ≡ begins_four text.now }
 {
-    let first = byte_at(text, 0);
-    let second = byte_at(text, 1);
-    let is_long = first == 240 && second < 144;
-    let is_beyond = first == 244 && second >= 144;
-    (first >= 240 && first <= 244)
-        && ((is_further(second) && (is_further(byte_at(text, 2)) && is_further(byte_at(text, 3))))
-            && (!is_long && !is_beyond))
+    begins_in(text, 240, 244, 144, 244, 144)
+        && (is_further(byte_at(text, 2)) && is_further(byte_at(text, 3)))
 }
 
 // How many bytes of the text are shown together.
