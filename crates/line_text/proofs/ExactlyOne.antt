@@ -24,15 +24,10 @@ module _ {Body Value Kind : Type 0} (rules : Rules Body Value Kind) where
   reading_from-at_line from (first ∷ before) line after count reached kind begins breaks = grind (arith, reading_from-at_line (Some begins.0) before line after count reached kind begins.2 breaks)
 
   -- why reading from a state gives a value or an error
-  record FaultAtLine (from : Option Body) (lines : List SignificantLine) (number : ℕ) (kind : Kind) : Type 0 where
-    before : List SignificantLine
-    line : SignificantLine
-    after : List SignificantLine
-    cut : lines ≡ before ++ line ∷ after
-    numbered : line.number ≡ number
-    reached : Option Body
-    begins : Begins rules from (words_of_lines before) reached
-    breaks : step rules reached line.words ≡ Err kind
+  abbrev FaultAtLine : Option Body → List SignificantLine → ℕ → Kind → Type 0
+  FaultAtLine from lines number kind =
+      (before : List SignificantLine) × (line : SignificantLine) × (after : List SignificantLine) × (reached : Option Body)
+      × (lines ≡ before ++ line ∷ after) × (line.number ≡ number) × Begins rules from (words_of_lines before) reached × (step rules reached line.words ≡ Err kind)
 
   abbrev ReachesEnd : Option Body → List SignificantLine → Result Value Kind → Type 0
   ReachesEnd from lines ending = (reached : Option Body) × Begins rules from (words_of_lines lines) reached × (finish rules reached ≡ ending)
@@ -46,30 +41,12 @@ module _ {Body Value Kind : Type 0} (rules : Rules Body Value Kind) where
 
   explains-more : (from : Option Body) (line : SignificantLine) (lines : List SignificantLine) (count : ℕ) (body : Body) → step rules from line.words ≡ Ok body → (outcome : Result Value (ℕ × Kind)) → Explains (Some body) lines count outcome → Explains from (line ∷ lines) count outcome
   explains-more from line lines count body steps (Ok value) known = (known.0, (body, steps, known.1), known.2)
-  explains-more from line lines count body steps (Err fault) (inl known) = inl (record {
-    before = line ∷ known.before;
-    line = known.line;
-    after = known.after;
-    cut = ap (λ ls. line ∷ ls) known.cut;
-    numbered = known.numbered;
-    reached = known.reached;
-    begins = (body, steps, known.begins);
-    breaks = known.breaks;
-  })
+  explains-more from line lines count body steps (Err fault) (inl known) = inl (line ∷ known.0, known.1, known.2, known.3, ap (λ ls. line ∷ ls) known.4, known.5, (body, steps, known.6), known.7)
   explains-more from line lines count body steps (Err fault) (inr known) = grind arith
 
   explains-cons : (from : Option Body) (line : SignificantLine) (lines : List SignificantLine) (count : ℕ) (stepped : Result Body Kind) → step rules from line.words ≡ stepped → ((body : Body) → Explains (Some body) lines count (reading_from rules (Some body) lines count)) → Explains from (line ∷ lines) count (go_on line.number stepped (λ body. reading_from rules (Some body) lines count))
   explains-cons from line lines count (Ok body) steps known = explains-more from line lines count body steps _ (known body)
-  explains-cons from line lines count (Err kind) steps known = inl (record {
-    before = [];
-    line = line;
-    after = lines;
-    cut = refl;
-    numbered = refl;
-    reached = from;
-    begins = refl;
-    breaks = steps;
-  })
+  explains-cons from line lines count (Err kind) steps known = inl ([], line, lines, from, refl, refl, refl, steps)
 
   explains : (from : Option Body) (lines : List SignificantLine) (count : ℕ) → Explains from lines count (reading_from rules from lines count)
   explains from [] count = explains-nil from count _ refl
