@@ -1,7 +1,7 @@
 -- A matching that misses one vertex: its exposed vertex is the root. A blossom of its forest is
 -- shrunk: the forest grows on in the shrunk graph, and the frame of this graph is one of the graph,
 -- with the blossom among the outer vertices.
-use Rattle.std.proofs.Common.{◌≡◌, ◌≢◌, ℕ, suc, ◌<◌, Bool, true, false, sym, ap, ap₂, ◌∙◌, arith, inl, inr, not, ◌&&◌, ◌||◌, ◌==◌, refl, subst, eq-eqb, eqb-true, ne_eqb, List, [], ◌∷◌, length, Option, None}
+use Rattle.std.proofs.Common.{◌≡◌, ◌≢◌, ℕ, suc, ◌<◌, Bool, true, false, sym, ap, ap₂, ◌∙◌, arith, inl, inr, not, cond, ◌&&◌, ◌||◌, ◌==◌, refl, subst, eq-eqb, eqb-true, ne_eqb, List, [], ◌∷◌, length, Option, None}
 use Rattle.counting.proofs.Common.{fun_ext, and_from, and_parts, count_congr, count_of_one, cases_eq, false_from_ne_true, not-true, or_cases, or_left, or_right, only_one, or_false, true≢false, Within, count, Set, mem, none}
 use Rattle.graph_core.proofs.Common.{Graph, degree, size, missed_count}
 use Rattle.match_search.specs.Common.{AreExposed, GrowsForest, HasContracted, HasMates, HasRestarted, HoldsAlternating, HoldsForest, HoldsMatching, IsGrownForest, IsInstance, IsSettled, HasOuter, HoldsFlower, HoldsRooted, Frame, IsMissableRow, Touches, numbers, IsShrinking}
@@ -60,7 +60,7 @@ outer_final g r f s mate t closing growth q = record {
 }
 
 -- a blossom of a forest that can grow on is shrunk
-module _ (g : Graph) (r f : Set) (s : Instance) (mate new : List ℕ) (t : AlternatingForest) (b : Flower) (grows : GrowsForest g r f s mate t) (h : HoldsAlternating g r f mate t) (held : HoldsFlower g r f mate t h new b) where
+module _ (g : Graph) (r f : Set) (s : Instance) (mate : List ℕ) (t : AlternatingForest) (b : Flower) (grows : GrowsForest g r f s mate t) (h : HoldsAlternating g r f mate t) (held : HoldsFlower g r f mate t h b) where
   abbrev is : IsInstance g r s
   is = grows.matching.instance_is
 
@@ -74,22 +74,22 @@ module _ (g : Graph) (r f : Set) (s : Instance) (mate new : List ℕ) (t : Alter
   walked = walked_of g r f mate t h
 
   abbrev pub shrunk_graph_of : Graph
-  shrunk_graph_of = below_graph g is.graph r f (mem t.outer) (mem t.inner) (numbers t.parent.items) (numbers mate) mates walked c b.base held.flower
+  shrunk_graph_of = below_graph g is.graph r f (mem t.outer) (mem t.inner) (numbers t.parent.items) (numbers mate) mates walked c b.base held
 
   abbrev pub shrunk_out : Set
-  shrunk_out = below_removed g is.graph r f (mem t.outer) (mem t.inner) (numbers t.parent.items) (numbers mate) mates walked c b.base held.flower
+  shrunk_out = below_removed g is.graph r f (mem t.outer) (mem t.inner) (numbers t.parent.items) (numbers mate) mates walked c b.base held
 
   abbrev pub shrunk_edges : Set
-  shrunk_edges = below_edges g is.graph r f (mem t.outer) (mem t.inner) (numbers t.parent.items) (numbers mate) mates walked c b.base held.flower
+  shrunk_edges = below_edges g is.graph r f (mem t.outer) (mem t.inner) (numbers t.parent.items) (numbers mate) mates walked c b.base held
 
   in_graph : (v : ℕ) → c v ≡ true → Within g.order v
-  in_graph = member_in g is.graph r f (mem t.outer) (mem t.inner) (numbers t.parent.items) (numbers mate) mates walked c b.base held.flower
+  in_graph = member_in g is.graph r f (mem t.outer) (mem t.inner) (numbers t.parent.items) (numbers mate) mates walked c b.base held
 
   pub flower_within : (v : ℕ) → mem b.members v ≡ true → Within (length s.rows.items) v
   flower_within v m = let w = in_graph v m in let each = is.one_each in (w.0, omega arith)
 
   pub base_within : Within (length s.rows.items) b.base × Within 128 b.base
-  base_within = let w = in_graph b.base held.flower.fits.base in let each = is.one_each in let few = is.few in ((omega arith, omega arith), (omega arith, omega arith))
+  base_within = let w = in_graph b.base held.fits.base in let each = is.one_each in let few = is.few in ((omega arith, omega arith), (omega arith, omega arith))
 
   pub inner_within : (v : ℕ) → mem t.inner v ≡ true → v < length t.parent.items
   inner_within v i = let w = (h.forest.inner_in v i).0 in let long = h.parents_long in omega arith
@@ -116,7 +116,7 @@ module _ (g : Graph) (r f : Set) (s : Instance) (mate new : List ℕ) (t : Alter
   outer_up below result has wide = record {
     inner = has.inner;
     frame = subst (λ (o : Set). Frame g r (count (size g) f) o has.inner) (sym (fun_ext wide))
-        (frame_wider g is.graph r f (mem t.outer) (mem t.inner) (numbers t.parent.items) (numbers mate) mates walked c b.base held.flower (mem below) has.inner has.frame);
+        (frame_wider g is.graph r f (mem t.outer) (mem t.inner) (numbers t.parent.items) (numbers mate) mates walked c b.base held (mem below) has.inner has.frame);
     within = λ v q. elim (or_cases (mem below v) (mem b.members v) (sym (wide v) ∙ q)) [
       | inl o ↦ has.within v o
       | inr o ↦ in_graph v o
@@ -127,28 +127,32 @@ module _ (g : Graph) (r f : Set) (s : Instance) (mate new : List ℕ) (t : Alter
   pub outer_whole : ((v : ℕ) → mem s.left v ≡ true → mem b.members v ≡ true) → HasOuter g r f b.members
   outer_whole whole = record {
     inner = none;
-    frame = frame_all g is.graph r f (mem t.outer) (mem t.inner) (numbers t.parent.items) (numbers mate) mates walked c b.base held.flower (λ u w q. whole u (left_from g r s is u w q));
+    frame = frame_all g is.graph r f (mem t.outer) (mem t.inner) (numbers t.parent.items) (numbers mate) mates walked c b.base held (λ u w q. whole u (left_from g r s is u w q));
     within = in_graph;
   }
 
   module _ (i : Instance) (shrink : IsShrinking s c b.base i) where
     below_instance : IsInstance shrunk_graph_of shrunk_out i
-    below_instance = shrunk_instance g c b.base _ (pulls g is.graph r f (mem t.outer) (mem t.inner) (numbers t.parent.items) (numbers mate) mates walked c b.base held.flower) held.flower.fits.base r s i is
-        held.flower.fits.left in_graph shrink (graph_below g is.graph r f (mem t.outer) (mem t.inner) (numbers t.parent.items) (numbers mate) mates walked c b.base held.flower)
+    below_instance = shrunk_instance g c b.base _ (pulls g is.graph r f (mem t.outer) (mem t.inner) (numbers t.parent.items) (numbers mate) mates walked c b.base held) held.fits.base r s i is
+        held.fits.left in_graph shrink (graph_below g is.graph r f (mem t.outer) (mem t.inner) (numbers t.parent.items) (numbers mate) mates walked c b.base held)
 
     pub flower_less : count (length i.rows.items) (mem i.left) < count (length s.rows.items) (mem s.left)
     flower_less =
         let a = left_count shrunk_graph_of shrunk_out i below_instance in
         let d = left_count g r s is in
-        let e = fewer_below g is.graph r f (mem t.outer) (mem t.inner) (numbers t.parent.items) (numbers mate) mates walked c b.base held.flower in omega arith
+        let e = fewer_below g is.graph r f (mem t.outer) (mem t.inner) (numbers t.parent.items) (numbers mate) mates walked c b.base held in omega arith
 
     -- as many vertices are missed
     pub below_one : missed_count g r f ≡ 1 → missed_count shrunk_graph_of shrunk_out shrunk_edges ≡ 1
-    below_one one = missed_below g is.graph r f (mem t.outer) (mem t.inner) (numbers t.parent.items) (numbers mate) mates walked c b.base held.flower ∙ one
+    below_one one = missed_below g is.graph r f (mem t.outer) (mem t.inner) (numbers t.parent.items) (numbers mate) mates walked c b.base held ∙ one
 
-    module _ (u : AlternatingForest) (contracted : HasContracted t u c b.base) (long : length new ≡ length mate) where
+    -- the members but the base are exposed
+    module _ (u : AlternatingForest) (contracted : HasContracted t u c b.base) (new : List ℕ) (long : length new ≡ length mate) (off : List ℕ) (off_is : (v : ℕ) → mem off v ≡ (mem b.members v && not (b.base == v))) (exposed : (v : ℕ) → numbers new v ≡ cond (mem off v) 0 (numbers mate v)) where
+      turned : (x y : ℕ) → (x == y) ≡ (y == x)
+      turned x y = elim (cases_eq x y) [ inl q ↦ eq-eqb x y q ∙ sym (eq-eqb y x (sym q)) | inr q ↦ ne_eqb x y q ∙ sym (ne_eqb y x (λ s. q (sym s))) ]
+
       after : IsContracted (mem t.outer) (mem t.inner) (numbers t.parent.items) (numbers mate) c b.base (mem u.outer) (mem u.inner) (numbers u.parent.items) (numbers new)
-      after = record { outer_is = contracted.outer; inner_is = contracted.inner; parents = contracted.parent; mates = held.exposed }
+      after = record { outer_is = contracted.outer; inner_is = contracted.inner; parents = contracted.parent; mates = λ v. exposed v ∙ ap (λ b. cond b 0 (numbers mate v)) (off_is v ∙ ap (λ b. c v && not b) (turned b.base v)) }
 
       both_false : (a d : Bool) → (a || d) ≡ false → (a ≡ false) × (d ≡ false)
       both_false a d q = grind arith
@@ -194,10 +198,10 @@ module _ (g : Graph) (r f : Set) (s : Instance) (mate new : List ℕ) (t : Alter
         matching = record {
           instance_is = below_instance;
           long = long ∙ grows.matching.long;
-          mates = mates_below g is.graph r f (mem t.outer) (mem t.inner) (numbers t.parent.items) (numbers mate) mates walked c b.base held.flower (mem u.outer) (mem u.inner) (numbers u.parent.items) (numbers new) after;
+          mates = mates_below g is.graph r f (mem t.outer) (mem t.inner) (numbers t.parent.items) (numbers mate) mates walked c b.base held (mem u.outer) (mem u.inner) (numbers u.parent.items) (numbers new) after;
         };
         holds = held_from shrunk_graph_of shrunk_out shrunk_edges new u
-            (forest_below g is.graph r f (mem t.outer) (mem t.inner) (numbers t.parent.items) (numbers mate) mates walked c b.base held.flower (mem u.outer) (mem u.inner) (numbers u.parent.items) (numbers new) after)
+            (forest_below g is.graph r f (mem t.outer) (mem t.inner) (numbers t.parent.items) (numbers mate) mates walked c b.base held (mem u.outer) (mem u.inner) (numbers u.parent.items) (numbers new) after)
             (contracted.parents_long ∙ h.parents_long);
         active_outer = λ x a. contracted.outer x ∙ elim (or_cases (mem t.active x && not (c x)) (b.base == x) (sym (contracted.active x) ∙ a)) [
           | inl q ↦ let w = and_parts (mem t.active x) (not (c x)) q in or_left (mem t.outer x && not (c x)) (b.base == x) (and_from (mem t.outer x) (not (c x)) (grows.active_outer x w.0) w.1)

@@ -43,6 +43,7 @@ pub mod GreedyMates
 pub mod MissableRows
 pub mod FlowerPaths
 pub mod PathFlowers
+pub mod AncestorFlowers
 pub mod Flowers
 pub mod ShrunkForests
 pub mod SkippedPlaces

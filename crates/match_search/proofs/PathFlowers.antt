@@ -1,9 +1,9 @@
 -- The blossom that two paths of a forest close. Two paths that meet are one up to the base, and
 -- the vertices that come after it on one of them are the others of the blossom.
-use Rattle.std.proofs.Common.{◌≡◌, ◌≢◌, ◌↔◌, ℕ, suc, ◌+◌, ◌-◌, ◌≤◌, ◌<◌, Bool, true, false, cond, refl, sym, ap, ◌∙◌, arith, inl, inr, not, ◌&&◌, ◌||◌, ◌==◌, subst, eq-eqb, eqb-true, ne_eqb, List}
+use Rattle.std.proofs.Common.{◌≡◌, ◌≢◌, ◌↔◌, ℕ, suc, ◌+◌, ◌-◌, ◌≤◌, ◌<◌, Bool, true, false, refl, sym, ap, ◌∙◌, arith, inl, inr, not, ◌&&◌, ◌||◌, ◌==◌, subst, eq-eqb, eqb-true, List}
 use Rattle.counting.proofs.Common.{and_from, both_ways, cases_Bool, cases_eq, half, odd-double, only_one, or_cases, or_left, or_right, some_true, true_some, Within, is_odd, Set, mem}
 use Rattle.graph_core.proofs.Common.{Graph, HasEnds, degree, missed_count}
-use Rattle.match_search.specs.Common.{HoldsAlternating, ClosesForest, GoesOver, HoldsFlower, IsBeyond, IsLastIn, IsOuterOf, MeetsSet, IsAlternating, IsFlower, IsOddCycle, listed, numbers}
+use Rattle.match_search.specs.Common.{HoldsAlternating, ClosesForest, GoesOver, IsBeyond, IsLastIn, IsOuterOf, MeetsSet, IsAlternating, IsFlower, IsOddCycle, listed, numbers}
 use Rattle.match_search.specs.declared.alternating.AlternatingForest.{AlternatingForest}
 use Rattle.match_search.specs.declared.growing.Adjacent.{Adjacent}
 use Rattle.match_search.proofs.ClosingEdges.{around, cycle, edges_around, high, low, spot, stem_holds}
@@ -232,9 +232,6 @@ module _ (g : Graph) (r f : Set) (mate : List ℕ) (t : AlternatingForest) (o : 
       members_listed : (v : ℕ) → mem members v ≡ listed n round v
       members_listed v = same_bool (mem members v) (listed n round v) (into v) (from v)
 
-      pub members_within : (v : ℕ) → mem members v ≡ true → Within g.order v
-      members_within v z = let at = some_true n (λ s. round s == v) (into v z) in subst (Within g.order) (eqb-true (round at.0) v at.2) (odd_cycle.within at.0 at.1)
-
       closing_in : AreClosingIn (mem t.outer) h.k h.v (mem members) base o.w o.v
       closing_in = record {
         base_outer = base_outer;
@@ -261,12 +258,3 @@ module _ (g : Graph) (r f : Set) (mate : List ℕ) (t : AlternatingForest) (o : 
       pub flower_closed : IsFlower g r f (mem t.outer) closes.holds.k closes.holds.v (numbers mate) (mem members) base
       flower_closed = closed_flower g closes.graph r f (mem t.outer) (mem t.inner) (numbers t.parent.items) (numbers mate) closes.mates (walked_of g r f mate t h) (mem members) base o.w o.v closing_in
           n round edge_round odd_cycle round_base members_listed (stem_holds g r f closes.mates.matching (mem t.inner) k l p a q b pp qq p_sides q_sides d closes.edge.1 closing two off i i li lj meet latest m x mj xi half_way refl)
-
-      pub flower_holds : (exposed new : List ℕ) → ((u : ℕ) → mem exposed u ≡ (mem members u && not (base == u))) → ((u : ℕ) → numbers new u ≡ cond (mem exposed u) 0 (numbers mate u)) → HoldsFlower g r f mate t closes.holds new (record { members = members; base = base })
-      flower_holds exposed new exposed_is clears = record {
-        flower = flower_closed;
-        exposed = λ u. clears u ∙ ap (λ b. cond b 0 (numbers mate u)) (exposed_is u ∙ ap (λ b. mem members u && not b) (turned_test base u));
-      }
-        where
-          turned_test : (x y : ℕ) → (x == y) ≡ (y == x)
-          turned_test x y = elim (cases_eq x y) [ inl q ↦ eq-eqb x y q ∙ sym (eq-eqb y x (sym q)) | inr q ↦ ne_eqb x y q ∙ sym (ne_eqb y x (λ s. q (sym s))) ]

@@ -1,7 +1,7 @@
 -- A blossom given by its set of vertices and its base only, and the outer vertices of a matching
 -- that misses one vertex.
 -- Stated by: match_search.
-use Rattle.std.specs.Prelude.{◌≡◌, ◌≢◌, ◌↔◌, ℕ, suc, ◌+◌, ◌≤◌, ◌<◌, ◌==◌, ◌&&◌, not, cond, true, false, length, List}
+use Rattle.std.specs.Prelude.{◌≡◌, ◌≢◌, ◌↔◌, ℕ, suc, ◌+◌, ◌≤◌, ◌<◌, true, false, length, List}
 use Rattle.counting.specs.Common.{Within, count, Set, mem}
 use Rattle.graph_core.specs.Common.{Graph, first_end, second_end, size, missed_count}
 use Rattle.match_search.specs.AlternatingForests.{HoldsAlternating, HoldsMatching}
@@ -36,11 +36,9 @@ pub record IsFlower (g : Graph) (r f : Set) (outer : Set) (k : ℕ → ℕ) (v :
   pub members : (u : ℕ) → c u ≡ listed length_of vertex u
   pub fits : IsContractible g r f outer k v mate c z (picked length_of (every_other 1) edge)
 
--- the blossom is one of the forest h for f, which has these mates; after it the members but the
--- base have no mates
-pub record HoldsFlower (g : Graph) (r f : Set) (mate : List ℕ) (t : AlternatingForest) (h : HoldsAlternating g r f mate t) (after : List ℕ) (b : Flower) : Type 0 where
-  pub flower : IsFlower g r f (mem t.outer) h.k h.v (numbers mate) (mem b.members) b.base
-  pub exposed : (u : ℕ) → numbers after u ≡ cond (mem b.members u && not (u == b.base)) 0 (numbers mate u)
+-- the blossom is one of the forest h for f, which has these mates
+abbrev pub HoldsFlower : (g : Graph) (r f : Set) (mate : List ℕ) (t : AlternatingForest) → HoldsAlternating g r f mate t → Flower → Type 0
+HoldsFlower g r f mate t h b = IsFlower g r f (mem t.outer) h.k h.v (numbers mate) (mem b.members) b.base
 
 -- v is an outer vertex of a path of k pairs of edges: it is at one of the places 0, 2, .., k + k
 abbrev pub IsOuterOf : (ℕ → ℕ) → ℕ → ℕ → Type 0

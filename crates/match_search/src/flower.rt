@@ -1,8 +1,9 @@
 //! Blossoms given by their vertices and their base only, for matchings that miss one vertex; no
 //! matching is completed inside them. The paths to two outer vertices begin at the only root. The
 //! last vertex they share is the base, and the other vertices of the blossom are those that come
-//! after it on the two.
-ghost use Rattle.std.specs.Prelude.{◌≡◌, ◌↔◌, ℕ, ◌<◌, true, cond, length};
+//! after it on the two. Most often the base is one of the two outer vertices, so the path to the
+//! other is followed first.
+ghost use Rattle.std.specs.Prelude.{◌≡◌, ◌↔◌, ℕ, ◌<◌, true, cond, length, IfSome, ◌∷◌, []};
 ghost use Rattle.counting.specs.Common.{Set, mem};
 ghost use Rattle.graph_core.specs.Common.{Graph, missed_count};
 ghost use Rattle.match_search.specs.Common.{ClosesForest, HoldsFlower, HoldsForest, IsLastIn, IsOuterOf, MeetsSet, numbers};
@@ -53,8 +54,62 @@ fn last_in(forest: &AlternatingForest, mate: &[u32], y: u32, set: VSet) -> (u32,
     (at, way)
 }
 
-// Exposes the vertices of a set.
-fn expose_all(mate: &mut [u32], set: VSet)
+// The vertices after the outer vertex `base` on the path to an outer vertex, if the path has it.
+fn way_from(forest: &AlternatingForest, mate: &[u32], y: u32, base: u32) -> Option<VSet>
+    requires forest { HoldsForest mate.now forest.now }
+    requires outer { mem forest.now.outer y ≡ true }
+    ensures { IfSome result (λ way. (h : HoldsForest mate.now forest.now) →
+        IsLastIn h.holds.k h.holds.v (base ∷ []) y base way) }
+{
+    let mut way = VSet::empty();
+    let mut at = y;
+    'climbing: while at != base {
+        let inner = mate[at as usize];
+        if inner == 0 {
+            return None;
+        }
+        way = way.with(at).with(inner);
+        at = forest.parent[inner as usize];
+    }
+    Some(way)
+}
+
+// The blossom that an edge between two outer vertices closes, from the last vertex that their paths
+// share.
+fn shared_flower(forest: &AlternatingForest, bridge: Adjacent, mate: &[u32]) -> Flower
+    requires { (g : Graph) × (r : Set) × (f : Set) × ClosesForest g r f mate.now forest.now bridge ×
+        (missed_count g r f ≡ 1) }
+    ensures { (g : Graph) (r f : Set)
+        (closes : ClosesForest g r f mate.now forest.now bridge) → missed_count g r f ≡ 1 →
+        HoldsFlower g r f mate.now forest.now closes.holds result }
+{
+    let path = outer_of_path(forest, mate, bridge.v);
+    let (base, second) = last_in(forest, mate, bridge.w, path);
+    let (_, first) = last_in(forest, mate, bridge.v, VSet::one(base));
+    let members = first.union(second).with(base);
+    Flower { members, base }
+}
+
+/// The blossom that an edge between two outer vertices closes. One vertex is missed, so the paths
+/// to the two meet. Takes no memory.
+pub fn flower_of(forest: &AlternatingForest, bridge: Adjacent, mate: &[u32]) -> Flower
+    requires { (g : Graph) × (r : Set) × (f : Set) × ClosesForest g r f mate.now forest.now bridge ×
+        (missed_count g r f ≡ 1) }
+    ensures { (g : Graph) (r f : Set)
+        (closes : ClosesForest g r f mate.now forest.now bridge) → missed_count g r f ≡ 1 →
+        HoldsFlower g r f mate.now forest.now closes.holds result }
+{
+    match way_from(forest, mate, bridge.v, bridge.w) {
+        Some(way) => Flower {
+            members: way.with(bridge.w),
+            base: bridge.w,
+        },
+        None => shared_flower(forest, bridge, mate),
+    }
+}
+
+/// Exposes the vertices of a set.
+pub fn expose_all(mate: &mut [u32], set: VSet)
     requires { (v : ℕ) → mem set v ≡ true → v < length mate.old }
     ensures { (u : ℕ) → numbers mate.new u ≡ cond (mem set u) 0 (numbers mate.old u) }
 {
@@ -63,21 +118,4 @@ fn expose_all(mate: &mut [u32], set: VSet)
         rest = others;
         mate[v as usize] = 0;
     }
-}
-
-/// The blossom that an edge between two outer vertices closes. One vertex is missed, so the paths
-/// to the two meet. The vertices of the blossom but the base are exposed. Takes no memory.
-pub fn flower_of(forest: &AlternatingForest, bridge: Adjacent, mate: &mut [u32]) -> Flower
-    requires { (g : Graph) × (r : Set) × (f : Set) × ClosesForest g r f mate.old forest.now bridge ×
-        (missed_count g r f ≡ 1) }
-    ensures { (g : Graph) (r f : Set)
-        (closes : ClosesForest g r f mate.old forest.now bridge) → missed_count g r f ≡ 1 →
-        HoldsFlower g r f mate.old forest.now closes.holds mate.new result }
-{
-    let path = outer_of_path(forest, mate, bridge.v);
-    let (base, second) = last_in(forest, mate, bridge.w, path);
-    let (_, first) = last_in(forest, mate, bridge.v, VSet::one(base));
-    let members = first.union(second).with(base);
-    expose_all(mate, members.without(base));
-    Flower { members, base }
 }

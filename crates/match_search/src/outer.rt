@@ -5,13 +5,13 @@
 //! forest, which grows on. No step makes the matching larger, and only the outer vertices are
 //! wanted, so no blossom is expanded again. If a blossom contains all vertices that are left, each
 //! of them is outer, and the search ends.
-ghost use Rattle.std.specs.Prelude.{◌≡◌, ◌≤◌, length};
+ghost use Rattle.std.specs.Prelude.{◌≡◌, length};
 ghost use Rattle.counting.specs.Common.{Set};
 ghost use Rattle.graph_core.specs.Common.{Graph, missed_count};
 ghost use Rattle.match_search.specs.Common.{IsSized, GrowsForest, HasOuter, HoldsRooted, AreAlike};
 
 use crate::alternating::AlternatingForest;
-use crate::flower::{Flower, flower_of};
+use crate::flower::{Flower, expose_all, flower_of};
 use crate::growing::{Growth, grow_forest};
 use crate::instance::Instance;
 use vset_core::VSet;
@@ -54,6 +54,7 @@ fn outer_on(instance: &mut Instance, forest: &mut AlternatingForest, mate: &mut 
             if instance.left.is_subset(members) {
                 return members;
             }
+            expose_all(mate, members.without(base));
             let before = instance.shrink(members, base);
             forest.contract(members, base);
             let below = outer_on(instance, forest, mate);

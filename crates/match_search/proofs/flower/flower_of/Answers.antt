@@ -1,45 +1,7 @@
-use Rattle.std.proofs.Common.{◌≡◌, ℕ, ◌==◌, ◌||◌, ◌&&◌, not, ap, ◌∙◌, arith}
-use Rattle.counting.proofs.Common.{and_parts, mem, or_false}
+use Rattle.match_search.proofs.AncestorFlowers.{ancestor_flower}
 use Rattle.match_search.proofs.ForestWalks.{closed_forest}
-use Rattle.match_search.proofs.PathFlowers.{flower_holds, meets_base, meets_path, members_within}
 use Rattle.match_search.proofs.flower.flower_of.Goals as goal
-use Rattle.match_search.proofs.flower.flower_of.Goals.{After-one, After-with-members}
 
--- the second walk stops at the base
-base_set : (c : After-one) (v : ℕ) → mem c.one.result v ≡ (c.last_in-base.result.0 == v)
-base_set c v = ap (λ xs. mem xs v) c.one.ensures ∙ or_false (c.last_in-base.result.0 == v)
-
--- a member comes after the base on one of the two paths, or is the base
-members_are : (c : After-with-members) (v : ℕ) → mem c.with-members.result v ≡ ((mem c.last_in-first.result.1 v || mem c.last_in-base.result.1 v) || c.last_in-base.result.0 == v)
-members_are c v = c.with-members.ensures v ∙ ap (λ b. b || c.last_in-base.result.0 == v) (c.union.ensures v)
-
-pub last_in-base-requires : goal.last_in-base-requires
-last_in-base-requires c =
-    let q = c.requires in
-    let h = closed_forest q.0 q.1 q.2 c.args.mate.now c.args.forest.now c.args.bridge q.3 in
-    meets_path q.0 q.1 q.2 c.args.mate.now c.args.forest.now c.args.bridge q.3 q.4 c.outer_of_path-path.result (c.outer_of_path-path.ensures h)
-
-pub last_in-first-requires : goal.last_in-first-requires
-last_in-first-requires c =
-    let q = c.requires in
-    let h = closed_forest q.0 q.1 q.2 c.args.mate.now c.args.forest.now c.args.bridge q.3 in
-    meets_base q.0 q.1 q.2 c.args.mate.now c.args.forest.now c.args.bridge q.3 q.4 c.outer_of_path-path.result (c.outer_of_path-path.ensures h)
-    c.last_in-base.result.0 c.last_in-base.ensures.outer c.last_in-base.ensures.member c.last_in-base.result.1 (c.last_in-base.ensures.last h) c.one.result (base_set (goal.at.last_in-first-requires c).After-one)
-
-pub expose_all-requires : goal.expose_all-requires
-expose_all-requires c = λ v m.
-    let q = c.requires in
-    let h = closed_forest q.0 q.1 q.2 c.args.mate.now c.args.forest.now c.args.bridge q.3 in
-    let w = members_within q.0 q.1 q.2 c.args.mate.now c.args.forest.now c.args.bridge q.3 q.4 c.outer_of_path-path.result (c.outer_of_path-path.ensures h)
-    c.last_in-base.result.0 c.last_in-base.ensures.outer c.last_in-base.ensures.member c.last_in-base.result.1 (c.last_in-base.ensures.last h)
-    c.one.result c.last_in-first.result.1 c.with-members.result c.last_in-first.result.0 (base_set (goal.at.expose_all-requires c).After-one) c.last_in-first.ensures.member (c.last_in-first.ensures.last h) (members_are (goal.at.expose_all-requires c).After-with-members)
-    v (and_parts (mem c.with-members.result v) (not (c.last_in-base.result.0 == v)) (Rattle.std.proofs.Common.sym (c.without.ensures v) ∙ m)).0 in
-    let long = q.3.long in omega arith
-
-pub returns : goal.returns
-returns c = λ g r f closes one.
-    let h = closed_forest g r f c.args.mate.now c.args.forest.now c.args.bridge closes in
-    flower_holds g r f c.args.mate.now c.args.forest.now c.args.bridge closes one c.outer_of_path-path.result (c.outer_of_path-path.ensures h)
-    c.last_in-base.result.0 c.last_in-base.ensures.outer c.last_in-base.ensures.member c.last_in-base.result.1 (c.last_in-base.ensures.last h)
-    c.one.result c.last_in-first.result.1 c.with-members.result c.last_in-first.result.0 (base_set (goal.at.returns c).After-one) c.last_in-first.ensures.member (c.last_in-first.ensures.last h) (members_are (goal.at.returns c).After-with-members)
-    c.without.result c.expose_all.new.mate c.without.ensures c.expose_all.ensures
+pub returns-in-Some : goal.returns-in-Some
+returns-in-Some c = λ g r f closes one.
+    ancestor_flower g r f c.args.mate.now c.args.forest.now c.args.bridge closes one c.in-Some.way c.with.result (c.in-Some.ensures (closed_forest g r f c.args.mate.now c.args.forest.now c.args.bridge closes)) c.with.ensures

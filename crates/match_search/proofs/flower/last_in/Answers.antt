@@ -4,7 +4,7 @@ use Rattle.match_search.specs.Common.{numbers}
 use Rattle.match_search.proofs.FlowerPaths.{up_inner, up_over, way_more}
 use Rattle.match_search.proofs.ForestWalks.{Climbs, GoesOn, climbs, fewer, goes_on, has_pairs, not_root, steps_less}
 use Rattle.match_search.proofs.flower.last_in.Goals as goal
-use Rattle.match_search.proofs.flower.last_in.Goals.{After-contains, After-index-at, In-climbing}
+use Rattle.match_search.proofs.flower.last_in.Goals.{After-index-at, In-climbing}
 
 away : (c : In-climbing) → mem c.args.set c.climbing.at ≡ false
 away c = sym c.contains.ensures ∙ c.climbing-test.true

@@ -1,5 +1,5 @@
-use Rattle.std.proofs.Common.{arith, rules, sym, ◌∙◌}
-use Rattle.counting.proofs.Common.{all_in_true, mem}
+use Rattle.std.proofs.Common.{arith, rules, sym, ◌∙◌, not, ◌==◌}
+use Rattle.counting.proofs.Common.{all_in_true, and_parts, mem}
 use Rattle.match_search.proofs.Flowers.{base_within, below_grows, below_one, flower_less, flower_within, inner_within, outer_final, outer_up, outer_whole, parent_within, shrunk_edges, shrunk_graph_of, shrunk_out}
 use Rattle.match_search.proofs.Instances.{alike_self, put_back}
 use Rattle.match_search.proofs.MateSteps.{growth_closes}
@@ -15,13 +15,31 @@ flower_of-members-requires t c =
     let grown = c.grow_forest.ensures q.0 q.1 q.2 q.3 in
     (q.0, q.1, q.2, growth_closes q.0 q.1 q.2 c.args.instance.now c.args.mate.now q.3.matching c.grow_forest.new.forest c.grow_forest.result c.in-Some.bridge grown c.in-Some.is, q.4)
 
+pub without-requires : goal.without-requires
+without-requires t c =
+    let q = c.requires in
+    let grown = c.grow_forest.ensures q.0 q.1 q.2 q.3 in
+    let closes = growth_closes q.0 q.1 q.2 c.args.instance.now c.args.mate.now q.3.matching c.grow_forest.new.forest c.grow_forest.result c.in-Some.bridge grown c.in-Some.is in
+    let held = c.flower_of-members.ensures q.0 q.1 q.2 closes q.4 in
+    (base_within q.0 q.1 q.2 c.args.instance.now c.args.mate.now c.grow_forest.new.forest c.flower_of-members.result grown.grows closes.holds held).1
+
+pub expose_all-requires : goal.expose_all-requires
+expose_all-requires t c = λ v m.
+    let q = c.requires in
+    let grown = c.grow_forest.ensures q.0 q.1 q.2 q.3 in
+    let closes = growth_closes q.0 q.1 q.2 c.args.instance.now c.args.mate.now q.3.matching c.grow_forest.new.forest c.grow_forest.result c.in-Some.bridge grown c.in-Some.is in
+    let held = c.flower_of-members.ensures q.0 q.1 q.2 closes q.4 in
+    let w = flower_within q.0 q.1 q.2 c.args.instance.now c.args.mate.now c.grow_forest.new.forest c.flower_of-members.result grown.grows closes.holds held v (and_parts (mem c.flower_of-members.result.members v) (not (c.flower_of-members.result.base == v)) (sym (c.without.ensures v) ∙ m)).0 in
+    let long = closes.long in
+    let each = q.3.matching.instance_is.one_each in omega arith
+
 pub shrink-before-requires-clause-vertices : goal.shrink-before-requires-clause-vertices
 shrink-before-requires-clause-vertices t c =
     let q = c.requires in
     let grown = c.grow_forest.ensures q.0 q.1 q.2 q.3 in
     let closes = growth_closes q.0 q.1 q.2 c.args.instance.now c.args.mate.now q.3.matching c.grow_forest.new.forest c.grow_forest.result c.in-Some.bridge grown c.in-Some.is in
     let held = c.flower_of-members.ensures q.0 q.1 q.2 closes q.4 in
-    flower_within q.0 q.1 q.2 c.args.instance.now c.args.mate.now c.flower_of-members.new.mate c.grow_forest.new.forest c.flower_of-members.result grown.grows closes.holds held
+    flower_within q.0 q.1 q.2 c.args.instance.now c.args.mate.now c.grow_forest.new.forest c.flower_of-members.result grown.grows closes.holds held
 
 pub shrink-before-requires-clause-base : goal.shrink-before-requires-clause-base
 shrink-before-requires-clause-base t c =
@@ -29,7 +47,7 @@ shrink-before-requires-clause-base t c =
     let grown = c.grow_forest.ensures q.0 q.1 q.2 q.3 in
     let closes = growth_closes q.0 q.1 q.2 c.args.instance.now c.args.mate.now q.3.matching c.grow_forest.new.forest c.grow_forest.result c.in-Some.bridge grown c.in-Some.is in
     let held = c.flower_of-members.ensures q.0 q.1 q.2 closes q.4 in
-    (base_within q.0 q.1 q.2 c.args.instance.now c.args.mate.now c.flower_of-members.new.mate c.grow_forest.new.forest c.flower_of-members.result grown.grows closes.holds held).0
+    (base_within q.0 q.1 q.2 c.args.instance.now c.args.mate.now c.grow_forest.new.forest c.flower_of-members.result grown.grows closes.holds held).0
 
 pub contract-requires-clause-inner : goal.contract-requires-clause-inner
 contract-requires-clause-inner t c =
@@ -37,7 +55,7 @@ contract-requires-clause-inner t c =
     let grown = c.grow_forest.ensures q.0 q.1 q.2 q.3 in
     let closes = growth_closes q.0 q.1 q.2 c.args.instance.now c.args.mate.now q.3.matching c.grow_forest.new.forest c.grow_forest.result c.in-Some.bridge grown c.in-Some.is in
     let held = c.flower_of-members.ensures q.0 q.1 q.2 closes q.4 in
-    inner_within q.0 q.1 q.2 c.args.instance.now c.args.mate.now c.flower_of-members.new.mate c.grow_forest.new.forest c.flower_of-members.result grown.grows closes.holds held
+    inner_within q.0 q.1 q.2 c.args.instance.now c.args.mate.now c.grow_forest.new.forest c.flower_of-members.result grown.grows closes.holds held
 
 pub contract-requires-clause-parents : goal.contract-requires-clause-parents
 contract-requires-clause-parents t c =
@@ -45,7 +63,7 @@ contract-requires-clause-parents t c =
     let grown = c.grow_forest.ensures q.0 q.1 q.2 q.3 in
     let closes = growth_closes q.0 q.1 q.2 c.args.instance.now c.args.mate.now q.3.matching c.grow_forest.new.forest c.grow_forest.result c.in-Some.bridge grown c.in-Some.is in
     let held = c.flower_of-members.ensures q.0 q.1 q.2 closes q.4 in
-    parent_within q.0 q.1 q.2 c.args.instance.now c.args.mate.now c.flower_of-members.new.mate c.grow_forest.new.forest c.flower_of-members.result grown.grows closes.holds held
+    parent_within q.0 q.1 q.2 c.args.instance.now c.args.mate.now c.grow_forest.new.forest c.flower_of-members.result grown.grows closes.holds held
 
 pub contract-requires-clause-base : goal.contract-requires-clause-base
 contract-requires-clause-base t c =
@@ -53,7 +71,7 @@ contract-requires-clause-base t c =
     let grown = c.grow_forest.ensures q.0 q.1 q.2 q.3 in
     let closes = growth_closes q.0 q.1 q.2 c.args.instance.now c.args.mate.now q.3.matching c.grow_forest.new.forest c.grow_forest.result c.in-Some.bridge grown c.in-Some.is in
     let held = c.flower_of-members.ensures q.0 q.1 q.2 closes q.4 in
-    (base_within q.0 q.1 q.2 c.args.instance.now c.args.mate.now c.flower_of-members.new.mate c.grow_forest.new.forest c.flower_of-members.result grown.grows closes.holds held).1
+    (base_within q.0 q.1 q.2 c.args.instance.now c.args.mate.now c.grow_forest.new.forest c.flower_of-members.result grown.grows closes.holds held).1
 
 pub outer_on-below-requires : goal.outer_on-below-requires
 outer_on-below-requires t c =
@@ -62,14 +80,14 @@ outer_on-below-requires t c =
     let closes = growth_closes q.0 q.1 q.2 c.args.instance.now c.args.mate.now q.3.matching c.grow_forest.new.forest c.grow_forest.result c.in-Some.bridge grown c.in-Some.is in
     let held = c.flower_of-members.ensures q.0 q.1 q.2 closes q.4 in
     let falls = c.decreases in
-    let less = flower_less q.0 q.1 q.2 c.args.instance.now c.args.mate.now c.flower_of-members.new.mate c.grow_forest.new.forest c.flower_of-members.result grown.grows closes.holds held c.shrink-before.new.self c.shrink-before.ensures.shrunk in (
+    let less = flower_less q.0 q.1 q.2 c.args.instance.now c.args.mate.now c.grow_forest.new.forest c.flower_of-members.result grown.grows closes.holds held c.shrink-before.new.self c.shrink-before.ensures.shrunk in (
       first_of (omega arith, search rules),
       (
-        shrunk_graph_of q.0 q.1 q.2 c.args.instance.now c.args.mate.now c.flower_of-members.new.mate c.grow_forest.new.forest c.flower_of-members.result grown.grows closes.holds held,
-        shrunk_out q.0 q.1 q.2 c.args.instance.now c.args.mate.now c.flower_of-members.new.mate c.grow_forest.new.forest c.flower_of-members.result grown.grows closes.holds held,
-        shrunk_edges q.0 q.1 q.2 c.args.instance.now c.args.mate.now c.flower_of-members.new.mate c.grow_forest.new.forest c.flower_of-members.result grown.grows closes.holds held,
-        below_grows q.0 q.1 q.2 c.args.instance.now c.args.mate.now c.flower_of-members.new.mate c.grow_forest.new.forest c.flower_of-members.result grown.grows closes.holds held c.shrink-before.new.self c.shrink-before.ensures.shrunk c.contract.new.self c.contract.ensures c.flower_of-members.auto.mate,
-        below_one q.0 q.1 q.2 c.args.instance.now c.args.mate.now c.flower_of-members.new.mate c.grow_forest.new.forest c.flower_of-members.result grown.grows closes.holds held c.shrink-before.new.self c.shrink-before.ensures.shrunk q.4,
+        shrunk_graph_of q.0 q.1 q.2 c.args.instance.now c.args.mate.now c.grow_forest.new.forest c.flower_of-members.result grown.grows closes.holds held,
+        shrunk_out q.0 q.1 q.2 c.args.instance.now c.args.mate.now c.grow_forest.new.forest c.flower_of-members.result grown.grows closes.holds held,
+        shrunk_edges q.0 q.1 q.2 c.args.instance.now c.args.mate.now c.grow_forest.new.forest c.flower_of-members.result grown.grows closes.holds held,
+        below_grows q.0 q.1 q.2 c.args.instance.now c.args.mate.now c.grow_forest.new.forest c.flower_of-members.result grown.grows closes.holds held c.shrink-before.new.self c.shrink-before.ensures.shrunk c.contract.new.self c.contract.ensures c.expose_all.new.mate c.expose_all.auto.mate c.without.result c.without.ensures c.expose_all.ensures,
+        below_one q.0 q.1 q.2 c.args.instance.now c.args.mate.now c.grow_forest.new.forest c.flower_of-members.result grown.grows closes.holds held c.shrink-before.new.self c.shrink-before.ensures.shrunk q.4,
       ),
     )
 
@@ -79,7 +97,7 @@ unshrink-requires-clause-base t c =
     let grown = c.grow_forest.ensures q.0 q.1 q.2 q.3 in
     let closes = growth_closes q.0 q.1 q.2 c.args.instance.now c.args.mate.now q.3.matching c.grow_forest.new.forest c.grow_forest.result c.in-Some.bridge grown c.in-Some.is in
     let held = c.flower_of-members.ensures q.0 q.1 q.2 closes q.4 in
-    let w = (base_within q.0 q.1 q.2 c.args.instance.now c.args.mate.now c.flower_of-members.new.mate c.grow_forest.new.forest c.flower_of-members.result grown.grows closes.holds held).0 in
+    let w = (base_within q.0 q.1 q.2 c.args.instance.now c.args.mate.now c.grow_forest.new.forest c.flower_of-members.result grown.grows closes.holds held).0 in
     let long = c.shrink-before.ensures.shrunk.rows.one_each in
     let same = c.outer_on-below.ensures.restored.rows_long in (omega arith, omega arith)
 
@@ -105,7 +123,7 @@ returns-then-is_subset-clause-outer t c = λ g r f grows one.
     let grown = c.grow_forest.ensures g r f grows in
     let closes = growth_closes g r f c.args.instance.now c.args.mate.now grows.matching c.grow_forest.new.forest c.grow_forest.result c.in-Some.bridge grown c.in-Some.is in
     let held = c.flower_of-members.ensures g r f closes one in
-    outer_whole g r f c.args.instance.now c.args.mate.now c.flower_of-members.new.mate c.grow_forest.new.forest c.flower_of-members.result grown.grows closes.holds held (all_in_true c.args.instance.now.left (mem c.flower_of-members.result.members) (sym c.is_subset.ensures ∙ c.if-is_subset.true))
+    outer_whole g r f c.args.instance.now c.args.mate.now c.grow_forest.new.forest c.flower_of-members.result grown.grows closes.holds held (all_in_true c.args.instance.now.left (mem c.flower_of-members.result.members) (sym c.is_subset.ensures ∙ c.if-is_subset.true))
 
 pub returns-else-is_subset-clause-restored : goal.returns-else-is_subset-clause-restored
 returns-else-is_subset-clause-restored t c = put_back c.args.instance.now c.shrink-before.new.self c.outer_on-below.new.instance c.unshrink.new.self (mem c.flower_of-members.result.members) c.flower_of-members.result.base c.shrink-before.result c.shrink-before.ensures.shrunk c.shrink-before.ensures.before c.outer_on-below.ensures.restored c.unshrink.ensures
@@ -115,6 +133,6 @@ returns-else-is_subset-clause-outer t c = λ g r f grows one.
     let grown = c.grow_forest.ensures g r f grows in
     let closes = growth_closes g r f c.args.instance.now c.args.mate.now grows.matching c.grow_forest.new.forest c.grow_forest.result c.in-Some.bridge grown c.in-Some.is in
     let held = c.flower_of-members.ensures g r f closes one in
-    let has = c.outer_on-below.ensures.outer (shrunk_graph_of g r f c.args.instance.now c.args.mate.now c.flower_of-members.new.mate c.grow_forest.new.forest c.flower_of-members.result grown.grows closes.holds held) (shrunk_out g r f c.args.instance.now c.args.mate.now c.flower_of-members.new.mate c.grow_forest.new.forest c.flower_of-members.result grown.grows closes.holds held) (shrunk_edges g r f c.args.instance.now c.args.mate.now c.flower_of-members.new.mate c.grow_forest.new.forest c.flower_of-members.result grown.grows closes.holds held)
-    (below_grows g r f c.args.instance.now c.args.mate.now c.flower_of-members.new.mate c.grow_forest.new.forest c.flower_of-members.result grown.grows closes.holds held c.shrink-before.new.self c.shrink-before.ensures.shrunk c.contract.new.self c.contract.ensures c.flower_of-members.auto.mate) (below_one g r f c.args.instance.now c.args.mate.now c.flower_of-members.new.mate c.grow_forest.new.forest c.flower_of-members.result grown.grows closes.holds held c.shrink-before.new.self c.shrink-before.ensures.shrunk one) in
-    outer_up g r f c.args.instance.now c.args.mate.now c.flower_of-members.new.mate c.grow_forest.new.forest c.flower_of-members.result grown.grows closes.holds held c.outer_on-below.result c.union.result has c.union.ensures
+    let has = c.outer_on-below.ensures.outer (shrunk_graph_of g r f c.args.instance.now c.args.mate.now c.grow_forest.new.forest c.flower_of-members.result grown.grows closes.holds held) (shrunk_out g r f c.args.instance.now c.args.mate.now c.grow_forest.new.forest c.flower_of-members.result grown.grows closes.holds held) (shrunk_edges g r f c.args.instance.now c.args.mate.now c.grow_forest.new.forest c.flower_of-members.result grown.grows closes.holds held)
+    (below_grows g r f c.args.instance.now c.args.mate.now c.grow_forest.new.forest c.flower_of-members.result grown.grows closes.holds held c.shrink-before.new.self c.shrink-before.ensures.shrunk c.contract.new.self c.contract.ensures c.expose_all.new.mate c.expose_all.auto.mate c.without.result c.without.ensures c.expose_all.ensures) (below_one g r f c.args.instance.now c.args.mate.now c.grow_forest.new.forest c.flower_of-members.result grown.grows closes.holds held c.shrink-before.new.self c.shrink-before.ensures.shrunk one) in
+    outer_up g r f c.args.instance.now c.args.mate.now c.grow_forest.new.forest c.flower_of-members.result grown.grows closes.holds held c.outer_on-below.result c.union.result has c.union.ensures

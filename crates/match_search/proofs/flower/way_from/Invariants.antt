@@ -1,0 +1,14 @@
+use Rattle.std.proofs.Common.{◌≡◌, true, [], ◌∷◌}
+use Rattle.counting.proofs.Common.{mem}
+use Rattle.match_search.specs.Common.{HoldsForest, IsLastIn, numbers}
+use Rattle.match_search.proofs.ForestWalks.{steps}
+use Rattle.match_search.proofs.flower.way_from.Given as goal
+
+abbrev pub invariant-climbing : goal.invariant-climbing
+invariant-climbing l = record {
+  outer : mem l.forest.outer l.at ≡ true;
+  last : (h : HoldsForest l.mate l.forest) → IsLastIn h.holds.k h.holds.v (l.base ∷ []) l.y l.at l.way;
+}
+
+abbrev pub decreases-climbing : goal.decreases-climbing
+decreases-climbing l = steps (numbers l.mate) (numbers l.forest.parent.items) 128 l.at
