@@ -1,7 +1,8 @@
 -- A search along rows: what is not left is found. Between two steps, the arcs from a found vertex
 -- that is not open lead to found vertices, and a set that no arc from an inner vertex leaves
--- contains what is found. So when no vertex is open, what is found is the least closed set.
-use Rattle.std.proofs.Common.{◌≡◌, ◌∙◌, ◌+◌, ◌≤◌, ℕ, List, true, false, ◌==◌, ◌&&◌, ◌||◌, not, refl, sym, arith, eq-eqb, inl, inr, ne_eqb}
+-- contains what is found. So when no vertex is open, or nothing is left, what is found is the least
+-- closed set.
+use Rattle.std.proofs.Common.{◌≡◌, ◌∙◌, ◌+◌, ◌≤◌, ℕ, List, true, false, ◌==◌, ◌&&◌, ◌||◌, ◌⊎◌, not, refl, sym, arith, eq-eqb, inl, inr, ne_eqb}
 use Rattle.counting.proofs.Common.{and_parts, cases_Bool, cases_eq, count, count_more, or_cases, Set, Within}
 use Rattle.vset_core.specs.Floods.{IsFlood, leads}
 
@@ -70,12 +71,12 @@ module _ (rows : List (List ℕ)) (within roots : Set) where
     pub flooding_less : (n : ℕ) → Within n v → count n (λ w. rest' w || open' w) + 1 ≤ count n (λ w. rest w || open_set w)
     flooding_less n w = grind (arith, count_more n (λ w. rest' w || open' w) (λ w. rest w || open_set w), eq-eqb v v refl)
 
-  -- when no vertex is open
-  pub flooding_end : (inner rest open_set found : Set) → IsFlooding rows within roots inner rest open_set → ((v : ℕ) → open_set v ≡ false) → ((v : ℕ) → found v ≡ (within v && not (rest v))) →
+  -- when no vertex is open, or nothing is left
+  pub flooding_end : (inner rest open_set found : Set) → IsFlooding rows within roots inner rest open_set → ((v : ℕ) → open_set v ≡ false) ⊎ ((v : ℕ) → rest v ≡ false) → ((v : ℕ) → found v ≡ (within v && not (rest v))) →
       IsFlood rows within roots inner found
-  flooding_end inner rest open_set found flood none found_is = record {
+  flooding_end inner rest open_set found flood ended found_is = record {
     start = λ v r. let s = flood.start v r in grind arith;
     inside = λ v f. (and_parts (within v) (not (rest v)) (sym (found_is v) ∙ f)).0;
-    closed = λ u v f a i. let d = flood.done u v in grind arith;
+    closed = λ u v f a i. elim ended [ inl none ↦ (let d = flood.done u v in grind arith) | inr all ↦ (grind arith) ];
     least = λ x has closed v f. let l = flood.least x has closed v in grind arith;
   }

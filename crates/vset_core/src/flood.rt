@@ -1,6 +1,6 @@
 //! Digraphs as rows of sets: row v has the vertices to which an arc leads from v. How an arc is
 //! added, and a search, a word at a time.
-ghost use Rattle.std.specs.Prelude.{◌≡◌, ◌≤◌, ◌==◌, ◌&&◌, ◌||◌, ℕ, true, length, IfSome, IfNone, []};
+ghost use Rattle.std.specs.Prelude.{◌≡◌, ◌≤◌, ◌==◌, ◌&&◌, ◌||◌, ◌⊎◌, ℕ, true, length, IfSome, IfNone, []};
 ghost use Rattle.counting.specs.Common.{Within, mem};
 ghost use Rattle.vset_core.specs.Floods.{IsFlood, leads};
 
@@ -27,7 +27,8 @@ pub struct Flood {
 }
 
 /// A search from `roots` that stays in `within`. It goes on from vertices of `late` only if no other
-/// is open, so that fewer of them become inner. Takes no memory. Takes O(n) steps on words.
+/// is open, so that fewer of them become inner, and ends as soon as all of `within` is found. Takes
+/// no memory. Takes O(n) steps on words.
 pub fn flooded(rows: &[VSet], within: VSet, roots: VSet, late: VSet) -> Flood
     requires few { length rows.now ≤ MOST_VERTICES }
     requires vertices { (v : ℕ) → mem within v ≡ true → Within (length rows.now) v }
@@ -37,7 +38,7 @@ pub fn flooded(rows: &[VSet], within: VSet, roots: VSet, late: VSet) -> Flood
     let mut rest = within.minus(roots);
     let mut inner = VSet::empty();
     let mut open = roots;
-    'flooding: while let Some(v) = next_open(open, late) {
+    'flooding: while let Some(v) = next_open(open, late, rest) {
         let new = rows[v as usize - 1].meet(rest);
         inner = with_inner(inner, v, new);
         rest = rest.minus(new);
@@ -47,12 +48,13 @@ pub fn flooded(rows: &[VSet], within: VSet, roots: VSet, late: VSet) -> Flood
     Flood { found, inner }
 }
 
-// The least waiting vertex, if possible one that is not late.
-fn next_open(waiting: VSet, late: VSet) -> Option<u32>
+// The least waiting vertex, if possible one that is not late; none if nothing is left to find.
+fn next_open(waiting: VSet, late: VSet, rest: VSet) -> Option<u32>
     ensures some { IfSome result (λ v. mem waiting v ≡ true) }
     ensures within { IfSome result (Within MOST_VERTICES) }
-    ensures none { IfNone result (waiting ≡ []) }
+    ensures none { IfNone result ((waiting ≡ []) ⊎ (rest ≡ [])) }
 {
+    let _ = rest.first()?;
     match waiting.minus(late).first() {
         Some(v) => Some(v),
         None => waiting.first(),
