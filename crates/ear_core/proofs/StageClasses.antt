@@ -1,7 +1,7 @@
 -- The classes of a stage: two of its vertices that are no partners have the same partners. Idea:
 -- the stage as a graph of its own is matching covered, and there to be equal or no partners is an
 -- equivalence.
-use Rattle.std.proofs.Common.{◌≡◌, ◌⊎◌, ◌↔◌, ℕ, true, false, ◌||◌, ◌&&◌, ◌==◌, ne_eqb, not, ap, ap₂, sym, ◌∙◌, inl, inr, subst, List, length}
+use Rattle.std.proofs.Common.{◌≡◌, ◌⊎◌, ◌↔◌, ℕ, Bool, true, false, ◌||◌, ◌&&◌, ◌==◌, arith, eqb-true, ne_eqb, not, ap, ap₂, sym, ◌∙◌, inl, inr, subst, List, [], ◌∷◌, length}
 use Rattle.counting.proofs.Common.{and_from, both_ways, cases_Bool, cases_eq, not-false, or_cases, rank_once, same_tests, Within, count, item, mem, Set, pair_set}
 use Rattle.barrier_kit.proofs.Common.{equivalent_back, equivalent_on, perfect_or_not}
 use Rattle.graph_core.proofs.Common.{Graph, IsGraph, HasPerfect}
@@ -9,7 +9,7 @@ use Rattle.match_core.specs.Common.{are_partners}
 use Rattle.ear_core.proofs.NextStages.{met-within}
 use Rattle.ear_core.proofs.RankedStages.{off-ranked, rank-test, rank-within, ranked-covered, ranked-graph, ranked-off, stage_graph}
 use Rattle.ear_core.proofs.StagePartners.{asked-says, says-asked}
-use Rattle.ear_core.specs.Common.{AreSharedRows, ArePartnersOn, HasClasses, IsAsked, IsStage, Serves, is_met}
+use Rattle.ear_core.specs.Common.{ArePartnersOn, HasClasses, HaveRow, IsAsked, IsStage, IsStageOf, NamesMatching, Serves, is_met}
 use Rattle.ear_core.specs.declared.asking.Asked.{Asked}
 
 module _ (g : Graph) (is : IsGraph g) (f : Set) (stage : IsStage g f) where
@@ -81,37 +81,50 @@ left-other g is f asked asks u v set beside others joined left p on =
     left v ∙ and_from (mem set v) (not (mem beside v)) on (ap not (joined v ∙ ap₂ ◌||◌ (asks.outside v (met-within g is f v p.2) ∙ ap not p.2) (ne_eqb u v p.0)))
 
 -- at first no row is known
-pub rows-first : (g : Graph) → IsGraph g → (f : Set) → IsStage g f → (asked : Asked) → IsAsked g f asked → (known : List ℕ) (rows : List (List ℕ)) → ((v : ℕ) → mem known v ≡ false) → length rows ≡ g.order → AreSharedRows asked known rows
-rows-first g is f stage asked asks known rows empty long = record {
-  classes = asked-classes g is f stage asked asks;
-  one_each = long ∙ sym asks.order;
+pub rows-first : (asked : Asked) (mate : List ℕ) (covered : Bool) (known : List ℕ) (rows : List (List ℕ)) → NamesMatching asked.stage (mem asked.outside) mate → (covered ≡ true → HasClasses asked.stage (mem asked.outside)) →
+    ((v : ℕ) → mem known v ≡ false) → length rows ≡ asked.stage.order → IsStageOf asked mate covered known rows
+rows-first asked mate covered known rows matched classes empty long = record {
+  matched = matched;
+  classes = classes;
+  one_each = long;
   within = λ u v su k h. absurd (both_ways (mem known u) (empty u) k);
   row_is = λ u v su sv k. absurd (both_ways (mem known u) (empty u) k);
 }
 
--- one row is written for a class
-pub rows-shared : (asked : Asked) (known after row class : List ℕ) (rows new : List (List ℕ)) (u : ℕ) → AreSharedRows asked known rows → Within asked.stage.order u → mem asked.outside u ≡ false →
-    ((v : ℕ) → mem row v ≡ true → Within asked.stage.order v) → ((v : ℕ) → Within asked.stage.order v → mem row v ≡ are_partners asked.stage (mem asked.outside) u v) →
-    ((v : ℕ) → (mem class v ≡ true) ↔ (Within asked.stage.order v × (mem asked.outside v ≡ false) × (mem row v ≡ false))) →
+module _ (asked : Asked) (row : List ℕ) (u : ℕ) (su : Within asked.stage.order u) (is_row : (v : ℕ) → Within asked.stage.order v → mem row v ≡ are_partners asked.stage (mem asked.outside) u v) where
+  -- a vertex has its own row
+  pub one-has : HaveRow asked (mem (u ∷ [])) row
+  one-has v i = subst (λ k. Within asked.stage.order k × ((w : ℕ) → Within asked.stage.order w → mem row w ≡ are_partners asked.stage (mem asked.outside) k w)) (eqb-true u v (only (u == v) i)) (su, is_row)
+    where
+      only : (b : Bool) → (b || false) ≡ true → b ≡ true
+      only b i = grind arith
+
+  -- and its class has it
+  pub class-has : HasClasses asked.stage (mem asked.outside) → mem asked.outside u ≡ false → (class : List ℕ) →
+      ((v : ℕ) → (mem class v ≡ true) ↔ (Within asked.stage.order v × (mem asked.outside v ≡ false) × (mem row v ≡ false))) → HaveRow asked (mem class) row
+  class-has classes left class is_class v i = let c = (is_class v).0 i in (c.0, λ w sw. is_row w sw ∙ sym (classes u v w su c.0 sw left c.1 (sym (is_row v c.0) ∙ c.2)))
+
+-- a row is kept for vertices that have it
+pub rows-kept : (asked : Asked) (mate : List ℕ) (covered : Bool) (known after row class : List ℕ) (rows new : List (List ℕ)) → IsStageOf asked mate covered known rows →
+    ((v : ℕ) → mem row v ≡ true → Within asked.stage.order v) → HaveRow asked (mem class) row →
     length new ≡ length rows → ((v : ℕ) → mem class v ≡ true → item new v ≡ row) → ((v : ℕ) → Within (length rows) v → mem class v ≡ false → item new v ≡ item rows v) →
-    ((v : ℕ) → mem after v ≡ (mem known v || mem class v)) → AreSharedRows asked after new
-rows-shared asked known after row class rows new u shared su left within is_row is_class long own others joined = record {
-  classes = shared.classes;
-  one_each = long ∙ shared.one_each;
+    ((v : ℕ) → mem after v ≡ (mem known v || mem class v)) → IsStageOf asked mate covered after new
+rows-kept asked mate covered known after row class rows new stage within have long own others joined = record {
+  matched = stage.matched;
+  classes = stage.classes;
+  one_each = long ∙ stage.one_each;
   within = λ v w sv k h. elim (cases_Bool (mem class v)) [
     | inl i ↦ within w (sym (ap (λ (xs : List ℕ). mem xs w) (own v i)) ∙ h)
-    | inr o ↦ shared.within v w sv (before v o k) (sym (ap (λ (xs : List ℕ). mem xs w) (others v (at v sv) o)) ∙ h)
+    | inr o ↦ stage.within v w sv (before v o k) (sym (ap (λ (xs : List ℕ). mem xs w) (others v (at v sv) o)) ∙ h)
   ];
   row_is = λ v w sv sw k. elim (cases_Bool (mem class v)) [
-    | inl i ↦
-        let c = (is_class v).0 i in
-        ap (λ (xs : List ℕ). mem xs w) (own v i) ∙ is_row w sw ∙ sym (shared.classes u v w su sv sw left c.1 (sym (is_row v sv) ∙ c.2))
-    | inr o ↦ ap (λ (xs : List ℕ). mem xs w) (others v (at v sv) o) ∙ shared.row_is v w sv sw (before v o k)
+    | inl i ↦ ap (λ (xs : List ℕ). mem xs w) (own v i) ∙ (have v i).1 w sw
+    | inr o ↦ ap (λ (xs : List ℕ). mem xs w) (others v (at v sv) o) ∙ stage.row_is v w sv sw (before v o k)
   ];
 }
   where
     at : (v : ℕ) → Within asked.stage.order v → Within (length rows) v
-    at v = subst (λ n. Within n v) (sym shared.one_each)
+    at v = subst (λ n. Within n v) (sym stage.one_each)
 
     before : (v : ℕ) → mem class v ≡ false → mem after v ≡ true → mem known v ≡ true
     before v o k = elim (or_cases (mem known v) (mem class v) (sym (joined v) ∙ k)) [ inl i ↦ i | inr i ↦ absurd (both_ways (mem class v) o i) ]

@@ -17,4 +17,4 @@ pub use Rattle.ear_core.specs.StagePartners.{ArePartnersOn, PairsAll}
 pub use Rattle.ear_core.specs.MarkedStages.{IsMarked}
 pub use Rattle.ear_core.specs.Building.{LeadTo, GoesOn, IsBuilt, IsFilled}
 pub use Rattle.ear_core.specs.MatchedStages.{NamesMatching, NamesPart, IsAskedBefore}
-pub use Rattle.ear_core.specs.StageRows.{HasClasses, AreSharedRows}
+pub use Rattle.ear_core.specs.StageRows.{HasClasses, HaveRow, IsStageOf}

@@ -118,11 +118,11 @@ fn go_on(
     c.keeps_covered();
     let g = c.graph();
     let met = built.marked.met;
-    let stage = Stage::of(alloc, g, &built.marked.mark, met, kept)?;
-    match built.first_between(alloc, g, &stage)? {
-        Some(e) => built.add_between(alloc, g, &stage, e),
+    let mut stage = Stage::by(alloc, g, &built.marked.mark, met, kept)?;
+    match built.first_between(alloc, g, &mut stage)? {
+        Some(e) => built.add_between(alloc, g, &mut stage, e),
         None => {
-            let step = next_step(alloc, c, &built.marked.mark, met, kept, &stage, edge)?;
+            let step = next_step(alloc, c, &built.marked.mark, met, kept, &mut stage, edge)?;
             built.add(g, step)
         }
     }
@@ -174,12 +174,12 @@ fn next_step(
     mark: &[bool],
     met: VSet,
     kept: &Matching,
-    stage: &Stage,
+    stage: &mut Stage,
     edge: u32,
 ) -> Result<Step, Memory>
     requires long { length mark.now ≡ size c.now + 1 }
     requires met { (v : ℕ) → mem met v ≡ is_met c.now (marks mark.now) v }
-    requires asked { IsAsked c.now (marks mark.now) stage.now }
+    requires asked { IsAsked c.now (marks mark.now) stage.old }
     requires stage { IsStage c.now (marks mark.now) }
     requires kept { IsPerfectRows c.now kept.now }
     requires mates { KeepsMates c.now (row_edge kept.now.rows) (is_met c.now (marks mark.now)) }
@@ -231,18 +231,19 @@ fn step_by(
     mark: &[bool],
     met: VSet,
     kept: &Matching,
-    stage: &Stage,
+    stage: &mut Stage,
     leading: &Matching,
 ) -> Result<Step, Memory>
     requires long { length mark.now ≡ size g.now + 1 }
     requires met { (v : ℕ) → mem met v ≡ is_met g.now (marks mark.now) v }
-    requires asked { IsAsked g.now (marks mark.now) stage.now }
+    requires asked { IsAsked g.now (marks mark.now) stage.old }
     requires stage { IsStage g.now (marks mark.now) }
     requires kept { IsPerfectRows g.now kept.now }
     requires mates { KeepsMates g.now (row_edge kept.now.rows) (is_met g.now (marks mark.now)) }
     requires leading { IsPerfectRows g.now leading.now }
     requires leads { (v : ℕ) × Within g.now.order v × (is_met g.now (marks mark.now) v ≡ true) ×
         (marks mark.now (row_edge leading.now.rows v) ≡ false) }
+    ensures same { stage.new ≡ stage.old }
     ensures fits { IfOk result (λ step. FitsStep g.now.order (size g.now) (step_of step)) }
     ensures step { IfOk result (λ step. IsStep g.now (marks mark.now) (step_of step)) }
     ensures stage { IfOk result

@@ -39,11 +39,12 @@ impl Built {
         &self,
         alloc: Global,
         g: &MultiGraph,
-        stage: &Stage,
+        stage: &mut Stage,
     ) -> Result<Option<u32>, Memory>
         requires marked { IsMarked g.now self.now.marked }
-        requires asked { IsAsked g.now (marks self.now.marked.mark.items) stage.now }
-        ensures { IfOk result (λ o. IfSome o (λ e. Within (size g.now) e ×
+        requires asked { IsAsked g.now (marks self.now.marked.mark.items) stage.old }
+        ensures same { stage.new ≡ stage.old }
+        ensures first { IfOk result (λ o. IfSome o (λ e. Within (size g.now) e ×
             (marks self.now.marked.mark.items e ≡ false) ×
             ArePartnersOn g.now (marks self.now.marked.mark.items) (first_end g.now e)
             (second_end g.now e))) }
@@ -62,11 +63,11 @@ impl Built {
         &mut self,
         alloc: Global,
         g: &MultiGraph,
-        stage: &Stage,
+        stage: &mut Stage,
         e: u32,
     ) -> Result<(), Memory>
         requires marked { IsMarked g.now self.old.marked }
-        requires asked { IsAsked g.now (marks self.old.marked.mark.items) stage.now }
+        requires asked { IsAsked g.now (marks self.old.marked.mark.items) stage.old }
         requires edge { Within (size g.now) e }
         requires off { marks self.old.marked.mark.items e ≡ false }
         requires joins { ArePartnersOn g.now (marks self.old.marked.mark.items) (first_end g.now e)
@@ -90,14 +91,15 @@ impl Built {
         &self,
         alloc: Global,
         g: &MultiGraph,
-        stage: &Stage,
+        stage: &mut Stage,
         e: u32,
     ) -> Result<bool, Memory>
         requires marked { IsMarked g.now self.now.marked }
         requires edge { Within (size g.now) e }
-        requires order { stage.now.stage.order ≡ g.now.order }
+        requires order { stage.old.stage.order ≡ g.now.order }
+        ensures same { stage.new ≡ stage.old }
         ensures off { IfOk result (λ b. b ≡ true → marks self.now.marked.mark.items e ≡ false) }
-        ensures joins { IfOk result (λ b. (f : Set) → IsAsked g.now f stage.now → b ≡ true →
+        ensures joins { IfOk result (λ b. (f : Set) → IsAsked g.now f stage.old → b ≡ true →
             ArePartnersOn g.now f (first_end g.now e) (second_end g.now e)) }
     {
         g.keeps_limits();
@@ -135,14 +137,15 @@ impl Built {
         &mut self,
         alloc: Global,
         g: &MultiGraph,
-        stage: &Stage,
+        stage: &mut Stage,
         e: u32,
     ) -> Result<(), Memory>
         requires marked { IsMarked g.now self.old.marked }
         requires edge { Within (size g.now) e }
-        requires order { stage.now.stage.order ≡ g.now.order }
+        requires order { stage.old.stage.order ≡ g.now.order }
+        ensures same { stage.new ≡ stage.old }
         ensures marked { IsMarked g.now self.new.marked }
-        ensures filled { OnOk result ((n : ℕ → ℕ) (first f : Set) → IsAsked g.now f stage.now →
+        ensures filled { OnOk result ((n : ℕ → ℕ) (first f : Set) → IsAsked g.now f stage.old →
             IsFilled g.now n first f self.old → IsFilled g.now n first f self.new) }
         ensures fewer { OnOk result
             (count (size g.now) (complement (marks self.new.marked.mark.items)) ≤

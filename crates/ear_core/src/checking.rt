@@ -8,7 +8,7 @@ ghost use Rattle.ear_core.specs.Common.{FitsEars, FitsStep, AcceptsList, IsAsked
 use crate::ears::{EarList, Step};
 use crate::judgement::{EarJudgement, EarWhy};
 use crate::marked::Marked;
-use crate::matched::MatchedStage;
+use crate::stage::Stage;
 use crate::steps::take_step;
 use graph_core::MultiGraph;
 use graph_facts::Covered;
@@ -52,7 +52,7 @@ fn check_list(
 {
     g.keeps_limits();
     let mut marked = Marked::one(alloc, g, list.start)?;
-    let mut stage = MatchedStage::of(alloc, g, &marked.mark, marked.met)?;
+    let mut stage = Stage::of(alloc, g, &marked.mark, marked.met)?;
     let steps = list.steps.as_slice();
     check_steps(alloc, g, covered, &mut marked, &mut stage, steps)
 }
@@ -63,7 +63,7 @@ fn check_steps(
     g: &MultiGraph,
     covered: bool,
     marked: &mut Marked,
-    stage: &mut MatchedStage,
+    stage: &mut Stage,
     steps: &[Step],
 ) -> Result<EarJudgement, Memory>
     requires covered { covered ≡ true → IsCovered g.now }

@@ -59,15 +59,16 @@ fn ends_of(g: &MultiGraph, ear: &Ear) -> VSet
 fn first_alone(
     alloc: Global,
     g: &MultiGraph,
-    stage: &Stage,
+    stage: &mut Stage,
     ears: &[Ear],
 ) -> Result<Option<Ear>, Memory>
     requires fits { AllByRecursion (FitsEar g.now.order (size g.now)) (map ear_of ears.now) }
-    requires order { stage.now.stage.order ≡ g.now.order }
-    ensures some { (f : Set) → IsAsked g.now f stage.now →
+    requires order { stage.old.stage.order ≡ g.now.order }
+    ensures same { stage.new ≡ stage.old }
+    ensures some { (f : Set) → IsAsked g.now f stage.old →
         AreEars g.now f (map ear_of ears.now) → IfOk result
         (λ o. IfSome o (λ ear. FindsAlone g.now f (map ear_of ears.now) (ear_of ear))) }
-    ensures none { (f : Set) → IsAsked g.now f stage.now →
+    ensures none { (f : Set) → IsAsked g.now f stage.old →
         AreEars g.now f (map ear_of ears.now) →
         IfOk result (λ o. IfNone o (NoneServes g.now f (map ear_of ears.now))) }
 {
@@ -140,12 +141,13 @@ pub fn choose(
     alloc: Global,
     g: &MultiGraph,
     mark: &[bool],
-    stage: &Stage,
+    stage: &mut Stage,
     ears: &[Ear],
 ) -> Result<Step, Memory>
-    requires asked { IsAsked g.now (marks mark.now) stage.now }
+    requires asked { IsAsked g.now (marks mark.now) stage.old }
     requires stage { IsStage g.now (marks mark.now) }
     requires candidates { AreCandidates g.now (marks mark.now) (map ear_of ears.now) }
+    ensures same { stage.new ≡ stage.old }
     ensures chosen { IfOk result (λ step. IsChosen (map ear_of ears.now) (step_of step)) }
     ensures step { IfOk result (λ step. IsStep g.now (marks mark.now) (step_of step)) }
     ensures stage { IfOk result

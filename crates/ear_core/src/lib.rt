@@ -29,14 +29,15 @@
 //! joins two such vertices is a single ear, and vertices that are no partners have the same
 //! partners.
 //!
-//! Inside, a step is taken on the marks of a stage (`Marked`). The checker keeps a stage with the
-//! mates of a matching (`MatchedStage`) and asks for the partners of one vertex at a time: a single
-//! ear between partners on it is taken at once; else the stage after the step is asked edge by edge
-//! and kept from then on.
+//! Inside, a step is taken on the marks of a stage (`Marked`). Both keep a stage with the mates of
+//! a matching of it (`Stage`), which searches for the partners of a vertex when they are first
+//! asked for, and keeps them. In the checker a single ear between partners on the stage that is
+//! kept is taken at once; else the stage after the step is asked edge by edge and kept from then
+//! on.
 //!
-//! The builder keeps one perfect matching. It asks for partners on a stage (`Stage`), by one search
-//! for a class of vertices that have the same ones, and adds each edge between two partners. It
-//! asks again only when no such edge is left. Then another perfect matching leads out and makes
+//! The builder keeps one perfect matching. It asks for partners on a stage, by one search for a
+//! class of vertices that have the same ones, and adds each edge between two partners. It asks
+//! again only when no such edge is left. Then another perfect matching leads out and makes
 //! ears together with the kept one (`AreMatedEars` of `specs/AlternatingEars`), of which by the
 //! two-ear theorem one serves, or two together. Where it takes two, a matching that leads out at
 //! two vertices alone is sought first: it makes a single ear. The partners on the stage and those

@@ -149,14 +149,15 @@ pub fn lone_matching(
     g: &MultiGraph,
     mark: &[bool],
     met: VSet,
-    stage: &Stage,
+    stage: &mut Stage,
     kept: &Matching,
 ) -> Result<Option<Matching>, Memory>
     requires long { length mark.now ≡ size g.now + 1 }
     requires met { (v : ℕ) → mem met v ≡ is_met g.now (marks mark.now) v }
-    requires stage { IsAsked g.now (marks mark.now) stage.now }
+    requires stage { IsAsked g.now (marks mark.now) stage.old }
     requires kept { IsPerfectRows g.now kept.now }
     requires mates { KeepsMates g.now (row_edge kept.now.rows) (is_met g.now (marks mark.now)) }
+    ensures same { stage.new ≡ stage.old }
     ensures rows { IfOk result (λ o. IfSome o (IsPerfectRows g.now)) }
     ensures two { IfOk result
         (λ o. IfSome o (λ m. LeadsAtTwo g.now (marks mark.now) (mem (edges_of m)))) }
@@ -167,12 +168,10 @@ pub fn lone_matching(
     let tables = tables_of(alloc, g, mark, met, kept)?;
     for k in 0..g.order() {
         let u = k + 1;
-        if met.contains(u) {
-            let row = lone_with(alloc, g, mark, stage, &tables, u)?;
-            if let Some(v) = row.first() {
-                let m = matching_at(alloc, g, mark, met, u, v)?;
-                return Ok(Some(m));
-            }
+        let row = lone_with(alloc, g, mark, stage, &tables, u)?;
+        if let Some(v) = row.first() {
+            let m = matching_at(alloc, g, mark, met, u, v)?;
+            return Ok(Some(m));
         }
     }
     Ok(None)

@@ -131,25 +131,26 @@ fn reached_from(g: &MultiGraph, tables: &Tables, u: u32) -> VSet
     neighbours_of(&tables.near, g.order(), far).union(near)
 }
 
-/// The vertices `v` such that a perfect matching leads out of the stage of the marked edges at `u`
-/// and `v` alone.
+/// The vertices `v` of the stage of the marked edges such that a perfect matching leads out of it
+/// at `u` and `v` alone.
 pub fn lone_with(
     alloc: Global,
     g: &MultiGraph,
     mark: &[bool],
-    stage: &Stage,
+    stage: &mut Stage,
     tables: &Tables,
     u: u32,
 ) -> Result<VSet, Memory>
-    requires stage { IsAsked g.now (marks mark.now) stage.now }
+    requires stage { IsAsked g.now (marks mark.now) stage.old }
     requires tables { AreTables g.now (marks mark.now) tables.now }
-    requires on { is_met g.now (marks mark.now) u ≡ true }
     requires vertex { Within g.now.order u }
+    ensures same { stage.new ≡ stage.old }
     ensures sound { IfOk result (λ row. (v : ℕ) → mem row v ≡ true → (u ≢ v) ×
-        (is_met g.now (marks mark.now) v ≡ true) ×
+        (is_met g.now (marks mark.now) u ≡ true) × (is_met g.now (marks mark.now) v ≡ true) ×
         ((m : Set) × IsPerfectBy g.now (is_open g.now (marks mark.now) u v) m)) }
     ensures complete { IfOk result
-        (λ row. (v : ℕ) → u ≢ v → is_met g.now (marks mark.now) v ≡ true → (m : Set) →
+        (λ row. (v : ℕ) → u ≢ v → is_met g.now (marks mark.now) u ≡ true →
+        is_met g.now (marks mark.now) v ≡ true → (m : Set) →
         IsPerfectBy g.now (is_open g.now (marks mark.now) u v) m → mem row v ≡ true) }
 {
     g.keeps_limits();
@@ -159,9 +160,10 @@ pub fn lone_with(
 
 // The partners of `u` in a set. They are searched for only where it has a vertex of the stage other
 // than `u`.
-fn partners_of(alloc: Global, stage: &Stage, u: u32, set: VSet) -> Result<VSet, Memory>
-    requires { Within stage.now.stage.order u }
-    ensures { IfOk result (λ row. (g : Graph) (f : Set) → IsGraph g → IsAsked g f stage.now →
+fn partners_of(alloc: Global, stage: &mut Stage, u: u32, set: VSet) -> Result<VSet, Memory>
+    requires { Within stage.old.stage.order u }
+    ensures same { stage.new ≡ stage.old }
+    ensures row { IfOk result (λ row. (g : Graph) (f : Set) → IsGraph g → IsAsked g f stage.old →
         (v : ℕ) → (mem row v ≡ true) ↔ (ArePartnersOn g f u v × (mem set v ≡ true))) }
 {
     stage.asked().stage.keeps_limits();

@@ -1,44 +1,60 @@
-//! A stage with the partners on it, searched for as far as they are wanted.
-ghost use Rattle.std.specs.Prelude.{◌≡◌, ◌≢◌, ◌+◌, ◌↔◌, ℕ, false, true, length, IfOk, OnOk};
+//! A stage with the partners on it, searched for as far as they are wanted, and once each.
+ghost use Rattle.std.specs.Prelude.{◌≡◌, ◌≢◌, ◌+◌, ◌↔◌, ℕ, false, true, length, IfOk};
 ghost use Rattle.counting.specs.Common.{Within, item, mem, Set};
 ghost use Rattle.graph_core.specs.Common.{Graph, IsGraph, size};
+ghost use Rattle.match_core.specs.Common.{are_partners};
 ghost use Rattle.match_search.specs.Common.{marks};
-ghost use Rattle.ear_core.specs.Common.{ArePartnersOn, IsAsked, IsPerfectRows, IsStage, is_met};
+ghost use Rattle.ear_core.specs.Common.{ArePartnersOn, HasClasses, HaveRow, IsAsked, IsPerfectRows, IsStage, NamesMatching, is_met};
 
-use crate::asking::Asked;
-use crate::matched::MatchedStage;
-use graph_core::{Ends, MultiGraph};
+use crate::asking::{Asked, asked_about};
+use crate::matched::{matched_mates, mates_on, partners_from};
+use graph_core::MultiGraph;
 use match_core::Matching;
 use std::alloc::{AllocError as Memory, Global};
 use std::marker::Model;
 use vset_core::VSet;
 
-/// The graph of a matching covered stage with partners on it: pairs of its vertices without which
-/// it has a perfect matching. Vertices that are no partners have the same partners, so one search
-/// tells the row of each of them (Kotzig). Contracts see what the matching engine is asked about.
+/// The graph of a stage with the mates of a matching of it, and the rows of partners on it that
+/// were asked for: pairs of its vertices without which it has a perfect matching. If the stage is
+/// known to be covered, vertices that are no partners have the same partners (Kotzig), so one
+/// search tells the row of each of them. Contracts see what the matching engine is asked about.
 #[derive(Drop)]
 pub struct Stage {
-    matched: MatchedStage,
+    asked: Asked,
+    mate: Vec<u32>,
+    covered: bool,
     known: VSet,
     rows: Vec<VSet>,
 }
 
 impl Model for Stage {
-    ghost use Rattle.ear_core.specs.StageRows.{AreSharedRows};
+    ghost use Rattle.ear_core.specs.StageRows.{IsStageOf};
     ghost use Rattle.ear_core.specs.declared.asking.Asked.{Asked};
 
     ghost Value = { Asked };
 
-    ghost view = { λ s. s.matched };
+    ghost view = { λ s. s.asked };
 
-    ghost invariant = { λ s. AreSharedRows s.matched s.known s.rows.items };
+    ghost invariant = { λ s. IsStageOf s.asked s.mate.items s.covered s.known s.rows.items };
 }
 
 impl Stage {
-    /// The stage of the marked edges, which meet the vertices `met`. Known at once are the partners
-    /// of the first end of each edge off the stage that joins two vertices of it: one search for
-    /// each class of them, from the edges of a perfect matching of the graph that are on the stage.
-    pub fn of(
+    /// The stage of the marked edges, which meet the vertices `met`.
+    pub fn of(alloc: Global, g: &MultiGraph, mark: &[bool], met: VSet) -> Result<Stage, Memory>
+        requires long { length mark.now ≡ size g.now + 1 }
+        requires met { (v : ℕ) → mem met v ≡ is_met g.now (marks mark.now) v }
+        ensures { IfOk result (IsAsked g.now (marks mark.now)) }
+    {
+        let asked = asked_about(alloc, g, mark, met)?;
+        let mate = matched_mates(alloc, &asked.stage, asked.outside)?;
+        let stage = Stage::with_mates(alloc, asked, mate, false)?;
+        Ok(stage)
+    }
+
+    /// The same of a stage that is covered, with the mates by the edges of a perfect matching of
+    /// the graph that are on it. The fewer vertices of the stage these miss, the sooner each search
+    /// ends.
+    pub fn by(
         alloc: Global,
         g: &MultiGraph,
         mark: &[bool],
@@ -52,70 +68,89 @@ impl Stage {
         ensures { IfOk result (IsAsked g.now (marks mark.now)) }
     {
         g.keeps_limits();
-        let matched = MatchedStage::by(alloc, g, mark, met, kept)?;
-        let rows = vec![in alloc; VSet::empty(); g.order() as usize]?;
-        let known = VSet::empty();
-        let mut stage = Stage {
-            matched,
-            known,
-            rows,
-        };
-        for k in 0..g.size() {
-            stage.know_first(alloc, mark[k as usize + 1], g.ends(k + 1))?;
-        }
+        let asked = asked_about(alloc, g, mark, met)?;
+        let mate = mates_on(alloc, g, mark, kept)?;
+        let stage = Stage::with_mates(alloc, asked, mate, true)?;
         Ok(stage)
     }
 
-    // Searches for the partners of the first end of an edge, unless it is on the stage or an end is
-    // off it.
-    fn know_first(&mut self, alloc: Global, on: bool, ends: Ends) -> Result<(), Memory>
-        requires first { Within self.old.stage.order ends.a }
-        requires second { Within self.old.stage.order ends.b }
-        ensures { OnOk result (self.new ≡ self.old) }
+    // A stage of which no row is known yet.
+    fn with_mates(
+        alloc: Global,
+        asked: Asked,
+        mate: Vec<u32>,
+        covered: bool,
+    ) -> Result<Stage, Memory>
+        requires matched { NamesMatching asked.stage (mem asked.outside) mate.items }
+        requires classes { covered ≡ true → HasClasses asked.stage (mem asked.outside) }
+        ensures { IfOk result (λ stage. stage ≡ asked) }
     {
-        self.matched.asked().stage.keeps_limits();
-        if on || self.matched.asked().outside.contains(ends.b) {
-            return Ok(());
-        }
-        self.know(alloc, ends.a)
-    }
-
-    // Searches for the partners of `u`, unless they are known. They are those of each vertex that
-    // is no partner of it.
-    fn know(&mut self, alloc: Global, u: u32) -> Result<(), Memory>
-        requires { Within self.old.stage.order u }
-        ensures { OnOk result (self.new ≡ self.old) }
-    {
-        self.matched.asked().stage.keeps_limits();
-        if self.known.contains(u) || self.matched.asked().outside.contains(u) {
-            return Ok(());
-        }
-        let row = self.matched.partners(alloc, u)?;
-        let class = left_without(self.matched.asked(), row);
-        write_rows(&mut self.rows, class, row);
-        self.known = self.known.union(class);
-        Ok(())
+        let rows = vec![in alloc; VSet::empty(); asked.stage.order() as usize]?;
+        let known = VSet::empty();
+        Ok(Stage {
+            asked,
+            mate,
+            covered,
+            known,
+            rows,
+        })
     }
 
     /// What the matching engine is asked about.
     pub fn asked(&self) -> &Asked
         ensures { result.now ≡ self.now }
     {
-        self.matched.asked()
+        &self.asked
     }
 
-    /// The partners of `u`, which are searched for if they are not known.
-    pub fn partners(&self, alloc: Global, u: u32) -> Result<VSet, Memory>
-        requires { Within self.now.stage.order u }
-        ensures { IfOk result (λ row. (g : Graph) (f : Set) → IsGraph g → IsAsked g f self.now →
+    /// The partners of `u`. They are searched for if they are not known, and known from then on.
+    pub fn partners(&mut self, alloc: Global, u: u32) -> Result<VSet, Memory>
+        requires { Within self.old.stage.order u }
+        ensures same { self.new ≡ self.old }
+        ensures row { IfOk result (λ row. (g : Graph) (f : Set) → IsGraph g → IsAsked g f self.old →
             (v : ℕ) → (mem row v ≡ true) ↔ ArePartnersOn g f u v) }
     {
-        self.matched.asked().stage.keeps_limits();
+        self.asked.stage.keeps_limits();
+        if self.asked.outside.contains(u) {
+            return Ok(VSet::empty());
+        }
         if self.known.contains(u) {
             return Ok(row_of(&self.rows, u));
         }
-        let row = self.matched.partners(alloc, u)?;
+        let row = partners_from(alloc, &self.asked.stage, self.asked.outside, &self.mate, u)?;
+        self.keep(u, row);
         Ok(row)
+    }
+
+    // Keeps the row of `u`, for each vertex that has the same partners.
+    fn keep(&mut self, u: u32, row: VSet)
+        requires vertex { Within self.old.stage.order u }
+        requires left { mem self.old.outside u ≡ false }
+        requires within { (v : ℕ) → mem row v ≡ true → Within self.old.stage.order v }
+        requires row { (v : ℕ) → Within self.old.stage.order v →
+            mem row v ≡ are_partners self.old.stage (mem self.old.outside) u v }
+        ensures { self.new ≡ self.old }
+    {
+        let class = self.class_of(u, row);
+        write_rows(&mut self.rows, class, row);
+        self.known = self.known.union(class);
+    }
+
+    // Vertices that have the same partners as `u`, whose row is known: if the stage is covered,
+    // those that are no partners of it.
+    fn class_of(&self, u: u32, row: VSet) -> VSet
+        requires vertex { Within self.now.stage.order u }
+        requires left { mem self.now.outside u ≡ false }
+        requires row { (v : ℕ) → Within self.now.stage.order v →
+            mem row v ≡ are_partners self.now.stage (mem self.now.outside) u v }
+        ensures { HaveRow self.now (mem result) row }
+    {
+        self.asked.stage.keeps_limits();
+        if self.covered {
+            left_without(&self.asked, row)
+        } else {
+            VSet::one(u)
+        }
     }
 }
 

@@ -4,22 +4,18 @@ ghost use Rattle.counting.specs.Common.{Within, Set};
 ghost use Rattle.graph_core.specs.Common.{size};
 ghost use Rattle.ear_core.specs.Common.{IsAsked, AllowedBy, with_edges, IsBehind, IsUpTo, Settled, asked_too};
 
-use crate::matched::MatchedStage;
+use crate::stage::Stage;
 use graph_core::MultiGraph;
 use std::alloc::{AllocError as Memory, Global};
 
 // Whether an edge of the stage lies in a perfect matching of it: whether its two ends are partners.
-fn is_allowed_by(
-    alloc: Global,
-    g: &MultiGraph,
-    stage: &MatchedStage,
-    e: u32,
-) -> Result<bool, Memory>
+fn is_allowed_by(alloc: Global, g: &MultiGraph, stage: &mut Stage, e: u32) -> Result<bool, Memory>
     requires edge { Within (size g.now) e }
-    requires order { stage.now.stage.order ≡ g.now.order }
-    ensures yes { (f : Set) → IsAsked g.now f stage.now → f e ≡ true →
+    requires order { stage.old.stage.order ≡ g.now.order }
+    ensures same { stage.new ≡ stage.old }
+    ensures yes { (f : Set) → IsAsked g.now f stage.old → f e ≡ true →
         IfOk result (λ b. b ≡ true → AllowedBy g.now f e) }
-    ensures no { (f : Set) → IsAsked g.now f stage.now → f e ≡ true →
+    ensures no { (f : Set) → IsAsked g.now f stage.old → f e ≡ true →
         IfOk result (λ b. b ≡ false → AllowedBy g.now f e → ⊥) }
 {
     g.keeps_limits();
@@ -43,14 +39,15 @@ fn is_up_to(known: Option<u32>, e: u32) -> bool
 fn settle(
     alloc: Global,
     g: &MultiGraph,
-    stage: &MatchedStage,
+    stage: &mut Stage,
     known: Option<u32>,
     e: u32,
 ) -> Result<Option<u32>, Memory>
     requires edge { Within (size g.now) e }
-    requires order { stage.now.stage.order ≡ g.now.order }
-    ensures { (f done : Set) → IsAsked g.now f stage.now → f e ≡ true → Settled g.now f done known →
-        IfOk result (Settled g.now f (asked_too done e)) }
+    requires order { stage.old.stage.order ≡ g.now.order }
+    ensures same { stage.new ≡ stage.old }
+    ensures settled { (f done : Set) → IsAsked g.now f stage.old → f e ≡ true →
+        Settled g.now f done known → IfOk result (Settled g.now f (asked_too done e)) }
 {
     if is_up_to(known, e) {
         return Ok(known);
@@ -66,13 +63,14 @@ fn settle(
 pub fn least_refused(
     alloc: Global,
     g: &MultiGraph,
-    stage: &MatchedStage,
+    stage: &mut Stage,
     known: Option<u32>,
     edges: &[u32],
 ) -> Result<Option<u32>, Memory>
     requires edges { All (Within (size g.now)) edges.now }
-    requires order { stage.now.stage.order ≡ g.now.order }
-    ensures { (f done : Set) → IsAsked g.now f stage.now → All (λ e. f e ≡ true) edges.now
+    requires order { stage.old.stage.order ≡ g.now.order }
+    ensures same { stage.new ≡ stage.old }
+    ensures settled { (f done : Set) → IsAsked g.now f stage.old → All (λ e. f e ≡ true) edges.now
         → Settled g.now f done known → IfOk result (Settled g.now f (with_edges done edges.now)) }
 {
     let Some((e, others)) = edges.split_first() else {

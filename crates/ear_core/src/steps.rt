@@ -10,7 +10,7 @@ use crate::ears::Step;
 use crate::faults::tested;
 use crate::judgement::EarWhy;
 use crate::marked::Marked;
-use crate::matched::MatchedStage;
+use crate::stage::Stage;
 use crate::stages::least_refused;
 use graph_core::MultiGraph;
 use std::alloc::{AllocError as Memory, Global};
@@ -46,16 +46,18 @@ fn refused_edge(
     alloc: Global,
     g: &MultiGraph,
     mark: &[bool],
-    stage: &MatchedStage,
+    stage: &mut Stage,
     step: &Step,
 ) -> Result<Option<u32>, Memory>
-    requires asked { IsAsked g.now (marks mark.now) stage.now }
+    requires asked { IsAsked g.now (marks mark.now) stage.old }
     requires first { All (Within (size g.now)) step.now.first.edges }
     requires second { IfSome step.now.second (λ ear. All (Within (size g.now)) ear.edges) }
     requires marked_first { All (λ e. marks mark.now e ≡ true) step.now.first.edges }
     requires marked_second { IfSome step.now.second
         (λ ear. All (λ e. marks mark.now e ≡ true) ear.edges) }
-    ensures { IfOk result (Settled g.now (marks mark.now) (next_stage none (step_of step.now))) }
+    ensures same { stage.new ≡ stage.old }
+    ensures settled { IfOk result
+        (Settled g.now (marks mark.now) (next_stage none (step_of step.now))) }
 {
     let least = least_refused(alloc, g, stage, None, step.first.edges.as_slice())?;
     match &step.second {
@@ -69,12 +71,13 @@ fn refused_edge(
 fn joins_partners(
     alloc: Global,
     g: &MultiGraph,
-    stage: &MatchedStage,
+    stage: &mut Stage,
     step: &Step,
 ) -> Result<bool, Memory>
     requires fits { FitsStep g.now.order (size g.now) (step_of step.now) }
-    requires order { stage.now.stage.order ≡ g.now.order }
-    ensures { IfOk result (λ b. b ≡ true → (f : Set) → IsAskedBefore g.now f stage.now →
+    requires order { stage.old.stage.order ≡ g.now.order }
+    ensures same { stage.new ≡ stage.old }
+    ensures known { IfOk result (λ b. b ≡ true → (f : Set) → IsAskedBefore g.now f stage.old →
         IsStage g.now f → IsStep g.now f (step_of step.now) →
         IsStage g.now (next_stage f (step_of step.now))) }
 {
@@ -105,14 +108,15 @@ fn is_known(
     g: &MultiGraph,
     covered: bool,
     marked: &Marked,
-    stage: &MatchedStage,
+    stage: &mut Stage,
     step: &Step,
 ) -> Result<bool, Memory>
     requires covered { covered ≡ true → IsCovered g.now }
     requires marked { IsMarked g.now marked.now }
     requires fits { FitsStep g.now.order (size g.now) (step_of step.now) }
-    requires order { stage.now.stage.order ≡ g.now.order }
-    ensures { IfOk result (λ b. b ≡ true → (f : Set) → IsAskedBefore g.now f stage.now →
+    requires order { stage.old.stage.order ≡ g.now.order }
+    ensures same { stage.new ≡ stage.old }
+    ensures known { IfOk result (λ b. b ≡ true → (f : Set) → IsAskedBefore g.now f stage.old →
         IsStage g.now f → IsStep g.now f (step_of step.now) →
         ((i : ℕ) → marks marked.now.mark.items i ≡ next_stage f (step_of step.now) i) →
         IsStage g.now (next_stage f (step_of step.now))) }
@@ -134,7 +138,7 @@ pub fn take_step(
     g: &MultiGraph,
     covered: bool,
     marked: &mut Marked,
-    stage: &mut MatchedStage,
+    stage: &mut Stage,
     step: &Step,
 ) -> Result<Option<EarWhy>, Memory>
     requires covered { covered ≡ true → IsCovered g.now }
@@ -157,7 +161,7 @@ pub fn take_step(
     if known {
         return Ok(None);
     }
-    *stage = MatchedStage::of(alloc, g, &marked.mark, marked.met)?;
+    *stage = Stage::of(alloc, g, &marked.mark, marked.met)?;
     match refused_edge(alloc, g, &marked.mark, stage, step)? {
         Some(edge) => Ok(Some(EarWhy::StageNotCovered { edge })),
         None => Ok(None),

@@ -1,4 +1,4 @@
-use Rattle.std.proofs.Common.{◌≡◌, map, subst, sym, List, Option, Some, IfSome, rules}
+use Rattle.std.proofs.Common.{◌≡◌, ◌∙◌, map, subst, sym, List, Option, Some, IfSome, rules}
 use Rattle.counting.proofs.Common.{Set}
 use Rattle.graph_core.proofs.Common.{Graph, IsGraph}
 use Rattle.match_search.specs.Common.{marks}
@@ -43,7 +43,7 @@ unreachable-requires c =
     let ears = map ear_of c.args.ears.now in
     never-none g c.keeps_limits.ensures.multigraph.ends f c.requires.stage ears c.requires.candidates
     (at-none c.in_ok-first.field-0 (NoneServes g f ears) (search rules) (c.in_ok-first.ensures.none f c.requires.asked c.requires.candidates.each))
-    (at-none c.in_ok-step.field-0 (NoTwoServe g f ears) c.in-None.is (c.in_ok-step.ensures.none f (subst (IsAsked g f) (sym c.asked.ensures) c.requires.asked)))
+    (at-none c.in_ok-step.field-0 (NoTwoServe g f ears) c.in-None.is (c.in_ok-step.ensures.none f (subst (IsAsked g f) (sym (c.asked.ensures ∙ c.in_ok-first.ensures.same)) c.requires.asked)))
 
 -- what two ears make
 double : (g : Graph) → IsGraph g → (f : Set) → IsStage g f → (ears : List PlainEar) → AreCandidates g f ears → (o : Option Step) (step : Step) → o ≡ Some step → IfSome o (λ s. FindsTwo g f ears (step_of s)) →
@@ -53,17 +53,17 @@ double g is f stage ears made o step some found = found-two g is f stage ears ma
 pub returns-clause-chosen : goal.returns-clause-chosen
 returns-clause-chosen c =
     let f = marks c.args.mark.now in
-    (double c.args.g.now c.keeps_limits.ensures.multigraph.ends f c.requires.stage (map ear_of c.args.ears.now) c.requires.candidates c.in_ok-step.field-0 c.in-Some-2.step c.in-Some-2.is (c.in_ok-step.ensures.some f (subst (IsAsked c.args.g.now f) (sym c.asked.ensures) c.requires.asked))).0
+    (double c.args.g.now c.keeps_limits.ensures.multigraph.ends f c.requires.stage (map ear_of c.args.ears.now) c.requires.candidates c.in_ok-step.field-0 c.in-Some-2.step c.in-Some-2.is (c.in_ok-step.ensures.some f (subst (IsAsked c.args.g.now f) (sym (c.asked.ensures ∙ c.in_ok-first.ensures.same)) c.requires.asked))).0
 
 pub returns-clause-step : goal.returns-clause-step
 returns-clause-step c =
     let f = marks c.args.mark.now in
-    (double c.args.g.now c.keeps_limits.ensures.multigraph.ends f c.requires.stage (map ear_of c.args.ears.now) c.requires.candidates c.in_ok-step.field-0 c.in-Some-2.step c.in-Some-2.is (c.in_ok-step.ensures.some f (subst (IsAsked c.args.g.now f) (sym c.asked.ensures) c.requires.asked))).1
+    (double c.args.g.now c.keeps_limits.ensures.multigraph.ends f c.requires.stage (map ear_of c.args.ears.now) c.requires.candidates c.in_ok-step.field-0 c.in-Some-2.step c.in-Some-2.is (c.in_ok-step.ensures.some f (subst (IsAsked c.args.g.now f) (sym (c.asked.ensures ∙ c.in_ok-first.ensures.same)) c.requires.asked))).1
 
 pub returns-clause-stage : goal.returns-clause-stage
 returns-clause-stage c =
     let f = marks c.args.mark.now in
-    (double c.args.g.now c.keeps_limits.ensures.multigraph.ends f c.requires.stage (map ear_of c.args.ears.now) c.requires.candidates c.in_ok-step.field-0 c.in-Some-2.step c.in-Some-2.is (c.in_ok-step.ensures.some f (subst (IsAsked c.args.g.now f) (sym c.asked.ensures) c.requires.asked))).2
+    (double c.args.g.now c.keeps_limits.ensures.multigraph.ends f c.requires.stage (map ear_of c.args.ears.now) c.requires.candidates c.in_ok-step.field-0 c.in-Some-2.step c.in-Some-2.is (c.in_ok-step.ensures.some f (subst (IsAsked c.args.g.now f) (sym (c.asked.ensures ∙ c.in_ok-first.ensures.same)) c.requires.asked))).2
 
 pub returns-clause-single : goal.returns-clause-single
 returns-clause-single c = λ sides.
@@ -79,4 +79,4 @@ returns-clause-needed c =
     let ears = map ear_of c.args.ears.now in
     found-needed g c.keeps_limits.ensures.multigraph.ends f c.requires.stage ears c.requires.candidates.each
     (at-none c.in_ok-first.field-0 (NoneServes g f ears) (search rules) (c.in_ok-first.ensures.none f c.requires.asked c.requires.candidates.each))
-    (step_of c.in-Some-2.step) (at-some c.in_ok-step.field-0 c.in-Some-2.step (λ step. FindsTwo g f ears (step_of step)) c.in-Some-2.is (c.in_ok-step.ensures.some f (subst (IsAsked c.args.g.now f) (sym c.asked.ensures) c.requires.asked)))
+    (step_of c.in-Some-2.step) (at-some c.in_ok-step.field-0 c.in-Some-2.step (λ step. FindsTwo g f ears (step_of step)) c.in-Some-2.is (c.in_ok-step.ensures.some f (subst (IsAsked c.args.g.now f) (sym (c.asked.ensures ∙ c.in_ok-first.ensures.same)) c.requires.asked)))

@@ -5,8 +5,8 @@ use Rattle.ear_core.proofs.StageClasses.{left-other}
 use Rattle.ear_core.specs.Common.{IsAsked}
 use Rattle.ear_core.proofs.lone_tables.partners_of.Goals as goal
 
-pub returns-in-None : goal.returns-in-None
-returns-in-None c = λ g f is asks v. (
+pub returns-in-None-clause-row : goal.returns-in-None-clause-row
+returns-in-None-clause-row c = λ g f is asks v. (
   λ t. absurd (true≢false (sym t ∙ ap (λ (xs : List ℕ). mem xs v) c.empty.ensures)),
   λ p.
       let asked = c.asked-2.result.now in
@@ -14,10 +14,10 @@ returns-in-None c = λ g f is asks v. (
       absurd (true≢false (sym other ∙ ap (λ (xs : List ℕ). mem xs v) (at-none c.first.result (c.minus-others.result ≡ []) c.in-None.is c.first.ensures.none))),
 )
 
-pub returns-in_ok-row-in-Some : goal.returns-in_ok-row-in-Some
-returns-in_ok-row-in-Some c = λ g f is asks v.
+pub returns-in_ok-row-in-Some-clause-row : goal.returns-in_ok-row-in-Some-clause-row
+returns-in_ok-row-in-Some-clause-row c = λ g f is asks v.
     let row = c.in_ok-row-in-Some.row in
-    let partners = c.in_ok-row-in-Some.ensures g f is asks v in (
+    let partners = c.in_ok-row-in-Some.ensures.row g f is asks v in (
       λ t. let p = and_parts (mem row v) (mem c.args.set v) (sym (c.meet.ensures v) ∙ t) in (partners.0 p.0, p.1),
       λ p. c.meet.ensures v ∙ and_from (mem row v) (mem c.args.set v) (partners.1 p.0) p.1,
     )

@@ -1,9 +1,10 @@
-use Rattle.std.proofs.Common.{◌≡◌, ◌∙◌, ap, inr, refl, subst, Bool, List, None, ℕ}
+use Rattle.std.proofs.Common.{◌≡◌, ◌∙◌, ap, inr, refl, subst, sym, Bool, List, None, ℕ}
 use Rattle.std.proofs.Math.Path.{fun_ext}
 use Rattle.counting.proofs.Common.{none}
+use Rattle.graph_core.proofs.Common.{size}
 use Rattle.match_search.specs.Common.{marks}
-use Rattle.ear_core.specs.Common.{Settled, next_stage, step_fault, step_of}
-use Rattle.ear_core.proofs.MatchedStages.{asked-on}
+use Rattle.ear_core.specs.Common.{IsAskedBefore, Settled, ear_of, next_stage, step_fault, step_of}
+use Rattle.ear_core.proofs.MatchedStages.{asked-on, first-ear-fits}
 use Rattle.ear_core.proofs.Refusing.{step-none}
 use Rattle.ear_core.proofs.Searching.{at-none}
 use Rattle.ear_core.proofs.Taking.{first_marked, second_marked, step-taken, step-refused}
@@ -19,14 +20,22 @@ returns-then-known-clause-taken c =
     let f = marks c.args.marked.now.mark.items in
     let s = step_of c.args.step.now in
     let passes = passed (goal.at.returns-then-known-clause-taken c).In_default in
-    (passes, c.in_ok-known.ensures c.if-known.true f c.requires.asked c.requires.stage (step-none c.args.g.now f s passes) c.add.ensures.each, c.add.ensures.each)
+    (passes, c.in_ok-known.ensures.known c.if-known.true f c.requires.asked c.requires.stage (step-none c.args.g.now f s passes) c.add.ensures.each, c.add.ensures.each)
 
 pub returns-then-known-clause-asked : goal.returns-then-known-clause-asked
 returns-then-known-clause-asked c =
     let g = c.args.g.now in
     let f = marks c.args.marked.now.mark.items in
     let s = step_of c.args.step.now in
-    asked-on g f (marks c.add.new.self.mark.items) c.args.stage.now s c.requires.asked (step-none g f s (passed (goal.at.returns-then-known-clause-asked c).In_default)) (fun_ext c.add.ensures.each)
+    let new = marks c.add.new.self.mark.items in
+    subst (IsAskedBefore g new) (sym c.in_ok-known.ensures.same)
+    (asked-on g f new c.args.stage.now s c.requires.asked (step-none g f s (passed (goal.at.returns-then-known-clause-asked c).In_default)) (fun_ext c.add.ensures.each))
+
+pub refused_edge-requires-clause-first : goal.refused_edge-requires-clause-first
+refused_edge-requires-clause-first c =
+    let g = c.args.g.now in
+    let step = c.args.step.now in
+    (first-ear-fits g.order (size g) (ear_of step.first) step.second c.requires.fits).1
 
 pub refused_edge-requires-clause-marked_first : goal.refused_edge-requires-clause-marked_first
 refused_edge-requires-clause-marked_first c =
@@ -45,7 +54,7 @@ returns-in-Some-2-clause-taken c =
     let passes = passed (goal.at.returns-in-Some-2-clause-taken c).In_default in
     let new = marks c.deref-2.result.now in
     let same : (i : ℕ) → new i ≡ next_stage f s i = λ i. ap (λ (items : List Bool). marks items i) c.deref-2.ensures.value ∙ c.add.ensures.each i in
-    inr (passes, (c.in-Some-2.edge, step-refused c.args.g.now c.keeps_limits.ensures.multigraph.ends f s new same c.requires.stage passes c.in-Some-2.edge (subst (Settled c.args.g.now new (next_stage none s)) c.in-Some-2.is c.in_ok-edge.ensures), refl))
+    inr (passes, (c.in-Some-2.edge, step-refused c.args.g.now c.keeps_limits.ensures.multigraph.ends f s new same c.requires.stage passes c.in-Some-2.edge (subst (Settled c.args.g.now new (next_stage none s)) c.in-Some-2.is c.in_ok-edge.ensures.settled), refl))
 
 pub returns-in-None-clause-taken : goal.returns-in-None-clause-taken
 returns-in-None-clause-taken c =
@@ -54,4 +63,4 @@ returns-in-None-clause-taken c =
     let passes = passed (goal.at.returns-in-None-clause-taken c).In_default in
     let new = marks c.deref-2.result.now in
     let same : (i : ℕ) → new i ≡ next_stage f s i = λ i. ap (λ (items : List Bool). marks items i) c.deref-2.ensures.value ∙ c.add.ensures.each i in
-    (passes, step-taken c.args.g.now c.keeps_limits.ensures.multigraph.ends f s new same c.requires.stage passes (subst (Settled c.args.g.now new (next_stage none s)) c.in-None.is c.in_ok-edge.ensures), c.add.ensures.each)
+    (passes, step-taken c.args.g.now c.keeps_limits.ensures.multigraph.ends f s new same c.requires.stage passes (subst (Settled c.args.g.now new (next_stage none s)) c.in-None.is c.in_ok-edge.ensures.settled), c.add.ensures.each)

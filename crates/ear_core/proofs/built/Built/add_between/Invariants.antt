@@ -1,4 +1,4 @@
-use Rattle.std.proofs.Common.{◌+◌, ◌≤◌, ℕ}
+use Rattle.std.proofs.Common.{◌≡◌, ◌+◌, ◌≤◌, ℕ}
 use Rattle.counting.proofs.Common.{Set, complement, count}
 use Rattle.graph_core.proofs.Common.{size}
 use Rattle.match_search.specs.Common.{marks}
@@ -8,6 +8,7 @@ use Rattle.ear_core.proofs.built.Built.add_between.Given as goal
 -- edges between partners on the first stage were added, at least one
 abbrev pub invariant-loop-k : goal.invariant-loop-k
 invariant-loop-k l = record {
+  same : l.stage ≡ l.fn.stage;
   marked : IsMarked l.g l.self.marked;
   filled : (n : ℕ → ℕ) (first : Set) → IsBuilt l.g n first l.fn.self → IsFilled l.g n first (marks l.fn.self.marked.mark.items) l.self;
   fewer : count (size l.g) (complement (marks l.self.marked.mark.items)) + 1 ≤ count (size l.g) (complement (marks l.fn.self.marked.mark.items));
