@@ -83,6 +83,10 @@ settles_found g e f p q m s same list of keeps perfect he hf new = settles_pair 
 pub settles_sought : (g : Graph) (e a b : ℕ) (p q : PairsValue) → SettlesEdges g e p → holds_both (edge_lists p) a b ≡ false → Sought g a b p q → SettlesEdges g e q
 settles_sought g e a b p q s new h = grind (arith, settles_more g e p q)
 
+-- where none is listed after the search, the two edges do not lie together
+pub sought_apart : (g : Graph) (e f : ℕ) (p q : PairsValue) → Sought g e f p q → holds_both (edge_lists q) e f ≡ false → Together g e f → ⊥
+sought_apart g e f p q s new together = grind (arith, lists_more p q, now_held (edge_lists p))
+
 pub settles_sought_pair : (g : Graph) (e f : ℕ) (p q : PairsValue) → SettlesPairs g e f p → holds_both (edge_lists p) e f ≡ false → Sought g e f p q → SettlesPairs g e (f + 1) q
 settles_sought_pair g e f p q s new h = grind (arith, settles_found g e f p q, settles_pair g e f p s)
 

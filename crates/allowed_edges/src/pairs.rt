@@ -42,9 +42,9 @@ pub fn no_pairs(alloc: Global, g: &MultiGraph) -> Result<PairTable, Memory>
     Ok(pairs)
 }
 
-/// Looks for a perfect matching that contains `e` and `f` if no listed one does, and lists it. The
-/// returned matching contains `e`, and is the one from which the next search starts: the last that
-/// was found.
+/// Looks for a perfect matching that contains `e` and `f`, which share no end, if no listed one
+/// does, and lists it; if none is listed then, the two do not lie together. The returned matching
+/// contains `e`, and is the one from which the next search starts: the last that was found.
 pub fn seek_pair(
     alloc: Global,
     g: &MultiGraph,
@@ -58,6 +58,9 @@ pub fn seek_pair(
     requires kept { IsPerfectWith g.now e kept }
     requires begun { SettlesEdges g.now 1 pairs.old }
     ensures begun { IfOk result (λ _. SettlesEdges g.now 1 pairs.new) }
+    ensures sought { IfOk result
+        (λ _. holds_both (edge_lists pairs.new) e f ≡ false → share_end g.now e f ≡ false →
+        Together g.now e f → ⊥) }
     ensures next { IfOk result (IsPerfectWith g.now e) }
 {
     if pairs.both(e, f) {

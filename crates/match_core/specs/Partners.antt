@@ -1,7 +1,7 @@
 -- Partners: the vertices that can be missed together (Lovász and Plummer, "Matching Theory",
 -- chapter 5).
--- Stated by: match_core, allowed_edges, graph_facts, separation_kit, ear_core, mcg6_lines.
--- Used by: barrier_kit, tight_cuts.
+-- Stated by: match_core, allowed_edges, graph_facts, separation_kit, tight_cuts and 2 more.
+-- Used by: barrier_kit.
 use Rattle.std.specs.Prelude.{◌≡◌, ℕ, Bool, true, false, List, ◌==◌, ◌&&◌, not, length}
 use Rattle.counting.specs.Common.{Within, Set, pair_set, union, item, mem}
 use Rattle.graph_core.specs.Common.{Graph, has_perfect}

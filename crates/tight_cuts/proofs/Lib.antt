@@ -30,3 +30,4 @@ pub mod FrontEmpty
 pub mod BipartiteShores
 pub mod OneSided
 pub mod PartnersOfEnds
+pub mod ApartRows

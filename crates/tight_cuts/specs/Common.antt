@@ -11,4 +11,4 @@ pub use Rattle.tight_cuts.specs.View.{origin_of, candidate_of}
 pub use Rattle.tight_cuts.specs.CandidatesAt.{lifted_candidate, IsCandidateAt}
 unfoldable pub use Rattle.tight_cuts.specs.CandidatesAt.{candidates_at}
 pub use Rattle.tight_cuts.specs.EdgeDigraphs.{AreFloodsOf, IsDigraphAt}
-pub use Rattle.tight_cuts.specs.QuietEdges.{IsOneSided}
+pub use Rattle.tight_cuts.specs.QuietEdges.{IsOneSided, LieApart}

@@ -1,8 +1,9 @@
 -- What the search at one edge keeps in rows, and what it answers.
 -- Stated by: tight_cuts.
 use Rattle.std.specs.Prelude.{◌≡◌, ◌≢◌, ℕ, zero, suc, ◌+◌, ◌<◌, ◌≤◌, ◌^◌, ◌⊎◌, false, true, List, [], ◌∷◌, ◌++◌, ◌==◌, Option, Some, None, cond, length, slice_index_or}
-use Rattle.allowed_edges.specs.PairTables.{AreGrown, PairsValue, SettlesEdges}
-use Rattle.match_core.specs.Common.{IsOf, MatchingValue, edges_of}
+use Rattle.allowed_edges.specs.PairTables.{AreGrown, SettlesEdges}
+use Rattle.match_core.specs.Common.{IsOf, edges_of}
+use Rattle.tight_cuts.specs.declared.matchings.Matchings.{Matchings}
 use Rattle.counting.specs.Common.{Within, total, Set, none, pair_set, mem}
 use Rattle.graph_core.specs.Common.{components, IsCovered, Graph, size, first_end, second_end, has_ends, IsPerfect}
 use Rattle.flow_core.specs.Common.{Arc, Net, HasCutWithin, IsLeastCut}
@@ -22,11 +23,14 @@ pub record AreWeights (g : Graph) (list : List (List ℕ)) (weights : List ℕ) 
   pub each : (e : ℕ) → Within (size g) e → at_place weights e ≡ weight list e
   pub is : bound ≡ length list
 
--- a perfect matching of g, and a table in which perfect matchings are listed
-pub record AreMatchings (g : Graph) (kept : MatchingValue) (pairs : PairsValue) : Type 0 where
-  pub of : IsOf g kept
-  pub perfect : IsPerfect g none (mem (edges_of kept))
-  pub listed : SettlesEdges g 1 pairs
+-- a perfect matching of g, a table in which perfect matchings are listed, and what is known of
+-- pairs of edges of g
+pub record AreMatchings (g : Graph) (m : Matchings) : Type 0 where
+  pub of : IsOf g m.kept
+  pub perfect : IsPerfect g none (mem (edges_of m.kept))
+  pub listed : SettlesEdges g 1 m.pairs
+  pub apart : m.apart ≡ g
+  pub rows : m.rows ≡ g
 
 -- the row has for each vertex the least vertex of its piece at edge e with the ends a and b; these
 -- stand for themselves

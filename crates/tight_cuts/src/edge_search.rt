@@ -45,12 +45,12 @@ pub(crate) fn first_lacking(shore: VSet, n: u32, b: u32) -> Option<u32>
 fn shore_of_piece(
     alloc: Global,
     g: &MultiGraph,
-    matchings: &mut Matchings,
+    matchings: &mut Matchings<'_>,
     leaders: &[u32],
     groups: Grouping,
     e: u32,
 ) -> Result<Option<VSet>, Memory>
-    requires matchings { AreMatchings g.now matchings.old.kept matchings.old.pairs }
+    requires matchings { AreMatchings g.now matchings.old }
     requires leaders { AreLeadersAt g.now (lesser_end g.now e) (greater_end g.now e) e
         leaders.now }
     requires first { groups.a ≡ lesser_end g.now e }
@@ -59,7 +59,7 @@ fn shore_of_piece(
     requires y { groups.y ≡ greater_end g.now e }
     requires before { NoneBefore g.now e groups.x 1 }
     ensures matchings { IfOk result
-        (λ _. AreMatchings g.now matchings.new.kept matchings.new.pairs) }
+        (λ _. AreMatchings g.now matchings.new) }
     ensures some { IfOk result (λ o. (s : _) → o ≡ Some s → IsShoreOfEdge g.now e o) }
     ensures none { IfOk result (λ o. o ≡ None → NoneBefore g.now e (groups.x + 1) 1) }
 {
@@ -78,18 +78,18 @@ fn shore_of_piece(
 fn shore_from(
     alloc: Global,
     g: &MultiGraph,
-    matchings: &mut Matchings,
+    matchings: &mut Matchings<'_>,
     leaders: &[u32],
     e: u32,
     x: u32,
 ) -> Result<Option<VSet>, Memory>
-    requires matchings { AreMatchings g.now matchings.old.kept matchings.old.pairs }
+    requires matchings { AreMatchings g.now matchings.old }
     requires leaders { AreLeadersAt g.now (lesser_end g.now e) (greater_end g.now e) e
         leaders.now }
     requires x { Within g.now.order x }
     requires before { NoneBefore g.now e x 1 }
     ensures matchings { IfOk result
-        (λ _. AreMatchings g.now matchings.new.kept matchings.new.pairs) }
+        (λ _. AreMatchings g.now matchings.new) }
     ensures some { IfOk result (λ o. (s : _) → o ≡ Some s → IsShoreOfEdge g.now e o) }
     ensures none { IfOk result (λ o. o ≡ None → NoneBefore g.now e (x + 1) 1) }
 {
@@ -109,15 +109,15 @@ fn shore_from(
 fn first_shore(
     alloc: Global,
     g: &MultiGraph,
-    matchings: &mut Matchings,
+    matchings: &mut Matchings<'_>,
     leaders: &[u32],
     e: u32,
 ) -> Result<Option<VSet>, Memory>
-    requires matchings { AreMatchings g.now matchings.old.kept matchings.old.pairs }
+    requires matchings { AreMatchings g.now matchings.old }
     requires leaders { AreLeadersAt g.now (lesser_end g.now e) (greater_end g.now e) e
         leaders.now }
     ensures matchings { IfOk result
-        (λ _. AreMatchings g.now matchings.new.kept matchings.new.pairs) }
+        (λ _. AreMatchings g.now matchings.new) }
     ensures shore { IfOk result (IsShoreOfEdge g.now e) }
 {
     g.keeps_limits();
@@ -135,12 +135,12 @@ fn first_shore(
 /// The search at the edges of any covered graph, by the perfect matchings that are listed so far
 /// and those that it lists.
 #[derive(Drop)]
-pub(crate) struct NetworkSearch {
-    pub(crate) matchings: Matchings,
+pub(crate) struct NetworkSearch<'g> {
+    pub(crate) matchings: Matchings<'g>,
 }
 
-impl EdgeSearch for NetworkSearch {
-    ghost is_of = { λ search g. AreMatchings g search.matchings.kept search.matchings.pairs };
+impl<'g> EdgeSearch for NetworkSearch<'g> {
+    ghost is_of = { λ search g. AreMatchings g search.matchings };
 
     fn shore_of_edge(
         &mut self,

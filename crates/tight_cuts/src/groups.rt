@@ -138,17 +138,17 @@ fn cut_of_groups(
 pub(crate) fn common_shore(
     alloc: Global,
     g: &MultiGraph,
-    matchings: &mut Matchings,
+    matchings: &mut Matchings<'_>,
     leaders: &[u32],
     groups: Grouping,
     e: u32,
 ) -> Result<Option<VSet>, Memory>
-    requires matchings { AreMatchings g.now matchings.old.kept matchings.old.pairs }
+    requires matchings { AreMatchings g.now matchings.old }
     requires leaders { AreLeadersAt g.now groups.a groups.b e leaders.now }
     requires x { Leads g.now groups.a groups.b leaders.now groups.x }
     requires y { IsBeyond g.now groups.a groups.b leaders.now groups.x groups.y }
     ensures matchings { IfOk result
-        (λ _. AreMatchings g.now matchings.new.kept matchings.new.pairs) }
+        (λ _. AreMatchings g.now matchings.new) }
     ensures shore { IfOk result (IsCommonShore g.now groups.a groups.b (groups.x, groups.y)) }
 {
     g.keeps_limits();
@@ -157,7 +157,7 @@ pub(crate) fn common_shore(
         let Some(shore) = cut_of_groups(alloc, g, &weights, leaders, groups)? else {
             return Ok(None);
         };
-        match crossing(alloc, g, shore, &matchings.kept)? {
+        match crossing(alloc, g, shore, &matchings.kept, &mut matchings.rows)? {
             None => return Ok(Some(shore)),
             Some(matching) => list_new(alloc, g, &mut matchings.pairs, matching)?,
         }

@@ -21,18 +21,18 @@ use std::alloc::{AllocError as Memory, Global};
 pub(crate) fn is_inseparable(
     alloc: Global,
     g: &MultiGraph,
-    matchings: &mut Matchings,
+    matchings: &mut Matchings<'_>,
     leaders: &[u32],
     e: u32,
     x: u32,
 ) -> Result<bool, Memory>
-    requires matchings { AreMatchings g.now matchings.old.kept matchings.old.pairs }
+    requires matchings { AreMatchings g.now matchings.old }
     requires leaders { AreLeadersAt g.now (lesser_end g.now e) (greater_end g.now e) e
         leaders.now }
     requires x { Within g.now.order x }
     requires before { NoneBefore g.now e (x + 1) 1 }
     ensures matchings { IfOk result
-        (λ _. AreMatchings g.now matchings.new.kept matchings.new.pairs) }
+        (λ _. AreMatchings g.now matchings.new) }
     ensures none { IfOk result (λ r. r ≡ true → first_separated g.now e ≡ None) }
 {
     g.keeps_limits();
@@ -61,17 +61,17 @@ pub(crate) fn is_inseparable(
 fn are_whole(
     alloc: Global,
     g: &MultiGraph,
-    matchings: &mut Matchings,
+    matchings: &mut Matchings<'_>,
     leaders: &[u32],
     groups: Grouping,
     e: u32,
 ) -> Result<bool, Memory>
-    requires matchings { AreMatchings g.now matchings.old.kept matchings.old.pairs }
+    requires matchings { AreMatchings g.now matchings.old }
     requires leaders { AreLeadersAt g.now groups.a groups.b e leaders.now }
     requires x { Leads g.now groups.a groups.b leaders.now groups.x }
     requires y { groups.y ≡ groups.b }
     ensures matchings { IfOk result
-        (λ _. AreMatchings g.now matchings.new.kept matchings.new.pairs) }
+        (λ _. AreMatchings g.now matchings.new) }
     ensures whole { IfOk result (λ r. r ≡ true → AreWhole g.now groups.a groups.b groups.x) }
 {
     g.keeps_limits();

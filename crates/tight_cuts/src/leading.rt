@@ -55,13 +55,13 @@ fn leaders_of(alloc: Global, h: &MultiGraph, a: u32, b: u32) -> Result<Vec<u32>,
 pub(crate) fn leaders_at(
     alloc: Global,
     c: &Covered,
-    matchings: &mut Matchings,
+    matchings: &mut Matchings<'_>,
     e: u32,
 ) -> Result<Vec<u32>, Memory>
     requires edge { Within (size c.now) e }
-    requires matchings { AreMatchings c.now matchings.old.kept matchings.old.pairs }
+    requires matchings { AreMatchings c.now matchings.old }
     ensures matchings { IfOk result
-        (λ _. AreMatchings c.now matchings.new.kept matchings.new.pairs) }
+        (λ _. AreMatchings c.now matchings.new) }
     ensures leaders { IfOk result
         (λ row. AreLeadersAt c.now (lesser_end c.now e) (greater_end c.now e) e row.items) }
 {

@@ -21,10 +21,11 @@
 //! and if a perfect matching crosses it twice, that one is listed and the next cut is made. Two
 //! cuts decide whether the edge gives anything, and one for each piece what it gives
 //! (`EdgePieces`). Before that the listed matchings and a few more may show that the edge gives
-//! nothing (`QuietEdges`). One walk over the edges, `add_edge_cuts`, asks either search (the trait
-//! `EdgeSearch`), but for edges between vertices that earlier edges show not to be separated
-//! (`ClusteredVertices`). In a dense graph floods show this of most edges before the walk
-//! (`joining`).
+//! nothing (`QuietEdges`). What is known of two edges that do not lie together, and of the partners
+//! without the ends of an edge, is kept (`ApartEdges`, `KeptRows`). One walk over the edges,
+//! `add_edge_cuts`, asks either search (the trait `EdgeSearch`), but for edges between vertices that
+//! earlier edges show not to be separated (`ClusteredVertices`). In a dense graph floods show this
+//! of most edges before the walk (`joining`).
 //!
 //! Whether a cut is tight is mostly shown without asking its edges one by one: by the numbers of
 //! vertices in a bipartite graph (`SurplusShores`), elsewhere by the vertices at which two edges
@@ -43,6 +44,7 @@
 //! minimum cuts.
 #![tactic(auto)]
 
+mod apart_edges;
 mod at_places;
 mod balanced;
 mod bipartite;
@@ -55,6 +57,7 @@ mod front;
 mod groups;
 mod inseparable;
 mod joining;
+mod kept_rows;
 mod leading;
 mod matchings;
 mod pieces;

@@ -4,9 +4,10 @@
 //! such edges join all vertices but the ends of e with one another, then these vertices are all on
 //! one side, and no two of them are separated at e: the edge is quiet. Mostly a few perfect
 //! matchings show it, and each of them serves all edges that it holds.
-ghost use Rattle.std.specs.Prelude.{◌≡◌, ◌≢◌, ℕ, true, IfOk, None};
+ghost use Rattle.std.specs.Prelude.{◌≡◌, ◌≢◌, ℕ, true, false, IfOk, None};
 ghost use Rattle.counting.specs.Common.{Within, mem};
 ghost use Rattle.graph_core.specs.Common.{first_end, second_end, size};
+ghost use Rattle.allowed_edges.specs.Leaving.{share_end};
 ghost use Rattle.allowed_edges.specs.PairTables.{IsPerfectWith, SettlesEdges};
 ghost use Rattle.tight_cuts.specs.Common.{first_separated, AreMatchings, IsOneSided};
 
@@ -25,13 +26,13 @@ const MOST_REFUSED: u32 = 2;
 pub(crate) fn is_quiet(
     alloc: Global,
     g: &MultiGraph,
-    matchings: &mut Matchings,
+    matchings: &mut Matchings<'_>,
     e: u32,
 ) -> Result<bool, Memory>
     requires edge { Within (size g.now) e }
-    requires matchings { AreMatchings g.now matchings.old.kept matchings.old.pairs }
+    requires matchings { AreMatchings g.now matchings.old }
     ensures matchings { IfOk result
-        (λ _. AreMatchings g.now matchings.new.kept matchings.new.pairs) }
+        (λ _. AreMatchings g.now matchings.new) }
     ensures quiet { IfOk result (λ quiet. quiet ≡ true → first_separated g.now e ≡ None) }
 {
     g.keeps_limits();
@@ -46,7 +47,7 @@ pub(crate) fn is_quiet(
     match base_with_edge(alloc, g, &matchings.kept, &matchings.pairs, e)? {
         None => Ok(false),
         Some(base) => {
-            let reach = reach_of(alloc, g, base, &mut matchings.pairs, e, near)?;
+            let reach = reach_of(alloc, g, base, matchings, e, near)?;
             Ok(others.is_subset(reach))
         }
     }
@@ -71,15 +72,15 @@ fn reach_of(
     alloc: Global,
     g: &MultiGraph,
     base: Matching,
-    pairs: &mut PairTable,
+    matchings: &mut Matchings<'_>,
     e: u32,
     near: VSet,
 ) -> Result<VSet, Memory>
     requires edge { Within (size g.now) e }
     requires base { IsPerfectWith g.now e base }
-    requires begun { SettlesEdges g.now 1 pairs.old }
+    requires matchings { AreMatchings g.now matchings.old }
     requires near { IsOneSided g.now e (mem near) }
-    ensures begun { IfOk result (λ _. SettlesEdges g.now 1 pairs.new) }
+    ensures matchings { IfOk result (λ _. AreMatchings g.now matchings.new) }
     ensures reach { IfOk result (λ reach. IsOneSided g.now e (mem reach)) }
 {
     let mut kept = base;
@@ -90,9 +91,9 @@ fn reach_of(
         for k in 0..g.size() {
             let f = k + 1;
             if refused < MOST_REFUSED && is_in_cut(g, reach, f) && !share_end(g, e, f) {
-                kept = seek_pair(alloc, g, kept, pairs, e, f)?;
-                refused += u32::from(!pairs.both(e, f));
-                reach = widened_past(g, pairs, e, reach, f);
+                kept = sought(alloc, g, kept, matchings, e, f)?;
+                refused += u32::from(!matchings.pairs.both(e, f));
+                reach = widened_past(g, &matchings.pairs, e, reach, f);
             }
         }
         if reach == before {
@@ -100,6 +101,33 @@ fn reach_of(
         }
     }
     Ok(reach)
+}
+
+// Seeks a perfect matching that holds `e` and `f`, unless it is known that there is none.
+fn sought(
+    alloc: Global,
+    g: &MultiGraph,
+    kept: Matching,
+    matchings: &mut Matchings<'_>,
+    e: u32,
+    f: u32,
+) -> Result<Matching, Memory>
+    requires edge { Within (size g.now) e }
+    requires other { Within (size g.now) f }
+    requires apart { share_end g.now e f ≡ false }
+    requires kept { IsPerfectWith g.now e kept }
+    requires matchings { AreMatchings g.now matchings.old }
+    ensures matchings { IfOk result (λ _. AreMatchings g.now matchings.new) }
+    ensures next { IfOk result (IsPerfectWith g.now e) }
+{
+    if matchings.apart.has(e, f) {
+        return Ok(kept);
+    }
+    let next = seek_pair(alloc, g, kept, &mut matchings.pairs, e, f)?;
+    if !matchings.pairs.both(e, f) {
+        matchings.apart.note(e, f);
+    }
+    Ok(next)
 }
 
 // A vertex set widened, if a listed matching holds `f` and `e`.

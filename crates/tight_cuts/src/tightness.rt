@@ -1,16 +1,17 @@
 //! Whether an odd cut is tight.
-ghost use Rattle.std.specs.Prelude.{◌≡◌, ℕ, ◌+◌, ◌<◌, ◌||◌, ◌&&◌, ◌==◌, not, true, false, length, ◌↔◌, Some, None, IfOk};
+ghost use Rattle.std.specs.Prelude.{◌≡◌, ℕ, ◌+◌, ◌<◌, ◌||◌, ◌&&◌, ◌==◌, ◌⊎◌, not, true, false, length, ◌↔◌, Some, None, IfOk};
 ghost use Rattle.counting.specs.Common.{Within, is_odd, none, mem, IsRisingIn};
-ghost use Rattle.graph_core.specs.Common.{IsCovered, in_cut, size, IsPerfect, Together};
+ghost use Rattle.graph_core.specs.Common.{IsCovered, first_end, in_cut, second_end, size, IsPerfect, Together};
 ghost use Rattle.match_core.specs.Common.{IsOf, edges_of};
 ghost use Rattle.allowed_edges.specs.Leaving.{share_end};
 ghost use Rattle.allowed_edges.specs.PairTables.{IsPerfectWith};
-ghost use Rattle.tight_cuts.specs.Common.{AreEndsPartners, AreRowsWithout, CrossesTwice, IsTightness, NoLaterWith};
+ghost use Rattle.tight_cuts.specs.Common.{AreEndsPartners, CrossesTwice, IsTightness, NoLaterWith};
 
 use crate::balanced::is_balanced;
+use crate::kept_rows::KeptRows;
 use crate::quick_tightness::is_uncrossed;
 use allowed_edges::{perfect_with_edge, perfect_with_pair, share_end};
-use graph_core::{MultiGraph, is_in_cut};
+use graph_core::{Ends, MultiGraph, is_in_cut};
 use graph_facts::Covered;
 use match_core::{LazyPartners, Matching, perfect_without};
 use std::alloc::{AllocError as Memory, Global};
@@ -44,7 +45,7 @@ pub fn is_tight(alloc: Global, g: &MultiGraph, shore: VSet) -> Result<Tightness,
 {
     g.keeps_limits();
     match perfect_without(alloc, g, VSet::empty())? {
-        Some(kept) => match crossing(alloc, g, shore, &kept)? {
+        Some(kept) => match crossing(alloc, g, shore, &kept, &mut KeptRows::new(alloc, g))? {
             Some(matching) => Ok(Tightness::Crossed { matching }),
             None => Ok(Tightness::Tight),
         },
@@ -63,7 +64,8 @@ pub fn tightness_in(alloc: Global, c: &Covered, shore: VSet) -> Result<Tightness
     if is_balanced(c, shore) {
         return Ok(Tightness::Tight);
     }
-    match crossing(alloc, c.graph(), shore, c.matching())? {
+    let g = c.graph();
+    match crossing(alloc, g, shore, c.matching(), &mut KeptRows::new(alloc, g))? {
         Some(matching) => Ok(Tightness::Crossed { matching }),
         None => Ok(Tightness::Tight),
     }
@@ -76,19 +78,22 @@ pub(crate) fn crossing(
     g: &MultiGraph,
     shore: VSet,
     kept: &Matching,
+    rows: &mut KeptRows<'_>,
 ) -> Result<Option<Matching>, Memory>
     requires of { IsOf g.now kept.now }
     requires perfect { IsPerfect g.now none (mem (edges_of kept.now)) }
+    requires rows { rows.old ≡ g.now }
     ensures some { IfOk result (λ o. (m : _) → o ≡ Some m → CrossesTwice g.now (mem shore) m) }
     ensures none { IfOk result
         (λ o. o ≡ None → (e : ℕ) → Within (size g.now) e → in_cut g.now (mem shore) e ≡ true →
         NoLaterWith g.now (mem shore) e) }
+    ensures same { rows.new ≡ rows.old }
 {
     if is_uncrossed(alloc, g, smaller_side(g, shore), kept)? {
         return Ok(None);
     }
     for k in 0..g.size() {
-        if let Some(matching) = crossing_with(alloc, g, shore, kept, k + 1)? {
+        if let Some(matching) = crossing_with(alloc, g, shore, kept, rows, k + 1)? {
             return Ok(Some(matching));
         }
     }
@@ -114,14 +119,17 @@ fn crossing_with(
     g: &MultiGraph,
     shore: VSet,
     kept: &Matching,
+    rows: &mut KeptRows<'_>,
     e: u32,
 ) -> Result<Option<Matching>, Memory>
     requires edge { Within (size g.now) e }
     requires of { IsOf g.now kept.now }
     requires perfect { IsPerfect g.now none (mem (edges_of kept.now)) }
+    requires rows { rows.old ≡ g.now }
     ensures some { IfOk result (λ o. (m : _) → o ≡ Some m → CrossesTwice g.now (mem shore) m) }
     ensures none { IfOk result
         (λ o. o ≡ None → in_cut g.now (mem shore) e ≡ true → NoLaterWith g.now (mem shore) e) }
+    ensures same { rows.new ≡ rows.old }
 {
     if !is_in_cut(g, shore, e) {
         return Ok(None);
@@ -130,7 +138,7 @@ fn crossing_with(
         return Ok(None);
     }
     match perfect_with_edge(alloc, g, kept, e)? {
-        Some(held) => crossing_from(alloc, g, shore, &held, e),
+        Some(held) => crossing_from(alloc, g, shore, &held, rows, e),
         None => Ok(None),
     }
 }
@@ -171,20 +179,19 @@ fn crossing_from(
     g: &MultiGraph,
     shore: VSet,
     held: &Matching,
+    rows: &mut KeptRows<'_>,
     e: u32,
 ) -> Result<Option<Matching>, Memory>
     requires edge { Within (size g.now) e }
     requires in_cut { in_cut g.now (mem shore) e ≡ true }
     requires held { IsPerfectWith g.now e held.now }
+    requires rows { rows.old ≡ g.now }
     ensures some { IfOk result (λ o. (m : _) → o ≡ Some m → CrossesTwice g.now (mem shore) m) }
     ensures none { IfOk result (λ o. o ≡ None → NoLaterWith g.now (mem shore) e) }
+    ensures same { rows.new ≡ rows.old }
 {
-    g.keeps_limits();
-    let ends = g.ends(e);
-    let met = VSet::empty().with(ends.a).with(ends.b);
-    let mut rows = LazyPartners::new(alloc, g, met, held)?;
     for k in e..g.size() {
-        if let Some(matching) = crossing_by(alloc, g, shore, held, &mut rows, e, k + 1)? {
+        if let Some(matching) = crossing_by(alloc, g, shore, held, rows, e, k + 1)? {
             return Ok(Some(matching));
         }
     }
@@ -192,14 +199,13 @@ fn crossing_from(
 }
 
 // A perfect matching with the edge e of the cut and the later edge f of it, from one that holds
-// e, and from rows of partners in the graph without the ends of e; none exactly when f is not in
-// the cut or the two do not lie together.
+// e; none exactly when f is not in the cut or the two do not lie together.
 fn crossing_by(
     alloc: Global,
     g: &MultiGraph,
     shore: VSet,
     held: &Matching,
-    rows: &mut LazyPartners<'_>,
+    rows: &mut KeptRows<'_>,
     e: u32,
     f: u32,
 ) -> Result<Option<Matching>, Memory>
@@ -208,7 +214,7 @@ fn crossing_by(
     requires later { e < f }
     requires in_cut { in_cut g.now (mem shore) e ≡ true }
     requires held { IsPerfectWith g.now e held.now }
-    requires rows { AreRowsWithout g.now e rows.old }
+    requires rows { rows.old ≡ g.now }
     ensures some { IfOk result (λ o. (m : _) → o ≡ Some m → CrossesTwice g.now (mem shore) m) }
     ensures none { IfOk result
         (λ o. o ≡ None → in_cut g.now (mem shore) f ≡ true → Together g.now e f → ⊥) }
@@ -218,15 +224,58 @@ fn crossing_by(
     if !is_to_ask(g, shore, e, f) {
         return Ok(None);
     }
-    if !has_partners(alloc, g, shore, rows, f)? {
+    if !may_hold_both(alloc, g, shore, held, rows, e, f)? {
         return Ok(None);
     }
     let found = perfect_with_pair(alloc, g, held, e, f)?;
     Ok(found)
 }
 
-// Whether the ends of f are partners, by the row of the end on the smaller side of the cut, which
-// other edges of the cut share.
+// Whether the ends of f are partners in the graph without the ends of e; otherwise the two edges
+// do not lie together.
+fn may_hold_both(
+    alloc: Global,
+    g: &MultiGraph,
+    shore: VSet,
+    held: &Matching,
+    rows: &mut KeptRows<'_>,
+    e: u32,
+    f: u32,
+) -> Result<bool, Memory>
+    requires first { Within (size g.now) e }
+    requires second { Within (size g.now) f }
+    requires apart { share_end g.now e f ≡ false }
+    requires held { IsOf g.now held.now }
+    requires rows { rows.old ≡ g.now }
+    ensures none { IfOk result (λ may. may ≡ false → Together g.now e f → ⊥) }
+    ensures same { rows.new ≡ rows.old }
+{
+    g.keeps_limits();
+    let ends = g.ends(e);
+    let met = VSet::empty().with(ends.a).with(ends.b);
+    let far = smaller_end_first(g, shore, f);
+    let row = rows.of(alloc, met, held, far.a)?;
+    Ok(row.contains(far.b))
+}
+
+// The ends of f, first the one on the smaller side of the cut, which other edges of the cut share.
+fn smaller_end_first(g: &MultiGraph, shore: VSet, f: u32) -> Ends
+    requires { Within (size g.now) f }
+    ensures { ((result.a ≡ first_end g.now f) × (result.b ≡ second_end g.now f)) ⊎
+        ((result.a ≡ second_end g.now f) × (result.b ≡ first_end g.now f)) }
+{
+    let ends = g.ends(f);
+    let is_small = shore.len() <= g.order() / 2;
+    if shore.contains(ends.a) == is_small {
+        return ends;
+    }
+    Ends {
+        a: ends.b,
+        b: ends.a,
+    }
+}
+
+/// Whether the ends of f are partners, by the row of the end on the smaller side of the cut.
 pub(crate) fn has_partners(
     alloc: Global,
     g: &MultiGraph,
@@ -241,11 +290,6 @@ pub(crate) fn has_partners(
     ensures same { rows.new ≡ rows.old }
 {
     g.keeps_limits();
-    let ends = g.ends(f);
-    let is_small = shore.len() <= g.order() / 2;
-    if shore.contains(ends.a) == is_small {
-        Ok(rows.of(alloc, ends.a)?.contains(ends.b))
-    } else {
-        Ok(rows.of(alloc, ends.b)?.contains(ends.a))
-    }
+    let ends = smaller_end_first(g, shore, f);
+    Ok(rows.of(alloc, ends.a)?.contains(ends.b))
 }

@@ -4,6 +4,6 @@ use Rattle.tight_cuts.proofs.edge_search.first_shore.Given as goal
 
 abbrev pub invariant-loop-k : goal.invariant-loop-k
 invariant-loop-k l = record {
-  matchings : AreMatchings l.g l.matchings.kept l.matchings.pairs;
+  matchings : AreMatchings l.g l.matchings;
   before : NoneBefore l.g l.e (l.k + 1) 1;
 }

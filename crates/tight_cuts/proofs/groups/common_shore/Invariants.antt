@@ -4,6 +4,6 @@ use Rattle.tight_cuts.proofs.groups.common_shore.Given as goal
 
 abbrev pub invariant-loop-listed : goal.invariant-loop-listed
 invariant-loop-listed l = record {
-  matchings : AreMatchings l.g l.matchings.kept l.matchings.pairs;
+  matchings : AreMatchings l.g l.matchings;
   more : l._listed ≤ length l.matchings.pairs.list;
 }

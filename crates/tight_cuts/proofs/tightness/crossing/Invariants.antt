@@ -5,4 +5,7 @@ use Rattle.tight_cuts.specs.Common.{NoLaterWith}
 use Rattle.tight_cuts.proofs.tightness.crossing.Given as goal
 
 abbrev pub invariant-loop-k : goal.invariant-loop-k
-invariant-loop-k l = (d : ℕ) → Within l.k d → in_cut l.g (mem l.shore) d ≡ true → NoLaterWith l.g (mem l.shore) d
+invariant-loop-k l = record {
+  apart : (d : ℕ) → Within l.k d → in_cut l.g (mem l.shore) d ≡ true → NoLaterWith l.g (mem l.shore) d;
+  rows : l.rows ≡ l.g;
+}

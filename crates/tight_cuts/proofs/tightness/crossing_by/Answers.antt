@@ -1,7 +1,6 @@
 use Rattle.std.proofs.Common.{◌≡◌, false, arith}
 use Rattle.counting.proofs.Common.{mem}
 use Rattle.tight_cuts.proofs.CrossingMatchings.{crosses_by_two}
-use Rattle.tight_cuts.proofs.PartnersOfEnds.{together_partners}
 use Rattle.tight_cuts.proofs.tightness.crossing_by.Goals as goal
 
 pub returns-clause-some : goal.returns-clause-some
@@ -15,6 +14,5 @@ returns-clause-none c q cf = c.in_ok-found.ensures.none.0 q
 
 pub returns-then-not-branch-clause-none : goal.returns-then-not-branch-clause-none
 returns-then-not-branch-clause-none c q cf together =
-    let none : c.in_ok-has_partners.field-0 ≡ false = grind arith in
-    c.in_ok-has_partners.ensures.partners none
-    (together_partners c.args.g.now c.keeps_limits.ensures.multigraph c.args.e c.args.f c.requires.first c.requires.second (c.is_to_ask.ensures.apart c.if-not-is_to_ask.false) (mem c.args.rows.now.removed) c.requires.rows.removed together)
+    let none : c.in_ok-may_hold_both.field-0 ≡ false = grind arith in
+    c.in_ok-may_hold_both.ensures.none none together

@@ -1,11 +1,10 @@
 use Rattle.std.proofs.Common.{◌≡◌, ℕ, ◌<◌, ◌≤◌, true}
 use Rattle.counting.proofs.Common.{mem}
 use Rattle.graph_core.proofs.Common.{in_cut, Together}
-use Rattle.tight_cuts.specs.Common.{AreRowsWithout}
 use Rattle.tight_cuts.proofs.tightness.crossing_from.Given as goal
 
 abbrev pub invariant-loop-k : goal.invariant-loop-k
 invariant-loop-k l = record {
   apart : (d : ℕ) → l.e < d → d ≤ l.k → in_cut l.g (mem l.shore) d ≡ true → Together l.g l.e d → ⊥;
-  rows : AreRowsWithout l.g l.e l.rows;
+  rows : l.rows ≡ l.g;
 }

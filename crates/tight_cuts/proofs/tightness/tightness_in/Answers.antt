@@ -14,6 +14,6 @@ returns-then-is_balanced c =
 pub returns-in-Some : goal.returns-in-Some
 returns-in-Some c = grind (arith, crossed_not_tight c.args.c.now (mem c.args.shore) c.in-Some.matching)
 
-pub returns-in-None : goal.returns-in-None
-returns-in-None c = uncrossed_tight c.args.c.now c.args.shore c.keeps_covered.ensures.limits.multigraph.ends c.keeps_covered.ensures.covered c.requires.shore c.requires.odd
-    (subst (λ (h : Graph). (e : ℕ) → Within (size h) e → in_cut h (mem c.args.shore) e ≡ true → NoLaterWith h (mem c.args.shore) e) c.graph.ensures.same (c.in_ok-matching.ensures.none c.in-None.is))
+pub returns : goal.returns
+returns c = uncrossed_tight c.args.c.now c.args.shore c.keeps_covered.ensures.limits.multigraph.ends c.keeps_covered.ensures.covered c.requires.shore c.requires.odd
+    (subst (λ (h : Graph). (e : ℕ) → Within (size h) e → in_cut h (mem c.args.shore) e ≡ true → NoLaterWith h (mem c.args.shore) e) c.graph-g.ensures.same (c.in_ok-matching.ensures.none c.in-None.is))
