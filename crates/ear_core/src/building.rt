@@ -12,6 +12,7 @@ use crate::choosing::choose;
 use crate::ears::{EarList, Step, Steps};
 use crate::lone_ears::lone_matching;
 use crate::marked::Marked;
+use crate::outer_table::OuterTable;
 use crate::stage::Stage;
 use crate::tracing::collect;
 use allowed_edges::perfect_with_edge;
@@ -87,8 +88,9 @@ fn steps_from(alloc: Global, c: &Covered, marked: Marked, kept: &Matching) -> Re
     c.keeps_covered();
     let steps = Steps::new(alloc);
     let mut built = Built { marked, steps };
+    let mut last = OuterTable::none(c.graph());
     'stages: while let Some(edge) = leaving_edge(c.graph(), &built.marked) {
-        go_on(alloc, c, &mut built, kept, edge)?;
+        go_on(alloc, c, &mut built, kept, &mut last, edge)?;
     }
     Ok(built.steps)
 }
@@ -100,14 +102,17 @@ fn go_on(
     c: &Covered,
     built: &mut Built,
     kept: &Matching,
+    last: &mut OuterTable,
     edge: u32,
 ) -> Result<(), Memory>
     requires built { (first : Set) × IsBuilt c.now (row_edge kept.now.rows) first built.old }
     requires kept { IsPerfectRows c.now kept.now }
+    requires last { last.old ≡ c.now }
     requires edge { Within (size c.now) edge }
     requires off { marks built.old.marked.mark.items edge ≡ false }
     requires leads { (is_met c.now (marks built.old.marked.mark.items) (first_end c.now edge) ||
         is_met c.now (marks built.old.marked.mark.items) (second_end c.now edge)) ≡ true }
+    ensures last { last.new ≡ last.old }
     ensures built { OnOk result ((first : Set) →
         IsBuilt c.now (row_edge kept.now.rows) first built.old →
         IsBuilt c.now (row_edge kept.now.rows) first built.new) }
@@ -122,7 +127,16 @@ fn go_on(
     match built.first_between(alloc, g, &mut stage)? {
         Some(e) => built.add_between(alloc, g, &mut stage, e),
         None => {
-            let step = next_step(alloc, c, &built.marked.mark, met, kept, &mut stage, edge)?;
+            let step = next_step(
+                alloc,
+                c,
+                &built.marked.mark,
+                met,
+                kept,
+                last,
+                &mut stage,
+                edge,
+            )?;
             built.add(g, step)
         }
     }
@@ -174,6 +188,7 @@ fn next_step(
     mark: &[bool],
     met: VSet,
     kept: &Matching,
+    last: &mut OuterTable,
     stage: &mut Stage,
     edge: u32,
 ) -> Result<Step, Memory>
@@ -183,10 +198,12 @@ fn next_step(
     requires stage { IsStage c.now (marks mark.now) }
     requires kept { IsPerfectRows c.now kept.now }
     requires mates { KeepsMates c.now (row_edge kept.now.rows) (is_met c.now (marks mark.now)) }
+    requires last { last.old ≡ c.now }
     requires edge { Within (size c.now) edge }
     requires off { marks mark.now edge ≡ false }
     requires leads { (is_met c.now (marks mark.now) (first_end c.now edge) ||
         is_met c.now (marks mark.now) (second_end c.now edge)) ≡ true }
+    ensures last { last.new ≡ last.old }
     ensures fits { IfOk result (λ step. FitsStep c.now.order (size c.now) (step_of step)) }
     ensures step { IfOk result (λ step. IsStep c.now (marks mark.now) (step_of step)) }
     ensures stage { IfOk result
@@ -207,7 +224,7 @@ fn next_step(
     if is_single(&step) {
         return Ok(step);
     }
-    match lone_matching(alloc, g, mark, met, stage, kept)? {
+    match lone_matching(alloc, g, mark, met, stage, kept, last)? {
         Some(lone) => step_by(alloc, g, mark, met, kept, stage, &lone),
         None => Ok(step),
     }

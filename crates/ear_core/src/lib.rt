@@ -41,7 +41,8 @@
 //! ears together with the kept one (`AreMatedEars` of `specs/AlternatingEars`), of which by the
 //! two-ear theorem one serves, or two together. Where it takes two, a matching that leads out at
 //! two vertices alone is sought first: it makes a single ear. The partners on the stage and those
-//! off it tell whether there is one (`specs/LoneTables`).
+//! off it tell whether there is one (`specs/LoneTables`). The latter are kept for the next stages,
+//! which often have the same vertices (`OuterTable`).
 //!
 //! Depends on `match_core`, `allowed_edges`, `graph_facts`, `refusals` and `two_ears`. Source:
 //! Lovász and Plummer, "Matching Theory", chapter 5.
@@ -61,6 +62,7 @@ mod lone_ears;
 mod lone_tables;
 mod marked;
 mod matched;
+mod outer_table;
 mod paths;
 mod stage;
 mod stages;

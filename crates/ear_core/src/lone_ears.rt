@@ -4,10 +4,11 @@ ghost use Rattle.counting.specs.Common.{Within, mem, rising_list, Set, pair_set}
 ghost use Rattle.graph_core.specs.Common.{size};
 ghost use Rattle.match_core.specs.Common.{edges_of};
 ghost use Rattle.match_search.specs.Common.{marks};
-ghost use Rattle.ear_core.specs.Common.{IsAsked, IsPerfectBy, IsPerfectRows, KeepsMates, LeadsAtTwo, by_rank, is_met, is_open, row_edge};
+ghost use Rattle.ear_core.specs.Common.{AreTables, IsAsked, IsPerfectBy, IsPerfectRows, KeepsMates, LeadsAtTwo, by_rank, is_met, is_open, row_edge};
 
 use crate::asking::marked_graph;
-use crate::lone_tables::{lone_with, tables_of};
+use crate::lone_tables::{Tables, lone_with, tables_of};
+use crate::outer_table::OuterTable;
 use crate::stage::Stage;
 use graph_core::{MultiGraph, Numbers};
 use match_core::{Matching, perfect_with, perfect_without};
@@ -140,23 +141,21 @@ fn matching_at(
     }
 }
 
-/// A perfect matching that leads out of the stage of the marked edges at two of its vertices
-/// alone; `None` exactly when there is none. The stage meets the vertices `met` and holds their
-/// mates by the kept matching. The partners on it and those off it tell the two vertices; then one
-/// matching is made.
-pub fn lone_matching(
+// A perfect matching that leads out of the stage of the marked edges, which meets the vertices
+// `met`, at two of them alone; `None` exactly when there is none. The tables tell the two; then one
+// matching is made.
+fn lone_by(
     alloc: Global,
     g: &MultiGraph,
     mark: &[bool],
     met: VSet,
     stage: &mut Stage,
-    kept: &Matching,
+    tables: &Tables,
 ) -> Result<Option<Matching>, Memory>
     requires long { length mark.now ≡ size g.now + 1 }
     requires met { (v : ℕ) → mem met v ≡ is_met g.now (marks mark.now) v }
     requires stage { IsAsked g.now (marks mark.now) stage.old }
-    requires kept { IsPerfectRows g.now kept.now }
-    requires mates { KeepsMates g.now (row_edge kept.now.rows) (is_met g.now (marks mark.now)) }
+    requires tables { AreTables g.now (marks mark.now) tables.now }
     ensures same { stage.new ≡ stage.old }
     ensures rows { IfOk result (λ o. IfSome o (IsPerfectRows g.now)) }
     ensures two { IfOk result
@@ -165,14 +164,46 @@ pub fn lone_matching(
         (λ o. IfNone o ((m : Set) → LeadsAtTwo g.now (marks mark.now) m → ⊥)) }
 {
     g.keeps_limits();
-    let tables = tables_of(alloc, g, mark, met, kept)?;
     for k in 0..g.order() {
         let u = k + 1;
-        let row = lone_with(alloc, g, mark, stage, &tables, u)?;
+        let row = lone_with(alloc, g, mark, stage, tables, u)?;
         if let Some(v) = row.first() {
             let m = matching_at(alloc, g, mark, met, u, v)?;
             return Ok(Some(m));
         }
     }
     Ok(None)
+}
+
+/// A perfect matching that leads out of the stage of the marked edges at two of its vertices
+/// alone; `None` exactly when there is none. The stage meets the vertices `met` and holds their
+/// mates by the kept matching. The partners on it and those off it tell the two vertices; then one
+/// matching is made. The table of those off it is kept for the next stage.
+pub fn lone_matching(
+    alloc: Global,
+    g: &MultiGraph,
+    mark: &[bool],
+    met: VSet,
+    stage: &mut Stage,
+    kept: &Matching,
+    last: &mut OuterTable,
+) -> Result<Option<Matching>, Memory>
+    requires long { length mark.now ≡ size g.now + 1 }
+    requires met { (v : ℕ) → mem met v ≡ is_met g.now (marks mark.now) v }
+    requires stage { IsAsked g.now (marks mark.now) stage.old }
+    requires kept { IsPerfectRows g.now kept.now }
+    requires mates { KeepsMates g.now (row_edge kept.now.rows) (is_met g.now (marks mark.now)) }
+    requires last { last.old ≡ g.now }
+    ensures last { last.new ≡ last.old }
+    ensures same { stage.new ≡ stage.old }
+    ensures rows { IfOk result (λ o. IfSome o (IsPerfectRows g.now)) }
+    ensures two { IfOk result
+        (λ o. IfSome o (λ m. LeadsAtTwo g.now (marks mark.now) (mem (edges_of m)))) }
+    ensures none { IfOk result
+        (λ o. IfNone o ((m : Set) → LeadsAtTwo g.now (marks mark.now) m → ⊥)) }
+{
+    let tables = tables_of(alloc, g, mark, met, kept, last)?;
+    let found = lone_by(alloc, g, mark, met, stage, &tables)?;
+    last.keep(met, tables.outer);
+    Ok(found)
 }

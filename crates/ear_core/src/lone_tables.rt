@@ -11,9 +11,10 @@ ghost use Rattle.graph_core.specs.Common.{Graph, IsGraph, size};
 ghost use Rattle.match_search.specs.Common.{marks};
 ghost use Rattle.ear_core.specs.Common.{AreTables, ArePartnersOn, IsAsked, IsPerfectBy, IsPerfectRows, KeepsMates, adjacent_by, in_rows, is_met, is_open, reached, row_edge};
 
+use crate::outer_table::OuterTable;
 use crate::stage::{Stage, row_of};
 use graph_core::{Ends, MultiGraph};
-use match_core::{Matching, PartnerTable, partners};
+use match_core::{Matching, PartnerTable};
 use std::alloc::{AllocError as Memory, Global};
 use vset_core::{MOST_VERTICES, VSet};
 
@@ -26,22 +27,25 @@ pub struct Tables {
 }
 
 /// The tables of the stage of the marked edges, which meets the vertices `met` and holds their
-/// mates by the kept matching.
+/// mates by the kept matching. The first is the last one that was made, if that is the same.
 pub fn tables_of(
     alloc: Global,
     g: &MultiGraph,
     mark: &[bool],
     met: VSet,
     kept: &Matching,
+    last: &mut OuterTable,
 ) -> Result<Tables, Memory>
     requires long { length mark.now ≡ size g.now + 1 }
     requires met { (v : ℕ) → mem met v ≡ is_met g.now (marks mark.now) v }
     requires kept { IsPerfectRows g.now kept.now }
     requires mates { KeepsMates g.now (row_edge kept.now.rows) (is_met g.now (marks mark.now)) }
-    ensures { IfOk result (AreTables g.now (marks mark.now)) }
+    requires last { last.old ≡ g.now }
+    ensures last { last.new ≡ last.old }
+    ensures tables { IfOk result (AreTables g.now (marks mark.now)) }
 {
     g.keeps_limits();
-    let outer = partners(alloc, g, met, kept)?;
+    let outer = last.take(alloc, met, kept)?;
     let near = near_rows(alloc, g, mark)?;
     Ok(Tables { outer, near })
 }

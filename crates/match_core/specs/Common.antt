@@ -1,5 +1,5 @@
 -- The definitions of this crate, passed on from one place to the crates above. Declares nothing.
-pub use Rattle.match_core.specs.HeldMates.{HoldsMates, ArePairs}
+pub use Rattle.match_core.specs.HeldMates.{HoldsMates, ArePairs, NamesRows}
 pub use Rattle.match_core.specs.RepairWalks.{StartsWalk}
 pub use Rattle.match_core.specs.MatchingRows.{MatchingValue, ends_at, edges_of, KeepsMatching, IsRowOf, IsOf, is_clear, row_at, has_end_in, left_over}
 pub use Rattle.match_core.specs.Partners.{are_partners, AreEmptyRows, ArePartners}

@@ -1,3 +1,4 @@
+use Rattle.std.proofs.Common.{◌≡◌}
 use Rattle.counting.proofs.Common.{complement, count}
 use Rattle.graph_core.proofs.Common.{size}
 use Rattle.match_search.specs.Common.{marks}
@@ -6,7 +7,10 @@ use Rattle.ear_core.proofs.building.steps_from.Given as goal
 
 -- the steps lead from the first stage to the one that is built
 abbrev pub invariant-stages : goal.invariant-stages
-invariant-stages l = IsBuilt l.c (row_edge l.kept.rows) (marks l.initial.built.marked.mark.items) l.built
+invariant-stages l = record {
+  built : IsBuilt l.c (row_edge l.kept.rows) (marks l.initial.built.marked.mark.items) l.built;
+  last : l.last ≡ l.c;
+}
 
 abbrev pub decreases-stages : goal.decreases-stages
 decreases-stages l = count (size l.c) (complement (marks l.built.marked.mark.items))

@@ -2,7 +2,7 @@ use Rattle.std.proofs.Common.{◌≡◌, ◌≢◌, ℕ, true}
 use Rattle.counting.proofs.Common.{Within, mem, Set}
 use Rattle.match_search.specs.Common.{marks}
 use Rattle.ear_core.specs.Common.{IsPerfectBy, is_met, is_open}
-use Rattle.ear_core.proofs.lone_ears.lone_matching.Given as goal
+use Rattle.ear_core.proofs.lone_ears.lone_by.Given as goal
 
 -- no such matching for the vertices so far
 abbrev pub invariant-loop-k : goal.invariant-loop-k
