@@ -97,12 +97,7 @@ fn misses_none(set: VSet, mate: &[u32]) -> bool
 }
 
 // The mates of a matching of G - removed.
-fn mates_in(
-    alloc: Global,
-    g: &MultiGraph,
-    removed: VSet,
-    mark: &[bool],
-) -> Result<Vec<u32>, Memory>
+fn mates_in(alloc: Global, g: &MultiGraph, removed: VSet, mark: &[bool]) -> Result<Vec<u32>, Memory>
     requires long { length mark.now ≡ size g.now + 1 }
     requires matching { IsMatching g.now (mem removed) (marks mark.now) }
     ensures long { IfOk result (λ mate. length mate.items ≡ g.now.order + 1) }

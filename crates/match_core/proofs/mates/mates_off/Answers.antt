@@ -1,8 +1,6 @@
-use Rattle.std.proofs.Common.{◌≡◌, List, ℕ, sym, subst, arith, length, take, drop, ◌++◌}
+use Rattle.std.proofs.Common.{arith}
 use Rattle.std.proofs.lemmas.List.{with_items_is}
 use Rattle.counting.proofs.Common.{mem}
-use Rattle.match_search.specs.Common.{HasMates, numbers}
-use Rattle.match_core.specs.Common.{edges_of, left_over}
 use Rattle.match_core.proofs.RowMates.{named_rows}
 use Rattle.match_core.proofs.mates.mates_off.Goals as goal
 
