@@ -9,8 +9,8 @@ use std::alloc::{AllocError as Memory, Global};
 use std::marker::Model;
 use vset_core::VSet;
 
-/// The last table of partners in G - X, for a set X of vertices, if one was made: stages that follow
-/// each other often have the same vertices. Contracts see the graph.
+/// The last table of partners in G - X, for a set X of vertices, if one was made: successive stages
+/// often have the same vertices. Contracts see the graph.
 #[derive(Drop)]
 pub struct OuterTable<'g> {
     graph: &'g MultiGraph,

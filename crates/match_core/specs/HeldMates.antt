@@ -23,5 +23,10 @@ pub record ArePairs (g : Graph) (mate : List ℕ) (rows : List MatchRow) : Type 
 -- among the first k rows, a vertex with a mate is joined to it by a row that meets no vertex of x,
 -- and a vertex with the mate 0 is in no such row
 pub record NamesRows (x : Set) (rows : List MatchRow) (mate : List ℕ) (k : ℕ) : Type 0 where
-  pub met : (v : ℕ) → numbers mate v ≢ 0 → (j : ℕ) × (row : MatchRow) × (j < k) × (slice_get rows j ≡ Some row) × (is_clear x row ≡ true) × (((row.a ≡ v) × (row.b ≡ numbers mate v)) ⊎ ((row.a ≡ numbers mate v) × (row.b ≡ v)))
-  pub missed : (v : ℕ) → numbers mate v ≡ 0 → (j : ℕ) (row : MatchRow) → j < k → slice_get rows j ≡ Some row → is_clear x row ≡ true → (row.a ≢ v) × (row.b ≢ v)
+  pub met : (v : ℕ) → numbers mate v ≢ 0 →
+      (j : ℕ) × (row : MatchRow) × (j < k) × (slice_get rows j ≡ Some row) ×
+      (is_clear x row ≡ true) ×
+      (((row.a ≡ v) × (row.b ≡ numbers mate v)) ⊎ ((row.a ≡ numbers mate v) × (row.b ≡ v)))
+  pub missed : (v : ℕ) → numbers mate v ≡ 0 →
+      (j : ℕ) (row : MatchRow) → j < k → slice_get rows j ≡ Some row → is_clear x row ≡ true →
+      (row.a ≢ v) × (row.b ≢ v)

@@ -57,9 +57,9 @@ impl PartnerTable {
 
 /// The partners of each vertex in G - removed, from any matching `m` of `g`: two vertices outside
 /// `removed` are partners if there is a perfect matching of G - removed without these two. The row
-/// of a vertex of `removed` is empty. If `m` misses a vertex of G - removed, it is first made maximum
-/// there. If it then misses neither 0 nor 2 vertices, no row is searched; otherwise a row takes one
-/// search, after at most one augmentation. The only error is `Memory`.
+/// of a vertex of `removed` is empty. If `m` misses a vertex of G - removed, it is first made
+/// maximum there. If it then misses neither 0 nor 2 vertices, no row is searched; otherwise a row
+/// takes one search, after at most one augmentation. The only error is `Memory`.
 pub fn partners(
     alloc: Global,
     g: &MultiGraph,

@@ -21,11 +21,11 @@
 //! and if a perfect matching crosses it twice, that one is listed and the next cut is made. Two
 //! cuts decide whether the edge gives anything, and one for each piece what it gives
 //! (`EdgePieces`). Before that the listed matchings and a few more may show that the edge gives
-//! nothing (`QuietEdges`). What is known of two edges that do not lie together, and of the partners
-//! without the ends of an edge, is kept (`ApartEdges`, `KeptRows`). One walk over the edges,
-//! `add_edge_cuts`, asks either search (the trait `EdgeSearch`), but for edges between vertices that
-//! earlier edges show not to be separated (`ClusteredVertices`). In a dense graph floods show this
-//! of most edges before the walk (`joining`).
+//! nothing (`QuietEdges`). Pairs of edges that do not lie together are kept (`ApartEdges`), and so
+//! are the partners without the ends of an edge (`KeptRows`). One walk over the edges,
+//! `add_edge_cuts`, asks either search (the trait `EdgeSearch`), but for edges between vertices
+//! that earlier edges show not to be separated (`ClusteredVertices`). In a dense graph floods show
+//! this of most edges before the walk (`joining`).
 //!
 //! Whether a cut is tight is mostly shown without asking its edges one by one: by the numbers of
 //! vertices in a bipartite graph (`SurplusShores`), elsewhere by the vertices at which two edges

@@ -11,7 +11,7 @@ use match_core::Matching;
 use std::alloc::{AllocError as Memory, Global};
 
 /// A perfect matching, a table in which perfect matchings are listed as they are needed, pairs of
-/// edges of which none is in a perfect matching, and the rows of partners that were asked.
+/// edges that no perfect matching contains, and the rows of partners that were asked for.
 #[derive(Drop)]
 pub(crate) struct Matchings<'g> {
     pub(crate) kept: Matching,

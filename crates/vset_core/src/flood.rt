@@ -26,9 +26,9 @@ pub struct Flood {
     pub inner: VSet,
 }
 
-/// A search from `roots` that stays in `within`. It goes on from vertices of `late` only if no other
-/// is open, so that fewer of them become inner, and ends as soon as all of `within` is found. Takes
-/// no memory. Takes O(n) steps on words.
+/// A search from `roots` that stays in `within`. It goes on from vertices of `late` only if no
+/// other is open, so that fewer of them become inner, and ends as soon as all of `within` is found.
+/// Takes no memory. Takes O(n) steps on words.
 pub fn flooded(rows: &[VSet], within: VSet, roots: VSet, late: VSet) -> Flood
     requires few { length rows.now ≤ MOST_VERTICES }
     requires vertices { (v : ℕ) → mem within v ≡ true → Within (length rows.now) v }
