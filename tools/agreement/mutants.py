@@ -1,8 +1,11 @@
-"""Does each mutant say what it changes, and is each mutant that docs/dev/PROVED.md names there?
+"""Does each mutant say what it changes and fit its file, and does the gate try each mutant that
+docs/dev/PROVED.md names?
 
 The first line of an edit says in words what the edited code does: `# MEANING`. No two edits of a crate
-say the same. In the table of PROVED each name of an edit is followed by a checksum of its text, so that
-an edit that was changed is read again: whether it still has the meaning of its row."""
+say the same. Each text that an edit replaces is in its file exactly once. This holds also of the mutants
+in crates/*/mutants, which only tools/mutants tries. In the table of PROVED each name of an edit is
+followed by a checksum of its text, so that an edit that was changed is read again: whether it still has
+the meaning of its row."""
 import hashlib
 import pathlib
 import re
@@ -11,10 +14,23 @@ DOCUMENT = pathlib.Path("docs/dev/PROVED.md")
 HEADING = "## Mutants that the gate rejects"
 
 
-def edits():
-    """Each mutant by its name, CRATE/NAME."""
-    files = sorted(pathlib.Path("crates").glob("*/must-fail/*.edit"))
+def edits(folder):
+    """Each mutant in the folders of this name, by its own name, CRATE/NAME."""
+    files = sorted(pathlib.Path("crates").glob(f"*/{folder}/*.edit"))
     return {f"{file.parts[1]}/{file.stem}": file for file in files}
+
+
+def misfits(known):
+    """The edits that replace a text which their file does not have exactly once."""
+    for edit in known.values():
+        file, text = None, ""
+        for line in edit.read_text().splitlines():
+            word, _, rest = line.partition(": ")
+            if word == "file":
+                file = edit.parent.parent / rest.strip()
+                text = file.read_text() if file.is_file() else ""
+            elif word == "old" and text.count(rest) != 1:
+                yield f"{edit}: {file} has its text {text.count(rest)} times, not once: {rest.strip()}"
 
 
 def meanings(known):
@@ -45,21 +61,25 @@ def rows():
 
 
 def main():
-    known, count = edits(), 0
-    wrong = list(meanings(known))
+    tried, left_out, count = edits("must-fail"), edits("mutants"), 0
+    wrong = [f"{left_out[name]}: must-fail has one of that name" for name in tried.keys() & left_out.keys()]
+    known = tried | left_out
+    wrong += [*meanings(known), *misfits(known)]
     for line, named in rows():
         if not named:
             wrong.append(f"{DOCUMENT}: a row without an edit: {line}")
         for name, read in named:
             count += 1
-            if name not in known:
-                wrong.append(f"{DOCUMENT}: no such edit: {name}")
-            elif read != checksum(known[name]):
+            if name not in tried:
+                wrong.append(f"{DOCUMENT}: the gate tries no such edit: {name}")
+            elif read != checksum(tried[name]):
                 wrong.append(
                     f"{DOCUMENT}: {name} is not the text that was read ({read or 'no checksum'}): if it still "
-                    f"has the meaning of its row, write {checksum(known[name])} after its name")
+                    f"has the meaning of its row, write {checksum(tried[name])} after its name")
     for line in wrong:
         print(line)
     if not wrong and count:
-        print(f"each of the {len(known)} mutants says what it changes; {DOCUMENT} names {count}")
+        print(
+            f"each of the {len(known)} mutants says what it changes and fits its file; the gate tries "
+            f"{len(tried)}, and {DOCUMENT} names {count} of them")
     return 1 if wrong or not count else 0
