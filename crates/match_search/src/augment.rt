@@ -18,7 +18,7 @@ ghost use Rattle.match_search.specs.Common.{HoldsMatching, IsSized, MayBeExposed
 use crate::alternating::{AlternatingForest, exposed_in};
 use crate::answer::{Answer, FinalSets, widen};
 use crate::blossom::{Blossom, close, open};
-use crate::growing::{Adjacent, grow_forest};
+use crate::growing::{Adjacent, Growth, grow_forest};
 use crate::instance::Instance;
 use crate::paths::paths_to;
 use std::alloc::{AllocError as Memory, Global};
@@ -46,7 +46,7 @@ pub fn augment_once(
 {
     let roots = exposed_in(candidates, instance.left, mate);
     forest.restart(roots);
-    match grow_forest(instance, forest, mate) {
+    match grow_forest(instance, forest, mate, Growth::Least) {
         None => Ok(Answer::Final(FinalSets {
             outer: forest.outer,
             inner: forest.inner,

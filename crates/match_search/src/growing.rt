@@ -17,25 +17,37 @@ pub struct Adjacent {
     pub w: u32,
 }
 
-// The active vertex to grow from next: the one that became outer last, if it is still active. So
-// the search goes far before it goes wide, and soon comes to an edge between two outer vertices.
-fn next_of(rest: VSet, latest: VSet) -> Option<u32>
+/// Which active vertex a forest grows from next: the least one, or the one that became outer last.
+/// With the latest the search soon comes back to a vertex of the forest, and its blossoms are
+/// large.
+#[derive(Clone, Copy, Drop)]
+pub enum Growth {
+    Least,
+    Latest,
+}
+
+// The next vertex to grow from.
+fn next_of(rest: VSet, latest: VSet, growth: Growth) -> Option<u32>
     ensures some { IfSome result (IsMember rest) }
     ensures within { IfSome result (Within MOST_VERTICES) }
     ensures none { IfNone result (rest ≡ []) }
 {
-    match rest.meet(latest).first() {
-        Some(x) => Some(x),
-        None => rest.first(),
+    match growth {
+        Growth::Least => rest.first(),
+        Growth::Latest => match rest.meet(latest).first() {
+            Some(x) => Some(x),
+            None => rest.first(),
+        },
     }
 }
 
-/// Grows a forest from its active vertices, the latest first, and returns two of its outer vertices
-/// that are adjacent, if it comes to any.
+/// Grows a forest from its active vertices, and returns two of its outer vertices that are
+/// adjacent, if it comes to any.
 pub fn grow_forest(
     instance: &Instance,
     forest: &mut AlternatingForest,
     mate: &[u32],
+    growth: Growth,
 ) -> Option<Adjacent>
     requires { (g : Graph) × (r : Set) × (f : Set) ×
         GrowsForest g r f instance.now mate.now forest.old }
@@ -43,7 +55,7 @@ pub fn grow_forest(
         GrowsForest g r f instance.now mate.now forest.old →
         IsGrownForest g r f instance.now mate.now forest.new result }
 {
-    'growing: while let Some(x) = next_of(forest.active, forest.latest) {
+    'growing: while let Some(x) = next_of(forest.active, forest.latest, growth) {
         let near = instance.near(x).without(x);
         let reach = near.minus(forest.inner);
         if let Some(y) = reach.meet(forest.outer).first() {

@@ -12,7 +12,7 @@ ghost use Rattle.match_search.specs.Common.{IsSized, GrowsForest, HasOuter, Hold
 
 use crate::alternating::AlternatingForest;
 use crate::flower::{Flower, expose_all, flower_of};
-use crate::growing::grow_forest;
+use crate::growing::{Growth, grow_forest};
 use crate::instance::Instance;
 use vset_core::VSet;
 
@@ -47,7 +47,7 @@ fn outer_on(instance: &mut Instance, forest: &mut AlternatingForest, mate: &mut 
     ensures sized { IsSized (length instance.old.rows.items) forest.new }
     ensures restored { AreAlike instance.old instance.new }
 {
-    match grow_forest(instance, forest, mate) {
+    match grow_forest(instance, forest, mate, Growth::Latest) {
         None => forest.outer,
         Some(bridge) => {
             let Flower { members, base } = flower_of(forest, bridge, mate);
