@@ -11,13 +11,12 @@ use Rattle.match_search.proofs.LongerPaths.{end_within}
 use Rattle.match_search.proofs.MatePairs.{joined_pairs, mate_back, removed_mate, with_here, with_there}
 use Rattle.match_search.proofs.OddCycles.{cycle_holds, cycle_outside, cycle_size, every_other-near_perfect}
 use Rattle.match_search.proofs.OpenedPairs.{less, less_count, less_pairs}
-use Rattle.match_search.proofs.Shrinking.{degree_in, degree_out, degree_z, shrunk_graph}
+use Rattle.match_search.proofs.Shrinking.{degree_in, degree_out, degree_z, shrunk_ends_shrunk, shrunk_graph}
 use Rattle.match_search.proofs.ShrunkMatchings.{down}
 use Rattle.match_search.proofs.ShrunkFrames.{complement_size}
 use Rattle.match_search.proofs.ShrunkInstances.{edge_keeps, edge_stays, edge_was}
 use Rattle.match_search.proofs.Instances.{left_from}
 use Rattle.match_search.specs.declared.instance.Instance.{Instance}
-use Rattle.match_search.proofs.StepTheorem.{shrunk_ends_shrunk}
 
 module _ (g : Graph) (is : IsGraph g) (r f m : Set) (n : ℕ) (c e : ℕ → ℕ) (opened : IsOpened g r f m n c e) where
   abbrev pub cs : Set

@@ -1,9 +1,9 @@
 -- Is the step of the graph with a blossom shrunk one of the graph, by mates? The matching of the
 -- smaller graph leaves the blossom at its base or at a neighbour of some vertex of it; it is
 -- completed there.
-use Rattle.std.proofs.Common.{◌≡◌, ◌≢◌, ℕ, ◌+◌, ◌≤◌, true, refl, sym, ap, ◌∙◌, arith, ◌||◌, List}
-use Rattle.counting.proofs.Common.{fun_ext, or_cases, count_le, Within, count, Set, union, mem}
-use Rattle.graph_core.proofs.Common.{Graph, HasEnds, IsGraph, degree, size, with_ends}
+use Rattle.std.proofs.Common.{◌≡◌, ◌≢◌, ℕ, ◌+◌, ◌≤◌, ◌<◌, ◌⊎◌, true, refl, sym, ap, ◌∙◌, arith, ◌||◌, inl, inr, subst, List}
+use Rattle.counting.proofs.Common.{fun_ext, or_cases, count_le, Within, count, Set, complement, union, mem}
+use Rattle.graph_core.proofs.Common.{Graph, HasEnds, IsGraph, IsMatching, degree, size, with_ends}
 use Rattle.match_search.specs.Common.{Frame, shrunk_removed, HasMates, paired_round, with_mate, with_pair, IsOddCycle, every_other, listed, picked, IsOpened, IsWidened, StepAnswer, shrunk_ends}
 use Rattle.match_search.specs.declared.answer.Answer.{Answer}
 use Rattle.match_search.specs.declared.answer.Answer.TheVariants.{Grown, Final}
@@ -12,7 +12,13 @@ use Rattle.match_search.proofs.OddCycles.{cycle_holds, cycle_size, every_other-n
 use Rattle.match_search.proofs.OpenedPairs.{full_count, full_pairs}
 use Rattle.match_search.proofs.NearPerfectSets.{near_perfect_count}
 use Rattle.match_search.proofs.ShrunkFrames.{frame_up}
-use Rattle.match_search.proofs.BlossomMates.{pulls, first_within, cr, cw, wz, cz, halves, near_sets, downs, same_size, blossom_missed, free_mates, moved, moved_mates, moved_missed, moved_count}
+use Rattle.match_search.proofs.Shrinking.{tip}
+use Rattle.match_search.proofs.ShrunkMatchings.{up}
+use Rattle.match_search.proofs.BlossomMates.{pulls, first_within, cr, cw, wz, cz, halves, near_sets, graph, downs, smaller, below_size, same_size, blossom_missed, free_mates, moved, moved_mates, moved_missed, moved_count}
+
+-- a matching with one more edge, or a frame
+abbrev pub Step : Graph → Set → Set → Type 0
+Step g r f = ((m : Set) × IsMatching g r m × (count (size g) m ≡ count (size g) f + 1)) ⊎ ((outer : Set) × (inner : Set) × Frame g r (count (size g) f) outer inner)
 
 module _ (g : Graph) (is : IsGraph g) (r f m : Set) (n : ℕ) (c e : ℕ → ℕ) (opened : IsOpened g r f m n c e) where
   abbrev cs : Set
@@ -44,6 +50,21 @@ module _ (g : Graph) (is : IsGraph g) (r f m : Set) (n : ℕ) (c e : ℕ → ℕ
   round_count : (t : ℕ) → Within n t → count (size g) (round t) ≡ pairs
   round_count t w = near_perfect_count g is cs (c t) (round t) (every_other-near_perfect g r n c e cyc t w) pairs (cycle_holds g r n c e cyc t w) (cyc.within t w) (halves g is r f m n c e opened).1
 
+  -- a frame of the shrunk graph is one of the graph
+  framed : (outer inner : Set) → Frame H rs (count (size H) m) outer inner → Frame g r (count (size H) m + pairs) (union outer cs) inner
+  framed outer inner frame = (frame_up g is r cs z es (pulls g is r f m n c e opened) (cr g is r f m n c e opened) (wz g is r f m n c e opened) (cz g is r f m n c e opened) m outer inner pairs (count (size H) m) (downs g is r f m n c e opened).0 (downs g is r f m n c e opened).1 refl frame (near_sets g is r f m n c e opened) (halves g is r f m n c e opened).1).2
+
+  -- the step of the shrunk graph gives one of the graph
+  pub shrink_step : ((h : Graph) → IsGraph h → (s k : Set) → IsMatching h s k → count h.order (complement s) < count g.order (complement r) → Step h s k) → Step g r f
+  shrink_step below = elim (below H (graph g is r f m n c e opened) rs m (downs g is r f m n c e opened).0 (smaller g is r f m n c e opened)) [
+    | inl a ↦
+        let t = tip g is r cs z es (pulls g is r f m n c e opened) (cr g is r f m n c e opened) (wz g is r f m n c e opened) (cz g is r f m n c e opened) a.0 (a.1.once z (wz g is r f m n c e opened)) in
+        let d = near_sets g is r f m n c e opened t.0 t.1 t.2 in
+        let u = up g is r cs z es (pulls g is r f m n c e opened) (cr g is r f m n c e opened) (wz g is r f m n c e opened) (cz g is r f m n c e opened) a.0 d.0 pairs t.0 a.1 t.1 t.2 t.3 d.1 (halves g is r f m n c e opened).1 in
+        inl (union a.0 d.0, u.0, (let x = u.1 in let y = a.2 in let s = below_size g is r f m n c e opened in omega arith))
+    | inr a ↦ inr (union a.0 cs, a.1, subst (λ k. Frame g r k (union a.0 cs) a.1) (below_size g is r f m n c e opened) (framed a.0 a.1 a.2))
+  ]
+
   -- the result for the shrunk graph is one for the graph
   pub step_up : (m2 full : Set) → count (size g) full ≡ count (size H) m2 + pairs → (below result : Answer) → (members : List ℕ) → ((v : ℕ) → mem members v ≡ cs v) → StepAnswer H rs m m2 below → IsWidened below (mem members) result → StepAnswer g r f full result
   step_up m2 full u Grown Grown members is_cs a w = let b = (downs g is r f m n c e opened).2 in let s = opened.same in omega arith
@@ -51,7 +72,7 @@ module _ (g : Graph) (is : IsGraph g) (r f m : Set) (n : ℕ) (c e : ℕ → ℕ
   step_up m2 full u (Final sets) Grown members is_cs a w = absurd w
   step_up m2 full u (Final sets) (Final wide) members is_cs a w = (
     let b = (downs g is r f m n c e opened).2 in let s = opened.same in let q = a.0 in omega arith,
-    framed (frame_up g is r cs z es (pulls g is r f m n c e opened) (cr g is r f m n c e opened) (wz g is r f m n c e opened) (cz g is r f m n c e opened) m (mem sets.outer) (mem sets.inner) pairs (count (size H) m) (downs g is r f m n c e opened).0 (downs g is r f m n c e opened).1 refl a.1 (near_sets g is r f m n c e opened) (halves g is r f m n c e opened).1).2,
+    widened (framed (mem sets.outer) (mem sets.inner) a.1),
     λ v. (λ q. outer_in v (sym (w.0 v) ∙ q), λ q. (a.2 v).1 (sym (ap (λ (x : List ℕ). mem x v) w.1) ∙ q)),
   )
     where
@@ -61,8 +82,8 @@ module _ (g : Graph) (is : IsGraph g) (r f m : Set) (n : ℕ) (c e : ℕ → ℕ
       outer_is : mem wide.outer ≡ union (mem sets.outer) cs
       outer_is = fun_ext (λ v. w.0 v ∙ ap (λ b. mem sets.outer v || b) (is_cs v))
 
-      framed : Frame g r (count (size H) m + pairs) (union (mem sets.outer) cs) (mem sets.inner) → Frame g r (count (size g) f) (mem wide.outer) (mem wide.inner)
-      framed h = grind (arith, downs g is r f m n c e opened, outer_is)
+      widened : Frame g r (count (size H) m + pairs) (union (mem sets.outer) cs) (mem sets.inner) → Frame g r (count (size g) f) (mem wide.outer) (mem wide.inner)
+      widened h = grind (arith, downs g is r f m n c e opened, outer_is)
 
   -- opened where the base is exposed, and where it has a mate
   pub opened_free : (m2 : Set) (mate : ℕ → ℕ) → HasMates H rs m2 mate → mate z ≡ 0 → (new : ℕ → ℕ) → ((v : ℕ) → new v ≡ paired_round mate n c 1 n v) → (full : Set) × HasMates g r full new × (count (size g) full ≡ count (size H) m2 + pairs)

@@ -1,37 +1,20 @@
 -- A forest goes on after a blossom: where a set of vertices of the forest is shrunk to its base,
 -- the forest becomes one of the shrunk graph. Its vertices are the old ones outside the set, and
 -- the base, which is outer; what was a child of a vertex of the set is a child of the base.
-use Rattle.std.proofs.Common.{◌≡◌, ◌≢◌, ℕ, suc, ◌+◌, ◌-◌, ◌≤◌, ◌<◌, true, false, cond, ◌==◌, refl, sym, ap, ◌∙◌, arith, not, ◌&&◌, ◌||◌, eq-eqb, eqb-true, ne_eqb, inl, inr, List}
-use Rattle.counting.proofs.Common.{and_from, and_parts, and_true, both_ways, cases_Bool, not-true, or_cases, or_false, or_right, true≢false, Within, is_odd, Set, minus}
-use Rattle.graph_core.proofs.Common.{Graph, HasEnds, IsGraph, degree, first_end, second_end, size, with_ends}
-use Rattle.match_search.specs.Common.{HasMates, IsForest, IsShrunk, shrunk_removed, shrunk_vertex, IsContractible}
+use Rattle.std.proofs.Common.{◌≡◌, ◌≢◌, ℕ, suc, ◌+◌, ◌-◌, ◌≤◌, ◌<◌, true, false, cond, ◌==◌, refl, sym, ap, ◌∙◌, arith, not, ◌&&◌, ◌||◌, eq-eqb, eqb-true, ne_eqb, inl, inr}
+use Rattle.counting.proofs.Common.{and_from, and_parts, and_true, both_ways, cases_Bool, not-true, or_cases, or_false, or_right, true≢false, Within, is_odd, Set}
+use Rattle.graph_core.proofs.Common.{HasEnds, degree, first_end, second_end, size}
+use Rattle.match_search.specs.Common.{IsForest, shrunk_vertex}
 use Rattle.match_search.proofs.ContractedPaths.{new_last, new_path, place_fits, stays_at}
 use Rattle.match_search.proofs.CrossingPaths.{Way, inner_mate, mate_out, same_way, way_in, way_on, ways}
 use Rattle.match_search.proofs.LongerPaths.{ends_by}
-use Rattle.match_search.proofs.ShrunkForests.{IsContracted, IsWalkedForest, Stays, WalksUp, base_mate_out, edge_stays_in, left_from_f, mate_stay, stays_degree, stays_left, stays_or_not, taken_ends}
+use Rattle.match_search.proofs.ShrunkForests.{H, IsContracted, IsWalkedForest, ShrunkForest, Stays, WalksUp, base_mate_out, edge_stays_in, in_g, in_h, left_edges, left_from_f, mate_stay, pulled_at_stay, rs, stays_degree, stays_left, stays_or_not, taken_ends}
 use Rattle.match_search.proofs.ShrunkInstances.{pulled_ends}
 use Rattle.match_search.proofs.SkippedPlaces.{edge_place, place, place_high, place_low, place_none, place_odd}
 
-module _ (g : Graph) (is : IsGraph g) (r f : Set) (outer inner : Set) (parent mate : ℕ → ℕ) (has : HasMates g r f mate) (walked : IsWalkedForest g r f outer inner parent mate)
-    (c : Set) (z : ℕ) (es : List (ℕ × ℕ)) (shrunk : IsShrunk g c z es) (e1 : Set) (fits : IsContractible g r f outer walked.k walked.v mate c z e1)
-    (outer' inner' : Set) (parent' mate' : ℕ → ℕ) (after : IsContracted outer inner parent mate c z outer' inner' parent' mate') where
-  abbrev H : Graph
-  H = with_ends g es
-
-  abbrev rs : Set
-  rs = shrunk_removed r c z
-
-  abbrev left_edges : Set
-  left_edges = minus f e1
-
-  abbrev k : ℕ → ℕ
-  k = walked.k
-
-  abbrev v : ℕ → ℕ → ℕ
-  v = walked.v
-
-  abbrev forest : IsForest g r f outer inner k v walked.e
-  forest = walked.forest
+module _ (given : ShrunkForest) (outer' inner' : Set) (parent' mate' : ℕ → ℕ) (after : IsContracted given.outer given.inner given.parent given.mate given.c given.z outer' inner' parent' mate') where
+  open given use {g, r, f, outer, inner, parent, mate, walked, c, z, es, shrunk, e1, fits}
+  open given.walked use {k, v, forest}
 
   abbrev base : ℕ
   base = k z + k z
@@ -65,42 +48,33 @@ module _ (g : Graph) (is : IsGraph g) (r f : Set) (outer inner : Set) (parent ma
     | inr q ↦ ap outer' (ap (λ b. cond b z w) q) ∙ stays_outer w (inl q) ∙ o
   ]
 
-  stays : (w : ℕ) → Stays c z w → shrunk_vertex c z w ≡ w
-  stays = Rattle.match_search.proofs.ShrunkForests.pulled_at_stay g is r f outer inner parent mate has walked c z es shrunk e1 fits
-
-  in_h : (d : ℕ) → Within (size g) d → Within (size H) d
-  in_h d w = let a = shrunk.same in omega arith
-
-  in_g : (d : ℕ) → Within (size H) d → Within (size g) d
-  in_g d w = let a = shrunk.same in omega arith
-
   -- the ends of an edge of f that is left stay
-  left_stays : (d x y : ℕ) → Within (size g) d → left_edges d ≡ true → HasEnds g d x y → Stays c z x
-  left_stays d x y w t ends = let a = left_from_f g is r f outer inner parent mate has walked c z es shrunk e1 fits d t in elim (stays_or_not g is r f outer inner parent mate has walked c z es shrunk e1 fits x) [
+  left_stays : (d x y : ℕ) → Within (size g) d → left_edges given d ≡ true → HasEnds g d x y → Stays c z x
+  left_stays d x y w t ends = let a = left_from_f given d t in elim (stays_or_not given x) [
     | inl s ↦ s
     | inr s ↦
-        let y_in = edge_stays_in g is r f outer inner parent mate has walked c z es shrunk e1 fits d x y w a.0 ends s.0 s.1 in
-        absurd (both_ways (e1 d) a.1 (taken_ends g is r f outer inner parent mate has walked c z es shrunk e1 fits d x y w ends a.0 s.0 y_in))
+        let y_in = edge_stays_in given d x y w a.0 ends s.0 s.1 in
+        absurd (both_ways (e1 d) a.1 (taken_ends given d x y w ends a.0 s.0 y_in))
   ]
 
-  new_mates : (d : ℕ) → Within (size H) d → left_edges d ≡ true → (outer' (first_end H d) ≡ inner' (second_end H d)) × (inner' (first_end H d) ≡ outer' (second_end H d))
+  new_mates : (d : ℕ) → Within (size (H given)) d → left_edges given d ≡ true → (outer' (first_end (H given) d) ≡ inner' (second_end (H given) d)) × (inner' (first_end (H given) d) ≡ outer' (second_end (H given) d))
   new_mates d w t =
-      let wg = in_g d w in
+      let wg = in_g given d w in
       let x_stays = left_stays d (first_end g d) (second_end g d) wg t (inl (refl, refl)) in
       let y_stays = left_stays d (second_end g d) (first_end g d) wg t (inr (refl, refl)) in
-      let x_is = shrunk.first_ends d wg ∙ stays (first_end g d) x_stays in
-      let y_is = shrunk.second_ends d wg ∙ stays (second_end g d) y_stays in
-      let m = forest.mates d wg (left_from_f g is r f outer inner parent mate has walked c z es shrunk e1 fits d t).0 in (
+      let x_is = shrunk.first_ends d wg ∙ pulled_at_stay given (first_end g d) x_stays in
+      let y_is = shrunk.second_ends d wg ∙ pulled_at_stay given (second_end g d) y_stays in
+      let m = forest.mates d wg (left_from_f given d t).0 in (
         ap outer' x_is ∙ stays_outer (first_end g d) x_stays ∙ m.0 ∙ sym (ap inner' y_is ∙ stays_inner (second_end g d) y_stays),
         ap inner' x_is ∙ stays_inner (first_end g d) x_stays ∙ m.1 ∙ sym (ap outer' y_is ∙ stays_outer (second_end g d) y_stays),
       )
 
   -- how many pairs a path leaves out, and what is left
   abbrev skip : ℕ → ℕ
-  skip u = (ways g is r f outer inner parent mate has walked c z e1 fits u).0
+  skip u = (ways given u).0
 
   way : (u : ℕ) → outer u ≡ true → Way c k v z u (skip u)
-  way u o = (ways g is r f outer inner parent mate has walked c z e1 fits u).1 o
+  way u o = (ways given u).1 o
 
   abbrev pub k' : ℕ → ℕ
   k' u = k u - skip u
@@ -115,44 +89,44 @@ module _ (g : Graph) (is : IsGraph g) (r f : Set) (outer inner : Set) (parent ma
   skip_is u s o w = same_way c k v z u (skip u) s (way u o) w
 
   abbrev fits_at : (u : ℕ) (o : outer u ≡ true) → Stays c z u → (j : ℕ) → j ≤ k' u + k' u → place base (skip u + skip u) j ≤ k u + k u
-  fits_at u o st = place_fits g is r f outer inner parent mate has walked c z es shrunk e1 fits u (skip u) o st (way u o)
+  fits_at u o st = place_fits given u (skip u) o st (way u o)
 
   new_sides : (u : ℕ) → outer' u ≡ true → (j : ℕ) → j ≤ k' u + k' u → (outer' (v' u j) ≡ not (is_odd j)) × (inner' (v' u j) ≡ is_odd j)
   new_sides u t j l =
       let p = outer_parts u t in
-      let st = stays_at g is r f outer inner parent mate has walked c z es shrunk e1 fits u (skip u) p.0 p.1 (way u p.0) j l in
+      let st = stays_at given u (skip u) p.0 p.1 (way u p.0) j l in
       let s = forest.sides u p.0 (place base (skip u + skip u) j) (fits_at u p.0 p.1 j l) in (
         stays_outer (v' u j) st ∙ s.0 ∙ ap not (place_odd base (skip u) j),
         stays_inner (v' u j) st ∙ s.1 ∙ place_odd base (skip u) j,
       )
 
-  new_forest : IsForest H rs left_edges outer' inner' k' v' e'
+  new_forest : IsForest (H given) (rs given) (left_edges given) outer' inner' k' v' e'
   new_forest = record {
-    outer_in = λ u t. let p = outer_parts u t in let a = forest.outer_in u p.0 in (a.0, stays_left g is r f outer inner parent mate has walked c z es shrunk e1 fits u p.1 a.1);
+    outer_in = λ u t. let p = outer_parts u t in let a = forest.outer_in u p.0 in (a.0, stays_left given u p.1 a.1);
     inner_in = λ u t.
         let p = inner_parts u t in
         let a = forest.inner_in u p.0 in
-        (a.0, stays_left g is r f outer inner parent mate has walked c z es shrunk e1 fits u (inl p.1) a.1, stays_degree g is r f outer inner parent mate has walked c z es shrunk e1 fits u (inl p.1) ∙ a.2);
+        (a.0, stays_left given u (inl p.1) a.1, stays_degree given u (inl p.1) ∙ a.2);
     apart = λ u t. let p = outer_parts u t in stays_inner u p.1 ∙ forest.apart u p.0;
     misses = λ u w ru du. missed u w (left u ru) ru du;
     mates = new_mates;
     seen = λ u t.
         let p = inner_parts u t in
         let s = forest.seen u p.0 in
-        (s.0, shrunk_vertex c z s.1, in_h s.0 s.2, ends_by H s.0 s.0 u (shrunk_vertex c z u) (shrunk_vertex c z s.1) (shrunk_vertex c z s.1) refl (sym (stays u (inl p.1))) refl (pulled_ends g c z es shrunk fits.base s.0 u s.1 s.2 s.3), pulled_outer s.1 s.4);
-    path = λ u t. let p = outer_parts u t in new_path g is r f outer inner parent mate has walked c z es shrunk e1 fits u (skip u) p.0 p.1 (way u p.0);
-    last = λ u t. let p = outer_parts u t in new_last g is r f outer inner parent mate has walked c z es shrunk e1 fits u (skip u) p.0 p.1 (way u p.0);
+        (s.0, shrunk_vertex c z s.1, in_h given s.0 s.2, ends_by (H given) s.0 s.0 u (shrunk_vertex c z u) (shrunk_vertex c z s.1) (shrunk_vertex c z s.1) refl (sym (pulled_at_stay given u (inl p.1))) refl (pulled_ends g c z es shrunk fits.base s.0 u s.1 s.2 s.3), pulled_outer s.1 s.4);
+    path = λ u t. let p = outer_parts u t in new_path given u (skip u) p.0 p.1 (way u p.0);
+    last = λ u t. let p = outer_parts u t in new_last given u (skip u) p.0 p.1 (way u p.0);
     sides = new_sides;
   }
     where
-      left : (u : ℕ) → rs u ≡ false → (r u ≡ false) × Stays c z u
-      left u q = elim (stays_or_not g is r f outer inner parent mate has walked c z es shrunk e1 fits u) [
+      left : (u : ℕ) → rs given u ≡ false → (r u ≡ false) × Stays c z u
+      left u q = elim (stays_or_not given u) [
         | inl s ↦ (grind (arith, true≢false), s)
-        | inr s ↦ absurd (both_ways (rs u) q (or_right (r u) (c u && not (u == z)) (and_from (c u) (not (u == z)) s.0 (ap not (ne_eqb u z s.1)))))
+        | inr s ↦ absurd (both_ways (rs given u) q (or_right (r u) (c u && not (u == z)) (and_from (c u) (not (u == z)) s.0 (ap not (ne_eqb u z s.1)))))
       ]
 
-      missed : (u : ℕ) → Within g.order u → (r u ≡ false) × Stays c z u → rs u ≡ false → degree H left_edges u ≡ 0 → outer' u ≡ true
-      missed u w s ru du = stays_outer u s.1 ∙ forest.misses u w s.0 (sym (stays_degree g is r f outer inner parent mate has walked c z es shrunk e1 fits u s.1) ∙ du)
+      missed : (u : ℕ) → Within g.order u → (r u ≡ false) × Stays c z u → rs given u ≡ false → degree (H given) (left_edges given) u ≡ 0 → outer' u ≡ true
+      missed u w s ru du = stays_outer u s.1 ∙ forest.misses u w s.0 (sym (stays_degree given u s.1) ∙ du)
 
   -- one step up from a vertex that stays, whose parent is p
   module _ (u p : ℕ) (o : outer u ≡ true) (st : Stays c z u) (n : k u ≢ 0) (w : WalksUp outer k v parent mate u p) where
@@ -161,19 +135,19 @@ module _ (g : Graph) (is : IsGraph g) (r f : Set) (outer inner : Set) (parent ma
 
     mate_off : c (mate u) ≡ false
     mate_off = elim st [
-      | inl q ↦ mate_out g is r f outer inner parent mate has walked c z e1 fits u p o q w
-      | inr q ↦ ap (λ x. c (mate x)) q ∙ base_mate_out g is r f outer inner parent mate has walked c z es shrunk e1 fits (root_off q)
+      | inl q ↦ mate_out given u p o q w
+      | inr q ↦ ap (λ x. c (mate x)) q ∙ base_mate_out given (root_off q)
     ]
 
     new_mate : mate' u ≡ mate u
-    new_mate = mate_stay g is r f outer inner parent mate has walked c z es shrunk e1 fits outer' inner' parent' mate' after u st
+    new_mate = mate_stay given outer' inner' parent' mate' after u st
 
     new_parent : parent' (mate' u) ≡ shrunk_vertex c z p
-    new_parent = ap parent' new_mate ∙ after.parents (mate u) (stays_inner (mate u) (inl mate_off) ∙ inner_mate g is r f outer inner parent mate has walked c z e1 fits u p o w) ∙ ap (shrunk_vertex c z) w.parent_is
+    new_parent = ap parent' new_mate ∙ after.parents (mate u) (stays_inner (mate u) (inl mate_off) ∙ inner_mate given u p o w) ∙ ap (shrunk_vertex c z) w.parent_is
 
     -- the base leaves out nothing, and neither does a vertex before it
     skip_base : skip z ≡ 0
-    skip_base = let a = skip_is z (k z - k z) fits.base_outer (way_in g is r f outer inner parent mate has walked c z e1 fits z fits.base fits.base_outer) in omega arith
+    skip_base = let a = skip_is z (k z - k z) fits.base_outer (way_in given z fits.base fits.base_outer) in omega arith
 
     skip_before : k p < k z → skip p ≡ 0
     skip_before l = elim (way p w.outer_is) [
@@ -184,7 +158,7 @@ module _ (g : Graph) (is : IsGraph g) (r f : Set) (outer inner : Set) (parent ma
     -- u leaves out as many pairs as its parent
     same_skip : skip u ≡ skip p
     same_skip = elim st [
-      | inl q ↦ skip_is u (skip p) o (way_on g is r f outer inner parent mate has walked c z e1 fits u p (skip p) o q w (way p w.outer_is))
+      | inl q ↦ skip_is u (skip p) o (way_on given u p (skip p) o q w (way p w.outer_is))
       | inr q ↦ ap skip q ∙ skip_base ∙ sym (skip_before (let a = w.pairs in let b = ap k q in omega arith))
     ]
 
@@ -222,7 +196,7 @@ module _ (g : Graph) (is : IsGraph g) (r f : Set) (outer inner : Set) (parent ma
     }
       where
         skip_p : skip p ≡ k p - k z
-        skip_p = skip_is p (k p - k z) w.outer_is (way_in g is r f outer inner parent mate has walked c z e1 fits p q w.outer_is)
+        skip_p = skip_is p (k p - k z) w.outer_is (way_in given p q w.outer_is)
 
         place_is : place base (skip u + skip u) (suc (k' z + k' z)) ≡ suc (k p + k p)
         place_is =
@@ -238,7 +212,7 @@ module _ (g : Graph) (is : IsGraph g) (r f : Set) (outer inner : Set) (parent ma
       | inr q ↦ (p, up_out q)
     ]
 
-  pub contracted_forest : IsWalkedForest H rs left_edges outer' inner' parent' mate'
+  pub contracted_forest : IsWalkedForest (H given) (rs given) (left_edges given) outer' inner' parent' mate'
   contracted_forest = record {
     k = k';
     v = v';

@@ -1,60 +1,23 @@
 -- The paths of a forest in the shrunk graph: where a set of its vertices is shrunk to its base, the
 -- path of an outer vertex leaves out the places between the base and the last one in the set. So
 -- each of its vertices is outside the set or is the base, where the degrees are what they were.
-use Rattle.std.proofs.Common.{◌≡◌, ◌≢◌, ℕ, suc, ◌+◌, ◌-◌, ◌≤◌, ◌<◌, ◌⊎◌, true, false, cond, refl, sym, ap, ◌∙◌, arith, not, ◌&&◌, inl, inr, subst, List}
-use Rattle.counting.proofs.Common.{and_true, both_ways, cases_eq, cases_lt, Within, Set, minus}
-use Rattle.graph_core.proofs.Common.{Graph, HasEnds, IsGraph, degree, size, with_ends}
-use Rattle.match_search.specs.Common.{HasMates, IsAlternating, IsForest, IsShrunk, shrunk_removed, shrunk_vertex, IsContractible}
+use Rattle.std.proofs.Common.{◌≡◌, ◌≢◌, ℕ, suc, ◌+◌, ◌-◌, ◌≤◌, ◌<◌, ◌⊎◌, true, false, cond, refl, sym, ap, ◌∙◌, arith, not, ◌&&◌, inl, inr, subst}
+use Rattle.counting.proofs.Common.{and_true, both_ways, cases_eq, cases_lt}
+use Rattle.graph_core.proofs.Common.{HasEnds, degree}
+use Rattle.match_search.specs.Common.{IsAlternating, shrunk_vertex}
 use Rattle.match_search.proofs.CrossingPaths.{Way}
 use Rattle.match_search.proofs.Forests.{turned}
 use Rattle.match_search.proofs.LongerPaths.{ends_by}
-use Rattle.match_search.proofs.ShrunkForests.{IsContracted, IsWalkedForest, Stays, WalksUp}
+use Rattle.match_search.proofs.ShrunkForests.{H, ShrunkForest, Stays, in_h, left_edges, off_left, pulled_at_stay, rs, stays_degree, stays_left}
 use Rattle.match_search.proofs.ShrunkInstances.{pulled_ends}
 use Rattle.match_search.proofs.SkippedPlaces.{edge_high, edge_low, edge_next, edge_none, edge_odd, edge_off, edge_place, place, place_apart, place_high, place_low, place_none}
 
-module _ (g : Graph) (is : IsGraph g) (r f : Set) (outer inner : Set) (parent mate : ℕ → ℕ) (has : HasMates g r f mate) (walked : IsWalkedForest g r f outer inner parent mate)
-    (c : Set) (z : ℕ) (es : List (ℕ × ℕ)) (shrunk : IsShrunk g c z es) (e1 : Set) (fits : IsContractible g r f outer walked.k walked.v mate c z e1) where
-  abbrev H : Graph
-  H = with_ends g es
-
-  abbrev rs : Set
-  rs = shrunk_removed r c z
-
-  abbrev left_edges : Set
-  left_edges = minus f e1
-
-  abbrev k : ℕ → ℕ
-  k = walked.k
-
-  abbrev v : ℕ → ℕ → ℕ
-  v = walked.v
-
-  abbrev e : ℕ → ℕ → ℕ
-  e = walked.e
-
-  abbrev forest : IsForest g r f outer inner k v e
-  forest = walked.forest
+module _ (given : ShrunkForest) where
+  open given use {g, r, f, outer, c, z, es, shrunk, e1, fits}
+  open given.walked use {k, v, e, forest}
 
   abbrev base : ℕ
   base = k z + k z
-
-  stays_left : (w : ℕ) → Stays c z w → r w ≡ false → rs w ≡ false
-  stays_left = Rattle.match_search.proofs.ShrunkForests.stays_left g is r f outer inner parent mate has walked c z es shrunk e1 fits
-
-  stays_degree : (w : ℕ) → Stays c z w → degree H left_edges w ≡ degree g f w
-  stays_degree = Rattle.match_search.proofs.ShrunkForests.stays_degree g is r f outer inner parent mate has walked c z es shrunk e1 fits
-
-  pulled_at_stay : (w : ℕ) → Stays c z w → shrunk_vertex c z w ≡ w
-  pulled_at_stay = Rattle.match_search.proofs.ShrunkForests.pulled_at_stay g is r f outer inner parent mate has walked c z es shrunk e1 fits
-
-  off_left : (d x y : ℕ) → Within (size g) d → HasEnds g d x y → c x ≡ false → e1 d ≡ false
-  off_left = Rattle.match_search.proofs.ShrunkForests.off_left g is r f outer inner parent mate has walked c z es shrunk e1 fits
-
-  in_h : (d : ℕ) → Within (size g) d → Within (size H) d
-  in_h d w = let a = shrunk.same in omega arith
-
-  in_g : (d : ℕ) → Within (size H) d → Within (size g) d
-  in_g d w = let a = shrunk.same in omega arith
 
   pulled_in : (w : ℕ) → c w ≡ true → shrunk_vertex c z w ≡ z
   pulled_in w q = ap (λ b. cond b z w) q
@@ -111,7 +74,7 @@ module _ (g : Graph) (is : IsGraph g) (r f : Set) (outer inner : Set) (parent ma
 
     -- the edges lead on from what their first ends became
     pulled_same : (j : ℕ) → j < length_of + length_of → on j ≡ place base (s + s) j → at j ≡ shrunk_vertex c z (v u (on j))
-    pulled_same j l q = sym (pulled_at_stay (at j) (stays_at j (omega arith))) ∙ ap (λ i. shrunk_vertex c z (v u i)) (sym q)
+    pulled_same j l q = sym (pulled_at_stay given (at j) (stays_at j (omega arith))) ∙ ap (λ i. shrunk_vertex c z (v u i)) (sym q)
 
     pulled_first : (j : ℕ) → j < length_of + length_of → at j ≡ shrunk_vertex c z (v u (on j))
     pulled_first j l = elim (cases_eq j base) [
@@ -126,7 +89,7 @@ module _ (g : Graph) (is : IsGraph g) (r f : Set) (outer inner : Set) (parent ma
     ]
 
     pulled_second : (j : ℕ) → j < length_of + length_of → at (suc j) ≡ shrunk_vertex c z (v u (suc (on j)))
-    pulled_second j l = sym (pulled_at_stay (at (suc j)) (stays_at (suc j) (omega arith))) ∙ ap (λ i. shrunk_vertex c z (v u i)) (edge_next base (s + s) j)
+    pulled_second j l = sym (pulled_at_stay given (at (suc j)) (stays_at (suc j) (omega arith))) ∙ ap (λ i. shrunk_vertex c z (v u i)) (edge_next base (s + s) j)
 
     -- no edge of the new path has both ends in c
     one_out : (j : ℕ) → j < length_of + length_of → (c (v u (on j)) ≡ false) ⊎ (c (v u (suc (on j))) ≡ false)
@@ -143,21 +106,21 @@ module _ (g : Graph) (is : IsGraph g) (r f : Set) (outer inner : Set) (parent ma
 
     off : (j : ℕ) → j < length_of + length_of → e1 (e u (on j)) ≡ false
     off j l = let w = old.path.real (on j) (edge_fits j l) in elim (one_out j l) [
-      | inl q ↦ off_left (e u (on j)) (v u (on j)) (v u (suc (on j))) w (ends_at j l) q
-      | inr q ↦ off_left (e u (on j)) (v u (suc (on j))) (v u (on j)) w (turned g (e u (on j)) (v u (on j)) (v u (suc (on j))) (ends_at j l)) q
+      | inl q ↦ off_left given (e u (on j)) (v u (on j)) (v u (suc (on j))) w (ends_at j l) q
+      | inr q ↦ off_left given (e u (on j)) (v u (suc (on j))) (v u (on j)) w (turned g (e u (on j)) (v u (on j)) (v u (suc (on j))) (ends_at j l)) q
     ]
 
-    pub new_path : IsAlternating H rs left_edges length_of at (λ j. e u (on j))
+    pub new_path : IsAlternating (H given) (rs given) (left_edges given) length_of at (λ j. e u (on j))
     new_path = record {
       path = record {
         apart = λ i j li lj q. place_apart base (s + s) i j (old.path.apart (place base (s + s) i) (place base (s + s) j) (place_fits i li) (place_fits j lj) q);
         within = λ i l. old.path.within (place base (s + s) i) (place_fits i l);
-        outside = λ i l. stays_left (at i) (stays_at i l) (old.path.outside (place base (s + s) i) (place_fits i l));
-        real = λ i l. in_h (e u (on i)) (old.path.real (on i) (edge_fits i l));
-        ends = λ i l. ends_by H (e u (on i)) (e u (on i)) (at i) (shrunk_vertex c z (v u (on i))) (at (suc i)) (shrunk_vertex c z (v u (suc (on i)))) refl (pulled_first i l) (pulled_second i l)
+        outside = λ i l. stays_left given (at i) (stays_at i l) (old.path.outside (place base (s + s) i) (place_fits i l));
+        real = λ i l. in_h given (e u (on i)) (old.path.real (on i) (edge_fits i l));
+        ends = λ i l. ends_by (H given) (e u (on i)) (e u (on i)) (at i) (shrunk_vertex c z (v u (on i))) (at (suc i)) (shrunk_vertex c z (v u (suc (on i)))) refl (pulled_first i l) (pulled_second i l)
             (pulled_ends g c z es shrunk fits.base (e u (on i)) (v u (on i)) (v u (suc (on i))) (old.path.real (on i) (edge_fits i l)) (ends_at i l));
       };
-      free = stays_degree (at 0) (stays_at 0 (omega arith)) ∙ ap (λ i. degree g f (v u i)) (place_low base (s + s) 0 (omega arith)) ∙ old.free;
+      free = stays_degree given (at 0) (stays_at 0 (omega arith)) ∙ ap (λ i. degree g f (v u i)) (place_low base (s + s) 0 (omega arith)) ∙ old.free;
       turns = λ i l. ap (λ b. f (e u (on i)) && not b) (off i l) ∙ and_true (f (e u (on i))) ∙ old.turns (on i) (edge_fits i l) ∙ edge_odd base s i;
     }
 

@@ -2,10 +2,8 @@
 -- base and leaves it for good some pairs later. By induction along the path up.
 use Rattle.std.proofs.Common.{◌≡◌, ◌≢◌, ℕ, zero, suc, ◌+◌, ◌-◌, ◌≤◌, ◌<◌, ◌⊎◌, true, false, refl, sym, ap, ◌∙◌, arith, not, inl, inr, subst}
 use Rattle.counting.proofs.Common.{both_ways, cases_Bool, cases_eq, cases_lt, false_from_ne_true, odd-double, Within, Set}
-use Rattle.graph_core.proofs.Common.{Graph, IsGraph}
-use Rattle.match_search.specs.Common.{HasMates, IsForest, IsContractible}
 use Rattle.match_search.proofs.MatePairs.{mate_back}
-use Rattle.match_search.proofs.ShrunkForests.{IsWalkedForest, WalksUp}
+use Rattle.match_search.proofs.ShrunkForests.{ShrunkForest, WalksUp}
 
 -- the path of u comes to c at the base z, and leaves it for good s pairs later
 pub record Crosses (c : Set) (k : ℕ → ℕ) (v : ℕ → ℕ → ℕ) (z u s : ℕ) : Type 0 where
@@ -40,16 +38,9 @@ same_way c k v z u s t x y = elim x [
   ]
 ]
 
-module _ (g : Graph) (is : IsGraph g) (r f : Set) (outer inner : Set) (parent mate : ℕ → ℕ) (has : HasMates g r f mate) (walked : IsWalkedForest g r f outer inner parent mate)
-    (c : Set) (z : ℕ) (e1 : Set) (fits : IsContractible g r f outer walked.k walked.v mate c z e1) where
-  abbrev k : ℕ → ℕ
-  k = walked.k
-
-  abbrev v : ℕ → ℕ → ℕ
-  v = walked.v
-
-  abbrev forest : IsForest g r f outer inner k v walked.e
-  forest = walked.forest
+module _ (given : ShrunkForest) where
+  open given use {g, is, r, f, outer, inner, parent, mate, has, walked, c, z, fits}
+  open given.walked use {k, v, forest}
 
   abbrev Up : ℕ → ℕ → Type 0
   Up u p = WalksUp outer k v parent mate u p

@@ -4,7 +4,7 @@
 use Rattle.std.proofs.Common.{◌≡◌, ◌≢◌, ℕ, zero, suc, ◌+◌, ◌-◌, ◌≤◌, ◌<◌, ◌⊎◌, true, false, refl, sym, ap, ◌∙◌, arith, not, inl, inr, subst}
 use Rattle.counting.proofs.Common.{both_ways, cases_Bool, cases_eq, false_from_ne_true, not-false, odd-double, Within, is_odd, Set}
 use Rattle.graph_core.proofs.Common.{edge_at, Graph, HasEnds, IsGraph, first_end, second_end, size}
-use Rattle.match_search.specs.Common.{HasMates, IsForest, IsNearPerfect, IsOddCycle, every_other, flipped, listed, picked, IsContractible, IsFlower}
+use Rattle.match_search.specs.Common.{HasMates, IsNearPerfect, IsOddCycle, every_other, flipped, listed, picked, IsContractible, IsFlower}
 use Rattle.match_search.proofs.AlternatingPaths.{flipped_off}
 use Rattle.match_search.proofs.Forests.{one_edge, turned}
 use Rattle.match_search.proofs.LongerPaths.{end_within}
@@ -33,17 +33,7 @@ pub record AreClosingIn (outer : Set) (k : ℕ → ℕ) (v : ℕ → ℕ → ℕ
   pub y_in : (j : ℕ) → k z + k z < j → j ≤ k y + k y → c (v y j) ≡ true
 
 module _ (g : Graph) (is : IsGraph g) (r f : Set) (outer inner : Set) (parent mate : ℕ → ℕ) (has : HasMates g r f mate) (walked : IsWalkedForest g r f outer inner parent mate) where
-  abbrev k : ℕ → ℕ
-  k = walked.k
-
-  abbrev v : ℕ → ℕ → ℕ
-  v = walked.v
-
-  abbrev e : ℕ → ℕ → ℕ
-  e = walked.e
-
-  abbrev forest : IsForest g r f outer inner k v e
-  forest = walked.forest
+  open walked use {k, v, e, forest}
 
   -- an outer vertex on a path has its own path as the beginning of it
   abbrev Passed : ℕ → ℕ → ℕ → Type 0

@@ -1,49 +1,23 @@
 -- The blossom of a forest is shrunk to its base: what the search hands on, and what comes back. The
 -- shrunk graph has fewer vertices, and its frame is one of the graph.
-use Rattle.std.proofs.Common.{◌≡◌, ℕ, zero, suc, ◌+◌, ◌≤◌, ◌<◌, true, false, ◌==◌, ◌∙◌, arith, sym, subst, eqb-true, List}
-use Rattle.counting.proofs.Common.{fun_ext, half, not-true, some_true, Within, count, is_odd, Set, complement, minus, none, union}
-use Rattle.graph_core.proofs.Common.{Graph, IsGraph, missed_count, size, with_ends}
-use Rattle.match_search.specs.Common.{Frame, HasMates, IsNearPerfect, IsShrunk, every_other, listed, picked, shrunk_ends, shrunk_removed, IsFlower}
+use Rattle.std.proofs.Common.{◌≡◌, ℕ, zero, suc, ◌+◌, ◌≤◌, ◌<◌, true, false, ◌==◌, ◌∙◌, arith, sym, subst, eqb-true}
+use Rattle.counting.proofs.Common.{fun_ext, half, not-true, some_true, Within, count, is_odd, Set, complement, none, union}
+use Rattle.graph_core.proofs.Common.{missed_count, size}
+use Rattle.match_search.specs.Common.{Frame, HasMates, IsNearPerfect, every_other, listed, picked, IsFlower}
 use Rattle.match_search.proofs.ContractedForests.{contracted_forest}
 use Rattle.match_search.proofs.ContractedFrames.{contracted_missed, frame_contracted, frame_whole}
 use Rattle.match_search.proofs.OddCycles.{cycle_size, every_other-near_perfect}
-use Rattle.match_search.proofs.ShrunkForests.{IsContracted, IsWalkedForest, contracted_mates}
+use Rattle.match_search.proofs.ShrunkForests.{H, IsContracted, IsWalkedForest, ShrunkForest, contracted_mates, left_edges, rs, wz}
 use Rattle.match_search.proofs.ShrunkFrames.{complement_size}
-use Rattle.match_search.proofs.Shrinking.{shrunk_graph}
-use Rattle.match_search.proofs.StepTheorem.{shrunk_ends_shrunk}
 
-module _ (g : Graph) (is : IsGraph g) (r f : Set) (outer inner : Set) (parent mate : ℕ → ℕ) (has : HasMates g r f mate) (walked : IsWalkedForest g r f outer inner parent mate)
-    (c : Set) (z : ℕ) (flower : IsFlower g r f outer walked.k walked.v mate c z) where
+module _ (given : ShrunkForest) (flower : IsFlower given.g given.r given.f given.outer given.walked.k given.walked.v given.mate given.c given.z) where
+  open given use {g, is, r, f, outer, inner, parent, mate, c, z, es, shrunk, fits}
+
   abbrev n : ℕ
   n = flower.length_of
 
-  abbrev e1 : Set
-  e1 = picked n (every_other 1) flower.edge
-
-  abbrev pub es : List (ℕ × ℕ)
-  es = shrunk_ends g c z
-
-  abbrev pub below_graph : Graph
-  below_graph = with_ends g es
-
-  abbrev pub below_removed : Set
-  below_removed = shrunk_removed r c z
-
-  -- the matching without its edges in the blossom
-  abbrev pub below_edges : Set
-  below_edges = minus f e1
-
-  pub pulls : IsShrunk g c z es
-  pulls = shrunk_ends_shrunk g c z
-
-  pub base_in : Within g.order z
-  base_in = (walked.forest.outer_in z flower.fits.base_outer).0
-
   pub member_in : (u : ℕ) → c u ≡ true → Within g.order u
   member_in u t = let at = some_true n (λ i. flower.vertex i == u) (sym (flower.members u) ∙ t) in subst (Within g.order) (eqb-true (flower.vertex at.0) u at.2) (flower.cycle.within at.0 at.1)
-
-  pub graph_below : IsGraph below_graph
-  graph_below = shrunk_graph g is r c z es pulls flower.fits.left base_in flower.fits.base
 
   near_sets : (t : ℕ) → Within g.order t → c t ≡ true → (d : Set) × IsNearPerfect g c t d
   near_sets t w q =
@@ -58,21 +32,21 @@ module _ (g : Graph) (is : IsGraph g) (r f : Set) (outer inner : Set) (parent ma
       go zero o l s = absurd (omega arith)
       go (suc t) o l s = let q = half t (not-true (is_odd t) o) in (q.0, (let a = q.1 in omega arith), (let a = q.1 in omega arith))
 
-  pub fewer_below : count g.order (complement below_removed) < count g.order (complement r)
-  fewer_below = let h = halves in let a = complement_size g is r c z es pulls flower.fits.left base_in flower.fits.base h.0 h.1 in let b = h.2 in omega arith
+  pub fewer_below : count g.order (complement (rs given)) < count g.order (complement r)
+  fewer_below = let h = halves in let a = complement_size g is r c z es shrunk fits.left (wz given) fits.base h.0 h.1 in let b = h.2 in omega arith
 
-  pub missed_below : missed_count below_graph below_removed below_edges ≡ missed_count g r f
-  missed_below = contracted_missed g is r f outer inner parent mate has walked c z es pulls e1 flower.fits
+  pub missed_below : missed_count (H given) (rs given) (left_edges given) ≡ missed_count g r f
+  missed_below = contracted_missed given
 
-  pub frame_wider : (outer2 inner2 : Set) → Frame below_graph below_removed (count (size below_graph) below_edges) outer2 inner2 → Frame g r (count (size g) f) (union outer2 c) inner2
-  frame_wider = frame_contracted g is r f outer inner parent mate has walked c z es pulls e1 flower.fits near_sets halves.0 halves.1
+  pub frame_wider : (outer2 inner2 : Set) → Frame (H given) (rs given) (count (size (H given)) (left_edges given)) outer2 inner2 → Frame g r (count (size g) f) (union outer2 c) inner2
+  frame_wider = frame_contracted given near_sets halves.0 halves.1
 
   pub frame_all : ((u : ℕ) → Within g.order u → r u ≡ false → c u ≡ true) → Frame g r (count (size g) f) c none
-  frame_all = frame_whole g is r f outer inner parent mate has walked c z es pulls e1 flower.fits near_sets halves.0 halves.1
+  frame_all = frame_whole given near_sets halves.0 halves.1
 
   module _ (outer' inner' : Set) (parent' mate' : ℕ → ℕ) (after : IsContracted outer inner parent mate c z outer' inner' parent' mate') where
-    pub forest_below : IsWalkedForest below_graph below_removed below_edges outer' inner' parent' mate'
-    forest_below = contracted_forest g is r f outer inner parent mate has walked c z es pulls e1 flower.fits outer' inner' parent' mate' after
+    pub forest_below : IsWalkedForest (H given) (rs given) (left_edges given) outer' inner' parent' mate'
+    forest_below = contracted_forest given outer' inner' parent' mate' after
 
-    pub mates_below : HasMates below_graph below_removed below_edges mate'
-    mates_below = contracted_mates g is r f outer inner parent mate has walked c z es pulls e1 flower.fits outer' inner' parent' mate' after
+    pub mates_below : HasMates (H given) (rs given) (left_edges given) mate'
+    mates_below = contracted_mates given outer' inner' parent' mate' after

@@ -4,13 +4,13 @@
 use Rattle.std.proofs.Common.{◌≡◌, ◌≢◌, ℕ, suc, ◌<◌, Bool, true, false, sym, ap, ap₂, ◌∙◌, arith, inl, inr, not, cond, ◌&&◌, ◌||◌, ◌==◌, refl, subst, eq-eqb, eqb-true, ne_eqb, List, [], ◌∷◌, length, Option, None}
 use Rattle.counting.proofs.Common.{fun_ext, and_from, and_parts, count_congr, count_of_one, cases_eq, false_from_ne_true, not-true, or_cases, or_left, or_right, only_one, or_false, true≢false, Within, count, Set, mem, none}
 use Rattle.graph_core.proofs.Common.{Graph, degree, size, missed_count}
-use Rattle.match_search.specs.Common.{AreExposed, GrowsForest, HasContracted, HasMates, HasRestarted, HoldsAlternating, HoldsForest, HoldsMatching, IsGrownForest, IsInstance, IsSettled, HasOuter, HoldsFlower, HoldsRooted, Frame, IsMissableRow, Touches, numbers, IsShrinking}
+use Rattle.match_search.specs.Common.{AreExposed, GrowsForest, HasContracted, HasMates, HasRestarted, HoldsAlternating, HoldsForest, HoldsMatching, IsGrownForest, IsInstance, IsSettled, HasOuter, HoldsFlower, HoldsRooted, Frame, IsMissableRow, Touches, numbers, IsShrinking, every_other, picked, shrunk_ends}
 use Rattle.match_search.specs.declared.flower.Flower.{Flower}
 use Rattle.match_search.specs.declared.alternating.AlternatingForest.{AlternatingForest}
 use Rattle.match_search.specs.declared.growing.Adjacent.{Adjacent}
 use Rattle.match_search.specs.declared.instance.Instance.{Instance}
 use Rattle.match_search.proofs.AugmentedMates.{left_is}
-use Rattle.match_search.proofs.FlowerSteps.{below_edges, below_graph, below_removed, fewer_below, forest_below, frame_all, frame_wider, graph_below, mates_below, member_in, missed_below, pulls}
+use Rattle.match_search.proofs.FlowerSteps.{fewer_below, forest_below, frame_all, frame_wider, mates_below, member_in, missed_below}
 use Rattle.match_search.proofs.Forests.{mates_of}
 use Rattle.match_search.proofs.ForestWalks.{has_pairs}
 use Rattle.match_search.proofs.Instances.{left_from, left_parts}
@@ -18,9 +18,10 @@ use Rattle.match_search.proofs.MatePairs.{mate_back}
 use Rattle.match_search.proofs.MateSteps.{left_count}
 use Rattle.match_search.proofs.ParentForests.{done_frame, roots_grow}
 use Rattle.match_search.proofs.SameMates.{mates_degree}
-use Rattle.match_search.proofs.ShrunkForests.{IsContracted}
+use Rattle.match_search.proofs.ShrunkForests.{H, IsContracted, ShrunkForest, graph_below, left_edges, rs}
+use Rattle.match_search.proofs.Shrinking.{shrunk_ends_shrunk}
 use Rattle.match_search.proofs.ShrunkInstances.{shrunk_instance}
-use Rattle.match_search.proofs.WalkedForests.{IsWalked, held_from, walked_of}
+use Rattle.match_search.proofs.WalkedForests.{held_from, walked_of}
 
 -- a vertex that is left and exposed is the root
 module _ (g : Graph) (r f : Set) (s : Instance) (mate : List ℕ) (root : ℕ) (rooted : HoldsRooted g r f s mate root) where
@@ -70,20 +71,37 @@ module _ (g : Graph) (r f : Set) (s : Instance) (mate : List ℕ) (t : Alternati
   abbrev c : Set
   c = mem b.members
 
-  abbrev walked : IsWalked g r f mate t
-  walked = walked_of g r f mate t h
+  abbrev given : ShrunkForest
+  given = record {
+    g = g;
+    is = is.graph;
+    r = r;
+    f = f;
+    outer = mem t.outer;
+    inner = mem t.inner;
+    parent = numbers t.parent.items;
+    mate = numbers mate;
+    has = mates;
+    walked = walked_of g r f mate t h;
+    c = c;
+    z = b.base;
+    es = shrunk_ends g c b.base;
+    shrunk = shrunk_ends_shrunk g c b.base;
+    e1 = picked held.length_of (every_other 1) held.edge;
+    fits = held.fits;
+  }
 
   abbrev pub shrunk_graph_of : Graph
-  shrunk_graph_of = below_graph g is.graph r f (mem t.outer) (mem t.inner) (numbers t.parent.items) (numbers mate) mates walked c b.base held
+  shrunk_graph_of = H given
 
   abbrev pub shrunk_out : Set
-  shrunk_out = below_removed g is.graph r f (mem t.outer) (mem t.inner) (numbers t.parent.items) (numbers mate) mates walked c b.base held
+  shrunk_out = rs given
 
   abbrev pub shrunk_edges : Set
-  shrunk_edges = below_edges g is.graph r f (mem t.outer) (mem t.inner) (numbers t.parent.items) (numbers mate) mates walked c b.base held
+  shrunk_edges = left_edges given
 
   in_graph : (v : ℕ) → c v ≡ true → Within g.order v
-  in_graph = member_in g is.graph r f (mem t.outer) (mem t.inner) (numbers t.parent.items) (numbers mate) mates walked c b.base held
+  in_graph = member_in given held
 
   pub flower_within : (v : ℕ) → mem b.members v ≡ true → Within (length s.rows.items) v
   flower_within v m = let w = in_graph v m in let each = is.one_each in (w.0, omega arith)
@@ -116,7 +134,7 @@ module _ (g : Graph) (r f : Set) (s : Instance) (mate : List ℕ) (t : Alternati
   outer_up below result has wide = record {
     inner = has.inner;
     frame = subst (λ (o : Set). Frame g r (count (size g) f) o has.inner) (sym (fun_ext wide))
-        (frame_wider g is.graph r f (mem t.outer) (mem t.inner) (numbers t.parent.items) (numbers mate) mates walked c b.base held (mem below) has.inner has.frame);
+        (frame_wider given held (mem below) has.inner has.frame);
     within = λ v q. elim (or_cases (mem below v) (mem b.members v) (sym (wide v) ∙ q)) [
       | inl o ↦ has.within v o
       | inr o ↦ in_graph v o
@@ -127,24 +145,24 @@ module _ (g : Graph) (r f : Set) (s : Instance) (mate : List ℕ) (t : Alternati
   pub outer_whole : ((v : ℕ) → mem s.left v ≡ true → mem b.members v ≡ true) → HasOuter g r f b.members
   outer_whole whole = record {
     inner = none;
-    frame = frame_all g is.graph r f (mem t.outer) (mem t.inner) (numbers t.parent.items) (numbers mate) mates walked c b.base held (λ u w q. whole u (left_from g r s is u w q));
+    frame = frame_all given held (λ u w q. whole u (left_from g r s is u w q));
     within = in_graph;
   }
 
   module _ (i : Instance) (shrink : IsShrinking s c b.base i) where
     below_instance : IsInstance shrunk_graph_of shrunk_out i
-    below_instance = shrunk_instance g c b.base _ (pulls g is.graph r f (mem t.outer) (mem t.inner) (numbers t.parent.items) (numbers mate) mates walked c b.base held) held.fits.base r s i is
-        held.fits.left in_graph shrink (graph_below g is.graph r f (mem t.outer) (mem t.inner) (numbers t.parent.items) (numbers mate) mates walked c b.base held)
+    below_instance = shrunk_instance g c b.base _ given.shrunk held.fits.base r s i is
+        held.fits.left in_graph shrink (graph_below given)
 
     pub flower_less : count (length i.rows.items) (mem i.left) < count (length s.rows.items) (mem s.left)
     flower_less =
         let a = left_count shrunk_graph_of shrunk_out i below_instance in
         let d = left_count g r s is in
-        let e = fewer_below g is.graph r f (mem t.outer) (mem t.inner) (numbers t.parent.items) (numbers mate) mates walked c b.base held in omega arith
+        let e = fewer_below given held in omega arith
 
     -- as many vertices are missed
     pub below_one : missed_count g r f ≡ 1 → missed_count shrunk_graph_of shrunk_out shrunk_edges ≡ 1
-    below_one one = missed_below g is.graph r f (mem t.outer) (mem t.inner) (numbers t.parent.items) (numbers mate) mates walked c b.base held ∙ one
+    below_one one = missed_below given held ∙ one
 
     -- the members but the base are exposed
     module _ (u : AlternatingForest) (contracted : HasContracted t u c b.base) (new : List ℕ) (long : length new ≡ length mate) (off : List ℕ) (off_is : (v : ℕ) → mem off v ≡ (mem b.members v && not (b.base == v))) (exposed : (v : ℕ) → numbers new v ≡ cond (mem off v) 0 (numbers mate v)) where
@@ -198,10 +216,10 @@ module _ (g : Graph) (r f : Set) (s : Instance) (mate : List ℕ) (t : Alternati
         matching = record {
           instance_is = below_instance;
           long = long ∙ grows.matching.long;
-          mates = mates_below g is.graph r f (mem t.outer) (mem t.inner) (numbers t.parent.items) (numbers mate) mates walked c b.base held (mem u.outer) (mem u.inner) (numbers u.parent.items) (numbers new) after;
+          mates = mates_below given held (mem u.outer) (mem u.inner) (numbers u.parent.items) (numbers new) after;
         };
         holds = held_from shrunk_graph_of shrunk_out shrunk_edges new u
-            (forest_below g is.graph r f (mem t.outer) (mem t.inner) (numbers t.parent.items) (numbers mate) mates walked c b.base held (mem u.outer) (mem u.inner) (numbers u.parent.items) (numbers new) after)
+            (forest_below given held (mem u.outer) (mem u.inner) (numbers u.parent.items) (numbers new) after)
             (contracted.parents_long ∙ h.parents_long);
         active_outer = λ x a. contracted.outer x ∙ elim (or_cases (mem t.active x && not (c x)) (b.base == x) (sym (contracted.active x) ∙ a)) [
           | inl q ↦ let w = and_parts (mem t.active x) (not (c x)) q in or_left (mem t.outer x && not (c x)) (b.base == x) (and_from (mem t.outer x) (not (c x)) (grows.active_outer x w.0) w.1)

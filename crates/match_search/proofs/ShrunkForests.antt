@@ -11,7 +11,7 @@ use Rattle.match_search.proofs.LongerPaths.{end_within, ends_by}
 use Rattle.match_search.proofs.MatePairs.{mate_back}
 use Rattle.match_search.proofs.NearPerfectSets.{bit_minus, count_split, degree_split}
 use Rattle.match_search.proofs.OddCycles.{same_ends}
-use Rattle.match_search.proofs.Shrinking.{degree_in, degree_out, degree_z, shut_out, shut_z}
+use Rattle.match_search.proofs.Shrinking.{degree_in, degree_out, degree_z, shrunk_graph, shut_out, shut_z}
 use Rattle.match_search.proofs.ShrunkInstances.{pulled_ends}
 
 -- the path up from u: its mate is a child of p, and the path of u is that of p extended by its mate
@@ -54,28 +54,45 @@ edge_mate g is r f mate has d x y w fd ends =
       | inr s ↦ sym s.0 ∙ sym s.1
     ]
 
-module _ (g : Graph) (is : IsGraph g) (r f : Set) (outer inner : Set) (parent mate : ℕ → ℕ) (has : HasMates g r f mate) (walked : IsWalkedForest g r f outer inner parent mate)
-    (c : Set) (z : ℕ) (es : List (ℕ × ℕ)) (shrunk : IsShrunk g c z es) (e1 : Set) (fits : IsContractible g r f outer walked.k walked.v mate c z e1) where
-  abbrev pub H : Graph
-  H = with_ends g es
+-- a forest with mates and parents, and a set c of its vertices that can be shrunk to its base z; es
+-- are the ends of the edges after that, and e1 contains the edges of f in c
+pub record ShrunkForest : Type 0 where
+  pub g : Graph
+  pub is : IsGraph g
+  pub r : Set
+  pub f : Set
+  pub outer : Set
+  pub inner : Set
+  pub parent : ℕ → ℕ
+  pub mate : ℕ → ℕ
+  pub has : HasMates g r f mate
+  pub walked : IsWalkedForest g r f outer inner parent mate
+  pub c : Set
+  pub z : ℕ
+  pub es : List (ℕ × ℕ)
+  pub shrunk : IsShrunk g c z es
+  pub e1 : Set
+  pub fits : IsContractible g r f outer walked.k walked.v mate c z e1
 
-  abbrev pub rs : Set
-  rs = shrunk_removed r c z
+-- the shrunk graph, the vertices removed from it, and what is left of the matching
+abbrev pub H : ShrunkForest → Graph
+H s = with_ends s.g s.es
 
-  abbrev pub left_edges : Set
-  left_edges = minus f e1
+abbrev pub rs : ShrunkForest → Set
+rs s = shrunk_removed s.r s.c s.z
 
-  abbrev k : ℕ → ℕ
-  k = walked.k
+abbrev pub left_edges : ShrunkForest → Set
+left_edges s = minus s.f s.e1
 
-  abbrev v : ℕ → ℕ → ℕ
-  v = walked.v
+module _ (given : ShrunkForest) where
+  open given use {g, is, r, f, outer, inner, parent, mate, has, walked, c, z, es, shrunk, e1, fits}
+  open given.walked use {k, v, forest}
 
-  abbrev forest : IsForest g r f outer inner k v walked.e
-  forest = walked.forest
-
-  wz : Within g.order z
+  pub wz : Within g.order z
   wz = (forest.outer_in z fits.base_outer).0
+
+  pub graph_below : IsGraph (H given)
+  graph_below = shrunk_graph g is r c z es shrunk fits.left wz fits.base
 
   -- an edge of f at a member other than the base has both ends in c
   pub edge_stays_in : (d x y : ℕ) → Within (size g) d → f d ≡ true → HasEnds g d x y → c x ≡ true → x ≢ z → c y ≡ true
@@ -97,18 +114,18 @@ module _ (g : Graph) (is : IsGraph g) (r f : Set) (outer inner : Set) (parent ma
   pub off_left : (d x y : ℕ) → Within (size g) d → HasEnds g d x y → c x ≡ false → e1 d ≡ false
   off_left d x y w ends cx = false_from_ne_true (e1 d) (λ t. both_ways (c x) cx (chosen_ends d x y w ends t).1)
 
-  left_is : (d : ℕ) → f d ≡ true → e1 d ≡ false → left_edges d ≡ true
+  left_is : (d : ℕ) → f d ≡ true → e1 d ≡ false → left_edges given d ≡ true
   left_is d fd ed = and_from (f d) (not (e1 d)) fd (ap not ed)
 
-  pub left_from_f : (d : ℕ) → left_edges d ≡ true → (f d ≡ true) × (e1 d ≡ false)
+  pub left_from_f : (d : ℕ) → left_edges given d ≡ true → (f d ≡ true) × (e1 d ≡ false)
   left_from_f d t = let a = and_parts (f d) (not (e1 d)) t in (a.0, not-true (e1 d) a.1)
 
   -- the mate of the base is outside c
   pub base_mate_out : k z ≢ 0 → c (mate z) ≡ false
   base_mate_out n = let p = walked.up z fits.base_outer n in let q = p.1.pairs in ap c (sym p.1.inner) ∙ fits.stem (suc (k p.0 + k p.0)) (omega arith)
 
-  pub degree_parts : (u : ℕ) → degree g f u ≡ degree g left_edges u + degree g e1 u
-  degree_parts u = degree_split g f left_edges e1 u (λ i w. bit_minus (f i) (e1 i) (λ t. (fits.chosen i w t).0))
+  pub degree_parts : (u : ℕ) → degree g f u ≡ degree g (left_edges given) u + degree g e1 u
+  degree_parts u = degree_split g f (left_edges given) e1 u (λ i w. bit_minus (f i) (e1 i) (λ t. (fits.chosen i w t).0))
 
   pub missed_out : (u : ℕ) → c u ≡ false → degree g e1 u ≡ 0
   missed_out u q = elim (cases_eq (degree g e1 u) 0) [
@@ -116,11 +133,11 @@ module _ (g : Graph) (is : IsGraph g) (r f : Set) (outer inner : Set) (parent ma
     | inr s ↦ let m = edge_at g e1 u (omega arith) in absurd (both_ways (c u) q (chosen_ends m.0 u m.3.0 m.1 m.3.1 m.2).1)
   ]
 
-  pub missed_in : (u : ℕ) → c u ≡ true → u ≢ z → degree g left_edges u ≡ 0
-  missed_in u q n = elim (cases_eq (degree g left_edges u) 0) [
+  pub missed_in : (u : ℕ) → c u ≡ true → u ≢ z → degree g (left_edges given) u ≡ 0
+  missed_in u q n = elim (cases_eq (degree g (left_edges given) u) 0) [
     | inl s ↦ s
     | inr s ↦
-        let m = edge_at g left_edges u (omega arith) in
+        let m = edge_at g (left_edges given) u (omega arith) in
         let a = left_from_f m.0 m.2 in
         absurd (both_ways (e1 m.0) a.1 (taken_ends m.0 u m.3.0 m.1 m.3.1 a.0 q (edge_stays_in m.0 u m.3.0 m.1 a.0 m.3.1 q n)))
   ]
@@ -150,27 +167,27 @@ module _ (g : Graph) (is : IsGraph g) (r f : Set) (outer inner : Set) (parent ma
     ]
   ]
 
-  pub stays_left : (w : ℕ) → Stays c z w → r w ≡ false → rs w ≡ false
+  pub stays_left : (w : ℕ) → Stays c z w → r w ≡ false → rs given w ≡ false
   stays_left w st rw' = elim st [
     | inl q ↦ shut_out g is r c z es shrunk fits.left wz fits.base w q ∙ rw'
-    | inr q ↦ ap rs q ∙ shut_z g is r c z es shrunk fits.left wz fits.base
+    | inr q ↦ ap (rs given) q ∙ shut_z g is r c z es shrunk fits.left wz fits.base
   ]
 
-  pub stays_degree : (w : ℕ) → Stays c z w → degree H left_edges w ≡ degree g f w
+  pub stays_degree : (w : ℕ) → Stays c z w → degree (H given) (left_edges given) w ≡ degree g f w
   stays_degree w st = elim st [
-    | inl q ↦ let a = degree_out g is r c z es shrunk fits.left wz fits.base left_edges w q in let b = degree_parts w in let d = missed_out w q in omega arith
+    | inl q ↦ let a = degree_out g is r c z es shrunk fits.left wz fits.base (left_edges given) w q in let b = degree_parts w in let d = missed_out w q in omega arith
     | inr q ↦
-        let a = degree_z g is r c z es shrunk fits.left wz fits.base left_edges in
-        let b = total_at g.order (λ d. bit (c d) * degree g left_edges d) z wz (λ u wu n. inside u n) in
-        let t = ap (λ s. bit s * degree g left_edges z) fits.base in
+        let a = degree_z g is r c z es shrunk fits.left wz fits.base (left_edges given) in
+        let b = total_at g.order (λ d. bit (c d) * degree g (left_edges given) d) z wz (λ u wu n. inside u n) in
+        let t = ap (λ s. bit s * degree g (left_edges given) z) fits.base in
         let o = degree_parts z in
         let s = missed_base in
-        ap (degree H left_edges) q ∙ (omega arith) ∙ ap (degree g f) (sym q)
+        ap (degree (H given) (left_edges given)) q ∙ (omega arith) ∙ ap (degree g f) (sym q)
   ]
     where
-      inside : (u : ℕ) → u ≢ z → bit (c u) * degree g left_edges u ≡ 0
+      inside : (u : ℕ) → u ≢ z → bit (c u) * degree g (left_edges given) u ≡ 0
       inside u n = elim (cases_Bool (c u)) [
-        | inr q ↦ ap (λ s. bit s * degree g left_edges u) q ∙ (omega arith)
+        | inr q ↦ ap (λ s. bit s * degree g (left_edges given) u) q ∙ (omega arith)
         | inl q ↦ ap (λ s. bit (c u) * s) (missed_in u q n) ∙ (omega arith)
       ]
 
@@ -180,24 +197,27 @@ module _ (g : Graph) (is : IsGraph g) (r f : Set) (outer inner : Set) (parent ma
     | inr q ↦ ap (shrunk_vertex c z) q ∙ ap (λ b. cond b z z) fits.base ∙ sym q
   ]
 
-  pub left_matching : IsMatching H rs left_edges
+  pub left_matching : IsMatching (H given) (rs given) (left_edges given)
   left_matching = record {
     once = λ u w. elim (stays_or_not u) [
       | inl s ↦ let a = stays_degree u s in let b = has.matching.once u w in omega arith
-      | inr s ↦ let a = degree_in g is r c z es shrunk fits.left wz fits.base left_edges u s.0 s.1 in omega arith
+      | inr s ↦ let a = degree_in g is r c z es shrunk fits.left wz fits.base (left_edges given) u s.0 s.1 in omega arith
     ];
     away = λ u w t. elim (stays_or_not u) [
       | inl s ↦ stays_degree u s ∙ has.matching.away u w (grind (arith, stays_left u s))
-      | inr s ↦ degree_in g is r c z es shrunk fits.left wz fits.base left_edges u s.0 s.1
+      | inr s ↦ degree_in g is r c z es shrunk fits.left wz fits.base (left_edges given) u s.0 s.1
     ];
   }
 
   -- an edge between vertices that stay has the ends that it had
-  keep_ends : (d x y : ℕ) → Within (size g) d → HasEnds g d x y → Stays c z x → Stays c z y → HasEnds H d x y
-  keep_ends d x y w ends sx sy = ends_by H d d x (shrunk_vertex c z x) y (shrunk_vertex c z y) refl (sym (pulled_at_stay x sx)) (sym (pulled_at_stay y sy)) (pulled_ends g c z es shrunk fits.base d x y w ends)
+  keep_ends : (d x y : ℕ) → Within (size g) d → HasEnds g d x y → Stays c z x → Stays c z y → HasEnds (H given) d x y
+  keep_ends d x y w ends sx sy = ends_by (H given) d d x (shrunk_vertex c z x) y (shrunk_vertex c z y) refl (sym (pulled_at_stay x sx)) (sym (pulled_at_stay y sy)) (pulled_ends g c z es shrunk fits.base d x y w ends)
 
-  pub in_h : (d : ℕ) → Within (size g) d → Within (size H) d
+  pub in_h : (d : ℕ) → Within (size g) d → Within (size (H given)) d
   in_h d w = let a = shrunk.same in omega arith
+
+  pub in_g : (d : ℕ) → Within (size (H given)) d → Within (size g) d
+  in_g d w = let a = shrunk.same in omega arith
 
   not_root : (u : ℕ) → Within g.order u → u ≡ z → mate u ≢ 0 → k z ≢ 0
   not_root u w q n t = let free = ap (degree g f) q ∙ free_root t in let p = has.paired u w n in let one = (met g f p.0 u (mate u) p.1 p.2 p.3).0 in absurd (omega arith)
@@ -218,7 +238,7 @@ module _ (g : Graph) (is : IsGraph g) (r f : Set) (outer inner : Set) (parent ma
   ]
 
   -- the edge to a mate stays
-  mate_edge : (u : ℕ) → Within g.order u → Stays c z u → mate u ≢ 0 → (d : ℕ) × Within (size H) d × (left_edges d ≡ true) × HasEnds H d u (mate u)
+  mate_edge : (u : ℕ) → Within g.order u → Stays c z u → mate u ≢ 0 → (d : ℕ) × Within (size (H given)) d × (left_edges given d ≡ true) × HasEnds (H given) d u (mate u)
   mate_edge u w st n =
       let p = has.paired u w n in
       let m = mate_apart u w st n in
@@ -228,10 +248,10 @@ module _ (g : Graph) (is : IsGraph g) (r f : Set) (outer inner : Set) (parent ma
       ] in
       (p.0, in_h p.0 p.1, left_is p.0 p.2 off, keep_ends p.0 u (mate u) p.1 p.3 st m.0)
 
-  pub contracted_count : count (size H) left_edges + count (size g) e1 ≡ count (size g) f
+  pub contracted_count : count (size (H given)) (left_edges given) + count (size g) e1 ≡ count (size g) f
   contracted_count =
-      let a = count_split (size g) f left_edges e1 (λ i w. bit_minus (f i) (e1 i) (λ t. (fits.chosen i w t).0)) in
-      let b = ap (λ (n : ℕ). count n left_edges) shrunk.same in omega arith
+      let a = count_split (size g) f (left_edges given) e1 (λ i w. bit_minus (f i) (e1 i) (λ t. (fits.chosen i w t).0)) in
+      let b = ap (λ (n : ℕ). count n (left_edges given)) shrunk.same in omega arith
 
   module _ (outer' inner' : Set) (parent' mate' : ℕ → ℕ) (after : IsContracted outer inner parent mate c z outer' inner' parent' mate') where
     -- mates of vertices that stay
@@ -244,15 +264,15 @@ module _ (g : Graph) (is : IsGraph g) (r f : Set) (outer inner : Set) (parent ma
     pub mate_gone : (u : ℕ) → c u ≡ true → u ≢ z → mate' u ≡ 0
     mate_gone u q n = after.mates u ∙ ap (λ b. cond b 0 (mate u)) (and_from (c u) (not (u == z)) q (ap not (ne_eqb u z n)))
 
-    pub contracted_mates : HasMates H rs left_edges mate'
+    pub contracted_mates : HasMates (H given) (rs given) (left_edges given) mate'
     contracted_mates = record {
       matching = left_matching;
       exposed = λ u w q. elim (stays_or_not u) [
         | inl s ↦ stays_degree u s ∙ has.exposed u w (sym (mate_stay u s) ∙ q)
-        | inr s ↦ degree_in g is r c z es shrunk fits.left wz fits.base left_edges u s.0 s.1
+        | inr s ↦ degree_in g is r c z es shrunk fits.left wz fits.base (left_edges given) u s.0 s.1
       ];
       paired = λ u w n. elim (stays_or_not u) [
-        | inl s ↦ subst (λ (x : ℕ). (d : ℕ) × Within (size H) d × (left_edges d ≡ true) × HasEnds H d u x) (sym (mate_stay u s)) (mate_edge u w s (λ q. n (mate_stay u s ∙ q)))
+        | inl s ↦ subst (λ (x : ℕ). (d : ℕ) × Within (size (H given)) d × (left_edges given d ≡ true) × HasEnds (H given) d u x) (sym (mate_stay u s)) (mate_edge u w s (λ q. n (mate_stay u s ∙ q)))
         | inr s ↦ absurd (n (mate_gone u s.0 s.1))
       ];
     }

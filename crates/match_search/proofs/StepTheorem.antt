@@ -1,25 +1,15 @@
 -- A matching of G - R can be made larger by one edge, or has a frame. Induction on the vertices
 -- outside R and on the forest: a closing edge augments, or its cycle is shrunk.
-use Rattle.std.proofs.Common.{◌≡◌, ℕ, suc, zero, ◌+◌, ◌-◌, ◌≤◌, ◌<◌, ◌≢◌, Bool, true, false, ◌==◌, refl, sym, ◌∙◌, arith, ◌&&◌, not, eqb-true, ◌⊎◌, inl, inr, subst, List}
-use Rattle.counting.proofs.Common.{cases_eq, cases_Bool, both_ways, not-true, get_or-map, length-map, count_le, scan, some_true, half, Within, count, is_odd, Set, complement, minus, none, union}
-use Rattle.graph_core.proofs.Common.{Graph, IsGraph, degree, first_end, second_end, size, HasEnds, with_ends, IsMatching}
-use Rattle.match_search.proofs.OddCycles.{cycle_holds, cycle_outside, cycle_size, every_other-near_perfect}
+use Rattle.std.proofs.Common.{◌≡◌, ℕ, suc, zero, ◌+◌, ◌-◌, ◌≤◌, ◌<◌, ◌≢◌, Bool, true, false, ◌==◌, refl, sym, ◌∙◌, arith, ◌&&◌, not, ◌⊎◌, inl, inr, subst}
+use Rattle.counting.proofs.Common.{cases_eq, cases_Bool, both_ways, count_le, scan, half, Within, count, is_odd, Set, complement, none}
+use Rattle.graph_core.proofs.Common.{Graph, IsGraph, first_end, second_end, size, HasEnds, IsMatching}
 use Rattle.match_search.proofs.LongerPaths.{end_within, ends_by}
 use Rattle.match_search.proofs.Forests.{first_outer, forest_start, outer_edge, turned, final_frame}
 use Rattle.match_search.proofs.ForestSteps.{mate, grown, grown_size, more_e, more_inner, more_k, more_outer, more_v}
 use Rattle.match_search.proofs.ClosingEdges.{even_j, cycle, stem_count, stem_free, stem_holds, stem_matching}
 use Rattle.match_search.proofs.AlternatingPaths.{two_paths}
-use Rattle.match_search.proofs.Shrinking.{shrunk_graph, tip}
-use Rattle.match_search.proofs.ShrunkMatchings.{down, up}
-use Rattle.match_search.proofs.ShrunkFrames.{frame_up, complement_size}
-use Rattle.match_search.specs.Common.{IsOddCycle, listed, every_other, picked, IsAlternating, IsForest, Frame, IsNearPerfect, IsShrunk, shrunk_ends, shrunk_removed}
-
-pub shrunk_ends_shrunk : (g : Graph) (c : Set) (z : ℕ) → IsShrunk g c z (shrunk_ends g c z)
-shrunk_ends_shrunk g c z = grind (arith, length-map, get_or-map)
-
--- a matching with one more edge, or a frame
-abbrev pub Step : Graph → Set → Set → Type 0
-Step g r f = ((m : Set) × IsMatching g r m × (count (size g) m ≡ count (size g) f + 1)) ⊎ ((outer : Set) × (inner : Set) × Frame g r (count (size g) f) outer inner)
+use Rattle.match_search.proofs.BlossomSteps.{Step, shrink_step}
+use Rattle.match_search.specs.Common.{IsAlternating, IsForest}
 
 -- the greatest place up to n where the first of two holds, and the second after it
 pub greatest : (n : ℕ) (P Q : ℕ → Type 0) → ((i : ℕ) → P i ⊎ Q i) → ((i : ℕ) × (i ≤ n) × P i × ((s : ℕ) → i < s → s ≤ n → Q s)) ⊎ ((s : ℕ) → s ≤ n → Q s)
@@ -40,78 +30,6 @@ on_path n q z = elim (greatest n (λ t. z ≡ q t) (λ t. z ≢ q t) (λ t. case
   | inl f ↦ inl (f.0, f.1, f.2)
   | inr f ↦ inr f
 ]
-
--- an odd cycle with every other edge in a matching that misses its first vertex: the step of the
--- shrunk graph gives one of g
-module _ (g : Graph) (is : IsGraph g) (r f : Set) (n : ℕ) (c e : ℕ → ℕ) (cyc : IsOddCycle g r n c e) (f1 : Set) (mm : IsMatching g r f1) (same : count (size g) f1 ≡ count (size g) f) (free : degree g f1 (c 1) ≡ 0)
-    (holds : (d : ℕ) → Within (size g) d → picked n (every_other 1) e d ≡ true → f1 d ≡ true)
-    (smaller : (h : Graph) → IsGraph h → (s k : Set) → IsMatching h s k → count h.order (complement s) < count g.order (complement r) → Step h s k) where
-  abbrev cs : Set
-  cs = listed n c
-
-  abbrev z : ℕ
-  z = c 1
-
-  abbrev es : List (ℕ × ℕ)
-  es = shrunk_ends g cs z
-
-  abbrev h : Graph
-  h = with_ends g es
-
-  abbrev rs : Set
-  rs = shrunk_removed r cs z
-
-  abbrev e1 : Set
-  e1 = picked n (every_other 1) e
-
-  pulls : IsShrunk g cs z es
-  pulls = shrunk_ends_shrunk g cs z
-
-  one : Within n 1
-  one = let a = cyc.three in omega arith
-
-  cr : (v : ℕ) → cs v ≡ true → r v ≡ false
-  cr = cycle_outside g r n c e cyc
-
-  wz : Within g.order z
-  wz = cyc.within 1 one
-
-  cz : cs z ≡ true
-  cz = cycle_holds g r n c e cyc 1 one
-
-  halves : (k : ℕ) × (count g.order cs ≡ suc (k + k)) × (1 ≤ k)
-  halves = go n cyc.odd cyc.three (cycle_size g r n c e cyc)
-    where
-      go : (t : ℕ) → is_odd t ≡ true → 3 ≤ t → count g.order cs ≡ t → (k : ℕ) × (count g.order cs ≡ suc (k + k)) × (1 ≤ k)
-      go zero o l s = absurd (omega arith)
-      go (suc t) o l s = let q = half t (not-true (is_odd t) o) in (q.0, (let a = q.1 in omega arith), (let a = q.1 in omega arith))
-
-  near_sets : (t : ℕ) → Within g.order t → cs t ≡ true → (d : Set) × IsNearPerfect g cs t d
-  near_sets t w q = grind (arith, some_true n, eqb-true, every_other-near_perfect g r n c e cyc)
-
-  abbrev left : Set
-  left = minus f1 e1
-
-  downs : IsMatching h rs left × (degree h left z ≡ 0) × (count (size h) left + halves.0 ≡ count (size g) f1)
-  downs = down g is r cs z es pulls cr wz cz f1 e1 halves.0 mm free holds (every_other-near_perfect g r n c e cyc 1 one) halves.1
-
-  graph : IsGraph h
-  graph = shrunk_graph g is r cs z es pulls cr wz cz
-
-  below : Step h rs left
-  below = smaller h graph rs left downs.0 (let a = complement_size g is r cs z es pulls cr wz cz halves.0 halves.1 in let b = halves.2 in omega arith)
-
-  pub shrink_step : Step g r f
-  shrink_step = elim below [
-    | inl m ↦
-        let t = tip g is r cs z es pulls cr wz cz m.0 (m.1.once z wz) in
-        let d = near_sets t.0 t.1 t.2 in
-        let u = up g is r cs z es pulls cr wz cz m.0 d.0 halves.0 t.0 m.1 t.1 t.2 t.3 d.1 halves.1 in
-        inl (union m.0 d.0, u.0, (let a = u.1 in let b = m.2 in let x = downs.2 in omega arith))
-    | inr m ↦
-        let u = frame_up g is r cs z es pulls cr wz cz left m.0 m.1 halves.0 (count (size h) left) downs.0 downs.1 refl m.2 near_sets halves.1 in
-        inr (union m.0 cs, m.1, subst (λ k. Frame g r k (union m.0 cs) m.1) (downs.2 ∙ same) u.2)
-  ]
 
 module _ (g : Graph) (is : IsGraph g) (r f : Set) (mm : IsMatching g r f)
     (smaller : (h : Graph) → IsGraph h → (s k : Set) → IsMatching h s k → count h.order (complement s) < count g.order (complement r) → Step h s k) where
@@ -186,7 +104,7 @@ module _ (g : Graph) (is : IsGraph g) (r f : Set) (mm : IsMatching g r f)
                   let y = stem_count g r f mm inner (k u) (k w) (v u) (e u) (v w) (e w) pp qq su sw a wa ends two fa i j li lj meet latest (k w + k w - j) (k u + k u - i) mj xi t.0 t.1 in
                   let z = stem_free g r f mm inner (k u) (k w) (v u) (e u) (v w) (e w) pp qq su sw a wa ends two fa i j li lj meet latest (k w + k w - j) (k u + k u - i) mj xi t.0 t.1 in
                   let o = stem_holds g r f mm inner (k u) (k w) (v u) (e u) (v w) (e w) pp qq su sw a wa ends two fa i j li lj meet latest (k w + k w - j) (k u + k u - i) mj xi t.0 t.1 in
-                  shrink_step g is r f _ _ _ c _ x y z o smaller
+                  shrink_step g is r f _ _ _ _ (record { cycle = c; stem = _; matching = x; same = y; free = z; holds = o; left = λ d. refl }) smaller
 
   pub one_step : Step g r f
   one_step = search_step (suc (g.order + g.order)) (first_outer g is r f mm) none (λ u. 0) (λ u j. u) (λ u j. 0) (forest_start g is r f mm) (omega arith)
