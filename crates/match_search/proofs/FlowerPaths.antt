@@ -1,11 +1,12 @@
 -- Walks up a forest: what a walk has met is the end of the path. An outer vertex on a path has its
 -- own path as the beginning of it.
-use Rattle.std.proofs.Common.{◌≡◌, ◌≢◌, ◌↔◌, ℕ, zero, suc, ◌+◌, ◌≤◌, true, refl, sym, ap, ◌∙◌, arith, inl, inr, not, ◌||◌, ◌==◌, subst, List}
+use Rattle.std.proofs.Common.{◌≡◌, ◌≢◌, ◌↔◌, ℕ, zero, suc, ◌+◌, ◌≤◌, true, false, refl, sym, ap, ◌∙◌, arith, inl, inr, not, ◌||◌, ◌==◌, subst, List}
 use Rattle.counting.proofs.Common.{both_ways, cases_eq, odd-double, is_odd, Set, mem}
 use Rattle.graph_core.proofs.Common.{Graph}
-use Rattle.match_search.specs.Common.{HoldsAlternating, GoesOver, IsBeyond, numbers}
+use Rattle.match_search.specs.Common.{HoldsAlternating, HoldsForest, GoesOver, IsBeyond, IsLastIn, numbers}
 use Rattle.match_search.specs.declared.alternating.AlternatingForest.{AlternatingForest}
 use Rattle.match_search.proofs.ClosingEdges.{low}
+use Rattle.match_search.proofs.ForestWalks.{fewer, has_pairs}
 use Rattle.match_search.proofs.PathsUp.{grandparent, up_parts}
 
 -- the outer vertices that a walk has met, with one more
@@ -67,3 +68,25 @@ module _ (g : Graph) (r f : Set) (mate : List ℕ) (t : AlternatingForest) (h : 
     | inl q ↦ at_end x b j ox e q
     | inr q ↦ deeper n x b j few ox ob l e q (λ y fy oy ly ey. passes n y b j fy oy ob ly ey)
   ]
+
+-- a walk that has not met the set goes on
+pub last_more : (mate : List ℕ) (t : AlternatingForest) (h : HoldsForest mate t) (set : List ℕ) (y at next : ℕ) (way after : List ℕ) → mem t.outer at ≡ true → numbers mate at ≢ 0 → next ≡ numbers t.parent.items (numbers mate at) → mem set at ≡ false
+    → ((v : ℕ) → mem after v ≡ ((mem way v || at == v) || numbers mate at == v)) → IsLastIn h.holds.k h.holds.v set y at way → IsLastIn h.holds.k h.holds.v set y next after
+last_more mate t h set y at next way after outer some is away after_is before =
+    let k = h.holds.k in
+    let v = h.holds.v in
+    let pairs = has_pairs mate t h at outer some in
+    let less = fewer mate t h at outer some next is in
+    let same = ap k is in
+    let low = before.pairs in
+    let here = sym (before.over (k at + k at) (omega arith)) ∙ h.holds.forest.last at outer in
+    record {
+      pairs = omega arith;
+      over = λ j l. ap (λ u. v u j) is ∙ up_over h.g h.r h.f mate t h.holds y at outer pairs before.over j (omega arith);
+      later = λ s lo hi. elim (cases_eq s (k at)) [
+        | inl e ↦ ap (λ i. mem set (v y (i + i))) e ∙ ap (mem set) here ∙ away
+        | inr n ↦ before.later s (omega arith) hi
+      ];
+      way_is = way_more (v y) (k at + k at) (k next + k next) (k y) (numbers mate at) at way after (omega arith) (omega arith) here
+          (ap (λ u. v y (suc (k u + k u))) is ∙ up_inner h.g h.r h.f mate t h.holds y at outer pairs before.over) after_is before.way_is;
+    }

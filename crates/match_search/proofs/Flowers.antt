@@ -60,8 +60,16 @@ outer_final g r f s mate t closing growth q = record {
   within = λ v o. (growth.grows.holds.forest.outer_in v o).0;
 }
 
--- a blossom of a forest that can grow on is shrunk
-module _ (g : Graph) (r f : Set) (s : Instance) (mate : List ℕ) (t : AlternatingForest) (b : Flower) (grows : GrowsForest g r f s mate t) (h : HoldsAlternating g r f mate t) (held : HoldsFlower g r f mate t h b) where
+-- a blossom of a forest that can grow on
+pub record IsFound (g : Graph) (r f : Set) (s : Instance) (mate : List ℕ) (t : AlternatingForest) (b : Flower) : Type 0 where
+  pub grows : GrowsForest g r f s mate t
+  pub holds : HoldsAlternating g r f mate t
+  pub held : HoldsFlower g r f mate t holds b
+
+-- it is shrunk
+module _ {g : Graph} {r f : Set} {s : Instance} {mate : List ℕ} {t : AlternatingForest} {b : Flower} (found : IsFound g r f s mate t b) where
+  open found use {grows, holds as h, held}
+
   abbrev is : IsInstance g r s
   is = grows.matching.instance_is
 
