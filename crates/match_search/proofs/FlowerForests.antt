@@ -91,15 +91,6 @@ module _ (g : Graph) (is : IsGraph g) (r f : Set) (outer inner : Set) (parent ma
       | inr q ↦ closing.y_in j (omega arith) hi
     ]
 
-    in_left : (u : ℕ) → c u ≡ true → r u ≡ false
-    in_left u cu = elim (closing.members u cu) [
-      | inl q ↦ ap r (sym q) ∙ (forest.outer_in z closing.base_outer).1
-      | inr s ↦ elim s [
-        | inl t ↦ ap r (sym t.3) ∙ (forest.path x closing.x_outer).path.outside t.0 t.2
-        | inr t ↦ ap r (sym t.3) ∙ (forest.path y closing.y_outer).path.outside t.0 t.2
-      ]
-    ]
-
     -- the path of an outer vertex after the base on the path to w
     over_on : (w u : ℕ) → outer w ≡ true → ((j : ℕ) → j ≤ base → v z j ≡ v w j) → outer u ≡ true → Later (v w) base (k w) u → (k z ≤ k u) × ((j : ℕ) → j ≤ base → v u j ≡ v z j)
     over_on w u ow same ou t =
@@ -107,15 +98,6 @@ module _ (g : Graph) (is : IsGraph g) (r f : Set) (outer inner : Set) (parent ma
         let q = b.0 in
         let lo = t.1 in
         (omega arith, λ j l. b.1 j (omega arith) ∙ sym (same j l))
-
-    in_over : (u : ℕ) → c u ≡ true → outer u ≡ true → (k z ≤ k u) × ((j : ℕ) → j ≤ base → v u j ≡ v z j)
-    in_over u cu ou = elim (closing.members u cu) [
-      | inl q ↦ ((let a = ap k q in omega arith), λ j l. ap (λ w. v w j) (sym q))
-      | inr s ↦ elim s [
-        | inl t ↦ over_on x u closing.x_outer closing.x_over ou t
-        | inr t ↦ over_on y u closing.y_outer closing.y_over ou t
-      ]
-    ]
 
     -- the path to the base comes to c there
     stem_out : (j : ℕ) → j < base → c (v z j) ≡ false
@@ -126,15 +108,6 @@ module _ (g : Graph) (is : IsGraph g) (r f : Set) (outer inner : Set) (parent ma
         | inr w ↦ let few = closing.y_long in let lo = w.1 in let a = (forest.path y closing.y_outer).path.apart w.0 j w.2 (omega arith) (w.3 ∙ closing.y_over j (omega arith)) in absurd (omega arith)
       ]
     ])
-
-    in_pairs : (u : ℕ) → c u ≡ true → u ≢ z → c (mate u) ≡ true
-    in_pairs u cu n = elim (closing.members u cu) [
-      | inl q ↦ absurd (n (sym q))
-      | inr s ↦ elim s [
-        | inl t ↦ let m = mate_near x (k z) t.0 closing.x_outer t.1 t.2 in ap (λ w. c (mate w)) (sym t.3) ∙ ap c m.3 ∙ x_from m.0 m.1 m.2
-        | inr t ↦ let m = mate_near y (k z) t.0 closing.y_outer t.1 t.2 in ap (λ w. c (mate w)) (sym t.3) ∙ ap c m.3 ∙ y_from m.0 m.1 m.2
-      ]
-    ]
 
     -- c is an odd cycle from the base on, every other edge of which is in f with the path to the
     -- base exchanged
@@ -175,25 +148,40 @@ module _ (g : Graph) (is : IsGraph g) (r f : Set) (outer inner : Set) (parent ma
           let m = edge_at g e1 u (omega arith) in
           ap e1 (one_edge g r f has.matching d m.0 u w m.3.0 wu wd m.1 fd (in_chosen m.0 m.1 m.2).0 ends m.3.1) ∙ m.2
 
-      in_taken : (d : ℕ) → Within (size g) d → f d ≡ true → c (first_end g d) ≡ true → c (second_end g d) ≡ true → e1 d ≡ true
-      in_taken d w fd c1 c2 = elim (cases_eq (first_end g d) z) [
-        | inr s ↦ taken_at d (first_end g d) (second_end g d) w fd (inl (refl, refl)) c1 s
-        | inl q ↦ elim (cases_eq (second_end g d) z) [
-          | inr s ↦ taken_at d (second_end g d) (first_end g d) w fd (inr (refl, refl)) c2 s
-          | inl s ↦ absurd (both_ways (inner z) (forest.apart z closing.base_outer) (ap inner (sym s) ∙ sym (forest.mates d w fd).0 ∙ ap outer q ∙ closing.base_outer))
-        ]
-      ]
-
       pub flower_fits : IsContractible g r f outer k v mate c z e1
       flower_fits = record {
         base = closing.base;
         base_outer = closing.base_outer;
-        left = in_left;
-        over = in_over;
+        left = λ u cu. elim (closing.members u cu) [
+          | inl q ↦ ap r (sym q) ∙ (forest.outer_in z closing.base_outer).1
+          | inr s ↦ elim s [
+            | inl t ↦ ap r (sym t.3) ∙ (forest.path x closing.x_outer).path.outside t.0 t.2
+            | inr t ↦ ap r (sym t.3) ∙ (forest.path y closing.y_outer).path.outside t.0 t.2
+          ]
+        ];
+        over = λ u cu ou. elim (closing.members u cu) [
+          | inl q ↦ ((let a = ap k q in omega arith), λ j l. ap (λ w. v w j) (sym q))
+          | inr s ↦ elim s [
+            | inl t ↦ over_on x u closing.x_outer closing.x_over ou t
+            | inr t ↦ over_on y u closing.y_outer closing.y_over ou t
+          ]
+        ];
         stem = stem_out;
-        pairs = in_pairs;
+        pairs = λ u cu other. elim (closing.members u cu) [
+          | inl q ↦ absurd (other (sym q))
+          | inr s ↦ elim s [
+            | inl t ↦ let m = mate_near x (k z) t.0 closing.x_outer t.1 t.2 in ap (λ w. c (mate w)) (sym t.3) ∙ ap c m.3 ∙ x_from m.0 m.1 m.2
+            | inr t ↦ let m = mate_near y (k z) t.0 closing.y_outer t.1 t.2 in ap (λ w. c (mate w)) (sym t.3) ∙ ap c m.3 ∙ y_from m.0 m.1 m.2
+          ]
+        ];
         chosen = in_chosen;
-        taken = in_taken;
+        taken = λ d w fd c1 c2. elim (cases_eq (first_end g d) z) [
+          | inr s ↦ taken_at d (first_end g d) (second_end g d) w fd (inl (refl, refl)) c1 s
+          | inl q ↦ elim (cases_eq (second_end g d) z) [
+            | inr s ↦ taken_at d (second_end g d) (first_end g d) w fd (inr (refl, refl)) c2 s
+            | inl s ↦ absurd (both_ways (inner z) (forest.apart z closing.base_outer) (ap inner (sym s) ∙ sym (forest.mates d w fd).0 ∙ ap outer q ∙ closing.base_outer))
+          ]
+        ];
       }
 
       pub closed_flower : IsFlower g r f outer k v mate c z
