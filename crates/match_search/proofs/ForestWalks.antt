@@ -21,17 +21,19 @@ pub record Climbs (mate : List ℕ) (t : AlternatingForest) (at : ℕ) : Type 0 
   pub in_mates : numbers mate at < length mate
   pub in_parents : numbers mate at < length t.parent.items
 
--- the next vertex of the walk
+-- the number of steps of the walk up from u, at most n
+pub steps : (mate parent : ℕ → ℕ) → ℕ → ℕ → ℕ
+steps mate parent zero u = 0
+steps mate parent (suc n) u = cond (mate u == 0) 0 (suc (steps mate parent n (parent (mate u))))
+
+-- the next vertex of the walk, from which there is less to go
 pub record GoesOn (mate : List ℕ) (t : AlternatingForest) (at next : ℕ) : Type 0 where
   pub is : next ≡ numbers t.parent.items (numbers mate at)
   pub outer : mem t.outer next ≡ true
   pub within : Within 128 next
   pub in_mates : next < length mate
-
--- the number of steps of the walk up from u, at most n
-pub steps : (mate parent : ℕ → ℕ) → ℕ → ℕ → ℕ
-steps mate parent zero u = 0
-steps mate parent (suc n) u = cond (mate u == 0) 0 (suc (steps mate parent n (parent (mate u))))
+  pub less : steps (numbers mate) (numbers t.parent.items) 128 next < steps (numbers mate) (numbers t.parent.items) 128 at
+  pub pairs : (h : HoldsForest mate t) → h.holds.k at ≡ suc (h.holds.k next)
 
 module _ (mate : List ℕ) (t : AlternatingForest) (h : HoldsForest mate t) where
   module _ (u : ℕ) (outer : mem t.outer u ≡ true) where
@@ -60,15 +62,6 @@ module _ (mate : List ℕ) (t : AlternatingForest) (h : HoldsForest mate t) wher
         let few = h.few in
         record { inner = (omega arith, omega arith); in_mates = omega arith; in_parents = omega arith }
 
-    pub goes_on : numbers mate u ≢ 0 → (next : ℕ) → next ≡ get_or t.parent.items (numbers mate u) next → GoesOn mate t u next
-    goes_on n next read =
-        let same : next ≡ numbers t.parent.items (numbers mate u) = read ∙ get_or_default_zero t.parent.items (numbers mate u) next (climbs n).in_parents in
-        let out = ap (mem t.outer) same ∙ (up_parts h.g h.r h.f mate t h.holds u outer (has_pairs n)).0 in
-        let w = (h.holds.forest.outer_in next out).0 in
-        let long = h.long in
-        let few = h.few in
-        record { is = same; outer = out; within = (omega arith, omega arith); in_mates = omega arith }
-
     pub fewer : numbers mate u ≢ 0 → (next : ℕ) → next ≡ numbers t.parent.items (numbers mate u) → h.holds.k u ≡ suc (h.holds.k next)
     fewer n next is = (up_parts h.g h.r h.f mate t h.holds u outer (has_pairs n)).1 ∙ ap (λ (x : ℕ). suc (h.holds.k x)) (sym is)
 
@@ -85,15 +78,19 @@ module _ (mate : List ℕ) (t : AlternatingForest) (h : HoldsForest mate t) wher
         ∙ ap suc (steps_are n (numbers t.parent.items (numbers mate u)) out (omega arith)) ∙ sym less
   ]
 
-  -- each step of a walk is one step less to go
-  pub steps_less : (u next : ℕ) → mem t.outer u ≡ true → numbers mate u ≢ 0 → GoesOn mate t u next → steps (numbers mate) (numbers t.parent.items) 128 next < steps (numbers mate) (numbers t.parent.items) 128 u
-  steps_less u next o m on =
+  pub goes_on : (u : ℕ) → mem t.outer u ≡ true → numbers mate u ≢ 0 → (next : ℕ) → next ≡ get_or t.parent.items (numbers mate u) next → GoesOn mate t u next
+  goes_on u o n next read =
+      let same : next ≡ numbers t.parent.items (numbers mate u) = read ∙ get_or_default_zero t.parent.items (numbers mate u) next (climbs u o n).in_parents in
+      let out = ap (mem t.outer) same ∙ (up_parts h.g h.r h.f mate t h.holds u o (has_pairs u o n)).0 in
+      let w = (h.holds.forest.outer_in next out).0 in
+      let long = h.long in
       let few = h.few in
       let one = pairs_few h.g h.r h.f mate t h.holds u o in
-      let two = pairs_few h.g h.r h.f mate t h.holds next on.outer in
+      let two = pairs_few h.g h.r h.f mate t h.holds next out in
       let a = steps_are 128 u o (omega arith) in
-      let b = steps_are 128 next on.outer (omega arith) in
-      let less = fewer u o m next on.is in omega arith
+      let b = steps_are 128 next out (omega arith) in
+      let down = fewer u o n next same in
+      record { is = same; outer = out; within = (omega arith, omega arith); in_mates = omega arith; less = omega arith; pairs = λ k. Rattle.match_search.proofs.ForestWalks.fewer mate t k u o n next same }
 
 -- a walk that meets the set, and has not met it yet, is not at a root
 pub not_root : (mate : List ℕ) (t : AlternatingForest) (set : List ℕ) (y at : ℕ) (way : List ℕ) (meets : MeetsSet mate t set y) → mem t.outer at ≡ true → IsLastIn meets.h.holds.k meets.h.holds.v set y at way → mem set at ≡ false → numbers mate at ≢ 0

@@ -2,7 +2,7 @@ use Rattle.std.proofs.Common.{◌≡◌, ◌≢◌, false, ap, ◌||◌, ◌==�
 use Rattle.counting.proofs.Common.{mem}
 use Rattle.match_search.specs.Common.{numbers}
 use Rattle.match_search.proofs.FlowerPaths.{last_more}
-use Rattle.match_search.proofs.ForestWalks.{Climbs, GoesOn, climbs, goes_on, not_root, steps_less}
+use Rattle.match_search.proofs.ForestWalks.{Climbs, GoesOn, climbs, goes_on, not_root}
 use Rattle.match_search.proofs.flower.last_in.Goals as goal
 use Rattle.match_search.proofs.flower.last_in.Goals.{After-index-at, In-climbing}
 
@@ -25,7 +25,7 @@ on : (c : After-index-at) → GoesOn c.args.mate.now c.args.forest.now c.climbin
 on c = goes_on c.args.mate.now c.args.forest.now c.requires.h c.climbing.at c.climbing.invariant.outer (some (goal.at.After-index-at c).In-climbing) c.index-at.result.now c.index-at.ensures
 
 pub climbing-smaller : goal.climbing-smaller
-climbing-smaller c = steps_less c.args.mate.now c.args.forest.now c.requires.h c.climbing.at c.index-at.result.now c.climbing.invariant.outer (some (goal.at.climbing-smaller c).In-climbing) (on (goal.at.climbing-smaller c).After-index-at)
+climbing-smaller c = (on (goal.at.climbing-smaller c).After-index-at).less
 
 pub climbing-preserved : goal.climbing-preserved
 climbing-preserved c =

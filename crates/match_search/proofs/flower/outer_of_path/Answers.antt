@@ -1,6 +1,6 @@
 use Rattle.std.proofs.Common.{◌+◌, ap, ◌∙◌, sym, arith}
 use Rattle.match_search.proofs.FlowerPaths.{outer_more, up_at, up_over}
-use Rattle.match_search.proofs.ForestWalks.{GoesOn, climbs, fewer, goes_on, has_pairs, root_pairs, steps_less}
+use Rattle.match_search.proofs.ForestWalks.{GoesOn, climbs, goes_on, has_pairs, root_pairs}
 use Rattle.match_search.proofs.flower.outer_of_path.Goals as goal
 use Rattle.match_search.proofs.flower.outer_of_path.Goals.{After-index-at}
 
@@ -14,7 +14,7 @@ pub with-path-requires : goal.with-path-requires
 with-path-requires c = (on (goal.at.with-path-requires c).After-index-at).within
 
 pub climbing-smaller : goal.climbing-smaller
-climbing-smaller c = steps_less c.args.mate.now c.args.forest.now c.requires.forest c.climbing.at c.index-at.result.now c.climbing.invariant.outer c.climbing-test.true (on (goal.at.climbing-smaller c).After-index-at)
+climbing-smaller c = (on (goal.at.climbing-smaller c).After-index-at).less
 
 pub climbing-preserved : goal.climbing-preserved
 climbing-preserved c =
@@ -22,7 +22,7 @@ climbing-preserved c =
     record {
       outer = next.outer;
       pairs = λ h.
-          let less = fewer c.args.mate.now c.args.forest.now h c.climbing.at c.climbing.invariant.outer c.climbing-test.true c.index-at.result.now next.is in
+          let less = next.pairs h in
           let fits = c.climbing.invariant.pairs h in omega arith;
       over = λ h j l.
           let some = has_pairs c.args.mate.now c.args.forest.now h c.climbing.at c.climbing.invariant.outer c.climbing-test.true in
@@ -30,7 +30,7 @@ climbing-preserved c =
       path = λ h.
           let some = has_pairs c.args.mate.now c.args.forest.now h c.climbing.at c.climbing.invariant.outer c.climbing-test.true in
           outer_more (h.holds.v c.args.x) (h.holds.k c.climbing.at) (h.holds.k c.index-at.result.now) (h.holds.k c.args.x) c.index-at.result.now c.climbing.path c.with-path.result
-          (fewer c.args.mate.now c.args.forest.now h c.climbing.at c.climbing.invariant.outer c.climbing-test.true c.index-at.result.now next.is) (c.climbing.invariant.pairs h)
+          (next.pairs h) (c.climbing.invariant.pairs h)
           (ap (λ u. h.holds.v c.args.x (h.holds.k u + h.holds.k u)) next.is ∙ up_at h.g h.r h.f c.args.mate.now c.args.forest.now h.holds c.args.x c.climbing.at c.climbing.invariant.outer some (c.climbing.invariant.over h) ∙ sym next.is) c.with-path.ensures (c.climbing.invariant.path h);
     }
 

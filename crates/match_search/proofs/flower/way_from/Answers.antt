@@ -2,7 +2,7 @@ use Rattle.std.proofs.Common.{ap, ◌||◌, ◌==◌, ◌∙◌, sym, subst, ari
 use Rattle.counting.proofs.Common.{or_false}
 use Rattle.match_search.specs.Common.{IsLastIn, numbers}
 use Rattle.match_search.proofs.FlowerPaths.{last_more}
-use Rattle.match_search.proofs.ForestWalks.{climbs, goes_on, steps_less}
+use Rattle.match_search.proofs.ForestWalks.{climbs, goes_on}
 use Rattle.match_search.proofs.flower.way_from.Goals as goal
 
 pub with-way-requires : goal.with-way-requires
@@ -12,8 +12,7 @@ pub index-at-requires : goal.index-at-requires
 index-at-requires c = let read = (climbs c.args.mate.now c.args.forest.now c.requires.forest c.climbing.at c.climbing.invariant.outer c.if-inner-eq0.false).in_parents in omega arith
 
 pub climbing-smaller : goal.climbing-smaller
-climbing-smaller c = steps_less c.args.mate.now c.args.forest.now c.requires.forest c.climbing.at c.index-at.result.now c.climbing.invariant.outer c.if-inner-eq0.false
-    (goes_on c.args.mate.now c.args.forest.now c.requires.forest c.climbing.at c.climbing.invariant.outer c.if-inner-eq0.false c.index-at.result.now c.index-at.ensures)
+climbing-smaller c = (goes_on c.args.mate.now c.args.forest.now c.requires.forest c.climbing.at c.climbing.invariant.outer c.if-inner-eq0.false c.index-at.result.now c.index-at.ensures).less
 
 pub climbing-preserved : goal.climbing-preserved
 climbing-preserved c =

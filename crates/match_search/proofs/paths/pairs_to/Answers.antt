@@ -1,5 +1,5 @@
 use Rattle.std.proofs.Common.{arith}
-use Rattle.match_search.proofs.ForestWalks.{GoesOn, climbs, fewer, goes_on, root_pairs, steps_less}
+use Rattle.match_search.proofs.ForestWalks.{GoesOn, climbs, goes_on, root_pairs}
 use Rattle.match_search.proofs.Reaching.{pairs_few}
 use Rattle.match_search.proofs.paths.pairs_to.Goals as goal
 use Rattle.match_search.proofs.paths.pairs_to.Goals.{After-index-at}
@@ -18,17 +18,12 @@ overflow_add-pairs c =
     let order = q.few in omega arith
 
 pub climbing-smaller : goal.climbing-smaller
-climbing-smaller c = steps_less c.args.mate.now c.args.forest.now c.requires.forest c.climbing.at c.index-at.result.now c.climbing.invariant.outer c.climbing-test.true (on (goal.at.climbing-smaller c).After-index-at)
+climbing-smaller c = (on (goal.at.climbing-smaller c).After-index-at).less
 
 pub climbing-preserved : goal.climbing-preserved
 climbing-preserved c =
     let next = on (goal.at.climbing-preserved c).After-index-at in
-    record {
-      outer = next.outer;
-      counted = λ h.
-          let less = fewer c.args.mate.now c.args.forest.now h c.climbing.at c.climbing.invariant.outer c.climbing-test.true c.index-at.result.now next.is in
-          let counted = c.climbing.invariant.counted h in omega arith;
-    }
+    record { outer = next.outer; counted = λ h. let less = next.pairs h in let counted = c.climbing.invariant.counted h in omega arith }
 
 pub returns : goal.returns
 returns c = λ h.

@@ -1,7 +1,7 @@
 use Rattle.std.proofs.Common.{◌≡◌, ◌≢◌, ℕ, ◌+◌, ◌-◌, ◌<◌, sym, ap, ◌∙◌, arith, inl, inr, length, List, slice_set, get_or-set_same, get_or-set_other}
 use Rattle.counting.proofs.Common.{cases_eq}
 use Rattle.match_search.specs.Common.{numbers}
-use Rattle.match_search.proofs.ForestWalks.{climbs, fewer, goes_on, has_mate, has_pairs}
+use Rattle.match_search.proofs.ForestWalks.{climbs, goes_on, has_mate, has_pairs}
 use Rattle.match_search.proofs.PathsUp.{unwritten, up_parts, path_written}
 use Rattle.match_search.proofs.paths.write_path.Goals as goal
 use Rattle.match_search.proofs.paths.write_path.Goals.{In-loop-i}
@@ -26,7 +26,7 @@ loop-i-preserved c =
       same = c.write_pair.auto.row ∙ c.loop-i.invariant.same;
       outer = on.outer;
       left = λ h.
-          let fewer = fewer c.args.mate.now c.args.forest.now h c.loop-i.v c.loop-i.invariant.outer mate c.index-v.result.now on.is in
+          let down = on.pairs h in
           let left = c.loop-i.invariant.left h in omega arith;
       above = λ h j b.
           let p = up_parts h.g h.r h.f c.args.mate.now c.args.forest.now h.holds c.loop-i.v c.loop-i.invariant.outer (has_pairs c.args.mate.now c.args.forest.now h c.loop-i.v c.loop-i.invariant.outer mate) in
