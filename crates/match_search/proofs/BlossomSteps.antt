@@ -1,5 +1,5 @@
--- Is the step of the graph with a blossom shrunk one of the graph, by mates? The matching of the
--- smaller graph leaves the blossom at its base or at a neighbour of some vertex of it; it is
+-- Is the step of the graph with a blossom shrunk one of the graph, also by mates? The matching of
+-- the smaller graph leaves the blossom at its base or at a neighbour of some vertex of it; it is
 -- completed there.
 use Rattle.std.proofs.Common.{◌≡◌, ◌≢◌, ℕ, ◌+◌, ◌≤◌, ◌<◌, ◌⊎◌, true, refl, sym, ap, ◌∙◌, arith, ◌||◌, inl, inr, subst, List}
 use Rattle.counting.proofs.Common.{fun_ext, or_cases, count_le, Within, count, Set, complement, union, mem}

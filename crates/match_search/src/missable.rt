@@ -42,7 +42,8 @@ fn only_member(set: VSet) -> Option<u32>
 }
 
 // The outer vertices of the last frame if a maximum matching misses one vertex, otherwise none. If
-// this matching misses one, it cannot be augmented. The exposed vertices are among the candidates.
+// this matching misses one, it cannot be augmented; otherwise it is made maximum first. The exposed
+// vertices are among the candidates.
 fn outer_of_one(
     alloc: Global,
     instance: &mut Instance,
@@ -59,27 +60,10 @@ fn outer_of_one(
     ensures sized { OnOk result (IsSized (length instance.old.rows.items) forest.new) }
     ensures restored { OnOk result (AreAlike instance.old instance.new) }
 {
-    match only_member(exposed_in(candidates, instance.left, mate)) {
-        Some(root) => Ok(outer_from(instance, forest, root, mate)),
-        None => outer_of_last(alloc, instance, candidates, mate),
-    }
-}
-
-// The same by a search that makes the matching maximum first.
-fn outer_of_last(
-    alloc: Global,
-    instance: &mut Instance,
-    candidates: VSet,
-    mate: &mut [u32],
-) -> Result<VSet, Memory>
-    requires holds { (g : Graph) × (r : Set) × (f : Set) ×
-        HoldsMatching g r f instance.old mate.old }
-    requires candidates { MayBeExposed instance.old.left mate.old candidates }
-    ensures row { IfOk result (λ row. (g : Graph) (r f : Set) →
-        HoldsMatching g r f instance.old mate.old → IsMissableRow g r row) }
-    ensures restored { OnOk result (AreAlike instance.old instance.new) }
-{
     let left = instance.left;
+    if let Some(root) = only_member(exposed_in(candidates, left, mate)) {
+        return Ok(outer_from(instance, forest, root, mate));
+    }
     let sets = last_frame(alloc, instance, candidates, mate)?;
     if exposed_count(left, mate) == 1 {
         Ok(sets.outer)
