@@ -13,7 +13,7 @@ use Rattle.match_search.proofs.ShrunkInstances.{pulled_ends}
 use Rattle.match_search.proofs.SkippedPlaces.{edge_place, place, place_high, place_low, place_none, place_odd}
 
 module _ (given : ShrunkForest) (outer' inner' : Set) (parent' mate' : ℕ → ℕ) (after : IsContracted given.outer given.inner given.parent given.mate given.c given.z outer' inner' parent' mate') where
-  open given use {g, r, f, outer, inner, parent, mate, walked, c, z, es, shrunk, e1, fits}
+  open given use {g, r, outer, inner, parent, mate, walked, c, z, es, shrunk, e1, fits}
   open given.walked use {k, v, forest}
 
   abbrev base : ℕ

@@ -16,7 +16,7 @@ use Rattle.match_search.proofs.ShrunkFrames.{frame_up}
 use Rattle.match_search.proofs.Shrinking.{shut_out, shut_z}
 
 module _ (given : ShrunkForest) where
-  open given use {g, is, r, f, outer, mate, has, walked, c, z, es, shrunk, e1, fits}
+  open given use {g, is, r, f, mate, has, walked, c, z, es, shrunk, e1, fits}
   open given.walked use {k, v, forest}
 
   -- f misses no vertex of c but the base
