@@ -1,6 +1,6 @@
 //! The worked reports of `analyse`, `convert` and `analyse6`.
 use super::graphs::{K4, K4_REPORT, NAMED_CYCLE, cycle};
-use super::trial::{RunRow, all_answer, answers, report};
+use super::trial::{RunRow, all_answer, answers, is_refused, report};
 use bench_top::Status;
 use std::alloc::Global;
 use std::test::Fail;
@@ -201,49 +201,34 @@ fn reports_of_graph6(rt: HostRuntime) -> Result<(), Fail> {
     Ok(())
 }
 
-// Numbers of bytes of the file of the complete graph of four vertices, from one to another, and
-// the status and the report on so many of its bytes.
-static PREFIXES: [(usize, usize, Status, &str); 14] = [
-    (0, 8, Status::BadInput, "file 1 line 1 kind 1\n"),
-    (9, 10, Status::BadInput, "file 1 line 2 kind 7\n"),
-    (11, 14, Status::BadInput, "file 1 line 2 kind 2\n"),
-    (15, 16, Status::BadInput, "file 1 line 3 kind 7\n"),
-    (17, 20, Status::BadInput, "file 1 line 3 kind 2\n"),
-    (21, 22, Status::BadInput, "file 1 line 4 kind 7\n"),
-    (23, 26, Status::BadInput, "file 1 line 4 kind 2\n"),
-    (27, 28, Status::BadInput, "file 1 line 5 kind 7\n"),
-    (29, 32, Status::BadInput, "file 1 line 5 kind 2\n"),
-    (33, 34, Status::BadInput, "file 1 line 6 kind 7\n"),
-    (35, 38, Status::BadInput, "file 1 line 6 kind 2\n"),
-    (39, 40, Status::BadInput, "file 1 line 7 kind 7\n"),
-    (41, 44, Status::BadInput, "file 1 line 7 kind 2\n"),
-    (45, 46, Status::Done, K4_REPORT),
-];
-
-// Whether the first bytes of the file, for each number of them from one to another, have this
-// status and this report.
-fn prefixes_answer(
-    alloc: Global,
-    from: usize,
-    to: usize,
-    status: Status,
-    report: &str,
-) -> Result<bool, Fail> {
-    for kept in from..=to {
-        let (prefix, _) = K4
-            .split_at_checked(kept)
-            .ok_or("a prefix that is too long")?;
-        if !answers(alloc, &["analyse", "g"], &[prefix], status, report)? {
-            return Ok(false);
-        }
+// The line and the kind of the fault of so many first bytes of the file of the complete graph of
+// four vertices. Its header has 9 bytes, and each of its edges 6, with the line feed before it.
+fn fault_of_prefix(kept: usize) -> (u32, u32) {
+    if kept < 9 {
+        return (1, 1);
     }
-    Ok(true)
+    let line = 2 + (kept - 9) as u32 / 6;
+    let kind = if (kept - 9) % 6 < 2 { 7 } else { 2 };
+    (line, kind)
+}
+
+// Whether `analyse` answers as it should to so many first bytes of the file. Without its last byte,
+// a line feed, the file is whole.
+fn prefix_answers(alloc: Global, kept: usize) -> Result<bool, Fail> {
+    let (prefix, _) = K4
+        .split_at_checked(kept)
+        .ok_or("a prefix that is too long")?;
+    if kept + 1 >= K4.len() {
+        return answers(alloc, &["analyse", "g"], &[prefix], Status::Done, K4_REPORT);
+    }
+    let (line, kind) = fault_of_prefix(kept);
+    is_refused(alloc, &["analyse", "g"], &[prefix], line, kind)
 }
 
 #[test]
 fn each_prefix_of_a_file(rt: HostRuntime) -> Result<(), Fail> {
-    for (from, to, status, report) in &PREFIXES {
-        assert!(rt; prefixes_answer(rt.alloc(), *from, *to, *status, report)?);
+    for kept in 0..=K4.len() {
+        assert!(rt; prefix_answers(rt.alloc(), kept)?);
     }
     Ok(())
 }

@@ -1,9 +1,8 @@
 //! Files beyond the limits of size, and which of several bad files is named.
 use super::graphs::{HEXAGON, HEXAGON_TREE, OTHER_HEXAGON_TREE, TWO_EDGES};
 use super::trial::{
-    CHECK, CHECK_EARS, COMPARE, REPLAY, RunRow, SCRIPT, all_answer, answers, is_refused,
+    CHECK, CHECK_EARS, COMPARE, FileFault, REPLAY, SCRIPT, is_refused, names_fault,
 };
-use bench_top::Status;
 use std::alloc::{AllocError as Memory, Global};
 use std::test::Fail;
 
@@ -54,7 +53,7 @@ fn moves_that_are_too_long(rt: HostRuntime) -> Result<(), Fail> {
 
 // Words, the first two of their files, of which one ends too early, and its number. The graph
 // comes first, and a graph that is not covered is reported only if the other file is good.
-static EARLY_ENDS: [(&[&str], [&str; 2], u32); 11] = [
+static EARLY_ENDS: [(&[&str], [&str; 2], usize); 11] = [
     (CHECK, ["p mcg 2 1\n", "t mcg 6\ncut\n"], 1),
     (CHECK, [TWO_EDGES, "t mcg 4\n"], 2),
     (CHECK_EARS, ["p mcg 2 1\n", "r mcg 4 2\n"], 1),
@@ -79,38 +78,28 @@ static EARLY_ENDS: [(&[&str], [&str; 2], u32); 11] = [
 #[test]
 fn the_first_bad_file(rt: HostRuntime) -> Result<(), Fail> {
     for (words, [graph, text], file) in &EARLY_ENDS {
-        let report = format!(in rt.alloc(); "file {file} line 2 kind 7\n")?;
         let files = [*graph, *text, "t mcg 4\n"];
-        assert!(rt; answers(rt.alloc(), words, &files, Status::BadInput, &report)?);
+        assert!(rt; names_fault(rt.alloc(), words, &files, (*file, 2, 7))?);
     }
     Ok(())
 }
 
-// Two trees, of which the second is outside the format, or both are: then the first is named.
-static SECOND_TREES: [RunRow; 4] = [
-    (
-        &[HEXAGON, HEXAGON_TREE, "t mcg 6\ncut 6 2\n"],
-        "file 3 line 2 kind 9\n",
-    ),
-    (
-        &[HEXAGON, OTHER_HEXAGON_TREE, "s mcg 1\npick 2\n"],
-        "file 3 line 1 kind 1\n",
-    ),
-    (
-        &[HEXAGON, "t mcg 6\nleaf\n", "t mcg 6\ncut 2 3 4\nleaf\n"],
-        "file 3 line 4 kind 7\n",
-    ),
-    (
-        &[HEXAGON, "s mcg 1\npick 2\n", "t mcg 6\ncut 6 2\n"],
-        "file 2 line 1 kind 1\n",
-    ),
+// Two trees of the hexagon, of which the second is outside the format, or both are: then the first
+// is named.
+static SECOND_TREES: [([&str; 2], FileFault); 4] = [
+    ([HEXAGON_TREE, "t mcg 6\ncut 6 2\n"], (3, 2, 9)),
+    ([OTHER_HEXAGON_TREE, "s mcg 1\npick 2\n"], (3, 1, 1)),
+    (["t mcg 6\nleaf\n", "t mcg 6\ncut 2 3 4\nleaf\n"], (3, 4, 7)),
+    (["s mcg 1\npick 2\n", "t mcg 6\ncut 6 2\n"], (2, 1, 1)),
 ];
 
 #[test]
 fn bad_second_trees(rt: HostRuntime) -> Result<(), Fail> {
-    for command in ["compare", "script"] {
-        let words = [command, "g", "s", "t"];
-        all_answer(rt.alloc(), &words, Status::BadInput, &SECOND_TREES)?;
+    for words in [COMPARE, SCRIPT] {
+        for ([first, second], fault) in &SECOND_TREES {
+            let files = [HEXAGON, *first, *second];
+            assert!(rt; names_fault(rt.alloc(), words, &files, *fault)?);
+        }
     }
     Ok(())
 }

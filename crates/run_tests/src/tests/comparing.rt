@@ -4,84 +4,91 @@ use super::graphs::{
     HEXAGON, HEXAGON_TREE, K4, OCTAGON, OTHER_HEXAGON_TREE, TRIANGLE_IN_K33, TWO_EDGES, TWO_K4,
     cycle,
 };
-use super::trial::{COMPARE, REPLAY, RunRow, SCRIPT, all_answer, report};
+use super::trial::{COMPARE, REPLAY, RunRow, Runs, SCRIPT, all_answer, all_runs_answer, report};
 use bench_top::Status;
 use std::alloc::Global;
 use std::test::Fail;
 
-// Two derivations of the graph.
-static SAME_LEAVES: [RunRow; 4] = [
-    // the roots cross
+// Two trees of a graph.
+static COMPARED: [Runs; 3] = [
+    // Two derivations of the graph.
     (
-        &[HEXAGON, HEXAGON_TREE, OTHER_HEXAGON_TREE],
-        "same leaves 2 moves 1\nmove switch . 1 4\nleaf 1 with 1\nmap 1 to 6\nmap 2 to 2\nmap 3 to 3\nmap 6 to 4\nleaf 2 with 2\nmap 3 to 1\nmap 4 to 4\nmap 5 to 5\nmap 6 to 6\n",
-    ),
-    // one tree twice
-    (
-        &[HEXAGON, HEXAGON_TREE, HEXAGON_TREE],
-        "same leaves 2 moves 0\nleaf 1 with 1\nmap 1 to 1\nmap 2 to 2\nmap 3 to 3\nmap 6 to 6\nleaf 2 with 2\nmap 3 to 3\nmap 4 to 4\nmap 5 to 5\nmap 6 to 6\n",
-    ),
-    // the same cuts
-    (
+        Status::Done,
         &[
-            OCTAGON,
-            "t mcg 8\ncut 1 2 3 4 5\ncut 1 2 3\nleaf\nleaf\nleaf\n",
-            "t mcg 8\ncut 1 2 3\nleaf\ncut 1 2 3 4 5\nleaf\nleaf\n",
+            // the roots cross
+            (
+                &[HEXAGON, HEXAGON_TREE, OTHER_HEXAGON_TREE],
+                "same leaves 2 moves 1\nmove switch . 1 4\nleaf 1 with 1\nmap 1 to 6\nmap 2 to 2\nmap 3 to 3\nmap 6 to 4\nleaf 2 with 2\nmap 3 to 1\nmap 4 to 4\nmap 5 to 5\nmap 6 to 6\n",
+            ),
+            // one tree twice
+            (
+                &[HEXAGON, HEXAGON_TREE, HEXAGON_TREE],
+                "same leaves 2 moves 0\nleaf 1 with 1\nmap 1 to 1\nmap 2 to 2\nmap 3 to 3\nmap 6 to 6\nleaf 2 with 2\nmap 3 to 3\nmap 4 to 4\nmap 5 to 5\nmap 6 to 6\n",
+            ),
+            // the same cuts
+            (
+                &[
+                    OCTAGON,
+                    "t mcg 8\ncut 1 2 3 4 5\ncut 1 2 3\nleaf\nleaf\nleaf\n",
+                    "t mcg 8\ncut 1 2 3\nleaf\ncut 1 2 3 4 5\nleaf\nleaf\n",
+                ],
+                "same leaves 3 moves 1\nmove rotate k\nleaf 1 with 1\nmap 1 to 1\nmap 2 to 2\nmap 3 to 3\nmap 8 to 8\nleaf 2 with 2\nmap 3 to 3\nmap 4 to 4\nmap 5 to 5\nmap 8 to 8\nleaf 3 with 3\nmap 5 to 5\nmap 6 to 6\nmap 7 to 7\nmap 8 to 8\n",
+            ),
+            // the roots meet in three vertices, so that a third cut comes first
+            (
+                &[
+                    OCTAGON,
+                    "t mcg 8\ncut 1 2 3 4 5\ncut 1 2 3\nleaf\nleaf\nleaf\n",
+                    "t mcg 8\ncut 3 4 5 6 7\ncut 3 4 5\nleaf\nleaf\nleaf\n",
+                ],
+                "same leaves 3 moves 4\nmove switch k 3 6,7,8\nmove rotate k\nmove switch m 3,4,5 8\nmove rotate m\nleaf 1 with 3\nmap 1 to 1\nmap 2 to 2\nmap 3 to 7\nmap 8 to 8\nleaf 2 with 1\nmap 3 to 3\nmap 4 to 4\nmap 5 to 5\nmap 8 to 8\nleaf 3 with 2\nmap 5 to 5\nmap 6 to 6\nmap 7 to 7\nmap 8 to 8\n",
+            ),
         ],
-        "same leaves 3 moves 1\nmove rotate k\nleaf 1 with 1\nmap 1 to 1\nmap 2 to 2\nmap 3 to 3\nmap 8 to 8\nleaf 2 with 2\nmap 3 to 3\nmap 4 to 4\nmap 5 to 5\nmap 8 to 8\nleaf 3 with 3\nmap 5 to 5\nmap 6 to 6\nmap 7 to 7\nmap 8 to 8\n",
     ),
-    // the roots meet in three vertices, so that a third cut comes first
+    // Two trees of the hexagon, of which one is not a derivation.
     (
+        Status::Negative,
         &[
-            OCTAGON,
-            "t mcg 8\ncut 1 2 3 4 5\ncut 1 2 3\nleaf\nleaf\nleaf\n",
-            "t mcg 8\ncut 3 4 5 6 7\ncut 3 4 5\nleaf\nleaf\nleaf\n",
+            (
+                &[HEXAGON, HEXAGON_TREE, "t mcg 6\nleaf\n"],
+                "tree 2 refused node 1 why 5 cut 2 3 4\n",
+            ),
+            (
+                &[HEXAGON, "t mcg 6\nleaf\n", "t mcg 6\nleaf\n"],
+                "tree 1 refused node 1 why 5 cut 2 3 4\n",
+            ),
         ],
-        "same leaves 3 moves 4\nmove switch k 3 6,7,8\nmove rotate k\nmove switch m 3,4,5 8\nmove rotate m\nleaf 1 with 3\nmap 1 to 1\nmap 2 to 2\nmap 3 to 7\nmap 8 to 8\nleaf 2 with 1\nmap 3 to 3\nmap 4 to 4\nmap 5 to 5\nmap 8 to 8\nleaf 3 with 2\nmap 5 to 5\nmap 6 to 6\nmap 7 to 7\nmap 8 to 8\n",
+    ),
+    // Two trees of the hexagon, of which one is outside the format.
+    (
+        Status::BadInput,
+        &[
+            (
+                &[HEXAGON, "t mcg 6\ncut 3 2\nleaf\nleaf\n", HEXAGON_TREE],
+                "file 2 line 2 kind 9\n",
+            ),
+            (
+                &[HEXAGON, "t mcg 6\ncut 2 6\nleaf\nleaf\n", HEXAGON_TREE],
+                "file 2 line 2 kind 10\n",
+            ),
+            (
+                &[HEXAGON, HEXAGON_TREE, "t mcg 6\ncut 2 6\nleaf\nleaf\n"],
+                "file 3 line 2 kind 10\n",
+            ),
+        ],
     ),
 ];
 
-// Two trees of the hexagon, of which one is not a derivation.
-static REFUSED: [RunRow; 2] = [
-    (
-        &[HEXAGON, HEXAGON_TREE, "t mcg 6\nleaf\n"],
-        "tree 2 refused node 1 why 5 cut 2 3 4\n",
-    ),
-    (
-        &[HEXAGON, "t mcg 6\nleaf\n", "t mcg 6\nleaf\n"],
-        "tree 1 refused node 1 why 5 cut 2 3 4\n",
-    ),
-];
-
-// Two trees of the hexagon, of which one is outside the format.
-static MALFORMED: [RunRow; 3] = [
-    (
-        &[HEXAGON, "t mcg 6\ncut 3 2\nleaf\nleaf\n", HEXAGON_TREE],
-        "file 2 line 2 kind 9\n",
-    ),
-    (
-        &[HEXAGON, "t mcg 6\ncut 2 6\nleaf\nleaf\n", HEXAGON_TREE],
-        "file 2 line 2 kind 10\n",
-    ),
-    (
-        &[HEXAGON, HEXAGON_TREE, "t mcg 6\ncut 2 6\nleaf\nleaf\n"],
-        "file 3 line 2 kind 10\n",
-    ),
-];
+#[test]
+fn trees_that_are_compared(rt: HostRuntime) -> Result<(), Fail> {
+    all_runs_answer(rt.alloc(), COMPARE, &COMPARED)
+}
 
 // A graph that is not matching covered.
 static NOT_COVERED: [RunRow; 1] = [(
     &[TWO_EDGES, "t mcg 4\nleaf\n", "t mcg 4\nleaf\n"],
     "covered no parts 1 3\n",
 )];
-
-#[test]
-fn trees_that_are_compared(rt: HostRuntime) -> Result<(), Fail> {
-    all_answer(rt.alloc(), COMPARE, Status::Done, &SAME_LEAVES)?;
-    all_answer(rt.alloc(), COMPARE, Status::Negative, &REFUSED)?;
-    all_answer(rt.alloc(), COMPARE, Status::BadInput, &MALFORMED)?;
-    Ok(())
-}
 
 #[test]
 fn a_graph_that_is_not_covered(rt: HostRuntime) -> Result<(), Fail> {

@@ -22,6 +22,12 @@ pub const REPLAY: &[&str] = &["replay", "g", "s", "t"];
 /// The files of a run, and the report that is expected.
 pub type RunRow = (&'static [&'static str], &'static str);
 
+/// A status, and rows of runs that have it.
+pub type Runs = (Status, &'static [RunRow]);
+
+/// The number of a file of a run, and the line and the kind of its first fault.
+pub type FileFault = (usize, u32, u32);
+
 /// The words of a command.
 pub fn words_of(alloc: Global, words: &[&str]) -> Result<Vec<String>, Fail> {
     let mut list = Vec::new(alloc);
@@ -92,6 +98,17 @@ pub fn answers(
     Ok(answer == status && written.as_str() == report)
 }
 
+/// Whether the words refuse one of these files for its first fault.
+pub fn names_fault(
+    alloc: Global,
+    words: &[&str],
+    files: &[&str],
+    (file, line, kind): FileFault,
+) -> Result<bool, Fail> {
+    let report = format!(in alloc; "file {file} line {line} kind {kind}\n")?;
+    answers(alloc, words, files, Status::BadInput, &report)
+}
+
 /// Whether the words refuse the last of these files for its first fault.
 pub fn is_refused(
     alloc: Global,
@@ -100,9 +117,7 @@ pub fn is_refused(
     line: u32,
     kind: u32,
 ) -> Result<bool, Fail> {
-    let file = files.len();
-    let report = format!(in alloc; "file {file} line {line} kind {kind}\n")?;
-    answers(alloc, words, files, Status::BadInput, &report)
+    names_fault(alloc, words, files, (files.len(), line, kind))
 }
 
 /// Fails at the first row whose files give another answer than this status, or another report than
@@ -117,6 +132,14 @@ pub fn all_answer(
         if !answers(alloc, words, files, status, report)? {
             return Err(Fail::new(*report));
         }
+    }
+    Ok(())
+}
+
+/// Fails as `all_answer` does, over the rows of each status.
+pub fn all_runs_answer(alloc: Global, words: &[&str], runs: &[Runs]) -> Result<(), Fail> {
+    for (status, rows) in runs {
+        all_answer(alloc, words, *status, rows)?;
     }
     Ok(())
 }
