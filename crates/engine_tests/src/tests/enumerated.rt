@@ -68,11 +68,8 @@ struct Seen {
 }
 
 impl Seen {
-    fn none() -> Seen {
-        Seen {
-            compared: 0,
-            whole: 0,
-        }
+    fn of(compared: u32, whole: u32) -> Seen {
+        Seen { compared, whole }
     }
 
     fn and(self, is_whole: bool) -> Seen {
@@ -101,14 +98,13 @@ fn and_graph(alloc: Global, seen: Seen, g: &MultiGraph) -> Result<Option<Seen>, 
     }
 }
 
-// What is seen of the graphs of all numbers below a limit; none if one is found on which the
-// two do not agree.
-fn all_below(alloc: Global, order: u32, family: Family, limit: u32) -> Result<Option<Seen>, Fail>
+// What is seen of the graphs of these numbers; none if one is found on which the two do not agree.
+fn all_of(alloc: Global, order: u32, family: Family, numbers: &[u32]) -> Result<Option<Seen>, Fail>
     requires { order ≤ 128 }
 {
-    let mut seen = Seen::none();
-    for number in 0..limit {
-        let g = numbered(alloc, order, family, number)?;
+    let mut seen = Seen::of(0, 0);
+    for number in numbers {
+        let g = numbered(alloc, order, family, *number)?;
         match and_graph(alloc, seen, &g)? {
             None => return Ok(None),
             Some(more) => seen = more,
@@ -117,52 +113,44 @@ fn all_below(alloc: Global, order: u32, family: Family, limit: u32) -> Result<Op
     Ok(Some(seen))
 }
 
+// All numbers below a limit.
+fn below(alloc: Global, limit: u32) -> Result<Vec<u32>, Memory> {
+    let mut numbers = Vec::new(alloc);
+    for number in 0..limit {
+        numbers.push(number)?;
+    }
+    Ok(numbers)
+}
+
 #[test]
 fn all_graphs_of_four_and_six_vertices(rt: HostRuntime) -> Result<(), Fail> {
-    let four = Seen {
-        compared: 3,
-        whole: 3,
-    };
-    assert!(rt; all_below(rt.alloc(), 4, Family::Any, 1 << 4)? == Some(four));
-    let six = Seen {
-        compared: 1108,
-        whole: 689,
-    };
-    assert!(rt; all_below(rt.alloc(), 6, Family::Any, 1 << 12)? == Some(six));
+    let numbers = below(rt.alloc(), 1 << 4)?;
+    assert!(rt; all_of(rt.alloc(), 4, Family::Any, &numbers)? == Some(Seen::of(3, 3)));
+    let numbers = below(rt.alloc(), 1 << 12)?;
+    assert!(rt; all_of(rt.alloc(), 6, Family::Any, &numbers)? == Some(Seen::of(1108, 689)));
     Ok(())
 }
 
 #[test]
 fn all_bipartite_graphs_of_eight_vertices(rt: HostRuntime) -> Result<(), Fail> {
-    let eight = Seen {
-        compared: 552,
-        whole: 64,
-    };
-    assert!(rt; all_below(rt.alloc(), 8, Family::Bipartite, 1 << 10)? == Some(eight));
+    let numbers = below(rt.alloc(), 1 << 10)?;
+    assert!(rt; all_of(rt.alloc(), 8, Family::Bipartite, &numbers)? == Some(Seen::of(552, 64)));
     Ok(())
 }
 
-// What is seen of so many graphs of 8 vertices, of which three bits in eight are set in the number.
-fn drawn(alloc: Global, many: u32) -> Result<Option<Seen>, Fail> {
+// So many numbers, of which three bits in eight are set.
+fn drawn(alloc: Global, many: u32) -> Result<Vec<u32>, Memory> {
     let mut words = Lcg64Xsh32::new(8, 1);
-    let mut seen = Seen::none();
+    let mut numbers = Vec::new(alloc);
     for _ in 0..many {
-        let number = words.next_word() & (words.next_word() | words.next_word());
-        let g = numbered(alloc, 8, Family::Any, number)?;
-        match and_graph(alloc, seen, &g)? {
-            None => return Ok(None),
-            Some(more) => seen = more,
-        }
+        numbers.push(words.next_word() & (words.next_word() | words.next_word()))?;
     }
-    Ok(Some(seen))
+    Ok(numbers)
 }
 
 #[test]
 fn graphs_of_eight_vertices(rt: HostRuntime) -> Result<(), Fail> {
-    let eight = Seen {
-        compared: 56,
-        whole: 21,
-    };
-    assert!(rt; drawn(rt.alloc(), 400)? == Some(eight));
+    let numbers = drawn(rt.alloc(), 400)?;
+    assert!(rt; all_of(rt.alloc(), 8, Family::Any, &numbers)? == Some(Seen::of(56, 21)));
     Ok(())
 }

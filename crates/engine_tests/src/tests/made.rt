@@ -35,3 +35,12 @@ pub fn made(alloc: Global, order: u32, edges: &[(u32, u32)]) -> Result<MultiGrap
     }
     Ok(graph_with(alloc, order, edges)?)
 }
+
+// The graph of these edges, where the two digits of a number are the ends of an edge.
+pub fn drawn(alloc: Global, order: u32, edges: &[u32]) -> Result<MultiGraph, Fail> {
+    let mut pairs = Vec::new(alloc);
+    for edge in edges {
+        pairs.push((*edge / 10, *edge % 10))?;
+    }
+    made(alloc, order, &pairs)
+}

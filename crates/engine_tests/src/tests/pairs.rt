@@ -3,7 +3,7 @@
 ghost use Rattle.counting.specs.Common.{Within};
 ghost use Rattle.plain_graph.specs.Small.{IsSmall};
 
-use super::made::{made, set_of};
+use super::made::{drawn, made, set_of};
 use allowed_edges::{allowed, covered, together};
 use graph_core::{MultiGraph, Reason, Verdict};
 use match_core::maximum;
@@ -17,36 +17,7 @@ use vset_core::{MOST_VERTICES, VSet};
 
 const TWINS: [(u32, u32); 3] = [(1, 2), (2, 1), (1, 2)];
 
-const BOWTIE: [(u32, u32); 6] = [(1, 2), (2, 3), (1, 3), (3, 4), (4, 5), (3, 5)];
-
-const WHEEL: [(u32, u32); 10] = [
-    (1, 2),
-    (2, 3),
-    (3, 4),
-    (4, 5),
-    (5, 1),
-    (6, 1),
-    (6, 2),
-    (6, 3),
-    (6, 4),
-    (6, 5),
-];
-
-// A square with a diagonal and a tail of two edges.
-const KITE: [(u32, u32); 7] = [(1, 2), (2, 3), (3, 4), (4, 1), (1, 3), (4, 5), (5, 6)];
-
-const HEPTAGON: [(u32, u32); 8] = [
-    (2, 6),
-    (3, 4),
-    (4, 5),
-    (5, 6),
-    (6, 7),
-    (7, 1),
-    (1, 2),
-    (2, 3),
-];
-
-static SMALL_GRAPHS: [(u32, &[(u32, u32)]); 15] = [
+static SMALL_GRAPHS: [(u32, &[(u32, u32)]); 11] = [
     (0, &[]),
     (3, &[]),
     (4, &K4),
@@ -55,13 +26,21 @@ static SMALL_GRAPHS: [(u32, &[(u32, u32)]); 15] = [
     (4, &TWO_EDGES),
     (3, &TRIANGLE),
     (2, &TWINS),
-    (5, &BOWTIE),
     (6, &K33),
     (6, &PRISM),
-    (6, &WHEEL),
-    (6, &KITE),
     (8, &FLOWER),
-    (7, &HEPTAGON),
+];
+
+// Further small graphs: the two digits of a number are the ends of an edge.
+static DRAWN: [(u32, &[u32]); 4] = [
+    // the bow tie
+    (5, &[12, 23, 13, 34, 45, 35]),
+    // the wheel with five spokes
+    (6, &[12, 23, 34, 45, 51, 61, 62, 63, 64, 65]),
+    // a square with a diagonal and a tail of two edges
+    (6, &[12, 23, 34, 41, 13, 45, 56]),
+    // the heptagon with a chord
+    (7, &[26, 34, 45, 56, 67, 71, 12, 23]),
 ];
 
 // A graph, by its order and its edges, and its allowed edges.
@@ -160,17 +139,19 @@ fn pairs_together(
 #[test]
 fn agrees_with_the_plain_program_on_small_graphs(rt: HostRuntime) -> Result<(), Fail> {
     for (order, edges) in &SMALL_GRAPHS {
-        assert!(rt; agrees(rt.alloc(), *order, edges)?);
+        assert!(rt; agrees(rt.alloc(), &made(rt.alloc(), *order, edges)?)?);
+    }
+    for (order, edges) in &DRAWN {
+        assert!(rt; agrees(rt.alloc(), &drawn(rt.alloc(), *order, edges)?)?);
     }
     Ok(())
 }
 
-fn agrees(alloc: Global, order: u32, edges: &[(u32, u32)]) -> Result<bool, Fail> {
-    let graph = made(alloc, order, edges)?;
-    if !is_small(&graph) {
+fn agrees(alloc: Global, graph: &MultiGraph) -> Result<bool, Fail> {
+    if !is_small(graph) {
         return Ok(false);
     }
-    Ok(agrees_on_pairs(alloc, &graph)? && agrees_on_maximum(alloc, &graph)?)
+    Ok(agrees_on_pairs(alloc, graph)? && agrees_on_maximum(alloc, graph)?)
 }
 
 fn agrees_on_pairs(alloc: Global, graph: &MultiGraph) -> Result<bool, Fail>

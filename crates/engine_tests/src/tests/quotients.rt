@@ -89,91 +89,73 @@ fn contracted_at(alloc: Global, (order, edges, shore): &Cut) -> Result<Contracte
     contracted(alloc, &graph, set_of(shore))
 }
 
-// An edge of a quotient: its ends, and all its remembered edges.
-type Remembered = (u32, u32, &'static [u32]);
+// The edges of the quotient at a cut, in order: the two digits of a number are the ends of one, and
+// each remembers these edges of the graph.
+struct Quotient {
+    cut: Cut,
+    ends: &'static [u32],
+    remembered: &'static [&'static [u32]],
+}
 
-// The edges of quotients, in order.
-static QUOTIENTS: [(Cut, &[Remembered]); 6] = [
-    (
-        FAR_SIDE,
-        &[
-            (1, 2, &[1]),
-            (1, 3, &[2]),
-            (1, 4, &[4]),
-            (2, 3, &[3]),
-            (2, 4, &[5]),
-            (3, 4, &[6]),
-        ],
-    ),
-    (
-        TRIANGLE_SIDE,
-        &[
-            (1, 2, &[4]),
-            (1, 3, &[5]),
-            (1, 4, &[6]),
-            (2, 5, &[7]),
-            (2, 6, &[10]),
-            (3, 5, &[8]),
-            (3, 6, &[11]),
-            (4, 5, &[9]),
-            (4, 6, &[12]),
-        ],
-    ),
-    (
-        FIVE_OF_EIGHT,
-        &[(1, 2, &[5]), (1, 4, &[8]), (2, 3, &[6]), (3, 4, &[7])],
-    ),
-    (
-        WHOLE_CYCLE,
-        &[
-            (1, 2, &[1]),
-            (1, 8, &[8]),
-            (2, 3, &[2]),
-            (3, 4, &[3]),
-            (4, 5, &[4]),
-            (5, 6, &[5]),
-            (6, 7, &[6]),
-            (7, 8, &[7]),
-        ],
-    ),
-    (THREE_OF_FOUR, &[(1, 2, &[3, 5, 6])]),
-    (
-        DOUBLED,
-        &[(1, 2, &[1, 2]), (1, 4, &[5]), (2, 3, &[3]), (3, 4, &[4])],
-    ),
+static QUOTIENTS: [Quotient; 6] = [
+    Quotient {
+        cut: FAR_SIDE,
+        ends: &[12, 13, 14, 23, 24, 34],
+        remembered: &[&[1], &[2], &[4], &[3], &[5], &[6]],
+    },
+    Quotient {
+        cut: TRIANGLE_SIDE,
+        ends: &[12, 13, 14, 25, 26, 35, 36, 45, 46],
+        remembered: &[&[4], &[5], &[6], &[7], &[10], &[8], &[11], &[9], &[12]],
+    },
+    Quotient {
+        cut: FIVE_OF_EIGHT,
+        ends: &[12, 14, 23, 34],
+        remembered: &[&[5], &[8], &[6], &[7]],
+    },
+    Quotient {
+        cut: WHOLE_CYCLE,
+        ends: &[12, 18, 23, 34, 45, 56, 67, 78],
+        remembered: &[&[1], &[8], &[2], &[3], &[4], &[5], &[6], &[7]],
+    },
+    Quotient {
+        cut: THREE_OF_FOUR,
+        ends: &[12],
+        remembered: &[&[3, 5, 6]],
+    },
+    Quotient {
+        cut: DOUBLED,
+        ends: &[12, 14, 23, 34],
+        remembered: &[&[1, 2], &[5], &[3], &[4]],
+    },
 ];
 
 // Whether edge e of the quotient has these ends and remembers these edges.
-fn is_edge(q: &Contracted, e: u32, wanted: &Remembered) -> bool {
+fn is_edge(q: &Contracted, e: u32, ends: u32, edges: &[u32]) -> bool {
     if e < 1 || e > q.graph().size() {
         return false;
     }
-    let (a, b, edges) = *wanted;
+    let (a, b) = (ends / 10, ends % 10);
     q.graph().ends(e) == Ends { a, b } && q.remembered(e) == edges
 }
 
-// Whether the quotient has these edges, in their order.
-fn has_edges(q: &Contracted, wanted: &[Remembered]) -> bool {
+// Whether the quotient has the edges of this row, in their order.
+fn has_edges(q: &Contracted, wanted: &Quotient) -> bool {
     let mut e = 0u32;
-    for edge in wanted {
+    for (ends, edges) in wanted.ends.iter().zip(wanted.remembered) {
         e = e.saturating_add(1);
-        if !is_edge(q, e, edge) {
+        if !is_edge(q, e, *ends, edges) {
             return false;
         }
     }
-    q.graph().size() == e
-}
-
-// Whether the quotient at the cut has these edges.
-fn is_quotient(alloc: Global, cut: &Cut, wanted: &[Remembered]) -> Result<bool, Fail> {
-    let q = contracted_at(alloc, cut)?;
-    Ok(has_edges(&q, wanted))
+    q.graph().size() == e && wanted.ends.len() == wanted.remembered.len()
 }
 
 #[test]
 fn quotients_with_remembered_edges(rt: HostRuntime) -> Result<(), Fail> {
-    for (cut, wanted) in &QUOTIENTS {
-        assert!(rt; is_quotient(rt.alloc(), cut, wanted)?);
+    for wanted in &QUOTIENTS {
+        let q = contracted_at(rt.alloc(), &wanted.cut)?;
+        assert!(rt; has_edges(&q, wanted));
     }
     Ok(())
 }

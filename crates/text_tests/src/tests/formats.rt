@@ -39,6 +39,9 @@ pub enum Answer {
 /// A text, and its answer.
 pub type TextRow = (&'static str, Answer);
 
+/// How texts begin, and for each of some answers what follows in the texts that have it.
+pub type Beginning = (&'static str, &'static [(Answer, &'static [&'static str])]);
+
 // A graph in version 1, which has at most 64 vertices and 512 edges.
 fn plain(alloc: Global, graph: &MultiGraph) -> Result<Vec<u8>, TextFault> {
     if graph.order() > 64 || graph.size() > 512 {
@@ -139,6 +142,21 @@ pub fn all_are_so(alloc: Global, format: Format, rows: &[TextRow]) -> Result<(),
     for (text, answer) in rows {
         if !has_answer(alloc, format, text.as_bytes(), *answer) {
             return Err(Fail::new(*text));
+        }
+    }
+    Ok(())
+}
+
+/// Fails with the first end of a text whose answer is another one.
+pub fn all_begin_so(alloc: Global, format: Format, rows: &[Beginning]) -> Result<(), Fail> {
+    for (start, answers) in rows {
+        for (answer, ends) in *answers {
+            for end in *ends {
+                let text = format!(in alloc; "{start}{end}")?;
+                if !has_answer(alloc, format, text.as_bytes(), *answer) {
+                    return Err(Fail::new(*end));
+                }
+            }
         }
     }
     Ok(())

@@ -1,14 +1,16 @@
 //! Texts of graph6: known texts with their edges, and texts with each fault.
 
 use super::formats::Answer::{Fault, Same, Written};
-use super::formats::{Format, LongText, TextRow, has_answer, long_has_answer, long_text};
+use super::formats::{
+    Beginning, Format, LongText, TextRow, has_answer, long_has_answer, long_text,
+};
 use graph6_text::read_graph6;
 use line_text::FaultKind::{Extra, Limit, LongForm, Missing, Padding, Range};
 use std::alloc::Global;
 use std::test::Fail;
 
-/// Header and line end are set aside; then each fault of a text.
-pub static TEXTS: [TextRow; 21] = [
+/// Header and line end are set aside.
+pub static TEXTS: [TextRow; 8] = [
     ("?", Same),
     ("Bw", Same),
     (">>graph6<<Bw", Written("Bw")),
@@ -17,20 +19,21 @@ pub static TEXTS: [TextRow; 21] = [
     (">>graph6<<Bw\r\n", Written("Bw")),
     ("Ch", Same),
     ("C~", Same),
-    ("", Fault(1, Missing)),
-    (">>graph6<<", Fault(1, Missing)),
-    ("\r\n", Fault(1, Missing)),
-    ("C~\nC~", Fault(2, Extra)),
-    ("C~\n\n", Fault(2, Extra)),
-    ("C~\r", Fault(1, Range)),
-    (">>sparse6<<:Bw", Fault(1, Range)),
-    ("~~??????", Fault(1, Limit)),
-    ("~??C~", Fault(1, LongForm)),
-    ("~?A@", Fault(1, Limit)),
-    ("C", Fault(1, Missing)),
-    ("C~~", Fault(1, Extra)),
-    ("B~", Fault(1, Padding)),
 ];
+
+/// Each fault of a text.
+pub static FAULTS: [Beginning; 1] = [(
+    "",
+    &[
+        (Fault(1, Missing), &["", ">>graph6<<", "\r\n", "C"]),
+        (Fault(2, Extra), &["C~\nC~", "C~\n\n"]),
+        (Fault(1, Range), &["C~\r", ">>sparse6<<:Bw"]),
+        (Fault(1, Limit), &["~~??????", "~?A@"]),
+        (Fault(1, LongForm), &["~??C~"]),
+        (Fault(1, Extra), &["C~~"]),
+        (Fault(1, Padding), &["B~"]),
+    ],
+)];
 
 // Texts, with the number of vertices and the edges, column by column.
 static KNOWN: [(&str, u32, &[(u32, u32)]); 5] = [

@@ -108,35 +108,51 @@ fn in_pieces(alloc: Global, list: &str, size: usize) -> Result<MemSource, Memory
     Ok(source)
 }
 
-// Whether the answers to a source end so, and leaves these bytes in the sink.
+// The number and the text of a line that is skipped.
+type Skipped = (u64, &'static str);
+
+// Whether the reports name these lines, and no others.
+fn names(skipped: &[BadLine], wanted: &[Skipped]) -> bool {
+    skipped.len() == wanted.len()
+        && skipped.iter().zip(wanted).all(|(found, (number, text))| {
+            found.number == *number
+                && found.kind == FaultKind::Padding
+                && found.text.as_slice() == text.as_bytes()
+        })
+}
+
+// Whether the answers to a source end so, leave these bytes in the sink, and skip these lines.
 fn is_told(
     alloc: Global,
     mut source: MemSource,
     mut sink: MemSink,
     ending: &Wanted,
     wanted: &[u8],
+    lines: &[Skipped],
 ) -> bool {
     let mut skipped = Vec::new(alloc);
     let told = tell_all(alloc, &Copyist, &mut source, &mut sink, &mut skipped);
-    is_wanted(&told, ending) && sink.bytes() == wanted && skipped.is_empty()
+    is_wanted(&told, ending) && sink.bytes() == wanted && names(&skipped, lines)
 }
 
-// Whether the list is answered so in pieces of each size from 1 to 11.
-fn is_told_in_pieces(alloc: Global, (list, wanted, ending): &Row) -> Result<bool, Memory> {
-    for size in 1..12 {
-        let source = in_pieces(alloc, list, size)?;
-        let sink = MemSink::new(alloc, 100, 7)?;
-        if !is_told(alloc, source, sink, ending, wanted.as_bytes()) {
-            return Ok(false);
-        }
-    }
-    Ok(true)
+// Whether the list is answered so in pieces of that size, and these lines are skipped.
+fn is_told_in_pieces(
+    alloc: Global,
+    (list, wanted, ending): &Row,
+    lines: &[Skipped],
+    size: usize,
+) -> Result<bool, Memory> {
+    let source = in_pieces(alloc, list, size)?;
+    let sink = MemSink::new(alloc, 100, 7)?;
+    Ok(is_told(alloc, source, sink, ending, wanted.as_bytes(), lines))
 }
 
 #[test]
 fn lists_in_pieces(rt: HostRuntime) -> Result<(), Fail> {
     for row in &ROWS {
-        assert!(rt; is_told_in_pieces(rt.alloc(), row)?);
+        for size in 1..12 {
+            assert!(rt; is_told_in_pieces(rt.alloc(), row, &[], size)?);
+        }
     }
     Ok(())
 }
@@ -155,7 +171,7 @@ fn is_told_until(alloc: Global, read: u32, ending: &Wanted, wanted: &str) -> Res
     let mut source = in_pieces(alloc, "C~\nA_\nD{\nB", 4)?;
     source.fail_read(read)?;
     let sink = MemSink::new(alloc, 100, 100)?;
-    Ok(is_told(alloc, source, sink, ending, wanted.as_bytes()))
+    Ok(is_told(alloc, source, sink, ending, wanted.as_bytes(), &[]))
 }
 
 #[test]
@@ -166,78 +182,38 @@ fn a_read_fails(rt: HostRuntime) -> Result<(), Fail> {
     Ok(())
 }
 
+// Whether the answers stop after these bytes if there is room for no more.
+fn fills_room(alloc: Global, wanted: &[u8]) -> Result<bool, Memory> {
+    let source = in_pieces(alloc, "C~\nA_\n!\n", 4)?;
+    let sink = MemSink::new(alloc, wanted.len(), 100)?;
+    Ok(is_told(alloc, source, sink, &Wanted::WriteFault, wanted, &[]))
+}
+
 #[test]
 fn the_room_is_too_small(rt: HostRuntime) -> Result<(), Fail> {
     let whole = b"1 C~\n2 A_\n";
     for room in 0..whole.len() {
-        let source = in_pieces(rt.alloc(), "C~\nA_\n!\n", 4)?;
-        let sink = MemSink::new(rt.alloc(), room, 100)?;
-        assert!(rt;
-            is_told(
-                rt.alloc(),
-                source,
-                sink,
-                &Wanted::WriteFault,
-                &whole[..room]
-            )
-        );
+        assert!(rt; fills_room(rt.alloc(), &whole[..room])?);
     }
     Ok(())
 }
 
-// A list, what is written of it, how it ends, and the number and text of each line that is skipped.
-type SkippingRow = (
-    &'static str,
-    &'static str,
-    Wanted,
-    &'static [(u64, &'static str)],
-);
-
-static SKIPPING_ROWS: [SkippingRow; 4] = [
-    ("$\nC~\n", "2 C~\n", Wanted::Done, &[(1, "$\n")]),
+// A list, what is written of it and how it ends, and the lines that are skipped.
+static SKIPPING_ROWS: [(Row, &[Skipped]); 4] = [
+    (("$\nC~\n", "2 C~\n", Done), &[(1, "$\n")]),
     (
-        "C~\n$a\n\nA_\nb$",
-        "1 C~\n3 \n4 A_\n",
-        Wanted::Done,
+        ("C~\n$a\n\nA_\nb$", "1 C~\n3 \n4 A_\n", Done),
         &[(2, "$a\n"), (5, "b$")],
     ),
-    (
-        "$\nA!\n$\nC~\n",
-        "",
-        Wanted::Bad(2, FaultKind::Range, "A!\n"),
-        &[(1, "$\n")],
-    ),
-    (">>graph6<<\n$\n", "", Wanted::Done, &[(2, "$\n")]),
+    (("$\nA!\n$\nC~\n", "", Bad(2, Range, "A!\n")), &[(1, "$\n")]),
+    ((">>graph6<<\n$\n", "", Done), &[(2, "$\n")]),
 ];
-
-// Whether the reports name these lines, and no others.
-fn names(skipped: &[BadLine], wanted: &[(u64, &str)]) -> bool {
-    skipped.len() == wanted.len()
-        && skipped.iter().zip(wanted).all(|(found, (number, text))| {
-            found.number == *number
-                && found.kind == FaultKind::Padding
-                && found.text.as_slice() == text.as_bytes()
-        })
-}
-
-// Whether the list is answered so in pieces of that size.
-fn skips_so(
-    alloc: Global,
-    (list, wanted, ending, lines): &SkippingRow,
-    size: usize,
-) -> Result<bool, Memory> {
-    let mut source = in_pieces(alloc, list, size)?;
-    let mut sink = MemSink::new(alloc, 100, 7)?;
-    let mut skipped = Vec::new(alloc);
-    let told = tell_all(alloc, &Copyist, &mut source, &mut sink, &mut skipped);
-    Ok(is_wanted(&told, ending) && sink.bytes() == wanted.as_bytes() && names(&skipped, lines))
-}
 
 #[test]
 fn lists_go_on_after_skipped_lines(rt: HostRuntime) -> Result<(), Fail> {
-    for row in &SKIPPING_ROWS {
+    for (row, lines) in &SKIPPING_ROWS {
         for size in 1..8 {
-            assert!(rt; skips_so(rt.alloc(), row, size)?);
+            assert!(rt; is_told_in_pieces(rt.alloc(), row, lines, size)?);
         }
     }
     Ok(())

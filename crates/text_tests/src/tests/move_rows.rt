@@ -1,58 +1,76 @@
 //! Texts of moves.
 
 use super::formats::Answer::{Fault, Same, Written};
-use super::formats::{Answer, LongText, TextRow};
+use super::formats::{Answer, Beginning, LongText, TextRow};
 use line_text::FaultKind::{Header, Limit, NotRising, Number, Range, Word};
 use move_text::{read_moves, write_moves};
 use std::test::Fail;
 use tree_core::{Move, Moves, Path, Side};
 use vset_core::VSet;
 
-/// Moves on trees over 1 to 2.
-pub static MOVES_OF_2: [TextRow; 1] = [("m mcg 2", Written("m mcg 2\n"))];
-
-/// Moves on trees over 1 to 6.
-pub static MOVES_OF_6: [TextRow; 27] = [
-    ("m mcg 6\nswitch . 1 4", Written("m mcg 6\nswitch . 1 4\n")),
-    ("", Fault(1, Header)),
-    ("c\n\n", Fault(3, Header)),
-    ("m mcg\n", Fault(1, Header)),
-    ("m mcg 6 6\n", Fault(1, Header)),
-    ("t mcg 6\n", Fault(1, Header)),
-    ("m mcg x\n", Fault(1, Number)),
-    ("m mcg 5\n", Fault(1, Header)),
-    ("m mcg 6\nrotate x\n", Fault(2, Word)),
-    ("m mcg 6\nrotate .k\n", Fault(2, Word)),
-    ("m mcg 6\nrotate\n", Fault(2, Word)),
-    ("m mcg 6\nrotate k k\n", Fault(2, Word)),
-    ("m mcg 6\nturn k\n", Fault(2, Word)),
-    ("m mcg 6\nswitch . 1\n", Fault(2, Word)),
-    ("m mcg 6\nswitch . 1 4 5\n", Fault(2, Word)),
-    ("m mcg 6\nswitch x y z\n", Fault(2, Word)),
-    ("m mcg 6\nswitch . x 4\n", Fault(2, Number)),
-    ("m mcg 6\nswitch . 1,,2 4\n", Fault(2, Number)),
-    ("m mcg 6\nswitch . 1 4,\n", Fault(2, Number)),
-    ("m mcg 6\nswitch . 9 x\n", Fault(2, Number)),
-    ("m mcg 6\nswitch . 0 4\n", Fault(2, Range)),
-    ("m mcg 6\nswitch . 1 4,7\n", Fault(2, Range)),
-    ("m mcg 6\nswitch . 2,1 7\n", Fault(2, Range)),
-    ("m mcg 6\nswitch . 2,1 4\n", Fault(2, NotRising)),
-    ("m mcg 6\nswitch . 1 4,4\n", Fault(2, NotRising)),
-    ("m mcg 6\nrotate k\n\nswitch m 1 2 3\n", Fault(4, Word)),
-    ("m mcg 6\nrotate k\nc\nm mcg 6\n", Fault(4, Word)),
+/// Moves, by the numbers of vertices for which they are read.
+pub static MOVES: [(u32, &[TextRow]); 4] = [
+    (2, &[("m mcg 2", Written("m mcg 2\n"))]),
+    (
+        6,
+        &[("m mcg 6\nswitch . 1 4", Written("m mcg 6\nswitch . 1 4\n"))],
+    ),
+    (
+        8,
+        &[(
+            "c two moves\nm mcg 08\r\n\nrotate  mk\nc between\n switch\tkmk 01,2,3 8",
+            Written("m mcg 8\nrotate mk\nswitch kmk 1,2,3 8\n"),
+        )],
+    ),
+    (
+        20,
+        &[(
+            "m mcg 20\nrotate .\nrotate k\nswitch m 1,3,20 2,4,10\n",
+            Same,
+        )],
+    ),
 ];
 
-/// Moves on trees over 1 to 8.
-pub static MOVES_OF_8: [TextRow; 1] = [(
-    "c two moves\nm mcg 08\r\n\nrotate  mk\nc between\n switch\tkmk 01,2,3 8",
-    Written("m mcg 8\nrotate mk\nswitch kmk 1,2,3 8\n"),
-)];
-
-/// Moves on trees over 1 to 20.
-pub static MOVES_OF_20: [TextRow; 1] = [(
-    "m mcg 20\nrotate .\nrotate k\nswitch m 1,3,20 2,4,10\n",
-    Same,
-)];
+/// Faults of moves on trees over 1 to 6.
+pub static FAULTS_OF_MOVES: [Beginning; 4] = [
+    (
+        "",
+        &[
+            (
+                Fault(1, Header),
+                &["", "m mcg\n", "m mcg 6 6\n", "t mcg 6\n", "m mcg 5\n"],
+            ),
+            (Fault(3, Header), &["c\n\n"]),
+            (Fault(1, Number), &["m mcg x\n"]),
+        ],
+    ),
+    (
+        "m mcg 6\n",
+        &[
+            (Fault(2, Word), &["turn k\n"]),
+            (
+                Fault(4, Word),
+                &["rotate k\n\nswitch m 1 2 3\n", "rotate k\nc\nm mcg 6\n"],
+            ),
+        ],
+    ),
+    (
+        "m mcg 6\nrotate",
+        &[(Fault(2, Word), &[" x\n", " .k\n", "\n", " k k\n"])],
+    ),
+    (
+        "m mcg 6\nswitch ",
+        &[
+            (Fault(2, Word), &[". 1\n", ". 1 4 5\n", "x y z\n"]),
+            (
+                Fault(2, Number),
+                &[". x 4\n", ". 1,,2 4\n", ". 1 4,\n", ". 9 x\n"],
+            ),
+            (Fault(2, Range), &[". 0 4\n", ". 1 4,7\n", ". 2,1 7\n"]),
+            (Fault(2, NotRising), &[". 2,1 4\n", ". 1 4,4\n"]),
+        ],
+    ),
+];
 
 // Whether this is the Switch of 1, 2 with 4, 6 at the merged child of the kept child of the root.
 fn is_wanted(item: &Move) -> bool {
