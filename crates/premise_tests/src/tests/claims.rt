@@ -10,6 +10,8 @@ pub enum Claim {
     Number(OfNumber, u32),
     /// The set of vertices has the properties.
     Set(&'static [OfSet], &'static [u32]),
+    /// Each of the sets of vertices has the properties.
+    Sets(&'static [OfSet], &'static [&'static [u32]]),
     /// The set of edges has the property.
     Edges(OfEdges, &'static [u32]),
     /// The two vertices are equivalent: they are one, or deleting them leaves no perfect matching.

@@ -18,9 +18,10 @@ impl Claim {
                 }
                 Ok(true)
             }
-            Claim::Set(properties, set) => {
-                for property in *properties {
-                    if property.holds(alloc, g, set_of(set))? != holds {
+            Claim::Set(properties, set) => are_so(alloc, g, properties, set, holds),
+            Claim::Sets(properties, sets) => {
+                for set in *sets {
+                    if !are_so(alloc, g, properties, set, holds)? {
                         return Ok(false);
                     }
                 }
@@ -185,6 +186,22 @@ impl OfEdges {
             OfEdges::Conformal => g.has_perfect(g.met_by(edges)),
         }
     }
+}
+
+// Whether each of the properties holds of the set, or each fails.
+fn are_so(
+    alloc: Global,
+    g: &PairGraph,
+    properties: &[OfSet],
+    set: &[u32],
+    holds: bool,
+) -> Result<bool, Memory> {
+    for property in properties {
+        if property.holds(alloc, g, set_of(set))? != holds {
+            return Ok(false);
+        }
+    }
+    Ok(true)
 }
 
 // What a decomposition of the graph counts.

@@ -1,6 +1,6 @@
 //! Premises of the theorem of Edmonds, Lovász and Pulleyblank, and of that on 2-extendable graphs.
 
-use super::claims::Claim::{Is, Number, Set};
+use super::claims::Claim::{Is, Number, Set, Sets};
 use super::claims::OfNumber::Order;
 use super::claims::OfSet::{LeftByBarrier, Nontrivial, Perfect, Side, Tight};
 use super::claims::Property::{
@@ -21,8 +21,7 @@ static CUTS: [Row; 2] = [
         given: STAR_OF_5,
         holds: &[
             Is(&[Loopless]),
-            Set(&[Tight, Nontrivial], &[1, 2, 3]),
-            Set(&[Tight], &[2, 3, 4]),
+            Sets(&[Tight, Nontrivial], &[&[1, 2, 3], &[2, 3, 4]]),
             Set(&[Side], &[1]),
         ],
         fails: &[
@@ -35,15 +34,10 @@ static CUTS: [Row; 2] = [
         premises: &["elp_law: `bipartite`: the graph is bipartite"],
         graph: "two copies of K4 sharing an edge",
         given: TWO_K4,
-        holds: &[
-            Is(&[Covered]),
-            Set(&[Tight], &[1, 3, 4]),
-            Set(&[Tight], &[2, 3, 4]),
-        ],
+        holds: &[Is(&[Covered]), Sets(&[Tight], &[&[1, 3, 4], &[2, 3, 4]])],
         fails: &[
             Is(&[Bipartite, BarrierCut]),
-            Set(&[LeftByBarrier], &[1, 3, 4]),
-            Set(&[LeftByBarrier], &[2, 3, 4]),
+            Sets(&[LeftByBarrier], &[&[1, 3, 4], &[2, 3, 4]]),
         ],
     },
 ];

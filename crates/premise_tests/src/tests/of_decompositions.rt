@@ -1,6 +1,6 @@
 //! Premises of the theorems on tight cuts and tight cut decompositions.
 
-use super::claims::Claim::{Ends, Is, Joined, Laminar, Number, Place, Set};
+use super::claims::Claim::{Ends, Is, Joined, Laminar, Number, Place, Set, Sets};
 use super::claims::OfNumber::Order;
 use super::claims::OfSet::{Additive, Nontrivial, Odd, Tight};
 use super::claims::Property::{Bipartite, Composite, Covered, Decomposed, FewLeaves, Loopless};
@@ -13,11 +13,7 @@ static CUTS: [Row; 4] = [
         premises: &["uncrossing_law: an odd intersection"],
         graph: "the hexagon 1 2 3 4 5 6 with the tight shores {1, 2, 3} and {2, 3, 4}",
         given: HEXAGON,
-        holds: &[
-            Is(&[Covered]),
-            Set(&[Tight], &[1, 2, 3]),
-            Set(&[Tight], &[2, 3, 4]),
-        ],
+        holds: &[Is(&[Covered]), Sets(&[Tight], &[&[1, 2, 3], &[2, 3, 4]])],
         fails: &[Set(&[Odd, Tight], &[2, 3]), Set(&[Tight], &[1, 2, 3, 4])],
     },
     // the sentence is that nothing joins {2, 6} and {3, 4}, the differences
@@ -26,8 +22,7 @@ static CUTS: [Row; 4] = [
         graph: "the path 1 2 3 4 5 6 with the tight shores {1, 2, 6} and {1, 3, 4}",
         given: PATH_OF_6,
         holds: &[
-            Set(&[Tight], &[1, 2, 6]),
-            Set(&[Tight], &[1, 3, 4]),
+            Sets(&[Tight], &[&[1, 2, 6], &[1, 3, 4]]),
             Set(&[Odd], &[1]),
             Joined(&[2, 6], &[3, 4]),
         ],
@@ -91,8 +86,7 @@ static TREES: [Row; 4] = [
         given: PRISM,
         holds: &[
             Is(&[Covered]),
-            Set(&[Nontrivial, Odd], &[1, 2, 3]),
-            Set(&[Odd], &[4, 5, 6]),
+            Sets(&[Nontrivial, Odd], &[&[1, 2, 3], &[4, 5, 6]]),
             Ends(1, 0),
         ],
         fails: &[Set(&[Tight], &[1, 2, 3]), Is(&[Composite])],

@@ -119,12 +119,15 @@ static PAIRS: [Row; 4] = [
     },
 ];
 
-static FOURS: [Row; 4] = [
+static FOURS: [Row; 3] = [
     Row {
-        premises: &["hetyei_law: `four_neighbours`: four vertices; equal sides"],
+        premises: &[
+            "hetyei_law: `four_neighbours`: four vertices; equal sides",
+            "hetyei_law: `four_pairs`: four vertices; both sides not empty",
+        ],
         graph: "two isolated vertices",
         given: TWO_ISOLATED,
-        holds: &[Set(&[Side, Half, Surplus], &[1])],
+        holds: &[Set(&[Side, Half, Surplus, Proper, PairsMatched], &[1])],
         fails: &[Number(Order, 4), Is(&[Covered])],
     },
     Row {
@@ -133,13 +136,6 @@ static FOURS: [Row; 4] = [
         given: STAR_OF_3,
         holds: &[Number(Order, 4), Set(&[Side, Surplus], &[1])],
         fails: &[Set(&[Half], &[1]), Is(&[Covered])],
-    },
-    Row {
-        premises: &["hetyei_law: `four_pairs`: four vertices; both sides not empty"],
-        graph: "two isolated vertices",
-        given: TWO_ISOLATED,
-        holds: &[Set(&[Side, Proper, PairsMatched], &[1])],
-        fails: &[Number(Order, 4), Is(&[Covered])],
     },
     Row {
         premises: &["hetyei_law: `four_pairs`: four vertices; both sides not empty"],
