@@ -203,22 +203,22 @@ fn reports_of_graph6(rt: HostRuntime) -> Result<(), Fail> {
 
 // The line and the kind of the fault of so many first bytes of the file of the complete graph of
 // four vertices. Its header has 9 bytes, and each of its edges 6, with the line feed before it.
-fn fault_of_prefix(kept: usize) -> (u32, u32) {
+fn fault_of_prefix(kept: u32) -> (u32, u32) {
     if kept < 9 {
         return (1, 1);
     }
-    let line = 2 + (kept - 9) as u32 / 6;
+    let line = 2 + (kept - 9) / 6;
     let kind = if (kept - 9) % 6 < 2 { 7 } else { 2 };
     (line, kind)
 }
 
-// Whether `analyse` answers as it should to so many first bytes of the file. Without its last byte,
-// a line feed, the file is whole.
-fn prefix_answers(alloc: Global, kept: usize) -> Result<bool, Fail> {
+// Whether `analyse` answers as it should to so many first bytes of the file. It has 46 bytes, and is
+// whole without the last of them, a line feed.
+fn prefix_answers(alloc: Global, kept: u32) -> Result<bool, Fail> {
     let (prefix, _) = K4
-        .split_at_checked(kept)
+        .split_at_checked(kept as usize)
         .ok_or("a prefix that is too long")?;
-    if kept + 1 >= K4.len() {
+    if kept >= 45 {
         return answers(alloc, &["analyse", "g"], &[prefix], Status::Done, K4_REPORT);
     }
     let (line, kind) = fault_of_prefix(kept);
@@ -227,7 +227,7 @@ fn prefix_answers(alloc: Global, kept: usize) -> Result<bool, Fail> {
 
 #[test]
 fn each_prefix_of_a_file(rt: HostRuntime) -> Result<(), Fail> {
-    for kept in 0..=K4.len() {
+    for kept in 0..=46 {
         assert!(rt; prefix_answers(rt.alloc(), kept)?);
     }
     Ok(())
