@@ -212,8 +212,8 @@ fn fault_of_prefix(kept: u32) -> (u32, u32) {
     (line, kind)
 }
 
-// Whether `analyse` answers as it should to so many first bytes of the file. It has 46 bytes, and is
-// whole without the last of them, a line feed.
+// Whether `analyse` answers as it should to so many first bytes of the file. The file has 46 bytes,
+// and is whole without the last of them, a line feed.
 fn prefix_answers(alloc: Global, kept: u32) -> Result<bool, Fail> {
     let (prefix, _) = K4
         .split_at_checked(kept as usize)

@@ -8,8 +8,8 @@ use line_text::FaultKind;
 use std::alloc::Global;
 use std::test::Fail;
 
-// The tables of each file are walked by a function of their own: what a proof pays for a table grows
-// with the square of its size.
+// The tables of each format are walked by a function of their own: what a proof pays for a table
+// grows with the square of its size.
 fn graphs(alloc: Global) -> Result<(), Fail> {
     all_are_so(alloc, Format::VersionOne, &graph_rows::VERSION_ONE)?;
     all_begin_so(
