@@ -2,3 +2,4 @@
 pub use Rattle.decomposer.specs.Choices.{gap_of, gap, IsBalanced, PicksBalanced, CountsAs, PicksAsked}
 pub use Rattle.decomposer.specs.Orders.{order_named, NamedPicks, scripted_place, ScriptPicks}
 pub use Rattle.decomposer.specs.Picked.{IsFirstAt, AreCandidatesAt, PicksShore, IsPickedShore, IsPickedAt, leaf_places, Finds, IsPicked}
+pub use Rattle.decomposer.specs.VisitedPlaces.{IsPlaceOf, AppendsKinds, FindsKinds}

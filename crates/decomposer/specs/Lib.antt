@@ -1,4 +1,5 @@
 pub mod Choices
 pub mod Orders
 pub mod Picked
+pub mod VisitedPlaces
 pub mod Common

@@ -68,8 +68,13 @@ pub fn decompose_places_from_first<'g>(
     Ok(Decomposition { tree, leaves })
 }
 
-// The tree of a cut.
-fn cut_tree(alloc: Global, shore: VSet, kept: Tree, merged: Tree) -> Result<Tree, AllocError>
+/// The tree of a cut.
+pub(crate) fn cut_tree(
+    alloc: Global,
+    shore: VSet,
+    kept: Tree,
+    merged: Tree,
+) -> Result<Tree, AllocError>
     ensures { IfOk result (λ tree. shape_of tree ≡ cut shore (shape_of kept) (shape_of merged)) }
 {
     Ok(Tree::Cut {
@@ -79,9 +84,9 @@ fn cut_tree(alloc: Global, shore: VSet, kept: Tree, merged: Tree) -> Result<Tree
     })
 }
 
-// The most cuts before a node and blocks at it together. A tree at four blocks or more has at
-// least three cuts fewer than blocks, so the sum never grows.
-const MOST_COUNTED: usize = 256;
+/// The most cuts before a node and blocks at it together. A tree at four blocks or more has at
+/// least three cuts fewer than blocks, so the sum never grows.
+pub(crate) const MOST_COUNTED: usize = 256;
 
 // The tree that the order picks at a place with so many cuts before it, and the number of cuts
 // before what follows it. Its leaves are appended. The clusters are those that are known at the

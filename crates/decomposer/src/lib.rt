@@ -9,6 +9,7 @@
 //! which the facts are at hand (`Covered` of `graph_facts`). `decompose_places` returns the leaves
 //! beside the tree, as places that know their quotients (`KnownPlace` of `tree_core`), and so does
 //! `decompose_places_from_first` where the first cut is at hand too; `tally` counts them by kind.
+//! `VisitedPlaces` decomposes one graph in several orders, and searches each place only once.
 //!
 //! Depends on `tight_cuts` for the candidates at a place and on `tree_core` for trees. Source:
 //! Lovász, "Matching structure and the matching lattice" (1987); Lucchesi and Murty, "Perfect
@@ -21,9 +22,11 @@ mod decomposition;
 mod orders;
 mod shores;
 mod trees;
+mod visited_places;
 
 pub use by_function::{ByFunction, Function};
 pub use counting_leaves::tally;
 pub use decomposition::{Decomposition, decompose_places, decompose_places_from_first};
 pub use orders::{NamedOrder, Order, Scripted};
 pub use trees::{Refused, decompose, decompose_covered};
+pub use visited_places::{CountedTree, VisitedPlaces};

@@ -46,8 +46,8 @@ fn shore_of(first: Option<Candidate>) -> Option<VSet>
     }
 }
 
-// The shore of the candidate that the order picks of all candidates at a partition.
-fn listed_shore<O: Order>(order: &O, list: &CandidateList, before: usize) -> Option<VSet>
+/// The shore of the candidate that the order picks of all candidates at a partition.
+pub(crate) fn listed_shore<O: Order>(order: &O, list: &CandidateList, before: usize) -> Option<VSet>
     ensures { (g : Graph) (p : List (List ℕ)) → AreCandidatesAt g p list.now →
         IsPickedShore (O.picks order.now) g p before result }
 {
