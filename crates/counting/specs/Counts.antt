@@ -1,6 +1,6 @@
 -- Sums over the numbers 1 to n, and the number of those that pass a test.
 -- Stated by: counting, vset_core, graph_core, grow_gen, match_search, match_core and 26 more.
--- Used by: line_text, gallai_edmonds, tree_text, move_text, ear_text, bench_outcomes and 2 more.
+-- Used by: line_text, gallai_edmonds, decomposer, tree_text, move_text, ear_text and 3 more.
 use Rattle.std.specs.Prelude.{ℕ, ◌+◌, ◌≤◌, Bool, true, false, not, suc, zero}
 
 -- v is in {1, .., n}

@@ -1,6 +1,6 @@
 -- Sets of numbers as tests. Their values at 0 and past the last number are meaningless.
 -- Stated by: vset_core, graph_core, match_search, match_core, allowed_edges and 19 more.
--- Used by: counting, grow_gen, gallai_edmonds, tree_check, graph6_text, mcg6_encoder and 3 more.
+-- Used by: counting, grow_gen, gallai_edmonds, decomposer, tree_check, graph6_text and 4 more.
 use Rattle.std.specs.Prelude.{◌≡◌, ℕ, Bool, true, false, not, ◌&&◌, ◌||◌, ◌==◌, cond}
 
 -- a set of vertices or of edges, given by its test

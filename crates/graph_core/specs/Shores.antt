@@ -1,6 +1,6 @@
 -- Shores at a partition: unions of blocks, tight at the partition (Lovász 1987).
 -- Stated by: graph_core, contraction, tree_core, tight_cuts, move_laws, tree_check and 2 more.
--- Used by: theorems.
+-- Used by: decomposer, theorems.
 use Rattle.std.specs.Prelude.{◌≡◌, ℕ, List, length}
 use Rattle.counting.specs.Common.{count, Within, Set, all_in}
 use Rattle.graph_core.specs.Graph.{Graph}
