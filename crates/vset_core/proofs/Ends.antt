@@ -4,7 +4,7 @@
 use Rattle.std.proofs.Common.{◌≡◌, ℕ, zero, suc, ◌+◌, ◌-◌, ◌*◌, ◌/◌, ◌%◌, ◌^◌, ◌≤◌, ◌<◌, List, [], ◌↔◌, refl, sym, ◌∙◌, ap, arith, true, false, subst, inl, inr, pow_pos, shr-shr}
 use Rattle.std.specs.Int.{bit_at, w128, trailing_zeros}
 use Rattle.std.specs.Int.Count.{count_leading_zeros}
-use Rattle.counting.proofs.Common.{cases_lt, mem-all, mem-outside, mem-rising_list, rising_list-rises, same_rising_list, set-wider, Within, IsGreatestOf, IsLeastOf, IsNextAfter, mem, rising_list, everything}
+use Rattle.counting.proofs.Common.{cases_lt, mem-all, mem-outside, mem-rising_list, rising_list-rises, same_rising_list, set-wider, Within, IsGreatestOf, IsNextAfter, mem, rising_list, everything}
 use Rattle.std.proofs.lemmas.Nat.{leading_top, mod_below, pow_below, shr_le, shr_split}
 use Rattle.std.proofs.lemmas.Nat.Bits.{bit_at-trailing_zeros, bit_at_above, bit_at_ones, bit_at_ones_above, ones_shr}
 use Rattle.vset_core.specs.Words.{in_word, members}
@@ -12,27 +12,16 @@ use Rattle.vset_core.specs.WordLaws.{members-rise, mem-members}
 use Rattle.vset_core.proofs.Words.{members-zero, seen}
 
 -- a bit that is 0 is not a member
-no_bit : (word v : ℕ) → ((i : ℕ) → v ≡ suc i → bit_at word i ≡ 0) → in_word word v ≡ false
+pub no_bit : (word v : ℕ) → ((i : ℕ) → v ≡ suc i → bit_at word i ≡ 0) → in_word word v ≡ false
 no_bit word v h = grind arith
 
 -- a one is a member
-one_bit : (word i : ℕ) → bit_at word i ≡ 1 → in_word word (i + 1) ≡ true
+pub one_bit : (word i : ℕ) → bit_at word i ≡ 1 → in_word word (i + 1) ≡ true
 one_bit word i h = let e : i + 1 ≡ suc i = omega arith in rw (e, h) refl
 
 -- the empty set, by its word
 pub empty_word : (word : ℕ) (set : List ℕ) → members word ≡ set → word ≡ 0 → set ≡ []
 empty_word word set is e = sym is ∙ ap members e ∙ members-zero
-
--- the lowest one
-pub least_bit : (word : ℕ) (set : List ℕ) → members word ≡ set → word < 2 ^ 128 → 0 < word → IsLeastOf set (trailing_zeros w128 word + 1) × Within 128 (trailing_zeros w128 word + 1)
-least_bit word set is fits some =
-    let low = bit_at-trailing_zeros w128 word some fits in (
-      record {
-        member = seen word set is fits (trailing_zeros w128 word + 1) ∙ one_bit word (trailing_zeros w128 word) low.1;
-        before = λ w l. seen word set is fits w ∙ no_bit word w (λ i e. low.2 i (omega arith));
-      },
-      (omega arith, let b = low.0 in omega arith),
-    )
 
 -- the lowest one above v
 pub next_bit : (word : ℕ) (set : List ℕ) (v : ℕ) → members word ≡ set → word < 2 ^ 128 → v < 128 → 0 < word / 2 ^ v → IsNextAfter set v (v + trailing_zeros w128 (word / 2 ^ v) + 1) × Within 128 (v + trailing_zeros w128 (word / 2 ^ v) + 1)

@@ -8,8 +8,7 @@ use Rattle.std.proofs.lemmas.Nat.{mod_below, shr_split}
 use Rattle.std.proofs.lemmas.Nat.Bits.{bit_at-trailing_zeros, bit_at-zero, bit_at_cat_low, bit_at_cat_high, bit_at_ones_above, same_from_bits_below}
 use Rattle.vset_core.specs.Words.{in_word, members}
 use Rattle.vset_core.specs.WordLaws.{members-rise}
-use Rattle.vset_core.proofs.Ends.{least_bit}
-use Rattle.vset_core.proofs.Words.{and_fits, in_word-and, seen}
+use Rattle.vset_core.proofs.Words.{in_word-and}
 
 -- the bits below t are those of the remainder
 zeros_below : (x t : ℕ) → ((i : ℕ) → i < t → bit_at x i ≡ 0) → x % 2 ^ t ≡ 0
@@ -41,7 +40,7 @@ above_lowest x t i one zeros l =
     ∙ sym (ap (λ n. bit_at n i) (lowest_split x t one zeros) ∙ bit_at_cat_high (x / 2 ^ t / 2) (suc t) (2 ^ t) i (omega arith) (omega arith))
 
 -- the common ones are those but the lowest
-in_word-rest : (x t : ℕ) → bit_at x t ≡ 1 → ((i : ℕ) → i < t → bit_at x i ≡ 0) → (v : ℕ) → in_word (bit_and x (x - 1)) v ≡ (in_word x v && not (t + 1 == v))
+pub in_word-rest : (x t : ℕ) → bit_at x t ≡ 1 → ((i : ℕ) → i < t → bit_at x i ≡ 0) → (v : ℕ) → in_word (bit_and x (x - 1)) v ≡ (in_word x v && not (t + 1 == v))
 in_word-rest x t one zeros zero = refl
 in_word-rest x t one zeros (suc i) = in_word-and x (x - 1) (suc i) ∙ elim (cases_lt i t) [
   | inl l ↦ rw (zeros i l) refl
@@ -53,13 +52,3 @@ in_word-rest x t one zeros (suc i) = in_word-and x (x - 1) (suc i) ∙ elim (cas
   where
     twice : (b : Bool) → (b && b) ≡ (b && true)
     twice b = grind arith
-
--- the least member and the set of the others
-pub least_and_others : (word : ℕ) (set others : List ℕ) → members word ≡ set → word < 2 ^ 128 → 0 < word → members (bit_and word (word - 1)) ≡ others → set ≡ (trailing_zeros w128 word + 1) ∷ others
-least_and_others word set others is fits some are =
-    let low = bit_at-trailing_zeros w128 word some fits in
-    let least = (least_bit word set is fits some).0 in
-    let rest_fits = and_fits word (word - 1) fits in
-    split_least 128 set others (trailing_zeros w128 word + 1)
-    (subst (IsRisingIn 128) is (members-rise word)) (subst (IsRisingIn 128) are (members-rise (bit_and word (word - 1)))) least.member least.before
-    (λ v. seen (bit_and word (word - 1)) others are rest_fits v ∙ in_word-rest word (trailing_zeros w128 word) low.1 low.2 v ∙ ap (λ b. b && not (trailing_zeros w128 word + 1 == v)) (sym (seen word set is fits v)))

@@ -6,8 +6,8 @@ use Rattle.std.proofs.lemmas.Bool.Decides.{Decides-eqb, Decides-like, same_from_
 use Rattle.counting.proofs.Common.{bytes_eq-Decides, and_parts, both_ways, cases_eq, cases_lt, not-true, true≢false, all_in_false, false_all_in, no_members, same_rising_list, set-one, Within, is_subset, mem}
 use Rattle.std.specs.Str.{bytes_eq}
 use Rattle.std.specs.Int.{bit_at, bit_not, w128}
-use Rattle.std.proofs.lemmas.Nat.Bits.{bit_at-lt, bit_at_and, bit_at_or, bit_at_not, bit_at-pow_same, bit_at-pow_other, shr_and_one, bit_at-zero, same_from_bits_below}
-use Rattle.std.proofs.lemmas.Nat.{or_lt, one_shl, and_le_l}
+use Rattle.std.proofs.lemmas.Nat.Bits.{bit_at-lt, bit_at_and, bit_at_or, bit_at_not, bit_at-pow_same, bit_at-pow_other, bit_at-zero, and_pow, same_from_bits_below}
+use Rattle.std.proofs.lemmas.Nat.{or_lt, and_le_l, pow_below, pow_pos}
 use Rattle.vset_core.specs.Words.{in_word, members, word_of_list}
 use Rattle.vset_core.specs.WordLaws.{word_of_list-members, in_word_above, mem-members, members-rise}
 
@@ -42,18 +42,24 @@ in_word-minus a b (suc i) h k = in_word-and a (bit_not w128 b) (suc i) ∙ elim 
 ]
 
 -- the bits of the word of v alone
-pub in_word-one : (v w : ℕ) → 1 ≤ v → v ≤ 128 → in_word (1 * 2 ^ (v - 1) % 2 ^ 128) w ≡ (v == w)
-in_word-one zero w l h = absurd (omega arith)
-in_word-one (suc k) w l h = let e : suc k - 1 ≡ k = omega arith in rw (e, one_shl k 128 (omega arith)) (grind (arith, ne_eqb (suc k) 0, cases_eq, bit_at-pow_same k, eq-eqb (suc k) (suc k) refl, bit_at-pow_other k, ne_eqb (suc k)))
+pub in_word-one : (v w : ℕ) → 1 ≤ v → in_word (2 ^ (v - 1)) w ≡ (v == w)
+in_word-one zero w l = absurd (omega arith)
+in_word-one (suc k) w l = let e : suc k - 1 ≡ k = omega arith in rw e (grind (arith, ne_eqb (suc k) 0, cases_eq, bit_at-pow_same k, eq-eqb (suc k) (suc k) refl, bit_at-pow_other k, ne_eqb (suc k)))
 
 -- the empty word has nothing
 pub in_word-zero : (v : ℕ) → in_word 0 v ≡ false
 in_word-zero v = grind arith
 
--- the test by a shift
-pub shifted_bit : (word : ℕ) (set : List ℕ) → members word ≡ set → word < 2 ^ 128 → (v : ℕ) → 1 ≤ v → (bit_and (word / 2 ^ (v - 1)) 1 == 1) ≡ mem set v
-shifted_bit word set is fits zero l = absurd (omega arith)
-shifted_bit word set is fits (suc i) l = let e : suc i - 1 ≡ i = omega arith in rw (e, shr_and_one word i) (sym (seen word set is fits (suc i)))
+-- the test of a bit
+pub tested_bit : (word b : ℕ) (set : List ℕ) → members word ≡ set → word < 2 ^ 128 → (v : ℕ) → 1 ≤ v → b ≡ 2 ^ (v - 1) → not (bit_and word b == 0) ≡ mem set v
+tested_bit word b set is fits zero l e = absurd (omega arith)
+tested_bit word b set is fits (suc i) l e =
+    let same : suc i - 1 ≡ i = omega arith in
+    rw (e, same, and_pow word i) (decide (bit_at word i) (bit_at-lt word i) ∙ sym (seen word set is fits (suc i)))
+  where
+    decide : (d : ℕ) → d < 2 → not (d * 2 ^ i == 0) ≡ (d == 1)
+    decide zero h = let z : 0 * 2 ^ i ≡ 0 = omega arith in rw z refl
+    decide (suc d) h = let one : d ≡ 0 = omega arith in let p = pow_pos i in rw one (ap not (ne_eqb (1 * 2 ^ i) 0 (λ z. absurd (omega arith))))
 
 -- the list of the made word, in each operation
 pub mem-or : (a b : ℕ) (s t : List ℕ) → members a ≡ s → members b ≡ t → a < 2 ^ 128 → b < 2 ^ 128 → (v : ℕ) → mem (members (bit_or a b)) v ≡ (mem s v || mem t v)
@@ -68,22 +74,22 @@ mem-and a b s t p q h k v = mem-members (bit_and a b) v (and_fits a b h) ∙ in_
 pub mem-minus : (a b : ℕ) (s t : List ℕ) → members a ≡ s → members b ≡ t → a < 2 ^ 128 → b < 2 ^ 128 → (v : ℕ) → mem (members (bit_and a (bit_not w128 b))) v ≡ (mem s v && not (mem t v))
 mem-minus a b s t p q h k v = mem-members (bit_and a (bit_not w128 b)) v (and_fits a (bit_not w128 b) h) ∙ in_word-minus a b v h k ∙ ap₂ (λ x y. x && not y) (sym (seen a s p h v)) (sym (seen b t q k v))
 
-pub one_fits : (k : ℕ) → 1 * 2 ^ k % 2 ^ 128 < 2 ^ 128
-one_fits k = omega arith
+pub one_fits : (v b : ℕ) → Within 128 v → b ≡ 2 ^ (v - 1) → b < 2 ^ 128
+one_fits v b w e = let p = pow_below (v - 1) 128 (omega arith) in omega arith
 
-pub mem-with : (a : ℕ) (s : List ℕ) → members a ≡ s → a < 2 ^ 128 → (v : ℕ) → 1 ≤ v → v ≤ 128 → (w : ℕ) → mem (members (bit_or a (1 * 2 ^ (v - 1) % 2 ^ 128))) w ≡ (mem s w || v == w)
-mem-with a s p h v l g w = mem-members (bit_or a (1 * 2 ^ (v - 1) % 2 ^ 128)) w (or_lt 128 a (1 * 2 ^ (v - 1) % 2 ^ 128) h (one_fits (v - 1))) ∙ in_word-or a (1 * 2 ^ (v - 1) % 2 ^ 128) w ∙ ap₂ ◌||◌ (sym (seen a s p h w)) (in_word-one v w l g)
+pub mem-with : (a b : ℕ) (s : List ℕ) → members a ≡ s → a < 2 ^ 128 → (v : ℕ) → Within 128 v → b ≡ 2 ^ (v - 1) → (w : ℕ) → mem (members (bit_or a b)) w ≡ (mem s w || v == w)
+mem-with a b s p h v l e w = mem-members (bit_or a b) w (or_lt 128 a b h (one_fits v b l e)) ∙ in_word-or a b w ∙ ap₂ ◌||◌ (sym (seen a s p h w)) (ap (λ k. in_word k w) e ∙ in_word-one v w l.0)
 
-pub mem-without : (a : ℕ) (s : List ℕ) → members a ≡ s → a < 2 ^ 128 → (v : ℕ) → 1 ≤ v → v ≤ 128 → (w : ℕ) → mem (members (bit_and a (bit_not w128 (1 * 2 ^ (v - 1) % 2 ^ 128)))) w ≡ (mem s w && not (v == w))
-mem-without a s p h v l g w = mem-members (bit_and a (bit_not w128 (1 * 2 ^ (v - 1) % 2 ^ 128))) w (and_fits a (bit_not w128 (1 * 2 ^ (v - 1) % 2 ^ 128)) h) ∙ in_word-minus a (1 * 2 ^ (v - 1) % 2 ^ 128) w h (one_fits (v - 1)) ∙ ap₂ (λ x y. x && not y) (sym (seen a s p h w)) (in_word-one v w l g)
+pub mem-without : (a b : ℕ) (s : List ℕ) → members a ≡ s → a < 2 ^ 128 → (v : ℕ) → Within 128 v → b ≡ 2 ^ (v - 1) → (w : ℕ) → mem (members (bit_and a (bit_not w128 b))) w ≡ (mem s w && not (v == w))
+mem-without a b s p h v l e w = mem-members (bit_and a (bit_not w128 b)) w (and_fits a (bit_not w128 b) h) ∙ in_word-minus a b w h (one_fits v b l e) ∙ ap₂ (λ x y. x && not y) (sym (seen a s p h w)) (ap (λ k. in_word k w) e ∙ in_word-one v w l.0)
 
 -- the empty word is the empty set
 pub members-zero : members 0 ≡ []
 members-zero = no_members (members 0) (λ v. mem-members 0 v (omega arith) ∙ in_word-zero v)
 
 -- the word of v alone is the set of v alone
-pub members-one : (v : ℕ) → Within 128 v → members (1 * 2 ^ (v - 1) % 2 ^ 128) ≡ v ∷ []
-members-one v w = same_rising_list 128 (members (1 * 2 ^ (v - 1) % 2 ^ 128)) (v ∷ []) (members-rise (1 * 2 ^ (v - 1) % 2 ^ 128)) (set-one 128 v w) (λ u _. mem-members (1 * 2 ^ (v - 1) % 2 ^ 128) u (one_fits (v - 1)) ∙ in_word-one v u w.0 w.1 ∙ or_none (v == u))
+pub members-one : (v b : ℕ) → Within 128 v → b ≡ 2 ^ (v - 1) → members b ≡ v ∷ []
+members-one v b w e = same_rising_list 128 (members b) (v ∷ []) (members-rise b) (set-one 128 v w) (λ u _. mem-members b u (one_fits v b w e) ∙ ap (λ k. in_word k u) e ∙ in_word-one v u w.0 ∙ or_none (v == u))
   where
     or_none : (b : Bool) → b ≡ (b || false)
     or_none b = grind arith

@@ -17,6 +17,7 @@
 //! "The Art of Computer Programming", volume 4A, section 7.1.3).
 #![tactic(auto)]
 
+mod bits;
 mod flood;
 mod members;
 mod vertex_set;

@@ -4,6 +4,7 @@ ghost use Rattle.std.specs.Cmp.{partial_equiv_from_equiv};
 ghost use Rattle.std.specs.Cmp.Lexicographic.{nat_list_eq_equiv};
 ghost use Rattle.counting.specs.Common.{Within, mem, IsRisingIn, IsLeastOf, IsGreatestOf, IsNextAfter, is_subset, rising_list, everything};
 
+use crate::bits::{HALF, bit, joined};
 use std::marker::Model;
 
 /// The most vertices that a graph may have.
@@ -45,7 +46,7 @@ impl VSet {
         requires { Within MOST_VERTICES v }
         ensures { result ≡ v ∷ [] }
     {
-        VSet { word: 1 << (v - 1) }
+        VSet { word: bit(v) }
     }
 
     /// The set of all numbers from 1 to `n`.
@@ -76,7 +77,7 @@ impl VSet {
         ensures { (w : ℕ) → mem result w ≡ (mem self w || v == w) }
     {
         VSet {
-            word: self.word | 1 << (v - 1),
+            word: self.word | bit(v),
         }
     }
 
@@ -86,7 +87,7 @@ impl VSet {
         ensures { (w : ℕ) → mem result w ≡ (mem self w && not (v == w)) }
     {
         VSet {
-            word: self.word & !(1 << (v - 1)),
+            word: self.word & !bit(v),
         }
     }
 
@@ -122,7 +123,7 @@ impl VSet {
         requires { Within MOST_VERTICES v }
         ensures { result ≡ mem self v }
     {
-        self.word >> (v - 1) & 1 == 1
+        self.word & bit(v) != 0
     }
 
     /// Whether each number of the set is in `o`.
@@ -145,10 +146,9 @@ impl VSet {
         ensures within { IfSome result (Within MOST_VERTICES) }
         ensures none { IfNone result (self ≡ []) }
     {
-        if self.word == 0 {
-            return None;
-        }
-        Some(self.word.trailing_zeros() + 1)
+        self.rises();
+        let (v, _) = self.split_first()?;
+        Some(v)
     }
 
     /// The greatest member; `None` if and only if the set is empty.
@@ -187,16 +187,22 @@ impl VSet {
         ensures within { IfSome result (λ p. Within MOST_VERTICES p.0) }
         ensures none { IfNone result (self ≡ []) }
     {
-        let word = self.word;
-        if word == 0 {
-            return None;
+        let low = (self.word % HALF) as u64;
+        let high = (self.word / HALF) as u64;
+        // less 1, a word has a zero at its lowest one, and the same bits above it
+        if low != 0 {
+            let others = VSet {
+                word: joined(high, low & (low - 1)),
+            };
+            return Some((low.trailing_zeros() + 1, others));
         }
-        let v = word.trailing_zeros() + 1;
-        // less 1, the word has a zero at its lowest one, and the same bits above it
-        let others = VSet {
-            word: word & (word - 1),
-        };
-        Some((v, others))
+        if high != 0 {
+            let others = VSet {
+                word: joined(high & (high - 1), 0),
+            };
+            return Some((high.trailing_zeros() + 65, others));
+        }
+        None
     }
 }
 

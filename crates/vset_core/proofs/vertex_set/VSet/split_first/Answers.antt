@@ -1,10 +1,14 @@
 use Rattle.std.proofs.Common.{refl, arith}
 use Rattle.vset_core.proofs.Ends.{empty_word}
-use Rattle.vset_core.proofs.Lowest.{least_and_others}
+use Rattle.vset_core.proofs.Halves.{split_low, split_high}
 use Rattle.vset_core.proofs.vertex_set.VSet.split_first.Goals as goal
 
-pub returns-then-word-eq0-clause-none : goal.returns-then-word-eq0-clause-none
-returns-then-word-eq0-clause-none c = empty_word c.self.inside.word c.args.self c.self.view_is (omega arith)
+pub returns-then-low-ne0-clause-some : goal.returns-then-low-ne0-clause-some
+returns-then-low-ne0-clause-some c = split_low c.self.inside.word c.args.self _ c.self.view_is c.self.invariant c.joined.result refl (let n = c.if-low-ne0.true in omega arith) c.joined.ensures
 
-pub returns-clause-some : goal.returns-clause-some
-returns-clause-some c = least_and_others c.self.inside.word c.args.self _ c.self.view_is c.self.invariant (omega arith) refl
+pub returns-then-high-ne0-clause-some : goal.returns-then-high-ne0-clause-some
+returns-then-high-ne0-clause-some c =
+    split_high c.self.inside.word c.args.self _ c.self.view_is c.self.invariant c.joined-then-high-ne0.result refl c.if-low-ne0.false (let n = c.if-high-ne0.true in omega arith) c.joined-then-high-ne0.ensures
+
+pub returns-clause-none : goal.returns-clause-none
+returns-clause-none c = let low = c.if-low-ne0.false in let high = c.if-high-ne0.false in empty_word c.self.inside.word c.args.self c.self.view_is (omega arith)
