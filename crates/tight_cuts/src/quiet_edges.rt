@@ -151,13 +151,14 @@ fn widened(g: &MultiGraph, pairs: &PairTable, e: u32, near: VSet) -> VSet
     requires near { IsOneSided g.now e (mem near) }
     ensures { IsOneSided g.now e (mem result) }
 {
+    let others = without_ends(g, e);
     let mut reach = near;
     for _round in 0..g.order() {
         let before = reach;
         for k in 0..g.size() {
             reach = widened_by(g, pairs, e, reach, k + 1);
         }
-        if reach == before {
+        if reach == before || others.is_subset(reach) {
             return reach;
         }
     }

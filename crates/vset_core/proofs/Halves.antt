@@ -39,8 +39,8 @@ in_low h l t hf lf tf one zeros = record {
   bit = low_bit h l (t + 1) (omega arith) ∙ one_bit l t one;
   before = λ w k. low_bit h l w (omega arith) ∙ no_bit l w (λ i e. zeros i (omega arith));
   others = by_halves (in_word (h * 2 ^ 64 + rest)) (λ w. in_word (h * 2 ^ 64 + l) w && not (t + 1 == w))
-    (λ w k. low_bit h rest w k ∙ in_word-rest l t one zeros w ∙ ap (λ b. b && not (t + 1 == w)) (sym (low_bit h l w k)))
-    (λ i. high_bit h rest i rest_fits ∙ sym (ap₂ (λ a b. a && not b) (high_bit h l i lf) (ne_eqb (t + 1) (suc (64 + i)) (λ e. absurd (omega arith))) ∙ kept (in_word h (suc i))));
+      (λ w k. low_bit h rest w k ∙ in_word-rest l t one zeros w ∙ ap (λ b. b && not (t + 1 == w)) (sym (low_bit h l w k)))
+      (λ i. high_bit h rest i rest_fits ∙ sym (ap₂ (λ a b. a && not b) (high_bit h l i lf) (ne_eqb (t + 1) (suc (64 + i)) (λ e. absurd (omega arith))) ∙ kept (in_word h (suc i))));
 }
   where
     rest : ℕ
@@ -58,8 +58,8 @@ in_high h t hf tf one zeros = record {
   bit = let e : t + 65 ≡ suc (64 + t) = omega arith in let d : suc t ≡ t + 1 = omega arith in ap (in_word (h * 2 ^ 64 + 0)) e ∙ high_bit h 0 t (omega arith) ∙ ap (in_word h) d ∙ one_bit h t one;
   before = λ w k. none w k;
   others = by_halves (in_word (rest * 2 ^ 64 + 0)) (λ w. in_word (h * 2 ^ 64 + 0) w && not (t + 65 == w))
-    (λ w k. low_bit rest 0 w k ∙ in_word-zero w ∙ sym (ap (λ b. b && not (t + 65 == w)) (low_bit h 0 w k ∙ in_word-zero w)))
-    (λ i. high_bit rest 0 i (omega arith) ∙ in_word-rest h t one zeros (suc i) ∙ ap₂ (λ a b. a && not b) (sym (high_bit h 0 i (omega arith))) (moved i));
+      (λ w k. low_bit rest 0 w k ∙ in_word-zero w ∙ sym (ap (λ b. b && not (t + 65 == w)) (low_bit h 0 w k ∙ in_word-zero w)))
+      (λ i. high_bit rest 0 i (omega arith) ∙ in_word-rest h t one zeros (suc i) ∙ ap₂ (λ a b. a && not b) (sym (high_bit h 0 i (omega arith))) (moved i));
 }
   where
     rest : ℕ

@@ -1,13 +1,12 @@
 -- A word and the word less 1 have all ones in common but the lowest. Idea: up to its lowest one the
 -- word is that one followed by zeros, and less 1 it is a zero followed by ones; the bits above are
 -- the same.
-use Rattle.std.proofs.Common.{◌≡◌, ℕ, zero, suc, ◌+◌, ◌-◌, ◌*◌, ◌/◌, ◌%◌, ◌^◌, ◌<◌, ◌==◌, ◌&&◌, not, List, ◌∷◌, refl, sym, ◌∙◌, ap, arith, Bool, true, bit_and, inl, inr, pow_pos, subst, eq-eqb, ne_eqb}
-use Rattle.std.specs.Int.{bit_at, w128, trailing_zeros}
-use Rattle.counting.proofs.Common.{cases_eq, cases_lt, split_least, IsRisingIn}
+use Rattle.std.proofs.Common.{◌≡◌, ℕ, zero, suc, ◌+◌, ◌-◌, ◌*◌, ◌/◌, ◌%◌, ◌^◌, ◌<◌, ◌==◌, ◌&&◌, not, refl, sym, ◌∙◌, ap, arith, Bool, true, bit_and, inl, inr, pow_pos, eq-eqb, ne_eqb}
+use Rattle.std.specs.Int.{bit_at}
+use Rattle.counting.proofs.Common.{cases_eq, cases_lt}
 use Rattle.std.proofs.lemmas.Nat.{mod_below, shr_split}
-use Rattle.std.proofs.lemmas.Nat.Bits.{bit_at-trailing_zeros, bit_at-zero, bit_at_cat_low, bit_at_cat_high, bit_at_ones_above, same_from_bits_below}
-use Rattle.vset_core.specs.Words.{in_word, members}
-use Rattle.vset_core.specs.WordLaws.{members-rise}
+use Rattle.std.proofs.lemmas.Nat.Bits.{bit_at-zero, bit_at_cat_low, bit_at_cat_high, bit_at_ones_above, same_from_bits_below}
+use Rattle.vset_core.specs.Words.{in_word}
 use Rattle.vset_core.proofs.Words.{in_word-and}
 
 -- the bits below t are those of the remainder

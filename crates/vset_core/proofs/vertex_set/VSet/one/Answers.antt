@@ -1,4 +1,4 @@
-use Rattle.vset_core.proofs.Words.{members-one, one_fits}
+use Rattle.vset_core.proofs.Words.{members-one}
 use Rattle.vset_core.proofs.vertex_set.VSet.one.Goals as goal
 
 pub returns : goal.returns
