@@ -9,7 +9,7 @@ use crate::table::EdgeTable;
 use graph_core::MultiGraph;
 use match_core::Matching;
 use std::alloc::{AllocError as Memory, Global};
-use vset_core::VSet;
+use vset_core::{MOST_VERTICES, VSet};
 
 /// For any two vertices an edge that joins them, or 0 if there is none.
 #[derive(Drop)]
@@ -77,12 +77,56 @@ fn put_in(
 ) {
     g.keeps_limits();
     let mut free = free_vertices(at, g, table, e, f, with);
-    for k in 0..g.size() {
-        let ends = g.ends(k + 1);
-        if free.contains(ends.a) && free.contains(ends.b) && !has_both(table, with, k + 1) {
-            free = exchange(at, g, joins, free, k + 1);
+    for k in 0..g.order() {
+        if free.contains(k + 1) {
+            free = put_in_at(at, g, joins, table, free, with, k + 1);
         }
     }
+}
+
+// Puts in such an edge from `v` to a greater vertex, if an exchange allows it. Returns the vertices
+// at which an edge may still be taken out.
+fn put_in_at(
+    at: &mut [u32],
+    g: &MultiGraph,
+    joins: &Joins,
+    table: &EdgeTable,
+    free: VSet,
+    with: u32,
+    v: u32,
+) -> VSet
+    requires { Within MOST_VERTICES v }
+{
+    let near = neighbours(g.rows(), v).meet(free);
+    for w in near.minus(VSet::full(v)).iter() {
+        let k = joins.between(v, w);
+        if is_edge(g, k) && !has_both(table, with, k) {
+            let left = exchange(at, g, joins, free, k);
+            if left != free {
+                return left;
+            }
+        }
+    }
+    free
+}
+
+// The row of a vertex, or the empty set past the last row.
+fn neighbours(rows: &[VSet], v: u32) -> VSet
+    requires { Within MOST_VERTICES v }
+{
+    if v as usize <= rows.len() {
+        rows[v as usize - 1]
+    } else {
+        VSet::empty()
+    }
+}
+
+/// Whether a number is that of an edge.
+pub(crate) fn is_edge(g: &MultiGraph, k: u32) -> bool
+    ensures { result ≡ true → Within (size g.now) k }
+{
+    g.keeps_limits();
+    k != 0 && k <= g.size()
 }
 
 // The vertices at which an edge may be taken out.
@@ -129,7 +173,7 @@ fn exchange(at: &mut [u32], g: &MultiGraph, joins: &Joins, free: VSet, k: u32) -
     let a = far_end(g, first, ends.a);
     let b = far_end(g, second, ends.b);
     let closing = joins.between(a, b);
-    if closing == 0 || closing > g.size() {
+    if !is_edge(g, closing) {
         return free;
     }
     put_edge(at, g, k);

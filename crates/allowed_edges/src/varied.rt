@@ -8,7 +8,7 @@ ghost use Rattle.match_core.specs.Common.{edges_of};
 ghost use Rattle.match_search.specs.Common.{marks};
 ghost use Rattle.allowed_edges.specs.PairTables.{IsPerfectWith, NamesEdge};
 
-use crate::exchanges::{Joins, exchanged, is_marked, number_at};
+use crate::exchanges::{Joins, exchanged, is_edge, is_marked, number_at};
 use crate::questions::misses_none;
 use crate::table::EdgeTable;
 use graph_core::MultiGraph;
@@ -96,8 +96,11 @@ fn named_marks(alloc: Global, g: &MultiGraph, at: &[u32]) -> Result<Vec<bool>, M
         (λ mark. (k : ℕ) → marks mark.items k ≡ true → NamesEdge g.now at.now k) }
 {
     let mut mark = vec![in alloc; false; g.size() as usize + 1]?;
-    for k in 0..g.size() {
-        mark[k as usize + 1] = is_named(g, at, k + 1);
+    for i in 0..g.order() {
+        let k = number_at(at, i as usize + 1);
+        if is_edge(g, k) {
+            mark[k as usize] = is_named(g, at, k);
+        }
     }
     Ok(mark)
 }

@@ -233,16 +233,18 @@ pub fn name_of(block: VSet) -> u32
     block.last().unwrap_or(0)
 }
 
-// The blocks that are not in the set.
+// The blocks that are not in the set, with room for one more.
 fn blocks_outside(alloc: Global, blocks: &[VSet], set: VSet) -> Result<Vec<VSet>, Memory>
     ensures { IfOk result
         (λ kept. kept.items ≡ filter (λ block. not (is_subset block set)) blocks.now) }
 {
-    blocks
-        .iter()
-        .copied()
-        .filter(|block| !block.is_subset(set))
-        .collect(alloc)
+    let mut kept = Vec::with_capacity(alloc, blocks.len() + 1)?;
+    for block in blocks {
+        if !block.is_subset(set) {
+            kept.push(*block)?;
+        }
+    }
+    Ok(kept)
 }
 
 // The place of the first block with a larger name, counted from 0.

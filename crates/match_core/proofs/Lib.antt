@@ -3,6 +3,7 @@ pub mod Gallai
 pub mod TutteBerge
 pub mod OddComponents
 pub mod OuterComponents
+pub mod InsertedRows
 pub mod MatchingEdges
 pub mod FrameFacts
 pub mod RepairWalks

@@ -1,7 +1,7 @@
 -- Matchings as lists of rows, each an edge with its two ends.
 -- Stated by: match_core, allowed_edges, graph_facts, matching_digraph, quick_kinds and 5 more.
 -- Used by: bench_reports, theorems.
-use Rattle.std.specs.Prelude.{◌≡◌, ℕ, ◌+◌, ◌≤◌, Bool, ◌==◌, ◌&&◌, ◌||◌, not, List, [], ◌∷◌, map, All}
+use Rattle.std.specs.Prelude.{◌≡◌, ℕ, ◌+◌, ◌≤◌, Bool, ◌==◌, ◌&&◌, ◌||◌, not, List, [], ◌∷◌, ◌++◌, filter, nat_lt, map, All}
 use Rattle.counting.specs.Common.{Within, bit, Set, IsRisingIn}
 use Rattle.graph_core.specs.Common.{Graph, size, first_end, second_end}
 use Rattle.match_core.specs.declared.matching.MatchRow.{MatchRow}
@@ -42,6 +42,10 @@ pub record IsOf (g : Graph) (m : MatchingValue) : Type 0 where
 -- the row meets no vertex of x
 abbrev pub is_clear : Set → MatchRow → Bool
 is_clear x row = not (x row.a) && not (x row.b)
+
+-- the rows of the edges before that of a row, this row, and the rows of the edges after it
+abbrev pub inserted : List MatchRow → MatchRow → List MatchRow
+inserted rows new = filter (λ row. nat_lt row.edge new.edge) rows ++ new ∷ filter (λ row. nat_lt new.edge row.edge) rows
 
 -- edge e of g as a row
 abbrev pub row_at : Graph → ℕ → MatchRow

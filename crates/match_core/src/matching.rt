@@ -4,7 +4,7 @@ ghost use Rattle.counting.specs.Common.{Within, Set, none, mem, rising_list};
 ghost use Rattle.graph_core.specs.Common.{Graph, size, degree, first_end, second_end, graph_of, IsMatching};
 ghost use Rattle.match_search.specs.Common.{HasMates, marks, numbers, IsGraphRow};
 ghost use Rattle.match_core.specs.HeldMates.{ArePairs};
-ghost use Rattle.match_core.specs.MatchingRows.{KeepsMatching, IsOf, edges_of, is_clear, left_over, row_at};
+ghost use Rattle.match_core.specs.MatchingRows.{KeepsMatching, IsOf, edges_of, inserted, is_clear, left_over, row_at};
 
 use graph_core::{Ends, MOST_EDGES, MultiGraph};
 use match_search::{falses, is_addable, mark_place};
@@ -94,9 +94,12 @@ impl Matching {
     {
         g.keeps_limits();
         self.keeps_matching();
-        let mut mark = self.marks(alloc, g.size() as usize)?;
-        mark_place(&mut mark, e as usize);
-        matching_of(alloc, g, &mark)
+        let Ends { a, b } = g.ends(e);
+        let row = MatchRow { edge: e, a, b };
+        Ok(Matching {
+            order: self.order,
+            rows: rows_with(alloc, &self.rows, row)?,
+        })
     }
 
     /// The edges as marks on 1 to `size`.
@@ -111,6 +114,25 @@ impl Matching {
         mark_rows(&mut mark, &self.rows);
         Ok(mark)
     }
+}
+
+// The rows with one more between those of lower and those of higher edges.
+fn rows_with(alloc: Global, rows: &[MatchRow], new: MatchRow) -> Result<Vec<MatchRow>, Memory>
+    ensures { IfOk result (λ all. all.items ≡ inserted rows.now new) }
+{
+    let mut all = Vec::with_capacity(alloc, rows.len() + 1)?;
+    'lower: for row in rows {
+        if row.edge < new.edge {
+            all.push(*row)?;
+        }
+    }
+    all.push(new)?;
+    'higher: for row in rows {
+        if new.edge < row.edge {
+            all.push(*row)?;
+        }
+    }
+    Ok(all)
 }
 
 // Marks the edges of the rows.

@@ -4,7 +4,7 @@
 //! such edges join all vertices but the ends of e with one another, then these vertices are all on
 //! one side, and no two of them are separated at e: the edge is quiet. Mostly a few perfect
 //! matchings show it, and each of them serves all edges that it holds.
-ghost use Rattle.std.specs.Prelude.{◌≡◌, ◌≢◌, ℕ, true, false, IfOk, None};
+ghost use Rattle.std.specs.Prelude.{◌≡◌, ◌≢◌, ℕ, ◌<◌, true, false, length, IfOk, None};
 ghost use Rattle.counting.specs.Common.{Within, mem};
 ghost use Rattle.graph_core.specs.Common.{first_end, second_end, size};
 ghost use Rattle.allowed_edges.specs.Leaving.{share_end};
@@ -93,7 +93,8 @@ fn reach_of(
             if refused < MOST_REFUSED && is_in_cut(g, reach, f) && !share_end(g, e, f) {
                 kept = sought(alloc, g, kept, matchings, e, f)?;
                 refused += u32::from(!matchings.pairs.both(e, f));
-                reach = widened_past(g, &matchings.pairs, e, reach, f);
+                reach = widened_by(g, &matchings.pairs, e, reach, f);
+                reach = widened_along(g, &kept, e, reach);
             }
         }
         if reach == before {
@@ -130,18 +131,35 @@ fn sought(
     Ok(next)
 }
 
-// A vertex set widened, if a listed matching holds `f` and `e`.
-fn widened_past(g: &MultiGraph, pairs: &PairTable, e: u32, reach: VSet, f: u32) -> VSet
+// A vertex set widened by the edges of a perfect matching that holds `e`.
+fn widened_along(g: &MultiGraph, kept: &Matching, e: u32, near: VSet) -> VSet
     requires edge { Within (size g.now) e }
-    requires other { Within (size g.now) f }
-    requires begun { SettlesEdges g.now 1 pairs.now }
-    requires reach { IsOneSided g.now e (mem reach) }
+    requires kept { IsPerfectWith g.now e kept.now }
+    requires near { IsOneSided g.now e (mem near) }
     ensures { IsOneSided g.now e (mem result) }
 {
-    if !pairs.both(e, f) {
+    let mut reach = near;
+    for i in 0..kept.len() {
+        reach = widened_at(g, kept, e, reach, i);
+    }
+    reach
+}
+
+// A vertex set with both ends of the edge in a row of such a matching, if it holds one of them.
+fn widened_at(g: &MultiGraph, kept: &Matching, e: u32, reach: VSet, i: usize) -> VSet
+    requires edge { Within (size g.now) e }
+    requires kept { IsPerfectWith g.now e kept.now }
+    requires reach { IsOneSided g.now e (mem reach) }
+    requires row { i < length kept.now.rows }
+    ensures { IsOneSided g.now e (mem result) }
+{
+    g.keeps_limits();
+    let f = kept.row(i).edge;
+    if f == e || !is_in_cut(g, reach, f) {
         return reach;
     }
-    widened(g, pairs, e, reach)
+    let ends = g.ends(f);
+    reach.with(ends.a).with(ends.b)
 }
 
 // A vertex set widened by edges that listed matchings hold together with `e`, as far as it goes.

@@ -42,10 +42,12 @@ fn position_of(order: &[u32], i: u32) -> u32
     ensures place { result ≡ position order.now i }
     ensures within { result ≤ length order.now + 1 }
 {
-    match order.split_first() {
-        None => 1,
-        Some((j, rest)) => { if *j == i { 1 } else { position_of(rest, i) + 1 } }
+    for k in 0..order.len() {
+        if order[k] == i {
+            return k as u32 + 1;
+        }
     }
+    order.len() as u32 + 1
 }
 
 // The names of the images of the blocks of q with these names.

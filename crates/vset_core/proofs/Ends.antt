@@ -4,8 +4,8 @@
 use Rattle.std.proofs.Common.{◌≡◌, ℕ, zero, suc, ◌+◌, ◌-◌, ◌*◌, ◌/◌, ◌%◌, ◌^◌, ◌≤◌, ◌<◌, List, [], ◌↔◌, refl, sym, ◌∙◌, ap, arith, true, false, subst, inl, inr, pow_pos, shr-shr}
 use Rattle.std.specs.Int.{bit_at, w128, trailing_zeros}
 use Rattle.std.specs.Int.Count.{count_leading_zeros}
-use Rattle.counting.proofs.Common.{cases_lt, mem-all, mem-outside, mem-rising_list, rising_list-rises, same_rising_list, set-wider, Within, IsGreatestOf, IsNextAfter, mem, rising_list, everything}
-use Rattle.std.proofs.lemmas.Nat.{leading_top, mod_below, pow_below, shr_le, shr_split}
+use Rattle.counting.proofs.Common.{cases_lt, mem-all, mem-outside, mem-rising_list, rising_list-rises, same_rising_list, set-wider, Within, IsNextAfter, mem, rising_list, everything}
+use Rattle.std.proofs.lemmas.Nat.{mod_below, pow_below, shr_le, shr_split}
 use Rattle.std.proofs.lemmas.Nat.Bits.{bit_at-trailing_zeros, bit_at_above, bit_at_ones, bit_at_ones_above, ones_shr}
 use Rattle.vset_core.specs.Words.{in_word, members}
 use Rattle.vset_core.specs.WordLaws.{members-rise, mem-members}
@@ -53,20 +53,6 @@ no_bit_above word set v is fits none w l = seen word set is fits w ∙ no_bit wo
   where
     below : word < 2 ^ v
     below = let whole = shr_split word v in let b = mod_below word (2 ^ v) (pow_pos v) in let z : word / 2 ^ v * 2 ^ v ≡ 0 = rw none (omega arith) in omega arith
-
--- the highest one
-pub greatest_bit : (word : ℕ) (set : List ℕ) → members word ≡ set → word < 2 ^ 128 → 0 < word → IsGreatestOf set (128 - count_leading_zeros 128 word) × Within 128 (128 - count_leading_zeros 128 word)
-greatest_bit word set is fits some =
-    let top = leading_top 128 word some fits in
-    let j = top.0 in
-    let e : 128 - count_leading_zeros 128 word ≡ j + 1 = let t = top.1 in omega arith in
-    subst (λ k. IsGreatestOf set k × Within 128 k) (sym e) (
-      record {
-        member = seen word set is fits (j + 1) ∙ one_bit word j (grind arith);
-        after = λ w l. seen word set is fits w ∙ no_bit word w (λ i q. bit_at_above word (suc j) i top.3 (omega arith));
-      },
-      (omega arith, let t = top.1 in omega arith),
-    )
 
 pow_le : (n m : ℕ) → n ≤ m → 2 ^ n ≤ 2 ^ m
 pow_le n m l = grind (arith, cases_lt n m, pow_below n m)

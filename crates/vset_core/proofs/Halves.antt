@@ -3,9 +3,10 @@
 -- is that of the low half, or if this is 0, that of the high half.
 use Rattle.std.proofs.Common.{◌≡◌, ℕ, zero, suc, ◌+◌, ◌-◌, ◌*◌, ◌/◌, ◌%◌, ◌^◌, ◌≤◌, ◌<◌, ◌==◌, ◌&&◌, not, List, ◌∷◌, refl, sym, ◌∙◌, ap, ap₂, subst, subst₂, arith, Bool, true, false, bit_and, inl, inr, ne_eqb, eq-eqb, pow_pos}
 use Rattle.std.specs.Int.{bit_at, w64, trailing_zeros}
-use Rattle.std.proofs.lemmas.Nat.{and_le_l, mod_below, shr_split}
-use Rattle.std.proofs.lemmas.Nat.Bits.{bit_at-trailing_zeros, bit_at_cat_low, bit_at_cat_high}
-use Rattle.counting.proofs.Common.{cases_eq, cases_lt, first_is_least, split_least, IsLeastOf, IsRisingIn, Set, mem}
+use Rattle.std.specs.Int.Count.{count_leading_zeros}
+use Rattle.std.proofs.lemmas.Nat.{and_le_l, leading_top, mod_below, shr_split}
+use Rattle.std.proofs.lemmas.Nat.Bits.{bit_at-trailing_zeros, bit_at_above, bit_at_cat_low, bit_at_cat_high}
+use Rattle.counting.proofs.Common.{cases_eq, cases_lt, first_is_least, split_least, IsGreatestOf, IsLeastOf, IsRisingIn, Set, Within, mem}
 use Rattle.vset_core.specs.Words.{in_word, members}
 use Rattle.vset_core.specs.WordLaws.{members-rise}
 use Rattle.vset_core.proofs.Ends.{no_bit, one_bit}
@@ -116,3 +117,31 @@ least_first set others v e rises = record {
     decide : (b : Bool) → (b ≡ true → b ≡ false) → b ≡ false
     decide true h = h refl
     decide false h = refl
+
+-- the greatest member of a set, by the highest bit of its word
+greatest_at : (x j : ℕ) (set : List ℕ) → members x ≡ set → x < 2 ^ 128 → j < 128 → in_word x (suc j) ≡ true → ((w : ℕ) → suc j < w → in_word x w ≡ false) → IsGreatestOf set (suc j) × Within 128 (suc j)
+greatest_at x j set is fits low bit after = (record { member = seen x set is fits (suc j) ∙ bit; after = λ w l. seen x set is fits w ∙ after w l }, (omega arith, omega arith))
+
+module _ (x : ℕ) (set : List ℕ) (is : members x ≡ set) (fits : x < 2 ^ 128) where
+  pub greatest_high : 0 < x / 2 ^ 64 → IsGreatestOf set (128 - count_leading_zeros 64 (x / 2 ^ 64)) × Within 128 (128 - count_leading_zeros 64 (x / 2 ^ 64))
+  greatest_high some =
+      let top = leading_top 64 (x / 2 ^ 64) some (high_fits x set set is fits) in
+      let j = top.0 in
+      let e : 128 - count_leading_zeros 64 (x / 2 ^ 64) ≡ suc (64 + j) = let t = top.1 in omega arith in
+      let one : bit_at (x / 2 ^ 64) j ≡ 1 = grind arith in
+      let own : in_word (x / 2 ^ 64) (suc j) ≡ true = ap (λ b. b == 1) one in
+      subst (λ k. IsGreatestOf set k × Within 128 k) (sym e) (greatest_at x (64 + j) set is fits (let t = top.1 in omega arith)
+        (ap (λ n. in_word n (suc (64 + j))) (sym (shr_split x 64)) ∙ high_bit (x / 2 ^ 64) (x % 2 ^ 64) j (low_fits x set set is fits) ∙ own)
+        (λ w l. let f : suc (64 + (w - 65)) ≡ w = omega arith in
+          ap (in_word x) (sym f) ∙ ap (λ n. in_word n (suc (64 + (w - 65)))) (sym (shr_split x 64)) ∙ high_bit (x / 2 ^ 64) (x % 2 ^ 64) (w - 65) (low_fits x set set is fits) ∙ no_bit (x / 2 ^ 64) (suc (w - 65)) (λ i q. bit_at_above (x / 2 ^ 64) (suc j) i top.3 (omega arith))))
+
+  pub greatest_low : x / 2 ^ 64 ≡ 0 → 0 < x % 2 ^ 64 → IsGreatestOf set (64 - count_leading_zeros 64 (x % 2 ^ 64)) × Within 128 (64 - count_leading_zeros 64 (x % 2 ^ 64))
+  greatest_low none some =
+      let top = leading_top 64 (x % 2 ^ 64) some (low_fits x set set is fits) in
+      let j = top.0 in
+      let one : bit_at (x % 2 ^ 64) j ≡ 1 = grind arith in
+      let same : x % 2 ^ 64 ≡ x = let w = shr_split x 64 in omega arith in
+      let e : 64 - count_leading_zeros 64 (x % 2 ^ 64) ≡ suc j = let t = top.1 in omega arith in
+      subst (λ k. IsGreatestOf set k × Within 128 k) (sym e) (greatest_at x j set is fits (let t = top.1 in omega arith)
+        (ap (λ n. in_word n (suc j)) (sym same) ∙ ap (λ b. b == 1) one)
+        (λ w l. ap (λ n. in_word n w) (sym same) ∙ no_bit (x % 2 ^ 64) w (λ i q. bit_at_above (x % 2 ^ 64) (suc j) i top.3 (omega arith))))

@@ -25,7 +25,7 @@ macro_rules! eights_from {
 }
 
 /// The number of words of 64 bits.
-pub(crate) const HALF: u128 = 1 << 64;
+pub(crate) const TWO_TO_64: u128 = 1 << 64;
 
 // The words of one bit, by its place.
 static BITS: [u128; 128] = eights_from!(
@@ -44,5 +44,5 @@ pub(crate) fn bit(v: u32) -> u128
 pub(crate) fn joined(high: u64, low: u64) -> u128
     ensures { result ≡ high * 2 ^ 64 + low }
 {
-    high as u128 * HALF + low as u128
+    high as u128 * TWO_TO_64 + low as u128
 }

@@ -1,12 +1,13 @@
 //! Sets of vertices.
 //!
-//! `VSet` is a set of numbers from 1 to `MOST_VERTICES` in one machine word of 128 bits. Contracts
-//! see it as the list of its members in increasing order: `mem set v` says whether v is in it, and
-//! `length set` how many members it has. The law `VSet::rises` says that the list is increasing and
-//! lies within 1 to `MOST_VERTICES`. Each operation is a few steps on words, takes no memory and
-//! cannot fail: `union`, `meet`, `minus`, `with` and `without` are the operations on sets;
-//! `contains`, `is_subset` and `==` the tests; `len` the size; `first`, `last`, `next_after`,
-//! `split_first` and `iter` go through the members in order.
+//! `VSet` is a set of numbers from 1 to `MOST_VERTICES` in one machine word of 128 bits; a table
+//! holds the words of one bit. Contracts see a set as the list of its members in increasing order:
+//! `mem set v` says whether v is in it, and `length set` how many members it has. The law
+//! `VSet::rises` says that the list is increasing and lies within 1 to `MOST_VERTICES`. Each
+//! operation is a few steps on words, takes no memory and cannot fail: `union`, `meet`, `minus`,
+//! `with` and `without` are the operations on sets; `contains`, `is_subset` and `==` the tests;
+//! `len` the size; `first`, `last`, `next_after`, `split_first` and `iter` go through the members
+//! in order.
 //!
 //! A digraph is given by a row for each vertex, the set of vertices to which its arcs lead.
 //! `add_arc` adds an arc. `flooded` is a search: it finds the least set that has the roots and that

@@ -4,7 +4,7 @@ ghost use Rattle.std.specs.Cmp.{partial_equiv_from_equiv};
 ghost use Rattle.std.specs.Cmp.Lexicographic.{nat_list_eq_equiv};
 ghost use Rattle.counting.specs.Common.{Within, mem, IsRisingIn, IsLeastOf, IsGreatestOf, IsNextAfter, is_subset, rising_list, everything};
 
-use crate::bits::{HALF, bit, joined};
+use crate::bits::{TWO_TO_64, bit, joined};
 use std::marker::Model;
 
 /// The most vertices that a graph may have.
@@ -157,10 +157,15 @@ impl VSet {
         ensures within { IfSome result (Within MOST_VERTICES) }
         ensures none { IfNone result (self ≡ []) }
     {
-        if self.word == 0 {
-            return None;
+        let high = (self.word / TWO_TO_64) as u64;
+        if high != 0 {
+            return Some(u128::BITS - high.leading_zeros());
         }
-        Some(u128::BITS - self.word.leading_zeros())
+        let low = (self.word % TWO_TO_64) as u64;
+        if low != 0 {
+            return Some(u64::BITS - low.leading_zeros());
+        }
+        None
     }
 
     /// The least member above `v`; `None` if and only if no member is above `v`.
@@ -187,8 +192,8 @@ impl VSet {
         ensures within { IfSome result (λ p. Within MOST_VERTICES p.0) }
         ensures none { IfNone result (self ≡ []) }
     {
-        let low = (self.word % HALF) as u64;
-        let high = (self.word / HALF) as u64;
+        let low = (self.word % TWO_TO_64) as u64;
+        let high = (self.word / TWO_TO_64) as u64;
         // less 1, a word has a zero at its lowest one, and the same bits above it
         if low != 0 {
             let others = VSet {

@@ -4,8 +4,8 @@ use Rattle.match_search.specs.Common.{marks}
 use Rattle.allowed_edges.specs.PairTables.{NamesEdge}
 use Rattle.allowed_edges.proofs.varied.named_marks.Given as goal
 
-abbrev pub invariant-loop-k : goal.invariant-loop-k
-invariant-loop-k l = record {
+abbrev pub invariant-loop-i : goal.invariant-loop-i
+invariant-loop-i l = record {
   long : length l.mark.items ≡ size l.g + 1;
   named : (e : ℕ) → marks l.mark.items e ≡ true → NamesEdge l.g l.at e;
 }

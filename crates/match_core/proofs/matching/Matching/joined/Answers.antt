@@ -1,28 +1,34 @@
-use Rattle.std.proofs.Common.{◌≡◌, ℕ, true, ◌||◌, ◌==◌, sym, ap, ◌∙◌, subst, refl, inl}
-use Rattle.counting.proofs.Common.{IfOk-weaker, fun_ext, Set, none, put, mem, rising_list}
-use Rattle.graph_core.proofs.Common.{size, first_end, second_end, IsMatching, add_edge}
-use Rattle.match_search.specs.Common.{marks}
-use Rattle.match_core.specs.Common.{MatchingValue, edges_of}
+use Rattle.std.proofs.Common.{◌≡◌, true, sym, ap, ◌∙◌, subst, refl, inl}
+use Rattle.counting.proofs.Common.{none, put, mem, mem-rising_list, list-from_test}
+use Rattle.graph_core.proofs.Common.{size, first_end, second_end, add_edge}
 use Rattle.match_search.proofs.GrownRows.{with_put}
-use Rattle.match_core.proofs.MatchingEdges.{rows-matching, rows-rise, joined_edges}
+use Rattle.match_core.specs.Common.{MatchingValue, KeepsMatching, IsOf, edges_of}
+use Rattle.match_core.specs.declared.matching.MatchRow.{MatchRow}
+use Rattle.match_core.proofs.InsertedRows.{joined_is}
+use Rattle.match_core.proofs.MatchingEdges.{joined_edges, marked_matching, marked-keeps, marked-of, marked-edges, rows-matching, rows-rise}
 use Rattle.match_core.proofs.matching.Matching.joined.Goals as goal
 
-pub matching_of-requires-clause-matching : goal.matching_of-requires-clause-matching
-matching_of-requires-clause-matching c =
+-- the matching is that of the marked edges
+made : (c : goal.In_ok-rows_with) → record { order = c.self.inside.order; rows = c.in_ok-rows_with.field-0.items } ≡ marked_matching c.args.g.now (put (mem (edges_of c.args.self.now)) c.args.e true)
+made c =
+    let view = ap (λ xs. let m : MatchingValue = record { order = c.self.inside.order; rows = xs } in m) c.deref.ensures.value ∙ c.self.view_is in
+    joined_is c.args.g.now c.args.self.now c.args.e c.ends-a.result.a c.ends-a.result.b c.self.inside.order c.deref.result.now c.in_ok-rows_with.field-0.items
+    c.requires.of c.keeps_matching.ensures c.requires.edge c.ends-a.ensures.first c.ends-a.ensures.second view c.in_ok-rows_with.ensures
+
+pub invariant_of-result : goal.invariant_of-result
+invariant_of-result c =
     let g = c.args.g.now in
     let e = c.args.e in
-    let before = mem (edges_of c.args.self.now) in
-    let old : marks c.in_ok-mark.mark.items ≡ mem (edges_of c.args.self.now) = fun_ext c.in_ok-mark.ensures.each in
-    let now : marks c.deref.result.now ≡ put (mem (edges_of c.args.self.now)) c.args.e true = ap marks c.deref.ensures.value ∙ fun_ext c.mark_place.ensures.each ∙ ap (λ (s : Set). put s c.args.e true) old in
-    let multi = c.keeps_limits.ensures.multigraph in
-    let ends = multi.ends e c.requires.edge in
-    let added = (add_edge g none before e (first_end g e) (second_end g e) (rows-matching g c.args.self.now c.requires.of c.keeps_matching.ensures) c.requires.edge (multi.no_loop e c.requires.edge) refl refl (inl (refl, refl)) c.requires.first c.requires.second).0 in
-    subst (λ (s : Set). IsMatching c.args.g.now none s) (sym now) added
+    let limits = c.keeps_limits.ensures in
+    let added = (add_edge g none (mem (edges_of c.args.self.now)) e (first_end g e) (second_end g e) (rows-matching g c.args.self.now c.requires.of c.keeps_matching.ensures) c.requires.edge
+        (limits.multigraph.no_loop e c.requires.edge) refl refl (inl (refl, refl)) c.requires.first c.requires.second).0 in
+    subst KeepsMatching (sym (made c)) (marked-keeps g (put (mem (edges_of c.args.self.now)) e true) limits.multigraph.ends limits.vertices limits.edges added)
+
+pub returns-clause-of : goal.returns-clause-of
+returns-clause-of c = subst (IsOf c.args.g.now) (sym (made c)) (marked-of c.args.g.now (put (mem (edges_of c.args.self.now)) c.args.e true))
 
 pub returns-clause-edges : goal.returns-clause-edges
-returns-clause-edges c =
-    IfOk-weaker c.matching_of.result (λ (m : MatchingValue). edges_of m ≡ rising_list (size c.args.g.now) (marks c.deref.result.now)) (λ (m : MatchingValue). (i : ℕ) → mem (edges_of m) i ≡ (mem (edges_of c.args.self.now) i || (c.args.e == i)))
-    (λ m q i. ap (λ xs. mem xs i) q
-    ∙ joined_edges (size c.args.g.now) (edges_of c.args.self.now) (marks c.deref.result.now) c.args.e c.requires.edge (rows-rise c.args.g.now c.args.self.now c.requires.of c.keeps_matching.ensures)
-    (λ j. ap (λ row. marks row j) c.deref.ensures.value ∙ c.mark_place.ensures.each j ∙ sym (with_put (marks c.in_ok-mark.mark.items) c.args.e j) ∙ ap (λ b. b || (c.args.e == j)) (c.in_ok-mark.ensures.each j))
-    i) c.matching_of.ensures.edges
+returns-clause-edges c = λ i.
+    let x = put (mem (edges_of c.args.self.now)) c.args.e true in
+    ap (λ (m : MatchingValue). mem (edges_of m) i) (made c) ∙ ap (λ es. mem es i) (marked-edges c.args.g.now x)
+    ∙ joined_edges (size c.args.g.now) (edges_of c.args.self.now) x c.args.e c.requires.edge (rows-rise c.args.g.now c.args.self.now c.requires.of c.keeps_matching.ensures) (λ j. sym (with_put (mem (edges_of c.args.self.now)) c.args.e j)) i
