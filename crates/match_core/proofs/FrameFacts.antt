@@ -131,3 +131,13 @@ module _ (g : Graph) (is : IsGraph g) (r : Set) (b : Best) (best : IsBest g r b)
 
   pub outer-none_perfect : length b.sets.outer ≢ 0 → HasPerfect g r → ⊥
   outer-none_perfect some = grind (arith, some-mem b.sets.outer, outer-no_perfect g is r (marks b.mark.items) (mem b.sets.outer) (mem b.sets.inner) best.matching best.frame)
+
+-- the same where the mates of a matching are given: it holds for each matching with these mates
+module _ (g : Graph) (is : IsGraph g) (r : Set) (mate : List ℕ) (sets : FinalSets) (framed : HasFrame g r mate sets) where
+  pub no_outer-mates_perfect : length sets.outer ≡ 0 → (w : Set) → HasMates g r w (numbers mate) → IsPerfect g r w
+  no_outer-mates_perfect nothing w has = no_outer-perfect g is r w (mem sets.outer) (mem sets.inner) has.matching
+      (subst (λ k. Frame g r k (mem sets.outer) (mem sets.inner)) (same_mates_count g is r framed.m w (numbers mate) framed.mates has) framed.frame)
+      (empty-mem sets.outer nothing)
+
+  pub outer-mates_none : length sets.outer ≢ 0 → HasPerfect g r → ⊥
+  outer-mates_none some = grind (arith, some-mem sets.outer, outer-no_perfect g is r framed.m (mem sets.outer) (mem sets.inner) framed.mates.matching framed.frame)

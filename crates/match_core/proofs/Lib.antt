@@ -9,6 +9,7 @@ pub mod FrameFacts
 pub mod RepairWalks
 pub mod RepairedPaths
 pub mod NamedEdges
+pub mod PairedEdges
 pub mod ClearedMatchings
 pub mod PartnerRows
 pub mod RowMates

@@ -3,8 +3,8 @@
 -- a row, and the row names its ends.
 use Rattle.std.proofs.Common.{◌≡◌, ◌≢◌, ℕ, ◌<◌, List, Some, true, refl, inl, inr, sym, ap, ◌∙◌, arith, not, ◌&&◌, length, map, subst, ap₂, suc, ◌∷◌, [], ◌==◌, false, zero, ◌≤◌, ◌+◌, eqb-true, slice_get}
 use Rattle.std.proofs.lemmas.Option.{get_or_from_slice_get}
-use Rattle.counting.proofs.Common.{Set, mem, and_from, and_parts, or_cases, cases_eq, or_right, both_ways}
-use Rattle.graph_core.proofs.Common.{Graph, HasEnds, degree, edge_at, first_end, second_end}
+use Rattle.counting.proofs.Common.{fun_ext, Set, mem, and_from, and_parts, or_cases, cases_eq, or_right, both_ways}
+use Rattle.graph_core.proofs.Common.{Graph, HasEnds, IsMatching, degree, edge_at, first_end, second_end}
 use Rattle.match_search.specs.Common.{HasMates, numbers, with_mate, with_pair}
 use Rattle.match_search.proofs.MatePairs.{with_here, with_there}
 use Rattle.match_core.specs.Common.{IsOf, IsRowOf, KeepsMatching, MatchingValue, edges_of, is_clear, left_over, has_end_in}
@@ -106,3 +106,10 @@ module _ (g : Graph) (x : Set) (m : MatchingValue) (mate : List ℕ) (of : IsOf 
         let held = and_from (mem (edges_of m) t.1.edge) (not (has_end_in g x t.1.edge)) (with_row m.rows t.0 t.1 t.3) (sym is.1 ∙ t.4) in
         (t.1.edge, is.0.edge, held, elim t.5 [ inl s ↦ inl (sym is.0.first ∙ s.0, sym is.0.second ∙ s.1) | inr s ↦ inr (sym is.0.first ∙ s.0, sym is.0.second ∙ s.1) ]);
   }
+
+-- the mates of all edges of a matching of g - r, read with no vertex removed, are its mates in g - r
+pub mates_beside : (g : Graph) (r x m : Set) (mate : ℕ → ℕ) → IsMatching g r m → ((v : ℕ) → x v ≡ false) → HasMates g x (left_over g x m) mate → HasMates g r m mate
+mates_beside g r x m mate mm nothing has =
+    let all : left_over g x m ≡ m = fun_ext (λ e. grind (arith, nothing (first_end g e), nothing (second_end g e))) in
+    let same = subst (λ (s : Set). HasMates g x s mate) all has in
+    record { matching = mm; exposed = same.exposed; paired = same.paired }

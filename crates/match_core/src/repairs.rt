@@ -2,12 +2,13 @@
 ghost use Rattle.std.specs.Prelude.{◌≡◌, ℕ, ◌+◌, ◌-◌, ◌/◌, ◌≢◌, ◌==◌, ◌&&◌, not, nat_lt, nat_le, cond, true, ◌<◌, ◌≤◌, length, slice_index, ◌↔◌, IfOk, Some, None};
 ghost use Rattle.counting.specs.Common.{Within, mem, Set, put};
 ghost use Rattle.graph_core.specs.Common.{AreRows, graph_of, IsMatching, IsPerfect, HasPerfect, missed_count};
-ghost use Rattle.match_search.specs.Common.{flipped, marks, numbers, part, end_a, end_b, IsGraphRow, NamesEdges, DiffersByPath, IsRepairRow, Misses};
-ghost use Rattle.match_core.specs.Common.{IsOf, edges_of, StartsWalk};
+ghost use Rattle.match_search.specs.Common.{flipped, marks, numbers, part, end_a, end_b, HasMates, IsGraphRow, NamesEdges, DiffersByPath, IsRepairRow, Misses, with_mate};
+ghost use Rattle.match_core.specs.Common.{IsOf, edges_of, NamesPerfect, StartsWalk};
 
 use crate::matching::{Matching, matching_of};
+use crate::mates::mates_off;
 use graph_core::{Ends, MultiGraph};
-use match_search::{Best, best_from, mark_place};
+use match_search::{enlarge, mark_place};
 use std::alloc::{AllocError as Memory, Global};
 use vset_core::{MOST_VERTICES, VSet};
 
@@ -41,45 +42,112 @@ pub fn repair(
     let n = g.order();
     let ends = g.edges();
     let given = m.marks(alloc, ends.len())?;
-    match repaired_marks(alloc, n, ends, g.rows(), removed, given)? {
-        Some(mark) => Ok(Some(matching_of(alloc, g, &mark)?)),
+    let mate = mates_off(alloc, g, VSet::empty(), m)?;
+    match perfect_edges(alloc, n, ends, g.rows(), removed, mate)? {
+        Some(found) => {
+            let mark = repaired_marks(alloc, n, ends, removed, given, &found)?;
+            Ok(Some(matching_of(alloc, g, &mark)?))
+        }
         None => Ok(None),
     }
 }
 
-// The marks of the repaired matching. The engine augments the given one, if it can; the path is
-// then a part of the symmetric difference.
-fn repaired_marks(
+// For each vertex its edge in a perfect matching of G - removed, or 0 if it is removed. The engine
+// augments the matching with the given mates, if it can.
+fn perfect_edges(
     alloc: Global,
     n: u32,
     ends: &[Ends],
     rows: &[VSet],
     removed: VSet,
-    mark: Vec<bool>,
-) -> Result<Option<Vec<bool>>, Memory>
+    given: Vec<u32>,
+) -> Result<Option<Vec<u32>>, Memory>
     requires row { IsGraphRow n ends.now }
     requires neighbours { AreRows (graph_of n ends.now) rows.now }
-    requires long { length mark.items ≡ length ends.now + 1 }
-    requires matching { IsMatching (graph_of n ends.now) (mem removed) (marks mark.items) }
-    requires two { missed_count (graph_of n ends.now) (mem removed) (marks mark.items) ≡ 2 }
-    ensures long { IfOk result
-        (λ o. (new : _) → o ≡ Some new → length new.items ≡ length ends.now + 1) }
+    requires long { length given.items ≡ n + 1 }
+    requires mates { (m : Set) ×
+        HasMates (graph_of n ends.now) (mem removed) m (numbers given.items) }
     ensures perfect { IfOk result
-        (λ o. (new : _) → o ≡ Some new →
-        IsPerfect (graph_of n ends.now) (mem removed) (marks new.items)) }
-    ensures path { IfOk result
-        (λ o. (new : _) → o ≡ Some new →
-        DiffersByPath (graph_of n ends.now) (mem removed) (marks mark.items)
-        (marks new.items)) }
+        (λ o. (at : _) → o ≡ Some at → NamesPerfect n (mem removed) ends.now at.items) }
     ensures none { IfOk result
         (λ o. (o ≡ None) ↔ (HasPerfect (graph_of n ends.now) (mem removed) → ⊥)) }
 {
-    let Best { mark: found, sets } = best_from(alloc, n, ends, rows, removed, &mark)?;
+    let mut mate = given;
+    let exposed = free(n, removed, &mate);
+    let sets = enlarge(alloc, rows, removed, exposed, &mut mate)?;
     if sets.outer.len() == 0 {
-        let edges = repair_path(alloc, n, ends, removed, &mark, &found)?;
-        return Ok(Some(flipped_along(mark, &edges)));
+        let at = paired_edges(alloc, n, ends, &mate)?;
+        return Ok(Some(at));
     }
     Ok(None)
+}
+
+// For each vertex the least edge that joins it to its mate, or 0 if there is none.
+fn paired_edges(alloc: Global, n: u32, ends: &[Ends], mate: &[u32]) -> Result<Vec<u32>, Memory>
+    requires row { IsGraphRow n ends.now }
+    requires long { length mate.now ≡ n + 1 }
+    ensures length { IfOk result (λ at. length at.items ≡ n + 1) }
+    ensures named { IfOk result (λ at. (r f : Set) →
+        HasMates (graph_of n ends.now) r f (numbers mate.now) →
+        (w : Set) × HasMates (graph_of n ends.now) r w (numbers mate.now) ×
+        NamesEdges ends.now w at.items (length ends.now)) }
+{
+    let mut at = vec![in alloc; 0; n as usize + 1]?;
+    for (k, e) in ends.iter().enumerate() {
+        if is_first_of_pair(*e, mate, &at) {
+            name_at_ends(&mut at, *e, k as u32 + 1);
+        }
+    }
+    Ok(at)
+}
+
+// Writes an edge at both of its ends.
+fn name_at_ends(at: &mut [u32], e: Ends, edge: u32)
+    requires a { e.a < length at.old }
+    requires b { e.b < length at.old }
+    ensures { (v : ℕ) → numbers at.new v ≡
+        with_mate (with_mate (numbers at.old) e.a edge) e.b edge v }
+{
+    at[e.a as usize] = edge;
+    at[e.b as usize] = edge;
+}
+
+// Whether an edge joins two mates, and no edge is named for either.
+fn is_first_of_pair(e: Ends, mate: &[u32], at: &[u32]) -> bool
+    requires a { e.a < length mate.now }
+    requires a_named { e.a < length at.now }
+    requires b_named { e.b < length at.now }
+    ensures { result ≡ ((numbers mate.now e.a == e.b) && (not (e.a == e.b) &&
+        (numbers at.now e.a == 0 && (numbers at.now e.b == 0)))) }
+{
+    mate[e.a as usize] == e.b
+        && (e.a != e.b && (at[e.a as usize] == 0 && at[e.b as usize] == 0))
+}
+
+// The marks of the repaired matching: the path from one missed vertex to the other is a part of the
+// symmetric difference of the given matching and the found one.
+fn repaired_marks(
+    alloc: Global,
+    n: u32,
+    ends: &[Ends],
+    removed: VSet,
+    mark: Vec<bool>,
+    found: &[u32],
+) -> Result<Vec<bool>, Memory>
+    requires row { IsGraphRow n ends.now }
+    requires long { length mark.items ≡ length ends.now + 1 }
+    requires matching { IsMatching (graph_of n ends.now) (mem removed) (marks mark.items) }
+    requires two { missed_count (graph_of n ends.now) (mem removed) (marks mark.items) ≡ 2 }
+    requires found { NamesPerfect n (mem removed) ends.now found.now }
+    ensures long { IfOk result (λ new. length new.items ≡ length ends.now + 1) }
+    ensures perfect { IfOk result
+        (λ new. IsPerfect (graph_of n ends.now) (mem removed) (marks new.items)) }
+    ensures path { IfOk result
+        (λ new. DiffersByPath (graph_of n ends.now) (mem removed) (marks mark.items)
+        (marks new.items)) }
+{
+    let edges = repair_path(alloc, n, ends, removed, &mark, found)?;
+    Ok(flipped_along(mark, &edges))
 }
 
 // Exchanges the marks along a path, whose edges are a part of a row, pair by pair: the first edge
@@ -121,22 +189,20 @@ fn repair_path(
     ends: &[Ends],
     removed: VSet,
     mark: &[bool],
-    found: &[bool],
+    found: &[u32],
 ) -> Result<Vec<u32>, Memory>
     requires row { IsGraphRow n ends.now }
-    requires mark_long { length mark.now ≡ length ends.now + 1 }
-    requires found_long { length found.now ≡ length ends.now + 1 }
+    requires long { length mark.now ≡ length ends.now + 1 }
     requires matching { IsMatching (graph_of n ends.now) (mem removed) (marks mark.now) }
-    requires perfect { IsPerfect (graph_of n ends.now) (mem removed) (marks found.now) }
+    requires found { NamesPerfect n (mem removed) ends.now found.now }
     requires two { missed_count (graph_of n ends.now) (mem removed) (marks mark.now) ≡ 2 }
     ensures { IfOk result
         (λ es. (x : ℕ) × Misses (graph_of n ends.now) (mem removed) (marks mark.now) x ×
         IsRepairRow (graph_of n ends.now) (mem removed) (marks mark.now) x es.items) }
 {
     let at = matched_edges(alloc, n, ends, mark)?;
-    let other = matched_edges(alloc, n, ends, found)?;
     match free(n, removed, &at).first() {
-        Some(x) => walk(alloc, ends, &at, &other, x),
+        Some(x) => walk(alloc, ends, &at, found, x),
         None => unreachable!(),
     }
 }

@@ -75,10 +75,10 @@ pub fn best_from(
     Ok(Best { mark, sets })
 }
 
-// Augments a matching of G - removed, given by its mates, until it is maximum, and returns its
-// frame; `exposed` contains the exposed vertices. A perfect matching has an empty frame, and no
-// search is prepared for it.
-fn enlarge(
+/// Augments a matching of G - removed, given by its mates, until it is maximum, and returns its
+/// frame; `rows` are the sets of neighbours, and `exposed` contains the exposed vertices. A perfect
+/// matching has an empty frame, and no search is prepared for it. The only error is `Memory`.
+pub fn enlarge(
     alloc: Global,
     rows: &[VSet],
     removed: VSet,

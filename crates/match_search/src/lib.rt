@@ -7,8 +7,8 @@
 //! what the last forest proves: its inner vertices show that no matching is larger (`Frame`).
 //!
 //! `find_mates` begins with a greedy matching and repeats it until the matching is maximum
-//! (`HasFrame`). `find_best` and `best_from` also mark the edges at the end (`IsBest`). The
-//! questions on maximum matchings are in `match_core`, above.
+//! (`HasFrame`); `enlarge` begins with given mates. `find_best` and `best_from` also mark the edges
+//! at the end (`IsBest`). The questions on maximum matchings are in `match_core`, above.
 //!
 //! Depends on `graph_core` and `vset_core`. Sources: Edmonds 1965; Lovász and Plummer, "Matching
 //! Theory", chapters 1 and 9.
@@ -32,7 +32,7 @@ mod row_space;
 mod rows;
 
 pub use answer::FinalSets;
-pub use best::{Best, Mated, best_from, find_best, find_mates, is_addable};
+pub use best::{Best, Mated, best_from, enlarge, find_best, find_mates, is_addable};
 pub use instance::{Instance, instance_of};
 pub use mates::{join, mates_of};
 pub use missable::{missable_beside, missable_in};

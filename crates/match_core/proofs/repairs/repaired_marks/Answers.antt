@@ -2,42 +2,27 @@ use Rattle.std.proofs.Common.{◌≡◌, ℕ, ◌+◌, ◌-◌, ◌/◌, Bool, t
 use Rattle.counting.proofs.Common.{fun_ext, Set, put, mem}
 use Rattle.graph_core.proofs.Common.{IsMatching, IsPerfect, graph_of}
 use Rattle.match_search.specs.Common.{flipped, marks, numbers, part, DiffersByPath, IsRepairRow, Misses}
-use Rattle.match_core.proofs.FrameFacts.{no_outer-best_perfect, outer-none_perfect}
 use Rattle.match_search.proofs.GraphRows.{row_graph, size_is}
 use Rattle.match_core.proofs.RepairedPaths.{flipped_row, repaired_path}
 use Rattle.match_core.proofs.repairs.repaired_marks.Goals as goal
 
-pub best_from-requires-clause-matching : goal.best_from-requires-clause-matching
-best_from-requires-clause-matching c = subst (λ (row : List Bool). IsMatching (graph_of c.args.n c.args.ends.now) (mem c.args.removed) (marks row)) (sym c.deref.ensures.value) c.requires.matching
-
-pub repair_path-requires-clause-perfect : goal.repair_path-requires-clause-perfect
-repair_path-requires-clause-perfect c = grind (arith, no_outer-best_perfect, row_graph)
-
 pub flipped_along-requires-clause-in_mark : goal.flipped_along-requires-clause-in_mark
 flipped_along-requires-clause-in_mark c =
-    let p = subst (λ (xs : List Bool). (x : ℕ) × Misses (graph_of c.args.n c.args.ends.now) (mem c.args.removed) (marks xs) x × IsRepairRow (graph_of c.args.n c.args.ends.now) (mem c.args.removed) (marks xs) x c.in_ok-edges.edges.items) c.deref-then-len-eq0.ensures.value c.in_ok-edges.ensures in
+    let p = subst (λ (xs : List Bool). (x : ℕ) × Misses (graph_of c.args.n c.args.ends.now) (mem c.args.removed) (marks xs) x × IsRepairRow (graph_of c.args.n c.args.ends.now) (mem c.args.removed) (marks xs) x c.in_ok-edges.edges.items) c.deref.ensures.value c.in_ok-edges.ensures in
     let long = c.requires.long in
     let size = size_is c.args.n c.args.ends.now in
     grind arith
 
-pub returns-clause-none : goal.returns-clause-none
-returns-clause-none c = grind (arith, outer-none_perfect, row_graph)
-
-pub returns-then-len-eq0-clause-none : goal.returns-then-len-eq0-clause-none
-returns-then-len-eq0-clause-none c = grind arith
-
-pub returns-then-len-eq0-clause-perfect : goal.returns-then-len-eq0-clause-perfect
-returns-then-len-eq0-clause-perfect c = λ answer q.
-    let p = subst (λ (xs : List Bool). (x : ℕ) × Misses (graph_of c.args.n c.args.ends.now) (mem c.args.removed) (marks xs) x × IsRepairRow (graph_of c.args.n c.args.ends.now) (mem c.args.removed) (marks xs) x c.in_ok-edges.edges.items) c.deref-then-len-eq0.ensures.value c.in_ok-edges.ensures in
-    let same : c.flipped_along.result ≡ answer = cc in
+pub returns-clause-perfect : goal.returns-clause-perfect
+returns-clause-perfect c =
+    let p = subst (λ (xs : List Bool). (x : ℕ) × Misses (graph_of c.args.n c.args.ends.now) (mem c.args.removed) (marks xs) x × IsRepairRow (graph_of c.args.n c.args.ends.now) (mem c.args.removed) (marks xs) x c.in_ok-edges.edges.items) c.deref.ensures.value c.in_ok-edges.ensures in
     let now : marks c.flipped_along.result.items ≡ put (flipped (marks c.args.mark.items) (numbers c.in_ok-edges.edges.items) p.2.pairs) (numbers c.in_ok-edges.edges.items (p.2.pairs + p.2.pairs)) true =
-    fun_ext c.flipped_along.ensures.each ∙ ap (λ (row : List ℕ). put (flipped (marks c.args.mark.items) (part row 0) ((length row - 1) / 2)) (numbers row (length row - 1)) true) c.deref-then-len-eq0-3.ensures.value ∙ flipped_row (graph_of c.args.n c.args.ends.now) (mem c.args.removed) (marks c.args.mark.items) p.0 c.in_ok-edges.edges.items p.2 in
-    subst (λ (v : Vec Bool Global). IsPerfect (graph_of c.args.n c.args.ends.now) (mem c.args.removed) (marks v.items)) same (subst (λ (s : Set). IsPerfect (graph_of c.args.n c.args.ends.now) (mem c.args.removed) s) (sym now) p.2.perfect)
+    fun_ext c.flipped_along.ensures.each ∙ ap (λ (row : List ℕ). put (flipped (marks c.args.mark.items) (part row 0) ((length row - 1) / 2)) (numbers row (length row - 1)) true) c.deref-2.ensures.value ∙ flipped_row (graph_of c.args.n c.args.ends.now) (mem c.args.removed) (marks c.args.mark.items) p.0 c.in_ok-edges.edges.items p.2 in
+    subst (λ (s : Set). IsPerfect (graph_of c.args.n c.args.ends.now) (mem c.args.removed) s) (sym now) p.2.perfect
 
-pub returns-then-len-eq0-clause-path : goal.returns-then-len-eq0-clause-path
-returns-then-len-eq0-clause-path c = λ answer q.
-    let p = subst (λ (xs : List Bool). (x : ℕ) × Misses (graph_of c.args.n c.args.ends.now) (mem c.args.removed) (marks xs) x × IsRepairRow (graph_of c.args.n c.args.ends.now) (mem c.args.removed) (marks xs) x c.in_ok-edges.edges.items) c.deref-then-len-eq0.ensures.value c.in_ok-edges.ensures in
-    let same : c.flipped_along.result ≡ answer = cc in
+pub returns-clause-path : goal.returns-clause-path
+returns-clause-path c =
+    let p = subst (λ (xs : List Bool). (x : ℕ) × Misses (graph_of c.args.n c.args.ends.now) (mem c.args.removed) (marks xs) x × IsRepairRow (graph_of c.args.n c.args.ends.now) (mem c.args.removed) (marks xs) x c.in_ok-edges.edges.items) c.deref.ensures.value c.in_ok-edges.ensures in
     let now : marks c.flipped_along.result.items ≡ put (flipped (marks c.args.mark.items) (numbers c.in_ok-edges.edges.items) p.2.pairs) (numbers c.in_ok-edges.edges.items (p.2.pairs + p.2.pairs)) true =
-    fun_ext c.flipped_along.ensures.each ∙ ap (λ (row : List ℕ). put (flipped (marks c.args.mark.items) (part row 0) ((length row - 1) / 2)) (numbers row (length row - 1)) true) c.deref-then-len-eq0-3.ensures.value ∙ flipped_row (graph_of c.args.n c.args.ends.now) (mem c.args.removed) (marks c.args.mark.items) p.0 c.in_ok-edges.edges.items p.2 in
-    subst (λ (v : Vec Bool Global). DiffersByPath (graph_of c.args.n c.args.ends.now) (mem c.args.removed) (marks c.args.mark.items) (marks v.items)) same (subst (λ (s : Set). DiffersByPath (graph_of c.args.n c.args.ends.now) (mem c.args.removed) (marks c.args.mark.items) s) (sym now) (repaired_path (graph_of c.args.n c.args.ends.now) (row_graph c.args.n c.args.ends.now c.requires.row.within) (mem c.args.removed) (marks c.args.mark.items) c.requires.matching p.0 p.1 c.in_ok-edges.edges.items p.2))
+    fun_ext c.flipped_along.ensures.each ∙ ap (λ (row : List ℕ). put (flipped (marks c.args.mark.items) (part row 0) ((length row - 1) / 2)) (numbers row (length row - 1)) true) c.deref-2.ensures.value ∙ flipped_row (graph_of c.args.n c.args.ends.now) (mem c.args.removed) (marks c.args.mark.items) p.0 c.in_ok-edges.edges.items p.2 in
+    subst (λ (s : Set). DiffersByPath (graph_of c.args.n c.args.ends.now) (mem c.args.removed) (marks c.args.mark.items) s) (sym now) (repaired_path (graph_of c.args.n c.args.ends.now) (row_graph c.args.n c.args.ends.now c.requires.row.within) (mem c.args.removed) (marks c.args.mark.items) c.requires.matching p.0 p.1 c.in_ok-edges.edges.items p.2)
