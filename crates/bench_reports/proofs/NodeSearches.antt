@@ -27,18 +27,6 @@ steps-same x y (suc step) same =
 abbrev pub AreStepsOf : Set → ℕ → List Side → Type 0
 AreStepsOf merged depth path = (steps_to merged depth ≡ path) × (depth ≤ 128) × ((step : ℕ) → merged step ≡ true → step ≤ depth)
 
--- one step more
-pub steps-kept : (merged : Set) (depth : ℕ) (path : List Side) → depth < 128 → AreStepsOf merged depth path → AreStepsOf merged (suc depth) (path ++ (Kept ∷ []))
-steps-kept merged depth path less are = (
-  ap (λ (b : Bool). steps_to merged depth ++ ((if b then Merged else Kept) ∷ [])) (out (merged (suc depth)) refl) ∙ ap (λ (l : List Side). l ++ (Kept ∷ [])) are.0,
-  omega (arith, less),
-  λ step is. let few = are.2 step is in omega (arith, few),
-)
-  where
-    out : (b : Bool) → merged (suc depth) ≡ b → b ≡ false
-    out false is = refl
-    out true is = let few = are.2 (suc depth) is in absurd (omega (arith, few))
-
 steps-merged_suc : (merged more : Set) (depth : ℕ) (path : List Side) → depth < 128 → AreStepsOf merged depth path → ((step : ℕ) → more step ≡ (merged step || suc depth == step)) →
     AreStepsOf more (suc depth) (path ++ (Merged ∷ []))
 steps-merged_suc merged more depth path less are is = (

@@ -113,15 +113,6 @@ grown-commented text first last pairs few_first few_last few =
 pub few-leaves_of : (g : Graph) (t : Shape) → IsGraph g → g.order ≤ 128 → IsDerivation g t → length (leaves g.order t) ≤ 64
 few-leaves_of g t is vertices derived = grind (arith, few-nodes g t is vertices derived, length-leaves_at g.order (singles g.order) t, leaf_count-cuts t, node_count-cuts t)
 
-abbrev leaves_in : Tally → ℕ
-leaves_in tally = tally.leaves
-
-abbrev bricks_in : Tally → ℕ
-bricks_in tally = tally.bricks
-
-abbrev braces_in : Tally → ℕ
-braces_in tally = tally.braces
-
 few-tally : (g : Graph) (ps : List (List (List ℕ))) (tally : Tally) → IsTally g ps tally → length ps ≤ 64 → IsFew tally
 few-tally g ps tally counts few = grind (arith, count_by-le-length is_brick counts.kinds, count_by-le-length)
 

@@ -12,10 +12,6 @@ module _ (g : Graph) (is : IsGraph g) (x : Set) where
   abbrev pub is_odd_least : Set
   is_odd_least u = is_least g x u && is_odd (count g.order (joined g x u))
 
-  -- the place of v's component among the odd ones, 0 if it is not one
-  abbrev pub component_label : ℕ → ℕ
-  component_label v = total g.order (λ u. bit (is_odd_least u && joined g x u v) * count u is_odd_least)
-
   leader : (v : ℕ) → Within g.order v → x v ≡ false → (u : ℕ) × Within g.order u × (is_least g x u ≡ true) × (joined g x u v ≡ true)
   leader v w o = grind (arith, some_term g.order, some_leader g x is v w o, and_parts, bit_true)
 

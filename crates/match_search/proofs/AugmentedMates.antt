@@ -10,10 +10,6 @@ use Rattle.match_search.specs.declared.answer.Answer.TheVariants.{Grown}
 use Rattle.match_search.proofs.Instances.{instance_alike}
 use Rattle.match_search.proofs.SameMates.{exposed_mates, same_mates_count}
 
--- an instance and the mates of a matching of it, where the mates are passed on
-pub first_held : (g : Graph) (r f : Set) (s : Instance) (mate passed : List ℕ) → passed ≡ mate → IsInstance g r s → length mate ≡ suc g.order → HasMates g r f (numbers mate) → HoldsMatching g r f s passed
-first_held g r f s mate passed same is long mates = subst (λ (row : List ℕ). HoldsMatching g r f s row) (sym same) (record { instance_is = is; long = long; mates = mates })
-
 -- a matching with one more edge has fewer exposed vertices
 fewer_exposed : (g : Graph) → IsGraph g → (r f m : Set) (mate new : ℕ → ℕ) → HasMates g r f mate → HasMates g r m new → count (size g) m ≡ count (size g) f + 1 →
     count g.order (λ v. not (r v) && (new v == 0)) < count g.order (λ v. not (r v) && (mate v == 0))

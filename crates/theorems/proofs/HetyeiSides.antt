@@ -51,11 +51,6 @@ unfolding differ
 opposite true = refl
 opposite false = refl
 
-opposite-back : (c : Bool) → differ (not c) c ≡ true
-unfolding differ
-opposite-back true = refl
-opposite-back false = refl
-
 ends-cross : (g : Graph) (x : Set) (e v : ℕ) (c : Bool) → (first_end g e == v || second_end g e == v) ≡ true → x v ≡ c → x (other_end g e v) ≡ not c → in_cut g x e ≡ true
 unfolding differ
 ends-cross g x e v c h here there = grind arith

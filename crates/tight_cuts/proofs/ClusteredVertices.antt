@@ -38,34 +38,6 @@ module _ (g : Graph) (is : IsGraph g) (cov : IsCovered g) (e : ℕ) (we : Within
     | inr f ↦ let none = unparted_none level in grind arith
   ]
 
--- two clusters joined: each vertex of both is on the side of a
-module _ (g : Graph) (old new : List (List ℕ)) (a b : ℕ) (all : List ℕ) (c : AreClusters g old) (wa : Within g.order a) (wb : Within g.order b) (ab : AreUnparted g a b)
-    (members : (v : ℕ) → mem all v ≡ (((mem (item old a) v || mem (item old b) v) || (a == v)) || (b == v)))
-    (long : length new ≡ length old) (each : (v : ℕ) → Within (length old) v → item new v ≡ cond (mem all v) all (item old v)) where
-  beside : (v : ℕ) → mem all v ≡ true → AreUnparted g a v
-  beside v h x t nt = elim (or_cases ((mem (item old a) v || mem (item old b) v) || (a == v)) (b == v) (sym (members v) ∙ h)) [
-    | inl p ↦ elim (or_cases (mem (item old a) v || mem (item old b) v) (a == v) p) [
-      | inl q ↦ elim (or_cases (mem (item old a) v) (mem (item old b) v) q) [
-        | inl k ↦ c.unparted a v wa k x t nt
-        | inr k ↦ ab x t nt ∙ c.unparted b v wb k x t nt
-      ]
-      | inr q ↦ ap x (eqb-true a v q)
-    ]
-    | inr p ↦ ab x t nt ∙ ap x (eqb-true b v p)
-  ]
-
-  pub clusters_joined : AreClusters g new
-  clusters_joined = record {
-    one_each = long ∙ c.one_each;
-    unparted = λ u v wu h x t nt. elim (cases_Bool (mem all u)) [
-      | inl k ↦ sym (beside u k x t nt) ∙ beside v (sym (ap (λ s. mem s v) (each u (within u wu) ∙ ap (λ b. cond b all (item old u)) k)) ∙ h) x t nt
-      | inr k ↦ c.unparted u v wu (sym (ap (λ s. mem s v) (each u (within u wu) ∙ ap (λ b. cond b all (item old u)) k)) ∙ h) x t nt
-    ];
-  }
-    where
-      within : (u : ℕ) → Within g.order u → Within (length old) u
-      within u w = grind (arith, c.one_each)
-
 -- the ends of an edge, by the set of one of them
 pub set_unparted : (g : Graph) (rows : List (List ℕ)) (e a b : ℕ) (set : List ℕ) → AreClusters g rows → Within g.order a → a ≡ first_end g e → b ≡ second_end g e → set ≡ item rows a → mem set b ≡ true → AreUnparted g (first_end g e) (second_end g e)
 set_unparted g rows e a b set c wa qa qb is h x t nt = ap x (sym qa) ∙ c.unparted a b wa (ap (λ s. mem s b) (sym is) ∙ h) x t nt ∙ ap x qb

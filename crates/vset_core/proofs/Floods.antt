@@ -16,15 +16,6 @@ pub record IsFlooding (rows : List (List ℕ)) (within roots inner rest open_set
       (v : ℕ) → within v ≡ true → rest v ≡ false → x v ≡ true
 
 module _ (rows : List (List ℕ)) (within roots : Set) where
-  pub flooding_start : (inner rest : Set) → ((v : ℕ) → roots v ≡ true → within v ≡ true) → ((v : ℕ) → rest v ≡ (within v && not (roots v))) → IsFlooding rows within roots inner rest roots
-  flooding_start inner rest inside rest_is = record {
-    inside = λ v r. (and_parts (within v) (not (roots v)) (sym (rest_is v) ∙ r)).0;
-    among = λ v o. grind arith;
-    start = λ v o. grind arith;
-    done = λ u v w r o. grind arith;
-    least = λ x has closed v w r. grind arith;
-  }
-
   -- the new vertices are those of the row of an open vertex v that are left
   module _ (inner rest open_set inner' rest' open' row new : Set) (v : ℕ) (flood : IsFlooding rows within roots inner rest open_set) (v_open : open_set v ≡ true) (row_is : (w : ℕ) → row w ≡ leads rows v w)
       (new_is : (w : ℕ) → new w ≡ (row w && rest w)) (rest_is : (w : ℕ) → rest' w ≡ (rest w && not (new w))) (open_is : (w : ℕ) → open' w ≡ ((open_set w && not (v == w)) || new w))
