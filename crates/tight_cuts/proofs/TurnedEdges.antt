@@ -1,19 +1,19 @@
 -- What turned graphs show. Idea: of the edges at u a matching that leaves a set at u has only the
 -- one in the cut, so all its edges keep their ends in the turned graph, and it is perfect there.
-use Rattle.std.proofs.Common.{◌≡◌, ℕ, zero, suc, List, [], ◌∷◌, length, map, slice_index_or, eq-eqb, ◌<◌, ◌+◌, ◌==◌, ◌&&◌, true, refl, sym, ap, ap₂, ◌∙◌, subst, arith, inl, inr}
-use Rattle.counting.proofs.Common.{cases_Bool, cases_eq, cases_lt, cases_order, count, count_congr, mem, or_left, or_right, Within, Set, none}
-use Rattle.graph_core.proofs.Common.{Graph, IsGraph, IsMultigraph, degree, first_end, second_end, in_cut, size, Allowed, IsEnd, IsPerfect, has_perfect_found, with_edge}
+use Rattle.std.proofs.Common.{◌≡◌, ℕ, zero, suc, List, [], ◌∷◌, length, map, slice_index_or, eq-eqb, ◌<◌, ◌+◌, ◌==◌, ◌&&◌, false, true, refl, sym, ap, ap₂, ◌∙◌, subst, arith, inl, inr}
+use Rattle.counting.proofs.Common.{all_in, all_in_true, and_from, both_ways, cases_Bool, cases_eq, cases_lt, cases_order, count, count_congr, mem, or_left, or_right, Within, Set, none}
+use Rattle.graph_core.proofs.Common.{Graph, IsGraph, IsMultigraph, degree, first_end, second_end, in_cut, size, Allowed, HasEnds, IsEnd, IsPerfect, adjacent, adjacent_from, adjacent_within, has_ends-from, has_perfect_found, with_edge}
 use Rattle.allowed_edges.proofs.PairSteps.{apart_shared}
 use Rattle.allowed_edges.specs.PairTables.{IsPerfectWith}
 use Rattle.match_core.proofs.MatchingEdges.{edge_of}
-use Rattle.match_core.specs.Common.{IsOf, MatchingValue, edges_of}
+use Rattle.match_core.specs.Common.{IsOf, MatchingValue, are_partners, edges_of}
 use Rattle.match_core.specs.declared.matching.MatchRow.{MatchRow}
 use Rattle.allowed_edges.proofs.ThroughEdges.{one_cut}
 use Rattle.tight_cuts.proofs.BesideGraphs.{ends-new, ends-old}
 use Rattle.tight_cuts.specs.Common.{AreEndsPartners, IsTurned, Leaves, LeavesAlone, NoTwoTogether}
 
 -- the end of an edge is a vertex
-end_within : (g : Graph) (e u : ℕ) → IsGraph g → Within (size g) e → IsEnd g e u → Within g.order u
+pub end_within : (g : Graph) (e u : ℕ) → IsGraph g → Within (size g) e → IsEnd g e u → Within g.order u
 end_within g e u is we end = grind (arith, is e we)
 
 module _ (g h : Graph) (x : Set) (u : ℕ) (is : IsGraph g) (t : IsTurned g x u h) (m : Set) (perfect : IsPerfect g none m) (e : ℕ) (we : Within (size g) e) (me : m e ≡ true) (leaves : Leaves g x u e) where
@@ -93,11 +93,42 @@ turned_more g h x u k a b long same new d w cut = elim (cases_lt k d) [
   | inr l ↦ let v : Within (size h) d = (w.0, omega arith) in let o = ends-old h a b d v in let s = same d (w.0, l) cut in (o.0 ∙ s.0, o.1 ∙ s.1)
 ]
 
--- one edge more that does not leave the set later with partners as ends
-pub apart_more : (g h : Graph) (x : Set) (u k : ℕ) → ((f v : ℕ) → Within k f → u < v → Leaves g x v f → ¬ (AreEndsPartners h none f)) →
-    ((v : ℕ) → u < v → Leaves g x v (k + 1) → ¬ (AreEndsPartners h none (k + 1))) →
-    (f v : ℕ) → Within (k + 1) f → u < v → Leaves g x v f → ¬ (AreEndsPartners h none f)
-apart_more g h x u k old new f v w l leaves ends = elim (cases_lt k f) [
-  | inl r ↦ let q : f ≡ k + 1 = let a = w.1 in omega arith in new v l (subst (Leaves g x v) q leaves) (subst (λ i. AreEndsPartners h none i) q ends)
-  | inr r ↦ old f v (w.0, r) l leaves ends
-]
+-- an edge that leaves the set at v joins v to a vertex outside
+leaves_to : (g : Graph) (x : Set) (v e : ℕ) → Within (size g) e → Leaves g x v e →
+    (w : ℕ) × HasEnds g e v w × (adjacent g none v w ≡ true) × (x w ≡ false)
+leaves_to g x v e we leaves = elim leaves.end [
+  | inl q ↦ to (second_end g e) (inl (q, refl)) (grind (arith, leaves.inside, leaves.cut))
+  | inr q ↦ to (first_end g e) (inr (refl, q)) (grind (arith, leaves.inside, leaves.cut))
+] where
+  to : (w : ℕ) → HasEnds g e v w → x w ≡ false →
+      (w : ℕ) × HasEnds g e v w × (adjacent g none v w ≡ true) × (x w ≡ false)
+  to w ends out =
+      (w, ends, adjacent_from g none v w e refl refl we (has_ends-from g v w e ends), out)
+
+-- if the neighbours of v are in the set, no edge leaves it at v
+pub none_out : (g : Graph) (x : Set) (row : List ℕ) (v f : ℕ) →
+    ((w : ℕ) → mem row w ≡ adjacent g none v w) → all_in row x ≡ true →
+    Within (size g) f → Leaves g x v f → ⊥
+none_out g x row v f are inside wf leaves =
+    let w = leaves_to g x v f wf leaves in
+    both_ways (x w.0) w.3 (all_in_true row x inside w.0 (are w.0 ∙ w.2))
+
+-- if the neighbours of v that are partners of it in the turned graph are in the set, no edge that
+-- leaves the set at v has partners as ends there
+pub none_joined : (g h : Graph) (x : Set) (u v f : ℕ) (row near : List ℕ) →
+    IsGraph g → IsTurned g x u h →
+    ((w : ℕ) → Within h.order w → mem row w ≡ are_partners h none v w) →
+    ((w : ℕ) → mem near w ≡ (adjacent g none v w && mem row w)) → all_in near x ≡ true →
+    Within (size g) f → Leaves g x v f → ¬ (AreEndsPartners h none f)
+none_joined g h x u v f row near is t partners meets inside wf leaves ends =
+    let w = leaves_to g x v f wf leaves in
+    let same = t.same f wf (λ _. leaves.cut) in
+    let r = t.order in
+    let a = adjacent_within g none is v w.0 w.2 in
+    let ww : Within h.order w.0 = (a.1.0, let l = a.1.1 in omega arith) in
+    let are : are_partners h none v w.0 ≡ true = elim w.1 [
+      | inl q ↦ grind (arith, same, q, ends.0)
+      | inr q ↦ grind (arith, same, q, ends.1)
+    ] in
+    let in_near = and_from (adjacent g none v w.0) (mem row w.0) w.2 (partners w.0 ww ∙ are) in
+    both_ways (x w.0) w.3 (all_in_true near x inside w.0 (meets w.0 ∙ in_near))

@@ -146,9 +146,10 @@ fn next_vertex(g: &MultiGraph, reach: VSet, open: VSet, missing: VSet) -> Option
     let mut most = 0;
     for k in 0..g.order() {
         if open.contains(k + 1) && reach.contains(k + 1) {
-            let gain = g.rows()[k as usize].meet(missing).len();
-            if gain > most {
-                most = gain;
+            let near = g.rows()[k as usize].meet(missing);
+            // a count of bits takes longer than a test for none
+            if near != VSet::empty() && near.len() > most {
+                most = near.len();
                 found = Some(k + 1);
             }
         }

@@ -6,14 +6,13 @@
 //! turned graph, so the ends of its edge at v are partners there. Hence one turned graph for each u
 //! and one row of partners for each later v show that there is no such matching, however many edges
 //! the cut has.
-ghost use Rattle.std.specs.Prelude.{◌≡◌, ◌≢◌, ℕ, ◌<◌, true, false, IfOk, IfNone, IfSome};
+ghost use Rattle.std.specs.Prelude.{◌≡◌, ◌≢◌, ℕ, ◌<◌, [], true, false, IfOk, IfNone, IfSome};
 ghost use Rattle.counting.specs.Common.{Within, none, mem};
 ghost use Rattle.graph_core.specs.Common.{first_end, in_cut, second_end, size, IsEnd, IsPerfect};
 ghost use Rattle.match_core.specs.Common.{IsOf, edges_of};
 ghost use Rattle.allowed_edges.specs.PairTables.{IsPerfectWith};
 ghost use Rattle.tight_cuts.specs.Common.{AreEndsPartners, IsTurned, Leaves, LeavesAlone, NoTwoTogether};
 
-use crate::tightness::has_partners;
 use allowed_edges::perfect_with_edge;
 use graph_core::{Ends, MultiGraph, is_in_cut};
 use match_core::{LazyPartners, Matching};
@@ -74,32 +73,26 @@ fn leaves_alone(
 
 // Whether some edge leaves the set at a vertex after u.
 fn has_later(g: &MultiGraph, set: VSet, u: u32) -> bool
+    requires vertex { Within g.now.order u }
     ensures { result ≡ false → (f v : ℕ) → Within (size g.now) f → u < v →
         Leaves g.now (mem set) v f → ⊥ }
 {
-    for k in 0..g.size() {
-        if leaves_later(g, set, u, k + 1) {
+    g.keeps_limits();
+    for k in u..g.order() {
+        if has_edge_out(g, set, k + 1) {
             return true;
         }
     }
     false
 }
 
-// Whether edge f leaves the set at a vertex after u.
-fn leaves_later(g: &MultiGraph, set: VSet, u: u32, f: u32) -> bool
-    requires edge { Within (size g.now) f }
-    ensures { result ≡ false → (v : ℕ) → u < v → Leaves g.now (mem set) v f → ⊥ }
+// Whether some edge leaves the set at v: v is in the set and has a neighbour outside.
+fn has_edge_out(g: &MultiGraph, set: VSet, v: u32) -> bool
+    requires vertex { Within g.now.order v }
+    ensures { result ≡ false → (f : ℕ) → Within (size g.now) f → Leaves g.now (mem set) v f → ⊥ }
 {
     g.keeps_limits();
-    let ends = g.ends(f);
-    if !is_in_cut(g, set, f) {
-        return false;
-    }
-    if set.contains(ends.a) {
-        u < ends.a
-    } else {
-        u < ends.b
-    }
+    set.contains(v) && !g.rows()[v as usize - 1].is_subset(set)
 }
 
 // The first edge that leaves the set at u.
@@ -109,6 +102,9 @@ fn edge_out(g: &MultiGraph, set: VSet, u: u32) -> Option<u32>
     ensures none { IfNone result
         ((e : ℕ) → Within (size g.now) e → Leaves g.now (mem set) u e → ⊥) }
 {
+    if !has_edge_out(g, set, u) {
+        return None;
+    }
     for k in 0..g.size() {
         if leaves(g, set, u, k + 1) {
             return Some(k + 1);
@@ -177,11 +173,36 @@ fn is_alone_in(
     g.keeps_limits();
     turned.keeps_limits();
     let mut rows = LazyPartners::new(alloc, turned, VSet::empty(), held)?;
-    for k in 0..g.size() {
-        let f = k + 1;
-        if leaves_later(g, set, u, f) && has_partners(alloc, turned, set, &mut rows, f)? {
+    for k in u..g.order() {
+        if has_partner_out(alloc, g, set, &mut rows, k + 1)? {
             return Ok(false);
         }
     }
     Ok(true)
+}
+
+// Whether v is in the set and a neighbour of it outside is a partner of it in the turned graph, to
+// which the rows belong.
+fn has_partner_out(
+    alloc: Global,
+    g: &MultiGraph,
+    set: VSet,
+    rows: &mut LazyPartners<'_>,
+    v: u32,
+) -> Result<bool, Memory>
+    requires vertex { Within g.now.order v }
+    requires turned { (u : ℕ) × IsTurned g.now (mem set) u rows.old.graph }
+    requires whole { rows.old.removed ≡ [] }
+    ensures none { IfOk result
+        (λ has. has ≡ false → (f : ℕ) → Within (size g.now) f → Leaves g.now (mem set) v f →
+        ¬ (AreEndsPartners rows.old.graph none f)) }
+    ensures same { rows.new ≡ rows.old }
+{
+    g.keeps_limits();
+    if !has_edge_out(g, set, v) {
+        return Ok(false);
+    }
+    let row = rows.of(alloc, v)?;
+    let near = g.rows()[v as usize - 1].meet(row);
+    Ok(!near.is_subset(set))
 }

@@ -5,7 +5,7 @@ ghost use Rattle.graph_core.specs.Common.{IsCovered, first_end, in_cut, second_e
 ghost use Rattle.match_core.specs.Common.{IsOf, edges_of};
 ghost use Rattle.allowed_edges.specs.Leaving.{share_end};
 ghost use Rattle.allowed_edges.specs.PairTables.{IsPerfectWith};
-ghost use Rattle.tight_cuts.specs.Common.{AreEndsPartners, CrossesTwice, IsTightness, NoLaterWith};
+ghost use Rattle.tight_cuts.specs.Common.{CrossesTwice, IsTightness, NoLaterWith};
 
 use crate::balanced::is_balanced;
 use crate::kept_rows::KeptRows;
@@ -13,7 +13,7 @@ use crate::quick_tightness::is_uncrossed;
 use allowed_edges::{perfect_with_edge, perfect_with_pair, share_end};
 use graph_core::{Ends, MultiGraph, is_in_cut};
 use graph_facts::Covered;
-use match_core::{LazyPartners, Matching, perfect_without};
+use match_core::{Matching, perfect_without};
 use std::alloc::{AllocError as Memory, Global};
 use vset_core::VSet;
 
@@ -273,23 +273,4 @@ fn smaller_end_first(g: &MultiGraph, shore: VSet, f: u32) -> Ends
         a: ends.b,
         b: ends.a,
     }
-}
-
-/// Whether the ends of f are partners, by the row of the end on the smaller side of the cut.
-pub(crate) fn has_partners(
-    alloc: Global,
-    g: &MultiGraph,
-    shore: VSet,
-    rows: &mut LazyPartners<'_>,
-    f: u32,
-) -> Result<bool, Memory>
-    requires edge { Within (size g.now) f }
-    requires graph { rows.old.graph ≡ g.now }
-    ensures partners { IfOk result (λ are. are ≡ false →
-        ¬ (AreEndsPartners g.now (mem rows.old.removed) f)) }
-    ensures same { rows.new ≡ rows.old }
-{
-    g.keeps_limits();
-    let ends = smaller_end_first(g, shore, f);
-    Ok(rows.of(alloc, ends.a)?.contains(ends.b))
 }
