@@ -3,7 +3,6 @@
 -- shift. The word of all numbers 1 to n has ones below n.
 use Rattle.std.proofs.Common.{◌≡◌, ℕ, zero, suc, ◌+◌, ◌-◌, ◌*◌, ◌/◌, ◌%◌, ◌^◌, ◌≤◌, ◌<◌, List, [], ◌↔◌, refl, sym, ◌∙◌, ap, arith, true, false, subst, inl, inr, pow_pos, shr-shr}
 use Rattle.std.specs.Int.{bit_at, w128, trailing_zeros}
-use Rattle.std.specs.Int.Count.{count_leading_zeros}
 use Rattle.counting.proofs.Common.{cases_lt, mem-all, mem-outside, mem-rising_list, rising_list-rises, same_rising_list, set-wider, Within, IsNextAfter, mem, rising_list, everything}
 use Rattle.std.proofs.lemmas.Nat.{mod_below, pow_below, shr_le, shr_split}
 use Rattle.std.proofs.lemmas.Nat.Bits.{bit_at-trailing_zeros, bit_at_above, bit_at_ones, bit_at_ones_above, ones_shr}

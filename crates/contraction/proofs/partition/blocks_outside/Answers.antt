@@ -1,4 +1,4 @@
-use Rattle.std.proofs.Common.{◌≡◌, ℕ, ◌+◌, ◌<◌, Bool, true, false, List, [], ◌∷◌, ◌++◌, not, cond, filter, take, get_or, length, append-nil, sym, ap, ◌∙◌, arith}
+use Rattle.std.proofs.Common.{◌≡◌, ℕ, ◌+◌, ◌<◌, Bool, true, false, List, [], ◌∷◌, ◌++◌, not, cond, filter, take, get_or, length, append-nil, sym, ap, ◌∙◌}
 use Rattle.std.proofs.lemmas.List.Elements.{filter_more}
 use Rattle.counting.proofs.Common.{is_subset}
 use Rattle.contraction.proofs.partition.blocks_outside.Goals.{then-not-is_subset+in_ok-push, else-not-is_subset}

@@ -1,8 +1,8 @@
-use Rattle.std.proofs.Common.{◌≡◌, ◌≢◌, ◌⊎◌, ℕ, suc, ◌+◌, ◌==◌, ◌&&◌, not, Bool, true, false, List, length, slice_index_or, eq-eqb, eqb-true, refl, sym, ap, ap₂, ◌∙◌, subst, subst₂, inl, inr, arith}
+use Rattle.std.proofs.Common.{◌≡◌, ℕ, suc, ◌+◌, ◌==◌, ◌&&◌, not, Bool, true, false, List, slice_index_or, eq-eqb, eqb-true, sym, ap, ap₂, ◌∙◌, subst, subst₂, arith}
 use Rattle.std.proofs.lemmas.List.{with_items_is}
 use Rattle.counting.proofs.Common.{both_ways}
 use Rattle.graph_core.specs.declared.ends.Ends.{Ends}
-use Rattle.match_search.specs.Common.{end_a, end_b, numbers, with_mate}
+use Rattle.match_search.specs.Common.{numbers, with_mate}
 use Rattle.match_search.proofs.GreedyMates.{no-mates}
 use Rattle.match_core.specs.Common.{NamesPairs}
 use Rattle.match_core.proofs.PairedEdges.{names_all, names_none, names_pair, names_rest}

@@ -1,8 +1,8 @@
-use Rattle.std.proofs.Common.{◌≡◌, ℕ, List, sym, ap, ◌∙◌, subst, arith}
+use Rattle.std.proofs.Common.{◌≡◌, ℕ, List, sym, ◌∙◌, subst, arith}
 use Rattle.std.proofs.lemmas.List.{with_items_is}
 use Rattle.counting.proofs.Common.{mem}
 use Rattle.graph_core.proofs.Common.{graph_of}
-use Rattle.match_search.specs.Common.{HasFrame, HasMates, numbers}
+use Rattle.match_search.specs.Common.{HasMates, numbers}
 use Rattle.match_search.proofs.GraphRows.{row_graph}
 use Rattle.match_core.proofs.FrameFacts.{no_outer-mates_perfect, outer-mates_none}
 use Rattle.match_core.specs.Common.{NamesPerfect}

@@ -1,6 +1,6 @@
-use Rattle.std.proofs.Common.{◌≡◌, ℕ, ◌+◌, ◌-◌, ◌/◌, Bool, true, List, Vec, Global, length, sym, ap, ◌∙◌, subst, arith}
+use Rattle.std.proofs.Common.{◌≡◌, ℕ, ◌+◌, ◌-◌, ◌/◌, Bool, true, List, length, sym, ap, ◌∙◌, subst, arith}
 use Rattle.counting.proofs.Common.{fun_ext, Set, put, mem}
-use Rattle.graph_core.proofs.Common.{IsMatching, IsPerfect, graph_of}
+use Rattle.graph_core.proofs.Common.{IsPerfect, graph_of}
 use Rattle.match_search.specs.Common.{flipped, marks, numbers, part, DiffersByPath, IsRepairRow, Misses}
 use Rattle.match_search.proofs.GraphRows.{row_graph, size_is}
 use Rattle.match_core.proofs.RepairedPaths.{flipped_row, repaired_path}

@@ -1,5 +1,5 @@
-use Rattle.std.proofs.Common.{◌≡◌, ℕ, ◌+◌, ◌<◌, ◌==◌, cond, drop, get_or, length, List, refl, sym, ap, ◌∙◌, eq-eqb, ne_eqb, ◌≢◌, arith}
-use Rattle.std.proofs.lemmas.List.{drop_all, drop_more}
+use Rattle.std.proofs.Common.{◌≡◌, ℕ, ◌+◌, ◌<◌, ◌==◌, cond, drop, get_or, length, List, refl, sym, ap, ◌∙◌, ne_eqb, arith}
+use Rattle.std.proofs.lemmas.List.{drop_more}
 use Rattle.tree_core.proofs.Common.{position}
 use Rattle.uncross.proofs.leaf_maps.position_of.Goals as goal
 

@@ -1,9 +1,8 @@
 use Rattle.std.proofs.Common.{◌≡◌, true, sym, ap, ◌∙◌, subst, refl, inl}
-use Rattle.counting.proofs.Common.{none, put, mem, mem-rising_list, list-from_test}
+use Rattle.counting.proofs.Common.{none, put, mem}
 use Rattle.graph_core.proofs.Common.{size, first_end, second_end, add_edge}
 use Rattle.match_search.proofs.GrownRows.{with_put}
 use Rattle.match_core.specs.Common.{MatchingValue, KeepsMatching, IsOf, edges_of}
-use Rattle.match_core.specs.declared.matching.MatchRow.{MatchRow}
 use Rattle.match_core.proofs.InsertedRows.{joined_is}
 use Rattle.match_core.proofs.MatchingEdges.{joined_edges, marked_matching, marked-keeps, marked-of, marked-edges, rows-matching, rows-rise}
 use Rattle.match_core.proofs.matching.Matching.joined.Goals as goal
