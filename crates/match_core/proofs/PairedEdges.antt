@@ -92,6 +92,6 @@ pub names_all : (n : ℕ) (ends : List Ends) (mate at : List ℕ) → AreEnds n 
 names_all n ends mate at row named r f has = (
   named.m,
   marked_mates (graph_of n ends) (row_graph n ends row) r f named.m (λ v. not (numbers at v == 0)) (numbers mate) has
-  (subst (λ k. Rattle.match_search.specs.Common.MarksMates (graph_of n ends) (numbers mate) named.m (λ v. not (numbers at v == 0)) k) (sym (size_is n ends)) named.marking),
+      (subst (λ k. Rattle.match_search.specs.Common.MarksMates (graph_of n ends) (numbers mate) named.m (λ v. not (numbers at v == 0)) k) (sym (size_is n ends)) named.marking),
   named.named,
 )

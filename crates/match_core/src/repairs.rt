@@ -120,8 +120,7 @@ fn is_first_of_pair(e: Ends, mate: &[u32], at: &[u32]) -> bool
     ensures { result ≡ ((numbers mate.now e.a == e.b) && (not (e.a == e.b) &&
         (numbers at.now e.a == 0 && (numbers at.now e.b == 0)))) }
 {
-    mate[e.a as usize] == e.b
-        && (e.a != e.b && (at[e.a as usize] == 0 && at[e.b as usize] == 0))
+    mate[e.a as usize] == e.b && (e.a != e.b && (at[e.a as usize] == 0 && at[e.b as usize] == 0))
 }
 
 // The marks of the repaired matching: the path from one missed vertex to the other is a part of the

@@ -131,9 +131,9 @@ module _ (x : ℕ) (set : List ℕ) (is : members x ≡ set) (fits : x < 2 ^ 128
       let one : bit_at (x / 2 ^ 64) j ≡ 1 = grind arith in
       let own : in_word (x / 2 ^ 64) (suc j) ≡ true = ap (λ b. b == 1) one in
       subst (λ k. IsGreatestOf set k × Within 128 k) (sym e) (greatest_at x (64 + j) set is fits (let t = top.1 in omega arith)
-        (ap (λ n. in_word n (suc (64 + j))) (sym (shr_split x 64)) ∙ high_bit (x / 2 ^ 64) (x % 2 ^ 64) j (low_fits x set set is fits) ∙ own)
-        (λ w l. let f : suc (64 + (w - 65)) ≡ w = omega arith in
-          ap (in_word x) (sym f) ∙ ap (λ n. in_word n (suc (64 + (w - 65)))) (sym (shr_split x 64)) ∙ high_bit (x / 2 ^ 64) (x % 2 ^ 64) (w - 65) (low_fits x set set is fits) ∙ no_bit (x / 2 ^ 64) (suc (w - 65)) (λ i q. bit_at_above (x / 2 ^ 64) (suc j) i top.3 (omega arith))))
+      (ap (λ n. in_word n (suc (64 + j))) (sym (shr_split x 64)) ∙ high_bit (x / 2 ^ 64) (x % 2 ^ 64) j (low_fits x set set is fits) ∙ own)
+      (λ w l. let f : suc (64 + (w - 65)) ≡ w = omega arith in
+      ap (in_word x) (sym f) ∙ ap (λ n. in_word n (suc (64 + (w - 65)))) (sym (shr_split x 64)) ∙ high_bit (x / 2 ^ 64) (x % 2 ^ 64) (w - 65) (low_fits x set set is fits) ∙ no_bit (x / 2 ^ 64) (suc (w - 65)) (λ i q. bit_at_above (x / 2 ^ 64) (suc j) i top.3 (omega arith))))
 
   pub greatest_low : x / 2 ^ 64 ≡ 0 → 0 < x % 2 ^ 64 → IsGreatestOf set (64 - count_leading_zeros 64 (x % 2 ^ 64)) × Within 128 (64 - count_leading_zeros 64 (x % 2 ^ 64))
   greatest_low none some =
@@ -143,5 +143,5 @@ module _ (x : ℕ) (set : List ℕ) (is : members x ≡ set) (fits : x < 2 ^ 128
       let same : x % 2 ^ 64 ≡ x = let w = shr_split x 64 in omega arith in
       let e : 64 - count_leading_zeros 64 (x % 2 ^ 64) ≡ suc j = let t = top.1 in omega arith in
       subst (λ k. IsGreatestOf set k × Within 128 k) (sym e) (greatest_at x j set is fits (let t = top.1 in omega arith)
-        (ap (λ n. in_word n (suc j)) (sym same) ∙ ap (λ b. b == 1) one)
-        (λ w l. ap (λ n. in_word n w) (sym same) ∙ no_bit (x % 2 ^ 64) w (λ i q. bit_at_above (x % 2 ^ 64) (suc j) i top.3 (omega arith))))
+      (ap (λ n. in_word n (suc j)) (sym same) ∙ ap (λ b. b == 1) one)
+      (λ w l. ap (λ n. in_word n w) (sym same) ∙ no_bit (x % 2 ^ 64) w (λ i q. bit_at_above (x % 2 ^ 64) (suc j) i top.3 (omega arith))))

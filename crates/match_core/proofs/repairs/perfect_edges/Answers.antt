@@ -41,7 +41,7 @@ returns-then-len-eq0-clause-none c =
     let passed : c.deref-then-len-eq0.result.now ≡ c.enlarge.new.mate = c.deref-then-len-eq0.ensures.value ∙ with_items_is c.args.given c.enlarge.new.mate (c.enlarge.auto.mate ∙ c.deref_mut.ensures.len) in
     let named = c.in_ok-at.ensures.named (mem c.args.removed) framed.m (subst (λ (row : List ℕ). HasMates g (mem c.args.removed) framed.m (numbers row)) (sym passed) framed.mates) in
     let perfect = no_outer-mates_perfect g is (mem c.args.removed) c.enlarge.new.mate c.in_ok-sets.sets framed (sym c.len.ensures ∙ (grind arith)) named.0
-        (subst (λ (row : List ℕ). HasMates g (mem c.args.removed) named.0 (numbers row)) passed named.1) in
+    (subst (λ (row : List ℕ). HasMates g (mem c.args.removed) named.0 (numbers row)) passed named.1) in
     ((λ q. absurd (cc)), (λ none. absurd (none (named.0, perfect))))
 
 pub returns-clause-none : goal.returns-clause-none

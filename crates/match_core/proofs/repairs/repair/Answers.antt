@@ -17,9 +17,11 @@ perfect_edges-requires-clause-row c = limits_row c.args.g.now c.order-n.result c
 
 pub perfect_edges-requires-clause-mates : goal.perfect_edges-requires-clause-mates
 perfect_edges-requires-clause-mates c =
-    let there = whole_graph c.args.g.now c.order-n.result c.edges-ends.result.now c.order-n.ensures.is c.edges-ends.ensures.edges in
-    (mem (edges_of c.args.m.now), subst (λ (g : Graph). HasMates g (mem c.args.removed) (mem (edges_of c.args.m.now)) (numbers c.in_ok-mate.mate.items)) (sym there)
-    (mates_beside c.args.g.now (mem c.args.removed) (mem c.empty.result) (mem (edges_of c.args.m.now)) (numbers c.in_ok-mate.mate.items) c.requires.matching (λ v. ap (λ s. mem s v) c.empty.ensures) c.in_ok-mate.ensures.mates))
+    let there = whole_graph c.args.g.now c.order-n.result c.edges-ends.result.now c.order-n.ensures.is c.edges-ends.ensures.edges in (
+      mem (edges_of c.args.m.now),
+      subst (λ (g : Graph). HasMates g (mem c.args.removed) (mem (edges_of c.args.m.now)) (numbers c.in_ok-mate.mate.items)) (sym there)
+          (mates_beside c.args.g.now (mem c.args.removed) (mem c.empty.result) (mem (edges_of c.args.m.now)) (numbers c.in_ok-mate.mate.items) c.requires.matching (λ v. ap (λ s. mem s v) c.empty.ensures) c.in_ok-mate.ensures.mates),
+    )
 
 pub repaired_marks-requires-clause-row : goal.repaired_marks-requires-clause-row
 repaired_marks-requires-clause-row c = limits_row c.args.g.now c.order-n.result c.edges-ends.result.now c.order-n.ensures.is c.edges-ends.ensures.edges c.edges-ends.ensures.limits

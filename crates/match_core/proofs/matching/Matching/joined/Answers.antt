@@ -20,7 +20,7 @@ invariant_of-result c =
     let e = c.args.e in
     let limits = c.keeps_limits.ensures in
     let added = (add_edge g none (mem (edges_of c.args.self.now)) e (first_end g e) (second_end g e) (rows-matching g c.args.self.now c.requires.of c.keeps_matching.ensures) c.requires.edge
-        (limits.multigraph.no_loop e c.requires.edge) refl refl (inl (refl, refl)) c.requires.first c.requires.second).0 in
+    (limits.multigraph.no_loop e c.requires.edge) refl refl (inl (refl, refl)) c.requires.first c.requires.second).0 in
     subst KeepsMatching (sym (made c)) (marked-keeps g (put (mem (edges_of c.args.self.now)) e true) limits.multigraph.ends limits.vertices limits.edges added)
 
 pub returns-clause-of : goal.returns-clause-of
