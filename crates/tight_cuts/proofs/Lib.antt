@@ -20,6 +20,7 @@ pub mod FrontCandidates
 pub mod FirstCandidates
 mod CrossingMatchings
 pub mod TurnedEdges
+pub mod ThirdEdges
 pub mod SurplusShores
 pub mod ClusteredVertices
 pub mod LiftedCandidates

@@ -1,7 +1,7 @@
 -- What turned graphs show. Idea: of the edges at u a matching that leaves a set at u has only the
 -- one in the cut, so all its edges keep their ends in the turned graph, and it is perfect there.
 use Rattle.std.proofs.Common.{◌≡◌, ℕ, zero, suc, List, [], ◌∷◌, length, map, slice_index_or, eq-eqb, ◌<◌, ◌+◌, ◌==◌, ◌&&◌, false, true, refl, sym, ap, ap₂, ◌∙◌, subst, arith, inl, inr}
-use Rattle.counting.proofs.Common.{all_in, all_in_true, and_from, both_ways, cases_Bool, cases_eq, cases_lt, cases_order, count, count_congr, mem, or_left, or_right, Within, Set, none}
+use Rattle.counting.proofs.Common.{all_in, all_in_true, and_from, both_ways, cases_Bool, cases_eq, cases_lt, count, count_congr, mem, or_left, or_right, Within, Set, none}
 use Rattle.graph_core.proofs.Common.{Graph, IsGraph, IsMultigraph, degree, first_end, second_end, in_cut, size, Allowed, HasEnds, IsEnd, IsPerfect, adjacent, adjacent_from, adjacent_within, has_ends-from, has_perfect_found, with_edge}
 use Rattle.allowed_edges.proofs.PairSteps.{apart_shared}
 use Rattle.allowed_edges.specs.PairTables.{IsPerfectWith}
@@ -10,7 +10,7 @@ use Rattle.match_core.specs.Common.{IsOf, MatchingValue, are_partners, edges_of}
 use Rattle.match_core.specs.declared.matching.MatchRow.{MatchRow}
 use Rattle.allowed_edges.proofs.ThroughEdges.{one_cut}
 use Rattle.tight_cuts.proofs.BesideGraphs.{ends-new, ends-old}
-use Rattle.tight_cuts.specs.Common.{AreEndsPartners, IsTurned, Leaves, LeavesAlone, NoTwoTogether}
+use Rattle.tight_cuts.specs.Common.{AreEndsPartners, IsTurned, Leaves, LeavesAlone}
 
 -- the end of an edge is a vertex
 pub end_within : (g : Graph) (e u : ℕ) → IsGraph g → Within (size g) e → IsEnd g e u → Within g.order u
@@ -64,24 +64,11 @@ turned_alone g h x u is multi t apart m e f v perfect we wf me mf le lf l = apar
     (m, perfect_turned g h x u is t m perfect e we me le, mf))
 
 -- each edge of the cut leaves the set at a vertex
-leaves_at : (g : Graph) (x : Set) (e : ℕ) → IsGraph g → Within (size g) e → in_cut g x e ≡ true → (u : ℕ) × Within g.order u × Leaves g x u e
+pub leaves_at : (g : Graph) (x : Set) (e : ℕ) → IsGraph g → Within (size g) e → in_cut g x e ≡ true → (u : ℕ) × Within g.order u × Leaves g x u e
 leaves_at g x e is we cut = elim (cases_Bool (x (first_end g e))) [
   | inl a ↦ (first_end g e, (is e we).0, record { inside = a; end = inl refl; cut = cut })
   | inr a ↦ (second_end g e, (is e we).1, record { inside = grind arith; end = inr refl; cut = cut })
 ]
-
--- if none has two edges of the cut, one at a first and one at a later vertex, then none has two
-pub alone_apart : (g : Graph) (x : Set) → IsGraph g → ((u : ℕ) → Within g.order u → LeavesAlone g x u) → NoTwoTogether g x
-alone_apart g x is alone e f we wf d ce cf t =
-    let u = leaves_at g x e is we ce in
-    let v = leaves_at g x f is wf cf in
-    elim (cases_order u.0 v.0) [
-      | inl q ↦ apart_shared g e f u.0 d we wf u.1 u.2.end (subst (IsEnd g f) (sym q) v.2.end) t
-      | inr n ↦ elim n [
-        | inl l ↦ alone u.0 u.1 t.0 e f v.0 t.1 we wf t.2 t.3 u.2 v.2 l
-        | inr l ↦ alone v.0 v.1 t.0 f e u.0 t.1 wf we t.3 t.2 v.2 u.2 l
-      ]
-    ]
 
 -- one edge more of the turned graph
 pub turned_more : (g h : Graph) (x : Set) (u k a b : ℕ) → size h ≡ k →

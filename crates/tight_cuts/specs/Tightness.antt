@@ -42,6 +42,10 @@ pub record Leaves (g : Graph) (x : Set) (u e : ℕ) : Type 0 where
 abbrev pub LeavesAlone : Graph → Set → ℕ → Type 0
 LeavesAlone g x u = (m : Set) (e f v : ℕ) → IsPerfect g none m → Within (size g) e → Within (size g) f → m e ≡ true → m f ≡ true → Leaves g x u e → Leaves g x v f → u < v → ⊥
 
+-- edges leave x at no more than one vertex after u
+abbrev pub HasFewLater : Graph → Set → ℕ → Type 0
+HasFewLater g x u = (e f v w : ℕ) → Within (size g) e → Within (size g) f → u < v → u < w → Leaves g x v e → Leaves g x w f → v ≡ w
+
 -- h has the vertices and the edges of g, each with its ends; but those that join u to the rest of x
 -- may have other ends
 pub record IsTurned (g : Graph) (x : Set) (u : ℕ) (h : Graph) : Type 0 where

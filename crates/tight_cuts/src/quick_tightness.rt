@@ -5,13 +5,14 @@
 //! of them the ends of one edge that leaves the set at u. The matching is still perfect in the
 //! turned graph, so the ends of its edge at v are partners there. Hence one turned graph for each u
 //! and one row of partners for each later v show that there is no such matching, however many edges
-//! the cut has.
+//! the cut has. If the set is odd, such a matching has a third edge in the cut, so the last two
+//! vertices at which edges leave the set need not be asked.
 ghost use Rattle.std.specs.Prelude.{◌≡◌, ◌≢◌, ℕ, ◌<◌, [], true, false, IfOk, IfNone, IfSome};
-ghost use Rattle.counting.specs.Common.{Within, none, mem};
+ghost use Rattle.counting.specs.Common.{Within, count, is_odd, none, mem};
 ghost use Rattle.graph_core.specs.Common.{first_end, in_cut, second_end, size, IsEnd, IsPerfect};
 ghost use Rattle.match_core.specs.Common.{IsOf, edges_of};
 ghost use Rattle.allowed_edges.specs.PairTables.{IsPerfectWith};
-ghost use Rattle.tight_cuts.specs.Common.{AreEndsPartners, IsTurned, Leaves, LeavesAlone, NoTwoTogether};
+ghost use Rattle.tight_cuts.specs.Common.{AreEndsPartners, HasFewLater, IsTurned, Leaves, LeavesAlone, NoTwoTogether};
 
 use allowed_edges::perfect_with_edge;
 use graph_core::{Ends, MultiGraph, is_in_cut};
@@ -21,7 +22,7 @@ use vset_core::VSet;
 
 /// Whether the quick test shows that no perfect matching has two edges in the cut of the set. The
 /// fewer vertices the set has, the faster it is: at most one augmentation for each of them, and one
-/// search for any two of them.
+/// search for any two of them. An odd set with edges out at two vertices at most takes none.
 pub(crate) fn is_uncrossed(
     alloc: Global,
     g: &MultiGraph,
@@ -33,12 +34,42 @@ pub(crate) fn is_uncrossed(
     ensures { IfOk result (λ shown. shown ≡ true → NoTwoTogether g.now (mem set)) }
 {
     g.keeps_limits();
+    let is_odd = is_odd_in(g, set);
     for k in 0..g.order() {
-        if !leaves_alone(alloc, g, set, kept, k + 1)? {
+        let is_last = is_odd && has_few_later(g, set, k + 1);
+        if !is_last && !leaves_alone(alloc, g, set, kept, k + 1)? {
             return Ok(false);
         }
     }
     Ok(true)
+}
+
+// Whether an odd number of vertices of the graph are in the set.
+fn is_odd_in(g: &MultiGraph, set: VSet) -> bool
+    ensures { result ≡ is_odd (count g.now.order (mem set)) }
+{
+    g.keeps_limits();
+    let inside = VSet::full(g.order()).meet(set);
+    inside.rises();
+    inside.len() % 2 == 1
+}
+
+// Whether u is in the set, and edges leave the set at no more than one later vertex.
+fn has_few_later(g: &MultiGraph, set: VSet, u: u32) -> bool
+    requires vertex { Within g.now.order u }
+    ensures { result ≡ true → HasFewLater g.now (mem set) u }
+{
+    g.keeps_limits();
+    if !set.contains(u) {
+        return false;
+    }
+    let mut exits = VSet::empty();
+    for k in u..g.order() {
+        if has_edge_out(g, set, k + 1) {
+            exits = exits.with(k + 1);
+        }
+    }
+    exits.len() <= 1
 }
 
 // Whether no perfect matching has an edge that leaves the set at u and one that leaves it at a

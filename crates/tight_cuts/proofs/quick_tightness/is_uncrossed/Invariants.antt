@@ -1,7 +1,7 @@
-use Rattle.std.proofs.Common.{ℕ}
+use Rattle.std.proofs.Common.{◌≡◌, ◌⊎◌, ℕ, true}
 use Rattle.counting.proofs.Common.{Within, mem}
-use Rattle.tight_cuts.specs.Common.{LeavesAlone}
+use Rattle.tight_cuts.specs.Common.{HasFewLater, LeavesAlone}
 use Rattle.tight_cuts.proofs.quick_tightness.is_uncrossed.Given as goal
 
 abbrev pub invariant-loop-k : goal.invariant-loop-k
-invariant-loop-k l = (u : ℕ) → Within l.k u → LeavesAlone l.g (mem l.set) u
+invariant-loop-k l = (u : ℕ) → Within l.k u → LeavesAlone l.g (mem l.set) u ⊎ ((l.is_odd ≡ true) × HasFewLater l.g (mem l.set) u)
