@@ -93,6 +93,11 @@ fn leaves_alone(
     let Some(e) = edge_out(g, set, u) else {
         return Ok(true);
     };
+    // With no neighbour of u in the set nothing is turned, and the ends of each edge of a covered
+    // graph are partners.
+    if g.rows()[u as usize - 1].meet(set) == VSet::empty() {
+        return Ok(false);
+    }
     match perfect_with_edge(alloc, g, kept, e)? {
         Some(held) => {
             let turned = turned(alloc, g, set, u, e)?;
