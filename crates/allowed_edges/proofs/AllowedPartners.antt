@@ -1,7 +1,7 @@
 -- An edge is allowed if and only if its ends are partners; the list of the allowed edges, the least
 -- edge that is none, and whether a maximum matching is perfect. A perfect matching with the edge,
 -- less the edge, is perfect without its ends, and back. A perfect matching is as large as any.
-use Rattle.std.proofs.Common.{◌≡◌, ◌↔◌, ℕ, ◌==◌, ◌||◌, List, refl, ◌∙◌, arith, eq-eqb, inl, inr}
+use Rattle.std.proofs.Common.{◌≡◌, ◌↔◌, ℕ, ◌==◌, ◌||◌, List, refl, arith, eq-eqb, inl, inr}
 use Rattle.counting.proofs.Common.{same_tests, both_ways, cases_Bool, or_right, rising_only, mem-rising_list, rising_list-rises, Within, Lists, item, mem, rising_list, Set, none, pair_set}
 use Rattle.graph_core.proofs.Common.{Graph, IsGraph, IsMultigraph, first_end, second_end, size, Allowed, HasPerfect, IsMaximum, has_perfect, is_allowed, missed_count, has_perfect_found, has_perfect_says, is_allowed_found, is_allowed_says, missed_edges, none_missed-perfect, perfect_matching, perfect_misses}
 use Rattle.match_core.specs.Common.{ArePartners, are_partners}
@@ -21,10 +21,7 @@ module _ (g : Graph) (is : IsMultigraph g) (e : ℕ) (we : Within (size g) e) wh
   )
 
   pub partners-allowed : are_partners g none (first_end g e) (second_end g e) ≡ is_allowed g e
-  partners-allowed = grind arith
-      ∙ same_tests _ _
-      (λ t. is_allowed_found g e we (perfect-allowed (has_perfect_says g (pair_set (first_end g e) (second_end g e)) t)))
-      (λ t. has_perfect_found g (pair_set (first_end g e) (second_end g e)) (allowed-perfect (is_allowed_says g e t)))
+  partners-allowed = grind (arith, same_tests, is_allowed_found, perfect-allowed, has_perfect_says, pair_set, first_end, second_end, has_perfect_found, allowed-perfect, is_allowed_says)
 
 -- the row of one end says whether the edge is allowed
 pub row-allowed : (g : Graph) (table : List (List ℕ)) (row : List ℕ) (e a b : ℕ) → IsMultigraph g → Within (size g) e → ArePartners g none table → row ≡ item table a → a ≡ first_end g e → b ≡ second_end g e → mem row b ≡ is_allowed g e

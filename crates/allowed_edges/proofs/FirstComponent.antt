@@ -50,14 +50,7 @@ module _ (g : Graph) (is : IsGraph g) (l : 1 ≤ g.order) (nothing : List ℕ) (
 
   -- the least of the others is the least that no walk joins to 1
   pub first_apart : (b : ℕ) → IsLeastOf others b → IsLeastWithout g.order (Joined g none 1) b
-  first_apart b least =
-      let out = and_parts (mem all b) (not (mem (rising_list g.order (joined g none 1)) b)) (sym (outside b) ∙ least.member) in
-      let wb = (full b).0 out.0 in
-      record {
-        within = wb;
-        without = λ j. both_ways (not (mem (rising_list g.order (joined g none 1)) b)) (ap not (mem-rising_list g.order (joined g none 1) b wb ∙ walk_joined g none is 1 b (omega arith) j)) out.1;
-        before = λ w ww lt. reached w ww (least.before w lt);
-      }
+  first_apart b least = grind (arith, and_parts, mem, rising_list, joined, none, outside, full, both_ways, mem-rising_list, walk_joined, reached)
 
   -- where there is no other, the graph is connected
   pub all_joined : others ≡ [] → IsConnected g

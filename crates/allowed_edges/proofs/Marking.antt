@@ -1,6 +1,6 @@
 -- Marks set at the places of the edges of a matching, row by row.
 -- By induction on the rows, and by cases on the place that is asked for.
-use Rattle.std.proofs.Common.{◌≡◌, ℕ, suc, zero, ◌<◌, Bool, true, false, ◌||◌, ◌==◌, List, [], ◌∷◌, length, map, take, sym, ap, ◌∙◌, arith, inl, inr, eq-eqb, ne_eqb, rules, get_or-set_same, get_or-set_other, subst, All, Some, slice_get, slice_set}
+use Rattle.std.proofs.Common.{◌≡◌, ℕ, suc, zero, ◌<◌, Bool, true, false, ◌||◌, ◌==◌, List, [], ◌∷◌, length, map, take, ap, ◌∙◌, arith, eq-eqb, ne_eqb, rules, get_or-set_same, get_or-set_other, subst, All, Some, slice_get, slice_set}
 use Rattle.std.proofs.lemmas.List.Elements.{All-get_or}
 use Rattle.std.proofs.lemmas.Option.{slice_get_within}
 use Rattle.counting.proofs.Common.{get_or_from_slice_get, cases_eq, or_right, or_false, mem}
@@ -10,10 +10,7 @@ use Rattle.match_core.specs.declared.matching.MatchRow.{MatchRow}
 
 -- one place more is marked
 pub marks-set : (xs : List Bool) (e j : ℕ) → e < length xs → marks (slice_set xs e true) j ≡ (marks xs j || (e == j))
-marks-set xs e j l = elim (cases_eq e j) [
-  | inl q ↦ ap (marks (slice_set xs e true)) (sym q) ∙ get_or-set_same xs e true false l ∙ sym (or_right (marks xs j) (e == j) (eq-eqb e j q))
-  | inr d ↦ get_or-set_other xs e j true false (λ q. d (sym q)) ∙ sym (ap (λ b. marks xs j || b) (ne_eqb e j d) ∙ or_false (marks xs j))
-]
+marks-set xs e j l = grind (arith, cases_eq, slice_set, get_or-set_same, or_right, eq-eqb, get_or-set_other, ne_eqb, or_false)
 
 -- a row of the list has an edge below the bound of all
 pub edge-below : (n : ℕ) (rows : List MatchRow) (i : ℕ) (row : MatchRow) → All (λ (r : MatchRow). r.edge < n) rows → slice_get rows i ≡ Some row → row.edge < n

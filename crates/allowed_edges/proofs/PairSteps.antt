@@ -5,7 +5,7 @@ use Rattle.std.proofs.Common.{◌≡◌, ◌≢◌, ℕ, ◌+◌, ◌-◌, ◌<�
 use Rattle.counting.proofs.Common.{and_from, and_parts, both_ways, cases_eq, cases_order, false_from_ne_true, or_cases, or_left, or_right, get_or_append_left, map-append, list_any-append, or_false, get_or-append_seam, Within, IsRisingIn, mem, none}
 use Rattle.std.proofs.lemmas.List.Elements.{All-push}
 use Rattle.std.proofs.lemmas.List.Folds.{Any-from_list_any, list_any_at}
-use Rattle.graph_core.proofs.Common.{Graph, IsGraph, first_end, second_end, size, HasPerfect, IsEnd, IsPerfect, Together, IsLean, IsPairList, two_ends_le_degree}
+use Rattle.graph_core.proofs.Common.{Graph, IsGraph, first_end, second_end, size, IsEnd, IsPerfect, Together, IsLean, IsPairList, two_ends_le_degree}
 use Rattle.match_core.specs.Common.{IsOf, KeepsMatching, MatchingValue, edges_of, is_clear}
 use Rattle.match_core.specs.declared.matching.MatchRow.{MatchRow}
 use Rattle.match_core.proofs.ClearedMatchings.{end_at}
@@ -93,10 +93,6 @@ settles_sought_pair g e f p q s new h = grind (arith, settles_found g e f p q, s
 -- without a matching nothing before edge 1 is to be settled
 pub settles_nothing : (g : Graph) (p : PairsValue) → p.size ≡ size g → p.list ≡ [] → SettlesEdges g 1 p
 settles_nothing g p same empty = grind arith
-
--- in a graph without a perfect matching all is settled
-pub settles_unmatched : (g : Graph) (p : PairsValue) → SettlesEdges g 1 p → (HasPerfect g none → ⊥) → SettlesEdges g (size g + 1) p
-settles_unmatched g p s h = grind arith
 
 -- an edge with all its pairs
 pub settles_edge : (g : Graph) (e : ℕ) (p : PairsValue) → SettlesPairs g e (size g + 1) p → (Together g e e → holds_both (edge_lists p) e e ≡ true) → SettlesEdges g (e + 1) p

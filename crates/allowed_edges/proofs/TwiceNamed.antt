@@ -1,7 +1,7 @@
 -- The edges that a row names at both of their ends are a matching. Idea: two of them at one vertex
 -- are both the edge that the row names there.
-use Rattle.std.proofs.Common.{◌≡◌, ℕ, ◌<◌, Bool, true, sym, ap, ◌∙◌, List, [], length, false, get_or-set_same, get_or-set_other, rules, slice_set, arith}
-use Rattle.counting.proofs.Common.{both_ways, cases_eq, rising_holds, mem-rising_list, Within, mem, rising_list, Set, none}
+use Rattle.std.proofs.Common.{◌≡◌, ℕ, Bool, true, sym, ap, ◌∙◌, List, [], arith}
+use Rattle.counting.proofs.Common.{both_ways, rising_holds, mem-rising_list, Within, mem, rising_list, Set, none}
 use Rattle.graph_core.proofs.Common.{Graph, IsMultigraph, size, IsEnd, IsMatching, IsPerfect, missed_count, none_missed-perfect, apart_matching}
 use Rattle.match_core.specs.Common.{IsOf, MatchingValue, edges_of}
 use Rattle.match_search.proofs.Alike.{matching_alike}
@@ -15,14 +15,6 @@ named_there g at e v n h = grind arith
 
 pub named_matching : (g : Graph) (at : List ℕ) (m : Set) → IsMultigraph g → ((k : ℕ) → m k ≡ true → NamesEdge g at k) → IsMatching g none m
 named_matching g at m is names = grind (arith, apart_matching g m is.ends is.no_loop, named_there g at)
-
--- as many marks as before
-pub length_tested : (mark : List Bool) (e : ℕ) (b : Bool) → length (slice_set mark e b) ≡ length mark
-length_tested mark e b = search rules
-
--- one more edge is tested
-pub named_more : (g : Graph) (at : List ℕ) (mark : List Bool) (e : ℕ) (b : Bool) → e < length mark → ((k : ℕ) → marks mark k ≡ true → NamesEdge g at k) → (b ≡ true → NamesEdge g at e) → (k : ℕ) → marks (slice_set mark e b) k ≡ true → NamesEdge g at k
-named_more g at mark e b l before here k t = grind (arith, cases_eq e k, get_or-set_same mark e b false l, slice_set mark e b, get_or-set_other mark e k b false)
 
 -- the matching that is listed of such marks, off no vertex
 module _ (g : Graph) (m : MatchingValue) (mark : List Bool) (is : IsMatching g none (marks mark)) (of : IsOf g m) (edges : edges_of m ≡ rising_list (size g) (marks mark)) where

@@ -1,9 +1,7 @@
 -- The report on a tree of cuts that is meant to be a derivation of a graph: the number of its
 -- leaves, or its first refusal.
 -- Stated by: bench_reports. Used by: bench_outcomes, bench_top, theorems.
-use Rattle.std.specs.Prelude.{◌≡◌, ◌⊎◌, ℕ, List}
-use Rattle.std.specs.declared.option.Option.{Option}
-use Rattle.std.specs.declared.option.Option.TheVariants.{Some, None}
+use Rattle.std.specs.Prelude.{◌≡◌, ◌⊎◌, ℕ, List, Option, Some, None}
 use Rattle.graph_core.specs.Common.{Graph}
 use Rattle.tree_core.specs.Common.{IsDerivation, leaves, Shape, IsTally}
 use Rattle.tree_check.specs.Common.{Why, not_blocks, even, trivial, not_tight, not_leaf, why_number, IsRefused}

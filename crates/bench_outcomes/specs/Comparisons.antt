@@ -3,9 +3,7 @@
 -- decompositions have the same leaves, up to multiplicities of edges); or why one of them is
 -- refused.
 -- Stated by: bench_reports. Used by: bench_outcomes, bench_top, theorems.
-use Rattle.std.specs.Prelude.{◌≡◌, ◌≤◌, ◌*◌, ◌⊎◌, ℕ, suc, List, [], ◌∷◌, length}
-use Rattle.std.specs.declared.option.Option.{Option}
-use Rattle.std.specs.declared.option.Option.TheVariants.{Some, None}
+use Rattle.std.specs.Prelude.{◌≡◌, ◌≤◌, ◌*◌, ◌⊎◌, ℕ, suc, List, [], ◌∷◌, length, Option, Some, None}
 use Rattle.graph_core.specs.Common.{Graph, names_of}
 use Rattle.line_text.specs.Common.{Stands}
 use Rattle.tree_core.specs.Common.{IsDerivation, PlainLeafMap, script_maps, leaves, PlainMove, TurnsThrough, Shape, cut_count, leaf_count}

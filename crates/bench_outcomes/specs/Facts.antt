@@ -1,9 +1,6 @@
 -- What the lines of a report claim of a graph.
 -- Stated by: bench_reports. Used by: bench_outcomes, bench_top, theorems.
-use Rattle.std.specs.Prelude.{◌≡◌, ◌↔◌, ℕ, IsTrue}
-use Rattle.std.specs.declared.option.Option.{Option}
-use Rattle.std.specs.declared.option.Option.TheVariants.{Some, None}
-use Rattle.std.specs.Option.{option_map}
+use Rattle.std.specs.Prelude.{◌≡◌, ◌↔◌, ℕ, IsTrue, Option, Some, None, option_map}
 use Rattle.counting.specs.Common.{count, Set, none, Lists}
 use Rattle.graph_core.specs.Common.{Graph, size, IsBipartite, component_count, Allowed, IsMaximum, missed_count, InD, InA, InC, classes, cut_pair, equivalent_pair, IsVerdict, pair_of}
 use Rattle.graph_core.specs.declared.verdict.Verdict.{Verdict}

@@ -1,9 +1,7 @@
 -- The status and the output that belong to the arguments and the files. If a named file is missing,
 -- no case applies.
 -- Stated by: bench_reports, bench_top, theorems. Used by: bench_outcomes.
-use Rattle.std.specs.Prelude.{◌≡◌, ℕ, ◌<◌, ◌⊎◌, List, length, take, Bool, true, false}
-use Rattle.std.specs.declared.option.Option.{Option}
-use Rattle.std.specs.declared.option.Option.TheVariants.{Some, None}
+use Rattle.std.specs.Prelude.{◌≡◌, ℕ, ◌<◌, ◌⊎◌, List, length, take, Bool, true, false, Option, Some, None}
 use Rattle.outside.specs.Common.{NamedFile, appended}
 use Rattle.graph_core.specs.Common.{Graph}
 use Rattle.line_text.specs.Common.{Stands}

@@ -1,8 +1,6 @@
 -- What a refusal says of a report: the line that stands for it, of which the evidence is left open.
 -- Stated by: bench_outcomes, bench_reports. Used by: bench_top.
-use Rattle.std.specs.Prelude.{ℕ, List, ◌++◌, Bool, true, false, codes, drop, length}
-use Rattle.std.specs.declared.option.Option.{Option}
-use Rattle.std.specs.declared.option.Option.TheVariants.{Some, None}
+use Rattle.std.specs.Prelude.{ℕ, List, ◌++◌, Bool, true, false, codes, drop, length, Option, Some, None}
 use Rattle.graph_core.specs.declared.verdict.Reason.{Reason}
 use Rattle.graph_core.specs.declared.verdict.Reason.TheVariants as reason
 use Rattle.graph_core.specs.declared.verdict.Verdict.TheVariants.{NotCovered}

@@ -1,9 +1,6 @@
 -- Which commands and which tasks can refuse their input, as their conduct says.
 -- Stated by: bench_reports, bench_top. Used by: bench_outcomes.
-use Rattle.std.specs.declared.option.Option.{Option}
-use Rattle.std.specs.declared.option.Option.TheVariants.{Some, None}
-use Rattle.std.specs.declared.result.Result.{Result}
-use Rattle.std.specs.declared.result.Result.TheVariants.{Ok, Err}
+use Rattle.std.specs.Prelude.{Option, Some, None, Result, Ok, Err}
 use Rattle.bench_tasks.specs.Common.{Command, task_of, Task, IsTaskOf}
 use Rattle.bench_tasks.specs.declared.stop.Stop.{Stop}
 use Rattle.bench_tasks.specs.declared.tasks.Task.TheVariants as code

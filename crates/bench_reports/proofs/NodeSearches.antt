@@ -1,7 +1,7 @@
 -- The search for a node of a tree by its number: the steps of a path as they grow, and what is found
 -- below a cut is found in the tree of the cut.
-use Rattle.std.proofs.Common.{◌≡◌, ◌∙◌, ◌≤◌, ◌<◌, ℕ, zero, suc, ◌+◌, ◌||◌, ◌==◌, Bool, true, List, [], ◌∷◌, ◌++◌, length, Option, refl, sym, ap, subst, append_assoc, if◌then◌else◌, arith}
-use Rattle.counting.proofs.Common.{Set, append-nil, length-append, nat_tests}
+use Rattle.std.proofs.Common.{◌≡◌, ◌∙◌, ◌≤◌, ◌<◌, ℕ, zero, suc, ◌+◌, ◌||◌, ◌==◌, Bool, true, List, [], ◌∷◌, ◌++◌, Option, refl, sym, ap, subst, append_assoc, if◌then◌else◌, arith}
+use Rattle.counting.proofs.Common.{Set, append-nil, nat_tests}
 use Rattle.tree_core.proofs.Common.{Shape, cut, node_count}
 use Rattle.tree_core.specs.declared.path.Side.{Side}
 use Rattle.tree_core.specs.declared.path.Side.TheVariants.{Kept, Merged}
@@ -10,11 +10,6 @@ use Rattle.bench_outcomes.specs.Common.{IsPlaceAt, steps_to}
 use Rattle.bench_reports.specs.NodeSearch.{IsFound}
 use Rattle.bench_reports.specs.declared.node_places.Sought.{Sought}
 use Rattle.bench_reports.specs.declared.node_places.Sought.TheVariants.{Found, Beyond}
-
--- the length of a path is the number of its steps
-pub steps-length : (merged : Set) (depth : ℕ) → length (steps_to merged depth) ≡ depth
-steps-length merged zero = refl
-steps-length merged (suc step) = let all = steps-length merged step in let more = length-append (steps_to merged step) ((if merged (suc step) then Merged else Kept) ∷ []) in omega arith
 
 -- a path depends on its steps alone
 steps-same : (x y : Set) (depth : ℕ) → ((step : ℕ) → step ≤ depth → x step ≡ y step) → steps_to x depth ≡ steps_to y depth

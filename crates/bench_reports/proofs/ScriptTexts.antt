@@ -1,7 +1,6 @@
 -- A text that stands for a value stands for it with comments after it, and so the report on a
 -- script stands for the script.
-use Rattle.std.proofs.Common.{◌≡◌, ℕ, ◌<◌, ◌^◌, List, [], ◌∷◌, ◌++◌, map, true, length, refl, sym, subst, append_assoc, codes, arith}
-use Rattle.std.specs.Fmt.{decimal}
+use Rattle.std.proofs.Common.{◌≡◌, ℕ, ◌<◌, ◌^◌, List, [], ◌∷◌, ◌++◌, map, true, length, refl, sym, subst, append_assoc, codes, arith, decimal}
 use Rattle.line_text.specs.Common.{Stands, is_closed, written, unwords}
 use Rattle.line_text.proofs.Decimals.{is_word-decimal}
 use Rattle.line_text.proofs.ReadBack.{AreSkipped-written, Stands-comments, is_closed-unlines}

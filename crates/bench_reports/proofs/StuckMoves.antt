@@ -1,9 +1,6 @@
 -- A move has no result if and only if it has the fault that `stuck_fault` says. Idea: induction
 -- over the path; a step down changes neither whether there is a result nor the fault.
-use Rattle.std.proofs.Common.{◌≡◌, ◌↔◌, inl, inr, ℕ, List, [], ◌∷◌, Bool, true, false, refl, sym, subst, arith}
-use Rattle.std.specs.Prelude.{option_map, if◌then◌else◌}
-use Rattle.std.specs.declared.option.Option.{Option}
-use Rattle.std.specs.declared.option.Option.TheVariants.{Some, None}
+use Rattle.std.proofs.Common.{◌≡◌, ◌↔◌, inl, inr, ℕ, List, [], ◌∷◌, Bool, true, false, refl, sym, subst, arith, option_map, if◌then◌else◌, Option, Some, None}
 use Rattle.tree_core.specs.Common.{PlainMove, Shape, cut, leaf, move_result, rotate_at, rotate_result, switch_at, switch_result}
 use Rattle.tree_core.specs.declared.path.Side.{Side}
 use Rattle.tree_core.specs.declared.path.Side.TheVariants.{Kept, Merged}

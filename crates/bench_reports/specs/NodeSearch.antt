@@ -1,8 +1,6 @@
 -- The search for the node of a tree with a given number in preorder, as the code keeps it.
 -- Stated by: bench_reports.
-use Rattle.std.specs.Prelude.{◌≡◌, ◌≤◌, ◌<◌, ℕ, ◌+◌, true, List, ◌++◌, length}
-use Rattle.std.specs.declared.option.Option.{Option}
-use Rattle.std.specs.declared.option.Option.TheVariants.{Some, None}
+use Rattle.std.specs.Prelude.{◌≡◌, ◌≤◌, ◌<◌, ℕ, ◌+◌, true, List, ◌++◌, length, Option, Some, None}
 use Rattle.counting.specs.Common.{mem}
 use Rattle.tree_core.specs.Common.{Shape, node_count}
 use Rattle.tree_core.specs.declared.path.Side.{Side}

@@ -1,11 +1,7 @@
 -- What the words ask for: a verb, with the names of the files that it reads; one line of
 -- `command_of` for each row of the table of words.
 -- Stated by: bench_tasks, bench_top, front_top, theorems. Used by: bench_outcomes.
-use Rattle.std.specs.Prelude.{List, [], ◌∷◌, ℕ, ◌&&◌, nat_le, if◌then◌else◌, codes}
-use Rattle.std.specs.declared.option.Option.{Option}
-use Rattle.std.specs.declared.option.Option.TheVariants.{Some, None}
-use Rattle.std.specs.Option.{option_map}
-use Rattle.std.specs.Str.{bytes_eq}
+use Rattle.std.specs.Prelude.{List, [], ◌∷◌, ℕ, ◌&&◌, nat_le, if◌then◌else◌, codes, Option, Some, None, option_map, bytes_eq}
 use Rattle.line_text.specs.Common.{is_number, value_of}
 use Rattle.decomposer.specs.Common.{order_named}
 use Rattle.decomposer.specs.declared.orders.NamedOrder.{NamedOrder}

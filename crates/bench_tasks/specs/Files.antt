@@ -1,9 +1,7 @@
 -- The files of a command: the one table that says which files it reads, in which order, and as
 -- what.
 -- Stated by: bench_tasks, bench_top. Used by: front_top.
-use Rattle.std.specs.Prelude.{ℕ, ◌==◌, List, [], ◌∷◌, map, slice_get, if◌then◌else◌}
-use Rattle.std.specs.declared.option.Option.{Option}
-use Rattle.std.specs.declared.option.Option.TheVariants.{None}
+use Rattle.std.specs.Prelude.{ℕ, ◌==◌, List, [], ◌∷◌, map, slice_get, if◌then◌else◌, Option, None}
 use Rattle.bench_tasks.specs.Commands.{Command, OnGraph, OnSimpleGraph, OnTree, OnPicks, OnEars, OnMoves, OnTrees, OnNumbers}
 use Rattle.refusals.specs.declared.file_kind.FileKind.{FileKind}
 use Rattle.refusals.specs.declared.file_kind.FileKind.TheVariants as kind

@@ -1,11 +1,7 @@
 -- What the files that a command names hold: each is looked up and read in the order of the words,
 -- up to the first that is not held or is bad.
 -- Stated by: bench_tasks, bench_reports, bench_top, theorems. Used by: bench_outcomes.
-use Rattle.std.specs.Prelude.{ℕ, List, length, nat_lt, if◌then◌else◌}
-use Rattle.std.specs.declared.option.Option.{Option}
-use Rattle.std.specs.declared.option.Option.TheVariants.{Some, None}
-use Rattle.std.specs.declared.result.Result.{Result}
-use Rattle.std.specs.declared.result.Result.TheVariants.{Ok, Err}
+use Rattle.std.specs.Prelude.{ℕ, List, length, nat_lt, if◌then◌else◌, Option, Some, None, Result, Ok, Err}
 use Rattle.outside.specs.Common.{NamedFile, file_named}
 pub use Rattle.outside.specs.Common.{most_bytes}
 use Rattle.line_text.specs.Common.{reading_of, kind_number}

@@ -1,10 +1,6 @@
 -- What loading a file, or the files of a command, answers.
 -- Stated by: bench_tasks, bench_reports, bench_top. Used by: bench_outcomes.
-use Rattle.std.specs.Prelude.{◌≡◌, ◌≤◌, List, ℕ, Bool}
-use Rattle.std.specs.declared.option.Option.{Option}
-use Rattle.std.specs.declared.option.Option.TheVariants.{Some}
-use Rattle.std.specs.declared.result.Result.{Result}
-use Rattle.std.specs.declared.result.Result.TheVariants.{Ok, Err}
+use Rattle.std.specs.Prelude.{◌≡◌, ◌≤◌, List, ℕ, Bool, Option, Some, Result, Ok, Err}
 use Rattle.outside.specs.Common.{Rose, NamedFile}
 use Rattle.line_text.specs.Common.{kind_number}
 use Rattle.graph_core.specs.Common.{Graph}

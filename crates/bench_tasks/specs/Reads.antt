@@ -1,10 +1,6 @@
 -- Which files a run reads, and in which order.
 -- Stated by: bench_tasks, bench_top.
-use Rattle.std.specs.Prelude.{◌≡◌, ◌≤◌, ◌<◌, List, [], ℕ, Bool, IsTrue, length, take}
-use Rattle.std.specs.declared.option.Option.{Option}
-use Rattle.std.specs.declared.option.Option.TheVariants.{Some, None}
-use Rattle.std.specs.declared.result.Result.{Result}
-use Rattle.std.specs.declared.result.Result.TheVariants.{Ok, Err}
+use Rattle.std.specs.Prelude.{◌≡◌, ◌≤◌, ◌<◌, List, [], ℕ, Bool, IsTrue, length, take, Option, Some, None, Result, Ok, Err}
 use Rattle.outside.specs.Common.{Answer, ReadsInTurn, ReadsFirst}
 use Rattle.bench_tasks.specs.Commands.{Command}
 use Rattle.bench_tasks.specs.Files.{file_names}

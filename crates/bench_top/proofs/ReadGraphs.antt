@@ -1,11 +1,10 @@
 -- The graph that a text stands for is a multigraph within the limits: the ends of each edge are
 -- vertices, and differ. What has been read so far keeps this from line to line, and has no more
 -- names than vertices, so that the vertex of a name is one of the graph.
-use Rattle.std.proofs.Common.{◌≡◌, ◌≢◌, ℕ, zero, suc, ◌+◌, ◌<◌, ◌≤◌, ◌==◌, ◌||◌, not, nat_lt, Bool, true, false, cond, List, [], ◌∷◌, ◌++◌, length, Option, Some, None, Result, Ok, Err, refl, sym, arith, length-append, slice_index_or, ltb-true}
+use Rattle.std.proofs.Common.{◌≡◌, ◌≢◌, ℕ, zero, suc, ◌+◌, ◌<◌, ◌≤◌, ◌==◌, ◌||◌, not, nat_lt, Bool, true, false, cond, List, [], ◌∷◌, ◌++◌, length, Option, Some, None, Result, Ok, Err, refl, sym, arith, length-append, slice_index_or, ltb-true, bytes_eq}
 use Rattle.counting.proofs.Common.{AllByRecursion, list_any, and_parts, both_ways, or_parts, true≢false, not-false, nat_tests, bytes_eq-Decides, Within}
 use Rattle.std.specs.List.{position_or_len}
 use Rattle.std.specs.Result.{result_map_both}
-use Rattle.std.specs.Str.{bytes_eq}
 use Rattle.std.proofs.lemmas.Bool.{eqb-false}
 use Rattle.graph_core.proofs.Common.{Graph, HasNoLoop, IsGraph, IsMultigraph, size}
 use Rattle.line_text.specs.declared.faults.FaultKind.TheVariants as kind

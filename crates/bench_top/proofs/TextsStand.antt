@@ -1,8 +1,7 @@
 -- The reports of `ears`, `replay` and `grow` are texts with comments after them, and so they
 -- stand for what the texts stand for: an ear list, a derivation, a graph. The limits of the graph
 -- make all numbers of the comments small.
-use Rattle.std.proofs.Common.{◌≡◌, ℕ, ◌<◌, ◌≤◌, ◌^◌, List, [], ◌∷◌, ◌++◌, length, map, true, None, refl, arith, append_assoc, not, codes}
-use Rattle.std.specs.Fmt.{decimal}
+use Rattle.std.proofs.Common.{◌≡◌, ℕ, ◌<◌, ◌≤◌, ◌^◌, List, [], ◌∷◌, ◌++◌, length, map, true, None, refl, arith, append_assoc, not, codes, decimal}
 use Rattle.std.proofs.lemmas.List.Sums.{count_by-le-length}
 use Rattle.line_text.specs.Common.{Stands, is_closed, is_word, unwords}
 use Rattle.line_text.proofs.Decimals.{is_word-decimal}

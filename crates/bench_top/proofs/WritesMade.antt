@@ -1,6 +1,5 @@
 -- The writes of a run are those of its report: one case for each status.
-use Rattle.std.proofs.Common.{◌≡◌, ◌⊎◌, inl, inr, ℕ, List, refl, sym, subst, arith}
-use Rattle.std.specs.declared.option.Option.{Option}
+use Rattle.std.proofs.Common.{◌≡◌, ◌⊎◌, inl, inr, ℕ, List, refl, sym, subst, arith, Option}
 use Rattle.outside.specs.Common.{IsWritten, appended}
 use Rattle.bench_outcomes.specs.Common.{Appended, CutShort, IsReported}
 use Rattle.bench_outcomes.specs.declared.status.Status.{Status}

@@ -1,11 +1,7 @@
 -- How a run ended: why its files were not loaded, which of them were read, what was written of a bad
 -- one, and of a refusal.
 -- Stated by: bench_top.
-use Rattle.std.specs.Prelude.{◌≡◌, ◌≤◌, ◌<◌, ℕ, List, Bool, IsTrue, length, take}
-use Rattle.std.specs.declared.option.Option.{Option}
-use Rattle.std.specs.declared.option.Option.TheVariants.{Some, None}
-use Rattle.std.specs.declared.result.Result.{Result}
-use Rattle.std.specs.declared.result.Result.TheVariants.{Ok, Err}
+use Rattle.std.specs.Prelude.{◌≡◌, ◌≤◌, ◌<◌, ℕ, List, Bool, IsTrue, length, take, Option, Some, None, Result, Ok, Err}
 use Rattle.outside.specs.Common.{Answer, ReadsInTurn, appended}
 use Rattle.line_text.specs.Common.{kind_number}
 use Rattle.line_text.specs.declared.faults.FaultKind.{FaultKind}

@@ -1,10 +1,7 @@
 -- What a run makes of a shelf that may tell nothing of its files: its reads gave some files, and
 -- what it writes is an output that these files give.
 -- Stated by: theorems. Used by: bench_top.
-use Rattle.std.specs.Prelude.{◌≡◌, ◌<◌, ℕ, ◌+◌, List, [], ◌∷◌, length}
-use Rattle.std.specs.declared.option.Option.{Option}
-use Rattle.std.specs.declared.result.Result.TheVariants.{Ok, Err}
-use Rattle.std.specs.Option.{option_map}
+use Rattle.std.specs.Prelude.{◌≡◌, ◌<◌, ℕ, ◌+◌, List, [], ◌∷◌, length, Option, Ok, Err, option_map}
 use Rattle.outside.specs.Common.{Answer, AnswersInTurn, NamedFile, most_bytes}
 use Rattle.outside.specs.declared.shelf.ShelfFault.TheVariants.{Failed, TooLong, Memory}
 use Rattle.bench_tasks.specs.Common.{by_place, failures_of, LastFailed, place_name, Command, names_in}

@@ -1,8 +1,6 @@
 -- What a run makes of a shelf and a sink, as one fact: `run`, `run_ending` and the front cite it.
 -- Stated by: bench_top. Used by: front_top.
-use Rattle.std.specs.Prelude.{◌≡◌, ◌⊎◌, ◌↔◌, ℕ, List, Bool, IsTrue, is_some}
-use Rattle.std.specs.declared.option.Option.{Option}
-use Rattle.std.specs.declared.option.Option.TheVariants.{Some, None}
+use Rattle.std.specs.Prelude.{◌≡◌, ◌⊎◌, ◌↔◌, ℕ, List, Bool, IsTrue, is_some, Option, Some, None}
 use Rattle.outside.specs.Common.{Rose, Answer, NamedFile, ReadsFirst, ReadsInTurn}
 use Rattle.bench_tasks.specs.Common.{Command, Task, All, Bad, Absent, loaded, file_names, names_in, names_until}
 use Rattle.bench_tasks.specs.declared.stop.Stop.{Stop}

@@ -1,8 +1,6 @@
 -- Which writes a run makes, and of which output.
 -- Stated by no contract. Used by: bench_top, theorems.
-use Rattle.std.specs.Prelude.{◌≡◌, ℕ, List, take}
-use Rattle.std.specs.declared.option.Option.{Option}
-use Rattle.std.specs.declared.option.Option.TheVariants.{Some}
+use Rattle.std.specs.Prelude.{◌≡◌, ℕ, List, take, Option, Some}
 use Rattle.outside.specs.Common.{NamedFile, IsCutOff, IsWritten, appended}
 use Rattle.bench_outcomes.specs.declared.status.Status.{Status}
 use Rattle.bench_outcomes.specs.declared.status.Status.TheVariants.{Done, Negative, Usage, ReadFault, BadInput, WriteFault, Memory}

@@ -1,7 +1,6 @@
 -- What is written of the numbers in the tables.
-use Rattle.std.proofs.Common.{◌≡◌, List, ℕ, true, codes, refl, rules, arith}
+use Rattle.std.proofs.Common.{◌≡◌, List, ℕ, true, codes, refl, rules, arith, decimal}
 use Rattle.std.specs.Char.{is_ascii_digit}
-use Rattle.std.specs.Fmt.{decimal}
 use Rattle.std.specs.List.{list_all}
 use Rattle.std.specs.Str.Parse.{digits_value}
 use Rattle.std.proofs.lemmas.Fmt.{decimal-digits_value}

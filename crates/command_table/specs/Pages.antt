@@ -1,10 +1,7 @@
 -- The lines of the usage that are a command's, and the page of each command.
 -- Stated by: command_table, front_words.
-use Rattle.std.specs.Prelude.{ℕ, List, [], ◌∷◌, ◌++◌, nat_eq, Bool, false, codes, if◌then◌else◌}
-use Rattle.std.specs.declared.option.Option.{Option}
-use Rattle.std.specs.declared.option.Option.TheVariants.{None, Some}
+use Rattle.std.specs.Prelude.{ℕ, List, [], ◌∷◌, ◌++◌, nat_eq, Bool, false, codes, if◌then◌else◌, Option, None, Some, bytes_eq}
 use Rattle.std.specs.List.{starts_with}
-use Rattle.std.specs.Str.{bytes_eq}
 use Rattle.command_table.specs.Rows.{Row}
 use Rattle.command_table.specs.declared.pages.TheConstants.{ANALYSE, CONVERT, ANALYSE6, DECOMPOSE, CHECK, CHECKEARS, EARS, COMPARE, SCRIPT, REPLAY, GROW}
 use Rattle.command_table.specs.declared.list_pages.TheConstants.{KINDS, LEAVES, ELEMENTARY, GRAPH, SELECT, ENCODE}

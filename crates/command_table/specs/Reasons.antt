@@ -1,9 +1,6 @@
 -- Why words match no row of a table.
 -- Stated by: command_table, front_words.
-use Rattle.std.specs.Prelude.{ℕ, List, [], ◌∷◌, if◌then◌else◌}
-use Rattle.std.specs.declared.option.Option.{Option}
-use Rattle.std.specs.declared.option.Option.TheVariants.{Some, None}
-use Rattle.std.specs.Str.{bytes_eq}
+use Rattle.std.specs.Prelude.{ℕ, List, [], ◌∷◌, if◌then◌else◌, Option, Some, None, bytes_eq}
 use Rattle.command_table.specs.Rows.{Word, fits_word, is_other, Row}
 use Rattle.command_table.specs.RowsSeen.{word_seen}
 use Rattle.command_table.specs.declared.reasons.Reason.TheVariants as code

@@ -1,8 +1,7 @@
 -- The rows of a table of commands, and which words match one.
 -- Stated by: command_table, front_top, mcg6_front_top. Used by: front_words.
-use Rattle.std.specs.Prelude.{ℕ, ◌&&◌, ◌||◌, not, List, [], ◌∷◌, drop, length, nat_eq, nat_le, Bool, true, false, if◌then◌else◌}
+use Rattle.std.specs.Prelude.{ℕ, ◌&&◌, ◌||◌, not, List, [], ◌∷◌, drop, length, nat_eq, nat_le, Bool, true, false, if◌then◌else◌, bytes_eq}
 use Rattle.std.specs.List.{list_any, starts_with}
-use Rattle.std.specs.Str.{bytes_eq}
 use Rattle.line_text.specs.Common.{is_number, value_of}
 
 -- a word of a row: this text; the name of a file, whatever it is; one of these choices, or one of

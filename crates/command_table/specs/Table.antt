@@ -1,7 +1,6 @@
 -- The two tables of commands, of `mcg` and of `mcg6`, and the usage that is made of a table.
 -- Stated by: command_table, front_top, mcg6_front_top. Used by: front_words.
-use Rattle.std.specs.Prelude.{ℕ, ◌-◌, List, [], ◌∷◌, ◌++◌, length, map, replicate, codes}
-use Rattle.std.specs.Fmt.{decimal}
+use Rattle.std.specs.Prelude.{ℕ, ◌-◌, List, [], ◌∷◌, ◌++◌, length, map, replicate, codes, decimal}
 use Rattle.command_table.specs.Rows.{Word, Literal, File, OneOf, Number, Row}
 
 -- a word as it is shown

@@ -1,15 +1,11 @@
 -- What the value of a quotient says: as many lists of remembered edges as edges, each that of its
 -- edge, and the union of the blocks at the places of a set.
 use Rattle.std.proofs.Common.{◌≡◌, ℕ, ◌≤◌, ◌&&◌, List, length, sym, ap, ◌∙◌, arith, subst}
-use Rattle.counting.proofs.Common.{and_parts, get_or-map, length-map, list-from_test, set-narrower, some_true, Within, IsRisingIn, item, mem, some}
+use Rattle.counting.proofs.Common.{and_parts, get_or-map, list-from_test, set-narrower, some_true, Within, IsRisingIn, item, mem, some}
 use Rattle.graph_core.proofs.Common.{Graph, size, block, remembered, union_of_blocks}
 use Rattle.contraction.proofs.BlockLists.{length-partition}
 use Rattle.contraction.specs.Contracted.{ContractedValue, KeepsContraction, contraction}
 use Rattle.contraction.specs.Partition.{KeepsPartition, PartitionValue}
-
--- one list of remembered edges for each edge of the quotient
-pub one-each : (q : ContractedValue) → KeepsContraction q → length q.edges ≡ size q.graph
-one-each q keeps = grind (arith, length-map)
 
 -- which is that of the edge
 pub item-remembered : (g : Graph) (p : List (List ℕ)) (q : ContractedValue) (e : ℕ) → q ≡ contraction g p → Within (size q.graph) e → item q.edges e ≡ remembered g p e

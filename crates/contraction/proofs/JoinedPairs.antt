@@ -123,23 +123,10 @@ joined-few g =
     same_pair a b c d x y l m h k = grind arith
 
     pairs : (d e : ℕ) → Within (length (joined_pairs g)) d → Within (length (joined_pairs g)) e → pick g d ≡ pick g e → get_or (joined_pairs g) (d - 1) (0, 0) ≡ get_or (joined_pairs g) (e - 1) (0, 0)
-    pairs d e wd we q =
-        let k = get_or (joined_pairs g) (d - 1) (0, 0) in
-        let l = get_or (joined_pairs g) (e - 1) (0, 0) in
-        let jd = joined-at g (d - 1) (omega arith) in
-        let je = joined-at g (e - 1) (omega arith) in
-        let s = same_pair k.0 k.1 l.0 l.1 (first_end g (pick g d)) (second_end g (pick g d)) jd.2 je.2 (has_ends-cases g k.0 k.1 (pick g d) (least g d wd).1)
-        (has_ends-cases g l.0 l.1 (pick g d) (ap (has_ends g l.0 l.1) q ∙ (least g e we).1)) in
-        λ i. (s.0 i, s.1 i)
+    pairs d e wd we q = grind (arith, get_or, joined-at, same_pair, first_end, second_end, has_ends-cases, least, has_ends)
 
     apart : (d e : ℕ) → Within (length (joined_pairs g)) d → Within (length (joined_pairs g)) e → pick g d ≡ pick g e → d ≡ e
-    apart d e wd we q = elim (cases_order d e) [
-      | inl s ↦ s
-      | inr o ↦ elim o [
-        | inl l ↦ absurd (joined-once g (d - 1) (e - 1) (omega arith) (omega arith) (pairs d e wd we q))
-        | inr l ↦ absurd (joined-once g (e - 1) (d - 1) (omega arith) (omega arith) (pairs e d we wd (sym q)))
-      ]
-    ]
+    apart d e wd we q = grind (arith, cases_order, joined-once, pairs)
 
 -- so they are the edges of a multigraph within the limits
 pub joined-limits : (g : Graph) → g.order ≤ 128 → size g ≤ 2048 → IsWithinLimits (record { order = g.order; ends = joined_pairs g })

@@ -14,12 +14,7 @@ module _ (g : Graph) (p : List (List ℕ)) (is : IsGraph g) (pp : AreBlocks g.or
       true_some (size (quotient g p)) (has_ends (quotient g p) a b) r.0 r.1 (has_ends-from (quotient g p) a b r.0 (inl (r.2, r.3)))
 
   down : (a b : ℕ) → some (size (quotient g p)) (has_ends (quotient g p) a b) ≡ true → some (size (contracted g p)) (has_ends (contracted g p) a b) ≡ true
-  down a b h =
-      let r = some_true (size (quotient g p)) (has_ends (quotient g p) a b) h in
-      let q = quotient_edge g p r.0 r.1 in
-      let s = ap (λ k. some k (has_ends (contracted g p) (first_end (quotient g p) r.0) (second_end (quotient g p) r.0))) (contracted-size g p) ∙ (and_parts (not (first_end (quotient g p) r.0 == second_end (quotient g p) r.0)) (some (size g) (has_ends (contracted g p) (first_end (quotient g p) r.0) (second_end (quotient g p) r.0))) q.3).1 in
-      let e = some_true (size (contracted g p)) (has_ends (contracted g p) (first_end (quotient g p) r.0) (second_end (quotient g p) r.0)) s in
-      grind arith
+  down a b h = grind (arith, some_true, size, quotient, has_ends, quotient_edge, some, contracted, first_end, second_end, contracted-size, and_parts)
 
   turned : (h : Graph) (a b : ℕ) → some (size h) (has_ends h a b) ≡ true → some (size h) (has_ends h b a) ≡ true
   turned h a b t = let r = some_true (size h) (has_ends h a b) t in true_some (size h) (has_ends h b a) r.0 r.1 (has_ends-back h a b r.0 r.2)

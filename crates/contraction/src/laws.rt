@@ -6,6 +6,7 @@ ghost use Rattle.graph_core.specs.Common.{Graph, IsGraph, edges_in_cut, IsPerfec
 
 /// The quotient is matching covered if and only if the contraction is, whose edges are those of the
 /// graph itself.
+#[tactic(auto, using(crate::proofs::QuotientLaws::covered_down, crate::proofs::QuotientLaws::covered_up))]
 pub fn covered_quotient_law()
     ensures { (g : Graph) (p : List (List ℕ)) → IsGraph g → AreBlocks g.order p →
         (IsCovered (quotient g p) ↔ IsCovered (contracted g p)) }

@@ -11,23 +11,13 @@ pub record Respects (n : ℕ) (p : Set → Bool) : Type 0 where
 
 pub some_set_found : (n : ℕ) (p : Set → Bool) → some_set n p ≡ true → (m : Set) × (p m ≡ true)
 some_set_found zero p h = (none, h)
-some_set_found (suc n) p h =
-    elim (or_cases (some_set n (λ m. p (put m (suc n) false))) (some_set n (λ m. p (put m (suc n) true))) h) [
-      | inl a ↦ let r = some_set_found n (λ m. p (put m (suc n) false)) a in (put r.0 (suc n) false, r.1)
-      | inr a ↦ let r = some_set_found n (λ m. p (put m (suc n) true)) a in (put r.0 (suc n) true, r.1)
-    ]
+some_set_found (suc n) p h = grind (arith, or_cases, some_set_found n)
 
 put_same : (m k : Set) (e i : ℕ) (b : Bool) → (i ≢ e → m i ≡ k i) → put m e b i ≡ put k e b i
-put_same m k e i b h = elim (cases_eq i e) [
-  | inl d ↦ rw (eq-eqb i e d) refl
-  | inr d ↦ rw (ne_eqb i e d) (h d)
-]
+put_same m k e i b h = grind (arith, cases_eq, eq-eqb, ne_eqb)
 
 put_own : (m : Set) (e i : ℕ) (b : Bool) → m e ≡ b → put m e b i ≡ m i
-put_own m e i b h = elim (cases_eq i e) [
-  | inl d ↦ rw (eq-eqb i e d) (sym h ∙ ap m (sym d))
-  | inr d ↦ rw (ne_eqb i e d) refl
-]
+put_own m e i b h = grind (arith, cases_eq, eq-eqb, ne_eqb)
 
 respects_put : (n : ℕ) (p : Set → Bool) (b : Bool) → Respects (suc n) p → Respects n (λ m. p (put m (suc n) b))
 respects_put n p b r = record { same = λ m k h. r.same (put m (suc n) b) (put k (suc n) b) (λ e w. put_same m k (suc n) e b (λ d. h e (omega arith))) }
@@ -89,10 +79,7 @@ pub each_passes : (n : ℕ) (p : Set → Bool) → Respects n p → each_set n p
 each_passes n p r h m = not-false (p m) (some_set_none n (λ k. not (p k)) (negated n p r) (not-true (some_set n (λ k. not (p k))) h) m)
 
 pub none_fails : (n : ℕ) (p : Set → Bool) → ((m : Set) → p m ≡ true) → each_set n p ≡ true
-none_fails n p h = elim (cases_Bool (some_set n (λ k. not (p k)))) [
-  | inl t ↦ let q = some_set_found n (λ k. not (p k)) t in absurd (both_ways (p q.0) (not-true (p q.0) q.1) (h q.0))
-  | inr f ↦ ap not f
-]
+none_fails n p h = grind (arith, cases_Bool, some_set_found, both_ways, not-true)
 
 pub implied : (a b : Bool) → (not a || b) ≡ true → a ≡ true → b ≡ true
 implied a b h p = grind arith

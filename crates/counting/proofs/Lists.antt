@@ -56,10 +56,7 @@ same_list low n (x ∷ xs) (y ∷ ys) r s h = ap₂ ◌∷◌ same_head (same_li
     ]
 
     same_tail : (v : ℕ) → mem xs v ≡ mem ys v
-    same_tail v = elim (cases_eq x v) [
-      | inl e ↦ mem_low (x + 1) n xs r.2 v (omega arith) ∙ sym (mem_low (y + 1) n ys s.2 v (let k = same_head in omega arith))
-      | inr e ↦ let k = h v in let a = ne_eqb x v e in let b = ne_eqb y v (λ q. e (same_head ∙ q)) in grind arith
-    ]
+    same_tail v = grind (arith, cases_eq, mem_low, same_head, ne_eqb)
 
 -- a sum over the members of an increasing list is a sum over the list
 pub total_mem : (low n : ℕ) (f : ℕ → ℕ) (xs : List ℕ) → 1 ≤ low → Rises low n xs → total n (λ v. bit (mem xs v) * f v) ≡ sum_by f xs

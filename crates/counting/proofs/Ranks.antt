@@ -30,7 +30,4 @@ below_rank p a (suc b) l t = let x = count_up p a b (omega arith) in let y = ap 
 
 -- members of the same rank are one
 pub rank_once : (p : Set) (a b : ℕ) → p a ≡ true → p b ≡ true → count a p ≡ count b p → a ≡ b
-rank_once p a b pa pb q = elim (cases_order a b) [
-  | inl e ↦ e
-  | inr d ↦ grind (arith, below_rank p a b, below_rank p b a)
-]
+rank_once p a b pa pb q = grind (arith, cases_order, below_rank)

@@ -115,10 +115,7 @@ mem-last_of x (y ∷ xs) = or_right (x == last_of (y ∷ xs)) (mem (y ∷ xs) (l
 -- and the greatest
 pub last_is_greatest : (n : ℕ) (xs : List ℕ) → IsRisingIn n xs → (v : ℕ) → mem xs v ≡ true → v ≤ last_of xs
 last_is_greatest n [] r v m = absurd (both_ways false refl m)
-last_is_greatest n (x ∷ []) r v m = elim (or_cases (x == v) false m) [
-  | inl e ↦ let d = eqb-true x v e in omega arith
-  | inr f ↦ absurd (both_ways false refl f)
-]
+last_is_greatest n (x ∷ []) r v m = grind (arith, or_cases, eqb-true, both_ways)
 last_is_greatest n (x ∷ y ∷ xs) r v m = elim (or_cases (x == v) (mem (y ∷ xs) v) m) [
   | inl e ↦ let d = eqb-true x v e in let a = above_first n x (y ∷ xs) r (last_of (y ∷ xs)) (mem-last_of y xs) in omega arith
   | inr t ↦ last_is_greatest n (y ∷ xs) (rising-tail n x (y ∷ xs) r) v t

@@ -89,10 +89,7 @@ some_or (suc n) p q = ap (λ k. k || (p (suc n) || q (suc n))) (some_or n p q) �
 
 -- two least numbers without a property are one
 pub least-one : (n : ℕ) (P : ℕ → Type 0) (d e : ℕ) → IsLeastWithout n P d → IsLeastWithout n P e → d ≡ e
-least-one n P d e a b = elim (cases_order d e) [
-  | inl q ↦ q
-  | inr q ↦ grind arith
-]
+least-one n P d e a b = grind (arith, cases_order)
 
 -- of 1 to n all have a decided property, or there is a least that has it not
 pub all_or_least : (n : ℕ) (P : ℕ → Type 0) → ((v : ℕ) → Within n v → P v ⊎ (P v → ⊥)) → ((v : ℕ) → Within n v → P v) ⊎ ((v : ℕ) × IsLeastWithout n P v)

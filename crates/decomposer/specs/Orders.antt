@@ -2,10 +2,7 @@
 -- at a node, of the list of candidates there, with so many cuts before the node in preorder.
 -- Stated by: decomposer, bench_reports, theorems.
 -- Used by: mcg6_lines, bench_tasks, bench_outcomes, bench_top, front_top, mcg6_top, mcg6_front_top.
-use Rattle.std.specs.Prelude.{◌≡◌, ℕ, ◌-◌, ◌%◌, List, length, slice_index_or, codes, if◌then◌else◌}
-use Rattle.std.specs.declared.option.Option.{Option}
-use Rattle.std.specs.declared.option.Option.TheVariants.{Some, None}
-use Rattle.std.specs.Str.{bytes_eq}
+use Rattle.std.specs.Prelude.{◌≡◌, ℕ, ◌-◌, ◌%◌, List, length, slice_index_or, codes, if◌then◌else◌, Option, Some, None, bytes_eq}
 use Rattle.tight_cuts.specs.Common.{Candidate}
 use Rattle.decomposer.specs.Choices.{PicksBalanced}
 use Rattle.decomposer.specs.declared.orders.NamedOrder.{NamedOrder}

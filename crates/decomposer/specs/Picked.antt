@@ -2,8 +2,7 @@
 -- to multiplicities of edges).
 -- Stated by: decomposer, bench_reports, theorems, example_order.
 -- Used by: mcg6_lines, bench_outcomes.
-use Rattle.std.specs.Prelude.{◌≡◌, ℕ, ◌+◌, ◌++◌, List, [], All, Option, Some, None, map, slice_get}
-use Rattle.std.specs.Option.{option_map}
+use Rattle.std.specs.Prelude.{◌≡◌, ℕ, ◌+◌, ◌++◌, List, [], All, Option, Some, None, map, slice_get, option_map}
 use Rattle.graph_core.specs.Common.{Graph, singles}
 use Rattle.tight_cuts.specs.Common.{Candidate, first_of, IsCandidateAt, candidates_at, candidate_of}
 use Rattle.tight_cuts.specs.declared.candidate.Candidate.{Candidate as StoredCandidate}

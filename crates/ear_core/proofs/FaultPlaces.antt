@@ -1,16 +1,12 @@
 -- Where the fault of a step shows, as the code finds it.
-use Rattle.std.proofs.Common.{◌≡◌, ◌≢◌, ℕ, ◌-◌, Bool, true, false, ◌==◌, ◌||◌, sym, ap, ◌∙◌, arith, [], ◌∷◌, List, length, map, Option, Some, None, refl, ne_eqb, eq-eqb, eqb-true, ◌⊎◌, inl, inr}
+use Rattle.std.proofs.Common.{◌≡◌, ℕ, ◌-◌, Bool, true, false, ◌==◌, ◌||◌, sym, ap, ◌∙◌, arith, [], ◌∷◌, List, length, Option, Some, None, refl, eqb-true, ◌⊎◌, inl, inr, find, option_and_then, is_some, is_none}
 use Rattle.std.proofs.Math.Path.{fun_ext}
-use Rattle.std.specs.List.{find}
-use Rattle.std.specs.Option.{option_and_then}
-use Rattle.std.specs.Prelude.{is_some, is_none}
 use Rattle.counting.proofs.Common.{Set, mem}
 use Rattle.graph_core.proofs.Common.{Graph}
 use Rattle.refusals.specs.declared.places.EarOfTwo.{EarOfTwo}
 use Rattle.refusals.specs.declared.places.EarOfTwo.TheVariants.{First, Second}
 use Rattle.refusals.specs.declared.places.EarPlace.{EarPlace}
-use Rattle.ear_core.specs.declared.ears.Step.{Step}
-use Rattle.ear_core.specs.Common.{PlainEar, PlainStep, PlainWhy, not_path, even_length, bad_ends, inner_on_stage, edge_used, stage_not_covered, ends_early, next_stage, step_of, inner_vertices, is_met, no_member, other_end, ear_fault, edge_of_fault, entering, fault_edge, nowhere, place_of_two, place_in_step, place_from}
+use Rattle.ear_core.specs.Common.{PlainEar, PlainWhy, not_path, even_length, bad_ends, inner_on_stage, edge_used, stage_not_covered, ends_early, inner_vertices, is_met, no_member, other_end, ear_fault, edge_of_fault, entering, fault_edge, nowhere, place_of_two}
 use Rattle.ear_core.proofs.Marking.{fault-same}
 
 -- no item passes if none is found

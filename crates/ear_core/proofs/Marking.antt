@@ -1,10 +1,8 @@
 -- Marks set at the places of further edges, and the tests of a step of two ears.
-use Rattle.std.proofs.Common.{◌≡◌, ℕ, ◌+◌, ◌<◌, Bool, true, ◌||◌, if◌then◌else◌, List, [], ◌∷◌, length, All, Option, Some, None, ap, arith, slice_set}
+use Rattle.std.proofs.Common.{◌≡◌, ℕ, ◌||◌, if◌then◌else◌, List, [], Option, Some, None, ap, arith}
 use Rattle.std.proofs.Math.Path.{fun_ext}
-use Rattle.counting.proofs.Common.{Within, mem, Set}
+use Rattle.counting.proofs.Common.{mem, Set}
 use Rattle.graph_core.proofs.Common.{Graph}
-use Rattle.match_search.specs.Common.{marks}
-use Rattle.allowed_edges.proofs.Marking.{marks-set}
 use Rattle.ear_core.specs.Common.{PlainEar, two, PlainWhy, not_path, even_length, bad_ends, inner_on_stage, edge_used, is_path, has_odd_length, has_good_ends, has_new_edges, ear_fault, inner_vertices, no_member, step_fault, is_met}
 
 -- the tests look at the members of a list alone

@@ -1,7 +1,6 @@
 -- The text that is written for an ear list.
 -- Stated by: ear_text. Used by: bench_outcomes, bench_top, theorems.
-use Rattle.std.specs.Prelude.{ℕ, ◌<◌, ◌^◌, List, [], ◌∷◌, codes, map}
-use Rattle.std.specs.Fmt.{decimal}
+use Rattle.std.specs.Prelude.{ℕ, ◌<◌, ◌^◌, List, [], ◌∷◌, codes, map, decimal}
 use Rattle.std.specs.List.{AllByRecursion}
 use Rattle.line_text.specs.Common.{written}
 use Rattle.ear_core.specs.Common.{PlainEar, PlainStep, one, two, PlainEars, FitsEars, HasEdges}

@@ -1,8 +1,7 @@
 -- Arc by arc the rows come to list all arcs of the net: with each arc, its place goes to the rows
 -- of its two ends. Idea: a row that grows at its end keeps what it has, and every other row
 -- stays.
-use Rattle.std.proofs.Common.{◌≡◌, ℕ, ◌+◌, ◌<◌, ◌≢◌, List, [], ◌∷◌, ◌++◌, length, set, sym, ◌∙◌, subst, arith, inl, inr, length-append, All, Contains, get_or-set_same, get_or-set_other}
-use Rattle.std.proofs.Math.ListN.{length-set}
+use Rattle.std.proofs.Common.{◌≡◌, ℕ, ◌+◌, ◌<◌, ◌≢◌, List, [], ◌∷◌, ◌++◌, length, set, sym, ◌∙◌, subst, arith, inl, inr, length-append, All, Contains, get_or-set_same, get_or-set_other, length-set}
 use Rattle.counting.proofs.Common.{get_or-append_seam, cases_eq, get_or_append_left, row_of}
 use Rattle.std.proofs.lemmas.List.Elements.{All-push, All-weaker}
 use Rattle.flow_core.specs.Common.{Net, IsArc, arc_at, HasEnd, ListsArcs}

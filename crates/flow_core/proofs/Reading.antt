@@ -1,26 +1,17 @@
 -- What the code reads of a net: its arcs, the rows of its nodes and the amounts on its arcs.
 -- Idea: each is a reading law of lists, at the one default that the definitions use.
-use Rattle.std.proofs.Common.{◌≡◌, ℕ, zero, suc, ◌<◌, ◌≤◌, ◌^◌, List, [], ◌∷◌, ◌++◌, length, get_or, set, refl, sym, ◌∙◌, subst, arith, w64, to_z, of_z, All, ℤ, pos, slice_get, Some, unsigned_abs}
+use Rattle.std.proofs.Common.{◌≡◌, ℕ, zero, suc, ◌<◌, ◌≤◌, List, [], ◌∷◌, ◌++◌, length, get_or, set, refl, sym, ◌∙◌, subst, arith, w64, to_z, of_z, All, ℤ, pos, slice_get, Some, unsigned_abs}
 use mir.Val.{SFits}
 use Rattle.std.specs.Global.{Vec}
 use Rattle.std.proofs.lemmas.Int.{to_z-of_z}
 use Rattle.counting.proofs.Common.{get_or_from_slice_get, get_or-map, length-map, All-head, All-tail, row_of}
 use Rattle.std.proofs.lemmas.List.{map-set}
-use Rattle.std.proofs.lemmas.List.Sums.{get_or-le-sum_by}
-use Rattle.flow_core.specs.Common.{Arc, Net, IsArc, IsNet, IsBounded, total_capacity, Fits, arc_at, amount_at, rows_of}
+use Rattle.flow_core.specs.Common.{Arc, Net, IsArc, IsNet, Fits, arc_at, amount_at, rows_of}
 use Rattle.flow_core.proofs.Duality.{Fits-at}
 
 -- an arc of a net in order is in order
 pub IsNet-at : (net : Net) → IsNet net → (i : ℕ) → i < length net.arcs → IsArc net.nodes (arc_at net.arcs i)
 IsNet-at net is i l = is i (record { a = 0; b = 0; capacity = 0 }) l
-
--- no capacity is more than all
-pub capacity-le-total : (net : Net) (i : ℕ) → i < length net.arcs → (arc_at net.arcs i).capacity ≤ total_capacity net
-capacity-le-total net i l = get_or-le-sum_by (λ (arc : Arc). arc.capacity) net.arcs i (record { a = 0; b = 0; capacity = 0 }) l
-
--- an arc of a net within its limits has a capacity below 2^63
-pub capacity-below : (net : Net) → IsBounded net → (i : ℕ) → i < length net.arcs → (arc_at net.arcs i).capacity < 2 ^ 63
-capacity-below net b i l = let c = capacity-le-total net i l in let t = b.total in omega arith
 
 -- a row that has grown at its end
 pub rows_of-push : (rows : List (Vec ℕ)) (view : List (List ℕ)) → rows_of rows ≡ view → (v : ℕ) → v < length view → (row new : Vec ℕ) → row ≡ get_or rows v row → (i : ℕ) → new.items ≡ row.items ++ i ∷ [] → rows_of (set rows v new) ≡ set view v (row_of view v ++ i ∷ [])

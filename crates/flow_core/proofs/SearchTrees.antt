@@ -21,20 +21,11 @@ length-push visits visit = omega (arith, length-append visits (visit ∷ []))
 
 -- an earlier visit stays one
 IsVisit-push : (arcs : List Arc) (amounts : List ℤ) (visits : List Visit) (visit : Visit) (j : ℕ) → j < length visits → IsVisit arcs amounts visits j → IsVisit arcs amounts (visits ++ visit ∷ []) j
-IsVisit-push arcs amounts visits visit j l v =
-    let longer = visits ++ visit ∷ [] in
-    let was = visit_at visits j in
-    let from : visit_at longer was.parent ≡ visit_at visits was.parent = visit_at-push visits visit was.parent (let e = v.earlier in omega arith) in
-    let is : visit_at longer j ≡ was = visit_at-push visits visit j l in
-    grind arith
+IsVisit-push arcs amounts visits visit j l v = grind (arith, visit_at-push)
 
 -- the last visit
 IsVisit-last : (arcs : List Arc) (amounts : List ℤ) (visits : List Visit) (visit : Visit) → visit.parent < length visits → IsStep arcs amounts (visit_at visits visit.parent) visit → IsVisit arcs amounts (visits ++ visit ∷ []) (length visits)
-IsVisit-last arcs amounts visits visit l s =
-    let longer = visits ++ visit ∷ [] in
-    let from : visit_at longer visit.parent ≡ visit_at visits visit.parent = visit_at-push visits visit visit.parent l in
-    let is : visit_at longer (length visits) ≡ visit = visit_at-last visits visit in
-    grind arith
+IsVisit-last arcs amounts visits visit l s = grind (arith, visit_at-push, visit_at-last)
 
 -- a new node adds one to the size of the set
 count-with : (n : ℕ) (x y : Set) (v : ℕ) → Within n v → x v ≡ false → ((w : ℕ) → y w ≡ (x w || v == w)) → count n y ≡ count n x + 1

@@ -1,8 +1,6 @@
 -- The files of what may be a command.
 -- Stated by: front_top.
-use Rattle.std.specs.Prelude.{ℕ}
-use Rattle.std.specs.declared.option.Option.{Option}
-use Rattle.std.specs.declared.option.Option.TheVariants.{Some, None}
+use Rattle.std.specs.Prelude.{ℕ, Option, Some, None}
 use Rattle.bench_tasks.specs.Common.{Command, File, file_at}
 
 -- the file at that place, which is 1, 2 or 3, of words that may match no command

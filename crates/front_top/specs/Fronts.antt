@@ -1,8 +1,6 @@
 -- What a run of the front makes of a shelf and a sink, and what is to be said of it.
 -- Stated by: front_top.
-use Rattle.std.specs.Prelude.{◌≡◌, ℕ, List, Bool, true, false}
-use Rattle.std.specs.declared.option.Option.{Option}
-use Rattle.std.specs.declared.option.Option.TheVariants.{Some, None}
+use Rattle.std.specs.Prelude.{◌≡◌, ℕ, List, Bool, true, false, Option, Some, None}
 use Rattle.outside.specs.Common.{Answer, NamedFile}
 use Rattle.bench_tasks.specs.Common.{command_of}
 use Rattle.bench_outcomes.specs.declared.status.Status.{Status}

@@ -1,10 +1,6 @@
 -- A shelf that keeps the numbers in the header of the first graph file that it reads.
 -- Stated by: front_top.
-use Rattle.std.specs.Prelude.{◌≡◌, ℕ, List}
-use Rattle.std.specs.declared.option.Option.{Option}
-use Rattle.std.specs.declared.option.Option.TheVariants.{None, Some}
-use Rattle.std.specs.declared.result.Result.{Result}
-use Rattle.std.specs.declared.result.Result.TheVariants.{Ok, Err}
+use Rattle.std.specs.Prelude.{◌≡◌, ℕ, List, Option, None, Some, Result, Ok, Err}
 use Rattle.std.specs.Global.{Vec}
 use Rattle.outside.specs.Common.{Answer, answer_of}
 use Rattle.outside.specs.declared.shelf.ShelfFault.{ShelfFault}

@@ -1,8 +1,6 @@
 -- What is said of each ending.
 -- Stated by: front_top.
-use Rattle.std.specs.Prelude.{ℕ, List, [], codes, Bool, if◌then◌else◌}
-use Rattle.std.specs.declared.option.Option.{Option}
-use Rattle.std.specs.declared.option.Option.TheVariants.{Some, None}
+use Rattle.std.specs.Prelude.{ℕ, List, [], codes, Bool, if◌then◌else◌, Option, Some, None}
 use Rattle.outside.specs.declared.explain.FailureReason.{FailureReason}
 use Rattle.line_text.specs.declared.faults.FaultKind.{FaultKind}
 use Rattle.bench_tasks.specs.Common.{Command, File, command_of}

@@ -1,6 +1,5 @@
 -- A text that was said is the whole answer: done if it was said whole, and else cut short.
-use Rattle.std.proofs.Common.{◌≡◌, ℕ, List, Ok, Err, inl, inr, refl, sym}
-use Rattle.std.specs.declared.option.Option.{Option}
+use Rattle.std.proofs.Common.{◌≡◌, ℕ, List, Ok, Err, inl, inr, refl, sym, Option}
 use Rattle.front_words.specs.Answers.{Answers}
 use Rattle.front_words.specs.Saying.{Says}
 

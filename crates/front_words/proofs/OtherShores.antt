@@ -1,10 +1,6 @@
 -- The vertices of a line are gone through by a count: each definition by one step.
-use Rattle.std.proofs.Common.{◌≡◌, ◌∙◌, ◌≤◌, ◌<◌, ℕ, ◌+◌, ◌-◌, zero, suc, List, [], ◌++◌, refl, sym, ap, arith, codes, Bool, true, false, cond, not, ◌||◌, SomeIff, append-nil}
+use Rattle.std.proofs.Common.{◌≡◌, ◌∙◌, ◌≤◌, ◌<◌, ℕ, ◌+◌, ◌-◌, zero, suc, List, [], ◌++◌, refl, sym, ap, arith, codes, Bool, true, false, cond, not, ◌||◌, SomeIff, append-nil, nat_lt, decimal, Option, None, Some}
 use Rattle.std.proofs.lemmas.Bool.Decides.{nat_tests}
-use Rattle.std.specs.Prelude.{nat_lt}
-use Rattle.std.specs.Fmt.{decimal}
-use Rattle.std.specs.declared.option.Option.{Option}
-use Rattle.std.specs.declared.option.Option.TheVariants.{None, Some}
 use Rattle.front_words.specs.Shores.{highest_named, is_cut, leaves_some, names, other_shore_note, others_text, width}
 
 -- where no number is one less, the number is 0

@@ -1,7 +1,6 @@
 -- The pieces of a message are said one after another.
 -- What is left of a list from a place on is the piece at that place and what is left after it.
-use Rattle.std.proofs.Common.{◌≡◌, ℕ, ◌+◌, ◌<◌, List, ◌++◌, length, drop, get_or, ap, add-one}
-use Rattle.std.proofs.Math.Seq.{drop-cons}
+use Rattle.std.proofs.Common.{◌≡◌, ℕ, ◌+◌, ◌<◌, List, ◌++◌, length, drop, get_or, ap, add-one, drop-cons}
 use Rattle.front_words.specs.Pieces.{piece_text, pieces_text}
 use Rattle.front_words.specs.declared.pieces.MessagePiece.TheVariants.{the_data}
 

@@ -1,7 +1,6 @@
 -- Texts that are said one after another are said as one. Each lemma joins the text that was said
 -- to the text that is said next; a beginning of a part is a beginning of the whole.
-use Rattle.std.proofs.Common.{◌≡◌, ◌≤◌, ℕ, ◌<◌, List, [], ◌++◌, length, take, drop, Ok, Err, OnOk, OnErr, IsErrAnd, Result, refl, ap, subst, sym, ◌∙◌, arith, append_assoc, append-nil, take-append-drop}
-use Rattle.std.specs.declared.option.Option.{Option}
+use Rattle.std.proofs.Common.{◌≡◌, ◌≤◌, ℕ, ◌<◌, List, [], ◌++◌, length, take, drop, Ok, Err, OnOk, OnErr, IsErrAnd, Result, refl, ap, subst, sym, ◌∙◌, arith, append_assoc, append-nil, take-append-drop, Option}
 use Rattle.outside.specs.Common.{Rose, appended, IsCutOff, IsWritten}
 use Rattle.outside.proofs.Pieces.{appended-nil, appended-appended}
 use Rattle.front_words.specs.Saying.{Says, WritesUntilFault, WritesWhole}

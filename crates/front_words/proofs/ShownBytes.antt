@@ -1,8 +1,7 @@
 -- The bytes of a text are shown unit by unit. What is shown of a text that is not empty is what is
 -- shown of its first unit, and then what is shown of the others.
-use Rattle.std.proofs.Common.{◌≡◌, ◌∙◌, ◌≤◌, ◌<◌, ℕ, ◌-◌, zero, suc, List, [], ◌∷◌, ◌++◌, length, take, drop, refl, ap, arith, codes, Bool, true, false, cond}
+use Rattle.std.proofs.Common.{◌≡◌, ◌∙◌, ◌≤◌, ◌<◌, ℕ, ◌-◌, zero, suc, List, [], ◌∷◌, ◌++◌, length, take, drop, refl, ap, arith, codes, Bool, true, false, cond, nat_lt}
 use Rattle.std.proofs.lemmas.Bool.Decides.{nat_tests}
-use Rattle.std.specs.Prelude.{nat_lt}
 use Rattle.front_words.specs.Showing.{begin_shown, byte_shown, first_shown, unit_size, units_shown}
 use Rattle.front_words.specs.UnitsSeen.{unit_shown}
 

@@ -1,7 +1,6 @@
 -- Writes of one text and then of another are writes of the two joined. The writes of a call that
 -- writes a piece, or a beginning of it, are such writes: each took the bytes that follow.
-use Rattle.std.proofs.Common.{◌≡◌, ◌≤◌, ◌<◌, ℕ, zero, suc, List, [], ◌++◌, length, take, drop, refl, ap, sym, subst, subst₂, ◌∙◌, arith, append_assoc, append-nil, take-append-drop, length-drop, take_all}
-use Rattle.std.proofs.Math.Seq.{take-add}
+use Rattle.std.proofs.Common.{◌≡◌, ◌≤◌, ◌<◌, ℕ, zero, suc, List, [], ◌++◌, length, take, drop, refl, ap, sym, subst, subst₂, ◌∙◌, arith, append_assoc, append-nil, take-append-drop, length-drop, take_all, take-add}
 use Rattle.std.proofs.lemmas.List.{length-take-le}
 use Rattle.outside.specs.Common.{IsCutOff, IsWritten, WritesTake}
 use Rattle.front_words.specs.Saying.{WritesTaken, WritesUntilFault, WritesWhole}

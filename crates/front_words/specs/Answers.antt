@@ -1,9 +1,6 @@
 -- The words that a program answers at once, and what a run makes of them.
 -- Stated by: front_words. Used by: front_top, mcg6_front_top.
-use Rattle.std.specs.Prelude.{◌≡◌, ◌⊎◌, ℕ, ◌||◌, List, [], ◌∷◌, Bool, true, false, codes, if◌then◌else◌}
-use Rattle.std.specs.declared.option.Option.{Option}
-use Rattle.std.specs.declared.option.Option.TheVariants.{Some, None}
-use Rattle.std.specs.Str.{bytes_eq}
+use Rattle.std.specs.Prelude.{◌≡◌, ◌⊎◌, ℕ, ◌||◌, List, [], ◌∷◌, Bool, true, false, codes, if◌then◌else◌, Option, Some, None, bytes_eq}
 use Rattle.outside.specs.Common.{Rose, appended}
 use Rattle.front_words.specs.Saying.{IsBegun, WritesUntilFault, WritesWhole}
 use Rattle.front_words.specs.Programs.{command_page, usage_of, version_of}

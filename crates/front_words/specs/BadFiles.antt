@@ -1,8 +1,6 @@
 -- A file that is outside its format, as far as it is known.
 -- Stated by: front_words.
-use Rattle.std.specs.Prelude.{ℕ, List}
-use Rattle.std.specs.Option.{option_map}
-use Rattle.std.specs.declared.option.Option.{Option}
+use Rattle.std.specs.Prelude.{ℕ, List, option_map, Option}
 use Rattle.line_text.specs.declared.faults.FaultKind.{FaultKind}
 use Rattle.refusals.specs.declared.file_kind.FileKind.{FileKind}
 use Rattle.front_words.specs.declared.messages.BadFile.{BadFile}

@@ -1,9 +1,6 @@
 -- The numbers in the header of a graph file.
 -- Stated by: front_words. Used by: front_top.
-use Rattle.std.specs.Prelude.{ℕ, ◌+◌, ◌==◌, ◌||◌, List, [], ◌∷◌, fold, length, nat_le, codes, if◌then◌else◌}
-use Rattle.std.specs.Str.{bytes_eq}
-use Rattle.std.specs.declared.option.Option.{Option}
-use Rattle.std.specs.declared.option.Option.TheVariants.{None, Some}
+use Rattle.std.specs.Prelude.{ℕ, ◌+◌, ◌==◌, ◌||◌, List, [], ◌∷◌, fold, length, nat_le, codes, if◌then◌else◌, bytes_eq, Option, None, Some}
 use Rattle.line_text.specs.Common.{lines_of}
 use Rattle.front_words.specs.Numbers.{number_in, pieces_of}
 

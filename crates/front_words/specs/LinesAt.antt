@@ -1,7 +1,6 @@
 -- A line of a text by its number.
 -- Stated by: front_words. Used by: front_top.
-use Rattle.std.specs.Prelude.{ℕ, ◌-◌, List, slice_get}
-use Rattle.std.specs.declared.option.Option.{Option}
+use Rattle.std.specs.Prelude.{ℕ, ◌-◌, List, slice_get, Option}
 use Rattle.line_text.specs.Common.{lines_of}
 
 -- the line with that number, counted from 1, if the text has it

@@ -1,10 +1,7 @@
 -- The messages on a file that is outside its format: each is a line that begins with the name of
 -- the program, or a few such lines.
 -- Stated by: front_words. Used by: front_top, mcg6_front_top.
-use Rattle.std.specs.Prelude.{ℕ, ◌==◌, List, [], ◌∷◌, ◌++◌, codes, if◌then◌else◌}
-use Rattle.std.specs.Fmt.{decimal}
-use Rattle.std.specs.declared.option.Option.{Option}
-use Rattle.std.specs.declared.option.Option.TheVariants.{None, Some}
+use Rattle.std.specs.Prelude.{ℕ, ◌==◌, List, [], ◌∷◌, ◌++◌, codes, if◌then◌else◌, decimal, Option, None, Some}
 use Rattle.front_words.specs.BadFiles.{BadFileSeen}
 use Rattle.front_words.specs.EmptyLines.{empty_line_in, empty_line_text}
 use Rattle.front_words.specs.Faults.{fault_words}

@@ -1,7 +1,6 @@
 -- What is said of arguments that cannot be read.
 -- Stated by: front_words.
-use Rattle.std.specs.Prelude.{ℕ, List, ◌++◌, codes}
-use Rattle.std.specs.Fmt.{decimal}
+use Rattle.std.specs.Prelude.{ℕ, List, ◌++◌, codes, decimal}
 use Rattle.arguments.specs.declared.refusal.Refusal.{Refusal}
 use Rattle.arguments.specs.declared.refusal.Refusal.TheVariants.{Memory, NotText}
 use Rattle.front_words.specs.Showing.{shown}

@@ -1,7 +1,6 @@
 -- The text of a message.
 -- Stated by: front_words.
-use Rattle.std.specs.Prelude.{ℕ, List, [], ◌∷◌, ◌++◌}
-use Rattle.std.specs.Fmt.{decimal}
+use Rattle.std.specs.Prelude.{ℕ, List, [], ◌∷◌, ◌++◌, decimal}
 use Rattle.front_words.specs.Showing.{shown}
 use Rattle.front_words.specs.declared.pieces.MessagePiece.TheVariants.{the_data, Text, Number, Shown}
 

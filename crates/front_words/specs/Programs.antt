@@ -1,7 +1,6 @@
 -- What is known of each of the two programs.
 -- Stated by: front_words.
-use Rattle.std.specs.Prelude.{ℕ, List, codes}
-use Rattle.std.specs.declared.option.Option.{Option}
+use Rattle.std.specs.Prelude.{ℕ, List, codes, Option}
 use Rattle.command_table.specs.Pages.{list_page_of, page_of}
 use Rattle.command_table.specs.Rows.{Row}
 use Rattle.command_table.specs.Table.{list_rows, rows}

@@ -1,8 +1,6 @@
 -- Why a file could not be read, in words.
 -- Stated by: front_words.
-use Rattle.std.specs.Prelude.{ℕ, List, codes}
-use Rattle.std.specs.declared.option.Option.{Option}
-use Rattle.std.specs.declared.option.Option.TheVariants.{None, Some}
+use Rattle.std.specs.Prelude.{ℕ, List, codes, Option, None, Some}
 use Rattle.outside.specs.declared.explain.FailureReason.{FailureReason}
 use Rattle.outside.specs.declared.explain.FailureReason.TheVariants.{Absent, Dangling, Folder, NotInFolder, Forbidden, LongName, LinkLoop, Socket, ManyOpen, Other}
 

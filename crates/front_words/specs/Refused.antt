@@ -1,7 +1,6 @@
 -- What a refusal means in words, and what would be right: one line for each.
 -- Stated by: front_words. Used by: front_top.
-use Rattle.std.specs.Prelude.{ℕ, List, ◌++◌, codes}
-use Rattle.std.specs.Fmt.{decimal}
+use Rattle.std.specs.Prelude.{ℕ, List, ◌++◌, codes, decimal}
 use Rattle.refusals.specs.declared.faults.StuckFault.{StuckFault}
 use Rattle.refusals.specs.declared.faults.StuckFault.TheVariants.{NoCut, Crossing, NotParts}
 use Rattle.refusals.specs.declared.refusal.Refusal.{Refusal}

@@ -1,10 +1,7 @@
 -- What is said of a list that is not an ear decomposition: its first step with a fault, what is
 -- wrong there, and what would be right.
 -- Stated by: front_words.
-use Rattle.std.specs.Prelude.{ℕ, ◌==◌, List, [], ◌++◌, codes, if◌then◌else◌}
-use Rattle.std.specs.Fmt.{decimal}
-use Rattle.std.specs.declared.option.Option.{Option}
-use Rattle.std.specs.declared.option.Option.TheVariants.{None, Some}
+use Rattle.std.specs.Prelude.{ℕ, ◌==◌, List, [], ◌++◌, codes, if◌then◌else◌, decimal, Option, None, Some}
 use Rattle.refusals.specs.declared.faults.EarFault.{EarFault}
 use Rattle.refusals.specs.declared.faults.EarFault.TheVariants.{NotPath, EvenLength, BadEnds, InnerOnStage, EdgeUsed, StageNotCovered, EndsEarly}
 use Rattle.refusals.specs.declared.places.EarOfTwo.{EarOfTwo}

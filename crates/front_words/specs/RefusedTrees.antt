@@ -1,9 +1,7 @@
 -- What is said of a tree that is not a tight cut decomposition: its first node with a fault, what
 -- is wrong there, and what would be right.
 -- Stated by: front_words.
-use Rattle.std.specs.Prelude.{ℕ, List, ◌++◌, codes}
-use Rattle.std.specs.Fmt.{decimal}
-use Rattle.std.specs.declared.option.Option.{Option}
+use Rattle.std.specs.Prelude.{ℕ, List, ◌++◌, codes, decimal, Option}
 use Rattle.refusals.specs.declared.faults.NodeFault.{NodeFault}
 use Rattle.refusals.specs.declared.faults.NodeFault.TheVariants.{NotBlocks, Even, Trivial, NotTight, NotLeaf}
 use Rattle.refusals.specs.declared.places.NodePlace.{NodePlace}

@@ -1,8 +1,6 @@
 -- What a call that says a text to a sink returns, and which writes it makes.
 -- Stated by: front_words, front_top, mcg6_front_top.
-use Rattle.std.specs.Prelude.{◌≡◌, ◌≤◌, ◌<◌, ℕ, zero, suc, List, [], ◌++◌, length, OnOk, OnErr}
-use Rattle.std.specs.declared.option.Option.{Option}
-use Rattle.std.specs.declared.result.Result.{Result}
+use Rattle.std.specs.Prelude.{◌≡◌, ◌≤◌, ◌<◌, ℕ, zero, suc, List, [], ◌++◌, length, OnOk, OnErr, Option, Result}
 use Rattle.outside.specs.Common.{Rose, appended}
 use Rattle.outside.specs.declared.sink.SinkFailed.{SinkFailed}
 

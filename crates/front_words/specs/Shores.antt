@@ -1,10 +1,6 @@
 -- The other shore of a cut, from the line that names one.
 -- Stated by: front_words.
-use Rattle.std.specs.Prelude.{ℕ, zero, suc, ◌+◌, ◌-◌, ◌==◌, ◌||◌, ◌&&◌, not, List, [], ◌++◌, Bool, false, true, fold, length, nat_le, nat_lt, codes, if◌then◌else◌}
-use Rattle.std.specs.Fmt.{decimal}
-use Rattle.std.specs.Str.{bytes_eq}
-use Rattle.std.specs.declared.option.Option.{Option}
-use Rattle.std.specs.declared.option.Option.TheVariants.{None, Some}
+use Rattle.std.specs.Prelude.{ℕ, zero, suc, ◌+◌, ◌-◌, ◌==◌, ◌||◌, ◌&&◌, not, List, [], ◌++◌, Bool, false, true, fold, length, nat_le, nat_lt, codes, if◌then◌else◌, decimal, bytes_eq, Option, None, Some}
 use Rattle.front_words.specs.Numbers.{number_in, pieces_of}
 
 -- one of the words of the line is the number of that vertex

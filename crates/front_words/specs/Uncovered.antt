@@ -1,7 +1,6 @@
 -- What is said of a graph that is not matching covered: why, and what would be right.
 -- Stated by: front_words.
-use Rattle.std.specs.Prelude.{ℕ, List, ◌++◌, codes}
-use Rattle.std.specs.Fmt.{decimal}
+use Rattle.std.specs.Prelude.{ℕ, List, ◌++◌, codes, decimal}
 use Rattle.refusals.specs.declared.faults.CoverFault.{CoverFault}
 use Rattle.refusals.specs.declared.faults.CoverFault.TheVariants.{Small, Parted, Unmatched, Unallowed}
 

@@ -1,9 +1,6 @@
 -- What is said of words that match no row of a table: why, and the lines of the command.
 -- Stated by: front_words. Used by: front_top, mcg6_front_top.
-use Rattle.std.specs.Prelude.{ℕ, List, [], ◌∷◌, ◌++◌, codes, if◌then◌else◌}
-use Rattle.std.specs.declared.option.Option.{Option}
-use Rattle.std.specs.declared.option.Option.TheVariants.{None, Some}
-use Rattle.std.specs.Str.{bytes_eq}
+use Rattle.std.specs.Prelude.{ℕ, List, [], ◌∷◌, ◌++◌, codes, if◌then◌else◌, Option, None, Some, bytes_eq}
 use Rattle.command_table.specs.Pages.{command_lines}
 use Rattle.command_table.specs.Reasons.{Reason, Unknown, TooMany, TooFew, Wrong, why_unmatched}
 use Rattle.command_table.specs.Rows.{word_meaning, word_need}

@@ -1,8 +1,6 @@
 -- What is said of a file that could not be read.
 -- Stated by: front_words.
-use Rattle.std.specs.Prelude.{ℕ, List, [], ◌++◌, codes, if◌then◌else◌}
-use Rattle.std.specs.declared.option.Option.{Option}
-use Rattle.std.specs.Str.{bytes_eq}
+use Rattle.std.specs.Prelude.{ℕ, List, [], ◌++◌, codes, if◌then◌else◌, Option, bytes_eq}
 use Rattle.outside.specs.declared.explain.FailureReason.{FailureReason}
 use Rattle.front_words.specs.Reasons.{reason_words}
 use Rattle.front_words.specs.Showing.{shown}

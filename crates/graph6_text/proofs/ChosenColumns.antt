@@ -17,25 +17,16 @@ chosen-append (pair ∷ pairs) others (false ∷ bits) = chosen-append pairs oth
 -- the loop over a column: one more pair
 pub column_chosen_more : (edges : List (ℕ × ℕ)) (before i : ℕ) (bits : List Bool) → i < before → before ≤ length bits →
     edges ++ chosen (drop i (column before (before + 1))) (drop i bits) ≡ (edges ++ chosen_one (i + 1, before + 1) (get_or bits i false)) ++ chosen (drop (i + 1) (column before (before + 1))) (drop (i + 1) bits)
-column_chosen_more edges before i bits h long =
-    rw (column_drop i before (before + 1) h, drop_more bits i false (omega arith))
-    (chosen_step edges (i + 1, before + 1) (get_or bits i false) (drop (i + 1) (column before (before + 1))) (drop (i + 1) bits))
+column_chosen_more edges before i bits h long = grind (arith, column_drop, drop_more, chosen_step, get_or)
 
 -- the same with the bit that was read, where the bits of the column begin at a place of others
 pub column_read_more : (edges : List (ℕ × ℕ)) (before i from : ℕ) (all : List Bool) (bit : Bool) → i < before → from + before ≤ length all → slice_get all (from + i) ≡ Some bit →
     edges ++ chosen (drop i (column before (before + 1))) (drop i (drop from all)) ≡ (edges ++ chosen_one (i + 1, before + 1) bit) ++ chosen (drop (i + 1) (column before (before + 1))) (drop (i + 1) (drop from all))
-column_read_more edges before i from all bit h long read =
-    let left = length-drop from all in
-    let is : get_or (drop from all) i false ≡ bit = get_or-drop from all i false ∙ get_or_from_slice_get all (from + i) bit false read in
-    column_chosen_more edges before i (drop from all) h (omega arith)
-    ∙ ap (λ (b : Bool). (edges ++ chosen_one (i + 1, before + 1) b) ++ chosen (drop (i + 1) (column before (before + 1))) (drop (i + 1) (drop from all))) is
+column_read_more edges before i from all bit h long read = grind (arith, length-drop, get_or, get_or-drop, get_or_from_slice_get, column_chosen_more)
 
 -- where it has come to its end
 pub column_chosen_all : (edges all : List (ℕ × ℕ)) (before i : ℕ) (bits : List Bool) → before ≤ i → edges ++ chosen (drop i (column before (before + 1))) (drop i bits) ≡ all → edges ≡ all
-column_chosen_all edges all before i bits h inv =
-    let l = length-column before (before + 1) in
-    let none : drop i (column before (before + 1)) ≡ [] = drop_all i (column before (before + 1)) (omega arith) in
-    sym (append-nil edges) ∙ ap (λ (pairs : List (ℕ × ℕ)). edges ++ chosen pairs (drop i bits)) (sym none) ∙ inv
+column_chosen_all edges all before i bits h inv = grind (arith, length-column, drop_all, append-nil)
 
 -- no column chooses no pair
 pub columns_chosen_none : (bits : List Bool) → chosen (column_pairs 0) bits ≡ []
@@ -44,8 +35,7 @@ columns_chosen_none bits = ap (λ (pairs : List (ℕ × ℕ)). chosen pairs bits
 -- the loop over columns: one column more
 pub columns_chosen_more : (edges : List (ℕ × ℕ)) (i : ℕ) (bits rest : List Bool) → edges ≡ chosen (column_pairs i) bits → rest ≡ drop (length (column_pairs i)) bits →
     edges ++ chosen (column i (i + 1)) rest ≡ chosen (column_pairs (i + 1)) bits
-columns_chosen_more edges i bits rest is at =
-    rw (is, at) (sym (chosen-append (column_pairs i) (column i (i + 1)) bits) ∙ ap (λ (pairs : List (ℕ × ℕ)). chosen pairs bits) (sym (column_pairs-next i)))
+columns_chosen_more edges i bits rest is at = grind (arith, chosen-append, column_pairs-next)
 
 -- the bits from the place of the next column on are enough for it
 pub columns_long : (i n from many : ℕ) → i < n → pair_count n ≤ many → from ≡ length (column_pairs i) → from + i ≤ many

@@ -7,7 +7,7 @@ use Rattle.line_text.specs.Common.{IsFault}
 use Rattle.line_text.specs.declared.faults.FaultKind.TheVariants.{Padding}
 use Rattle.line_text.specs.declared.faults.TextFault.{TextFault}
 use Rattle.line_text.specs.declared.faults.TextFault.TheVariants as fault
-use Rattle.graph6_text.specs.Common.{is_digit, bits_of, column_pairs, chosen, limit_row, pair_count, Checks, IsFirstFault, Fault, first_fault, faults_of, is_long, order_of, data_of, data_len, graph_of, graph_unless, body_of, outcome_of}
+use Rattle.graph6_text.specs.Common.{is_digit, bits_of, column_pairs, chosen, limit_row, Checks, IsFirstFault, Fault, first_fault, faults_of, is_long, order_of, data_of, data_len, graph_of, graph_unless, body_of, outcome_of}
 use Rattle.graph6_text.proofs.SixBits.{length-bits_of}
 use Rattle.graph6_text.proofs.Columns.{length-column_pairs}
 
@@ -61,9 +61,6 @@ digits-data body h = grind arith
 
 pub enough_bits : (body : List ℕ) → IsFormed body → length (column_pairs (order_of body)) ≤ length (bits_of (data_of body))
 enough_bits body h = grind (arith, length-column_pairs (order_of body), length-bits_of (data_of body))
-
-pub long_bits : (body : List ℕ) (n : ℕ) (bits : List Bool) → IsFormed body → n ≡ order_of body → bits ≡ bits_of (data_of body) → pair_count n ≤ length bits
-long_bits body n bits formed order turned = grind (arith, enough_bits body formed, length-column_pairs (order_of body))
 
 -- the first error of two lists of tests
 pub is_first-front : (xs ys : List (Bool × Fault)) (e : TextFault) → Checks (Err e) xs → IsFirstFault (xs ++ ys) e

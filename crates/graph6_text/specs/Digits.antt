@@ -1,8 +1,7 @@
 -- Digits of six bits, and the bytes that write them (B. D. McKay, "Description of graph6, sparse6
 -- and digraph6 encodings").
 -- Stated by: graph6_text. Used by: mcg6_encoder.
-use Rattle.std.specs.Prelude.{ℕ, ◌+◌, ◌-◌, ◌/◌, ◌%◌, ◌==◌, ◌&&◌, nat_le, Bool, if◌then◌else◌, List, [], ◌∷◌, map}
-use Rattle.std.specs.List.{flat_map}
+use Rattle.std.specs.Prelude.{ℕ, ◌+◌, ◌-◌, ◌/◌, ◌%◌, ◌==◌, ◌&&◌, nat_le, Bool, if◌then◌else◌, List, [], ◌∷◌, map, flat_map}
 
 -- how many digits there are: those of six bits
 abbrev pub base : ℕ

@@ -62,8 +62,7 @@ module _ (g : Graph) (is : IsGraph g) (x : Set) (h : Graph) (f : ℕ → ℕ) (c
 
   -- the cut of y in h is that of the vertices which f puts into y
   cut_down : (m y : Set) → count (size h) (λ e. drop_inside m e && in_cut h y e) ≡ count (size g) (λ e. m e && in_cut g (λ v. y (f v)) e)
-  cut_down m y = over _ _ (λ e w. ap₂ (λ a b. drop_inside m e && ((y a && not (y b)) || (not (y a) && y b))) (merge.first_ends e w) (merge.second_ends e w)
-      ∙ (grind arith))
+  cut_down m y = grind (arith, over)
 
   -- a tight shore of h is one of g
   pub tight_up : CutIsTight g x → (y : Set) → CutIsTight h y → CutIsTight g (λ v. y (f v))

@@ -1,7 +1,7 @@
 -- At the partition into single vertices the contracted graph is the graph itself, so what is said
 -- at that partition is what is said of the graph; at any partition the edges in the cut of a
 -- union of blocks are those of the graph.
-use Rattle.std.proofs.Common.{◌≡◌, ℕ, suc, ◌+◌, ◌-◌, ◌&&◌, ◌||◌, not, List, [], ◌∷◌, length, map, cond, get_or, refl, sym, ap, ap₂, ◌∙◌, arith, subst, le-leb}
+use Rattle.std.proofs.Common.{◌≡◌, ℕ, suc, ◌+◌, ◌-◌, ◌&&◌, List, [], ◌∷◌, length, map, cond, get_or, refl, sym, ap, ap₂, ◌∙◌, arith, subst, le-leb}
 use Rattle.counting.proofs.Common.{get_or-map, count_congr, and_true, Within, count, all_in, Set}
 use Rattle.graph_core.proofs.BlockSets.{at_place}
 use Rattle.graph_core.proofs.Blocks.{contracted-size}
@@ -45,9 +45,7 @@ module _ (g : Graph) (p : List (List ℕ)) (x : Set) (is : IsGraph g) (pp : AreB
   ends e w = get_or-map (λ (d : ℕ × ℕ). (place p d.0, place p d.1)) g.ends (e - 1) (0, 0) (0, 0) (omega arith)
 
   pub in-cut-at : (e : ℕ) → Within (size g) e → in_cut (contracted g p) (blocks_in p x) e ≡ in_cut g x e
-  in-cut-at e w = ap₂ (λ a b. (a && not b) || (not a && b))
-      (ap (λ (d : ℕ × ℕ). blocks_in p x d.0) (ends e w) ∙ at_place g.order p pp x union (first_end g e) (is e w).0)
-      (ap (λ (d : ℕ × ℕ). blocks_in p x d.1) (ends e w) ∙ at_place g.order p pp x union (second_end g e) (is e w).1)
+  in-cut-at e w = grind (arith, ends, at_place)
 
   pub edges-in-cut-at : (m : Set) → edges_in_cut (contracted g p) m (blocks_in p x) ≡ edges_in_cut g m x
   edges-in-cut-at m = ap (λ n. count n (λ e. m e && in_cut (contracted g p) (blocks_in p x) e)) (contracted-size g p) ∙ count_congr (size g) _ _ (λ e w. ap (λ b. m e && b) (in-cut-at e w))

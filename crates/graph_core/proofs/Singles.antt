@@ -27,16 +27,7 @@ length-singles (suc n) = let a = length-append (singles n) ((suc n ∷ []) ∷ [
 
 pub place_singles : (n v : ℕ) → 1 ≤ v → place (singles n) v ≡ cond (nat_le v n) v (n + 1)
 place_singles zero v h = rw (lt-leb v 0 h) refl
-place_singles (suc n) v h = elim (cases_lt n v) [
-  | inr le ↦
-      let ih : place (singles n) v ≡ v = place_singles n v h ∙ rw (le-leb v n le) refl in
-      let l = length-singles n in
-      place_early (singles n) ((suc n ∷ []) ∷ []) v (omega arith) ∙ ih ∙ rw (le-leb v (suc n) (omega arith)) refl
-  | inl lt ↦
-      let ih : place (singles n) v ≡ n + 1 = place_singles n v h ∙ rw (lt-leb v n lt) refl in
-      let l = length-singles n in
-      place_late (singles n) ((suc n ∷ []) ∷ []) v (omega arith) ∙ (grind (arith, length-singles, eqb-true, le-leb, lt-leb, nat_tests))
-]
+place_singles (suc n) v h = grind (arith, cases_lt, le-leb, length-singles, place_early, lt-leb, place_late, eqb-true, nat_tests, place_singles n v h)
 
 -- block i is that of i alone
 pub block-singles : (n i : ℕ) → Within n i → block (singles n) i ≡ i ∷ []

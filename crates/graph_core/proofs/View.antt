@@ -1,8 +1,7 @@
 -- The code's list of edges and the graph that it represents: edge e of the graph is item e - 1 of
 -- the list, so that "some edge" of the graph is "some item" of the list.
-use Rattle.std.proofs.Common.{◌≡◌, ℕ, ◌+◌, ◌≤◌, ◌<◌, ◌||◌, refl, sym, ap, ap₂, ◌∙◌, arith, suc, zero, List, length, get_or, take, take_all, le_refl, subst, eq-eqb, true}
+use Rattle.std.proofs.Common.{rules, ◌≡◌, ℕ, ◌+◌, ◌≤◌, ◌<◌, ◌||◌, refl, sym, ap, ap₂, ◌∙◌, arith, suc, zero, List, length, get_or, take, take_all, le_refl, subst, eq-eqb, true, All, Contains}
 use Rattle.counting.proofs.Common.{list_any, get_or-map, length-map, Within, none, some}
-use Rattle.std.specs.List.{All, Contains}
 use Rattle.std.proofs.lemmas.List.Folds.{list_any_more}
 use Rattle.graph_core.specs.Common.{IsGraph, first_end, second_end, has_ends, size, pair_of, graph_of, are_ends, adjacent}
 use Rattle.graph_core.proofs.Walks.{adjacent_from}
@@ -30,8 +29,7 @@ some-take n es u v (suc k) h =
 
 -- some edge has the ends u and v where some item has
 pub some-graph_of : (n : ℕ) (es : List Ends) (u v : ℕ) → some (size (graph_of n es)) (has_ends (graph_of n es) u v) ≡ list_any (are_ends u v) es
-some-graph_of n es u v =
-    ap (λ k. some k (has_ends (graph_of n es) u v)) (size-graph_of n es) ∙ some-take n es u v (length es) (le_refl (length es)) ∙ ap (list_any (are_ends u v)) (take_all (length es) es (le_refl (length es)))
+some-graph_of n es u v = search (rules, some, size-graph_of, some-take, le_refl, list_any, take_all)
 
 -- the ends of an item are vertices
 pub ends_within : (n : ℕ) (es : List Ends) (i : ℕ) (d : Ends) → IsGraph (graph_of n es) → i < length es → Within n (get_or es i d).a × Within n (get_or es i d).b

@@ -17,6 +17,7 @@ pub fn parity_law()
 {}
 
 /// The test `joined` says that a walk leads from one vertex to the other.
+#[tactic(auto, using(crate::proofs::Components::joined_walk, crate::proofs::Components::walk_joined))]
 pub fn walk_law()
     ensures { (g : Graph) (s : Set) (u v : ℕ) → IsGraph g → Within g.order u →
         ((joined g s u v ≡ true) ↔ Joined g s u v) }
@@ -30,11 +31,13 @@ pub fn left_side_law()
 {}
 
 /// The test `has_perfect` says that there is a perfect matching.
+#[tactic(auto, using(crate::proofs::Decide::has_perfect_says, crate::proofs::Decide::has_perfect_found))]
 pub fn perfect_matching_law()
     ensures { (g : Graph) (r : Set) → ((has_perfect g r ≡ true) ↔ HasPerfect g r) }
 {}
 
 /// Weak duality: a matching of G - R misses at least o(G - R - S) - |S| vertices.
+#[tactic(auto, using(crate::proofs::WeakDuality::berge_bound))]
 pub fn weak_duality_law()
     ensures { (g : Graph) (r s m : Set) → IsGraph g → IsMatching g r m →
         odd_component_count g (union r s) ≤ missed_count g r m + count g.order s }

@@ -1,8 +1,7 @@
 -- The text of the first items of a list grows by the line of the next item: a written list of lines
 -- with one more line is the text of the list and then the text of that line. The text of a graph is
 -- its header and then the lines of its parts.
-use Rattle.std.proofs.Common.{◌≡◌, ◌≤◌, ◌<◌, ◌+◌, ℕ, List, [], ◌∷◌, ◌++◌, length, get_or, map, take, take_all, append_assoc, sym, ◌∙◌, ap, arith, codes}
-use Rattle.std.specs.Fmt.{decimal}
+use Rattle.std.proofs.Common.{◌≡◌, ◌≤◌, ◌<◌, ◌+◌, ℕ, List, [], ◌∷◌, ◌++◌, length, get_or, map, take, take_all, append_assoc, sym, ◌∙◌, ap, arith, codes, decimal}
 use Rattle.line_text.specs.Common.{written}
 use Rattle.line_text.proofs.WrittenLines.{written-append, written-more}
 use Rattle.graph_core.proofs.Common.{Graph, size, first_end, second_end}

@@ -2,8 +2,7 @@
 -- has a header `p mcg2 N M`, N lines `v NAME` and M lines `e X Y` between names.
 -- Stated by: graph_text, mcg6_encoder, bench_tasks, theorems, example_order.
 -- Used by: bench_outcomes, bench_top.
-use Rattle.std.specs.Prelude.{ℕ, ◌==◌, ◌&&◌, ◌||◌, not, nat_lt, Bool, false, List, [], ◌∷◌, ◌++◌, codes, length, Option, Some, None, Result, Ok, Err, if◌then◌else◌}
-use Rattle.std.specs.Str.{bytes_eq}
+use Rattle.std.specs.Prelude.{ℕ, ◌==◌, ◌&&◌, ◌||◌, not, nat_lt, Bool, false, List, [], ◌∷◌, ◌++◌, codes, length, Option, Some, None, Result, Ok, Err, if◌then◌else◌, bytes_eq}
 use Rattle.std.specs.Result.{result_map_both}
 use Rattle.line_text.specs.Common.{Rules, checked, SignificantLine, significant_lines_of, has_form, word_at, is_number, value_of}
 use Rattle.graph_core.specs.Common.{Graph, size, with_edge}

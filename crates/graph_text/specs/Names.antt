@@ -1,10 +1,8 @@
 -- The names of vertices.
 -- Stated by: graph_text, mcg6_lines. Used by: report_text, bench_outcomes, bench_top, theorems.
-use Rattle.std.specs.Prelude.{◌≡◌, ◌≢◌, ℕ, zero, suc, ◌+◌, ◌<◌, ◌≤◌, ◌==◌, ◌&&◌, ◌||◌, nat_le, List, [], ◌∷◌, ◌++◌, codes, length, Bool, true, slice_index_or}
-use Rattle.std.specs.Fmt.{decimal}
+use Rattle.std.specs.Prelude.{◌≡◌, ◌≢◌, ℕ, zero, suc, ◌+◌, ◌<◌, ◌≤◌, ◌==◌, ◌&&◌, ◌||◌, nat_le, List, [], ◌∷◌, ◌++◌, codes, length, Bool, true, slice_index_or, decimal, bytes_eq}
 use Rattle.std.specs.Char.{is_ascii_alphanumeric}
 use Rattle.std.specs.List.{list_all, list_any, position_or_len, AllByRecursion}
-use Rattle.std.specs.Str.{bytes_eq}
 
 -- an ASCII letter, a digit, `_`, `-` or `.`
 unfoldable pub is_name_byte : ℕ → Bool

@@ -1,7 +1,7 @@
 -- Is a splice of two covered cubic graphs a covered cubic graph? Yes: a perfect matching of each
 -- that agree on the edges that are joined give one of the splice, and each edge is in such a pair
 -- since each of the joined edges is allowed.
-use Rattle.std.proofs.Common.{◌≡◌, ℕ, ◌+◌, ◌-◌, ◌≤◌, ◌<◌, ◌≢◌, Bool, true, ◌==◌, ◌&&◌, not, ◌⊎◌, inl, inr, List, [], ◌∷◌, ◌++◌, length, map, filter, refl, sym, ap, ap₂, ◌∙◌, arith, subst, slice_index_or}
+use Rattle.std.proofs.Common.{◌≡◌, ℕ, ◌+◌, ◌-◌, ◌≤◌, ◌<◌, ◌≢◌, Bool, true, ◌==◌, not, ◌⊎◌, inl, inr, List, [], ◌∷◌, ◌++◌, length, map, filter, refl, sym, ap, ap₂, ◌∙◌, arith, subst, slice_index_or}
 use Rattle.counting.proofs.Common.{length-append, length-map, cases_lt, true≢false, Within, bit, everything, none, mem}
 use Rattle.graph_core.proofs.Common.{Graph, size, degree, IsMultigraph, IsPerfect, Allowed, IsCovered, degree_congr}
 use Rattle.grow_gen.specs.Common.{IsCubic, is_at, neighbours, new_number, permutation, renumbered_edge, rehung_edges, targets_of, splice}
@@ -106,8 +106,7 @@ module _ (g h : Graph) (w i : ℕ) (mg : IsMultigraph g) (mh : IsMultigraph h) (
       few = let p = length-marks_where (is_at w) bs g.ends lb in let q = edges-at g mg cg w ww in let r = targets-three in omega arith
 
       same : (s t u : Bool) → caught (λ v. new v == new x) (s ∷ t ∷ u ∷ []) (beside.0 ∷ beside.1 ∷ beside.2 ∷ []) ≡ caught (λ v. v == x) (s ∷ t ∷ u ∷ []) (beside.0 ∷ beside.1 ∷ beside.2 ∷ [])
-      same s t u = ap₂ ◌+◌ (ap (λ z. bit (s && z)) (new_number-same g.order w ww beside.0 x beside-in_range.0.0 a))
-          (ap₂ ◌+◌ (ap (λ z. bit (t && z)) (new_number-same g.order w ww beside.1 x beside-in_range.1.0 a)) (ap₂ ◌+◌ (ap (λ z. bit (u && z)) (new_number-same g.order w ww beside.2 x beside-in_range.2.0 a)) refl))
+      same s t u = grind (arith, bit, new_number-same, beside, beside-in_range)
 
   -- each vertex of the splice has as many ends as it has in its graph, if all in their graphs
   -- have k

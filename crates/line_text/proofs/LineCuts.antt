@@ -65,9 +65,6 @@ lines_of-first text some = grind (arith, cases_lt, lines_of-fed, take_all, drop_
 pub position_or_len-from_position : (text : List ℕ) → unwrap_or (position is_line_feed text) (length text) ≡ position_or_len is_line_feed text
 position_or_len-from_position text = grind (arith, cases_lt, lt-ltb, nat_tests, prefix_len-le-length)
 
-pub position_or_len-within : (text : List ℕ) → position_or_len is_line_feed text ≤ length text
-position_or_len-within text = prefix_len-le-length _ text
-
 -- a line feed ends an empty line
 pub lines_of-feed : (byte : ℕ) (text : List ℕ) → is_line_feed byte ≡ true → lines_of (byte ∷ text) ≡ [] ∷ lines_of text
 unfolding lines_of

@@ -1,13 +1,13 @@
 -- What is written is read as it was meant: lines by line feeds, words by spaces, numbers by their
 -- digits. Byte by byte, a line feed begins a new line, and any other byte is put at the front of
 -- the first line of what follows it.
-use Rattle.std.proofs.Common.{◌≡◌, inl, inr, ℕ, ◌+◌, List, [], ◌∷◌, ◌++◌, length, map, filter, Bool, true, false, not, ◌||◌, ◌==◌, cond, Option, Some, None, Ok, refl, sym, ◌∙◌, ap, subst, arith, rules}
+use Rattle.std.proofs.Common.{◌≡◌, ℕ, ◌+◌, List, [], ◌∷◌, ◌++◌, length, map, filter, Bool, true, false, not, ◌||◌, ◌==◌, cond, Option, Some, None, Ok, refl, sym, ◌∙◌, ap, subst, arith, rules}
 use Rattle.std.specs.List.{slice_split, onto_first, list_all, AllByRecursion, All}
 use Rattle.std.proofs.lemmas.Bool.{cases_Bool, and_parts, and_from, not-true}
 use Rattle.std.proofs.lemmas.List.Folds.{list_all-append}
 use Rattle.std.proofs.lemmas.List.Elements.{All-nil, All-cons}
 use Rattle.std.proofs.lemmas.List.Splits.{slice_split_at, slice_split_none}
-use Rattle.line_text.specs.Common.{is_line_feed, lines_of, unlines, is_closed, is_blank, words_of, unwords, is_word, AreWords, is_skipped, IsSignificant, IsComment, SignificantLine, significant_from, significant_lines_of, written, numbered_from, Rules, Begins, finish, Stands}
+use Rattle.line_text.specs.Common.{is_line_feed, lines_of, unlines, is_closed, is_blank, words_of, unwords, is_word, AreWords, is_skipped, IsSignificant, IsComment, significant_from, significant_lines_of, written, numbered_from, Rules, Begins, finish, Stands}
 use Rattle.line_text.proofs.LineCuts.{lines_of-nil, lines_of-feed, lines_of-byte, onto_first-lines_of}
 
 -- no byte of the line is a line feed
@@ -25,11 +25,7 @@ lines_of-line (byte ∷ line) rest one =
 pub lines_of-append : (text tail : List ℕ) → is_closed text ≡ true → lines_of (text ++ tail) ≡ lines_of text ++ lines_of tail
 lines_of-append [] tail closed = rw lines_of-nil refl
 lines_of-append (byte ∷ []) tail closed = grind (arith, lines_of-feed byte tail closed, lines_of-feed byte, lines_of-nil)
-lines_of-append (byte ∷ next ∷ text) tail closed = elim (cases_Bool (is_line_feed byte)) [
-  | inl feed ↦ lines_of-feed byte (next ∷ text ++ tail) feed ∙ ap (λ ls. [] ∷ ls) (lines_of-append (next ∷ text) tail closed) ∙ ap (λ ls. ls ++ lines_of tail) (sym (lines_of-feed byte (next ∷ text) feed))
-  | inr other ↦
-      lines_of-byte byte (next ∷ text ++ tail) other ∙ ap (onto_first byte) (lines_of-append (next ∷ text) tail closed) ∙ onto_first-lines_of byte (next ∷ text) (lines_of tail) (omega arith) ∙ ap (λ ls. ls ++ lines_of tail) (sym (lines_of-byte byte (next ∷ text) other))
-]
+lines_of-append (byte ∷ next ∷ text) tail closed = grind (arith, cases_Bool, lines_of-feed, lines_of-byte, onto_first-lines_of, lines_of-append (next ∷ text) tail closed)
 
 -- the lines of a text that is written line by line
 pub lines_of-unlines : (lines : List (List ℕ)) → AllByRecursion (λ line. is_one_line line ≡ true) lines → lines_of (unlines lines) ≡ lines
@@ -115,9 +111,7 @@ significant_from-nil number = refl
 
 significant_from-written : (number : ℕ) (lines : List (List (List ℕ))) → AllByRecursion IsSignificant lines → significant_from number (map unwords lines) ≡ numbered_from number lines
 significant_from-written number [] each = significant_from-nil number
-significant_from-written number (words ∷ lines) each =
-    significant_from-kept number (unwords words) (map unwords lines) words (words_of-unwords words each.0.each) each.0.kept
-    ∙ ap (λ (ls : List SignificantLine). record { number = number; words = words } ∷ ls) (significant_from-written (number + 1) lines each.1)
+significant_from-written number (words ∷ lines) each = grind (arith, significant_from-kept, words_of-unwords, kept, significant_from-written (number + 1) lines each.1)
 
 AreWords-each : (lines : List (List (List ℕ))) → AllByRecursion IsSignificant lines → AllByRecursion AreWords lines
 AreWords-each [] each = tt
@@ -148,8 +142,7 @@ significant_lines_of-comments text tail closed skipped = grind (arith, lines_of-
 -- the lines of written comments are skipped
 AreSkipped-unwords : (comments : List (List (List ℕ))) → AllByRecursion IsComment comments → AreSkipped (map unwords comments)
 AreSkipped-unwords [] each = tt
-AreSkipped-unwords (words ∷ comments) each =
-    (ap is_skipped (words_of-unwords words each.0.each) ∙ each.0.skipped, AreSkipped-unwords comments each.1)
+AreSkipped-unwords (words ∷ comments) each = grind (arith, words_of-unwords, AreSkipped-unwords comments each.1)
 
 AreWords-comments : (comments : List (List (List ℕ))) → AllByRecursion IsComment comments → AllByRecursion AreWords comments
 AreWords-comments [] each = tt
@@ -163,8 +156,7 @@ AreSkipped-written comments each =
 module _ {Body Value Kind : Type 0} (rules : Rules Body Value Kind) where
   pub Begins-append : (from : Option Body) (lines : List (List (List ℕ))) (between : Option Body) (more : List (List (List ℕ))) (to : Option Body) → Begins rules from lines between → Begins rules between more to → Begins rules from (lines ++ more) to
   Begins-append from [] between more to begins goes = subst (λ (s : Option Body). Begins rules s more to) begins goes
-  Begins-append from (words ∷ lines) between more to begins goes =
-      (begins.0, begins.1, Begins-append (Some begins.0) lines between more to begins.2 goes)
+  Begins-append from (words ∷ lines) between more to begins goes = grind (arith, Begins-append (Some begins.0) lines between more to begins.2 goes)
 
   pub Stands-written : (lines : List (List (List ℕ))) (reached : Option Body) (value : Value) → AllByRecursion IsSignificant lines → Begins rules None lines reached → finish rules reached ≡ Ok value → Stands rules (written lines) value
   Stands-written lines reached value each begins ends = grind (arith, significant_lines_of-written lines each, words-numbered_from 1 lines)

@@ -1,7 +1,6 @@
 -- The text of a list of lines is that of the first and then that of the others, and a line is its
 -- first word and each further word after a space.
-use Rattle.std.proofs.Common.{◌≡◌, ◌+◌, ◌<◌, ℕ, suc, List, [], ◌∷◌, ◌++◌, length, get_or, map, take, refl, sym, ◌∙◌, ap, arith, append_assoc, append-nil}
-use Rattle.std.proofs.Math.Seq.{take-suc}
+use Rattle.std.proofs.Common.{◌≡◌, ◌+◌, ◌<◌, ℕ, suc, List, [], ◌∷◌, ◌++◌, length, get_or, map, take, refl, sym, ◌∙◌, ap, arith, append_assoc, append-nil, take-suc}
 use Rattle.std.proofs.lemmas.List.{map-append}
 use Rattle.line_text.specs.Common.{unwords, written}
 

@@ -1,10 +1,9 @@
 -- The words of a line, and the significant lines of a text.
 -- Stated by: line_text, graph_text, tree_text, move_text, ear_text, report_text.
 -- Used by: bench_outcomes, bench_reports, bench_top, theorems.
-use Rattle.std.specs.Prelude.{◌≡◌, ℕ, ◌+◌, ◌==◌, ◌||◌, ◌&&◌, not, List, [], ◌∷◌, ◌++◌, length, filter, Bool, true, false, if◌then◌else◌, codes, map, slice_index_or}
+use Rattle.std.specs.Prelude.{◌≡◌, ℕ, ◌+◌, ◌==◌, ◌||◌, ◌&&◌, not, List, [], ◌∷◌, ◌++◌, length, filter, Bool, true, false, if◌then◌else◌, codes, map, slice_index_or, bytes_eq}
 use Rattle.std.specs.Borrow.{Bor}
 use Rattle.std.specs.List.{slice_split, list_all, AllByRecursion}
-use Rattle.std.specs.Str.{bytes_eq}
 use Rattle.line_text.specs.Lines.{is_line_feed, lines_of, unlines}
 
 -- the bytes of words that a program holds as pieces of a text

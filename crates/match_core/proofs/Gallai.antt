@@ -158,22 +158,13 @@ module _ (g : Graph) (is : IsGraph g) (r m n : Set) (mm : IsMaximum g r m) (nn :
   count_k = let a = count_put (size g) n f false at_y.1 in let b = count_put (size g) half_way e true at_x.1 in let c = ap bit at_y.2 in let h = ap bit half_e in omega arith
 
   once : (z : ℕ) → Within g.order z → degree g k z ≤ 1
-  once z w = let s = degree_k z in let o = nn.is.once z w in elim (cases_eq x z) [
-    | inl p ↦ let a = bit_other y z (λ q. x_ne_y (p ∙ sym q)) in let b = ap (degree g n) p in let c = ap bit (eq-eqb x z p) in let h = x_parts.1 in omega arith
-    | inr p ↦ let a = bit_other x z p in elim (cases_eq y z) [
-      | inl q ↦ let b = ap (ends_of g f) q in let c = ap bit (eq-eqb y z q) in let h = ends_f_y in omega arith
-      | inr q ↦ let b = bit_other y z q in omega arith
-    ]
-  ]
+  once z w = grind (arith, degree_k, cases_eq, bit_other, x_ne_y, degree, bit, eq-eqb, x_parts, ends_of, ends_f_y)
 
   away : (z : ℕ) → Within g.order z → r z ≡ true → degree g k z ≡ 0
-  away z w o = let s = degree_k z in let h = nn.is.away z w o in
-      let a = bit_other x z (λ p. both_ways (r z) (ap r (sym p) ∙ x_parts.0) o) in
-      let b = bit_other y z (λ p. both_ways (r z) (ap r (sym p) ∙ ry) o) in omega arith
+  away z w o = grind (arith, degree_k, bit_other, both_ways, x_parts, ry)
 
   miss_t : degree g k t ≡ 0
-  miss_t = let s = degree_k t in let a = bit_other x t (λ p. found.4 (sym p)) in
-      let b = bit_other y t (λ p. let h = ap (degree g n) p in let i = n_y in absurd (omega arith)) in omega arith
+  miss_t = grind (arith, degree_k, bit_other, found, degree, n_y)
 
   more : shared (size g) m k ≡ shared (size g) m n + 1
   more = grind (arith, shared_put (size g) m n f false at_y.1, shared_put (size g) m half_way e true at_x.1, m_f, half_e)

@@ -1,6 +1,6 @@
 -- An instance of a whole graph holds the mates of each of its matchings, and goes on to hold them
 -- when it is put back. What is true of each row of a list holds when a row is put at its end.
-use Rattle.std.proofs.Common.{◌≡◌, ℕ, ◌+◌, ◌++◌, ◌∷◌, [], ◌∙◌, arith, List, length}
+use Rattle.std.proofs.Common.{◌≡◌, ℕ, ◌+◌, ◌++◌, ◌∷◌, [], arith, List, length}
 use Rattle.counting.proofs.Common.{cases_eq, get_or_append_left, Within, item, Set}
 use Rattle.std.proofs.lemmas.List.{get_or_at}
 use Rattle.graph_core.proofs.Common.{degree_congr, Graph, size}
@@ -21,8 +21,4 @@ each_more P k rows new next long is earlier here u w = grind (arith, cases_eq u 
 
 -- a set with the same edges has the same mates
 pub same_edges_mates : (g : Graph) (r m n : Set) (mate : ℕ → ℕ) → ((e : ℕ) → Within (size g) e → n e ≡ m e) → HasMates g r m mate → HasMates g r n mate
-same_edges_mates g r m n mate same has = record {
-  matching = matching_alike g r m n same has.matching;
-  exposed = λ v w q. degree_congr g n m v same ∙ has.exposed v w q;
-  paired = λ v w q. let d = has.paired v w q in (d.0, d.1, same d.0 d.1 ∙ d.2, d.3);
-}
+same_edges_mates g r m n mate same has = grind (arith, matching_alike, degree_congr)

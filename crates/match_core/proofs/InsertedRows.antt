@@ -86,7 +86,4 @@ inserted_is g m new of keeps own = ap₂ (λ n rows. let m : MatchingValue = rec
 -- the same for the rows of the code
 pub joined_is : (g : Graph) (m : MatchingValue) (e a b n : ℕ) (rows items : List MatchRow) → IsOf g m → KeepsMatching m → Within (size g) e → a ≡ first_end g e → b ≡ second_end g e → record { order = n; rows = rows } ≡ m
     → items ≡ inserted rows (record { edge = e; a = a; b = b }) → record { order = n; rows = items } ≡ marked_matching g (put (mem (edges_of m)) e true)
-joined_is g m e a b n rows items of keeps we first second view is =
-    ap (λ xs. let m : MatchingValue = record { order = n; rows = xs } in m) is
-    ∙ ap (λ (v : MatchingValue). let m : MatchingValue = record { order = v.order; rows = inserted v.rows (record { edge = e; a = a; b = b }) } in m) view
-    ∙ inserted_is g m (record { edge = e; a = a; b = b }) of keeps (record { edge = we; first = first; second = second })
+joined_is g m e a b n rows items of keeps we first second view is = grind (arith, inserted_is)

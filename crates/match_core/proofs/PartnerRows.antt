@@ -114,10 +114,7 @@ module _ (g : Graph) (is : IsGraph g) (r m outer inner : Set) (mm : IsMatching g
 
   -- the outer vertices are the row
   outer-row : missed_count g r m ≡ 1 → (v : ℕ) → Within g.order v → outer v ≡ (not (r v) && has_perfect g (union r (singleton v)))
-  outer-row one v w = elim (cases_Bool (outer v)) [
-    | inl t ↦ grind (arith, and_from, outer_missable, mm, has_perfect_found, outer-perfect)
-    | inr f ↦ grind (arith, false_from_ne_true, and_parts, both_ways, perfect-outer, not-true, has_perfect_says)
-  ]
+  outer-row one v w = grind (arith, cases_Bool, and_from, outer_missable, has_perfect_found, outer-perfect, false_from_ne_true, and_parts, both_ways, perfect-outer, not-true, has_perfect_says)
 
   -- where another number of vertices is missed, the row is empty
   no_row : missed_count g r m ≢ 1 → (v : ℕ) → Within g.order v → (not (r v) && has_perfect g (union r (singleton v))) ≡ false
@@ -125,13 +122,7 @@ module _ (g : Graph) (is : IsGraph g) (r m outer inner : Set) (mm : IsMatching g
 
   -- where there are partners, no vertex is missed or two
   pair-missed : (u v : ℕ) → Within g.order u → Within g.order v → r u ≡ false → r v ≡ false → u ≢ v → HasPerfect g (union r (pair_set u v)) → missed_count g r m ≢ 0 → missed_count g r m ≡ 2
-  pair-missed u v wu wv ru rv d p some =
-      let a = perfect-two g r p.0 u v is wu wv ru rv d p.1 in
-      let most = most_edges p.0 a.0 in
-      let sum = missed_edges g r p.0 is a.0 in
-      let own = missed_edges g r m is mm in
-      let two = a.1 in
-      omega arith
+  pair-missed u v wu wv ru rv d p some = grind (arith, perfect-two, most_edges, missed_edges)
 
 -- u and then v are taken out
 both_out : (r : Set) (u v : ℕ) → union (union r (singleton u)) (singleton v) ≡ union r (pair_set u v)

@@ -1,14 +1,13 @@
 -- The mates that a pass over the rows of a matching names, where it leaves out the rows that meet a
 -- set, are those of the edges that it does not leave out. Idea: an edge that is left is the edge of
 -- a row, and the row names its ends.
-use Rattle.std.proofs.Common.{◌≡◌, ℕ, ◌<◌, List, Some, true, refl, inl, inr, sym, ap, ◌∙◌, arith, not, ◌&&◌, length, map, subst, ap₂, suc, ◌∷◌, [], ◌==◌, false, zero, ◌≤◌, ◌+◌, eqb-true, slice_get}
+use Rattle.std.proofs.Common.{◌≡◌, ℕ, ◌<◌, List, Some, true, refl, inl, inr, sym, ap, ◌∙◌, arith, not, length, map, suc, ◌∷◌, [], ◌==◌, false, zero, ◌≤◌, ◌+◌, eqb-true, slice_get}
 use Rattle.std.proofs.lemmas.Option.{get_or_from_slice_get}
 use Rattle.counting.proofs.Common.{fun_ext, Set, mem, and_from, and_parts, or_cases, cases_eq, or_right, both_ways}
 use Rattle.graph_core.proofs.Common.{Graph, HasEnds, IsMatching, degree, edge_at, first_end, second_end}
 use Rattle.match_search.specs.Common.{HasMates, numbers, with_mate, with_pair}
 use Rattle.match_search.proofs.MatePairs.{with_here, with_there}
-use Rattle.match_core.specs.Common.{IsOf, IsRowOf, KeepsMatching, MatchingValue, edges_of, is_clear, left_over, has_end_in}
-use Rattle.match_core.specs.HeldMates.{NamesRows}
+use Rattle.match_core.specs.Common.{IsOf, IsRowOf, KeepsMatching, MatchingValue, edges_of, is_clear, left_over, has_end_in, NamesRows}
 use Rattle.match_core.specs.declared.matching.MatchRow.{MatchRow}
 use Rattle.match_core.proofs.ClearedMatchings.{left_matching}
 use Rattle.match_core.proofs.MatchingEdges.{edge_of, rows-matching}
@@ -77,21 +76,11 @@ module _ (g : Graph) (x : Set) (m : MatchingValue) (mate : List ℕ) (of : IsOf 
 
   -- a row of the matching is an edge of the graph, and is left if it meets no vertex of x
   row_left : (j : ℕ) (row : MatchRow) → j < length m.rows → slice_get m.rows j ≡ Some row → IsRowOf g row × (is_clear x row ≡ not (has_end_in g x row.edge))
-  row_left j row l at =
-      let is : IsRowOf g row = subst (IsRowOf g) (get_or_from_slice_get m.rows j row row at) (of.rows j row l) in
-      (is, ap₂ (λ a b. not (x a) && not (x b)) is.first is.second ∙ (grind arith))
+  row_left j row l at = grind (arith, get_or_from_slice_get)
 
   -- a vertex with the mate 0 meets no edge that is left
   no_edge : (v e o : ℕ) → numbers mate v ≡ 0 → left e ≡ true → HasEnds g e v o → ⊥
-  no_edge v e o z le ends =
-      let p = and_parts (mem (edges_of m) e) (not (has_end_in g x e)) le in
-      let r = row_with m.rows e p.0 in
-      let is = row_left r.0 r.1 r.2 r.3 in
-      let no = named.missed v z r.0 r.1 r.2 r.3 (is.1 ∙ ap (λ i. not (has_end_in g x i)) r.4 ∙ p.1) in
-      elim ends [
-        | inl s ↦ no.0 (is.0.first ∙ ap (first_end g) r.4 ∙ s.0)
-        | inr s ↦ no.1 (is.0.second ∙ ap (second_end g) r.4 ∙ s.1)
-      ]
+  no_edge v e o z le ends = grind (arith, and_parts, mem, row_with, row_left, first_end, second_end)
 
   none_there : (d : ℕ) → (0 < d → ⊥) → d ≡ 0
   none_there d h = grind arith
@@ -109,7 +98,4 @@ module _ (g : Graph) (x : Set) (m : MatchingValue) (mate : List ℕ) (of : IsOf 
 
 -- the mates of all edges of a matching of g - r, read with no vertex removed, are its mates in g - r
 pub mates_beside : (g : Graph) (r x m : Set) (mate : ℕ → ℕ) → IsMatching g r m → ((v : ℕ) → x v ≡ false) → HasMates g x (left_over g x m) mate → HasMates g r m mate
-mates_beside g r x m mate mm nothing has =
-    let all : left_over g x m ≡ m = fun_ext (λ e. grind (arith, nothing (first_end g e), nothing (second_end g e))) in
-    let same = subst (λ (s : Set). HasMates g x s mate) all has in
-    record { matching = mm; exposed = same.exposed; paired = same.paired }
+mates_beside g r x m mate mm nothing has = grind (arith, fun_ext, first_end, second_end)

@@ -15,10 +15,7 @@ use Rattle.match_search.proofs.Reaching.{none_reached}
 
 -- where no vertex is active, each outer one is done
 pub all_done : (g : Graph) (r f : Set) (s : Instance) (mate : List ℕ) (t : AlternatingForest) → GrowsForest g r f s mate t → t.active ≡ [] → (x : ℕ) → mem t.outer x ≡ true → IsDone s t x
-all_done g r f s mate t grows none x o y touches left other = elim (grows.settled x o (ap (λ (xs : List ℕ). mem xs x) none) y touches left other) [
-  | inl q ↦ q
-  | inr q ↦ absurd (both_ways (mem t.active y) (ap (λ (xs : List ℕ). mem xs y) none) q)
-]
+all_done g r f s mate t grows none x o y touches left other = grind (arith, mem, both_ways)
 
 module _ (g : Graph) (r f : Set) (s : Instance) (mate : List ℕ) (t : AlternatingForest) (grows : GrowsForest g r f s mate t) (x : ℕ) (active : mem t.active x ≡ true) (met near reach : List ℕ)
     (met_is : AreNear s x met) (near_is : (v : ℕ) → mem near v ≡ (mem met v && not (x == v))) (reach_is : (v : ℕ) → mem reach v ≡ (mem near v && not (mem t.inner v))) where

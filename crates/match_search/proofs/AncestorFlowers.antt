@@ -42,12 +42,7 @@ module _ (g : Graph) (r f : Set) (mate : List ℕ) (t : AlternatingForest) (o : 
 
   -- its own path ends in it
   own_end : IsLastIn k closes.holds.v path o.w o.w []
-  own_end = record {
-    pairs = omega arith;
-    over = λ j l. refl;
-    later = λ s lo hi. absurd (omega arith);
-    way_is = λ v. ((λ m. absurd (true≢false (sym m))), (λ b. let lo = b.1 in let hi = b.2 in absurd (omega arith)));
-  }
+  own_end = grind (arith, true≢false)
 
   pub ancestor_flower : HoldsFlower g r f mate t closes.holds (record { members = members; base = o.w })
   ancestor_flower = flower_closed g r f mate t o closes one path (λ v. (listed_outer (closes.holds.v o.v) (k o.v) v, λ w. outer_listed (closes.holds.v o.v) (k o.v) v w.0 w.1 w.2))

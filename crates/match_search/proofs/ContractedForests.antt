@@ -27,10 +27,7 @@ module _ (given : ShrunkForest) (outer' inner' : Set) (parent' mate' : ℕ → �
   ]
 
   stays_inner : (w : ℕ) → Stays c z w → inner' w ≡ inner w
-  stays_inner w st = after.inner_is w ∙ elim st [
-    | inl q ↦ ap (λ b. inner w && not b) q ∙ and_true (inner w)
-    | inr q ↦ let n : inner w ≡ false = ap inner q ∙ forest.apart z fits.base_outer in ap (λ b. b && not (c w)) n ∙ sym n
-  ]
+  stays_inner w st = grind (arith, and_true)
 
   outer_parts : (u : ℕ) → outer' u ≡ true → (outer u ≡ true) × Stays c z u
   outer_parts u t = elim (or_cases (outer u && not (c u)) (z == u) (sym (after.outer_is u) ∙ t)) [
@@ -43,10 +40,7 @@ module _ (given : ShrunkForest) (outer' inner' : Set) (parent' mate' : ℕ → �
 
   -- what an outer vertex becomes is outer
   pulled_outer : (w : ℕ) → outer w ≡ true → outer' (shrunk_vertex c z w) ≡ true
-  pulled_outer w o = elim (cases_Bool (c w)) [
-    | inl q ↦ ap outer' (ap (λ b. cond b z w) q) ∙ stays_outer z (inr refl) ∙ fits.base_outer
-    | inr q ↦ ap outer' (ap (λ b. cond b z w) q) ∙ stays_outer w (inl q) ∙ o
-  ]
+  pulled_outer w o = grind (arith, cases_Bool, stays_outer)
 
   -- the ends of an edge of f that is left stay
   left_stays : (d x y : ℕ) → Within (size g) d → left_edges given d ≡ true → HasEnds g d x y → Stays c z x
@@ -134,10 +128,7 @@ module _ (given : ShrunkForest) (outer' inner' : Set) (parent' mate' : ℕ → �
     root_off q s = n (ap k q ∙ s)
 
     mate_off : c (mate u) ≡ false
-    mate_off = elim st [
-      | inl q ↦ mate_out given u p o q w
-      | inr q ↦ ap (λ x. c (mate x)) q ∙ base_mate_out given (root_off q)
-    ]
+    mate_off = grind (arith, mate_out, base_mate_out, root_off)
 
     new_mate : mate' u ≡ mate u
     new_mate = mate_stay given outer' inner' parent' mate' after u st
@@ -150,10 +141,7 @@ module _ (given : ShrunkForest) (outer' inner' : Set) (parent' mate' : ℕ → �
     skip_base = let a = skip_is z (k z - k z) fits.base_outer (way_in given z fits.base fits.base_outer) in omega arith
 
     skip_before : k p < k z → skip p ≡ 0
-    skip_before l = elim (way p w.outer_is) [
-      | inl x ↦ let a = x.within in absurd (omega arith)
-      | inr x ↦ x.0
-    ]
+    skip_before l = grind (arith, way)
 
     -- u leaves out as many pairs as its parent
     same_skip : skip u ≡ skip p
@@ -163,10 +151,7 @@ module _ (given : ShrunkForest) (outer' inner' : Set) (parent' mate' : ℕ → �
     ]
 
     small : skip p ≤ k p
-    small = elim (way p w.outer_is) [
-      | inl x ↦ let a = x.within in omega arith
-      | inr x ↦ let a = x.0 in omega arith
-    ]
+    small = grind (arith, way)
 
     -- where the parent stays
     up_out : c p ≡ false → WalksUp outer' k' v' parent' mate' u p
@@ -207,10 +192,7 @@ module _ (given : ShrunkForest) (outer' inner' : Set) (parent' mate' : ℕ → �
             let h = place_high base (skip u + skip u) (suc (k' z + k' z)) (omega arith) in omega arith
 
     step_up : (x : ℕ) × WalksUp outer' k' v' parent' mate' u x
-    step_up = elim (cases_Bool (c p)) [
-      | inl q ↦ (z, up_in q)
-      | inr q ↦ (p, up_out q)
-    ]
+    step_up = grind (arith, cases_Bool, up_in, up_out)
 
   pub contracted_forest : IsWalkedForest (H given) (rs given) (left_edges given) outer' inner' parent' mate'
   contracted_forest = record {

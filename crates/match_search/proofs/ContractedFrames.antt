@@ -57,10 +57,7 @@ module _ (given : ShrunkForest) where
   }
 
   removed_same : (u : ℕ) → Stays c z u → rs given u ≡ r u
-  removed_same u st = elim st [
-    | inl q ↦ shut_out g is r c z es shrunk fits.left (wz given) fits.base u q
-    | inr q ↦ ap (rs given) q ∙ shut_z g is r c z es shrunk fits.left (wz given) fits.base ∙ sym (ap r q ∙ fits.left z fits.base)
-  ]
+  removed_same u st = grind (arith, shut_out, wz, rs, shut_z)
 
   -- as many vertices are missed as before
   pub contracted_missed : missed_count (H given) (rs given) (left_edges given) ≡ missed_count g r f
@@ -124,13 +121,7 @@ module _ (given : ShrunkForest) where
       start = forest_start (H given) (graph_below given) (rs given) (left_edges given) mm
 
       only_base : (u : ℕ) → Within g.order u → rs given u ≡ false → u ≡ z
-      only_base u w q = elim (stays_or_not given u) [
-        | inl s ↦ elim s [
-          | inl t ↦ absurd (both_ways (c u) t (whole u w (sym (removed_same u (inl t)) ∙ q)))
-          | inr t ↦ t
-        ]
-        | inr s ↦ absurd (both_ways (rs given u) q (or_right (r u) (c u && not (u == z)) (and_from (c u) (not (u == z)) s.0 (ap not (ne_eqb u z s.1)))))
-      ]
+      only_base u w q = grind (arith, stays_or_not, both_ways, removed_same, rs, or_right, and_from, ne_eqb)
 
       first_in : (u : ℕ) → first u ≡ true → c u ≡ true
       first_in u t = let a = start.outer_in u t in ap c (only_base u a.0 a.1) ∙ fits.base

@@ -1,7 +1,7 @@
 -- The paths of a forest in the shrunk graph: where a set of its vertices is shrunk to its base, the
 -- path of an outer vertex leaves out the places between the base and the last one in the set. So
 -- each of its vertices is outside the set or is the base, where the degrees are what they were.
-use Rattle.std.proofs.Common.{◌≡◌, ◌≢◌, ℕ, suc, ◌+◌, ◌-◌, ◌≤◌, ◌<◌, ◌⊎◌, true, false, cond, refl, sym, ap, ◌∙◌, arith, not, ◌&&◌, inl, inr, subst}
+use Rattle.std.proofs.Common.{◌≡◌, ◌≢◌, ℕ, suc, ◌+◌, ◌-◌, ◌≤◌, ◌<◌, ◌⊎◌, true, false, cond, refl, sym, ap, ◌∙◌, arith, not, ◌&&◌, inl, inr}
 use Rattle.counting.proofs.Common.{and_true, both_ways, cases_eq, cases_lt}
 use Rattle.graph_core.proofs.Common.{HasEnds, degree}
 use Rattle.match_search.specs.Common.{IsAlternating, shrunk_vertex}
@@ -37,16 +37,10 @@ module _ (given : ShrunkForest) where
     old = forest.path u o
 
     pub few : s ≤ k u
-    few = elim way [
-      | inl x ↦ let a = x.within in omega arith
-      | inr x ↦ let a = x.0 in omega arith
-    ]
+    few = grind arith
 
     pub place_fits : (j : ℕ) → j ≤ length_of + length_of → place base (s + s) j ≤ k u + k u
-    place_fits j l = let small = few in elim (cases_lt base j) [
-      | inl h ↦ let a = place_high base (s + s) j h in omega arith
-      | inr h ↦ let a = place_low base (s + s) j h in omega arith
-    ]
+    place_fits j l = grind (arith, few, cases_lt, place_high, place_low)
 
     edge_fits : (j : ℕ) → j < length_of + length_of → on j < k u + k u
     edge_fits j l = let a = edge_next base (s + s) j in let b = place_fits (suc j) (omega arith) in omega arith
@@ -61,32 +55,17 @@ module _ (given : ShrunkForest) where
     ]
 
     out_high : (j : ℕ) → base < j → j ≤ length_of + length_of → c (v u (j + (s + s))) ≡ false
-    out_high j h l = let small = few in elim way [
-      | inl x ↦ x.beyond (j + (s + s)) (omega arith) (omega arith)
-      | inr x ↦ x.1 (j + (s + s)) (omega arith)
-    ]
+    out_high j h l = grind (arith, few)
 
     pub stays_at : (j : ℕ) → j ≤ length_of + length_of → Stays c z (at j)
-    stays_at j l = elim (cases_lt base j) [
-      | inl h ↦ inl (ap (λ i. c (v u i)) (place_high base (s + s) j h) ∙ out_high j h l)
-      | inr h ↦ subst (λ (i : ℕ). Stays c z (v u i)) (sym (place_low base (s + s) j h)) (stays_low j h (omega arith))
-    ]
+    stays_at j l = grind (arith, cases_lt, place_high, out_high, place_low, stays_low)
 
     -- the edges lead on from what their first ends became
     pulled_same : (j : ℕ) → j < length_of + length_of → on j ≡ place base (s + s) j → at j ≡ shrunk_vertex c z (v u (on j))
     pulled_same j l q = sym (pulled_at_stay given (at j) (stays_at j (omega arith))) ∙ ap (λ i. shrunk_vertex c z (v u i)) (sym q)
 
     pulled_first : (j : ℕ) → j < length_of + length_of → at j ≡ shrunk_vertex c z (v u (on j))
-    pulled_first j l = elim (cases_eq j base) [
-      | inr n ↦ pulled_same j l (edge_off base (s + s) j n)
-      | inl q ↦ elim way [
-        | inr x ↦ let none : s + s ≡ 0 = (let a = x.0 in omega arith) in pulled_same j l (edge_none base (s + s) j none ∙ sym (place_none base (s + s) j none))
-        | inl x ↦
-            let here : on j ≡ k z + s + (k z + s) = (let a = edge_high base (s + s) j (omega arith) in omega arith) in
-            ap (v u) (place_low base (s + s) j (omega arith) ∙ q) ∙ x.over base (omega arith) ∙ forest.last z fits.base_outer
-            ∙ sym (pulled_in (v u (on j)) (ap (λ i. c (v u i)) here ∙ x.last))
-      ]
-    ]
+    pulled_first j l = grind (arith, cases_eq, pulled_same, edge_off, edge_none, place_none, edge_high, place_low, pulled_in)
 
     pulled_second : (j : ℕ) → j < length_of + length_of → at (suc j) ≡ shrunk_vertex c z (v u (suc (on j)))
     pulled_second j l = sym (pulled_at_stay given (at (suc j)) (stays_at (suc j) (omega arith))) ∙ ap (λ i. shrunk_vertex c z (v u i)) (edge_next base (s + s) j)

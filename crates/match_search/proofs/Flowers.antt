@@ -40,10 +40,7 @@ module _ (g : Graph) (r f : Set) (s : Instance) (mate : List ℕ) (root : ℕ) (
       missed v w out z = and_from (not (r v)) (degree g f v == 0) (ap not out) (eq-eqb (degree g f v) 0 (rooted.holds.mates.exposed v w z))
 
   root_exposed : (roots : List ℕ) → roots ≡ root ∷ [] → AreExposed s.left mate roots
-  root_exposed roots is v = ap (λ (xs : List ℕ). mem xs v) is ∙ elim (cases_eq root v) [
-    | inl q ↦ ap (λ b. b || false) (eq-eqb root v q) ∙ sym (and_from (mem s.left v) (numbers mate v == 0) (ap (mem s.left) (sym q) ∙ rooted.left) (eq-eqb (numbers mate v) 0 (ap (numbers mate) (sym q) ∙ rooted.free)))
-    | inr n ↦ ap (λ b. b || false) (ne_eqb root v n) ∙ sym (false_from_ne_true (mem s.left v && (numbers mate v == 0)) (λ t. let a = and_parts (mem s.left v) (numbers mate v == 0) t in n (alone v a.0 (eqb-true (numbers mate v) 0 a.1))))
-  ]
+  root_exposed roots is v = grind (arith, mem, cases_eq, eq-eqb, and_from, ne_eqb, false_from_ne_true, and_parts, alone, eqb-true)
 
   -- the forest of the root alone can grow
   pub root_grows : (before t : AlternatingForest) (roots : List ℕ) → roots ≡ root ∷ [] → length before.parent.items ≡ suc (length s.rows.items) → HasRestarted before t roots → GrowsForest g r f s mate t

@@ -25,8 +25,7 @@ module _ (n : ℕ) (ends : List Ends) where
 
   -- ends of 1 to n make a graph
   pub row_graph : AreEnds n ends → IsGraph G
-  row_graph row e w = let u : Within (length ends) e = (let s = size_is in omega arith) in
-      let a = row.a (e - 1) (omega arith) in let b = row.b (e - 1) (omega arith) in let x = near_is e u in let y = far_is e u in (omega arith, omega arith)
+  row_graph row e w = grind (arith, size_is, near_is, far_is)
 
   -- a vertex that no marked edge meets
   pub unmet_degree : (m : Set) (v : ℕ) → ((k : ℕ) → k < length ends → m (k + 1) ≡ true → (end_a ends k ≢ v) × (end_b ends k ≢ v)) → degree G m v ≡ 0
@@ -48,16 +47,7 @@ module _ (n : ℕ) (ends : List Ends) where
     partner w = cond (end_a ends (numbers at w - 1) == w) (end_b ends (numbers at w - 1)) (end_a ends (numbers at w - 1))
 
     pub pair_is : (w : ℕ) → numbers at w ≢ 0 → Within (size G) (numbers at w) × (m (numbers at w) ≡ true) × HasEnds G (numbers at w) w (partner w)
-    pair_is w z =
-        let t = mates.met w z in
-        let s = size_is in (
-          omega arith,
-          t.1,
-          elim (cases_eq (end_a ends (numbers at w - 1)) w) [
-            | inl q ↦ inl (near_is (numbers at w) t.0 ∙ q, far_is (numbers at w) t.0 ∙ sym (ap (λ b. cond b (end_b ends (numbers at w - 1)) (end_a ends (numbers at w - 1))) (eq-eqb (end_a ends (numbers at w - 1)) w q)))
-            | inr q ↦ grind (arith, near_is (numbers at w) t.0, ne_eqb (end_a ends (numbers at w - 1)) w q, far_is (numbers at w) t.0)
-          ],
-        )
+    pair_is w z = grind (arith, met, size_is, cases_eq, near_is, far_is, eq-eqb, ne_eqb)
 
 -- the ends at a place are those of the next edge
 pub ends_here : (n : ℕ) (ends : List Ends) (k : ℕ) → k < length ends → (end_a ends k ≡ first_end (graph_of n ends) (suc k)) × (end_b ends k ≡ second_end (graph_of n ends) (suc k))

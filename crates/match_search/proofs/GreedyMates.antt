@@ -1,9 +1,9 @@
 -- The mates that the search begins with, and the frame of a perfect matching. An edge between two
 -- free vertices makes them a pair; where no vertex is exposed, the frame is empty.
-use Rattle.std.proofs.Common.{◌≡◌, ◌≢◌, ℕ, zero, suc, replicate, ◌≤◌, length, ◌∷◌, true, false, refl, sym, ap, ◌∙◌, arith, inl, inr, ne_eqb, List, ◌||◌, ◌&&◌, ◌==◌, not, []}
+use Rattle.std.proofs.Common.{◌≡◌, ◌≢◌, ℕ, zero, suc, replicate, ◌≤◌, length, ◌∷◌, true, false, refl, ap, ◌∙◌, arith, inl, inr, ne_eqb, List, ◌||◌, ◌&&◌, ◌==◌, not, []}
 use Rattle.counting.proofs.Common.{both_ways, cases_Bool, cases_eq, total_none, Within, bit, Set, none, put, mem}
 use Rattle.graph_core.proofs.Common.{missed_edges, Graph, HasEnds, IsGraph, degree, size, missed_count}
-use Rattle.match_search.specs.Common.{HasFrame, HasMates, numbers, with_mate, with_pair}
+use Rattle.match_search.specs.Common.{HasFrame, HasMates, numbers, with_pair}
 use Rattle.match_search.specs.declared.answer.FinalSets.{FinalSets}
 use Rattle.match_search.proofs.ClosingPairs.{degree_elsewhere}
 use Rattle.match_search.proofs.FirstMarks.{added_edge, empty_degree, empty_matching}
@@ -18,11 +18,7 @@ no-mates (suc n) (suc v) = no-mates n v
 
 -- no pair at all
 pub empty_mates : (g : Graph) (r : Set) (mate : ℕ → ℕ) → ((v : ℕ) → mate v ≡ 0) → HasMates g r none mate
-empty_mates g r mate zeros = record {
-  matching = empty_matching g r none (λ e. refl);
-  exposed = λ v w q. empty_degree g none (λ e. refl) v;
-  paired = λ v w n. absurd (n (zeros v));
-}
+empty_mates g r mate zeros = grind (arith, empty_matching, none, empty_degree)
 
 -- an edge between two free vertices makes them a pair
 pub added_pair : (g : Graph) (r m met met' : Set) (mate : ℕ → ℕ) (e x y : ℕ) → HasMates g r m mate → ((v : ℕ) → Within g.order v → met v ≡ false → (r v ≡ false) × (degree g m v ≡ 0)) →
@@ -34,17 +30,7 @@ added_pair g r m met met' mate e x y has free we wx wy ends xy mx my met'_is =
 
 -- a vertex that is not in the new pair, and has no mate, is not met
 pub pair_free : (mate : ℕ → ℕ) (met met' : Set) (a b v : ℕ) → 1 ≤ a → 1 ≤ b → met' v ≡ ((met v || (a == v)) || (b == v)) → (mate v ≡ 0 → met v ≡ false) → with_pair mate a b v ≡ 0 → met' v ≡ false
-pair_free mate met met' a b v la lb met'_is free z = elim (cases_eq v b) [
-  | inl q ↦ let x = sym (with_here (with_mate mate a b) b a v q) ∙ z in absurd (omega arith)
-  | inr nb ↦
-      let y = sym (with_there (with_mate mate a b) b a v nb) ∙ z in
-      elim (cases_eq v a) [
-        | inl q ↦ let x = sym (with_here mate a b v q) ∙ y in absurd (omega arith)
-        | inr na ↦
-            let x = sym (with_there mate a b v na) ∙ y in
-            met'_is ∙ ap (λ s. (s || (a == v)) || (b == v)) (free x) ∙ ap (λ s. s || (b == v)) (ne_eqb a v (λ q. na (sym q))) ∙ ne_eqb b v (λ q. nb (sym q))
-      ]
-]
+pair_free mate met met' a b v la lb met'_is free z = grind (arith, cases_eq, with_here, with_there, ne_eqb)
 
 module _ (g : Graph) (is : IsGraph g) (r m : Set) (mate : List ℕ) (has : HasMates g r m (numbers mate)) where
   module _ (paired : (v : ℕ) → Within g.order v → r v ≡ false → numbers mate v ≢ 0) where

@@ -52,10 +52,7 @@ module _ (g : Graph) (is : IsGraph g) (r f m seen : Set) (mate : ℕ → ℕ) (h
   own v t = grind (arith, end_within g is, turned g, mate_back g is r f mate has)
 
   unmarked : (v : ℕ) → Within g.order v → mate v ≡ 0 → degree g m v ≡ 0
-  unmarked v w z = elim (cases_Bool (seen v)) [
-    | inl t ↦ absurd ((own v t).0 z)
-    | inr q ↦ (all.free v w q).1
-  ]
+  unmarked v w z = grind (arith, cases_Bool, own)
 
   paired : (v : ℕ) → Within g.order v → mate v ≢ 0 → (e : ℕ) × Within (size g) e × (m e ≡ true) × HasEnds g e v (mate v)
   paired v w n = elim one [

@@ -89,29 +89,13 @@ held_without g r f u s mate own left held wu out long each = (
   },
 )
 
--- the forest of a space has the lengths that a search of the instance needs
-pub sized_rows : (g : Graph) (r f : Set) (s : Instance) (mate : List ℕ) (space : RowSpace) → HoldsMatching g r f s mate → ServesRows s.left mate space → IsSized (length s.rows.items) space.forest
-sized_rows g r f s mate space held serves =
-    let long = held.long in
-    let each = held.instance_is.one_each in
-    let parents = serves.sized.parents_long in
-    record { parents_long = omega arith }
-
 -- a row that is written back through a slice keeps its length
 pub written_long : (len : ℕ) (new old : List ℕ) (n : ℕ) → length new ≡ len → len ≡ n → length (take len (new ++ drop (length new) old)) ≡ n
 written_long len new old n long same = ap (λ k. length (take k (new ++ drop (length new) old))) (sym long) ∙ ap length (take-append_seam new (drop (length new) old)) ∙ long ∙ same
 
 -- a space serves the next row if the lengths and the set of exposed vertices stay the same
 pub serves_again : (g : Graph) (r f : Set) (s : Instance) (mate : List ℕ) (before after : RowSpace) → HoldsMatching g r f s mate → ServesRows s.left mate before → IsSized (length s.rows.items) after.forest → length after.own.items ≡ length mate → after.exposed ≡ before.exposed → ServesRows s.left mate after
-serves_again g r f s mate before after held serves sized own same =
-    let long = held.long in
-    let each = held.instance_is.one_each in
-    let parents = sized.parents_long in
-    record {
-      sized = record { parents_long = omega arith };
-      own = own;
-      exposed = λ v l z. ap (λ (xs : List ℕ). mem xs v) same ∙ serves.exposed v l z;
-    }
+serves_again g r f s mate before after held serves sized own same = grind (arith, mem)
 
 -- an exposed vertex that is left then was exposed before, or is the mate
 pub exposed_without : (g : Graph) (r : Set) (u : ℕ) (s : Instance) (mate own left before after : List ℕ) → IsInstance g r s → MayBeExposed s.left mate before → ((v : ℕ) → mem left v ≡ (mem s.left v && not (u == v))) →
@@ -134,13 +118,4 @@ module _ (g : Graph) (r : Set) (mate left row : List ℕ) (sets : FinalSets) (fr
       (λ v w. ap (λ b. bit (b && (numbers mate v == 0))) (left_is v w) ∙ ap (λ b. bit (not (r v) && b)) (sym (ap (λ d. d == 0) (mates_degree g r framed.m (numbers mate) framed.mates v w) ∙ (grind arith))))
 
   pub missable_row : (missed ≡ 1 → row ≡ sets.outer) → (missed ≢ 1 → row ≡ []) → ((v : ℕ) → mem row v ≡ true → Within g.order v) → IsMissableRow g r row
-  missable_row one other within = record {
-    m = framed.m;
-    outer = mem sets.outer;
-    inner = mem sets.inner;
-    matching = framed.mates.matching;
-    frame = framed.frame;
-    one = λ q v. ap (λ (xs : List ℕ). mem xs v) (one (counted ∙ q));
-    other = λ q v. ap (λ (xs : List ℕ). mem xs v) (other (λ z. q (sym counted ∙ z)));
-    within = within;
-  }
+  missable_row one other within = grind (arith, mem, counted)

@@ -118,13 +118,7 @@ module _ (g : Graph) (is : IsGraph g) (r : Set) (n : ℕ) (c e : ℕ → ℕ) (c
 
     -- a vertex is missed by one of the two at least
     one_misses : (v : ℕ) → Within g.order v → (degree g et v ≡ 0) ⊎ ((degree g et v ≡ 1) × (degree g m v ≡ 0) × (listed n c v ≡ true))
-    one_misses v w = elim (cases_Bool (listed n c v)) [
-      | inl l ↦ elim (cases_eq v (c t)) [
-        | inl s ↦ inl (near.degrees v w ∙ ap (λ y. bit (listed n c v && not y)) (eq-eqb v (c t) s) ∙ ap (λ y. bit (y && false)) l)
-        | inr s ↦ inr (near.degrees v w ∙ ap (λ y. bit (listed n c v && not y)) (ne_eqb v (c t) s) ∙ ap (λ y. bit (y && true)) l, missed v w l s, l)
-      ]
-      | inr l ↦ inl (near.degrees v w ∙ ap (λ y. bit (y && not (v == c t))) l)
-    ]
+    one_misses v w = grind (arith, cases_Bool, cases_eq, near, bit, eq-eqb, ne_eqb)
 
     pub full_pairs : HasMates g r full (paired_round mate n c t n)
     full_pairs = record {

@@ -47,12 +47,7 @@ module _ (g : Graph) (r f : Set) (s : Instance) (mate : List ℕ) (is : HoldsMat
 
   -- a forest of roots can grow
   pub roots_grow : (before t : AlternatingForest) (roots : List ℕ) → AreExposed s.left mate roots → length before.parent.items ≡ suc (length s.rows.items) → HasRestarted before t roots → GrowsForest g r f s mate t
-  roots_grow before t roots exposed long start = record {
-    matching = is;
-    holds = roots_hold t (λ v. ap (λ (xs : List ℕ). mem xs v) start.outer ∙ exposed v) start.inner (start.parents_long ∙ long ∙ ap suc is.instance_is.one_each);
-    active_outer = λ x a. ap (λ (xs : List ℕ). mem xs x) start.outer ∙ sym (ap (λ (xs : List ℕ). mem xs x) start.active) ∙ a;
-    settled = λ x o n. absurd (both_ways (mem t.active x) n (ap (λ (xs : List ℕ). mem xs x) start.active ∙ sym (ap (λ (xs : List ℕ). mem xs x) start.outer) ∙ o));
-  }
+  roots_grow before t roots exposed long start = grind (arith, roots_hold, mem, both_ways)
 
   module _ (t : AlternatingForest) (holds : HoldsAlternating g r f mate t) where
     -- the active vertices do not matter
@@ -138,15 +133,7 @@ module _ (g : Graph) (r f : Set) (s : Instance) (mate : List ℕ) (is : HoldsMat
 
         -- the path up from the new outer vertex
         up_new : (u : ℕ) → u ≡ z → GoesUp mate h more path u x
-        up_new u q = record {
-          parent = ap (numbers h.parent.items) (ap (numbers mate) q ∙ branch_mate.1) ∙ grew.parent y ∙ with_here (numbers t.parent.items) y x y refl;
-          outer = kept x ox;
-          pairs = ap (λ (b : Bool). cond b (suc (holds.k x)) (holds.k u)) (eq-eqb u z q) ∙ ap suc (sym (pairs_at x (not_z x ox)));
-          inner = let k = pairs_at x (not_z x ox) in ap (λ (b : Bool). (cond b along (holds.v u)) (suc (more x + more x))) (eq-eqb u z q)
-              ∙ longer_at (suc (holds.k x + holds.k x)) (holds.v x) y z (suc (more x + more x)) (omega arith) ∙ sym (ap (numbers mate) q ∙ branch_mate.1);
-          before = λ j l. let k = pairs_at x (not_z x ox) in ap (λ (b : Bool). (cond b along (holds.v u)) j) (eq-eqb u z q)
-              ∙ longer_below (suc (holds.k x + holds.k x)) (holds.v x) y z j (omega arith) ∙ sym (path_at x j (not_z x ox));
-        }
+        up_new u q = grind (arith, branch_mate, with_here, kept, eq-eqb, pairs_at, not_z, longer_at, longer_below, path_at)
 
         up_old : (u p : ℕ) → u ≢ z → mem t.outer u ≡ true → GoesUp mate t holds.k holds.v u p → GoesUp mate h more path u p
         up_old u p n o go = record {

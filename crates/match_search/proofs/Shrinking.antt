@@ -34,9 +34,7 @@ module _ (g : Graph) (is : IsGraph g) (r c : Set) (z : ℕ) (es : List (ℕ × �
   pull_z a = grind arith
 
   pub degree_out : (m : Set) (v : ℕ) → c v ≡ false → degree h m v ≡ degree g m v
-  degree_out m v cv = ap₂ ◌+◌
-      (over _ _ (λ e w. ap (λ k. m e && k) (ap (λ k. k == v) (pulls.first_ends e w) ∙ pull_out (first_end g e) v cv)))
-      (over _ _ (λ e w. ap (λ k. m e && k) (ap (λ k. k == v) (pulls.second_ends e w) ∙ pull_out (second_end g e) v cv)))
+  degree_out m v cv = grind (arith, over, pull_out, first_end, second_end)
 
   pub degree_in : (m : Set) (v : ℕ) → c v ≡ true → v ≢ z → degree h m v ≡ 0
   degree_in m v cv d = grind (arith, pull_in, and_false, total_none (size g))

@@ -105,10 +105,7 @@ module _ (given : ShrunkForest) where
   ]
 
   pub taken_ends : (d x y : ℕ) → Within (size g) d → HasEnds g d x y → f d ≡ true → c x ≡ true → c y ≡ true → e1 d ≡ true
-  taken_ends d x y w ends fd cx cy = elim ends [
-    | inl s ↦ fits.taken d w fd (ap c s.0 ∙ cx) (ap c s.1 ∙ cy)
-    | inr s ↦ fits.taken d w fd (ap c s.0 ∙ cy) (ap c s.1 ∙ cx)
-  ]
+  taken_ends d x y w ends fd cx cy = grind (arith, fits, c)
 
   -- no edge of e1 has an end outside c
   pub off_left : (d x y : ℕ) → Within (size g) d → HasEnds g d x y → c x ≡ false → e1 d ≡ false
@@ -159,19 +156,10 @@ module _ (given : ShrunkForest) where
   ]
 
   pub stays_or_not : (u : ℕ) → Stays c z u ⊎ ((c u ≡ true) × (u ≢ z))
-  stays_or_not u = elim (cases_Bool (c u)) [
-    | inr q ↦ inl (inl q)
-    | inl q ↦ elim (cases_eq u z) [
-      | inl s ↦ inl (inr s)
-      | inr s ↦ inr (q, s)
-    ]
-  ]
+  stays_or_not u = grind (arith, cases_Bool, c, cases_eq, z)
 
   pub stays_left : (w : ℕ) → Stays c z w → r w ≡ false → rs given w ≡ false
-  stays_left w st rw' = elim st [
-    | inl q ↦ shut_out g is r c z es shrunk fits.left wz fits.base w q ∙ rw'
-    | inr q ↦ ap (rs given) q ∙ shut_z g is r c z es shrunk fits.left wz fits.base
-  ]
+  stays_left w st rw' = grind (arith, shut_out, g, is, r, c, z, es, shrunk, fits, wz, shut_z)
 
   pub stays_degree : (w : ℕ) → Stays c z w → degree (H given) (left_edges given) w ≡ degree g f w
   stays_degree w st = elim st [
@@ -192,10 +180,7 @@ module _ (given : ShrunkForest) where
       ]
 
   pub pulled_at_stay : (w : ℕ) → Stays c z w → shrunk_vertex c z w ≡ w
-  pulled_at_stay w st = elim st [
-    | inl q ↦ ap (λ b. cond b z w) q
-    | inr q ↦ ap (shrunk_vertex c z) q ∙ ap (λ b. cond b z z) fits.base ∙ sym q
-  ]
+  pulled_at_stay w st = grind (arith, z, c, fits)
 
   pub left_matching : IsMatching (H given) (rs given) (left_edges given)
   left_matching = record {

@@ -36,11 +36,7 @@ module _ (g : Graph) (n : ℕ) (ends : List Ends) (order : n ≡ g.order) (same 
 
   -- and a set can hold them
   pub limits_ends : IsWithinLimits g → (e : ℕ) → Within (size g) e → Within 128 (end_a ends (e - 1)) × Within 128 (end_b ends (e - 1))
-  limits_ends limits e w =
-      let long = whole_size in
-      let a = (whole_within limits.multigraph.ends).a (e - 1) (omega arith) in
-      let b = (whole_within limits.multigraph.ends).b (e - 1) (omega arith) in
-      let few = limits.vertices in ((a.0, omega arith), (b.0, omega arith))
+  limits_ends limits e w = grind (arith, whole_size, whole_within)
 
   pub limits_row : IsWithinLimits g → IsGraphRow n ends
   limits_row limits = grind (arith, whole_size, whole_within limits.multigraph.ends)

@@ -1,8 +1,6 @@
 -- What was written for a graph file, by its bytes: one case for each ending. Idea: an ending says
 -- what was read and whether a write failed, and in each case this determines what was written.
-use Rattle.std.proofs.Common.{◌≡◌, ◌∙◌, ◌<◌, ◌≤◌, ℕ, List, [], length, take, refl, sym, subst, ap, inl, inr}
-use Rattle.std.specs.declared.option.Option.{Option}
-use Rattle.std.specs.declared.option.Option.TheVariants.{Some, None}
+use Rattle.std.proofs.Common.{◌≡◌, ◌∙◌, ◌<◌, ◌≤◌, ℕ, List, [], length, take, refl, sym, subst, ap, inl, inr, Option, Some, None}
 use Rattle.outside.specs.Common.{appended, most_bytes}
 use Rattle.outside.proofs.Pieces.{appended-nil}
 use Rattle.mcg6_reader.specs.declared.ending.BadLine.{BadLine}

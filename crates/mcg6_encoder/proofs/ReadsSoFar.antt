@@ -1,10 +1,8 @@
 -- A file is read piece by piece. What was read so far is held, and what was left of the source
 -- before is these bytes and what is left now; so at the end of the source they are all of it, and
 -- where they are too many the file is too long.
-use Rattle.std.proofs.Common.{◌≡◌, ◌∙◌, ◌≤◌, ◌<◌, append-nil, ℕ, suc, List, [], ◌++◌, length, refl, sym, subst, ap, arith}
+use Rattle.std.proofs.Common.{◌≡◌, ◌∙◌, ◌≤◌, ◌<◌, append-nil, ℕ, suc, List, [], ◌++◌, length, refl, sym, subst, ap, arith, Option, Some, None}
 use Rattle.counting.proofs.Common.{length-append}
-use Rattle.std.specs.declared.option.Option.{Option}
-use Rattle.std.specs.declared.option.Option.TheVariants.{Some, None}
 use Rattle.outside.specs.Common.{prepended, IsEnd, most_bytes}
 use Rattle.mcg6_reader.specs.Common.{IsLeft}
 use Rattle.mcg6_reader.proofs.LeftBytes.{prepended-nil, prepended-prepended, list_ends}

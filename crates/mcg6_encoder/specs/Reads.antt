@@ -1,8 +1,6 @@
 -- How a file is read from a source, and what is written once it has been read.
 -- Stated by: mcg6_encoder. Used by: mcg6_top.
-use Rattle.std.specs.Prelude.{◌≡◌, ◌⊎◌, ℕ, ◌+◌, zero, suc, ◌<◌, ◌≤◌, List, [], ◌++◌, length, take}
-use Rattle.std.specs.declared.option.Option.{Option}
-use Rattle.std.specs.declared.option.Option.TheVariants.{Some, None}
+use Rattle.std.specs.Prelude.{◌≡◌, ◌⊎◌, ℕ, ◌+◌, zero, suc, ◌<◌, ◌≤◌, List, [], ◌++◌, length, take, Option, Some, None}
 use Rattle.outside.specs.Common.{appended, IsWritten, IsCutOff, most_bytes}
 use Rattle.mcg6_reader.specs.declared.ending.BadLine.{BadLine}
 use Rattle.mcg6_encoder.specs.declared.ending.EncodeEnding.{EncodeEnding}

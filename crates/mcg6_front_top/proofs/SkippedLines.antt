@@ -1,7 +1,6 @@
 -- The bad lines that were skipped are named one after another.
 -- What is left of a list from a place on is the line at that place and what is left after it.
-use Rattle.std.proofs.Common.{◌≡◌, ℕ, ◌+◌, ◌<◌, List, ◌++◌, length, drop, get_or, ap, subst, sym, add-one}
-use Rattle.std.proofs.Math.Seq.{drop-cons}
+use Rattle.std.proofs.Common.{◌≡◌, ℕ, ◌+◌, ◌<◌, List, ◌++◌, length, drop, get_or, ap, subst, sym, add-one, drop-cons}
 use Rattle.front_words.specs.ListMessages.{bad_line_text}
 use Rattle.mcg6_reader.specs.declared.ending.BadLine.{BadLine}
 use Rattle.mcg6_front_top.specs.Words.{program, skipped_words}

@@ -1,20 +1,18 @@
 -- The rows of the table of `mcg6` are the words that some command matches. What may follow a query is
 -- the same on both sides; the rest are laws of truth values, with the tests of the words for variables.
-use Rattle.std.proofs.Common.{◌≡◌, ◌∙◌, ◌&&◌, ◌||◌, ℕ, List, [], ◌∷◌, drop, Bool, true, false, nat_eq, codes, refl, ap, sym, subst, if◌then◌else◌, Option, Some, None, is_some}
+use Rattle.std.proofs.Common.{◌≡◌, ◌∙◌, ◌&&◌, ◌||◌, ℕ, List, [], ◌∷◌, drop, Bool, true, false, nat_eq, codes, refl, ap, sym, subst, if◌then◌else◌, Option, Some, None, is_some, bytes_eq}
 use Rattle.std.specs.List.{list_any, starts_with}
 use Rattle.std.specs.Option.{option_map, option_or}
-use Rattle.std.specs.Str.{bytes_eq}
 use Rattle.std.proofs.Math.Bool.{or-false}
 use Rattle.std.proofs.lemmas.Option.{same_Some}
 use Rattle.std.proofs.lemmas.Slice.Eq.{bytes_eq-Decides}
 use Rattle.line_text.specs.Common.{number_of}
 use Rattle.decomposer.specs.Common.{order_named}
 use Rattle.decomposer.specs.declared.orders.NamedOrder.TheVariants.{First}
-use Rattle.mcg6_lines.specs.declared.query.Property.{Property}
-use Rattle.mcg6_lines.specs.declared.query.Property.TheVariants.{Covered, Uncovered, Perfect, Brick, Brace, Bicritical, Composite, Bricks, Braces}
+use Rattle.mcg6_lines.specs.declared.query.Property.TheVariants.{Bricks, Braces}
 use Rattle.mcg6_lines.specs.declared.query.Query.{Query}
 use Rattle.mcg6_lines.specs.declared.query.Query.TheVariants.{Kinds, Leaves, Elementary, Graph, Select}
-use Rattle.mcg6_top.specs.Common.{ListCommand, asks_skip, command_if, command_of, command_or, list_command_of, command_with, counted_property, encode_of, leaves_named, may_skip, pair_command, pair_named, property_named, query_named, select_named}
+use Rattle.mcg6_top.specs.Common.{ListCommand, asks_skip, command_if, command_of, command_or, list_command_of, command_with, counted_property, encode_of, leaves_named, may_skip, pair_command, property_named, query_named, select_named}
 use Rattle.command_table.specs.Rows.{fit_optional, is_counted, is_listed, is_one_of}
 use Rattle.command_table.specs.Table.{counted_properties, file, list_rows, orders, properties, skip_file}
 

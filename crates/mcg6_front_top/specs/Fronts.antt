@@ -1,8 +1,6 @@
 -- What a run of the front makes of a source and a sink, and what is to be said of it.
 -- Stated by: mcg6_front_top.
-use Rattle.std.specs.Prelude.{◌≡◌, ℕ, List, Bool, true, false}
-use Rattle.std.specs.declared.option.Option.{Option}
-use Rattle.std.specs.declared.option.Option.TheVariants.{Some, None}
+use Rattle.std.specs.Prelude.{◌≡◌, ℕ, List, Bool, true, false, Option, Some, None}
 use Rattle.mcg6_top.specs.Common.{ListRuns, ListRunsTo, status_in}
 use Rattle.mcg6_top.specs.declared.status.RunEnd.{RunEnd}
 use Rattle.mcg6_top.specs.declared.status.ListStatus.{ListStatus}

@@ -3,8 +3,7 @@
 -- misses none, and one that a Berge set certifies misses as many as are certified.
 use Rattle.std.proofs.Common.{◌≡◌, ◌≤◌, ◌<◌, ◌==◌, ℕ, ◌+◌, ◌-◌, ◌*◌, ◌%◌, Bool, List, length, count_by, ap, arith}
 use Rattle.counting.proofs.Common.{count, count_complement, count_mem_length, is_odd, odd_remainder, total_zero, none, mem, IsRisingIn, Set}
-use Rattle.graph_core.proofs.Common.{Graph, HasPerfect, IsGraph, IsMatching, IsMaximum, size, missed_count, missed_edges, none_matching}
-use Rattle.graph_core.proofs.Perfect.{perfect_matching, perfect_misses}
+use Rattle.graph_core.proofs.Common.{Graph, HasPerfect, IsGraph, IsMatching, IsMaximum, size, missed_count, missed_edges, none_matching, perfect_matching, perfect_misses}
 use Rattle.mcg6_lines.specs.Standings.{IsDeficiency}
 
 missed_and_ends : (g : Graph) (m : Set) → IsGraph g → IsMatching g none m → missed_count g none m + 2 * count (size g) m ≡ g.order

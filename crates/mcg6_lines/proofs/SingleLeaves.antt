@@ -4,11 +4,10 @@ use Rattle.std.proofs.Common.{[], ◌∷◌, arith}
 use Rattle.graph_core.proofs.Common.{singles-partition, tight-singles, IsCovered, Graph, IsMultigraph, singles, HasOnlyTrivialTightCuts}
 use Rattle.graph_core.specs.declared.verdict.Kind.TheVariants.{Brace, Brick}
 use Rattle.leaf_kinds.specs.LeafKinds.{IsKind}
-use Rattle.tree_core.proofs.Common.{kinds-one, nontrivial-vertices, IsLeafAt, IsLeafKind, tally_of}
+use Rattle.tree_core.proofs.Common.{kinds-one, nontrivial-vertices, IsLeafAt, IsLeafKind, tally_of, bipartite_from_singles, singles_from_bipartite}
 use Rattle.tree_core.specs.declared.tallies.LeafKind.{LeafKind}
 use Rattle.tree_core.specs.declared.tallies.LeafKind.TheVariants as of_leaf
 use Rattle.mcg6_lines.specs.Standings.{IsCounted}
-use Rattle.tree_core.proofs.QuotientSides.{bipartite_from_singles, singles_from_bipartite}
 
 uncut_leaf : (g : Graph) → IsMultigraph g → HasOnlyTrivialTightCuts g → IsLeafAt g (singles g.order)
 unfolding IsLeafAt

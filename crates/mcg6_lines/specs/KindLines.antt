@@ -2,8 +2,7 @@
 -- either `uncovered`, the word of the first reason and the deficiency, or `brick`, `brace` or
 -- `composite`, the numbers of bricks and of braces, and `bicritical yes` or `bicritical no`.
 -- Stated by: mcg6_lines. Used by: theorems.
-use Rattle.std.specs.Prelude.{◌≡◌, ℕ, ◌++◌, List, codes}
-use Rattle.std.specs.Fmt.{decimal}
+use Rattle.std.specs.Prelude.{◌≡◌, ℕ, ◌++◌, List, codes, decimal}
 use Rattle.graph_core.specs.Common.{Graph, size}
 use Rattle.graph6_text.specs.Common.{graph6_of}
 use Rattle.report_text.specs.Common.{kind_word, reason_word, yes_or_no}

@@ -2,8 +2,7 @@
 -- graph6 text of its graph, that of the leaf as a simple graph, that is of the quotient at its
 -- partition, and `brick` or `brace`. A graph that is not covered has no line.
 -- Stated by: mcg6_lines. Used by: theorems.
-use Rattle.std.specs.Prelude.{◌≡◌, ℕ, ◌++◌, ◌⊎◌, List, [], ◌∷◌, codes}
-use Rattle.std.specs.Fmt.{decimal}
+use Rattle.std.specs.Prelude.{◌≡◌, ℕ, ◌++◌, ◌⊎◌, List, [], ◌∷◌, codes, decimal}
 use Rattle.graph_core.specs.Common.{IsCovered, Graph, quotient}
 use Rattle.graph6_text.specs.Common.{graph6_of}
 use Rattle.report_text.specs.Common.{leaf_kind_word}

@@ -1,8 +1,6 @@
 -- The outputs of some lines followed by those of the lines after them are the outputs of all of
 -- them. Idea: induction over the first lines; the place after them is where the others begin.
-use Rattle.std.proofs.Common.{◌≡◌, inl, inr, ℕ, suc, ◌+◌, List, [], ◌∷◌, ◌++◌, length, take, refl, sym, subst, ◌∙◌, ap, arith, append_assoc, length-append, append-nil}
-use Rattle.std.specs.declared.option.Option.{Option}
-use Rattle.std.specs.declared.option.Option.TheVariants.{Some, None}
+use Rattle.std.proofs.Common.{◌≡◌, inl, inr, ℕ, suc, ◌+◌, List, [], ◌∷◌, ◌++◌, length, take, refl, sym, subst, ◌∙◌, ap, arith, append_assoc, length-append, append-nil, Option, Some, None}
 use Rattle.line_text.specs.declared.faults.FaultKind.{FaultKind}
 use Rattle.mcg6_reader.specs.declared.ending.BadLine.{BadLine}
 use Rattle.mcg6_reader.specs.declared.ending.Ending.{Ending}

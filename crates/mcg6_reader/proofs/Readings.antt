@@ -1,10 +1,8 @@
 -- A list is read piece by piece. What was read so far is lines that have been processed and the
 -- bytes held after them; so what the next piece gives, after what is held, is what the lines of the
 -- list give there.
-use Rattle.std.proofs.Common.{◌≡◌, inl, ℕ, suc, ◌≤◌, List, [], ◌++◌, length, refl, sym, subst, ◌∙◌, ap, arith, append_assoc, append-nil}
+use Rattle.std.proofs.Common.{◌≡◌, inl, ℕ, suc, ◌≤◌, List, [], ◌++◌, length, refl, sym, subst, ◌∙◌, ap, arith, append_assoc, append-nil, Option, Some}
 use Rattle.std.proofs.lemmas.List.{append_cancel_right}
-use Rattle.std.specs.declared.option.Option.{Option}
-use Rattle.std.specs.declared.option.Option.TheVariants.{Some}
 use Rattle.outside.specs.Common.{appended, prepended, IsEnd, most_line}
 use Rattle.outside.proofs.Pieces.{appended-nil, appended-appended}
 use Rattle.line_text.specs.declared.faults.FaultKind.{FaultKind}

@@ -1,8 +1,6 @@
 -- The reports on skipped lines. They come line by line, as outputs do, so what is proved of outputs
 -- holds of them; whatever ends the list, they are those of some first lines.
-use Rattle.std.proofs.Common.{◌≡◌, inl, inr, ℕ, ◌<◌, ◌≤◌, List, [], ◌∷◌, ◌++◌, length, Ok, Err, Result, IfOk, IfErr, refl, sym, subst, ◌∙◌, IsFalse, append-nil}
-use Rattle.std.specs.declared.option.Option.{Option}
-use Rattle.std.specs.declared.option.Option.TheVariants.{Some, None}
+use Rattle.std.proofs.Common.{◌≡◌, inl, inr, ℕ, ◌<◌, ◌≤◌, List, [], ◌∷◌, ◌++◌, length, Ok, Err, Result, IfOk, IfErr, refl, sym, subst, ◌∙◌, IsFalse, append-nil, Option, Some, None}
 use Rattle.outside.specs.Common.{most_line}
 use Rattle.line_text.specs.declared.faults.FaultKind.{FaultKind}
 use Rattle.line_text.specs.declared.faults.FaultKind.TheVariants.{Limit}

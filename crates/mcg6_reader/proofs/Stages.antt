@@ -1,7 +1,6 @@
 -- The stages of a list that is processed as it is read: a chain of steps takes one more at its end,
 -- and what the last lines give is what the list gives there.
-use Rattle.std.proofs.Common.{inr, ℕ, zero, suc, List, [], refl, sym, subst, ◌∙◌, ap}
-use Rattle.std.specs.declared.option.Option.{Option}
+use Rattle.std.proofs.Common.{inr, ℕ, zero, suc, List, [], refl, sym, subst, ◌∙◌, ap, Option}
 use Rattle.outside.proofs.Pieces.{appended-nil}
 use Rattle.line_text.specs.declared.faults.FaultKind.{FaultKind}
 use Rattle.mcg6_reader.specs.declared.ending.Ending.{Ending}

@@ -1,8 +1,6 @@
 -- The reads and writes of a list that is processed as it is read, joined to one stream: what the
 -- last piece gives is what the list gives there, whatever follows it.
-use Rattle.std.proofs.Common.{inl, ℕ, List, [], ◌++◌, append_assoc, append-nil, arith}
-use Rattle.std.specs.declared.option.Option.{Option}
-use Rattle.std.specs.declared.option.Option.TheVariants.{Some}
+use Rattle.std.proofs.Common.{inl, ℕ, List, [], ◌++◌, append_assoc, append-nil, arith, Option, Some}
 use Rattle.line_text.specs.declared.faults.FaultKind.{FaultKind}
 use Rattle.mcg6_reader.specs.declared.ending.BadLine.{BadLine}
 use Rattle.mcg6_reader.specs.declared.ending.Ending.{Ending}

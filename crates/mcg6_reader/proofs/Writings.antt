@@ -1,7 +1,6 @@
 -- What is put into an empty output and then written: all of it if the writes took it whole,
 -- else a proper prefix of it.
-use Rattle.std.proofs.Common.{◌≡◌, ℕ, ◌<◌, List, [], length, take, sym, subst, refl, arith}
-use Rattle.std.specs.declared.option.Option.{Option}
+use Rattle.std.proofs.Common.{◌≡◌, ℕ, ◌<◌, List, [], length, take, sym, subst, refl, arith, Option}
 use Rattle.outside.specs.Common.{appended, IsCutOff}
 use Rattle.mcg6_reader.specs.declared.place.LinePlace.{LinePlace}
 use Rattle.mcg6_reader.specs.Common.{BeginningTold, CutShort, Added, WroteCut}

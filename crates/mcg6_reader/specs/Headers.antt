@@ -1,7 +1,6 @@
 -- The header of a list.
 -- Stated by: mcg6_reader. Used by: mcg6_top.
-use Rattle.std.specs.Prelude.{ℕ, ◌==◌, ◌&&◌, ◌||◌, Bool, List, codes}
-use Rattle.std.specs.Str.{bytes_eq}
+use Rattle.std.specs.Prelude.{ℕ, ◌==◌, ◌&&◌, ◌||◌, Bool, List, codes, bytes_eq}
 
 -- the line is just the header, with or without a line end
 abbrev pub is_header_line : List ℕ → Bool

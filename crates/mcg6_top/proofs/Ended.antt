@@ -1,21 +1,18 @@
 -- What a list or a graph file gives up to an ending is what it stands for with the status of that
 -- ending: one case for each ending.
-use Rattle.std.proofs.Common.{◌≡◌, ◌∙◌, inl, inr, ℕ, List, [], ◌∷◌, ap, refl, sym, subst, arith}
+use Rattle.std.proofs.Common.{◌≡◌, ◌∙◌, inl, inr, ℕ, List, [], ◌∷◌, refl, sym, subst, Option, Some, None}
 use Rattle.std.proofs.lemmas.Option.{none-some}
-use Rattle.std.specs.declared.option.Option.{Option}
-use Rattle.std.specs.declared.option.Option.TheVariants.{Some, None}
 use Rattle.mcg6_lines.specs.declared.query.Query.{Query}
 use Rattle.mcg6_reader.specs.declared.ending.Ending.{Ending}
 use Rattle.mcg6_reader.specs.declared.ending.Ending.TheVariants.{Done, Bad, ReadFault, WriteFault, Memory}
 use Rattle.mcg6_reader.specs.declared.ending.BadLine.{BadLine}
 use Rattle.mcg6_reader.specs.Common.{lines_of, first_place, Appended, Reports, TellsList}
 use Rattle.mcg6_top.proofs.Skipping.{added_whole, all_plain}
-use Rattle.mcg6_top.specs.Common.{Command, Answer, Encode, ListCommand, ListRuns, ListRunsTo, Performs, AnswersFile, AnswersList, command_at, command_of, list_asked, TellsOrSkips, StopsAt, SkipsLine, lacks_of, EndsWith, SkipsUpTo, ListOutcome, TellsSome, status_at, status_in, status_after, status_encoded, EncodeOutcome, EncodesSome}
+use Rattle.mcg6_top.specs.Common.{Command, Answer, Encode, ListCommand, ListRuns, ListRunsTo, AnswersList, command_of, list_asked, TellsOrSkips, StopsAt, SkipsLine, lacks_of, EndsWith, SkipsUpTo, ListOutcome, TellsSome, status_in, status_after, status_encoded, EncodeOutcome, EncodesSome}
 use Rattle.mcg6_top.specs.declared.command.AtBadLine.{AtBadLine}
 use Rattle.mcg6_top.specs.declared.status.ListEnd.{ListEnd}
 use Rattle.mcg6_top.specs.declared.status.RunEnd.{RunEnd}
 use Rattle.mcg6_top.specs.declared.status.RunEnd.TheVariants.{Answered, Encoded}
-use Rattle.mcg6_top.specs.declared.status.ListStatus.{ListStatus}
 use Rattle.mcg6_top.specs.declared.status.ListStatus.TheVariants as status
 use Rattle.mcg6_top.specs.declared.status.ListStatus.TheVariants.{Usage}
 use Rattle.mcg6_encoder.specs.declared.ending.EncodeEnding.{EncodeEnding}

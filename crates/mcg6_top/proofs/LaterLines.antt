@@ -1,11 +1,9 @@
 -- Lines at a later place. If what holds of each line holds of it at a later place too, then so does
 -- what holds of lines, and of lines up to an ending. Idea: no line is a header at the later place
 -- that was none before.
-use Rattle.std.proofs.Common.{◌≡◌, ◌∙◌, inl, inr, ℕ, zero, suc, ◌+◌, ◌<◌, List, [], ◌∷◌, ◌++◌, length, Bool, false, refl, sym, subst, ap, arith}
+use Rattle.std.proofs.Common.{◌≡◌, ◌∙◌, inl, inr, ℕ, zero, suc, ◌+◌, ◌<◌, List, [], ◌∷◌, ◌++◌, length, Bool, false, refl, sym, subst, ap, arith, Option, None}
 use Rattle.std.proofs.lemmas.Bool.Decides.{nat_tests}
 use Rattle.std.proofs.lemmas.Option.{none-some}
-use Rattle.std.specs.declared.option.Option.{Option}
-use Rattle.std.specs.declared.option.Option.TheVariants.{None}
 use Rattle.line_text.specs.declared.faults.FaultKind.{FaultKind}
 use Rattle.mcg6_reader.specs.Common.{is_header, AllTold, BeginningTold, HasBadLine, LineBad, LineTold, ToldToBad, WholeTold, place_after, place_behind}
 use Rattle.mcg6_reader.specs.declared.ending.BadLine.{BadLine}

@@ -1,26 +1,24 @@
 -- Each list comes to an end that its bytes settle, if each of its lines has an output or a first
 -- error. Idea: the lines are gone through up to the first at which the list ends; what is told of
 -- the lines before it is put in front of that.
-use Rattle.std.proofs.Common.{◌≡◌, ◌∙◌, ◌⊎◌, inl, inr, ℕ, suc, ◌+◌, ◌<◌, ◌≤◌, ◌^◌, List, [], ◌∷◌, ◌++◌, Bool, true, false, nat_lt, length, take, drop, refl, sym, subst, ap, arith, IsTrue, IsFalse, take-append-drop}
+use Rattle.std.proofs.Common.{◌≡◌, ◌∙◌, ◌⊎◌, inl, inr, ℕ, ◌+◌, ◌<◌, ◌≤◌, ◌^◌, List, [], ◌∷◌, ◌++◌, Bool, true, false, nat_lt, length, take, drop, refl, sym, subst, ap, arith, IsFalse, take-append-drop, Option, Some, None}
 use Rattle.std.specs.Global.{Vec}
 use Rattle.std.proofs.lemmas.List.{length-take-le}
 use Rattle.std.proofs.lemmas.Bool.Decides.{nat_tests}
-use Rattle.std.specs.declared.option.Option.{Option}
-use Rattle.std.specs.declared.option.Option.TheVariants.{Some, None}
 use Rattle.outside.specs.Common.{most_line}
 use Rattle.line_text.specs.declared.faults.FaultKind.{FaultKind}
 use Rattle.line_text.specs.declared.faults.FaultKind.TheVariants.{Limit}
 use Rattle.mcg6_lines.specs.declared.query.Query.{Query}
 use Rattle.mcg6_reader.proofs.Joins.{AllTold-one, Gives-behind, HasBadLine-first}
 use Rattle.mcg6_reader.proofs.Skips.{Reported-behind}
-use Rattle.mcg6_reader.specs.Common.{is_header, AllTold, Gives, IsFound, IsKept, LineTold, NamesBad, Reported, Reports, first_place, lines_of, place_after, place_behind}
+use Rattle.mcg6_reader.specs.Common.{is_header, Gives, IsFound, IsKept, LineTold, NamesBad, Reported, Reports, first_place, lines_of, place_after}
 use Rattle.mcg6_reader.specs.declared.ending.BadLine.{BadLine}
 use Rattle.mcg6_reader.specs.declared.ending.Ending.{Ending}
 use Rattle.mcg6_reader.specs.declared.ending.Ending.TheVariants.{Done, Bad, ReadFault, WriteFault, Memory}
 use Rattle.mcg6_reader.specs.declared.place.LinePlace.{LinePlace}
 use Rattle.mcg6_top.proofs.Ended.{outcome_of_ending}
 use Rattle.mcg6_top.proofs.Skipping.{good_line}
-use Rattle.mcg6_top.specs.Common.{EndsWith, HasListOutcome, HasSettledEnd, HasAnswer, IsBadLine, IsSettled, SkipsLine, SkipsUpTo, StopsAt, TellsLineOf, TellsOrSkips, lacks_of}
+use Rattle.mcg6_top.specs.Common.{EndsWith, HasListOutcome, HasSettledEnd, HasAnswer, IsBadLine, IsSettled, SkipsLine, SkipsUpTo, StopsAt, TellsOrSkips, lacks_of}
 use Rattle.mcg6_top.specs.declared.command.AtBadLine.{AtBadLine}
 use Rattle.mcg6_top.specs.declared.command.AtBadLine.TheVariants.{Stop, Skip}
 use Rattle.mcg6_top.specs.declared.status.ListStatus.TheVariants as status

@@ -1,10 +1,8 @@
 -- Two lists one after the other. A line that is not the first has the same output at each place, or
 -- the same error, if the query does not look at the number of the line; so the second list may be
 -- moved.
-use Rattle.std.proofs.Common.{◌≡◌, ◌∙◌, inl, inr, ℕ, ◌+◌, List, [], ◌∷◌, ◌++◌, length, map, false, refl, sym, subst, ap, arith, IsTrue}
+use Rattle.std.proofs.Common.{◌≡◌, ◌∙◌, inl, inr, ℕ, ◌+◌, List, [], ◌∷◌, ◌++◌, length, map, false, refl, sym, subst, ap, arith, IsTrue, Option, Some, None}
 use Rattle.std.proofs.lemmas.List.{map-append}
-use Rattle.std.specs.declared.option.Option.{Option}
-use Rattle.std.specs.declared.option.Option.TheVariants.{Some, None}
 use Rattle.line_text.specs.declared.faults.FaultKind.{FaultKind}
 use Rattle.mcg6_lines.specs.declared.query.Query.{Query}
 use Rattle.mcg6_lines.specs.declared.query.Query.TheVariants.{Kinds, Leaves, Elementary, Graph, Select}

@@ -1,9 +1,7 @@
 -- How the code's command is seen.
 -- Stated by: mcg6_top, mcg6_front_top.
-use Rattle.std.specs.Prelude.{ℕ, List}
+use Rattle.std.specs.Prelude.{ℕ, List, Option, option_map}
 use Rattle.std.specs.Borrow.{Bor}
-use Rattle.std.specs.declared.option.Option.{Option}
-use Rattle.std.specs.Option.{option_map}
 use Rattle.mcg6_top.specs.Commands.{Command, ListCommand, Answer, Encode}
 use Rattle.mcg6_top.specs.declared.command.Command.{Command as Coded}
 use Rattle.mcg6_top.specs.declared.command.Command.TheVariants as coded

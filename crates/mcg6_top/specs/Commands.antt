@@ -1,11 +1,8 @@
 -- What the words ask for: one case for each row of the table of words.
 -- Stated by: mcg6_top, mcg6_front_top.
-use Rattle.std.specs.Prelude.{◌≡◌, ℕ, ◌&&◌, Bool, true, false, List, [], ◌∷◌, drop, nat_eq, codes, if◌then◌else◌}
-use Rattle.std.specs.declared.option.Option.{Option}
-use Rattle.std.specs.declared.option.Option.TheVariants.{Some, None}
+use Rattle.std.specs.Prelude.{ℕ, ◌&&◌, Bool, true, false, List, [], ◌∷◌, drop, nat_eq, codes, if◌then◌else◌, Option, Some, None, bytes_eq}
 use Rattle.std.specs.List.{starts_with}
 use Rattle.std.specs.Option.{option_map, option_or}
-use Rattle.std.specs.Str.{bytes_eq}
 use Rattle.line_text.specs.Common.{number_of}
 use Rattle.decomposer.specs.Common.{order_named}
 use Rattle.decomposer.specs.declared.orders.NamedOrder.TheVariants.{First}

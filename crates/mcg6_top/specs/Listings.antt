@@ -1,8 +1,6 @@
 -- The answer to a line of a list.
 -- Stated by: mcg6_top. Used by: theorems.
-use Rattle.std.specs.Prelude.{◌≡◌, ℕ, ◌==◌, ◌⊎◌, nat_lt, Bool, false, true, if◌then◌else◌, List, [], ◌∷◌, IsTrue, IsFalse}
-use Rattle.std.specs.declared.option.Option.{Option}
-use Rattle.std.specs.declared.option.Option.TheVariants.{Some, None}
+use Rattle.std.specs.Prelude.{◌≡◌, ℕ, ◌==◌, ◌⊎◌, nat_lt, Bool, false, true, if◌then◌else◌, List, [], ◌∷◌, IsTrue, IsFalse, Option, Some, None}
 use Rattle.line_text.specs.declared.faults.FaultKind.{FaultKind}
 use Rattle.line_text.specs.declared.faults.FaultKind.TheVariants.{Extra, Missing}
 use Rattle.mcg6_lines.specs.declared.query.Query.{Query}

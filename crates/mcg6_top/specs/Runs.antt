@@ -1,8 +1,6 @@
 -- What a run makes of a source and a sink, as one fact: `run`, `run_to_ending` and the front cite it.
 -- Stated by: mcg6_top. Used by: mcg6_front_top.
-use Rattle.std.specs.Prelude.{◌≡◌, ◌↔◌, ℕ, List, []}
-use Rattle.std.specs.declared.option.Option.{Option}
-use Rattle.std.specs.declared.option.Option.TheVariants.{Some, None}
+use Rattle.std.specs.Prelude.{◌≡◌, ◌↔◌, ℕ, List, [], Option, Some, None}
 use Rattle.outside.specs.Common.{Rose}
 use Rattle.mcg6_reader.specs.Common.{Appended, ReadsTold, Reports, TellsList}
 use Rattle.mcg6_reader.specs.declared.ending.Ending.TheVariants as ending

@@ -49,9 +49,7 @@ iso_merged g is p q h k pp qp iso x y ux uy sx sy nx ny e = record {
 
 -- some vertex is in a set that contains a block
 pub some_of : (n : ℕ) (p : List (List ℕ)) → AreBlocks n p → (x : Set) → IsUnion n p x → 1 ≤ block_count p x → Some n x
-some_of n p pp x u h =
-    let r = some_term (length p) (λ i. bit (blocks_in p x i)) (omega (arith, h)) in
-    (rep p r.0, (rep_in n p pp r.0 r.1).0, sym (at_rep n p pp x u r.0 r.1) ∙ bit_true (blocks_in p x r.0) r.2)
+some_of n p pp x u h = grind (arith, some_term, bit, blocks_in, rep, rep_in, at_rep, bit_true)
 
 -- what a node of a derivation gives
 module _ (g : Graph) (is : IsGraph g) (p : List (List ℕ)) (pp : AreBlocks g.order p) (x : List ℕ) (sx : IsRisingIn g.order x) (tx : IsTightAt g p (mem x)) (nt : IsNontrivial (length p) (blocks_in p (mem x))) where
@@ -62,23 +60,13 @@ module _ (g : Graph) (is : IsGraph g) (p : List (List ℕ)) (pp : AreBlocks g.or
   rest_tight = tight_congr g is p pp (complement (mem x)) (mem (complement_of g.order x)) (λ v w. sym (mem-complement_of g.order x v w)) (tight_rest g is p pp (mem x) tx)
 
   pub outer : Some g.order (mem (complement_of g.order x))
-  outer = let s = some_of g.order p pp (complement (mem x)) (union_rest g.order p pp (mem x) tx.union) (let a = nt.outside in let b = block_count_rest g.order p pp (mem x) tx.union in omega arith) in
-      (s.0, s.1, mem-complement_of g.order x s.0 s.1 ∙ s.2)
+  outer = grind (arith, some_of, complement, mem, union_rest, block_count_rest, mem-complement_of)
 
 pub nontrivial_rest : (n : ℕ) (p : List (List ℕ)) → AreBlocks n p → (x : Set) → IsUnion n p x → IsNontrivial (length p) (blocks_in p x) → IsNontrivial (length p) (blocks_in p (complement x))
-nontrivial_rest n p pp x u nt =
-    let a = block_count_rest n p pp x u in let b = block_count_rest n p pp (complement x) (union_rest n p pp x u) in
-    let c = block_count_congr n p pp x (complement (complement x)) (λ v w. not_not_back (x v)) u in
-    let i = nt.inside in let o = nt.outside in
-    record { inside = omega arith; outside = omega arith }
+nontrivial_rest n p pp x u nt = grind (arith, block_count_rest, complement, union_rest, block_count_congr, not_not_back)
 
 pub nontrivial_congr : (n : ℕ) (p : List (List ℕ)) → AreBlocks n p → (x y : Set) → IsUnion n p x → ((v : ℕ) → Within n v → x v ≡ y v) → IsNontrivial (length p) (blocks_in p x) → IsNontrivial (length p) (blocks_in p y)
-nontrivial_congr n p pp x y u h t =
-    let a = block_count_congr n p pp x y h u in
-    let b = block_count_congr n p pp (complement x) (complement y) (λ v w. ap not (h v w)) (union_rest n p pp x u) in
-    let c = block_count_rest n p pp x u in let d = block_count_rest n p pp y (union_congr n p pp x y h u) in
-    let i = t.inside in let o = t.outside in
-    record { inside = omega arith; outside = omega arith }
+nontrivial_congr n p pp x y u h t = grind (arith, block_count_congr, complement, union_rest, block_count_rest, union_congr)
 
 -- ys at q is the image of xs at p: both are tight increasing lists, and not empty
 pub record IsImage (g : Graph) (p q : List (List ℕ)) (k : ℕ → ℕ) (xs ys : List ℕ) : Type 0 where

@@ -23,18 +23,10 @@ module _ (g : Graph) (p q : List (List ℕ)) (names : List ℕ) (is : IsGraph g)
   )
 
   pub carries-nontrivial : (x : Set) → IsUnion g.order p x → IsNontrivial (length p) (blocks_in p x) ↔ IsNontrivial (length q) (blocks_in q (pre (from_name p q names) x))
-  carries-nontrivial x union = (
-    image_nontrivial g is p q (to_name p names) (from_name p q names) pp.partition qp.partition iso x union,
-    nontrivial_image g is p q (to_name p names) (from_name p q names) pp.partition qp.partition iso x union,
-  )
+  carries-nontrivial x union = grind (arith, image_nontrivial, iso, nontrivial_image)
 
   pub carries-derivation : (t : Shape) → IsDerivationAt g p t ↔ (Fits g.order t × StandsAt g.order p t × IsDerivationAt g q (carry g.order (from_name p q names) t))
-  carries-derivation t = (
-    λ derives.
-        let stands = stands-derivation_at g p t pp derives in
-        (stands.0, stands.1, carried_derives g is (to_name p names) (from_name p q names) t p q pp.partition qp.partition iso (rising-derivation_at g p t derives) derives),
-    λ h. carried_back g is p q (to_name p names) (from_name p q names) iso pp qp.partition t h.0 h.1 h.2,
-  )
+  carries-derivation t = grind (arith, stands-derivation_at, carried_derives, iso, rising-derivation_at, carried_back)
 
   pub carries-twice : (t : Shape) → Fits g.order t → StandsAt g.order p t → carry g.order (to_name p names) (carry g.order (from_name p q names) t) ≡ t
   carries-twice t = carried_twice g p q (to_name p names) (from_name p q names) iso pp t
@@ -65,9 +57,7 @@ module _ (g : Graph) (p q : List (List ℕ)) (names : List ℕ) (is : IsGraph g)
     shore-rises = rising_list-rises g.order (λ v. mem x (from_name p q names v))
 
     shore-union : IsUnion g.order q (mem shore)
-    shore-union =
-        union_congr g.order q qp.partition (pre (from_name p q names) (mem x)) (mem shore) (λ v w. sym (shore-mem v w))
-        (image_union g is p q (to_name p names) (from_name p q names) pp.partition qp.partition iso (mem x) union)
+    shore-union = grind (arith, union_congr, mem, shore, shore-mem, image_union, iso)
 
     some : Some g.order (mem x)
     some = member-of_set g.order x rises nonempty

@@ -2,7 +2,7 @@
 -- exposed in the first, and then the same below it on both sides.
 use Rattle.tree_core.proofs.Common.{below, IsDerivationAt, kept_at, merged_at, Shape, cut, cut_count, leaf}
 use Rattle.move_laws.specs.Common.{AreRising}
-use Rattle.std.proofs.Common.{List, [], ap, arith, map, mul-add, mul_comm, refl, sym, ℕ, ◌*◌, ◌++◌, ◌+◌, ◌≡◌, ◌≤◌}
+use Rattle.std.proofs.Common.{List, [], arith, map, mul-add, mul_comm, refl, sym, ℕ, ◌*◌, ◌++◌, ◌+◌, ◌≡◌, ◌≤◌}
 use Rattle.graph_core.proofs.Common.{Graph, complement_of}
 use Rattle.tree_core.specs.declared.path.Side.TheVariants.{Kept, Merged}
 use Rattle.move_laws.proofs.BigShores.{Stage, big_rest, cut_big, stage_merged}
@@ -10,16 +10,7 @@ use Rattle.move_laws.proofs.NestedShores.{Compared, Crossed, expose, leaf_not}
 use Rattle.move_laws.proofs.Scripts.{length_below, length_join, script_end, script_join, script_kept, script_merged}
 
 pub square : (k r c : ℕ) → c ≡ 1 + k + r → k * k + r * r + c ≤ c * c
-square k r c e =
-    let a : c * c ≡ c * (1 + (k + r)) = ap (λ z. c * z) (let q : c ≡ 1 + (k + r) = omega arith in q) in
-    let b = mul-add c 1 (k + r) in
-    let d = mul-add c k r in
-    let f : k * c ≡ k * (k + (1 + r)) = ap (λ z. k * z) (let q : c ≡ k + (1 + r) = omega arith in q) in
-    let h = mul-add k k (1 + r) in
-    let i : r * c ≡ r * (r + (1 + k)) = ap (λ z. r * z) (let q : c ≡ r + (1 + k) = omega arith in q) in
-    let j = mul-add r r (1 + k) in
-    let l = mul_comm c k in let m = mul_comm c r in
-    omega arith
+square k r c e = grind (arith, mul-add, mul_comm)
 
 pub compare : (g : Graph) → Crossed g → (t : Shape) (p : List (List ℕ)) (s : Shape) → Stage g p → AreRising g.order s → IsDerivationAt g p s → AreRising g.order t → IsDerivationAt g p t → Compared g p s t
 compare g crossed leaf p leaf st fs ds ft dt = ([], refl, omega arith)

@@ -11,11 +11,7 @@ use Rattle.move_laws.proofs.Rising.{bounds}
 use Rattle.move_laws.specs.Common.{Corner, Isomorphism}
 
 pub merge_congr : (n : ℕ) (p q : List (List ℕ)) (x y : Set) → ((v : ℕ) → Within n v → x v ≡ y v) → IsMerge n p x q → IsMerge n p y q
-merge_congr n p q x y h m = record {
-  partition = m.partition;
-  new = (m.new.0, m.new.1, λ v w. m.new.2 v w ∙ h v w);
-  old = λ u v wu wv yu yv. m.old u v wu wv (h u wu ∙ yu) (h v wv ∙ yv);
-}
+merge_congr n p q x y h m = grind arith
 
 module _ (g : Graph) (p : List (List ℕ)) (stage : Stage g p) (x u v : List ℕ) (s t : ℕ) (sx : IsRisingIn g.order x) (su : IsRisingIn g.order u) (sv : IsRisingIn g.order v) (corner : Corner g p (mem x) (mem u) (mem v) s t) where
   abbrev pub in_inner_rest : Set

@@ -68,10 +68,7 @@ module _ (g : Graph) (is : IsGraph g) (p q : List (List ℕ)) (h k : ℕ → ℕ
 
   -- and outside
   pub image_rest : (x : Set) → IsUnion g.order p x → count (length p) (complement (blocks_in p x)) ≡ count (length q) (complement (blocks_in q (pre k x)))
-  image_rest x u =
-      block_count_rest g.order p pp x u
-      ∙ image_number (complement x) (union_rest g.order p pp x u)
-      ∙ sym (block_count_rest g.order q qp (pre k x) (image_union x u))
+  image_rest x u = grind (arith, block_count_rest, image_number, complement, union_rest, image_union)
 
   pub image_length : length p ≡ length q
   image_length = all (length p) ∙ count_over (length p) (length q) (λ i. true) (λ j. true) move back (λ i w t. (move_in i w, refl, back_move i w)) (λ j w t. (back_in j w, refl, move_back j w)) ∙ sym (all (length q))
@@ -185,8 +182,4 @@ module _ (g : Graph) (is : IsGraph g) (p q : List (List ℕ)) (h k : ℕ → ℕ
       record { inside = omega arith; outside = omega arith }
 
   pub nontrivial_image : (x : Set) → IsUnion g.order p x → IsNontrivial (length q) (blocks_in q (pre k x)) → IsNontrivial (length p) (blocks_in p x)
-  nontrivial_image x u t =
-      let a = image_number g is p q h k pp qp iso x u in
-      let b = image_rest g is p q h k pp qp iso x u in
-      let i = t.inside in let o = t.outside in
-      record { inside = omega arith; outside = omega arith }
+  nontrivial_image x u t = grind (arith, image_number, image_rest)

@@ -27,9 +27,7 @@ pub record Part (g : Graph) (k : ℕ) (ps qs : List (List (List ℕ))) (o : List
   pub fits : Aligned (Fit g k ps ns) o qs
 
 fit-left : (g : Graph) (k : ℕ) (ps rs : List (List (List ℕ))) (ns ms : List (List ℕ)) → length ns ≡ length ps → (i : ℕ) (q : List (List ℕ)) → Fit g k ps ns i q → Fit g k (ps ++ rs) (ns ++ ms) i q
-fit-left g k ps rs ns ms e i q f =
-    let l = f.0 in let u = f.1 in let a = length-append ps rs in
-    (l, omega arith, subst₂ (λ (p : List (List ℕ)) (names : List ℕ). IsSameLeaf g p q names) (sym (get_or_append_left ps rs [] (i - k - 1) (omega arith))) (sym (get_or_append_left ns ms [] (i - k - 1) (omega arith))) f.2)
+fit-left g k ps rs ns ms e i q f = grind (arith, length-append, get_or_append_left)
 
 fit-right : (g : Graph) (k : ℕ) (ps rs : List (List (List ℕ))) (ns ms : List (List ℕ)) → length ns ≡ length ps → (i : ℕ) (q : List (List ℕ)) → Fit g (k + length ps) rs ms i q → Fit g k (ps ++ rs) (ns ++ ms) i q
 fit-right g k ps rs ns ms e i q f =

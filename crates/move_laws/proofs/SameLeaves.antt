@@ -108,10 +108,7 @@ module _ (g : Graph) (is : IsGraph g) (p q : List (List ℕ)) (pp : AreBlocks g.
   from_name-own w ww = ap (λ j. last_of (block p j)) (name_place g.order p pp (src w) (at_src w ww).0)
 
   edge_to : (r : List (List ℕ)) (i j : ℕ) → blocks_adjacent g r i j ≡ true → (f : ℕ) × Within (size g) f × EndsAt g r f i j
-  edge_to r i j h =
-      let s = some_true (size g) (has_ends (contracted g r) i j) (and_parts (not (i == j)) (some (size g) (has_ends (contracted g r) i j)) h).1 in
-      let e = contracted-ends g r s.0 s.1 in
-      (s.0, s.1, elim (has_ends-cases (contracted g r) i j s.0 s.2) [ inl k ↦ inl (sym e.0 ∙ k.0, sym e.1 ∙ k.1) | inr k ↦ inr (sym e.0 ∙ k.0, sym e.1 ∙ k.1) ])
+  edge_to r i j h = grind (arith, some_true, size, has_ends, contracted, and_parts, some, contracted-ends, has_ends-cases)
 
   pub same_leaf_iso : Isomorphism g p q (to_name p names) (from_name p q names)
   unfolding src places

@@ -127,15 +127,10 @@ module _ (g : Graph) (p : List (List ℕ)) (stage : Stage g p) (x u v : List ℕ
 module _ (g : Graph) (p : List (List ℕ)) (stage : Stage g p) (x u v : List ℕ) (su : IsRisingIn g.order u) (sv : IsRisingIn g.order v) (s t : ℕ) (bu : IsBlockOf g.order p (mem u) s) (bv : IsBlockOf g.order p (mem v) t) (a b : Shape) (f : AreRising g.order (cut x a b)) (d : IsDerivationAt g p (cut x a b))
     (proper : (is_proper u x && is_proper v (complement_of g.order x)) ≡ true) where
   inside : (w : ℕ) → Within g.order w → mem u w ≡ true → mem x w ≡ true
-  inside w ww m =
-      let q = (and_parts (is_proper u x) (is_proper v (complement_of g.order x)) proper).0 in
-      all_in_true u (mem x) (and_parts (not (is_subset u [])) (is_subset u x) (and_parts (not (is_subset u []) && is_subset u x) (not (is_subset x u)) q).0).1 w m
+  inside w ww m = grind (arith, and_parts, is_proper, complement_of, all_in_true, mem, is_subset)
 
   outside : (w : ℕ) → Within g.order w → mem v w ≡ true → mem x w ≡ false
-  outside w ww m =
-      let q = (and_parts (is_proper u x) (is_proper v (complement_of g.order x)) proper).1 in
-      let h = all_in_true v (mem (complement_of g.order x)) (and_parts (not (is_subset v [])) (is_subset v (complement_of g.order x)) (and_parts (not (is_subset v []) && is_subset v (complement_of g.order x)) (not (is_subset (complement_of g.order x) v)) q).0).1 w m in
-      not-true (mem x w) (sym (mem-complement_of g.order x w ww) ∙ h)
+  outside w ww m = grind (arith, and_parts, is_proper, complement_of, all_in_true, mem, is_subset, not-true, mem-complement_of)
 
   outer_in : (w : ℕ) → Within g.order w → mem (outer_rest g.order x v) w ≡ (not (mem x w) && not (mem v w))
   outer_in w ww = mem-rising_list g.order (minus (mem (complement_of g.order x)) (mem v)) w ww ∙ ap (λ k. k && not (mem v w)) (mem-complement_of g.order x w ww)

@@ -1,7 +1,7 @@
 -- A proper Switch keeps derivations. Idea: in each of its four rows the exchange law gives
 -- partitions that are the same leaf, and the subtrees are carried along the names of the blocks.
 use Rattle.move_laws.specs.Common.{AreRising, Corner, Isomorphism, carry, carry_cut}
-use Rattle.std.proofs.Common.{Bool, List, ap, ap₂, arith, cond, false, if◌then◌else◌, inl, inr, not, refl, subst, sym, true, ℕ, ◌&&◌, ◌||◌, ◌∙◌, ◌≡◌}
+use Rattle.std.proofs.Common.{Bool, List, ap, ap₂, arith, cond, false, if◌then◌else◌, not, refl, subst, sym, true, ℕ, ◌&&◌, ◌||◌, ◌∙◌, ◌≡◌}
 use Rattle.counting.proofs.Common.{both_ways, cases_Bool, mem-rising_list, rising_list-rises, same_rising_list, true_all_in, all_in_true, Within, IsRisingIn, all_in, is_subset, mem, rising_list, Set, minus, union}
 use Rattle.graph_core.proofs.Common.{mem-complement_of, alike_in, alike_up, closed_up, Graph, IsMerge, complement_of, merged, IsUnion}
 use Rattle.tree_core.proofs.Common.{IsDerivationAt, kept_at, merged_at, inner_rest, kept_if_greatest_stays, kept_if_greatest_comes, list_if, merged_if_greatest_stays, merged_if_greatest_comes, merged_shore_if_greatest_stays, minus_list, outer_rest, union_list, Shape, cut, leaf}
@@ -34,10 +34,7 @@ each_of g q (cut s a b) st f d =
     )
 
 pub subset_test : (u : List ℕ) (y : Set) (s : ℕ) → mem u s ≡ true → ((w : ℕ) → mem u w ≡ true → y w ≡ y s) → all_in u y ≡ y s
-subset_test u y s h k = elim (cases_Bool (y s)) [
-  | inl t ↦ true_all_in u y (λ w m. k w m ∙ t) ∙ sym t
-  | inr f ↦ elim (cases_Bool (all_in u y)) [ inr z ↦ z ∙ sym f | inl z ↦ absurd (both_ways (y s) f (all_in_true u y z s h)) ]
-]
+subset_test u y s h k = grind (arith, cases_Bool, true_all_in, all_in, both_ways, all_in_true)
 
 cond_mem : (y : Set) (s w : ℕ) (b : Bool) → y (cond b s w) ≡ cond b (y s) (y w)
 cond_mem y s w true = refl

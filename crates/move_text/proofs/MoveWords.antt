@@ -1,7 +1,6 @@
 -- The word of a path writes this path, and the word of a set its vertices: what comes between two
 -- commas is the decimal of one vertex.
-use Rattle.std.proofs.Common.{◌≡◌, ◌≤◌, ◌<◌, ◌||◌, ◌^◌, not, nat_le, ℕ, suc, List, [], ◌∷◌, Bool, length, map, true, false, refl, ◌∙◌, ap, arith, All}
-use Rattle.std.specs.Fmt.{decimal}
+use Rattle.std.proofs.Common.{◌≡◌, ◌≤◌, ◌<◌, ◌||◌, ◌^◌, not, nat_le, ℕ, suc, List, [], ◌∷◌, Bool, length, map, true, false, refl, ◌∙◌, ap, arith, All, decimal}
 use Rattle.std.specs.List.{All as AllOf, slice_split}
 use Rattle.counting.proofs.Common.{list_all, and_from, and_parts, not-true, le-leb, nat_tests, length-map, length-append, append-nil, All-nil, All-cons}
 use Rattle.std.proofs.lemmas.Fmt.{decimal_nonempty}

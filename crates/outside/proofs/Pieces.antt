@@ -1,9 +1,6 @@
 -- What is written piece by piece is written as one: a piece after a piece is the two joined. If the
 -- bytes are known, this is the associativity of lists, otherwise it computes.
-use Rattle.std.proofs.Common.{◌≡◌, ℕ, ◌+◌, ◌-◌, List, [], ◌++◌, length, take, drop, refl, ap, sym, subst, ◌∙◌, arith, append_assoc, length-drop, append-nil, take_all}
-use Rattle.std.proofs.Math.Seq.{take-add}
-use Rattle.std.specs.declared.option.Option.{Option}
-use Rattle.std.specs.declared.option.Option.TheVariants.{Some, None}
+use Rattle.std.proofs.Common.{◌≡◌, ℕ, ◌+◌, ◌-◌, List, [], ◌++◌, length, take, drop, refl, ap, sym, subst, ◌∙◌, arith, append_assoc, length-drop, append-nil, take_all, take-add, Option, Some, None}
 use Rattle.outside.specs.Common.{appended}
 
 pub appended-nil : (told : Option (List ℕ)) → appended told [] ≡ told

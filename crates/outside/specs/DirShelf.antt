@@ -1,8 +1,6 @@
 -- A shelf of real files as its users see it.
 -- Stated by: outside.
-use Rattle.std.specs.Prelude.{◌≡◌, ℕ, length}
-use Rattle.std.specs.declared.option.Option.{Option}
-use Rattle.std.specs.declared.result.Result.TheVariants.{Ok, Err}
+use Rattle.std.specs.Prelude.{◌≡◌, ℕ, length, Option, Ok, Err}
 use Rattle.outside.specs.declared.explain.FailureReason.{FailureReason}
 use Rattle.outside.specs.Faults.{next_fault}
 use Rattle.outside.specs.Shelf.{Answer}

@@ -1,10 +1,6 @@
 -- What a shelf that keeps what it last read has kept.
 -- Stated by: outside.
-use Rattle.std.specs.Prelude.{◌≡◌, ◌⊎◌, ℕ, List, IsOk}
-use Rattle.std.specs.declared.option.Option.{Option}
-use Rattle.std.specs.declared.option.Option.TheVariants.{None, Some}
-use Rattle.std.specs.declared.result.Result.TheVariants.{Ok, Err}
-use Rattle.std.specs.Option.{option_map}
+use Rattle.std.specs.Prelude.{◌≡◌, ◌⊎◌, ℕ, List, IsOk, Option, None, Some, Ok, Err, option_map}
 use Rattle.std.specs.Global.{Vec}
 use Rattle.outside.specs.Shelf.{Answer, NamedFile, TellsFile}
 use Rattle.outside.specs.declared.shelf.ShelfFault.TheVariants.{Memory}

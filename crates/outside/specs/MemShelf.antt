@@ -1,8 +1,6 @@
 -- A shelf in memory as its users see it.
 -- Stated by: outside, bench_top.
-use Rattle.std.specs.Prelude.{◌≡◌, ℕ, List, Contains, ◌⊎◌, length}
-use Rattle.std.specs.declared.option.Option.TheVariants.{None, Some}
-use Rattle.std.specs.declared.result.Result.TheVariants.{Ok, Err}
+use Rattle.std.specs.Prelude.{◌≡◌, ℕ, List, Contains, ◌⊎◌, length, None, Some, Ok, Err}
 use Rattle.outside.specs.Faults.{next_call}
 use Rattle.outside.specs.Shelf.{Answer, HoldsLonger, NamedFile, file_named}
 use Rattle.outside.specs.declared.shelf.ShelfFault.TheVariants.{Failed, TooLong, Memory}

@@ -1,8 +1,6 @@
 -- A source in memory as its users see it.
 -- Stated by: outside.
-use Rattle.std.specs.Prelude.{◌≡◌, ℕ, ◌-◌, ◌^◌, List, [], ◌++◌, length, min, max, slice_index_or}
-use Rattle.std.specs.declared.option.Option.{Option}
-use Rattle.std.specs.declared.option.Option.TheVariants.{Some, None}
+use Rattle.std.specs.Prelude.{◌≡◌, ℕ, ◌-◌, ◌^◌, List, [], ◌++◌, length, min, max, slice_index_or, Option, Some, None}
 use Rattle.outside.specs.Faults.{MayCount, next_call}
 
 -- the bytes left; the most bytes for each call, in turn; the calls that are to fail, by their

@@ -1,12 +1,7 @@
 -- What a shelf makes known of its files, and what reads of it returned.
 -- Stated by: outside, bench_tasks, bench_top, theorems. Used by: bench_outcomes, front_top.
-use Rattle.std.specs.Prelude.{◌≡◌, ℕ, ◌<◌, ◌≤◌, List, [], ◌∷◌, length, take, if◌then◌else◌}
+use Rattle.std.specs.Prelude.{◌≡◌, ℕ, ◌<◌, ◌≤◌, List, [], ◌∷◌, length, take, if◌then◌else◌, Option, Some, None, Result, Ok, Err, bytes_eq}
 use Rattle.std.specs.Global.{Vec}
-use Rattle.std.specs.declared.option.Option.{Option}
-use Rattle.std.specs.declared.option.Option.TheVariants.{Some, None}
-use Rattle.std.specs.declared.result.Result.{Result}
-use Rattle.std.specs.declared.result.Result.TheVariants.{Ok, Err}
-use Rattle.std.specs.Str.{bytes_eq}
 use Rattle.outside.specs.declared.shelf.ShelfFault.{ShelfFault}
 
 -- a file: its name and its bytes

@@ -1,10 +1,6 @@
 -- What a source makes known of the bytes that are left to read, and what a read returned.
 -- Stated by: outside. Used by: mcg6_reader, mcg6_encoder.
-use Rattle.std.specs.Prelude.{◌≡◌, ℕ, List, [], ◌++◌, take}
-use Rattle.std.specs.declared.result.Result.{Result}
-use Rattle.std.specs.declared.result.Result.TheVariants.{Ok, Err}
-use Rattle.std.specs.declared.option.Option.{Option}
-use Rattle.std.specs.declared.option.Option.TheVariants.{Some, None}
+use Rattle.std.specs.Prelude.{◌≡◌, ℕ, List, [], ◌++◌, take, Result, Ok, Err, Option, Some, None}
 
 -- the bytes that were left before a piece was taken off their front, if they are known
 abbrev pub prepended : List ℕ → Option (List ℕ) → Option (List ℕ)

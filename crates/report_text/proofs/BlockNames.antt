@@ -1,7 +1,6 @@
 -- The names of the first i + 1 blocks of a partition are those of the first i and the name of the
 -- next block. Idea: the first items of a list with one more, and a map along both.
-use Rattle.std.proofs.Common.{◌≡◌, ◌+◌, ℕ, List, [], ◌∷◌, ◌++◌, Some, take, slice_get, arith}
-use Rattle.std.proofs.Math.Seq.{take-suc}
+use Rattle.std.proofs.Common.{◌≡◌, ◌+◌, ℕ, List, [], ◌∷◌, ◌++◌, Some, take, slice_get, arith, take-suc}
 use Rattle.counting.proofs.Common.{map-append, get_or_from_slice_get, last_of}
 use Rattle.std.proofs.lemmas.Option.{slice_get_within}
 use Rattle.graph_core.proofs.Common.{names_of}

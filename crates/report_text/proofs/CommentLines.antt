@@ -1,7 +1,6 @@
 -- The lines after the text of a decomposition, and those that name vertices after it, are
 -- comments: each is written of words, the first of which is `c`.
-use Rattle.std.proofs.Common.{◌≡◌, ℕ, zero, suc, ◌-◌, ◌<◌, ◌≤◌, ◌^◌, ◌==◌, not, Bool, true, List, [], ◌∷◌, ◌++◌, length, map, get_or, All, ap, refl, subst, append_assoc, arith, codes, eq-eqb}
-use Rattle.std.specs.Fmt.{decimal}
+use Rattle.std.proofs.Common.{◌≡◌, ℕ, zero, suc, ◌-◌, ◌<◌, ◌≤◌, ◌^◌, ◌==◌, not, Bool, true, List, [], ◌∷◌, ◌++◌, length, map, get_or, All, ap, refl, subst, append_assoc, arith, codes, eq-eqb, decimal}
 use Rattle.counting.proofs.Common.{AllByRecursion, cases_lt, or_left, or_right, All-nil, rising_list-rises, Within, last_of, mem}
 use Rattle.std.proofs.lemmas.List.Elements.{All-get_or, All-from_get_or}
 use Rattle.std.proofs.lemmas.List.Sums.{count_by-le-length}

@@ -1,8 +1,6 @@
 -- The report of `analyse` as a function of the values in it.
 -- Stated by: report_text. Used by: bench_outcomes, bench_top, theorems.
-use Rattle.std.specs.Prelude.{List, ℕ, ◌++◌, codes}
-use Rattle.std.specs.declared.option.Option.{Option}
-use Rattle.std.specs.declared.option.Option.TheVariants.{Some, None}
+use Rattle.std.specs.Prelude.{List, ℕ, ◌++◌, codes, Option, Some, None}
 use Rattle.report_text.specs.Reports.{graph_line, components_line, bipartite_line, matching_line, deficiency_line, list_line, verdict_text}
 use Rattle.report_text.specs.Structures.{structure_text}
 use Rattle.report_text.specs.declared.analyses.AnalysisLines.{AnalysisLines}

@@ -2,8 +2,7 @@
 -- many leaves the first has and how many moves there are, the moves in order, and for each leaf of
 -- the first its partner and for each of its blocks the image.
 -- Stated by: report_text. Used by: bench_outcomes, theorems.
-use Rattle.std.specs.Prelude.{ℕ, List, [], ◌∷◌, ◌++◌, length, codes}
-use Rattle.std.specs.Fmt.{decimal}
+use Rattle.std.specs.Prelude.{ℕ, List, [], ◌∷◌, ◌++◌, length, codes, decimal}
 use Rattle.line_text.specs.Common.{written}
 use Rattle.tree_core.specs.Common.{PlainMove}
 use Rattle.move_text.specs.Common.{move_words}

@@ -3,8 +3,7 @@
 -- each pair of adjacent blocks the edges of the graph between them; and last how many leaves there
 -- are.
 -- Stated by: report_text. Used by: bench_outcomes, theorems.
-use Rattle.std.specs.Prelude.{ℕ, zero, suc, List, [], ◌++◌, length, slice_index_or, codes}
-use Rattle.std.specs.Fmt.{decimal}
+use Rattle.std.specs.Prelude.{ℕ, zero, suc, List, [], ◌++◌, length, slice_index_or, codes, decimal}
 use Rattle.counting.specs.Common.{last_of}
 use Rattle.graph_core.specs.Common.{Graph, size, first_end, second_end, block, quotient, remembered}
 use Rattle.report_text.specs.Reports.{list_line, numbers_text}

@@ -2,8 +2,7 @@
 -- which is that of the ear list, and after it a comment with the number of its steps, of those with
 -- one ear, and of those with two.
 -- Stated by: report_text. Used by: bench_outcomes, bench_top, theorems.
-use Rattle.std.specs.Prelude.{ℕ, List, ◌++◌, codes}
-use Rattle.std.specs.Fmt.{decimal}
+use Rattle.std.specs.Prelude.{ℕ, List, ◌++◌, codes, decimal}
 
 -- the line of the numbers of steps
 abbrev pub steps_line : (steps single double : ℕ) → List ℕ

@@ -2,8 +2,7 @@
 -- after it as comments the numbers of leaves of two of its decompositions, and how many leaves
 -- their comparison pairs.
 -- Stated by: report_text. Used by: bench_outcomes, bench_top, theorems.
-use Rattle.std.specs.Prelude.{ℕ, List, ◌++◌, codes}
-use Rattle.std.specs.Fmt.{decimal}
+use Rattle.std.specs.Prelude.{ℕ, List, ◌++◌, codes, decimal}
 use Rattle.report_text.specs.Words.{tally_end}
 use Rattle.tree_core.specs.declared.tallies.Tally.{Tally}
 

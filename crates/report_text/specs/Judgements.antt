@@ -1,7 +1,6 @@
 -- The lines that judge a tree or an ear list, as functions of the values in them.
 -- Stated by: report_text. Used by: bench_outcomes, bench_reports, bench_top, theorems.
-use Rattle.std.specs.Prelude.{ℕ, List, [], ◌++◌, Option, Some, None, codes}
-use Rattle.std.specs.Fmt.{decimal}
+use Rattle.std.specs.Prelude.{ℕ, List, [], ◌++◌, Option, Some, None, codes, decimal}
 use Rattle.report_text.specs.Reports.{numbers_text}
 use Rattle.report_text.specs.Words.{tally_end}
 use Rattle.tree_core.specs.declared.tallies.Tally.{Tally}

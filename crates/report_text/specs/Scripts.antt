@@ -2,8 +2,7 @@
 -- its text and how many leaves and moves there are; of one that was replayed the text of the last
 -- tree and the number of moves, or the move that fails.
 -- Stated by: report_text, bench_reports. Used by: bench_outcomes, bench_top, theorems.
-use Rattle.std.specs.Prelude.{ℕ, List, ◌++◌, codes}
-use Rattle.std.specs.Fmt.{decimal}
+use Rattle.std.specs.Prelude.{ℕ, List, ◌++◌, codes, decimal}
 use Rattle.report_text.specs.Judgements.{refused_line}
 use Rattle.report_text.specs.declared.judgements.Shown.{Shown}
 

@@ -24,6 +24,4 @@ no_cut_pair g is bi brick u v wu wv c = grind (arith, beside_pair g u v c, pair_
 -- a brick
 pub brick_facts : (g : Graph) → IsGraph g → IsCovered g → ((x : Set) → IsSide g x → ⊥) → ((x : Set) → IsTight g x → IsNontrivial g.order x → ⊥) →
     (4 ≤ g.order) × IsBicritical g × ((u v : ℕ) → Within g.order u → Within g.order v → IsCutPair g u v → ⊥)
-brick_facts g is cov odd_cycle brick =
-    let b = bicritical g is cov odd_cycle brick in
-    (four_vertices g is cov odd_cycle, b, no_cut_pair g is b brick)
+brick_facts g is cov odd_cycle brick = grind (arith, bicritical, four_vertices, no_cut_pair)

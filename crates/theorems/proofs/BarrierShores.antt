@@ -117,13 +117,7 @@ module _ (g : Graph) (is : IsGraph g) (cov : IsCovered g) (x : Set) (t : IsTight
         ]) in omega arith
 
     pub left_barrier : IsBarrierCutOf g x s
-    left_barrier = record {
-      barrier = let p = covered_perfect g is cov in let f = few_odd_components g s p.0 is p.1 in let e = enough in omega arith;
-      vertex = far.0;
-      within = far.1;
-      outside = far_s;
-      same = inr (λ v w. other_shore far.0 v far.1 w far_out);
-    }
+    left_barrier = grind (arith, covered_perfect, few_odd_components, enough, far, far_s, other_shore, far_out)
 
   -- one side or the other has the vertex more
   pub shore_barrier : (a : Set) → IsSide g a → (r : Set) × IsBarrierCutOf g x r

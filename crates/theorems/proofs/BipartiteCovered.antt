@@ -111,10 +111,7 @@ module _ (g : Graph) (a : Set) (is : IsMultigraph g) (two : IsSide g a) where
     -- so no set that is neither empty nor all is without an edge in its cut
     module _ (x : Set) (closed : (e : ℕ) → Within (size g) e → in_cut g x e ≡ false) where
       stays : (p q e : ℕ) → Within (size g) e → has_ends g p q e ≡ true → x p ≡ true → x q ≡ true
-      stays p q e w h xp = elim (cases_Bool (x q)) [
-        | inl t ↦ t
-        | inr f ↦ absurd (both_ways (in_cut g x e) (closed e w) (cut_from_ends g x p q e h xp f))
-      ]
+      stays p q e w h xp = grind (arith, cases_Bool, both_ways, in_cut, cut_from_ends)
 
       no_gap : (u v : ℕ) → Within g.order u → Within g.order v → x u ≡ true → x v ≡ false → ⊥
       no_gap u v wu wv xu xv = elim (cases_lt 0 (count g.order (minus a x))) [
@@ -259,22 +256,13 @@ module _ (g : Graph) (a : Set) (is : IsMultigraph g) (two : IsSide g a) where
 
   -- Hetyei's theorem
   pub by_neighbours : 2 ≤ g.order → IsCovered g ↔ (IsConnected g × (count g.order a ≡ count g.order (complement a)) × HasSurplus g a)
-  by_neighbours many = (
-    (λ cov. (cov.connected, covered_sides cov, covered_surplus cov)),
-    (λ h. covered_by_pairs many h.0 (pairs_from h.1 h.2)),
-  )
+  by_neighbours many = grind (arith, covered_sides, covered_surplus, covered_by_pairs, pairs_from)
 
   pub by_pairs : 2 ≤ g.order → IsCovered g ↔ (IsConnected g × ArePairsMatched g a)
-  by_pairs many = (
-    (λ cov. (cov.connected, covered_pairs cov)),
-    (λ h. covered_by_pairs many h.0 h.1),
-  )
+  by_pairs many = grind (arith, covered_pairs, covered_by_pairs)
 
   pub four_by_neighbours : 4 ≤ g.order → IsCovered g ↔ ((count g.order a ≡ count g.order (complement a)) × HasSurplus g a)
-  four_by_neighbours four = (
-    (λ cov. (covered_sides cov, covered_surplus cov)),
-    (λ h. covered_by_pairs (omega arith) (connected_by_surplus four h.0 h.1) (pairs_from h.0 h.1)),
-  )
+  four_by_neighbours four = grind (arith, covered_sides, covered_surplus, covered_by_pairs, connected_by_surplus, pairs_from)
 
   pub four_by_pairs : 4 ≤ g.order → IsCovered g ↔ ((1 ≤ count g.order a) × (1 ≤ count g.order (complement a)) × ArePairsMatched g a)
   four_by_pairs four = (

@@ -147,26 +147,7 @@ module _ (n : ℕ) (p : List (List ℕ)) (pp : IsPartition n p) where
         )
 
     down-order : IsStrictlyIncreasing (names_of (downs q))
-    down-order i l =
-        let long = length-map (downs q) last_of in
-        let same = length-downs q in
-        let names = length-map q last_of in
-        let a = name-down i (omega arith) in
-        let b = name-down (i + 1) (omega arith) in
-        let u = own-name i (omega arith) in
-        let v = own-name (i + 1) (omega arith) in
-        let u1 = u.1 in
-        let v1 = v.1 in
-        let less = qp.order i (omega arith) in
-        let wu = (place_in n p pp.partition (slice_index (names_of q) i) u.0).0 in
-        let wv = (place_in n p pp.partition (slice_index (names_of q) (i + 1)) v.0).0 in
-        elim (cases_lt (place p (slice_index (names_of q) i)) (place p (slice_index (names_of q) (i + 1)))) [
-          | inl below ↦ omega arith
-          | inr not_below ↦ elim (cases_eq (place p (slice_index (names_of q) i)) (place p (slice_index (names_of q) (i + 1)))) [
-            | inl e ↦ let f = ap (λ j. last_of (block p j)) e in absurd (omega arith)
-            | inr d ↦ let f = names-rise (place p (slice_index (names_of q) (i + 1))) (place p (slice_index (names_of q) i)) wv wu (omega arith) in absurd (omega arith)
-          ]
-        ]
+    down-order i l = grind (arith, length-map, downs, last_of, length-downs, name-down, own-name, place_in, slice_index, names_of, cases_lt, place, cases_eq, block, names-rise)
 
     pub down-partition : IsPartition (length p) (downs q)
     unfolding downs

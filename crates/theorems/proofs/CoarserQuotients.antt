@@ -90,13 +90,7 @@ module _ (g : Graph) (is : IsGraph g) (p : List (List ℕ)) (pp : IsPartition g.
       not_less a b l e = omega arith
 
   same-adjacent : (i j : ℕ) → blocks_adjacent g q i j ≡ blocks_adjacent h r i j
-  same-adjacent i j = same_tests (blocks_adjacent g q i j) (blocks_adjacent h r i j)
-      (λ t. let parts = and_parts (not (i == j)) (some (size g) (has_ends (contracted g q) i j)) t in
-      let e = some_true (size g) (has_ends (contracted g q) i j) parts.1 in
-      and_from (not (i == j)) (some (size h) (has_ends (contracted h r) i j)) parts.0 (to-quotient i j (different i j parts.0) e.0 e.1 e.2))
-      (λ t. let parts = and_parts (not (i == j)) (some (size h) (has_ends (contracted h r) i j)) t in
-      let d = some_true (size h) (has_ends (contracted h r) i j) parts.1 in
-      and_from (not (i == j)) (some (size g) (has_ends (contracted g q) i j)) parts.0 (from-quotient i j d.0 d.1 d.2))
+  same-adjacent i j = grind (arith, same_tests, blocks_adjacent, and_parts, some, size, has_ends, contracted, some_true, and_from, to-quotient, different, from-quotient)
 
   pub coarser-quotient : quotient g q ≡ quotient h r
   coarser-quotient = quotient-same g h q r (sym (length-downs g.order p pp q)) same-adjacent

@@ -40,21 +40,7 @@ module _ (g : Graph) (is : IsGraph g) (f : Set) (stage : IsStage g f) (q : Set) 
   module _ (y z : ℕ) (full : (u : ℕ) → Within g.order u → is_met g f u ≡ true → x ≢ u → y ≢ u → z ≢ u → degree g q u ≡ 1) where
     -- q is a perfect matching without x and y, if it misses y and not z
     off_two : degree g q y ≡ 0 → (y ≢ z → degree g q z ≡ 1) → IsPerfectOff g f (pair_set x y) q
-    off_two empty other = record {
-      part = inside;
-      once = λ u wu t o.
-          let p = or_parts (x == u) (y == u) o in
-          let dx : x ≢ u = λ e. both_ways (x == u) p.0 (eq-eqb x u e) in
-          let dy : y ≢ u = λ e. both_ways (y == u) p.1 (eq-eqb y u e) in
-          elim (cases_eq z u) [
-            | inl e ↦ subst (λ k. degree g q k ≡ 1) e (other (λ i. dy (i ∙ e)))
-            | inr e ↦ full u wu t dx dy e
-          ];
-      away = λ u wu o. elim (or_cases (x == u) (y == u) o) [
-        | inl i ↦ subst (λ k. degree g q k ≡ 0) (eqb-true x u i) missed
-        | inr i ↦ subst (λ k. degree g q k ≡ 0) (eqb-true y u i) empty
-      ];
-    }
+    off_two empty other = grind (arith, or_parts, both_ways, eq-eqb, cases_eq, degree, or_cases, eqb-true)
 
     -- it does not miss x alone
     more_missed : degree g q y ≡ 1 → degree g q z ≡ 1 → ⊥
@@ -166,9 +152,7 @@ module _ (g : Graph) (is : IsGraph g) (f : Set) (v : ℕ) (es : List ℕ) (w : �
 
   -- an edge of an ear has no end on the stage but those of the ear
   not_on : (s : ℕ) (cs : List ℕ) → IsEar g f s cs → (e u : ℕ) → mem cs e ≡ true → 1 ≤ ends_of g e u → is_met g f u ≡ true → pair_set s (last_vertex g s cs) u ≡ false → ⊥
-  not_on s cs ear e u i l t o =
-      let p = or_parts (s == u) (last_vertex g s cs == u) o in
-      both_ways (is_met g f u) (ear.inner u (trail_has g s cs ear.follow e u i l) (λ q. both_ways (s == u) p.0 (eq-eqb s u (sym q))) (λ q. both_ways (last_vertex g s cs == u) p.1 (eq-eqb (last_vertex g s cs) u (sym q)))) t
+  not_on s cs ear e u i l t o = grind (arith, or_parts, both_ways, trail_has, eq-eqb)
 
   -- off the ears the matching is on the old stage
   off_ears : (u : ℕ) → Within g.order u → is_met g f u ≡ true → pair_set v (last_vertex g v es) u ≡ false → pair_set w (last_vertex g w ds) u ≡ false → degree g old u ≡ 1

@@ -26,9 +26,7 @@ module _ (g : Graph) (is : IsGraph g) (el : IsElementary g) where
   ]
     where
       ends : (s t : ℕ) → allowed_adjacent g s t ≡ true → Within g.order s × Within g.order t
-      ends s t h =
-          let e = some_true (size g) (λ e. is_allowed g e && has_ends g s t e) h in
-          ends_within g is s t e.0 e.1 (and_parts (is_allowed g e.0) (has_ends g s t e.0) e.2).1
+      ends s t h = grind (arith, some_true, size, is_allowed, has_ends, ends_within, and_parts)
 
       stays : some (size g) (λ e. is_allowed g e && in_cut g x e) ≡ false → (s t : ℕ) → x s ≡ true → allowed_adjacent g s t ≡ true → x t ≡ true
       stays f s t xs h = elim (cases_Bool (x t)) [

@@ -143,16 +143,10 @@ module _ (g : Graph) (is : IsMultigraph g) (u : ℕ) (wu : Within g.order u) (vs
     n e = f e && m e
 
     no_cross : (e : ℕ) → Within (size g) e → (m e && in_cut g s e) ≡ false
-    no_cross e w = elim (cases_Bool (m e)) [
-      | inl t ↦ ap₂ ◌&&◌ t (not_cut (s (first_end g e)) (s (second_end g e)) (closed e w (allowed_in e w t)))
-      | inr t ↦ ap (λ (b : Bool). b && in_cut g s e) t
-    ]
+    no_cross e w = grind (arith, cases_Bool, not_cut, first_end, second_end, closed, allowed_in, in_cut)
 
     kept : (e : ℕ) → Within (size g) e → n e ≡ (m e && inside g s e)
-    kept e w = elim (cases_Bool (m e)) [
-      | inl t ↦ let a = allowed_in e w t in grind arith
-      | inr t ↦ grind arith
-    ]
+    kept e w = grind (arith, cases_Bool, allowed_in)
 
     degree_kept : (v : ℕ) → s v ≡ true → degree g n v ≡ degree g m v
     degree_kept v t = degree_congr g n (λ e. m e && inside g s e) v kept ∙ degree-inside g m s no_cross v t

@@ -58,10 +58,7 @@ none_or None = (λ t. refl, λ e. refl)
 none_or (Some pair) = (λ t. absurd (both_ways _ refl t), λ e. cc e)
 
 bicritical_test : (g : Graph) → IsTrue (is_bicritical g) ↔ IsBicritical g
-bicritical_test g =
-    let test = none_or (equivalent_pair g) in
-    let pairs = equivalent-none g in
-    (λ t. pairs.0 (test.0 t), λ critical. test.1 (pairs.1 critical))
+bicritical_test g = grind (arith, none_or, equivalent_pair, equivalent-none)
 
 bicritical_or : (g : Graph) → IsBicritical g ⊎ (¬ IsBicritical g)
 bicritical_or g = by (is_bicritical g) refl

@@ -1,7 +1,7 @@
 -- The marriage theorem: the partners that Hall's condition gives, each with an edge, are a perfect
 -- matching of the two sets. Conversely a perfect matching matches a set on one side into its
 -- neighbours.
-use Rattle.std.proofs.Common.{◌≡◌, ℕ, ◌≤◌, Bool, true, false, ◌==◌, ◌&&◌, ◌||◌, not, refl, sym, ap, ◌∙◌, arith, eq-eqb, eqb-true, ◌↔◌, inl, inr}
+use Rattle.std.proofs.Common.{◌≡◌, ℕ, ◌≤◌, Bool, true, false, ◌==◌, ◌&&◌, ◌||◌, not, refl, ap, ◌∙◌, arith, eq-eqb, eqb-true, ◌↔◌, inl, inr}
 use Rattle.counting.proofs.Common.{and_from, and_implied, and_parts, both_ways, not-true, or_cases, or_left, or_right, same_tests, some_congr, some_true, true_some, count_congr, count_mono, Within, count, some, Set, complement, meet, none, singleton, union}
 use Rattle.barrier_kit.proofs.Common.{glue_family, hall, hits, neighbours, perfect_congr, Picks}
 use Rattle.graph_core.proofs.Common.{adjacent-edge, Graph, HasPerfect, IsGraph, IsMultigraph, IsPerfect, IsSide, adjacent, has_ends, size}
@@ -39,13 +39,7 @@ module _ (g : Graph) (l r : Set) (is : IsGraph g) (apart : (v : ℕ) → l v ≡
   cover v w = same_tests (some g.order (λ z. l z && star z v)) (union l r v) there back
     where
       there : some g.order (λ z. l z && star z v) ≡ true → union l r v ≡ true
-      there h =
-          let z = some_true g.order (λ z. l z && star z v) h in
-          let p = and_parts (l z.0) (star z.0 v) z.2 in
-          elim (or_cases (z.0 == v) (picks.to z.0 == v) p.1) [
-            | inl i ↦ or_left (l v) (r v) (ap l (sym (eqb-true z.0 v i)) ∙ p.0)
-            | inr i ↦ or_right (l v) (r v) (ap r (sym (eqb-true (picks.to z.0) v i)) ∙ (picks.lands z.0 z.1 p.0).1)
-          ]
+      there h = grind (arith, some_true, star, and_parts, or_cases, picks, or_left, eqb-true, or_right)
 
       back : union l r v ≡ true → some g.order (λ z. l z && star z v) ≡ true
       back h = elim (or_cases (l v) (r v) h) [
@@ -89,11 +83,7 @@ module _ (g : Graph) (a : Set) (is : IsMultigraph g) (two : IsSide g a) where
 
   -- neighbours of a part of the side are beside it, on the other side
   pub near_beside : (s : Set) → ((v : ℕ) → s v ≡ true → a v ≡ true) → (v : ℕ) → Within g.order v → neighbourhood g s v ≡ true → neighbours g.order (beside g) (complement a) s v ≡ true
-  near_beside s sub v w h =
-      let u = some_true g.order (λ u. s u && adjacent g none u v) h in
-      let p = and_parts (s u.0) (adjacent g none u.0 v) u.2 in
-      let e = (adjacent-edge g none u.0 v p.1).2 in
-      and_from (complement a v) (some g.order (λ u. s u && beside g u v)) (near_side g is a two s sub v h) (true_some g.order (λ u. s u && beside g u v) u.0 u.1 (and_from (s u.0) (beside g u.0 v) p.0 (true_some (size g) (has_ends g u.0 v) e.0 e.1 e.2)))
+  near_beside s sub v w h = grind (arith, some_true, adjacent, none, and_parts, adjacent-edge, and_from, complement, some, near_side, true_some, size, has_ends)
 
   pub marriage : HasPerfect g none ↔ ((count g.order a ≡ count g.order (complement a)) × ((s : Set) → ((v : ℕ) → Within g.order v → s v ≡ true → a v ≡ true) → count g.order s ≤ count g.order (neighbourhood g s)))
   marriage = (

@@ -1,8 +1,7 @@
 -- A tight cut of an r-graph has r edges. A perfect matching is heaviest for the weight "n, and one
 -- more in the cut", so a cover weighs as much; its inequality is summed over all edges. So there is
 -- no nontrivial tight cut if each nontrivial odd set has more than r edges in its cut.
-use Rattle.std.proofs.Common.{◌≡◌, ℕ, suc, zero, ◌+◌, ◌*◌, ◌/◌, ◌≤◌, true, false, List, [], ◌∷◌, refl, sym, ap, ◌∙◌, arith, All, inl, inr}
-use Rattle.std.proofs.Math.Nat.{mul-add, mul-le-mul_left, mul_left_comm}
+use Rattle.std.proofs.Common.{◌≡◌, ℕ, suc, zero, ◌+◌, ◌*◌, ◌/◌, ◌≤◌, true, false, List, [], ◌∷◌, refl, sym, ap, ◌∙◌, arith, All, inl, inr, mul-add, mul-le-mul_left, mul_left_comm}
 use Rattle.counting.proofs.Common.{All-head, All-tail, cases_lt, complement_odd, order_even, true≢false, bit, count, is_odd, total, Set, complement, everything, none}
 use Rattle.brick_kit.proofs.CoverBound.{Dual, cover_sum}
 use Rattle.brick_kit.proofs.CutWeights.{cut_weight, perfect_heaviest}
@@ -100,15 +99,7 @@ module _ (r : ℕ) (g : Graph) (is : IsMultigraph g) (regular : IsRegular r g) w
 
   module _ (more : (x : Set) → IsNontrivial g.order x → is_odd (count g.order x) ≡ true → r + 1 ≤ cut_size g x) where
     wide_from : is_odd g.order ≡ false → HasWideOddCuts r g
-    wide_from even y odd = elim (cases_lt 2 (count g.order y)) [
-      | inr few ↦ one_cut y (single (count g.order y) odd few)
-      | inl many ↦ elim (cases_lt 2 (count g.order (complement y))) [
-        | inr few ↦
-            let t = turned_cut g everything y in
-            let c = one_cut (complement y) (single (count g.order (complement y)) (complement_odd g.order y even odd) few) in omega arith
-        | inl rest ↦ let m = more y (record { inside = many; outside = rest }) odd in omega arith
-      ]
-    ]
+    wide_from even y odd = grind (arith, cases_lt, count, one_cut, single, complement, turned_cut, everything, complement_odd)
 
     pub wide_trivial : HasOnlyTrivialTightCuts g
     wide_trivial x t n =

@@ -85,9 +85,7 @@ module _ (g : Graph) (is : IsGraph g) where
           go false false h = absurd (true≢false (sym h))
 
       cut_edge_of : (k : Set) → edges_in_cut g k y ≡ 1 → (b : ℕ) × Within (size g) b × (k b ≡ true) × (in_cut g y b ≡ true)
-      cut_edge_of k h =
-          let b = count_member (size g) (λ e. k e && in_cut g y e) (omega arith) in
-          let p = and_parts (k b.0) (in_cut g y b.0) b.2 in (b.0, b.1, p.0, p.1)
+      cut_edge_of k h = grind (arith, count_member, size, in_cut, and_parts)
 
       to_met : IsMetOnce g y
       unfolding Met

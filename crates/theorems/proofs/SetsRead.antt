@@ -1,8 +1,7 @@
 -- The lines D, A and C of a report of `analyse` are read back as the sets that they list. The first
 -- eight lines of the report are written words, so they are cut and read as they were meant, and the
 -- words in front differ.
-use Rattle.std.proofs.Common.{◌≡◌, ℕ, ◌<◌, ◌≤◌, ◌^◌, ◌==◌, Bool, true, false, cond, List, [], ◌∷◌, ◌++◌, map, drop, Option, Some, None, refl, sym, ap, ◌∙◌, arith, append_assoc, append-nil, eq-eqb, codes}
-use Rattle.std.specs.Fmt.{decimal}
+use Rattle.std.proofs.Common.{◌≡◌, ℕ, ◌<◌, ◌≤◌, ◌^◌, ◌==◌, Bool, true, false, cond, List, [], ◌∷◌, ◌++◌, map, drop, Option, Some, None, refl, sym, ap, ◌∙◌, arith, append_assoc, append-nil, eq-eqb, codes, decimal}
 use Rattle.std.specs.List.{AllByRecursion, list_all}
 use Rattle.counting.proofs.Common.{and_from, count_le, mem-within, or_left, or_right, Lists, mem, none}
 use Rattle.graph_core.proofs.Common.{component_count, missed_count, Graph, InA, InC, InD, size}
@@ -13,8 +12,7 @@ use Rattle.line_text.specs.Common.{AreWords, begin_with, is_number, is_word, lin
 use Rattle.report_text.specs.Common.{analysis_text, bipartite_line, components_line, count_line, deficiency_line, graph_line, graph_lines, list_line, matching_line, numbers_text, numbers_told, verdict_lines, with_names_text, with_structure, with_three_sets}
 use Rattle.report_text.specs.declared.analyses.AnalysisLines.{AnalysisLines}
 use Rattle.report_text.specs.declared.structures.Structure.{Structure}
-use Rattle.bench_outcomes.specs.Common.{with_given_names}
-use Rattle.bench_outcomes.specs.Facts.{IsAnalysis}
+use Rattle.bench_outcomes.specs.Common.{with_given_names, IsAnalysis}
 use Rattle.bench_top.proofs.ReadGraphs.{IsRead}
 use Rattle.theorems.specs.Outcomes.{ListsSet, words_behind}
 
@@ -49,8 +47,7 @@ numbers-spaced [] = refl
 numbers-spaced (n ∷ ns) = ap (λ text. 32 ∷ (decimal n ++ text)) (numbers-spaced ns)
 
 list-written : (word : List ℕ) (ns : List ℕ) → list_line word ns ≡ written ((word ∷ map decimal ns) ∷ [])
-list-written word ns =
-    ap (λ text. word ++ (text ++ 10 ∷ [])) (numbers-spaced ns) ∙ sym (append_assoc word (spaced (map decimal ns)) (10 ∷ [])) ∙ ap (λ text. text ++ 10 ∷ []) (sym (unwords-spaced word (map decimal ns)))
+list-written word ns = grind (arith, numbers-spaced, append_assoc, spaced, unwords-spaced)
 
 count-written : (word : List ℕ) (n : ℕ) → count_line word n ≡ written ((word ∷ decimal n ∷ []) ∷ [])
 count-written word n = ap (λ text. text ++ codes "\n") (append_assoc word (codes " ") (decimal n))
@@ -139,16 +136,14 @@ module _ (lines : AnalysisLines) where
 -- a line of other words is passed over, and the line of the word is read
 module _ (word : List ℕ) where
   pass : (words : List (List ℕ)) (rest : List (List ℕ)) → AreWords words → begin_with words (word ∷ []) ≡ false → words_behind word (unwords words ∷ rest) ≡ words_behind word rest
-  pass words rest are other =
-      ap (λ (ws : List (List ℕ)). cond (begin_with ws (word ∷ [])) (Some (drop 1 ws)) (words_behind word rest)) (words_of-unwords words are) ∙ ap (λ b. cond b (Some (drop 1 words)) (words_behind word rest)) other
+  pass words rest are other = grind (arith, words_of-unwords)
 
   past : (lines : List (List (List ℕ))) (rest : List (List ℕ)) → AllByRecursion AreWords lines → AllByRecursion (λ words. begin_with words (word ∷ []) ≡ false) lines → words_behind word (map unwords lines ++ rest) ≡ words_behind word rest
   past [] rest are other = refl
   past (words ∷ lines) rest are other = pass words (map unwords lines ++ rest) are.0 other.0 ∙ past lines rest are.1 other.1
 
   take_line : (words : List (List ℕ)) (rest : List (List ℕ)) → AreWords words → begin_with words (word ∷ []) ≡ true → words_behind word (unwords words ∷ rest) ≡ Some (drop 1 words)
-  take_line words rest are this =
-      ap (λ (ws : List (List ℕ)). cond (begin_with ws (word ∷ [])) (Some (drop 1 ws)) (words_behind word rest)) (words_of-unwords words are) ∙ ap (λ b. cond b (Some (drop 1 words)) (words_behind word rest)) this
+  take_line words rest are this = grind (arith, words_of-unwords)
 
 module _ (g : Graph) (read : IsRead g) (lines : AnalysisLines) (right : IsAnalysis g lines) (names : Option (List (List ℕ))) (output : List ℕ) (told : output ≡ with_given_names (analysis_text lines) names false) where
   few : (n : ℕ) → n ≤ 2048 → n < 10 ^ 9

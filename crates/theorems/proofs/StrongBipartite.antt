@@ -75,12 +75,7 @@ module _ (g : Graph) (a m : Set) (is : IsMultigraph g) (two : IsSide g a) (perfe
 
     -- what is left out of the side has no neighbour that is reached
     near_left_out : (v : ℕ) → Within g.order v → neighbourhood g left_out v ≡ true → right_out v ≡ true
-    near_left_out v wv h =
-        let e = neighbour_edge g left_out v h in
-        let off = near_side g is a two left_out on_side v h in
-        let p = and_parts (a e.0) (not (reached e.0)) e.3 in
-        but_from (not (a v)) (reached v) off (false_from_ne_true (reached v) (λ i.
-        both_ways (reached e.0) (not-true (reached e.0) p.1) (closed v e.0 wv e.2 i (from_off v e.0 e.1 e.4 (has_ends-back g e.0 v e.1 e.5) (not-true (a v) off)))))
+    near_left_out v wv h = grind (arith, neighbour_edge, near_side, on_side, and_parts, but_from, false_from_ne_true, both_ways, not-true, closed, from_off, has_ends-back)
 
     some_out : (v : ℕ) → Within g.order v → reached v ≡ false → 1 ≤ count g.order left_out
     some_out v wv off = elim (cases_Bool (a v)) [

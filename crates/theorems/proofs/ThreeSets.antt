@@ -1,7 +1,7 @@
 -- The sets D and A are the outer and the inner vertices of a frame, so that D is the union of the
 -- odd components of G - A. Each maximum matching attains the bound of Berge at A, and the
 -- components of G[D] are the odd components of G - A.
-use Rattle.std.proofs.Common.{◌≡◌, ◌↔◌, ℕ, ◌+◌, true, false, refl, sym, ap, ap₂, ◌∙◌, arith, ◌&&◌, not, inl, inr, [], ◌∷◌, nat_lt}
+use Rattle.std.proofs.Common.{◌≡◌, ◌↔◌, ℕ, ◌+◌, true, false, refl, sym, ap, ◌∙◌, arith, ◌&&◌, not, inl, inr, [], ◌∷◌, nat_lt}
 use Rattle.counting.proofs.Common.{cases_Bool, both_ways, false_from_ne_true, and_parts, and_from, not-false, same_tests, count_congr, some_congr, fun_ext, Within, count, is_odd, Set, complement, none}
 use Rattle.barrier_kit.proofs.Common.{leads_out}
 use Rattle.graph_core.proofs.Common.{has_ends-from, joined_outside, joined_walk, walk_joined, edge_of, IsClosed, Walk-stays, adjacent-edge, adjacent_from, adjacent_within, has_ends-cases, joined_on, joined_self, Attains, component_count, is_least, odd_component_count, InA, InD, Graph, HasEnds, IsGraph, first_end, second_end, size, IsMaximum, Joined, adjacent, joined}
@@ -95,9 +95,7 @@ module _ (g : Graph) (is : IsGraph g) (d a c : Set) (sets : AreThreeSets g d a c
   }
 
   same_size : (m : Set) → IsMaximum g none m → count (size g) m ≡ k
-  same_size m mm =
-      let x = mm.most b.m b.is in
-      let y = (certificate_maximum g none a k frame.label frame.classes is frame.certificate b.m b.is refl).most m mm.is in omega arith
+  same_size m mm = grind (arith, certificate_maximum, none, frame)
 
   -- A is a set of Berge
   pub attains : (m : Set) → IsMaximum g none m → Attains g none a m
@@ -142,8 +140,7 @@ module _ (g : Graph) (is : IsGraph g) (d a c : Set) (sets : AreThreeSets g d a c
   component_is u wu du = fun_ext (λ v. same_component u v wu du)
 
   least_same : (u : ℕ) → Within g.order u → d u ≡ true → is_least g (complement d) u ≡ is_least g a u
-  least_same u w du = ap₂ ◌&&◌ (ap (λ b. not (not b)) du ∙ sym (ap not (d_out u w du)))
-      (ap not (some_congr g.order (λ v. joined g (complement d) u v && nat_lt v u) (λ v. joined g a u v && nat_lt v u) (λ v wv. ap (λ b. b && nat_lt v u) (same_component u v w du))))
+  least_same u w du = grind (arith, d_out, some_congr, joined, complement, nat_lt, same_component)
 
   -- there are as many components of G[D] as odd components of G - A
   pub components_odd : component_count g (complement d) ≡ odd_component_count g a

@@ -196,16 +196,7 @@ module _ (g : Graph) (is : IsMultigraph g) (cov : IsCovered g) (a : Set) (two : 
         (t.0, e.0, e.1, e.4, has_ends-back g e.0 t.0 e.1 e.5, but_fails_second (not (a t.0)) (z t.0) side t.3, not-true (z e.0) (and_parts (a e.0) (not (z e.0)) q.0).1, (λ r. both_ways (one.1 == e.0) (not-true (one.1 == e.0) q.1) (eq-eqb one.1 e.0 r)))
 
     none_leans : ⊥
-    none_leans =
-        let j = second in
-        let k = third in
-        elim (cases_eq one.1 j.1) [
-          | inr d ↦ no_two_apart g z one.0 one.1 j.0 j.1 one.2 j.2 ext l.tight one.3 j.3 one.4 j.4 one.5 one.6 j.5 j.6 j.7 d
-          | inl p ↦ elim (cases_eq one.0 k.0) [
-            | inr d ↦ no_two_apart g z one.0 one.1 k.0 k.1 one.2 k.2 ext l.tight one.3 k.3 one.4 k.4 one.5 one.6 k.5 k.6 d k.7
-            | inl q ↦ no_two_apart g z j.0 j.1 k.0 k.1 j.2 k.2 ext l.tight j.3 k.3 j.4 k.4 j.5 j.6 k.5 k.6 (λ r. j.7 (q ∙ sym r)) (λ r. k.7 (p ∙ r))
-          ]
-        ]
+    none_leans = grind (arith, second, third, cases_eq, one, no_two_apart)
 
   pub not_extendable : IsTwoExtendable g → HasOnlyTrivialTightCuts g
   not_extendable ext x t wide = let z = leaning g is a two cov x t wide in none_leans z.0 z.1 ext

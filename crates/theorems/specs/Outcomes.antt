@@ -2,9 +2,7 @@
 -- tight cut decomposition, a pairing of the leaves of two decompositions, the kind of a graph, an
 -- ear decomposition, a script of moves; and what a run read and wrote.
 -- Stated by: theorems.
-use Rattle.std.specs.Prelude.{◌≡◌, ◌↔◌, ℕ, List, [], ◌∷◌, All, Some, None, false, length, drop, map, if◌then◌else◌, codes}
-use Rattle.std.specs.declared.option.Option.{Option}
-use Rattle.std.specs.declared.result.Result.TheVariants.{Ok}
+use Rattle.std.specs.Prelude.{◌≡◌, ◌↔◌, ℕ, List, [], ◌∷◌, All, Some, None, false, length, drop, map, if◌then◌else◌, codes, Option, Ok}
 use Rattle.std.specs.List.{AllByRecursion}
 use Rattle.std.specs.Option.{ForSome}
 use Rattle.outside.specs.Common.{Answer, AnswersInTurn}

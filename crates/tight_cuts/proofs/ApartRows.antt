@@ -1,5 +1,5 @@
 -- An edge that is written at another one: each edge still lies apart from the one at it.
-use Rattle.std.proofs.Common.{◌≡◌, ℕ, ◌<◌, List, length, get_or-set_same, get_or-set_other, slice_set, arith}
+use Rattle.std.proofs.Common.{ℕ, ◌<◌, List, length, get_or-set_same, get_or-set_other, slice_set, arith}
 use Rattle.counting.proofs.Common.{cases_eq, Within}
 use Rattle.graph_core.proofs.Common.{Graph, size, Together}
 use Rattle.tight_cuts.specs.Common.{LieApart}

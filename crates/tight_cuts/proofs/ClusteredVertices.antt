@@ -7,8 +7,7 @@ use Rattle.tight_cuts.proofs.EdgeLoop.{high_within, low_within, step_covers}
 use Rattle.tight_cuts.proofs.FirstPairs.{no_first}
 use Rattle.tight_cuts.proofs.FrontCandidates.{edge-known}
 use Rattle.tight_cuts.proofs.LeastShores.{parts_nontrivial, separated_says}
-use Rattle.tight_cuts.specs.Clusters.{AreClusters, AreUnparted}
-use Rattle.tight_cuts.specs.Common.{cuts, first_separated, greater_end, is_separated, lesser_end, with_edge_cut, with_pair, Candidate}
+use Rattle.tight_cuts.specs.Common.{cuts, first_separated, greater_end, is_separated, lesser_end, with_edge_cut, with_pair, Candidate, AreClusters, AreUnparted}
 
 module _ (g : Graph) (is : IsGraph g) (cov : IsCovered g) (e : ℕ) (we : Within (size g) e) where
   -- if no pair is separated at an edge, no nontrivial tight cut has the edge

@@ -8,9 +8,7 @@ use Rattle.counting.proofs.Common.{cases_eq, get_or-append_seam, get_or_append_l
 use Rattle.contraction.proofs.MergedQuotients.{tight-before}
 use Rattle.contraction.proofs.QuotientLaws.{tight_at_up}
 use Rattle.graph_core.proofs.Common.{at_place, block_count_around, block_count_outside, block_count_rest, closed_up, complement-tight, complement_of-rises, inside_or_apart, in_union, mem_last, merge_of, place_in, shore-some, singles-tight, tight-singles, union_rest, IsCovered, Graph, IsGraph, AreBlocks, IsPartition, block, complement_of, merged, place, quotient, singles, union_of_blocks, IsTightAt, IsUnion, block_count, blocks_in, IsNontrivial}
-use Rattle.tree_core.proofs.SeenGraphs.{seen-vertices}
-use Rattle.tree_core.proofs.SingleVertices.{as_many-singles}
-use Rattle.tree_core.specs.Common.{IsCutAt, kept_at, merged_at, seen_at}
+use Rattle.tree_core.proofs.Common.{seen-vertices, as_many-singles, IsCutAt, kept_at, merged_at, seen_at}
 use Rattle.tight_cuts.proofs.LiftedCandidates.{nontrivial-single, order_q, single-nontrivial, union-blocks, union-holds, union-nontrivial, union-tight, union-union}
 use Rattle.tight_cuts.specs.Common.{AreClusters, AreClustersAt}
 

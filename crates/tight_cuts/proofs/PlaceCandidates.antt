@@ -2,8 +2,7 @@
 -- graph itself, and elsewhere the quotient, whose candidates are led back.
 use Rattle.std.proofs.Common.{◌≡◌, ◌≢◌, ◌∙◌, ℕ, List, length, map, ap, sym}
 use Rattle.graph_core.proofs.Common.{Graph}
-use Rattle.tree_core.proofs.SeenGraphs.{seen-blocks, seen-vertices}
-use Rattle.tree_core.specs.Common.{seen_at}
+use Rattle.tree_core.proofs.Common.{seen-blocks, seen-vertices, seen_at}
 use Rattle.tight_cuts.proofs.LiftedCandidates.{at-blocks, at-vertices}
 use Rattle.tight_cuts.specs.Common.{candidates, candidates_at, lifted_candidate}
 

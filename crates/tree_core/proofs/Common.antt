@@ -9,9 +9,9 @@ pub use Rattle.tree_core.proofs.Shores.{below-greatest, is-complement, complemen
 pub use Rattle.tree_core.proofs.Sizes.{depth_at_most_nodes, leaf_count-cuts, node_count-cuts, length-leaves_at}
 pub use Rattle.tree_core.proofs.TreePaths.{IsThe, leaf-path, path-leaf, LeadsToCut, shore-path, path-shore, within-depth, deepest-path}
 pub use Rattle.tree_core.proofs.CutsBelow.{root-covered, kept-partition, merged-partition, kept-covers, merged-covers, merged-length, kept-length, blocks-below, few-cuts_at, few-leaves, HasCoveredQuotient, covered-leaves}
-pub use Rattle.tree_core.proofs.RotateSteps.{apart-test, last_step-end, parent_path-end, rotate-end, rotate-nowhere}
+pub use Rattle.tree_core.proofs.RotateSteps.{apart-test, last_step-end, parent_path-end, rotate-end}
 pub use Rattle.tree_core.proofs.SwitchSets.{each-member, all_wider, list-of, union-is, union-within, minus-is, minus-within, mem-past, IsOutside, outside-test, not-covered, outside-is, outer_rest-is, outer_rest-within, proper-within, proper_part-within, proper_outside-within}
-pub use Rattle.tree_core.proofs.FewLeaves.{few-nodes, few-leaves_listed, orders-of_leaves, blocks-of_leaves}
+pub use Rattle.tree_core.proofs.FewLeaves.{few-nodes, few-leaves_listed, blocks-of_leaves}
 pub use Rattle.tree_core.proofs.KindsOfLeaves.{kinds-more, blocks-at, kinds-next, kinds-all}
 pub use Rattle.tree_core.proofs.AddedKinds.{kinds-one, kinds-both}
 pub use Rattle.tree_core.proofs.LeafPlaces.{place-at, no-kinds, kinds-further, kinds-of_all}

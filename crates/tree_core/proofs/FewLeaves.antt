@@ -1,7 +1,7 @@
 -- A derivation of a graph within the limits has at most 127 nodes, since there are few leaves
 -- where the graph has at least four vertices, and no cut where it has fewer. Its leaves are
 -- partitions of the graph's vertices.
-use Rattle.std.proofs.Common.{◌≡◌, ℕ, ◌≤◌, ◌<◌, List, [], ◌∷◌, length, map, All, ap, refl, arith, zero, suc}
+use Rattle.std.proofs.Common.{◌≡◌, ℕ, ◌≤◌, ◌<◌, List, [], ◌∷◌, length, map, ap, refl, arith, suc}
 use Rattle.counting.proofs.Common.{cases_lt, count_complement, mem}
 use Rattle.graph_core.proofs.Common.{Graph, IsGraph, singles, blocks_in, length-singles}
 use Rattle.contraction.specs.Partition.{PartitionValue}
@@ -24,12 +24,6 @@ few-leaves_listed n t few = grind (arith, length-leaves_at n (singles n) t, leaf
     length-partitions : (n : ℕ) (ps : List (List (List ℕ))) → length (partitions_of n ps) ≡ length ps
     length-partitions n [] = refl
     length-partitions n (p ∷ ps) = ap suc (length-partitions n ps)
-
--- each is a partition of 1 to n
-pub orders-of_leaves : (n : ℕ) (ps : List (List (List ℕ))) → All (λ (p : PartitionValue). p.order ≡ n) (partitions_of n ps)
-orders-of_leaves n [] k d l = absurd (omega arith)
-orders-of_leaves n (p ∷ ps) zero d l = refl
-orders-of_leaves n (p ∷ ps) (suc k) d l = orders-of_leaves n ps k d (omega arith)
 
 -- and has the blocks of the leaf
 pub blocks-of_leaves : (n : ℕ) (ps : List (List (List ℕ))) → map (λ (p : PartitionValue). p.blocks) (partitions_of n ps) ≡ ps

@@ -1,6 +1,6 @@
 -- Leaves as places of one graph, and their kinds one after the other. The place of a leaf has its
 -- partition, so what is known of the place is known of the partition.
-use Rattle.std.proofs.Common.{◌≡◌, ℕ, ◌+◌, ◌<◌, ◌≤◌, List, [], ◌∷◌, ◌++◌, length, map, take, get_or, ap, subst, ◌∙◌, arith}
+use Rattle.std.proofs.Common.{◌≡◌, ℕ, ◌+◌, ◌<◌, List, [], ◌∷◌, ◌++◌, length, map, take, get_or, subst, arith}
 use Rattle.std.proofs.lemmas.List.{take_all, take_more}
 use Rattle.counting.proofs.Common.{get_or-map, length-map}
 use Rattle.graph_core.proofs.Common.{Graph}
@@ -11,12 +11,7 @@ use Rattle.tree_core.proofs.AddedKinds.{kinds-both, kinds-one}
 -- the place of a leaf
 pub place-at : (g : Graph) (ps : List (List (List ℕ))) (places : List PlaceValue) (i : ℕ) (place : PlaceValue) → i < length places → place ≡ get_or places i place → places ≡ map (place_of g) ps →
     (i < length ps) × (place ≡ place_of g (get_or ps i []))
-place-at g ps places i place l is are =
-    let same : length places ≡ length ps = ap length are ∙ length-map ps (place_of g) in
-    let room : i < length ps = omega arith in (
-      room,
-      is ∙ ap (λ (qs : List PlaceValue). get_or qs i place) are ∙ get_or-map (place_of g) ps i [] place room,
-    )
+place-at g ps places i place l is are = grind (arith, length-map, get_or, get_or-map)
 
 -- no leaf has no kind
 pub no-kinds : (g : Graph) (ps : List (List (List ℕ))) → AreLeafKinds g (take 0 ps) []
@@ -33,7 +28,4 @@ kinds-further g ps places i place kinds more kind l is are before here one =
 
 -- the kinds of all leaves
 pub kinds-of_all : (g : Graph) (ps : List (List (List ℕ))) (places : List PlaceValue) (i : ℕ) (kinds : List LeafKind) → places ≡ map (place_of g) ps → i ≡ length places → AreLeafKinds g (take i ps) kinds → AreLeafKinds g ps kinds
-kinds-of_all g ps places i kinds are all is =
-    let same : length places ≡ length ps = ap length are ∙ length-map ps (place_of g) in
-    let past : length ps ≤ i = omega arith in
-    subst (λ (qs : List (List (List ℕ))). AreLeafKinds g qs kinds) (take_all i ps past) is
+kinds-of_all g ps places i kinds are all is = grind (arith, length-map, take_all)

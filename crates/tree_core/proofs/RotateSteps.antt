@@ -1,5 +1,5 @@
 -- Rotate at the end of a path, and the test of two sets with no common vertex.
-use Rattle.std.proofs.Common.{◌≡◌, ℕ, not, ◌&&◌, List, [], ◌∷◌, ◌++◌, length, None, refl, ap, ap₂, ◌∙◌, arith}
+use Rattle.std.proofs.Common.{◌≡◌, ℕ, not, ◌&&◌, List, [], ◌∷◌, ◌++◌, refl, ap, ap₂, ◌∙◌, arith}
 use Rattle.counting.proofs.Common.{same_tests, and_from, and_parts, all_in_true, true_all_in, mem, is_apart, is_subset}
 use Rattle.tree_core.specs.Common.{last_step, parent_path, result_at, rotate_result, rotate_result_at, Shape}
 use Rattle.tree_core.specs.declared.path.Side.{Side}
@@ -24,7 +24,3 @@ result-end (side ∷ parents) last t = ap₂ (λ (s : Side) (path : List Side). 
 -- Rotate with a path is Rotate by its last step, at the end of the steps before
 pub rotate-end : (path parents : List Side) (last : Side) (t : Shape) → path ≡ parents ++ last ∷ [] → rotate_result path t ≡ result_at (rotate_result_at last) parents t
 rotate-end path parents last t e = ap (λ (p : List Side). rotate_result p t) e ∙ result-end parents last t
-
--- with no step there is no result
-pub rotate-nowhere : (path : List Side) (t : Shape) → length path ≡ 0 → rotate_result path t ≡ None
-rotate-nowhere path t e = grind arith

@@ -27,10 +27,7 @@ module _ (n : ℕ) (p : List (List ℕ)) (is : IsPartition n p) where
   name-at k d l = let e : k ≡ k + 1 - 1 = omega arith in get_or-map last_of p k [] d l ∙ ap (λ j. last_of (get_or p j [])) e
 
   pub names-rise : IsRisingIn n (names_of p)
-  names-rise = record {
-    rising = is.order;
-    within = λ k d l. let h : k < length p = let e = length-map p last_of in omega arith in subst (Within n) (sym (name-at k d h)) (named (k + 1) (omega arith)).0;
-  }
+  names-rise = grind (arith, length-map, last_of, name-at, named)
 
   block-rises : (i : ℕ) → Within (length p) i → IsRisingIn n (block p i)
   block-rises i w = grind (arith, mem-item (block p i))

@@ -1,7 +1,6 @@
 -- The text that is written for a tree.
 -- Stated by: tree_text, bench_reports. Used by: bench_outcomes, bench_top, theorems.
-use Rattle.std.specs.Prelude.{ℕ, ◌≤◌, ◌<◌, ◌^◌, List, [], ◌∷◌, ◌++◌, codes, length, map}
-use Rattle.std.specs.Fmt.{decimal}
+use Rattle.std.specs.Prelude.{ℕ, ◌≤◌, ◌<◌, ◌^◌, List, [], ◌∷◌, ◌++◌, codes, length, map, decimal}
 use Rattle.std.specs.List.Sorted.{IsStrictlyIncreasing}
 use Rattle.line_text.specs.Common.{written}
 use Rattle.tree_core.specs.Common.{Shape, leaf, cut, Fits, node_count}

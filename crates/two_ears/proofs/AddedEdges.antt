@@ -54,10 +54,7 @@ module _ (g : Graph) (es : List (ℕ × ℕ)) (p : ℕ × ℕ) where
 
   -- the new edge joins its ends
   pub new-joined : some (length (es ++ (p ∷ []))) (has_ends (with_ends g (es ++ (p ∷ []))) p.0 p.1) ≡ true
-  new-joined =
-      let l = size-added in
-      let b = has_ends-own (with_ends g (es ++ (p ∷ []))) (suc (length es)) in
-      grind (arith, true_some (length (es ++ (p ∷ []))) (has_ends (with_ends g (es ++ (p ∷ []))) p.0 p.1) (suc (length es)), first_end-new, second_end-new)
+  new-joined = grind (arith, size-added, has_ends-own, with_ends, true_some, has_ends, first_end-new, second_end-new)
 
   pub keeps-added : KeepsEdges g es → Within g.order p.0 → Within g.order p.1 → KeepsEdges g (es ++ (p ∷ []))
   keeps-added h w0 w1 = record {

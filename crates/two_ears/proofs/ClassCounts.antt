@@ -1,6 +1,6 @@
 -- How many classes have equivalences that lie in one another? The label of a class is its least
 -- member, so what is true of the labels of partitions is true of classes.
-use Rattle.std.proofs.Common.{◌≡◌, ℕ, suc, zero, ◌+◌, ◌≤◌, ◌≢◌, Bool, true, false, cond, ◌==◌, refl, sym, ap, ap₂, ◌∙◌, arith, ◌&&◌, not, eq-eqb, eqb-true, inl, inr, nat_lt, ltb-true, lt-ltb}
+use Rattle.std.proofs.Common.{◌≡◌, ℕ, suc, zero, ◌+◌, ◌≤◌, ◌≢◌, Bool, true, false, cond, ◌==◌, refl, sym, ap₂, arith, ◌&&◌, not, eq-eqb, eqb-true, inl, inr, nat_lt, ltb-true, lt-ltb}
 use Rattle.counting.proofs.Common.{cases_eq, cases_Bool, cases_lt, and_parts, and_from, both_ways, true≢false, false_from_ne_true, not-true, count_congr, some_congr, some_none, some_true, true_some, or_second, same_tests, Within, count, some}
 use Rattle.two_ears.specs.Equivalences.{IsEquivalence, class_count}
 use Rattle.two_ears.proofs.Labels.{used, IsLabel, finer_used, merge, merge_in, merge_label, merge_used}
@@ -39,9 +39,7 @@ module _ (n : ℕ) (p : ℕ → ℕ → Bool) (eq : IsEquivalence n p) where
   label_same a b wa wb h = least_passer-congr n (p a) (p b) (λ v w. same_tests (p a v) (p b v) (λ t. eq.on b a v wb wa w (eq.back a b wa wb h) t) (λ t. eq.on a b v wa wb w h t))
 
   pub same_label : (a b : ℕ) → Within n a → Within n b → label a ≡ label b → p a b ≡ true
-  same_label a b wa wb e =
-      let x = label_is a wa in let y = label_is b wb in
-      eq.on a (label a) b wa x.0 wb x.1 (eq.back b (label a) wb x.0 (ap (p b) e ∙ y.1))
+  same_label a b wa wb e = grind (arith, label_is, label)
 
   pub label_classes : count n (used n label) ≡ class_count n p
   label_classes = count_congr n _ _ (λ l w. same_tests (used n label l) (not (some n (λ v. p l v && nat_lt v l))) (there l w) (back l w))

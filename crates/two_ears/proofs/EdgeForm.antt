@@ -1,6 +1,6 @@
 -- The two-ear theorem for edges: if adding some edges keeps a covered graph covered, so does adding
 -- one or two of them. Take a perfect matching that contains one of them.
-use Rattle.std.proofs.Common.{◌≡◌, ℕ, suc, zero, ◌+◌, ◌*◌, ◌≤◌, ◌≢◌, Bool, true, false, cond, ◌==◌, refl, sym, ap, ap₂, ◌∙◌, arith, ◌&&◌, ◌||◌, not, eqb-true, ◌⊎◌, inl, inr, nat_lt, lt-ltb, le-ltb, subst, [], ◌∷◌, List, length}
+use Rattle.std.proofs.Common.{◌≡◌, ℕ, suc, zero, ◌+◌, ◌*◌, ◌≤◌, ◌≢◌, Bool, true, false, cond, ◌==◌, refl, sym, ap, ◌∙◌, arith, ◌&&◌, ◌||◌, not, eqb-true, ◌⊎◌, inl, inr, nat_lt, lt-ltb, le-ltb, subst, [], ◌∷◌, List, length}
 use Rattle.counting.proofs.Common.{cases_eq, cases_Bool, cases_lt, and_from, true≢false, not-false, or_right, or_parts, but_not, Within, bit, Set, none, union, IsIn}
 use Rattle.graph_core.proofs.Common.{joined_walk, walk_joined, degree_congr, IsCovered, Graph, IsGraph, degree, first_end, second_end, size, with_ends, Allowed, IsPerfect, Joined}
 use Rattle.two_ears.proofs.AddedEdges.{degree-added, degree-with_pairs, second_end-new, second_end-old, keeps-with_pairs, first_end-new, first_end-old, with_pairs-longer, size-added, with_new}
@@ -80,10 +80,7 @@ same_or_apart (r ∷ ps) p q v i j = elim i [
 ]
 
 same_pair : (p q : ℕ × ℕ) → (p ≡ q) ⊎ (p ≢ q)
-same_pair p q = elim (cases_eq p.0 q.0) [
-  | inr d ↦ inr (λ e. d (ap (λ z. z.0) e))
-  | inl i ↦ elim (cases_eq p.1 q.1) [ inr d ↦ inr (λ e. d (ap (λ z. z.1) e)) | inl j ↦ inl (ap₂ (λ a b. (a, b)) i j) ]
-]
+same_pair p q = grind (arith, cases_eq)
 
 module _ (g : Graph) (is : IsGraph g) (cov : IsCovered g) (p0 : ℕ × ℕ) (rest : List (ℕ × ℕ)) (within : (p : ℕ × ℕ) → IsIn p (p0 ∷ rest) → Within g.order p.0 × Within g.order p.1)
     (differ : (p : ℕ × ℕ) → IsIn p (p0 ∷ rest) → p.0 ≢ p.1) (more : IsCovered (with_ends g (with_pairs g.ends (p0 ∷ rest)))) where

@@ -9,11 +9,7 @@ use Rattle.two_ears.specs.AddedEdges.{KeepsEdges}
 use Rattle.two_ears.specs.Equivalences.{IsEquivalence, class_count}
 
 pub joined_equivalence : (g : Graph) (s : Set) → IsGraph g → IsEquivalence g.order (joined g s)
-joined_equivalence g s is = record {
-  own = λ a wa. walk_joined g s is a a wa (joined_self g s a);
-  back = λ a b wa wb h. walk_joined g s is b a wb (joined_back g s a b (joined_walk g s a b h));
-  on = λ a b c wa wb wc h k. walk_joined g s is a c wa (joined_on g s a b c (joined_walk g s a b h) (joined_walk g s b c k));
-}
+joined_equivalence g s is = grind (arith, walk_joined, joined_self, joined_back, joined_walk, joined_on)
 
 -- a vertex of s is joined to itself alone
 pub removed_alone : (g : Graph) (s : Set) (u v : ℕ) → s u ≡ true → joined g s u v ≡ true → u ≡ v
@@ -33,11 +29,7 @@ class_count-components g s = total_congr g.order _ _ (λ u w. each u w) ∙ tota
     bits a b h = grind arith
 
     each : (u : ℕ) → Within g.order u → bit (not (some g.order (λ v. joined g s u v && nat_lt v u))) ≡ bit (is_least g s u) + bit (s u)
-    each u w = bits (s u) (some g.order (λ v. joined g s u v && nat_lt v u)) (λ h. false_from_ne_true (some g.order (λ v. joined g s u v && nat_lt v u)) (λ t.
-        let v = some_true g.order (λ v. joined g s u v && nat_lt v u) t in
-        let b = and_parts (joined g s u v.0) (nat_lt v.0 u) v.2 in
-        let e = removed_alone g s u v.0 h b.0 in
-        let l = ltb-true v.0 u b.1 in absurd (omega arith)))
+    each u w = grind (arith, bits, some, joined, nat_lt, false_from_ne_true, some_true, and_parts, removed_alone, ltb-true)
 
 -- what is joined step by step
 pub joined_steps : (g : Graph) (xs : List (ℕ × ℕ)) (s a : Set) → IsGraph g → IsGraph (with_ends g xs) → ((u v : ℕ) → Within g.order u → Within g.order v → adjacent g s u v ≡ true → joined (with_ends g xs) a u v ≡ true) →
@@ -97,10 +89,7 @@ submodular g s a b is apart in_a in_b =
     which ac ad bc bd sc sd h1 h2 h3 h4 h5 h6 h7 = grind arith
 
     apart_at : (c d e : ℕ) → Within (size g) e → has_ends g c d e ≡ true → c ≢ d → (s c && s d) ≡ false
-    apart_at c d e w t n = elim (has_ends-cases g c d e t) [
-      | inl k ↦ ap₂ (λ x y. s x && s y) (sym k.0) (sym k.1) ∙ apart e w (λ i. n (sym k.0 ∙ i ∙ k.1))
-      | inr k ↦ and_comm (s c) (s d) ∙ ap₂ (λ x y. s x && s y) (sym k.0) (sym k.1) ∙ apart e w (λ i. n (sym k.1 ∙ sym i ∙ k.0))
-    ]
+    apart_at c d e w t n = grind (arith, has_ends-cases, and_comm)
 
     above : (z : ℕ → ℕ) → ((c d : ℕ) → Within g.order c → Within g.order d → joined g a c d ≡ true → z c ≡ z d) → ((c d : ℕ) → Within g.order c → Within g.order d → joined g b c d ≡ true → z c ≡ z d) → (u v : ℕ) → Within g.order u → Within g.order v → joined g (meet a b) u v ≡ true → z u ≡ z v
     above z za zb u v wu wv j =

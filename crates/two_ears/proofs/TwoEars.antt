@@ -135,10 +135,7 @@ module _ (g : Graph) (is : IsGraph g) (cov : IsCovered g) (p0 : ℕ × ℕ) (res
   xs = with_pairs g.ends fs
 
   of_es : (p : ℕ × ℕ) → IsIn p (p0 ∷ es) → IsIn p ps × (s p.0 ≡ true)
-  of_es p i = elim i [
-    | inl e ↦ (inl e, ap (λ r. s r.0) e ∙ has0)
-    | inr j ↦ let r = pairs_in_has s rest p j in (inr r.0, r.1)
-  ]
+  of_es p i = grind (arith, s, has0, pairs_in_has)
 
   of_fs : (p : ℕ × ℕ) → IsIn p fs → IsIn p ps × (s p.0 ≡ false)
   of_fs p i = let r = pairs_in_has (λ w. not (s w)) rest p i in (inr r.0, not-true (s p.0) r.1)
@@ -172,10 +169,7 @@ module _ (g : Graph) (is : IsGraph g) (cov : IsCovered g) (p0 : ℕ × ℕ) (res
       }
 
   holds_ends : (b : Set) (p : ℕ × ℕ) → b p.0 ≡ true → b p.1 ≡ true → (w : ℕ) → 1 ≤ bit (p.0 == w) + bit (p.1 == w) → b w ≡ true
-  holds_ends b p b0 b1 w l = elim (cases_eq p.0 w) [
-    | inl e ↦ ap b (sym e) ∙ b0
-    | inr d ↦ grind arith
-  ]
+  holds_ends b p b0 b1 w l = grind (arith, cases_eq)
 
   joint : (p : ℕ × ℕ) (qs : List (ℕ × ℕ)) → ((q : ℕ × ℕ) → IsIn q (p ∷ qs) → IsIn q (p0 ∷ es)) → Joint g s xs (p ∷ qs)
   joint p [] f =

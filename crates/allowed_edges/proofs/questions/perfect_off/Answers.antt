@@ -29,14 +29,6 @@ repair-requires-clause-of c = c.in_ok-rest.ensures.of c.args.g.now c.requires.of
 pub completed-requires : goal.completed-requires
 completed-requires c = record { of = c.in_ok-rest.ensures.of c.args.g.now c.requires.of; within = c.requires.within; matching = c.in_ok-rest.ensures.matching c.args.g.now c.requires.of }
 
-pub returns-in-Some-clause-of : goal.returns-in-Some-clause-of
-returns-in-Some-clause-of c = λ m q.
-    let same : c.in-Some.found ≡ m = cc in
-    subst (λ (m : MatchingValue). IsOf c.args.g.now m) same (c.in_ok-found.ensures c.in-Some.found c.in-Some.is).of
-
-pub returns-in-Some-clause-perfect : goal.returns-in-Some-clause-perfect
-returns-in-Some-clause-perfect c = grind arith
-
 pub returns-in-Some-clause-none : goal.returns-in-Some-clause-none
 returns-in-Some-clause-none c = (
   (λ q. cc),

@@ -5,9 +5,6 @@ use Rattle.match_core.specs.Common.{MatchingValue, edges_of}
 use Rattle.allowed_edges.proofs.ThroughEdges.{edge_free, one_cut, one_glued, one_leaves}
 use Rattle.allowed_edges.proofs.questions.perfect_with_edge.Goals as goal
 
-pub perfect_off-requires-clause-within : goal.perfect_off-requires-clause-within
-perfect_off-requires-clause-within c = grind arith
-
 pub perfect_off-requires-clause-few : goal.perfect_off-requires-clause-few
 perfect_off-requires-clause-few c = grind (arith, one_leaves c.args.g.now c.keeps_limits.ensures.multigraph c.args.e c.requires.edge (mem c.empty.result) (mem c.with_ends-met.result))
 

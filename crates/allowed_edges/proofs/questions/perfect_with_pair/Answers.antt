@@ -1,12 +1,9 @@
-use Rattle.std.proofs.Common.{◌≡◌, ℕ, ◌==◌, ◌||◌, ap, ◌∙◌, subst, refl, eq-eqb, arith}
+use Rattle.std.proofs.Common.{◌≡◌, ℕ, ◌==◌, ◌||◌, ap, ◌∙◌, subst, refl, eq-eqb}
 use Rattle.counting.proofs.Common.{or_left, or_right, mem, none}
 use Rattle.graph_core.proofs.Common.{first_end, second_end, IsPerfect}
 use Rattle.match_core.specs.Common.{MatchingValue, edges_of}
 use Rattle.allowed_edges.proofs.ThroughEdges.{edge_free, second_free, two_cut, two_glued, two_leave}
 use Rattle.allowed_edges.proofs.questions.perfect_with_pair.Goals as goal
-
-pub perfect_off-requires-clause-within : goal.perfect_off-requires-clause-within
-perfect_off-requires-clause-within c = grind arith
 
 pub perfect_off-requires-clause-few : goal.perfect_off-requires-clause-few
 perfect_off-requires-clause-few c =

@@ -5,9 +5,6 @@ use Rattle.match_core.specs.Common.{edges_of}
 use Rattle.allowed_edges.specs.Leaving.{IsPerfectOff}
 use Rattle.allowed_edges.proofs.short_paths.with_one.Goals as goal
 
-pub misses_none-requires : goal.misses_none-requires
-misses_none-requires c = c.in_ok-found.ensures c.in-Some.found c.in-Some.is
-
 pub returns-then-misses_none : goal.returns-then-misses_none
 returns-then-misses_none c = λ n q.
     let found = c.in_ok-found.ensures c.in-Some.found c.in-Some.is in

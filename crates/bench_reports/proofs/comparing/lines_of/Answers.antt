@@ -1,5 +1,4 @@
-use Rattle.std.proofs.Common.{◌≡◌, ◌∙◌, ℕ, List, Some, map, length, slice_get, ap, arith}
-use Rattle.std.specs.Option.{option_map}
+use Rattle.std.proofs.Common.{◌≡◌, ◌∙◌, ℕ, List, Some, map, length, slice_get, ap, arith, option_map}
 use Rattle.std.specs.Vec.Iter.{into_iter_items}
 use Rattle.counting.proofs.Common.{append-nil, length-map}
 use Rattle.std.proofs.lemmas.Option.{slice_get-map}

@@ -1,5 +1,4 @@
-use Rattle.std.proofs.Common.{◌≡◌, ◌∙◌, ◌-◌, Some, ap, sym, arith}
-use Rattle.std.specs.Option.{option_map}
+use Rattle.std.proofs.Common.{◌≡◌, ◌∙◌, ◌-◌, Some, ap, sym, arith, option_map}
 use Rattle.std.proofs.lemmas.Option.{none-some}
 use Rattle.tree_core.proofs.Common.{moves_of, shape_of}
 use Rattle.bench_outcomes.specs.Common.{made_by}

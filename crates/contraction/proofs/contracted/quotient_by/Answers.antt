@@ -1,5 +1,5 @@
-use Rattle.std.proofs.Common.{◌≡◌, arith, subst}
-use Rattle.graph_core.proofs.Common.{AreBlocks, Graph, IsWithinLimits}
+use Rattle.std.proofs.Common.{◌≡◌, arith}
+use Rattle.graph_core.proofs.Common.{Graph, IsWithinLimits}
 use Rattle.contraction.specs.Contracted.{ContractedValue, KeepsContraction, contraction}
 use Rattle.contraction.specs.Partition.{KeepsPartition, PartitionValue}
 use Rattle.contraction.proofs.QuotientValues.{contraction-same, ends-graph, few-blocks, length-ends, pairs-limits, pairs-once}
@@ -16,12 +16,7 @@ pub of-requires-clause-few : goal.of-requires-clause-few
 of-requires-clause-few c = let n = length-ends c.args.g.now c.args.p.now.blocks c.len-order.result c.args.ends.now c.len-order.ensures c.requires.ends in let m = c.keeps_limits.ensures.edges in omega arith
 
 pub of-requires-clause-graph : goal.of-requires-clause-graph
-of-requires-clause-graph c = ends-graph c.args.g.now c.args.p.now.blocks c.len-order.result c.args.ends.now c.len-order.ensures c.requires.ends c.keeps_limits.ensures.multigraph.ends
-    (subst (λ n. AreBlocks n c.args.p.now.blocks) c.requires.order c.keeps_partition.ensures.partition.partition)
-
-pub remember-requires-clause-apart : goal.remember-requires-clause-apart
-remember-requires-clause-apart c = (pairs-limits c.args.g.now c.args.p.now.blocks c.len-order.result c.args.ends.now c.len-order.ensures c.requires.ends c.args.pairs.now c.requires.pairs
-    (few-blocks c.args.p.now c.len-order.result c.keeps_partition.ensures c.len-order.ensures) c.keeps_limits.ensures.edges).multigraph.no_loop
+of-requires-clause-graph c = grind (arith, ends-graph)
 
 pub remember-requires-clause-once : goal.remember-requires-clause-once
 remember-requires-clause-once c = pairs-once c.args.g.now c.args.p.now.blocks c.len-order.result c.args.ends.now c.len-order.ensures c.requires.ends c.args.pairs.now c.requires.pairs

@@ -1,5 +1,4 @@
-use Rattle.std.proofs.Common.{◌≡◌, ◌||◌, ◌∙◌, ap, not, Bool, Option, ℕ, arith}
-use Rattle.std.specs.Prelude.{is_none, is_some}
+use Rattle.std.proofs.Common.{◌≡◌, ◌||◌, ◌∙◌, ap, not, Bool, Option, ℕ, arith, is_none, is_some}
 use Rattle.counting.proofs.Common.{mem}
 use Rattle.match_search.specs.Common.{marks}
 use Rattle.ear_core.proofs.FaultPlaces.{none-found}

@@ -1,5 +1,4 @@
-use Rattle.std.proofs.Common.{◌≡◌, ℕ, List, [], ◌∷◌, ◌++◌, append-nil, codes, refl, rules}
-use Rattle.std.specs.Fmt.{decimal}
+use Rattle.std.proofs.Common.{◌≡◌, ℕ, List, [], ◌∷◌, ◌++◌, append-nil, codes, refl, rules, decimal}
 use Rattle.outside.specs.declared.sink.SinkFailed.{SinkFailed}
 use Rattle.front_words.specs.NodePlaces.{numbers_text}
 use Rattle.front_words.proofs.Sayings.{says_passed, says_step}

@@ -18,10 +18,7 @@ returns-in_err-add_chosen-clause-limit c =
     (c.args.graph.now.ends ++ chosen pairs bits) c.in_err-add_chosen.field-0.0 (sym step ∙ c.loop-i.invariant.ends) c.in_err-add_chosen.ensures.limit)
 
 pub loop-i-preserved : goal.loop-i-preserved
-loop-i-preserved c =
-    let many = length-bits_of c.args.«data».now in
-    let step = column_read_more c.loop-i.graph.ends c.args.before c.loop-i.i c.args.from (bits_of c.args.«data».now) c.is_set.result c.loop-i-test.true (omega arith) c.is_set.ensures in
-    grind (arith, step)
+loop-i-preserved c = grind (arith, length-bits_of, column_read_more)
 
 pub returns-clause-ends : goal.returns-clause-ends
 returns-clause-ends c =

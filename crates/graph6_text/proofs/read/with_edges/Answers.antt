@@ -30,12 +30,4 @@ returns-in_err-add_column-clause-limit c =
     (ap (λ (edges : List (ℕ × ℕ)). edges ++ front.0) next ∙ front.1) c.in_err-add_column.ensures.limit)
 
 pub loop-i-preserved : goal.loop-i-preserved
-loop-i-preserved c =
-    let bits = bits_of c.args.«data».now in
-    let next = length-next c.loop-i.i in
-    record {
-      order = c.in_ok-add_column.ensures.order ∙ c.loop-i.invariant.order;
-      ends = c.in_ok-add_column.ensures.ends ∙ columns_chosen_more c.loop-i.graph.ends c.loop-i.i bits (drop c.loop-i.from bits) c.loop-i.invariant.ends (ap (λ (k : ℕ). drop k bits) c.loop-i.invariant.place);
-      place = omega arith;
-      size = c.in_ok-add_column.ensures.size;
-    }
+loop-i-preserved c = grind (arith, length-next, columns_chosen_more)

@@ -55,5 +55,4 @@ flooding-preserved c = λ g is are.
     (λ v w. sym (gone at v)))
 
 pub returns : goal.returns
-returns c = λ g is are.
-    c.from_items.ensures ∙ parts_end g (mem c.args.removed) is (mem c.flooding.left) c.flooding.parts.items (c.flooding.invariant g is are) (λ v. ap (λ xs. mem xs v) c.in_default.ensures.none)
+returns c = grind (arith, parts_end, mem)

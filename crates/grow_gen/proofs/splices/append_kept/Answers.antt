@@ -1,4 +1,4 @@
-use Rattle.std.proofs.Common.{◌≡◌, ◌∙◌, ◌+◌, ◌<◌, ◌++◌, ◌∷◌, [], ℕ, true, false, not, cond, List, length, map, filter, take, get_or, ap, append_assoc, ne_eqb, arith}
+use Rattle.std.proofs.Common.{◌≡◌, ◌∙◌, ◌+◌, ◌<◌, ◌++◌, ◌∷◌, [], ℕ, false, not, cond, List, length, map, filter, take, get_or, ap, append_assoc, ne_eqb, arith}
 use Rattle.counting.proofs.Common.{map-append}
 use Rattle.std.proofs.lemmas.List.Elements.{filter_more}
 use Rattle.graph_core.proofs.Common.{pair_of}
@@ -18,13 +18,4 @@ module _ (n w : ℕ) (items : List (ℕ × ℕ)) (k : ℕ) (d : ℕ × ℕ) (l :
       ∙ map-append (renumbered_edge n w) (filter (λ e. not (is_at 1 e)) (take k items)) (get_or items k d ∷ [])
 
 pub loop-a-preserved : goal.loop-a-preserved
-loop-a-preserved c =
-    let items = c.ends-a-items.result.now in
-    let k = c.loop-a.a-index in
-    let l = c.loop-a-test.true in
-    let first = map pair_of c.args.edges.now.items in
-    let e = get_or items k (0, 0) in
-    elim c.if-a-ne1.branch [
-      | then-a-ne1+then-b-ne1+in_ok-push w ↦ grind (arith, map-append, append_assoc, one_kept, ne_eqb)
-      | else-a-ne1 w ↦ grind arith
-    ]
+loop-a-preserved c = grind (arith, pair_of, get_or, then-a-ne1+then-b-ne1+in_ok-push, map-append, append_assoc, one_kept, ne_eqb, else-a-ne1)

@@ -1,5 +1,4 @@
-use Rattle.std.proofs.Common.{arith, ◌+◌, ◌∙◌, sym, length, rules}
-use Rattle.std.specs.Option.{option_map}
+use Rattle.std.proofs.Common.{arith, ◌+◌, ◌∙◌, sym, length, rules, option_map}
 use Rattle.line_text.specs.Common.{lines_of, words_of, state_after, reading_of}
 use Rattle.line_text.proofs.LineByLine.{reading_from-taken, reading_from-broken, reading_from-value, reading_from-ended, Fails-placed}
 use Rattle.line_text.proofs.LineCuts.{lines_of-nil}

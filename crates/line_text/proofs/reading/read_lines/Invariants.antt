@@ -1,5 +1,4 @@
-use Rattle.std.proofs.Common.{◌≡◌, ◌+◌, ◌≤◌, length}
-use Rattle.std.specs.Option.{option_map}
+use Rattle.std.proofs.Common.{◌≡◌, ◌+◌, ◌≤◌, length, option_map}
 use Rattle.line_text.specs.Common.{lines_of, significant_from, reading_from, reading_of}
 use Rattle.line_text.proofs.reading.read_lines.Given as goal
 

@@ -1,9 +1,5 @@
-use Rattle.std.proofs.Common.{arith}
 use Rattle.match_search.proofs.WholeGraphs.{limits_row}
 use Rattle.match_core.proofs.partner_table.mates_in.Goals as goal
 
 pub mates_of-requires-clause-row : goal.mates_of-requires-clause-row
 mates_of-requires-clause-row c = limits_row c.args.g.now c.order-n.result c.edges-ends.result.now c.order-n.ensures.is c.edges-ends.ensures.edges c.edges-ends.ensures.limits
-
-pub returns-clause-mates : goal.returns-clause-mates
-returns-clause-mates c = grind arith

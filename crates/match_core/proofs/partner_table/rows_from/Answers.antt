@@ -1,4 +1,4 @@
-use Rattle.std.proofs.Common.{◌≡◌, ℕ, List, true, sym, ◌∙◌, subst, arith, rules}
+use Rattle.std.proofs.Common.{◌≡◌, ℕ, List, true, sym, subst, arith, rules}
 use Rattle.counting.proofs.Common.{Within, mem}
 use Rattle.match_search.specs.Common.{ServesRows}
 use Rattle.match_core.specs.Common.{are_partners}
@@ -26,10 +26,4 @@ loop-k-preserved c = record {
 }
 
 pub returns : goal.returns
-returns c =
-    let all : c.loop-k.k ≡ c.args.g.now.order = (let end = c.loop-k.auto.k-end in let done = c.loop-k-test.false in let order_is = c.order-k-end.ensures.is in omega arith) in
-    record {
-      one_each = c.loop-k.invariant.long ∙ all;
-      within = λ u v w. c.loop-k.invariant.within u v (w.0, omega arith);
-      partner_is = λ u v w. c.loop-k.invariant.row u v (w.0, omega arith);
-    }
+returns c = grind arith

@@ -5,33 +5,12 @@ use Rattle.match_search.specs.Common.{marks, end_a, end_b, MeetOnce}
 use Rattle.match_search.proofs.GrownRows.{with_put}
 use Rattle.match_search.proofs.FirstMarks.{addable, empty_degree}
 use Rattle.match_search.proofs.Gluing.{meet_more, meet_none, mem-more, mem-take, mem-again, mem-take_all}
-use Rattle.match_search.proofs.WholeGraphs.{limits_ends, whole_pair, whole_size, whole_within}
+use Rattle.match_search.proofs.WholeGraphs.{whole_pair, whole_size, whole_within}
 use Rattle.match_core.proofs.questions.ends_met.Goals as goal
 use Rattle.match_core.proofs.questions.ends_met.Goals.{then-not-is_marked+else-not-is_addable, else-not-is_marked}
 
 pub loop-edge-init : goal.loop-edge-init
 loop-edge-init c = grind (arith, empty_degree c.args.g.now (marks c.in_ok-mark.mark.items) c.in_ok-mark.ensures.each)
-
-pub is_marked-requires : goal.is_marked-requires
-is_marked-requires c = grind (arith, whole_size c.args.g.now c.args.g.now.order c.edges-ends.result.now refl c.edges-ends.ensures.edges)
-
-pub bounds-ends-edge : goal.bounds-ends-edge
-bounds-ends-edge c = grind (arith, whole_size c.args.g.now c.args.g.now.order c.edges-ends.result.now refl c.edges-ends.ensures.edges)
-
-pub is_addable-requires-clause-a : goal.is_addable-requires-clause-a
-is_addable-requires-clause-a c = (limits_ends c.args.g.now c.args.g.now.order c.edges-ends.result.now refl c.edges-ends.ensures.edges c.edges-ends.ensures.limits (get_or c.args.edges.now c.loop-edge.edge-index 0) (c.requires c.loop-edge.edge-index 0 c.loop-edge-test.true)).0
-
-pub is_addable-requires-clause-b : goal.is_addable-requires-clause-b
-is_addable-requires-clause-b c = (limits_ends c.args.g.now c.args.g.now.order c.edges-ends.result.now refl c.edges-ends.ensures.edges c.edges-ends.ensures.limits (get_or c.args.edges.now c.loop-edge.edge-index 0) (c.requires c.loop-edge.edge-index 0 c.loop-edge-test.true)).1
-
-pub mark_place-requires : goal.mark_place-requires
-mark_place-requires c = grind (arith, whole_size c.args.g.now c.args.g.now.order c.edges-ends.result.now refl c.edges-ends.ensures.edges)
-
-pub with-requires : goal.with-requires
-with-requires c = (limits_ends c.args.g.now c.args.g.now.order c.edges-ends.result.now refl c.edges-ends.ensures.edges c.edges-ends.ensures.limits (get_or c.args.edges.now c.loop-edge.edge-index 0) (c.requires c.loop-edge.edge-index 0 c.loop-edge-test.true)).0
-
-pub with-met-requires : goal.with-met-requires
-with-met-requires c = (limits_ends c.args.g.now c.args.g.now.order c.edges-ends.result.now refl c.edges-ends.ensures.edges c.edges-ends.ensures.limits (get_or c.args.edges.now c.loop-edge.edge-index 0) (c.requires c.loop-edge.edge-index 0 c.loop-edge-test.true)).1
 
 pub returns-then-not-is_addable-clause-none : goal.returns-then-not-is_addable-clause-none
 returns-then-not-is_addable-clause-none c = λ q p.

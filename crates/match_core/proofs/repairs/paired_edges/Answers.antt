@@ -10,10 +10,7 @@ use Rattle.match_core.proofs.repairs.paired_edges.Goals.{then-is_first_of_pair, 
 use Rattle.match_core.proofs.repairs.paired_edges.Goals as goal
 
 pub loop-k-init : goal.loop-k-init
-loop-k-init c = record {
-  long = grind arith;
-  named = names_none c.args.n c.args.ends.now c.args.mate.now c.in_ok-at.at.items (λ v. ap (λ (xs : List ℕ). numbers xs v) (c.in_ok-at.ensures.items_if_clones_equal (λ y q. q)) ∙ no-mates (c.args.n + 1) v);
-}
+loop-k-init c = grind (arith, names_none, no-mates)
 
 first_parts : (p q s t : Bool) → (p && (not q && (s && t))) ≡ true → (p ≡ true) × (q ≡ false) × (s ≡ true) × (t ≡ true)
 first_parts p q s t h = grind arith

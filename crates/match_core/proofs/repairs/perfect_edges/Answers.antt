@@ -9,13 +9,7 @@ use Rattle.match_core.specs.Common.{NamesPerfect}
 use Rattle.match_core.proofs.repairs.perfect_edges.Goals as goal
 
 pub enlarge-requires-clause-holds : goal.enlarge-requires-clause-holds
-enlarge-requires-clause-holds c = (
-  graph_of c.args.n c.args.ends.now,
-  c.requires.mates.0,
-  row_graph c.args.n c.args.ends.now c.requires.row.within,
-  c.requires.neighbours,
-  subst (λ (row : List ℕ). HasMates (graph_of c.args.n c.args.ends.now) (mem c.args.removed) c.requires.mates.0 (numbers row)) (sym c.deref_mut.ensures.value) c.requires.mates.1,
-)
+enlarge-requires-clause-holds c = grind (arith, graph_of, row_graph, mem)
 
 pub returns-then-len-eq0-clause-perfect : goal.returns-then-len-eq0-clause-perfect
 returns-then-len-eq0-clause-perfect c = λ at q.
@@ -45,9 +39,4 @@ returns-then-len-eq0-clause-none c =
     ((λ q. absurd (cc)), (λ none. absurd (none (named.0, perfect))))
 
 pub returns-clause-none : goal.returns-clause-none
-returns-clause-none c =
-    let g = graph_of c.args.n c.args.ends.now in
-    let is = row_graph c.args.n c.args.ends.now c.requires.row.within in
-    let framed = c.in_ok-sets.ensures g c.requires.mates.0 is c.requires.neighbours (subst (λ (row : List ℕ). HasMates g (mem c.args.removed) c.requires.mates.0 (numbers row)) (sym c.deref_mut.ensures.value) c.requires.mates.1) in
-    let none = outer-mates_none g is (mem c.args.removed) c.enlarge.new.mate c.in_ok-sets.sets framed in
-    grind arith
+returns-clause-none c = grind (arith, graph_of, row_graph, mem, outer-mates_none)

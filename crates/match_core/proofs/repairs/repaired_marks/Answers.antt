@@ -1,17 +1,10 @@
-use Rattle.std.proofs.Common.{◌≡◌, ℕ, ◌+◌, ◌-◌, ◌/◌, Bool, true, List, length, sym, ap, ◌∙◌, subst, arith}
+use Rattle.std.proofs.Common.{◌≡◌, ℕ, ◌+◌, ◌-◌, ◌/◌, Bool, true, List, length, sym, ap, ◌∙◌, subst}
 use Rattle.counting.proofs.Common.{fun_ext, Set, put, mem}
 use Rattle.graph_core.proofs.Common.{IsPerfect, graph_of}
 use Rattle.match_search.specs.Common.{flipped, marks, numbers, part, DiffersByPath, IsRepairRow, Misses}
-use Rattle.match_search.proofs.GraphRows.{row_graph, size_is}
+use Rattle.match_search.proofs.GraphRows.{row_graph}
 use Rattle.match_core.proofs.RepairedPaths.{flipped_row, repaired_path}
 use Rattle.match_core.proofs.repairs.repaired_marks.Goals as goal
-
-pub flipped_along-requires-clause-in_mark : goal.flipped_along-requires-clause-in_mark
-flipped_along-requires-clause-in_mark c =
-    let p = subst (λ (xs : List Bool). (x : ℕ) × Misses (graph_of c.args.n c.args.ends.now) (mem c.args.removed) (marks xs) x × IsRepairRow (graph_of c.args.n c.args.ends.now) (mem c.args.removed) (marks xs) x c.in_ok-edges.edges.items) c.deref.ensures.value c.in_ok-edges.ensures in
-    let long = c.requires.long in
-    let size = size_is c.args.n c.args.ends.now in
-    grind arith
 
 pub returns-clause-perfect : goal.returns-clause-perfect
 returns-clause-perfect c =

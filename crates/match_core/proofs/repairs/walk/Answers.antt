@@ -15,9 +15,6 @@ mate_at-requires-clause-within c =
     let here = here_within q.0 q.1 q.2 q.3 c.args.ends.now c.args.at.now c.args.other.now c.args.x q.4 c.walking.edges.items c.walking.v (c.walking.invariant q.0 q.1 q.2 q.3 q.4) in
     let long = q.4.other_long in omega arith
 
-pub mate_at-requires-clause-real : goal.mate_at-requires-clause-real
-mate_at-requires-clause-real c = λ some. (c.requires.4.other_named.met c.walking.v some).0
-
 pub unreachable-requires : goal.unreachable-requires
 unreachable-requires c =
     let q = c.requires in
@@ -25,12 +22,6 @@ unreachable-requires c =
     (here_within q.0 q.1 q.2 q.3 c.args.ends.now c.args.at.now c.args.other.now c.args.x q.4 c.walking.edges.items c.walking.v (c.walking.invariant q.0 q.1 q.2 q.3 q.4))
     (here_outside q.0 q.1 q.2 q.3 c.args.ends.now c.args.at.now c.args.other.now c.args.x q.4 c.walking.edges.items c.walking.v (c.walking.invariant q.0 q.1 q.2 q.3 q.4))
     (c.mate_at.ensures.none c.in-None.is))
-
-pub mate_at-requires-in-walking-clause-within : goal.mate_at-requires-in-walking-clause-within
-mate_at-requires-in-walking-clause-within c = grind arith
-
-pub mate_at-requires-in-walking-clause-real : goal.mate_at-requires-in-walking-clause-real
-mate_at-requires-in-walking-clause-real c = λ some. (c.requires.4.named.met c.in-Some.next.vertex some).0
 
 pub returns-in-None-mate_at : goal.returns-in-None-mate_at
 returns-in-None-mate_at c = λ n r m w h.

@@ -3,15 +3,7 @@ use Rattle.counting.proofs.Common.{both_ways, IfOk-weaker, mem, Set}
 use Rattle.graph_core.proofs.Common.{Graph, IsGraph, AreRows}
 use Rattle.match_search.specs.Common.{HasFrame, HasMates, HoldsMatching, numbers}
 use Rattle.match_search.proofs.GreedyMates.{empty-mem, empty_frame}
-use Rattle.match_search.proofs.Instances.{left_parts}
 use Rattle.match_search.proofs.best.enlarge.Goals as goal
-
-pub last_frame-requires-clause-candidates : goal.last_frame-requires-clause-candidates
-last_frame-requires-clause-candidates c = λ v l z.
-    let q = c.requires.holds in
-    let w = left_parts q.0 (mem c.args.removed) c.in_ok-instance.instance (c.in_ok-instance.ensures q.0 q.2 q.3) v l in
-    let each = q.3.one_each in
-    let here = w.0 in c.requires.exposed v (omega arith) w.1 z
 
 pub returns-then-len-eq0 : goal.returns-then-len-eq0
 returns-then-len-eq0 c = λ g f is rows has.

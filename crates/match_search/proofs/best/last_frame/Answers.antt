@@ -2,28 +2,8 @@ use Rattle.std.proofs.Common.{◌<◌, ◌==◌, ◌&&◌, arith, sym, ap, subst
 use Rattle.counting.proofs.Common.{count, mem}
 use Rattle.match_search.specs.Common.{IsMateStep, Frame, numbers}
 use Rattle.match_search.proofs.AugmentedMates.{fewer_left, held_again, left_is}
-use Rattle.match_search.proofs.Instances.{alike_self, alike_then, left_parts}
+use Rattle.match_search.proofs.Instances.{alike_then, left_parts}
 use Rattle.match_search.proofs.best.last_frame.Goals as goal
-
-pub augmenting-init : goal.augmenting-init
-augmenting-init c = record {
-  held = λ g r f held. (f, held);
-  sized = grind arith;
-  alike = alike_self c.args.instance.now;
-  exposed = c.requires.candidates;
-}
-
-pub augment_once-requires-clause-holds : goal.augment_once-requires-clause-holds
-augment_once-requires-clause-holds c =
-    let q = c.requires.holds in
-    let m = c.augmenting.invariant.held q.0 q.1 q.2 q.3 in (q.0, q.1, m.0, m.1)
-
-pub augment_once-requires-clause-sized : goal.augment_once-requires-clause-sized
-augment_once-requires-clause-sized c =
-    let long = c.augmenting.invariant.alike.rows_long in
-    let sized = c.augmenting.invariant.sized in
-    let parents = sized.parents_long in
-    record { parents_long = omega arith }
 
 pub augmenting-smaller : goal.augmenting-smaller
 augmenting-smaller c =
@@ -66,6 +46,3 @@ returns-in-Final-clause-frame c = λ g r f held.
       frame = subst (λ k. Frame g r k (mem c.in-Final.sets.outer) (mem c.in-Final.sets.inner)) (sym s.answer.0) s.answer.1;
       vertices = s.answer.2;
     }
-
-pub returns-in-Final-clause-restored : goal.returns-in-Final-clause-restored
-returns-in-Final-clause-restored c = alike_then c.args.instance.now c.augmenting.instance c.augment_once.new.instance c.augmenting.invariant.alike c.in_ok-augment_once.ensures.restored

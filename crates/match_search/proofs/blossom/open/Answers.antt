@@ -31,9 +31,7 @@ pair_round-requires-2-clause-few c =
     let same = ap (λ (row : List ℕ). length row) c.deref-3.ensures.value in omega arith
 
 pub near-requires-clause-vertex : goal.near-requires-clause-vertex
-near-requires-clause-vertex c =
-    let out = outside (goal.at.near-requires-clause-vertex c).Else-outside-eq0 in
-    let each = c.requires.5.instance_is.one_each in omega arith
+near-requires-clause-vertex c = grind (arith, outside)
 
 pub join-requires-clause-v_in : goal.join-requires-clause-v_in
 join-requires-clause-v_in c =

@@ -9,11 +9,7 @@ use Rattle.match_search.proofs.growing.grow_forest.Goals as goal
 use Rattle.match_search.proofs.growing.grow_forest.Goals.{In-Some-first-2}
 
 pub near-requires-clause-vertex : goal.near-requires-clause-vertex
-near-requires-clause-vertex c =
-    let q = c.requires in
-    let grows = c.growing.invariant q.0 q.1 q.2 q.3 in
-    let w = (grows.holds.forest.outer_in c.in-Some.x (grows.active_outer c.in-Some.x c.in-Some.ensures.some.member)).0 in
-    let e = q.3.matching.instance_is.one_each in omega arith
+near-requires-clause-vertex c = grind arith
 
 pub returns-in-Some-first : goal.returns-in-Some-first
 returns-in-Some-first c = λ g r f is.

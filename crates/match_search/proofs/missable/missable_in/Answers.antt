@@ -1,8 +1,8 @@
 use Rattle.std.proofs.Common.{List, ℕ, sym, subst, ap, ◌∙◌, length}
 use Rattle.counting.proofs.Common.{singleton, union}
-use Rattle.match_search.specs.Common.{HoldsMatching, IsSized, MayBeExposed}
+use Rattle.match_search.specs.Common.{HoldsMatching, MayBeExposed}
 use Rattle.match_search.proofs.Instances.{left_parts}
-use Rattle.match_search.proofs.MissableRows.{exposed_without, held_without, serves_again, sized_rows, written_long}
+use Rattle.match_search.proofs.MissableRows.{exposed_without, held_without, serves_again, written_long}
 use Rattle.match_search.proofs.missable.missable_in.Goals as goal
 
 pub outer_of_one-requires-clause-holds : goal.outer_of_one-requires-clause-holds
@@ -11,9 +11,6 @@ outer_of_one-requires-clause-holds c =
     let wu = (left_parts q.0 q.1 c.args.instance.now q.3.instance_is c.args.u c.requires.left).0 in
     let h = held_without q.0 q.1 q.2 c.args.u c.args.instance.now c.args.mate.now c.begin_row-candidates.new.self.own.items c.without-instance.result q.3 wu c.without-instance.ensures c.begin_row-candidates.ensures.long c.begin_row-candidates.ensures.own in
     (q.0, union q.1 (singleton c.args.u), h.0, subst (λ (row : List ℕ). HoldsMatching q.0 (union q.1 (singleton c.args.u)) h.0 (record c.args.instance.now { left = c.without-instance.result }) row) (sym c.deref_mut.ensures.value) h.1)
-
-pub outer_of_one-requires-clause-sized : goal.outer_of_one-requires-clause-sized
-outer_of_one-requires-clause-sized c = subst (IsSized (length c.args.instance.now.rows.items)) (sym c.begin_row-candidates.ensures.forest) (sized_rows c.requires.holds.0 c.requires.holds.1 c.requires.holds.2 c.args.instance.now c.args.mate.now c.args.space.now c.requires.holds.3 c.requires.space)
 
 pub outer_of_one-requires-clause-candidates : goal.outer_of_one-requires-clause-candidates
 outer_of_one-requires-clause-candidates c =

@@ -83,15 +83,13 @@ pub returns-in-None-clause-restored : goal.returns-in-None-clause-restored
 returns-in-None-clause-restored t c = alike_self c.args.instance.now
 
 pub returns-in-None-clause-sized : goal.returns-in-None-clause-sized
-returns-in-None-clause-sized t c =
-    let q = c.requires in grows_sized q.0 q.1 q.2 c.args.instance.now c.args.mate.now c.grow_forest.new.forest (c.grow_forest.ensures q.0 q.1 q.2 q.3).grows
+returns-in-None-clause-sized t c = grind (arith, grows_sized)
 
 pub returns-then-is_subset-clause-restored : goal.returns-then-is_subset-clause-restored
 returns-then-is_subset-clause-restored t c = alike_self c.args.instance.now
 
 pub returns-then-is_subset-clause-sized : goal.returns-then-is_subset-clause-sized
-returns-then-is_subset-clause-sized t c =
-    let q = c.requires in grows_sized q.0 q.1 q.2 c.args.instance.now c.args.mate.now c.grow_forest.new.forest (c.grow_forest.ensures q.0 q.1 q.2 q.3).grows
+returns-then-is_subset-clause-sized t c = grind (arith, grows_sized)
 
 pub returns-then-is_subset-clause-outer : goal.returns-then-is_subset-clause-outer
 returns-then-is_subset-clause-outer t c = λ g r f grows one.

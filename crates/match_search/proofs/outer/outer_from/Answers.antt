@@ -1,8 +1,5 @@
-use Rattle.match_search.proofs.Flowers.{root_grows, root_within}
+use Rattle.match_search.proofs.Flowers.{root_grows}
 use Rattle.match_search.proofs.outer.outer_from.Goals as goal
-
-pub one-requires : goal.one-requires
-one-requires c = let q = c.requires.rooted in root_within q.0 q.1 q.2 c.args.instance.now c.args.mate.now c.args.root q.3
 
 pub outer_on-requires : goal.outer_on-requires
 outer_on-requires c =

@@ -26,6 +26,4 @@ climbing-preserved c =
     record { outer = next.outer; counted = λ h. let less = next.pairs h in let counted = c.climbing.invariant.counted h in omega arith }
 
 pub returns : goal.returns
-returns c = λ h.
-    let none = root_pairs c.args.mate.now c.args.forest.now h c.climbing.at c.climbing.invariant.outer c.climbing-test.false in
-    let counted = c.climbing.invariant.counted h in omega arith
+returns c = grind (arith, root_pairs)

@@ -6,9 +6,6 @@ use Rattle.match_search.proofs.ForestWalks.{closed_forest}
 use Rattle.match_search.proofs.paths.paths_to.Goals as goal
 use Rattle.match_search.proofs.paths.paths_to.Goals.{After-pairs_to-second}
 
-pub pairs_to-first-requires-clause-forest : goal.pairs_to-first-requires-clause-forest
-pairs_to-first-requires-clause-forest c = let q = c.requires in closed_forest q.0 q.1 q.2 c.args.mate.now c.args.forest.now c.args.bridge q.3
-
 short : (c : After-pairs_to-second) → (c.pairs_to-first.result + c.pairs_to-first.result < 128) × (c.pairs_to-second.result + c.pairs_to-second.result < 128)
 short c =
     let q = c.requires in

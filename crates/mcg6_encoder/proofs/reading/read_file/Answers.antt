@@ -1,6 +1,5 @@
-use Rattle.std.proofs.Common.{◌≡◌, ◌≤◌, ℕ, List, ap, [], length, take, rules, arith}
+use Rattle.std.proofs.Common.{◌≡◌, ◌≤◌, ℕ, List, ap, [], length, take, rules, arith, Some, None}
 use Rattle.std.proofs.lemmas.List.{length-take-le}
-use Rattle.std.specs.declared.option.Option.TheVariants.{Some, None}
 use Rattle.outside.specs.Common.{prepended, IsEnd, most_bytes}
 use Rattle.mcg6_encoder.specs.Reads.{most_piece}
 use Rattle.mcg6_encoder.proofs.ReadsSoFar.{left_past, left_whole, read_none, read_past, read_some, read_torn, read_whole, so_far_none, so_far_piece}

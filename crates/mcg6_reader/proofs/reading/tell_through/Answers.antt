@@ -1,5 +1,4 @@
-use Rattle.std.proofs.Common.{◌≡◌, [], inr, refl, take, rules, arith}
-use Rattle.std.specs.declared.option.Option.TheVariants.{Some, None}
+use Rattle.std.proofs.Common.{◌≡◌, [], inr, refl, take, rules, arith, Some, None}
 use Rattle.outside.specs.Common.{prepended, IsEnd}
 use Rattle.mcg6_reader.specs.declared.ending.Ending.TheVariants.{ReadFault, Memory}
 use Rattle.mcg6_reader.proofs.Readings.{so_far_none, so_far_piece, so_far_stops, so_far_end, so_far_begun, so_far_torn}

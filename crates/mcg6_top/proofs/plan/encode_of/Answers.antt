@@ -1,6 +1,5 @@
-use Rattle.std.proofs.Common.{◌≡◌, ◌≤◌, ℕ, List, length, string_bytes, arith}
+use Rattle.std.proofs.Common.{◌≡◌, ◌≤◌, ℕ, List, length, string_bytes, arith, None}
 use Rattle.std.proofs.lemmas.List.{length-map}
-use Rattle.std.specs.declared.option.Option.TheVariants.{None}
 use Rattle.mcg6_top.specs.Common.{encode_of}
 use Rattle.mcg6_top.proofs.plan.encode_of.Goals as goal
 

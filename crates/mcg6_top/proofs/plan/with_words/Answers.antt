@@ -1,6 +1,5 @@
-use Rattle.std.proofs.Common.{◌≡◌, ◌≤◌, ℕ, List, length, string_bytes, arith}
+use Rattle.std.proofs.Common.{◌≡◌, ◌≤◌, ℕ, List, length, string_bytes, arith, None}
 use Rattle.std.proofs.lemmas.List.{length-map}
-use Rattle.std.specs.declared.option.Option.TheVariants.{None}
 use Rattle.mcg6_lines.specs.declared.query.Query.{Query}
 use Rattle.mcg6_top.specs.Common.{command_with}
 use Rattle.mcg6_top.proofs.plan.with_words.Goals as goal

@@ -1,4 +1,4 @@
-use Rattle.std.proofs.Common.{[], sym, subst, List}
+use Rattle.std.proofs.Common.{subst, List}
 use Rattle.mcg6_reader.specs.Common.{Added, Reports, TellsList}
 use Rattle.mcg6_reader.specs.declared.ending.BadLine.{BadLine}
 use Rattle.mcg6_top.specs.Common.{SkipsUpTo, TellsOrSkips, StopsAt, SkipsLine, lacks_of}

@@ -1,5 +1,4 @@
-use Rattle.std.proofs.Common.{subst, sym}
-use Rattle.std.specs.declared.option.Option.TheVariants.{Some, None}
+use Rattle.std.proofs.Common.{subst, sym, Some, None}
 use Rattle.mcg6_top.specs.Common.{ListRuns}
 use Rattle.mcg6_top.specs.declared.status.ListStatus.{ListStatus}
 use Rattle.mcg6_top.proofs.Ended.{runs_by_status}

@@ -1,5 +1,4 @@
-use Rattle.std.proofs.Common.{ap, sym, ◌∙◌, eqb-true, length, fold}
-use Rattle.std.specs.Option.{option_map}
+use Rattle.std.proofs.Common.{ap, sym, ◌∙◌, eqb-true, length, fold, option_map}
 use Rattle.std.proofs.lemmas.List.{nil_from_length}
 use Rattle.graph_core.proofs.Common.{with_cut}
 use Rattle.separation_kit.specs.Common.{pair_of, shores_at_pair}

@@ -1,5 +1,4 @@
-use Rattle.std.proofs.Common.{◌∙◌, ap, sym, arith}
-use Rattle.std.specs.Option.{option_map}
+use Rattle.std.proofs.Common.{◌∙◌, ap, sym, arith, option_map}
 use Rattle.tight_cuts.specs.Common.{IsCandidateAt, candidates_at, candidate_of}
 use Rattle.tight_cuts.proofs.FirstCandidates.{first-empty, first-one}
 use Rattle.tight_cuts.proofs.PartitionCandidates.{found-at, none-at}

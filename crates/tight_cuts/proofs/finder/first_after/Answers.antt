@@ -1,5 +1,4 @@
-use Rattle.std.proofs.Common.{◌∙◌, ap, sym, arith}
-use Rattle.std.specs.Option.{option_map}
+use Rattle.std.proofs.Common.{◌∙◌, ap, sym, arith, option_map}
 use Rattle.tight_cuts.specs.Common.{front_candidates, candidate_of}
 use Rattle.tight_cuts.proofs.FirstCandidates.{first-front, first-nil}
 use Rattle.tight_cuts.proofs.FrontEmpty.{front_empty}

@@ -1,5 +1,4 @@
-use Rattle.std.proofs.Common.{◌∙◌, ap, sym, arith}
-use Rattle.std.specs.Option.{option_map}
+use Rattle.std.proofs.Common.{◌∙◌, ap, sym, arith, option_map}
 use Rattle.graph_core.proofs.Common.{Graph}
 use Rattle.tight_cuts.specs.Common.{IsTightCandidate, candidates, first_of, candidate_of}
 use Rattle.tight_cuts.proofs.Completeness.{candidates_found, candidates_none}

@@ -7,8 +7,7 @@ pub loop-place-init : goal.loop-place-init
 loop-place-init c g ps are = subst (AreLeafKinds g (take 0 ps)) (sym c.new-kinds.ensures.items) (no-kinds g ps)
 
 pub loop-place-preserved : goal.loop-place-preserved
-loop-place-preserved c g ps are =
-    kinds-further g ps c.args.leaves.now c.loop-place.place-index c.place-item.result c.loop-place.kinds.items c.push.new.self.items c.kind.result c.loop-place-test.true c.place-item.is are (c.loop-place.invariant g ps are) c.kind.ensures c.in_ok-push.ensures.items
+loop-place-preserved c g ps are = grind (arith, kinds-further)
 
 pub returns : goal.returns
 returns c g ps are = kinds-of_all g ps c.args.leaves.now c.loop-place.place-index c.loop-place.kinds.items are (omega arith) (c.loop-place.invariant g ps are)

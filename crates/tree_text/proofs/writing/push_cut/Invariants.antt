@@ -1,5 +1,4 @@
-use Rattle.std.proofs.Common.{◌≡◌, ◌++◌, codes, length, map, string_bytes}
-use Rattle.std.specs.Fmt.{decimal}
+use Rattle.std.proofs.Common.{◌≡◌, ◌++◌, codes, length, map, string_bytes, decimal}
 use Rattle.line_text.proofs.WrittenLines.{spaced}
 use Rattle.tree_text.proofs.writing.push_cut.Given as goal
 

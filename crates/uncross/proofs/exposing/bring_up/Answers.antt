@@ -1,5 +1,4 @@
-use Rattle.std.proofs.Common.{◌≡◌, ◌∙◌, List, None, Option, Some, ap, arith, subst, sym, unwrap_or, ℕ}
-use Rattle.std.specs.Option.{option_map}
+use Rattle.std.proofs.Common.{◌≡◌, ◌∙◌, List, None, Option, Some, ap, arith, subst, sym, unwrap_or, ℕ, option_map}
 use Rattle.graph_core.proofs.Common.{Graph, singles}
 use Rattle.tree_core.proofs.Common.{PlaceValue, Shape, moves_of, shape_of}
 use Rattle.tree_core.specs.declared.moves.Move.{Move}

@@ -1,4 +1,4 @@
-use Rattle.std.proofs.Common.{◌≡◌, ◌-◌, ◌||◌, ◌&&◌, ◌==◌, ℕ, [], ap, ◌∙◌, arith, inl, inr, length, not}
+use Rattle.std.proofs.Common.{◌≡◌, ◌-◌, ◌||◌, ◌&&◌, ◌==◌, ℕ, [], ap, ◌∙◌, arith, length, not}
 use Rattle.counting.proofs.Common.{get_or_read, mem, Within}
 use Rattle.vset_core.specs.Floods.{leads}
 use Rattle.vset_core.proofs.Floods.{flooding_step, flooding_less, flooding_end}
@@ -30,5 +30,4 @@ flooding-preserved c =
     c.flooding.invariant c.in-Some.ensures.some (row_is at) c.meet-new.ensures c.minus-rest-in-Some.ensures (open_is at) c.with_inner-inner.ensures.kept c.with_inner-inner.ensures.own
 
 pub returns : goal.returns
-returns c = flooding_end c.args.rows.now (mem c.args.within) (mem c.args.roots) (mem c.flooding.inner) (mem c.flooding.rest) (mem c.flooding.open) (mem c.minus-found.result) c.flooding.invariant
-    (elim c.in_default.ensures.none [ inl e ↦ inl (λ v. ap (λ xs. mem xs v) e) | inr e ↦ inr (λ v. ap (λ xs. mem xs v) e) ]) c.minus-found.ensures
+returns c = grind (arith, flooding_end, mem)

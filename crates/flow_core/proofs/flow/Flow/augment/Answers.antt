@@ -4,15 +4,8 @@ use Rattle.std.proofs.lemmas.Int.{to_z-of_z}
 use Rattle.flow_core.specs.Common.{visit_at}
 use Rattle.flow_core.proofs.Duality.{Fits-length}
 use Rattle.flow_core.proofs.SearchTrees.{room-below}
-use Rattle.flow_core.proofs.Pushing.{IsPushed, push-within, IsPushed-step, pushed-flow, flow-below}
+use Rattle.flow_core.proofs.Pushing.{IsPushed, IsPushed-step, pushed-flow, flow-below}
 use Rattle.flow_core.proofs.flow.Flow.augment.Goals as goal
-
-pub sent_over-amount-requires-clause-arc : goal.sent_over-amount-requires-clause-arc
-sent_over-amount-requires-clause-arc c = (c.requires.tree.each c.pushing.at c.pushing-test.true c.pushing.invariant.pushed.long).step.is_arc
-
-pub sent_over-amount-requires-clause-room : goal.sent_over-amount-requires-clause-room
-sent_over-amount-requires-clause-room c =
-    push-within c.args.net.now c.requires.bounded.arcs c.args.self.now.on c.pushing.self.on c.args.visits.now c.requires.tree (visit_at c.args.visits.now (length c.args.visits.now - 1)).room c.pushing.at c.pushing.invariant.pushed c.pushing-test.true
 
 pub sent_over-amount-requires-clause-small : goal.sent_over-amount-requires-clause-small
 sent_over-amount-requires-clause-small c = room-below c.args.net.now c.args.self.now.on c.args.visits.now c.requires.tree (length c.args.visits.now - 1) (let s = c.requires.tree.some in omega arith)
@@ -37,9 +30,3 @@ pushing-preserved c = record {
 
 pub overflow_add-self : goal.overflow_add-self
 overflow_add-self c = grind (arith, pushed-flow, flow-below)
-
-pub returns-clause-flow : goal.returns-clause-flow
-returns-clause-flow c = grind arith
-
-pub returns-clause-more : goal.returns-clause-more
-returns-clause-more c = grind arith

@@ -1,7 +1,7 @@
 use Rattle.std.proofs.Common.{ap₂, ◌∙◌, arith, to_z, of_z, ℤ}
 use Rattle.flow_core.specs.Common.{Arc, room_from}
 use Rattle.flow_core.proofs.Duality.{Fits-length}
-use Rattle.flow_core.proofs.Reading.{amount-fits, amount-read, capacity-below}
+use Rattle.flow_core.proofs.Reading.{amount-fits, amount-read}
 use Rattle.flow_core.proofs.net.Net.room_over.Goals as goal
 
 pub get-requires : goal.get-requires
@@ -9,9 +9,6 @@ get-requires c = let l = Fits-length c.args.self.now.arcs c.args.amounts.now c.r
 
 pub room-requires-clause-within : goal.room-requires-clause-within
 room-requires-clause-within c = grind (arith, amount-fits, to_z, of_z, amount-read)
-
-pub room-requires-clause-below : goal.room-requires-clause-below
-room-requires-clause-below c = grind (arith, capacity-below c.args.self.now c.requires.bounded c.args.i c.requires.arc)
 
 pub returns : goal.returns
 returns c = c.room.ensures ∙ ap₂ (λ (arc : Arc) (z : ℤ). room_from c.args.node arc z) c.arc.ensures (amount-read c.args.amounts.now c.args.i c.get.result (record { sfits = c.get.type_inv }) c.get.ensures)

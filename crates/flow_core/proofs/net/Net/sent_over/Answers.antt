@@ -2,7 +2,7 @@ use Rattle.std.proofs.Common.{ap₂, ◌∙◌, arith, w64, of_z, ℤ}
 use Rattle.std.proofs.lemmas.Int.{to_z-of_z}
 use Rattle.flow_core.specs.Common.{Arc, sent_amount}
 use Rattle.flow_core.proofs.Duality.{Fits-length}
-use Rattle.flow_core.proofs.Reading.{amount-fits, amount-read, capacity-below}
+use Rattle.flow_core.proofs.Reading.{amount-fits, amount-read}
 use Rattle.flow_core.proofs.net.Net.sent_over.Goals as goal
 
 pub get-requires : goal.get-requires
@@ -10,9 +10,6 @@ get-requires c = let l = Fits-length c.args.self.now.arcs c.args.amounts.now c.r
 
 pub sent-requires-clause-within : goal.sent-requires-clause-within
 sent-requires-clause-within c = grind (arith, amount-fits, of_z, amount-read)
-
-pub sent-requires-clause-below : goal.sent-requires-clause-below
-sent-requires-clause-below c = grind (arith, capacity-below c.args.self.now c.requires.bounded c.args.i c.requires.arc)
 
 pub sent-requires-clause-room : goal.sent-requires-clause-room
 sent-requires-clause-room c = grind (arith, amount-read c.args.amounts.now c.args.i c.get.result)

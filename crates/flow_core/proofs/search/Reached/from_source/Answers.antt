@@ -1,10 +1,7 @@
-use Rattle.std.proofs.Common.{◌==◌, ◌||◌, ap, ◌∙◌, arith}
+use Rattle.std.proofs.Common.{◌==◌, ◌||◌, ap, ◌∙◌}
 use Rattle.counting.proofs.Common.{mem}
 use Rattle.flow_core.proofs.SearchTrees.{IsSeen-root}
 use Rattle.flow_core.proofs.search.Reached.from_source.Goals as goal
-
-pub returns-clause-tree : goal.returns-clause-tree
-returns-clause-tree c = grind arith
 
 pub returns-clause-seen : goal.returns-clause-seen
 returns-clause-seen c =

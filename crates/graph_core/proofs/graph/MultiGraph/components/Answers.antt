@@ -1,4 +1,4 @@
-use Rattle.std.proofs.Common.{◌≡◌, ℕ, ◌∙◌, ap, length, List, [], arith}
+use Rattle.std.proofs.Common.{rules, ◌≡◌, ℕ, ◌∙◌, ap, length, List, [], arith}
 use Rattle.counting.proofs.Common.{mem, none}
 use Rattle.graph_core.specs.Common.{component_count, components, Graph, IsGraph, AreRows, graph_of}
 use Rattle.graph_core.proofs.Components.{component_count_le, length-components}
@@ -16,11 +16,7 @@ counted c =
     c.len.ensures ∙ as_long g c.deref.result.now c.self.inside.rows.items c.in_ok-parts.parts c.empty.result c.self.invariant.limits.multigraph.ends c.self.invariant.neighbours c.deref.ensures.value c.empty.ensures c.in_ok-parts.ensures
 
 pub overflow_cast-result : goal.overflow_cast-result
-overflow_cast-result c =
-    let g = graph_of c.self.inside.order c.self.inside.edges.items in
-    let e = counted ((goal.at.overflow_cast-result c).After-len) in
-    let few = component_count_le g none in
-    let n = c.self.invariant.limits.vertices in omega arith
+overflow_cast-result c = search (rules, counted, component_count_le, none)
 
 pub returns : goal.returns
 returns c = counted ((goal.at.returns c).After-len) ∙ ap (λ (g : Graph). component_count g none) c.self.view_is

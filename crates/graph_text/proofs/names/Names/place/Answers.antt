@@ -1,6 +1,4 @@
-use Rattle.std.proofs.Common.{sym, arith}
-use Rattle.std.specs.String.{string_bytes}
-use Rattle.std.specs.Str.{bytes_eq}
+use Rattle.std.proofs.Common.{sym, arith, string_bytes, bytes_eq}
 use Rattle.graph_text.proofs.NameLists.{position-map, position-nameless}
 use Rattle.graph_text.proofs.names.Names.place.Goals as goal
 

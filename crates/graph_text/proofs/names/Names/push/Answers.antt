@@ -1,6 +1,4 @@
-use Rattle.std.proofs.Common.{rules, map, refl, sym, subst, ap, false, ◌≡◌, ◌∙◌, ◌<◌, [], ◌∷◌, ◌++◌, length, OnOk}
-use Rattle.std.specs.String.{string_bytes}
-use Rattle.std.specs.Str.{bytes_eq}
+use Rattle.std.proofs.Common.{rules, map, refl, sym, subst, ap, false, ◌≡◌, ◌∙◌, ◌<◌, [], ◌∷◌, ◌++◌, length, OnOk, string_bytes, bytes_eq}
 use Rattle.graph_text.specs.Common.{is_among}
 use Rattle.graph_text.proofs.NameLists.{AreNames-inserted, keys-inserted}
 use Rattle.graph_text.proofs.names.Names.push.Goals as goal

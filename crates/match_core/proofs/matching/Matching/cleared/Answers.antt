@@ -6,9 +6,6 @@ use Rattle.match_core.proofs.ClearedMatchings.{cleared, cleared_edges, cleared_m
 use Rattle.match_core.proofs.MatchingEdges.{keeps-filter}
 use Rattle.match_core.proofs.matching.Matching.cleared.Goals as goal
 
-pub returns-clause-rows : goal.returns-clause-rows
-returns-clause-rows c = grind arith
-
 pub invariant_of-result : goal.invariant_of-result
 invariant_of-result c = subst (λ (rows : List MatchRow). KeepsMatching (record { order = c.self.inside.order; rows = rows })) (sym (c.in_ok-clear_rows.ensures ∙ ap (filter (is_clear (mem c.args.removed))) c.deref.ensures.value))
     (keeps-filter (is_clear (mem c.args.removed)) (record { order = c.self.inside.order; rows = c.self.inside.rows.items }) c.self.invariant)

@@ -1,6 +1,6 @@
 -- Where the number of the call is kept, the next read fails; of a file that is given the bytes
 -- are counted.
-use Rattle.std.proofs.Common.{arith, inl, refl}
+use Rattle.std.proofs.Common.{inl, refl}
 use Rattle.outside.specs.Common.{FailsNext}
 use Rattle.outside.proofs.mem_shelf.MemShelfShelf.read.Goals as goal
 
@@ -12,6 +12,3 @@ returns-then-fails_next-clause-failed c = (λ _. kept c, λ _. refl)
 
 pub returns-then-fails_next-clause-too_long : goal.returns-then-fails_next-clause-too_long
 returns-then-fails_next-clause-too_long c = (λ is. cc, λ longer. absurd (longer.0 (kept c)))
-
-pub returns-in_ok-bytes-in-Some-2-clause-taken : goal.returns-in_ok-bytes-in-Some-2-clause-taken
-returns-in_ok-bytes-in-Some-2-clause-taken c = omega arith
