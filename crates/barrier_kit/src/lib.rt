@@ -4,16 +4,13 @@
 //! covered graph are in one class if they are equal or G - u - v has no perfect matching
 //! (`Equivalent`). `is_barrier` decides the first for every graph, `classes` lists the classes, and
 //! `barrier_cuts` lists the nontrivial cuts ∂(V(K)), K a component of G - B for a class B, each
-//! once by its canonical shore. `classes_of`, `barrier_cuts_of` and `first_barrier_cut`, which
-//! stops at the first, take a `Covered` of `graph_facts`, which has its table of partners;
-//! `first_barrier_cut_from` is lent the classes too.
+//! once by its canonical shore. `classes_of`, `barrier_cuts_of` and `first_barrier_cut` take a
+//! `Covered` of `graph_facts`; `first_barrier_cut_from` is lent the classes too.
 //!
 //! The laws: the classes are the maximal barriers (`equivalence_law`, `class_law`), barriers give
 //! tight cuts (`barrier_law`, `barrier_cuts_law`), and a graph that is neither bicritical nor
-//! bipartite has such a cut (`wide_class_law`).
-//!
-//! Depends on `graph_facts`. Sources: Lovász and Plummer, "Matching Theory", chapters 3 and 5;
-//! Edmonds, Lovász and Pulleyblank 1982.
+//! bipartite has such a cut (`wide_class_law`). Depends on `graph_facts`. Sources: Lovász and
+//! Plummer, "Matching Theory", chapters 3 and 5; Edmonds, Lovász and Pulleyblank 1982.
 #![tactic(auto)]
 
 mod barrier;

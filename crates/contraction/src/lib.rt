@@ -6,14 +6,12 @@
 //! definitions of graph_core's specs `Partitions` and `Shores`. `quotient` returns a `Contracted`:
 //! the quotient graph, and for each of its edges the `remembered` edges of the graph between the
 //! two blocks; `lift_set` maps a set of places to vertices. `PlacedEdges` has the edges between any
-//! two blocks.
+//! two blocks. `lift` takes a matching of the quotient to edges of the graph.
 //!
-//! `lift` takes a matching of the quotient to edges of the graph. `lift_law` and `projection_law`
-//! carry perfect matchings up and down; `covered_quotient_law` and `tight_quotient_law` relate the
-//! quotient to the contraction, and `merged_quotients_law` says how quotients behave when a tight
-//! shore is merged. No code calls these laws: `tree_core` and the crates above use their lemmas.
-//!
-//! Depends on `graph_core`, `match_core`, `indexmap` and `itertools`. Source: Lovász 1987.
+//! `lift_law` and `projection_law` carry perfect matchings up and down; `covered_quotient_law` and
+//! `tight_quotient_law` relate the quotient to the contraction, and `merged_quotients_law` says how
+//! quotients behave when a tight shore is merged. Depends on `graph_core`, `match_core`, `indexmap`
+//! and `itertools`. Source: Lovász 1987.
 #![tactic(auto)]
 
 mod contracted;

@@ -1,15 +1,14 @@
 //! Tight cut decompositions of matching covered graphs, in any order of choice.
 //!
-//! `decompose` cuts a matching covered graph by tight cuts until no quotient has a nontrivial
-//! one. At each node it asks an `Order` for one of the candidates there: one of the orders that
-//! have names (`NamedOrder`), the order of a list of picks (`Scripted`), that of a function
+//! `decompose` cuts a matching covered graph by tight cuts until no quotient has a nontrivial one.
+//! At each node it asks an `Order` for one of the candidates there: one of the orders that have
+//! names (`NamedOrder`), the order of a list of picks (`Scripted`), that of a function
 //! (`ByFunction`), or any type with an `impl Order`. The tree is a derivation of the graph
 //! (`IsDerivation` of `tree_core`) and exactly one that the order picks (`IsPicked` of
-//! `specs/Picked`), with cuts counted in preorder. `decompose_covered` takes a covered graph of
-//! which the facts are at hand (`Covered` of `graph_facts`). `decompose_places` returns the leaves
-//! beside the tree, as places that know their quotients (`KnownPlace` of `tree_core`), and so does
-//! `decompose_places_from_first` where the first cut is at hand too; `tally` counts them by kind.
-//! `VisitedPlaces` decomposes one graph in several orders, and searches each place only once.
+//! `specs/Picked`), with cuts counted in preorder. `decompose_covered` takes a `Covered` of
+//! `graph_facts`. `decompose_places` and `decompose_places_from_first` return the leaves beside the
+//! tree, as places that know their quotients (`KnownPlace` of `tree_core`); `tally` counts them by
+//! kind. `VisitedPlaces` decomposes one graph in several orders, and searches each place only once.
 //!
 //! Depends on `tight_cuts` for the candidates at a place and on `tree_core` for trees. Source:
 //! Lovász, "Matching structure and the matching lattice" (1987); Lucchesi and Murty, "Perfect

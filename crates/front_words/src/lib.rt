@@ -3,15 +3,12 @@
 //!
 //! A message is a list of pieces (`MessagePiece`): a text, a number, or bytes of the outside, shown
 //! so that they can stand in a line. `say` writes one to a sink: whole, or if the sink fails a
-//! beginning of it (`Says`). Main definitions, in specs/: `usage_text` and `list_usage_text` of
-//! `Usage`, with the tables of commands; `answer_of` of `Answers`, what words that ask for help or
-//! for the version are answered; `fault_words` and `note_words` of `Faults`, what the
-//! kinds of faults in a file are, with the headers and the limits of the formats; `reason_words`
-//! of `Reasons`, why a file cannot be read; `unmatched_text` of `Unmatched`, why words match no row
-//! of a table; `refused_text` of `Refused`, what a refusal means and where the error is, with the
-//! paths of `NodePlaces`; and the texts of `Unread`, `Messages` and `ListMessages`, one for each
-//! other ending that needs words. Main promises: each function `say_..` says its text, and takes
-//! no memory.
+//! beginning of it (`Says`). Each function `say_..` says its text, and takes no memory. The texts,
+//! in specs/: `Usage` has the tables of commands, `Answers` what a program answers at once,
+//! `Faults` the kinds of faults in a file, with the headers and the limits of the formats,
+//! `Reasons` why a file cannot be read, `Unmatched` why words match no row of a table, `Refused`
+//! what a refusal means and where the error is; `Unread`, `Messages` and `ListMessages` have one
+//! text for each other ending that needs words.
 //!
 //! Depends on `line_text` for the lines of a file, on `outside` for the sinks and for the reason of
 //! a failed read, on `arguments` for why arguments are not read, and on `refusals` and `vset_core`

@@ -3,17 +3,16 @@
 //!
 //! `MultiGraph` has up to 128 vertices and 2,048 edges, numbered from 1; contracts see a `Graph`.
 //! Its main calls are `components`, `components_without`, `two_sides` and `simple`;
-//! `parts_and_side` returns the components and a side, `canonical_shore` and `add_cut` are for lists
-//! of cuts.
+//! `parts_and_side` returns the components and a side, `canonical_shore` and `add_cut` are for
+//! lists of cuts.
 //!
 //! The definitions, in specs/: `Matchings`, `Walks`, `Components`, `BergeSets`, `GallaiEdmonds`,
 //! matching covered graphs (`Covered`), the canonical partition, barriers and pairs (`Structure`),
 //! tight cuts (`Tight`, with `Merges`: one graph is another with a set contracted), `Partitions`
 //! with `Quotients` and `Shores`. The laws, in `laws`: parity of a cut, weak duality, contraction
-//! of a tight cut, uncrossing. `definition_laws` ties the definitions to a textbook's.
-//!
-//! Depends on `counting`, `listed`, `vset_core` and `line_text`. Sources: Lovász and Plummer,
-//! "Matching Theory"; Lovász 1987; Lucchesi and Murty, "Perfect Matchings".
+//! of a tight cut, uncrossing. `definition_laws` ties the definitions to a textbook's. Depends on
+//! `counting`, `listed`, `vset_core` and `line_text`. Sources: Lovász and Plummer, "Matching
+//! Theory"; Lovász 1987; Lucchesi and Murty, "Perfect Matchings".
 #![tactic(auto)]
 
 mod cuts;

@@ -1,20 +1,18 @@
 //! What `mcg6` answers to one line of a list of graphs.
 //!
 //! A line holds a graph6 text. `tell` returns, for a `Query`, the bytes that are written for it, or
-//! the kind of its first fault. What the bytes say is a relation on the graph alone
-//! (`IsTold`): the line of its kind with the numbers of bricks and braces, or of the first reason
-//! why it is not covered with its deficiency (`IsKindLine`), the lines of its leaves as graphs,
-//! each with the graph itself (`AreLeafLines`), those of its elementary components as graphs
-//! (`elementary_lines`), the canonical text of its graph file, or the line itself if the graph has
-//! a property and nothing if it has not (`IsSelected`). A line is bad exactly when it stands for no
-//! graph (`HasFault`).
+//! the kind of its first fault; a line is bad exactly when it stands for no graph (`HasFault`).
+//! What the bytes say is a relation on the graph alone (`IsTold`): the line of its kind
+//! (`IsKindLine`), the lines of its leaves as graphs (`AreLeafLines`), those of its elementary
+//! components (`elementary_lines`), the canonical text of its graph file, or the line itself if the
+//! graph has a property and nothing if it has not (`IsSelected`). What is told of a line is one:
+//! two first reasons differ at most in the Berge set (`definition_laws`), and the numbers of bricks
+//! and braces depend on no choice by the law of pairings of `move_laws` (Lovász, "Matching
+//! structure and the matching lattice", 1987).
 //!
 //! Depends on `graph6_text` for the lines, on `match_core`, `allowed_edges`, `graph_facts`,
 //! `separation_kit` and `leaf_kinds` for what a graph is, on `decomposer`, `tree_core` and
 //! `contraction` for its leaves, and on `report_text` for the words of reasons, kinds and answers.
-//! What is told of a line is one: two first reasons differ at most in the Berge set
-//! (`definition_laws`), and the numbers of bricks and braces depend on no choice by the law of
-//! pairings of `move_laws` (Lovász, "Matching structure and the matching lattice", 1987).
 #![tactic(auto)]
 
 mod bicritical;

@@ -1,21 +1,17 @@
 //! Lists of graphs, processed line by line as they are read.
 //!
 //! `tell_all` reads pieces from a `Source`, cuts them into lines, calls a `LineTeller` for each
-//! line, and writes the outputs of the complete lines before it reads on: so no output is held back
-//! while the program waits for input. A teller returns the output of a line or its error; only
-//! `telling` appends outputs. Memory does not grow with the list, except with the number of bad
-//! lines if these are skipped.
+//! line, and writes the outputs of the complete lines before it reads on (`Step`). A teller returns
+//! the output of a line or its error. Memory does not grow with the list, except with the number of
+//! bad lines if these are skipped.
 //!
 //! Main definitions, in specs/: `lines_of`; `LineTold` and `LineBad`, the result for one line;
 //! `AllTold`, the outputs in order; `Gives`, what was written up to each `Ending`; `IsStream`, the
-//! reads and writes in order. Main promises: at the endings `Done` and `Bad` the output is
-//! determined by the lines, not by the pieces, and at the others it is that of a beginning of the
-//! list; after each read the lines it completed are written before the next (`Step`);
-//! no write follows a failed one; on a read error each complete line is written. `one_output_law`
-//! and `one_ending_law`: if each line has at most one result, so has the list.
-//!
-//! Depends on `outside` and `line_text`. Source of the header: B. D. McKay, "Description of
-//! graph6, sparse6 and digraph6 encodings".
+//! reads and writes in order. At the endings `Done` and `Bad` the output is determined by the
+//! lines, not by the pieces, and at the others it is that of a beginning of the list; no write
+//! follows a failed one. `one_output_law` and `one_ending_law`: if each line has at most one
+//! result, so has the list. Depends on `outside` and `line_text`. Source of the header: B. D.
+//! McKay, "Description of graph6, sparse6 and digraph6 encodings".
 #![tactic(auto)]
 
 mod cutting;

@@ -1,22 +1,18 @@
-//! The top call of the program `mcg6`: `run` does what the words ask for, for each graph of a
-//! list, or for a graph file.
+//! The top call of the program `mcg6`: `run` does what the words ask for, for each graph of a list,
+//! or for a graph file.
 //!
 //! The words are read once, into a `CommandLine`: they ask for something of each graph of a list
-//! (`ListCommand`: the `Query` of `mcg6_lines`, and the file that holds the list, if it is not the
-//! standard input), or for the graph6 text of a graph file. The list is read by `tell_all` of
-//! `mcg6_reader`, line by line, and the graph file by `encode` of `mcg6_encoder`. With the word
-//! `skip` a bad line has no output and is reported, and the list goes on (`AtBadLine`,
-//! `TellsOrSkips`).
+//! (`ListCommand`), which `tell_all` of `mcg6_reader` reads line by line, or for the graph6 text of
+//! a graph file, which `encode` of `mcg6_encoder` reads. With the word `skip` a bad line has no
+//! output and is reported, and the list goes on (`AtBadLine`, `TellsOrSkips`).
 //!
 //! Main definitions, in specs/: `command_of` (what the words ask for), `TellsLineOf` and
-//! `IsBadLine` (what answers one line), `lacks_of` (what a list lacks: a file of one graph has one
-//! graph), and `ListOutcome` and `EncodeOutcome`, which tie the bytes of the list or of the file,
-//! the status and the output together. Main promises: the clauses of `run`; `run_to_ending` returns
-//! besides them what is found of the first bad line; one list has one status and one output, unless
-//! memory runs out or reading or writing fails (`one_output_law`).
-//!
-//! Depends on `mcg6_lines`, `mcg6_reader`, `mcg6_encoder`, `line_text` for numbers, and `outside`
-//! for the source and the sink.
+//! `IsBadLine` (what answers one line), `lacks_of` (what a list lacks), and `ListOutcome` and
+//! `EncodeOutcome`, which tie the bytes that are read, the status and the output together.
+//! `run_to_ending` also returns what is found of the first bad line; one list has one status and
+//! one output, unless memory runs out or reading or writing fails (`one_output_law`). Depends on
+//! `mcg6_lines`, `mcg6_reader`, `mcg6_encoder`, `line_text` for numbers, and `outside` for the
+//! source and the sink.
 #![tactic(auto)]
 
 mod command;

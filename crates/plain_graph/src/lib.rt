@@ -9,11 +9,9 @@
 //! `degree`, `is_matching`, `is_perfect`, `edges_in_cut`; `perfect_matchings`, `has_perfect`,
 //! `is_allowed`, `greatest_matching`; `is_tight` for a shore. `odd_component_count` follows walks
 //! of at most n steps. Each function's contract is the definition, so the crate shows on worked
-//! examples that the definitions say what is meant.
-//!
-//! Depends on `graph_core`, `grow_gen`, whose pieces are four of the graphs, and `allowed_edges`.
-//! The graphs are in Lovász and Plummer, "Matching Theory" (1986), and in Lucchesi and Murty,
-//! "Perfect Matchings".
+//! examples that the definitions say what is meant. Depends on `graph_core`, `grow_gen` and
+//! `allowed_edges`. The graphs are in Lovász and Plummer, "Matching Theory" (1986), and in Lucchesi
+//! and Murty, "Perfect Matchings".
 #![tactic(auto)]
 
 mod asked;

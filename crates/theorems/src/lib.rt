@@ -1,30 +1,18 @@
-//! Theorems on perfect matchings and tight cuts, each under its own name and in the words of a
+//! Theorems on perfect matchings and tight cuts, each under its own name, in the words of a
 //! textbook.
 //!
 //! Each theorem is a public function with an empty body, and its contract is the statement. Where
 //! this is a special case of what the literature has, or one of several forms, the comment above it
-//! and `docs/THEOREMS.md` say which. A file is a chapter:
-//! - `matchings`: Tutte, Berge, Gallai, and the structure theorem of Gallai and Edmonds
-//! - `barriers`: the canonical partition of Kotzig and Lovász
-//! - `elementary`: elementary components
-//! - `bipartite`: the marriage theorem of Frobenius and Hall, and Hetyei's theorem
-//! - `cuts`: uncrossing and laminar families
-//! - `decompositions`: tight cut decompositions, their uniqueness, and the numbers of bricks and
-//!   braces
-//! - `bricks`: where a nontrivial tight cut comes from, and which graphs are bricks
-//! - `braces`: which bipartite graphs are braces
-//! - `extendable`: 2-extendable graphs
-//! - `regular_graphs`: regular and cubic graphs
-//! - `separating`: separating cuts
-//! - `ears`: ear decompositions
-//! - `outcomes`: what the program reports
-//! - `program`: an appendix on definitions of the program
+//! and `docs/THEOREMS.md`, the book that follows this crate, say which. A file is a chapter:
+//! `matchings`, `barriers`, `elementary` (elementary components), `bipartite`, `cuts` (uncrossing
+//! and laminar families), `decompositions` (their uniqueness, and the numbers of bricks and
+//! braces), `bricks`, `braces`, `extendable` (2-extendable graphs), `regular_graphs`, `separating`
+//! (separating cuts), `ears`, `outcomes` (what the program reports), and `program`, an appendix on
+//! definitions of the program. What a chapter defines beyond the lower crates is in a file of
+//! `specs/`.
 //!
-//! What a chapter defines beyond the lower crates is in a file of `specs/`. No part of the program
-//! depends on this crate. `docs/THEOREMS.md` is the book that follows it.
-//!
-//! Sources: Lovász and Plummer, "Matching Theory" (1986); Lucchesi and Murty, "Perfect Matchings"
-//! (2024).
+//! No part of the program depends on this crate. Sources: Lovász and Plummer, "Matching Theory"
+//! (1986); Lucchesi and Murty, "Perfect Matchings" (2024).
 #![tactic(auto)]
 
 mod barriers;

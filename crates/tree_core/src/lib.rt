@@ -1,29 +1,18 @@
 //! Tight cut decompositions as trees.
 //!
-//! A `Tree` is a leaf or a cut with a shore and two trees below it: `kept`, where the complement
-//! of the shore is made one block, and `merged`, where the shore is. Contracts see it by its plain
-//! `Shape` (`specs/Shapes`), whatever boxes hold its nodes. A tree is a derivation of a matching
-//! covered graph (`IsDerivation` of `specs/Derivations`) if each cut names a canonical nontrivial
-//! tight shore at the partition where it stands and each leaf stands where no such shore is. Its
-//! leaves are the partitions of `specs/Leaves`, in preorder. A `Place` is a graph with a partition
-//! where a derivation may stand: the quotient is matching covered. A `KnownPlace` is a place with
-//! what is known of the quotient (`Covered` of `graph_facts`): at single vertices it is the graph
-//! itself, so the root is a place like the others (`seen_at`).
+//! A `Tree` is a leaf or a cut with a shore and two trees below it: `kept`, where the complement of
+//! the shore is made one block, and `merged`, where the shore is. A tree is a derivation of a
+//! matching covered graph (`IsDerivation` of `specs/Derivations`) if each cut names a canonical
+//! nontrivial tight shore at the partition where it stands and each leaf stands where no such shore
+//! is. A `Place` is a graph with a partition where a derivation may stand; a `KnownPlace` also has
+//! what is known of its quotient. `fits`, `nodes`, `depth`, `copy` and `leaves` are exactly the
+//! definitions; `count_leaves` counts bricks and braces.
 //!
-//! `fits`, `nodes`, `depth`, `copy` and `leaves` are exactly these definitions;
-//! `laws::derivation_stands` says that the leaves of a derivation may be asked for. A `Path` leads
-//! from the root to a node. The kind of a leaf is told by its quotient: a brace where it is
-//! bipartite, and a brick otherwise; `count_leaves` counts them (`IsTally` of `specs/Tallies`), and
-//! `kinds_at` lists those of leaves that are places.
-//!
-//! Two moves change a tree (`specs/Moves`): Rotate brings a cut over its parent, and Switch
-//! exchanges two sets of vertices between a shore and its complement. `rotate`, `switch` and
-//! `apply` are exactly these partial functions, take no memory, and hand the same tree back where
-//! a move has no result. `specs/LeafMaps` says where a move and a script of moves take each leaf
-//! and its blocks.
-//!
-//! Depends on `contraction` for partitions and on `graph_facts` for covered graphs. Source: Lovász,
-//! "Matching structure and the matching lattice" (1987); Lucchesi and Murty, "Perfect Matchings".
+//! Two moves change a tree (`specs/Moves`): `rotate` brings a cut over its parent, and `switch`
+//! exchanges two sets of vertices between a shore and its complement. They hand the same tree back
+//! where a move has no result; `specs/LeafMaps` says where they take each leaf. Depends on
+//! `contraction` and `graph_facts`. Source: Lovász, "Matching structure and the matching lattice"
+//! (1987); Lucchesi and Murty, "Perfect Matchings".
 #![tactic(auto)]
 
 mod known_place;
