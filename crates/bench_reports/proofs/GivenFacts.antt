@@ -1,4 +1,5 @@
 -- That a tree or a list of ears fits a graph is a proposition: any two proofs of it are equal.
+-- Idea: by induction; each part bounds numbers or all numbers of a list, which is a proposition.
 use Rattle.std.proofs.Common.{ℕ}
 use Rattle.std.proofs.Props.{props}
 use Rattle.std.specs.List.{AllByRecursion-prop}

@@ -59,6 +59,7 @@ and_then (Absent file) next = Absent file
 abbrev pub graph_file : List NamedFile → List ℕ → Loaded NamedGraph
 graph_file files name = file_read 1 (reading_of either_version) (file_named name files)
 
+-- the graph of the file of that name, in graph6
 abbrev pub graph6_file : List NamedFile → List ℕ → Loaded Graph
 graph6_file files name = file_read 1 outcome_of (file_named name files)
 
@@ -105,15 +106,19 @@ trees_given files graph first second =
 abbrev pub on_tree : TreeVerb → NamedGraph × Shape → Task
 on_tree verb given = task.OnTree verb given.0 given.1
 
+-- the task of a verb on a graph and a list of picks
 abbrev pub on_picks : PicksVerb → NamedGraph × List ℕ → Task
 on_picks verb given = task.OnPicks verb given.0 given.1
 
+-- the task of a verb on a graph and a list of ears
 abbrev pub on_ears : EarsVerb → NamedGraph × PlainEars → Task
 on_ears verb given = task.OnEars verb given.0 given.1
 
+-- the task of a verb on a graph, a tree and moves
 abbrev pub on_moves : MovesVerb → NamedGraph × (Shape × List PlainMove) → Task
 on_moves verb given = task.OnMoves verb given.0 given.1.0 given.1.1
 
+-- the task of a verb on a graph and two trees
 abbrev pub on_trees : TreesVerb → NamedGraph × (Shape × Shape) → Task
 on_trees verb given = task.OnTrees verb given.0 given.1.0 given.1.1
 

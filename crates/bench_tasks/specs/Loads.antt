@@ -33,15 +33,19 @@ graph_in simple = simple.graph
 abbrev pub given_tree : GivenTree → NamedGraph × Shape
 given_tree given = (named_graph given.named, shape_of given.tree)
 
+-- a graph with a list of picks, as they are seen
 abbrev pub given_picks : GivenPicks → NamedGraph × List ℕ
 given_picks given = (named_graph given.named, given.picks)
 
+-- a graph with a list of ears, as they are seen
 abbrev pub given_ears : GivenEars → NamedGraph × PlainEars
 given_ears given = (named_graph given.named, ears_of given.list)
 
+-- a graph with a tree and moves, as they are seen
 abbrev pub given_moves : GivenMoves → NamedGraph × (Shape × List PlainMove)
 given_moves given = (named_graph given.named, (shape_of given.tree, moves_of given.moves))
 
+-- a graph with two trees, as they are seen
 abbrev pub given_trees : GivenTrees → NamedGraph × (Shape × Shape)
 given_trees given = (named_graph given.named, (shape_of given.first, shape_of given.second))
 

@@ -16,6 +16,7 @@ use Rattle.bench_tasks.specs.declared.verbs.MovesVerb.{MovesVerb}
 use Rattle.bench_tasks.specs.declared.verbs.TreesVerb.{TreesVerb}
 use Rattle.bench_tasks.specs.declared.verbs.NumbersVerb.{NumbersVerb}
 
+-- a verb of one of the eight sorts, with what it works on
 pub data Task : Type 0 where
   OnGraph : (verb : GraphVerb) (named : NamedGraph) → Task
   OnSimpleGraph : (verb : SimpleGraphVerb) (graph : Graph) → Task

@@ -1,4 +1,5 @@
 -- Two reasons why a graph is not covered have the same line, but for the Berge set.
+-- Idea: the reasons are one but for the set, so only the numbers after `berge` can differ.
 use Rattle.std.proofs.Common.{◌≡◌, ℕ, List, ◌++◌, inl, refl, codes, arith}
 use Rattle.graph_core.proofs.Common.{IsReason, Graph, reason_of}
 use Rattle.graph_core.specs.declared.verdict.Reason.{Reason}

@@ -1,4 +1,5 @@
 -- The graph that a graph6 text stands for is a multigraph, in the words of what is read.
+-- Idea: where the reader gives a graph it is a multigraph; at a fault there is nothing to show.
 use Rattle.std.proofs.Common.{ℕ, List, arith}
 use Rattle.graph_core.proofs.Common.{IsMultigraph}
 use Rattle.graph6_text.specs.Common.{outcome_of}

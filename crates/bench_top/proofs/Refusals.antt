@@ -1,4 +1,5 @@
 -- A command may refuse if what was gathered of it may: that is a task of the command.
+-- Idea: the task that was gathered is the one that is asked for; a stop can refuse nothing.
 use Rattle.std.proofs.Common.{Result, IfOk, Some, arith}
 use Rattle.bench_tasks.specs.Common.{Command, task_of, IsTaskOf}
 use Rattle.bench_tasks.specs.declared.stop.Stop.{Stop}

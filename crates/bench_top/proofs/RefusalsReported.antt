@@ -1,4 +1,6 @@
 -- What is known of the refusal of a report is known of it where the report was written.
+-- Idea: one case for each status, and for whether there is a refusal; what is known then is the
+-- claim, or it contradicts the status.
 use Rattle.std.proofs.Common.{◌≡◌, ◌⊎◌, ◌∙◌, inl, inr, ℕ, List, Bool, true, false, Option, Some, None, is_some, refl, sym, ap, subst, arith}
 use Rattle.outside.specs.Common.{appended}
 use Rattle.refusals.specs.declared.refusal.Refusal.{Refusal}

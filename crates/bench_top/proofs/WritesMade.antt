@@ -1,4 +1,6 @@
 -- The writes of a run are those of its report: one case for each status.
+-- Idea: at each status the fact on what was written has the parts of the claim, or the status is
+-- ruled out.
 use Rattle.std.proofs.Common.{◌≡◌, ◌⊎◌, inl, inr, ℕ, List, refl, sym, subst, arith, Option}
 use Rattle.outside.specs.Common.{IsWritten, appended}
 use Rattle.bench_outcomes.specs.Common.{Appended, CutShort, IsReported}

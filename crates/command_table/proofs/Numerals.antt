@@ -1,4 +1,5 @@
 -- What is written of the numbers in the tables.
+-- Idea: digits with no 0 in front of others are the decimal text of their value.
 use Rattle.std.proofs.Common.{◌≡◌, List, ℕ, true, codes, refl, rules, arith, decimal}
 use Rattle.std.specs.Char.{is_ascii_digit}
 use Rattle.std.specs.List.{list_all}

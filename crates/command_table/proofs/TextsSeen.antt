@@ -1,4 +1,5 @@
 -- A test of texts is one of their bytes.
+-- Idea: by induction on the texts, one item of the map at a time.
 use Rattle.std.proofs.Common.{◌≡◌, ◌||◌, ℕ, List, [], ◌∷◌, Bool, refl, ap}
 use Rattle.std.specs.Borrow.{Bor}
 use Rattle.std.specs.List.{list_any}

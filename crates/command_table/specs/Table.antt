@@ -10,6 +10,7 @@ word_form (File shown need) = shown
 word_form (OneOf shown choices counted note need) = shown
 word_form (Number shown least most note need) = shown
 
+-- words as they are shown, each after a blank
 abbrev pub words_form : List Word → List ℕ
 words_form [] = []
 words_form (word ∷ words) = codes " " ++ (word_form word ++ words_form words)
@@ -19,6 +20,7 @@ abbrev pub optional_form : List Word → List ℕ
 optional_form [] = []
 optional_form (word ∷ words) = codes " [" ++ (word_form word ++ (codes "]" ++ optional_form words))
 
+-- a command as it is shown: with its words, and those that may be left out
 abbrev pub form_of : List ℕ → List Word → List Word → List ℕ
 form_of command words optional = command ++ (words_form words ++ optional_form optional)
 
@@ -26,6 +28,7 @@ form_of command words optional = command ++ (words_form words ++ optional_form o
 abbrev pub usage_line : (form about : List ℕ) → List ℕ
 usage_line form about = codes "  " ++ (form ++ (replicate (29 - length form) 32 ++ (about ++ codes "\n")))
 
+-- the row of a command with these words: its line in the usage is made of them
 abbrev pub row_of : List ℕ → List Word → List Word → (about : List ℕ) → Row
 row_of command words optional about = record {
   command = command;
@@ -57,10 +60,12 @@ word_note (File shown need) = []
 word_note (OneOf shown choices counted note need) = note ++ codes "\n"
 word_note (Number shown least most note need) = note ++ codes "\n"
 
+-- the notes on these words, in their order
 abbrev pub words_notes : List Word → List ℕ
 words_notes [] = []
 words_notes (word ∷ words) = word_note word ++ words_notes words
 
+-- the notes on the words of rows, those that may be left out after the others
 abbrev pub rows_notes : List Row → List ℕ
 rows_notes [] = []
 rows_notes (row ∷ rows) = words_notes row.words ++ (words_notes row.optional ++ rows_notes rows)
@@ -82,14 +87,17 @@ file = File (codes "FILE") (codes "a FILE") ∷ []
 abbrev pub file_after : (before shown : List ℕ) → Word
 file_after before shown = File shown (codes "a file " ++ (shown ++ (codes " after " ++ before)))
 
+-- the words for an order in which cuts are picked
 abbrev pub orders : List (List ℕ)
 orders = codes "first" ∷ codes "last" ∷ codes "balanced" ∷ []
 
+-- the properties that stand without a number
 abbrev pub properties : List (List ℕ)
 properties =
     codes "covered" ∷ codes "uncovered" ∷ codes "perfect" ∷ codes "brick" ∷ codes "brace" ∷
     codes "bicritical" ∷ codes "composite" ∷ []
 
+-- the beginnings of the properties that have a number behind them
 abbrev pub counted_properties : List (List ℕ)
 counted_properties = codes "bricks=" ∷ codes "braces=" ∷ []
 
@@ -131,6 +139,7 @@ list_rows =
 unfoldable pub usage_text : List ℕ
 usage_text = usage_of (codes "usage: mcg COMMAND WORDS..\n") rows (codes "A file may be a pipe, as /dev/stdin. FORMATS.md has the formats and reports.\n")
 
+-- the usage of `mcg6`
 unfoldable pub list_usage_text : List ℕ
 list_usage_text =
     usage_of (codes "usage: mcg6 COMMAND WORDS.. <LIST\n") list_rows

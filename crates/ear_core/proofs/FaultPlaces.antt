@@ -1,4 +1,5 @@
 -- Where the fault of a step shows, as the code finds it.
+-- Idea: the code goes on item by item, and of two ears the first that fails gives the place.
 use Rattle.std.proofs.Common.{◌≡◌, ℕ, ◌-◌, Bool, true, false, ◌==◌, ◌||◌, sym, ap, ◌∙◌, arith, [], ◌∷◌, List, length, Option, Some, None, refl, eqb-true, ◌⊎◌, inl, inr, find, option_and_then, is_some, is_none}
 use Rattle.std.proofs.Math.Path.{fun_ext}
 use Rattle.counting.proofs.Common.{Set, mem}

@@ -1,4 +1,6 @@
 -- What the builder has made goes on by a step, and by the edges between partners.
+-- Idea: each fact on the old stage goes over to the next one by the fact on the step; an edge
+-- between partners is an ear of its own.
 use Rattle.std.proofs.Common.{◌≡◌, ℕ, ◌+◌, ◌≤◌, ◌==◌, eq-eqb, true, Result, OnOk, ◌++◌, ◌∷◌, [], List, arith, ap, map, sym, subst, refl, false, ◌∙◌}
 use Rattle.std.proofs.Math.Path.{fun_ext}
 use Rattle.counting.proofs.Common.{or_left, or_right, count_complement, count_more, Within, complement, count, mem, Set}

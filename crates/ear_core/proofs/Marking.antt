@@ -1,4 +1,5 @@
 -- Marks set at the places of further edges, and the tests of a step of two ears.
+-- Idea: the tests only ask for members, so lists with the same members give the same fault.
 use Rattle.std.proofs.Common.{◌≡◌, ℕ, ◌||◌, if◌then◌else◌, List, [], Option, Some, None, ap, arith}
 use Rattle.std.proofs.Math.Path.{fun_ext}
 use Rattle.counting.proofs.Common.{mem, Set}

@@ -1,4 +1,5 @@
 -- Walking along an ear edge by edge, with the vertices passed at hand: where it goes astray.
+-- Idea: one step of the walk, with a case for each thing that can be wrong at the next edge.
 use Rattle.std.proofs.Common.{◌≡◌, ℕ, true, false, ◌==◌, ◌&&◌, ◌||◌, not, Bool, eq-eqb, sym, ap, ◌∙◌, arith, [], ◌∷◌, List, length, Some, None, eqb-true, refl}
 use Rattle.std.proofs.Math.Path.{fun_ext}
 use Rattle.counting.proofs.Common.{true≢false, Within, Set}

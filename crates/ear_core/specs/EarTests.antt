@@ -43,6 +43,7 @@ abbrev pub no_member : (ℕ → Bool) → List ℕ → Bool
 no_member p [] = true
 no_member p (x ∷ xs) = not (p x) && no_member p xs
 
+-- the list has no item
 abbrev pub is_empty : List ℕ → Bool
 is_empty [] = true
 is_empty (x ∷ xs) = false

@@ -1,4 +1,5 @@
 -- What a run of the front makes of a shelf and a sink, for words that are not answered at once.
+-- Idea: such words have no answer, so the part on answers is empty, and the run gives the others.
 use Rattle.std.proofs.Common.{◌≡◌, ◌∙◌, ℕ, List, Bool, true, false, Option, None, refl, sym}
 use Rattle.outside.specs.Common.{Answer, NamedFile}
 use Rattle.bench_tasks.specs.Common.{command_of}

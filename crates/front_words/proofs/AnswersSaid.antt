@@ -1,4 +1,5 @@
 -- A text that was said is the whole answer: done if it was said whole, and else cut short.
+-- Idea: the two ends differ, so the parts on the other end are empty.
 use Rattle.std.proofs.Common.{◌≡◌, ℕ, List, Ok, Err, inl, inr, refl, sym, Option}
 use Rattle.front_words.specs.Answers.{Answers}
 use Rattle.front_words.specs.Saying.{Says}

@@ -1,4 +1,5 @@
 -- The vertices of a line are gone through by a count: each definition by one step.
+-- Idea: each definition is by recursion on the count, so it unfolds once at 0 and once at `suc`.
 use Rattle.std.proofs.Common.{◌≡◌, ◌∙◌, ◌≤◌, ◌<◌, ℕ, ◌+◌, ◌-◌, zero, suc, List, [], ◌++◌, refl, sym, ap, arith, codes, Bool, true, false, cond, not, ◌||◌, SomeIff, append-nil, nat_lt, decimal, Option, None, Some}
 use Rattle.std.proofs.lemmas.Bool.Decides.{nat_tests}
 use Rattle.front_words.specs.Shores.{highest_named, is_cut, leaves_some, names, other_shore_note, others_text, width}

@@ -6,6 +6,7 @@ use Rattle.std.specs.List.{starts_with}
 use Rattle.refusals.specs.declared.file_kind.FileKind.{FileKind}
 use Rattle.refusals.specs.declared.file_kind.FileKind.TheVariants.{Graph, Graph6, Tree, Picks, Ears, Moves}
 
+-- the text begins with these bytes
 abbrev pub opens : List ℕ → List ℕ → Bool
 opens text beginning = starts_with nat_eq text beginning
 

@@ -1,4 +1,5 @@
 -- What a run of the front makes of a source and a sink, for words that are not answered at once.
+-- Idea: such words have no answer, so the part on answers is empty, and the run gives the others.
 use Rattle.std.proofs.Common.{◌≡◌, ◌∙◌, ℕ, List, Bool, true, false, Option, None, refl, sym}
 use Rattle.mcg6_top.proofs.Ended.{runs_by_status}
 use Rattle.mcg6_top.specs.Common.{ListRunsTo, status_in}

@@ -1,4 +1,5 @@
 -- The lines of the leaves from a place on are the line of the leaf there and those after it.
+-- Idea: each list from a place on is its item there, with the list from the next place on after it.
 use Rattle.std.proofs.Common.{List, [], ◌++◌, append_assoc, ap₂, arith, get_or, length, map, drop, ℕ, ◌+◌, ◌<◌, ◌≡◌}
 use Rattle.std.proofs.lemmas.List.{drop_more}
 use Rattle.graph_core.proofs.Common.{Graph}

@@ -1,13 +1,13 @@
--- The elementary components of a graph with a perfect matching are matching covered. Allowed edges
--- do not leave a component, so a perfect matching of the graph contains one of each component. The
--- new numbers of vertices and of edges are their ranks.
-use Rattle.std.proofs.Common.{◌≡◌, ◌≢◌, ℕ, suc, zero, ◌+◌, ◌-◌, ◌*◌, ◌≤◌, Bool, true, false, cond, ◌==◌, ◌&&◌, ◌||◌, not, List, [], ◌∷◌, ◌++◌, length, map, refl, sym, ap, ap₂, ◌∙◌, arith, subst, inl, inr, eq-eqb, eqb-true, get_or, get_or-append-add}
-use Rattle.counting.proofs.Common.{Within, and_from, and_parts, append-nil, bit, both_ways, cases_Bool, cases_eq, cases_lt, count, count_congr, count_mem_length, count_member, get_or_append_left, IsIn, IsRisingIn, length-map, length-rising_list, list_any, list_any-append, mem, mem-rising_list, mem-within, member_ranked, none, or_cases, or_right, rank_once, rising_holds, rising_list, rising_list-rises, rising_only, same_tests, Set, some, some_true, true_some, true≢false, two_members}
-use Rattle.graph_core.proofs.Common.{adjacent, adjacent_from, adjacent-ends, Allowed, component_count_le, components, degree, degree-inside, degree_congr, edge_at, first_end, Graph, has_ends, has_ends-back, has_ends-cases, has_ends-own, HasPerfect, in_cut, inside, is_allowed, is_allowed_found, is_allowed_says, is_least, IsConnected, IsCovered, IsGraph, IsMultigraph, IsPerfect, Joined, joined, joined_back, joined_on, joined_self, joined_walk, joins, length-components, second_end, size, some_leader, walk_joined, Walk, with_ends}
+-- An elementary component of a graph with a perfect matching is matching covered. Allowed edges do
+-- not leave it, so a perfect matching of the graph contains one of it. The new numbers of vertices
+-- and of edges are their ranks.
+use Rattle.std.proofs.Common.{◌≡◌, ◌≢◌, ℕ, suc, zero, ◌+◌, ◌-◌, ◌*◌, ◌≤◌, Bool, true, false, cond, ◌==◌, ◌&&◌, ◌||◌, not, List, [], ◌∷◌, ◌++◌, length, refl, sym, ap, ap₂, ◌∙◌, arith, subst, inl, inr, eq-eqb, eqb-true, get_or, get_or-append-add}
+use Rattle.counting.proofs.Common.{Within, and_from, and_parts, append-nil, bit, both_ways, cases_Bool, cases_eq, count, count_congr, count_mem_length, get_or_append_left, IsRisingIn, length-map, length-rising_list, list_any, list_any-append, mem, mem-rising_list, mem-within, member_ranked, none, rank_once, rising_list, rising_list-rises, same_tests, Set, some, some_true, true_some, true≢false, two_members}
+use Rattle.graph_core.proofs.Common.{adjacent, adjacent_from, adjacent-ends, degree, degree-inside, degree_congr, edge_at, first_end, Graph, has_ends, has_ends-back, has_ends-cases, has_ends-own, HasPerfect, in_cut, inside, is_allowed, is_allowed_found, is_allowed_says, IsConnected, IsCovered, IsGraph, IsMultigraph, IsPerfect, Joined, joined, joined_back, joined_on, joined_self, joined_walk, joins, second_end, size, walk_joined, Walk, with_ends}
 use Rattle.graph6_text.proofs.DistinctPairs.{each_at}
 use Rattle.two_ears.proofs.AddedEdges.{degree-added}
 use Rattle.ear_core.proofs.RankedStages.{rank-within}
-use Rattle.mcg6_lines.specs.Elementary.{allowed_subgraph, component_graph, elementary_parts, number_in}
+use Rattle.mcg6_lines.specs.Elementary.{allowed_subgraph, component_graph, number_in}
 use Rattle.mcg6_lines.proofs.Components.{same_number}
 use Rattle.mcg6_lines.proofs.TakenEdges.{each_taken, taken, taken-next}
 
@@ -23,15 +23,15 @@ any_taken g test u v (suc k) =
     last true = grind arith
     last false = refl
 
-allowed_step : (g : Graph) (u v : ℕ) → adjacent (allowed_subgraph g) none u v ≡ some (size g) (λ e. is_allowed g e && has_ends g u v e)
+pub allowed_step : (g : Graph) (u v : ℕ) → adjacent (allowed_subgraph g) none u v ≡ some (size g) (λ e. is_allowed g e && has_ends g u v e)
 unfolding allowed_subgraph
 allowed_step g u v = adjacent-ends (allowed_subgraph g) u v ∙ any_taken g (is_allowed g) u v (size g)
 
-allowed_order : (g : Graph) → (allowed_subgraph g).order ≡ g.order
+pub allowed_order : (g : Graph) → (allowed_subgraph g).order ≡ g.order
 unfolding allowed_subgraph
 allowed_order g = refl
 
-allowed_graph : (g : Graph) → IsGraph g → IsGraph (allowed_subgraph g)
+pub allowed_graph : (g : Graph) → IsGraph g → IsGraph (allowed_subgraph g)
 unfolding allowed_subgraph
 allowed_graph g is e w =
     each_at (λ p. Within g.order p.0 × Within g.order p.1) (allowed_subgraph g).ends (e - 1)
@@ -273,84 +273,3 @@ module _ (g : Graph) (is : IsMultigraph g) (u : ℕ) (wu : Within g.order u) (vs
           ap (renumbered m.0 m.1) (sym e.3) ∙ (and_parts (f e.0) (renumbered m.0 m.1 (count e.0 f)) (there ∙ and_from (f e.0) (m.0 e.0) e.2 m.2)).1,
         );
   }
-
--- each listed component is reached from some vertex
-in_mapped : (h : ℕ → List ℕ) (xs vs : List ℕ) → IsIn vs (map h xs) → (u : ℕ) × (mem xs u ≡ true) × (vs ≡ h u)
-in_mapped h [] vs i = absurd i
-in_mapped h (x ∷ xs) vs i = elim i [
-  | inl q ↦ (x, ap (λ (b : Bool). b || mem xs x) (eq-eqb x x refl), q)
-  | inr j ↦ let r = in_mapped h xs vs j in (r.0, or_right (x == r.0) (mem xs r.0) r.1, r.2)
-]
-
-pub elementary_covered : (g : Graph) (vs : List ℕ) → IsMultigraph g → HasPerfect g none → IsIn vs (elementary_parts g) → IsCovered (component_graph g vs)
-unfolding elementary_parts components
-elementary_covered g vs is has i =
-    let u = in_mapped (λ u. rising_list (allowed_subgraph g).order (joined (allowed_subgraph g) none u)) (rising_list (allowed_subgraph g).order (is_least (allowed_subgraph g) none)) vs i in
-    let w = (rising_only (allowed_subgraph g).order (is_least (allowed_subgraph g) none) u.0 u.1).0 in
-    covered_component g is u.0 (subst (λ n. Within n u.0) (allowed_order g) w) vs (u.2 ∙ ap (λ n. rising_list n (joined (allowed_subgraph g) none u.0)) (allowed_order g)) has
-
-mapped_in : (h : ℕ → List ℕ) (xs : List ℕ) (u : ℕ) → mem xs u ≡ true → IsIn (h u) (map h xs)
-mapped_in h [] u t = absurd (true≢false (sym t))
-mapped_in h (x ∷ xs) u t = elim (or_cases (x == u) (mem xs u) t) [
-  | inl q ↦ inl (ap h (sym (eqb-true x u q)))
-  | inr j ↦ inr (mapped_in h xs u j)
-]
-
-only_in : {A : Type 0} (xs : List A) (a b : A) → length xs ≡ 1 → IsIn a xs → IsIn b xs → a ≡ b
-only_in [] a b l i j = absurd i
-only_in (x ∷ []) a b l (inl p) (inl q) = p ∙ sym q
-only_in (x ∷ []) a b l (inl p) (inr j) = absurd j
-only_in (x ∷ []) a b l (inr i) j = absurd i
-only_in (x ∷ y ∷ xs) a b l i j = absurd (omega arith)
-
--- one component that has all vertices
-module _ (g : Graph) (is : IsMultigraph g) (one : length (elementary_parts g) ≡ 1) where
-  abbrev h : Graph
-  h = allowed_subgraph g
-
-  -- the component of a vertex is listed
-  leader : (v : ℕ) → Within g.order v → (u : ℕ) × Within g.order u × (joined h none u v ≡ true) × IsIn (rising_list h.order (joined h none u)) (elementary_parts g)
-  unfolding elementary_parts components
-  leader v w =
-      let wh : Within h.order v = subst (λ n. Within n v) (sym (allowed_order g)) w in
-      let c = count_member h.order (λ u. is_least h none u && joined h none u v) (some_leader h none (allowed_graph g is.ends) v wh refl) in
-      let b = and_parts (is_least h none c.0) (joined h none c.0 v) c.2 in (
-        c.0,
-        subst (λ n. Within n c.0) (allowed_order g) c.1,
-        b.1,
-        mapped_in (λ u. rising_list h.order (joined h none u)) (rising_list h.order (is_least h none)) c.0 (rising_holds h.order (is_least h none) c.0 c.1 b.0),
-      )
-
-  -- so any two vertices are joined by allowed edges
-  all_joined : (a b : ℕ) → Within g.order a → Within g.order b → Joined h none a b
-  all_joined a b wa wb =
-      let x = leader a wa in
-      let y = leader b wb in
-      let same = only_in (elementary_parts g) (rising_list h.order (joined h none x.0)) (rising_list h.order (joined h none y.0)) one x.3 y.3 in
-      let wh : Within h.order b = subst (λ n. Within n b) (sym (allowed_order g)) wb in
-      let there : joined h none x.0 b ≡ true =
-      sym (mem-rising_list h.order (joined h none x.0) b wh) ∙ ap (λ (xs : List ℕ). mem xs b) same ∙ mem-rising_list h.order (joined h none y.0) b wh ∙ y.2 in
-      joined_on h none a x.0 b (joined_back h none x.0 a (joined_walk h none x.0 a x.2)) (joined_walk h none x.0 b there)
-
-  walk_up : (a b : ℕ) (ws : List ℕ) → Walk (adjacent h none) a ws b → Walk (adjacent g none) a ws b
-  walk_up a b [] w = w
-  walk_up a b (x ∷ ws) w =
-      let e = some_true (size g) (λ e. is_allowed g e && has_ends g a x e) (sym (allowed_step g a x) ∙ w.0) in
-      let t = and_parts (is_allowed g e.0) (has_ends g a x e.0) e.2 in
-      (adjacent_from g none a x e.0 refl refl e.1 t.1, walk_up x b ws w.1)
-
-  some_vertex : g.order ≡ 0 → ⊥
-  unfolding elementary_parts
-  some_vertex z = grind (arith, length-components, none, component_count_le, allowed_order)
-
-  pub whole_covered : HasPerfect g none → ((e : ℕ) → Within (size g) e → Allowed g e) → IsCovered g
-  unfolding Joined
-  whole_covered has all = record {
-    two = two_vertices;
-    connected = λ a b wa wb. let j = all_joined a b wa wb in (j.0, walk_up a b j.0 j.1);
-    allowed = λ e w d. all e w;
-  }
-    where
-      -- some vertex, since there is a component; its partner is another
-      two_vertices : 2 ≤ g.order
-      two_vertices = grind (arith, cases_lt, cases_eq, edge_at, some_vertex)

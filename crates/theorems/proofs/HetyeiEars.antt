@@ -1,4 +1,6 @@
 -- An ear whose ends lie on opposite sides of a bipartite stage serves.
+-- Idea: the graph of the stage has a perfect matching off two vertices on opposite sides, and such
+-- an ear may be added.
 use Rattle.std.proofs.Common.{◌≡◌, ℕ, true, not, List}
 use Rattle.graph_core.proofs.Common.{Graph, IsGraph, in_cut, size}
 use Rattle.counting.proofs.Common.{Within, Set}

@@ -10,6 +10,7 @@ pub mod CanonicalPartition
 pub mod CoarserPartitions
 pub mod CoarserQuotients
 pub mod CommandOrders
+pub mod ComponentsListed
 pub mod ConformalEars
 pub mod ConnectedShores
 pub mod ContractedMatchings

@@ -1,4 +1,5 @@
 -- Members of lists that are joined or filtered.
+-- Idea: by induction on the first list, with a case for its first item.
 use Rattle.std.proofs.Common.{◌≡◌, ◌⊎◌, Bool, true, false, cond, List, [], ◌∷◌, ◌++◌, filter, refl, sym, ap, ◌∙◌, inl, inr}
 use Rattle.counting.proofs.Common.{both_ways, IsIn}
 use Rattle.theorems.specs.TightCuts.{AreDistinct}

@@ -119,9 +119,11 @@ pub record IsGiven (named : NamedGraph) : Type 0 where
 abbrev pub StandsForGraph : List ℕ → NamedGraph → Type 0
 StandsForGraph text named = Stands either_version text named
 
+-- the bytes stand for a tree of cuts of a graph of order n
 abbrev pub StandsForTree : ℕ → List ℕ → Shape → Type 0
 StandsForTree n text tree = Stands (tree_format n) text tree
 
+-- a file of these bytes holds this list of picks
 abbrev pub HoldsPicks : List ℕ → List ℕ → Type 0
 HoldsPicks text list = pick_file (([], text) ∷ []) [] ≡ loading.All list
 

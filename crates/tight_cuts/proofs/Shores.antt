@@ -1,4 +1,6 @@
 -- Canonical shores, shores as rising lists, and what one more shore does to a list of candidates.
+-- Idea: a set, its canonical shore and its rising list have the same cut, and a shore more is
+-- either left out or pushed at the end.
 use Rattle.std.proofs.Common.{◌≡◌, ℕ, Bool, true, false, refl, sym, ap, ap₂, ◌∙◌, ◌&&◌, ◌||◌, not, inl, inr, ◌⊎◌, List, [], ◌∷◌, ◌++◌, subst, All, arith, AllPairs}
 use Rattle.counting.proofs.Common.{same_tests, and_parts, and_from, or_left, or_right, true≢false, both_ways, false_from_ne_true, list_any-append, count_congr, rising_only, mem-rising_list, rising_list-rises, true_all_in, all_in_true, list_any, Within, mem, rising_list, is_subset, Set, complement}
 use Rattle.std.proofs.lemmas.List.Elements.{All-push}

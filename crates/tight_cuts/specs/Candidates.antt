@@ -67,6 +67,7 @@ with_pair g a b list (Some k) = with_shore g.order Flow list (common_shore g a b
 abbrev pub lesser_end : Graph → ℕ → ℕ
 lesser_end g e = min (first_end g e) (second_end g e)
 
+-- the greater end of an edge
 abbrev pub greater_end : Graph → ℕ → ℕ
 greater_end g e = max (first_end g e) (second_end g e)
 

@@ -1,4 +1,5 @@
 -- The table of the words of one bit.
+-- Idea: by induction on the place, with a start that is one higher at each step.
 use Rattle.std.proofs.Common.{◌≡◌, ℕ, zero, suc, ◌+◌, ◌^◌, ◌<◌, List, [], ◌∷◌, slice_index_or, refl, subst, arith}
 
 -- 2 ^ k, 2 ^ (k + 1), .., n of them

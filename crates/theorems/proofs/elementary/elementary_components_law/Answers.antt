@@ -1,4 +1,4 @@
-use Rattle.theorems.proofs.ElementaryComponents.{elementary_covered, whole_covered}
+use Rattle.theorems.proofs.ComponentsListed.{elementary_covered, whole_covered}
 use Rattle.theorems.proofs.elementary.elementary_components_law.Goals as goal
 
 pub returns : goal.returns
